@@ -1,0 +1,68 @@
+// Walks along joins, and buffers that are joined.
+ghost use Rattle.std.specs.Prelude.{◌≡◌, ◌&&◌, [], length, filter};
+ghost use Rattle.std.specs.List.{list_any};
+ghost use Rattle.stream_law.specs.Ways.{leads, is_capture, is_end};
+ghost use Rattle.stream_law.specs.Joins.{crosses as has_crossing};
+
+use crate::kinds;
+use stream_law::{Comp, Edge, Join};
+
+/// Whether a walk of at most `steps` joins leads from one id to another. No component or buffer has two joins out, so this
+/// goes along one path.
+pub fn is_led(joins: &[Join], steps: usize, from: u32, to: u32) -> bool
+    ensures { result ≡ leads joins.now steps from to }
+{
+    if from == to {
+        return true;
+    }
+    if steps == 0 {
+        return false;
+    }
+    for join in joins {
+        if join.source == from && is_led(joins, steps - 1, join.sink, to) {
+            return true;
+        }
+    }
+    false
+}
+
+/// Whether a capture's host is reached from a playback's.
+#[tactic(auto, unfolding(stream_law::specs::Ways::reaches))]
+pub fn crosses(comps: &[Comp], joins: &[Join]) -> bool
+    ensures { result ≡ has_crossing (record { comps = comps.now; edges = []; pipes = []; joins = joins.now }) }
+{
+    comps.iter().any(|comp| kinds::is_host_play(comp.kind)
+        && reaches_capture(comps, joins, comp.id))
+}
+
+// Whether a capture's host is reached from this id.
+fn reaches_capture(comps: &[Comp], joins: &[Join], from: u32) -> bool
+    ensures { result ≡ list_any (λ b. is_capture b.kind && leads joins.now (length joins.now) from b.id) comps.now }
+{
+    comps.iter().any(|comp| kinds::is_host_capture(comp.kind)
+        && is_led(joins, joins.len(), from, comp.id))
+}
+
+/// How many buffers go into a component.
+pub fn count_ins(edges: &[Edge], id: u32) -> usize
+    ensures { result ≡ length (filter (λ e. is_end e.sink id) edges.now) }
+{
+    edges.iter().filter(|edge| is_at(edge.sink, id)).count()
+}
+
+/// How many buffers come out of a component.
+pub fn count_outs(edges: &[Edge], id: u32) -> usize
+    ensures { result ≡ length (filter (λ e. is_end e.source id) edges.now) }
+{
+    edges.iter().filter(|edge| is_at(edge.source, id)).count()
+}
+
+// Whether a side of a buffer is joined to a component.
+fn is_at(side: Option<u32>, id: u32) -> bool
+    ensures { result ≡ is_end side id }
+{
+    match side {
+        Some(end) => end == id,
+        None => false,
+    }
+}

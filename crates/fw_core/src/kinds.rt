@@ -1,0 +1,78 @@
+// What a message says of its component.
+ghost use Rattle.std.specs.Prelude.{◌≡◌};
+ghost use Rattle.stream_law.specs.Joins.{kind_ins, kind_outs, is_play};
+ghost use Rattle.stream_law.specs.Ways.{is_capture};
+ghost use Rattle.mbox_link.specs.Step.{comp_bytes, format_of, kind_of as named_kind};
+
+use ipc3_codec::CompWords;
+use sof_base::Format;
+use stream_law::Kind;
+
+/// A component's kind, by the words of its message.
+pub fn kind_of(words: CompWords, frame_fmt: u32) -> Kind
+    ensures { result ≡ named_kind words frame_fmt }
+{
+    match words {
+        CompWords::Host { direction: 0 } => Kind::HostPlay,
+        CompWords::Host { .. } => Kind::HostCapture,
+        CompWords::Dai { direction: 0, .. } => Kind::DaiPlay(frame_format(frame_fmt)),
+        CompWords::Dai { .. } => Kind::DaiCapture(frame_format(frame_fmt)),
+    }
+}
+
+// The sample format of a frame format: 0 for 16 bits, 1 for 24 bits in 4 bytes, and 32 bits for the rest.
+fn frame_format(number: u32) -> Format
+    ensures { result ≡ format_of number }
+{
+    match number {
+        0 => Format::S16,
+        1 => Format::S24,
+        _ => Format::S32,
+    }
+}
+
+/// The stated size of a component, in bytes.
+pub fn bytes_of(kind: Kind) -> u64
+    ensures { result ≡ comp_bytes kind }
+{
+    match kind {
+        Kind::Mixer | Kind::Mux => 32,
+        Kind::Eq => 4160,
+        _ => 64,
+    }
+}
+
+/// The greatest number of buffers into a component.
+pub fn ins_of(kind: Kind) -> usize
+    ensures { result ≡ kind_ins kind }
+{
+    match kind {
+        Kind::HostPlay | Kind::DaiCapture(_) => 0,
+        Kind::Mixer | Kind::Mux => 8,
+        _ => 1,
+    }
+}
+
+/// The greatest number of buffers out of a component.
+pub fn outs_of(kind: Kind) -> usize
+    ensures { result ≡ kind_outs kind }
+{
+    match kind {
+        Kind::HostCapture | Kind::DaiPlay(_) => 0,
+        _ => 1,
+    }
+}
+
+/// Whether a component is the host's end of a playback stream.
+pub fn is_host_play(kind: Kind) -> bool
+    ensures { result ≡ is_play kind }
+{
+    matches!(kind, Kind::HostPlay)
+}
+
+/// Whether a component is the host's end of a capture stream.
+pub fn is_host_capture(kind: Kind) -> bool
+    ensures { result ≡ is_capture kind }
+{
+    matches!(kind, Kind::HostCapture)
+}

@@ -1,0 +1,15 @@
+//! The firmware as a device: its heap, its graph of components and buffers, its streams and its clock, what it answers to
+//! each message, and what a tick does. All that it will ever need is reserved when it is made.
+#![tactic(auto)]
+
+mod changes;
+mod firmware;
+mod heap;
+mod joins;
+mod kinds;
+mod state;
+mod table;
+#[cfg(test)]
+mod tests;
+
+pub use firmware::Firmware;

@@ -1,0 +1,208 @@
+// What each message does, and why it is refused: its tests in the order -19, -16, -22, -12.
+ghost use Rattle.std.specs.Prelude.{◌≡◌, ◌+◌, ◌<◌, ◌≤◌, [], ◌∷◌, ◌++◌, OnErr, length, map, vec_capacity, Ok, Err, if◌then◌else◌};
+ghost use Rattle.stream_law.specs.Joins.{joined, would_reach, with_join};
+ghost use Rattle.mbox_link.specs.Step.{invalid, with_stream, comp_new as comp_new_row, buffer_new as buffer_new_row, pipe_new as pipe_new_row, connect as connect_row, pipe_complete as pipe_complete_row, row, row_of};
+ghost use Rattle.ipc3_codec.specs.Messages.{decoded};
+ghost use Rattle.fw_core.specs.Kept.{sides};
+ghost use Rattle.fw_core.specs.Answers.{answer_of};
+
+use super::State;
+use crate::table::Table;
+use crate::{joins, kinds};
+use ipc3_codec::{Message, decode};
+use sof_base::Errno;
+use stream_law::{Comp, Edge, Join, Kind, Phase, Pipe, Setting, StreamView};
+
+/// The stated size of a pipeline, and of a buffer without its bytes, in bytes.
+const PIPE_BYTES: u64 = 64;
+
+const BUFFER_BYTES: u64 = 32;
+
+impl State {
+    /// Does what a message's bytes say, or tells why not. Bytes that are no message are not valid.
+    pub fn answer(&mut self, request: &[u8]) -> Result<(), Errno>
+        ensures answer { answer_of self.new result ≡ row_of self.old (decoded request.now) }
+        ensures kept { OnErr result (self.new ≡ self.old) }
+    {
+        match decode(request) {
+            Ok(message) => self.handle(&message),
+            Err(_) => Err(Errno::INVALID),
+        }
+    }
+
+    // Does what a message says, or tells why not.
+    fn handle(&mut self, message: &Message) -> Result<(), Errno>
+        ensures answer { answer_of self.new result ≡ row self.old message.now }
+        ensures kept { OnErr result (self.new ≡ self.old) }
+    {
+        match *message {
+            Message::CompNew {
+                id,
+                pipe,
+                frame_fmt,
+                kind,
+                ..
+            } => self.comp_new(id, pipe, kinds::kind_of(kind, frame_fmt)),
+            Message::BufferNew { id, pipe, size, .. } => self.buffer_new(id, pipe, size),
+            Message::PipeNew {
+                id,
+                pipe,
+                sched,
+                period,
+                ..
+            } => self.pipe_new(id, pipe, sched, period),
+            Message::Connect { source, sink } => self.connect(source, sink),
+            Message::PipeComplete { id } => self.pipe_complete(id),
+        }
+    }
+
+    /// A component of this kind, in the pipeline of this index. A host brings a stream without parameters.
+    fn comp_new(&mut self, id: u32, pipe: u32, kind: Kind) -> Result<(), Errno>
+        ensures answer { answer_of self.new result ≡ comp_new_row self.old id pipe kind }
+        ensures kept { OnErr result (self.new ≡ self.old) }
+    {
+        if self.is_used(id) || self.is_complete(pipe) {
+            return Err(Errno::BUSY);
+        }
+        let bytes = kinds::bytes_of(kind);
+        if self.comps.len() >= 128 || !self.heap.holds(bytes) {
+            return Err(Errno::NO_MEMORY);
+        }
+        self.heap.carve(id, bytes);
+        place_stream(&mut self.streams, id, kind);
+        self.comps.place(Comp {
+            id,
+            kind,
+            pipe,
+            setting: Setting::Nothing,
+        });
+        Ok(())
+    }
+
+    /// A buffer of so many bytes, in the pipeline of this index, joined to nothing.
+    fn buffer_new(&mut self, id: u32, pipe: u32, size: u32) -> Result<(), Errno>
+        ensures answer { answer_of self.new result ≡ buffer_new_row self.old id pipe size }
+        ensures kept { OnErr result (self.new ≡ self.old) }
+    {
+        if self.is_used(id) || self.is_complete(pipe) {
+            return Err(Errno::BUSY);
+        }
+        let bytes = BUFFER_BYTES + u64::from(size);
+        if self.edges.len() >= 128 || !self.heap.holds(bytes) {
+            return Err(Errno::NO_MEMORY);
+        }
+        self.heap.carve(id, bytes);
+        self.edges.place(Edge {
+            buffer: id,
+            pipe,
+            size,
+            source: None,
+            sink: None,
+        });
+        Ok(())
+    }
+
+    /// A pipeline of this index that is not complete.
+    fn pipe_new(&mut self, id: u32, index: u32, sched: u32, period: u32) -> Result<(), Errno>
+        ensures answer { answer_of self.new result ≡ pipe_new_row self.old id index sched period }
+        ensures kept { OnErr result (self.new ≡ self.old) }
+    {
+        if self.is_used(id) || self.has_index(index) {
+            return Err(Errno::BUSY);
+        }
+        if self.pipes.len() >= 32 || !self.heap.holds(PIPE_BYTES) {
+            return Err(Errno::NO_MEMORY);
+        }
+        self.heap.carve(id, PIPE_BYTES);
+        self.pipes.place(Pipe {
+            id,
+            index,
+            sched,
+            period,
+            complete: false,
+        });
+        Ok(())
+    }
+
+    /// Joins a component and a buffer, either way round.
+    fn connect(&mut self, source: u32, sink: u32) -> Result<(), Errno>
+        ensures answer { answer_of self.new result ≡ connect_row self.old source sink }
+        ensures kept { OnErr result (self.new ≡ self.old) }
+    {
+        if !self.is_used(source) || !self.is_used(sink) {
+            return Err(Errno::NO_DEVICE);
+        }
+        if self.is_joined(source, sink) {
+            return Err(Errno::BUSY);
+        }
+        if !self.takes_join(source, sink) || self.would_cycle(source, sink) {
+            return Err(Errno::INVALID);
+        }
+        self.join(Join { source, sink })
+    }
+
+    /// One more join, the last in order, unless a capture's host would be reached from a playback's.
+    fn join(&mut self, join: Join) -> Result<(), Errno>
+        requires { length self.old.graph.joins + 1 ≤ sides (map (joined join) self.old.graph.edges) }
+        ensures answer { answer_of self.new result ≡ (if would_reach self.old.graph join.source join.sink then Err invalid else Ok (record self.old { graph = with_join self.old.graph join })) }
+        ensures kept { OnErr result (self.new ≡ self.old) }
+    {
+        let count = self.joins.as_slice().len();
+        push(&mut self.joins, join);
+        if joins::crosses(self.comps.records(), self.joins.as_slice()) {
+            self.joins.truncate(count);
+            return Err(Errno::INVALID);
+        }
+        self.edges.join(join);
+        Ok(())
+    }
+
+    /// The pipeline of this id is complete.
+    fn pipe_complete(&mut self, id: u32) -> Result<(), Errno>
+        ensures answer { answer_of self.new result ≡ pipe_complete_row self.old id }
+        ensures kept { OnErr result (self.new ≡ self.old) }
+    {
+        if !self.is_used(id) {
+            return Err(Errno::NO_DEVICE);
+        }
+        let Some(pipe) = self.pipe(id) else {
+            return Err(Errno::INVALID);
+        };
+        if !self.is_used(pipe.sched) {
+            return Err(Errno::NO_DEVICE);
+        }
+        if pipe.complete {
+            return Err(Errno::BUSY);
+        }
+        if !self.comps.has(pipe.sched) {
+            return Err(Errno::INVALID);
+        }
+        self.pipes.complete(id);
+        Ok(())
+    }
+}
+
+// A host brings a stream.
+fn place_stream(streams: &mut Table<StreamView, 128>, id: u32, kind: Kind)
+    requires { length streams.old < 128 }
+    ensures { streams.new ≡ with_stream id kind streams.old }
+{
+    if let Kind::HostPlay | Kind::HostCapture = kind {
+        streams.place(StreamView {
+            host: id,
+            phase: Phase::Idle,
+            params: None,
+        });
+    }
+}
+
+// One more join.
+fn push(joins: &mut Vec<Join>, join: Join)
+    requires few { length joins.old.items < 256 }
+    requires room { 256 ≤ vec_capacity joins.old }
+    ensures items { joins.new.items ≡ joins.old.items ++ join ∷ [] }
+    ensures room { 256 ≤ vec_capacity joins.new }
+{
+    // It fits in the memory that was reserved, so it is never refused.
+    let _fits = joins.push(join);
+}

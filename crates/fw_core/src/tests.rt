@@ -1,0 +1,130 @@
+// Worked rows of the device.
+use crate::Firmware;
+use ipc3_codec::{CompWords, Message, encode};
+use mbox_link::Dsp;
+use sof_io::{Inputs, Outputs};
+use std::alloc::Global;
+use std::test::Fail;
+
+// The first 12 bytes of what a device that is on answers to these bytes.
+fn reply_to(alloc: Global, firmware: &mut Firmware, request: &[u8]) -> Result<[u8; 12], Fail> {
+    let mut reply = [0; 384];
+    let mut io = Inputs::new(alloc)?;
+    let mut out = Outputs::new(alloc)?;
+    if firmware.on() {
+        let _size = firmware.exchange(request, &mut reply, &mut io, &mut out);
+    }
+    let mut front = [0; 12];
+    front.copy_from_slice(&reply[..12]);
+    Ok(front)
+}
+
+// The same for each message.
+fn replies_to(
+    alloc: Global,
+    firmware: &mut Firmware,
+    messages: &[Message],
+) -> Result<Vec<[u8; 12]>, Fail> {
+    let mut replies = Vec::new(alloc);
+    for message in messages {
+        let mut request = [0; 384];
+        let size = encode(message, &mut request);
+        replies.push(reply_to(alloc, firmware, &request[..size])?)?;
+    }
+    Ok(replies)
+}
+
+fn host(id: u32) -> Message {
+    Message::CompNew {
+        id,
+        pipe: 1,
+        periods_sink: 0,
+        periods_source: 0,
+        frame_fmt: 0,
+        kind: CompWords::Host { direction: 0 },
+    }
+}
+
+fn dai(id: u32) -> Message {
+    Message::CompNew {
+        id,
+        pipe: 1,
+        periods_sink: 0,
+        periods_source: 0,
+        frame_fmt: 2,
+        kind: CompWords::Dai {
+            direction: 0,
+            index: 0,
+        },
+    }
+}
+
+fn buffer(id: u32) -> Message {
+    Message::BufferNew {
+        id,
+        pipe: 1,
+        size: 768,
+        caps: 0,
+    }
+}
+
+fn pipeline(id: u32, sched: u32) -> Message {
+    Message::PipeNew {
+        id,
+        pipe: 1,
+        sched,
+        period: 1000,
+        priority: 0,
+        mips: 0,
+        frames: 0,
+        time_domain: 0,
+    }
+}
+
+const DONE: [u8; 12] = [12, 0, 0, 0, 0, 0, 0, 0x10, 0, 0, 0, 0];
+
+const NO_MEMORY: [u8; 12] = [12, 0, 0, 0, 0, 0, 0, 0x10, 0xf4, 0xff, 0xff, 0xff];
+
+const INVALID: [u8; 12] = [12, 0, 0, 0, 0, 0, 0, 0x10, 0xea, 0xff, 0xff, 0xff];
+
+#[test]
+fn bytes_that_are_no_message_are_not_valid(rt: HostRuntime) -> Result<(), Fail> {
+    let mut firmware = Firmware::new(rt.alloc(), 992)?;
+    firmware.boot(992);
+    let request = [
+        20, 0, 0, 0, 0, 0, 1, 0x30, 0, 0, 0, 0, 1, 0, 0, 0, 1, 0, 0, 0,
+    ];
+    assert_eq!(rt; reply_to(rt.alloc(), &mut firmware, &request)?, INVALID);
+    assert_eq!(rt; firmware.used(), 0);
+    Ok(())
+}
+
+#[test]
+fn one_stream_fits_in_992_bytes(rt: HostRuntime) -> Result<(), Fail> {
+    let mut firmware = Firmware::new(rt.alloc(), 992)?;
+    firmware.boot(992);
+    let messages = [
+        host(0),
+        buffer(1),
+        dai(2),
+        pipeline(3, 2),
+        Message::Connect { source: 0, sink: 1 },
+        Message::Connect { source: 1, sink: 2 },
+        Message::PipeComplete { id: 3 },
+    ];
+    let replies = replies_to(rt.alloc(), &mut firmware, &messages)?;
+    assert!(rt; replies.as_slice() == [DONE; 7].as_slice());
+    assert_eq!(rt; firmware.used(), 992);
+    Ok(())
+}
+
+#[test]
+fn its_pipeline_does_not_fit_in_976_bytes(rt: HostRuntime) -> Result<(), Fail> {
+    let mut firmware = Firmware::new(rt.alloc(), 992)?;
+    firmware.boot(976);
+    let messages = [host(0), buffer(1), dai(2), pipeline(3, 2)];
+    let replies = replies_to(rt.alloc(), &mut firmware, &messages)?;
+    assert!(rt; replies.as_slice() == [DONE, DONE, DONE, NO_MEMORY].as_slice());
+    assert_eq!(rt; firmware.used(), 928);
+    Ok(())
+}

@@ -1,0 +1,9 @@
+pub mod ReplyErrors
+pub mod Exchanges
+pub mod Walks
+pub mod SilentTicks
+pub mod Carving
+pub mod Effects
+pub mod ManyEffects
+pub mod Making
+pub mod ThinBrings

@@ -1,0 +1,41 @@
+use Rattle.std.proofs.Common.{length, arith, ap, is_some}
+use Rattle.sof_base.specs.Ports.{Io}
+use Rattle.mbox_link.specs.Calls.{world}
+use Rattle.host_widgets.proofs.SilentTicks.{AreInputs}
+use Rattle.host_widgets.proofs.ManyEffects.{brought_up, walk_fates}
+use Rattle.host_widgets.proofs.ThinBrings.{brings}
+use Rattle.host_widgets.proofs.bringing_up.bring_up.Goals as goal
+
+pub send_list-requires-clause-few : goal.send_list-requires-clause-few
+send_list-requires-clause-few g c = omega (arith, ap length c.requires.plan.widgets)
+
+pub send_list-requires-clause-on : goal.send_list-requires-clause-on
+send_list-requires-clause-on g c = ap is_some c.requires.booted
+
+pub returns-clause-left : goal.returns-clause-left
+returns-clause-left g c =
+    let w = world c.args.dsp.now c.args.io.now c.args.out.now in
+    let v = world c.send_list.new.dsp c.send_list.new.io c.send_list.new.out in
+    let are : AreInputs c.args.io.now = record { distinct = c.len-inputs.ensures.distinct; positions = c.len-inputs.ensures.within } in
+    (brought_up g.P.Dsp.means c.args.plan.now c.args.heap w v (brings c.args.plan.now c.args.heap c.requires.plan) are c.requires.booted c.send_list.result c.send_list.ensures).0
+
+pub returns-clause-inputs : goal.returns-clause-inputs
+returns-clause-inputs g c =
+    let w = world c.args.dsp.now c.args.io.now c.args.out.now in
+    let v = world c.send_list.new.dsp c.send_list.new.io c.send_list.new.out in
+    let are : AreInputs c.args.io.now = record { distinct = c.len-inputs.ensures.distinct; positions = c.len-inputs.ensures.within } in
+    ap (λ (io : Io). io.inputs) (brought_up g.P.Dsp.means c.args.plan.now c.args.heap w v (brings c.args.plan.now c.args.heap c.requires.plan) are c.requires.booted c.send_list.result c.send_list.ensures).1
+
+pub returns-clause-outputs : goal.returns-clause-outputs
+returns-clause-outputs g c =
+    let w = world c.args.dsp.now c.args.io.now c.args.out.now in
+    let v = world c.send_list.new.dsp c.send_list.new.io c.send_list.new.out in
+    let are : AreInputs c.args.io.now = record { distinct = c.len-inputs.ensures.distinct; positions = c.len-inputs.ensures.within } in
+    ap (λ (io : Io). io.outputs) (brought_up g.P.Dsp.means c.args.plan.now c.args.heap w v (brings c.args.plan.now c.args.heap c.requires.plan) are c.requires.booted c.send_list.result c.send_list.ensures).1
+
+pub returns-clause-fates : goal.returns-clause-fates
+returns-clause-fates g c =
+    let w = world c.args.dsp.now c.args.io.now c.args.out.now in
+    let v = world c.send_list.new.dsp c.send_list.new.io c.send_list.new.out in
+    let are : AreInputs c.args.io.now = record { distinct = c.len-inputs.ensures.distinct; positions = c.len-inputs.ensures.within } in
+    walk_fates g.P.Dsp.means c.args.plan.now c.args.heap w v (brings c.args.plan.now c.args.heap c.requires.plan) are c.requires.booted c.send_list.result c.send_list.ensures

@@ -1,0 +1,49 @@
+-- What becomes of each act of a walk.
+use Rattle.std.specs.Prelude.{◌≡◌, ◌⊎◌, ℕ, List, [], ◌∷◌, Option, Some, None, Result, Ok, Err}
+use Rattle.sof_base.specs.declared.errno.Errno.{Errno}
+use Rattle.ipc3_codec.specs.declared.reply.Reply.{Reply}
+use Rattle.ipc3_codec.specs.Messages.{message_spelling}
+use Rattle.mbox_link.specs.Exchange.{Rose}
+use Rattle.mbox_link.specs.Calls.{World, Meaning, Boot, Cut, Exchanged, Did}
+use Rattle.tplg_graph.specs.declared.planned.Plan.{Plan}
+use Rattle.host_widgets.specs.declared.answers.HostFault.{HostFault}
+use Rattle.host_widgets.specs.declared.answers.HostFault.TheVariants.{Loaded, Refused, LinkDown}
+use Rattle.host_widgets.specs.Acts.{Act, message_of, bring_up_acts}
+use Rattle.host_widgets.specs.Host.{Outcome, Walk, verdict, own}
+
+-- an act, which the firmware itself refuses with this error or not at all: it passes only where it does not; it is refused
+-- with this error, or the count of refusals rose; where the link is down the count of faults rose
+abbrev pub Fate : {D : Type 0} → Meaning D → Option Errno → D → Result Reply HostFault → D → Type 0
+Fate means refusal old (Ok reply) new = refusal ≡ None
+Fate means refusal old (Err (Refused e)) new = (refusal ≡ Some e) ⊎ Rose (means.refusals old) (means.refusals new)
+Fate means refusal old (Err LinkDown) new = Rose (means.faults old) (means.faults new)
+Fate means refusal old (Err Loaded) new = ⊥
+
+-- one exchange for each answer, from one world to the next, each with the fate of its act
+abbrev pub Fated : {D : Type 0} → Meaning D → Plan → ℕ → List (Option (List ℕ)) → List Act → World D → World D → Type 0
+Fated means plan heap [] acts w v = v ≡ w
+Fated means plan heap (answer ∷ answers) [] w v = ⊥
+Fated {D} means plan heap (answer ∷ answers) (act ∷ acts) w v =
+    (m : World D)
+    × Exchanged means (message_spelling (message_of plan act)) answer w m
+    × Fate means (own plan heap act) w.device (verdict answer) m.device
+    × Fated means plan heap answers acts m v
+
+-- the fates of these acts, up to the end of the walk
+pub record WalkFates {D : Type 0} (means : Meaning D) (plan : Plan) (heap : ℕ) (acts : List Act) (w v : World D) (result : Outcome) : Type 0 where
+  pub answers : List (Option (List ℕ))
+  pub fated : Fated means plan heap answers acts w v
+  pub walk : Walk acts answers result
+
+-- after a failure the device is cut
+abbrev pub Ends : {D : Type 0} → Meaning D → Outcome → World D → World D → Type 0
+Ends means (Ok done) w v = v ≡ w
+Ends means (Err fault) w v = Did means Cut w v
+
+-- the fates of a load: a boot, the acts that bring the device up, and after a failure a cut
+pub record LoadFates {D : Type 0} (means : Meaning D) (plan : Plan) (heap : ℕ) (w v : World D) (result : Outcome) : Type 0 where
+  pub booted : World D
+  pub sent : World D
+  pub boot : Did means (Boot heap) w booted
+  pub fates : WalkFates means plan heap (bring_up_acts plan) booted sent result
+  pub ends : Ends means result sent v

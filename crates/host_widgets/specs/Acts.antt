@@ -1,0 +1,104 @@
+-- What the host does to a device, and the message that it writes for each act.
+use Rattle.std.specs.Prelude.{ℕ, ◌==◌, List, ◌++◌, map, length, get_or, find, Option, unwrap_or}
+use Rattle.std.specs.List.{range_with_len}
+use Rattle.std.specs.Option.{option_map}
+use Rattle.stream_law.specs.declared.graph.Kind.{Kind}
+use Rattle.stream_law.specs.declared.graph.Kind.TheVariants.{HostPlay, HostCapture, DaiPlay, DaiCapture}
+use Rattle.stream_law.specs.declared.graph.Comp.{Comp}
+use Rattle.stream_law.specs.declared.graph.Edge.{Edge}
+use Rattle.stream_law.specs.declared.graph.Pipe.{Pipe}
+use Rattle.stream_law.specs.Ways.{comp_of, edge_of}
+use Rattle.ipc3_codec.specs.declared.message.Message.{Message}
+use Rattle.ipc3_codec.specs.declared.message.Message.TheVariants.{CompNew, BufferNew, PipeNew, Connect, PipeComplete}
+use Rattle.ipc3_codec.specs.declared.message.CompWords.{CompWords}
+use Rattle.ipc3_codec.specs.declared.message.CompWords.TheVariants as words
+use Rattle.tplg_graph.specs.declared.planned.Plan.{Plan}
+use Rattle.tplg_graph.specs.declared.planned.WidgetPlan.{WidgetPlan}
+
+-- an act, by the ids that it is about
+pub data Act : Type 0 where
+  Make : (id : ℕ) → Act  -- a widget is made
+  Join : (source : ℕ) → (sink : ℕ) → Act  -- a buffer and a component are joined
+  Finish : (id : ℕ) → Act  -- a pipeline is complete
+
+-- ---- the list that brings a device up
+
+-- the ids of all widgets, in order
+abbrev pub ids_of : Plan → List ℕ
+ids_of plan = range_with_len 0 (length plan.widgets)
+
+-- each widget is made, by id; then each join is made, in the graph's order; then each pipeline is complete, by id
+abbrev pub bring_up_acts : Plan → List Act
+bring_up_acts plan =
+    map Make (ids_of plan)
+    ++ (map (λ j. Join j.source j.sink) plan.graph.joins ++ map (λ p. Finish p.id) plan.graph.pipes)
+
+-- ---- what an id names
+
+-- the words that the host writes of a widget: all 0 where there is none
+abbrev pub no_words : WidgetPlan
+no_words = record {
+  pipe = 0;
+  periods_sink = 0;
+  periods_source = 0;
+  frame_fmt = 0;
+  dai_index = 0;
+  caps = 0;
+  priority = 0;
+  mips = 0;
+  frames = 0;
+  time_domain = 0;
+}
+
+-- those of the widget of an id
+abbrev pub words_of : Plan → ℕ → WidgetPlan
+words_of plan id = get_or plan.widgets id no_words
+
+-- the pipeline of this id
+abbrev pub pipe_by_id : Plan → ℕ → Option Pipe
+pipe_by_id plan id = find (λ p. p.id == id) plan.graph.pipes
+
+-- ---- messages
+
+-- a host's direction is 0 for playback and 1 for capture, a DAI's is 0 where it plays and 1 where it captures; no other kind has a message
+abbrev pub kind_words : Kind → WidgetPlan → CompWords
+kind_words HostPlay w = words.Host 0
+kind_words HostCapture w = words.Host 1
+kind_words (DaiPlay format) w = words.Dai 0 w.dai_index
+kind_words (DaiCapture format) w = words.Dai 1 w.dai_index
+kind_words _ w = words.Host 0
+
+-- COMP_NEW
+abbrev pub comp_message : ℕ → WidgetPlan → Comp → Message
+comp_message id w c = CompNew id w.pipe w.periods_sink w.periods_source w.frame_fmt (kind_words c.kind w)
+
+-- BUFFER_NEW
+abbrev pub buffer_message : ℕ → WidgetPlan → Edge → Message
+buffer_message id w e = BufferNew id w.pipe e.size w.caps
+
+-- PIPE_NEW
+abbrev pub pipe_message : ℕ → WidgetPlan → ℕ → ℕ → Message
+pipe_message id w sched period = PipeNew id w.pipe sched period w.priority w.mips w.frames w.time_domain
+
+-- the message where an id names a component
+abbrev pub made_component : Plan → ℕ → WidgetPlan → Option Message
+made_component plan id w = option_map (comp_message id w) (comp_of plan.graph id)
+
+-- where it names a buffer
+abbrev pub made_buffer : Plan → ℕ → WidgetPlan → Option Message
+made_buffer plan id w = option_map (buffer_message id w) (edge_of plan.graph id)
+
+-- where it names a pipeline
+abbrev pub made_pipe : Plan → ℕ → WidgetPlan → Option Message
+made_pipe plan id w = option_map (λ p. pipe_message id w p.sched p.period) (pipe_by_id plan id)
+
+-- an id names a component, or else a buffer, or else a pipeline; one that names nothing, as no plan has it, is taken for a pipeline
+abbrev pub make_message : Plan → ℕ → WidgetPlan → Message
+make_message plan id w =
+    unwrap_or (made_component plan id w) (unwrap_or (made_buffer plan id w) (unwrap_or (made_pipe plan id w) (pipe_message id w 0 0)))
+
+-- the message of an act
+abbrev pub message_of : Plan → Act → Message
+message_of plan (Make id) = make_message plan id (words_of plan id)
+message_of plan (Join source sink) = Connect source sink
+message_of plan (Finish id) = PipeComplete id

@@ -1,0 +1,82 @@
+-- What the firmware is expected to show and to keep.
+use Rattle.std.specs.Prelude.{ℕ, List, [], ◌∷◌, map, sum, Option, Some, None}
+use Rattle.std.specs.List.{zip, range_with_len}
+use Rattle.sof_base.specs.Holes.{rounded}
+use Rattle.stream_law.specs.declared.graph.Comp.{Comp}
+use Rattle.stream_law.specs.declared.graph.Edge.{Edge}
+use Rattle.stream_law.specs.declared.graph.Graph.{Graph}
+use Rattle.stream_law.specs.declared.stream.Phase.{Phase}
+use Rattle.stream_law.specs.declared.stream.Phase.TheVariants as phases
+use Rattle.stream_law.specs.declared.stream.StreamView.{StreamView}
+use Rattle.stream_law.specs.State.{FwState, View, HeapView, RingView}
+use Rattle.stream_law.specs.Ways.{comp_of, edge_of}
+use Rattle.mbox_link.specs.Step.{comp_bytes, buffer_bytes, pipe_bytes, with_piece, fresh}
+use Rattle.tplg_graph.specs.declared.planned.Plan.{Plan}
+use Rattle.tplg_graph.specs.declared.planned.StreamPlan.{StreamPlan}
+use Rattle.host_widgets.specs.declared.kept.Found.{Found}
+use Rattle.host_widgets.specs.declared.kept.Found.TheVariants.{Closed, Open, Prepared, Running, Paused}
+use Rattle.host_widgets.specs.declared.kept.Power.TheVariants.{On}
+use Rattle.host_widgets.specs.declared.kept.StreamRec.{StreamRec}
+use Rattle.host_widgets.specs.declared.kept.Record.{Record}
+use Rattle.host_widgets.specs.HostRecord.{all_closed}
+use Rattle.host_widgets.specs.Acts.{ids_of}
+
+-- ---- the view
+
+-- a stream that is closed or open is idle
+abbrev pub phase_of : Found → Phase
+phase_of Closed = phases.Idle
+phase_of Open = phases.Idle
+phase_of Prepared = phases.Prepared
+phase_of Running = phases.Running
+phase_of Paused = phases.Paused
+
+abbrev pub stream_view : StreamPlan × StreamRec → StreamView
+stream_view (s, r) = record { host = s.host; phase = phase_of r.found; params = r.params }
+
+-- the plan's graph, and for each stream its host, its phase and its parameters
+abbrev pub expected_view : Plan → Record → View
+expected_view plan kept = record { graph = plan.graph; streams = map stream_view (zip plan.streams kept.streams) }
+
+-- ---- the heap
+
+-- the stated size in bytes of what an id names: a component, or else a buffer, or else a pipeline
+abbrev pub bytes_by : Option Comp → Option Edge → ℕ
+bytes_by (Some c) e = comp_bytes c.kind
+bytes_by None (Some e) = buffer_bytes e.size
+bytes_by None None = pipe_bytes
+
+-- the same by the plan
+abbrev pub stated_bytes : Plan → ℕ → ℕ
+stated_bytes plan id = bytes_by (comp_of plan.graph id) (edge_of plan.graph id)
+
+-- the bytes of heap that the first n ids take, each rounded up to 16
+abbrev pub needed_by : Plan → ℕ → ℕ
+needed_by plan n = sum (map (λ id. rounded (stated_bytes plan id)) (range_with_len 0 n))
+
+-- the heap once a piece is carved for each of these ids, one after the other
+abbrev pub with_pieces : Plan → List ℕ → HeapView → HeapView
+with_pieces plan [] heap = heap
+with_pieces plan (id ∷ ids) heap = with_pieces plan ids (with_piece id (stated_bytes plan id) heap)
+
+-- what carving all stated sizes in the order of ids leaves of a fresh heap of so many bytes
+abbrev pub loaded_heap : Plan → ℕ → HeapView
+loaded_heap plan heap = with_pieces plan (ids_of plan) (fresh heap).heap
+
+-- ---- all that the firmware keeps
+
+-- a ring without frames for each buffer
+abbrev pub empty_rings : Graph → List RingView
+empty_rings g = map (λ e. record { buffer = e.buffer; frames = [] }) g.edges
+
+-- a firmware in which the plan stands, at this clock: every stream is idle, and no audio was moved
+abbrev pub loaded_state : Plan → ℕ → ℕ → FwState
+loaded_state plan heap clock = record {
+  heap = loaded_heap plan heap;
+  clock = clock;
+  graph = plan.graph;
+  streams = (expected_view plan (all_closed On plan)).streams;
+  rings = empty_rings plan.graph;
+  histories = [];
+  staging = [];
+}

@@ -1,0 +1,166 @@
+-- What the host's calls do on a device, and what they come to.
+use Rattle.std.specs.Prelude.{◌≡◌, ◌⊎◌, ◌↔◌, ℕ, ◌+◌, ◌-◌, ◌%◌, ◌^◌, ◌<◌, ◌≤◌, ℤ, pos, negsuc, Bool, true, false, List, [], ◌∷◌, ◌++◌, length, nat_lt, Option, Some, None, is_some, Result, Ok, Err, MatchResult, if◌then◌else◌}
+use Rattle.std.specs.List.{list_any}
+use Rattle.std.specs.Option.{option_map}
+use Rattle.sof_base.specs.declared.errno.Errno.{Errno}
+use Rattle.stream_law.specs.State.{view_of}
+use Rattle.stream_law.specs.Ways.{is_live_phase}
+use Rattle.ipc3_codec.specs.declared.reply.Reply.{Reply}
+use Rattle.ipc3_codec.specs.declared.fault.CodecFault.{CodecFault}
+use Rattle.ipc3_codec.specs.Messages.{message_spelling}
+use Rattle.ipc3_codec.specs.Replies.{decoded_reply}
+use Rattle.mbox_link.specs.Step.{no_memory}
+use Rattle.mbox_link.specs.Exchange.{Rose}
+use Rattle.mbox_link.specs.Calls.{World, Meaning, Call, Boot, Cut, Exchange, Led}
+use Rattle.tplg_graph.specs.declared.planned.Plan.{Plan}
+use Rattle.host_widgets.specs.declared.answers.HostFault.{HostFault}
+use Rattle.host_widgets.specs.declared.answers.HostFault.TheVariants.{Loaded, Refused, LinkDown}
+use Rattle.host_widgets.specs.declared.kept.Power.{Power}
+use Rattle.host_widgets.specs.declared.kept.Power.TheVariants.{Unloaded, On, Off}
+use Rattle.host_widgets.specs.declared.kept.Record.{Record}
+use Rattle.host_widgets.specs.HostRecord.{all_closed, first_record}
+use Rattle.host_widgets.specs.Acts.{Act, Make, Join, Finish, bring_up_acts, message_of}
+use Rattle.host_widgets.specs.Expected.{phase_of, expected_view, needed_by, loaded_state}
+
+-- whether a command that answers nothing else was done
+abbrev pub Outcome : Type 0
+Outcome = Result (Unit {0}) HostFault
+
+-- ---- one exchange
+
+-- below 0
+abbrev pub is_negative : ℤ → Bool
+is_negative (pos n) = false
+is_negative (negsuc n) = true
+
+-- an error number as the host answers it
+abbrev pub errno : ℤ → Errno
+errno e = record { 0 = e }
+
+-- a reply with a negative error refuses; bytes that are no reply, which no device answers, count as a failed link
+abbrev pub judged : Result Reply CodecFault → Result Reply HostFault
+judged (Ok reply) = if is_negative reply.error then Err (Refused (errno reply.error)) else Ok reply
+judged (Err fault) = Err LinkDown
+
+-- what the host makes of an exchange's answer
+abbrev pub verdict : Option (List ℕ) → Result Reply HostFault
+verdict None = Err LinkDown
+verdict (Some bytes) = judged (decoded_reply bytes)
+
+-- What one exchange of these bytes, and no other call, came to. It passes with a reply whose error is 0, it is refused
+-- exactly with a reply whose error is negative, and the link is down exactly where it failed.
+pub record Sent {D : Type 0} (means : Meaning D) (request : List ℕ) (w v : World D) (result : Result Reply HostFault) : Type 0 where
+  pub answer : Option (List ℕ)
+  pub led : Led means w (Exchange request answer ∷ []) v
+  pub said : result ≡ verdict answer
+  pub passed : (reply : Reply) → result ≡ Ok reply → (reply.error ≡ pos 0) × (option_map decoded_reply answer ≡ Some (Ok reply))
+  pub refused : (e : Errno) → (result ≡ Err (Refused e)) ↔ ((reply : Reply) × (option_map decoded_reply answer ≡ Some (Ok reply)) × (is_negative reply.error ≡ true) × (errno reply.error ≡ e))
+  pub down : (result ≡ Err LinkDown) ↔ (answer ≡ None)
+
+-- ---- a walk of acts
+
+-- one exchange for each act, with its answer
+abbrev pub exchanges : Plan → List Act → List (Option (List ℕ)) → List Call
+exchanges plan [] answers = []
+exchanges plan (act ∷ acts) [] = []
+exchanges plan (act ∷ acts) (answer ∷ answers) = Exchange (message_spelling (message_of plan act)) answer ∷ exchanges plan acts answers
+
+-- the answers to acts, up to the first that did not pass, and what they come to
+abbrev pub Walk : List Act → List (Option (List ℕ)) → Outcome → Type 0
+Walk [] [] result = result ≡ Ok tt
+Walk [] (answer ∷ answers) result = ⊥
+Walk (act ∷ acts) [] result = ⊥
+Walk (act ∷ acts) (answer ∷ answers) result =
+    MatchResult (verdict answer) (λ reply. Walk acts answers result) (λ fault. (answers ≡ []) × (result ≡ Err fault))
+
+-- these acts, by one exchange each up to the end of the walk, and no other call
+pub record Walked {D : Type 0} (means : Meaning D) (plan : Plan) (acts : List Act) (w v : World D) (result : Outcome) : Type 0 where
+  pub answers : List (Option (List ℕ))
+  pub led : Led means w (exchanges plan acts answers) v
+  pub walk : Walk acts answers result
+
+-- ---- what the firmware itself refuses
+
+-- an act is refused by the firmware itself exactly where it makes a widget up to which the stated sizes pass the heap
+abbrev pub own : Plan → ℕ → Act → Option Errno
+own plan heap (Make id) = if nat_lt heap (needed_by plan (id + 1)) then Some (errno no_memory) else None
+own plan heap (Join source sink) = None
+own plan heap (Finish id) = None
+
+-- the stated sizes of all widgets fit
+abbrev pub Fits : Plan → ℕ → Type 0
+Fits plan heap = needed_by plan (length plan.widgets) ≤ heap
+
+-- ---- the list that brings a device up
+
+-- why it ended early: the stated sizes do not fit, or a count of the device rose
+abbrev pub Why : {D : Type 0} → Meaning D → Plan → ℕ → D → HostFault → D → Type 0
+Why means plan heap old (Refused e) new =
+    ((e ≡ errno no_memory) × (heap < needed_by plan (length plan.widgets))) ⊎ Rose (means.refusals old) (means.refusals new)
+Why means plan heap old LinkDown new = Rose (means.faults old) (means.faults new)
+Why means plan heap old Loaded new = ⊥
+
+-- the ticks that a device has put before messages, as its clock counts them
+abbrev pub ticks_put : {D : Type 0} → Meaning D → D → D → ℕ
+ticks_put means old new = (means.pending old - means.pending new) % 2 ^ 32
+
+-- what is there once all acts have passed: the sizes fit, and the device keeps the plan
+abbrev pub Stands : {D : Type 0} → Meaning D → Plan → ℕ → D → D → Type 0
+Stands means plan heap old new = Fits plan heap × (means.on new ≡ Some (loaded_state plan heap (ticks_put means old new)))
+
+-- what the acts that bring up a fresh device leave
+abbrev pub BroughtUp : {D : Type 0} → Meaning D → Plan → ℕ → D → Outcome → D → Type 0
+BroughtUp means plan heap old (Ok done) new = Stands means plan heap old new
+BroughtUp means plan heap old (Err fault) new = (is_some (means.on new) ≡ true) × Why means plan heap old fault new
+
+-- ---- load
+
+-- the calls of a load: a boot, the exchanges, and after a failure a cut
+abbrev pub load_calls : ℕ → Plan → List (Option (List ℕ)) → Outcome → List Call
+load_calls heap plan answers (Ok done) = Boot heap ∷ exchanges plan (bring_up_acts plan) answers
+load_calls heap plan answers (Err fault) = (Boot heap ∷ exchanges plan (bring_up_acts plan) answers) ++ Cut ∷ []
+
+-- these calls and no others
+pub record Brought {D : Type 0} (means : Meaning D) (plan : Plan) (heap : ℕ) (w v : World D) (result : Outcome) : Type 0 where
+  pub answers : List (Option (List ℕ))
+  pub led : Led means w (load_calls heap plan answers result) v
+  pub walk : Walk (bring_up_acts plan) answers result
+
+-- where the record is not unloaded, there is no call and the answer says so
+abbrev pub Loads : {D : Type 0} → Meaning D → Plan → ℕ → Power → World D → World D → Outcome → Type 0
+Loads means plan heap Unloaded w v result = Brought means plan heap w v result
+Loads means plan heap On w v result = (v ≡ w) × (result ≡ Err Loaded)
+Loads means plan heap Off w v result = (v ≡ w) × (result ≡ Err Loaded)
+
+-- the record after a load that came to this
+abbrev pub after_load : Plan → Outcome → Record → Record
+after_load plan (Ok done) kept = all_closed On plan
+after_load plan (Err Loaded) kept = kept
+after_load plan (Err (Refused e)) kept = first_record plan
+after_load plan (Err LinkDown) kept = first_record plan
+
+-- what a load leaves on the device: the plan, or nothing, since it is off
+abbrev pub LoadLeft : {D : Type 0} → Meaning D → Plan → ℕ → D → Outcome → D → Type 0
+LoadLeft means plan heap old (Ok done) new = Stands means plan heap old new
+LoadLeft means plan heap old (Err Loaded) new = new ≡ old
+LoadLeft means plan heap old (Err (Refused e)) new = (means.on new ≡ None) × Why means plan heap old (Refused e) new
+LoadLeft means plan heap old (Err LinkDown) new = (means.on new ≡ None) × Why means plan heap old LinkDown new
+
+-- from an unloaded record it succeeds where the sizes fit and neither count rises, and not where they do not fit
+pub record SucceedsExactly {D : Type 0} (means : Meaning D) (plan : Plan) (heap : ℕ) (old : D) (result : Outcome) (new : D) : Type 0 where
+  pub fit : Fits plan heap → (Rose (means.faults old) (means.faults new) → ⊥) → (Rose (means.refusals old) (means.refusals new) → ⊥) → result ≡ Ok tt
+  pub unfit : (result ≡ Ok tt) → Fits plan heap
+
+-- ---- both sides
+
+-- the device by the record's power: on with the view that the record says, or off; a record that is unloaded is the
+-- first, and while the power is off no stream runs or is paused
+abbrev pub Sides : {D : Type 0} → Meaning D → Plan → Record → D → Power → Type 0
+Sides means plan kept device Unloaded = (kept ≡ first_record plan) × (means.on device ≡ None)
+Sides means plan kept device On = option_map view_of (means.on device) ≡ Some (expected_view plan kept)
+Sides means plan kept device Off = (list_any (λ s. is_live_phase (phase_of s.found)) kept.streams ≡ false) × (means.on device ≡ None)
+
+-- the record and the device agree
+pub record Agrees {D : Type 0} (means : Meaning D) (plan : Plan) (kept : Record) (device : D) : Type 0 where
+  pub streams : length kept.streams ≡ length plan.streams
+  pub sides : Sides means plan kept device kept.power

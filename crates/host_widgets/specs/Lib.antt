@@ -1,0 +1,5 @@
+pub mod HostRecord
+pub mod Acts
+pub mod Expected
+pub mod Host
+pub mod ActFates

@@ -1,0 +1,122 @@
+// The messages that bring a device up.
+ghost use Rattle.std.specs.Prelude.{◌≡◌, ◌<◌, ◌^◌, ◌*◌, is_some, true, Some, length, map};
+ghost use Rattle.sof_base.specs.Ports.{HasRoom};
+ghost use Rattle.mbox_link.specs.Step.{fresh};
+ghost use Rattle.mbox_link.specs.Calls.{world};
+ghost use Rattle.tplg_graph.specs.ThinPlan.{IsThinPlan};
+ghost use Rattle.host_widgets.specs.Acts.{Make, Join, Finish, ids_of, bring_up_acts};
+ghost use Rattle.host_widgets.specs.Host.{Walked, BroughtUp};
+ghost use Rattle.host_widgets.specs.ActFates.{WalkFates};
+
+use crate::answers::HostFault;
+use crate::kept::Record;
+use crate::messages::make_message;
+use crate::sending::send;
+use ipc3_codec::Message;
+use mbox_link::Dsp;
+use sof_io::{Inputs, Outputs};
+use tplg_graph::Plan;
+
+// Makes each widget, by id.
+fn make_widgets<P: Dsp>(
+    plan: &Plan,
+    dsp: &mut P,
+    io: &mut Inputs,
+    out: &mut Outputs,
+) -> Result<(), HostFault>
+    requires few { length plan.now.widgets < 2 ^ 32 }
+    requires on { is_some (P.means.on dsp.old) ≡ true }
+    requires room { HasRoom (61440 * P.means.pending dsp.old) out.old }
+    ensures { Walked P.means plan.now (map Make (ids_of plan.now)) (world dsp.old io.old out.old) (world dsp.new io.new out.new) result }
+{
+    let mut id = 0;
+    for words in plan.widgets.items() {
+        send(&make_message(plan, id, words), dsp, io, out)?;
+        id += 1;
+    }
+    Ok(())
+}
+
+// Makes each join, in the graph's order.
+fn make_joins<P: Dsp>(
+    plan: &Plan,
+    dsp: &mut P,
+    io: &mut Inputs,
+    out: &mut Outputs,
+) -> Result<(), HostFault>
+    requires on { is_some (P.means.on dsp.old) ≡ true }
+    requires room { HasRoom (61440 * P.means.pending dsp.old) out.old }
+    ensures { Walked P.means plan.now (map (λ j. Join j.source j.sink) plan.now.graph.joins) (world dsp.old io.old out.old) (world dsp.new io.new out.new) result }
+{
+    for join in plan.graph.joins.items() {
+        let message = Message::Connect {
+            source: join.source,
+            sink: join.sink,
+        };
+        send(&message, dsp, io, out)?;
+    }
+    Ok(())
+}
+
+// Completes each pipeline, by id.
+fn finish_pipes<P: Dsp>(
+    plan: &Plan,
+    dsp: &mut P,
+    io: &mut Inputs,
+    out: &mut Outputs,
+) -> Result<(), HostFault>
+    requires on { is_some (P.means.on dsp.old) ≡ true }
+    requires room { HasRoom (61440 * P.means.pending dsp.old) out.old }
+    ensures { Walked P.means plan.now (map (λ p. Finish p.id) plan.now.graph.pipes) (world dsp.old io.old out.old) (world dsp.new io.new out.new) result }
+{
+    for pipe in plan.graph.pipes.items() {
+        send(&Message::PipeComplete { id: pipe.id }, dsp, io, out)?;
+    }
+    Ok(())
+}
+
+// Sends the whole list, up to the first message that does not pass.
+fn send_list<P: Dsp>(
+    plan: &Plan,
+    dsp: &mut P,
+    io: &mut Inputs,
+    out: &mut Outputs,
+) -> Result<(), HostFault>
+    requires few { length plan.now.widgets < 2 ^ 32 }
+    requires on { is_some (P.means.on dsp.old) ≡ true }
+    requires room { HasRoom (61440 * P.means.pending dsp.old) out.old }
+    ensures { Walked P.means plan.now (bring_up_acts plan.now) (world dsp.old io.old out.old) (world dsp.new io.new out.new) result }
+{
+    make_widgets(plan, dsp, io, out)?;
+    make_joins(plan, dsp, io, out)?;
+    finish_pipes(plan, dsp, io, out)
+}
+
+/// Sends the messages that bring a freshly booted device up, one exchange each, up to the first that does not pass: each
+/// widget is made by id, then each join is made in the graph's order, then each pipeline is complete by id. The record
+/// stays as it is, and nothing is cut. `heap` is the device's heap in bytes.
+///
+/// Ok: the device keeps the plan. `Refused(e)`: a message was answered with the negative error e. `LinkDown`: an exchange
+/// failed.
+pub fn bring_up<P: Dsp>(
+    plan: &Plan,
+    kept: &mut Record,
+    heap: u32,
+    dsp: &mut P,
+    io: &mut Inputs,
+    out: &mut Outputs,
+) -> Result<(), HostFault>
+    requires plan { IsThinPlan plan.now }
+    requires booted { P.means.on dsp.old ≡ Some (fresh heap) }
+    requires room { HasRoom (61440 * P.means.pending dsp.old) out.old }
+    ensures calls { Walked P.means plan.now (bring_up_acts plan.now) (world dsp.old io.old out.old) (world dsp.new io.new out.new) result }
+    ensures fates { WalkFates P.means plan.now heap (bring_up_acts plan.now) (world dsp.old io.old out.old) (world dsp.new io.new out.new) result }
+    ensures left { BroughtUp P.means plan.now heap dsp.old result dsp.new }
+    ensures kept { kept.new ≡ kept.old }
+    ensures inputs { io.new ≡ io.old }
+    ensures outputs { out.new ≡ out.old }
+{
+    // That no two inputs have one slot, and no position is out of range, is what keeps a silent tick silent.
+    let _inputs = io.len();
+    send_list(plan, dsp, io, out)
+}

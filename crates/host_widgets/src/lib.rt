@@ -1,0 +1,18 @@
+//! The host's side of a device: the record of what should be there, what each call answers, the messages that bring a
+//! device up, the view that its firmware is then expected to show, and `load` over any device.
+#![tactic(auto)]
+
+mod answers;
+mod bringing_up;
+mod kept;
+mod loading;
+mod messages;
+mod sending;
+#[cfg(test)]
+mod tests;
+
+pub use answers::{Answer, HostFault};
+pub use bringing_up::bring_up;
+pub use kept::{Found, Power, Record, StreamRec};
+pub use loading::load;
+pub use sending::send;

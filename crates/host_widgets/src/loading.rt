@@ -1,0 +1,83 @@
+// A device is loaded from nothing.
+ghost use Rattle.std.specs.Prelude.{◌≡◌, ◌↔◌, ◌≤◌, ◌*◌, None};
+ghost use Rattle.sof_base.specs.Ports.{HasRoom};
+ghost use Rattle.mbox_link.specs.Calls.{world};
+ghost use Rattle.tplg_graph.specs.ThinPlan.{IsThinPlan};
+ghost use Rattle.host_widgets.specs.HostRecord.{first_record};
+ghost use Rattle.host_widgets.specs.Host.{Agrees, Brought, Loads, LoadLeft, SucceedsExactly, after_load};
+ghost use Rattle.host_widgets.specs.ActFates.{LoadFates};
+
+use crate::answers::HostFault;
+use crate::bringing_up::bring_up;
+use crate::kept::{Power, Record};
+use mbox_link::Dsp;
+use sof_io::{Inputs, Outputs};
+use tplg_graph::Plan;
+
+// Boots the device and brings it up. A failure cuts it; the record changes only once all has passed.
+fn power_up<P: Dsp>(
+    plan: &Plan,
+    kept: &mut Record,
+    heap: u32,
+    dsp: &mut P,
+    io: &mut Inputs,
+    out: &mut Outputs,
+) -> Result<(), HostFault>
+    requires plan { IsThinPlan plan.now }
+    requires kept { kept.old ≡ first_record plan.now }
+    requires off { P.means.on dsp.old ≡ None }
+    requires heap { heap ≤ P.means.most dsp.old }
+    requires room { HasRoom (61440 * P.means.pending dsp.old) out.old }
+    ensures calls { Brought P.means plan.now heap (world dsp.old io.old out.old) (world dsp.new io.new out.new) result }
+    ensures fates { LoadFates P.means plan.now heap (world dsp.old io.old out.old) (world dsp.new io.new out.new) result }
+    ensures left { LoadLeft P.means plan.now heap dsp.old result dsp.new }
+    ensures unloaded { result ≡ Err HostFault.Loaded → ⊥ }
+    ensures kept { kept.new ≡ after_load plan.now result kept.old }
+    ensures inputs { io.new ≡ io.old }
+    ensures outputs { out.new ≡ out.old }
+{
+    dsp.boot(heap);
+    if let Err(fault) = bring_up(plan, kept, heap, dsp, io, out) {
+        dsp.cut();
+        return Err(fault);
+    }
+    kept.power = Power::On;
+    Ok(())
+}
+
+/// Loads the plan: boots the device with a heap of so many bytes and brings it up. It takes no memory, and the record
+/// changes only once every message has passed.
+///
+/// Ok: the device keeps the plan, and the record says that it is on. `Loaded`: the record was not unloaded, and no call
+/// was made on the device. `Refused(e)`: a message was answered with the negative error e, and `LinkDown`: an exchange
+/// failed; then the device is off, and the record is unloaded.
+pub fn load<P: Dsp>(
+    plan: &Plan,
+    kept: &mut Record,
+    heap: u32,
+    dsp: &mut P,
+    io: &mut Inputs,
+    out: &mut Outputs,
+) -> Result<(), HostFault>
+    requires plan { IsThinPlan plan.now }
+    requires agree { Agrees P.means plan.now kept.old dsp.old }
+    requires heap { heap ≤ P.means.most dsp.old }
+    requires room { HasRoom (61440 * P.means.pending dsp.old) out.old }
+    // Which calls it made on the device, and what they came to.
+    ensures calls { Loads P.means plan.now heap kept.old.power (world dsp.old io.old out.old) (world dsp.new io.new out.new) result }
+    // What became of each act, where it was unloaded.
+    ensures fates { kept.old.power ≡ Power.Unloaded → LoadFates P.means plan.now heap (world dsp.old io.old out.old) (world dsp.new io.new out.new) result }
+    ensures loaded { (result ≡ Err HostFault.Loaded) ↔ (kept.old.power ≡ Power.Unloaded → ⊥) }
+    ensures left { LoadLeft P.means plan.now heap dsp.old result dsp.new }
+    // It succeeds where the stated sizes fit and no count of the device rises, and never where they do not fit.
+    ensures exactly { kept.old.power ≡ Power.Unloaded → SucceedsExactly P.means plan.now heap dsp.old result dsp.new }
+    ensures kept { kept.new ≡ after_load plan.now result kept.old }
+    ensures agree { Agrees P.means plan.now kept.new dsp.new }
+    ensures inputs { io.new ≡ io.old }
+    ensures outputs { out.new ≡ out.old }
+{
+    match kept.power {
+        Power::Unloaded => power_up(plan, kept, heap, dsp, io, out),
+        Power::On | Power::Off => Err(HostFault::Loaded),
+    }
+}

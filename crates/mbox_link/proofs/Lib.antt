@@ -1,0 +1,5 @@
+pub mod Led
+pub mod Rooms
+pub mod Steps
+pub mod FateLaws
+pub mod LinkCalls

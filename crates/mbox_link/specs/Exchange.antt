@@ -1,0 +1,43 @@
+-- What an exchange and a tick leave and answer.
+use Rattle.std.specs.Prelude.{◌≡◌, ◌⊎◌, ℕ, zero, suc, ◌+◌, ◌<◌, ◌≤◌, ◌^◌, ◌-◌, min, List, take, Option, Some, None, Result, Ok, Err, negsuc}
+use Rattle.sof_base.specs.Ports.{Io}
+use Rattle.stream_law.specs.State.{FwState}
+use Rattle.stream_law.specs.Move.{state_after, audio_after, io_after}
+use Rattle.mbox_link.specs.declared.device.LinkFault.{LinkFault}
+use Rattle.mbox_link.specs.Step.{step, error_reply}
+
+-- a state with the endpoints' bytes, after a tick and after so many
+abbrev pub ticked : FwState × Io → FwState × Io
+ticked p = (state_after p.0 (audio_after p.0 p.1), io_after p.1 (audio_after p.0 p.1))
+
+abbrev pub ticks : ℕ → FwState × Io → FwState × Io
+ticks zero p = p
+ticks (suc n) p = ticks n (ticked p)
+
+-- what an exchange answered: the reply's bytes, or that the link failed
+abbrev pub answered : Result ℕ LinkFault → List ℕ → Option (List ℕ)
+answered (Ok n) reply = Some (take n reply)
+answered (Err fault) reply = None
+
+-- a reply of 12 bytes with a negative error, which is -1 - code
+pub record IsRefusal (reply : List ℕ) : Type 0 where
+  pub code : ℕ
+  pub small : code < 2 ^ 31
+  pub is : reply ≡ error_reply (negsuc code)
+
+-- What an exchange may leave and answer, from a state and endpoints. `refused` and `faulted` say that a count of the device rose.
+abbrev pub Stepped : (refused faulted : Type 0) → FwState × Io → List ℕ → Option (List ℕ) → Option FwState → Io → Type 0
+Stepped refused faulted p request (Some reply) after io =
+    (io ≡ p.1)
+    × (((after ≡ Some (step p.0 request).0) × (reply ≡ (step p.0 request).1))
+    ⊎ (refused × IsRefusal reply × (after ≡ Some p.0)))
+Stepped refused faulted p request None after io =
+    (io ≡ p.1) × faulted × ((after ≡ Some (step p.0 request).0) ⊎ (after ≡ Some p.0))
+
+-- a count rose, or stands at its last value
+abbrev pub Rose : ℕ → ℕ → Type 0
+Rose before after = (before < after) ⊎ (2 ^ 64 ≤ after + 1)
+
+-- one more, up to the last value
+abbrev pub more : ℕ → ℕ
+more count = min (count + 1) (2 ^ 64 - 1)

@@ -1,0 +1,6 @@
+pub mod Step
+pub mod Exchange
+pub mod Calls
+pub mod Fates
+pub mod Wire
+pub mod Link

@@ -1,0 +1,252 @@
+-- The firmware's step for a message: one row for each, its tests in the order -19, -16, -22, -12.
+use Rattle.std.specs.Prelude.{ℕ, ◌+◌, ◌&&◌, ◌||◌, Bool, true, false, not, List, [], map, length, Option, Some, None, Result, Ok, Err, ℤ, pos, negsuc, find, nat_le, is_some, option_map, ◌==◌, if◌then◌else◌}
+use Rattle.std.specs.List.{list_any}
+use Rattle.sof_base.specs.declared.format.Format.{Format}
+use Rattle.sof_base.specs.declared.format.Format.TheVariants.{S16, S24, S32}
+use Rattle.sof_base.specs.Holes.{rounded, usable_of, fresh_holes, fits, first_fit, carved}
+use Rattle.stream_law.specs.declared.graph.Kind.{Kind}
+use Rattle.stream_law.specs.declared.graph.Kind.TheVariants.{HostPlay, HostCapture, DaiPlay, DaiCapture, Mixer, Mux, Eq}
+use Rattle.stream_law.specs.declared.graph.Setting.TheVariants.{Nothing}
+use Rattle.stream_law.specs.declared.graph.Comp.{Comp}
+use Rattle.stream_law.specs.declared.graph.Edge.{Edge}
+use Rattle.stream_law.specs.declared.graph.Pipe.{Pipe}
+use Rattle.stream_law.specs.declared.graph.Graph.{Graph}
+use Rattle.stream_law.specs.declared.stream.StreamView.{StreamView}
+use Rattle.stream_law.specs.declared.stream.Phase.TheVariants.{Idle}
+use Rattle.stream_law.specs.State.{FwState, HeapView}
+use Rattle.stream_law.specs.Ways.{comp_of, source_of, sink_of, ins, outs}
+use Rattle.stream_law.specs.Placed.{placed}
+use Rattle.stream_law.specs.Joins.{kind_ins, kind_outs, would_cycle, would_reach, would_grow, with_join}
+use Rattle.ipc3_codec.specs.declared.message.Message.{Message}
+use Rattle.ipc3_codec.specs.declared.message.Message.TheVariants.{CompNew, BufferNew, PipeNew, Connect, PipeComplete}
+use Rattle.ipc3_codec.specs.declared.message.CompWords.{CompWords}
+use Rattle.ipc3_codec.specs.declared.message.CompWords.TheVariants.{Host, Dai}
+use Rattle.ipc3_codec.specs.declared.reply.Body.TheVariants as bodies
+use Rattle.ipc3_codec.specs.declared.fault.CodecFault.{CodecFault}
+use Rattle.ipc3_codec.specs.Messages.{decoded}
+use Rattle.ipc3_codec.specs.Replies.{reply_spelling}
+
+-- ---- error numbers
+
+abbrev pub no_memory : ℤ
+no_memory = negsuc 11
+
+abbrev pub busy : ℤ
+busy = negsuc 15
+
+abbrev pub no_device : ℤ
+no_device = negsuc 18
+
+abbrev pub invalid : ℤ
+invalid = negsuc 21
+
+-- ---- what an id names
+
+abbrev pub has_comp : Graph → ℕ → Bool
+has_comp g id = list_any (λ c. c.id == id) g.comps
+
+abbrev pub has_edge : Graph → ℕ → Bool
+has_edge g id = list_any (λ e. e.buffer == id) g.edges
+
+abbrev pub has_pipe : Graph → ℕ → Bool
+has_pipe g id = list_any (λ p. p.id == id) g.pipes
+
+-- an id names something: components, buffers and pipelines share one id space
+abbrev pub is_used : Graph → ℕ → Bool
+is_used g id = has_comp g id || has_edge g id || has_pipe g id
+
+-- some pipeline of this index is there; and it is complete
+abbrev pub has_index : Graph → ℕ → Bool
+has_index g index = list_any (λ p. p.index == index) g.pipes
+
+abbrev pub is_complete : Graph → ℕ → Bool
+is_complete g index = list_any (λ p. p.index == index && p.complete) g.pipes
+
+-- ---- the heap: stated sizes in bytes, and a piece for an id, cut from the front of the first hole that holds it
+
+abbrev pub comp_bytes : Kind → ℕ
+comp_bytes Mixer = 32
+comp_bytes Mux = 32
+comp_bytes Eq = 4160
+comp_bytes _ = 64
+
+abbrev pub buffer_bytes : ℕ → ℕ
+buffer_bytes size = 32 + size
+
+abbrev pub pipe_bytes : ℕ
+pipe_bytes = 64
+
+abbrev pub has_hole : FwState → ℕ → Bool
+has_hole f bytes = fits (rounded bytes) f.heap.holes
+
+abbrev pub with_piece : ℕ → ℕ → HeapView → HeapView
+with_piece id bytes heap = record {
+  holes = carved (rounded bytes) heap.holes;
+  pieces = placed (λ p. p.id) (record { id = id; place = first_fit (rounded bytes) heap.holes; size = rounded bytes }) heap.pieces;
+}
+
+-- ---- COMP_NEW
+
+-- a frame format's number: 0, 1, and 2 for the rest
+abbrev pub format_of : ℕ → Format
+format_of n = if n == 0 then S16 else if n == 1 then S24 else S32
+
+abbrev pub kind_of : CompWords → ℕ → Kind
+kind_of (Host direction) frame_fmt = if direction == 0 then HostPlay else HostCapture
+kind_of (Dai direction index) frame_fmt = if direction == 0 then DaiPlay (format_of frame_fmt) else DaiCapture (format_of frame_fmt)
+
+-- a host brings a stream without parameters
+abbrev pub with_stream : ℕ → Kind → List StreamView → List StreamView
+with_stream id HostPlay streams = placed (λ s. s.host) (record { host = id; phase = Idle; params = None }) streams
+with_stream id HostCapture streams = placed (λ s. s.host) (record { host = id; phase = Idle; params = None }) streams
+with_stream id kind streams = streams
+
+abbrev pub with_comps : List Comp → Graph → Graph
+with_comps comps g = record { comps = comps; edges = g.edges; pipes = g.pipes; joins = g.joins }
+
+abbrev pub with_comp : ℕ → ℕ → Kind → FwState → FwState
+with_comp id pipe kind f = record f {
+  heap = with_piece id (comp_bytes kind) f.heap;
+  graph = with_comps (placed (λ c. c.id) (record { id = id; kind = kind; pipe = pipe; setting = Nothing }) f.graph.comps) f.graph;
+  streams = with_stream id kind f.streams;
+}
+
+abbrev pub comp_new : FwState → ℕ → ℕ → Kind → Result FwState ℤ
+comp_new f id pipe kind =
+    if is_used f.graph id || is_complete f.graph pipe then Err busy
+    else if nat_le 128 (length f.graph.comps) || not (has_hole f (comp_bytes kind)) then Err no_memory
+    else Ok (with_comp id pipe kind f)
+
+-- ---- BUFFER_NEW: the buffer is joined to nothing, and its ring is empty
+
+abbrev pub with_edges : List Edge → Graph → Graph
+with_edges edges g = record { comps = g.comps; edges = edges; pipes = g.pipes; joins = g.joins }
+
+abbrev pub with_buffer : ℕ → ℕ → ℕ → FwState → FwState
+with_buffer id pipe size f = record f {
+  heap = with_piece id (buffer_bytes size) f.heap;
+  graph = with_edges (placed (λ e. e.buffer) (record { buffer = id; pipe = pipe; size = size; source = None; sink = None }) f.graph.edges) f.graph;
+  rings = placed (λ r. r.buffer) (record { buffer = id; frames = [] }) f.rings;
+}
+
+abbrev pub buffer_new : FwState → ℕ → ℕ → ℕ → Result FwState ℤ
+buffer_new f id pipe size =
+    if is_used f.graph id || is_complete f.graph pipe then Err busy
+    else if nat_le 128 (length f.graph.edges) || not (has_hole f (buffer_bytes size)) then Err no_memory
+    else Ok (with_buffer id pipe size f)
+
+-- ---- PIPE_NEW: the pipeline is not complete
+
+abbrev pub with_pipes : List Pipe → Graph → Graph
+with_pipes pipes g = record { comps = g.comps; edges = g.edges; pipes = pipes; joins = g.joins }
+
+abbrev pub with_pipe : ℕ → ℕ → ℕ → ℕ → FwState → FwState
+with_pipe id index sched period f = record f {
+  heap = with_piece id pipe_bytes f.heap;
+  graph = with_pipes (placed (λ p. p.id) (record { id = id; index = index; sched = sched; period = period; complete = false }) f.graph.pipes) f.graph;
+}
+
+abbrev pub pipe_new : FwState → ℕ → ℕ → ℕ → ℕ → Result FwState ℤ
+pipe_new f id index sched period =
+    if is_used f.graph id || has_index f.graph index then Err busy
+    else if nat_le 32 (length f.graph.pipes) || not (has_hole f pipe_bytes) then Err no_memory
+    else Ok (with_pipe id index sched period f)
+
+-- ---- CONNECT
+
+-- the ends are one component and one buffer, either way round
+abbrev pub leads_in : Graph → ℕ → ℕ → Bool
+leads_in g source sink = has_comp g source && has_edge g sink
+
+abbrev pub leads_out : Graph → ℕ → ℕ → Bool
+leads_out g source sink = has_edge g source && has_comp g sink
+
+-- this side of the buffer is joined
+abbrev pub is_joined : Graph → ℕ → ℕ → Bool
+is_joined g source sink =
+    (leads_in g source sink && is_some (source_of g sink)) || (leads_out g source sink && is_some (sink_of g source))
+
+abbrev pub kind_at : Graph → ℕ → Option Kind
+kind_at g id = option_map (λ c. c.kind) (comp_of g id)
+
+abbrev pub has_free_out : Graph → ℕ → Option Kind → Bool
+has_free_out g id None = false
+has_free_out g id (Some kind) = nat_le (length (outs g id) + 1) (kind_outs kind)
+
+abbrev pub has_free_in : Graph → ℕ → Option Kind → Bool
+has_free_in g id None = false
+has_free_in g id (Some kind) = nat_le (length (ins g id) + 1) (kind_ins kind)
+
+-- the component takes one more
+abbrev pub takes_join : Graph → ℕ → ℕ → Bool
+takes_join g source sink =
+    (leads_in g source sink && has_free_out g source (kind_at g source)) || (leads_out g source sink && has_free_in g sink (kind_at g sink))
+
+abbrev pub is_refused_join : FwState → ℕ → ℕ → Bool
+is_refused_join f source sink =
+    not (takes_join f.graph source sink) || would_cycle f.graph source sink || would_reach f.graph source sink || would_grow f.graph f.streams source sink
+
+abbrev pub connect : FwState → ℕ → ℕ → Result FwState ℤ
+connect f source sink =
+    if not (is_used f.graph source && is_used f.graph sink) then Err no_device
+    else if is_joined f.graph source sink then Err busy
+    else if is_refused_join f source sink then Err invalid
+    else Ok (record f { graph = with_join f.graph (record { source = source; sink = sink }) })
+
+-- ---- PIPE_COMPLETE
+
+abbrev pub completed : ℕ → Pipe → Pipe
+completed id p = if p.id == id then record p { complete = true } else p
+
+abbrev pub complete_pipe : FwState → ℕ → Option Pipe → Result FwState ℤ
+complete_pipe f id None = Err invalid
+complete_pipe f id (Some p) =
+    if not (is_used f.graph p.sched) then Err no_device
+    else if p.complete then Err busy
+    else if not (has_comp f.graph p.sched) then Err invalid
+    else Ok (record f { graph = with_pipes (map (completed id) f.graph.pipes) f.graph })
+
+abbrev pub pipe_complete : FwState → ℕ → Result FwState ℤ
+pipe_complete f id =
+    if not (is_used f.graph id) then Err no_device else complete_pipe f id (find (λ p. p.id == id) f.graph.pipes)
+
+-- ---- all rows
+
+-- a message's row: the state after it, or a negative error, which leaves the state as it was
+abbrev pub row : FwState → Message → Result FwState ℤ
+row f (CompNew id pipe periods_sink periods_source frame_fmt kind) = comp_new f id pipe (kind_of kind frame_fmt)
+row f (BufferNew id pipe size caps) = buffer_new f id pipe size
+row f (PipeNew id pipe sched period priority mips frames time_domain) = pipe_new f id pipe sched period
+row f (Connect source sink) = connect f source sink
+row f (PipeComplete id) = pipe_complete f id
+
+-- bytes that are no message are answered -22
+abbrev pub row_of : FwState → Result Message CodecFault → Result FwState ℤ
+row_of f (Ok m) = row f m
+row_of f (Err fault) = Err invalid
+
+-- the bytes of a reply without a body
+abbrev pub error_reply : ℤ → List ℕ
+error_reply error = reply_spelling (record { error = error; body = bodies.Nothing })
+
+abbrev pub replied : FwState → Result FwState ℤ → FwState × List ℕ
+replied f (Ok g) = (g, error_reply (pos 0))
+replied f (Err e) = (f, error_reply e)
+
+-- the state after the bytes of a message, and the reply's bytes
+unfoldable pub step : FwState → List ℕ → FwState × List ℕ
+step f request = replied f (row_of f (decoded request))
+
+-- ---- a boot
+
+-- nothing is there, and the heap is one hole
+abbrev pub fresh : ℕ → FwState
+fresh heap = record {
+  heap = record { holes = fresh_holes (usable_of heap); pieces = [] };
+  clock = 0;
+  graph = record { comps = []; edges = []; pipes = []; joins = [] };
+  streams = [];
+  rings = [];
+  histories = [];
+  staging = [];
+}

@@ -1,0 +1,6 @@
+pub mod Cells
+pub mod Slots
+pub mod Samples
+pub mod Equations
+pub mod Holes
+pub mod Ports

@@ -1,0 +1,198 @@
+-- The fields of a record, one after the other: how each is spelled, and where it stands.
+use Rattle.std.specs.Prelude.{ℕ, zero, suc, ◌+◌, ◌-◌, ◌*◌, ◌<◌, ◌^◌, Bool, true, false, ◌&&◌, not, nat_lt, List, [], ◌∷◌, ◌++◌, length, take, drop}
+use Rattle.std.specs.Int.{w16, w32, w64, from_le_bytes, to_le_bytes}
+use Rattle.sof_base.specs.Cells.{Cell, fixed, loose, written}
+
+-- a u32, a u16, a u64, a size word that is ignored on reading, a name of 44 bytes, u32 words, bytes
+pub data Slot : Type 0 where
+  Word : ℕ → Slot
+  Half : ℕ → Slot
+  Long : ℕ → Slot
+  Size : ℕ → Slot
+  Label : List ℕ → Slot
+  Words : List ℕ → Slot
+  Raw : List ℕ → Slot
+
+-- so many zeros
+abbrev pub zeros : ℕ → List ℕ
+zeros zero = []
+zeros (suc n) = 0 ∷ zeros n
+
+-- each word in four bytes, the low one first
+unfoldable pub words_bytes : List ℕ → List ℕ
+words_bytes [] = []
+words_bytes (n ∷ ns) = to_le_bytes w32 n ++ words_bytes ns
+
+-- how a field is spelled
+unfoldable pub slot_cells : Slot → List Cell
+slot_cells (Word n) = fixed (to_le_bytes w32 n)
+slot_cells (Half n) = fixed (to_le_bytes w16 n)
+slot_cells (Long n) = fixed (to_le_bytes w64 n)
+slot_cells (Size n) = loose (to_le_bytes w32 n)
+slot_cells (Label name) = fixed (name ++ 0 ∷ []) ++ loose (zeros (43 - length name))
+slot_cells (Words ns) = fixed (words_bytes ns)
+slot_cells (Raw bytes) = fixed bytes
+
+-- and fields, one after the other
+unfoldable pub slots_cells : List Slot → List Cell
+slots_cells [] = []
+slots_cells (s ∷ ss) = slot_cells s ++ slots_cells ss
+
+-- bytes, and a field behind them
+unfoldable pub wrote : List ℕ → Slot → List ℕ
+wrote out s = out ++ written (slot_cells s)
+
+-- and fields
+abbrev pub wrote_all : List ℕ → List Slot → List ℕ
+wrote_all out [] = out
+wrote_all out (s ∷ ss) = wrote_all (wrote out s) ss
+
+-- bytes, and cells behind them
+unfoldable pub wrote_part : List ℕ → List Cell → List ℕ
+wrote_part out cells = out ++ written cells
+
+-- no byte of a name is 0
+unfoldable pub NoZero : List ℕ → Type 0
+NoZero [] = Unit {0}
+NoZero (b ∷ bs) = (0 < b) × NoZero bs
+
+-- at most 43 bytes, none of them 0
+abbrev pub IsName : List ℕ → Type 0
+IsName name = (length name < 44) × NoZero name
+
+-- the bytes before the first 0
+unfoldable pub until_zero : List ℕ → List ℕ
+until_zero [] = []
+until_zero (zero ∷ bs) = []
+until_zero (suc b ∷ bs) = suc b ∷ until_zero bs
+
+-- some byte is 0
+unfoldable pub has_zero : List ℕ → Bool
+has_zero [] = false
+has_zero (zero ∷ bs) = true
+has_zero (suc b ∷ bs) = has_zero bs
+
+-- whether bytes are a name
+abbrev pub is_name : List ℕ → Bool
+is_name name = nat_lt (length name) 44 && not (has_zero name)
+
+-- each fits four bytes
+unfoldable pub AreWords : List ℕ → Type 0
+AreWords [] = Unit {0}
+AreWords (n ∷ ns) = (n < 2 ^ 32) × AreWords ns
+
+-- the value that a field carries fits it
+unfoldable pub IsSlot : Slot → Type 0
+IsSlot (Word n) = n < 2 ^ 32
+IsSlot (Half n) = n < 2 ^ 16
+IsSlot (Long n) = n < 2 ^ 64
+IsSlot (Size n) = Unit {0}
+IsSlot (Label name) = IsName name
+IsSlot (Words ns) = AreWords ns
+IsSlot (Raw bytes) = Unit {0}
+
+-- and those of fields
+unfoldable pub AreSlots : List Slot → Type 0
+AreSlots [] = Unit {0}
+AreSlots (s ∷ ss) = IsSlot s × AreSlots ss
+
+-- ---- reading
+
+-- n bytes from a place on, fewer where the bytes end
+abbrev pub part : List ℕ → ℕ → ℕ → List ℕ
+part bytes at n = take n (drop at bytes)
+
+-- the little-endian number of four bytes from a place on; zeros stand past the end
+unfoldable pub word_at : List ℕ → ℕ → ℕ
+word_at bytes at = from_le_bytes w32 (part bytes at 4)
+
+-- of two
+unfoldable pub half_at : List ℕ → ℕ → ℕ
+half_at bytes at = from_le_bytes w16 (part bytes at 2)
+
+-- of eight
+unfoldable pub long_at : List ℕ → ℕ → ℕ
+long_at bytes at = from_le_bytes w64 (part bytes at 8)
+
+-- the name in the 44 bytes from a place on
+unfoldable pub name_at : List ℕ → ℕ → List ℕ
+name_at bytes at = until_zero (part bytes at 44)
+
+-- these have a 0
+unfoldable pub has_name : List ℕ → ℕ → Bool
+has_name bytes at = has_zero (part bytes at 44)
+
+-- n words of four bytes from a place on
+unfoldable pub words_at : ℕ → List ℕ → ℕ → List ℕ
+words_at zero bytes at = []
+words_at (suc n) bytes at = word_at bytes at ∷ words_at n bytes (at + 4)
+
+-- the kinds of fields
+pub data Shape : Type 0 where
+  A_word : Shape
+  A_half : Shape
+  A_long : Shape
+  A_size : ℕ → Shape
+  A_name : Shape
+  A_words : ℕ → Shape
+  Bytes : ℕ → Shape
+
+-- how many bytes it has
+abbrev pub width : Shape → ℕ
+width A_word = 4
+width A_half = 2
+width A_long = 8
+width (A_size n) = 4
+width A_name = 44
+width (A_words n) = 4 * n
+width (Bytes n) = n
+
+-- the field that lies at a place
+abbrev pub slot_at : Shape → List ℕ → ℕ → Slot
+slot_at A_word bytes at = Word (word_at bytes at)
+slot_at A_half bytes at = Half (half_at bytes at)
+slot_at A_long bytes at = Long (long_at bytes at)
+slot_at (A_size n) bytes at = Size n
+slot_at A_name bytes at = Label (name_at bytes at)
+slot_at (A_words n) bytes at = Words (words_at n bytes at)
+slot_at (Bytes n) bytes at = Raw (part bytes at n)
+
+-- a name there has a 0
+abbrev pub named : Shape → List ℕ → ℕ → Bool
+named A_word bytes at = true
+named A_half bytes at = true
+named A_long bytes at = true
+named (A_size n) bytes at = true
+named A_name bytes at = has_name bytes at
+named (A_words n) bytes at = true
+named (Bytes n) bytes at = true
+
+-- the bytes of fields, one after the other
+abbrev pub widths : List Shape → ℕ
+widths [] = 0
+widths (s ∷ ss) = width s + widths ss
+
+-- the fields from a place and an offset on
+abbrev pub slots_from : List Shape → List ℕ → ℕ → ℕ → List Slot
+slots_from [] bytes at off = []
+slots_from (s ∷ ss) bytes at off = slot_at s bytes (at + off) ∷ slots_from ss bytes at (off + width s)
+
+-- each name has a 0
+abbrev pub all_named : List Shape → List ℕ → ℕ → ℕ → Bool
+all_named [] bytes at off = true
+all_named (s ∷ ss) bytes at off = named s bytes (at + off) && all_named ss bytes at (off + width s)
+
+-- the kind of a field
+abbrev pub shape_of : Slot → Shape
+shape_of (Word n) = A_word
+shape_of (Half n) = A_half
+shape_of (Long n) = A_long
+shape_of (Size n) = A_size n
+shape_of (Label name) = A_name
+shape_of (Words ns) = A_words (length ns)
+shape_of (Raw bytes) = Bytes (length bytes)
+
+-- and of fields
+abbrev pub shapes_of : List Slot → List Shape
+shapes_of [] = []
+shapes_of (s ∷ ss) = shape_of s ∷ shapes_of ss

@@ -1,0 +1,28 @@
+//! What every other crate speaks of: names, numbers in bytes, sample formats, stream parameters and error numbers.
+#![tactic(auto)]
+
+mod conversion;
+mod errno;
+mod fields;
+mod format;
+mod hole;
+mod items;
+mod memory;
+mod name;
+mod part;
+#[cfg(test)]
+mod tests;
+mod worked;
+mod writing;
+
+pub use conversion::{sample_in, sample_out, sat32};
+pub use errno::Errno;
+pub use fields::{bytes_at, half, label, long, word, word_at, words_at};
+pub use format::{Format, Params, Sample};
+pub use hole::Hole;
+pub use items::Items;
+pub use memory::NoMemory;
+pub use name::Name44;
+pub use part::{Part, PartBytes};
+pub use worked::{hole_rows, sample_rows};
+pub use writing::{put_bytes, put_half, put_long, put_name, put_size, put_word, put_words};

@@ -1,0 +1,9 @@
+pub mod First
+pub mod FoundAfter
+pub mod TiedFiles
+pub mod Pieces
+pub mod ActsOfShelf
+pub mod CallSteps
+pub mod KnownTransfers
+pub mod OpenSlots
+pub mod ActsOfReal

@@ -1,0 +1,12 @@
+use Rattle.std.proofs.Common.{◌∙◌, is_ok}
+use Rattle.sof_desk.specs.Shelf.{Shelf}
+use Rattle.sof_desk.proofs.ActsOfShelf.{acted}
+use Rattle.sof_desk.proofs.CallSteps.{says}
+use Rattle.sof_desk.proofs.mem.MemDeskDesk.say.Goals as goal
+
+pub returns : goal.returns
+returns c =
+    let inside = c.self.inside in
+    let mid : Shelf = record { files = inside.files.items; said = inside.said; plans = inside.plans.items; calls = inside.calls; faults = inside.faults } in
+    let call = c.count_call-planned in
+    acted _ _ _ _ (says c.args.self.now mid c.answer.new.self call.result c.args.piece.now (is_ok c.answer.result) c.take-done.result c.take-done.new.self (c.self.view_is ∙ call.ensures.after) call.ensures.planned c.take-done.ensures.whole c.take-done.ensures.after c.answer.ensures.after c.answer.ensures.answer)

@@ -1,0 +1,10 @@
+pub mod Counts
+pub mod Desk
+pub mod Edits
+pub mod Room
+pub mod Plans
+pub mod HeldFiles
+pub mod Shelf
+pub mod ShelfCalls
+pub mod RealDesk
+pub mod Transfers

@@ -1,0 +1,74 @@
+-- What each call on a desk in memory does: for each call one answer and one desk after it, but for want of memory.
+use Rattle.std.specs.Prelude.{◌≡◌, ◌⊎◌, ℕ, Bool, nat_le, ◌&&◌, find, List, length, Option, Some, None, Ok, Err, is_some, is_none, MatchBool, if◌then◌else◌}
+use Rattle.sof_desk.specs.declared.calls.LoadFault.TheVariants.{Failed, TooLong, OutOfMemory}
+use Rattle.sof_desk.specs.Counts.{one_more}
+use Rattle.sof_desk.specs.Desk.{DeskMeaning, Place, Slot, Spoken, Act, Create, Put, Heard}
+use Rattle.sof_desk.specs.Edits.{changed_first}
+use Rattle.sof_desk.specs.Room.{with_piece, takes_whole}
+use Rattle.sof_desk.specs.Plans.{planned_at}
+use Rattle.sof_desk.specs.HeldFiles.{HeldFile, named, tied, loaded_of, appended_of, can_create, files_with_slot, file_with_piece, file_takes_whole}
+use Rattle.sof_desk.specs.Shelf.{Shelf}
+
+-- what a name gives to be loaded
+abbrev pub shelf_holds : Shelf → List ℕ → Option (List ℕ)
+shelf_holds s name = loaded_of (find (named name) s.files)
+
+-- the file that a slot was created for
+abbrev pub file_of_slot : Shelf → ℕ → Option HeldFile
+file_of_slot s slot = find (tied slot) s.files
+
+-- what was written at a place
+abbrev pub shelf_wrote : Shelf → Place → Option (List ℕ)
+shelf_wrote s Spoken = Some s.said.bytes
+shelf_wrote s (Slot slot) = Some (appended_of (file_of_slot s slot))
+
+-- how many bytes the next call passes, where it is planned to fail
+abbrev pub planned_next : Shelf → Option ℕ
+planned_next s = planned_at (one_more s.calls) s.plans
+
+-- a desk after a call that changes no file: it is counted, and so is its failure
+abbrev pub counted : Shelf → (done : Bool) → Shelf
+counted s done = record s { calls = one_more s.calls; faults = if done then s.faults else one_more s.faults }
+
+-- the bytes that the next call could load: none where it is planned to fail or the name gives none
+abbrev pub loadable : Shelf → List ℕ → Option (List ℕ)
+loadable s name = if is_some (planned_next s) then None else shelf_holds s name
+
+-- what a load of these bytes answers
+abbrev pub Hears : Option (List ℕ) → (limit : ℕ) → Heard → Type 0
+Hears None limit heard = heard ≡ Err Failed
+Hears (Some bytes) limit heard = MatchBool (nat_le (length bytes) limit) ((heard ≡ Ok bytes) ⊎ (heard ≡ Err OutOfMemory)) (heard ≡ Err TooLong)
+
+-- what a load does: its answer, and that a failure is counted
+pub record ShelfLoads (name : List ℕ) (limit : ℕ) (heard : Heard) (old new : Shelf) : Type 0 where
+  pub hears : Hears (loadable old name) limit heard
+  pub after : new ≡ counted old (is_some (loadable old name))
+
+-- whether a call is done
+abbrev pub shelf_does : Shelf → Act → Bool
+shelf_does s (Create slot name) = is_none (planned_next s) && can_create (find (named name) s.files)
+shelf_does s (Put Spoken piece) = takes_whole s.said (planned_next s) piece
+shelf_does s (Put (Slot slot) piece) = file_takes_whole (planned_next s) piece (file_of_slot s slot)
+
+-- a desk with what a call changes, but for the counts: a create that is not done changes nothing
+abbrev pub shelf_with : Shelf → Act → Shelf
+shelf_with s (Create slot name) = if shelf_does s (Create slot name) then record s { files = files_with_slot slot name s.files } else s
+shelf_with s (Put Spoken piece) = record s { said = with_piece s.said (planned_next s) piece }
+shelf_with s (Put (Slot slot) piece) = record s { files = changed_first (tied slot) (file_with_piece (planned_next s) piece) s.files }
+
+-- what another call does: its answer, what it writes, and that a failure is counted
+pub record ShelfActs (act : Act) (done : Bool) (old new : Shelf) : Type 0 where
+  pub answer : done ≡ shelf_does old act
+  pub after : new ≡ counted (shelf_with old act) (shelf_does old act)
+
+-- what a desk in memory means: it tells all
+abbrev pub shelf : DeskMeaning Shelf
+shelf =
+    record {
+      faults = λ s. s.faults;
+      holds = shelf_holds;
+      wrote = shelf_wrote;
+      created = λ s slot. is_some (file_of_slot s slot);
+      load = ShelfLoads;
+      act = ShelfActs;
+    }

@@ -1,0 +1,57 @@
+// The calls that a program makes on the outside.
+ghost use Rattle.std.specs.Prelude.{◌≡◌, is_ok, true, MatchResult};
+ghost use Rattle.sof_desk.specs.Desk.{DeskMeaning, Loaded, Acted, Create, Put, Slot, Spoken};
+
+use std::alloc::Global;
+
+/// The desk failed, and counted it.
+#[derive(Clone, Copy, Debug, PartialEq, Eq)]
+pub struct DeskFailed;
+
+/// Why a file was not loaded.
+#[derive(Clone, Copy, Debug, PartialEq, Eq)]
+pub enum LoadFault {
+    /// The desk failed, and counted it.
+    Failed,
+    /// The file has more bytes than the caller's limit.
+    TooLong,
+    /// Memory for the bytes was wanting.
+    OutOfMemory,
+}
+
+/// Where a program's files and lines are. No call changes what a name gives to be loaded, and the count of faults never
+/// falls.
+pub trait Desk {
+    /// What the desk holds, what was written to it, its count of faults, and what each call does.
+    ghost means: { DeskMeaning Self };
+
+    /// The bytes of the file of a name, in a new `Vec` of `alloc`.
+    ///
+    /// Ok is all its bytes, and never more than `limit` bytes, also where the desk tells no content. `TooLong`: the file
+    /// has more than `limit` bytes. `Failed`: the count of faults rose. `OutOfMemory`: memory was wanting.
+    /// In every case what was written stays.
+    fn load(&mut self, alloc: Global, name: &str, limit: usize) -> Result<Vec<u8>, LoadFault>
+        ensures { MatchResult result
+            (λ bytes. Loaded means name.now limit (Ok bytes.items) self.old self.new)
+            (λ fault. Loaded means name.now limit (Err fault) self.old self.new) };
+
+    /// Creates the file of a name and ties a slot to it.
+    ///
+    /// Ok: the slot is created and empty, also where it was created before. Err: the count of faults rose, and every slot
+    /// is as it was.
+    fn create(&mut self, slot: u32, name: &str) -> Result<(), DeskFailed>
+        ensures { Acted means (Create slot name.now) (is_ok result) self.old self.new };
+
+    /// Appends a piece of any number of bytes to a slot, which must have been created.
+    ///
+    /// Ok: all its bytes were appended. Err: the count of faults rose, and a prefix of the piece was appended.
+    fn append(&mut self, slot: u32, piece: &[u8]) -> Result<(), DeskFailed>
+        requires { means.created self.old slot ≡ true }
+        ensures { Acted means (Put (Slot slot) piece.now) (is_ok result) self.old self.new };
+
+    /// Says a piece of any number of bytes.
+    ///
+    /// Ok: all its bytes were said. Err: the count of faults rose, and a prefix of the piece was said.
+    fn say(&mut self, piece: &[u8]) -> Result<(), DeskFailed>
+        ensures { Acted means (Put Spoken piece.now) (is_ok result) self.old self.new };
+}

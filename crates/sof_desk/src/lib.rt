@@ -1,0 +1,19 @@
+//! The outside of a program: files that it loads, files that it creates and appends to, and lines that it says. One
+//! trait says what each call does, and two desks keep it: one in memory that tells all and fails by plan, and one over
+//! real files and standard output.
+#![tactic(auto)]
+
+mod calls;
+mod file;
+mod mem;
+mod os;
+mod plan;
+mod store;
+mod transfer;
+
+pub use calls::{Desk, DeskFailed, LoadFault};
+pub use mem::MemDesk;
+pub use os::OsDesk;
+
+#[cfg(test)]
+mod tests;

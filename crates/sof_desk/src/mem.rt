@@ -1,0 +1,174 @@
+// A desk in memory, which tells all and fails by plan.
+ghost use Rattle.std.specs.Prelude.{◌≡◌, is_ok, IfOk, OnOk, OnErr, if◌then◌else◌};
+ghost use Rattle.std.specs.Option.{option_copied};
+ghost use Rattle.sof_desk.specs.Counts.{one_more};
+ghost use Rattle.sof_desk.specs.HeldFiles.{input_file, output_file};
+ghost use Rattle.sof_desk.specs.Shelf.{empty_shelf, with_file, with_plan, file_bytes};
+ghost use Rattle.sof_desk.specs.ShelfCalls.{shelf, planned_next};
+
+use crate::calls::{Desk, DeskFailed, LoadFault};
+use crate::file::MemFile;
+use crate::plan::Planned;
+use crate::store::Store;
+use crate::{file, plan};
+use sof_base::NoMemory;
+use std::alloc::Global;
+use std::marker::Model;
+
+/// A desk in memory. It holds files by name, keeps what is said, and fails the calls that it was told to fail. The calls
+/// of the trait `Desk` are numbered from 1, in the order that they come.
+#[derive(Drop)]
+pub struct MemDesk {
+    alloc: Global,
+    files: Vec<MemFile>,
+    said: Store,
+    plans: Vec<Planned>,
+    calls: u64,
+    faults: u64,
+}
+
+impl Model for MemDesk {
+    ghost use Rattle.sof_desk.specs.Shelf.{Shelf};
+
+    ghost Value = { Shelf };
+
+    ghost view = { λ s. record {
+      files = s.files.items;
+      said = s.said;
+      plans = s.plans.items;
+      calls = s.calls;
+      faults = s.faults;
+    } };
+}
+
+impl MemDesk {
+    /// A desk with no file, and room for `room` bytes to be said.
+    pub fn new(alloc: Global, room: usize) -> Result<MemDesk, NoMemory>
+        ensures { IfOk result (λ desk. desk ≡ empty_shelf room) }
+    {
+        Ok(MemDesk {
+            alloc,
+            files: Vec::new(alloc),
+            said: Store::new(alloc, room)?,
+            plans: Vec::new(alloc),
+            calls: 0,
+            faults: 0,
+        })
+    }
+
+    /// Holds an empty file that a slot may be created for, with room for `room` bytes. It takes the place of what the
+    /// desk held under this name.
+    pub fn put_out(&mut self, name: &str, room: usize) -> Result<(), NoMemory>
+        ensures ok { OnOk result (self.new ≡ with_file self.old (output_file name.now room)) }
+        ensures err { OnErr result (self.new ≡ self.old) }
+    {
+        let file = MemFile::output(self.alloc, name, room)?;
+        file::put_in(&mut self.files, name, file)
+    }
+
+    /// Holds a file of these bytes, to be loaded. It takes the place of what the desk held under this name.
+    pub fn put_file(&mut self, name: &str, bytes: &[u8]) -> Result<(), NoMemory>
+        ensures ok { OnOk result (self.new ≡ with_file self.old (input_file name.now bytes.now)) }
+        ensures err { OnErr result (self.new ≡ self.old) }
+    {
+        let file = MemFile::input(self.alloc, name, bytes)?;
+        file::put_in(&mut self.files, name, file)
+    }
+
+    /// Plans that the call of a number from 1 fails; an append or a say first takes the longest prefix of at most `passes`
+    /// bytes that fits. It takes the place of an earlier plan for this number.
+    pub fn fail_call(&mut self, number: u32, passes: u32) -> Result<(), NoMemory>
+        ensures ok { OnOk result (self.new ≡ with_plan self.old number passes) }
+        ensures err { OnErr result (self.new ≡ self.old) }
+    {
+        plan::put_in(&mut self.plans, Planned { number, passes })
+    }
+
+    /// The bytes that the desk holds under a name: those of a file that was put, or those that were appended to an output.
+    /// None exactly where the desk holds no such name.
+    pub fn file(&self, name: &str) -> Option<&[u8]>
+        ensures { option_copied result ≡ file_bytes self.now name.now }
+    {
+        match file::file_of(&self.files, name) {
+            Some(file) => Some(file.bytes()),
+            None => None,
+        }
+    }
+
+    /// The bytes that were said.
+    pub fn said(&self) -> &[u8]
+        ensures { result.now ≡ self.now.said.bytes }
+    {
+        self.said.bytes()
+    }
+
+    /// Counts a call, and tells how many bytes it passes where it is planned to fail.
+    fn count_call(&mut self) -> Option<u32>
+        ensures planned { result ≡ planned_next self.old }
+        ensures after { self.new ≡ record self.old { calls = one_more self.old.calls } }
+    {
+        self.calls = self.calls.saturating_add(1);
+        plan::planned_at(&self.plans, self.calls)
+    }
+
+    fn count_fault(&mut self)
+        ensures { self.new ≡ record self.old { faults = one_more self.old.faults } }
+    {
+        self.faults = self.faults.saturating_add(1);
+    }
+
+    /// Counts a failure where there is one.
+    fn answer(&mut self, done: bool) -> Result<(), DeskFailed>
+        ensures answer { is_ok result ≡ done }
+        ensures after { self.new ≡ record self.old {
+          faults = if done then self.old.faults else one_more self.old.faults;
+        } }
+    {
+        if done {
+            return Ok(());
+        }
+        self.count_fault();
+        Err(DeskFailed)
+    }
+}
+
+impl Desk for MemDesk {
+    ghost means = { shelf };
+
+    fn load(&mut self, alloc: Global, name: &str, limit: usize) -> Result<Vec<u8>, LoadFault> {
+        let planned = self.count_call();
+        let loaded = match planned {
+            Some(_) => None,
+            None => file::loaded_of(&self.files, name),
+        };
+        let Some(bytes) = loaded else {
+            self.count_fault();
+            return Err(LoadFault::Failed);
+        };
+        if bytes.len() > limit {
+            return Err(LoadFault::TooLong);
+        }
+        match bytes.to_vec(alloc) {
+            Ok(copy) => Ok(copy),
+            Err(_) => Err(LoadFault::OutOfMemory),
+        }
+    }
+
+    fn create(&mut self, slot: u32, name: &str) -> Result<(), DeskFailed> {
+        let planned = self.count_call();
+        let done = planned.is_none() && file::create_in(&mut self.files, slot, name);
+        self.answer(done)
+    }
+
+    fn append(&mut self, slot: u32, piece: &[u8]) -> Result<(), DeskFailed> {
+        let planned = self.count_call();
+        let done = file::append_in(&mut self.files, slot, piece, planned);
+        self.answer(done)
+    }
+
+    fn say(&mut self, piece: &[u8]) -> Result<(), DeskFailed> {
+        let planned = self.count_call();
+        let done = self.said.take(piece, planned);
+        self.answer(done)
+    }
+}

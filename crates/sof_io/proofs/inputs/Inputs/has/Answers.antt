@@ -1,0 +1,15 @@
+use Rattle.std.proofs.Common.{is_some, ◌∙◌, ap}
+use Rattle.sof_base.specs.Ports.{InputView}
+use Rattle.std.proofs.Common.{List}
+use Rattle.sof_io.specs.Bound.{input_slots, has_slot}
+use Rattle.sof_io.proofs.Places.{seen_at, some_place}
+use Rattle.sof_io.proofs.InputPlaces.{is_input, has_input}
+use Rattle.sof_io.proofs.inputs.Inputs.has.Goals as goal
+
+pub returns-clause-has : goal.returns-clause-has
+returns-clause-has c =
+    c.is_some.ensures
+    ∙ ap is_some (seen_at _ _ _ _ c.as_slice.ensures.value c.place_of.ensures)
+    ∙ some_place (is_input c.args.slot) c.self.inside.inputs.items
+    ∙ has_input c.args.slot c.self.inside.inputs.items
+    ∙ ap (λ (inputs : List InputView). has_slot c.args.slot (input_slots inputs)) c.self.view_is

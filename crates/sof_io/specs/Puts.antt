@@ -1,0 +1,31 @@
+-- What an output holds, and its room.
+use Rattle.std.specs.Prelude.{ℕ, ◌-◌, ◌^◌, ◌==◌, nat_lt, List, [], ◌∷◌, ◌++◌, length, if◌then◌else◌}
+use Rattle.sof_base.specs.Ports.{OutputView}
+
+-- an output with no bytes
+abbrev pub new_output : ℕ → OutputView
+new_output slot = record { slot = slot; bytes = [] }
+
+-- an output with a piece more
+abbrev pub longer_output : List ℕ → OutputView → OutputView
+longer_output piece output = record { slot = output.slot; bytes = output.bytes ++ piece }
+
+-- the outputs with one more slot, put before the first that is above it
+abbrev pub with_slot : ℕ → List OutputView → List OutputView
+with_slot slot [] = new_output slot ∷ []
+with_slot slot (output ∷ outputs) = if nat_lt slot output.slot then new_output slot ∷ output ∷ outputs else output ∷ with_slot slot outputs
+
+-- the bytes of a slot; none of an unknown slot
+abbrev pub bytes_at : ℕ → List OutputView → List ℕ
+bytes_at slot [] = []
+bytes_at slot (output ∷ outputs) = if output.slot == slot then output.bytes else bytes_at slot outputs
+
+-- how many more bytes a slot can hold, of 1048576; an unknown slot drops any number
+abbrev pub room_at : ℕ → List OutputView → ℕ
+room_at slot [] = 2 ^ 64 - 1
+room_at slot (output ∷ outputs) = if output.slot == slot then 1048576 - length output.bytes else room_at slot outputs
+
+-- the outputs with a piece more at a slot; the same for an unknown slot
+abbrev pub with_piece : ℕ → List ℕ → List OutputView → List OutputView
+with_piece slot piece [] = []
+with_piece slot piece (output ∷ outputs) = if output.slot == slot then longer_output piece output ∷ outputs else output ∷ with_piece slot piece outputs

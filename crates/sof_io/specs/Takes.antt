@@ -1,0 +1,34 @@
+-- What an input gives, and what is left of it.
+use Rattle.std.specs.Prelude.{ℕ, ◌==◌, List, [], ◌∷◌, ◌++◌, take, drop, replicate, if◌then◌else◌}
+use Rattle.sof_base.specs.Ports.{InputView, moved_on}
+
+-- an input from which no byte was taken
+abbrev pub new_input : ℕ → List ℕ → InputView
+new_input slot bytes = record { slot = slot; position = 0; left = bytes }
+
+-- an input after n more bytes of it
+abbrev pub after_input : ℕ → InputView → InputView
+after_input n input = record { slot = input.slot; position = moved_on input.position n; left = drop n input.left }
+
+-- the next n bytes of those that are left, and zeros past the end
+abbrev pub next_bytes : ℕ → List ℕ → List ℕ
+next_bytes n left = take n (left ++ replicate n 0)
+
+-- the bytes that are left of a slot; none of an unknown slot
+abbrev pub left_at : ℕ → List InputView → List ℕ
+left_at slot [] = []
+left_at slot (input ∷ inputs) = if input.slot == slot then input.left else left_at slot inputs
+
+-- how many bytes were taken of a slot; none of an unknown slot
+abbrev pub position_at : ℕ → List InputView → ℕ
+position_at slot [] = 0
+position_at slot (input ∷ inputs) = if input.slot == slot then input.position else position_at slot inputs
+
+-- the next n bytes of a slot; zeros past its end, and of an unknown slot
+abbrev pub given : ℕ → ℕ → List InputView → List ℕ
+given slot n inputs = next_bytes n (left_at slot inputs)
+
+-- the inputs after n more bytes of a slot; the same for an unknown slot
+abbrev pub taken : ℕ → ℕ → List InputView → List InputView
+taken slot n [] = []
+taken slot n (input ∷ inputs) = if input.slot == slot then after_input n input ∷ inputs else input ∷ taken slot n inputs

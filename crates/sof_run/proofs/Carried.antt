@@ -1,0 +1,148 @@
+-- What was said, by the calls that were made.
+use Rattle.std.proofs.Common.{◌≡◌, ◌⊎◌, inl, inr, ℕ, Bool, true, false, List, [], ◌∷◌, ◌++◌, Option, Some, None, Ok, Err, refl, sym, ◌∙◌, ap, subst, append_assoc, if◌then◌else◌}
+use Rattle.std.proofs.lemmas.List.{append-nil}
+use Rattle.sof_desk.specs.declared.calls.LoadFault.TheVariants.{Failed, OutOfMemory}
+use Rattle.sof_desk.specs.Desk.{DeskMeaning, Place, Spoken, Act, Heard, Does, Put, Call, Load, Did, Led, Loaded, Acted, Part, Takes, same_place, with_more, after_act}
+use Rattle.sof_session.specs.Walks.{Stand}
+use Rattle.sof_run.specs.Todo.{no_memory}
+use Rattle.sof_run.specs.Whole.{Item, Planned, Memory, Wants, Made}
+use Rattle.sof_run.specs.Runs.{Piece, puts, bytes_at, Wrote, WroteNone, Before}
+
+more_none : (o : Option (List ℕ)) → o ≡ with_more o []
+more_none None = refl
+more_none (Some bytes) = ap Some (sym (append-nil bytes))
+
+more_more : (b : Bool) (o : Option (List ℕ)) (first rest : List ℕ) → with_more (if b then with_more o first else o) rest ≡ with_more o (if b then first ++ rest else rest)
+more_more true None first rest = refl
+more_more true (Some bytes) first rest = ap Some (append_assoc bytes first rest)
+more_more false o first rest = refl
+
+module _ {D : Type 0} (means : DeskMeaning D) where
+  put_part : (to : Place) (piece part : List ℕ) (act : _) (done : Bool) (old new : D) → act ≡ Put to piece → (acted : Acted means act done old new) → (place : Place) → means.wrote new place ≡ (if same_place to place then with_more (means.wrote old place) acted.part else means.wrote old place)
+  put_part to piece part act done old new is acted place =
+      acted.wrote place ∙ ap (λ a. after_act a done acted.part place (means.wrote old place)) is
+
+  pub carry : (marks : List (Piece × Stand)) (end : ℕ × Stand) (calls : List Call) (old new : D) (status : ℕ) (s : Stand) → Made (puts marks) end calls status s → Led means old calls new → Wrote means marks end old new status s
+  carry [] end [] old new status s made led =
+      record { pieces = []; front = made; wrote = λ place. ap (λ d. means.wrote d place) led ∙ more_none (means.wrote old place) }
+  carry [] end (call ∷ calls) old new status s made led = absurd made
+  carry (mark ∷ marks) end [] old new status s made led = absurd made
+  carry (mark ∷ marks) end (Load name limit heard ∷ calls) old new status s (inl made) led = absurd (cc made.0)
+  carry (mark ∷ marks) end (Load name limit heard ∷ calls) old new status s (inr (inl made)) led = absurd (cc made.0)
+  carry (mark ∷ marks) end (Load name limit heard ∷ calls) old new status s (inr (inr made)) led = absurd made.0
+  carry (mark ∷ marks) end (Did act true ∷ calls) old new status s (inr (inl made)) led = absurd (cc made.0)
+  carry (mark ∷ marks) end (Did act true ∷ calls) old new status s (inr (inr made)) led = absurd made.0
+  carry (mark ∷ marks) end (Did act false ∷ calls) old new status s (inl made) led = absurd (cc made.0)
+  carry (mark ∷ marks) end (Did act false ∷ calls) old new status s (inr (inr made)) led = absurd made.0
+  carry (mark ∷ marks) end (Did act true ∷ calls) old new status s (inl made) led =
+      let is : act ≡ Put mark.0.0 mark.0.1 = cc made.0 in
+      let acted : Acted means act true old led.0 = led.1 in
+      let rest = carry marks end calls led.0 new status s made.1 led.2 in
+      let part : acted.part ≡ mark.0.1 = taken mark.0.0 mark.0.1 act acted.part true is acted.takes in
+      record {
+        pieces = mark.0 ∷ rest.pieces;
+        front = inl (refl, rest.front);
+        wrote = λ place.
+            rest.wrote place
+            ∙ ap (λ o. with_more o (bytes_at place rest.pieces)) (put_part mark.0.0 mark.0.1 acted.part act true old led.0 is acted place ∙ ap (λ b. if same_place mark.0.0 place then with_more (means.wrote old place) b else means.wrote old place) part)
+            ∙ more_more (same_place mark.0.0 place) (means.wrote old place) mark.0.1 (bytes_at place rest.pieces);
+      }
+    where
+      taken : (to : Place) (piece : List ℕ) (act : _) (part : List ℕ) (done : Bool) → act ≡ Put to piece → Takes act done part → Part done part piece
+      taken to piece act part done is takes = subst (λ a. Takes a done part) is takes
+  carry (mark ∷ marks) end (Did act false ∷ calls) old new status s (inr (inl made)) led =
+      let is : act ≡ Put mark.0.0 mark.0.1 = cc made.0 in
+      let acted : Acted means act false old led.0 = led.1 in
+      let last : new ≡ led.0 = subst (λ cs. Led means led.0 cs new) made.1 led.2 in
+      let part : Part false acted.part mark.0.1 = subst (λ a. Takes a false acted.part) is acted.takes in
+      record {
+        pieces = (mark.0.0, acted.part) ∷ [];
+        front = inr (refl, part, refl, made.2, made.3);
+        wrote = λ place.
+            ap (λ d. means.wrote d place) last
+            ∙ more_none (means.wrote led.0 place)
+            ∙ ap (λ o. with_more o []) (put_part mark.0.0 mark.0.1 acted.part act false old led.0 is acted place)
+            ∙ more_more (same_place mark.0.0 place) (means.wrote old place) acted.part [];
+      }
+
+-- a call of the plan was made and passed, or the run ended before it
+bind : {A B C : Type 0} → A ⊎ B → (A → C ⊎ B) → C ⊎ B
+bind (inl a) f = f a
+bind (inr b) f = inr b
+
+part_of : (done : Bool) (part piece : List ℕ) → Part done part piece → (rest : List ℕ) × (part ++ rest ≡ piece)
+part_of true part piece is = ([], append-nil part ∙ is)
+part_of false part piece is = is
+
+unwritten : (b : Bool) (o : Option (List ℕ)) → o ≡ (if b then with_more o [] else o)
+unwritten true o = more_none o
+unwritten false o = refl
+
+module _ {D : Type 0} (means : DeskMeaning D) where
+  -- no call wrote
+  none_wrote : (old new : D) → ((place : Place) → means.wrote new place ≡ means.wrote old place) → WroteNone means old new
+  none_wrote old new kept = ([], (no_memory, refl), λ place. kept place ∙ unwritten (same_place Spoken place) (means.wrote old place))
+
+  -- the line for want of memory
+  line_wrote : (act : Act) (done : Bool) (old m new : D) → act ≡ Put Spoken no_memory → Acted means act done old m → new ≡ m → WroteNone means old new
+  line_wrote act done old m new is acted last =
+      (acted.part, part_of done acted.part no_memory (subst (λ a. Takes a done acted.part) is acted.takes), λ place. ap (λ d. means.wrote d place) last ∙ put_part means Spoken no_memory acted.part act done old m is acted place)
+
+  -- after calls that wrote nothing
+  kept_none : (old m new : D) → ((place : Place) → means.wrote m place ≡ means.wrote old place) → WroteNone means m new → WroteNone means old new
+  kept_none old m new kept none = (none.0, none.1, λ place. none.2 place ∙ ap (λ o. if same_place Spoken place then with_more o none.0 else o) (kept place))
+
+  kept_before : (start : Stand) (old m new : D) (status : ℕ) (s : Stand) → ((place : Place) → means.wrote m place ≡ means.wrote old place) → Before means start m new status s → Before means start old new status s
+  kept_before start old m new status s kept before = record { ended = before.ended; wrote = kept_none old m new kept before.wrote; stand = before.stand }
+
+  wants_before : (at : Stand) (old new : D) (calls : List Call) (status : ℕ) (s : Stand) → Wants at calls status s → Led means old calls new → Before means at old new status s
+  wants_before at old new [] status s wants led = absurd wants.0
+  wants_before at old new (Load name limit heard ∷ calls) status s wants led = absurd wants.0
+  wants_before at old new (Did act true ∷ calls) status s wants led =
+      let last : new ≡ led.0 = subst (λ cs. Led means led.0 cs new) wants.0.2 led.2 in
+      record { ended = inr wants.0.3; wrote = line_wrote act true old led.0 new wants.0.0 led.1 last; stand = wants.1 }
+  wants_before at old new (Did act false ∷ calls) status s wants led =
+      let last : new ≡ led.0 = subst (λ cs. Led means led.0 cs new) wants.0.2 led.2 in
+      record { ended = inl wants.0.3; wrote = line_wrote act false old led.0 new wants.0.0 led.1 last; stand = wants.1 }
+
+  keeps : (name : List ℕ) (limit : ℕ) (heard : Heard) (d e : D) → Loaded means name limit heard d e → (place : Place) → means.wrote e place ≡ means.wrote d place
+  keeps name limit heard d e loaded = loaded.wrote
+
+  -- a load of the plan: it passed, and wrote nothing; or the run ended
+  module _ (name : List ℕ) (limit : ℕ) (bytes : List ℕ) (at : Stand) (items : List Item) (end : ℕ × Stand) (status : ℕ) (s : Stand) where
+    passes : (old new : D) (calls : List Call) → Made (Planned (Load name limit (Ok bytes)) at ∷ items) end calls status s → Led means old calls new
+        → ((m : D) × ((rest : List Call) × Made items end rest status s × Led means m rest new × ((place : Place) → means.wrote m place ≡ means.wrote old place))) ⊎ Before means at old new status s
+    passes old new [] made led = absurd made
+    passes old new (first ∷ calls) (inl made) led =
+        let did : Does means (Load name limit (Ok bytes)) old led.0 = subst (λ c. Does means c old led.0) made.0 led.1 in
+        inl (led.0, (calls, made.1, led.2, keeps name limit (Ok bytes) old led.0 did))
+    passes old new (first ∷ calls) (inr (inl made)) led =
+        let did : Does means (Load name limit (Err Failed)) old led.0 = subst (λ c. Does means c old led.0) made.0 led.1 in
+        let last : new ≡ led.0 = subst (λ cs. Led means led.0 cs new) made.1 led.2 in
+        inr record { ended = inl made.2; wrote = none_wrote old new (λ place. ap (λ d. means.wrote d place) last ∙ keeps name limit (Err Failed) old led.0 did place); stand = made.3 }
+    passes old new (first ∷ calls) (inr (inr made)) led =
+        let did : Does means (Load name limit (Err OutOfMemory)) old led.0 = subst (λ c. Does means c old led.0) made.0 led.1 in
+        inr (kept_before at old led.0 new status s (keeps name limit (Err OutOfMemory) old led.0 did) (wants_before at led.0 new calls status s made.1 led.2))
+
+  had_memory : (at : Stand) (items : List Item) (end : ℕ × Stand) (old new : D) (calls : List Call) (status : ℕ) (s : Stand) → Made (Memory at ∷ items) end calls status s → Led means old calls new → Made items end calls status s ⊎ Before means at old new status s
+  had_memory at items end old new calls status s (inl made) led = inl made
+  had_memory at items end old new calls status s (inr wants) led = inr (wants_before at old new calls status s wants led)
+
+-- after two loads, which write nothing
+module _ {D : Type 0} (means : DeskMeaning D) (marks : List (Piece × Stand)) (end : ℕ × Stand) where
+  kept_wrote : (old m new : D) (status : ℕ) (s : Stand) → ((place : Place) → means.wrote m place ≡ means.wrote old place) → Wrote means marks end m new status s → Wrote means marks end old new status s
+  kept_wrote old m new status s kept wrote =
+      record { pieces = wrote.pieces; front = wrote.front; wrote = λ place. wrote.wrote place ∙ ap (λ o. with_more o (bytes_at place wrote.pieces)) (kept place) }
+
+  kept_both : (start : Stand) (old m new : D) (status : ℕ) (s : Stand) → ((place : Place) → means.wrote m place ≡ means.wrote old place) → Wrote means marks end m new status s ⊎ Before means start m new status s → Wrote means marks end old new status s ⊎ Before means start old new status s
+  kept_both start old m new status s kept (inl wrote) = inl (kept_wrote old m new status s kept wrote)
+  kept_both start old m new status s kept (inr before) = inr (kept_before means start old m new status s kept before)
+
+  pub play_wrote : (one two : List ℕ) (limit : ℕ) (first second : List ℕ) (start : Stand) (old new : D) (calls : List Call) (status : ℕ) (s : Stand) → Made (Planned (Load one limit (Ok first)) start ∷ Planned (Load two limit (Ok second)) start ∷ Memory start ∷ puts marks) end calls status s → Led means old calls new → Wrote means marks end old new status s ⊎ Before means start old new status s
+  play_wrote one two limit first second start old new calls status s made led =
+      bind (passes means one limit first start (Planned (Load two limit (Ok second)) start ∷ Memory start ∷ puts marks) end status s old new calls made led) (λ a.
+      kept_both start old a.0 new status s a.1.3
+      (bind (passes means two limit second start (Memory start ∷ puts marks) end status s a.0 new a.1.0 a.1.1 a.1.2) (λ b.
+      kept_both start a.0 b.0 new status s b.1.3
+      (bind (had_memory means start (puts marks) end b.0 new b.1.0 status s b.1.1 b.1.2) (λ c.
+      inl (carry means marks end b.1.0 b.0 new status s c b.1.2))))))

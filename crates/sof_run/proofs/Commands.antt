@@ -1,0 +1,107 @@
+-- The commands and their lines, one after another.
+use Rattle.std.proofs.Common.{◌≡◌, ◌⊎◌, inl, inr, ℕ, ◌≤◌, ◌+◌, ◌<◌, Bool, true, false, List, [], ◌∷◌, length, drop, get_or, Option, Some, None, MatchOption, refl, sym, ◌∙◌, ap, subst}
+use Rattle.std.specs.List.{slice_get}
+use Rattle.std.proofs.lemmas.List.{drop_more, drop_all}
+use Rattle.std.proofs.lemmas.Option.{slice_get_within, get_or_from_slice_get, slice_get_cases}
+use Rattle.sof_desk.specs.Desk.{DeskMeaning, Put, Spoken, Acted}
+use Rattle.host_widgets.specs.declared.answers.Answer.{Answer}
+use Rattle.sof_base.specs.Ports.{Io}
+use Rattle.mbox_link.specs.Calls.{Meaning}
+use Rattle.sof_script.specs.declared.script.Command.{Command}
+use Rattle.sof_script.specs.declared.script.Command.TheVariants as commands
+use Rattle.sof_script.specs.declared.script.Numbered.{Numbered}
+use Rattle.sof_script.specs.Text.{answer_line}
+use Rattle.sof_session.specs.Show.{IsLineAt, show_lines}
+use Rattle.sof_session.specs.Walks.{Carry}
+use Rattle.sof_session.specs.Seat.{Seat}
+use Rattle.sof_session.specs.Turns.{Ran, LifeMeaning, Turn, Turned, turn, shown_by}
+use Rattle.sof_run.specs.Todo as todo
+use Rattle.sof_run.specs.Todo.{Todo, Do, Played, DeskPhase, Follows, Fails, Phase}
+use Rattle.sof_run.specs.Play.{with_newline, spoken, lines_todo, command_todo, commands_todo}
+use Rattle.sof_run.proofs.Steps.{do_on, do_off, step_on, beside, beside_failed}
+
+-- what the answer says of the list
+found : (o : Option (List ℕ)) (line : List ℕ) → MatchOption o (true ≡ false) (λ text. (true ≡ true) × (line ≡ text)) → o ≡ Some line
+found None line is = absurd (cc is)
+found (Some text) line is = ap Some (sym is.1)
+
+missing : (o : Option (List ℕ)) (line : List ℕ) → MatchOption o (false ≡ false) (λ text. (false ≡ true) × (line ≡ text)) → o ≡ None
+missing None line is = refl
+missing (Some text) line is = absurd (cc is.0)
+
+-- where a line is, the lines from there on
+line_at : (lines : List (List ℕ)) (k : ℕ) (line : List ℕ) → IsLineAt lines k true line → drop k lines ≡ line ∷ drop (k + 1) lines
+line_at lines k line is =
+    let there : slice_get lines k ≡ Some line = found (slice_get lines k) line is in
+    drop_more lines k [] (slice_get_within lines k line there) ∙ ap (λ x. x ∷ drop (k + 1) lines) (get_or_from_slice_get lines k line [] there)
+
+-- no line is there: all lines are before
+past_by : (lines : List (List ℕ)) (k : ℕ) → ((x : List ℕ) × (k < length lines) × (slice_get lines k ≡ Some x) × (get_or lines k x ≡ x)) ⊎ ((length lines ≤ k) × (slice_get lines k ≡ None)) → slice_get lines k ≡ None → length lines ≤ k
+past_by lines k (inl there) none = absurd (cc (sym none ∙ there.2))
+past_by lines k (inr past) none = past.0
+
+past : (lines : List (List ℕ)) (k : ℕ) (line : List ℕ) → IsLineAt lines k false line → length lines ≤ k
+past lines k line is = past_by lines k (slice_get_cases lines k).1 (missing (slice_get lines k) line is)
+
+module _ {D : Type 0} (means : DeskMeaning D) where
+  -- no line
+  pub none_said : (old : D) → DeskPhase means (lines_todo []) true old old
+  none_said old = λ rest turns status end played. played
+
+  -- a line that was not said
+  pub line_failed : (line : List ℕ) (lines : List (List ℕ)) (old new : D) → Acted means (Put Spoken (with_newline line)) false old new → DeskPhase means (lines_todo (line ∷ lines)) false old new
+  line_failed line lines old new acted = λ rest. do_off means (Put Spoken (with_newline line)) (lines_todo lines rest) old new acted
+
+  -- a line that was said, and then the others
+  pub line_said : (line : List ℕ) (lines : List (List ℕ)) (done : Bool) (old m new : D) → Acted means (Put Spoken (with_newline line)) true old m → DeskPhase means (lines_todo lines) done m new → DeskPhase means (lines_todo (line ∷ lines)) done old new
+  line_said line lines true old m new acted phase = λ rest turns status end played.
+      do_on means (Put Spoken (with_newline line)) (lines_todo lines rest) turns status old m end acted (phase rest turns status end played)
+  line_said line lines false old m new acted phase = λ rest.
+      do_on means (Put Spoken (with_newline line)) (lines_todo lines rest) [] 3 old m new acted (phase rest)
+
+  -- what is left on the right, said, makes the whole on the left said
+  abbrev pub Leads : (whole left : List (List ℕ)) → D → D → Type 0
+  Leads whole left old new = (rest : Todo) (turns : List Turn) (status : ℕ) (end : D) → Played means (lines_todo left rest) new turns status end → Played means (lines_todo whole rest) old turns status end
+
+  -- a line more
+  pub leads_on : (lines : List (List ℕ)) (k : ℕ) (line : List ℕ) (old m new : D) → IsLineAt lines k true line → Leads lines (drop k lines) old m → Acted means (Put Spoken (with_newline line)) true m new → Leads lines (drop (k + 1) lines) old new
+  leads_on lines k line old m new is so_far acted = λ rest turns status end played.
+      so_far rest turns status end (subst (λ xs. Played means (lines_todo xs rest) m turns status end) (sym (line_at lines k line is)) (do_on means (Put Spoken (with_newline line)) (lines_todo (drop (k + 1) lines) rest) turns status m new end acted played))
+
+  pub leads_off : (lines : List (List ℕ)) (k : ℕ) (line : List ℕ) (old m new : D) → IsLineAt lines k true line → Leads lines (drop k lines) old m → Acted means (Put Spoken (with_newline line)) false m new → DeskPhase means (lines_todo lines) false old new
+  leads_off lines k line old m new is so_far acted = λ rest.
+      so_far rest [] 3 new (subst (λ xs. Played means (lines_todo xs rest) m [] 3 new) (sym (line_at lines k line is)) (do_off means (Put Spoken (with_newline line)) (lines_todo (drop (k + 1) lines) rest) m new acted))
+
+  -- past the last line
+  pub leads_all : (lines : List (List ℕ)) (k : ℕ) (line : List ℕ) (old new : D) → IsLineAt lines k false line → Leads lines (drop k lines) old new → DeskPhase means (lines_todo lines) true old new
+  leads_all lines k line old new is so_far = λ rest turns status end played.
+      so_far rest turns status end (subst (λ xs. Played means (lines_todo xs rest) new turns status end) (sym (drop_all k lines (past lines k line is))) played)
+
+  -- what a command shows: nothing, or how everything stands
+  module _ {P : Type 0} (device : Meaning P) where
+    pub shown_none : (command : Command) (seat : Seat P) (old : D) → command ≡ commands.Load → DeskPhase means (lines_todo (shown_by command seat)) true old old
+    shown_none commands.Load seat old is = none_said old
+    shown_none commands.Show seat old is = absurd (cc is)
+
+    pub shown_all : (command : Command) (seat later : Seat P) (io io' : Io) (answer : Answer) (done : Bool) (old new : D) → command ≡ commands.Show → Ran device command seat later io io' answer → DeskPhase means (lines_todo (show_lines later.plan later.kept)) done old new → DeskPhase means (lines_todo (shown_by command seat)) done old new
+    shown_all commands.Load seat later io io' answer done old new is ran phase = absurd (cc is)
+    shown_all commands.Show seat later io io' answer done old new is ran phase = subst (λ (x : Seat P). DeskPhase means (lines_todo (show_lines x.plan x.kept)) done old new) ran.0 phase
+
+  module _ {P : Type 0} (dsp : LifeMeaning P) where
+    -- a turn, and then the lines of the command
+    pub carried : (numbered : Numbered) (answer : Answer) (shown : List (List ℕ)) (done : Bool) (old new : D) (p q : P) → Turned dsp (turn (Carry numbered.command) answer shown) p q → DeskPhase means (lines_todo (answer_line numbered.line answer ∷ shown)) done old new → Phase means dsp (command_todo numbered) done old p new q
+    carried numbered answer shown true old new p q turned phase = λ rest status end r ran.
+        step_on means dsp (turn (Carry numbered.command) answer shown) (λ out. lines_todo (spoken numbered.line out) rest) status old end p q r turned
+        (beside means dsp (lines_todo (answer_line numbered.line answer ∷ shown)) old new q phase rest status end r ran)
+    carried numbered answer shown false old new p q turned phase = λ rest.
+        step_on means dsp (turn (Carry numbered.command) answer shown) (λ out. lines_todo (spoken numbered.line out) rest) 3 old new p q q turned
+        (beside_failed means dsp (lines_todo (answer_line numbered.line answer ∷ shown)) old new q phase rest)
+
+    -- a command more
+    pub commands_on : (script : List Numbered) (i : ℕ) (other : Numbered) (old m new : D) (p r q : P) → i < length script → Follows means dsp (commands_todo script) (commands_todo (drop i script)) old p m r → Follows means dsp (command_todo (get_or script i other)) (λ rest. rest) m r new q → Follows means dsp (commands_todo script) (commands_todo (drop (i + 1) script)) old p new q
+    commands_on script i other old m new p r q within so_far done = λ rest status end t ran.
+        so_far rest status end t (subst (λ cs. todo.Ran means dsp (commands_todo cs rest) m r status end t) (sym (drop_more script i other within)) (done (commands_todo (drop (i + 1) script) rest) status end t ran))
+
+    pub commands_off : (script : List Numbered) (i : ℕ) (other : Numbered) (old m new : D) (p r q : P) → i < length script → Follows means dsp (commands_todo script) (commands_todo (drop i script)) old p m r → Fails means dsp (command_todo (get_or script i other)) m r new q → Fails means dsp (commands_todo script) old p new q
+    commands_off script i other old m new p r q within so_far failed = λ rest.
+        so_far rest 3 new q (subst (λ cs. todo.Ran means dsp (commands_todo cs rest) m r 3 new q) (sym (drop_more script i other within)) (failed (commands_todo (drop (i + 1) script) rest)))

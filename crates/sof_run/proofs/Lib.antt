@@ -1,0 +1,12 @@
+pub mod Steps
+pub mod Numbers
+pub mod Commands
+pub mod BrokenFiles
+pub mod Plays
+pub mod Settle
+pub mod Statuses
+pub mod Throughout
+pub mod Judging
+pub mod WholeRuns
+pub mod Carried
+pub mod Finish

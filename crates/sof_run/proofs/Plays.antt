@@ -1,0 +1,83 @@
+-- The phases of `play`, one after another.
+use Rattle.std.proofs.Common.{◌≡◌, ℕ, Bool, true, false, List, [], Ok, refl, sym, subst, codes, arith, if◌then◌else◌}
+use Rattle.sof_desk.specs.Desk.{DeskMeaning, Loaded}
+use Rattle.host_widgets.specs.declared.answers.Answer.TheVariants as answers
+use Rattle.mbox_link.specs.Calls.{Meaning}
+use Rattle.tplg_graph.specs.declared.planned.Plan.{Plan}
+use Rattle.sof_script.specs.declared.script.Numbered.{Numbered}
+use Rattle.sof_session.specs.Seat.{new_seat}
+use Rattle.sof_session.specs.Walks.{Begin}
+use Rattle.sof_session.specs.Turns.{LifeMeaning, Life, Bare, Seated, Turn, life, turn}
+use Rattle.sof_run.specs.declared.prepare.Halt.{Halt}
+use Rattle.sof_run.specs.declared.prepare.Halt.TheVariants as halt
+use Rattle.sof_run.specs.Words.{Form}
+use Rattle.sof_run.specs.Todo.{Todo, End, Ask, Free, Played, Ran, Phase}
+use Rattle.sof_run.specs.Play.{Prepared, Ready, prepared, prepared_todo, session_todo, commands_todo, play}
+use Rattle.sof_run.specs.Halts.{Halts, halt_todo}
+use Rattle.sof_run.specs.Run.{Gave}
+use Rattle.sof_run.proofs.Steps.{ask_on, free_on, free_off, alone, step_on}
+
+module _ {D : Type 0} (means : DeskMeaning D) where
+  -- a halt after both loads
+  pub halted_todo : (heap : ℕ) (files : Prepared) (h : Halt) (status : ℕ) (old new : D) → Halts h files → Played means (halt_todo h) old [] status new → Played means (Free (prepared_todo heap files)) old [] status new
+  halted_todo heap files (halt.Broken fault) status old new is played =
+      free_on means (prepared_todo heap files) [] status old new (subst (λ f. Played means (prepared_todo heap f) old [] status new) (sym is) played)
+  halted_todo heap files halt.NotYet status old new is played =
+      free_on means (prepared_todo heap files) [] status old new (subst (λ f. Played means (prepared_todo heap f) old [] status new) (sym is) played)
+  halted_todo heap files halt.OutOfMemory status old new is played = free_off means (prepared_todo heap files) status old new played
+
+module _ {D P : Type 0} (means : DeskMeaning D) (dsp : LifeMeaning P) where
+  -- what calls on the desk make of a run
+  over : (whole left : Todo) (old m new : D) (p q : P) (status : ℕ) → ((turns : List Turn) → Played means left m turns status new → Played means whole old turns status new) → Ran means dsp left m p status new q → Ran means dsp whole old p status new q
+  over whole left old m new p q status desk ran = record { turns = ran.turns; turned = ran.turned; played = desk ran.turns ran.played }
+
+  ended : (old : D) (p : P) → Ran means dsp End old p 0 old p
+  ended old p = alone means dsp End old old p 0 record { calls = []; led = refl; goes = (refl, refl, refl) }
+
+  -- both files were loaded
+  module _ (form : Form) (topology script : List ℕ) (old m n new : D) (p q : P) (status : ℕ) (first : Loaded means form.topology 1048576 (Ok topology) old m) (second : Loaded means form.script 1048576 (Ok script) m n) where
+    loaded : Ran means dsp (Free (prepared_todo form.heap (prepared topology script))) n p status new q → Ran means dsp (play form) old p status new q
+    loaded ran =
+        let asks = λ (bytes : List ℕ). Free (prepared_todo form.heap (prepared topology bytes)) in
+        let after = λ (bytes : List ℕ). Ask form.script 1048576 (codes "too long script\n") (λ script. Free (prepared_todo form.heap (prepared bytes script))) in
+        over (play form) (after topology) old m new p q status (λ turns played. ask_on means form.topology 1048576 (codes "too long topology\n") after topology turns status old m new first played)
+        (over (after topology) (asks script) m n new p q status (λ turns played. ask_on means form.script 1048576 (codes "too long script\n") asks script turns status m n new second played) ran)
+
+    -- they make a run
+    pub ready_on : (plan : Plan) (commands : List Numbered) → prepared topology script ≡ Ready plan commands → Ran means dsp (Free (session_todo form.heap plan commands)) n p status new q → Ran means dsp (play form) old p status new q
+    ready_on plan commands is ran = loaded (subst (λ files. Ran means dsp (Free (prepared_todo form.heap files)) n p status new q) (sym is) ran)
+
+  -- they make none
+  pub halted_on : (form : Form) (topology script : List ℕ) (old m n new : D) (p : P) (status : ℕ) (h : Halt) → Loaded means form.topology 1048576 (Ok topology) old m → Loaded means form.script 1048576 (Ok script) m n → Halts h (prepared topology script) → Played means (halt_todo h) n [] status new → Ran means dsp (play form) old p status new p
+  halted_on form topology script old m n new p status h first second is played =
+      loaded form topology script old m n new p p status first second (alone means dsp (Free (prepared_todo form.heap (prepared topology script))) n new p status (halted_todo means form.heap (prepared topology script) h status n new is played))
+
+  -- the second file was not loaded
+  pub second_missing : (form : Form) (topology : List ℕ) (old m new : D) (p : P) (status : ℕ) → Loaded means form.topology 1048576 (Ok topology) old m → ((next : List ℕ → Todo) → Played means (Ask form.script 1048576 (codes "too long script\n") next) m [] status new) → Ran means dsp (play form) old p status new p
+  second_missing form topology old m new p status first missing =
+      let after = λ (bytes : List ℕ). Ask form.script 1048576 (codes "too long script\n") (λ script. Free (prepared_todo form.heap (prepared bytes script))) in
+      alone means dsp (play form) old new p status
+      (ask_on means form.topology 1048576 (codes "too long topology\n") after topology [] status old m new first (missing (λ script. Free (prepared_todo form.heap (prepared topology script)))))
+
+  -- the commands, done or cut off
+  pub session_done : (commands : List Numbered) (done : Bool) (old new : D) (p q : P) → Phase means dsp (commands_todo commands) done old p new q → Ran means dsp (commands_todo commands End) old p (if done then 0 else 3) new q
+  session_done commands true old new p q phase = phase End 0 new q (ended new q)
+  session_done commands false old new p q phase = phase End
+
+  -- memory was there
+  pub free_ran : (todo : Todo) (old new : D) (p q : P) (status : ℕ) → Ran means dsp todo old p status new q → Ran means dsp (Free todo) old p status new q
+  free_ran todo old new p q status ran = over (Free todo) todo old old new p q status (λ turns played. free_on means todo turns status old new played) ran
+
+module _ {D P : Type 0} (means : DeskMeaning D) (device : Meaning P) where
+  -- a session over the device
+  pub begin_on : (plan : Plan) (heap : ℕ) (commands : List Numbered) (old new : D) (p : P) (status : ℕ) (q : Life P) → Ran means (life device) (commands_todo commands End) old (Seated (new_seat plan heap p)) status new q → Ran means (life device) (session_todo heap plan commands) old (Bare p) status new q
+  begin_on plan heap commands old new p status q ran =
+      step_on means (life device) (turn (Begin plan heap) answers.Done []) (λ out. commands_todo commands End) status old new (Bare p) (Seated (new_seat plan heap p)) q
+      record { next = λ calm. refl; faults = omega arith; refusals = omega arith; most = refl } ran
+
+  -- nothing was done with the device
+  pub gave_bare : (todo : Todo) (old new : D) (p : P) (status : ℕ) → Ran means (life device) todo old (Bare p) status new (Bare p) → Gave means device todo old p status new p
+  gave_bare todo old new p status ran = record { last = Bare p; is = refl; exit = refl; ran = ran }
+
+  pub gave_alone : (todo : Todo) (old new : D) (p : P) (status : ℕ) → Played means todo old [] status new → Gave means device todo old p status new p
+  gave_alone todo old new p status played = gave_bare todo old new p status (alone means (life device) todo old new (Bare p) status played)

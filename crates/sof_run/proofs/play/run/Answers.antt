@@ -1,0 +1,24 @@
+use Rattle.std.proofs.Common.{map, string_bytes}
+use Rattle.sof_session.specs.Turns.{life}
+use Rattle.sof_run.specs.Words.{play_of}
+use Rattle.sof_run.specs.Play.{todo_of}
+use Rattle.sof_run.proofs.Finish.{finished, words_other, worded, judged, plays}
+use Rattle.sof_run.proofs.Throughout.{words_last}
+use Rattle.sof_run.proofs.play.run.Goals as goal
+
+pub returns : goal.returns
+returns g c =
+    let words = map string_bytes c.args.words.now in
+    let room = g.P.Dsp.means.most c.args.dsp in
+    let form = play_of room words in
+    let gave = c.do_words.ensures in
+    let done = finished g.D.Desk.means (life g.P.Dsp.means) (todo_of room words) _ _ _ _ _ (words_other form) (words_last form) gave.ran in
+    record {
+      last = gave.last;
+      is = gave.is;
+      exit = gave.exit;
+      done = done;
+      worded = worded room words _ _ _ gave.ran.played.goes;
+      judged = judged g.D.Desk.means (life g.P.Dsp.means) words _ _ _ _ _ done;
+      plays = plays g.D.Desk.means (life g.P.Dsp.means) words _ _ _ _ _ done;
+    }

@@ -1,0 +1,7 @@
+pub mod Words
+pub mod Todo
+pub mod Play
+pub mod Halts
+pub mod Whole
+pub mod Runs
+pub mod Run

@@ -1,0 +1,12 @@
+//! The top call: from the words of a command line to a whole run over a desk and a device. It loads the files, carries out
+//! the commands one by one, says the lines, and ends with a status.
+#![tactic(auto)]
+
+mod carry;
+mod files;
+mod lines;
+mod play;
+mod prepare;
+mod words;
+
+pub use play::{Ended, run};

@@ -1,0 +1,77 @@
+// The form of the words.
+ghost use Rattle.std.specs.Prelude.{◌≡◌, map, MatchOption, codes, string_bytes};
+ghost use Rattle.std.specs.Str.{bytes_eq};
+ghost use Rattle.sof_run.specs.Words.{play_of, form, number_of, at_most, is_name};
+
+/// What `play` is given: the heap in bytes, and the names of its two files.
+#[derive(Clone, Copy, Debug)]
+pub struct Form<'a> {
+    pub heap: u32,
+    pub topology: &'a str,
+    pub script: &'a str,
+}
+
+/// A decimal number without a needless leading zero, at most `room`.
+pub fn number(word: &[u8], room: u32) -> Option<u32>
+    ensures { result ≡ at_most room (number_of word.now) }
+{
+    if word.is_empty() {
+        return None;
+    }
+    if word[0] == b'0' {
+        return if word.len() == 1 { Some(0) } else { None };
+    }
+    let mut value = 0u64;
+    for digit in word {
+        if *digit < b'0' || *digit > b'9' {
+            return None;
+        }
+        value = value * 10 + (*digit - b'0') as u64;
+        if value > room as u64 {
+            return None;
+        }
+    }
+    Some(value as u32)
+}
+
+fn is_file_name(name: &str) -> bool
+    ensures { result ≡ is_name name.now }
+{
+    name.len() >= 1 && name.len() <= 255
+}
+
+fn is_play(word: &str) -> bool
+    ensures { result ≡ bytes_eq word.now (codes "play") }
+{
+    word == "play"
+}
+
+/// `play HEAP TOPOLOGY SCRIPT`, with a heap of at most `room` bytes.
+pub fn read_play<'a>(words: &'a [String], room: u32) -> Option<Form<'a>>
+    ensures { MatchOption result
+        (play_of room (map string_bytes words.now) ≡ None)
+        (λ f. play_of room (map string_bytes words.now) ≡ Some (form f.heap f.topology.now f.script.now)) }
+{
+    if words.len() != 4 {
+        return None;
+    }
+    let topology = words[2].as_str();
+    let script = words[3].as_str();
+    if !is_play(words[0].as_str()) {
+        return None;
+    }
+    let Some(heap) = number(words[1].as_bytes(), room) else {
+        return None;
+    };
+    if !is_file_name(topology) {
+        return None;
+    }
+    if !is_file_name(script) {
+        return None;
+    }
+    Some(Form {
+        heap,
+        topology,
+        script,
+    })
+}

@@ -1,0 +1,55 @@
+-- Turns, one after another.
+use Rattle.std.proofs.Common.{◌≡◌, ℕ, ◌≤◌, List, [], ◌∷◌, ◌++◌, refl, sym, subst, ◌∙◌, arith}
+use Rattle.mbox_link.specs.Calls.{Meaning}
+use Rattle.tplg_graph.specs.declared.planned.Plan.{Plan}
+use Rattle.host_widgets.specs.declared.answers.Answer.TheVariants.{Done}
+use Rattle.sof_session.specs.Seat.{new_seat}
+use Rattle.sof_session.specs.Walks.{Begin}
+use Rattle.sof_session.specs.Turns.{Bare, Seated, life, LifeMeaning, Calm, Turn, Turned, turn, Turns}
+
+-- a session that begins over a device
+pub begun : {P : Type 0} (means : Meaning P) (plan : Plan) (heap : ℕ) (dsp : P) → Turned (life means) (turn (Begin plan heap) Done []) (Bare dsp) (Seated (new_seat plan heap dsp))
+begun means plan heap dsp = record { next = λ calm. refl; faults = omega arith; refusals = omega arith; most = refl }
+
+module _ {W : Type 0} (means : LifeMeaning W) where
+  pub Turns-append : (turns more : List Turn) (p m q : W) → Turns means p turns m → Turns means m more q → Turns means p (turns ++ more) q
+  Turns-append [] more p m q first rest = subst (λ (x : W). Turns means x more q) first rest
+  Turns-append (turn ∷ turns) more p m q first rest = (first.0, first.1, Turns-append turns more first.0 m q first.2 rest)
+
+  -- one turn more
+  pub Turns-more : (turns : List Turn) (turn : Turn) (p m q : W) → Turns means p turns m → Turned means turn m q → Turns means p (turns ++ turn ∷ []) q
+  Turns-more turns turn p m q first last = Turns-append turns (turn ∷ []) p m q first (q, last, refl)
+
+  -- no count falls, and the greatest heap stays
+  pub record Steadily (p q : W) : Type 0 where
+    pub faults : means.faults p ≤ means.faults q
+    pub refusals : means.refusals p ≤ means.refusals q
+    pub most : means.most q ≡ means.most p
+
+  pub Turns-steady : (turns : List Turn) (p q : W) → Turns means p turns q → Steadily p q
+  Turns-steady [] p q turned = subst (λ (x : W). Steadily p x) (sym turned) record { faults = omega arith; refusals = omega arith; most = refl }
+  Turns-steady (turn ∷ turns) p q turned =
+      let first = turned.1 in
+      let rest = Turns-steady turns turned.0 q turned.2 in
+      record { faults = omega (arith, first.faults, rest.faults); refusals = omega (arith, first.refusals, rest.refusals); most = rest.most ∙ first.most }
+
+  -- calm over all turns is calm over the first, and over the rest
+  pub Calm-first : (turn : Turn) (turns : List Turn) (p m q : W) → Turned means turn p m → Turns means m turns q → Calm means p q → Calm means p m
+  Calm-first turn turns p m q first rest calm =
+      let later = Turns-steady turns m q rest in
+      record {
+        faults = omega (arith, first.faults, later.faults, calm.faults);
+        faults_below = omega (arith, first.faults, later.faults, calm.faults, calm.faults_below);
+        refusals = omega (arith, first.refusals, later.refusals, calm.refusals);
+        refusals_below = omega (arith, first.refusals, later.refusals, calm.refusals, calm.refusals_below);
+      }
+
+  pub Calm-rest : (turn : Turn) (turns : List Turn) (p m q : W) → Turned means turn p m → Turns means m turns q → Calm means p q → Calm means m q
+  Calm-rest turn turns p m q first rest calm =
+      let later = Turns-steady turns m q rest in
+      record {
+        faults = omega (arith, first.faults, later.faults, calm.faults);
+        faults_below = calm.faults_below;
+        refusals = omega (arith, first.refusals, later.refusals, calm.refusals);
+        refusals_below = calm.refusals_below;
+      }

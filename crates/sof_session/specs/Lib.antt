@@ -1,0 +1,4 @@
+pub mod Show
+pub mod Seat
+pub mod Walks
+pub mod Turns

@@ -1,0 +1,131 @@
+-- The lines that say how everything stands.
+use Rattle.std.specs.Prelude.{◌≡◌, ℕ, Bool, true, false, List, [], ◌∷◌, ◌++◌, map, get_or, codes, decimal, Option, Some, None, MatchOption}
+use Rattle.std.specs.List.{zip, slice_get}
+use Rattle.sof_base.specs.declared.format.Format.{Format}
+use Rattle.sof_base.specs.declared.format.Format.TheVariants.{S16, S24, S32}
+use Rattle.sof_base.specs.declared.format.Params.{Params}
+use Rattle.stream_law.specs.declared.graph.Kind.{Kind}
+use Rattle.stream_law.specs.declared.graph.Kind.TheVariants.{HostPlay, HostCapture, DaiPlay, DaiCapture, Volume, Mixer, Mux, Eq}
+use Rattle.stream_law.specs.declared.graph.Comp.{Comp}
+use Rattle.stream_law.specs.declared.graph.Edge.{Edge}
+use Rattle.stream_law.specs.declared.graph.Pipe.{Pipe}
+use Rattle.stream_law.specs.Ways.{comp_of, edge_of}
+use Rattle.tplg_graph.specs.declared.planned.Plan.{Plan}
+use Rattle.tplg_graph.specs.declared.planned.StreamPlan.{StreamPlan}
+use Rattle.host_widgets.specs.declared.kept.Power.{Power}
+use Rattle.host_widgets.specs.declared.kept.Power.TheVariants.{Unloaded, On, Off}
+use Rattle.host_widgets.specs.declared.kept.Found.{Found}
+use Rattle.host_widgets.specs.declared.kept.Found.TheVariants.{Closed, Open, Prepared, Running, Paused}
+use Rattle.host_widgets.specs.declared.kept.StreamRec.{StreamRec}
+use Rattle.host_widgets.specs.declared.kept.Record.{Record}
+use Rattle.host_widgets.specs.Acts.{ids_of, pipe_by_id}
+
+-- ---- words
+
+-- whether a topology is loaded, and if so, whether the device is on
+abbrev pub power_words : Power → List ℕ
+power_words Unloaded = codes "power unloaded"
+power_words On = codes "power on"
+power_words Off = codes "power off"
+
+-- a format, as scripts write it
+abbrev pub format_words : Format → List ℕ
+format_words S16 = codes "s16"
+format_words S24 = codes "s24"
+format_words S32 = codes "s32"
+
+-- a DAI's kind is followed by its format
+abbrev pub kind_words : Kind → List ℕ
+kind_words HostPlay = codes "host-play"
+kind_words HostCapture = codes "host-capture"
+kind_words (DaiPlay format) = codes "dai-play " ++ format_words format
+kind_words (DaiCapture format) = codes "dai-capture " ++ format_words format
+kind_words Volume = codes "volume"
+kind_words Mixer = codes "mixer"
+kind_words Mux = codes "mux"
+kind_words Eq = codes "eq"
+
+-- ---- widgets, by id
+
+-- the name of the widget of an id, and no bytes where there is none
+abbrev pub name_of : Plan → ℕ → List ℕ
+name_of plan id = get_or plan.names id []
+
+-- a component: its id, its kind, the index of its pipeline, and its name
+abbrev pub comp_line : ℕ → Comp → List ℕ → List ℕ
+comp_line id c name = codes "comp " ++ decimal id ++ codes " " ++ kind_words c.kind ++ codes " pipe " ++ decimal c.pipe ++ codes " " ++ name
+
+-- a buffer: its id, its size in bytes, the index of its pipeline, and its name
+abbrev pub buffer_line : ℕ → Edge → List ℕ → List ℕ
+buffer_line id e name = codes "buffer " ++ decimal id ++ codes " size " ++ decimal e.size ++ codes " pipe " ++ decimal e.pipe ++ codes " " ++ name
+
+-- a pipeline: its id, its index, its period in µs, and its name
+abbrev pub pipe_line : ℕ → Pipe → List ℕ → List ℕ
+pipe_line id p name = codes "pipe " ++ decimal id ++ codes " index " ++ decimal p.index ++ codes " period " ++ decimal p.period ++ codes " " ++ name
+
+-- an id names a component, or else a buffer, or else a pipeline; an id that names nothing, which no plan has, has an empty line
+abbrev pub named_line : Option Comp → Option Edge → Option Pipe → ℕ → List ℕ → List ℕ
+named_line (Some c) e p id name = comp_line id c name
+named_line None (Some e) p id name = buffer_line id e name
+named_line None None (Some p) id name = pipe_line id p name
+named_line None None None id name = []
+
+-- the line of the widget of an id
+abbrev pub widget_line : Plan → ℕ → List ℕ
+widget_line plan id = named_line (comp_of plan.graph id) (edge_of plan.graph id) (pipe_by_id plan id) id (name_of plan id)
+
+-- ---- edges and streams
+
+-- the component at an end of an edge; an open end, which no plan has, is a dash
+abbrev pub end_words : Option ℕ → List ℕ
+end_words None = codes "-"
+end_words (Some id) = decimal id
+
+-- an edge: the component that it comes from, its buffer, and the component that it goes to, by their ids
+abbrev pub edge_line : Edge → List ℕ
+edge_line e = codes "edge " ++ end_words e.source ++ codes " " ++ decimal e.buffer ++ codes " " ++ end_words e.sink
+
+-- how far a stream is, after a blank
+abbrev pub found_words : Found → List ℕ
+found_words Closed = codes " closed"
+found_words Open = codes " open"
+found_words Prepared = codes " prepared"
+found_words Running = codes " running"
+found_words Paused = codes " paused"
+
+-- frames a second, channels and format, each after a blank; nothing where there are no parameters
+abbrev pub params_words : Option Params → List ℕ
+params_words None = []
+params_words (Some p) = codes " " ++ decimal p.rate ++ codes " " ++ decimal p.channels ++ codes " " ++ format_words p.format
+
+-- a stream: the name of its host component, how far it is, and its parameters where it has them
+abbrev pub stream_line : Plan → StreamPlan × StreamRec → List ℕ
+stream_line plan (s, r) = codes "stream " ++ name_of plan s.host ++ found_words r.found ++ params_words r.params
+
+-- ---- all lines
+
+-- the streams, in the order of the plan
+abbrev pub stream_lines : Plan → Record → List (List ℕ)
+stream_lines plan kept = map (stream_line plan) (zip plan.streams kept.streams)
+
+-- the edges, and then the streams
+abbrev pub edge_lines : Plan → Record → List (List ℕ)
+edge_lines plan kept = map edge_line plan.graph.edges ++ stream_lines plan kept
+
+-- the widgets by id, the edges by buffer id, and the streams
+abbrev pub loaded_lines : Plan → Record → List (List ℕ)
+loaded_lines plan kept = map (widget_line plan) (ids_of plan) ++ edge_lines plan kept
+
+-- nothing more where nothing is loaded
+abbrev pub lines_by : Power → Plan → Record → List (List ℕ)
+lines_by Unloaded plan kept = []
+lines_by On plan kept = loaded_lines plan kept
+lines_by Off plan kept = loaded_lines plan kept
+
+-- the lines that `show` says, in order
+abbrev pub show_lines : Plan → Record → List (List ℕ)
+show_lines plan kept = power_words kept.power ∷ lines_by kept.power plan kept
+
+-- whether there is a line of this number, counted from 0, and where there is, that it is this one
+abbrev pub IsLineAt : List (List ℕ) → ℕ → Bool → List ℕ → Type 0
+IsLineAt lines k there line = MatchOption (slice_get lines k) (there ≡ false) (λ text. (there ≡ true) × (line ≡ text))

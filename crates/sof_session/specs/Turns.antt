@@ -1,0 +1,135 @@
+-- The turns of a session over a device, and what its type keeps.
+use Rattle.std.specs.Prelude.{◌≡◌, ℕ, ◌+◌, ◌<◌, ◌≤◌, ◌^◌, List, [], ◌∷◌, Option, Some, None}
+use Rattle.sof_base.specs.Ports.{Io, InputView, OutputView}
+use Rattle.mbox_link.specs.Calls.{Meaning}
+use Rattle.mbox_link.specs.Wire.{Wire}
+use Rattle.mbox_link.specs.Link.{link}
+use Rattle.tplg_graph.specs.ThinPlan.{IsThinPlan}
+use Rattle.host_widgets.specs.declared.answers.Answer.{Answer}
+use Rattle.host_widgets.specs.declared.answers.Answer.TheVariants.{Show}
+use Rattle.host_widgets.specs.declared.kept.Power.{Power}
+use Rattle.host_widgets.specs.declared.kept.Power.TheVariants.{Unloaded, On, Off}
+use Rattle.host_widgets.specs.HostRecord.{all_closed}
+use Rattle.host_widgets.specs.Expected.{loaded_state}
+use Rattle.host_widgets.specs.Host.{Outcome, Agrees, Loads, LoadLeft, after_load}
+use Rattle.host_widgets.specs.ActFates.{LoadFates}
+use Rattle.sof_script.specs.declared.script.Command.{Command}
+use Rattle.sof_script.specs.declared.script.Command.TheVariants as commands
+use Rattle.sof_session.specs.Seat.{Seat}
+use Rattle.sof_session.specs.Show.{show_lines}
+use Rattle.sof_session.specs.Walks.{Task, Out, Stand, Host, answer_of, next}
+
+-- ---- what a session's type keeps
+
+-- a powered device keeps the plan with no audio moved: the commands that are built move none
+abbrev pub Powered : {P : Type 0} → Meaning P → Seat P → Power → Type 0
+Powered means seat Unloaded = Unit {0}
+Powered means seat On = (seat.kept ≡ all_closed On seat.plan) × (means.on seat.link.device ≡ Some (loaded_state seat.plan seat.heap 0))
+Powered means seat Off = ⊥
+
+-- no fate was or is planned, so the link itself has lost and refused no message
+pub record IsUnplanned {P : Type 0} (wire : Wire P) : Type 0 where
+  pub entries : wire.entries ≡ []
+  pub dropped : wire.dropped ≡ 0
+  pub refused : wire.refused ≡ 0
+
+-- The two sides agree: the device is on with the view that the record says, or off; no tick is pending, and no fate is planned.
+pub record AreAgreed {P : Type 0} (means : Meaning P) (seat : Seat P) : Type 0 where
+  pub agree : Agrees means seat.plan seat.kept seat.link.device
+  pub powered : Powered means seat seat.kept.power
+  pub room : seat.heap ≤ means.most seat.link.device
+  pub pending : means.pending seat.link.device ≡ 0
+  pub unplanned : IsUnplanned seat.link
+  pub thin : IsThinPlan seat.plan
+
+-- ---- a command, over any device
+
+-- what a load did: its calls on the link with the fate of each act, what it came to, what it left, and the record after it
+pub record LoadRan {P : Type 0} (means : Meaning P) (old new : Seat P) (before after : Io) (answer : Answer) : Type 0 where
+  pub outcome : Outcome
+  pub loads : Loads (link means) old.plan old.heap old.kept.power (record { device = old.link; io = before }) (record { device = new.link; io = after }) outcome
+  pub fates : old.kept.power ≡ Unloaded → LoadFates (link means) old.plan old.heap (record { device = old.link; io = before }) (record { device = new.link; io = after }) outcome
+  pub left : LoadLeft (link means) old.plan old.heap old.link outcome new.link
+  pub kept : new.kept ≡ after_load old.plan outcome old.kept
+  pub said : answer ≡ answer_of outcome
+
+-- the endpoints' bytes
+abbrev pub ports : List InputView → List OutputView → Io
+ports inputs outputs = record { inputs = inputs; outputs = outputs }
+
+-- what a command did: a load its calls; a show nothing
+abbrev pub Ran : {P : Type 0} → Meaning P → Command → Seat P → Seat P → Io → Io → Answer → Type 0
+Ran means commands.Load old new io io' answer = LoadRan means old new io io' answer
+Ran means commands.Show old new io io' answer = (new ≡ old) × (io' ≡ io) × (answer ≡ Show)
+
+-- ---- turns
+
+-- a device before a session, and in it
+pub data Life (P : Type 0) : Type 0 where
+  Bare : (dsp : P) → Life P
+  Seated : (seat : Seat P) → Life P
+
+-- what a life means: how it stands, and the counts and the greatest heap of its device
+pub record LifeMeaning (W : Type 0) : Type 1 where
+  pub stand : W → Stand
+  pub most : W → ℕ
+  pub faults : W → ℕ
+  pub refusals : W → ℕ
+  pub pending : W → ℕ
+
+-- the device in a life
+abbrev pub device_of : {P : Type 0} → Life P → P
+device_of (Bare dsp) = dsp
+device_of (Seated seat) = seat.link.device
+
+-- what the host of a session knows
+abbrev pub host_of : {P : Type 0} → Seat P → Host
+host_of seat = record { plan = seat.plan; heap = seat.heap; kept = seat.kept; sent = seat.link.sent; entries = seat.link.entries }
+
+-- the host in a life, once there is a session
+abbrev pub host_in : {P : Type 0} → Life P → Option Host
+host_in (Bare dsp) = None
+host_in (Seated seat) = Some (host_of seat)
+
+-- what a life over a device means
+abbrev pub life : {P : Type 0} → Meaning P → LifeMeaning (Life P)
+life means = record {
+  stand = λ l. record { boots = means.boots (device_of l); host = host_in l };
+  most = λ l. means.most (device_of l);
+  faults = λ l. means.faults (device_of l);
+  refusals = λ l. means.refusals (device_of l);
+  pending = λ l. means.pending (device_of l);
+}
+
+-- the device's own counts of faults and of refusals did not rise
+pub record Calm {W : Type 0} (means : LifeMeaning W) (old new : W) : Type 0 where
+  pub faults : means.faults new ≡ means.faults old
+  pub faults_below : means.faults new + 1 < 2 ^ 64
+  pub refusals : means.refusals new ≡ means.refusals old
+  pub refusals_below : means.refusals new + 1 < 2 ^ 64
+
+-- a task with what it answered
+pub record Turn : Type 0 where
+  pub task : Task
+  pub out : Out
+
+-- a turn of these parts
+abbrev pub turn : Task → Answer → List (List ℕ) → Turn
+turn task answer shown = record { task = task; out = record { answer = answer; shown = shown } }
+
+-- the lines that a command shows
+abbrev pub shown_by : {P : Type 0} → Command → Seat P → List (List ℕ)
+shown_by commands.Load seat = []
+shown_by commands.Show seat = show_lines seat.plan seat.kept
+
+-- What a turn does: where the device's counts did not rise, the written next stand and answer; and no count falls.
+pub record Turned {W : Type 0} (means : LifeMeaning W) (turn : Turn) (old new : W) : Type 0 where
+  pub next : Calm means old new → (means.stand new, turn.out) ≡ next turn.task (means.stand old)
+  pub faults : means.faults old ≤ means.faults new
+  pub refusals : means.refusals old ≤ means.refusals new
+  pub most : means.most new ≡ means.most old
+
+-- turns, one after another
+abbrev pub Turns : {W : Type 0} → LifeMeaning W → W → List Turn → W → Type 0
+Turns means p [] q = q ≡ p
+Turns {W} means p (turn ∷ turns) q = (m : W) × Turned means turn p m × Turns means m turns q

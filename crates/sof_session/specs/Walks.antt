@@ -1,0 +1,124 @@
+-- A walk of acts whose fates are planned, and what a command makes of the host.
+use Rattle.std.specs.Prelude.{ℕ, List, [], ◌∷◌, Option, Some, None, Ok, Err}
+use Rattle.sof_base.specs.declared.errno.Errno.{Errno}
+use Rattle.mbox_link.specs.declared.fates.Entry.{Entry}
+use Rattle.mbox_link.specs.declared.fates.Fate.{Fate}
+use Rattle.mbox_link.specs.declared.fates.Fate.TheVariants.{Pass, Refuse, Drop, Lose}
+use Rattle.mbox_link.specs.Fates.{planned, without}
+use Rattle.mbox_link.specs.Exchange.{more}
+use Rattle.tplg_graph.specs.declared.planned.Plan.{Plan}
+use Rattle.host_widgets.specs.declared.answers.HostFault.TheVariants.{Loaded, Refused, LinkDown}
+use Rattle.host_widgets.specs.declared.answers.Answer.{Answer}
+use Rattle.host_widgets.specs.declared.answers.Answer.TheVariants.{Done, Fault, Show}
+use Rattle.host_widgets.specs.declared.kept.Power.{Power}
+use Rattle.host_widgets.specs.declared.kept.Power.TheVariants.{Unloaded, On, Off}
+use Rattle.host_widgets.specs.declared.kept.Record.{Record}
+use Rattle.host_widgets.specs.HostRecord.{first_record}
+use Rattle.host_widgets.specs.Acts.{Act, bring_up_acts}
+use Rattle.host_widgets.specs.Host.{Outcome, own, errno, after_load}
+use Rattle.sof_script.specs.declared.script.Command.{Command}
+use Rattle.sof_script.specs.declared.script.Command.TheVariants as commands
+use Rattle.sof_session.specs.Show.{show_lines}
+
+-- ---- a walk
+
+-- what an act comes to, by the fate of its message and by what the firmware itself refuses
+abbrev pub outcome_by : Fate → Option Errno → Outcome
+outcome_by Pass None = Ok tt
+outcome_by Pass (Some e) = Err (Refused e)
+outcome_by (Refuse e) refusal = Err (Refused (errno e))
+outcome_by Drop refusal = Err LinkDown
+outcome_by Lose refusal = Err LinkDown
+
+-- how a walk ended: what it came to, how many messages were sent in all, and the fates that are held
+pub record Ending : Type 0 where
+  pub outcome : Outcome
+  pub sent : ℕ
+  pub entries : List Entry
+
+-- an ending of these parts
+abbrev pub ending : Outcome → ℕ → List Entry → Ending
+ending outcome sent entries = record { outcome = outcome; sent = sent; entries = entries }
+
+-- on after an act that passed; else the walk ends here
+abbrev pub on_from : Outcome → ℕ → List Entry → Ending → Ending
+on_from (Ok done) sent entries rest = rest
+on_from (Err fault) sent entries rest = ending (Err fault) sent entries
+
+-- the acts in order, each by one message, up to the first that does not pass
+abbrev pub walked : Plan → ℕ → ℕ → List Entry → List Act → Ending
+walked plan heap sent entries [] = ending (Ok tt) sent entries
+walked plan heap sent entries (act ∷ acts) =
+    on_from (outcome_by (planned entries (more sent)) (own plan heap act)) (more sent) (without (more sent) entries)
+    (walked plan heap (more sent) (without (more sent) entries) acts)
+
+-- ---- a host
+
+-- what the host knows: the plan and the heap, its record, how many messages were sent, and the fates that are held
+pub record Host : Type 0 where
+  pub plan : Plan
+  pub heap : ℕ
+  pub kept : Record
+  pub sent : ℕ
+  pub entries : List Entry
+
+-- a host before its first command: nothing is loaded, sent or planned
+abbrev pub first_host : Plan → ℕ → Host
+first_host plan heap = record { plan = plan; heap = heap; kept = first_record plan; sent = 0; entries = [] }
+
+-- a host and how often its device was booted
+pub record Stand : Type 0 where
+  pub boots : ℕ
+  pub host : Option Host
+
+-- what a command answers, and the lines that follow where it shows
+pub record Out : Type 0 where
+  pub answer : Answer
+  pub shown : List (List ℕ)
+
+-- an answer after which no lines follow
+abbrev pub silent : Answer → Out
+silent answer = record { answer = answer; shown = [] }
+
+-- the answer of a command that answers nothing else once it is done
+abbrev pub answer_of : Outcome → Answer
+answer_of (Ok done) = Done
+answer_of (Err fault) = Fault fault
+
+-- ---- commands
+
+-- the host after a load whose walk ended so
+abbrev pub host_after : Host → Ending → Host
+host_after h e = record { plan = h.plan; heap = h.heap; kept = after_load h.plan e.outcome h.kept; sent = e.sent; entries = e.entries }
+
+-- a load that passes its test boots the device and walks the list that brings it up
+abbrev pub load_next : Power → ℕ → Host → Stand × Out
+load_next Unloaded boots h =
+    let e = walked h.plan h.heap h.sent h.entries (bring_up_acts h.plan) in
+    (record { boots = more boots; host = Some (host_after h e) }, silent (answer_of e.outcome))
+load_next On boots h = (record { boots = boots; host = Some h }, silent (Fault Loaded))
+load_next Off boots h = (record { boots = boots; host = Some h }, silent (Fault Loaded))
+
+-- a show changes nothing
+abbrev pub show_next : ℕ → Host → Stand × Out
+show_next boots h = (record { boots = boots; host = Some h }, record { answer = Show; shown = show_lines h.plan h.kept })
+
+-- what a command makes of a host, and what it answers
+abbrev pub command_next : Command → ℕ → Host → Stand × Out
+command_next commands.Load boots h = load_next h.kept.power boots h
+command_next commands.Show boots h = show_next boots h
+
+-- a session is begun, or carries out a command
+pub data Task : Type 0 where
+  Begin : (plan : Plan) (heap : ℕ) → Task
+  Carry : (command : Command) → Task
+
+-- what a task makes of a stand, and what it answers
+abbrev pub next_by : Task → ℕ → Option Host → Stand × Out
+next_by (Begin plan heap) boots host = (record { boots = boots; host = Some (first_host plan heap) }, silent Done)
+next_by (Carry command) boots None = (record { boots = boots; host = None }, silent Done)
+next_by (Carry command) boots (Some h) = command_next command boots h
+
+-- the same of a stand as a whole
+abbrev pub next : Task → Stand → Stand × Out
+next task s = next_by task s.boots s.host

@@ -1,0 +1,10 @@
+//! A session: a host with its device behind a link, which carries out a script's commands and shows how everything stands.
+#![tactic(auto)]
+
+mod session;
+mod show;
+#[cfg(test)]
+mod tests;
+mod words;
+
+pub use session::Session;

@@ -1,0 +1,133 @@
+// A host with its device behind a link.
+ghost use Rattle.std.specs.Prelude.{◌≡◌, ◌<◌, ◌≤◌, [], true, length, MatchResult};
+ghost use Rattle.sof_base.specs.Ports.{HasRoom};
+ghost use Rattle.tplg_graph.specs.ThinPlan.{IsThinPlan};
+ghost use Rattle.sof_session.specs.Seat.{new_seat};
+ghost use Rattle.sof_session.specs.Show.{show_lines, IsLineAt};
+ghost use Rattle.sof_session.specs.Walks.{Carry};
+ghost use Rattle.sof_session.specs.Turns.{AreAgreed, LoadRan, Ran, Turned, Seated, life, turn, shown_by, ports};
+
+use crate::show::show_line;
+use host_widgets::{Answer, Record, load};
+use mbox_link::{Dsp, FaultLink, NoRoom};
+use sof_base::NoMemory;
+use sof_io::{Inputs, Outputs};
+use sof_script::{Command, Line};
+use std::alloc::Global;
+use std::marker::Model;
+use tplg_graph::Plan;
+
+/// A host that keeps its record of a device behind a link. The device is on with the view that the record says, or off.
+#[derive(Drop)]
+pub struct Session<P: Dsp> {
+    link: FaultLink<P>,
+    kept: Record,
+    plan: Plan,
+    heap: u32,
+}
+
+impl<P: Dsp> Model for Session<P> {
+    ghost use Rattle.sof_session.specs.Seat.{Seat};
+
+    ghost Value = { Seat P };
+
+    ghost use Rattle.sof_session.specs.Turns.{AreAgreed};
+
+    ghost view = { λ s. record { link = s.link; kept = s.kept; plan = s.plan; heap = s.heap } };
+
+    ghost invariant = { λ s. AreAgreed P.means (record { link = s.link; kept = s.kept; plan = s.plan; heap = s.heap }) };
+}
+
+impl<P: Dsp> Session<P> {
+    /// A session over a device that is off, with a heap of so many bytes: nothing is loaded, sent or planned. Where memory
+    /// is wanting, the device is handed back as it was.
+    pub fn new(alloc: Global, plan: Plan, heap: u32, dsp: P) -> Result<Session<P>, NoRoom<P>>
+        requires off { P.means.on dsp ≡ None }
+        requires pending { P.means.pending dsp ≡ 0 }
+        requires room { heap ≤ P.means.most dsp }
+        requires thin { IsThinPlan plan }
+        ensures { MatchResult result
+            (λ session. session ≡ new_seat plan heap dsp)
+            (λ refused. refused.dsp ≡ dsp) }
+    {
+        match Record::new(alloc, &plan) {
+            Ok(kept) => Ok(Session {
+                link: FaultLink::new(dsp),
+                kept,
+                plan,
+                heap,
+            }),
+            Err(NoMemory) => Err(NoRoom { dsp }),
+        }
+    }
+
+    /// The device as it stands: on with the view that the record says, or off.
+    pub fn into_dsp(self) -> P
+        ensures dsp { result ≡ self.link.device }
+        ensures agreed { AreAgreed P.means self }
+    {
+        self.link.into_dsp()
+    }
+
+    /// Carries out a command. `Load` boots the device and loads the plan where it is not loaded; `Show` changes nothing, and
+    /// its lines are those of `show_line`.
+    pub fn step(&mut self, command: &Command, io: &mut Inputs, out: &mut Outputs) -> Answer
+        requires { HasRoom 0 out.old }
+        ensures ran { Ran P.means command.now self.old self.new (ports io.old out.old) (ports io.new out.new) result }
+        ensures turned { Turned (life P.means) (turn (Carry command.now) result (shown_by command.now self.old)) (Seated self.old) (Seated self.new) }
+        ensures plan { self.new.plan ≡ self.old.plan }
+        ensures heap { self.new.heap ≡ self.old.heap }
+        ensures inputs { io.new ≡ io.old }
+        ensures outputs { out.new ≡ out.old }
+    {
+        match command {
+            Command::Load => self.load(io, out),
+            Command::Show => Answer::Show,
+        }
+    }
+
+    // Boots the device and loads the plan, where it is not loaded.
+    fn load(&mut self, io: &mut Inputs, out: &mut Outputs) -> Answer
+        requires { HasRoom 0 out.old }
+        ensures ran { LoadRan P.means self.old self.new (ports io.old out.old) (ports io.new out.new) result }
+        ensures agreed { AreAgreed P.means self.old }
+        ensures plan { self.new.plan ≡ self.old.plan }
+        ensures heap { self.new.heap ≡ self.old.heap }
+        ensures inputs { io.new ≡ io.old }
+        ensures outputs { out.new ≡ out.old }
+    {
+        match load(
+            &self.plan,
+            &mut self.kept,
+            self.heap,
+            &mut self.link,
+            io,
+            out,
+        ) {
+            Ok(()) => Answer::Done,
+            Err(fault) => Answer::Fault(fault),
+        }
+    }
+
+    /// Writes the k-th of the lines that say how everything stands, from 0, and answers whether there is one.
+    pub fn show_line(&self, k: u32, line: &mut Line) -> bool
+        ensures line { IsLineAt (show_lines self.now.plan self.now.kept) k result line.new }
+        ensures short { result ≡ true → length line.new < 2304 }
+    {
+        show_line(&self.plan, &self.kept, k, line)
+    }
+
+    /// What should be there.
+    pub fn record(&self) -> &Record
+        ensures { result.now ≡ self.now.kept }
+    {
+        &self.kept
+    }
+
+    /// How many messages were sent, whatever became of them.
+    pub fn sent(&self) -> u64
+        ensures { result ≡ self.now.link.sent }
+    {
+        self.link.sent()
+    }
+}

@@ -1,0 +1,192 @@
+// The lines that say how everything stands.
+ghost use Rattle.std.specs.Prelude.{◌≡◌, ◌==◌, ◌<◌, true, length, find};
+ghost use Rattle.std.specs.Option.{option_copied};
+ghost use Rattle.stream_law.specs.Ways as ways;
+ghost use Rattle.host_widgets.specs.Acts.{pipe_by_id};
+ghost use Rattle.sof_session.specs.Show as show;
+
+use crate::words::{say_end, say_format, say_found, say_kind, say_params, write_power};
+use host_widgets::{Power, Record, StreamRec};
+use sof_script::Line;
+use stream_law::{Comp, Edge, Pipe};
+use tplg_graph::{Plan, StreamPlan};
+
+// The name of a widget; empty where there is none of this id.
+fn name_of(plan: &Plan, id: u32) -> &[u8]
+    ensures value { result.now ≡ show.name_of plan.now id }
+    ensures short { length result.now < 44 }
+{
+    match plan.names.items().get(id as usize) {
+        Some(name) => name.as_bytes(),
+        None => &[],
+    }
+}
+
+fn write_comp(id: u32, comp: &Comp, name: &[u8], line: &mut Line)
+    requires { length name.now < 44 }
+    ensures said { line.new ≡ show.comp_line id comp.now name.now }
+    ensures short { length line.new < 2304 }
+{
+    line.clear();
+    line.say(b"comp ");
+    line.say_number(id);
+    line.say(b" ");
+    say_kind(comp.kind, line);
+    line.say(b" pipe ");
+    line.say_number(comp.pipe);
+    line.say(b" ");
+    line.say(name);
+}
+
+fn write_buffer(id: u32, edge: &Edge, name: &[u8], line: &mut Line)
+    requires { length name.now < 44 }
+    ensures said { line.new ≡ show.buffer_line id edge.now name.now }
+    ensures short { length line.new < 2304 }
+{
+    line.clear();
+    line.say(b"buffer ");
+    line.say_number(id);
+    line.say(b" size ");
+    line.say_number(edge.size);
+    line.say(b" pipe ");
+    line.say_number(edge.pipe);
+    line.say(b" ");
+    line.say(name);
+}
+
+fn write_pipe(id: u32, pipe: &Pipe, name: &[u8], line: &mut Line)
+    requires { length name.now < 44 }
+    ensures said { line.new ≡ show.pipe_line id pipe.now name.now }
+    ensures short { length line.new < 2304 }
+{
+    line.clear();
+    line.say(b"pipe ");
+    line.say_number(id);
+    line.say(b" index ");
+    line.say_number(pipe.index);
+    line.say(b" period ");
+    line.say_number(pipe.period);
+    line.say(b" ");
+    line.say(name);
+}
+
+// What an id names.
+fn comp_of(plan: &Plan, id: u32) -> Option<&Comp>
+    ensures { option_copied result ≡ ways.comp_of plan.now.graph id }
+{
+    plan.graph.comps.items().iter().find(|comp| comp.id == id)
+}
+
+fn edge_of(plan: &Plan, id: u32) -> Option<&Edge>
+    ensures { option_copied result ≡ ways.edge_of plan.now.graph id }
+{
+    plan.graph
+        .edges
+        .items()
+        .iter()
+        .find(|edge| edge.buffer == id)
+}
+
+fn pipe_of(plan: &Plan, id: u32) -> Option<&Pipe>
+    ensures { option_copied result ≡ pipe_by_id plan.now id }
+{
+    plan.graph.pipes.items().iter().find(|pipe| pipe.id == id)
+}
+
+// The line of what an id names: a component, or else a buffer, or else a pipeline.
+fn write_widget(plan: &Plan, id: u32, line: &mut Line)
+    ensures said { line.new ≡ show.widget_line plan.now id }
+    ensures short { length line.new < 2304 }
+{
+    let name = name_of(plan, id);
+    if let Some(comp) = comp_of(plan, id) {
+        return write_comp(id, comp, name, line);
+    }
+    if let Some(edge) = edge_of(plan, id) {
+        return write_buffer(id, edge, name, line);
+    }
+    match pipe_of(plan, id) {
+        Some(pipe) => write_pipe(id, pipe, name, line),
+        None => line.clear(),
+    }
+}
+
+fn write_edge(edge: &Edge, line: &mut Line)
+    ensures said { line.new ≡ show.edge_line edge.now }
+    ensures short { length line.new < 2304 }
+{
+    line.clear();
+    line.say(b"edge ");
+    say_end(edge.source, line);
+    line.say(b" ");
+    line.say_number(edge.buffer);
+    line.say(b" ");
+    say_end(edge.sink, line);
+}
+
+fn write_stream(plan: &Plan, stream: &StreamPlan, kept: &StreamRec, line: &mut Line)
+    ensures said { line.new ≡ show.stream_line plan.now (stream.now, kept.now) }
+    ensures short { length line.new < 2304 }
+{
+    line.clear();
+    line.say(b"stream ");
+    line.say(name_of(plan, stream.host));
+    say_found(kept.found, line);
+    say_params(kept.params, line);
+}
+
+// Writes the k-th of the lines of the streams, and answers whether there is one.
+fn write_kth_stream(plan: &Plan, kept: &Record, k: usize, line: &mut Line) -> bool
+    ensures line { show.IsLineAt (show.stream_lines plan.now kept.now) k result line.new }
+    ensures short { result ≡ true → length line.new < 2304 }
+{
+    let Some(stream) = plan.streams.items().get(k) else {
+        return false;
+    };
+    let Some(found) = kept.streams.items().get(k) else {
+        return false;
+    };
+    write_stream(plan, stream, found, line);
+    true
+}
+
+// The same of the lines of the edges and then of the streams.
+fn write_kth_edge(plan: &Plan, kept: &Record, k: usize, line: &mut Line) -> bool
+    ensures line { show.IsLineAt (show.edge_lines plan.now kept.now) k result line.new }
+    ensures short { result ≡ true → length line.new < 2304 }
+{
+    let edges = plan.graph.edges.items();
+    if k >= edges.len() {
+        return write_kth_stream(plan, kept, k - edges.len(), line);
+    }
+    write_edge(&edges[k], line);
+    true
+}
+
+// The same of all lines where the plan is loaded.
+fn write_kth_loaded(plan: &Plan, kept: &Record, k: u32, line: &mut Line) -> bool
+    ensures line { show.IsLineAt (show.loaded_lines plan.now kept.now) k result line.new }
+    ensures short { result ≡ true → length line.new < 2304 }
+{
+    let widgets = plan.widgets.items().len();
+    if k as usize >= widgets {
+        return write_kth_edge(plan, kept, k as usize - widgets, line);
+    }
+    write_widget(plan, k, line);
+    true
+}
+
+/// Writes the k-th of the lines that say how everything stands, from 0, and answers whether there is one.
+pub fn show_line(plan: &Plan, kept: &Record, k: u32, line: &mut Line) -> bool
+    ensures line { show.IsLineAt (show.show_lines plan.now kept.now) k result line.new }
+    ensures short { result ≡ true → length line.new < 2304 }
+{
+    if k == 0 {
+        write_power(kept.power, line);
+        return true;
+    }
+    match kept.power {
+        Power::Unloaded => false,
+        _ => write_kth_loaded(plan, kept, k - 1, line),
+    }
+}

@@ -1,0 +1,2 @@
+-- Worked rows of the written run.
+pub mod Rows

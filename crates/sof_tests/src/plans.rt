@@ -1,0 +1,97 @@
+// The thin graph's plan, and graphs that are not thin.
+use crate::thin::thin_graph;
+use sof_base::Format;
+use std::alloc::Global;
+use std::test::Fail;
+use stream_law::{Edge, Join, Kind, Pipe};
+use tplg_graph::{Plan, StreamPlan, is_thin, need, plan};
+use tplg_model::Topology;
+use tplg_read::read;
+
+fn topology_of(alloc: Global, bytes: &[u8]) -> Result<Topology, Fail> {
+    match read(alloc, bytes) {
+        Ok(topology) => Ok(topology),
+        Err(_fault) => Err("no topology")?,
+    }
+}
+
+/// The thin graph's plan and its need in bytes.
+fn planned(alloc: Global) -> Result<(Plan, u64), Fail> {
+    let topology = topology_of(alloc, &thin_graph(alloc)?)?;
+    if !is_thin(alloc, &topology)? {
+        return Err("not thin")?;
+    }
+    let plan = plan(alloc, &topology)?;
+    let bytes = need(&plan);
+    Ok((plan, bytes))
+}
+
+#[test]
+fn the_thin_graph_is_planned(rt: HostRuntime) -> Result<(), Fail> {
+    let alloc = rt.alloc();
+    let (plan, _bytes) = planned(alloc)?;
+    let comps = plan.graph.comps.items();
+    assert_eq!(rt; comps.len(), 2);
+    assert_eq!(rt; comps[0].kind, Kind::HostPlay);
+    assert_eq!(rt; comps[1].kind, Kind::DaiPlay(Format::S32));
+    assert_eq!(rt; (comps[0].id, comps[1].id, comps[1].pipe), (0, 2, 1));
+    let edge = Edge {
+        buffer: 1,
+        pipe: 1,
+        size: 768,
+        source: Some(0),
+        sink: Some(2),
+    };
+    assert_eq!(rt; plan.graph.edges.items(), [edge].as_slice());
+    let pipe = Pipe {
+        id: 3,
+        index: 1,
+        sched: 2,
+        period: 1000,
+        complete: true,
+    };
+    assert_eq!(rt; plan.graph.pipes.items(), [pipe].as_slice());
+    let joins = [Join { source: 0, sink: 1 }, Join { source: 1, sink: 2 }];
+    assert_eq!(rt; plan.graph.joins.items(), joins.as_slice());
+    Ok(())
+}
+
+#[test]
+fn its_plan_has_streams_names_and_words(rt: HostRuntime) -> Result<(), Fail> {
+    let alloc = rt.alloc();
+    let (plan, bytes) = planned(alloc)?;
+    let stream = StreamPlan {
+        host: 0,
+        capture: false,
+    };
+    assert_eq!(rt; plan.streams.items(), [stream].as_slice());
+    let names = plan.names.items();
+    assert_eq!(rt; names.len(), 4);
+    assert_eq!(rt; names[2].as_bytes(), b"DAI0".as_slice());
+    let widgets = plan.widgets.items();
+    assert_eq!(rt; widgets.len(), 4);
+    assert_eq!(rt; (widgets[0].frame_fmt, widgets[2].frame_fmt), (2, 2));
+    assert_eq!(rt; bytes, 992);
+    Ok(())
+}
+
+// A period of 1001 µs, two widgets of one name, a DAI of another format, a route from a name of no widget.
+#[test]
+fn other_graphs_are_not_thin(rt: HostRuntime) -> Result<(), Fail> {
+    let alloc = rt.alloc();
+    for changes in [
+        [(768usize, 0xe9u8)].as_slice(),
+        &[(400, b'B'), (402, 0), (403, 0), (401, b'0')],
+        &[(540, b'f')],
+        &[(896, b'Q')],
+    ] {
+        let mut bytes = thin_graph(alloc)?;
+        for (at, changed) in changes {
+            let byte = bytes.get_mut(*at).ok_or("past the end")?;
+            *byte = *changed;
+        }
+        let topology = topology_of(alloc, &bytes)?;
+        assert!(rt; !is_thin(alloc, &topology)?);
+    }
+    Ok(())
+}

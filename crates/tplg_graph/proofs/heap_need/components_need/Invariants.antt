@@ -1,0 +1,9 @@
+use Rattle.std.proofs.Common.{◌≡◌, ◌≤◌, ◌*◌, take}
+use Rattle.tplg_graph.specs.Needed.{components_need}
+use Rattle.tplg_graph.proofs.heap_need.components_need.Given as goal
+
+abbrev pub invariant-loop-comp : goal.invariant-loop-comp
+invariant-loop-comp l = record {
+  value : l.bytes ≡ components_need (take l.comp-index l.comps);
+  most : l.bytes ≤ 4160 * l.comp-index;
+}

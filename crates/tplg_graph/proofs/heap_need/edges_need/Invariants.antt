@@ -1,0 +1,9 @@
+use Rattle.std.proofs.Common.{◌≡◌, ◌≤◌, ◌*◌, take}
+use Rattle.tplg_graph.specs.Needed.{edges_need}
+use Rattle.tplg_graph.proofs.heap_need.edges_need.Given as goal
+
+abbrev pub invariant-loop-edge : goal.invariant-loop-edge
+invariant-loop-edge l = record {
+  value : l.bytes ≡ edges_need (take l.edge-index l.edges);
+  most : l.bytes ≤ 4294967343 * l.edge-index;
+}

@@ -1,0 +1,13 @@
+pub mod Tokens
+pub mod Entries
+pub mod Names
+pub mod Ends
+pub mod Lists
+pub mod Needed
+pub mod Rules
+pub mod Printable
+pub mod Table
+pub mod PlanOf
+pub mod Thin
+pub mod ThinPlan
+pub mod ThinTest

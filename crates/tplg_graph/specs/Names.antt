@@ -1,0 +1,18 @@
+-- The widgets of a name.
+use Rattle.std.specs.Prelude.{ℕ, List, Bool, Option, Some, None, ◌&&◌, if◌then◌else◌}
+use Rattle.std.specs.Option.{option_or}
+use Rattle.std.specs.Str.{bytes_eq}
+use Rattle.tplg_graph.specs.declared.entry.Entry.{Entry}
+use Rattle.tplg_graph.specs.Entries.{is_interpreted}
+
+-- a widget of this name
+abbrev pub has_name : List ℕ → Entry → Bool
+has_name name e = bytes_eq name e.name
+
+-- an interpreted widget of this name
+abbrev pub is_named : List ℕ → Entry → Bool
+is_named name e = is_interpreted e && has_name name e
+
+-- the number that was there, or else this one where the key is its own
+abbrev pub kept_first : Option ℕ → Bool → ℕ → Option ℕ
+kept_first old same n = option_or old (if same then Some n else None)

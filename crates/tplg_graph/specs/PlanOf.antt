@@ -1,0 +1,46 @@
+-- The lists of a topology's graph, and its plan.
+use Rattle.std.specs.Prelude.{List}
+use Rattle.stream_law.specs.declared.graph.Comp.{Comp}
+use Rattle.stream_law.specs.declared.graph.Edge.{Edge}
+use Rattle.stream_law.specs.declared.graph.Pipe.{Pipe}
+use Rattle.stream_law.specs.declared.graph.Join.{Join}
+use Rattle.stream_law.specs.declared.graph.Graph.{Graph}
+use Rattle.tplg_model.specs.declared.block.Topology.{Topology}
+use Rattle.tplg_graph.specs.declared.entry.Entry.{Entry}
+use Rattle.tplg_graph.specs.declared.planned.Plan.{Plan}
+use Rattle.tplg_graph.specs.declared.planned.StreamPlan.{StreamPlan}
+use Rattle.tplg_graph.specs.Entries.{entries_of, interpreted}
+use Rattle.tplg_graph.specs.Lists.{joins_of, components_on, edges_on, pipes_on, streams_on, names_on, widgets_on}
+
+-- the interpreted widgets: an id is a place in this list
+abbrev pub ids : Topology → List Entry
+ids t = interpreted (entries_of t)
+
+abbrev pub components_of : Topology → List Comp
+components_of t = components_on (ids t) (joins_of t)
+
+abbrev pub edges_of : Topology → List Edge
+edges_of t = edges_on (ids t) (joins_of t)
+
+abbrev pub pipelines_of : Topology → List Pipe
+pipelines_of t = pipes_on (entries_of t) (ids t)
+
+abbrev pub streams_of : Topology → List StreamPlan
+streams_of t = streams_on (ids t)
+
+-- over the widgets, the interpreted ones and the real routes: the graph
+abbrev pub graph_on : List Entry → List Entry → List Join → Graph
+graph_on es ps js = record { comps = components_on ps js; edges = edges_on ps js; pipes = pipes_on es ps; joins = js }
+
+-- and the plan
+abbrev pub plan_on : List Entry → List Entry → List Join → Plan
+plan_on es ps js = record {
+  graph = graph_on es ps js;
+  streams = streams_on ps;
+  names = names_on ps;
+  widgets = widgets_on ps;
+}
+
+-- a topology's plan has the lists of its graph
+abbrev pub plan_of : Topology → Plan
+plan_of t = plan_on (entries_of t) (ids t) (joins_of t)

@@ -1,0 +1,255 @@
+// The lists of a topology's graph, by id.
+ghost use Rattle.std.specs.Prelude.{◌≡◌, ◌<◌, ◌^◌, ◌==◌, ℕ, List, All, length, map, find, position, Some, None, IfOk};
+ghost use Rattle.std.specs.Option.{option_map};
+ghost use Rattle.std.specs.List.{list_any};
+ghost use Rattle.std.specs.Str.{bytes_eq};
+ghost use Rattle.std.specs.HashMap as hash;
+ghost use Rattle.tplg_graph.specs.Entries.{interpreted};
+ghost use Rattle.tplg_graph.specs.Names.{has_name};
+ghost use Rattle.tplg_graph.specs.Lists as law;
+ghost use Rattle.tplg_graph.specs.ThinPlan.{FitsWords};
+
+use crate::entry::{Entry, Role, is_buffer, is_scheduler};
+use crate::planned::{StreamPlan, WidgetPlan};
+use crate::route_end::{End, end_of};
+use crate::tokens::{FormatToken, format_number, format_of};
+use sof_base::Name44;
+use std::alloc::{AllocError, Global};
+use std::collections::HashMap;
+use stream_law::{Comp, Edge, Join, Kind, Pipe, Setting};
+
+/// Whether a real route ends at this id.
+fn is_sink(joins: &[Join], id: u32) -> bool
+    ensures { result ≡ law.is_sink joins.now id }
+{
+    joins.iter().any(|j| j.sink == id)
+}
+
+fn kind_of(role: Option<Role>, format: FormatToken, ends: bool) -> Option<Kind>
+    ensures { result ≡ law.kind_of role format ends }
+{
+    match role {
+        Some(Role::HostPlay) => Some(Kind::HostPlay),
+        Some(Role::HostCapture) => Some(Kind::HostCapture),
+        Some(Role::Dai) => Some(if ends {
+            Kind::DaiPlay(format_of(format))
+        } else {
+            Kind::DaiCapture(format_of(format))
+        }),
+        Some(Role::Volume) => Some(Kind::Volume),
+        Some(Role::Mixer) => Some(Kind::Mixer),
+        Some(Role::Mux) => Some(Kind::Mux),
+        Some(Role::Eq) => Some(Kind::Eq),
+        _ => None,
+    }
+}
+
+fn component_at(parts: &[Entry], joins: &[Join], id: u32) -> Option<Comp>
+    ensures { result ≡ law.component_at parts.now joins.now id }
+{
+    let entry = parts.get(id as usize)?;
+    let kind = kind_of(entry.role, entry.tokens.format, is_sink(joins, id))?;
+    Some(Comp {
+        id,
+        kind,
+        pipe: entry.index,
+        setting: Setting::Nothing,
+    })
+}
+
+/// The components by id.
+pub fn components(alloc: Global, parts: &[Entry], joins: &[Join]) -> Result<Vec<Comp>, AllocError>
+    requires { length parts.now < 2 ^ 32 }
+    ensures { IfOk result (λ xs. xs.items ≡ law.components_on parts.now joins.now) }
+{
+    (0..parts.len() as u32)
+        .filter_map(|id| component_at(parts, joins, id))
+        .collect(alloc)
+}
+
+/// The first real route into an id.
+fn route_in(joins: &[Join], id: u32) -> Option<Join>
+    ensures { result ≡ law.route_in joins.now id }
+{
+    joins.iter().copied().find(|j| j.sink == id)
+}
+
+/// The first real route out of an id.
+fn route_out(joins: &[Join], id: u32) -> Option<Join>
+    ensures { result ≡ law.route_out joins.now id }
+{
+    joins.iter().copied().find(|j| j.source == id)
+}
+
+fn source_of(joins: &[Join], id: u32) -> Option<u32>
+    ensures { result ≡ option_map (λ j. j.source) (law.route_in joins.now id) }
+{
+    let join = route_in(joins, id)?;
+    Some(join.source)
+}
+
+fn sink_of(joins: &[Join], id: u32) -> Option<u32>
+    ensures { result ≡ option_map (λ j. j.sink) (law.route_out joins.now id) }
+{
+    let join = route_out(joins, id)?;
+    Some(join.sink)
+}
+
+fn edge_at(parts: &[Entry], joins: &[Join], id: u32) -> Option<Edge>
+    ensures { result ≡ law.edge_at parts.now joins.now id }
+{
+    let entry = parts.get(id as usize)?;
+    if !is_buffer(entry) {
+        return None;
+    }
+    Some(Edge {
+        buffer: id,
+        pipe: entry.index,
+        size: entry.tokens.size.unwrap_or(0),
+        source: source_of(joins, id),
+        sink: sink_of(joins, id),
+    })
+}
+
+/// The buffers by id, each with its real route in and its real route out.
+pub fn edges(alloc: Global, parts: &[Entry], joins: &[Join]) -> Result<Vec<Edge>, AllocError>
+    requires { length parts.now < 2 ^ 32 }
+    ensures { IfOk result (λ xs. xs.items ≡ law.edges_on parts.now joins.now) }
+{
+    (0..parts.len() as u32)
+        .filter_map(|id| edge_at(parts, joins, id))
+        .collect(alloc)
+}
+
+fn component_end(end: End) -> Option<u32>
+    ensures { result ≡ law.component_end end }
+{
+    match end {
+        End::Component(id) => Some(id),
+        _ => None,
+    }
+}
+
+fn pipe_at(
+    entries: &[Entry],
+    parts: &[Entry],
+    ids: &HashMap<&[u8], usize>,
+    all: &HashMap<&[u8], usize>,
+    id: u32,
+) -> Option<Pipe>
+    requires few { length parts.now < 2 ^ 32 }
+    requires parts { parts.now ≡ interpreted entries.now }
+    requires ids { (q : List ℕ) → hash.get_by (λ k. bytes_eq q k.now) ids.now ≡ position (has_name q) parts.now }
+    requires all { (q : List ℕ) → hash.get_by (λ k. bytes_eq q k.now) all.now ≡ position (has_name q) entries.now }
+    ensures { result ≡ law.pipe_at entries.now parts.now id }
+{
+    let entry = parts.get(id as usize)?;
+    if !is_scheduler(entry) {
+        return None;
+    }
+    let sched = component_end(end_of(entries, parts, ids, all, entry.sname.as_bytes()))?;
+    Some(Pipe {
+        id,
+        index: entry.index,
+        sched,
+        period: entry.tokens.period.unwrap_or(0),
+        complete: true,
+    })
+}
+
+/// The pipelines by id.
+pub fn pipes(
+    alloc: Global,
+    entries: &[Entry],
+    parts: &[Entry],
+    ids: &HashMap<&[u8], usize>,
+    all: &HashMap<&[u8], usize>,
+) -> Result<Vec<Pipe>, AllocError>
+    requires few { length parts.now < 2 ^ 32 }
+    requires parts { parts.now ≡ interpreted entries.now }
+    requires ids { (q : List ℕ) → hash.get_by (λ k. bytes_eq q k.now) ids.now ≡ position (has_name q) parts.now }
+    requires all { (q : List ℕ) → hash.get_by (λ k. bytes_eq q k.now) all.now ≡ position (has_name q) entries.now }
+    ensures { IfOk result (λ xs. xs.items ≡ law.pipes_on entries.now parts.now) }
+{
+    (0..parts.len() as u32)
+        .filter_map(|id| pipe_at(entries, parts, ids, all, id))
+        .collect(alloc)
+}
+
+fn stream_of(id: u32, role: Option<Role>) -> Option<StreamPlan>
+    ensures { result ≡ law.stream_of id role }
+{
+    match role {
+        Some(Role::HostPlay) => Some(StreamPlan {
+            host: id,
+            capture: false,
+        }),
+        Some(Role::HostCapture) => Some(StreamPlan {
+            host: id,
+            capture: true,
+        }),
+        _ => None,
+    }
+}
+
+fn stream_at(parts: &[Entry], id: u32) -> Option<StreamPlan>
+    ensures { result ≡ law.stream_at parts.now id }
+{
+    let entry = parts.get(id as usize)?;
+    stream_of(id, entry.role)
+}
+
+/// The streams by the ids of their hosts.
+pub fn streams(alloc: Global, parts: &[Entry]) -> Result<Vec<StreamPlan>, AllocError>
+    requires { length parts.now < 2 ^ 32 }
+    ensures { IfOk result (λ xs. xs.items ≡ law.streams_on parts.now) }
+{
+    (0..parts.len() as u32)
+        .filter_map(|id| stream_at(parts, id))
+        .collect(alloc)
+}
+
+/// The names by id.
+pub fn names(alloc: Global, parts: &[Entry]) -> Result<Vec<Name44>, AllocError>
+    ensures { IfOk result (λ xs. xs.items ≡ law.names_on parts.now) }
+{
+    parts.iter().map(|e| e.name.copied()).collect(alloc)
+}
+
+/// The index of a widget's pipeline.
+fn pipe_of(entry: &Entry) -> u32
+    ensures { result ≡ entry.now.index }
+{
+    entry.index
+}
+
+fn widget_plan(entry: &Entry) -> WidgetPlan
+    ensures value { result ≡ law.widget_plan entry.now }
+    ensures fits { FitsWords result }
+{
+    let tokens = entry.tokens;
+    WidgetPlan {
+        pipe: pipe_of(entry),
+        periods_sink: tokens.periods_sink.unwrap_or(0),
+        periods_source: tokens.periods_source.unwrap_or(0),
+        frame_fmt: format_number(format_of(tokens.format)),
+        dai_index: tokens.dai_index.unwrap_or(0),
+        caps: tokens.caps.unwrap_or(0),
+        priority: tokens.priority.unwrap_or(0),
+        mips: tokens.mips.unwrap_or(0),
+        frames: tokens.frames.unwrap_or(0),
+        time_domain: tokens.time_domain.unwrap_or(0),
+    }
+}
+
+/// What the host writes of each widget, by id.
+pub fn widgets(alloc: Global, parts: &[Entry]) -> Result<Vec<WidgetPlan>, AllocError>
+    ensures values { IfOk result (λ xs. xs.items ≡ law.widgets_on parts.now) }
+    ensures fit { IfOk result (λ xs. All FitsWords xs.items) }
+{
+    let mut out = Vec::new(alloc);
+    for part in parts {
+        out.push(widget_plan(part))?;
+    }
+    Ok(out)
+}

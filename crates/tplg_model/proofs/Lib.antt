@@ -1,0 +1,17 @@
+pub mod FaultLaws
+pub mod PartLaws
+pub mod SectionLaws
+pub mod ItemLaws
+pub mod KindLaws
+pub mod RecordLaws
+pub mod PcmLaws
+pub mod ElementLaws
+pub mod ArrayLaws
+pub mod ArrayListLaws
+pub mod ArrayCellLaws
+pub mod ControlLaws
+pub mod WidgetLaws
+pub mod BlockLaws
+pub mod FileLaws
+pub mod CountLaws
+pub mod Literal

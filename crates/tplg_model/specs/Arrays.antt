@@ -1,0 +1,181 @@
+-- The vendor arrays of a widget's private data, after the ALSA topology structures (ABI 5): which bytes they are, and which
+-- fault of bytes is the first.
+use Rattle.std.specs.Prelude.{◌≡◌, ℕ, zero, suc, ◌+◌, ◌*◌, ◌<◌, ◌≤◌, ◌^◌, ◌==◌, nat_lt, if◌then◌else◌, List, [], ◌∷◌, ◌++◌, length, drop, Option, Some, None, Result, Ok, Err}
+use Rattle.std.specs.List.{flat_map}
+use Rattle.std.specs.Int.{w32, to_le_bytes}
+use Rattle.sof_base.specs.Cells.{Cell, fixed}
+use Rattle.sof_base.specs.Slots.{part, word_at}
+use Rattle.tplg_model.specs.declared.tokens.UuidTuple.{UuidTuple}
+use Rattle.tplg_model.specs.declared.tokens.TextTuple.{TextTuple}
+use Rattle.tplg_model.specs.declared.tokens.NumberTuple.{NumberTuple}
+use Rattle.tplg_model.specs.declared.tokens.TokenArray.{TokenArray}
+use Rattle.tplg_model.specs.declared.tokens.TokenArray.TheVariants.{Uuid, Text, Number}
+
+-- the bytes of an element by its array's type: a token of 4, and 16 of a UUID (0), 44 of a text (1) or 4 of a number
+abbrev pub element_size : ℕ → ℕ
+element_size kind = if kind == 0 then 20 else if kind == 1 then 48 else 8
+
+-- an array's type
+abbrev pub type_of : TokenArray → ℕ
+type_of (Uuid items) = 0
+type_of (Text items) = 1
+type_of (Number kind items) = kind
+
+-- an array's number of elements
+abbrev pub count_of : TokenArray → ℕ
+count_of (Uuid items) = length items
+count_of (Text items) = length items
+count_of (Number kind items) = length items
+
+-- an array's bytes: three words, and its elements
+abbrev pub array_size : TokenArray → ℕ
+array_size a = 12 + count_of a * element_size (type_of a)
+
+-- a UUID's element: its token and 16 bytes
+abbrev pub uuid_spelling : UuidTuple → List ℕ
+uuid_spelling t = to_le_bytes w32 t.token ++ t.bytes
+
+-- a text's element: its token and 44 bytes
+abbrev pub text_spelling : TextTuple → List ℕ
+text_spelling t = to_le_bytes w32 t.token ++ t.bytes
+
+-- a number's element: its token and the number
+abbrev pub number_spelling : NumberTuple → List ℕ
+number_spelling t = to_le_bytes w32 t.token ++ to_le_bytes w32 t.value
+
+-- an array's elements, one after the other
+abbrev pub elements_spelling : TokenArray → List ℕ
+elements_spelling (Uuid items) = flat_map uuid_spelling items
+elements_spelling (Text items) = flat_map text_spelling items
+elements_spelling (Number kind items) = flat_map number_spelling items
+
+-- an array: its size, its type, its number of elements, and its elements
+unfoldable pub array_spelling : TokenArray → List ℕ
+array_spelling a = to_le_bytes w32 (array_size a) ++ (to_le_bytes w32 (type_of a) ++ (to_le_bytes w32 (count_of a) ++ elements_spelling a))
+
+-- arrays, one after the other
+abbrev pub arrays_spelling : List TokenArray → List ℕ
+arrays_spelling arrays = flat_map array_spelling arrays
+
+-- arrays as cells: no byte of them is loose
+abbrev pub arrays_cells : List TokenArray → List Cell
+arrays_cells arrays = fixed (arrays_spelling arrays)
+
+-- bytes are these arrays
+abbrev pub AreArraysOf : List ℕ → List TokenArray → Type 0
+AreArraysOf bytes arrays = bytes ≡ arrays_spelling arrays
+
+-- ---- the values of the program
+
+-- each item of a list is so
+unfoldable pub Each : {A : Type 0} → (A → Type 0) → List A → Type 0
+Each Is [] = Unit {0}
+Each Is (x ∷ xs) = Is x × Each Is xs
+
+-- a UUID's element of the program
+abbrev pub IsUuid : UuidTuple → Type 0
+IsUuid t = (t.token < 2 ^ 32) × (length t.bytes ≡ 16)
+
+-- a text's element of the program
+abbrev pub IsText : TextTuple → Type 0
+IsText t = (t.token < 2 ^ 32) × (length t.bytes ≡ 44)
+
+-- a number's element of the program
+abbrev pub IsNumber : NumberTuple → Type 0
+IsNumber t = (t.token < 2 ^ 32) × (t.value < 2 ^ 32)
+
+-- an array's elements are the program's, and the type of an array of numbers is 2 to 5
+abbrev pub HasElements : TokenArray → Type 0
+HasElements (Uuid items) = Each IsUuid items
+HasElements (Text items) = Each IsText items
+HasElements (Number kind items) = (2 ≤ kind) × (kind ≤ 5) × Each IsNumber items
+
+-- an array's size fits its word
+abbrev pub HasSize : TokenArray → Type 0
+HasSize a = array_size a < 2 ^ 32
+
+-- an array of the program
+pub record IsArray (a : TokenArray) : Type 0 where
+  pub size : HasSize a
+  pub elements : HasElements a
+
+-- arrays of the program
+abbrev pub AreArrays : List TokenArray → Type 0
+AreArrays arrays = Each IsArray arrays
+
+-- ---- faults
+
+-- what is wrong with an array, with the place of its first byte: bytes are wanting, its size word is wrong, or its type is unknown
+pub data ArrayFault : Type 0 where
+  Too_short : ℕ → ArrayFault
+  Wrong_size : ℕ → ArrayFault
+  Unknown_type : ℕ → ℕ → ArrayFault
+
+-- what is wrong with the array at the front of bytes that begin at a place: the first of four faults
+abbrev pub array_fault : ℕ → List ℕ → Option ArrayFault
+array_fault at bytes =
+    if nat_lt (length bytes) 12 then Some (Too_short at)
+    else if nat_lt 5 (word_at bytes 4) then Some (Unknown_type at (word_at bytes 4))
+    else if word_at bytes 0 == 12 + word_at bytes 8 * element_size (word_at bytes 4) then
+    (if nat_lt (length bytes) (word_at bytes 0) then Some (Too_short at) else None)
+    else Some (Wrong_size at)
+
+-- bytes are whole arrays, and then an array with this fault
+pub record IsTokenFault (bytes : List ℕ) (fault : ArrayFault) : Type 0 where
+  pub arrays : List TokenArray
+  pub rest : List ℕ
+  pub whole : bytes ≡ arrays_spelling arrays ++ rest
+  pub are : AreArrays arrays
+  pub more : 0 < length rest
+  pub first : array_fault (length (arrays_spelling arrays)) rest ≡ Some fault
+
+-- ---- reading from left to right
+
+-- a number of elements of a size, from a place on
+unfoldable pub elements_at : {A : Type 0} → ℕ → (List ℕ → ℕ → A) → ℕ → List ℕ → ℕ → List A
+elements_at size element zero bytes at = []
+elements_at size element (suc n) bytes at = element bytes at ∷ elements_at size element n bytes (at + size)
+
+-- the UUID's element at a place
+abbrev pub uuid_at : List ℕ → ℕ → UuidTuple
+uuid_at bytes at = record { token = word_at bytes at; bytes = part bytes (at + 4) 16 }
+
+-- the text's element at a place
+abbrev pub text_at : List ℕ → ℕ → TextTuple
+text_at bytes at = record { token = word_at bytes at; bytes = part bytes (at + 4) 44 }
+
+-- the number's element at a place
+abbrev pub number_at : List ℕ → ℕ → NumberTuple
+number_at bytes at = record { token = word_at bytes at; value = word_at bytes (at + 4) }
+
+-- the array of a type with a number of elements at the front of bytes
+abbrev pub array_with : ℕ → ℕ → List ℕ → TokenArray
+array_with kind count bytes =
+    if kind == 0 then Uuid (elements_at 20 uuid_at count bytes 12)
+    else if kind == 1 then Text (elements_at 48 text_at count bytes 12)
+    else Number kind (elements_at 8 number_at count bytes 12)
+
+-- the array at the front of bytes that have no fault there
+unfoldable pub array_at : List ℕ → TokenArray
+array_at bytes = array_with (word_at bytes 4) (word_at bytes 8) bytes
+
+-- a fault where there is one, and else what is read so
+abbrev pub unless : Option ArrayFault → Result (List TokenArray) ArrayFault → Result (List TokenArray) ArrayFault
+unless (Some fault) read = Err fault
+unless None read = read
+
+-- what is read, with arrays in front
+abbrev pub with_front : List TokenArray → Result (List TokenArray) ArrayFault → Result (List TokenArray) ArrayFault
+with_front front (Ok arrays) = Ok (front ++ arrays)
+with_front front (Err fault) = Err fault
+
+-- arrays up to the end of bytes that begin at a place; the first number is at least that of the bytes
+unfoldable pub arrays_from : ℕ → ℕ → List ℕ → Result (List TokenArray) ArrayFault
+arrays_from zero at bytes = Ok []
+arrays_from (suc n) at bytes =
+    if length bytes == 0 then Ok []
+    else unless (array_fault at bytes) (with_front (array_at bytes ∷ []) (arrays_from n (at + word_at bytes 0) (drop (word_at bytes 0) bytes)))
+
+-- the arrays that bytes are, or the first fault
+unfoldable pub arrays_of : List ℕ → Result (List TokenArray) ArrayFault
+arrays_of bytes = arrays_from (length bytes) 0 bytes

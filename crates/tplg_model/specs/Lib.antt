@@ -1,0 +1,6 @@
+pub mod Arrays
+pub mod TokenValues
+pub mod Outcomes
+pub mod Spelling
+pub mod Reading
+pub mod File

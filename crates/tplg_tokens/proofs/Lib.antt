@@ -1,0 +1,2 @@
+pub mod ElementLoops
+pub mod ArrayLoops

@@ -1,18 +1,67 @@
 // A run over a desk in memory and the firmware.
+use crate::thin::thin_graph;
 use fw_core::Firmware;
+use mbox_link::Dsp;
 use sof_desk::MemDesk;
-use sof_run::{Ended, run};
+use sof_run::run;
 use std::alloc::Global;
 use std::test::Fail;
 
 /// The greatest heap of the firmware, in bytes.
 const ROOM: u32 = 16777216;
 
+/// What a run came to: its status, whether the device is on, how many bytes of its heap are carved, and what was said.
+#[derive(Debug, Drop)]
+pub struct Outcome {
+    pub status: u8,
+    pub on: bool,
+    pub used: u32,
+    pub said: Vec<u8>,
+}
+
+/// A call that fails, by its number from 1, and how many bytes of it are still written.
+pub type Failing = Option<(u32, u32)>;
+
+/// A run of these words over a desk with a topology as `a.tplg` and, where there is one, a script as `s.txt`.
 pub fn played(
     alloc: Global,
-    words: &[String],
-    desk: &mut MemDesk,
-) -> Result<Ended<Firmware>, Fail> {
+    words: &[&str],
+    topology: &[u8],
+    script: Option<&[u8]>,
+    failing: Failing,
+) -> Result<Outcome, Fail> {
+    let mut texts = Vec::new(alloc);
+    for word in words {
+        texts.push(String::from_str(alloc, word)?)?;
+    }
+    let mut desk = MemDesk::new(alloc, 4096)?;
+    desk.put_file("a.tplg", topology)?;
+    if let Some(bytes) = script {
+        desk.put_file("s.txt", bytes)?;
+    }
+    if let Some((call, written)) = failing {
+        desk.fail_call(call, written)?;
+    }
     let dsp = Firmware::new(alloc, ROOM)?;
-    Ok(run(alloc, words, desk, dsp))
+    let ended = run(alloc, &texts, &mut desk, dsp);
+    let mut said = Vec::new(alloc);
+    said.extend_from_slice(desk.said())?;
+    Ok(Outcome {
+        status: ended.status,
+        on: ended.dsp.on(),
+        used: ended.dsp.used(),
+        said,
+    })
+}
+
+/// A run of a script over the thin graph.
+pub fn played_thin(
+    alloc: Global,
+    heap: &'static str,
+    script: &[u8],
+    failing: Failing,
+) -> Result<Outcome, Fail> {
+    let topology = thin_graph(alloc)?;
+    let words = ["play", heap, "a.tplg", "s.txt"];
+    played(alloc, words.as_slice(), &topology, Some(script), failing)
 }

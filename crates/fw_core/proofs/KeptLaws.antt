@@ -1,64 +1,69 @@
 -- What messages keep of a state.
-use Rattle.std.proofs.Common.{◌≡◌, refl, sym, ap, ◌∙◌, subst, ℕ, ◌+◌, ◌<◌, ◌≤◌, suc, List, [], ◌∷◌, ◌++◌, length, map, Bool, true, false, cond, ◌==◌, arith, length-append}
+use Rattle.std.proofs.Common.{◌≡◌, refl, sym, ap, ◌∙◌, subst, ℕ, ◌+◌, ◌/◌, ◌<◌, ◌≤◌, suc, List, [], ◌∷◌, ◌++◌, length, map, Bool, true, false, cond, ◌==◌, ◌&&◌, arith, length-append}
+use Rattle.std.proofs.lemmas.Bool.{false≢true, or_parts}
 use Rattle.std.proofs.lemmas.List.{length-map}
-use Rattle.std.specs.Prelude.{nat_lt, Some, None}
-use Rattle.std.specs.List.{IsDistinct, list_any}
+use Rattle.std.specs.Prelude.{nat_lt, None}
+use Rattle.std.specs.List.{IsDistinct, list_any, AllByRecursion}
+use Rattle.sof_base.specs.Holes.{rounded}
 use Rattle.stream_law.specs.declared.graph.Kind.{Kind}
 use Rattle.stream_law.specs.declared.graph.Kind.TheVariants.{HostPlay, HostCapture, DaiPlay, DaiCapture, Volume, Mixer, Mux, Eq}
 use Rattle.stream_law.specs.declared.graph.Comp.{Comp}
 use Rattle.stream_law.specs.declared.graph.Edge.{Edge}
 use Rattle.stream_law.specs.declared.graph.Pipe.{Pipe}
 use Rattle.stream_law.specs.declared.graph.Join.{Join}
+use Rattle.stream_law.specs.declared.graph.Graph.{Graph}
 use Rattle.stream_law.specs.declared.stream.Phase.TheVariants.{Idle}
 use Rattle.stream_law.specs.declared.stream.StreamView.{StreamView}
-use Rattle.stream_law.specs.Placed.{placed, HasDistinct}
-use Rattle.stream_law.specs.State.{HeapView, PieceView, RingView}
-use Rattle.stream_law.specs.Joins.{joined}
-use Rattle.stream_law.proofs.Placing.{length-placed, HasDistinct-placed}
-use Rattle.mbox_link.specs.Step.{with_piece, with_stream, completed}
-use Rattle.fw_core.specs.Kept.{IsKept, AreIdle, state_of, sides, ring_of}
+use Rattle.stream_law.specs.Placed.{placed}
+use Rattle.stream_law.specs.State.{HeapView, PieceView, View, RingView}
+use Rattle.stream_law.specs.Ways.{channels_of, agree}
+use Rattle.stream_law.specs.Seen.{flows, ring_seen}
+use Rattle.stream_law.proofs.Placing.{length-placed}
+use Rattle.ipc3_codec.specs.Allowed.{is_period}
+use Rattle.mbox_link.specs.Step.{with_piece, with_stream, completed, is_used, has_comp, has_edge, has_pipe}
+use Rattle.fw_core.specs.Pieces.{carved_bytes, heap_bytes}
+use Rattle.fw_ring.specs.RingLists.{Ring, RingLists, no_rings, with_ring, fresh_ring}
+use Rattle.fw_schedule.specs.TurnLaws.{is_endpoint}
+use Rattle.fw_core.specs.Kept.{IsKept, AreRings, state_of, shown, sides, is_node}
 use Rattle.fw_core.proofs.Sides.{sides-placed}
+use Rattle.fw_core.proofs.SeenLaws.{keys-shown}
+use Rattle.fw_core.proofs.Growing.{all-placed, all-by, played-wider, wired-wider, flows-wider, channels-wider}
+use Rattle.stream_law.specs.Joins.{joined, would_grow}
+use Rattle.mbox_link.specs.Step.{is_joined, takes_join}
+use Rattle.fw_core.proofs.Joined.{joined-size, buffers-joined}
+use Rattle.fw_core.proofs.Joining.{played-joined, wired-joined, flows-joined, channels-each}
+use Rattle.fw_core.proofs.Linking.{linked-wider, linked-longer, linked-other, linked-joined}
+use Rattle.fw_core.proofs.Longer.{played-longer, wired-longer, flows-longer, flows-fresh, channels-longer, played-other, wired-other, flows-other, channels-other, complete-placed, complete-completed, periods-completed}
 
-pub kept-empty : (heap : HeapView) (clock : ℕ) (comps : List Comp) (edges : List Edge) (pipes : List Pipe) (joins : List Join) (streams : List StreamView) → heap.pieces ≡ [] → comps ≡ [] → edges ≡ [] → pipes ≡ [] → joins ≡ [] → streams ≡ [] → IsKept (state_of heap clock comps edges pipes joins streams)
-unfolding IsDistinct
-kept-empty heap clock comps edges pipes joins streams h c e p j s =
+-- ---- the empty state
+
+pub kept-empty : (heap : HeapView) (clock : ℕ) (comps : List Comp) (edges : List Edge) (pipes : List Pipe) (joins : List Join) (streams : List StreamView) (rings : RingLists) (most : ℕ) → heap.pieces ≡ [] → comps ≡ [] → edges ≡ [] → pipes ≡ [] → joins ≡ [] → streams ≡ [] → rings ≡ no_rings most → IsKept (state_of heap clock comps edges pipes joins streams (map shown rings.rings))
+unfolding IsDistinct agree
+kept-empty heap clock comps edges pipes joins streams rings most h c e p j s r =
     let none : length heap.pieces ≡ 0 = ap (λ (ps : List PieceView). length ps) h in
-    rw (c, e, p, j, s) record {
+    rw (c, e, p, j, s, r) record {
       comps = omega arith;
       edges = omega arith;
       pipes = omega arith;
       joins = omega arith;
       streams = omega arith;
       pieces = omega arith;
-      buffers = tt;
-      idle = tt;
+      wired = record { ids = tt; buffers = tt; apart = tt; endpoints = tt; ends = tt; sides = tt; periods = tt };
+      linked = record { sources = tt; sinks = tt; at = tt; from = tt; to = tt };
+      played = record { hosts = tt; owned = tt; each = tt; agreed = refl };
       rings = refl;
+      seen = refl;
       histories = refl;
     }
+
+pub held-empty : (heap : HeapView) (clock : ℕ) (comps : List Comp) (edges : List Edge) (pipes : List Pipe) (joins : List Join) (streams : List StreamView) (rings : RingLists) (room : ℕ) → edges ≡ [] → rings ≡ no_rings (room / 4) → heap_bytes heap ≤ room → AreRings rings room (state_of heap clock comps edges pipes joins streams (map shown rings.rings))
+held-empty heap clock comps edges pipes joins streams rings room e r fits = rw (e, r) record { words = refl; channels = tt; used = omega arith; within = fits; most = refl }
 
 -- ---- parts of a state
 
 -- one piece more
 pieces-more : (id bytes : ℕ) (old new : HeapView) → new ≡ with_piece id bytes old → length new.pieces ≡ suc (length old.pieces)
 pieces-more id bytes old new is = ap (λ (h : HeapView). length h.pieces) is ∙ length-placed (λ (p : PieceView). p.id) _ old.pieces
-
-idle-placed : (key : StreamView → ℕ) (s : StreamView) (streams : List StreamView) → AreIdle (s ∷ []) → AreIdle streams → AreIdle (placed key s streams)
-idle-placed key s [] one all = one
-idle-placed key s (t ∷ streams) one all = by (nat_lt (key s) (key t)) (idle-placed key s streams one all.2)
-  where
-    by : (h : Bool) → AreIdle (placed key s streams) → AreIdle (cond h (s ∷ t ∷ streams) (t ∷ placed key s streams))
-    by true rest = (one.0, one.1, all)
-    by false rest = (all.0, all.1, rest)
-
-stream-idle : (id : ℕ) (kind : Kind) (streams : List StreamView) → AreIdle streams → AreIdle (with_stream id kind streams)
-stream-idle id HostPlay streams all = idle-placed (λ s. s.host) _ streams (refl, refl, tt) all
-stream-idle id HostCapture streams all = idle-placed (λ s. s.host) _ streams (refl, refl, tt) all
-stream-idle id (DaiPlay format) streams all = all
-stream-idle id (DaiCapture format) streams all = all
-stream-idle id Volume streams all = all
-stream-idle id Mixer streams all = all
-stream-idle id Mux streams all = all
-stream-idle id Eq streams all = all
 
 stream-length : (id : ℕ) (kind : Kind) (streams : List StreamView) → length (with_stream id kind streams) ≤ suc (length streams)
 stream-length id HostPlay streams = omega (arith, length-placed (λ (s : StreamView). s.host) (record { host = id; phase = Idle; params = None }) streams)
@@ -70,110 +75,254 @@ stream-length id Mixer streams = omega arith
 stream-length id Mux streams = omega arith
 stream-length id Eq streams = omega arith
 
--- a join keeps the buffers' ids
-pub buffers-joined : (j : Join) (edges : List Edge) → map (λ e. e.buffer) (map (joined j) edges) ≡ map (λ e. e.buffer) edges
-buffers-joined j [] = refl
-buffers-joined j (e ∷ edges) = ap (λ (p : ℕ × List ℕ). p.0 ∷ p.1) (λ i. (by (e.buffer == j.source) (e.buffer == j.sink) i, buffers-joined j edges i))
-  where
-    by : (h k : Bool) → (cond h (record { buffer = e.buffer; pipe = e.pipe; size = e.size; source = e.source; sink = Some j.sink }) (cond k (record { buffer = e.buffer; pipe = e.pipe; size = e.size; source = Some j.source; sink = e.sink }) e)).buffer ≡ e.buffer
-    by true k = refl
-    by false true = refl
-    by false false = refl
+-- an id that names nothing
+unused-node : (g : Graph) (id : ℕ) → is_used g id ≡ false → is_node g id ≡ false
+unused-node g id e = (or_parts (is_node g id) (has_pipe g id) e).0
 
--- so their rings stay
-pub rings-joined : (j : Join) (edges : List Edge) → map ring_of (map (joined j) edges) ≡ map ring_of edges
-rings-joined j edges = ring-keys (map (joined j) edges) ∙ ap (map (λ (b : ℕ). record { buffer = b; frames = [] })) (buffers-joined j edges) ∙ sym (ring-keys edges)
+-- rings that a view leaves as they are, one by one
+pub seen-each : (v : View) (rs : List Ring) → map (ring_seen v) (map shown rs) ≡ map shown rs → AllByRecursion (λ r. ring_seen v (shown r) ≡ shown r) rs
+seen-each v [] same = tt
+seen-each v (r ∷ rs) same = (cc same, seen-each v rs (cc same))
+
+pub seen-all : (v : View) (rs : List Ring) → AllByRecursion (λ r. ring_seen v (shown r) ≡ shown r) rs → map (ring_seen v) (map shown rs) ≡ map shown rs
+seen-all v [] each = refl
+seen-all v (r ∷ rs) each = ap (λ (p : RingView × List RingView). p.0 ∷ p.1) (λ i. (each.0 i, seen-all v rs each.1 i))
+
+seen-by : (old new : View) (r : Ring) → flows new r.buffer ≡ flows old r.buffer → ring_seen old (shown r) ≡ shown r → ring_seen new (shown r) ≡ shown r
+seen-by old new r same is = ap (λ h. record { buffer = r.buffer; frames = cond h r.frames [] }) same ∙ is
+
+-- rings whose frames flow as before have the channels of before
+pub channels-by : (old new : View) (rs : List Ring) → AllByRecursion (λ r. flows new r.buffer ≡ flows old r.buffer) rs → AllByRecursion (λ r. channels_of new r.buffer ≡ channels_of old r.buffer) rs → AllByRecursion (λ r. flows old r.buffer ≡ true → r.channels ≡ channels_of old r.buffer) rs → AllByRecursion (λ r. flows new r.buffer ≡ true → r.channels ≡ channels_of new r.buffer) rs
+channels-by old new [] flow chan had = tt
+channels-by old new (r ∷ rs) flow chan had = (λ e. had.0 (sym flow.0 ∙ e) ∙ sym chan.0, channels-by old new rs flow.1 chan.1 had.1)
+
+pub seen-same : (old new : View) (rs : List Ring) → AllByRecursion (λ r. flows new r.buffer ≡ flows old r.buffer) rs → map (ring_seen old) (map shown rs) ≡ map shown rs → map (ring_seen new) (map shown rs) ≡ map shown rs
+seen-same old new rs flow same = seen-all new rs (each rs flow (seen-each old rs same))
   where
-    ring-keys : (es : List Edge) → map ring_of es ≡ map (λ (b : ℕ). record { buffer = b; frames = [] }) (map (λ e. e.buffer) es)
-    ring-keys [] = refl
-    ring-keys (e ∷ es) = ap (λ (rs : List RingView). ring_of e ∷ rs) (ring-keys es)
+    each : (xs : List Ring) → AllByRecursion (λ r. flows new r.buffer ≡ flows old r.buffer) xs → AllByRecursion (λ r. ring_seen old (shown r) ≡ shown r) xs → AllByRecursion (λ r. ring_seen new (shown r) ≡ shown r) xs
+    each [] flow was = tt
+    each (r ∷ xs) flow was = (seen-by old new r flow.0 was.0, each xs flow.1 was.1)
+
+-- what is so of every number is so of each ring's buffer
+pub each-buffer : {P : ℕ → Type 0} → ((b : ℕ) → P b) → (rs : List Ring) → AllByRecursion (λ r. P r.buffer) rs
+each-buffer f [] = tt
+each-buffer f (r ∷ rs) = (f r.buffer, each-buffer f rs)
+
+-- lists of the same keys, with a record more of one key
+placed-pairs : (f : Ring → ℕ) (h : Edge → ℕ) (r : Ring) (e : Edge) (rs : List Ring) (es : List Edge) → map (λ (r : Ring). r.buffer) rs ≡ map (λ (e : Edge). e.buffer) es → map f rs ≡ map h es → r.buffer ≡ e.buffer → f r ≡ h e → map f (placed (λ r. r.buffer) r rs) ≡ map h (placed (λ e. e.buffer) e es)
+placed-pairs f h r e [] [] keys same key is = ap (λ (n : ℕ). n ∷ []) is
+placed-pairs f h r e (x ∷ rs) [] keys same key is = absurd (cc keys)
+placed-pairs f h r e [] (y ∷ es) keys same key is = absurd (cc keys)
+placed-pairs f h r e (x ∷ rs) (y ∷ es) keys same key is =
+    let first : x.buffer ≡ y.buffer = cc keys in
+    let here : f x ≡ h y = cc same in
+    ap (λ (p : ℕ × ℕ). map f (cond (nat_lt p.0 p.1) (r ∷ x ∷ rs) (x ∷ placed (λ r. r.buffer) r rs))) (λ i. (key i, first i))
+    ∙ by (nat_lt e.buffer y.buffer) here (placed-pairs f h r e rs es (cc keys) (cc same) key is)
+  where
+    by : (t : Bool) → f x ≡ h y → map f (placed (λ r. r.buffer) r rs) ≡ map h (placed (λ e. e.buffer) e es) → map f (cond t (r ∷ x ∷ rs) (x ∷ placed (λ r. r.buffer) r rs)) ≡ map h (cond t (e ∷ y ∷ es) (y ∷ placed (λ e. e.buffer) e es))
+    by true here rest = ap (λ (p : ℕ × List ℕ). p.0 ∷ p.1) (λ i. (is i, same i))
+    by false here rest = ap (λ (p : ℕ × List ℕ). p.0 ∷ p.1) (λ i. (here i, rest i))
+
+rings-apart : (id : ℕ) (rs : List Ring) (es : List Edge) → map (λ (r : Ring). r.buffer) rs ≡ map (λ (e : Edge). e.buffer) es → list_any (λ e. e.buffer == id) es ≡ false → AllByRecursion (λ r. (r.buffer == id) ≡ false) rs
+rings-apart id [] es keys gone = tt
+rings-apart id (r ∷ rs) [] keys gone = absurd (cc keys)
+rings-apart id (r ∷ rs) (e ∷ es) keys gone =
+    let parts = or_parts (e.buffer == id) (list_any (λ e. e.buffer == id) es) gone in
+    let first : r.buffer ≡ e.buffer = cc keys in
+    (ap (λ n. n == id) first ∙ parts.0, rings-apart id rs es (cc keys) parts.1)
+
+-- what is so of each edge's buffer is so of each ring's
+by-keys : (P : ℕ → Type 0) (rs : List Ring) (es : List Edge) → map (λ (r : Ring). r.buffer) rs ≡ map (λ (e : Edge). e.buffer) es → AllByRecursion (λ e. P e.buffer) es → AllByRecursion (λ r. P r.buffer) rs
+by-keys P [] es keys all = tt
+by-keys P (r ∷ rs) [] keys all = absurd (cc keys)
+by-keys P (r ∷ rs) (e ∷ es) keys all = let first : e.buffer ≡ r.buffer = cc keys in (subst P first all.0, by-keys P rs es (cc keys) all.1)
+
+sizes-joined : (j : Join) (es : List Edge) → map (λ (e : Edge). e.size / 4) (map (joined j) es) ≡ map (λ (e : Edge). e.size / 4) es
+sizes-joined j [] = refl
+sizes-joined j (e ∷ es) = ap (λ (p : ℕ × List ℕ). p.0 / 4 ∷ p.1) (λ i. (joined-size j e i, sizes-joined j es i))
 
 -- ---- whole states
 
-module _ (heap : HeapView) (clock : ℕ) (comps : List Comp) (edges : List Edge) (pipes : List Pipe) (joins : List Join) (streams : List StreamView) (kept : IsKept (state_of heap clock comps edges pipes joins streams)) where
-  pub kept-comp : (id bytes : ℕ) (kind : Kind) (c : Comp) (heap' : HeapView) (comps' : List Comp) (streams' : List StreamView) → length comps < 128 → heap' ≡ with_piece id bytes heap → comps' ≡ placed (λ x. x.id) c comps → streams' ≡ with_stream id kind streams → IsKept (state_of heap' clock comps' edges pipes joins streams')
-  kept-comp id bytes kind c heap' comps' streams' few h e s =
-      let more : length comps' ≡ suc (length comps) = ap (λ (xs : List Comp). length xs) e ∙ length-placed (λ (x : Comp). x.id) c comps in
-      let fresh : length streams' ≤ suc (length streams) = omega (arith, ap (λ (xs : List StreamView). length xs) s, stream-length id kind streams) in
-      let carved : length heap'.pieces ≡ suc (length heap.pieces) = pieces-more id bytes heap heap' h in
-      record {
-        comps = omega arith;
-        edges = kept.edges;
-        pipes = kept.pipes;
-        joins = kept.joins;
-        streams = omega (arith, kept.streams);
-        pieces = omega (arith, kept.pieces);
-        buffers = kept.buffers;
-        idle = subst AreIdle (sym s) (stream-idle id kind streams kept.idle);
-        rings = refl;
-        histories = refl;
-      }
+module _ (heap : HeapView) (clock : ℕ) (comps : List Comp) (edges : List Edge) (pipes : List Pipe) (joins : List Join) (streams : List StreamView) (rings : RingLists) (room : ℕ) (kept : IsKept (state_of heap clock comps edges pipes joins streams (map shown rings.rings))) (held : AreRings rings room (state_of heap clock comps edges pipes joins streams (map shown rings.rings))) where
+  abbrev graph : Graph
+  graph = record { comps = comps; edges = edges; pipes = pipes; joins = joins }
 
-  pub kept-buffer : (id bytes : ℕ) (x : Edge) (heap' : HeapView) (edges' : List Edge) → length edges < 128 → list_any (λ y. y.buffer == x.buffer) edges ≡ false → heap' ≡ with_piece id bytes heap → edges' ≡ placed (λ y. y.buffer) x edges → IsKept (state_of heap' clock comps edges' pipes joins streams)
-  kept-buffer id bytes x heap' edges' few gone h e =
-      let more : length edges' ≡ suc (length edges) = ap (λ (xs : List Edge). length xs) e ∙ length-placed (λ (y : Edge). y.buffer) x edges in
-      let carved : length heap'.pieces ≡ suc (length heap.pieces) = pieces-more id bytes heap heap' h in
-      let joined_sides = ap sides e ∙ sides-placed (λ (y : Edge). y.buffer) x edges in
-      record {
-        comps = kept.comps;
-        edges = omega arith;
-        pipes = kept.pipes;
-        joins = omega (arith, kept.joins, joined_sides);
-        streams = kept.streams;
-        pieces = omega (arith, kept.pieces);
-        buffers = subst (HasDistinct (λ (y : Edge). y.buffer)) (sym e) (HasDistinct-placed (λ (y : Edge). y.buffer) x edges gone kept.buffers);
-        idle = kept.idle;
-        rings = refl;
-        histories = refl;
-      }
+  abbrev view : View
+  view = record { graph = graph; streams = streams }
 
-  pub kept-pipe : (id bytes : ℕ) (x : Pipe) (heap' : HeapView) (pipes' : List Pipe) → length pipes < 32 → heap' ≡ with_piece id bytes heap → pipes' ≡ placed (λ y. y.id) x pipes → IsKept (state_of heap' clock comps edges pipes' joins streams)
-  kept-pipe id bytes x heap' pipes' few h e =
-      let more : length pipes' ≡ suc (length pipes) = ap (λ (xs : List Pipe). length xs) e ∙ length-placed (λ (y : Pipe). y.id) x pipes in
-      let carved : length heap'.pieces ≡ suc (length heap.pieces) = pieces-more id bytes heap heap' h in
-      record {
-        comps = kept.comps;
-        edges = kept.edges;
-        pipes = omega arith;
-        joins = kept.joins;
-        streams = kept.streams;
-        pieces = omega (arith, kept.pieces);
-        buffers = kept.buffers;
-        idle = kept.idle;
-        rings = refl;
-        histories = refl;
-      }
+  pub ring-keys : map (λ (r : Ring). r.buffer) rings.rings ≡ map (λ (e : Edge). e.buffer) edges
+  ring-keys = sym (keys-shown rings.rings) ∙ kept.rings
 
-  pub kept-complete : (id : ℕ) (pipes' : List Pipe) → pipes' ≡ map (completed id) pipes → IsKept (state_of heap clock comps edges pipes' joins streams)
-  kept-complete id pipes' e =
-      let same : length pipes' ≡ length pipes = ap (λ (xs : List Pipe). length xs) e ∙ length-map pipes (completed id) in
-      record {
-        comps = kept.comps;
-        edges = kept.edges;
-        pipes = omega (arith, kept.pipes);
-        joins = kept.joins;
-        streams = kept.streams;
-        pieces = omega (arith, kept.pieces);
-        buffers = kept.buffers;
-        idle = kept.idle;
-        rings = refl;
-        histories = refl;
-      }
+  -- a component more
+  module _ (bytes : ℕ) (c : Comp) (heap' : HeapView) (comps' : List Comp) (streams' : List StreamView) (few : length comps < 128) (unused : is_used graph c.id ≡ false) (endpoint : is_endpoint c.kind ≡ true) (h : heap' ≡ with_piece c.id bytes heap) (e : comps' ≡ placed (λ x. x.id) c comps) (s : streams' ≡ with_stream c.id c.kind streams) where
+    gone : is_node graph c.id ≡ false
+    gone = unused-node graph c.id unused
 
-  pub kept-join : (j : Join) (edges' : List Edge) (joins' : List Join) → length joins + 1 ≤ sides (map (joined j) edges) → edges' ≡ map (joined j) edges → joins' ≡ joins ++ j ∷ [] → IsKept (state_of heap clock comps edges' pipes joins' streams)
-  kept-join j edges' joins' room e more =
-      let same : length edges' ≡ length edges = ap (λ (xs : List Edge). length xs) e ∙ length-map edges (joined j) in
-      let grown : length joins' ≡ length joins + 1 = ap (λ (xs : List Join). length xs) more ∙ length-append joins (j ∷ []) in
-      let at : sides edges' ≡ sides (map (joined j) edges) = ap sides e in
-      record {
-        comps = kept.comps;
-        edges = omega (arith, kept.edges);
-        pipes = kept.pipes;
-        joins = omega arith;
-        streams = kept.streams;
-        pieces = omega (arith, kept.pieces);
-        buffers = subst (λ keys. IsDistinct (λ m n. m == n) keys) (sym (ap (map (λ (x : Edge). x.buffer)) e ∙ buffers-joined j edges)) kept.buffers;
-        idle = kept.idle;
-        rings = refl;
-        histories = refl;
-      }
+    abbrev wide : View
+    wide = record { graph = record { comps = placed (λ x. x.id) c comps; edges = edges; pipes = pipes; joins = joins }; streams = with_stream c.id c.kind streams }
+
+    comp-flows : AllByRecursion (λ r. flows wide r.buffer ≡ flows view r.buffer) rings.rings
+    comp-flows = each-buffer (flows-wider graph c gone kept.wired streams kept.played) rings.rings
+
+    carried : (P : List Comp → List StreamView → Type 0) → P (placed (λ x. x.id) c comps) (with_stream c.id c.kind streams) → P comps' streams'
+    carried P p = subst (λ (q : List Comp × List StreamView). P q.0 q.1) (λ i. (sym e i, sym s i)) p
+
+    pub kept-comp : IsKept (state_of heap' clock comps' edges pipes joins streams' (map shown rings.rings))
+    kept-comp = carried (λ cs ss. IsKept (state_of heap' clock cs edges pipes joins ss (map shown rings.rings))) record {
+      comps = omega (arith, length-placed (λ (x : Comp). x.id) c comps);
+      edges = kept.edges;
+      pipes = kept.pipes;
+      joins = kept.joins;
+      streams = omega (arith, length-placed (λ (x : Comp). x.id) c comps, stream-length c.id c.kind streams, kept.streams);
+      pieces = omega (arith, length-placed (λ (x : Comp). x.id) c comps, pieces-more c.id bytes heap heap' h, kept.pieces);
+      linked = linked-wider graph c (or_parts (has_comp graph c.id) (has_edge graph c.id) gone).0 kept.linked;
+      wired = wired-wider graph c gone kept.wired streams kept.played endpoint;
+      played = played-wider graph c gone kept.wired streams kept.played;
+      rings = kept.rings;
+      seen = seen-same view wide rings.rings comp-flows kept.seen;
+      histories = refl;
+    }
+
+    pub held-comp : carved_bytes heap'.pieces ≡ carved_bytes heap.pieces + rounded bytes → heap_bytes heap' ≡ heap_bytes heap → AreRings rings room (state_of heap' clock comps' edges pipes joins streams' (map shown rings.rings))
+    held-comp more same = carried (λ cs ss. AreRings rings room (state_of heap' clock cs edges pipes joins ss (map shown rings.rings))) record {
+      words = held.words;
+      channels = channels-by view wide rings.rings comp-flows (each-buffer (channels-wider graph c gone kept.wired streams kept.played) rings.rings) held.channels;
+      used = omega (arith, held.used, more);
+      within = omega (arith, held.within, same);
+      most = held.most;
+    }
+
+  -- a buffer more
+  module _ (id pipe size bytes : ℕ) (heap' : HeapView) (edges' : List Edge) (rings' : RingLists) (few : length edges < 128) (unused : is_used graph id ≡ false) (h : heap' ≡ with_piece id bytes heap) (e : edges' ≡ placed (λ y. y.buffer) (record { buffer = id; pipe = pipe; size = size; source = None; sink = None }) edges) (r : rings' ≡ with_ring id size rings) where
+    no-node : is_node graph id ≡ false
+    no-node = unused-node graph id unused
+
+    abbrev fresh : Edge
+    fresh = record { buffer = id; pipe = pipe; size = size; source = None; sink = None }
+
+    abbrev long : View
+    long = record { graph = record { comps = comps; edges = placed (λ y. y.buffer) fresh edges; pipes = pipes; joins = joins }; streams = streams }
+
+    abbrev more-rings : List Ring
+    more-rings = placed (λ r. r.buffer) (fresh_ring id size) rings.rings
+
+    ring-flows : AllByRecursion (λ r. flows long r.buffer ≡ flows view r.buffer) rings.rings
+    ring-flows = all-by (λ r. (r.buffer == id) ≡ false) (λ r. flows long r.buffer ≡ flows view r.buffer) (λ r other. flows-longer graph id pipe size no-node kept.wired streams kept.played r.buffer other) rings.rings (rings-apart id rings.rings edges ring-keys (or_parts (has_comp graph id) (has_edge graph id) no-node).1)
+
+    stays-empty : (t : Bool) → record { buffer = id; frames = cond t [] [] } ≡ shown (fresh_ring id size)
+    stays-empty true = refl
+    stays-empty false = refl
+
+    brought : (P : List Edge → RingLists → Type 0) → P (placed (λ y. y.buffer) fresh edges) (with_ring id size rings) → P edges' rings'
+    brought P p = subst (λ (q : List Edge × RingLists). P q.0 q.1) (λ i. (sym e i, sym r i)) p
+
+    pub kept-buffer : IsKept (state_of heap' clock comps edges' pipes joins streams (map shown rings'.rings))
+    kept-buffer = brought (λ es rs. IsKept (state_of heap' clock comps es pipes joins streams (map shown rs.rings))) record {
+      comps = kept.comps;
+      edges = omega (arith, length-placed (λ (y : Edge). y.buffer) fresh edges);
+      pipes = kept.pipes;
+      joins = omega (arith, kept.joins, sides-placed (λ (y : Edge). y.buffer) fresh edges);
+      streams = kept.streams;
+      pieces = omega (arith, length-placed (λ (y : Edge). y.buffer) fresh edges, pieces-more id bytes heap heap' h, kept.pieces);
+      linked = linked-longer graph fresh refl refl kept.linked;
+      wired = wired-longer graph id pipe size no-node kept.wired streams kept.played;
+      played = played-longer graph id pipe size no-node kept.wired streams kept.played;
+      rings = keys-shown more-rings ∙ placed-pairs (λ r. r.buffer) (λ e. e.buffer) (fresh_ring id size) fresh rings.rings edges ring-keys ring-keys refl refl;
+      seen = seen-all long more-rings (all-placed (λ r. ring_seen long (shown r) ≡ shown r) (λ r. r.buffer) (fresh_ring id size) rings.rings (stays-empty (flows long id)) (seen-each long rings.rings (seen-same view long rings.rings ring-flows kept.seen)));
+      histories = refl;
+    }
+
+    pub held-buffer : carved_bytes heap'.pieces ≡ carved_bytes heap.pieces + rounded bytes → 32 + size ≤ rounded bytes → heap_bytes heap' ≡ heap_bytes heap → AreRings rings' room (state_of heap' clock comps edges' pipes joins streams (map shown rings'.rings))
+    held-buffer more fits same = brought (λ es rs. AreRings rs room (state_of heap' clock comps es pipes joins streams (map shown rs.rings))) record {
+      words = placed-pairs (λ r. r.words) (λ e. e.size / 4) (fresh_ring id size) fresh rings.rings edges ring-keys held.words refl refl;
+      channels = all-placed (λ r. flows long r.buffer ≡ true → r.channels ≡ channels_of long r.buffer) (λ r. r.buffer) (fresh_ring id size) rings.rings
+          (λ flow. absurd (false≢true (sym (flows-fresh graph id pipe size no-node kept.wired streams kept.played) ∙ flow)))
+          (channels-by view long rings.rings ring-flows (each-buffer (channels-longer graph id pipe size no-node kept.wired streams kept.played) rings.rings) held.channels);
+      used = omega (arith, held.used, more, fits);
+      within = omega (arith, held.within, same);
+      most = held.most;
+    }
+
+  -- other pipelines, of which as many are complete
+  module _ (heap' : HeapView) (pipes' : List Pipe) (few : length pipes' ≤ 32) (pieces : length heap'.pieces ≤ length comps + length edges + length pipes') (complete : (index : ℕ) → list_any (λ q. q.index == index && q.complete) pipes ≡ true → list_any (λ q. q.index == index && q.complete) pipes' ≡ true) (periods : AllByRecursion (λ p. is_period p.period ≡ true) pipes') where
+    abbrev other : View
+    other = record { graph = record { comps = comps; edges = edges; pipes = pipes'; joins = joins }; streams = streams }
+
+    other-flows : AllByRecursion (λ r. flows other r.buffer ≡ flows view r.buffer) rings.rings
+    other-flows = each-buffer (flows-other graph pipes' streams kept.played) rings.rings
+
+    pub kept-pipes : IsKept (state_of heap' clock comps edges pipes' joins streams (map shown rings.rings))
+    kept-pipes = record {
+      comps = kept.comps;
+      edges = kept.edges;
+      pipes = few;
+      joins = kept.joins;
+      streams = kept.streams;
+      pieces = pieces;
+      linked = linked-other graph pipes' kept.linked;
+      wired = wired-other graph pipes' streams kept.played kept.wired periods;
+      played = played-other graph pipes' streams kept.played complete;
+      rings = kept.rings;
+      seen = seen-same view other rings.rings other-flows kept.seen;
+      histories = refl;
+    }
+
+    pub held-pipes : carved_bytes heap.pieces ≤ carved_bytes heap'.pieces → heap_bytes heap' ≡ heap_bytes heap → AreRings rings room (state_of heap' clock comps edges pipes' joins streams (map shown rings.rings))
+    held-pipes more same = record {
+      words = held.words;
+      channels = channels-by view other rings.rings other-flows (each-buffer (channels-other graph pipes' streams kept.played) rings.rings) held.channels;
+      used = omega (arith, held.used, more);
+      within = omega (arith, held.within, same);
+      most = held.most;
+    }
+
+  pub kept-pipe : (id bytes : ℕ) (x : Pipe) (heap' : HeapView) (pipes' : List Pipe) → length pipes < 32 → is_period x.period ≡ true → heap' ≡ with_piece id bytes heap → pipes' ≡ placed (λ y. y.id) x pipes → IsKept (state_of heap' clock comps edges pipes' joins streams (map shown rings.rings))
+  kept-pipe id bytes x heap' pipes' few period h e = subst (λ ps. IsKept (state_of heap' clock comps edges ps joins streams (map shown rings.rings))) (sym e) (kept-pipes heap' (placed (λ y. y.id) x pipes) (omega (arith, few, length-placed (λ (y : Pipe). y.id) x pipes)) (omega (arith, length-placed (λ (y : Pipe). y.id) x pipes, pieces-more id bytes heap heap' h, kept.pieces)) (complete-placed x pipes) (all-placed (λ p. is_period p.period ≡ true) (λ y. y.id) x pipes period kept.wired.periods))
+
+  pub held-pipe : (id bytes : ℕ) (x : Pipe) (heap' : HeapView) (pipes' : List Pipe) → length pipes < 32 → is_period x.period ≡ true → heap' ≡ with_piece id bytes heap → pipes' ≡ placed (λ y. y.id) x pipes → carved_bytes heap'.pieces ≡ carved_bytes heap.pieces + rounded bytes → heap_bytes heap' ≡ heap_bytes heap → AreRings rings room (state_of heap' clock comps edges pipes' joins streams (map shown rings.rings))
+  held-pipe id bytes x heap' pipes' few period h e more same = subst (λ ps. AreRings rings room (state_of heap' clock comps edges ps joins streams (map shown rings.rings))) (sym e) (held-pipes heap' (placed (λ y. y.id) x pipes) (omega (arith, few, length-placed (λ (y : Pipe). y.id) x pipes)) (omega (arith, length-placed (λ (y : Pipe). y.id) x pipes, pieces-more id bytes heap heap' h, kept.pieces)) (complete-placed x pipes) (all-placed (λ p. is_period p.period ≡ true) (λ y. y.id) x pipes period kept.wired.periods) (omega (arith, more)) same)
+
+  pub kept-complete : (id : ℕ) (pipes' : List Pipe) → pipes' ≡ map (completed id) pipes → IsKept (state_of heap clock comps edges pipes' joins streams (map shown rings.rings))
+  kept-complete id pipes' e = subst (λ ps. IsKept (state_of heap clock comps edges ps joins streams (map shown rings.rings))) (sym e) (kept-pipes heap (map (completed id) pipes) (omega (arith, kept.pipes, length-map pipes (completed id))) (omega (arith, kept.pieces, length-map pipes (completed id))) (complete-completed id pipes) (periods-completed id pipes kept.wired.periods))
+
+  pub held-complete : (id : ℕ) (pipes' : List Pipe) → pipes' ≡ map (completed id) pipes → AreRings rings room (state_of heap clock comps edges pipes' joins streams (map shown rings.rings))
+  held-complete id pipes' e = subst (λ ps. AreRings rings room (state_of heap clock comps edges ps joins streams (map shown rings.rings))) (sym e) (held-pipes heap (map (completed id) pipes) (omega (arith, kept.pipes, length-map pipes (completed id))) (omega (arith, kept.pieces, length-map pipes (completed id))) (complete-completed id pipes) (periods-completed id pipes kept.wired.periods) (omega arith) refl)
+
+  -- a join more
+  module _ (j : Join) (edges' : List Edge) (joins' : List Join) (room' : length joins + 1 ≤ sides (map (joined j) edges)) (free : is_joined graph j.source j.sink ≡ false) (takes : takes_join graph j.source j.sink ≡ true) (grow : would_grow graph streams j.source j.sink ≡ false) (e : edges' ≡ map (joined j) edges) (more : joins' ≡ joins ++ j ∷ []) where
+    abbrev linked : View
+    linked = record { graph = record { comps = comps; edges = map (joined j) edges; pipes = pipes; joins = joins ++ j ∷ [] }; streams = streams }
+
+    linked-flows : AllByRecursion (λ r. flows linked r.buffer ≡ flows view r.buffer) rings.rings
+    linked-flows = by-keys (λ b. flows linked b ≡ flows view b) rings.rings edges ring-keys (flows-joined graph j kept.wired free takes streams kept.played grow)
+
+    linked-channels : AllByRecursion (λ r. channels_of linked r.buffer ≡ channels_of view r.buffer) rings.rings
+    linked-channels = by-keys (λ b. channels_of linked b ≡ channels_of view b) rings.rings edges ring-keys (channels-each graph j kept.wired free takes streams kept.played grow)
+
+    linking : (P : List Edge → List Join → Type 0) → P (map (joined j) edges) (joins ++ j ∷ []) → P edges' joins'
+    linking P p = subst (λ (q : List Edge × List Join). P q.0 q.1) (λ i. (sym e i, sym more i)) p
+
+    pub kept-join : IsKept (state_of heap clock comps edges' pipes joins' streams (map shown rings.rings))
+    kept-join = linking (λ es js. IsKept (state_of heap clock comps es pipes js streams (map shown rings.rings))) record {
+      comps = kept.comps;
+      edges = omega (arith, kept.edges, length-map edges (joined j));
+      pipes = kept.pipes;
+      joins = omega (arith, room', length-append joins (j ∷ []));
+      streams = kept.streams;
+      pieces = omega (arith, kept.pieces, length-map edges (joined j));
+      linked = linked-joined graph j kept.wired free takes streams kept.played grow kept.linked;
+      wired = wired-joined graph j kept.wired free takes streams kept.played grow;
+      played = played-joined graph j kept.wired free takes streams kept.played grow;
+      rings = kept.rings ∙ sym (buffers-joined j edges);
+      seen = seen-same view linked rings.rings linked-flows kept.seen;
+      histories = refl;
+    }
+
+    pub held-join : AreRings rings room (state_of heap clock comps edges' pipes joins' streams (map shown rings.rings))
+    held-join = linking (λ es js. AreRings rings room (state_of heap clock comps es pipes js streams (map shown rings.rings))) record {
+      words = held.words ∙ sym (sizes-joined j edges);
+      channels = channels-by view linked rings.rings linked-flows linked-channels held.channels;
+      used = held.used;
+      within = held.within;
+      most = held.most;
+    }

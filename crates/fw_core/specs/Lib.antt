@@ -1,4 +1,5 @@
 pub mod Pieces
 pub mod Kept
+pub mod Settled
 pub mod Answers
 pub mod Device

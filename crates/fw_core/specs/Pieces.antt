@@ -16,3 +16,12 @@ carved_bytes (p ∷ ps) = p.size + carved_bytes ps
 -- a heap of so many bytes of which nothing is carved
 abbrev pub fresh_heap : ℕ → HeapView
 fresh_heap bytes = record { holes = fresh_holes (usable_of bytes); pieces = [] }
+
+-- how many bytes holes have
+abbrev pub hole_bytes : List Hole → ℕ
+hole_bytes [] = 0
+hole_bytes (h ∷ holes) = h.size + hole_bytes holes
+
+-- how many bytes a heap has, carved or not
+abbrev pub heap_bytes : HeapView → ℕ
+heap_bytes heap = carved_bytes heap.pieces + hole_bytes heap.holes

@@ -1,9 +1,10 @@
 // What a message changes of buffers and pipelines that are there.
 ghost use Rattle.std.specs.Prelude.{◌≡◌, map};
 ghost use Rattle.stream_law.specs.Joins.{joined};
-ghost use Rattle.mbox_link.specs.Step.{completed};
+ghost use Rattle.mbox_link.specs.Step.{completed, set_stream as with_stream, set_phase as with_phase};
 
-use stream_law::{Edge, Join, Pipe};
+use sof_base::Params;
+use stream_law::{Edge, Join, Phase, Pipe, StreamView};
 
 // A buffer with the side set that a join is at.
 fn with_side(edge: Edge, join: Join) -> Edge
@@ -49,5 +50,49 @@ pub fn set_complete(pipes: &mut [Pipe], id: u32)
 {
     for i in 0..pipes.len() {
         pipes[i] = with_completion(pipes[i], id);
+    }
+}
+
+// A stream with this phase and these parameters if it is of this host.
+fn with_params(stream: StreamView, host: u32, phase: Phase, params: Option<Params>) -> StreamView
+    ensures { result ≡ with_stream host phase params stream }
+{
+    if stream.host == host {
+        StreamView {
+            host,
+            phase,
+            params,
+        }
+    } else {
+        stream
+    }
+}
+
+/// The stream of this host has this phase and these parameters.
+pub fn set_stream(streams: &mut [StreamView], host: u32, phase: Phase, params: Option<Params>)
+    ensures { streams.new ≡ map (with_stream host phase params) streams.old }
+{
+    for i in 0..streams.len() {
+        streams[i] = with_params(streams[i], host, phase, params);
+    }
+}
+
+// A stream with this phase if it is of this host.
+fn in_phase(stream: StreamView, host: u32, phase: Phase) -> StreamView
+    ensures { result ≡ with_phase host phase stream }
+{
+    if stream.host == host {
+        StreamView { phase, ..stream }
+    } else {
+        stream
+    }
+}
+
+/// The stream of this host has this phase.
+pub fn set_phase(streams: &mut [StreamView], host: u32, phase: Phase)
+    ensures { streams.new ≡ map (with_phase host phase) streams.old }
+{
+    for i in 0..streams.len() {
+        streams[i] = in_phase(streams[i], host, phase);
     }
 }

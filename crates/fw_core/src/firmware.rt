@@ -4,7 +4,7 @@ ghost use Rattle.mbox_link.specs.Step.{error_reply};
 ghost use Rattle.fw_core.specs.Answers.{error_number};
 ghost use Rattle.fw_core.specs.Device.{firmware, used_of, stepped, reply_to, with_state};
 
-use crate::state::State;
+use crate::player::Player;
 use ipc3_codec::{Body, Reply, encode_reply};
 use mbox_link::{Dsp, LinkFault};
 use sof_base::{Errno, NoMemory};
@@ -17,8 +17,7 @@ use std::marker::Model;
 pub struct Firmware {
     on: bool,
     boots: u64,
-    room: u32,
-    state: State,
+    player: Player,
 }
 
 impl Model for Firmware {
@@ -27,7 +26,7 @@ impl Model for Firmware {
 
     ghost Value = { Chip };
 
-    ghost view = { λ f. record { state = if f.on then Some f.state else None; boots = f.boots; most = f.room } };
+    ghost view = { λ f. record { state = if f.on then Some f.player.state else None; boots = f.boots; most = f.player.room } };
 }
 
 impl Firmware {
@@ -39,8 +38,7 @@ impl Firmware {
         Ok(Firmware {
             on: false,
             boots: 0,
-            room,
-            state: State::new(alloc)?,
+            player: Player::new(alloc, room)?,
         })
     }
 
@@ -48,7 +46,7 @@ impl Firmware {
     pub fn used(&self) -> u32
         ensures { result ≡ used_of self.now.state }
     {
-        if self.on { self.state.used() } else { 0 }
+        if self.on { self.player.used() } else { 0 }
     }
 
     // The step of a message: its reply's error number.
@@ -57,7 +55,7 @@ impl Firmware {
         ensures step { self.new ≡ with_state (stepped self.old.state request.now) self.old }
         ensures reply { reply_to self.old.state request.now ≡ Some (error_reply result) }
     {
-        error_of(self.state.answer(request))
+        error_of(self.player.answer(request))
     }
 }
 
@@ -75,7 +73,7 @@ impl Dsp for Firmware {
     ghost means = { firmware };
 
     fn room(&self) -> u32 {
-        self.room
+        self.player.room()
     }
 
     fn on(&self) -> bool {
@@ -83,7 +81,7 @@ impl Dsp for Firmware {
     }
 
     fn boot(&mut self, heap: u32) {
-        self.state.reset(heap);
+        self.player.reset(heap);
         self.on = true;
         self.boots = self.boots.saturating_add(1);
     }
@@ -106,11 +104,9 @@ impl Dsp for Firmware {
         Ok(encode_reply(&answer, reply))
     }
 
-    fn tick(&mut self, io: &mut Inputs, _out: &mut Outputs) {
-        // No message of the profile prepares a stream, so inputs and outputs stay; the count tells that no slot comes twice.
-        let _count = io.len();
+    fn tick(&mut self, io: &mut Inputs, out: &mut Outputs) {
         if self.on {
-            self.state.tick();
+            self.player.tick(io, out);
         }
     }
 }

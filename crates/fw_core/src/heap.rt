@@ -1,8 +1,8 @@
 // The heap as numbers: each piece is carved behind all earlier ones.
-ghost use Rattle.std.specs.Prelude.{◌≡◌, ◌<◌, ◌^◌, length, IfOk, true};
+ghost use Rattle.std.specs.Prelude.{◌≡◌, ◌+◌, ◌<◌, ◌≤◌, ◌^◌, length, IfOk, true};
 ghost use Rattle.sof_base.specs.Holes.{rounded, fits};
 ghost use Rattle.mbox_link.specs.Step.{with_piece};
-ghost use Rattle.fw_core.specs.Pieces.{fresh_heap, carved_bytes};
+ghost use Rattle.fw_core.specs.Pieces.{fresh_heap, carved_bytes, heap_bytes};
 
 use crate::table::Table;
 use sof_base::NoMemory;
@@ -67,7 +67,8 @@ impl Heap {
 
     /// A heap of so many bytes, less what passes a multiple of 16. Nothing is carved.
     pub fn reset(&mut self, bytes: u32)
-        ensures { self.new ≡ fresh_heap bytes }
+        ensures heap { self.new ≡ fresh_heap bytes }
+        ensures most { heap_bytes self.new ≤ bytes }
     {
         self.usable = bytes / UNIT * UNIT;
         self.used = 0;
@@ -77,7 +78,8 @@ impl Heap {
     /// Whether so many bytes are left, in whole units.
     pub fn holds(&self, bytes: u64) -> bool
         requires { bytes < 2 ^ 63 }
-        ensures { result ≡ fits (rounded bytes) self.now.holes }
+        ensures fits { result ≡ fits (rounded bytes) self.now.holes }
+        ensures room { result ≡ true → carved_bytes self.now.pieces + rounded bytes ≤ heap_bytes self.now }
     {
         self.used < self.usable && in_units(bytes) <= u64::from(self.usable - self.used)
     }
@@ -87,7 +89,9 @@ impl Heap {
         requires small { bytes < 2 ^ 63 }
         requires room { fits (rounded bytes) self.old.holes ≡ true }
         requires few { length self.old.pieces < 288 }
-        ensures { self.new ≡ with_piece id bytes self.old }
+        ensures heap { self.new ≡ with_piece id bytes self.old }
+        ensures carved { carved_bytes self.new.pieces ≡ carved_bytes self.old.pieces + rounded bytes }
+        ensures same { heap_bytes self.new ≡ heap_bytes self.old }
     {
         let place = self.used;
         let size = in_units(bytes) as u32;

@@ -1,7 +1,8 @@
 // Walks along joins, and buffers that are joined.
-ghost use Rattle.std.specs.Prelude.{◌≡◌, ◌&&◌, [], length, filter};
+ghost use Rattle.std.specs.Prelude.{◌≡◌, ◌&&◌, ◌==◌, [], length, filter, find, option_copied, false};
 ghost use Rattle.std.specs.List.{list_any};
-ghost use Rattle.stream_law.specs.Ways.{leads, is_capture, is_end};
+ghost use Rattle.std.specs.Option.{option_map_or};
+ghost use Rattle.stream_law.specs.Ways.{leads, is_capture, is_end, on_way as lies_on};
 ghost use Rattle.stream_law.specs.Joins.{crosses as has_crossing};
 
 use crate::kinds;
@@ -24,6 +25,35 @@ pub fn is_led(joins: &[Join], steps: usize, from: u32, to: u32) -> bool
         }
     }
     false
+}
+
+/// Whether a component or a buffer is on the way of the stream of a host.
+#[tactic(auto, unfolding(stream_law::specs::Ways::on_way, stream_law::specs::Ways::reaches))]
+pub fn on_way(comps: &[Comp], joins: &[Join], host: u32, id: u32) -> bool
+    ensures { result ≡ lies_on (record { comps = comps.now; edges = []; pipes = []; joins = joins.now }) host id }
+{
+    if is_capture_at(comps, host) {
+        is_led(joins, joins.len(), id, host)
+    } else {
+        is_led(joins, joins.len(), host, id)
+    }
+}
+
+// Whether an id is that of a capture's host.
+fn is_capture_at(comps: &[Comp], id: u32) -> bool
+    ensures { result ≡ option_map_or (λ c. is_capture c.kind) (find (λ c. c.id == id) comps.now) false }
+{
+    match comp_at(comps, id) {
+        Some(comp) => kinds::is_host_capture(comp.kind),
+        None => false,
+    }
+}
+
+// The component of an id.
+fn comp_at(comps: &[Comp], id: u32) -> Option<&Comp>
+    ensures { option_copied result ≡ find (λ c. c.id == id) comps.now }
+{
+    comps.iter().find(|comp| comp.id == id)
 }
 
 /// Whether a capture's host is reached from a playback's.
@@ -57,8 +87,8 @@ pub fn count_outs(edges: &[Edge], id: u32) -> usize
     edges.iter().filter(|edge| is_at(edge.source, id)).count()
 }
 
-// Whether a side of a buffer is joined to a component.
-fn is_at(side: Option<u32>, id: u32) -> bool
+/// Whether a side of a buffer is joined to a component.
+pub fn is_at(side: Option<u32>, id: u32) -> bool
     ensures { result ≡ is_end side id }
 {
     match side {

@@ -1,8 +1,8 @@
 // What a message says of its component.
 ghost use Rattle.std.specs.Prelude.{◌≡◌};
-ghost use Rattle.stream_law.specs.Joins.{kind_ins, kind_outs, is_play};
+ghost use Rattle.stream_law.specs.Joins.{kind_ins, kind_outs, fits_kind, is_play};
 ghost use Rattle.stream_law.specs.Ways.{is_capture};
-ghost use Rattle.mbox_link.specs.Step.{comp_bytes, format_of, kind_of as named_kind};
+ghost use Rattle.mbox_link.specs.Step.{comp_bytes, format_of, kind_of as named_kind, is_endpoint as names_endpoint, is_host as is_of_host, goes as has_direction};
 
 use ipc3_codec::CompWords;
 use sof_base::Format;
@@ -17,6 +17,10 @@ pub fn kind_of(words: CompWords, frame_fmt: u32) -> Kind
         CompWords::Host { .. } => Kind::HostCapture,
         CompWords::Dai { direction: 0, .. } => Kind::DaiPlay(frame_format(frame_fmt)),
         CompWords::Dai { .. } => Kind::DaiCapture(frame_format(frame_fmt)),
+        CompWords::Volume { .. } => Kind::Volume,
+        CompWords::Mixer => Kind::Mixer,
+        CompWords::Mux => Kind::Mux,
+        CompWords::Eq => Kind::Eq,
     }
 }
 
@@ -75,4 +79,41 @@ pub fn is_host_capture(kind: Kind) -> bool
     ensures { result ≡ is_capture kind }
 {
     matches!(kind, Kind::HostCapture)
+}
+
+/// Whether the words of a message are those of an endpoint.
+pub fn is_endpoint(words: CompWords) -> bool
+    ensures { result ≡ names_endpoint words }
+{
+    matches!(words, CompWords::Host { .. } | CompWords::Dai { .. })
+}
+
+/// Whether a component is the host's end of a stream.
+pub fn is_host(kind: Kind) -> bool
+    ensures { result ≡ is_of_host kind }
+{
+    matches!(kind, Kind::HostPlay | Kind::HostCapture)
+}
+
+/// Whether a component is the host's end of a stream of this direction: 0 for playback and 1 for capture.
+pub fn goes(kind: Kind, direction: u32) -> bool
+    ensures { result ≡ has_direction kind direction }
+{
+    match kind {
+        Kind::HostPlay => direction == 0,
+        Kind::HostCapture => direction == 1,
+        _ => false,
+    }
+}
+
+/// Whether a component may play with so many buffers into it and out of it.
+pub fn fits(kind: Kind, ins: usize, outs: usize) -> bool
+    ensures { result ≡ fits_kind kind ins outs }
+{
+    match kind {
+        Kind::HostPlay | Kind::DaiCapture(_) => ins == 0 && outs == 1,
+        Kind::HostCapture | Kind::DaiPlay(_) => ins == 1 && outs == 0,
+        Kind::Volume | Kind::Eq => ins == 1 && outs == 1,
+        Kind::Mixer | Kind::Mux => 1 <= ins && ins <= 8 && outs == 1,
+    }
 }

@@ -4,12 +4,19 @@
 
 mod changes;
 mod firmware;
+mod growth;
 mod heap;
 mod joins;
 mod kinds;
+mod order;
+mod player;
+mod scene;
+mod schedule;
+mod settle;
 mod state;
 mod table;
 #[cfg(test)]
 mod tests;
+mod turning;
 
 pub use firmware::Firmware;

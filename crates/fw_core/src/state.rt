@@ -1,23 +1,28 @@
 // What the firmware keeps while it is on.
-ghost use Rattle.std.specs.Prelude.{◌≡◌, IfOk};
-ghost use Rattle.stream_law.specs.TickLaws.{clocked};
+ghost use Rattle.std.specs.Prelude.{◌≡◌, ◌≤◌, ◌/◌, IfOk};
+ghost use Rattle.stream_law.specs.State.{view_of};
 ghost use Rattle.mbox_link.specs.Step.{fresh};
 ghost use Rattle.fw_core.specs.Kept.{IsKept};
 ghost use Rattle.fw_core.specs.Pieces.{carved_bytes};
 
 mod lookups;
 mod messages;
+mod running;
+mod streams;
 
 use crate::heap::Heap;
+use crate::scene::Scene;
 use crate::table::Table;
+use fw_ring::Rings;
 use sof_base::NoMemory;
 use std::alloc::Global;
 use std::marker::Model;
 use stream_law::{Comp, Edge, Join, Pipe, StreamView};
 
-/// Its heap, its clock in ticks, its graph and its streams. No message of the profile moves a frame, so no ring holds one.
+/// Its heap, its clock in ticks, its graph, its streams and its rings, in memory for a heap of `room` bytes.
 #[derive(Drop)]
 pub struct State {
+    room: u32,
     heap: Heap,
     clock: u32,
     comps: Table<Comp, 128>,
@@ -25,26 +30,27 @@ pub struct State {
     pipes: Table<Pipe, 32>,
     joins: Vec<Join>,
     streams: Table<StreamView, 128>,
+    rings: Rings,
 }
 
 impl Model for State {
-    ghost use Rattle.std.specs.Prelude.{◌≤◌, vec_capacity};
-    ghost use Rattle.stream_law.specs.State.{FwState};
-    ghost use Rattle.fw_core.specs.Kept.{state_of, IsKept};
+    ghost use Rattle.std.specs.Prelude.{◌≤◌, map, vec_capacity};
+    ghost use Rattle.fw_core.specs.Kept.{Held, state_of, shown, IsKept, AreRings};
 
-    ghost Value = { FwState };
+    ghost Value = { Held };
 
-    ghost view = { λ s. state_of s.heap s.clock s.comps s.edges s.pipes s.joins.items s.streams };
+    ghost view = { λ s. record { state = state_of s.heap s.clock s.comps s.edges s.pipes s.joins.items s.streams (map shown s.rings.rings); room = s.room } };
 
-    ghost invariant = { λ s. IsKept (state_of s.heap s.clock s.comps s.edges s.pipes s.joins.items s.streams) × (256 ≤ vec_capacity s.joins) };
+    ghost invariant = { λ s. IsKept (state_of s.heap s.clock s.comps s.edges s.pipes s.joins.items s.streams (map shown s.rings.rings)) × AreRings s.rings s.room (state_of s.heap s.clock s.comps s.edges s.pipes s.joins.items s.streams (map shown s.rings.rings)) × (256 ≤ vec_capacity s.joins) };
 }
 
 impl State {
-    /// A fresh state with a heap of 0 bytes, and memory for all that a message can bring.
-    pub fn new(alloc: Global) -> Result<State, NoMemory>
-        ensures { IfOk result (λ state. state ≡ fresh 0) }
+    /// A fresh state with a heap of 0 bytes, and memory for all that messages can bring into a heap of `room` bytes.
+    pub fn new(alloc: Global, room: u32) -> Result<State, NoMemory>
+        ensures { IfOk result (λ state. state ≡ record { state = fresh 0; room = room }) }
     {
         Ok(State {
+            room,
             heap: Heap::new(alloc)?,
             clock: 0,
             comps: Table::new(alloc)?,
@@ -52,12 +58,21 @@ impl State {
             pipes: Table::new(alloc)?,
             joins: Vec::with_capacity(alloc, 256)?,
             streams: Table::new(alloc)?,
+            rings: Rings::new(alloc, room)?,
         })
+    }
+
+    /// The greatest heap in bytes.
+    pub fn room(&self) -> u32
+        ensures { result ≡ self.now.room }
+    {
+        self.room
     }
 
     /// A fresh state with a heap of so many bytes.
     pub fn reset(&mut self, heap: u32)
-        ensures { self.new ≡ fresh heap }
+        requires { heap ≤ self.old.room }
+        ensures { self.new ≡ record { state = fresh heap; room = self.old.room } }
     {
         self.heap.reset(heap);
         self.clock = 0;
@@ -66,20 +81,27 @@ impl State {
         self.pipes.clear();
         self.joins.clear();
         self.streams.clear();
-    }
-
-    /// A tick, at which no stream runs.
-    pub fn tick(&mut self)
-        ensures clock { self.new ≡ clocked self.old }
-        ensures was { IsKept self.old }
-    {
-        self.clock = self.clock.wrapping_add(1);
+        self.rings.clear();
     }
 
     /// How many bytes of the heap are carved.
     pub fn used(&self) -> u32
-        ensures { result ≡ carved_bytes self.now.heap.pieces }
+        ensures { result ≡ carved_bytes self.now.state.heap.pieces }
     {
         self.heap.used()
+    }
+
+    /// Its graph and its streams.
+    pub fn scene(&self) -> Scene<'_>
+        ensures view { result ≡ view_of self.now.state }
+        ensures kept { IsKept self.now.state }
+    {
+        Scene {
+            comps: self.comps.records(),
+            edges: self.edges.records(),
+            pipes: self.pipes.records(),
+            joins: self.joins.as_slice(),
+            streams: self.streams.records(),
+        }
     }
 }

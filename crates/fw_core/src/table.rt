@@ -3,14 +3,14 @@ ghost use Rattle.std.specs.Prelude.{◌≡◌, ℕ, ◌<◌, ◌==◌, [], lengt
 ghost use Rattle.std.specs.List.{list_any};
 ghost use Rattle.stream_law.specs.Placed.{placed};
 ghost use Rattle.stream_law.specs.Joins.{joined};
-ghost use Rattle.mbox_link.specs.Step.{completed};
+ghost use Rattle.mbox_link.specs.Step.{completed, set_stream as with_stream, set_phase as with_phase};
 
 use crate::changes;
 use crate::heap::Piece;
-use sof_base::NoMemory;
+use sof_base::{NoMemory, Params};
 use std::alloc::Global;
 use std::marker::Model;
-use stream_law::{Comp, Edge, Join, Pipe, StreamView};
+use stream_law::{Comp, Edge, Join, Phase, Pipe, StreamView};
 
 /// A record with a number as its key.
 pub trait Keyed: Drop {
@@ -147,6 +147,22 @@ impl<const MOST: usize> Table<Pipe, MOST> {
         ensures { self.new ≡ map (completed id) self.old }
     {
         changes::set_complete(&mut self.records, id);
+    }
+}
+
+impl<const MOST: usize> Table<StreamView, MOST> {
+    /// The stream of this host has this phase and these parameters.
+    pub fn set_stream(&mut self, host: u32, phase: Phase, params: Option<Params>)
+        ensures { self.new ≡ map (with_stream host phase params) self.old }
+    {
+        changes::set_stream(&mut self.records, host, phase, params);
+    }
+
+    /// The stream of this host has this phase.
+    pub fn set_phase(&mut self, host: u32, phase: Phase)
+        ensures { self.new ≡ map (with_phase host phase) self.old }
+    {
+        changes::set_phase(&mut self.records, host, phase);
     }
 }
 

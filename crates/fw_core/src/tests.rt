@@ -2,6 +2,7 @@
 use crate::Firmware;
 use ipc3_codec::{CompWords, Message, encode};
 use mbox_link::Dsp;
+use sof_base::{Format, Params};
 use sof_io::{Inputs, Outputs};
 use std::alloc::Global;
 use std::test::Fail;
@@ -126,5 +127,67 @@ fn its_pipeline_does_not_fit_in_976_bytes(rt: HostRuntime) -> Result<(), Fail> {
     let replies = replies_to(rt.alloc(), &mut firmware, &messages)?;
     assert!(rt; replies.as_slice() == [DONE, DONE, DONE, NO_MEMORY].as_slice());
     assert_eq!(rt; firmware.used(), 928);
+    Ok(())
+}
+
+// A firmware with one playback stream that is set to 48000 frames a second of two channels of 16 bits.
+fn prepared(alloc: Global) -> Result<Firmware, Fail> {
+    let mut firmware = Firmware::new(alloc, 992)?;
+    firmware.boot(992);
+    let messages = [
+        host(0),
+        buffer(1),
+        dai(2),
+        pipeline(3, 2),
+        Message::Connect { source: 0, sink: 1 },
+        Message::Connect { source: 1, sink: 2 },
+        Message::PipeComplete { id: 3 },
+        Message::PcmParams {
+            host: 0,
+            direction: 0,
+            params: Params {
+                rate: 48000,
+                channels: 2,
+                format: Format::S16,
+            },
+        },
+    ];
+    let _replies = replies_to(alloc, &mut firmware, &messages)?;
+    Ok(firmware)
+}
+
+#[test]
+fn a_stream_runs_from_its_start_to_its_stop(rt: HostRuntime) -> Result<(), Fail> {
+    let mut firmware = prepared(rt.alloc())?;
+    let mut io = Inputs::new(rt.alloc())?;
+    let mut out = Outputs::new(rt.alloc())?;
+    io.add(0, vec![in rt.alloc(); 1, 2, 3, 4, 5]?)?;
+    out.add(2)?;
+    firmware.tick(&mut io, &mut out);
+    assert_eq!(rt; out.bytes(2).len(), 0);
+    let start = [Message::TrigStart { id: 0 }];
+    let replies = replies_to(rt.alloc(), &mut firmware, &start)?;
+    assert!(rt; replies.as_slice() == [DONE].as_slice());
+    firmware.tick(&mut io, &mut out);
+    assert_eq!(rt; out.bytes(2).len(), 384);
+    let front = [0, 0, 1, 2, 0, 0, 3, 4, 0, 0, 5, 0];
+    assert!(rt; &out.bytes(2)[..12] == front.as_slice());
+    let stop = [Message::TrigStop { id: 0 }, Message::PcmFree { id: 0 }];
+    let replies = replies_to(rt.alloc(), &mut firmware, &stop)?;
+    assert!(rt; replies.as_slice() == [DONE; 2].as_slice());
+    let mut rest = Outputs::new(rt.alloc())?;
+    rest.add(2)?;
+    firmware.tick(&mut io, &mut rest);
+    assert_eq!(rt; rest.bytes(2).len(), 0);
+    Ok(())
+}
+
+#[test]
+fn a_stream_that_is_not_prepared_does_not_start(rt: HostRuntime) -> Result<(), Fail> {
+    let mut firmware = Firmware::new(rt.alloc(), 992)?;
+    firmware.boot(992);
+    let messages = [host(0), Message::TrigStart { id: 0 }];
+    let replies = replies_to(rt.alloc(), &mut firmware, &messages)?;
+    assert!(rt; replies.as_slice() == [DONE, INVALID].as_slice());
     Ok(())
 }

@@ -4,7 +4,7 @@ use Rattle.sof_base.specs.declared.errno.Errno.{Errno}
 use Rattle.stream_law.specs.Joins.{with_join}
 use Rattle.stream_law.specs.State.{FwState}
 use Rattle.ipc3_codec.specs.declared.message.Message.{Message}
-use Rattle.ipc3_codec.specs.declared.message.Message.TheVariants.{CompNew, BufferNew, PipeNew, Connect, PipeComplete}
+use Rattle.ipc3_codec.specs.declared.message.Message.TheVariants.{CompNew, CompFree, Connect, PipeNew, PipeFree, PipeComplete, BufferNew, BufferFree, CtxSave, SetValue, GetValue, SetData, GetData, PcmParams, PcmFree, TrigStart, TrigStop, TrigPause, TrigRelease}
 use Rattle.ipc3_codec.specs.Messages.{message_spelling, decoded, IsMessage}
 use Rattle.ipc3_codec.proofs.Spelled.{decoded-spelling}
 use Rattle.mbox_link.specs.Step.{row, row_of, kind_of, with_comp, with_buffer, with_pipe, with_pipes, completed, no_memory}
@@ -12,6 +12,7 @@ use Rattle.mbox_link.specs.Calls.{World, Meaning, Exchanged}
 use Rattle.tplg_graph.specs.declared.planned.Plan.{Plan}
 use Rattle.host_widgets.specs.declared.answers.HostFault.{HostFault}
 use Rattle.host_widgets.specs.declared.answers.HostFault.TheVariants.{Refused, LinkDown}
+use Rattle.host_widgets.specs.declared.kept.Record.{Record}
 use Rattle.host_widgets.specs.Acts.{Act, message_of}
 use Rattle.host_widgets.specs.Expected.{needed_by}
 use Rattle.host_widgets.specs.Host.{verdict, errno, own, Why}
@@ -20,13 +21,14 @@ use Rattle.host_widgets.proofs.ReplyErrors.{reply_with}
 use Rattle.host_widgets.proofs.Exchanges.{Came, came, verdict-zero, verdict-number}
 use Rattle.host_widgets.proofs.SilentTicks.{at, AreInputs, IsStill, ticks-still}
 
--- a message's effect where it is taken
+-- the effect of a message that brings a device up, where it is taken
 abbrev pub effect : Message → FwState → FwState
 effect (CompNew id pipe periods_sink periods_source frame_fmt kind) f = with_comp id pipe (kind_of kind frame_fmt) f
 effect (BufferNew id pipe size caps) f = with_buffer id pipe size f
 effect (PipeNew id pipe sched period priority mips frames time_domain) f = with_pipe id pipe sched period f
 effect (Connect source sink) f = record f { graph = with_join f.graph (record { source = source; sink = sink }) }
 effect (PipeComplete id) f = record f { graph = with_pipes (map (completed id) f.graph.pipes) f.graph }
+effect m f = f
 
 -- no effect looks at the clock
 pub effect-at : (m : Message) (g : FwState) (t : ℕ) → effect m (at g t) ≡ at (effect m g) t
@@ -35,6 +37,20 @@ effect-at (BufferNew id pipe size caps) g t = refl
 effect-at (PipeNew id pipe sched period priority mips frames time_domain) g t = refl
 effect-at (Connect source sink) g t = refl
 effect-at (PipeComplete id) g t = refl
+effect-at (CompFree id) g t = refl
+effect-at (PipeFree id) g t = refl
+effect-at (BufferFree id) g t = refl
+effect-at CtxSave g t = refl
+effect-at (SetValue id command values) g t = refl
+effect-at (GetValue id command) g t = refl
+effect-at (SetData id part) g t = refl
+effect-at (GetData id index) g t = refl
+effect-at (PcmParams host direction params) g t = refl
+effect-at (PcmFree id) g t = refl
+effect-at (TrigStart id) g t = refl
+effect-at (TrigStop id) g t = refl
+effect-at (TrigPause id) g t = refl
+effect-at (TrigRelease id) g t = refl
 
 -- all these acts have been taken
 abbrev pub effects : Plan → List Act → FwState → FwState
@@ -42,31 +58,31 @@ effects plan [] g = g
 effects plan (act ∷ acts) g = effects plan acts (effect (message_of plan act) g)
 
 -- in this state the firmware takes the act exactly where it has no refusal of its own
-pub record Follows (plan : Plan) (heap : ℕ) (g : FwState) (act : Act) : Type 0 where
+pub record Follows (plan : Plan) (heap : ℕ) (kept : Record) (g : FwState) (act : Act) : Type 0 where
   pub still : IsStill g
   pub message : IsMessage (message_of plan act)
-  pub passes : own plan heap act ≡ None → (t : ℕ) → row (at g t) (message_of plan act) ≡ Ok (effect (message_of plan act) (at g t))
-  pub refuses : (e : Errno) → own plan heap act ≡ Some e → (t : ℕ) → row (at g t) (message_of plan act) ≡ Err no_memory
-  pub number : (e : Errno) → own plan heap act ≡ Some e → (e ≡ errno no_memory) × (heap < needed_by plan (length plan.widgets))
+  pub passes : own plan heap kept act ≡ None → (t : ℕ) → row (at g t) (message_of plan act) ≡ Ok (effect (message_of plan act) (at g t))
+  pub refuses : (e : Errno) → own plan heap kept act ≡ Some e → (t : ℕ) → row (at g t) (message_of plan act) ≡ Err no_memory
+  pub number : (e : Errno) → own plan heap kept act ≡ Some e → (e ≡ errno no_memory) × (heap < needed_by plan (length plan.widgets))
 
 -- and so on, as long as each act is taken
-abbrev pub FollowAll : Plan → ℕ → FwState → List Act → Type 0
-FollowAll plan heap g [] = Unit {0}
-FollowAll plan heap g (act ∷ acts) = Follows plan heap g act × (own plan heap act ≡ None → FollowAll plan heap (effect (message_of plan act) g) acts)
+abbrev pub FollowAll : Plan → ℕ → Record → FwState → List Act → Type 0
+FollowAll plan heap kept g [] = Unit {0}
+FollowAll plan heap kept g (act ∷ acts) = Follows plan heap kept g act × (own plan heap kept act ≡ None → FollowAll plan heap kept (effect (message_of plan act) g) acts)
 
 -- ---- one exchange
 
 decoded-message : (m : Message) → IsMessage m → decoded (message_spelling m) ≡ Ok m
 decoded-message m is = ap decoded (sym (append-nil (message_spelling m))) ∙ decoded-spelling m [] is
 
-row-decoded : (f : FwState) (m : Message) → IsMessage m → row_of f (decoded (message_spelling m)) ≡ row f m
+pub row-decoded : (f : FwState) (m : Message) → IsMessage m → row_of f (decoded (message_spelling m)) ≡ row f m
 row-decoded f m is = ap (row_of f) (decoded-message m is)
 
 pub own_cases : (o : Option Errno) → (o ≡ None) ⊎ ((e : Errno) × (o ≡ Some e))
 own_cases None = inl refl
 own_cases (Some e) = inr (e, refl)
 
-module _ {D : Type 0} (means : Meaning D) (plan : Plan) (heap : ℕ) (act : Act) (answer : Option (List ℕ)) (w v : World D) (g : FwState) (t : ℕ) where
+module _ {D : Type 0} (means : Meaning D) (plan : Plan) (heap : ℕ) (kept : Record) (act : Act) (answer : Option (List ℕ)) (w v : World D) (g : FwState) (t : ℕ) where
   -- the clock after the ticks before this message
   abbrev later : ℕ
   later = t + (means.pending w.device - means.pending v.device)
@@ -74,7 +90,7 @@ module _ {D : Type 0} (means : Meaning D) (plan : Plan) (heap : ℕ) (act : Act)
   -- the act was taken
   pub record Taken : Type 0 where
     pub said : verdict answer ≡ Ok (reply_with (pos 0))
-    pub free : own plan heap act ≡ None
+    pub free : own plan heap kept act ≡ None
     pub on : means.on v.device ≡ Some (at (effect (message_of plan act) g) later)
 
   -- it was not
@@ -82,12 +98,12 @@ module _ {D : Type 0} (means : Meaning D) (plan : Plan) (heap : ℕ) (act : Act)
     pub fault : HostFault
     pub said : verdict answer ≡ Err fault
     pub why : Why means plan heap w.device fault v.device
-    pub fate : Fate means (own plan heap act) w.device (Err fault) v.device
+    pub fate : Fate means (own plan heap kept act) w.device (Err fault) v.device
 
   abbrev request : List ℕ
   request = message_spelling (message_of plan act)
 
-  ways : Follows plan heap g act → Came means request answer w v (at g later, w.io) → Taken ⊎ NotTaken
+  ways : Follows plan heap kept g act → Came means request answer w v (at g later, w.io) → Taken ⊎ NotTaken
   ways follows c = ⊎_elim
       (λ took.
       ⊎_elim
@@ -96,7 +112,7 @@ module _ {D : Type 0} (means : Meaning D) (plan : Plan) (heap : ℕ) (act : Act)
       let next : effect (message_of plan act) (at g later) ≡ took.next = cc (sym (follows.passes free later) ∙ row_is) in
       inl record { said = ap verdict took.said ∙ verdict-zero; free = free; on = took.on ∙ ap Some (sym next ∙ effect-at (message_of plan act) g later) })
       (λ (e, refused). absurd (cc (sym (follows.refuses e refused later) ∙ sym (row-decoded (at g later) (message_of plan act) follows.message) ∙ took.row)))
-      (own_cases (own plan heap act)))
+      (own_cases (own plan heap kept act)))
       (λ rest. ⊎_elim
       (λ it.
       let row_is : row (at g later) (message_of plan act) ≡ Err it.error = sym (row-decoded (at g later) (message_of plan act) follows.message) ∙ it.row in
@@ -106,7 +122,7 @@ module _ {D : Type 0} (means : Meaning D) (plan : Plan) (heap : ℕ) (act : Act)
       let number = follows.number e refused in
       let same : no_memory ≡ it.error = cc (sym (follows.refuses e refused later) ∙ row_is) in
       inr record { fault = Refused (errno it.error); said = ap verdict it.said ∙ verdict-number it.error it.number; why = inl (ap errno (sym same), number.1); fate = inl (refused ∙ ap Some (number.0 ∙ ap errno same)) })
-      (own_cases (own plan heap act)))
+      (own_cases (own plan heap kept act)))
       (λ rest. ⊎_elim
       (λ it. inr record { fault = Refused (errno it.error); said = ap verdict it.said ∙ verdict-number it.error it.number; why = inr it.rose; fate = inr it.rose })
       (λ it. inr record { fault = LinkDown; said = ap verdict it.said; why = it.rose; fate = it.rose })
@@ -119,7 +135,7 @@ module _ {D : Type 0} (means : Meaning D) (plan : Plan) (heap : ℕ) (act : Act)
     pub endpoints : v.io ≡ w.io
     pub way : Taken ⊎ NotTaken
 
-  pub one : Follows plan heap g act → AreInputs w.io.inputs → means.on w.device ≡ Some (at g t) → Exchanged means request answer w v → One
+  pub one : Follows plan heap kept g act → AreInputs w.io.inputs → means.on w.device ≡ Some (at g t) → Exchanged means request answer w v → One
   one follows are on x =
       let c = came means request answer w v (at g t) on x in
       let c' = subst (Came means request answer w v) (ticks-still (means.pending w.device - means.pending v.device) g t w.io follows.still are) c in

@@ -7,3 +7,5 @@ pub mod Effects
 pub mod ManyEffects
 pub mod Making
 pub mod ThinBrings
+pub mod Halting
+pub mod ThinRecords

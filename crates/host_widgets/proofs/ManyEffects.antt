@@ -10,7 +10,8 @@ use Rattle.mbox_link.specs.Calls.{World, Meaning, Led, Steady}
 use Rattle.mbox_link.proofs.Led.{Steady-by}
 use Rattle.tplg_graph.specs.declared.planned.Plan.{Plan}
 use Rattle.host_widgets.specs.declared.answers.HostFault.{HostFault}
-use Rattle.host_widgets.specs.declared.answers.HostFault.TheVariants.{Loaded, Refused, LinkDown}
+use Rattle.host_widgets.specs.declared.answers.HostFault.TheVariants.{NotLoaded, Loaded, NoSuch, State, Off, Range, Refused, LinkDown, Blob}
+use Rattle.host_widgets.specs.declared.kept.Record.{Record}
 use Rattle.host_widgets.specs.Acts.{Act, message_of, bring_up_acts}
 use Rattle.host_widgets.specs.Expected.{loaded_state}
 use Rattle.host_widgets.specs.Host.{Outcome, verdict, own, exchanges, Walk, Walked, Why, Fits, BroughtUp}
@@ -26,14 +27,20 @@ Rose-within a b c d before later (inl less) = inl (omega arith)
 Rose-within a b c d before later (inr last) = inr (omega arith)
 
 -- none of these acts is refused by the firmware itself
-abbrev pub AllFree : Plan → ℕ → List Act → Type 0
-AllFree plan heap [] = Unit {0}
-AllFree plan heap (act ∷ acts) = (own plan heap act ≡ None) × AllFree plan heap acts
+abbrev pub AllFree : Plan → ℕ → Record → List Act → Type 0
+AllFree plan heap kept [] = Unit {0}
+AllFree plan heap kept (act ∷ acts) = (own plan heap kept act ≡ None) × AllFree plan heap kept acts
 
-module _ {D : Type 0} (means : Meaning D) (plan : Plan) (heap : ℕ) where
+module _ {D : Type 0} (means : Meaning D) (plan : Plan) (heap : ℕ) (kept : Record) where
   -- the reason holds over more calls
   pub Why-within : (fault : HostFault) (a b c d : D) → Steady means a b → Steady means c d → Why means plan heap b fault c → Why means plan heap a fault d
+  Why-within NotLoaded a b c d before later why = why
   Why-within Loaded a b c d before later why = why
+  Why-within (NoSuch name) a b c d before later why = why
+  Why-within (State found) a b c d before later why = why
+  Why-within Off a b c d before later why = why
+  Why-within (Range n) a b c d before later why = why
+  Why-within (Blob n) a b c d before later why = why
   Why-within (Refused e) a b c d before later why =
       ⊎_elim (λ own. inl own) (λ rose. inr (Rose-within (means.refusals a) (means.refusals b) (means.refusals c) (means.refusals d) before.refusals later.refusals rose)) why
   Why-within LinkDown a b c d before later why =
@@ -44,7 +51,7 @@ module _ {D : Type 0} (means : Meaning D) (plan : Plan) (heap : ℕ) where
 
   -- acts that have all passed
   pub record Passed (acts : List Act) (w v : World D) (g : FwState) (t : ℕ) : Type 0 where
-    pub free : AllFree plan heap acts
+    pub free : AllFree plan heap kept acts
     pub on : means.on v.device ≡ Some (at (effects plan acts g) (t + (means.pending w.device - means.pending v.device)))
     pub endpoints : v.io ≡ w.io
     pub steady : Steady means w.device v.device
@@ -58,7 +65,7 @@ module _ {D : Type 0} (means : Meaning D) (plan : Plan) (heap : ℕ) where
   not_both : {A : Type 0} (answer : Option (List ℕ)) (reply : Reply) (fault : HostFault) → verdict answer ≡ Ok reply → verdict answer ≡ Err fault → A
   not_both answer reply fault passed failed = absurd (cc (sym passed ∙ failed))
 
-  walk_passed : (acts : List Act) (answers : Answers) (w v : World D) (g : FwState) (t : ℕ) → FollowAll plan heap g acts → AreInputs w.io.inputs → means.on w.device ≡ Some (at g t) → Led means w (exchanges plan acts answers) v → Walk acts answers passing → Passed acts w v g t
+  walk_passed : (acts : List Act) (answers : Answers) (w v : World D) (g : FwState) (t : ℕ) → FollowAll plan heap kept g acts → AreInputs w.io.inputs → means.on w.device ≡ Some (at g t) → Led means w (exchanges plan acts answers) v → Walk acts answers passing → Passed acts w v g t
   walk_passed [] [] w v g t follow are on led walk =
       subst (λ (x : World D). Passed [] w x g t) (sym led)
       record { free = tt; on = on ∙ ap (λ (n : ℕ). Some (at g n)) (let same : t ≡ t + (means.pending w.device - means.pending w.device) = omega arith in same); endpoints = refl; steady = Steady-none w.device }
@@ -67,7 +74,7 @@ module _ {D : Type 0} (means : Meaning D) (plan : Plan) (heap : ℕ) where
   walk_passed (act ∷ acts) (answer ∷ answers) w v g t follow are on led walk =
       let m = led.0 in
       let goes = Walk-goes act acts answer answers walk in
-      let first = one means plan heap act answer w m g t follow.0 are on led.1 in
+      let first = one means plan heap kept act answer w m g t follow.0 are on led.1 in
       let t' = t + (means.pending w.device - means.pending m.device) in
       ⊎_elim
       (λ taken.
@@ -87,13 +94,13 @@ module _ {D : Type 0} (means : Meaning D) (plan : Plan) (heap : ℕ) where
   no_more [] answers m v none led = led
   no_more (act ∷ acts) answers m v none led = subst (λ (rest : Answers). Led means m (exchanges plan (act ∷ acts) rest) v) none led
 
-  walk_ended : (acts : List Act) (answers : Answers) (fault : HostFault) (w v : World D) (g : FwState) (t : ℕ) → FollowAll plan heap g acts → AreInputs w.io.inputs → means.on w.device ≡ Some (at g t) → Led means w (exchanges plan acts answers) v → Walk acts answers (Err fault) → Ended w v fault
+  walk_ended : (acts : List Act) (answers : Answers) (fault : HostFault) (w v : World D) (g : FwState) (t : ℕ) → FollowAll plan heap kept g acts → AreInputs w.io.inputs → means.on w.device ≡ Some (at g t) → Led means w (exchanges plan acts answers) v → Walk acts answers (Err fault) → Ended w v fault
   walk_ended [] [] fault w v g t follow are on led walk = absurd (cc walk)
   walk_ended [] (answer ∷ answers) fault w v g t follow are on led walk = absurd walk
   walk_ended (act ∷ acts) [] fault w v g t follow are on led walk = absurd walk
   walk_ended (act ∷ acts) (answer ∷ answers) fault w v g t follow are on led walk =
       let m = led.0 in
-      let first = one means plan heap act answer w m g t follow.0 are on led.1 in
+      let first = one means plan heap kept act answer w m g t follow.0 are on led.1 in
       let t' = t + (means.pending w.device - means.pending m.device) in
       ⊎_elim
       (λ goes. ⊎_elim
@@ -116,55 +123,55 @@ module _ {D : Type 0} (means : Meaning D) (plan : Plan) (heap : ℕ) where
   fate_is : (refusal : Option Errno) (old new : D) (answer : Option (List ℕ)) (said : Result Reply HostFault) → verdict answer ≡ said → Fate means refusal old said new → Fate means refusal old (verdict answer) new
   fate_is refusal old new answer said is fate = subst (λ (r : Result Reply HostFault). Fate means refusal old r new) (sym is) fate
 
-  walk_fated : (acts : List Act) (answers : Answers) (result : Outcome) (w v : World D) (g : FwState) (t : ℕ) → FollowAll plan heap g acts → AreInputs w.io.inputs → means.on w.device ≡ Some (at g t) → Led means w (exchanges plan acts answers) v → Walk acts answers result → Fated means plan heap answers acts w v
+  walk_fated : (acts : List Act) (answers : Answers) (result : Outcome) (w v : World D) (g : FwState) (t : ℕ) → FollowAll plan heap kept g acts → AreInputs w.io.inputs → means.on w.device ≡ Some (at g t) → Led means w (exchanges plan acts answers) v → Walk acts answers result → Fated means plan heap kept answers acts w v
   walk_fated [] [] result w v g t follow are on led walk = led
   walk_fated [] (answer ∷ answers) result w v g t follow are on led walk = walk
   walk_fated (act ∷ acts) [] result w v g t follow are on led walk = absurd walk
   walk_fated (act ∷ acts) (answer ∷ answers) result w v g t follow are on led walk =
       let m = led.0 in
-      let first = one means plan heap act answer w m g t follow.0 are on led.1 in
+      let first = one means plan heap kept act answer w m g t follow.0 are on led.1 in
       let t' = t + (means.pending w.device - means.pending m.device) in
       ⊎_elim
       (λ taken.
       let rest_walk = subst (λ (r : Result Reply HostFault). MatchResult r (λ reply. Walk acts answers result) (λ fault. (answers ≡ []) × (result ≡ Err fault))) taken.said walk in
       let rest = walk_fated acts answers result m v (effect (message_of plan act) g) t' (follow.1 taken.free) (subst (λ (io : Io). AreInputs io.inputs) (sym first.endpoints) are) taken.on led.2 rest_walk in
-      (m, led.1, fate_is (own plan heap act) w.device m.device answer (Ok (reply_with (pos 0))) taken.said taken.free, rest))
+      (m, led.1, fate_is (own plan heap kept act) w.device m.device answer (Ok (reply_with (pos 0))) taken.said taken.free, rest))
       (λ other.
       let end = subst (λ (r : Result Reply HostFault). MatchResult r (λ reply. Walk acts answers result) (λ fault. (answers ≡ []) × (result ≡ Err fault))) other.said walk in
-      let last : Fated means plan heap answers acts m v = subst (λ (xs : Answers). Fated means plan heap xs acts m v) (sym end.0) (no_more acts answers m v end.0 led.2) in
-      (m, led.1, fate_is (own plan heap act) w.device m.device answer (Err other.fault) other.said other.fate, last))
+      let last : Fated means plan heap kept answers acts m v = subst (λ (xs : Answers). Fated means plan heap kept xs acts m v) (sym end.0) (no_more acts answers m v end.0 led.2) in
+      (m, led.1, fate_is (own plan heap kept act) w.device m.device answer (Err other.fault) other.said other.fate, last))
       first.way
 
 -- what fates entail: the calls alone
-pub Fated-led : {D : Type 0} (means : Meaning D) (plan : Plan) (heap : ℕ) (answers : Answers) (acts : List Act) (w v : World D) → Fated means plan heap answers acts w v → Led means w (exchanges plan acts answers) v
-Fated-led means plan heap [] [] w v fated = fated
-Fated-led means plan heap [] (act ∷ acts) w v fated = fated
-Fated-led means plan heap (answer ∷ answers) [] w v fated = absurd fated
-Fated-led means plan heap (answer ∷ answers) (act ∷ acts) w v fated = (fated.0, fated.1, Fated-led means plan heap answers acts fated.0 v fated.3)
+pub Fated-led : {D : Type 0} (means : Meaning D) (plan : Plan) (heap : ℕ) (kept : Record) (answers : Answers) (acts : List Act) (w v : World D) → Fated means plan heap kept answers acts w v → Led means w (exchanges plan acts answers) v
+Fated-led means plan heap kept [] [] w v fated = fated
+Fated-led means plan heap kept [] (act ∷ acts) w v fated = fated
+Fated-led means plan heap kept (answer ∷ answers) [] w v fated = absurd fated
+Fated-led means plan heap kept (answer ∷ answers) (act ∷ acts) w v fated = (fated.0, fated.1, Fated-led means plan heap kept answers acts fated.0 v fated.3)
 
 -- ---- the list that brings a device up
 
 -- a fresh firmware follows the list, to a state in which the plan stands
-pub record Brings (plan : Plan) (heap : ℕ) : Type 0 where
-  pub follow : FollowAll plan heap (fresh heap) (bring_up_acts plan)
-  pub fits : AllFree plan heap (bring_up_acts plan) → Fits plan heap
+pub record Brings (plan : Plan) (heap : ℕ) (kept : Record) : Type 0 where
+  pub follow : FollowAll plan heap kept (fresh heap) (bring_up_acts plan)
+  pub fits : AllFree plan heap kept (bring_up_acts plan) → Fits plan heap
   pub state : effects plan (bring_up_acts plan) (fresh heap) ≡ loaded_state plan heap 0
 
-module _ {D : Type 0} (means : Meaning D) (plan : Plan) (heap : ℕ) (w v : World D) (brings : Brings plan heap) (are : AreInputs w.io.inputs) (on : means.on w.device ≡ Some (fresh heap)) where
+module _ {D : Type 0} (means : Meaning D) (plan : Plan) (heap : ℕ) (kept : Record) (w v : World D) (brings : Brings plan heap kept) (are : AreInputs w.io.inputs) (on : means.on w.device ≡ Some (fresh heap)) where
   pub brought_up : (result : Outcome) → Walked means plan (bring_up_acts plan) w v result → BroughtUp means plan heap w.device result v.device × (v.io ≡ w.io)
   brought_up (Ok done) walked =
-      let all = walk_passed means plan heap (bring_up_acts plan) walked.answers w v (fresh heap) 0 brings.follow are on walked.led walked.walk in
+      let all = walk_passed means plan heap kept (bring_up_acts plan) walked.answers w v (fresh heap) 0 brings.follow are on walked.led walked.walk in
       let fall = means.pending w.device - means.pending v.device in
       let clock : 0 + fall ≡ fall = omega arith in
       ((brings.fits all.free, all.on ∙ ap (λ (n : ℕ). Some (at (effects plan (bring_up_acts plan) (fresh heap)) n)) clock ∙ ap (λ (g : FwState). Some (at g fall)) brings.state), all.endpoints)
   brought_up (Err fault) walked =
-      let ended = walk_ended means plan heap (bring_up_acts plan) walked.answers fault w v (fresh heap) 0 brings.follow are on walked.led walked.walk in
+      let ended = walk_ended means plan heap kept (bring_up_acts plan) walked.answers fault w v (fresh heap) 0 brings.follow are on walked.led walked.walk in
       ((Walked-on means plan (bring_up_acts plan) w v (Err fault) walked (ap is_some on), ended.why), ended.endpoints)
 
   -- with the fate of each act
-  pub walk_fates : (result : Outcome) → Walked means plan (bring_up_acts plan) w v result → WalkFates means plan heap (bring_up_acts plan) w v result
+  pub walk_fates : (result : Outcome) → Walked means plan (bring_up_acts plan) w v result → WalkFates means plan heap kept (bring_up_acts plan) w v result
   walk_fates result walked = record {
     answers = walked.answers;
-    fated = walk_fated means plan heap (bring_up_acts plan) walked.answers result w v (fresh heap) 0 brings.follow are on walked.led walked.walk;
+    fated = walk_fated means plan heap kept (bring_up_acts plan) walked.answers result w v (fresh heap) 0 brings.follow are on walked.led walked.walk;
     walk = walked.walk;
   }

@@ -1,21 +1,17 @@
 -- What the firmware answers is a reply: its error is 0, or one of the negative numbers.
-use Rattle.std.proofs.Common.{◌≡◌, ℕ, ◌<◌, ◌^◌, Bool, true, false, cond, ℤ, pos, negsuc, List, [], length, take, Option, Some, None, Result, Ok, Err, refl, sym, ap, subst, ◌∙◌, arith, append-nil}
-use Rattle.std.proofs.lemmas.List.{take_at}
+use Rattle.std.proofs.Common.{◌≡◌, ℕ, ◌<◌, ◌^◌, Bool, true, false, cond, ℤ, pos, negsuc, [], Option, Some, None, Result, Ok, Err, refl, sym, ap, ◌∙◌, arith, append-nil}
 use Rattle.std.specs.Prelude.{IfErr}
 use Rattle.std.specs.Int.{w32}
 use Rattle.std.proofs.Math.Facts.{sfits_lit}
 use Rattle.std.specs.Int.RustNames.{FitsSigned}
-use Rattle.sof_base.specs.Slots.{slots_cells, slot_cells, word_at}
-use Rattle.sof_base.specs.Cells.{Fits}
-use Rattle.sof_base.proofs.Fitting.{Fits-written}
 use Rattle.ipc3_codec.specs.declared.reply.Reply.{Reply}
 use Rattle.ipc3_codec.specs.declared.reply.Body.TheVariants.{Nothing}
-use Rattle.ipc3_codec.specs.Replies.{reply_slots, decoded_reply}
-use Rattle.ipc3_codec.proofs.ReplyLaws.{decoded_reply_only}
+use Rattle.ipc3_codec.specs.Replies.{decoded_reply}
+use Rattle.ipc3_codec.proofs.Spelled.{decoded_reply-spelling}
 use Rattle.stream_law.specs.declared.graph.Pipe.{Pipe}
 use Rattle.stream_law.specs.State.{FwState}
 use Rattle.ipc3_codec.specs.declared.message.Message.{Message}
-use Rattle.ipc3_codec.specs.declared.message.Message.TheVariants.{CompNew, BufferNew, PipeNew, Connect, PipeComplete}
+use Rattle.ipc3_codec.specs.declared.message.Message.TheVariants.{CompNew, CompFree, Connect, PipeNew, PipeFree, PipeComplete, BufferNew, BufferFree, CtxSave, SetValue, GetValue, SetData, GetData, PcmParams, PcmFree, TrigStart, TrigStop, TrigPause, TrigRelease}
 use Rattle.ipc3_codec.specs.declared.fault.CodecFault.{CodecFault}
 use Rattle.mbox_link.specs.Step.{error_reply, no_memory, busy, no_device, invalid, row, row_of, complete_pipe}
 
@@ -23,26 +19,9 @@ use Rattle.mbox_link.specs.Step.{error_reply, no_memory, busy, no_device, invali
 abbrev pub reply_with : ℤ → Reply
 reply_with error = record { error = error; body = Nothing }
 
-length-reply : (e : ℤ) → length (error_reply e) ≡ 12
-unfolding slots_cells slot_cells
-length-reply e = refl
-
-size-reply : (e : ℤ) → word_at (error_reply e) 0 ≡ 12
-unfolding slots_cells slot_cells word_at
-size-reply e = refl
-
 -- a reply's error is read from its bytes
 pub decoded-error : (e : ℤ) → FitsSigned w32 e → decoded_reply (error_reply e) ≡ Ok (reply_with e)
-decoded-error e is =
-    let b = error_reply e in
-    let len = length-reply e in
-    let size = size-reply e in
-    let all : take 12 b ≡ b = ap (take 12) (sym (append-nil b)) ∙ take_at b [] 12 len in
-    decoded_reply_only b (reply_with e) is record {
-      header = omega (arith, len);
-      sized = rw (size, len) refl;
-      fits = subst (λ (x : List ℕ). Fits x (slots_cells (reply_slots (reply_with e)))) (sym all) (Fits-written (slots_cells (reply_slots (reply_with e))));
-    }
+decoded-error e is = ap decoded_reply (sym (append-nil (error_reply e))) ∙ decoded_reply-spelling (reply_with e) [] (is, tt)
 
 pub zero-fits : FitsSigned w32 (pos 0)
 zero-fits = sfits_lit tt
@@ -97,6 +76,20 @@ row_numbers f (BufferNew id pipe size caps) = search numbers
 row_numbers f (PipeNew id pipe sched period priority mips frames time_domain) = search numbers
 row_numbers f (Connect source sink) = search numbers
 row_numbers f (PipeComplete id) = search (numbers, complete_numbers)
+row_numbers f (PcmParams host direction params) = search numbers
+row_numbers f (PcmFree id) = search numbers
+row_numbers f (TrigStart id) = search numbers
+row_numbers f (TrigStop id) = search numbers
+row_numbers f (TrigPause id) = search numbers
+row_numbers f (TrigRelease id) = search numbers
+row_numbers f CtxSave = passes f
+row_numbers f (CompFree id) = is_invalid
+row_numbers f (PipeFree id) = is_invalid
+row_numbers f (BufferFree id) = is_invalid
+row_numbers f (SetValue id command values) = is_invalid
+row_numbers f (GetValue id command) = is_invalid
+row_numbers f (SetData id part) = is_invalid
+row_numbers f (GetData id index) = is_invalid
 
 -- every refusal of the firmware is an error number
 pub row_of_numbers : (f : FwState) (r : Result Message CodecFault) → IfErr (row_of f r) IsErrorNumber

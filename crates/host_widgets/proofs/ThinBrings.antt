@@ -14,6 +14,7 @@ use Rattle.mbox_link.specs.Step.{fresh, format_of, row, is_used, has_comp, no_de
 use Rattle.tplg_graph.specs.declared.planned.Plan.{Plan}
 use Rattle.tplg_graph.specs.declared.planned.WidgetPlan.{WidgetPlan}
 use Rattle.tplg_graph.specs.ThinPlan.{IsThinPlan, IsWidgetPlan, thin_graph, format_number}
+use Rattle.host_widgets.specs.declared.kept.Record.{Record}
 use Rattle.host_widgets.specs.Acts.{Make, Join, Finish, message_of, bring_up_acts}
 use Rattle.host_widgets.specs.Expected.{needed_by, loaded_state}
 use Rattle.host_widgets.specs.Host.{own, Fits}
@@ -56,7 +57,7 @@ module _ (pipe size : ℕ) (format : Format) (sched : ℕ) (names : List (List �
     widgets = record host { pipe = pipe } ∷ record buffer { pipe = pipe } ∷ record dai { pipe = pipe; frame_fmt = format_number format } ∷ record scheduler { pipe = pipe } ∷ [];
   }
 
-  module _ (heap : ℕ) where
+  module _ (heap : ℕ) (kept : Record) where
     -- the firmware after each act
     abbrev made : ℕ → FwState → FwState
     made id g = effect (message_of thin (Make id)) g
@@ -216,10 +217,10 @@ module _ (pipe size : ℕ) (format : Format) (sched : ℕ) (names : List (List �
       holes_0 : g0.heap.holes ≡ left 0 room
       holes_0 = fresh-left room
 
-      follows_0 : Follows thin heap g0 (Make 0)
-      follows_0 = make_follows thin heap 0 64 needed_1 refl (omega arith) refl (omega arith) g0 (Make 0) still_0 message_0 holes_0 (omega arith) refl row_0
+      follows_0 : Follows thin heap kept g0 (Make 0)
+      follows_0 = make_follows thin heap 0 64 needed_1 refl (omega arith) refl (omega arith) kept g0 (Make 0) still_0 message_0 holes_0 (omega arith) refl row_0
 
-      module _ (free_0 : own thin heap (Make 0) ≡ None) where
+      module _ (free_0 : own thin heap kept (Make 0) ≡ None) where
         within_1 : needed_1 ≤ room
         within_1 = room_for thin heap 0 64 needed_1 refl (omega arith) refl (omega arith) free_0
 
@@ -232,10 +233,10 @@ module _ (pipe size : ℕ) (format : Format) (sched : ℕ) (names : List (List �
         sum_2 : needed_2 ≡ needed_1 + buffer_room
         sum_2 = omega arith
 
-        follows_1 : Follows thin heap g1 (Make 1)
-        follows_1 = make_follows thin heap needed_1 buffer_room needed_2 whole_2 buffer-some sum_2 within_1 g1 (Make 1) still_1 message_1 holes_1 (omega arith) refl row_1
+        follows_1 : Follows thin heap kept g1 (Make 1)
+        follows_1 = make_follows thin heap needed_1 buffer_room needed_2 whole_2 buffer-some sum_2 within_1 kept g1 (Make 1) still_1 message_1 holes_1 (omega arith) refl row_1
 
-        module _ (free_1 : own thin heap (Make 1) ≡ None) where
+        module _ (free_1 : own thin heap kept (Make 1) ≡ None) where
           within_2 : needed_2 ≤ room
           within_2 = omega (arith, sum_2, room_for thin heap needed_1 buffer_room needed_2 whole_2 buffer-some sum_2 within_1 free_1)
 
@@ -248,10 +249,10 @@ module _ (pipe size : ℕ) (format : Format) (sched : ℕ) (names : List (List �
           sum_3 : needed_3 ≡ needed_2 + 64
           sum_3 = omega arith
 
-          follows_2 : Follows thin heap g2 (Make 2)
-          follows_2 = make_follows thin heap needed_2 64 needed_3 whole_3 (omega arith) sum_3 within_2 g2 (Make 2) still_2 message_2 holes_2 (omega arith) refl row_2
+          follows_2 : Follows thin heap kept g2 (Make 2)
+          follows_2 = make_follows thin heap needed_2 64 needed_3 whole_3 (omega arith) sum_3 within_2 kept g2 (Make 2) still_2 message_2 holes_2 (omega arith) refl row_2
 
-          module _ (free_2 : own thin heap (Make 2) ≡ None) where
+          module _ (free_2 : own thin heap kept (Make 2) ≡ None) where
             within_3 : needed_3 ≤ room
             within_3 = omega (arith, sum_3, room_for thin heap needed_2 64 needed_3 whole_3 (omega arith) sum_3 within_2 free_2)
 
@@ -264,19 +265,19 @@ module _ (pipe size : ℕ) (format : Format) (sched : ℕ) (names : List (List �
             sum_4 : needed_4 ≡ needed_3 + 64
             sum_4 = omega arith
 
-            follows_3 : Follows thin heap g3 (Make 3)
-            follows_3 = make_follows thin heap needed_3 64 needed_4 whole_4 (omega arith) sum_4 within_3 g3 (Make 3) still_3 message_3 holes_3 (omega arith) refl row_3
+            follows_3 : Follows thin heap kept g3 (Make 3)
+            follows_3 = make_follows thin heap needed_3 64 needed_4 whole_4 (omega arith) sum_4 within_3 kept g3 (Make 3) still_3 message_3 holes_3 (omega arith) refl row_3
 
-      follows_4 : Follows thin heap g4 (Join 0 1)
-      follows_4 = plainly_follows thin heap g4 (Join 0 1) still_4 message_4 refl row_4
+      follows_4 : Follows thin heap kept g4 (Join 0 1)
+      follows_4 = plainly_follows thin heap kept g4 (Join 0 1) still_4 message_4 refl row_4
 
-      follows_5 : Follows thin heap g5 (Join 1 2)
-      follows_5 = plainly_follows thin heap g5 (Join 1 2) still_5 message_5 refl row_5
+      follows_5 : Follows thin heap kept g5 (Join 1 2)
+      follows_5 = plainly_follows thin heap kept g5 (Join 1 2) still_5 message_5 refl row_5
 
-      follows_6 : Follows thin heap g6 (Finish 3)
-      follows_6 = plainly_follows thin heap g6 (Finish 3) still_6 message_6 refl (λ t. row_6 t sched_is)
+      follows_6 : Follows thin heap kept g6 (Finish 3)
+      follows_6 = plainly_follows thin heap kept g6 (Finish 3) still_6 message_6 refl (λ t. row_6 t sched_is)
 
-      follow : FollowAll thin heap g0 (bring_up_acts thin)
+      follow : FollowAll thin heap kept g0 (bring_up_acts thin)
       follow = (
         follows_0,
         λ free_0. (
@@ -288,10 +289,10 @@ module _ (pipe size : ℕ) (format : Format) (sched : ℕ) (names : List (List �
         ),
       )
 
-      fits_all : AllFree thin heap (bring_up_acts thin) → Fits thin heap
+      fits_all : AllFree thin heap kept (bring_up_acts thin) → Fits thin heap
       fits_all free = ltb-false heap needed_4 (refusal-none (ltb heap needed_4) free.1.1.1.0)
 
-      pub brings_thin : Brings thin heap
+      pub brings_thin : Brings thin heap kept
       brings_thin = record { follow = follow; fits = fits_all; state = stands }
 
 -- a thin plan is that one
@@ -302,7 +303,7 @@ plan-thin plan p =
     λ i. record { graph = p.graph i; streams = p.streams i; names = plan.names; widgets = (p.widgets ∙ widgets) i }
 
 -- a fresh firmware takes the list of a thin plan
-pub brings : (plan : Plan) (heap : ℕ) → IsThinPlan plan → Brings plan heap
-brings plan heap p =
-    subst (λ (x : Plan). Brings x heap) (sym (plan-thin plan p))
-    (brings_thin p.pipe p.size p.format p.sched plan.names p.host p.buffer p.dai p.scheduler heap p.pipe_fits p.size_least p.size_most p.sched_is p.host_is p.buffer_is p.dai_is p.scheduler_is)
+pub brings : (plan : Plan) (heap : ℕ) (kept : Record) → IsThinPlan plan → Brings plan heap kept
+brings plan heap kept p =
+    subst (λ (x : Plan). Brings x heap kept) (sym (plan-thin plan p))
+    (brings_thin p.pipe p.size p.format p.sched plan.names p.host p.buffer p.dai p.scheduler heap kept p.pipe_fits p.size_least p.size_most p.sched_is p.host_is p.buffer_is p.dai_is p.scheduler_is)

@@ -7,7 +7,8 @@ use Rattle.mbox_link.specs.Exchange.{Rose}
 use Rattle.mbox_link.specs.Calls.{World, Meaning, Boot, Cut, Exchanged, Did}
 use Rattle.tplg_graph.specs.declared.planned.Plan.{Plan}
 use Rattle.host_widgets.specs.declared.answers.HostFault.{HostFault}
-use Rattle.host_widgets.specs.declared.answers.HostFault.TheVariants.{Loaded, Refused, LinkDown}
+use Rattle.host_widgets.specs.declared.answers.HostFault.TheVariants.{Refused, LinkDown}
+use Rattle.host_widgets.specs.declared.kept.Record.{Record}
 use Rattle.host_widgets.specs.Acts.{Act, message_of, bring_up_acts}
 use Rattle.host_widgets.specs.Host.{Outcome, Walk, verdict, own}
 
@@ -17,22 +18,22 @@ abbrev pub Fate : {D : Type 0} → Meaning D → Option Errno → D → Result R
 Fate means refusal old (Ok reply) new = refusal ≡ None
 Fate means refusal old (Err (Refused e)) new = (refusal ≡ Some e) ⊎ Rose (means.refusals old) (means.refusals new)
 Fate means refusal old (Err LinkDown) new = Rose (means.faults old) (means.faults new)
-Fate means refusal old (Err Loaded) new = ⊥
+Fate means refusal old (Err fault) new = ⊥
 
 -- one exchange for each answer, from one world to the next, each with the fate of its act
-abbrev pub Fated : {D : Type 0} → Meaning D → Plan → ℕ → List (Option (List ℕ)) → List Act → World D → World D → Type 0
-Fated means plan heap [] acts w v = v ≡ w
-Fated means plan heap (answer ∷ answers) [] w v = ⊥
-Fated {D} means plan heap (answer ∷ answers) (act ∷ acts) w v =
+abbrev pub Fated : {D : Type 0} → Meaning D → Plan → ℕ → Record → List (Option (List ℕ)) → List Act → World D → World D → Type 0
+Fated means plan heap kept [] acts w v = v ≡ w
+Fated means plan heap kept (answer ∷ answers) [] w v = ⊥
+Fated {D} means plan heap kept (answer ∷ answers) (act ∷ acts) w v =
     (m : World D)
     × Exchanged means (message_spelling (message_of plan act)) answer w m
-    × Fate means (own plan heap act) w.device (verdict answer) m.device
-    × Fated means plan heap answers acts m v
+    × Fate means (own plan heap kept act) w.device (verdict answer) m.device
+    × Fated means plan heap kept answers acts m v
 
 -- the fates of these acts, up to the end of the walk
-pub record WalkFates {D : Type 0} (means : Meaning D) (plan : Plan) (heap : ℕ) (acts : List Act) (w v : World D) (result : Outcome) : Type 0 where
+pub record WalkFates {D : Type 0} (means : Meaning D) (plan : Plan) (heap : ℕ) (kept : Record) (acts : List Act) (w v : World D) (result : Outcome) : Type 0 where
   pub answers : List (Option (List ℕ))
-  pub fated : Fated means plan heap answers acts w v
+  pub fated : Fated means plan heap kept answers acts w v
   pub walk : Walk acts answers result
 
 -- after a failure the device is cut
@@ -41,9 +42,9 @@ Ends means (Ok done) w v = v ≡ w
 Ends means (Err fault) w v = Did means Cut w v
 
 -- the fates of a load: a boot, the acts that bring the device up, and after a failure a cut
-pub record LoadFates {D : Type 0} (means : Meaning D) (plan : Plan) (heap : ℕ) (w v : World D) (result : Outcome) : Type 0 where
+pub record LoadFates {D : Type 0} (means : Meaning D) (plan : Plan) (heap : ℕ) (kept : Record) (w v : World D) (result : Outcome) : Type 0 where
   pub booted : World D
   pub sent : World D
   pub boot : Did means (Boot heap) w booted
-  pub fates : WalkFates means plan heap (bring_up_acts plan) booted sent result
+  pub fates : WalkFates means plan heap kept (bring_up_acts plan) booted sent result
   pub ends : Ends means result sent v

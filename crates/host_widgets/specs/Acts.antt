@@ -1,25 +1,31 @@
 -- What the host does to a device, and the message that it writes for each act.
-use Rattle.std.specs.Prelude.{ℕ, ◌==◌, List, ◌++◌, map, length, get_or, find, Option, unwrap_or}
+use Rattle.std.specs.Prelude.{ℕ, ◌==◌, List, ◌++◌, map, length, get_or, find, Option, unwrap_or, Some, None, if◌then◌else◌}
 use Rattle.std.specs.List.{range_with_len}
 use Rattle.std.specs.Option.{option_map}
+use Rattle.sof_base.specs.declared.format.Params.{Params}
 use Rattle.stream_law.specs.declared.graph.Kind.{Kind}
 use Rattle.stream_law.specs.declared.graph.Kind.TheVariants.{HostPlay, HostCapture, DaiPlay, DaiCapture}
 use Rattle.stream_law.specs.declared.graph.Comp.{Comp}
 use Rattle.stream_law.specs.declared.graph.Edge.{Edge}
 use Rattle.stream_law.specs.declared.graph.Pipe.{Pipe}
-use Rattle.stream_law.specs.Ways.{comp_of, edge_of}
+use Rattle.stream_law.specs.Ways.{comp_of, edge_of, is_capture}
 use Rattle.ipc3_codec.specs.declared.message.Message.{Message}
-use Rattle.ipc3_codec.specs.declared.message.Message.TheVariants.{CompNew, BufferNew, PipeNew, Connect, PipeComplete}
+use Rattle.ipc3_codec.specs.declared.message.Message.TheVariants.{CompNew, BufferNew, PipeNew, Connect, PipeComplete, PcmParams, PcmFree, TrigStart, TrigStop, TrigPause, TrigRelease}
 use Rattle.ipc3_codec.specs.declared.message.CompWords.{CompWords}
 use Rattle.ipc3_codec.specs.declared.message.CompWords.TheVariants as words
 use Rattle.tplg_graph.specs.declared.planned.Plan.{Plan}
 use Rattle.tplg_graph.specs.declared.planned.WidgetPlan.{WidgetPlan}
+use Rattle.host_widgets.specs.declared.trigger.Trigger.{Trigger}
+use Rattle.host_widgets.specs.declared.trigger.Trigger.TheVariants.{Start, Stop, Pause, Release}
 
--- an act, by the ids that it is about
+-- an act, by the ids that it is about; a stream by that of its host component
 pub data Act : Type 0 where
   Make : (id : ℕ) → Act  -- a widget is made
   Join : (source : ℕ) → (sink : ℕ) → Act  -- a buffer and a component are joined
   Finish : (id : ℕ) → Act  -- a pipeline is complete
+  Prepare : (host : ℕ) → (params : Params) → Act  -- a stream has parameters
+  Trig : (host : ℕ) → (what : Trigger) → Act  -- a stream is triggered
+  Free : (host : ℕ) → Act  -- a stream is without parameters
 
 -- ---- the list that brings a device up
 
@@ -97,8 +103,26 @@ abbrev pub make_message : Plan → ℕ → WidgetPlan → Message
 make_message plan id w =
     unwrap_or (made_component plan id w) (unwrap_or (made_buffer plan id w) (unwrap_or (made_pipe plan id w) (pipe_message id w 0 0)))
 
+-- a host's direction in messages: 0 for playback, 1 for capture
+abbrev pub direction_by : Option Comp → ℕ
+direction_by None = 0
+direction_by (Some c) = if is_capture c.kind then 1 else 0
+
+abbrev pub direction_of : Plan → ℕ → ℕ
+direction_of plan host = direction_by (comp_of plan.graph host)
+
+-- the message of a trigger
+abbrev pub trigger_message : ℕ → Trigger → Message
+trigger_message host Start = TrigStart host
+trigger_message host Stop = TrigStop host
+trigger_message host Pause = TrigPause host
+trigger_message host Release = TrigRelease host
+
 -- the message of an act
 abbrev pub message_of : Plan → Act → Message
 message_of plan (Make id) = make_message plan id (words_of plan id)
 message_of plan (Join source sink) = Connect source sink
 message_of plan (Finish id) = PipeComplete id
+message_of plan (Prepare host params) = PcmParams host (direction_of plan host) params
+message_of plan (Trig host what) = trigger_message host what
+message_of plan (Free host) = PcmFree host

@@ -14,7 +14,7 @@ use Rattle.mbox_link.specs.Step.{comp_bytes, buffer_bytes, pipe_bytes, with_piec
 use Rattle.tplg_graph.specs.declared.planned.Plan.{Plan}
 use Rattle.tplg_graph.specs.declared.planned.StreamPlan.{StreamPlan}
 use Rattle.host_widgets.specs.declared.kept.Found.{Found}
-use Rattle.host_widgets.specs.declared.kept.Found.TheVariants.{Closed, Open, Prepared, Running, Paused}
+use Rattle.host_widgets.specs.declared.kept.Found.TheVariants.{Prepared, Running, Paused}
 use Rattle.host_widgets.specs.declared.kept.Power.TheVariants.{On}
 use Rattle.host_widgets.specs.declared.kept.StreamRec.{StreamRec}
 use Rattle.host_widgets.specs.declared.kept.Record.{Record}
@@ -25,11 +25,10 @@ use Rattle.host_widgets.specs.Acts.{ids_of}
 
 -- a stream that is closed or open is idle
 abbrev pub phase_of : Found → Phase
-phase_of Closed = phases.Idle
-phase_of Open = phases.Idle
 phase_of Prepared = phases.Prepared
 phase_of Running = phases.Running
 phase_of Paused = phases.Paused
+phase_of found = phases.Idle
 
 abbrev pub stream_view : StreamPlan × StreamRec → StreamView
 stream_view (s, r) = record { host = s.host; phase = phase_of r.found; params = r.params }

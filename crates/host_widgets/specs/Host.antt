@@ -1,25 +1,30 @@
 -- What the host's calls do on a device, and what they come to.
-use Rattle.std.specs.Prelude.{◌≡◌, ◌⊎◌, ◌↔◌, ℕ, ◌+◌, ◌-◌, ◌%◌, ◌^◌, ◌<◌, ◌≤◌, ℤ, pos, negsuc, Bool, true, false, List, [], ◌∷◌, ◌++◌, length, nat_lt, Option, Some, None, is_some, Result, Ok, Err, MatchResult, if◌then◌else◌}
-use Rattle.std.specs.List.{list_any}
+use Rattle.std.specs.Prelude.{◌≡◌, ◌⊎◌, ◌↔◌, ℕ, ◌+◌, ◌-◌, ◌%◌, ◌^◌, ◌<◌, ◌≤◌, ℤ, pos, negsuc, Bool, true, false, List, [], ◌∷◌, ◌++◌, length, nat_lt, Option, Some, None, is_some, Result, Ok, Err, MatchResult, if◌then◌else◌, ◌==◌, ◌&&◌, not}
+use Rattle.std.specs.List.{list_any, list_all, zip}
 use Rattle.std.specs.Option.{option_map}
 use Rattle.sof_base.specs.declared.errno.Errno.{Errno}
+use Rattle.sof_base.specs.declared.format.Params.{Params}
+use Rattle.stream_law.specs.declared.stream.Phase.TheVariants.{Idle}
+use Rattle.stream_law.specs.declared.stream.StreamView.{StreamView}
 use Rattle.stream_law.specs.State.{view_of}
-use Rattle.stream_law.specs.Ways.{is_live_phase}
+use Rattle.stream_law.specs.Ways.{is_live_phase, touch, same_shape, agree}
 use Rattle.ipc3_codec.specs.declared.reply.Reply.{Reply}
 use Rattle.ipc3_codec.specs.declared.fault.CodecFault.{CodecFault}
 use Rattle.ipc3_codec.specs.Messages.{message_spelling}
 use Rattle.ipc3_codec.specs.Replies.{decoded_reply}
-use Rattle.mbox_link.specs.Step.{no_memory}
+use Rattle.mbox_link.specs.Step.{no_memory, invalid}
 use Rattle.mbox_link.specs.Exchange.{Rose}
 use Rattle.mbox_link.specs.Calls.{World, Meaning, Call, Boot, Cut, Exchange, Led}
 use Rattle.tplg_graph.specs.declared.planned.Plan.{Plan}
+use Rattle.tplg_graph.specs.declared.planned.StreamPlan.{StreamPlan}
 use Rattle.host_widgets.specs.declared.answers.HostFault.{HostFault}
 use Rattle.host_widgets.specs.declared.answers.HostFault.TheVariants.{Loaded, Refused, LinkDown}
 use Rattle.host_widgets.specs.declared.kept.Power.{Power}
 use Rattle.host_widgets.specs.declared.kept.Power.TheVariants.{Unloaded, On, Off}
+use Rattle.host_widgets.specs.declared.kept.StreamRec.{StreamRec}
 use Rattle.host_widgets.specs.declared.kept.Record.{Record}
-use Rattle.host_widgets.specs.HostRecord.{all_closed, first_record}
-use Rattle.host_widgets.specs.Acts.{Act, Make, Join, Finish, bring_up_acts, message_of}
+use Rattle.host_widgets.specs.HostRecord.{all_closed, first_record, may_have}
+use Rattle.host_widgets.specs.Acts.{Act, Make, Prepare, bring_up_acts, message_of}
 use Rattle.host_widgets.specs.Expected.{phase_of, expected_view, needed_by, loaded_state}
 
 -- whether a command that answers nothing else was done
@@ -81,11 +86,21 @@ pub record Walked {D : Type 0} (means : Meaning D) (plan : Plan) (acts : List Ac
 
 -- ---- what the firmware itself refuses
 
--- an act is refused by the firmware itself exactly where it makes a widget up to which the stated sizes pass the heap
-abbrev pub own : Plan → ℕ → Act → Option Errno
-own plan heap (Make id) = if nat_lt heap (needed_by plan (id + 1)) then Some (errno no_memory) else None
-own plan heap (Join source sink) = None
-own plan heap (Finish id) = None
+-- a stream of a host, without parameters
+abbrev pub idle_view : ℕ → StreamView
+idle_view host = record { host = host; phase = Idle; params = None }
+
+-- a stream that is not this host's, has parameters, shares something with its way, and has another rate or number of channels
+abbrev pub conflicts : Plan → ℕ → Params → StreamPlan × StreamRec → Bool
+conflicts plan host p (s, r) =
+    not (s.host == host) && touch plan.graph (idle_view s.host) (idle_view host) && is_some r.params && not (same_shape r.params (Some p))
+
+-- An act is refused by the firmware itself exactly where it makes a widget up to which the stated sizes pass the heap, or gives
+-- a stream parameters that do not agree with those of another stream in the record.
+abbrev pub own : Plan → ℕ → Record → Act → Option Errno
+own plan heap kept (Make id) = if nat_lt heap (needed_by plan (id + 1)) then Some (errno no_memory) else None
+own plan heap kept (Prepare host p) = if list_any (conflicts plan host p) (zip plan.streams kept.streams) then Some (errno invalid) else None
+own plan heap kept act = None
 
 -- the stated sizes of all widgets fit
 abbrev pub Fits : Plan → ℕ → Type 0
@@ -98,7 +113,7 @@ abbrev pub Why : {D : Type 0} → Meaning D → Plan → ℕ → D → HostFault
 Why means plan heap old (Refused e) new =
     ((e ≡ errno no_memory) × (heap < needed_by plan (length plan.widgets))) ⊎ Rose (means.refusals old) (means.refusals new)
 Why means plan heap old LinkDown new = Rose (means.faults old) (means.faults new)
-Why means plan heap old Loaded new = ⊥
+Why means plan heap old fault new = ⊥
 
 -- the ticks that a device has put before messages, as its clock counts them
 abbrev pub ticks_put : {D : Type 0} → Meaning D → D → D → ℕ
@@ -135,9 +150,9 @@ Loads means plan heap Off w v result = (v ≡ w) × (result ≡ Err Loaded)
 -- the record after a load that came to this
 abbrev pub after_load : Plan → Outcome → Record → Record
 after_load plan (Ok done) kept = all_closed On plan
-after_load plan (Err Loaded) kept = kept
 after_load plan (Err (Refused e)) kept = first_record plan
 after_load plan (Err LinkDown) kept = first_record plan
+after_load plan (Err fault) kept = kept
 
 -- what a load leaves on the device: the plan, or nothing, since it is off
 abbrev pub LoadLeft : {D : Type 0} → Meaning D → Plan → ℕ → D → Outcome → D → Type 0
@@ -145,6 +160,7 @@ LoadLeft means plan heap old (Ok done) new = Stands means plan heap old new
 LoadLeft means plan heap old (Err Loaded) new = new ≡ old
 LoadLeft means plan heap old (Err (Refused e)) new = (means.on new ≡ None) × Why means plan heap old (Refused e) new
 LoadLeft means plan heap old (Err LinkDown) new = (means.on new ≡ None) × Why means plan heap old LinkDown new
+LoadLeft means plan heap old (Err fault) new = ⊥
 
 -- from an unloaded record it succeeds where the sizes fit and neither count rises, and not where they do not fit
 pub record SucceedsExactly {D : Type 0} (means : Meaning D) (plan : Plan) (heap : ℕ) (old : D) (result : Outcome) (new : D) : Type 0 where
@@ -160,7 +176,14 @@ Sides means plan kept device Unloaded = (kept ≡ first_record plan) × (means.o
 Sides means plan kept device On = option_map view_of (means.on device) ≡ Some (expected_view plan kept)
 Sides means plan kept device Off = (list_any (λ s. is_live_phase (phase_of s.found)) kept.streams ≡ false) × (means.on device ≡ None)
 
+-- A record of this plan: it has the plan's streams, each with the parameters that it may have where it stands, and any two
+-- whose ways share something have one rate and one number of channels.
+pub record IsRecordOf (plan : Plan) (kept : Record) : Type 0 where
+  pub streams : length kept.streams ≡ length plan.streams
+  pub each : list_all (λ r. may_have r.found r.params) kept.streams ≡ true
+  pub shapes : agree (expected_view plan kept) ≡ true
+
 -- the record and the device agree
 pub record Agrees {D : Type 0} (means : Meaning D) (plan : Plan) (kept : Record) (device : D) : Type 0 where
-  pub streams : length kept.streams ≡ length plan.streams
+  pub record_is : IsRecordOf plan kept
   pub sides : Sides means plan kept device kept.power

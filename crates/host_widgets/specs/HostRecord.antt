@@ -1,11 +1,27 @@
--- The host's record before anything was loaded.
-use Rattle.std.specs.Prelude.{map, None}
+-- The host's record: what it may be, before anything was loaded, and after the link failed.
+use Rattle.std.specs.Prelude.{map, Bool, true, false, ◌&&◌, nat_le, Option, Some, None}
+use Rattle.sof_base.specs.declared.format.Params.{Params}
+use Rattle.mbox_link.specs.Step.{is_rate}
 use Rattle.tplg_graph.specs.declared.planned.Plan.{Plan}
-use Rattle.host_widgets.specs.declared.kept.Found.TheVariants.{Closed}
+use Rattle.host_widgets.specs.declared.kept.Found.{Found}
+use Rattle.host_widgets.specs.declared.kept.Found.TheVariants.{Closed, Open, Prepared, Running, Paused}
 use Rattle.host_widgets.specs.declared.kept.Power.{Power}
-use Rattle.host_widgets.specs.declared.kept.Power.TheVariants.{Unloaded}
+use Rattle.host_widgets.specs.declared.kept.Power.TheVariants.{Unloaded, Off}
 use Rattle.host_widgets.specs.declared.kept.StreamRec.{StreamRec}
 use Rattle.host_widgets.specs.declared.kept.Record.{Record}
+
+-- frames a second and samples a frame that a stream may have: a multiple of 1000 from 8000 to 192000, and 1 to 8
+abbrev pub is_in_range : Params → Bool
+is_in_range p = is_rate p.rate && (nat_le 1 p.channels && nat_le p.channels 8)
+
+-- whether a stream that stands so may have these parameters: none while it is closed or open, else some in range
+abbrev pub may_have : Found → Option Params → Bool
+may_have Closed None = true
+may_have Open None = true
+may_have Prepared (Some p) = is_in_range p
+may_have Running (Some p) = is_in_range p
+may_have Paused (Some p) = is_in_range p
+may_have found params = false
 
 -- a stream that is closed has no parameters
 abbrev pub closed : StreamRec
@@ -18,3 +34,16 @@ all_closed power plan = record { power = power; streams = map (λ s. closed) pla
 -- nothing is loaded
 abbrev pub first_record : Plan → Record
 first_record plan = all_closed Unloaded plan
+
+-- a stream that was Running or Paused is Prepared
+abbrev pub halted_found : Found → Found
+halted_found Running = Prepared
+halted_found Paused = Prepared
+halted_found found = found
+
+abbrev pub halted : StreamRec → StreamRec
+halted r = record { found = halted_found r.found; params = r.params }
+
+-- the power is off, and no stream is Running or Paused
+abbrev pub went_down : Record → Record
+went_down kept = record { power = Off; streams = map halted kept.streams }

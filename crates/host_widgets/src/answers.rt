@@ -1,22 +1,41 @@
 // What the host's calls answer.
-use sof_base::Errno;
+use crate::kept::Found;
+use sof_base::{Bounded, Errno, Name44};
 
-/// Why a call of the host gave up.
-#[derive(Clone, Copy, Debug, PartialEq, Eq)]
+/// Why a call of the host gave up. All but `Refused` and `LinkDown` come before any message.
+#[derive(Debug, Drop)]
 pub enum HostFault {
+    /// Nothing is loaded.
+    NotLoaded,
     /// It is loaded already.
     Loaded,
+    /// No stream, or no control of this sort, has this name.
+    NoSuch(Name44),
+    /// The stream, or the power, stands so, and the call asks for another stand.
+    State(Found),
+    /// The device is off.
+    Off,
+    /// This number is outside its range.
+    Range(u32),
     /// A message was answered with this negative error number.
     Refused(Errno),
     /// The link failed.
     LinkDown,
+    /// The bytes are no equaliser blob, by the fault of this number.
+    Blob(u8),
 }
 
 /// What a command answers.
-#[derive(Clone, Copy, Debug, PartialEq, Eq)]
+#[derive(Debug, Drop)]
 pub enum Answer {
     Done,
+    /// A control's values, or the firmware's gains or choice.
+    Values(Bounded<u32, 8>),
+    /// An equaliser's blob, of at most 1024 bytes.
+    Bytes(Bounded<u8, 1024>),
     Fault(HostFault),
+    /// No more fates can be planned.
+    PlanFull,
     /// All that should be there is listed.
     Show,
 }

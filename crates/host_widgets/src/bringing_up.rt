@@ -110,7 +110,7 @@ pub fn bring_up<P: Dsp>(
     requires booted { P.means.on dsp.old ≡ Some (fresh heap) }
     requires room { HasRoom (61440 * P.means.pending dsp.old) out.old }
     ensures calls { Walked P.means plan.now (bring_up_acts plan.now) (world dsp.old io.old out.old) (world dsp.new io.new out.new) result }
-    ensures fates { WalkFates P.means plan.now heap (bring_up_acts plan.now) (world dsp.old io.old out.old) (world dsp.new io.new out.new) result }
+    ensures fates { WalkFates P.means plan.now heap kept.old (bring_up_acts plan.now) (world dsp.old io.old out.old) (world dsp.new io.new out.new) result }
     ensures left { BroughtUp P.means plan.now heap dsp.old result dsp.new }
     ensures kept { kept.new ≡ kept.old }
     ensures inputs { io.new ≡ io.old }

@@ -14,7 +14,8 @@ pub enum Power {
     Off,
 }
 
-/// How far a stream is, as the host sees it. From `Prepared` on it has parameters.
+/// How far a stream is, as the host sees it, or that the device is on. A stream that is `Prepared`, `Running` or `Paused`
+/// has parameters, and none is ever `On`.
 #[derive(Clone, Copy, Debug, PartialEq, Eq)]
 pub enum Found {
     Closed,
@@ -22,6 +23,7 @@ pub enum Found {
     Prepared,
     Running,
     Paused,
+    On,
 }
 
 /// A stream: how far it is, and its parameters where it has them.

@@ -1,18 +1,22 @@
 //! The host's side of a device: the record of what should be there, what each call answers, the messages that bring a
-//! device up, the view that its firmware is then expected to show, and `load` over any device.
+//! device up, the view that its firmware is then expected to show, `load` over any device, and what a failed link leaves.
 #![tactic(auto)]
 
 mod answers;
 mod bringing_up;
+mod going_down;
 mod kept;
 mod loading;
 mod messages;
 mod sending;
 #[cfg(test)]
 mod tests;
+mod trigger;
 
 pub use answers::{Answer, HostFault};
 pub use bringing_up::bring_up;
+pub use going_down::link_down;
 pub use kept::{Found, Power, Record, StreamRec};
 pub use loading::load;
 pub use sending::send;
+pub use trigger::Trigger;

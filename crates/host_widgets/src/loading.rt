@@ -29,7 +29,7 @@ fn power_up<P: Dsp>(
     requires heap { heap ≤ P.means.most dsp.old }
     requires room { HasRoom (61440 * P.means.pending dsp.old) out.old }
     ensures calls { Brought P.means plan.now heap (world dsp.old io.old out.old) (world dsp.new io.new out.new) result }
-    ensures fates { LoadFates P.means plan.now heap (world dsp.old io.old out.old) (world dsp.new io.new out.new) result }
+    ensures fates { LoadFates P.means plan.now heap kept.old (world dsp.old io.old out.old) (world dsp.new io.new out.new) result }
     ensures left { LoadLeft P.means plan.now heap dsp.old result dsp.new }
     ensures unloaded { result ≡ Err HostFault.Loaded → ⊥ }
     ensures kept { kept.new ≡ after_load plan.now result kept.old }
@@ -66,7 +66,7 @@ pub fn load<P: Dsp>(
     // Which calls it made on the device, and what they came to.
     ensures calls { Loads P.means plan.now heap kept.old.power (world dsp.old io.old out.old) (world dsp.new io.new out.new) result }
     // What became of each act, where it was unloaded.
-    ensures fates { kept.old.power ≡ Power.Unloaded → LoadFates P.means plan.now heap (world dsp.old io.old out.old) (world dsp.new io.new out.new) result }
+    ensures fates { kept.old.power ≡ Power.Unloaded → LoadFates P.means plan.now heap kept.old (world dsp.old io.old out.old) (world dsp.new io.new out.new) result }
     ensures loaded { (result ≡ Err HostFault.Loaded) ↔ (kept.old.power ≡ Power.Unloaded → ⊥) }
     ensures left { LoadLeft P.means plan.now heap dsp.old result dsp.new }
     // It succeeds where the stated sizes fit and no count of the device rises, and never where they do not fit.

@@ -1,48 +1,199 @@
 -- Reading word by word gives the message, or the first fault.
-use Rattle.std.proofs.Common.{◌≡◌, ℕ, Bool, true, false, cond, eqb, List, [], length, Option, Some, None, Result, Ok, Err, refl, ap, ◌∙◌, append-nil}
-use Rattle.std.specs.Prelude.{nat_lt, not}
-use Rattle.sof_base.specs.Slots.{word_at}
+use Rattle.std.proofs.Common.{◌≡◌, ℕ, Bool, true, false, cond, List, [], ◌∷◌, ◌++◌, length, Option, Some, None, Result, Ok, Err, refl, ap, ◌∙◌, append-nil}
+use Rattle.std.specs.Prelude.{nat_lt, not, ◌==◌}
+use Rattle.sof_base.specs.Slots.{word_at, part}
+use Rattle.ipc3_codec.specs.declared.command.CommandWord.{CommandWord}
+use Rattle.ipc3_codec.specs.declared.command.CommandWord.TheVariants as commands
+use Rattle.ipc3_codec.specs.declared.control.ControlKind.{ControlKind}
+use Rattle.ipc3_codec.specs.declared.control.ControlKind.TheVariants as kinds
 use Rattle.ipc3_codec.specs.declared.message.Message.{Message}
-use Rattle.ipc3_codec.specs.declared.message.Message.TheVariants.{CompNew}
+use Rattle.ipc3_codec.specs.declared.message.Message.TheVariants.{SetValue, GetValue, SetData, GetData}
+use Rattle.ipc3_codec.specs.declared.components.Config.{Config}
+use Rattle.ipc3_codec.specs.declared.controls.Control.{Control}
+use Rattle.ipc3_codec.specs.declared.streams.Stream.{Stream}
 use Rattle.ipc3_codec.specs.declared.fault.CodecFault.{CodecFault}
 use Rattle.ipc3_codec.specs.declared.fault.CodecFault.TheVariants.{Short, SizeWord}
-use Rattle.ipc3_codec.specs.Messages.{Place, any_word, word_of, is_comp_type, is_sized, body_fault, places_of, comp_places, config_places, kind_places, buffer_places, pipe_places, connect_places, id_places, comp_words, comp_message, buffer_message, pipe_message, connect_message, complete_message, message_of, message_fault, unless_fault, decoded}
-use Rattle.ipc3_codec.specs.Reading.{◌>>=◌, framed, word_in, read_as, config_in, words_in, comp_in, message_in, framed_message_in}
-use Rattle.ipc3_codec.proofs.Places.{read_as-is, read_as-append}
+use Rattle.ipc3_codec.specs.Allowed.{is_direction, is_frame_format, is_channels, is_comp_type, is_format_of}
+use Rattle.ipc3_codec.specs.Commands.{command_numbered}
+use Rattle.ipc3_codec.specs.Places.{Place, any_bytes, any_word, any_words, any_run, word_of, half_of}
+use Rattle.ipc3_codec.specs.StreamWords.{stream_places, format_of, params_at}
+use Rattle.ipc3_codec.specs.ControlWords.{type_of, takes_command, takes_count, takes_remaining, payload_places, control_rest_places, control_places, values_in, part_in}
+use Rattle.ipc3_codec.specs.Messages.{is_sized, places_of, config_places, kind_places, comp_words, message_of, decoded_body, decoded}
+use Rattle.ipc3_codec.specs.Reading.{◌>>=◌, framed, read_as, config_in, words_in, comp_in, format_in, stream_in, params_in, target_in, control_in, values_read, bytes_in, part_read, set_value_in, get_value_in, set_data_in, get_data_in, command_in, numbered_in, framed_message_in}
+use Rattle.ipc3_codec.proofs.Places.{read_as-is, then_read, then_run, then_word}
 
-comp_in-is : (b : List ℕ) → comp_in b ≡ read_as b (comp_places (word_at b 12)) (comp_message b)
-unfolding comp_in config_in words_in
-comp_in-is b =
-    let kind = word_at b 12 in
-    let words : (read_as b (kind_places kind) (comp_words b) >>= λ words. Ok (CompNew (word_at b 8) (word_at b 16) (word_at b 36) (word_at b 40) (word_at b 48) words)) ≡ read_as b (kind_places kind) (comp_message b) = read_as-append b (kind_places kind) [] (comp_words b) (comp_message b) (λ words. Ok (CompNew (word_at b 8) (word_at b 16) (word_at b 36) (word_at b 40) (word_at b 48) words)) refl ∙ ap (λ (ps : List Place). read_as b ps (comp_message b)) (append-nil (kind_places kind)) in
-    ap (λ (r : Result Message CodecFault). word_in b (any_word 8) >>= λ _. word_in b (word_of 12 is_comp_type) >>= λ _. word_in b (any_word 16) >>= λ _. word_in b (any_word 20) >>= λ _. word_in b (any_word 24) >>= λ _. r)
-    (read_as-append b (config_places kind) (kind_places kind) _ (comp_message b) _ words)
+-- the last block
+pub last_read : {A B : Type 0} (b : List ℕ) (r : Result A CodecFault) (ps : List Place) (x : A) (y : B) (f : A → Result B CodecFault) → r ≡ read_as b ps x → f x ≡ Ok y → (r >>= f) ≡ read_as b ps y
+last_read b r ps x y f is e = then_read b r ps [] x y f is e ∙ ap (λ (qs : List Place). read_as b qs y) (append-nil ps)
 
--- the answer of one command, and those of the others
-one_of : (b : List ℕ) (t : Bool) (r others : Result Message CodecFault) (places : List Place) (more : Option (List Place)) (m n : Message) → r ≡ read_as b places m → others ≡ unless_fault (body_fault b more) n → cond t r others ≡ unless_fault (body_fault b (cond t (Some places) more)) (cond t m n)
-one_of b true r others places more m n e f = e ∙ read_as-is b places m
-one_of b false r others places more m n e f = f
+-- ---- components
 
-last_of : (b : List ℕ) (t : Bool) (r others : Result Message CodecFault) (places : List Place) (more : Option (List Place)) (m : Message) → r ≡ read_as b places m → others ≡ unless_fault (body_fault b more) m → cond t r others ≡ unless_fault (body_fault b (cond t (Some places) more)) m
-last_of b true r others places more m e f = e ∙ read_as-is b places m
-last_of b false r others places more m e f = f
+abbrev config_at : List ℕ → Config
+config_at b = record { periods_sink = word_at b 36; periods_source = word_at b 40; frame_fmt = word_at b 48 }
 
-message_in-is : (b : List ℕ) → message_in b ≡ unless_fault (body_fault b (places_of (word_at b 4) (word_at b 12))) (message_of b)
-unfolding message_in
-message_in-is b =
-    let command = word_at b 4 in
-    one_of b (eqb command 0x30010000) _ _ (comp_places (word_at b 12)) _ (comp_message b) _ (comp_in-is b)
-    (one_of b (eqb command 0x30200000) _ _ buffer_places _ (buffer_message b) _ refl
-    (one_of b (eqb command 0x30100000) _ _ pipe_places _ (pipe_message b) _ refl
-    (one_of b (eqb command 0x30030000) _ _ connect_places _ (connect_message b) _ refl
-    (last_of b (eqb command 0x30130000) _ _ id_places None (complete_message b) refl refl))))
+config_is : (b : List ℕ) (type : ℕ) → config_in b type ≡ read_as b (config_places b type) (config_at b)
+unfolding config_in
+config_is b type =
+    let q1 : List Place = any_words 52 3 in
+    let q2 : List Place = word_of b 48 (is_format_of type) ∷ q1 in
+    let q3 : List Place = any_word 44 ∷ q2 in
+    let q4 : List Place = any_word 40 ∷ q3 in
+    let q5 : List Place = any_word 36 ∷ q4 in
+    let y = config_at b in
+    then_run b 4 28 2 q5 y _
+    (then_word b (any_word 36) q4 y _ (λ _.
+    then_word b (any_word 40) q3 y _ (λ _.
+    then_word b (any_word 44) q2 y _ (λ _.
+    then_word b (word_of b 48 (is_format_of type)) q1 y _ (λ _.
+    then_run b 4 52 3 [] y _ refl)))))
 
--- a header's faults, and those behind it
-pub behind_header : {A : Type 0} (short sized : Bool) (b : List ℕ) (f : List ℕ → Result A CodecFault) (fault : Option CodecFault) (m : A) → f b ≡ unless_fault fault m → (cond short (Err Short) (cond (not sized) (Err SizeWord) (Ok b)) >>= f) ≡ unless_fault (cond short (Some Short) (cond (not sized) (Some SizeWord) fault)) m
-behind_header true sized b f fault m e = refl
-behind_header false false b f fault m e = refl
-behind_header false true b f fault m e = e
+comp_is : (b : List ℕ) → comp_in b ≡ read_as b (places_of b commands.CompNew) (message_of b commands.CompNew)
+unfolding comp_in words_in
+comp_is b =
+    let type = word_at b 12 in
+    let words = comp_words b type in
+    let q1 : List Place = kind_places b type in
+    let q2 : List Place = config_places b type ++ q1 in
+    let q3 : List Place = any_run 4 20 2 ++ q2 in
+    let q4 : List Place = any_word 16 ∷ q3 in
+    let q5 : List Place = word_of b 12 is_comp_type ∷ q4 in
+    let y = message_of b commands.CompNew in
+    then_word b (any_word 8) q5 y _ (λ _.
+    then_word b (word_of b 12 is_comp_type) q4 y _ (λ _.
+    then_word b (any_word 16) q3 y _ (λ _.
+    then_run b 4 20 2 q2 y _
+    (then_read b (config_in b type) (config_places b type) q1 (config_at b) y _ (config_is b type)
+    (last_read b (words_in b type) q1 words y _ refl refl)))))
+
+-- ---- streams
+
+abbrev stream_at : List ℕ → Stream
+stream_at b = record { direction = word_at b 56; params = params_at b }
+
+stream_is : (b : List ℕ) → stream_in b ≡ read_as b (stream_places b) (stream_at b)
+unfolding stream_in format_in
+stream_is b =
+    let q1 : List Place = any_run 2 92 8 in
+    let q2 : List Place = any_run 4 80 3 ++ q1 in
+    let q3 : List Place = any_run 2 76 2 ++ q2 in
+    let q4 : List Place = half_of b 74 is_channels ∷ q3 in
+    let q5 : List Place = any_run 2 72 1 ++ q4 in
+    let q6 : List Place = any_word 68 ∷ q5 in
+    let q7 : List Place = any_word 64 ∷ q6 in
+    let q8 : List Place = word_of b 60 is_frame_format ∷ q7 in
+    let q9 : List Place = word_of b 56 is_direction ∷ q8 in
+    let y = stream_at b in
+    then_run b 4 24 8 q9 y _
+    (then_word b (word_of b 56 is_direction) q8 y _ (λ _.
+    then_read b (format_in b 60) (word_of b 60 is_frame_format ∷ []) q7 (format_of (word_at b 60)) y _ refl
+    (then_word b (any_word 64) q6 y _ (λ _.
+    then_word b (any_word 68) q5 y _ (λ _.
+    then_run b 2 72 1 q4 y _
+    (then_word b (half_of b 74 is_channels) q3 y _ (λ _.
+    then_run b 2 76 2 q2 y _
+    (then_run b 4 80 3 q1 y _
+    (then_run b 2 92 8 [] y _ refl)))))))))
+
+params_is : (b : List ℕ) → params_in b ≡ read_as b (places_of b commands.PcmParams) (message_of b commands.PcmParams)
+unfolding params_in
+params_is b =
+    let q1 : List Place = stream_places b in
+    let q2 : List Place = any_run 4 12 3 ++ q1 in
+    let y = message_of b commands.PcmParams in
+    then_word b (any_word 8) q2 y _ (λ _.
+    then_run b 4 12 3 q1 y _
+    (last_read b (stream_in b) q1 (stream_at b) y _ (stream_is b) refl))
+
+-- ---- controls
+
+abbrev pub control_at : List ℕ → Control
+control_at b = record { command = word_at b 20; count = word_at b 56; remaining = word_at b 60; index = word_at b 64 }
+
+pub control_is : (b : List ℕ) (kind : ControlKind) → control_in b kind ≡ read_as b (control_rest_places b kind) (control_at b)
+unfolding control_in
+control_is b kind =
+    let q1 : List Place = any_run 4 68 6 in
+    let q2 : List Place = any_word 64 ∷ q1 in
+    let q3 : List Place = word_of b 60 (takes_remaining kind (word_at b 56)) ∷ q2 in
+    let q4 : List Place = word_of b 56 (takes_count kind) ∷ q3 in
+    let q5 : List Place = any_run 4 24 8 ++ q4 in
+    let y = control_at b in
+    then_word b (word_of b 20 (takes_command kind)) q5 y _ (λ _.
+    then_run b 4 24 8 q4 y _
+    (then_word b (word_of b 56 (takes_count kind)) q3 y _ (λ _.
+    then_word b (word_of b 60 (takes_remaining kind (word_at b 56))) q2 y _ (λ _.
+    then_word b (any_word 64) q1 y _ (λ _.
+    then_run b 4 68 6 [] y _ refl)))))
+
+abbrev target_places : List ℕ → ControlKind → List Place
+target_places b kind = any_words 8 2 ++ word_of b 16 (λ n. n == type_of kind) ∷ []
+
+pub part_is : (b : List ℕ) → part_read b ≡ read_as b (payload_places b kinds.SetData) (part_in b)
+unfolding part_read bytes_in
+part_is b =
+    let q1 : List Place = any_bytes 124 (word_at b 56) ∷ [] in
+    then_run b 4 92 8 q1 (part_in b) _
+    (last_read b (bytes_in b 124 (word_at b 56)) q1 (part b 124 (word_at b 56)) (part_in b) _ refl refl)
+
+pub values_is : (b : List ℕ) → values_read b ≡ read_as b (payload_places b kinds.SetValue) (values_in b)
+unfolding values_read
+values_is b = refl
+
+-- the words up to the type, those behind it, and the payload
+control_message : {A : Type 0} (b : List ℕ) (kind : ControlKind) (payload : Result A CodecFault) (x : A) (y : Message) (f : ℕ → Control → A → Message) → payload ≡ read_as b (payload_places b kind) x → f (word_at b 12) (control_at b) x ≡ y → (target_in b kind >>= λ id. control_in b kind >>= λ control. payload >>= λ x. Ok (f id control x)) ≡ read_as b (control_places b kind) y
+unfolding target_in
+control_message b kind payload x y f is same =
+    let q1 : List Place = payload_places b kind in
+    let q2 : List Place = control_rest_places b kind ++ q1 in
+    then_read b (target_in b kind) (target_places b kind) q2 (word_at b 12) y _ refl
+    (then_read b (control_in b kind) (control_rest_places b kind) q1 (control_at b) y _ (control_is b kind)
+    (last_read b payload q1 x y _ is (ap Ok same)))
+
+set_value_is : (b : List ℕ) → set_value_in b ≡ read_as b (places_of b commands.SetValue) (message_of b commands.SetValue)
+unfolding set_value_in
+set_value_is b = control_message b kinds.SetValue (values_read b) (values_in b) (message_of b commands.SetValue) (λ id control values. SetValue id control.command values) (values_is b) refl
+
+set_data_is : (b : List ℕ) → set_data_in b ≡ read_as b (places_of b commands.SetData) (message_of b commands.SetData)
+unfolding set_data_in
+set_data_is b = control_message b kinds.SetData (part_read b) (part_in b) (message_of b commands.SetData) (λ id control part. SetData id part) (part_is b) refl
+
+get_value_is : (b : List ℕ) → get_value_in b ≡ read_as b (places_of b commands.GetValue) (message_of b commands.GetValue)
+unfolding get_value_in
+get_value_is b =
+    let unit : Unit {0} = tt in
+    let done : Result (Unit {0}) CodecFault = Ok unit in
+    control_message b kinds.GetValue done unit (message_of b commands.GetValue) (λ id control _. GetValue id control.command) refl refl
+
+get_data_is : (b : List ℕ) → get_data_in b ≡ read_as b (places_of b commands.GetData) (message_of b commands.GetData)
+unfolding get_data_in
+get_data_is b =
+    let unit : Unit {0} = tt in
+    let done : Result (Unit {0}) CodecFault = Ok unit in
+    control_message b kinds.GetData done unit (message_of b commands.GetData) (λ id control _. GetData id control.index) refl refl
+
+-- ---- messages
+
+command_is : (b : List ℕ) (c : CommandWord) → command_in b c ≡ read_as b (places_of b c) (message_of b c)
+unfolding command_in
+command_is b commands.CompNew = comp_is b
+command_is b commands.SetValue = set_value_is b
+command_is b commands.GetValue = get_value_is b
+command_is b commands.SetData = set_data_is b
+command_is b commands.GetData = get_data_is b
+command_is b commands.PcmParams = params_is b
+command_is b c = refl
+
+numbered_is : (b : List ℕ) (o : Option CommandWord) → numbered_in b o ≡ decoded_body b o
+unfolding numbered_in
+numbered_is b None = refl
+numbered_is b (Some c) = command_is b c ∙ read_as-is b (places_of b c) (message_of b c)
+
+-- a header's faults, and what is behind it
+pub behind_header : {A : Type 0} (short sized : Bool) (b : List ℕ) (f : List ℕ → Result A CodecFault) (r : Result A CodecFault) → f b ≡ r → (cond short (Err Short) (cond (not sized) (Err SizeWord) (Ok b)) >>= f) ≡ cond short (Err Short) (cond (not sized) (Err SizeWord) r)
+behind_header true sized b f r e = refl
+behind_header false false b f r e = refl
+behind_header false true b f r e = e
 
 pub framed_message-is : (b : List ℕ) → framed_message_in b ≡ decoded b
-unfolding framed decoded message_fault
-framed_message-is b = behind_header (nat_lt (length b) 8) (is_sized 8 b) b message_in (body_fault b (places_of (word_at b 4) (word_at b 12))) (message_of b) (message_in-is b)
+unfolding framed decoded
+framed_message-is b = behind_header (nat_lt (length b) 8) (is_sized 8 b) b (λ (frame : List ℕ). numbered_in frame (command_numbered (word_at frame 4))) (decoded_body b (command_numbered (word_at b 4))) (numbered_is b (command_numbered (word_at b 4)))

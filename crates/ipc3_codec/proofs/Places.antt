@@ -1,29 +1,30 @@
 -- Places none of which is bad.
-use Rattle.std.proofs.Common.{◌≡◌, ℕ, zero, suc, ◌+◌, ◌*◌, ◌≤◌, Bool, true, false, cond, List, [], ◌∷◌, ◌++◌, Option, Some, None, Result, Ok, Err, refl, arith}
+use Rattle.std.proofs.Common.{◌≡◌, ℕ, zero, suc, ◌+◌, ◌≤◌, Bool, true, false, ◌&&◌, cond, List, [], ◌∷◌, ◌++◌, Option, Some, None, Result, Ok, Err, refl, ap, ◌∙◌, arith}
 use Rattle.std.specs.List.{find}
 use Rattle.std.proofs.lemmas.Bool.{leb-true, le-leb, and_parts, not-false}
 use Rattle.std.specs.Prelude.{nat_le}
 use Rattle.sof_base.specs.Slots.{word_at}
-use Rattle.ipc3_codec.specs.Messages.{Place, any_words, is_bad, field_fault, unless_fault}
+use Rattle.ipc3_codec.specs.Places.{Place, any_run, is_bad, field_fault}
+use Rattle.ipc3_codec.specs.Messages.{unless_fault}
 use Rattle.ipc3_codec.specs.declared.fault.CodecFault.{CodecFault}
 use Rattle.ipc3_codec.specs.declared.fault.CodecFault.TheVariants.{Field}
-use Rattle.ipc3_codec.specs.Reading.{◌>>=◌, word_in, read_as}
+use Rattle.ipc3_codec.specs.Reading.{◌>>=◌, number_in, word_in, read_as, run_in}
 
 -- the word lies within the size word, and its value is allowed
 pub record Good (b : List ℕ) (place : Place) : Type 0 where
-  pub within : place.at + 4 ≤ word_at b 0
-  pub allowed : place.allows (word_at b place.at) ≡ true
+  pub within : place.at + place.width ≤ word_at b 0
+  pub allowed : place.good ≡ true
 
 abbrev pub AllGood : List ℕ → List Place → Type 0
 AllGood b [] = Unit {0}
 AllGood b (place ∷ places) = Good b place × AllGood b places
 
 pub Good-not_bad : (b : List ℕ) (place : Place) → Good b place → is_bad b place ≡ false
-Good-not_bad b place g = rw (le-leb (place.at + 4) (word_at b 0) g.within, g.allowed) refl
+Good-not_bad b place g = rw (le-leb (place.at + place.width) (word_at b 0) g.within, g.allowed) refl
 
 pub not_bad-Good : (b : List ℕ) (place : Place) → is_bad b place ≡ false → Good b place
 not_bad-Good b place e =
-    let both = and_parts (nat_le (place.at + 4) (word_at b 0)) (place.allows (word_at b place.at)) (not-false _ e) in
+    let both = and_parts (nat_le (place.at + place.width) (word_at b 0)) place.good (not-false _ e) in
     record { within = leb-true _ _ both.0; allowed = both.1 }
 
 -- no place is bad exactly where all are good
@@ -45,9 +46,31 @@ pub AllGood-append : (b : List ℕ) (ps qs : List Place) → AllGood b ps → Al
 AllGood-append b [] qs g h = h
 AllGood-append b (p ∷ ps) qs g h = (g.0, AllGood-append b ps qs g.1 h)
 
-pub AllGood-any : (b : List ℕ) (at n : ℕ) → at + 4 * n ≤ word_at b 0 → AllGood b (any_words at n)
-AllGood-any b at zero h = tt
-AllGood-any b at (suc n) h = (record { within = omega (arith, h); allowed = refl }, AllGood-any b (at + 4) n (omega (arith, h)))
+pub AllGood-split : (b : List ℕ) (ps qs : List Place) → AllGood b (ps ++ qs) → AllGood b ps × AllGood b qs
+AllGood-split b [] qs g = (tt, g)
+AllGood-split b (p ∷ ps) qs g =
+    let rest = AllGood-split b ps qs g.1 in
+    ((g.0, rest.0), rest.1)
+
+-- ---- places that end by a number, and whose values are allowed
+
+-- all values are allowed
+abbrev pub all_allowed : List Place → Bool
+all_allowed [] = true
+all_allowed (place ∷ places) = place.good && all_allowed places
+
+-- all end by n
+abbrev pub end_by : ℕ → List Place → Bool
+end_by n [] = true
+end_by n (place ∷ places) = nat_le (place.at + place.width) n && end_by n places
+
+pub AllGood-from : (b : List ℕ) (n : ℕ) (places : List Place) → n ≤ word_at b 0 → end_by n places ≡ true → all_allowed places ≡ true → AllGood b places
+AllGood-from b n [] room ends allowed = tt
+AllGood-from b n (place ∷ places) room ends allowed =
+    let end = and_parts (nat_le (place.at + place.width) n) (end_by n places) ends in
+    let both = and_parts place.good (all_allowed places) allowed in
+    let here : place.at + place.width ≤ n = leb-true _ _ end.0 in
+    (record { within = omega (arith, here, room); allowed = both.0 }, AllGood-from b n places room end.1 both.1)
 
 -- ---- words that are read one after the other
 
@@ -56,13 +79,29 @@ pub read_as-is : {A : Type 0} (b : List ℕ) (places : List Place) (x : A) → r
 unfolding word_in
 read_as-is b [] x = refl
 read_as-is b (place ∷ places) x =
-    let w : Result ℕ CodecFault = Ok (word_at b place.at) in
+    let w : Result ℕ CodecFault = Ok (number_in b place) in
     elim (is_bad b place) as (λ t. (cond t (Err (Field place.at)) w >>= λ _. read_as b places x) ≡ unless_fault (field_fault (cond t (Some place) (find (is_bad b) places))) x) [ true ↦ refl | false ↦ read_as-is b places x ]
 
+-- what is read, and what follows it
 pub read_as-append : {A B : Type 0} (b : List ℕ) (ps qs : List Place) (x : A) (y : B) (f : A → Result B CodecFault) → f x ≡ read_as b qs y → (read_as b ps x >>= f) ≡ read_as b (ps ++ qs) y
 read_as-append b [] qs x y f e = e
 read_as-append b (p ∷ ps) qs x y f e =
     elim (word_in b p) as (λ r. (r >>= (λ _. read_as b ps x) >>= f) ≡ (r >>= λ _. read_as b (ps ++ qs) y)) [ Ok n ↦ read_as-append b ps qs x y f e | Err z ↦ refl ]
+
+-- a block that is read, and what follows it
+pub then_read : {A B : Type 0} (b : List ℕ) (r : Result A CodecFault) (ps qs : List Place) (x : A) (y : B) (f : A → Result B CodecFault) → r ≡ read_as b ps x → f x ≡ read_as b qs y → (r >>= f) ≡ read_as b (ps ++ qs) y
+then_read b r ps qs x y f is e = ap (λ r. r >>= f) is ∙ read_as-append b ps qs x y f e
+
+-- a run, and what follows it
+pub then_run : {B : Type 0} (b : List ℕ) (width at n : ℕ) (qs : List Place) (y : B) (f : Unit {0} → Result B CodecFault) → f tt ≡ read_as b qs y → (run_in b width at n >>= f) ≡ read_as b (any_run width at n ++ qs) y
+unfolding run_in
+then_run b width at n qs y f e = read_as-append b (any_run width at n) qs tt y f e
+
+-- a word, and what follows it
+pub then_word : {B : Type 0} (b : List ℕ) (place : Place) (qs : List Place) (y : B) (f : ℕ → Result B CodecFault) → ((n : ℕ) → f n ≡ read_as b qs y) → (word_in b place >>= f) ≡ read_as b (place ∷ qs) y
+then_word b place qs y f e = elim (word_in b place) as (λ r. (r >>= f) ≡ (r >>= λ _. read_as b qs y)) [ Ok n ↦ e n | Err z ↦ refl ]
+
+-- ---- the place of a number
 
 -- the place of this number, where there is one
 abbrev pub GoodAt : List ℕ → List Place → ℕ → Type 0

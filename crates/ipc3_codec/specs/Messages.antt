@@ -1,25 +1,42 @@
 -- The host's messages, after SOF's IPC3 (ABI 3): which words each has, and how bytes are read as one. All places are in bytes from 0.
-use Rattle.std.specs.Prelude.{◌≡◌, ℕ, zero, suc, ◌+◌, ◌≤◌, ◌%◌, Bool, true, ◌&&◌, ◌||◌, not, List, [], ◌∷◌, ◌++◌, length, take, Option, Some, None, Result, Ok, Err, find, nat_lt, nat_le, ◌==◌, if◌then◌else◌}
+use Rattle.std.specs.Prelude.{◌≡◌, ℕ, ◌+◌, ◌*◌, ◌≤◌, Bool, true, ◌&&◌, not, List, [], ◌∷◌, ◌++◌, length, take, Option, Some, None, Result, Ok, Err, find, nat_lt, nat_le, ◌==◌, if◌then◌else◌}
 use Rattle.sof_base.specs.Cells.{Fits, written}
 use Rattle.sof_base.specs.Slots.{Slot, Word, Size, slots_cells, AreSlots, word_at}
+use Rattle.ipc3_codec.specs.declared.command.CommandWord.{CommandWord}
+use Rattle.ipc3_codec.specs.declared.command.CommandWord.TheVariants as commands
+use Rattle.ipc3_codec.specs.declared.control.ControlKind.TheVariants as kinds
 use Rattle.ipc3_codec.specs.declared.message.Message.{Message}
-use Rattle.ipc3_codec.specs.declared.message.Message.TheVariants.{CompNew, BufferNew, PipeNew, Connect, PipeComplete}
+use Rattle.ipc3_codec.specs.declared.message.Message.TheVariants.{CompNew, CompFree, Connect, PipeNew, PipeFree, PipeComplete, BufferNew, BufferFree, CtxSave, SetValue, GetValue, SetData, GetData, PcmParams, PcmFree, TrigStart, TrigStop, TrigPause, TrigRelease}
 use Rattle.ipc3_codec.specs.declared.message.CompWords.{CompWords}
-use Rattle.ipc3_codec.specs.declared.message.CompWords.TheVariants.{Host, Dai}
+use Rattle.ipc3_codec.specs.declared.message.CompWords.TheVariants.{Host, Dai, Volume, Mixer, Mux, Eq}
 use Rattle.ipc3_codec.specs.declared.fault.CodecFault.{CodecFault}
-use Rattle.ipc3_codec.specs.declared.fault.CodecFault.TheVariants.{Short, SizeWord, Command, Field}
+use Rattle.ipc3_codec.specs.declared.fault.CodecFault.TheVariants.{Short, SizeWord, Command}
+use Rattle.ipc3_codec.specs.Commands.{number_of, command_numbered}
+pub use Rattle.ipc3_codec.specs.Allowed.{is_direction, is_frame_format, is_buffer_size, is_period, is_channels, is_comp_type, is_buffer_type, is_format_of}
+use Rattle.ipc3_codec.specs.Places.{Place, any_word, any_words, word_of, is_bad, field_fault}
+use Rattle.ipc3_codec.specs.StreamWords.{stream_slots, stream_places, params_at}
+use Rattle.ipc3_codec.specs.ControlWords.{takes_command, takes_count, takes_remaining, control_slots, value_slots, part_slots, control_places, values_in, part_in}
 
 -- ---- how a message is spelled: a `Word` carries something, a `Size` is written so and not looked at
 
--- the type word of a component: HOST is 1, DAI is 2
+-- the type word of a component
 abbrev pub comp_type : CompWords → ℕ
 comp_type (Host direction) = 1
 comp_type (Dai direction index) = 2
+comp_type (Volume channels min_value max_value) = 5
+comp_type Mixer = 6
+comp_type Mux = 7
+comp_type Eq = 13
 
--- the words of a component's type: a host's direction, no_irq and dmac_config; a DAI's direction, index, type and a reserved word
+-- the words of a component's type: a host's direction, no_irq and dmac_config; a DAI's direction, index, type and a reserved word;
+-- a volume's channels, least and greatest value and two words of its ramp; an equaliser's size, type and seven reserved words
 abbrev pub kind_slots : CompWords → List Slot
 kind_slots (Host direction) = Word direction ∷ Size 0 ∷ Size 0 ∷ []
 kind_slots (Dai direction index) = Word direction ∷ Word index ∷ Size 0 ∷ Size 0 ∷ []
+kind_slots (Volume channels min_value max_value) = Word channels ∷ Word min_value ∷ Word max_value ∷ Size 0 ∷ Size 0 ∷ []
+kind_slots Mixer = []
+kind_slots Mux = []
+kind_slots Eq = Size 0 ∷ Size 0 ∷ Size 0 ∷ Size 0 ∷ Size 0 ∷ Size 0 ∷ Size 0 ∷ Size 0 ∷ Size 0 ∷ []
 
 -- a component's config, 36 bytes: its size and cmd, the period counts, a reserved word, the frame format, xrun_action and two reserved words
 abbrev pub config_slots : ℕ → ℕ → ℕ → List Slot
@@ -30,72 +47,125 @@ config_slots periods_sink periods_source frame_fmt =
 abbrev pub comp_size : CompWords → ℕ
 comp_size (Host direction) = 76
 comp_size (Dai direction index) = 80
+comp_size (Volume channels min_value max_value) = 84
+comp_size Mixer = 64
+comp_size Mux = 64
+comp_size Eq = 100
 
 -- how many bytes a message needs
 abbrev pub size_of : Message → ℕ
 size_of (CompNew id pipe periods_sink periods_source frame_fmt kind) = comp_size kind
-size_of (BufferNew id pipe size caps) = 44
-size_of (PipeNew id pipe sched period priority mips frames time_domain) = 48
+size_of (CompFree id) = 12
 size_of (Connect source sink) = 16
+size_of (PipeNew id pipe sched period priority mips frames time_domain) = 48
+size_of (PipeFree id) = 12
 size_of (PipeComplete id) = 12
+size_of (BufferNew id pipe size caps) = 44
+size_of (BufferFree id) = 12
+size_of CtxSave = 8
+size_of (SetValue id command values) = 92 + 8 * length values
+size_of (GetValue id command) = 92
+size_of (SetData id part) = 124 + length part.bytes
+size_of (GetData id index) = 92
+size_of (PcmParams host direction params) = 108
+size_of (PcmFree id) = 12
+size_of (TrigStart id) = 12
+size_of (TrigStop id) = 12
+size_of (TrigPause id) = 12
+size_of (TrigRelease id) = 12
 
--- its command word: the global type in bits 28 to 31, the command in bits 16 to 27
-abbrev pub command_of : Message → ℕ
-command_of (CompNew id pipe periods_sink periods_source frame_fmt kind) = 0x30010000
-command_of (BufferNew id pipe size caps) = 0x30200000
-command_of (PipeNew id pipe sched period priority mips frames time_domain) = 0x30100000
-command_of (Connect source sink) = 0x30030000
-command_of (PipeComplete id) = 0x30130000
+-- its command
+abbrev pub command_of : Message → CommandWord
+command_of (CompNew id pipe periods_sink periods_source frame_fmt kind) = commands.CompNew
+command_of (CompFree id) = commands.CompFree
+command_of (Connect source sink) = commands.Connect
+command_of (PipeNew id pipe sched period priority mips frames time_domain) = commands.PipeNew
+command_of (PipeFree id) = commands.PipeFree
+command_of (PipeComplete id) = commands.PipeComplete
+command_of (BufferNew id pipe size caps) = commands.BufferNew
+command_of (BufferFree id) = commands.BufferFree
+command_of CtxSave = commands.CtxSave
+command_of (SetValue id command values) = commands.SetValue
+command_of (GetValue id command) = commands.GetValue
+command_of (SetData id part) = commands.SetData
+command_of (GetData id index) = commands.GetData
+command_of (PcmParams host direction params) = commands.PcmParams
+command_of (PcmFree id) = commands.PcmFree
+command_of (TrigStart id) = commands.TrigStart
+command_of (TrigStop id) = commands.TrigStop
+command_of (TrigPause id) = commands.TrigPause
+command_of (TrigRelease id) = commands.TrigRelease
 
 -- the words behind the header, in the order of the profile's table
 abbrev pub body_slots : Message → List Slot
 body_slots (CompNew id pipe periods_sink periods_source frame_fmt kind) =
     Word id ∷ Word (comp_type kind) ∷ Word pipe ∷ Size 0 ∷ Size 0 ∷ (config_slots periods_sink periods_source frame_fmt ++ kind_slots kind)
-body_slots (BufferNew id pipe size caps) =
-    Word id ∷ Word 12 ∷ Word pipe ∷ Size 0 ∷ Size 0 ∷ Word size ∷ Word caps ∷ Size 0 ∷ Size 0 ∷ []
+body_slots (CompFree id) = Word id ∷ []
+body_slots (Connect source sink) = Word source ∷ Word sink ∷ []
 body_slots (PipeNew id pipe sched period priority mips frames time_domain) =
     Word id ∷ Word pipe ∷ Word sched ∷ Size 0 ∷ Word period ∷ Word priority ∷ Word mips ∷ Word frames ∷ Size 0 ∷ Word time_domain ∷ []
-body_slots (Connect source sink) = Word source ∷ Word sink ∷ []
+body_slots (PipeFree id) = Word id ∷ []
 body_slots (PipeComplete id) = Word id ∷ []
+body_slots (BufferNew id pipe size caps) =
+    Word id ∷ Word 12 ∷ Word pipe ∷ Size 0 ∷ Size 0 ∷ Word size ∷ Word caps ∷ Size 0 ∷ Size 0 ∷ []
+body_slots (BufferFree id) = Word id ∷ []
+body_slots CtxSave = []
+body_slots (SetValue id command values) =
+    control_slots (Size 0) (Word id) kinds.SetValue (Word command) (Word (length values)) (Size 0) (Size 0) ++ value_slots 0 values
+body_slots (GetValue id command) =
+    control_slots (Size 0) (Word id) kinds.GetValue (Word command) (Size 0) (Size 0) (Size 0)
+body_slots (SetData id part) =
+    control_slots (Size 0) (Word id) kinds.SetData (Word 3) (Word (length part.bytes)) (Word part.remaining) (Word part.index) ++ part_slots part
+body_slots (GetData id index) =
+    control_slots (Size 0) (Word id) kinds.GetData (Word 3) (Size 0) (Size 0) (Word index)
+body_slots (PcmParams host direction params) = Word host ∷ Size 0 ∷ Size 0 ∷ Size 0 ∷ stream_slots direction params
+body_slots (PcmFree id) = Word id ∷ []
+body_slots (TrigStart id) = Word id ∷ []
+body_slots (TrigStop id) = Word id ∷ []
+body_slots (TrigPause id) = Word id ∷ []
+body_slots (TrigRelease id) = Word id ∷ []
 
 -- all words of a message
 abbrev pub message_slots : Message → List Slot
-message_slots m = Size (size_of m) ∷ Word (command_of m) ∷ body_slots m
+message_slots m = Size (size_of m) ∷ Word (number_of (command_of m)) ∷ body_slots m
 
 -- the bytes that are sent
 abbrev pub message_spelling : Message → List ℕ
 message_spelling m = written (slots_cells (message_slots m))
 
--- ---- which values the words may have
+-- ---- which messages are not refused
 
--- 0 for playback, 1 for capture
-abbrev pub is_direction : ℕ → Bool
-is_direction n = nat_le n 1
-
--- S16_LE 0, S24_4LE 1, S32_LE 2
-abbrev pub is_frame_format : ℕ → Bool
-is_frame_format n = nat_le n 2
-
--- in bytes
-abbrev pub is_buffer_size : ℕ → Bool
-is_buffer_size n = nat_le 16 n && nat_le n 16777184
-
--- in µs
-abbrev pub is_period : ℕ → Bool
-is_period n = nat_le 1000 n && nat_le n 10000 && n % 1000 == 0
-
--- a component's direction is one, and a DAI's frame format; a host's frame format is not looked at
+-- a direction is one, and a DAI's frame format, and a volume's number of channels
 abbrev pub IsKind : CompWords → ℕ → Type 0
 IsKind (Host direction) frame_fmt = is_direction direction ≡ true
 IsKind (Dai direction index) frame_fmt = (is_frame_format frame_fmt ≡ true) × (is_direction direction ≡ true)
+IsKind (Volume channels min_value max_value) frame_fmt = is_channels channels ≡ true
+IsKind Mixer frame_fmt = Unit {0}
+IsKind Mux frame_fmt = Unit {0}
+IsKind Eq frame_fmt = Unit {0}
 
 -- no word of the message is refused
 abbrev pub IsAllowed : Message → Type 0
 IsAllowed (CompNew id pipe periods_sink periods_source frame_fmt kind) = IsKind kind frame_fmt
-IsAllowed (BufferNew id pipe size caps) = is_buffer_size size ≡ true
-IsAllowed (PipeNew id pipe sched period priority mips frames time_domain) = is_period period ≡ true
+IsAllowed (CompFree id) = Unit {0}
 IsAllowed (Connect source sink) = Unit {0}
+IsAllowed (PipeNew id pipe sched period priority mips frames time_domain) = is_period period ≡ true
+IsAllowed (PipeFree id) = Unit {0}
 IsAllowed (PipeComplete id) = Unit {0}
+IsAllowed (BufferNew id pipe size caps) = is_buffer_size size ≡ true
+IsAllowed (BufferFree id) = Unit {0}
+IsAllowed CtxSave = Unit {0}
+IsAllowed (SetValue id command values) = (takes_command kinds.SetValue command ≡ true) × (takes_count kinds.SetValue (length values) ≡ true)
+IsAllowed (GetValue id command) = takes_command kinds.GetValue command ≡ true
+IsAllowed (SetData id part) =
+    (length part.header ≡ 32) × (takes_count kinds.SetData (length part.bytes) ≡ true) × (takes_remaining kinds.SetData (length part.bytes) part.remaining ≡ true)
+IsAllowed (GetData id index) = Unit {0}
+IsAllowed (PcmParams host direction params) = (is_direction direction ≡ true) × (is_channels params.channels ≡ true)
+IsAllowed (PcmFree id) = Unit {0}
+IsAllowed (TrigStart id) = Unit {0}
+IsAllowed (TrigStop id) = Unit {0}
+IsAllowed (TrigPause id) = Unit {0}
+IsAllowed (TrigRelease id) = Unit {0}
 
 -- a message of the program that no decoder refuses
 abbrev pub IsMessage : Message → Type 0
@@ -115,135 +185,96 @@ pub record Means (b : List ℕ) (m : Message) : Type 0 where
 
 -- ---- the first fault
 
--- a word of a kind of message: its place, and the values that it may have
-pub record Place : Type 0 where
-  pub at : ℕ
-  pub allows : ℕ → Bool
-
--- a word of any value
-abbrev pub any_word : ℕ → Place
-any_word at = record { at = at; allows = λ n. true }
-
--- a word of some values
-abbrev pub word_of : ℕ → (ℕ → Bool) → Place
-word_of at allows = record { at = at; allows = allows }
-
--- the type words that are known
-abbrev pub is_comp_type : ℕ → Bool
-is_comp_type n = n == 1 || n == 2
-
--- the type word of each buffer
-abbrev pub is_buffer_type : ℕ → Bool
-is_buffer_type n = n == 12
-
--- the frame format of a component of a type: a host's is not looked at
-abbrev pub is_format_of : ℕ → ℕ → Bool
-is_format_of kind n = kind == 1 || is_frame_format n
-
--- words of any value from a place on
-abbrev pub any_words : ℕ → ℕ → List Place
-any_words at zero = []
-any_words at (suc n) = any_word at ∷ any_words (at + 4) n
-
 -- the words of the config of a component whose type word is this one
-abbrev pub config_places : ℕ → List Place
-config_places kind = any_words 28 5 ++ word_of 48 (is_format_of kind) ∷ any_words 52 3
+abbrev pub config_places : List ℕ → ℕ → List Place
+config_places b type = any_words 28 5 ++ word_of b 48 (is_format_of type) ∷ any_words 52 3
 
 -- the words of its type, behind the config
-abbrev pub kind_places : ℕ → List Place
-kind_places kind = if kind == 1 then word_of 64 is_direction ∷ any_words 68 2 else word_of 64 is_direction ∷ any_words 68 3
+abbrev pub kind_places : List ℕ → ℕ → List Place
+kind_places b type =
+    if type == 1 then word_of b 64 is_direction ∷ any_words 68 2
+    else if type == 2 then word_of b 64 is_direction ∷ any_words 68 3
+    else if type == 5 then word_of b 64 is_channels ∷ any_words 68 4
+    else if type == 13 then any_words 64 9
+    else []
 
 -- the words behind the header of its COMP_NEW
-abbrev pub comp_places : ℕ → List Place
-comp_places kind = any_word 8 ∷ word_of 12 is_comp_type ∷ (any_words 16 3 ++ (config_places kind ++ kind_places kind))
+abbrev pub comp_places : List ℕ → ℕ → List Place
+comp_places b type = any_word 8 ∷ word_of b 12 is_comp_type ∷ (any_words 16 3 ++ (config_places b type ++ kind_places b type))
 
--- those of a BUFFER_NEW
-abbrev pub buffer_places : List Place
-buffer_places = any_word 8 ∷ word_of 12 is_buffer_type ∷ (any_words 16 3 ++ word_of 28 is_buffer_size ∷ any_words 32 3)
-
--- those of a PIPE_NEW
-abbrev pub pipe_places : List Place
-pipe_places = any_words 8 4 ++ word_of 24 is_period ∷ any_words 28 5
-
--- those of a CONNECT
-abbrev pub connect_places : List Place
-connect_places = any_words 8 2
-
--- those of a message with an id alone
-abbrev pub id_places : List Place
-id_places = any_words 8 1
-
--- those of a message with this command word, and this type word where it is a COMP_NEW; none where there is no such command
-abbrev pub places_of : ℕ → ℕ → Option (List Place)
-places_of command kind =
-    if command == 0x30010000 then Some (comp_places kind)
-    else if command == 0x30200000 then Some buffer_places
-    else if command == 0x30100000 then Some pipe_places
-    else if command == 0x30030000 then Some connect_places
-    else if command == 0x30130000 then Some id_places
-    else None
-
--- a word does not lie within the size word, or its value is not allowed there
-abbrev pub is_bad : List ℕ → Place → Bool
-is_bad b place = not (nat_le (place.at + 4) (word_at b 0) && place.allows (word_at b place.at))
-
--- a bad place is a fault there
-abbrev pub field_fault : Option Place → Option CodecFault
-field_fault None = None
-field_fault (Some place) = Some (Field place.at)
+-- the words behind the header of bytes with this command
+abbrev pub places_of : List ℕ → CommandWord → List Place
+places_of b commands.CompNew = comp_places b (word_at b 12)
+places_of b commands.Connect = any_words 8 2
+places_of b commands.PipeNew = any_words 8 4 ++ word_of b 24 is_period ∷ any_words 28 5
+places_of b commands.BufferNew = any_word 8 ∷ word_of b 12 is_buffer_type ∷ (any_words 16 3 ++ word_of b 28 is_buffer_size ∷ any_words 32 3)
+places_of b commands.CtxSave = []
+places_of b commands.SetValue = control_places b kinds.SetValue
+places_of b commands.GetValue = control_places b kinds.GetValue
+places_of b commands.SetData = control_places b kinds.SetData
+places_of b commands.GetData = control_places b kinds.GetData
+places_of b commands.PcmParams = any_words 8 4 ++ stream_places b
+places_of b _ = any_words 8 1
 
 -- the first fault behind a header: the command word is unknown, or a place is bad
-abbrev pub body_fault : List ℕ → Option (List Place) → Option CodecFault
+abbrev pub body_fault : List ℕ → Option CommandWord → Option CodecFault
 body_fault b None = Some (Command (word_at b 4))
-body_fault b (Some places) = field_fault (find (is_bad b) places)
+body_fault b (Some command) = field_fault (find (is_bad b) (places_of b command))
 
 -- the first fault of bytes, where they are no message
 unfoldable pub message_fault : List ℕ → Option CodecFault
 message_fault b =
     if nat_lt (length b) 8 then Some Short
     else if not (is_sized 8 b) then Some SizeWord
-    else body_fault b (places_of (word_at b 4) (word_at b 12))
+    else body_fault b (command_numbered (word_at b 4))
 
 -- ---- the message that the words of bytes are
 
 -- what the type word of bytes, and the words behind the config, are
-abbrev pub comp_words : List ℕ → CompWords
-comp_words b = if word_at b 12 == 1 then Host (word_at b 64) else Dai (word_at b 64) (word_at b 68)
+abbrev pub comp_words : List ℕ → ℕ → CompWords
+comp_words b type =
+    if type == 1 then Host (word_at b 64)
+    else if type == 2 then Dai (word_at b 64) (word_at b 68)
+    else if type == 5 then Volume (word_at b 64) (word_at b 68) (word_at b 72)
+    else if type == 6 then Mixer
+    else if type == 7 then Mux
+    else Eq
 
--- the message that bytes are, where they are a COMP_NEW
-abbrev pub comp_message : List ℕ → Message
-comp_message b = CompNew (word_at b 8) (word_at b 16) (word_at b 36) (word_at b 40) (word_at b 48) (comp_words b)
-
--- where they are a BUFFER_NEW
-abbrev pub buffer_message : List ℕ → Message
-buffer_message b = BufferNew (word_at b 8) (word_at b 16) (word_at b 28) (word_at b 32)
-
--- where they are a PIPE_NEW
-abbrev pub pipe_message : List ℕ → Message
-pipe_message b = PipeNew (word_at b 8) (word_at b 12) (word_at b 16) (word_at b 24) (word_at b 28) (word_at b 32) (word_at b 36) (word_at b 44)
-
--- where they are a CONNECT
-abbrev pub connect_message : List ℕ → Message
-connect_message b = Connect (word_at b 8) (word_at b 12)
-
--- where they are a PIPE_COMPLETE
-abbrev pub complete_message : List ℕ → Message
-complete_message b = PipeComplete (word_at b 8)
-
--- the message of the command word of bytes
-abbrev pub message_of : List ℕ → Message
-message_of b =
-    if word_at b 4 == 0x30010000 then comp_message b
-    else if word_at b 4 == 0x30200000 then buffer_message b
-    else if word_at b 4 == 0x30100000 then pipe_message b
-    else if word_at b 4 == 0x30030000 then connect_message b
-    else complete_message b
+-- the message that bytes are, where they have this command
+abbrev pub message_of : List ℕ → CommandWord → Message
+message_of b commands.CompNew = CompNew (word_at b 8) (word_at b 16) (word_at b 36) (word_at b 40) (word_at b 48) (comp_words b (word_at b 12))
+message_of b commands.CompFree = CompFree (word_at b 8)
+message_of b commands.Connect = Connect (word_at b 8) (word_at b 12)
+message_of b commands.PipeNew = PipeNew (word_at b 8) (word_at b 12) (word_at b 16) (word_at b 24) (word_at b 28) (word_at b 32) (word_at b 36) (word_at b 44)
+message_of b commands.PipeFree = PipeFree (word_at b 8)
+message_of b commands.PipeComplete = PipeComplete (word_at b 8)
+message_of b commands.BufferNew = BufferNew (word_at b 8) (word_at b 16) (word_at b 28) (word_at b 32)
+message_of b commands.BufferFree = BufferFree (word_at b 8)
+message_of b commands.CtxSave = CtxSave
+message_of b commands.SetValue = SetValue (word_at b 12) (word_at b 20) (values_in b)
+message_of b commands.GetValue = GetValue (word_at b 12) (word_at b 20)
+message_of b commands.SetData = SetData (word_at b 12) (part_in b)
+message_of b commands.GetData = GetData (word_at b 12) (word_at b 64)
+message_of b commands.PcmParams = PcmParams (word_at b 8) (word_at b 56) (params_at b)
+message_of b commands.PcmFree = PcmFree (word_at b 8)
+message_of b commands.TrigStart = TrigStart (word_at b 8)
+message_of b commands.TrigStop = TrigStop (word_at b 8)
+message_of b commands.TrigPause = TrigPause (word_at b 8)
+message_of b commands.TrigRelease = TrigRelease (word_at b 8)
 
 -- a fault, or else a value
 abbrev pub unless_fault : {A : Type 0} → Option CodecFault → A → Result A CodecFault
 unless_fault None m = Ok m
 unless_fault (Some f) m = Err f
 
+-- bytes of a command: the first bad place, or the message
+abbrev pub decoded_body : List ℕ → Option CommandWord → Result Message CodecFault
+decoded_body b None = Err (Command (word_at b 4))
+decoded_body b (Some command) = unless_fault (field_fault (find (is_bad b) (places_of b command))) (message_of b command)
+
 -- bytes as a message: their first fault, or the message that they carry
 unfoldable pub decoded : List ℕ → Result Message CodecFault
-decoded b = unless_fault (message_fault b) (message_of b)
+decoded b =
+    if nat_lt (length b) 8 then Err Short
+    else if not (is_sized 8 b) then Err SizeWord
+    else decoded_body b (command_numbered (word_at b 4))

@@ -1,104 +1,25 @@
 // Bytes as a message or a reply: one function for each message, its words in the order of the profile's table.
 ghost use Rattle.std.specs.Prelude.{◌≡◌, IfOk, IfErr, Ok, Err, Some};
-ghost use Rattle.sof_base.specs.Slots.{word_at};
-ghost use Rattle.ipc3_codec.specs.Messages.{buffer_places, buffer_message, IsMessage, Means, message_fault, decoded, kind_places, pipe_places, pipe_message, connect_places, connect_message, id_places, complete_message};
-ghost use Rattle.ipc3_codec.specs.Reading.{read_as, config_in, words_in, comp_in, message_in, framed_message_in, body_in, framed_reply_in};
+ghost use Rattle.ipc3_codec.specs.Messages.{IsMessage, Means, message_fault, decoded, places_of, message_of};
+ghost use Rattle.ipc3_codec.specs.Reading.{read_as, command_in, framed_message_in, framed_reply_in};
 ghost use Rattle.ipc3_codec.specs.Replies.{IsReply, MeansReply, reply_fault, decoded_reply};
+ghost use Rattle.ipc3_codec.specs.declared.command.CommandWord.TheVariants as commands;
 ghost use Rattle.ipc3_codec.specs.declared.message.Message.{Message as Value};
 ghost use Rattle.ipc3_codec.specs.declared.reply.Reply.{Reply as ReplyValue};
 ghost use Rattle.ipc3_codec.specs.declared.fault.CodecFault.{CodecFault as Fault};
 
-use crate::command::{BUFFER_NEW, COMP_NEW, CONNECT, HOST, PIPE_COMPLETE, PIPE_NEW, REPLY};
+use crate::command::{CommandWord, REPLY};
+use crate::components::comp_new;
+use crate::controls::{get_data, get_value, reply_body, set_data, set_value};
 use crate::fault::CodecFault;
 use crate::frame::Frame;
-use crate::message::{CompWords, Message};
-use crate::reply::{Body, Reply};
-
-/// The words of a component's config that carry something.
-#[derive(Clone, Copy)]
-pub struct Config {
-    pub periods_sink: u32,
-    pub periods_source: u32,
-    pub frame_fmt: u32,
-}
-
-/// COMP_NEW, from 76 to 80 bytes.
-#[tactic(auto, unfolding(crate::specs::Reading::comp_in))]
-fn comp_new(frame: &Frame) -> Result<Message, CodecFault>
-    ensures { result ≡ comp_in frame.now }
-{
-    let id = frame.word(8)?;
-    let kind = frame.comp_type(12)?;
-    let pipe = frame.word(16)?;
-    let _core = frame.word(20)?;
-    let _ext_data_length = frame.word(24)?;
-    let config = config_words(frame, kind)?;
-    let words = comp_words(frame, kind)?;
-    Ok(Message::CompNew {
-        id,
-        pipe,
-        periods_sink: config.periods_sink,
-        periods_source: config.periods_source,
-        frame_fmt: config.frame_fmt,
-        kind: words,
-    })
-}
-
-/// The config of a component of this type, from byte 28 to 64.
-#[tactic(auto, unfolding(crate::specs::Reading::config_in))]
-fn config_words(frame: &Frame, kind: u32) -> Result<Config, CodecFault>
-    ensures { result ≡ config_in frame.now kind }
-{
-    let _size = frame.word(28)?;
-    let _command = frame.word(32)?;
-    let periods_sink = frame.word(36)?;
-    let periods_source = frame.word(40)?;
-    let _reserved = frame.word(44)?;
-    let frame_fmt = frame.frame_format(48, kind)?;
-    let _xrun_action = frame.word(52)?;
-    let _reserved = frame.word(56)?;
-    let _reserved = frame.word(60)?;
-    Ok(Config {
-        periods_sink,
-        periods_source,
-        frame_fmt,
-    })
-}
-
-/// The words of a component's type, from byte 64 on.
-#[tactic(auto, unfolding(crate::specs::Reading::words_in))]
-fn comp_words(frame: &Frame, kind: u32) -> Result<CompWords, CodecFault>
-    requires { kind ≡ word_at frame.now 12 }
-    ensures { result ≡ words_in frame.now kind }
-{
-    match kind {
-        HOST => host_words(frame),
-        _ => dai_words(frame),
-    }
-}
-
-fn host_words(frame: &Frame) -> Result<CompWords, CodecFault>
-    ensures { result ≡ read_as frame.now (kind_places 1) (CompWords.Host (word_at frame.now 64)) }
-{
-    let direction = frame.direction(64)?;
-    let _no_irq = frame.word(68)?;
-    let _dmac_config = frame.word(72)?;
-    Ok(CompWords::Host { direction })
-}
-
-fn dai_words(frame: &Frame) -> Result<CompWords, CodecFault>
-    ensures { result ≡ read_as frame.now (kind_places 2) (CompWords.Dai (word_at frame.now 64) (word_at frame.now 68)) }
-{
-    let direction = frame.direction(64)?;
-    let index = frame.word(68)?;
-    let _type = frame.word(72)?;
-    let _reserved = frame.word(76)?;
-    Ok(CompWords::Dai { direction, index })
-}
+use crate::message::Message;
+use crate::reply::Reply;
+use crate::streams::pcm_params;
 
 /// CONNECT, 16 bytes.
 fn connect(frame: &Frame) -> Result<Message, CodecFault>
-    ensures { result ≡ read_as frame.now connect_places (connect_message frame.now) }
+    ensures { result ≡ read_as frame.now (places_of frame.now commands.Connect) (message_of frame.now commands.Connect) }
 {
     let source = frame.word(8)?;
     let sink = frame.word(12)?;
@@ -107,7 +28,7 @@ fn connect(frame: &Frame) -> Result<Message, CodecFault>
 
 /// PIPE_NEW, 48 bytes.
 fn pipe_new(frame: &Frame) -> Result<Message, CodecFault>
-    ensures { result ≡ read_as frame.now pipe_places (pipe_message frame.now) }
+    ensures { result ≡ read_as frame.now (places_of frame.now commands.PipeNew) (message_of frame.now commands.PipeNew) }
 {
     let id = frame.word(8)?;
     let pipe = frame.word(12)?;
@@ -131,17 +52,9 @@ fn pipe_new(frame: &Frame) -> Result<Message, CodecFault>
     })
 }
 
-/// PIPE_COMPLETE, 12 bytes.
-fn pipe_complete(frame: &Frame) -> Result<Message, CodecFault>
-    ensures { result ≡ read_as frame.now id_places (complete_message frame.now) }
-{
-    let id = frame.word(8)?;
-    Ok(Message::PipeComplete { id })
-}
-
 /// BUFFER_NEW, 44 bytes.
 fn buffer_new(frame: &Frame) -> Result<Message, CodecFault>
-    ensures { result ≡ read_as frame.now buffer_places (buffer_message frame.now) }
+    ensures { result ≡ read_as frame.now (places_of frame.now commands.BufferNew) (message_of frame.now commands.BufferNew) }
 {
     let id = frame.word(8)?;
     let _type = frame.buffer_type(12)?;
@@ -160,25 +73,43 @@ fn buffer_new(frame: &Frame) -> Result<Message, CodecFault>
     })
 }
 
-#[tactic(auto, unfolding(crate::specs::Reading::message_in))]
-fn message(frame: &Frame) -> Result<Message, CodecFault>
-    ensures { result ≡ message_in frame.now }
+/// The message of a command. Where nothing is written of it, it has 12 bytes, and its id is behind the header.
+#[tactic(auto, unfolding(crate::specs::Reading::command_in))]
+fn message(frame: &Frame, command: CommandWord) -> Result<Message, CodecFault>
+    ensures { result ≡ command_in frame.now command }
 {
-    match frame.command() {
-        COMP_NEW => comp_new(frame),
-        CONNECT => connect(frame),
-        PIPE_NEW => pipe_new(frame),
-        PIPE_COMPLETE => pipe_complete(frame),
-        BUFFER_NEW => buffer_new(frame),
-        command => Err(CodecFault::Command(command)),
+    match command {
+        CommandWord::CompNew => comp_new(frame),
+        CommandWord::CompFree => Ok(Message::CompFree { id: frame.word(8)? }),
+        CommandWord::Connect => connect(frame),
+        CommandWord::PipeNew => pipe_new(frame),
+        CommandWord::PipeFree => Ok(Message::PipeFree { id: frame.word(8)? }),
+        CommandWord::PipeComplete => Ok(Message::PipeComplete { id: frame.word(8)? }),
+        CommandWord::BufferNew => buffer_new(frame),
+        CommandWord::BufferFree => Ok(Message::BufferFree { id: frame.word(8)? }),
+        CommandWord::CtxSave => Ok(Message::CtxSave),
+        CommandWord::SetValue => set_value(frame),
+        CommandWord::GetValue => get_value(frame),
+        CommandWord::SetData => set_data(frame),
+        CommandWord::GetData => get_data(frame),
+        CommandWord::PcmParams => pcm_params(frame),
+        CommandWord::PcmFree => Ok(Message::PcmFree { id: frame.word(8)? }),
+        CommandWord::TrigStart => Ok(Message::TrigStart { id: frame.word(8)? }),
+        CommandWord::TrigStop => Ok(Message::TrigStop { id: frame.word(8)? }),
+        CommandWord::TrigPause => Ok(Message::TrigPause { id: frame.word(8)? }),
+        CommandWord::TrigRelease => Ok(Message::TrigRelease { id: frame.word(8)? }),
     }
 }
 
+#[tactic(auto, unfolding(crate::specs::Reading::numbered_in))]
 fn framed_message(bytes: &[u8]) -> Result<Message, CodecFault>
     ensures { result ≡ framed_message_in bytes.now }
 {
     let frame = Frame::new(bytes, 8)?;
-    message(&frame)
+    match CommandWord::from_number(frame.command()) {
+        Some(command) => message(&frame, command),
+        None => Err(CodecFault::Command(frame.command())),
+    }
 }
 
 /// The message that the bytes carry, whatever stands behind it, or their first fault.
@@ -194,18 +125,6 @@ pub fn decode(bytes: &[u8]) -> Result<Message, CodecFault>
     ensures fault_only { (f : Fault) → message_fault bytes.now ≡ Some f → result ≡ Err f }
 {
     framed_message(bytes)
-}
-
-/// What a reply carries behind its 12 bytes.
-#[tactic(auto, unfolding(crate::specs::Reading::body_in))]
-fn reply_body(frame: &Frame) -> Result<Body, CodecFault>
-    ensures { result ≡ body_in frame.now }
-{
-    if frame.size() == 12 {
-        return Ok(Body::Nothing);
-    }
-    let _component = frame.word(12)?;
-    frame.body_type(16)
 }
 
 fn framed_reply(bytes: &[u8]) -> Result<Reply, CodecFault>

@@ -1,15 +1,12 @@
 // Bytes with a size word, and their words.
-ghost use Rattle.std.specs.Prelude.{◌≡◌, ◌≤◌, [], ◌∷◌, IfOk};
+ghost use Rattle.std.specs.Prelude.{◌≡◌, ◌≤◌, ◌+◌, ◌*◌, IfOk};
 ghost use Rattle.std.specs.Int.{w32, cast_signed};
-ghost use Rattle.sof_base.specs.Slots.{word_at};
-ghost use Rattle.ipc3_codec.specs.Messages.{any_word, word_of, is_comp_type, is_buffer_type, is_format_of, is_direction, is_buffer_size, is_period};
-ghost use Rattle.ipc3_codec.specs.Reading.{framed, word_in, read_as};
-ghost use Rattle.ipc3_codec.specs.Replies.{is_body_type};
+ghost use Rattle.sof_base.specs.Slots.{word_at, half_at, part};
+ghost use Rattle.ipc3_codec.specs.Places.{any_bytes, any_word};
+ghost use Rattle.ipc3_codec.specs.Reading.{framed, word_in, run_in, bytes_in};
 
-use crate::command::{BUFFER, DAI, HOST};
 use crate::fault::CodecFault;
-use crate::reply::Body;
-use sof_base::word;
+use sof_base::{PartBytes, bytes_at, half, word};
 use std::marker::Model;
 
 /// Bytes whose size word is at most 384 and at most their number. A word of them is read only where it lies within the
@@ -83,88 +80,51 @@ impl<'a> Frame<'a> {
         Ok(word(self.bytes, at))
     }
 
-    /// The type word of a component.
+    /// The word of two bytes at this place, of any value.
     #[tactic(auto, unfolding(crate::specs::Reading::word_in))]
-    pub fn comp_type(&self, at: usize) -> Result<u32, CodecFault>
-        ensures read { result ≡ word_in self.now (word_of at is_comp_type) }
-        ensures value { IfOk result (λ n. n ≡ word_at self.now at) }
+    pub fn half(&self, at: usize) -> Result<u16, CodecFault>
+        ensures read { result ≡ word_in self.now (any_bytes at 2) }
+        ensures value { IfOk result (λ n. n ≡ half_at self.now at) }
     {
-        let kind = self.word(at)?;
-        if kind != HOST && kind != DAI {
+        if self.size.saturating_sub(at) < 2 {
             return Err(CodecFault::Field(at));
         }
-        Ok(kind)
+        Ok(half(self.bytes, at))
     }
 
-    /// The type word of a buffer.
-    #[tactic(auto, unfolding(crate::specs::Reading::word_in))]
-    pub fn buffer_type(&self, at: usize) -> Result<u32, CodecFault>
-        ensures read { result ≡ word_in self.now (word_of at is_buffer_type) }
+    /// Words of one width, of any values, from a place on.
+    pub fn run(&self, width: usize, at: usize, count: usize) -> Result<(), CodecFault>
+        requires wide { 1 ≤ width }
+        requires small { at + width * count ≤ 384 }
+        ensures { result ≡ run_in self.now width at count }
     {
-        let kind = self.word(at)?;
-        if kind != BUFFER {
+        for i in 0..count {
+            let place = at + width * i;
+            if self.size.saturating_sub(place) < width {
+                return Err(CodecFault::Field(place));
+            }
+        }
+        Ok(())
+    }
+
+    /// The bytes of a part, at most 260, which count as one word.
+    #[tactic(auto, unfolding(crate::specs::Reading::word_in, crate::specs::Reading::bytes_in))]
+    pub fn part_bytes(&self, at: usize, count: usize) -> Result<PartBytes, CodecFault>
+        requires small { count ≤ 260 }
+        ensures read { result ≡ bytes_in self.now at count }
+        ensures room { IfOk result (λ _. at + count ≤ word_at self.now 0) }
+    {
+        if self.size < count || self.size - count < at {
             return Err(CodecFault::Field(at));
         }
-        Ok(kind)
+        PartBytes::new(&self.bytes[at..at + count]).ok_or(CodecFault::Field(at))
     }
 
-    /// The frame format of a component of this type: a DAI's is 0 to 2.
-    #[tactic(auto, unfolding(crate::specs::Reading::word_in))]
-    pub fn frame_format(&self, at: usize, kind: u32) -> Result<u32, CodecFault>
-        ensures read { result ≡ word_in self.now (word_of at (is_format_of kind)) }
-        ensures value { IfOk result (λ n. n ≡ word_at self.now at) }
+    /// The 32 bytes of a blob's header.
+    pub fn blob_header(&self, at: usize) -> [u8; 32]
+        requires { at + 32 ≤ word_at self.now 0 }
+        ensures { result ≡ part self.now at 32 }
     {
-        let format = self.word(at)?;
-        if kind != HOST && format > 2 {
-            return Err(CodecFault::Field(at));
-        }
-        Ok(format)
-    }
-
-    /// A direction: 0 for playback, 1 for capture.
-    #[tactic(auto, unfolding(crate::specs::Reading::word_in))]
-    pub fn direction(&self, at: usize) -> Result<u32, CodecFault>
-        ensures read { result ≡ word_in self.now (word_of at is_direction) }
-        ensures value { IfOk result (λ n. n ≡ word_at self.now at) }
-    {
-        let direction = self.word(at)?;
-        if direction > 1 {
-            return Err(CodecFault::Field(at));
-        }
-        Ok(direction)
-    }
-
-    /// A buffer's size in bytes.
-    #[tactic(auto, unfolding(crate::specs::Reading::word_in))]
-    pub fn buffer_size(&self, at: usize) -> Result<u32, CodecFault>
-        ensures read { result ≡ word_in self.now (word_of at is_buffer_size) }
-        ensures value { IfOk result (λ n. n ≡ word_at self.now at) }
-    {
-        let size = self.word(at)?;
-        if size < 16 || size > 16_777_184 {
-            return Err(CodecFault::Field(at));
-        }
-        Ok(size)
-    }
-
-    /// A pipeline's period in µs.
-    #[tactic(auto, unfolding(crate::specs::Reading::word_in))]
-    pub fn period(&self, at: usize) -> Result<u32, CodecFault>
-        ensures read { result ≡ word_in self.now (word_of at is_period) }
-        ensures value { IfOk result (λ n. n ≡ word_at self.now at) }
-    {
-        let period = self.word(at)?;
-        if period < 1000 || period > 10_000 || period % 1000 != 0 {
-            return Err(CodecFault::Field(at));
-        }
-        Ok(period)
-    }
-
-    /// The type word of a reply's body. No type is known.
-    #[tactic(auto, unfolding(crate::specs::Reading::word_in))]
-    pub fn body_type(&self, at: usize) -> Result<Body, CodecFault>
-        ensures { result ≡ read_as self.now (word_of at is_body_type ∷ []) Body.Nothing }
-    {
-        Err(CodecFault::Field(at))
+        bytes_at(self.bytes, at)
     }
 }

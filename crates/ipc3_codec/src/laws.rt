@@ -2,7 +2,7 @@
 
 ghost use Rattle.std.specs.Prelude.{◌≡◌, ◌↔◌, ◌≤◌, ◌<◌, ◌++◌, ℕ, List, length, slice_index, Ok, Err, Some};
 ghost use Rattle.ipc3_codec.specs.Messages.{IsMessage, Means, decoded, message_fault, message_spelling, size_of};
-ghost use Rattle.ipc3_codec.specs.Replies.{IsReply, MeansReply, decoded_reply, reply_fault, reply_spelling};
+ghost use Rattle.ipc3_codec.specs.Replies.{IsReply, MeansReply, decoded_reply, reply_fault, reply_size, reply_spelling};
 ghost use Rattle.ipc3_codec.specs.declared.message.Message.{Message as Value};
 ghost use Rattle.ipc3_codec.specs.declared.reply.Reply.{Reply as ReplyValue};
 ghost use Rattle.ipc3_codec.specs.declared.fault.CodecFault.{CodecFault as Fault};
@@ -15,9 +15,9 @@ pub fn messages_are_decoded()
     ensures faults { (b : List ℕ) (f : Fault) → (decoded b ≡ Err f) ↔ (message_fault b ≡ Some f) }
     // Whatever follows it.
     ensures again { (m : Value) (rest : List ℕ) → IsMessage m → decoded (message_spelling m ++ rest) ≡ Ok m }
-    ensures long { (m : Value) → length (message_spelling m) ≡ size_of m }
-    ensures least { (m : Value) → 12 ≤ size_of m }
-    ensures most { (m : Value) → size_of m ≤ 80 }
+    ensures long { (m : Value) → IsMessage m → length (message_spelling m) ≡ size_of m }
+    ensures least { (m : Value) → 8 ≤ size_of m }
+    ensures most { (m : Value) → IsMessage m → size_of m ≤ 384 }
 {}
 
 /// Bytes are decoded to the one reply that they carry, and a reply is decoded from its spelling.
@@ -28,5 +28,7 @@ pub fn replies_are_decoded()
     ensures faults { (b : List ℕ) (f : Fault) → (decoded_reply b ≡ Err f) ↔ (reply_fault b ≡ Some f) }
     // Whatever follows it.
     ensures again { (r : ReplyValue) (rest : List ℕ) → IsReply r → decoded_reply (reply_spelling r ++ rest) ≡ Ok r }
-    ensures long { (r : ReplyValue) → length (reply_spelling r) ≡ 12 }
+    ensures long { (r : ReplyValue) → IsReply r → length (reply_spelling r) ≡ reply_size r.body }
+    ensures least { (r : ReplyValue) → 12 ≤ reply_size r.body }
+    ensures most { (r : ReplyValue) → IsReply r → reply_size r.body ≤ 384 }
 {}

@@ -2,14 +2,22 @@
 //! encoded into at most 384 bytes, and how bytes are decoded, with the first fault and its place.
 #![tactic(auto)]
 
+mod checked;
 mod command;
+mod components;
+mod control;
+mod control_bytes;
+mod controls;
 mod decoding;
 mod encoding;
 mod fault;
 mod frame;
 mod laws;
 mod message;
+mod putting;
 mod reply;
+mod stream_bytes;
+mod streams;
 
 pub use decoding::{decode, decode_reply};
 pub use encoding::{encode, encode_reply};

@@ -1,26 +1,29 @@
 -- The firmware's step for a message: one row for each, its tests in the order -19, -16, -22, -12.
-use Rattle.std.specs.Prelude.{ℕ, ◌+◌, ◌&&◌, ◌||◌, Bool, true, false, not, List, [], map, length, Option, Some, None, Result, Ok, Err, ℤ, pos, negsuc, find, nat_le, is_some, option_map, ◌==◌, if◌then◌else◌}
-use Rattle.std.specs.List.{list_any}
+use Rattle.std.specs.Prelude.{ℕ, ◌+◌, ◌&&◌, ◌||◌, Bool, true, false, not, List, [], map, length, Option, Some, None, Result, Ok, Err, ℤ, pos, negsuc, find, nat_le, ◌%◌, is_some, option_map, ◌==◌, if◌then◌else◌}
+use Rattle.std.specs.List.{list_any, list_all}
 use Rattle.sof_base.specs.declared.format.Format.{Format}
 use Rattle.sof_base.specs.declared.format.Format.TheVariants.{S16, S24, S32}
 use Rattle.sof_base.specs.Holes.{rounded, usable_of, fresh_holes, fits, first_fit, carved}
 use Rattle.stream_law.specs.declared.graph.Kind.{Kind}
-use Rattle.stream_law.specs.declared.graph.Kind.TheVariants.{HostPlay, HostCapture, DaiPlay, DaiCapture, Mixer, Mux, Eq}
+use Rattle.stream_law.specs.declared.graph.Kind.TheVariants.{HostPlay, HostCapture, DaiPlay, DaiCapture, Volume, Mixer, Mux, Eq}
 use Rattle.stream_law.specs.declared.graph.Setting.TheVariants.{Nothing}
 use Rattle.stream_law.specs.declared.graph.Comp.{Comp}
 use Rattle.stream_law.specs.declared.graph.Edge.{Edge}
 use Rattle.stream_law.specs.declared.graph.Pipe.{Pipe}
 use Rattle.stream_law.specs.declared.graph.Graph.{Graph}
 use Rattle.stream_law.specs.declared.stream.StreamView.{StreamView}
-use Rattle.stream_law.specs.declared.stream.Phase.TheVariants.{Idle}
-use Rattle.stream_law.specs.State.{FwState, HeapView}
-use Rattle.stream_law.specs.Ways.{comp_of, source_of, sink_of, ins, outs}
+use Rattle.sof_base.specs.declared.format.Params.{Params}
+use Rattle.stream_law.specs.declared.stream.Phase.{Phase}
+use Rattle.stream_law.specs.declared.stream.Phase.TheVariants.{Idle, Prepared, Running, Paused}
+use Rattle.stream_law.specs.State.{FwState, HeapView, View}
+use Rattle.stream_law.specs.Ways.{comp_of, source_of, sink_of, ins, outs, on_way, agree}
 use Rattle.stream_law.specs.Placed.{placed}
-use Rattle.stream_law.specs.Joins.{kind_ins, kind_outs, would_cycle, would_reach, would_grow, with_join}
+use Rattle.stream_law.specs.Seen.{seen}
+use Rattle.stream_law.specs.Joins.{kind_ins, kind_outs, fits_kind, would_cycle, would_reach, would_grow, with_join}
 use Rattle.ipc3_codec.specs.declared.message.Message.{Message}
-use Rattle.ipc3_codec.specs.declared.message.Message.TheVariants.{CompNew, BufferNew, PipeNew, Connect, PipeComplete}
+use Rattle.ipc3_codec.specs.declared.message.Message.TheVariants as messages
 use Rattle.ipc3_codec.specs.declared.message.CompWords.{CompWords}
-use Rattle.ipc3_codec.specs.declared.message.CompWords.TheVariants.{Host, Dai}
+use Rattle.ipc3_codec.specs.declared.message.CompWords.TheVariants as words
 use Rattle.ipc3_codec.specs.declared.reply.Body.TheVariants as bodies
 use Rattle.ipc3_codec.specs.declared.fault.CodecFault.{CodecFault}
 use Rattle.ipc3_codec.specs.Messages.{decoded}
@@ -92,8 +95,12 @@ abbrev pub format_of : ℕ → Format
 format_of n = if n == 0 then S16 else if n == 1 then S24 else S32
 
 abbrev pub kind_of : CompWords → ℕ → Kind
-kind_of (Host direction) frame_fmt = if direction == 0 then HostPlay else HostCapture
-kind_of (Dai direction index) frame_fmt = if direction == 0 then DaiPlay (format_of frame_fmt) else DaiCapture (format_of frame_fmt)
+kind_of (words.Host direction) frame_fmt = if direction == 0 then HostPlay else HostCapture
+kind_of (words.Dai direction index) frame_fmt = if direction == 0 then DaiPlay (format_of frame_fmt) else DaiCapture (format_of frame_fmt)
+kind_of (words.Volume channels min_value max_value) frame_fmt = Volume
+kind_of words.Mixer frame_fmt = Mixer
+kind_of words.Mux frame_fmt = Mux
+kind_of words.Eq frame_fmt = Eq
 
 -- a host brings a stream without parameters
 abbrev pub with_stream : ℕ → Kind → List StreamView → List StreamView
@@ -210,15 +217,122 @@ abbrev pub pipe_complete : FwState → ℕ → Result FwState ℤ
 pipe_complete f id =
     if not (is_used f.graph id) then Err no_device else complete_pipe f id (find (λ p. p.id == id) f.graph.pipes)
 
+-- ---- PCM_PARAMS
+
+-- whether a kind is that of a host, and its direction: 0 for playback, 1 for capture
+abbrev pub is_host : Kind → Bool
+is_host HostPlay = true
+is_host HostCapture = true
+is_host kind = false
+
+abbrev pub goes : Kind → ℕ → Bool
+goes HostPlay direction = direction == 0
+goes HostCapture direction = direction == 1
+goes kind direction = false
+
+-- frames a second
+abbrev pub is_rate : ℕ → Bool
+is_rate n = nat_le 8000 n && nat_le n 192000 && n % 1000 == 0
+
+-- a component's pipeline is complete, and its edges are as many as its kind has
+abbrev pub is_ready_comp : Graph → Comp → Bool
+is_ready_comp g c = is_complete g c.pipe && fits_kind c.kind (length (ins g c.id)) (length (outs g c.id))
+
+-- a buffer's pipeline is complete, and both its sides are joined
+abbrev pub is_ready_edge : Graph → Edge → Bool
+is_ready_edge g e = is_complete g e.pipe && is_some e.source && is_some e.sink
+
+-- all that is on the way of a host's stream is ready
+unfoldable pub is_way_ready : Graph → ℕ → Bool
+is_way_ready g host =
+    list_all (λ c. not (on_way g host c.id) || is_ready_comp g c) g.comps
+    && list_all (λ e. not (on_way g host e.buffer) || is_ready_edge g e) g.edges
+
+-- the phase of a host's stream
+abbrev pub phase_at : FwState → ℕ → Option Phase
+phase_at f host = option_map (λ s. s.phase) (find (λ s. s.host == host) f.streams)
+
+abbrev pub is_moving : Phase → Bool
+is_moving Running = true
+is_moving Paused = true
+is_moving phase = false
+
+-- the streams with a phase and parameters for one
+abbrev pub set_stream : ℕ → Phase → Option Params → StreamView → StreamView
+set_stream host phase params s = if s.host == host then record { host = s.host; phase = phase; params = params } else s
+
+abbrev pub with_params : FwState → ℕ → Params → View
+with_params f host p = record { graph = f.graph; streams = map (set_stream host Prepared (Some p)) f.streams }
+
+abbrev pub has_kind : (Kind → Bool) → Option Kind → Bool
+has_kind test None = false
+has_kind test (Some kind) = test kind
+
+abbrev pub has_phase : (Phase → Bool) → Option Phase → Bool
+has_phase test None = false
+has_phase test (Some phase) = test phase
+
+abbrev pub pcm_params : FwState → ℕ → ℕ → Params → Result FwState ℤ
+pcm_params f host direction p =
+    if not (is_used f.graph host) then Err no_device
+    else if not (has_kind (λ kind. goes kind direction) (kind_at f.graph host)) || has_phase is_moving (phase_at f host) || not (is_rate p.rate) || not (is_way_ready f.graph host) || not (agree (with_params f host p)) then Err invalid
+    else Ok (seen (with_params f host p) None f)
+
+-- ---- PCM_FREE and the triggers: each leads from some phases to one
+
+abbrev pub set_phase : ℕ → Phase → StreamView → StreamView
+set_phase host phase s = if s.host == host then record { host = s.host; phase = phase; params = s.params } else s
+
+abbrev pub is_prepared : Phase → Bool
+is_prepared Prepared = true
+is_prepared phase = false
+
+abbrev pub is_running : Phase → Bool
+is_running Running = true
+is_running phase = false
+
+abbrev pub is_paused : Phase → Bool
+is_paused Paused = true
+is_paused phase = false
+
+-- a host's stream in one of the phases is changed
+abbrev pub changed : FwState → ℕ → (Phase → Bool) → (StreamView → StreamView) → Result FwState ℤ
+changed f host from to =
+    if not (is_used f.graph host) then Err no_device
+    else if not (has_kind is_host (kind_at f.graph host) && has_phase from (phase_at f host)) then Err invalid
+    else Ok (seen (record { graph = f.graph; streams = map to f.streams }) None f)
+
+-- without parameters
+abbrev pub pcm_free : FwState → ℕ → Result FwState ℤ
+pcm_free f host = changed f host is_prepared (set_stream host Idle None)
+
+abbrev pub trigger : FwState → ℕ → (Phase → Bool) → Phase → Result FwState ℤ
+trigger f host from to = changed f host from (set_phase host to)
+
 -- ---- all rows
 
--- a message's row: the state after it, or a negative error, which leaves the state as it was
+-- components that this firmware plays so far
+abbrev pub is_endpoint : CompWords → Bool
+is_endpoint (words.Host direction) = true
+is_endpoint (words.Dai direction index) = true
+is_endpoint kind = false
+
+-- A message's row: the state after it, or a negative error, which leaves the state as it was. A message without a row here,
+-- and a component that is no endpoint, are answered -22.
 abbrev pub row : FwState → Message → Result FwState ℤ
-row f (CompNew id pipe periods_sink periods_source frame_fmt kind) = comp_new f id pipe (kind_of kind frame_fmt)
-row f (BufferNew id pipe size caps) = buffer_new f id pipe size
-row f (PipeNew id pipe sched period priority mips frames time_domain) = pipe_new f id pipe sched period
-row f (Connect source sink) = connect f source sink
-row f (PipeComplete id) = pipe_complete f id
+row f (messages.CompNew id pipe periods_sink periods_source frame_fmt kind) = if is_endpoint kind then comp_new f id pipe (kind_of kind frame_fmt) else Err invalid
+row f (messages.BufferNew id pipe size caps) = buffer_new f id pipe size
+row f (messages.PipeNew id pipe sched period priority mips frames time_domain) = pipe_new f id pipe sched period
+row f (messages.Connect source sink) = connect f source sink
+row f (messages.PipeComplete id) = pipe_complete f id
+row f (messages.PcmParams host direction params) = pcm_params f host direction params
+row f (messages.PcmFree id) = pcm_free f id
+row f (messages.TrigStart id) = trigger f id is_prepared Running
+row f (messages.TrigStop id) = trigger f id is_moving Prepared
+row f (messages.TrigPause id) = trigger f id is_running Paused
+row f (messages.TrigRelease id) = trigger f id is_paused Running
+row f messages.CtxSave = Ok f
+row f m = Err invalid
 
 -- bytes that are no message are answered -22
 abbrev pub row_of : FwState → Result Message CodecFault → Result FwState ℤ

@@ -6,7 +6,7 @@ use Rattle.std.proofs.Math.Seq.{take-add}
 use Rattle.std.proofs.lemmas.Nat.{le_bytes_2, le_bytes_4, le_bytes_8, from_le_bytes-to_le_bytes_8, from_le_bytes-to_le_bytes_2, from_le_bytes-to_le_bytes_4}
 use Rattle.std.specs.Int.{w16, w32, w64, from_le_bytes, to_le_bytes}
 use Rattle.sof_base.specs.Cells.{fixed, loose, Fits}
-use Rattle.sof_base.specs.Slots.{Slot, Word, Half, Long, Size, Label, Words, Raw, zeros, words_bytes, slot_cells, slots_cells, NoZero, AreWords, IsSlot, AreSlots, part, until_zero, has_zero, word_at, half_at, long_at, name_at, has_name, words_at, Shape, A_word, A_half, A_long, A_size, A_name, A_words, Bytes, width, slot_at, named, widths, slots_from, all_named, shape_of, shapes_of}
+use Rattle.sof_base.specs.Slots.{Slot, Word, Half, Long, Size, Label, Words, Raw, Spare, zeros, words_bytes, slot_cells, slots_cells, NoZero, AreWords, IsSlot, AreSlots, part, until_zero, has_zero, word_at, half_at, long_at, name_at, has_name, words_at, Shape, A_word, A_half, A_long, A_size, A_name, A_words, Bytes, A_spare, width, slot_at, named, widths, slots_from, all_named, shape_of, shapes_of}
 use Rattle.sof_base.proofs.Fitting.{Fits-length, Fits-append, Fits-split, Fits-fixed, is_fixed, Fits-loose}
 
 abbrev pub IsBytes : List ℕ → Type 0
@@ -134,6 +134,8 @@ slot_reads A_name bytes at h long ok =
     record { fits = until-fits p pads ok (omega (arith, below, len, length-zeros (43 - length (until_zero p)))); is = (omega (arith, below, len), no_zero-until p) }
 slot_reads (Bytes n) bytes at h long ok =
     record { fits = Fits-fixed (part bytes at n); is = tt }
+slot_reads (A_spare spare) bytes at h long ok =
+    record { fits = Fits-loose (part bytes at (length spare)) spare (length-part bytes at (length spare) long); is = tt }
 
 pub length-fixed : (bs : List ℕ) → length (fixed bs) ≡ length bs
 length-fixed [] = refl
@@ -160,6 +162,7 @@ length-slot_cells (Label name) is =
     let pads = zeros (43 - length name) in
     omega (arith, is.0, length-append (fixed (name ++ 0 ∷ [])) (loose pads), length-fixed (name ++ 0 ∷ []), length-loose pads, length-append name (0 ∷ []), length-zeros (43 - length name))
 length-slot_cells (Raw bytes) is = length-fixed bytes
+length-slot_cells (Spare bytes) is = length-loose bytes
 
 words_again : (ns : List ℕ) (bytes : List ℕ) (at : ℕ) → AreWords ns → part bytes at (4 * length ns) ≡ words_bytes ns → words_at (length ns) bytes at ≡ ns
 unfolding words_at words_bytes AreWords word_at
@@ -191,6 +194,7 @@ slot_again (Long n) bytes at is f =
 slot_again (Words ns) bytes at is f =
     record { slot = ap Words (words_again ns bytes at is (is_fixed (part bytes at (4 * length ns)) (words_bytes ns) f)); ok = refl }
 slot_again (Size n) bytes at is f = record { slot = refl; ok = refl }
+slot_again (Spare spare) bytes at is f = record { slot = refl; ok = refl }
 slot_again (Label name) bytes at is f =
     let r = until-again name (part bytes at 44) (zeros (43 - length name)) is.1 f in
     record { slot = ap Label r.0; ok = r.1 }

@@ -4,3 +4,4 @@ pub mod Samples
 pub mod Equations
 pub mod Holes
 pub mod Ports
+pub mod BlobForm

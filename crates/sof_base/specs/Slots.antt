@@ -3,7 +3,7 @@ use Rattle.std.specs.Prelude.{ℕ, zero, suc, ◌+◌, ◌-◌, ◌*◌, ◌<◌
 use Rattle.std.specs.Int.{w16, w32, w64, from_le_bytes, to_le_bytes}
 use Rattle.sof_base.specs.Cells.{Cell, fixed, loose, written}
 
--- a u32, a u16, a u64, a size word that is ignored on reading, a name of 44 bytes, u32 words, bytes
+-- a u32, a u16, a u64, a size word that is ignored on reading, a name of 44 bytes, u32 words, bytes, bytes that are ignored on reading
 pub data Slot : Type 0 where
   Word : ℕ → Slot
   Half : ℕ → Slot
@@ -12,6 +12,7 @@ pub data Slot : Type 0 where
   Label : List ℕ → Slot
   Words : List ℕ → Slot
   Raw : List ℕ → Slot
+  Spare : List ℕ → Slot
 
 -- so many zeros
 abbrev pub zeros : ℕ → List ℕ
@@ -32,6 +33,7 @@ slot_cells (Size n) = loose (to_le_bytes w32 n)
 slot_cells (Label name) = fixed (name ++ 0 ∷ []) ++ loose (zeros (43 - length name))
 slot_cells (Words ns) = fixed (words_bytes ns)
 slot_cells (Raw bytes) = fixed bytes
+slot_cells (Spare bytes) = loose bytes
 
 -- and fields, one after the other
 unfoldable pub slots_cells : List Slot → List Cell
@@ -90,6 +92,7 @@ IsSlot (Size n) = Unit {0}
 IsSlot (Label name) = IsName name
 IsSlot (Words ns) = AreWords ns
 IsSlot (Raw bytes) = Unit {0}
+IsSlot (Spare bytes) = Unit {0}
 
 -- and those of fields
 unfoldable pub AreSlots : List Slot → Type 0
@@ -136,6 +139,7 @@ pub data Shape : Type 0 where
   A_name : Shape
   A_words : ℕ → Shape
   Bytes : ℕ → Shape
+  A_spare : List ℕ → Shape
 
 -- how many bytes it has
 abbrev pub width : Shape → ℕ
@@ -146,6 +150,7 @@ width (A_size n) = 4
 width A_name = 44
 width (A_words n) = 4 * n
 width (Bytes n) = n
+width (A_spare bytes) = length bytes
 
 -- the field that lies at a place
 abbrev pub slot_at : Shape → List ℕ → ℕ → Slot
@@ -156,6 +161,7 @@ slot_at (A_size n) bytes at = Size n
 slot_at A_name bytes at = Label (name_at bytes at)
 slot_at (A_words n) bytes at = Words (words_at n bytes at)
 slot_at (Bytes n) bytes at = Raw (part bytes at n)
+slot_at (A_spare spare) bytes at = Spare spare
 
 -- a name there has a 0
 abbrev pub named : Shape → List ℕ → ℕ → Bool
@@ -166,6 +172,7 @@ named (A_size n) bytes at = true
 named A_name bytes at = has_name bytes at
 named (A_words n) bytes at = true
 named (Bytes n) bytes at = true
+named (A_spare spare) bytes at = true
 
 -- the bytes of fields, one after the other
 abbrev pub widths : List Shape → ℕ
@@ -191,6 +198,7 @@ shape_of (Size n) = A_size n
 shape_of (Label name) = A_name
 shape_of (Words ns) = A_words (length ns)
 shape_of (Raw bytes) = Bytes (length bytes)
+shape_of (Spare bytes) = A_spare bytes
 
 -- and of fields
 abbrev pub shapes_of : List Slot → List Shape

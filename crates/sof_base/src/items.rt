@@ -1,5 +1,5 @@
 // A list that grows.
-ghost use Rattle.std.specs.Prelude.{◌≡◌, ◌∷◌, ◌++◌, [], OnOk, OnErr};
+ghost use Rattle.std.specs.Prelude.{◌≡◌, ◌<◌, ◌∷◌, ◌++◌, [], length, set, OnOk, OnErr};
 
 use crate::memory::NoMemory;
 use std::alloc::Global;
@@ -51,5 +51,13 @@ impl<T: Drop> Items<T> {
     {
         self.list.push(item)?;
         Ok(())
+    }
+
+    /// This item stands at a place, instead of the one that stood there.
+    pub fn put(&mut self, place: usize, item: T)
+        requires { place < length self.old }
+        ensures { self.new ≡ set self.old place item }
+    {
+        self.list[place] = item;
     }
 }

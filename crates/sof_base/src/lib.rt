@@ -1,6 +1,7 @@
 //! What every other crate speaks of: names, numbers in bytes, sample formats, stream parameters and error numbers.
 #![tactic(auto)]
 
+mod bounded;
 mod conversion;
 mod errno;
 mod fields;
@@ -13,8 +14,8 @@ mod part;
 #[cfg(test)]
 mod tests;
 mod worked;
-mod writing;
 
+pub use bounded::Bounded;
 pub use conversion::{sample_in, sample_out, sat32};
 pub use errno::Errno;
 pub use fields::{bytes_at, half, label, long, word, word_at, words_at};
@@ -25,4 +26,3 @@ pub use memory::NoMemory;
 pub use name::Name44;
 pub use part::{Part, PartBytes};
 pub use worked::{hole_rows, sample_rows};
-pub use writing::{put_bytes, put_half, put_long, put_name, put_size, put_word, put_words};

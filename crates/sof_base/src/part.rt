@@ -1,55 +1,10 @@
 // A part of a byte control's value, as one message carries it.
-ghost use Rattle.std.specs.Prelude.{◌≡◌, ◌≤◌, length, nat_le, Some, None, if◌then◌else◌};
+ghost use Rattle.std.specs.Prelude.{◌≡◌};
 
-use arrayvec::ArrayVec;
-use std::marker::Model;
+use crate::bounded::Bounded;
 
-/// At most 260 bytes of a payload.
-#[derive(Debug, Drop)]
-pub struct PartBytes {
-    items: ArrayVec<u8, 260>,
-}
-
-impl Model for PartBytes {
-    ghost use Rattle.std.specs.Prelude.{List, ℕ, ◌≤◌, length};
-
-    ghost Value = { List ℕ };
-
-    ghost view = { λ a. a.items.items };
-
-    ghost invariant = { λ a. length a.items.items ≤ 260 };
-}
-
-impl PartBytes {
-    /// These bytes; none where there are more than 260 of them.
-    pub fn new(bytes: &[u8]) -> Option<PartBytes>
-        ensures { result ≡ (if nat_le (length bytes.now) 260 then Some bytes.now else None) }
-    {
-        let mut items = ArrayVec::new();
-        match items.try_extend_from_slice(bytes) {
-            Ok(()) => Some(PartBytes { items }),
-            Err(_) => None,
-        }
-    }
-
-    pub fn items(&self) -> &[u8]
-        ensures value { result.now ≡ self.now }
-        ensures fits { length self.now ≤ 260 }
-    {
-        self.items.as_slice()
-    }
-
-    /// The same bytes again.
-    pub fn copied(&self) -> PartBytes
-        ensures { result ≡ self.now }
-    {
-        let mut items = ArrayVec::new();
-        for b in self.items.as_slice() {
-            items.push(*b);
-        }
-        PartBytes { items }
-    }
-}
+/// The bytes of a part's payload, at most 260.
+pub type PartBytes = Bounded<u8, 260>;
 
 /// A part of a blob: the blob's 32 header bytes, how many payload bytes follow this part, the part's number from 0, and
 /// its own payload bytes.

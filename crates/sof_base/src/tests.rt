@@ -54,33 +54,6 @@ fn samples_go_out_rounded_and_held(rt: HostRuntime) {
 }
 
 #[test]
-fn fields_are_written_low_byte_first(rt: HostRuntime) {
-    let mut out = Vec::new(rt.alloc());
-    assert!(rt; put_size(&mut out, 82).is_ok());
-    assert!(rt; put_half(&mut out, 0xbeef).is_ok());
-    assert!(rt; put_long(&mut out, 0x0100_0000_0000).is_ok());
-    assert!(rt; put_word(&mut out, 0x8000_0001).is_ok());
-    assert!(rt; put_words(&mut out, &[7, 8]).is_ok());
-    assert!(rt; put_bytes(&mut out, &[1, 2, 3]).is_ok());
-    let want = [
-        82, 0, 0, 0, 0xef, 0xbe, 0, 0, 0, 0, 0, 1, 0, 0, 1, 0, 0, 0x80, 7, 0, 0, 0, 8, 0, 0, 0, 1,
-        2, 3,
-    ];
-    assert_eq!(rt; out.as_slice(), want.as_slice());
-}
-
-#[test]
-fn a_name_is_written_in_44_bytes(rt: HostRuntime) {
-    let mut out = Vec::new(rt.alloc());
-    let name = Name44::new(b"PCM0P").expect(&rt, "a name");
-    assert!(rt; put_name(&mut out, &name.copied()).is_ok());
-    assert_eq!(rt; out.len(), 44);
-    assert_eq!(rt; out.get(4), Some(&b'P'));
-    assert_eq!(rt; out.get(5), Some(&0));
-    assert_eq!(rt; out.get(43), Some(&0));
-}
-
-#[test]
 fn fields_are_read(rt: HostRuntime) {
     let mut bytes = [9; 60];
     bytes[0] = 0x82;

@@ -12,12 +12,12 @@ use Rattle.sof_script.specs.declared.script.Command.TheVariants as commands
 use Rattle.sof_script.specs.declared.script.Numbered.{Numbered}
 use Rattle.sof_script.specs.Text.{answer_line}
 use Rattle.sof_session.specs.Show.{IsLineAt, show_lines}
-use Rattle.sof_session.specs.Walks.{Carry}
+use Rattle.sof_session.specs.Walks.{Carry, is_built}
 use Rattle.sof_session.specs.Seat.{Seat}
 use Rattle.sof_session.specs.Turns.{Ran, LifeMeaning, Turn, Turned, turn, shown_by}
 use Rattle.sof_run.specs.Todo as todo
 use Rattle.sof_run.specs.Todo.{Todo, Do, Played, DeskPhase, Follows, Fails, Phase}
-use Rattle.sof_run.specs.Play.{with_newline, spoken, lines_todo, command_todo, commands_todo}
+use Rattle.sof_run.specs.Play.{is_played, is_show, with_newline, spoken, lines_todo, command_todo, commands_todo}
 use Rattle.sof_run.proofs.Steps.{do_on, do_off, step_on, beside, beside_failed}
 
 -- what the answer says of the list
@@ -42,6 +42,30 @@ past_by lines k (inr past) none = past.0
 
 past : (lines : List (List ℕ)) (k : ℕ) (line : List ℕ) → IsLineAt lines k false line → length lines ≤ k
 past lines k line is = past_by lines k (slice_get_cases lines k).1 (missing (slice_get lines k) line is)
+
+-- what a run carries out, a session does
+pub played_built : (command : Command) → is_played command ≡ true → is_built command ≡ true
+played_built commands.Load is = refl
+played_built commands.Unload is = absurd (cc is)
+played_built commands.Suspend is = absurd (cc is)
+played_built commands.Resume is = absurd (cc is)
+played_built commands.Show is = refl
+played_built (commands.Open n) is = refl
+played_built (commands.Start n) is = refl
+played_built (commands.Stop n) is = refl
+played_built (commands.Pause n) is = absurd (cc is)
+played_built (commands.Release n) is = absurd (cc is)
+played_built (commands.Close n) is = refl
+played_built (commands.Get n) is = absurd (cc is)
+played_built (commands.Read n) is = absurd (cc is)
+played_built (commands.Params n p) is = refl
+played_built (commands.Set n v) is = absurd (cc is)
+played_built (commands.Bytes n b) is = absurd (cc is)
+played_built (commands.Tick t) is = absurd (cc is)
+played_built (commands.Refuse k e) is = absurd (cc is)
+played_built (commands.Drop k) is = absurd (cc is)
+played_built (commands.Lose k) is = absurd (cc is)
+played_built (commands.Lag k t) is = absurd (cc is)
 
 module _ {D : Type 0} (means : DeskMeaning D) where
   -- no line
@@ -79,13 +103,51 @@ module _ {D : Type 0} (means : DeskMeaning D) where
 
   -- what a command shows: nothing, or how everything stands
   module _ {P : Type 0} (device : Meaning P) where
-    pub shown_none : (command : Command) (seat : Seat P) (old : D) → command ≡ commands.Load → DeskPhase means (lines_todo (shown_by command seat)) true old old
+    pub shown_none : (command : Command) (seat : Seat P) (old : D) → is_show command ≡ false → DeskPhase means (lines_todo (shown_by command seat)) true old old
     shown_none commands.Load seat old is = none_said old
+    shown_none commands.Unload seat old is = none_said old
+    shown_none commands.Suspend seat old is = none_said old
+    shown_none commands.Resume seat old is = none_said old
     shown_none commands.Show seat old is = absurd (cc is)
+    shown_none (commands.Open n) seat old is = none_said old
+    shown_none (commands.Start n) seat old is = none_said old
+    shown_none (commands.Stop n) seat old is = none_said old
+    shown_none (commands.Pause n) seat old is = none_said old
+    shown_none (commands.Release n) seat old is = none_said old
+    shown_none (commands.Close n) seat old is = none_said old
+    shown_none (commands.Get n) seat old is = none_said old
+    shown_none (commands.Read n) seat old is = none_said old
+    shown_none (commands.Params n p) seat old is = none_said old
+    shown_none (commands.Set n v) seat old is = none_said old
+    shown_none (commands.Bytes n b) seat old is = none_said old
+    shown_none (commands.Tick t) seat old is = none_said old
+    shown_none (commands.Refuse k e) seat old is = none_said old
+    shown_none (commands.Drop k) seat old is = none_said old
+    shown_none (commands.Lose k) seat old is = none_said old
+    shown_none (commands.Lag k t) seat old is = none_said old
 
-    pub shown_all : (command : Command) (seat later : Seat P) (io io' : Io) (answer : Answer) (done : Bool) (old new : D) → command ≡ commands.Show → Ran device command seat later io io' answer → DeskPhase means (lines_todo (show_lines later.plan later.kept)) done old new → DeskPhase means (lines_todo (shown_by command seat)) done old new
+    pub shown_all : (command : Command) (seat later : Seat P) (io io' : Io) (answer : Answer) (done : Bool) (old new : D) → is_show command ≡ true → Ran device command seat later io io' answer → DeskPhase means (lines_todo (show_lines later.plan later.kept)) done old new → DeskPhase means (lines_todo (shown_by command seat)) done old new
     shown_all commands.Load seat later io io' answer done old new is ran phase = absurd (cc is)
+    shown_all commands.Unload seat later io io' answer done old new is ran phase = absurd (cc is)
+    shown_all commands.Suspend seat later io io' answer done old new is ran phase = absurd (cc is)
+    shown_all commands.Resume seat later io io' answer done old new is ran phase = absurd (cc is)
     shown_all commands.Show seat later io io' answer done old new is ran phase = subst (λ (x : Seat P). DeskPhase means (lines_todo (show_lines x.plan x.kept)) done old new) ran.0 phase
+    shown_all (commands.Open n) seat later io io' answer done old new is ran phase = absurd (cc is)
+    shown_all (commands.Start n) seat later io io' answer done old new is ran phase = absurd (cc is)
+    shown_all (commands.Stop n) seat later io io' answer done old new is ran phase = absurd (cc is)
+    shown_all (commands.Pause n) seat later io io' answer done old new is ran phase = absurd (cc is)
+    shown_all (commands.Release n) seat later io io' answer done old new is ran phase = absurd (cc is)
+    shown_all (commands.Close n) seat later io io' answer done old new is ran phase = absurd (cc is)
+    shown_all (commands.Get n) seat later io io' answer done old new is ran phase = absurd (cc is)
+    shown_all (commands.Read n) seat later io io' answer done old new is ran phase = absurd (cc is)
+    shown_all (commands.Params n p) seat later io io' answer done old new is ran phase = absurd (cc is)
+    shown_all (commands.Set n v) seat later io io' answer done old new is ran phase = absurd (cc is)
+    shown_all (commands.Bytes n b) seat later io io' answer done old new is ran phase = absurd (cc is)
+    shown_all (commands.Tick t) seat later io io' answer done old new is ran phase = absurd (cc is)
+    shown_all (commands.Refuse k e) seat later io io' answer done old new is ran phase = absurd (cc is)
+    shown_all (commands.Drop k) seat later io io' answer done old new is ran phase = absurd (cc is)
+    shown_all (commands.Lose k) seat later io io' answer done old new is ran phase = absurd (cc is)
+    shown_all (commands.Lag k t) seat later io io' answer done old new is ran phase = absurd (cc is)
 
   module _ {P : Type 0} (dsp : LifeMeaning P) where
     -- a turn, and then the lines of the command

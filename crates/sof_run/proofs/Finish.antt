@@ -1,21 +1,19 @@
 -- All that `run` ensures, from what it did.
-use Rattle.std.proofs.Common.{◌≡◌, ◌⊎◌, inl, inr, ℕ, true, false, List, [], ◌∷◌, Option, Some, None, Ok, refl, sym, ap, ◌∙◌, subst}
+use Rattle.std.proofs.Common.{◌≡◌, ◌⊎◌, inl, inr, ℕ, ◌≤◌, nat_lt, true, false, List, [], ◌∷◌, Option, Some, None, Ok, refl, sym, ap, ◌∙◌, subst, arith}
+use Rattle.std.proofs.lemmas.Bool.Decides.{nat_tests}
 use Rattle.sof_desk.specs.Desk.{DeskMeaning, Call, Load, Did}
 use Rattle.tplg_model.specs.declared.block.Topology.{Topology}
-use Rattle.tplg_model.specs.Reading.{topology_of}
 use Rattle.tplg_model.proofs.FileLaws.{topology_again}
-use Rattle.tplg_graph.specs.ThinTest.{thin_test}
 use Rattle.tplg_graph.specs.PlanOf.{plan_of}
-use Rattle.sof_script.specs.declared.script.Numbered.{Numbered}
-use Rattle.sof_script.specs.Commands.{script_of}
+use Rattle.sof_script.specs.Commands.{Read}
 use Rattle.sof_session.specs.Walks.{Stand}
 use Rattle.sof_session.specs.Turns.{LifeMeaning, Turn, Turns}
 use Rattle.sof_run.specs.Words.{Form, play_of}
 use Rattle.sof_run.specs.Todo.{Todo, Goes, Ran}
-use Rattle.sof_run.specs.Play.{Ready, prepared, prepared_by, prepared_thin, play, todo_for, todo_of}
+use Rattle.sof_run.specs.Play.{Ready, ticks_of, prepared, prepared_script, prepared_ticks, prepared_topology, prepared_thin, prepared_bindings, prepared_commands, play, todo_for, todo_of}
 use Rattle.sof_run.specs.Whole.{Planned, Memory, whole, whole_end, Throughout, Told, Made}
 use Rattle.sof_run.specs.Runs.{begun, run_of, after_units, marked, puts}
-use Rattle.sof_run.specs.Run.{IsEarly, Done, Worded, IsFile, Judged, Plays}
+use Rattle.sof_run.specs.Run.{IsEarly, Done, Worded, IsRun, Judged, Plays}
 use Rattle.sof_run.proofs.Settle.{settle}
 use Rattle.sof_run.proofs.Judging.{judge}
 use Rattle.sof_run.proofs.Carried.{play_wrote}
@@ -32,8 +30,12 @@ not_late status (inr (inr (inl is))) (inl late) = cc (sym is ∙ late)
 not_late status (inr (inr (inl is))) (inr late) = cc (sym is ∙ late)
 not_late status (inr (inr (inr (inl is)))) (inl late) = cc (sym is ∙ late)
 not_late status (inr (inr (inr (inl is)))) (inr late) = cc (sym is ∙ late)
-not_late status (inr (inr (inr (inr is)))) (inl late) = cc (sym is ∙ late)
-not_late status (inr (inr (inr (inr is)))) (inr late) = cc (sym is ∙ late)
+not_late status (inr (inr (inr (inr (inl is))))) (inl late) = cc (sym is ∙ late)
+not_late status (inr (inr (inr (inr (inl is))))) (inr late) = cc (sym is ∙ late)
+not_late status (inr (inr (inr (inr (inr (inl is)))))) (inl late) = cc (sym is ∙ late)
+not_late status (inr (inr (inr (inr (inr (inl is)))))) (inr late) = cc (sym is ∙ late)
+not_late status (inr (inr (inr (inr (inr (inr is)))))) (inl late) = cc (sym is ∙ late)
+not_late status (inr (inr (inr (inr (inr (inr is)))))) (inr late) = cc (sym is ∙ late)
 
 -- said of every list of what is to do alike
 module _ {D P : Type 0} (means : DeskMeaning D) (dsp : LifeMeaning P) (todo : Todo) (old new : D) (p q : P) (status : ℕ) (other : Throughout (λ n. n ≡ 3 → ⊥) (λ name. Unit {0}) todo) (last : TurnsLast todo) (ran : Ran means dsp todo old p status new q) where
@@ -45,7 +47,7 @@ module _ {D P : Type 0} (means : DeskMeaning D) (dsp : LifeMeaning P) (todo : To
       record {
         ran = ran;
         failed = λ three. three_last means todo ran.turns ran.played.calls status old new ran.played.goes other ran.played.led three;
-        wanting = λ seven. untouched (not_late status (inr (inr (inr (inl seven)))));
+        wanting = λ seven. untouched (not_late status (inr (inr (inr (inr (inl seven))))));
         untouched = λ early. untouched (not_late status early);
         unasked = λ three loads. subst (λ ts. Turns dsp p ts q) (none_asked todo ran.turns ran.played.calls status ran.played.goes last three loads) ran.turned;
         made = λ calm told. settle means dsp (means.holds old) todo old new p q ran.turns ran.played.calls status (λ name. refl) calm told ran.played.goes ran.played.led ran.turned;
@@ -53,13 +55,13 @@ module _ {D P : Type 0} (means : DeskMeaning D) (dsp : LifeMeaning P) (todo : To
 
 pub words_other : (o : Option Form) → Throughout (λ n. n ≡ 3 → ⊥) (λ name. Unit {0}) (todo_for o)
 words_other None = λ e. cc e
-words_other (Some form) = play_all (λ n. n ≡ 3 → ⊥) (λ name. Unit {0}) form (λ e. cc e) (λ e. cc e) (λ e. cc e) (λ e. cc e) (λ e. cc e) tt tt
+words_other (Some form) = play_all (λ n. n ≡ 3 → ⊥) (λ name. Unit {0}) form (λ e. cc e) (λ e. cc e) (λ e. cc e) (λ e. cc e) (λ e. cc e) (λ e. cc e) (λ e. cc e) tt tt
 
 -- status 1 is that of words without a form
 one_only : (o : Option Form) (turns : List Turn) (calls : List Call) (status : ℕ) → Goes (todo_for o) turns calls status → status ≡ 1 → o ≡ None
 one_only None turns calls status goes one = refl
 one_only (Some form) turns calls status goes one =
-    absurd (ends (λ n. n ≡ 1 → ⊥) (λ name. Unit {0}) (play form) turns calls status goes (play_all (λ n. n ≡ 1 → ⊥) (λ name. Unit {0}) form (λ e. cc e) (λ e. cc e) (λ e. cc e) (λ e. cc e) (λ e. cc e) tt tt) (λ e. cc e) one)
+    absurd (ends (λ n. n ≡ 1 → ⊥) (λ name. Unit {0}) (play form) turns calls status goes (play_all (λ n. n ≡ 1 → ⊥) (λ name. Unit {0}) form (λ e. cc e) (λ e. cc e) (λ e. cc e) (λ e. cc e) (λ e. cc e) (λ e. cc e) (λ e. cc e) tt tt) (λ e. cc e) one)
 
 one_each : (o : Option Form) (turns : List Turn) (calls : List Call) (status : ℕ) → Goes (todo_for o) turns calls status → o ≡ None → (status ≡ 1) ⊎ (status ≡ 3)
 one_each None turns [] status goes no_play = absurd goes
@@ -77,11 +79,17 @@ worded room words turns calls status goes =
 
 -- ---- the files
 
-files_ready : (topology script : List ℕ) (t : Topology) (commands : List Numbered) → IsFile topology t → thin_test t ≡ true → script_of script ≡ Some commands → prepared topology script ≡ Ready (plan_of t) commands
-files_ready topology script t commands file thin lines =
-    ap (λ o. prepared_by o (topology_of topology)) lines
-    ∙ ap (prepared_by (Some commands)) (topology_again topology t file.0 file.1)
-    ∙ ap (λ b. prepared_thin b t commands) thin
+not_over : (sum : ℕ) → sum ≤ 60000 → nat_lt 60000 sum ≡ false
+not_over sum few = grind (arith, nat_tests)
+
+files_ready : (topology script : List ℕ) (t : Topology) (read : Read) → IsRun topology script t read → prepared topology script ≡ Ready (plan_of t) read.commands
+files_ready topology script t read is =
+    ap (prepared_script topology) is.lines.0
+    ∙ ap (prepared_ticks topology read) (not_over (ticks_of read.commands) is.lines.1)
+    ∙ ap (prepared_topology read) (topology_again topology t is.file.0 is.file.1)
+    ∙ ap (prepared_thin t read) is.thin
+    ∙ ap (prepared_bindings (plan_of t) read) is.right
+    ∙ ap (prepared_commands (plan_of t) read) is.built
 
 module _ {D P : Type 0} (means : DeskMeaning D) (dsp : LifeMeaning P) (words : List (List ℕ)) (old new : D) (p q : P) (status : ℕ) (done : Done means dsp (todo_of (dsp.most p) words) old p status new q) where
   pub judged : Judged means (dsp.most p) words old done.ran.played.calls status
@@ -90,15 +98,16 @@ module _ {D P : Type 0} (means : DeskMeaning D) (dsp : LifeMeaning P) (words : L
       (subst (λ o. Goes (todo_for o) done.ran.turns done.ran.played.calls status) is_form done.ran.played.goes) done.ran.played.led
 
   pub plays : Plays means dsp words old p status new q
-  plays calm form topology script t commands is_form is_topology is_script fit file thin lines =
+  plays calm form topology script t read is_form is_topology is_script fit is_run =
       let s = dsp.stand p in
+      let commands = read.commands in
       let holds = means.holds old in
       let start = begun (plan_of t) form.heap s in
       let marks = marked (run_of commands start) in
       let end : ℕ × Stand = (0, after_units start (run_of commands start)) in
       let same : todo_of (dsp.most p) words ≡ play form = ap todo_for is_form in
-      let ready = files_ready topology script t commands file thin lines in
-      let told : Told holds (play form) = play_all (λ n. Unit {0}) (λ name. (bytes : List ℕ) × (holds name ≡ Some bytes)) form tt tt tt tt tt (topology, is_topology) (script, is_script) in
+      let ready = files_ready topology script t read is_run in
+      let told : Told holds (play form) = play_all (λ n. Unit {0}) (λ name. (bytes : List ℕ) × (holds name ≡ Some bytes)) form tt tt tt tt tt tt tt (topology, is_topology) (script, is_script) in
       let made : Made (whole holds s (play form)) (whole_end holds s (play form)) done.ran.played.calls status (dsp.stand q) =
       subst (λ todo. Made (whole holds s todo) (whole_end holds s todo) done.ran.played.calls status (dsp.stand q)) same (done.made calm (subst (Told holds) (sym same) told)) in
       play_wrote means marks end form.topology form.script 1048576 topology script s old new done.ran.played.calls status (dsp.stand q)

@@ -1,5 +1,6 @@
 -- The status by the bytes of the files.
-use Rattle.std.proofs.Common.{◌≡◌, ◌⊎◌, inl, inr, ℕ, ◌<◌, ◌≤◌, Bool, true, false, List, [], ◌∷◌, length, Option, Some, None, Result, Ok, Err, refl, sym, ◌∙◌, ap, subst, codes}
+use Rattle.std.proofs.Common.{◌≡◌, ◌⊎◌, inl, inr, ℕ, ◌<◌, ◌≤◌, Bool, true, false, List, [], ◌∷◌, length, Option, Some, None, Result, Ok, Err, refl, sym, ◌∙◌, ap, subst, codes, arith, nat_lt}
+use Rattle.std.proofs.lemmas.Bool.Decides.{nat_tests}
 use Rattle.sof_desk.specs.declared.calls.LoadFault.TheVariants.{Failed, TooLong, OutOfMemory}
 use Rattle.sof_desk.specs.Desk.{DeskMeaning, Put, Spoken, Call, Load, Did, Led, Loaded}
 use Rattle.tplg_model.specs.declared.fault.TplgFault.{TplgFault}
@@ -8,15 +9,21 @@ use Rattle.tplg_model.specs.Reading.{topology_of}
 use Rattle.tplg_model.proofs.FileLaws.{topology_take, topology_again, topology_found}
 use Rattle.tplg_graph.specs.ThinTest.{thin_test}
 use Rattle.tplg_graph.specs.PlanOf.{plan_of}
-use Rattle.sof_script.specs.declared.script.Numbered.{Numbered}
-use Rattle.sof_script.specs.Commands.{script_of}
+use Rattle.sof_script.specs.declared.reading.ScriptFault.{ScriptFault}
+use Rattle.sof_script.specs.declared.reading.ScriptFault.TheVariants.{Line}
+use Rattle.sof_script.specs.declared.reading.ScriptFault.TheVariants as wants
+use Rattle.sof_script.specs.Commands.{Read, script_of}
 use Rattle.sof_session.specs.Turns.{Turn}
+use Rattle.sof_run.specs.declared.prepare.Halt.{Halt}
+use Rattle.sof_run.specs.declared.prepare.Halt.TheVariants as halts
+use Rattle.sof_run.specs.Bindings.{wrong_binding}
 use Rattle.sof_run.specs.Words.{Form}
 use Rattle.sof_run.specs.Todo.{no_memory, Todo, Ask, Free, Says, Goes}
-use Rattle.sof_run.specs.Play.{fault_line, prepared, prepared_by, prepared_thin, prepared_todo, play}
-use Rattle.sof_run.specs.Run.{AreBytes, IsLong, Fit, IsBroken, IsUnbuilt, IsBuilt, last_call, Verdict}
+use Rattle.sof_run.specs.Play.{Prepared, ticks_of, is_built_script, halt_line, halt_status, prepared, prepared_script, prepared_ticks, prepared_topology, prepared_thin, prepared_bindings, prepared_commands, prepared_todo, play}
+use Rattle.sof_run.specs.Run.{AreBytes, IsLong, Fit, IsFile, IsBroken, IsScript, IsRun, IsHalt, last_call, Verdict}
 use Rattle.sof_run.proofs.Statuses.{IsLate}
 use Rattle.sof_run.proofs.Throughout.{session_ends}
+use Rattle.sof_run.proofs.ScriptReads.{never_wanting}
 
 -- a line that was said, with its status, or that was not
 said : (line : List ℕ) (n : ℕ) (turns : List Turn) (calls : List Call) (status : ℕ) → Says line n turns calls status → (status ≡ 3) ⊎ ((status ≡ n) × (last_call calls ≡ Some (Did (Put Spoken line) true)))
@@ -30,12 +37,18 @@ last_more : (call other : Call) (calls : List Call) → last_call calls ≡ Some
 last_more call other [] is = absurd (cc is)
 last_more call other (first ∷ calls) is = is
 
+too_many : (sum : ℕ) → nat_lt 60000 sum ≡ true → 60000 < sum
+too_many sum over = grind (arith, nat_tests)
+
+few : (sum : ℕ) → nat_lt 60000 sum ≡ false → sum ≤ 60000
+few sum not = grind (arith, nat_tests)
+
 module _ (topology script : List ℕ) where
   -- one call more before
   more : (call : Call) (calls : List Call) (status : ℕ) → Verdict topology script calls status → Verdict topology script (call ∷ calls) status
   more call calls status (inl failed) = inl failed
   more call calls status (inr (inl long)) = inr (inl long)
-  more call calls status (inr (inr (inl broken))) = inr (inr (inl (broken.0, broken.1, broken.2, (broken.3.0, broken.3.1, last_more call (Did (Put Spoken (fault_line broken.3.0)) true) calls broken.3.2))))
+  more call calls status (inr (inr (inl h))) = inr (inr (inl (h.0, h.1, h.2, h.3, last_more call (Did (Put Spoken (halt_line h.0)) true) calls h.4)))
   more call calls status (inr (inr (inr rest))) = inr (inr (inr rest))
 
   wanting : (turns : List Turn) (calls : List Call) (status : ℕ) → Says no_memory 7 turns calls status → Verdict topology script calls status
@@ -53,39 +66,54 @@ module _ (topology script : List ℕ) where
       want (inr five) = inr (inl (five.0, is))
 
   module _ (fit : Fit topology script) (bytes : AreBytes topology) where
-    broken : (fault : TplgFault) (turns : List Turn) (calls : List Call) (status : ℕ) → topology_of topology ≡ Err fault → Says (fault_line fault) 2 turns calls status → Verdict topology script calls status
-    broken fault turns calls status is says = want (said (fault_line fault) 2 turns calls status says)
+    -- the files make no run, or they make one
+    stops : (why : Halt) (turns : List Turn) (calls : List Call) (status : ℕ) → IsHalt topology script why → Says (halt_line why) (halt_status why) turns calls status → Verdict topology script calls status
+    stops why turns calls status is says = want (said (halt_line why) (halt_status why) turns calls status says)
       where
-        none : IsBroken topology
-        none t file = cc (sym is ∙ topology_again topology t file.0 file.1)
-
-        want : (status ≡ 3) ⊎ ((status ≡ 2) × (last_call calls ≡ Some (Did (Put Spoken (fault_line fault)) true))) → Verdict topology script calls status
+        want : (status ≡ 3) ⊎ ((status ≡ halt_status why) × (last_call calls ≡ Some (Did (Put Spoken (halt_line why)) true))) → Verdict topology script calls status
         want (inl three) = inl (inl three)
-        want (inr two) = inr (inr (inl (two.0, fit, none, (fault, topology_found topology fault bytes is, two.1))))
+        want (inr done) = inr (inr (inl (why, done.0, fit, is, done.1)))
 
-    unbuilt : (t : Topology) (turns : List Turn) (calls : List Call) (status : ℕ) → topology_of topology ≡ Ok t → IsUnbuilt t script → Says (codes "not yet\n") 9 turns calls status → Verdict topology script calls status
-    unbuilt t turns calls status is un says = want (said (codes "not yet\n") 9 turns calls status says)
-      where
-        want : (status ≡ 3) ⊎ ((status ≡ 9) × (last_call calls ≡ Some (Did (Put Spoken (codes "not yet\n")) true))) → Verdict topology script calls status
-        want (inl three) = inl (inl three)
-        want (inr nine) = inr (inr (inr (inl (nine.0, fit, (t, topology_take topology t bytes is, un)))))
+    runs : (t : Topology) (read : Read) (calls : List Call) (status : ℕ) → IsRun topology script t read → IsLate status → Verdict topology script calls status
+    runs t read calls status is (inl zero) = inr (inr (inr (zero, fit, (t, (read, is)))))
+    runs t read calls status is (inr three) = inl (inl three)
 
-    built : (t : Topology) (calls : List Call) (status : ℕ) → topology_of topology ≡ Ok t → IsBuilt t script → IsLate status → Verdict topology script calls status
-    built t calls status is un (inl zero) = inr (inr (inr (inr (zero, fit, (t, topology_take topology t bytes is, un)))))
-    built t calls status is un (inr three) = inl (inl three)
+    -- by what each step of preparing comes to
+    module _ (heap : ℕ) (turns : List Turn) (calls : List Call) (status : ℕ) where
+      abbrev Judges : Prepared → Type 0
+      Judges files = Goes (prepared_todo heap files) turns calls status → Verdict topology script calls status
 
-    -- by what the files come to
-    by_thin : (heap : ℕ) (t : Topology) (commands : List Numbered) (thin : Bool) (turns : List Turn) (calls : List Call) (status : ℕ) → topology_of topology ≡ Ok t → script_of script ≡ Some commands → thin_test t ≡ thin → Goes (prepared_todo heap (prepared_thin thin t commands)) turns calls status → Verdict topology script calls status
-    by_thin heap t commands true turns calls status is lines thin goes = built t calls status is (thin, (commands, lines)) (session_ends heap (plan_of t) commands turns calls status goes)
-    by_thin heap t commands false turns calls status is lines thin goes = unbuilt t turns calls status is (inl thin) goes
+      by_commands : (t : Topology) (read : Read) (built : Bool) → IsScript script read → IsFile topology t → thin_test t ≡ true → wrong_binding (plan_of t) read.bindings ≡ None → is_built_script read ≡ built → Judges (prepared_commands (plan_of t) read built)
+      by_commands t read true lines file thin right built goes =
+          runs t read calls status record { lines = lines; file = file; thin = thin; right = right; built = built } (session_ends heap (plan_of t) read.commands turns calls status goes)
+      by_commands t read false lines file thin right built goes = stops halts.NotYet turns calls status (read, t, lines, file, inr (thin, right, built)) goes
 
-    by_files : (heap : ℕ) (commands : Option (List Numbered)) (read : Result Topology TplgFault) (turns : List Turn) (calls : List Call) (status : ℕ) → script_of script ≡ commands → topology_of topology ≡ read → Goes (prepared_todo heap (prepared_by commands read)) turns calls status → Verdict topology script calls status
-    by_files heap commands (Err fault) turns calls status lines is goes = broken fault turns calls status is goes
-    by_files heap None (Ok t) turns calls status lines is goes = unbuilt t turns calls status is (inr lines) goes
-    by_files heap (Some commands) (Ok t) turns calls status lines is goes = by_thin heap t commands (thin_test t) turns calls status is lines refl goes
+      by_bindings : (t : Topology) (read : Read) (wrong : Option ℕ) → IsScript script read → IsFile topology t → thin_test t ≡ true → wrong_binding (plan_of t) read.bindings ≡ wrong → Judges (prepared_bindings (plan_of t) read wrong)
+      by_bindings t read (Some line) lines file thin is goes = stops (halts.Binding line) turns calls status (read, t, lines, file, thin, is) goes
+      by_bindings t read None lines file thin is goes = by_commands t read (is_built_script read) lines file thin is refl goes
+
+      by_thin : (t : Topology) (read : Read) (thin : Bool) → IsScript script read → IsFile topology t → thin_test t ≡ thin → Judges (prepared_thin t read thin)
+      by_thin t read true lines file thin goes = by_bindings t read (wrong_binding (plan_of t) read.bindings) lines file thin refl goes
+      by_thin t read false lines file thin goes = stops halts.NotYet turns calls status (read, t, lines, file, inl thin) goes
+
+      by_topology : (read : Read) (r : Result Topology TplgFault) → IsScript script read → topology_of topology ≡ r → Judges (prepared_topology read r)
+      by_topology read (Err fault) lines is goes = stops (halts.Broken fault) turns calls status ((read, lines), none, topology_found topology fault bytes is) goes
+        where
+          none : IsBroken topology
+          none t file = cc (sym is ∙ topology_again topology t file.0 file.1)
+      by_topology read (Ok t) lines is goes = by_thin t read (thin_test t) lines (topology_take topology t bytes is) refl goes
+
+      by_ticks : (read : Read) (over : Bool) → script_of script ≡ Ok read → nat_lt 60000 (ticks_of read.commands) ≡ over → Judges (prepared_ticks topology read over)
+      by_ticks read true is over goes = stops (halts.Ticks (ticks_of read.commands)) turns calls status (read, is, refl, too_many (ticks_of read.commands) over) goes
+      by_ticks read false is over goes = by_topology read (topology_of topology) (is, few (ticks_of read.commands) over) refl goes
+
+      by_script : (r : Result Read ScriptFault) → script_of script ≡ r → Judges (prepared_script topology r)
+      by_script (Err (Line line cause)) is goes = stops (halts.Script line cause) turns calls status is goes
+      by_script (Err wants.OutOfMemory) is goes = absurd (never_wanting script is)
+      by_script (Ok read) is goes = by_ticks read (nat_lt 60000 (ticks_of read.commands)) is refl goes
 
     free : (heap : ℕ) (turns : List Turn) (calls : List Call) (status : ℕ) → Goes (Free (prepared_todo heap (prepared topology script))) turns calls status → Verdict topology script calls status
-    free heap turns calls status (inl goes) = by_files heap (script_of script) (topology_of topology) turns calls status refl refl goes
+    free heap turns calls status (inl goes) = by_script heap turns calls status (script_of script) refl goes
     free heap turns calls status (inr says) = wanting turns calls status says
 
   module _ {D : Type 0} (means : DeskMeaning D) where

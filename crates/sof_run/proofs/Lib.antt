@@ -10,3 +10,5 @@ pub mod Judging
 pub mod WholeRuns
 pub mod Carried
 pub mod Finish
+pub mod ScriptReads
+pub mod BindingLaws

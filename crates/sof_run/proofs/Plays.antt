@@ -11,19 +11,27 @@ use Rattle.sof_session.specs.Turns.{LifeMeaning, Life, Bare, Seated, Turn, life,
 use Rattle.sof_run.specs.declared.prepare.Halt.{Halt}
 use Rattle.sof_run.specs.declared.prepare.Halt.TheVariants as halt
 use Rattle.sof_run.specs.Words.{Form}
-use Rattle.sof_run.specs.Todo.{Todo, End, Ask, Free, Played, Ran, Phase}
-use Rattle.sof_run.specs.Play.{Prepared, Ready, prepared, prepared_todo, session_todo, commands_todo, play}
-use Rattle.sof_run.specs.Halts.{Halts, halt_todo}
+use Rattle.sof_run.specs.Todo.{Todo, End, Stop, Ask, Free, Played, Ran, Phase}
+use Rattle.sof_run.specs.Play.{Prepared, Ready, Halted, halt_line, halt_status, prepared, prepared_todo, session_todo, commands_todo, play}
+use Rattle.sof_run.specs.Halts.{Halts}
 use Rattle.sof_run.specs.Run.{Gave}
 use Rattle.sof_run.proofs.Steps.{ask_on, free_on, free_off, alone, step_on}
 
 module _ {D : Type 0} (means : DeskMeaning D) where
+  -- what is to do for a halt
+  abbrev pub halt_todo : Halt → Todo
+  halt_todo why = Stop (halt_line why) (halt_status why)
+
+  told_todo : (heap : ℕ) (files : Prepared) (h : Halt) (status : ℕ) (old new : D) → files ≡ Halted h → Played means (halt_todo h) old [] status new → Played means (Free (prepared_todo heap files)) old [] status new
+  told_todo heap files h status old new is played = free_on means (prepared_todo heap files) [] status old new (subst (λ f. Played means (prepared_todo heap f) old [] status new) (sym is) played)
+
   -- a halt after both loads
   pub halted_todo : (heap : ℕ) (files : Prepared) (h : Halt) (status : ℕ) (old new : D) → Halts h files → Played means (halt_todo h) old [] status new → Played means (Free (prepared_todo heap files)) old [] status new
-  halted_todo heap files (halt.Broken fault) status old new is played =
-      free_on means (prepared_todo heap files) [] status old new (subst (λ f. Played means (prepared_todo heap f) old [] status new) (sym is) played)
-  halted_todo heap files halt.NotYet status old new is played =
-      free_on means (prepared_todo heap files) [] status old new (subst (λ f. Played means (prepared_todo heap f) old [] status new) (sym is) played)
+  halted_todo heap files (halt.Script line cause) status old new is played = told_todo heap files (halt.Script line cause) status old new is played
+  halted_todo heap files (halt.Ticks sum) status old new is played = told_todo heap files (halt.Ticks sum) status old new is played
+  halted_todo heap files (halt.Broken fault) status old new is played = told_todo heap files (halt.Broken fault) status old new is played
+  halted_todo heap files (halt.Binding line) status old new is played = told_todo heap files (halt.Binding line) status old new is played
+  halted_todo heap files halt.NotYet status old new is played = told_todo heap files halt.NotYet status old new is played
   halted_todo heap files halt.OutOfMemory status old new is played = free_off means (prepared_todo heap files) status old new played
 
 module _ {D P : Type 0} (means : DeskMeaning D) (dsp : LifeMeaning P) where
@@ -48,7 +56,7 @@ module _ {D P : Type 0} (means : DeskMeaning D) (dsp : LifeMeaning P) where
     ready_on plan commands is ran = loaded (subst (λ files. Ran means dsp (Free (prepared_todo form.heap files)) n p status new q) (sym is) ran)
 
   -- they make none
-  pub halted_on : (form : Form) (topology script : List ℕ) (old m n new : D) (p : P) (status : ℕ) (h : Halt) → Loaded means form.topology 1048576 (Ok topology) old m → Loaded means form.script 1048576 (Ok script) m n → Halts h (prepared topology script) → Played means (halt_todo h) n [] status new → Ran means dsp (play form) old p status new p
+  pub halted_on : (form : Form) (topology script : List ℕ) (old m n new : D) (p : P) (status : ℕ) (h : Halt) → Loaded means form.topology 1048576 (Ok topology) old m → Loaded means form.script 1048576 (Ok script) m n → Halts h (prepared topology script) → Played means (halt_todo means h) n [] status new → Ran means dsp (play form) old p status new p
   halted_on form topology script old m n new p status h first second is played =
       loaded form topology script old m n new p p status first second (alone means dsp (Free (prepared_todo form.heap (prepared topology script))) n new p status (halted_todo means form.heap (prepared topology script) h status n new is played))
 

@@ -1,5 +1,6 @@
 pub mod Words
 pub mod Todo
+pub mod Bindings
 pub mod Play
 pub mod Halts
 pub mod Whole

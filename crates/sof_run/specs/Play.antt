@@ -1,5 +1,6 @@
 -- What `run` has to do, by its words and by the bytes of the files that they name.
-use Rattle.std.specs.Prelude.{ℕ, Bool, true, false, List, [], ◌∷◌, ◌++◌, Option, Some, None, Result, Ok, Err, codes, decimal}
+use Rattle.std.specs.Prelude.{ℕ, Bool, true, false, ◌&&◌, nat_lt, ◌==◌, if◌then◌else◌, List, [], ◌∷◌, ◌++◌, Option, Some, None, Result, Ok, Err, codes, decimal}
+use Rattle.std.specs.List.{list_all, sum_by}
 use Rattle.sof_desk.specs.Desk.{Put, Spoken}
 use Rattle.tplg_model.specs.declared.fault.TplgFault.{TplgFault}
 use Rattle.tplg_model.specs.declared.fault.TplgFault.TheVariants.{Magic, Abi, HeaderSize, Truncated, Payload, Name, ControlKind, Tokens, OutOfMemory}
@@ -8,12 +9,20 @@ use Rattle.tplg_model.specs.Reading.{topology_of}
 use Rattle.tplg_graph.specs.declared.planned.Plan.{Plan}
 use Rattle.tplg_graph.specs.ThinTest.{thin_test}
 use Rattle.tplg_graph.specs.PlanOf.{plan_of}
+use Rattle.sof_script.specs.declared.script.Command.{Command}
+use Rattle.sof_script.specs.declared.script.Command.TheVariants.{Load, Show, Open, Params, Start, Stop, Close}
 use Rattle.sof_script.specs.declared.script.Numbered.{Numbered}
-use Rattle.sof_script.specs.Commands.{script_of}
+use Rattle.sof_script.specs.declared.reading.ScriptFault.{ScriptFault}
+use Rattle.sof_script.specs.declared.reading.ScriptFault.TheVariants as scripts
+use Rattle.sof_script.specs.Commands.{Read, script_of}
+use Rattle.sof_script.specs.Ticks.{line_ticks}
 use Rattle.sof_script.specs.Text.{answer_line}
 use Rattle.sof_session.specs.Walks.{Out, Begin, Carry}
+use Rattle.sof_run.specs.declared.prepare.Halt.{Halt}
+use Rattle.sof_run.specs.declared.prepare.Halt.TheVariants as halts
+use Rattle.sof_run.specs.Bindings.{has_none, wrong_binding}
 use Rattle.sof_run.specs.Words.{Form, play_of}
-use Rattle.sof_run.specs.Todo.{Todo, End, Stop, Ask, Do, Step, Free}
+use Rattle.sof_run.specs.Todo.{Todo, End, Stop, Ask, Do, Step, Free, no_memory}
 
 -- ---- what is said
 
@@ -36,6 +45,44 @@ fault_words OutOfMemory = []
 -- the line of a fault
 abbrev pub fault_line : TplgFault → List ℕ
 fault_line fault = with_newline (codes "topology " ++ fault_words fault)
+
+-- the cause of a script's line at fault
+abbrev pub cause_words : ℕ → List ℕ
+cause_words n =
+    if n == 1 then codes "byte"
+    else if n == 2 then codes "quote"
+    else if n == 3 then codes "word"
+    else if n == 4 then codes "count"
+    else if n == 5 then codes "number"
+    else if n == 6 then codes "hex"
+    else codes "name"
+
+-- the line of a script's line at fault
+abbrev pub script_line : ℕ → List ℕ → List ℕ
+script_line line cause = with_newline (codes "script " ++ decimal line ++ codes " " ++ cause)
+
+-- what is said where the files make no run
+abbrev pub halt_line : Halt → List ℕ
+halt_line (halts.Script line cause) = script_line line (cause_words cause)
+halt_line (halts.Ticks sum) = with_newline (codes "ticks " ++ decimal sum)
+halt_line (halts.Broken fault) = fault_line fault
+halt_line (halts.Binding line) = script_line line (codes "binding")
+halt_line halts.NotYet = codes "not yet\n"
+halt_line halts.OutOfMemory = no_memory
+
+-- and the status
+abbrev pub halt_status : Halt → ℕ
+halt_status (halts.Script line cause) = 4
+halt_status (halts.Ticks sum) = 8
+halt_status (halts.Broken fault) = 2
+halt_status (halts.Binding line) = 4
+halt_status halts.NotYet = 9
+halt_status halts.OutOfMemory = 7
+
+-- whether a command shows how everything stands
+abbrev pub is_show : Command → Bool
+is_show Show = true
+is_show command = false
 
 -- the lines of a command: its answer, and what it shows
 abbrev pub spoken : ℕ → Out → List (List ℕ)
@@ -63,32 +110,68 @@ session_todo heap plan commands = Step (Begin plan heap) (λ out. commands_todo 
 
 -- ---- the files
 
--- what the two files come to: a plan with commands, a broken topology, or what is not built yet
+-- what the two files come to: a plan with commands, or why they make no run
 pub data Prepared : Type 0 where
   Ready : (plan : Plan) (commands : List Numbered) → Prepared
-  Broken : (fault : TplgFault) → Prepared
-  NotYet : Prepared
+  Halted : (why : Halt) → Prepared
+
+-- the commands that a run carries out so far
+abbrev pub is_played : Command → Bool
+is_played Load = true
+is_played Show = true
+is_played (Open name) = true
+is_played (Params name params) = true
+is_played (Start name) = true
+is_played (Stop name) = true
+is_played (Close name) = true
+is_played command = false
+
+-- inputs are not loaded and outputs not created so far, so there is to be no binding, and each command is one of these
+abbrev pub is_built_script : Read → Bool
+is_built_script read = has_none read.bindings && list_all (λ n. is_played n.command) read.commands
+
+-- what is not built so far comes last
+abbrev pub prepared_commands : Plan → Read → Bool → Prepared
+prepared_commands plan read true = Ready plan read.commands
+prepared_commands plan read false = Halted halts.NotYet
+
+-- each binding is to be right
+abbrev pub prepared_bindings : Plan → Read → Option ℕ → Prepared
+prepared_bindings plan read (Some line) = Halted (halts.Binding line)
+prepared_bindings plan read None = prepared_commands plan read (is_built_script read)
 
 -- a topology that is right is to be thin
-abbrev pub prepared_thin : Bool → Topology → List Numbered → Prepared
-prepared_thin true topology commands = Ready (plan_of topology) commands
-prepared_thin false topology commands = NotYet
+abbrev pub prepared_thin : Topology → Read → Bool → Prepared
+prepared_thin topology read true = prepared_bindings (plan_of topology) read (wrong_binding (plan_of topology) read.bindings)
+prepared_thin topology read false = Halted halts.NotYet
 
--- a broken topology comes before a script that is not built
-abbrev pub prepared_by : Option (List Numbered) → Result Topology TplgFault → Prepared
-prepared_by script (Err fault) = Broken fault
-prepared_by None (Ok topology) = NotYet
-prepared_by (Some commands) (Ok topology) = prepared_thin (thin_test topology) topology commands
+abbrev pub prepared_topology : Read → Result Topology TplgFault → Prepared
+prepared_topology read (Err fault) = Halted (halts.Broken fault)
+prepared_topology read (Ok topology) = prepared_thin topology read (thin_test topology)
+
+-- the sum of a script's ticks
+abbrev pub ticks_of : List Numbered → ℕ
+ticks_of commands = sum_by line_ticks commands
+
+-- it is to be at most 60000
+abbrev pub prepared_ticks : List ℕ → Read → Bool → Prepared
+prepared_ticks topology read true = Halted (halts.Ticks (ticks_of read.commands))
+prepared_ticks topology read false = prepared_topology read (topology_of topology)
+
+-- a script at fault comes first; no script's fault is want of memory
+abbrev pub prepared_script : List ℕ → Result Read ScriptFault → Prepared
+prepared_script topology (Err (scripts.Line line cause)) = Halted (halts.Script line cause)
+prepared_script topology (Err scripts.OutOfMemory) = Halted halts.OutOfMemory
+prepared_script topology (Ok read) = prepared_ticks topology read (nat_lt 60000 (ticks_of read.commands))
 
 -- what the bytes of the topology and of the script come to
 abbrev pub prepared : List ℕ → List ℕ → Prepared
-prepared topology script = prepared_by (script_of script) (topology_of topology)
+prepared topology script = prepared_script topology (script_of script)
 
 -- what is to do then
 abbrev pub prepared_todo : ℕ → Prepared → Todo
 prepared_todo heap (Ready plan commands) = session_todo heap plan commands
-prepared_todo heap (Broken fault) = Stop (fault_line fault) 2
-prepared_todo heap NotYet = Stop (codes "not yet\n") 9
+prepared_todo heap (Halted why) = Stop (halt_line why) (halt_status why)
 
 -- ---- the words
 

@@ -1,12 +1,13 @@
 // The commands, one by one.
-ghost use Rattle.std.specs.Prelude.{◌≡◌, ◌<◌, length};
+ghost use Rattle.std.specs.Prelude.{◌≡◌, ◌<◌, length, true};
+ghost use Rattle.std.specs.List.{list_all};
 ghost use Rattle.sof_base.specs.Ports.{HasRoom};
 ghost use Rattle.tplg_graph.specs.ThinPlan.{IsThinPlan};
 ghost use Rattle.sof_script.specs.Text.{answer_line};
 ghost use Rattle.sof_session.specs.Show.{show_lines};
 ghost use Rattle.sof_session.specs.Turns.{Seated, life};
 ghost use Rattle.sof_run.specs.Todo.{DeskPhase, Phase};
-ghost use Rattle.sof_run.specs.Play.{with_newline, lines_todo, command_todo, commands_todo};
+ghost use Rattle.sof_run.specs.Play.{is_played, is_show, with_newline, lines_todo, command_todo, commands_todo};
 
 use host_widgets::Answer;
 use mbox_link::Dsp;
@@ -39,6 +40,13 @@ fn say_shown<D: Desk, P: Dsp>(desk: &mut D, session: &Session<P>, line: &mut Lin
     true
 }
 
+// Whether a command shows how everything stands.
+fn shows(command: &Command) -> bool
+    ensures { result ≡ is_show command.now }
+{
+    matches!(command, Command::Show)
+}
+
 // One turn of the session, and then the lines of the command.
 fn do_command<D: Desk, P: Dsp>(
     numbered: &Numbered,
@@ -48,6 +56,7 @@ fn do_command<D: Desk, P: Dsp>(
     outputs: &mut Outputs,
     line: &mut Line,
 ) -> bool
+    requires played { is_played numbered.now.command ≡ true }
     requires thin { IsThinPlan session.old.plan }
     requires room { HasRoom 0 outputs.old }
     ensures phase { Phase D.means (life P.means) (command_todo numbered.now) result desk.old (Seated session.old) desk.new (Seated session.new) }
@@ -59,9 +68,10 @@ fn do_command<D: Desk, P: Dsp>(
     if !desk.say(line.bytes()).is_ok() {
         return false;
     }
-    match numbered.command {
-        Command::Load => true,
-        Command::Show => say_shown(desk, session, line),
+    if shows(&numbered.command) {
+        say_shown(desk, session, line)
+    } else {
+        true
     }
 }
 
@@ -73,6 +83,7 @@ pub fn do_commands<D: Desk, P: Dsp>(
     inputs: &mut Inputs,
     outputs: &mut Outputs,
 ) -> bool
+    requires played { list_all (λ n. is_played n.command) commands.now ≡ true }
     requires thin { IsThinPlan session.old.plan }
     requires room { HasRoom 0 outputs.old }
     ensures { Phase D.means (life P.means) (commands_todo commands.now) result desk.old (Seated session.old) desk.new (Seated session.new) }

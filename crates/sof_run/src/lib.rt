@@ -2,6 +2,7 @@
 //! the commands one by one, says the lines, and ends with a status.
 #![tactic(auto)]
 
+mod bindings;
 mod carry;
 mod files;
 mod lines;

@@ -1,7 +1,8 @@
-// The lines of the faults of a topology file.
+// The lines that are said where files make no run.
 ghost use Rattle.std.specs.Prelude.{◌≡◌, ◌+◌, ◌≤◌, ◌++◌, [], ◌∷◌, length, decimal};
-ghost use Rattle.sof_run.specs.Play.{fault_words, fault_line};
+ghost use Rattle.sof_run.specs.Play.{fault_words, fault_line, cause_words, script_line, halt_line, halt_status};
 
+use crate::prepare::Halt;
 use itoa::Buffer;
 use sof_script::Line;
 use tplg_read::TplgFault;
@@ -55,12 +56,90 @@ fn say_fault(fault: TplgFault, line: &mut Line)
     }
 }
 
-/// Writes the line of a fault, with its newline.
-pub fn write_fault(fault: TplgFault, line: &mut Line)
+// The line of a fault of a topology file, with its newline.
+fn write_fault(fault: TplgFault, line: &mut Line)
     ensures { line.new ≡ fault_line fault }
 {
     line.clear();
     line.say(b"topology ");
     say_fault(fault, line);
     line.say(b"\n");
+}
+
+// The word of a cause.
+fn cause_word(cause: u8) -> &'static [u8]
+    ensures word { result.now ≡ cause_words cause }
+    ensures short { length result.now ≤ 6 }
+{
+    match cause {
+        1 => b"byte",
+        2 => b"quote",
+        3 => b"word",
+        4 => b"count",
+        5 => b"number",
+        6 => b"hex",
+        _ => b"name",
+    }
+}
+
+// The line of a script's line at fault, with its newline.
+fn write_script(number: u32, cause: &[u8], line: &mut Line)
+    requires { length cause.now ≤ 20 }
+    ensures { line.new ≡ script_line number cause.now }
+{
+    line.clear();
+    line.say(b"script ");
+    line.say_number(number);
+    line.say(b" ");
+    line.say(cause);
+    line.say(b"\n");
+}
+
+// The line of too many ticks, with its newline.
+fn write_ticks(sum: u64, line: &mut Line)
+    ensures { line.new ≡ halt_line (Halt.Ticks sum) }
+{
+    let mut digits = Buffer::new();
+    line.clear();
+    line.say(b"ticks ");
+    line.say(digits.format(sum).as_bytes());
+    line.say(b"\n");
+}
+
+/// Writes the line for files that make no run, with its newline.
+pub fn write_halt(halt: Halt, line: &mut Line)
+    ensures { line.new ≡ halt_line halt }
+{
+    match halt {
+        Halt::Script {
+            line: number,
+            cause,
+        } => write_script(number, cause_word(cause), line),
+        Halt::Ticks(sum) => write_ticks(sum, line),
+        Halt::Broken(fault) => write_fault(fault, line),
+        Halt::Binding { line: number } => write_script(number, b"binding", line),
+        Halt::NotYet => {
+            line.clear();
+            line.say(b"not yet\n");
+        }
+        Halt::OutOfMemory => {
+            line.clear();
+            line.say(b"no memory\n");
+        }
+    }
+}
+
+impl Halt {
+    /// The status of a run that ends so.
+    pub fn status(self) -> u8
+        ensures { result ≡ halt_status self }
+    {
+        match self {
+            Halt::Script { .. } | Halt::Binding { .. } => 4,
+            Halt::Ticks(_) => 8,
+            Halt::Broken(_) => 2,
+            Halt::NotYet => 9,
+            Halt::OutOfMemory => 7,
+        }
+    }
 }

@@ -1,15 +1,15 @@
 // The top call.
-ghost use Rattle.std.specs.Prelude.{◌≡◌, ◌≤◌, [], map, None, string_bytes, if◌then◌else◌};
+ghost use Rattle.std.specs.Prelude.{◌≡◌, ◌≤◌, [], map, None, true, string_bytes, if◌then◌else◌};
+ghost use Rattle.std.specs.List.{list_all};
 ghost use Rattle.tplg_graph.specs.ThinPlan.{IsThinPlan};
-ghost use Rattle.sof_run.specs.Todo.{Free, Played};
+ghost use Rattle.sof_run.specs.Todo.{Stop, Free, Played};
 ghost use Rattle.sof_run.specs.Words.{form as form_of};
-ghost use Rattle.sof_run.specs.Play.{todo_of, play, session_todo};
-ghost use Rattle.sof_run.specs.Halts.{halt_todo};
+ghost use Rattle.sof_run.specs.Play.{is_played, halt_line, halt_status, todo_of, play, session_todo};
 ghost use Rattle.sof_run.specs.Run.{Gave, Whole};
 
 use crate::carry::do_commands;
 use crate::files::{fetch, stop};
-use crate::lines::write_fault;
+use crate::lines::write_halt;
 use crate::prepare::{Halt, Ready, prepare};
 use crate::words::{Form, read_play};
 use mbox_link::Dsp;
@@ -38,17 +38,11 @@ fn status_of(done: bool) -> u8
 
 // Says why the files make no run.
 fn stop_for<D: Desk>(desk: &mut D, halt: Halt) -> u8
-    ensures { Played D.means (halt_todo halt) desk.old [] result desk.new }
+    ensures { Played D.means (Stop (halt_line halt) (halt_status halt)) desk.old [] result desk.new }
 {
-    match halt {
-        Halt::Broken(fault) => {
-            let mut line = Line::new();
-            write_fault(fault, &mut line);
-            stop(desk, line.bytes(), 2)
-        }
-        Halt::NotYet => stop(desk, b"not yet\n", 9),
-        Halt::OutOfMemory => stop(desk, b"no memory\n", 7),
-    }
+    let mut line = Line::new();
+    write_halt(halt, &mut line);
+    stop(desk, line.bytes(), halt.status())
 }
 
 // A session over the device, and the commands.
@@ -63,6 +57,7 @@ fn do_session<D: Desk, P: Dsp>(
     requires pending { P.means.pending dsp ≡ 0 }
     requires fits { heap ≤ P.means.most dsp }
     requires thin { IsThinPlan ready.plan }
+    requires built { list_all (λ n. is_played n.command) ready.script.commands ≡ true }
     ensures { Gave D.means P.means (Free (session_todo heap ready.plan ready.script.commands)) desk.old dsp result.status desk.new result.dsp }
 {
     let Ok(mut inputs) = Inputs::new(alloc) else {
@@ -136,8 +131,9 @@ fn do_words<D: Desk, P: Dsp>(alloc: Global, words: &[String], desk: &mut D, dsp:
 ///
 /// The words are `play HEAP TOPOLOGY SCRIPT`: HEAP is a decimal number of bytes without a needless leading zero, at most
 /// the device's room, and each name has 1 to 255 bytes. Both files have at most 1048576 bytes. The statuses: 0 all commands
-/// were carried out; 1 the words are of no form; 2 the topology file is broken; 3 the desk failed; 5 a file is too long;
-/// 7 memory was wanting; 9 the topology or a line of the script is not built yet.
+/// were carried out; 1 the words are of no form; 2 the topology file is broken; 3 the desk failed; 4 a line of the script is
+/// at fault, or binds what it may not; 5 a file is too long; 7 memory was wanting; 8 the script has more than 60000 ticks;
+/// 9 the topology or something that the script asks for is not built yet.
 pub fn run<D: Desk, P: Dsp>(alloc: Global, words: &[String], desk: &mut D, dsp: P) -> Ended<P>
     requires off { P.means.on dsp ≡ None }
     requires pending { P.means.pending dsp ≡ 0 }

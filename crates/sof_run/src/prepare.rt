@@ -1,19 +1,24 @@
 // What the files of a run come to.
-ghost use Rattle.std.specs.Prelude.{◌≡◌, ◌<◌, ◌-◌, ◌^◌, true, false, length, Ok, IfOk, MatchResult, MatchOption, Some, None};
+ghost use Rattle.std.specs.Prelude.{◌≡◌, ◌<◌, ◌-◌, ◌^◌, true, length, Ok, MatchResult};
 ghost use Rattle.tplg_model.specs.Reading.{topology_of};
 ghost use Rattle.tplg_graph.specs.ThinTest.{thin_test};
 ghost use Rattle.tplg_graph.specs.ThinPlan.{IsThinPlan};
 ghost use Rattle.tplg_graph.specs.PlanOf.{plan_of};
-ghost use Rattle.sof_script.specs.Commands.{script_of};
-ghost use Rattle.sof_run.specs.Play.{Ready as IsReady, prepared};
+ghost use Rattle.sof_script.specs.Commands.{told};
+ghost use Rattle.std.specs.List.{list_all};
+ghost use Rattle.sof_run.specs.Bindings.{wrong_binding as wrong_of};
+ghost use Rattle.sof_run.specs.Play.{Ready as IsReady, is_played as is_carried_out, is_built_script, prepared, prepared_bindings, prepared_script};
 ghost use Rattle.sof_run.specs.Halts.{Halts, HaltsFor, HaltsAtTopology, HaltsAtPlan};
 
-use sof_base::NoMemory;
-use sof_script::{Script, ScriptFault, parse};
+use crate::bindings::{binds_nothing, wrong_binding};
+use sof_script::{Command, Numbered, Script, ScriptFault, parse, ticks};
 use std::alloc::Global;
 use tplg_graph::{Plan, is_thin, plan};
 use tplg_model::Topology;
 use tplg_read::{TplgFault, read};
+
+/// The most ticks of a script.
+const MOST_TICKS: u64 = 60000;
 
 /// A plan, and the commands to be carried out over it.
 #[derive(Drop)]
@@ -25,26 +30,18 @@ pub struct Ready {
 /// Why the files make no run.
 #[derive(Clone, Copy, Debug, PartialEq, Eq)]
 pub enum Halt {
+    /// A line of the script is at fault; the causes are those of `ScriptFault`.
+    Script { line: u32, cause: u8 },
+    /// The script's ticks sum to so many, which are too many.
+    Ticks(u64),
     /// The topology file has this fault.
     Broken(TplgFault),
-    /// The topology or a line of the script is not built yet.
+    /// The binding of this line is wrong.
+    Binding { line: u32 },
+    /// The topology is not thin, or something that the script asks for is not built yet.
     NotYet,
     /// Memory was wanting.
     OutOfMemory,
-}
-
-// The commands of a script; none where a line is not built yet.
-fn script_in(alloc: Global, bytes: &[u8]) -> Result<Option<Script>, NoMemory>
-    requires { length bytes.now < 2 ^ 32 - 1 }
-    ensures { IfOk result (λ found. MatchOption found
-        (script_of bytes.now ≡ None)
-        (λ script. script_of bytes.now ≡ Some script.commands)) }
-{
-    match parse(alloc, bytes) {
-        Ok(script) => Ok(Some(script)),
-        Err(ScriptFault::NotYet) => Ok(None),
-        Err(ScriptFault::OutOfMemory) => Err(NoMemory),
-    }
 }
 
 fn halt_of(fault: TplgFault) -> Halt
@@ -86,20 +83,73 @@ fn plan_in(alloc: Global, topology: &Topology) -> Result<Plan, Halt>
     }
 }
 
-/// What the bytes of a topology and of a script come to. A broken topology comes before a script that is not built.
+// Whether a command is carried out so far.
+fn is_played(command: &Command) -> bool
+    ensures { result ≡ is_carried_out command.now }
+{
+    match command {
+        Command::Load | Command::Show => true,
+        Command::Open(_) | Command::Close(_) | Command::Params(_, _) => true,
+        Command::Start(_) | Command::Stop(_) => true,
+        _ => false,
+    }
+}
+
+fn are_played(commands: &[Numbered]) -> bool
+    ensures { result ≡ list_all (λ n. is_carried_out n.command) commands.now }
+{
+    commands.iter().all(|numbered| is_played(&numbered.command))
+}
+
+// Whether all that a script asks for is built.
+fn asks_for_built(script: &Script) -> bool
+    ensures { result ≡ is_built_script (told script.now) }
+{
+    binds_nothing(script.bindings.items()) && are_played(script.commands.items())
+}
+
+// A plan with a script of right bindings, of which all is built.
+fn ready_for(plan: Plan, script: Script) -> Result<Ready, Halt>
+    ensures { MatchResult result
+        (λ ready. (ready.plan ≡ plan) × (list_all (λ n. is_carried_out n.command) ready.script.commands ≡ true) × (prepared_bindings plan (told script) (wrong_of plan (told script).bindings) ≡ IsReady ready.plan ready.script.commands))
+        (λ halt. Halts halt (prepared_bindings plan (told script) (wrong_of plan (told script).bindings))) }
+{
+    if let Some(line) = wrong_binding(&plan, script.bindings.items()) {
+        return Err(Halt::Binding { line });
+    }
+    if !asks_for_built(&script) {
+        return Err(Halt::NotYet);
+    }
+    Ok(Ready { plan, script })
+}
+
+// A script of which neither line is at fault, over a topology's bytes.
+fn prepare_script(alloc: Global, topology: &[u8], script: Script) -> Result<Ready, Halt>
+    requires { length script.commands < 2 ^ 32 }
+    ensures { MatchResult result
+        (λ ready. (prepared_script topology.now (Ok (told script)) ≡ IsReady ready.plan ready.script.commands) × IsThinPlan ready.plan × (list_all (λ n. is_carried_out n.command) ready.script.commands ≡ true))
+        (λ halt. Halts halt (prepared_script topology.now (Ok (told script)))) }
+{
+    let sum = ticks(&script);
+    if sum > MOST_TICKS {
+        return Err(Halt::Ticks(sum));
+    }
+    let topology = topology_in(alloc, topology)?;
+    let plan = plan_in(alloc, &topology)?;
+    ready_for(plan, script)
+}
+
+/// What the bytes of a topology and of a script come to. The script's lines are looked at first, then its ticks, then the
+/// topology, then the bindings, and last whether all is built.
 pub fn prepare(alloc: Global, topology: &[u8], script: &[u8]) -> Result<Ready, Halt>
     requires { length script.now < 2 ^ 32 - 1 }
     ensures { MatchResult result
-        (λ ready. (prepared topology.now script.now ≡ IsReady ready.plan ready.script.commands) × IsThinPlan ready.plan)
+        (λ ready. (prepared topology.now script.now ≡ IsReady ready.plan ready.script.commands) × IsThinPlan ready.plan × (list_all (λ n. is_carried_out n.command) ready.script.commands ≡ true))
         (λ halt. Halts halt (prepared topology.now script.now)) }
 {
-    let Ok(script) = script_in(alloc, script) else {
-        return Err(Halt::OutOfMemory);
-    };
-    let topology = topology_in(alloc, topology)?;
-    let Some(script) = script else {
-        return Err(Halt::NotYet);
-    };
-    let plan = plan_in(alloc, &topology)?;
-    Ok(Ready { plan, script })
+    match parse(alloc, script) {
+        Ok(script) => prepare_script(alloc, topology, script),
+        Err(ScriptFault::Line { line, cause }) => Err(Halt::Script { line, cause }),
+        Err(ScriptFault::OutOfMemory) => Err(Halt::OutOfMemory),
+    }
 }

@@ -1,2 +1,8 @@
+pub mod LineLaws
+pub mod TokenLaws
+pub mod HeldLaws
+pub mod ValueLaws
+pub mod ItemLaws
 pub mod ScriptLaws
-pub mod Spelled
+pub mod TextLaws
+pub mod FaultLaws

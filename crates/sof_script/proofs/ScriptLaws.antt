@@ -1,89 +1,78 @@
 -- Reading a script line by line.
-use Rattle.std.proofs.Common.{◌≡◌, ℕ, ◌+◌, ◌-◌, ◌<◌, ◌≤◌, List, [], ◌∷◌, ◌++◌, length, take, drop, Option, Some, None, refl, sym, ap, ◌∙◌, arith, append_assoc, append-nil}
-use Rattle.std.proofs.lemmas.List.{drop-drop, drop_all, length-drop}
-use Rattle.sof_script.specs.declared.script.Command.{Command}
+use Rattle.std.proofs.Common.{◌≡◌, ℕ, ◌+◌, ◌<◌, ◌≤◌, List, [], ◌∷◌, ◌++◌, length, Result, Ok, Err, OnOk, string_bytes, refl, sym, ap, ◌∙◌, arith, append_assoc, append-nil}
 use Rattle.sof_script.specs.declared.script.Numbered.{Numbered}
-use Rattle.sof_script.specs.Commands.{command_of, first_then, commands_of, numbered_from, numbered, script_of}
+use Rattle.sof_script.specs.declared.script.Binding.{Binding}
+use Rattle.sof_script.specs.declared.script.Script.{Script}
+use Rattle.sof_script.specs.declared.items.Item.{Item}
+use Rattle.sof_script.specs.declared.items.Item.TheVariants.{Bind}
+use Rattle.sof_script.specs.declared.reading.ScriptFault.{ScriptFault}
+use Rattle.sof_script.specs.declared.reading.ScriptFault.TheVariants.{Line}
+use Rattle.sof_script.specs.Splitting.{lines_of, without_return}
+use Rattle.sof_script.specs.Commands.{Bound, Read, bound_of, bounds_of, told, with_item, behind, line_item, lines_read, script_of}
 
--- commands in front of those of what is left, which are numbered from a line on
-abbrev pub after : List Numbered → ℕ → Option (List Command) → Option (List Numbered)
-after front line None = None
-after front line (Some commands) = Some (front ++ numbered_from line commands)
+pub on_ok : {A E : Type 0} (r : Result A E) (P Q : Type 0) → (P → Q) → OnOk r P → OnOk r Q
+on_ok (Ok a) P Q f p = f p
+on_ok (Err e) P Q f p = p
 
--- what was read, up to a place, and what is left
-pub record ReadTo (bytes : List ℕ) (used line : ℕ) (front : List Numbered) : Type 0 where
-  pub whole : script_of bytes ≡ after front line (commands_of (drop used bytes))
-  pub within : used ≤ length bytes
-  pub few : line ≤ used + 1
+bounds-append : (xs ys : List Binding) → bounds_of (xs ++ ys) ≡ bounds_of xs ++ bounds_of ys
+bounds-append [] ys = refl
+bounds-append (x ∷ xs) ys = ap (λ (l : List Bound). bound_of x ∷ l) (bounds-append xs ys)
 
-begin : (o : Option (List Command)) → numbered o ≡ after [] 1 o
-begin None = refl
-begin (Some commands) = refl
+-- one more binding
+pub bound_more : (bindings : List Binding) (commands : List Numbered) (b : Binding) (file : List ℕ) (read : Result Read ScriptFault) → string_bytes b.file ≡ file
+    → behind (record { bindings = bounds_of bindings; commands = commands }) (with_item b.line (Ok (Bind b.input b.endpoint file)) read) ≡ behind (record { bindings = bounds_of (bindings ++ b ∷ []); commands = commands }) read
+bound_more bindings commands b file (Err fault) same = refl
+bound_more bindings commands b file (Ok rest) same =
+    let one : Bound = record { line = b.line; input = b.input; endpoint = b.endpoint; file = file } in
+    let as_told : bound_of b ≡ one = ap (λ (f : List ℕ). let r : Bound = record { line = b.line; input = b.input; endpoint = b.endpoint; file = f } in r) same in
+    let lists : bounds_of bindings ++ one ∷ rest.bindings ≡ bounds_of (bindings ++ b ∷ []) ++ rest.bindings =
+    sym (append_assoc (bounds_of bindings) (one ∷ []) rest.bindings)
+    ∙ ap (λ (o : Bound). (bounds_of bindings ++ o ∷ []) ++ rest.bindings) (sym as_told)
+    ∙ ap (λ (l : List Bound). l ++ rest.bindings) (sym (bounds-append bindings (b ∷ []))) in
+    ap (λ (l : List Bound). let r : Read = record { bindings = l; commands = commands ++ rest.commands } in Ok r) lists
 
-pub ReadTo-none : (bytes : List ℕ) → ReadTo bytes 0 1 []
-ReadTo-none bytes = record { whole = begin (commands_of bytes); within = omega arith; few = omega arith }
+-- what was read of the first lines, and the bytes of the others
+pub record Reading (bytes rest : List ℕ) (number : ℕ) (script : Script) : Type 0 where
+  pub whole : script_of bytes ≡ behind (told script) (lines_read number (lines_of rest))
+  pub few : number + length rest ≤ length bytes + 1
+  pub short : length script.commands < number
 
--- a line of five bytes, and what is left behind it
-five : (bytes : List ℕ) → 5 ≤ length bytes → commands_of bytes ≡ first_then (command_of (take 5 bytes)) (commands_of (drop 5 bytes))
-unfolding commands_of
-five [] long = absurd (omega (arith, long))
-five (a ∷ []) long = absurd (omega (arith, long))
-five (a ∷ b ∷ []) long = absurd (omega (arith, long))
-five (a ∷ b ∷ c ∷ []) long = absurd (omega (arith, long))
-five (a ∷ b ∷ c ∷ d ∷ []) long = absurd (omega (arith, long))
-five (a ∷ b ∷ c ∷ d ∷ e ∷ rest) long = refl
+nothing_before : (r : Result Read ScriptFault) → r ≡ behind (record { bindings = []; commands = [] }) r
+nothing_before (Ok read) = refl
+nothing_before (Err fault) = refl
 
-fewer : (bytes : List ℕ) → 0 < length bytes → length bytes < 5 → commands_of bytes ≡ None
-unfolding commands_of
-fewer [] some short = absurd (omega (arith, some))
-fewer (a ∷ []) some short = refl
-fewer (a ∷ b ∷ []) some short = refl
-fewer (a ∷ b ∷ c ∷ []) some short = refl
-fewer (a ∷ b ∷ c ∷ d ∷ []) some short = refl
-fewer (a ∷ b ∷ c ∷ d ∷ e ∷ rest) some short = absurd (omega (arith, short))
+pub Reading-none : (bytes : List ℕ) (script : Script) → told script ≡ record { bindings = []; commands = [] } → Reading bytes bytes 1 script
+Reading-none bytes script empty = record {
+  whole = nothing_before (script_of bytes) ∙ ap (λ (r : Read). behind r (script_of bytes)) (sym empty);
+  few = omega arith;
+  short = omega (arith, ap (λ (r : Read). length r.commands) empty);
+}
 
-after_none : (front : List Numbered) (line : ℕ) (o : Option (List Command)) → after front line (first_then None o) ≡ None
-after_none front line o = refl
+one_line : (rest line behind_it : List ℕ) (number : ℕ) → lines_of rest ≡ line ∷ lines_of behind_it → lines_read number (lines_of rest) ≡ with_item number (line_item (without_return line)) (lines_read (number + 1) (lines_of behind_it))
+unfolding lines_read
+one_line rest line behind_it number is = ap (lines_read number) is
 
-after_one : (front : List Numbered) (line : ℕ) (command : Command) (o : Option (List Command)) → after front line (first_then (Some command) o) ≡ after (front ++ record { line = line; command = command } ∷ []) (line + 1) o
-after_one front line command None = refl
-after_one front line command (Some commands) =
-    ap (λ (xs : List Numbered). Some xs) (sym (append_assoc front (record { line = line; command = command } ∷ []) (numbered_from (line + 1) commands)))
+pub Reading-fault : (bytes rest line behind_it : List ℕ) (number cause : ℕ) (script : Script) → Reading bytes rest number script → lines_of rest ≡ line ∷ lines_of behind_it → line_item (without_return line) ≡ Err cause → script_of bytes ≡ Err (Line number cause)
+Reading-fault bytes rest line behind_it number cause script r is fault =
+    r.whole ∙ ap (behind (told script)) (one_line rest line behind_it number is ∙ ap (λ (i : Result Item ℕ). with_item number i (lines_read (number + 1) (lines_of behind_it))) fault)
 
--- the bytes of a line, as a slice has them
-line_is : (bytes : List ℕ) (used : ℕ) → take (used + 5 - used) (drop used bytes) ≡ take 5 (drop used bytes)
-line_is bytes used = let e : used + 5 - used ≡ 5 = omega arith in rw e refl
+pub Reading-more : (bytes rest line behind_it : List ℕ) (number : ℕ) (item : Item) (script next : Script) → Reading bytes rest number script → lines_of rest ≡ line ∷ lines_of behind_it → length behind_it < length rest → line_item (without_return line) ≡ Ok item
+    → ((read : Result Read ScriptFault) → behind (told script) (with_item number (Ok item) read) ≡ behind (told next) read) → length next.commands ≤ length script.commands + 1 → Reading bytes behind_it (number + 1) next
+Reading-more bytes rest line behind_it number item script next r is fewer good added one = record {
+  whole = r.whole ∙ ap (behind (told script)) (one_line rest line behind_it number is ∙ ap (λ (i : Result Item ℕ). with_item number i (lines_read (number + 1) (lines_of behind_it))) good)
+      ∙ added (lines_read (number + 1) (lines_of behind_it));
+  few = omega (arith, r.few, fewer);
+  short = omega (arith, r.short, one);
+}
 
-module _ (bytes : List ℕ) (used line : ℕ) (front : List Numbered) (read : ReadTo bytes used line front) where
-  -- fewer bytes are left than a line has
-  pub ReadTo-short : used < length bytes → length bytes - used < 5 → script_of bytes ≡ None
-  ReadTo-short more short =
-      read.whole ∙ ap (after front line) (fewer (drop used bytes) (omega (arith, length-drop used bytes)) (omega (arith, length-drop used bytes)))
+pub Reading-all : (bytes rest : List ℕ) (number : ℕ) (script : Script) → Reading bytes rest number script → length rest ≡ 0 → script_of bytes ≡ Ok (told script)
+unfolding lines_of lines_read
+Reading-all bytes [] number script r none =
+    r.whole ∙ ap (λ (l : List Bound). let s : Read = record { bindings = l; commands = script.commands ++ [] } in Ok s) (append-nil (bounds_of script.bindings))
+    ∙ ap (λ (l : List Numbered). let s : Read = record { bindings = bounds_of script.bindings; commands = l } in Ok s) (append-nil script.commands)
+Reading-all bytes (b ∷ rest) number script r none = absurd (omega (arith, none))
 
-  rest : 5 ≤ length bytes - used → commands_of (drop used bytes) ≡ first_then (command_of (take (used + 5 - used) (drop used bytes))) (commands_of (drop (used + 5) bytes))
-  rest long =
-      five (drop used bytes) (omega (arith, length-drop used bytes))
-      ∙ ap (λ (xs : List ℕ). first_then (command_of xs) (commands_of (drop 5 (drop used bytes)))) (sym (line_is bytes used))
-      ∙ ap (λ (xs : List ℕ). first_then (command_of (take (used + 5 - used) (drop used bytes))) (commands_of xs)) (drop-drop 5 used bytes ∙ ap (λ (n : ℕ). drop n bytes) (omega arith))
-
-  -- the next line is no command
-  pub ReadTo-other : 5 ≤ length bytes - used → command_of (take (used + 5 - used) (drop used bytes)) ≡ None → script_of bytes ≡ None
-  ReadTo-other long other =
-      read.whole ∙ ap (after front line) (rest long ∙ ap (λ (o : Option Command). first_then o (commands_of (drop (used + 5) bytes))) other)
-
-  -- the next line is a command
-  pub ReadTo-more : (command : Command) → used < length bytes → 5 ≤ length bytes - used → command_of (take (used + 5 - used) (drop used bytes)) ≡ Some command → ReadTo bytes (used + 5) (line + 1) (front ++ record { line = line; command = command } ∷ [])
-  ReadTo-more command more long is = record {
-    whole =
-        read.whole ∙ ap (after front line) (rest long ∙ ap (λ (o : Option Command). first_then o (commands_of (drop (used + 5) bytes))) is)
-        ∙ after_one front line command (commands_of (drop (used + 5) bytes));
-    within = omega (arith, long, more);
-    few = omega (arith, read.few);
-  }
-
-  -- nothing is left
-  pub ReadTo-all : length bytes ≤ used → script_of bytes ≡ Some front
-  unfolding commands_of
-  ReadTo-all past =
-      let none : drop used bytes ≡ [] = drop_all used bytes past in
-      read.whole ∙ ap (λ (xs : List ℕ). after front line (commands_of xs)) none ∙ ap (λ (xs : List Numbered). Some xs) (append-nil front)
+pub bound_pushed : {E : Type 0} (r : Result (Unit {0}) E) (bindings new : List Binding) (commands : List Numbered) (b : Binding) (file : List ℕ) (read : Result Read ScriptFault) → string_bytes b.file ≡ file → OnOk r (new ≡ bindings ++ b ∷ [])
+    → OnOk r (behind (record { bindings = bounds_of bindings; commands = commands }) (with_item b.line (Ok (Bind b.input b.endpoint file)) read) ≡ behind (record { bindings = bounds_of new; commands = commands }) read)
+bound_pushed (Ok u) bindings new commands b file read same is = rw is (bound_more bindings commands b file read same)
+bound_pushed (Err e) bindings new commands b file read same is = is

@@ -1,58 +1,183 @@
--- Which bytes are a script, of the commands that are built: lines `load` and `show`, each with its newline.
-use Rattle.std.specs.Prelude.{◌≡◌, ℕ, ◌+◌, List, [], ◌∷◌, ◌++◌, Option, Some, None, codes, if◌then◌else◌}
-use Rattle.std.specs.Str.{bytes_eq}
+-- The bindings and the commands that the lines of a script are.
+use Rattle.std.specs.Prelude.{ℕ, ◌+◌, Bool, true, false, nat_le, min, if◌then◌else◌, List, [], ◌∷◌, ◌++◌, length, Option, Some, None, Result, Ok, Err, string_bytes}
 use Rattle.sof_script.specs.declared.script.Command.{Command}
-use Rattle.sof_script.specs.declared.script.Command.TheVariants.{Load, Show}
+use Rattle.sof_script.specs.declared.script.Command.TheVariants as command
 use Rattle.sof_script.specs.declared.script.Numbered.{Numbered}
+use Rattle.sof_script.specs.declared.script.Binding.{Binding}
+use Rattle.sof_script.specs.declared.script.Script.{Script}
+use Rattle.sof_script.specs.declared.items.Item.{Item}
+use Rattle.sof_script.specs.declared.items.Item.TheVariants.{Nothing, Bind, Do}
+use Rattle.sof_script.specs.declared.reading.ScriptFault.{ScriptFault}
+use Rattle.sof_script.specs.declared.reading.ScriptFault.TheVariants.{Line}
+use Rattle.sof_script.specs.declared.words.Word.{Word}
+use Rattle.sof_script.specs.declared.words.Word.TheVariants as word
+use Rattle.sof_script.specs.Splitting.{lines_of, without_return, is_skipped, all_plain, tokens_of}
+use Rattle.sof_script.specs.ValueForms.{byte_cause, quote_cause, word_cause, count_cause, number_of, error_of, format_of, hex_of, name_of, file_of}
+use Rattle.sof_script.specs.Words.{word_of}
 
--- a command's line
-abbrev pub command_line : Command → List ℕ
-command_line Load = codes "load\n"
-command_line Show = codes "show\n"
+-- ---- one line
 
--- the bytes of a script of these commands
-abbrev pub script_spelling : List Command → List ℕ
-script_spelling [] = []
-script_spelling (command ∷ commands) = command_line command ++ script_spelling commands
+-- what is made of one more value; of two causes the lesser counts
+infixl 10 ◌⊛◌
+abbrev pub ◌⊛◌ : {A B : Type 0} → Result (A → B) ℕ → Result A ℕ → Result B ℕ
+Ok make ⊛ Ok value = Ok (make value)
+Ok make ⊛ Err cause = Err cause
+Err cause ⊛ Ok value = Err cause
+Err first ⊛ Err second = Err (min first second)
+
+-- any u32
+abbrev pub any_number : List ℕ → Result ℕ ℕ
+any_number token = number_of 0 4294967295 token
+
+-- the number of a message
+abbrev pub message_number : List ℕ → Result ℕ ℕ
+message_number token = number_of 1 100000 token
+
+-- the numbers of tokens
+abbrev pub numbers_of : List (List ℕ) → Result (List ℕ) ℕ
+numbers_of [] = Ok []
+numbers_of (token ∷ tokens) = Ok (λ n ns. n ∷ ns) ⊛ any_number token ⊛ numbers_of tokens
+
+-- a word without arguments
+abbrev pub alone : Command → List (List ℕ) → Result Item ℕ
+alone command [] = Ok (Do command)
+alone command _ = Err count_cause
+
+-- one token, a name
+abbrev pub one_name : List (List ℕ) → Result (List ℕ) ℕ
+one_name (name ∷ []) = name_of name
+one_name _ = Err count_cause
+
+-- one token, a number from 1 on
+abbrev pub one_number : ℕ → List (List ℕ) → Result ℕ ℕ
+one_number most (number ∷ []) = number_of 1 most number
+one_number most _ = Err count_cause
+
+-- `in` and `out`: an endpoint and a file
+abbrev pub bound : Bool → List (List ℕ) → Result Item ℕ
+bound input (endpoint ∷ file ∷ []) = Ok (λ e f. Bind input e f) ⊛ name_of endpoint ⊛ file_of file
+bound input _ = Err count_cause
+
+-- `params`: a stream, frames a second, channels, and the format of a sample
+abbrev pub with_params : List (List ℕ) → Result Item ℕ
+with_params (stream ∷ rate ∷ channels ∷ format ∷ []) =
+    Ok (λ s r c f. Do (command.Params s (record { rate = r; channels = c; format = f })))
+    ⊛ name_of stream ⊛ any_number rate ⊛ number_of 0 255 channels ⊛ format_of format
+with_params _ = Err count_cause
+
+-- `set`: a control and one to eight numbers
+abbrev pub with_values : List (List ℕ) → Result Item ℕ
+with_values (control ∷ value ∷ values) =
+    if nat_le (length values) 7
+    then Ok (λ c vs. Do (command.Set c vs)) ⊛ name_of control ⊛ numbers_of (value ∷ values)
+    else Err count_cause
+with_values _ = Err count_cause
+
+-- `bytes`: a control and hex
+abbrev pub with_hex : List (List ℕ) → Result Item ℕ
+with_hex (control ∷ hex ∷ []) = Ok (λ c bytes. Do (command.Bytes c bytes)) ⊛ name_of control ⊛ hex_of hex
+with_hex _ = Err count_cause
+
+-- `refuse`: a message and an error number
+abbrev pub with_error : List (List ℕ) → Result Item ℕ
+with_error (message ∷ error ∷ []) = Ok (λ k e. Do (command.Refuse k e)) ⊛ message_number message ⊛ error_of error
+with_error _ = Err count_cause
+
+-- `lag`: a message and ticks
+abbrev pub with_lag : List (List ℕ) → Result Item ℕ
+with_lag (message ∷ ticks ∷ []) = Ok (λ k n. Do (command.Lag k n)) ⊛ message_number message ⊛ number_of 1 16 ticks
+with_lag _ = Err count_cause
+
+-- what a word and the tokens behind it say
+abbrev pub said_by : Word → List (List ℕ) → Result Item ℕ
+said_by word.In args = bound true args
+said_by word.Out args = bound false args
+said_by word.Load args = alone command.Load args
+said_by word.Unload args = alone command.Unload args
+said_by word.Suspend args = alone command.Suspend args
+said_by word.Resume args = alone command.Resume args
+said_by word.Show args = alone command.Show args
+said_by word.Open args = Ok (λ n. Do (command.Open n)) ⊛ one_name args
+said_by word.Start args = Ok (λ n. Do (command.Start n)) ⊛ one_name args
+said_by word.Stop args = Ok (λ n. Do (command.Stop n)) ⊛ one_name args
+said_by word.Pause args = Ok (λ n. Do (command.Pause n)) ⊛ one_name args
+said_by word.Release args = Ok (λ n. Do (command.Release n)) ⊛ one_name args
+said_by word.Close args = Ok (λ n. Do (command.Close n)) ⊛ one_name args
+said_by word.Get args = Ok (λ n. Do (command.Get n)) ⊛ one_name args
+said_by word.Read args = Ok (λ n. Do (command.Read n)) ⊛ one_name args
+said_by word.Params args = with_params args
+said_by word.Set args = with_values args
+said_by word.Bytes args = with_hex args
+said_by word.Tick args = Ok (λ n. Do (command.Tick n)) ⊛ one_number 60000 args
+said_by word.Refuse args = with_error args
+said_by word.Drop args = Ok (λ n. Do (command.Drop n)) ⊛ one_number 100000 args
+said_by word.Lose args = Ok (λ n. Do (command.Lose n)) ⊛ one_number 100000 args
+said_by word.Lag args = with_lag args
+
+-- the tokens behind a first token, which is a word or not
+abbrev pub behind_word : Option Word → List (List ℕ) → Result Item ℕ
+behind_word None args = Err word_cause
+behind_word (Some w) args = said_by w args
+
+-- tokens; none where the quotes of the line are broken
+abbrev pub item_of : Option (List (List ℕ)) → Result Item ℕ
+item_of None = Err quote_cause
+item_of (Some []) = Ok Nothing
+item_of (Some (first ∷ args)) = behind_word (word_of first) args
+
+-- what a line is, or its least cause
+abbrev pub line_item : List ℕ → Result Item ℕ
+line_item line = if is_skipped line then Ok Nothing else if all_plain line then item_of (tokens_of line) else Err byte_cause
+
+-- ---- all lines
+
+-- a binding with its file's bytes
+pub record Bound : Type 0 where
+  pub line : ℕ
+  pub input : Bool
+  pub endpoint : List ℕ
+  pub file : List ℕ
+
+-- bindings and commands
+pub record Read : Type 0 where
+  pub bindings : List Bound
+  pub commands : List Numbered
+
+-- a line's item before what the lines behind it are; the first line at fault decides
+abbrev pub with_item : ℕ → Result Item ℕ → Result Read ScriptFault → Result Read ScriptFault
+with_item line (Err cause) rest = Err (Line line cause)
+with_item line (Ok item) (Err fault) = Err fault
+with_item line (Ok Nothing) (Ok read) = Ok read
+with_item line (Ok (Bind input endpoint file)) (Ok read) =
+    Ok (record { bindings = record { line = line; input = input; endpoint = endpoint; file = file } ∷ read.bindings; commands = read.commands })
+with_item line (Ok (Do c)) (Ok read) = Ok (record { bindings = read.bindings; commands = record { line = line; command = c } ∷ read.commands })
+
+-- lines, numbered from a number on
+unfoldable pub lines_read : ℕ → List (List ℕ) → Result Read ScriptFault
+lines_read number [] = Ok (record { bindings = []; commands = [] })
+lines_read number (line ∷ lines) = with_item number (line_item (without_return line)) (lines_read (number + 1) lines)
+
+-- the script of bytes, or its first line at fault with the least cause there
+abbrev pub script_of : List ℕ → Result Read ScriptFault
+script_of bytes = lines_read 1 (lines_of bytes)
+
+-- a script as it is told here
+abbrev pub bound_of : Binding → Bound
+bound_of b = record { line = b.line; input = b.input; endpoint = b.endpoint; file = string_bytes b.file }
+
+abbrev pub bounds_of : List Binding → List Bound
+bounds_of [] = []
+bounds_of (b ∷ bindings) = bound_of b ∷ bounds_of bindings
+
+abbrev pub told : Script → Read
+told script = record { bindings = bounds_of script.bindings; commands = script.commands }
 
 -- commands with the numbers of their lines, from a number on
 abbrev pub numbered_from : ℕ → List Command → List Numbered
 numbered_from line [] = []
-numbered_from line (command ∷ commands) = record { line = line; command = command } ∷ numbered_from (line + 1) commands
+numbered_from line (c ∷ commands) = record { line = line; command = c } ∷ numbered_from (line + 1) commands
 
--- bytes are the script of these commands
-abbrev pub IsScriptOf : List ℕ → List Command → Type 0
-IsScriptOf bytes commands = bytes ≡ script_spelling commands
-
--- bytes are a script, and these are its commands with the numbers of their lines
-pub record IsRead (bytes : List ℕ) (read : List Numbered) : Type 0 where
-  pub commands : List Command
-  pub spelled : IsScriptOf bytes commands
-  pub numbers : read ≡ numbered_from 1 commands
-
--- ---- the same as a function
-
--- the command of a line with its newline
-abbrev pub command_of : List ℕ → Option Command
-command_of line = if bytes_eq line (codes "load\n") then Some Load else if bytes_eq line (codes "show\n") then Some Show else None
-
--- a command before others
-abbrev pub first_then : Option Command → Option (List Command) → Option (List Command)
-first_then None commands = None
-first_then (Some command) None = None
-first_then (Some command) (Some commands) = Some (command ∷ commands)
-
--- the commands of a script: each line has five bytes
-unfoldable pub commands_of : List ℕ → Option (List Command)
-commands_of [] = Some []
-commands_of (a ∷ b ∷ c ∷ d ∷ e ∷ rest) = first_then (command_of (a ∷ b ∷ c ∷ d ∷ e ∷ [])) (commands_of rest)
-commands_of _ = None
-
--- commands with the numbers of their lines, from 1
-abbrev pub numbered : Option (List Command) → Option (List Numbered)
-numbered None = None
-numbered (Some commands) = Some (numbered_from 1 commands)
-
--- a script's commands with the numbers of their lines; none where the bytes are no such script
-abbrev pub script_of : List ℕ → Option (List Numbered)
-script_of bytes = numbered (commands_of bytes)
+-- what was read, before what lines behind it are
+abbrev pub behind : Read → Result Read ScriptFault → Result Read ScriptFault
+behind read (Err fault) = Err fault
+behind read (Ok rest) = Ok (record { bindings = read.bindings ++ rest.bindings; commands = read.commands ++ rest.commands })

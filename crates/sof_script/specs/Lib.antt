@@ -1,2 +1,7 @@
+pub mod Splitting
+pub mod ValueForms
+pub mod Words
 pub mod Commands
+pub mod Faults
+pub mod Ticks
 pub mod Text

@@ -1,14 +1,23 @@
-//! Scripts and transcripts: the commands of a script's lines, and the text that is said for an answer.
+//! Scripts and transcripts: the bindings and commands of a script's lines, and the text that is said for an answer.
 #![tactic(auto)]
 
 mod answer;
+mod causes;
+mod file;
+mod held;
+mod items;
 mod line;
 mod lines;
+mod reading;
 mod script;
 #[cfg(test)]
 mod tests;
+mod tokens;
+mod values;
+mod words;
 
 pub use answer::write_answer;
 pub use line::Line;
-pub use lines::{ScriptFault, parse};
-pub use script::{Command, Numbered, Script};
+pub use reading::{ScriptFault, parse};
+pub use script::{Binding, Command, Numbered, Script, ticks};
+pub use values::numbers_are_decimal;

@@ -1,6 +1,7 @@
 // A line of the transcript.
-ghost use Rattle.std.specs.Prelude.{◌≡◌, ◌+◌, ◌≤◌, ◌++◌, [], length, decimal};
+ghost use Rattle.std.specs.Prelude.{◌≡◌, ◌+◌, ◌*◌, ◌≤◌, ◌++◌, [], length, decimal};
 ghost use Rattle.std.specs.Fmt.{signed_decimal};
+ghost use Rattle.hex.specs.Hex.{encode_lower};
 
 use arrayvec::ArrayVec;
 use itoa::Buffer;
@@ -72,6 +73,21 @@ impl Line {
     {
         let mut digits = Buffer::new();
         self.say(digits.format(number).as_bytes());
+    }
+
+    /// At most 1024 bytes in hex, in lower case, behind the bytes of the line.
+    pub fn say_hex(&mut self, bytes: &[u8])
+        requires few { length bytes.now ≤ 1024 }
+        requires room { length self.old + 2 * length bytes.now ≤ 2304 }
+        ensures said { self.new ≡ self.old ++ encode_lower bytes.now }
+        ensures longer { length self.new ≡ length self.old + 2 * length bytes.now }
+    {
+        let mut digits = [0; 2048];
+        let room = &mut digits[..2 * bytes.len()];
+        match hex::encode_to_slice(bytes, room) {
+            Ok(()) => self.say(room),
+            Err(_) => unreachable!(),
+        }
     }
 }
 

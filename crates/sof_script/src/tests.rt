@@ -1,49 +1,102 @@
 use super::*;
-use host_widgets::{Answer, HostFault};
-use sof_base::Errno;
+use host_widgets::{Answer, Found, HostFault};
+use sof_base::{Bounded, Errno, Format, Name44};
 use std::test::Fail;
 
+// The line and the cause of a script's fault; none where it is a script.
+fn fault(rt: &HostRuntime, text: &str) -> Option<(u32, u8)> {
+    if text.len() > 100 {
+        return None;
+    }
+    match parse(rt.alloc(), text.as_bytes()) {
+        Err(ScriptFault::Line { line, cause }) => Some((line, cause)),
+        _ => None,
+    }
+}
+
 #[test]
-fn lines_are_numbered_from_1(rt: HostRuntime) -> Result<(), Fail> {
-    let Ok(script) = parse(rt.alloc(), b"load\nshow\n") else {
+fn lines_are_read(rt: HostRuntime) -> Result<(), Fail> {
+    let text =
+        "# a comment\r\n\n in \"H 1\" \"a b\"\nload\nparams PCM0P 48000 2 s16\nset C 31 0\r\nbytes EQ fF00\n\
+        refuse 3 -22\nlag 100000 16\ntick 60000\r\nout D0 #\nshow\r";
+    let Ok(script) = parse(rt.alloc(), text.as_bytes()) else {
         return Err("no script")?;
     };
-    assert_eq!(rt; script.commands.items().len(), 2);
-    for (at, line, command) in [(0, 1, Command::Load), (1, 2, Command::Show)] {
-        let numbered = script.commands.items().get(at).ok_or("too few")?;
-        assert_eq!(rt; *numbered, Numbered { line, command });
+    assert_eq!(rt; script.bindings.items().len(), 2);
+    let input = &script.bindings.items()[0];
+    assert_eq!(rt; (input.line, input.input), (3, true));
+    assert_eq!(rt; input.endpoint.as_bytes(), b"H 1".as_slice());
+    assert_eq!(rt; input.file.as_str(), "a b");
+    let commands = script.commands.items();
+    assert_eq!(rt; commands.len(), 8);
+    assert_eq!(rt; ticks(&script), 60016);
+    assert_eq!(rt; (commands[0].line, commands[7].line), (4, 12));
+    assert!(rt; matches!(&commands[0].command, Command::Load));
+    if let Command::Params(name, params) = &commands[1].command {
+        assert_eq!(rt; name.as_bytes(), b"PCM0P".as_slice());
+        assert_eq!(rt;
+            (params.rate, params.channels, params.format),
+            (48000, 2, Format::S16)
+        );
     }
+    if let Command::Set(_, values) = &commands[2].command {
+        assert_eq!(rt; values.items(), [31, 0].as_slice());
+    }
+    if let Command::Bytes(_, bytes) = &commands[3].command {
+        assert_eq!(rt; bytes.items(), [255, 0].as_slice());
+    }
+    assert!(rt; matches!(&commands[4].command, Command::Refuse(3, -22)));
+    assert!(rt; matches!(&commands[7].command, Command::Show));
     Ok(())
 }
 
 #[test]
-fn other_lines_are_not_built_yet(rt: HostRuntime) {
-    for bytes in ["load", "load\nsuspend\n", "load\r\n", "\n", "Load\n"] {
-        assert!(rt;
-            matches!(
-                &parse(rt.alloc(), bytes.as_bytes()),
-                Err(ScriptFault::NotYet)
-            )
-        );
+fn each_cause_is_told(rt: HostRuntime) {
+    let rows = [
+        ("load\nopen \"a\x01", 2, 1),
+        ("get \"C\"x\n", 1, 2),
+        ("\"#\"\n", 1, 3),
+        ("load now\n", 1, 4),
+        ("set C 1 2 3 4 5 6 7 8 9\n", 1, 4),
+        ("tick 01\n", 1, 5),
+        ("refuse 1 -0\n", 1, 5),
+        ("params \"\" 48000 256 s16\n", 1, 5),
+        ("bytes C 012\n", 1, 6),
+        ("open \"\"\n", 1, 7),
+        ("\t#\"\n\nlose 100001\nload 1", 3, 5),
+    ];
+    for (text, line, cause) in rows {
+        assert_eq!(rt; fault(&rt, text), Some((line, cause)));
     }
 }
 
 #[test]
-fn an_answer_says_its_line(rt: HostRuntime) {
-    let mut line = Line::new();
+fn answers_say_their_lines(rt: HostRuntime) -> Result<(), Fail> {
+    let values = Bounded::new(&[31, 0]).ok_or("values")?;
+    let bytes = Bounded::new(&[255, 0]).ok_or("bytes")?;
+    let name = Name44::new(b"PCM0P").ok_or("name")?;
     let rows = [
         (1, Answer::Done, "1 ok"),
+        (2, Answer::Values(values), "2 value 31 0"),
+        (3, Answer::Bytes(bytes), "3 bytes ff00"),
+        (4, Answer::Bytes(Bounded::empty()), "4 bytes -"),
+        (5, Answer::Fault(HostFault::NoSuch(name)), "5 no such PCM0P"),
         (
-            1,
-            Answer::Fault(HostFault::Refused(Errno(-12))),
-            "1 refused -12",
+            6,
+            Answer::Fault(HostFault::State(Found::Paused)),
+            "6 state paused",
         ),
-        (2, Answer::Show, "2 show"),
-        (3, Answer::Fault(HostFault::Loaded), "3 loaded"),
-        (10, Answer::Fault(HostFault::LinkDown), "10 link down"),
+        (
+            7,
+            Answer::Fault(HostFault::Refused(Errno(-12))),
+            "7 refused -12",
+        ),
+        (10, Answer::PlanFull, "10 plan full"),
     ];
+    let mut line = Line::new();
     for (number, answer, text) in rows {
         write_answer(number, &answer, &mut line);
         assert_eq!(rt; line.bytes(), text.as_bytes());
     }
+    Ok(())
 }

@@ -1,6 +1,5 @@
 -- After a load the two sides agree again.
-use Rattle.std.proofs.Common.{◌≡◌, ℕ, List, [], Some, None, Ok, Err, refl, sym, ap, subst, ◌∙◌, arith}
-use Rattle.std.proofs.lemmas.List.{length-map}
+use Rattle.std.proofs.Common.{◌≡◌, ℕ, ◌≤◌, List, [], Some, None, Ok, Err, refl, sym, ap, subst, ◌∙◌, arith}
 use Rattle.std.specs.Option.{option_map}
 use Rattle.sof_base.specs.Ports.{Io}
 use Rattle.stream_law.specs.State.{view_of}
@@ -9,15 +8,16 @@ use Rattle.mbox_link.specs.Wire.{Wire}
 use Rattle.mbox_link.specs.Link.{link}
 use Rattle.mbox_link.proofs.Led.{Led-steady}
 use Rattle.tplg_graph.specs.declared.planned.Plan.{Plan}
-use Rattle.tplg_graph.specs.declared.planned.StreamPlan.{StreamPlan}
-use Rattle.host_widgets.specs.declared.answers.HostFault.TheVariants.{Loaded, Refused, LinkDown}
+use Rattle.tplg_graph.specs.ThinPlan.{IsThinPlan}
+use Rattle.host_widgets.specs.declared.answers.HostFault.TheVariants.{NotLoaded, Loaded, NoSuch, State, Off, Range, Refused, LinkDown, Blob}
 use Rattle.host_widgets.specs.declared.kept.Power.{Power}
 use Rattle.host_widgets.specs.declared.kept.Power.TheVariants.{Unloaded, On, Off}
 use Rattle.host_widgets.specs.declared.kept.Record.{Record}
-use Rattle.host_widgets.specs.HostRecord.{closed, all_closed, first_record}
+use Rattle.host_widgets.specs.HostRecord.{all_closed, first_record}
 use Rattle.host_widgets.specs.Expected.{loaded_state}
 use Rattle.host_widgets.specs.Host.{Outcome, Loads, LoadLeft, after_load, load_calls, ticks_put, Agrees}
-use Rattle.sof_session.specs.Seat.{Seat}
+use Rattle.host_widgets.proofs.ThinRecords.{closed-record}
+use Rattle.sof_session.specs.Seat.{Seat, new_seat}
 use Rattle.sof_session.specs.Turns.{AreAgreed, IsUnplanned, Powered}
 use Rattle.sof_session.proofs.Unplanned.{Led-unplanned}
 
@@ -31,15 +31,15 @@ Loads-led means plan heap On w v outcome nothing = ([], nothing.0)
 Loads-led means plan heap Off w v outcome nothing = ([], nothing.0)
 
 module _ {P : Type 0} (means : Meaning P) (old : Seat P) (wire : Wire P) (io io' : Io) (agreed : AreAgreed means old) where
-  abbrev seat_with : Record → Seat P
+  abbrev pub seat_with : Record → Seat P
   seat_with kept = record { link = wire; kept = kept; plan = old.plan; heap = old.heap }
 
   -- what the calls keep
-  record Kept : Type 0 where
-    steady : Steady (link means) old.link wire
-    unplanned : IsUnplanned wire
+  pub record Kept : Type 0 where
+    pub steady : Steady (link means) old.link wire
+    pub unplanned : IsUnplanned wire
 
-  agreed_with : Kept → (kept : Record) → Agrees means old.plan kept wire.device → Powered means (seat_with kept) kept.power → AreAgreed means (seat_with kept)
+  pub agreed_with : Kept → (kept : Record) → Agrees means old.plan kept wire.device → Powered means (seat_with kept) kept.power → AreAgreed means (seat_with kept)
   agreed_with calls kept agree powered = record {
     agree = agree;
     powered = powered;
@@ -55,18 +55,24 @@ module _ {P : Type 0} (means : Meaning P) (old : Seat P) (wire : Wire P) (io io'
   agreed_on : Kept → means.on wire.device ≡ Some (loaded_state old.plan old.heap (ticks_put (link means) old.link wire)) → AreAgreed means (seat_with (all_closed On old.plan))
   agreed_on calls on =
       let now : means.on wire.device ≡ Some (loaded_state old.plan old.heap 0) = on ∙ ap (λ (n : ℕ). Some (loaded_state old.plan old.heap n)) (no_ticks calls) in
-      agreed_with calls (all_closed On old.plan) (record { streams = length-map old.plan.streams (λ (s : StreamPlan). closed); sides = ap (option_map view_of) now }) (refl, now)
+      agreed_with calls (all_closed On old.plan) (record { record_is = closed-record On old.plan agreed.thin; sides = ap (option_map view_of) now }) now
 
   agreed_off : Kept → means.on wire.device ≡ None → AreAgreed means (seat_with (first_record old.plan))
   agreed_off calls off =
-      agreed_with calls (first_record old.plan) (record { streams = length-map old.plan.streams (λ (s : StreamPlan). closed); sides = (refl, off) }) tt
+      agreed_with calls (first_record old.plan) (record { record_is = closed-record Unloaded old.plan agreed.thin; sides = (refl, off) }) off
 
   agreed_as_before : wire ≡ old.link → AreAgreed means (seat_with old.kept)
   agreed_as_before same = subst (λ (w : Wire P). AreAgreed means (record { link = w; kept = old.kept; plan = old.plan; heap = old.heap })) (sym same) agreed
 
   agreed_after : Kept → (outcome : Outcome) → LoadLeft (link means) old.plan old.heap old.link outcome wire → AreAgreed means (seat_with (after_load old.plan outcome old.kept))
   agreed_after calls (Ok done) left = agreed_on calls left.1
+  agreed_after calls (Err NotLoaded) left = absurd left
   agreed_after calls (Err Loaded) left = agreed_as_before left
+  agreed_after calls (Err (NoSuch name)) left = absurd left
+  agreed_after calls (Err (State found)) left = absurd left
+  agreed_after calls (Err Off) left = absurd left
+  agreed_after calls (Err (Range n)) left = absurd left
+  agreed_after calls (Err (Blob n)) left = absurd left
   agreed_after calls (Err (Refused e)) left = agreed_off calls left.0
   agreed_after calls (Err LinkDown) left = agreed_off calls left.0
 
@@ -78,3 +84,14 @@ module _ {P : Type 0} (means : Meaning P) (old : Seat P) (wire : Wire P) (io io'
         unplanned = Led-unplanned means led.0 (at old.link io) (at wire io') agreed.unplanned led.1;
       } in
       subst (λ (r : Record). AreAgreed means (seat_with r)) (sym is) (agreed_after calls outcome left)
+
+-- before the first command nothing is loaded, and the device is off
+pub AreAgreed-new : {P : Type 0} (means : Meaning P) (plan : Plan) (heap : ℕ) (dsp : P) → means.on dsp ≡ None → means.pending dsp ≡ 0 → heap ≤ means.most dsp → IsThinPlan plan → AreAgreed means (new_seat plan heap dsp)
+AreAgreed-new means plan heap dsp off pending room thin = record {
+  agree = record { record_is = closed-record Unloaded plan thin; sides = (refl, off) };
+  powered = off;
+  room = room;
+  pending = pending;
+  unplanned = record { entries = refl; dropped = refl; refused = refl };
+  thin = thin;
+}

@@ -2,6 +2,11 @@ pub mod LinesAt
 pub mod Unplanned
 pub mod StayedCounts
 pub mod WalkEnds
+pub mod WalkCuts
 pub mod Agreement
 pub mod Turning
 pub mod TurnLaws
+pub mod SessionStates
+pub mod StreamWalks
+pub mod StreamAgreement
+pub mod StreamTurning

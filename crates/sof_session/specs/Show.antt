@@ -16,6 +16,7 @@ use Rattle.host_widgets.specs.declared.kept.Power.{Power}
 use Rattle.host_widgets.specs.declared.kept.Power.TheVariants.{Unloaded, On, Off}
 use Rattle.host_widgets.specs.declared.kept.Found.{Found}
 use Rattle.host_widgets.specs.declared.kept.Found.TheVariants.{Closed, Open, Prepared, Running, Paused}
+use Rattle.host_widgets.specs.declared.kept.Found.TheVariants as founds
 use Rattle.host_widgets.specs.declared.kept.StreamRec.{StreamRec}
 use Rattle.host_widgets.specs.declared.kept.Record.{Record}
 use Rattle.host_widgets.specs.Acts.{ids_of, pipe_by_id}
@@ -92,6 +93,7 @@ found_words Open = codes " open"
 found_words Prepared = codes " prepared"
 found_words Running = codes " running"
 found_words Paused = codes " paused"
+found_words founds.On = codes " on"
 
 -- frames a second, channels and format, each after a blank; nothing where there are no parameters
 abbrev pub params_words : Option Params → List ℕ

@@ -1,31 +1,40 @@
 -- The turns of a session over a device, and what its type keeps.
 use Rattle.std.specs.Prelude.{◌≡◌, ℕ, ◌+◌, ◌<◌, ◌≤◌, ◌^◌, List, [], ◌∷◌, Option, Some, None}
 use Rattle.sof_base.specs.Ports.{Io, InputView, OutputView}
+use Rattle.stream_law.specs.State.{FwState}
 use Rattle.mbox_link.specs.Calls.{Meaning}
 use Rattle.mbox_link.specs.Wire.{Wire}
 use Rattle.mbox_link.specs.Link.{link}
+use Rattle.tplg_graph.specs.declared.planned.Plan.{Plan}
 use Rattle.tplg_graph.specs.ThinPlan.{IsThinPlan}
 use Rattle.host_widgets.specs.declared.answers.Answer.{Answer}
 use Rattle.host_widgets.specs.declared.answers.Answer.TheVariants.{Show}
 use Rattle.host_widgets.specs.declared.kept.Power.{Power}
 use Rattle.host_widgets.specs.declared.kept.Power.TheVariants.{Unloaded, On, Off}
-use Rattle.host_widgets.specs.HostRecord.{all_closed}
-use Rattle.host_widgets.specs.Expected.{loaded_state}
+use Rattle.host_widgets.specs.declared.kept.Record.{Record}
+use Rattle.host_widgets.specs.Expected.{expected_view, loaded_state}
 use Rattle.host_widgets.specs.Host.{Outcome, Agrees, Loads, LoadLeft, after_load}
 use Rattle.host_widgets.specs.ActFates.{LoadFates}
+use Rattle.host_pcm.specs.declared.asking.Ask.{Ask}
+use Rattle.host_pcm.specs.Carried.{Asked}
 use Rattle.sof_script.specs.declared.script.Command.{Command}
 use Rattle.sof_script.specs.declared.script.Command.TheVariants as commands
 use Rattle.sof_session.specs.Seat.{Seat}
 use Rattle.sof_session.specs.Show.{show_lines}
-use Rattle.sof_session.specs.Walks.{Task, Out, Stand, Host, answer_of, next}
+use Rattle.sof_session.specs.Walks.{Task, Out, Stand, Host, answer_of, asking, next}
 
 -- ---- what a session's type keeps
 
--- a powered device keeps the plan with no audio moved: the commands that are built move none
+-- The state of a powered device: the plan as a load leaves it, with the streams as the record says. No command so far makes a
+-- tick, so the clock is 0 and no frame lies in a ring; and a thin plan has no equaliser.
+abbrev pub session_state : Plan → ℕ → Record → FwState
+session_state plan heap kept = record (loaded_state plan heap 0) { streams = (expected_view plan kept).streams }
+
+-- where the record says that the power is on, the device is in the session's state; else it is off
 abbrev pub Powered : {P : Type 0} → Meaning P → Seat P → Power → Type 0
-Powered means seat Unloaded = Unit {0}
-Powered means seat On = (seat.kept ≡ all_closed On seat.plan) × (means.on seat.link.device ≡ Some (loaded_state seat.plan seat.heap 0))
-Powered means seat Off = ⊥
+Powered means seat On = means.on seat.link.device ≡ Some (session_state seat.plan seat.heap seat.kept)
+Powered means seat Off = means.on seat.link.device ≡ None
+Powered means seat Unloaded = means.on seat.link.device ≡ None
 
 -- no fate was or is planned, so the link itself has lost and refused no message
 pub record IsUnplanned {P : Type 0} (wire : Wire P) : Type 0 where
@@ -48,19 +57,32 @@ pub record AreAgreed {P : Type 0} (means : Meaning P) (seat : Seat P) : Type 0 w
 pub record LoadRan {P : Type 0} (means : Meaning P) (old new : Seat P) (before after : Io) (answer : Answer) : Type 0 where
   pub outcome : Outcome
   pub loads : Loads (link means) old.plan old.heap old.kept.power (record { device = old.link; io = before }) (record { device = new.link; io = after }) outcome
-  pub fates : old.kept.power ≡ Unloaded → LoadFates (link means) old.plan old.heap (record { device = old.link; io = before }) (record { device = new.link; io = after }) outcome
+  pub fates : old.kept.power ≡ Unloaded → LoadFates (link means) old.plan old.heap old.kept (record { device = old.link; io = before }) (record { device = new.link; io = after }) outcome
   pub left : LoadLeft (link means) old.plan old.heap old.link outcome new.link
   pub kept : new.kept ≡ after_load old.plan outcome old.kept
+  pub said : answer ≡ answer_of outcome
+
+-- what a call on the stream of a name did: its calls on the link, with the fate of each act, what it came to, and the record
+-- after it
+pub record StreamRan {P : Type 0} (means : Meaning P) (name : List ℕ) (ask : Ask) (old new : Seat P) (before after : Io) (answer : Answer) : Type 0 where
+  pub outcome : Outcome
+  pub asked : Asked (link means) old.plan old.heap name ask old.kept new.kept (record { device = old.link; io = before }) (record { device = new.link; io = after }) outcome
   pub said : answer ≡ answer_of outcome
 
 -- the endpoints' bytes
 abbrev pub ports : List InputView → List OutputView → Io
 ports inputs outputs = record { inputs = inputs; outputs = outputs }
 
--- what a command did: a load its calls; a show nothing
+-- a call on a stream, where one is asked; no other command is carried out so far
+abbrev pub AskedRan : {P : Type 0} → Meaning P → Option (List ℕ × Ask) → Seat P → Seat P → Io → Io → Answer → Type 0
+AskedRan means (Some (name, ask)) old new io io' answer = StreamRan means name ask old new io io' answer
+AskedRan means None old new io io' answer = ⊥
+
+-- what a command did: a load or a call on a stream its calls on the device, a show nothing
 abbrev pub Ran : {P : Type 0} → Meaning P → Command → Seat P → Seat P → Io → Io → Answer → Type 0
 Ran means commands.Load old new io io' answer = LoadRan means old new io io' answer
 Ran means commands.Show old new io io' answer = (new ≡ old) × (io' ≡ io) × (answer ≡ Show)
+Ran means command old new io io' answer = AskedRan means (asking command) old new io io' answer
 
 -- ---- turns
 
@@ -119,8 +141,8 @@ turn task answer shown = record { task = task; out = record { answer = answer; s
 
 -- the lines that a command shows
 abbrev pub shown_by : {P : Type 0} → Command → Seat P → List (List ℕ)
-shown_by commands.Load seat = []
 shown_by commands.Show seat = show_lines seat.plan seat.kept
+shown_by command seat = []
 
 -- What a turn does: where the device's counts did not rise, the written next stand and answer; and no count falls.
 pub record Turned {W : Type 0} (means : LifeMeaning W) (turn : Turn) (old new : W) : Type 0 where

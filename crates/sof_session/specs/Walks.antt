@@ -1,5 +1,5 @@
 -- A walk of acts whose fates are planned, and what a command makes of the host.
-use Rattle.std.specs.Prelude.{ℕ, List, [], ◌∷◌, Option, Some, None, Ok, Err}
+use Rattle.std.specs.Prelude.{ℕ, suc, Bool, true, List, [], ◌∷◌, Option, Some, None, is_some, unwrap_or, Ok, Err}
 use Rattle.sof_base.specs.declared.errno.Errno.{Errno}
 use Rattle.mbox_link.specs.declared.fates.Entry.{Entry}
 use Rattle.mbox_link.specs.declared.fates.Fate.{Fate}
@@ -7,15 +7,21 @@ use Rattle.mbox_link.specs.declared.fates.Fate.TheVariants.{Pass, Refuse, Drop, 
 use Rattle.mbox_link.specs.Fates.{planned, without}
 use Rattle.mbox_link.specs.Exchange.{more}
 use Rattle.tplg_graph.specs.declared.planned.Plan.{Plan}
+use Rattle.host_widgets.specs.declared.answers.HostFault.{HostFault}
 use Rattle.host_widgets.specs.declared.answers.HostFault.TheVariants.{Loaded, Refused, LinkDown}
 use Rattle.host_widgets.specs.declared.answers.Answer.{Answer}
 use Rattle.host_widgets.specs.declared.answers.Answer.TheVariants.{Done, Fault, Show}
 use Rattle.host_widgets.specs.declared.kept.Power.{Power}
 use Rattle.host_widgets.specs.declared.kept.Power.TheVariants.{Unloaded, On, Off}
 use Rattle.host_widgets.specs.declared.kept.Record.{Record}
+use Rattle.host_widgets.specs.declared.trigger.Trigger.TheVariants as triggers
 use Rattle.host_widgets.specs.HostRecord.{first_record}
 use Rattle.host_widgets.specs.Acts.{Act, bring_up_acts}
 use Rattle.host_widgets.specs.Host.{Outcome, own, errno, after_load}
+use Rattle.host_pcm.specs.declared.asking.Ask.{Ask}
+use Rattle.host_pcm.specs.declared.asking.Ask.TheVariants.{Opening, Preparing, Triggering, Closing}
+use Rattle.host_pcm.specs.Asks.{early_fault, stream_place}
+use Rattle.host_pcm.specs.Carried.{acts_at, kept_after}
 use Rattle.sof_script.specs.declared.script.Command.{Command}
 use Rattle.sof_script.specs.declared.script.Command.TheVariants as commands
 use Rattle.sof_session.specs.Show.{show_lines}
@@ -30,27 +36,28 @@ outcome_by (Refuse e) refusal = Err (Refused (errno e))
 outcome_by Drop refusal = Err LinkDown
 outcome_by Lose refusal = Err LinkDown
 
--- how a walk ended: what it came to, how many messages were sent in all, and the fates that are held
+-- how a walk ended: what it came to, how many acts passed, how many messages were sent in all, and the fates that are held
 pub record Ending : Type 0 where
   pub outcome : Outcome
+  pub passed : ℕ
   pub sent : ℕ
   pub entries : List Entry
 
 -- an ending of these parts
-abbrev pub ending : Outcome → ℕ → List Entry → Ending
-ending outcome sent entries = record { outcome = outcome; sent = sent; entries = entries }
+abbrev pub ending : Outcome → ℕ → ℕ → List Entry → Ending
+ending outcome passed sent entries = record { outcome = outcome; passed = passed; sent = sent; entries = entries }
 
--- on after an act that passed; else the walk ends here
+-- on after an act that passed, which counts; else the walk ends here
 abbrev pub on_from : Outcome → ℕ → List Entry → Ending → Ending
-on_from (Ok done) sent entries rest = rest
-on_from (Err fault) sent entries rest = ending (Err fault) sent entries
+on_from (Ok done) sent entries rest = record rest { passed = suc rest.passed }
+on_from (Err fault) sent entries rest = ending (Err fault) 0 sent entries
 
 -- the acts in order, each by one message, up to the first that does not pass
-abbrev pub walked : Plan → ℕ → ℕ → List Entry → List Act → Ending
-walked plan heap sent entries [] = ending (Ok tt) sent entries
-walked plan heap sent entries (act ∷ acts) =
-    on_from (outcome_by (planned entries (more sent)) (own plan heap act)) (more sent) (without (more sent) entries)
-    (walked plan heap (more sent) (without (more sent) entries) acts)
+abbrev pub walked : Plan → ℕ → Record → ℕ → List Entry → List Act → Ending
+walked plan heap kept sent entries [] = ending (Ok tt) 0 sent entries
+walked plan heap kept sent entries (act ∷ acts) =
+    on_from (outcome_by (planned entries (more sent)) (own plan heap kept act)) (more sent) (without (more sent) entries)
+    (walked plan heap kept (more sent) (without (more sent) entries) acts)
 
 -- ---- a host
 
@@ -85,7 +92,11 @@ abbrev pub answer_of : Outcome → Answer
 answer_of (Ok done) = Done
 answer_of (Err fault) = Fault fault
 
--- ---- commands
+-- a host whose device was booted so often
+abbrev pub stand : ℕ → Host → Stand
+stand boots h = record { boots = boots; host = Some h }
+
+-- ---- loads and shows
 
 -- the host after a load whose walk ended so
 abbrev pub host_after : Host → Ending → Host
@@ -94,19 +105,79 @@ host_after h e = record { plan = h.plan; heap = h.heap; kept = after_load h.plan
 -- a load that passes its test boots the device and walks the list that brings it up
 abbrev pub load_next : Power → ℕ → Host → Stand × Out
 load_next Unloaded boots h =
-    let e = walked h.plan h.heap h.sent h.entries (bring_up_acts h.plan) in
-    (record { boots = more boots; host = Some (host_after h e) }, silent (answer_of e.outcome))
-load_next On boots h = (record { boots = boots; host = Some h }, silent (Fault Loaded))
-load_next Off boots h = (record { boots = boots; host = Some h }, silent (Fault Loaded))
+    let e = walked h.plan h.heap h.kept h.sent h.entries (bring_up_acts h.plan) in
+    (stand (more boots) (host_after h e), silent (answer_of e.outcome))
+load_next On boots h = (stand boots h, silent (Fault Loaded))
+load_next Off boots h = (stand boots h, silent (Fault Loaded))
 
 -- a show changes nothing
 abbrev pub show_next : ℕ → Host → Stand × Out
-show_next boots h = (record { boots = boots; host = Some h }, record { answer = Show; shown = show_lines h.plan h.kept })
+show_next boots h = (stand boots h, record { answer = Show; shown = show_lines h.plan h.kept })
+
+-- ---- calls on streams
+
+-- what a command asks of a stream, with the stream's name
+abbrev pub asking : Command → Option (List ℕ × Ask)
+asking (commands.Open name) = Some (name, Opening)
+asking (commands.Params name params) = Some (name, Preparing params)
+asking (commands.Start name) = Some (name, Triggering triggers.Start)
+asking (commands.Stop name) = Some (name, Triggering triggers.Stop)
+asking (commands.Pause name) = Some (name, Triggering triggers.Pause)
+asking (commands.Release name) = Some (name, Triggering triggers.Release)
+asking (commands.Close name) = Some (name, Closing)
+asking command = None
+
+-- the place of the stream of a name; a name that no stream has fails a test
+abbrev pub place_of : Host → List ℕ → ℕ
+place_of h name = unwrap_or (stream_place h.plan name) 0
+
+-- the acts that are asked of the stream at a place
+abbrev pub asked_acts : Host → ℕ → Ask → List Act
+asked_acts h k ask = acts_at h.plan h.kept k ask
+
+-- the host after these acts, whose walk ended so
+abbrev pub host_asked : Host → ℕ → Ask → Ending → Host
+host_asked h k ask e = record {
+  plan = h.plan;
+  heap = h.heap;
+  kept = kept_after h.kept k ask (asked_acts h k ask) e.passed e.outcome;
+  sent = e.sent;
+  entries = e.entries;
+}
+
+-- the acts are walked
+abbrev pub walk_next : ℕ → Ask → ℕ → Host → Stand × Out
+walk_next k ask boots h =
+    let e = walked h.plan h.heap h.kept h.sent h.entries (asked_acts h k ask) in
+    (stand boots (host_asked h k ask e), silent (answer_of e.outcome))
+
+-- where a test fails, it answers so and changes nothing
+abbrev pub tested_next : Option HostFault → ℕ → Ask → ℕ → Host → Stand × Out
+tested_next (Some fault) k ask boots h = (stand boots h, silent (Fault fault))
+tested_next None k ask boots h = walk_next k ask boots h
+
+-- a call on the stream of a name: the tests, and then the acts
+abbrev pub stream_next : List ℕ → Ask → ℕ → Host → Stand × Out
+stream_next name ask boots h = tested_next (early_fault h.plan h.kept name ask) (place_of h name) ask boots h
+
+-- ---- commands
+
+-- the commands that are carried out so far: a load, a show, and the calls on streams
+abbrev pub is_built : Command → Bool
+is_built commands.Load = true
+is_built commands.Show = true
+is_built command = is_some (asking command)
+
+-- a call on a stream where one is asked; a command that is not carried out so far makes nothing of a host
+abbrev pub asked_next : Option (List ℕ × Ask) → ℕ → Host → Stand × Out
+asked_next (Some (name, ask)) boots h = stream_next name ask boots h
+asked_next None boots h = (stand boots h, silent Done)
 
 -- what a command makes of a host, and what it answers
 abbrev pub command_next : Command → ℕ → Host → Stand × Out
 command_next commands.Load boots h = load_next h.kept.power boots h
 command_next commands.Show boots h = show_next boots h
+command_next command boots h = asked_next (asking command) boots h
 
 -- a session is begun, or carries out a command
 pub data Task : Type 0 where
@@ -115,7 +186,7 @@ pub data Task : Type 0 where
 
 -- what a task makes of a stand, and what it answers
 abbrev pub next_by : Task → ℕ → Option Host → Stand × Out
-next_by (Begin plan heap) boots host = (record { boots = boots; host = Some (first_host plan heap) }, silent Done)
+next_by (Begin plan heap) boots host = (stand boots (first_host plan heap), silent Done)
 next_by (Carry command) boots None = (record { boots = boots; host = None }, silent Done)
 next_by (Carry command) boots (Some h) = command_next command boots h
 

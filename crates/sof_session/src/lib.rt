@@ -3,6 +3,7 @@
 
 mod session;
 mod show;
+mod streams;
 #[cfg(test)]
 mod tests;
 mod words;

@@ -4,18 +4,30 @@ ghost use Rattle.sof_base.specs.Ports.{HasRoom};
 ghost use Rattle.tplg_graph.specs.ThinPlan.{IsThinPlan};
 ghost use Rattle.sof_session.specs.Seat.{new_seat};
 ghost use Rattle.sof_session.specs.Show.{show_lines, IsLineAt};
-ghost use Rattle.sof_session.specs.Walks.{Carry};
-ghost use Rattle.sof_session.specs.Turns.{AreAgreed, LoadRan, Ran, Turned, Seated, life, turn, shown_by, ports};
+ghost use Rattle.sof_session.specs.Walks.{Carry, answer_of, is_built};
+ghost use Rattle.sof_session.specs.Turns.{AreAgreed, LoadRan, StreamRan, Ran, Turned, Seated, life, turn, shown_by, ports};
 
 use crate::show::show_line;
-use host_widgets::{Answer, Record, load};
+use crate::streams::ask_stream;
+use host_pcm::Ask;
+use host_widgets::{Answer, HostFault, Record, Trigger, load};
 use mbox_link::{Dsp, FaultLink, NoRoom};
-use sof_base::NoMemory;
+use sof_base::{Name44, NoMemory};
 use sof_io::{Inputs, Outputs};
 use sof_script::{Command, Line};
 use std::alloc::Global;
 use std::marker::Model;
 use tplg_graph::Plan;
+
+// What a call answers that answers nothing else once it is done.
+fn answer_of(done: Result<(), HostFault>) -> Answer
+    ensures { result ≡ answer_of done }
+{
+    match done {
+        Ok(()) => Answer::Done,
+        Err(fault) => Answer::Fault(fault),
+    }
+}
 
 /// A host that keeps its record of a device behind a link. The device is on with the view that the record says, or off.
 #[derive(Drop)]
@@ -69,10 +81,12 @@ impl<P: Dsp> Session<P> {
         self.link.into_dsp()
     }
 
-    /// Carries out a command. `Load` boots the device and loads the plan where it is not loaded; `Show` changes nothing, and
-    /// its lines are those of `show_line`.
+    /// Carries out a command that is built so far: `Load`, `Show`, or a call on a stream, which are `Open`, `Params`,
+    /// `Start`, `Stop`, `Pause`, `Release` and `Close`. `Load` boots the device and loads the plan where it is not loaded;
+    /// `Show` changes nothing, and its lines are those of `show_line`. It answers as the host's call does.
     pub fn step(&mut self, command: &Command, io: &mut Inputs, out: &mut Outputs) -> Answer
-        requires { HasRoom 0 out.old }
+        requires built { is_built command.now ≡ true }
+        requires room { HasRoom 0 out.old }
         ensures ran { Ran P.means command.now self.old self.new (ports io.old out.old) (ports io.new out.new) result }
         ensures turned { Turned (life P.means) (turn (Carry command.now) result (shown_by command.now self.old)) (Seated self.old) (Seated self.new) }
         ensures plan { self.new.plan ≡ self.old.plan }
@@ -82,7 +96,14 @@ impl<P: Dsp> Session<P> {
     {
         match command {
             Command::Load => self.load(io, out),
-            Command::Show => Answer::Show,
+            Command::Open(name) => self.ask(name, Ask::Opening, io, out),
+            Command::Params(name, params) => self.ask(name, Ask::Preparing(*params), io, out),
+            Command::Start(name) => self.ask(name, Ask::Triggering(Trigger::Start), io, out),
+            Command::Stop(name) => self.ask(name, Ask::Triggering(Trigger::Stop), io, out),
+            Command::Pause(name) => self.ask(name, Ask::Triggering(Trigger::Pause), io, out),
+            Command::Release(name) => self.ask(name, Ask::Triggering(Trigger::Release), io, out),
+            Command::Close(name) => self.ask(name, Ask::Closing, io, out),
+            _ => Answer::Show,
         }
     }
 
@@ -96,17 +117,38 @@ impl<P: Dsp> Session<P> {
         ensures inputs { io.new ≡ io.old }
         ensures outputs { out.new ≡ out.old }
     {
-        match load(
+        let loaded = load(
             &self.plan,
             &mut self.kept,
             self.heap,
             &mut self.link,
             io,
             out,
-        ) {
-            Ok(()) => Answer::Done,
-            Err(fault) => Answer::Fault(fault),
-        }
+        );
+        answer_of(loaded)
+    }
+
+    // Makes the host's call for what is asked of the stream of this name.
+    fn ask(&mut self, name: &Name44, ask: Ask, io: &mut Inputs, out: &mut Outputs) -> Answer
+        requires { HasRoom 0 out.old }
+        ensures ran { StreamRan P.means name.now ask self.old self.new (ports io.old out.old) (ports io.new out.new) result }
+        ensures agreed { AreAgreed P.means self.old }
+        ensures plan { self.new.plan ≡ self.old.plan }
+        ensures heap { self.new.heap ≡ self.old.heap }
+        ensures inputs { io.new ≡ io.old }
+        ensures outputs { out.new ≡ out.old }
+    {
+        let asked = ask_stream(
+            &self.plan,
+            &mut self.kept,
+            self.heap,
+            &mut self.link,
+            io,
+            out,
+            name,
+            ask,
+        );
+        answer_of(asked)
     }
 
     /// Writes the k-th of the lines that say how everything stands, from 0, and answers whether there is one.

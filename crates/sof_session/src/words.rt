@@ -80,6 +80,7 @@ pub fn say_found(found: Found, line: &mut Line)
         Found::Prepared => line.say(b" prepared"),
         Found::Running => line.say(b" running"),
         Found::Paused => line.say(b" paused"),
+        Found::On => line.say(b" on"),
     }
 }
 

@@ -7,13 +7,25 @@ mod changed;
 #[cfg(test)]
 mod ends;
 #[cfg(test)]
+mod faults;
+#[cfg(test)]
 mod plans;
 #[cfg(test)]
 mod played;
+#[cfg(test)]
+mod records;
 mod rows;
 #[cfg(test)]
 mod runs;
 #[cfg(test)]
+mod scripts;
+#[cfg(test)]
+mod streams;
+#[cfg(test)]
 mod thin;
+#[cfg(test)]
+mod volume;
+#[cfg(test)]
+mod written;
 
 pub use rows::load_and_show_rows;

@@ -1,7 +1,7 @@
 -- Lemmas on what is among a list of ids, and on tables at such ids.
 use Rattle.std.proofs.Common.{◌≡◌, refl, sym, ap, ◌∙◌, ℕ, List, [], ◌∷◌, filter, Bool, true, false, cond, ◌==◌, ◌&&◌, ◌||◌}
-use Rattle.std.proofs.lemmas.Bool.{eqb-true, and_right, false≢true, true≢false}
-use Rattle.stream_law.specs.Table.{updated, value_of}
+use Rattle.std.proofs.lemmas.Bool.{eqb-true, eq-eqb, or_left, or_right, and_right, false≢true, true≢false}
+use Rattle.stream_law.specs.Table.{table, updated, value_of}
 use Rattle.stream_law.specs.Order.{is_among}
 
 -- what passes a filter passes the test and was there
@@ -40,3 +40,28 @@ value_of-updated_kept other ids f entries x same = by_place (is_among ids x) ref
     by_place : (h : Bool) → is_among ids x ≡ h → value_of other (updated ids f entries) x ≡ value_of other entries x
     by_place true h = value_of-updated_among other ids f entries x h ∙ same h
     by_place false h = value_of-updated_apart other ids f entries x h
+
+-- functions that agree on a list make the same table of it
+pub table_same_among : {X : Type 0} (ids : List ℕ) (f g : ℕ → X) → ((x : ℕ) → is_among ids x ≡ true → f x ≡ g x) → table ids f ≡ table ids g
+table_same_among [] f g same = refl
+table_same_among (i ∷ ids) f g same =
+    ap (λ y. (i, y) ∷ table ids f) (same i (or_left (i == i) (is_among ids i) (eq-eqb i i refl)))
+    ∙ ap (λ l. (i, g i) ∷ l) (table_same_among ids f g (λ x h. same x (or_right (i == x) (is_among ids x) h)))
+
+-- a table has the function's value at what is among its ids
+pub value_of-table_among : {X : Type 0} (other : X) (ids : List ℕ) (f : ℕ → X) (x : ℕ) → is_among ids x ≡ true → value_of other (table ids f) x ≡ f x
+value_of-table_among other [] f x there = absurd (false≢true there)
+value_of-table_among {X} other (i ∷ ids) f x there = head (i == x) refl there (value_of-table_among other ids f x)
+  where
+    head : (b : Bool) → (i == x) ≡ b → (b || is_among ids x) ≡ true → (is_among ids x ≡ true → value_of other (table ids f) x ≡ f x) → cond b (f i) (value_of other (table ids f) x) ≡ f x
+    head true e h rest = ap f (eqb-true i x e)
+    head false e h rest = rest h
+
+-- and the other value at the rest
+pub value_of-table_apart : {X : Type 0} (other : X) (ids : List ℕ) (f : ℕ → X) (x : ℕ) → is_among ids x ≡ false → value_of other (table ids f) x ≡ other
+value_of-table_apart other [] f x gone = refl
+value_of-table_apart {X} other (i ∷ ids) f x gone = head (i == x) gone (value_of-table_apart other ids f x)
+  where
+    head : (b : Bool) → (b || is_among ids x) ≡ false → (is_among ids x ≡ false → value_of other (table ids f) x ≡ other) → cond b (f i) (value_of other (table ids f) x) ≡ other
+    head true h rest = absurd (true≢false h)
+    head false h rest = rest h

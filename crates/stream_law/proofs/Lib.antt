@@ -1,5 +1,28 @@
--- Lemmas on tables and lists with keys, and on ticks.
+-- Lemmas on tables and lists with keys, on ticks, and on the order of components.
 pub mod Among
 pub mod Keyed
 pub mod Silent
 pub mod Placing
+pub mod Tables
+pub mod Rounds
+pub mod OneSolution
+pub mod OnePast
+pub mod Parts
+pub mod Equalising
+pub mod Endings
+pub mod Feeding
+pub mod Schedule
+pub mod Ordered
+pub mod MadeLaws
+pub mod Standing
+pub mod TickLaw
+pub mod Building
+pub mod SeenLaws
+pub mod Filled
+pub mod Shapes
+pub mod TurnLaws
+pub mod Waits
+pub mod Cycles
+pub mod Taking
+pub mod Whole
+pub mod BareGraphs

@@ -1,5 +1,5 @@
 -- What a join of two ids would do to a graph.
-use Rattle.std.specs.Prelude.{ℕ, List, [], ◌∷◌, ◌++◌, map, length, Bool, true, false, ◌&&◌, not, is_some, Some, if◌then◌else◌, ◌==◌}
+use Rattle.std.specs.Prelude.{ℕ, List, [], ◌∷◌, ◌++◌, map, length, Bool, true, false, ◌&&◌, not, is_some, Some, if◌then◌else◌, ◌==◌, nat_le}
 use Rattle.std.specs.List.{list_any}
 use Rattle.stream_law.specs.declared.graph.Kind.{Kind}
 use Rattle.stream_law.specs.declared.graph.Kind.TheVariants.{HostPlay, HostCapture, DaiPlay, DaiCapture, Volume, Mixer, Mux, Eq}
@@ -30,6 +30,17 @@ kind_outs Volume = 1
 kind_outs Mixer = 1
 kind_outs Mux = 1
 kind_outs Eq = 1
+
+-- whether a component of a kind may play with so many edges into it and out of it
+abbrev pub fits_kind : Kind → ℕ → ℕ → Bool
+fits_kind HostPlay m n = m == 0 && n == 1
+fits_kind HostCapture m n = m == 1 && n == 0
+fits_kind (DaiPlay format) m n = m == 1 && n == 0
+fits_kind (DaiCapture format) m n = m == 0 && n == 1
+fits_kind Volume m n = m == 1 && n == 1
+fits_kind Mixer m n = nat_le 1 m && nat_le m 8 && n == 1
+fits_kind Mux m n = nat_le 1 m && nat_le m 8 && n == 1
+fits_kind Eq m n = m == 1 && n == 1
 
 -- a buffer's edge with the side set that a join is at
 abbrev pub joined : Join → Edge → Edge

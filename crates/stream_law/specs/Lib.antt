@@ -1,4 +1,4 @@
--- The firmware's state, and what a tick does to it.
+-- The firmware's state and what a tick does to it, the equations of streams, and that the two agree.
 pub mod State
 pub mod Table
 pub mod Placed
@@ -6,9 +6,19 @@ pub mod Ways
 pub mod Joins
 pub mod Moves
 pub mod Order
+pub mod Walks
+pub mod Waiting
 pub mod Made
 pub mod Endpoints
 pub mod Equaliser
+pub mod Seen
+pub mod Gain
+pub mod Counts
+pub mod Epochs
+pub mod Past
+pub mod Stands
+pub mod Stays
 pub mod Move
 pub mod TickLaws
+pub mod StreamLaws
 pub mod WorkedGraphs

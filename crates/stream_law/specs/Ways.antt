@@ -108,6 +108,10 @@ live v x = list_any (λ s. is_live_phase s.phase && on_way v.graph s.host x) v.s
 unfoldable pub active : View → ℕ → Bool
 active v x = list_any (λ s. is_running_phase s.phase && on_way v.graph s.host x) v.streams
 
+-- an end of an edge is there and Live
+abbrev pub live_end : View → Option ℕ → Bool
+live_end v end = option_map_or (live v) end false
+
 -- an end of an edge is there and Active
 abbrev pub active_end : View → Option ℕ → Bool
 active_end v end = option_map_or (active v) end false

@@ -5,10 +5,16 @@
 
 mod graph;
 mod laws;
+mod ordering;
 mod stream;
+mod turns;
 mod worked;
 
 pub use graph::{Comp, Edge, Graph, Join, Kind, Pipe, Setting};
-pub use laws::silent_tick;
+pub use laws::{
+    boot_law, building_laws, cut_law, fill_law, now_law, one_past, one_solution, order_law,
+    seen_law, silent_tick, start_law, stay_laws, tick_law,
+};
+pub use ordering::{Cycle, order, order_of};
 pub use stream::{Phase, StreamView};
-pub use worked::{equaliser_rows, join_rows, order_row, run_rows, tick_rows};
+pub use worked::{epoch_row, equaliser_rows, gain_rows, join_rows, order_row, run_rows, tick_rows};

@@ -3,6 +3,8 @@ ghost use Rattle.std.specs.Prelude.{◌≡◌, [], ◌∷◌, ◌++◌, pos, neg
 ghost use Rattle.stream_law.specs.WorkedGraphs as worked;
 ghost use Rattle.stream_law.specs.Equaliser.{sections_of};
 ghost use Rattle.stream_law.specs.Order.{order};
+ghost use Rattle.stream_law.specs.Gain.{gain_at, gain_of, half_decibels};
+ghost use Rattle.stream_law.specs.Epochs.{section_history};
 ghost use Rattle.stream_law.specs.Joins.{with_join, would_cycle, would_reach, would_grow};
 
 use crate::graph::Kind;
@@ -48,6 +50,30 @@ pub fn equaliser_rows()
     ensures passed { sections_of worked.small_blob 1 ≡ [] }
     ensures beyond { sections_of worked.small_blob 2 ≡ [] }
     ensures no_blob { sections_of [] 0 ≡ [] }
+{}
+
+/// Rows of gains. Each half decibel below 1 is a step of its own. A control that begins at -64 decibels and rises by 2 for
+/// each value has -2 decibels at value 31, and silence at value 0 where it may be muted. No value is below -100 decibels
+/// or above 42.
+#[tactic(auto, unfolding(crate::specs::Gain::gain_above, crate::specs::Gain::gain_below))]
+pub fn gain_rows()
+    ensures one { gain_at (pos 0) ≡ 65536 }
+    ensures below_by_1 { gain_at (negsuc 0) ≡ 61870 }
+    ensures below_by_2 { gain_at (negsuc 1) ≡ 58409 }
+    ensures below_by_3 { gain_at (negsuc 2) ≡ 55141 }
+    ensures below_by_4 { gain_at (negsuc 3) ≡ 52056 }
+    ensures above_by_1 { gain_at (pos 1) ≡ 69419 }
+    ensures value { gain_of (negsuc 6399) 200 1 31 ≡ 52056 }
+    ensures muted { gain_of (negsuc 6399) 200 1 0 ≡ 0 }
+    ensures not_muted { gain_of (negsuc 199) 200 0 0 ≡ 52056 }
+    ensures lowest { half_decibels (negsuc 99999) 200 1 ≡ negsuc 199 }
+    ensures highest { half_decibels (pos 0) 200 4294967295 ≡ pos 84 }
+{}
+
+/// A row of an epoch: the section that takes half of its input and half of its last inner value has the numbers 125 * 2^29
+/// and 0 after inputs 1000, 0, 0, by their indices.
+pub fn epoch_row()
+    ensures { section_history (record { a2 = pos 0; a1 = pos 536870912; b2 = pos 0; b1 = pos 0; b0 = pos 536870912; shift = pos 0; gain = pos 16384 }) (pos 1000 ∷ pos 0 ∷ pos 0 ∷ []) ≡ pos 67108864000 ∷ pos 0 ∷ [] }
 {}
 
 /// Rows of joins. A host's buffer may go to a DAI and not to a capture's host. A buffer that comes from a volume may not

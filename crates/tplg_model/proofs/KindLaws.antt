@@ -4,7 +4,7 @@ use Rattle.std.proofs.lemmas.Bool.{ltb-false, le-ltb}
 use Rattle.tplg_model.specs.declared.fault.TplgFault.{TplgFault}
 use Rattle.tplg_model.specs.declared.fault.TplgFault.TheVariants.{Payload, Name}
 use Rattle.sof_base.specs.Cells.{Fits}
-use Rattle.sof_base.specs.Slots.{Slot, Word, Half, Long, Size, Label, Words, Raw, Shape, Bytes, slots_cells, AreSlots, word_at, width, widths, slots_from, all_named, shapes_of}
+use Rattle.sof_base.specs.Slots.{Slot, Word, Half, Long, Size, Label, Words, Raw, Spare, Shape, Bytes, slots_cells, AreSlots, word_at, width, widths, slots_from, all_named, shapes_of}
 use Rattle.sof_base.proofs.FieldLaws.{IsBytes, slots_read, slots_again, length-slots}
 use Rattle.sof_base.proofs.Fitting.{Fits-length}
 use Rattle.tplg_model.specs.Outcomes.{◌>>=◌}
@@ -23,6 +23,7 @@ number (Size n) = n
 number (Label name) = 0
 number (Words ns) = 0
 number (Raw bytes) = 0
+number (Spare bytes) = 0
 
 unfoldable pub text : Slot → List ℕ
 text (Word n) = []
@@ -32,6 +33,7 @@ text (Size n) = []
 text (Label name) = name
 text (Words ns) = ns
 text (Raw bytes) = bytes
+text (Spare bytes) = bytes
 
 unfoldable pub pick : ℕ → List Slot → Slot
 pick n [] = Size 0

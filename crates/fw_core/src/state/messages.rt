@@ -1,15 +1,17 @@
 // What each message does, and why it is refused: its tests in the order -19, -16, -22, -12.
-ghost use Rattle.std.specs.Prelude.{◌≡◌, ◌+◌, ◌<◌, ◌≤◌, [], ◌∷◌, ◌++◌, OnErr, length, map, vec_capacity, Ok, Err, if◌then◌else◌};
-ghost use Rattle.stream_law.specs.Joins.{joined, would_reach, with_join};
-ghost use Rattle.mbox_link.specs.Step.{invalid, with_stream, comp_new as comp_new_row, buffer_new as buffer_new_row, pipe_new as pipe_new_row, connect as connect_row, pipe_complete as pipe_complete_row, row, row_of};
-ghost use Rattle.ipc3_codec.specs.Messages.{decoded};
+ghost use Rattle.std.specs.Prelude.{◌≡◌, ◌+◌, ◌<◌, ◌≤◌, ◌||◌, [], ◌∷◌, ◌++◌, OnErr, length, map, vec_capacity, Ok, Err, true, false, if◌then◌else◌};
+ghost use Rattle.stream_law.specs.Joins.{joined, would_reach, would_grow, with_join};
+ghost use Rattle.mbox_link.specs.Step.{invalid, with_stream, comp_new as comp_new_row, buffer_new as buffer_new_row, pipe_new as pipe_new_row, connect as connect_row, pipe_complete as pipe_complete_row, is_joined, takes_join, is_endpoint, kind_of as named_kind, row, row_of};
+ghost use Rattle.ipc3_codec.specs.Allowed.{is_period};
+ghost use Rattle.ipc3_codec.specs.Messages.{decoded, IsAllowed};
+ghost use Rattle.fw_schedule.specs.TurnLaws.{is_endpoint as is_endpoint_kind};
 ghost use Rattle.fw_core.specs.Kept.{sides};
 ghost use Rattle.fw_core.specs.Answers.{answer_of};
 
 use super::State;
 use crate::table::Table;
-use crate::{joins, kinds};
-use ipc3_codec::{Message, decode};
+use crate::{growth, kinds};
+use ipc3_codec::{CompWords, Message, decode};
 use sof_base::Errno;
 use stream_law::{Comp, Edge, Join, Kind, Phase, Pipe, Setting, StreamView};
 
@@ -21,8 +23,9 @@ const BUFFER_BYTES: u64 = 32;
 impl State {
     /// Does what a message's bytes say, or tells why not. Bytes that are no message are not valid.
     pub fn answer(&mut self, request: &[u8]) -> Result<(), Errno>
-        ensures answer { answer_of self.new result ≡ row_of self.old (decoded request.now) }
+        ensures answer { answer_of self.new.state result ≡ row_of self.old.state (decoded request.now) }
         ensures kept { OnErr result (self.new ≡ self.old) }
+        ensures room { self.new.room ≡ self.old.room }
     {
         match decode(request) {
             Ok(message) => self.handle(&message),
@@ -32,8 +35,10 @@ impl State {
 
     // Does what a message says, or tells why not.
     fn handle(&mut self, message: &Message) -> Result<(), Errno>
-        ensures answer { answer_of self.new result ≡ row self.old message.now }
+        requires { IsAllowed message.now }
+        ensures answer { answer_of self.new.state result ≡ row self.old.state message.now }
         ensures kept { OnErr result (self.new ≡ self.old) }
+        ensures room { self.new.room ≡ self.old.room }
     {
         match *message {
             Message::CompNew {
@@ -42,7 +47,7 @@ impl State {
                 frame_fmt,
                 kind,
                 ..
-            } => self.comp_new(id, pipe, kinds::kind_of(kind, frame_fmt)),
+            } => self.endpoint_new(id, pipe, kind, frame_fmt),
             Message::BufferNew { id, pipe, size, .. } => self.buffer_new(id, pipe, size),
             Message::PipeNew {
                 id,
@@ -53,13 +58,46 @@ impl State {
             } => self.pipe_new(id, pipe, sched, period),
             Message::Connect { source, sink } => self.connect(source, sink),
             Message::PipeComplete { id } => self.pipe_complete(id),
+            Message::PcmParams {
+                host,
+                direction,
+                params,
+            } => self.pcm_params(host, direction, params),
+            Message::PcmFree { id } => self.pcm_free(id),
+            Message::TrigStart { id } => self.trig_start(id),
+            Message::TrigStop { id } => self.trig_stop(id),
+            Message::TrigPause { id } => self.trig_pause(id),
+            Message::TrigRelease { id } => self.trig_release(id),
+            Message::CtxSave => Ok(()),
+            _ => Err(Errno::INVALID),
+        }
+    }
+
+    // A component, if it is an endpoint.
+    fn endpoint_new(
+        &mut self,
+        id: u32,
+        pipe: u32,
+        words: CompWords,
+        frame_fmt: u32,
+    ) -> Result<(), Errno>
+        ensures answer { answer_of self.new.state result ≡ (if is_endpoint words then comp_new_row self.old.state id pipe (named_kind words frame_fmt) else Err invalid) }
+        ensures kept { OnErr result (self.new ≡ self.old) }
+        ensures room { self.new.room ≡ self.old.room }
+    {
+        if kinds::is_endpoint(words) {
+            self.comp_new(id, pipe, kinds::kind_of(words, frame_fmt))
+        } else {
+            Err(Errno::INVALID)
         }
     }
 
     /// A component of this kind, in the pipeline of this index. A host brings a stream without parameters.
     fn comp_new(&mut self, id: u32, pipe: u32, kind: Kind) -> Result<(), Errno>
-        ensures answer { answer_of self.new result ≡ comp_new_row self.old id pipe kind }
+        requires { is_endpoint_kind kind ≡ true }
+        ensures answer { answer_of self.new.state result ≡ comp_new_row self.old.state id pipe kind }
         ensures kept { OnErr result (self.new ≡ self.old) }
+        ensures room { self.new.room ≡ self.old.room }
     {
         if self.is_used(id) || self.is_complete(pipe) {
             return Err(Errno::BUSY);
@@ -81,8 +119,9 @@ impl State {
 
     /// A buffer of so many bytes, in the pipeline of this index, joined to nothing.
     fn buffer_new(&mut self, id: u32, pipe: u32, size: u32) -> Result<(), Errno>
-        ensures answer { answer_of self.new result ≡ buffer_new_row self.old id pipe size }
+        ensures answer { answer_of self.new.state result ≡ buffer_new_row self.old.state id pipe size }
         ensures kept { OnErr result (self.new ≡ self.old) }
+        ensures room { self.new.room ≡ self.old.room }
     {
         if self.is_used(id) || self.is_complete(pipe) {
             return Err(Errno::BUSY);
@@ -99,13 +138,16 @@ impl State {
             source: None,
             sink: None,
         });
+        self.rings.place(id, size);
         Ok(())
     }
 
     /// A pipeline of this index that is not complete.
     fn pipe_new(&mut self, id: u32, index: u32, sched: u32, period: u32) -> Result<(), Errno>
-        ensures answer { answer_of self.new result ≡ pipe_new_row self.old id index sched period }
+        requires { is_period period ≡ true }
+        ensures answer { answer_of self.new.state result ≡ pipe_new_row self.old.state id index sched period }
         ensures kept { OnErr result (self.new ≡ self.old) }
+        ensures room { self.new.room ≡ self.old.room }
     {
         if self.is_used(id) || self.has_index(index) {
             return Err(Errno::BUSY);
@@ -126,8 +168,9 @@ impl State {
 
     /// Joins a component and a buffer, either way round.
     fn connect(&mut self, source: u32, sink: u32) -> Result<(), Errno>
-        ensures answer { answer_of self.new result ≡ connect_row self.old source sink }
+        ensures answer { answer_of self.new.state result ≡ connect_row self.old.state source sink }
         ensures kept { OnErr result (self.new ≡ self.old) }
+        ensures room { self.new.room ≡ self.old.room }
     {
         if !self.is_used(source) || !self.is_used(sink) {
             return Err(Errno::NO_DEVICE);
@@ -141,15 +184,25 @@ impl State {
         self.join(Join { source, sink })
     }
 
-    /// One more join, the last in order, unless a capture's host would be reached from a playback's.
+    /// One more join, the last in order, unless a capture's host would be reached from a playback's, or the way of a stream
+    /// with parameters would grow.
     fn join(&mut self, join: Join) -> Result<(), Errno>
-        requires { length self.old.graph.joins + 1 ≤ sides (map (joined join) self.old.graph.edges) }
-        ensures answer { answer_of self.new result ≡ (if would_reach self.old.graph join.source join.sink then Err invalid else Ok (record self.old { graph = with_join self.old.graph join })) }
+        requires side { length self.old.state.graph.joins + 1 ≤ sides (map (joined join) self.old.state.graph.edges) }
+        requires free { is_joined self.old.state.graph join.source join.sink ≡ false }
+        requires takes { takes_join self.old.state.graph join.source join.sink ≡ true }
+        ensures answer { answer_of self.new.state result ≡ (if would_reach self.old.state.graph join.source join.sink || would_grow self.old.state.graph self.old.state.streams join.source join.sink then Err invalid else Ok (record self.old.state { graph = with_join self.old.state.graph join })) }
         ensures kept { OnErr result (self.new ≡ self.old) }
+        ensures room { self.new.room ≡ self.old.room }
     {
         let count = self.joins.as_slice().len();
         push(&mut self.joins, join);
-        if joins::crosses(self.comps.records(), self.joins.as_slice()) {
+        if growth::is_refused(
+            self.comps.records(),
+            self.edges.records(),
+            self.joins.as_slice(),
+            count,
+            self.streams.records(),
+        ) {
             self.joins.truncate(count);
             return Err(Errno::INVALID);
         }
@@ -159,8 +212,9 @@ impl State {
 
     /// The pipeline of this id is complete.
     fn pipe_complete(&mut self, id: u32) -> Result<(), Errno>
-        ensures answer { answer_of self.new result ≡ pipe_complete_row self.old id }
+        ensures answer { answer_of self.new.state result ≡ pipe_complete_row self.old.state id }
         ensures kept { OnErr result (self.new ≡ self.old) }
+        ensures room { self.new.room ≡ self.old.room }
     {
         if !self.is_used(id) {
             return Err(Errno::NO_DEVICE);

@@ -1,5 +1,6 @@
 use Rattle.std.proofs.Common.{◌∙◌, arith}
-use Rattle.ipc3_codec.proofs.ReplyLaws.{framed_reply-is, decoded_reply_only, decoded_reply_fault_only, if_decoded_reply, if_reply_fault}
+use Rattle.ipc3_codec.proofs.ReplyReading.{framed_reply-is}
+use Rattle.ipc3_codec.proofs.ReplyLaws.{decoded_reply_only, decoded_reply_fault_only, if_decoded_reply, if_reply_fault}
 use Rattle.ipc3_codec.proofs.decoding.decode_reply.Goals as goal
 
 pub returns-clause-exact : goal.returns-clause-exact

@@ -1,5 +1,5 @@
 use Rattle.ipc3_codec.proofs.Carrying.{decoded_found, decoded_only, decoded_fault, decoded_fault_only}
-use Rattle.ipc3_codec.proofs.Spelled.{one_message, decoded-spelling, length-spelling}
+use Rattle.ipc3_codec.proofs.Spelled.{one_message, decoded-spelling, length-spelling, size-least, size-most}
 use Rattle.ipc3_codec.proofs.laws.messages_are_decoded.Goals as goal
 
 pub returns-clause-carried : goal.returns-clause-carried
@@ -16,3 +16,9 @@ returns-clause-again c = decoded-spelling
 
 pub returns-clause-long : goal.returns-clause-long
 returns-clause-long c = length-spelling
+
+pub returns-clause-least : goal.returns-clause-least
+returns-clause-least c = size-least
+
+pub returns-clause-most : goal.returns-clause-most
+returns-clause-most c = size-most

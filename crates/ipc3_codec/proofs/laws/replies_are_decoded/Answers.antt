@@ -1,5 +1,5 @@
 use Rattle.ipc3_codec.proofs.ReplyLaws.{decoded_reply_found, decoded_reply_only, decoded_reply_fault, decoded_reply_fault_only}
-use Rattle.ipc3_codec.proofs.Spelled.{one_reply, decoded_reply-spelling, length-reply_spelling}
+use Rattle.ipc3_codec.proofs.Spelled.{one_reply, decoded_reply-spelling, length-reply_spelling, reply-least, reply-most}
 use Rattle.ipc3_codec.proofs.laws.replies_are_decoded.Goals as goal
 
 pub returns-clause-carried : goal.returns-clause-carried
@@ -16,3 +16,9 @@ returns-clause-again c = decoded_reply-spelling
 
 pub returns-clause-long : goal.returns-clause-long
 returns-clause-long c = length-reply_spelling
+
+pub returns-clause-least : goal.returns-clause-least
+returns-clause-least c = reply-least
+
+pub returns-clause-most : goal.returns-clause-most
+returns-clause-most c = reply-most

@@ -6,9 +6,9 @@ use Rattle.fw_core.proofs.Sides.{side-of_its_own}
 use Rattle.fw_core.proofs.Rows.{connect-row}
 use Rattle.fw_core.proofs.state.State.connect.Goals as goal
 
-pub join-requires : goal.join-requires
-join-requires c =
-    let graph = c.args.self.now.graph in
+pub join-requires-clause-side : goal.join-requires-clause-side
+join-requires-clause-side c =
+    let graph = c.args.self.now.state.graph in
     let j : Join = record { source = c.args.source; sink = c.args.sink } in
     let free : is_joined graph c.args.source c.args.sink ≡ false = sym c.is_joined.ensures ∙ c.if-is_joined.false in
     let takes : takes_join graph c.args.source c.args.sink ≡ true = sym c.takes_join.ensures ∙ c.if-not-takes_join.false in
@@ -17,11 +17,11 @@ join-requires c =
 
 pub returns-clause-answer : goal.returns-clause-answer
 returns-clause-answer c =
-    let graph = c.args.self.now.graph in
+    let graph = c.args.self.now.state.graph in
     let j : Join = record { source = c.args.source; sink = c.args.sink } in
     let first : is_used graph c.args.source ≡ true = sym c.is_used.ensures ∙ c.if-not-is_used.false in
     let second : is_used graph c.args.sink ≡ true = sym c.is_used-else-not-is_used.ensures ∙ c.if-not-is_used-2.false in
     let free : is_joined graph c.args.source c.args.sink ≡ false = sym c.is_joined.ensures ∙ c.if-is_joined.false in
     let takes : takes_join graph c.args.source c.args.sink ≡ true = sym c.takes_join.ensures ∙ c.if-not-takes_join.false in
     let no_cycle : would_cycle graph c.args.source c.args.sink ≡ false = sym c.would_cycle.ensures.cycle ∙ c.if-would_cycle.false in
-    c.join.ensures.answer ∙ sym (connect-row c.args.self.now j c.would_cycle.ensures.kept.idle first second free takes no_cycle)
+    c.join.ensures.answer ∙ sym (connect-row c.args.self.now.state j first second free takes no_cycle)

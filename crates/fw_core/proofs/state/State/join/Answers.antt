@@ -1,59 +1,71 @@
-use Rattle.std.proofs.Common.{◌≡◌, ◌+◌, ◌≤◌, ◌∙◌, sym, ap, subst, List, [], ◌∷◌, length, map, take, cond, Result, Ok, Err, ℤ, arith}
+use Rattle.std.proofs.Common.{◌≡◌, ◌+◌, ◌≤◌, ◌∙◌, sym, ap, subst, List, [], ◌∷◌, ◌++◌, ◌||◌, length, map, take, cond, Bool, true, false, Result, Ok, Err, ℤ, arith}
+use Rattle.std.proofs.lemmas.Bool.{or_parts}
 use Rattle.std.proofs.lemmas.List.{length-map}
 use Rattle.std.proofs.Math.Seq.{take-append_seam}
 use Rattle.stream_law.specs.declared.graph.Edge.{Edge}
+use Rattle.stream_law.specs.declared.graph.Graph.{Graph}
 use Rattle.stream_law.specs.declared.graph.Join.{Join}
 use Rattle.stream_law.specs.State.{FwState}
-use Rattle.stream_law.specs.Joins.{joined, would_reach, with_join}
-use Rattle.mbox_link.specs.Step.{invalid}
-use Rattle.fw_core.specs.Kept.{sides, state_of}
+use Rattle.stream_law.specs.Joins.{joined, would_reach, would_grow, with_join}
+use Rattle.mbox_link.specs.Step.{invalid, is_joined, takes_join}
+use Rattle.fw_core.specs.Kept.{Held, sides, state_of, shown}
 use Rattle.fw_core.proofs.Sides.{sides-most}
-use Rattle.fw_core.proofs.KeptLaws.{kept-join}
-use Rattle.fw_core.proofs.Rows.{would_reach-by, with_join-is}
+use Rattle.fw_core.proofs.KeptLaws.{kept-join, held-join}
+use Rattle.fw_core.proofs.Rows.{refused-by}
 use Rattle.fw_core.proofs.state.State.join.Goals as goal
 
 pub push-requires-clause-few : goal.push-requires-clause-few
 push-requires-clause-few c =
     let s = c.self.inside in
-    let room : length s.joins.items + 1 ≤ sides (map (joined c.args.join) s.edges) = subst (λ (f : FwState). length f.graph.joins + 1 ≤ sides (map (joined c.args.join) f.graph.edges)) (sym c.self.view_is) c.requires in
+    let room : length s.joins.items + 1 ≤ sides (map (joined c.args.join) s.edges) = subst (λ (h : Held). length h.state.graph.joins + 1 ≤ sides (map (joined c.args.join) h.state.graph.edges)) (sym c.self.view_is) c.requires.side in
     omega (arith, room, sides-most (map (joined c.args.join) s.edges), length-map s.edges (joined c.args.join), c.self.invariant.0.edges)
 
 pub invariant_of-self-2 : goal.invariant_of-self-2
 invariant_of-self-2 c =
     let s = c.self.inside in
-    let room : length s.joins.items + 1 ≤ sides (map (joined c.args.join) s.edges) = subst (λ (f : FwState). length f.graph.joins + 1 ≤ sides (map (joined c.args.join) f.graph.edges)) (sym c.self.view_is) c.requires in
-    (kept-join s.heap s.clock s.comps s.edges s.pipes s.joins.items s.streams c.self.invariant.0 c.args.join c.join.new.self c.push.new.joins.items room c.join.ensures c.push.ensures.items, c.push.ensures.room)
+    let g : Graph = record { comps = s.comps; edges = s.edges; pipes = s.pipes; joins = s.joins.items } in
+    let j = c.args.join in
+    let news : c.as_slice.result.now ≡ s.joins.items ++ j ∷ [] = c.as_slice.ensures.value ∙ c.push.ensures.items in
+    let olds : take (length c.as_slice-count.result.now) c.as_slice.result.now ≡ s.joins.items = ap (λ (p : List Join × List Join). take (length p.0) p.1) (λ i. (c.as_slice-count.ensures.value i, news i)) ∙ take-append_seam s.joins.items (j ∷ []) in
+    let refused : c.is_refused.result ≡ (would_reach g j.source j.sink || would_grow g s.streams j.source j.sink) = c.is_refused.ensures ∙ refused-by g j s.streams c.records.result.now c.records-2.result.now (take (length c.as_slice-count.result.now) c.as_slice.result.now) c.as_slice.result.now c.records-3.result.now c.records.ensures c.records-2.ensures olds news c.records-3.ensures in
+    let grow : would_grow g s.streams j.source j.sink ≡ false = (or_parts (would_reach g j.source j.sink) (would_grow g s.streams j.source j.sink) (sym refused ∙ c.if-is_refused.false)).1 in
+    let room : length s.joins.items + 1 ≤ sides (map (joined j) s.edges) = subst (λ (h : Held). length h.state.graph.joins + 1 ≤ sides (map (joined j) h.state.graph.edges)) (sym c.self.view_is) c.requires.side in
+    let free : is_joined g j.source j.sink ≡ false = ap (λ (h : Held). is_joined h.state.graph j.source j.sink) c.self.view_is ∙ c.requires.free in
+    let takes : takes_join g j.source j.sink ≡ true = ap (λ (h : Held). takes_join h.state.graph j.source j.sink) c.self.view_is ∙ c.requires.takes in (
+      kept-join s.heap s.clock s.comps s.edges s.pipes s.joins.items s.streams s.rings s.room c.self.invariant.0 c.self.invariant.1 j c.join.new.self c.push.new.joins.items room free takes grow c.join.ensures c.push.ensures.items,
+      held-join s.heap s.clock s.comps s.edges s.pipes s.joins.items s.streams s.rings s.room c.self.invariant.0 c.self.invariant.1 j c.join.new.self c.push.new.joins.items room free takes grow c.join.ensures c.push.ensures.items,
+      c.push.ensures.room,
+    )
 
 pub returns-clause-answer : goal.returns-clause-answer
 returns-clause-answer c =
     let s = c.self.inside in
+    let g : Graph = record { comps = s.comps; edges = s.edges; pipes = s.pipes; joins = s.joins.items } in
     let j = c.args.join in
-    let ok : FwState → Result FwState ℤ = λ f. Ok f in
-    let reach : would_reach c.args.self.now.graph j.source j.sink ≡ c.crosses.result =
-    ap (λ (f : FwState). would_reach f.graph j.source j.sink) (sym c.self.view_is)
-    ∙ sym (would_reach-by (record { comps = s.comps; edges = s.edges; pipes = s.pipes; joins = s.joins.items }) j c.records.result.now c.as_slice.result.now c.records.ensures (c.as_slice.ensures.value ∙ c.push.ensures.items))
-    ∙ sym c.crosses.ensures in
-    ap (λ (p : List Edge × List Join). ok (state_of s.heap s.clock s.comps p.0 s.pipes p.1 s.streams)) (λ i. (c.join.ensures i, c.push.ensures.items i))
-    ∙ ap ok (with_join-is s.heap s.clock s.comps s.edges s.pipes s.joins.items s.streams j)
-    ∙ ap (λ (f : FwState). ok (record f { graph = with_join f.graph j })) c.self.view_is
-    ∙ sym (ap (λ h. cond h (Err invalid) (ok (record c.args.self.now { graph = with_join c.args.self.now.graph j }))) (reach ∙ c.if-crosses.false))
+    let news : c.as_slice.result.now ≡ s.joins.items ++ j ∷ [] = c.as_slice.ensures.value ∙ c.push.ensures.items in
+    let olds : take (length c.as_slice-count.result.now) c.as_slice.result.now ≡ s.joins.items = ap (λ (p : List Join × List Join). take (length p.0) p.1) (λ i. (c.as_slice-count.ensures.value i, news i)) ∙ take-append_seam s.joins.items (j ∷ []) in
+    let refused : c.is_refused.result ≡ (would_reach g j.source j.sink || would_grow g s.streams j.source j.sink) = c.is_refused.ensures ∙ refused-by g j s.streams c.records.result.now c.records-2.result.now (take (length c.as_slice-count.result.now) c.as_slice.result.now) c.as_slice.result.now c.records-3.result.now c.records.ensures c.records-2.ensures olds news c.records-3.ensures in
+    let row : Bool → Held → Result FwState ℤ = λ h f. cond h (Err invalid) (Ok (record f.state { graph = with_join f.state.graph j })) in
+    ap (λ (p : List Edge × List Join). Ok (state_of s.heap s.clock s.comps p.0 s.pipes p.1 s.streams (map shown s.rings.rings))) (λ i. (c.join.ensures i, c.push.ensures.items i))
+    ∙ ap (λ (h : Held). row false h) c.self.view_is
+    ∙ ap (λ h. row h c.args.self.now) (sym c.if-is_refused.false ∙ refused ∙ ap (λ (h : Held). would_reach h.state.graph j.source j.sink || would_grow h.state.graph h.state.streams j.source j.sink) c.self.view_is)
 
-pub returns-then-crosses-clause-answer : goal.returns-then-crosses-clause-answer
-returns-then-crosses-clause-answer c =
+pub returns-then-is_refused-clause-answer : goal.returns-then-is_refused-clause-answer
+returns-then-is_refused-clause-answer c =
     let s = c.self.inside in
+    let g : Graph = record { comps = s.comps; edges = s.edges; pipes = s.pipes; joins = s.joins.items } in
     let j = c.args.join in
-    let ok : FwState → Result FwState ℤ = λ f. Ok f in
-    let reach : would_reach c.args.self.now.graph j.source j.sink ≡ c.crosses.result =
-    ap (λ (f : FwState). would_reach f.graph j.source j.sink) (sym c.self.view_is)
-    ∙ sym (would_reach-by (record { comps = s.comps; edges = s.edges; pipes = s.pipes; joins = s.joins.items }) j c.records.result.now c.as_slice.result.now c.records.ensures (c.as_slice.ensures.value ∙ c.push.ensures.items))
-    ∙ sym c.crosses.ensures in
-    sym (ap (λ h. cond h (Err invalid) (ok (record c.args.self.now { graph = with_join c.args.self.now.graph j }))) (reach ∙ c.if-crosses.true))
+    let news : c.as_slice.result.now ≡ s.joins.items ++ j ∷ [] = c.as_slice.ensures.value ∙ c.push.ensures.items in
+    let olds : take (length c.as_slice-count.result.now) c.as_slice.result.now ≡ s.joins.items = ap (λ (p : List Join × List Join). take (length p.0) p.1) (λ i. (c.as_slice-count.ensures.value i, news i)) ∙ take-append_seam s.joins.items (j ∷ []) in
+    let refused : c.is_refused.result ≡ (would_reach g j.source j.sink || would_grow g s.streams j.source j.sink) = c.is_refused.ensures ∙ refused-by g j s.streams c.records.result.now c.records-2.result.now (take (length c.as_slice-count.result.now) c.as_slice.result.now) c.as_slice.result.now c.records-3.result.now c.records.ensures c.records-2.ensures olds news c.records-3.ensures in
+    let row : Bool → Held → Result FwState ℤ = λ h f. cond h (Err invalid) (Ok (record f.state { graph = with_join f.state.graph j })) in
+    ap (λ h. row h c.args.self.now) (sym c.if-is_refused.true ∙ refused ∙ ap (λ (h : Held). would_reach h.state.graph j.source j.sink || would_grow h.state.graph h.state.streams j.source j.sink) c.self.view_is)
 
-pub returns-then-crosses-clause-kept : goal.returns-then-crosses-clause-kept
-returns-then-crosses-clause-kept c =
+pub returns-then-is_refused-clause-kept : goal.returns-then-is_refused-clause-kept
+returns-then-is_refused-clause-kept c =
     let s = c.self.inside in
     let back : c.truncate.new.self.items ≡ s.joins.items =
     c.truncate.ensures.items
     ∙ ap (λ (p : List Join × List Join). take (length p.0) p.1) (λ i. (c.as_slice-count.ensures.value i, c.push.ensures.items i))
     ∙ take-append_seam s.joins.items (c.args.join ∷ []) in
-    ap (λ (js : List Join). state_of s.heap s.clock s.comps s.edges s.pipes js s.streams) back ∙ c.self.view_is
+    ap (λ (js : List Join). record { state = state_of s.heap s.clock s.comps s.edges s.pipes js s.streams (map shown s.rings.rings); room = s.room }) back ∙ c.self.view_is

@@ -1,7 +1,7 @@
 use Rattle.std.proofs.Common.{◌∙◌, sym, ap, List, length, filter}
 use Rattle.stream_law.specs.declared.graph.Edge.{Edge}
-use Rattle.stream_law.specs.State.{FwState}
 use Rattle.stream_law.specs.Ways.{is_end, outs}
+use Rattle.fw_core.specs.Kept.{Held}
 use Rattle.fw_core.proofs.Found.{ends-agree}
 use Rattle.fw_core.proofs.state.State.outs.Goals as goal
 
@@ -9,5 +9,5 @@ pub returns : goal.returns
 returns c =
     c.count_outs.ensures
     ∙ ap (λ (es : List Edge). length (filter (λ (e : Edge). is_end e.source c.args.id) es)) c.records.ensures
-    ∙ sym (ends-agree (λ (e : Edge). e.source) c.args.id c.self.inside.edges c.self.invariant.0.buffers)
-    ∙ ap (λ (f : FwState). length (outs f.graph c.args.id)) c.self.view_is
+    ∙ sym (ends-agree (λ (e : Edge). e.source) c.args.id c.self.inside.edges c.self.invariant.0.wired.buffers)
+    ∙ ap (λ (f : Held). length (outs f.state.graph c.args.id)) c.self.view_is

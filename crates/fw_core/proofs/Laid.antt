@@ -1,0 +1,198 @@
+-- What a tick needs of a state.
+use Rattle.std.proofs.Common.{◌≡◌, refl, sym, ap, ◌∙◌, subst, ℕ, suc, ◌+◌, ◌/◌, ◌<◌, ◌≤◌, List, [], ◌∷◌, ◌++◌, map, filter, length, get_or, Option, Some, None, Bool, true, false, cond, not, inl, inr, ◌==◌, ◌&&◌, ◌||◌, arith}
+use Rattle.std.proofs.lemmas.Bool.{true≢false, and_parts, and_from, eqb-true, eq-eqb, leb-true}
+use Rattle.std.specs.Prelude.{find, option_and_then, nat_le, filter_map, slice_get, option_map, IsTrue}
+use Rattle.std.specs.Option.{option_map_or}
+use Rattle.std.specs.List.{list_any, list_all, AllByRecursion, position_or_len}
+use Rattle.sof_base.specs.declared.format.Params.{Params}
+use Rattle.stream_law.specs.declared.graph.Kind.{Kind}
+use Rattle.stream_law.specs.declared.graph.Kind.TheVariants.{HostPlay, HostCapture, DaiPlay, DaiCapture, Volume, Mixer, Mux, Eq}
+use Rattle.stream_law.specs.declared.graph.Comp.{Comp}
+use Rattle.stream_law.specs.declared.graph.Edge.{Edge}
+use Rattle.stream_law.specs.declared.graph.Pipe.{Pipe}
+use Rattle.stream_law.specs.State.{View}
+use Rattle.stream_law.specs.Ways.{comp_of, source_of, sink_of, ins, outs, is_end, active, channels_of}
+use Rattle.stream_law.specs.Joins.{fits_kind}
+use Rattle.stream_law.specs.Moves.{period, fed, fed_by}
+use Rattle.stream_law.specs.Order.{order}
+use Rattle.stream_law.specs.Seen.{flows}
+use Rattle.ipc3_codec.specs.Allowed.{is_period}
+use Rattle.mbox_link.specs.Step.{is_complete}
+use Rattle.fw_ring.specs.RingLists.{Ring, RingLists, fresh_ring}
+use Rattle.fw_schedule.specs.declared.turn.Turn.{Turn}
+use Rattle.fw_schedule.specs.declared.turn.Action.{Action}
+use Rattle.fw_schedule.specs.declared.turn.Action.TheVariants.{Feed, Drain, Fill}
+use Rattle.fw_schedule.specs.Turns.{place_of, turn_at, turn_by, turn_of, turns_of}
+use Rattle.fw_schedule.specs.TurnLaws.{is_endpoint, fits_if_active, IsPlain, HasBounds, HasChannels, IsLaidOut, edges_at}
+use Rattle.fw_core.specs.Kept.{IsWired, IsLinked, IsPlayable, IsSet, IsSetBy, is_idle}
+use Rattle.fw_core.proofs.Growing.{all-by}
+use Rattle.fw_core.proofs.Near.{IsIn, AtEnd}
+use Rattle.fw_core.proofs.Playing.{at-buffer, beside, active-period, active-ready}
+
+-- ---- lists
+
+in-each : {X : Type 0} (P : X → Type 0) (xs : List X) → ((x : X) → IsIn x xs → P x) → AllByRecursion P xs
+in-each P [] f = tt
+in-each P (x ∷ xs) f = (f x (inl refl), in-each P xs (λ y here. f y (inr here)))
+
+all-true : {X : Type 0} (p : X → Bool) (xs : List X) → AllByRecursion (λ x. p x ≡ true) xs → list_all p xs ≡ true
+all-true p [] all = refl
+all-true p (x ∷ xs) all = and_from (p x) (list_all p xs) all.0 (all-true p xs all.1)
+
+all-append : (P : ℕ → Type 0) (xs ys : List ℕ) → AllByRecursion P xs → AllByRecursion P ys → AllByRecursion P (xs ++ ys)
+all-append P [] ys a b = b
+all-append P (x ∷ xs) ys a b = (a.0, all-append P xs ys a.1 b)
+
+-- what is so of each edge that passes a test is so of the ids that do
+ids-pass : (P : ℕ → Type 0) (test : ℕ → Bool) (es : List Edge) → ((e : Edge) → IsIn e es → test e.buffer ≡ true → P e.buffer) → AllByRecursion P (filter test (map (λ e. e.buffer) es))
+ids-pass P test [] f = tt
+ids-pass P test (e ∷ es) f = by (test e.buffer) refl (ids-pass P test es (λ x here. f x (inr here)))
+  where
+    by : (h : Bool) → test e.buffer ≡ h → AllByRecursion P (filter test (map (λ e. e.buffer) es)) → AllByRecursion P (cond h (e.buffer ∷ filter test (map (λ e. e.buffer) es)) (filter test (map (λ e. e.buffer) es)))
+    by true is rest = (f e (inl refl) is, rest)
+    by false is rest = rest
+
+-- a record at the place of an edge is that of its buffer, in a list of the same keys
+pub place-of : {X : Type 0} (key : X → ℕ) (P : X → Type 0) (rs : List X) (es : List Edge) (d : X) (e : Edge) → map key rs ≡ map (λ (e : Edge). e.buffer) es → AllByRecursion P rs → IsIn e es → P (get_or rs (position_or_len (λ y. y.buffer == e.buffer) es) d) × (key (get_or rs (position_or_len (λ y. y.buffer == e.buffer) es) d) ≡ e.buffer) × (position_or_len (λ y. y.buffer == e.buffer) es < length rs)
+place-of key P rs [] d e keys all here = absurd here
+place-of key P [] (y ∷ es) d e keys all here = absurd (cc keys)
+place-of {X} key P (r ∷ rs) (y ∷ es) d e keys all here = by (y.buffer == e.buffer) refl here (place-of key P rs es d e (cc keys) all.1)
+  where
+    first : key r ≡ y.buffer
+    first = cc keys
+
+    by : (h : Bool) → (y.buffer == e.buffer) ≡ h → IsIn e (y ∷ es) → (IsIn e es → P (get_or rs (position_or_len (λ y. y.buffer == e.buffer) es) d) × (key (get_or rs (position_or_len (λ y. y.buffer == e.buffer) es) d) ≡ e.buffer) × (position_or_len (λ y. y.buffer == e.buffer) es < length rs)) → P (get_or (r ∷ rs) (cond (not h) (1 + position_or_len (λ y. y.buffer == e.buffer) es) 0) d) × (key (get_or (r ∷ rs) (cond (not h) (1 + position_or_len (λ y. y.buffer == e.buffer) es) 0) d) ≡ e.buffer) × (cond (not h) (1 + position_or_len (λ y. y.buffer == e.buffer) es) 0 < length (r ∷ rs))
+    by true is here rest = (all.0, first ∙ eqb-true y.buffer e.buffer is, omega arith)
+    by false is (inl same) rest = absurd (true≢false (sym (eq-eqb y.buffer e.buffer (ap (λ (x : Edge). x.buffer) (sym same))) ∙ is))
+    by false is (inr more) rest =
+        let next : suc (position_or_len (λ y. y.buffer == e.buffer) es) ≡ 1 + position_or_len (λ y. y.buffer == e.buffer) es = omega arith in
+        let found = rest more in
+        (subst (λ n. P (get_or (r ∷ rs) n d)) next found.0, subst (λ n. key (get_or (r ∷ rs) n d) ≡ e.buffer) next found.1, omega (arith, found.2))
+
+-- a turn is at a buffer in which frames flow
+abbrev pub IsFlowing : View → Turn → Type 0
+IsFlowing v t = (e : Edge) × IsIn e v.graph.edges × (t.place ≡ place_of v.graph e.buffer) × (flows v e.buffer ≡ true)
+
+-- ---- bounds
+
+module _ (v : View) (wired : IsWired v.graph) (linked : IsLinked v.graph) (played : IsPlayable v) where
+  rate-by : (o : Option Params) (h : ℕ) (idle : Bool) → IsSetBy v.graph h idle o → option_map_or (λ p. p.rate) o 0 ≤ 192000
+  rate-by None h idle is = omega arith
+  rate-by (Some p) h idle is = leb-true p.rate 192000 (and_parts (nat_le 8000 p.rate) (nat_le p.rate 192000) (and_parts (nat_le 8000 p.rate && nat_le p.rate 192000) _ is.2).0).1
+
+  channels-by : (o : Option Params) (h : ℕ) (idle : Bool) → IsSetBy v.graph h idle o → option_map_or (λ p. p.channels) o 0 ≤ 8
+  channels-by None h idle is = omega arith
+  channels-by (Some p) h idle is = is.1.1
+
+  period-by : (p : Pipe) → is_period p.period ≡ true → p.period ≤ 10000
+  period-by p is = leb-true p.period 10000 (and_parts (nat_le 1000 p.period) (nat_le p.period 10000) (and_parts (nat_le 1000 p.period && nat_le p.period 10000) _ is).0).1
+
+  pub bounds : HasBounds v
+  bounds = record {
+    rates = all-by (IsSet v.graph) (λ s. option_map_or (λ p. p.rate) s.params 0 ≤ 192000) (λ s is. rate-by s.params s.host (is_idle s.phase) is) v.streams played.each;
+    channels = all-by (IsSet v.graph) (λ s. option_map_or (λ p. p.channels) s.params 0 ≤ 8) (λ s is. channels-by s.params s.host (is_idle s.phase) is) v.streams played.each;
+    periods = all-by (λ p. is_period p.period ≡ true) (λ p. p.period ≤ 10000) (λ p is. period-by p is) v.graph.pipes wired.periods;
+  }
+
+  pub plain : IsPlain v
+  plain = record {
+    endpoints = all-true (λ x. is_endpoint x.kind) v.graph.comps wired.endpoints;
+    fits = all-true (fits_if_active v) v.graph.comps (in-each (λ x. fits_if_active v x ≡ true) v.graph.comps (λ c there. by c there (active v c.id) refl));
+  }
+    where
+      by : (c : Comp) → IsIn c v.graph.comps → (h : Bool) → active v c.id ≡ h → (not h || fits_kind c.kind (length (ins v.graph c.id)) (length (outs v.graph c.id))) ≡ true
+      by c there true is = (and_parts (is_complete v.graph c.pipe) (fits_kind c.kind (length (ins v.graph c.id)) (length (outs v.graph c.id))) (active-ready v wired linked played c there is)).1
+      by c there false is = refl
+
+  -- ---- rings
+
+  module _ (s : RingLists) (keys : map (λ (r : Ring). r.buffer) s.rings ≡ map (λ (e : Edge). e.buffer) v.graph.edges) (words : map (λ r. r.words) s.rings ≡ map (λ e. e.size / 4) v.graph.edges) (had : AllByRecursion (λ r. flows v r.buffer ≡ true → r.channels ≡ channels_of v r.buffer) s.rings) where
+    ring-has : (c : Comp) → IsIn c v.graph.comps → active v c.id ≡ true → (e : Edge) → IsIn e v.graph.edges → AtEnd e c.id → HasChannels v s c.id e.buffer
+    ring-has c there now e at end =
+        let b = beside v wired linked played c there now e at end in
+        let r = place-of (λ (r : Ring). r.buffer) (λ r. flows v r.buffer ≡ true → r.channels ≡ channels_of v r.buffer) s.rings v.graph.edges (fresh_ring 0 0) e keys had at in
+        (r.0 (ap (flows v) r.1 ∙ b.0) ∙ ap (channels_of v) r.1 ∙ b.1, b.1)
+
+    pub laid-out : IsLaidOut v s
+    laid-out = record {
+      places = keys;
+      sizes = words;
+      periods = in-each (λ x. IsTrue (active v x.id) → 1 ≤ period v x.id) v.graph.comps (λ c there now. active-period v wired linked played wired.periods c there now);
+      channels = in-each (λ x. IsTrue (active v x.id) → AllByRecursion (HasChannels v s x.id) (edges_at v.graph x.id)) v.graph.comps (λ c there now.
+          all-append (HasChannels v s c.id) (ins v.graph c.id) (outs v.graph c.id)
+          (ids-pass (HasChannels v s c.id) (λ b. is_end (sink_of v.graph b) c.id) v.graph.edges (λ e at is. ring-has c there now e at (inr (sym (ap (λ (o : Option Edge). is_end (option_and_then (λ e. e.sink) o) c.id) (at-buffer v wired linked played e at)) ∙ is))))
+          (ids-pass (HasChannels v s c.id) (λ b. is_end (source_of v.graph b) c.id) v.graph.edges (λ e at is. ring-has c there now e at (inl (sym (ap (λ (o : Option Edge). is_end (option_and_then (λ e. e.source) o) c.id) (at-buffer v wired linked played e at)) ∙ is)))));
+    }
+
+  -- ---- turns
+
+  find-in : (n : ℕ) (xs : List Comp) (x : Comp) → find (λ y. y.id == n) xs ≡ Some x → IsIn x xs × (x.id ≡ n)
+  find-in n [] x is = absurd (cc is)
+  find-in n (y ∷ xs) x is = by (y.id == n) refl is (find-in n xs x)
+    where
+      by : (h : Bool) → (y.id == n) ≡ h → cond h (Some y) (find (λ y. y.id == n) xs) ≡ Some x → (find (λ y. y.id == n) xs ≡ Some x → IsIn x xs × (x.id ≡ n)) → IsIn x (y ∷ xs) × (x.id ≡ n)
+      by true e is rest = let same : y ≡ x = cc is in (inl (sym same), ap (λ (z : Comp). z.id) (sym same) ∙ eqb-true y.id n e)
+      by false e is rest = let r = rest is in (inr r.0, r.1)
+
+  head-of : (P : ℕ → Type 0) (ids : List ℕ) (b : ℕ) → AllByRecursion P ids → slice_get ids 0 ≡ Some b → P b
+  head-of P [] b all is = absurd (cc is)
+  head-of P (i ∷ ids) b all is = let same : i ≡ b = cc is in subst P same all.0
+
+  all-filter : (P : ℕ → Type 0) (test : ℕ → Bool) (ids : List ℕ) → AllByRecursion P ids → AllByRecursion P (filter test ids)
+  all-filter P test [] all = tt
+  all-filter P test (i ∷ ids) all = by (test i) (all-filter P test ids all.1)
+    where
+      by : (h : Bool) → AllByRecursion P (filter test ids) → AllByRecursion P (cond h (i ∷ filter test ids) (filter test ids))
+      by true rest = (all.0, rest)
+      by false rest = rest
+
+  abbrev AtFlow : ℕ → Type 0
+  AtFlow b = (e : Edge) × IsIn e v.graph.edges × (b ≡ e.buffer) × (flows v e.buffer ≡ true)
+
+  ins-flow : (c : Comp) → IsIn c v.graph.comps → active v c.id ≡ true → AllByRecursion AtFlow (ins v.graph c.id)
+  ins-flow c there now = ids-pass AtFlow (λ b. is_end (sink_of v.graph b) c.id) v.graph.edges (λ e at is. (e, at, refl, (beside v wired linked played c there now e at (inr (sym (ap (λ (o : Option Edge). is_end (option_and_then (λ e. e.sink) o) c.id) (at-buffer v wired linked played e at)) ∙ is))).0))
+
+  outs-flow : (c : Comp) → IsIn c v.graph.comps → active v c.id ≡ true → AllByRecursion AtFlow (outs v.graph c.id)
+  outs-flow c there now = ids-pass AtFlow (λ b. is_end (source_of v.graph b) c.id) v.graph.edges (λ e at is. (e, at, refl, (beside v wired linked played c there now e at (inl (sym (ap (λ (o : Option Edge). is_end (option_and_then (λ e. e.source) o) c.id) (at-buffer v wired linked played e at)) ∙ is))).0))
+
+  turn-flow : (c : ℕ) (action : Action) (ids : List ℕ) (t : Turn) → AllByRecursion AtFlow ids → option_map (turn_at v c action) (slice_get ids 0) ≡ Some t → IsFlowing v t
+  turn-flow c action ids t all is = by (slice_get ids 0) refl is
+    where
+      by : (o : Option ℕ) → slice_get ids 0 ≡ o → option_map (turn_at v c action) o ≡ Some t → IsFlowing v t
+      by None e is = absurd (cc is)
+      by (Some b) e is =
+          let same : turn_at v c action b ≡ t = cc is in
+          let f = head-of AtFlow ids b all e in
+          (f.0, f.1, ap (λ (x : Turn). x.place) (sym same) ∙ ap (place_of v.graph) f.2, f.3)
+
+  kind-flow : (x : Comp) → IsIn x v.graph.comps → active v x.id ≡ true → (k : Kind) (t : Turn) → turn_by k v x.id ≡ Some t → IsFlowing v t
+  kind-flow x there now HostPlay t is = turn-flow x.id Feed (fed_by v x.id) t (all-filter AtFlow (fed v) (outs v.graph x.id) (outs-flow x there now)) is
+  kind-flow x there now (DaiCapture format) t is = turn-flow x.id Feed (fed_by v x.id) t (all-filter AtFlow (fed v) (outs v.graph x.id) (outs-flow x there now)) is
+  kind-flow x there now HostCapture t is = turn-flow x.id Drain (ins v.graph x.id) t (ins-flow x there now) is
+  kind-flow x there now (DaiPlay format) t is = turn-flow x.id Fill (ins v.graph x.id) t (ins-flow x there now) is
+  kind-flow x there now Volume t is = absurd (cc is)
+  kind-flow x there now Mixer t is = absurd (cc is)
+  kind-flow x there now Mux t is = absurd (cc is)
+  kind-flow x there now Eq t is = absurd (cc is)
+
+  one-flow : (c : ℕ) (t : Turn) → turn_of v c ≡ Some t → IsFlowing v t
+  unfolding turn_of
+  one-flow c t is = by (active v c) refl (comp_of v.graph c) refl is
+    where
+      by : (h : Bool) → active v c ≡ h → (o : Option Comp) → comp_of v.graph c ≡ o → cond h (option_map_or (λ x. turn_by x.kind v c) o None) None ≡ Some t → IsFlowing v t
+      by false now o found is = absurd (cc is)
+      by true now None found is = absurd (cc is)
+      by true now (Some x) found is =
+          let at = find-in c v.graph.comps x found in
+          kind-flow x at.0 (ap (active v) at.1 ∙ now) x.kind t (ap (λ n. turn_by x.kind v n) at.1 ∙ is)
+
+  pub all-flowing : AllByRecursion (IsFlowing v) (turns_of v)
+  all-flowing = each (order v.graph)
+    where
+      each : (ids : List ℕ) → AllByRecursion (IsFlowing v) (filter_map (turn_of v) ids)
+      each [] = tt
+      each (c ∷ ids) = by (turn_of v c) refl (each ids)
+        where
+          by : (o : Option Turn) → turn_of v c ≡ o → AllByRecursion (IsFlowing v) (filter_map (turn_of v) ids) → AllByRecursion (IsFlowing v) (filter_map (turn_of v) (c ∷ ids))
+          by None e rest = subst (λ o. AllByRecursion (IsFlowing v) (Rattle.std.specs.List.cons_option o (filter_map (turn_of v) ids))) (sym e) rest
+          by (Some t) e rest = subst (λ o. AllByRecursion (IsFlowing v) (Rattle.std.specs.List.cons_option o (filter_map (turn_of v) ids))) (sym e) (one-flow c t e, rest)

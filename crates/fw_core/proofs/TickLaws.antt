@@ -1,0 +1,196 @@
+-- What a tick leaves of a state.
+use Rattle.std.proofs.Common.{◌≡◌, refl, sym, ap, ◌∙◌, subst, ℕ, zero, suc, ◌-◌, ◌%◌, ◌^◌, ◌≤◌, List, [], ◌∷◌, map, get_or, set, Bool, true, false, cond, ◌==◌, arith}
+use Rattle.std.specs.Prelude.{All, nat_eq}
+use Rattle.std.specs.List.{AllByRecursion, IsDistinct}
+use Rattle.sof_base.specs.Samples.{Frame}
+use Rattle.sof_base.specs.Ports.{Io, InputView, OutputView}
+use Rattle.sof_io.specs.Bound.{input_slots}
+use Rattle.stream_law.specs.declared.graph.Comp.{Comp}
+use Rattle.stream_law.specs.declared.graph.Edge.{Edge}
+use Rattle.stream_law.specs.declared.graph.Pipe.{Pipe}
+use Rattle.stream_law.specs.declared.graph.Join.{Join}
+use Rattle.stream_law.specs.declared.stream.StreamView.{StreamView}
+use Rattle.stream_law.specs.State.{FwState, HeapView, View, RingView, view_of}
+use Rattle.stream_law.specs.Placed.{HasDistinct}
+use Rattle.stream_law.specs.Ways.{channels_of}
+use Rattle.stream_law.specs.Seen.{flows, ring_seen}
+use Rattle.stream_law.specs.Move.{next_clock}
+use Rattle.stream_law.specs.Order.{order}
+use Rattle.mbox_link.specs.Step.{fresh}
+use Rattle.mbox_link.specs.Exchange.{ticked}
+use Rattle.fw_ring.specs.RingLists.{Ring, RingLists}
+use Rattle.fw_schedule.specs.declared.turn.Turn.{Turn}
+use Rattle.fw_schedule.specs.declared.turn.Action.{Action}
+use Rattle.fw_schedule.specs.declared.turn.Action.TheVariants.{Feed, Drain, Fill}
+use Rattle.fw_schedule.specs.Turns.{no_ring, with_frames, turns_of, after_action, after_turn, after_turn_at, after_turns}
+use Rattle.fw_schedule.specs.Ticks.{ring_emptied, emptied, seen_at, AreTurnsAt}
+use Rattle.fw_schedule.specs.TurnLaws.{CanTurn, TicksAreTurns, TurnsStand, turned}
+use Rattle.fw_core.specs.Kept.{IsKept, AreRings, state_of, shown}
+use Rattle.fw_core.proofs.KeptLaws.{ring-keys}
+use Rattle.fw_core.proofs.SeenLaws.{keys-shown}
+use Rattle.fw_core.proofs.Laid.{place-of, IsFlowing, all-flowing, bounds, plain, laid-out}
+
+-- a fresh state has no turns
+pub no-turns : (heap : ℕ) → turns_of (view_of (fresh heap)) ≡ []
+unfolding order
+no-turns heap = refl
+
+-- ---- lists with another record at a place
+
+all-set : {X : Type 0} (P : X → Type 0) (xs : List X) (i : ℕ) (y : X) → AllByRecursion P xs → P y → AllByRecursion P (set xs i y)
+all-set P [] i y all one = tt
+all-set P (x ∷ xs) zero y all one = (one, all.1)
+all-set P (x ∷ xs) (suc i) y all one = (all.0, all-set P xs i y all.1 one)
+
+set-key : {X : Type 0} (key : X → ℕ) (xs : List X) (i : ℕ) (d y : X) → key y ≡ key (get_or xs i d) → map key (set xs i y) ≡ map key xs
+set-key key [] i d y same = refl
+set-key key (x ∷ xs) zero d y same = ap (λ (n : ℕ). n ∷ map key xs) same
+set-key key (x ∷ xs) (suc i) d y same = ap (λ (ns : List ℕ). key x ∷ ns) (set-key key xs i d y same)
+
+every-one : {X : Type 0} (xs : List X) → AllByRecursion (λ x. Unit {0}) xs
+every-one [] = tt
+every-one (x ∷ xs) = (tt, every-one xs)
+
+-- ---- rings in which no frame may lie stay empty
+
+module _ (v : View) where
+  abbrev Stays : RingView → Type 0
+  Stays r = ring_seen v r ≡ r
+
+  -- frames at a place where frames flow
+  frames-stay : (t : Turn) → IsFlowing v t → (frames : List Frame) (rs : List RingView) → map (λ (r : RingView). r.buffer) rs ≡ map (λ (e : Edge). e.buffer) v.graph.edges → AllByRecursion Stays rs → AllByRecursion Stays (with_frames t.place frames rs) × (map (λ (r : RingView). r.buffer) (with_frames t.place frames rs) ≡ map (λ (e : Edge). e.buffer) v.graph.edges)
+  frames-stay t flow frames rs keys all =
+      let e : Edge = flow.0 in
+      let found = place-of (λ (r : RingView). r.buffer) (λ r. Unit {0}) rs v.graph.edges no_ring e keys (every-one rs) flow.1 in
+      let here : (get_or rs t.place no_ring).buffer ≡ e.buffer = ap (λ n. (get_or rs n no_ring).buffer) flow.2 ∙ found.1 in
+      let flows_there : flows v (get_or rs t.place no_ring).buffer ≡ true = ap (flows v) here ∙ flow.3 in (
+        all-set Stays rs t.place (record { buffer = (get_or rs t.place no_ring).buffer; frames = frames }) all (ap (λ h. record { buffer = (get_or rs t.place no_ring).buffer; frames = cond h frames [] }) flows_there),
+        set-key (λ (r : RingView). r.buffer) rs t.place no_ring (record { buffer = (get_or rs t.place no_ring).buffer; frames = frames }) refl ∙ keys,
+      )
+
+  abbrev Kept : List RingView → Type 0
+  Kept rs = AllByRecursion Stays rs × (map (λ (r : RingView). r.buffer) rs ≡ map (λ (e : Edge). e.buffer) v.graph.edges)
+
+  turn-stay : (t : Turn) → IsFlowing v t → (p : List RingView × Io) → Kept p.0 → Kept (after_turn t p).0
+  unfolding after_turn
+  turn-stay t flow p kept = by t.action
+    where
+      by : (a : Action) → Kept (after_action a t p).0
+      by Feed = frames-stay t flow _ p.0 kept.1 kept.0
+      by Drain = frames-stay t flow _ p.0 kept.1 kept.0
+      by Fill = frames-stay t flow _ p.0 kept.1 kept.0
+
+  turns-stay : (clock : ℕ) (ts : List Turn) → AllByRecursion (IsFlowing v) ts → (p : List RingView × Io) → Kept p.0 → Kept (after_turns clock ts p).0
+  turns-stay clock [] flow p kept = kept
+  turns-stay clock (t ∷ ts) flow p kept = turns-stay clock ts flow.1 (after_turn_at clock t p) (by (clock % t.period == 0))
+    where
+      by : (h : Bool) → Kept (cond h (after_turn t p) p).0
+      by true = turn-stay t flow.0 p kept
+      by false = kept
+
+stay-all : (v : View) (rs : List RingView) → AllByRecursion (λ r. ring_seen v r ≡ r) rs → map (ring_seen v) rs ≡ rs
+stay-all v [] all = refl
+stay-all v (r ∷ rs) all = ap (λ (p : RingView × List RingView). p.0 ∷ p.1) (λ i. (all.0 i, stay-all v rs all.1 i))
+
+stay-each : (v : View) (rs : List RingView) → map (ring_seen v) rs ≡ rs → AllByRecursion (λ r. ring_seen v r ≡ r) rs
+stay-each v [] same = tt
+stay-each v (r ∷ rs) same = (cc same, stay-each v rs (cc same))
+
+-- ---- what rings keep
+
+kept-by : {Y : Type 0} (f : Ring → Y) → ((r : Ring) → f (ring_emptied r) ≡ f r) → (rs : List Ring) → map f (map ring_emptied rs) ≡ map f rs
+kept-by f same [] = refl
+kept-by {Y} f same (r ∷ rs) = ap (λ (p : Y × List Y). p.0 ∷ p.1) (λ i. (same r i, kept-by f same rs i))
+
+all-emptied : (P : ℕ → ℕ → Type 0) (rs : List Ring) → AllByRecursion (λ r. P r.buffer r.channels) rs → AllByRecursion (λ r. P r.buffer r.channels) (map ring_emptied rs)
+all-emptied P [] all = tt
+all-emptied P (r ∷ rs) all = (all.0, all-emptied P rs all.1)
+
+all-filled : (P : ℕ → ℕ → Type 0) (rs : List Ring) → AllByRecursion (λ r. P r.buffer r.channels) (map ring_emptied rs) → AllByRecursion (λ r. P r.buffer r.channels) rs
+all-filled P [] all = tt
+all-filled P (r ∷ rs) all = (all.0, all-filled P rs all.1)
+
+-- ---- a whole tick
+
+module _ (heap : HeapView) (clock : ℕ) (comps : List Comp) (edges : List Edge) (pipes : List Pipe) (joins : List Join) (streams : List StreamView) (rings : RingLists) (room : ℕ) (kept : IsKept (state_of heap clock comps edges pipes joins streams (map shown rings.rings))) (held : AreRings rings room (state_of heap clock comps edges pipes joins streams (map shown rings.rings))) where
+  abbrev state : FwState
+  state = state_of heap clock comps edges pipes joins streams (map shown rings.rings)
+
+  abbrev view : View
+  view = record { graph = record { comps = comps; edges = edges; pipes = pipes; joins = joins }; streams = streams }
+
+  keys : map (λ (r : Ring). r.buffer) rings.rings ≡ map (λ (e : Edge). e.buffer) edges
+  keys = ring-keys heap clock comps edges pipes joins streams rings room kept held
+
+  -- the turns can be run
+  pub turns-run : TurnsStand → (turns : List Turn) → turns ≡ turns_of view → AreTurnsAt rings turns
+  turns-run stand turns is = subst (AreTurnsAt rings) (sym is) (stand view rings (bounds view kept.wired kept.linked kept.played) (laid-out view kept.wired kept.linked kept.played rings keys held.words held.channels))
+
+  -- and are the tick
+  module _ (law : TicksAreTurns) (io : Io) (slots : IsDistinct nat_eq (input_slots io.inputs)) (within : All (λ x. x.position ≤ 2 ^ 64 - 1) io.inputs) (outs : HasDistinct (λ (x : OutputView). x.slot) io.outputs) where
+    can-turn : CanTurn state io
+    unfolding IsDistinct
+    can-turn = record {
+      plain = plain view kept.wired kept.linked kept.played;
+      rings = kept.rings;
+      histories = refl;
+      single = record {
+        rings = subst (λ (ns : List ℕ). IsDistinct (λ m n. m == n) ns) (sym kept.rings) kept.wired.buffers;
+        histories = tt;
+        inputs = slots;
+        positions = within;
+      };
+      outputs = outs;
+    }
+
+    module _ (turns : List Turn) (clock' : ℕ) (rings' : RingLists) (inputs : List InputView) (outputs : List OutputView) (same : turns ≡ turns_of view) (next : clock' ≡ next_clock clock) (moved : seen_at rings' inputs outputs ≡ after_turns clock' turns (seen_at rings io.inputs io.outputs)) (empty : emptied rings' ≡ emptied rings) where
+      -- rings and endpoints are as after the turns of the view
+      as-turned : (map shown rings'.rings, record { inputs = inputs; outputs = outputs }) ≡ turned state io
+      as-turned = moved ∙ ap (λ (p : ℕ × List Turn). after_turns p.0 p.1 (seen_at rings io.inputs io.outputs)) (λ i. (next i, same i))
+
+      pub state-ticked : state_of heap clock' comps edges pipes joins streams (map shown rings'.rings) ≡ (ticked (state, io)).0
+      state-ticked =
+          ap (λ (p : ℕ × List RingView). state_of heap p.0 comps edges pipes joins streams p.1) (λ i. (next i, (as-turned i).0))
+          ∙ (law state io can-turn).state
+
+      pub io-ticked : record { inputs = inputs; outputs = outputs } ≡ (ticked (state, io)).1
+      io-ticked = ap (λ (p : List RingView × Io). p.1) as-turned ∙ (law state io can-turn).endpoints
+
+      same-rings : map ring_emptied rings'.rings ≡ map ring_emptied rings.rings
+      same-rings = ap (λ (s : RingLists). s.rings) empty
+
+      same-keys : map (λ (r : Ring). r.buffer) rings'.rings ≡ map (λ (r : Ring). r.buffer) rings.rings
+      same-keys = sym (kept-by (λ (r : Ring). r.buffer) (λ r. refl) rings'.rings) ∙ ap (map (λ (r : Ring). r.buffer)) same-rings ∙ kept-by (λ (r : Ring). r.buffer) (λ r. refl) rings.rings
+
+      same-words : map (λ (r : Ring). r.words) rings'.rings ≡ map (λ (r : Ring). r.words) rings.rings
+      same-words = sym (kept-by (λ (r : Ring). r.words) (λ r. refl) rings'.rings) ∙ ap (map (λ (r : Ring). r.words)) same-rings ∙ kept-by (λ (r : Ring). r.words) (λ r. refl) rings.rings
+
+      stays : map (ring_seen view) (map shown rings'.rings) ≡ map shown rings'.rings
+      stays =
+          let all = (turns-stay view (next_clock clock) (turns_of view) (all-flowing view kept.wired kept.linked kept.played) (seen_at rings io.inputs io.outputs) (stay-each view (map shown rings.rings) kept.seen, kept.rings)).0 in
+          subst (λ (rs : List RingView). map (ring_seen view) rs ≡ rs) (sym (ap (λ (p : List RingView × Io). p.0) as-turned)) (stay-all view _ all)
+
+      pub kept-ticked : IsKept (state_of heap clock' comps edges pipes joins streams (map shown rings'.rings))
+      kept-ticked = record {
+        comps = kept.comps;
+        edges = kept.edges;
+        pipes = kept.pipes;
+        joins = kept.joins;
+        streams = kept.streams;
+        pieces = kept.pieces;
+        wired = kept.wired;
+        linked = kept.linked;
+        played = kept.played;
+        rings = keys-shown rings'.rings ∙ same-keys ∙ keys;
+        seen = stays;
+        histories = refl;
+      }
+
+      pub held-ticked : AreRings rings' room (state_of heap clock' comps edges pipes joins streams (map shown rings'.rings))
+      held-ticked = record {
+        words = same-words ∙ held.words;
+        channels = all-filled (λ b n. flows view b ≡ true → n ≡ channels_of view b) rings'.rings (subst (AllByRecursion (λ (r : Ring). flows view r.buffer ≡ true → r.channels ≡ channels_of view r.buffer)) (sym same-rings) (all-emptied (λ b n. flows view b ≡ true → n ≡ channels_of view b) rings.rings held.channels));
+        used = omega (arith, held.used, ap (λ (s : RingLists). s.used) empty);
+        within = held.within;
+        most = ap (λ (s : RingLists). s.most) empty ∙ held.most;
+      }

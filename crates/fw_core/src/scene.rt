@@ -1,0 +1,261 @@
+// What host and firmware both see: a graph and its streams, and what lies on the ways of these.
+ghost use Rattle.std.specs.Prelude.{◌≡◌, ◌&&◌, ◌||◌, ◌++◌, not, map, find, option_copied, Some};
+ghost use Rattle.std.specs.List.{list_all, list_any};
+ghost use Rattle.stream_law.specs.Ways.{edge_of, source_of, sink_of, on_way as lies_on, is_live_phase, live as is_live, live_end as has_live_end, live_params as params_of, channels_of as samples_of, components, buffers, touch as has_common, same_shape as alike, agree as is_agreed};
+ghost use Rattle.stream_law.specs.Seen.{flows as may_hold};
+ghost use Rattle.mbox_link.specs.Step.{is_complete as is_whole, is_way_ready as has_ready_way, is_ready_comp as is_comp_ready, is_ready_edge as is_edge_ready, set_stream};
+
+use crate::{joins, kinds};
+use sof_base::Params;
+use std::marker::Model;
+use stream_law::{Comp, Edge, Join, Phase, Pipe, StreamView};
+
+/// A graph and its streams.
+#[derive(Drop)]
+pub struct Scene<'a> {
+    pub comps: &'a [Comp],
+    pub edges: &'a [Edge],
+    pub pipes: &'a [Pipe],
+    pub joins: &'a [Join],
+    pub streams: &'a [StreamView],
+}
+
+impl<'a> Model for Scene<'a> {
+    ghost use Rattle.stream_law.specs.Placed.{HasDistinct};
+    ghost use Rattle.stream_law.specs.State.{View};
+
+    ghost Value = { View };
+
+    ghost view = { λ a. record { graph = record { comps = a.comps.now; edges = a.edges.now; pipes = a.pipes.now; joins = a.joins.now }; streams = a.streams.now } };
+
+    ghost invariant = { λ a. HasDistinct (λ e. e.buffer) a.edges.now };
+}
+
+impl<'a> Scene<'a> {
+    /// Whether a component or a buffer is on the way of a host's stream.
+    #[tactic(auto, unfolding(stream_law::specs::Ways::on_way, stream_law::specs::Ways::reaches))]
+    pub fn on_way(&self, host: u32, id: u32) -> bool
+        ensures { result ≡ lies_on self.now.graph host id }
+    {
+        joins::on_way(self.comps, self.joins, host, id)
+    }
+
+    /// Whether a component or a buffer is on the way of a stream that is Running or Paused.
+    #[tactic(auto, unfolding(stream_law::specs::Ways::live))]
+    pub fn live(&self, id: u32) -> bool
+        ensures { result ≡ is_live self.now id }
+    {
+        self.streams.iter().any(|stream| is_live_at(stream.phase) && self.on_way(stream.host, id))
+    }
+
+    /// Whether an end of an edge is there and Live.
+    pub fn live_end(&self, end: Option<u32>) -> bool
+        ensures { result ≡ has_live_end self.now end }
+    {
+        match end {
+            Some(id) => self.live(id),
+            None => false,
+        }
+    }
+
+    /// The parameters of a Live stream on whose way a component or a buffer is.
+    pub fn live_params(&self, id: u32) -> Option<Params>
+        ensures { result ≡ params_of self.now id }
+    {
+        match self.live_stream(id) {
+            Some(stream) => stream.params,
+            None => None,
+        }
+    }
+
+    // A Live stream on whose way a component or a buffer is.
+    fn live_stream(&self, id: u32) -> Option<&StreamView>
+        ensures { option_copied result ≡ find (λ s. is_live_phase s.phase && lies_on self.now.graph s.host id) self.now.streams }
+    {
+        self.streams.iter().find(|stream| is_live_at(stream.phase) && self.on_way(stream.host, id))
+    }
+
+    /// How many samples a frame has there; 0 where nothing is Live.
+    #[tactic(auto, unfolding(stream_law::specs::Ways::channels_of))]
+    pub fn channels(&self, id: u32) -> u8
+        ensures { result ≡ samples_of self.now id }
+    {
+        match self.live_params(id) {
+            Some(params) => params.channels,
+            None => 0,
+        }
+    }
+
+    /// Whether the ways of two hosts' streams share something.
+    pub fn touch(&self, first: u32, second: u32) -> bool
+        ensures { result ≡ list_any (λ x. lies_on self.now.graph first x && lies_on self.now.graph second x) (components self.now.graph ++ buffers self.now.graph) }
+    {
+        self.share_comp(first, second) || self.share_edge(first, second)
+    }
+
+    // Whether they share a component.
+    fn share_comp(&self, first: u32, second: u32) -> bool
+        ensures { result ≡ list_any (λ c. lies_on self.now.graph first c.id && lies_on self.now.graph second c.id) self.now.graph.comps }
+    {
+        self.comps.iter().any(|comp| self.on_way(first, comp.id) && self.on_way(second, comp.id))
+    }
+
+    // Whether they share a buffer.
+    fn share_edge(&self, first: u32, second: u32) -> bool
+        ensures { result ≡ list_any (λ e. lies_on self.now.graph first e.buffer && lies_on self.now.graph second e.buffer) self.now.graph.edges }
+    {
+        self.edges.iter().any(|edge| self.on_way(first, edge.buffer)
+            && self.on_way(second, edge.buffer))
+    }
+
+    /// Whether frames may lie in a buffer: it is Live and has Live ends.
+    #[tactic(auto, unfolding(stream_law::specs::Seen::flows))]
+    pub fn flows(&self, buffer: u32) -> bool
+        ensures { result ≡ may_hold self.now buffer }
+    {
+        self.live(buffer) && self.live_end(self.source(buffer)) && self.live_end(self.sink(buffer))
+    }
+
+    // The component that a buffer comes from.
+    fn source(&self, buffer: u32) -> Option<u32>
+        ensures { result ≡ source_of self.now.graph buffer }
+    {
+        match self.edge(buffer) {
+            Some(edge) => edge.source,
+            None => None,
+        }
+    }
+
+    /// The component that a buffer goes to.
+    pub fn sink(&self, buffer: u32) -> Option<u32>
+        ensures { result ≡ sink_of self.now.graph buffer }
+    {
+        match self.edge(buffer) {
+            Some(edge) => edge.sink,
+            None => None,
+        }
+    }
+
+    /// The edge of a buffer.
+    pub fn edge(&self, buffer: u32) -> Option<&Edge>
+        ensures { option_copied result ≡ edge_of self.now.graph buffer }
+    {
+        self.edges.iter().find(|edge| edge.buffer == buffer)
+    }
+
+    /// Whether all that is on the way of a host's stream is ready.
+    #[tactic(auto, unfolding(mbox_link::specs::Step::is_way_ready))]
+    pub fn is_way_ready(&self, host: u32) -> bool
+        ensures { result ≡ has_ready_way self.now.graph host }
+    {
+        self.has_ready_comps(host) && self.has_ready_edges(host)
+    }
+
+    // Whether its components are.
+    fn has_ready_comps(&self, host: u32) -> bool
+        ensures { result ≡ list_all (λ c. not (lies_on self.now.graph host c.id) || is_comp_ready self.now.graph c) self.now.graph.comps }
+    {
+        self.comps.iter().all(|comp| !self.on_way(host, comp.id) || self.is_ready_comp(comp))
+    }
+
+    // Whether its buffers are.
+    fn has_ready_edges(&self, host: u32) -> bool
+        ensures { result ≡ list_all (λ e. not (lies_on self.now.graph host e.buffer) || is_edge_ready self.now.graph e) self.now.graph.edges }
+    {
+        self.edges.iter().all(|edge| !self.on_way(host, edge.buffer) || self.is_ready_edge(edge))
+    }
+
+    // Whether a component's pipeline is complete, and its buffers are as many as its kind has.
+    fn is_ready_comp(&self, comp: &Comp) -> bool
+        ensures { result ≡ is_comp_ready self.now.graph comp.now }
+    {
+        self.is_complete(comp.pipe)
+            && kinds::fits(
+                comp.kind,
+                joins::count_ins(self.edges, comp.id),
+                joins::count_outs(self.edges, comp.id),
+            )
+    }
+
+    // Whether a buffer's pipeline is complete, and both its sides are joined.
+    fn is_ready_edge(&self, edge: &Edge) -> bool
+        ensures { result ≡ is_edge_ready self.now.graph edge.now }
+    {
+        self.is_complete(edge.pipe) && edge.source.is_some() && edge.sink.is_some()
+    }
+
+    // Whether the pipeline of an index is complete.
+    fn is_complete(&self, index: u32) -> bool
+        ensures { result ≡ is_whole self.now.graph index }
+    {
+        self.pipes
+            .iter()
+            .any(|pipe| pipe.index == index && pipe.complete)
+    }
+
+    /// Whether streams that touch would agree once a host's stream has these parameters.
+    pub fn agrees_with(&self, host: u32, params: Params) -> bool
+        ensures { result ≡ is_agreed (record { graph = self.now.graph; streams = map (set_stream host Phase.Prepared (Some params)) self.now.streams }) }
+    {
+        self.all_agree(host, params)
+    }
+
+    // The same stream by stream.
+    fn all_agree(&self, host: u32, params: Params) -> bool
+        ensures { result ≡ list_all (λ s. list_all (λ t. not (has_common self.now.graph s t) || alike (set_stream host Phase.Prepared (Some params) s).params (set_stream host Phase.Prepared (Some params) t).params) self.now.streams) self.now.streams }
+    {
+        self.streams
+            .iter()
+            .all(|stream| self.agrees_at(*stream, host, params))
+    }
+
+    // Whether one stream would.
+    fn agrees_at(&self, stream: StreamView, host: u32, params: Params) -> bool
+        ensures { result ≡ list_all (λ t. not (has_common self.now.graph stream t) || alike (set_stream host Phase.Prepared (Some params) stream).params (set_stream host Phase.Prepared (Some params) t).params) self.now.streams }
+    {
+        let shape = next_params(stream, host, params);
+        self.streams.iter().all(|other| {
+            self.agree(
+                stream.host,
+                other.host,
+                shape,
+                next_params(*other, host, params),
+            )
+        })
+    }
+
+    // Whether two hosts' streams with these parameters do not touch, or have one shape.
+    fn agree(&self, first: u32, second: u32, one: Option<Params>, other: Option<Params>) -> bool
+        ensures { result ≡ (not (list_any (λ x. lies_on self.now.graph first x && lies_on self.now.graph second x) (components self.now.graph ++ buffers self.now.graph)) || alike one other) }
+    {
+        same_shape(one, other) || !self.touch(first, second)
+    }
+}
+
+// A stream's parameters once a host's stream has these.
+fn next_params(stream: StreamView, host: u32, params: Params) -> Option<Params>
+    ensures { result ≡ (set_stream host Phase.Prepared (Some params) stream).params }
+{
+    if stream.host == host {
+        Some(params)
+    } else {
+        stream.params
+    }
+}
+
+// Whether a stream of this phase is Running or Paused.
+fn is_live_at(phase: Phase) -> bool
+    ensures { result ≡ is_live_phase phase }
+{
+    matches!(phase, Phase::Running | Phase::Paused)
+}
+
+// One rate and one number of channels, where both streams have parameters.
+fn same_shape(first: Option<Params>, second: Option<Params>) -> bool
+    ensures { result ≡ alike first second }
+{
+    match (first, second) {
+        (Some(p), Some(q)) => p.rate == q.rate && p.channels == q.channels,
+        _ => true,
+    }
+}

@@ -1,0 +1,7 @@
+pub mod SampleRuns
+pub mod RoundLaws
+pub mod SlotLaws
+pub mod WindowLaws
+pub mod Inserting
+pub mod ApartLaws
+pub mod RingLaws

@@ -1,0 +1,16 @@
+use Rattle.std.proofs.Common.{sym, ap, subst, length, arith}
+use Rattle.std.specs.List.{AllByRecursion}
+use Rattle.fw_ring.specs.RingsLaid.{AreApart, IsWithin}
+use Rattle.fw_ring.proofs.ApartLaws.{apart-none}
+use Rattle.fw_ring.proofs.rings.Rings.clear.Goals as goal
+
+pub invariant_of-self : goal.invariant_of-self
+invariant_of-self c =
+    let v = c.self.invariant in let none = c.clear.ensures.items in
+    record {
+      few = (omega (arith, ap length none), omega (arith, c.clear.ensures.capacity, v.few));
+      used = omega arith;
+      most = v.most;
+      windows = subst (AllByRecursion (IsWithin 0)) (sym none) tt;
+      apart = subst AreApart (sym none) apart-none;
+    }

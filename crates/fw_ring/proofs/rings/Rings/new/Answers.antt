@@ -1,0 +1,16 @@
+use Rattle.std.proofs.Common.{sym, subst, arith, rules}
+use Rattle.std.specs.List.{AllByRecursion}
+use Rattle.fw_ring.specs.RingsLaid.{AreApart, IsWithin}
+use Rattle.fw_ring.proofs.ApartLaws.{apart-none}
+use Rattle.fw_ring.proofs.rings.Rings.new.Goals as goal
+
+pub invariant_of-result : goal.invariant_of-result
+invariant_of-result c =
+    let none = c.in_ok-with_capacity.ensures.items in
+    record {
+      few = search rules;
+      used = omega arith;
+      most = search rules;
+      windows = subst (AllByRecursion (IsWithin 0)) (sym none) tt;
+      apart = subst AreApart (sym none) apart-none;
+    }

@@ -1,0 +1,3 @@
+pub mod RingLists
+pub mod RingWords
+pub mod RingsLaid

@@ -1,0 +1,133 @@
+// All rings, in the words that were reserved for them.
+ghost use Rattle.std.specs.Prelude.{◌≡◌, ◌+◌, ◌*◌, ◌/◌, ◌<◌, ◌≤◌, length, take, IfOk, nat_lt, position};
+ghost use Rattle.sof_base.specs.Samples.{width, frames_in, frames_out};
+ghost use Rattle.fw_ring.specs.RingLists.{capacity_of, no_rings, with_ring, ring_at, changed, begun, pushed, pulled, AreRings};
+
+use crate::window::Window;
+use sof_base::{Format, NoMemory, Sample};
+use std::alloc::Global;
+use std::marker::Model;
+
+/// At most 128 rings, by ascending id of their buffers. A place counts rings from 0 on, in that order.
+#[derive(Drop)]
+pub struct Rings {
+    words: Vec<Sample>,
+    used: usize,
+    windows: Vec<Window>,
+}
+
+impl Model for Rings {
+    ghost use Rattle.fw_ring.specs.RingLists.{RingLists};
+
+    ghost Value = { RingLists };
+
+    ghost use Rattle.fw_ring.specs.RingsLaid.{rings_view, AreLaid};
+
+    ghost view = { rings_view };
+
+    ghost invariant = { AreLaid };
+}
+
+impl Rings {
+    /// No ring, and the words of `room` bytes for those to come.
+    pub fn new(alloc: Global, room: u32) -> Result<Rings, NoMemory>
+        ensures { IfOk result (λ rings. rings ≡ no_rings (room / 4)) }
+    {
+        let most = (room / 4) as usize;
+        Ok(Rings {
+            words: vec![in alloc; 0; most]?,
+            used: 0,
+            windows: Vec::with_capacity(alloc, 128)?,
+        })
+    }
+
+    /// Drops all rings, and keeps the words.
+    pub fn clear(&mut self)
+        ensures { self.new ≡ no_rings self.old.most }
+    {
+        self.used = 0;
+        self.windows.clear();
+    }
+
+    /// Puts in the empty ring of a buffer of `size` bytes, before the first ring of a greater buffer.
+    pub fn place(&mut self, buffer: u32, size: u32)
+        requires few { length self.old.rings < 128 }
+        requires room { self.old.used + size / 4 ≤ self.old.most }
+        ensures { self.new ≡ with_ring buffer size self.old }
+    {
+        let words = (size / 4) as usize;
+        let window = Window::new(buffer, self.used, words);
+        let end = self.windows.len();
+        let place = first_above(self.windows.as_slice(), buffer).unwrap_or(end);
+        // It fits in the memory that was reserved, so it is never refused.
+        let _fits = self.windows.insert(place, window);
+        self.used += words;
+    }
+
+    /// Empties a ring for frames of so many samples, 1 to 8.
+    pub fn begin(&mut self, place: usize, channels: u8)
+        requires there { place < length self.old.rings }
+        requires channels { (1 ≤ channels) × (channels ≤ 8) }
+        ensures { self.new ≡ changed place (begun channels) self.old }
+    {
+        let window = self.windows[place];
+        self.windows[place] = window.begun(channels);
+    }
+
+    /// How many rings there are.
+    pub fn len(&self) -> usize
+        ensures count { result ≡ length self.now.rings }
+        ensures rings { AreRings self.now }
+    {
+        self.windows.len()
+    }
+
+    /// How many frames a ring holds.
+    pub fn frames(&self, place: usize) -> usize
+        requires { place < length self.now.rings }
+        ensures count { result ≡ length (ring_at self.now place).frames }
+        ensures within { result ≤ capacity_of (ring_at self.now place) }
+    {
+        self.windows[place].held
+    }
+
+    /// How many frames a ring has room for.
+    pub fn capacity(&self, place: usize) -> usize
+        requires { place < length self.now.rings }
+        ensures { result ≡ capacity_of (ring_at self.now place) }
+    {
+        self.windows[place].capacity
+    }
+
+    /// Appends the `count` frames that these bytes are in a format; the ring has room for them.
+    pub fn push(&mut self, place: usize, format: Format, count: usize, bytes: &[u8])
+        requires there { place < length self.old.rings }
+        requires whole { length bytes.now ≡ count * ((ring_at self.old place).channels * width format) }
+        requires fit { length (ring_at self.old place).frames + count ≤ capacity_of (ring_at self.old place) }
+        ensures { self.new ≡ changed place (pushed (frames_in format (ring_at self.old place).channels bytes.now 0 count)) self.old }
+    {
+        let window = self.windows[place];
+        let words = &mut self.words[window.first..window.first + window.words];
+        self.windows[place] = window.pushed(words, format, count, bytes);
+    }
+
+    /// Takes the first `count` frames out of a ring, and writes them as bytes of a format.
+    pub fn pull(&mut self, place: usize, format: Format, count: usize, out: &mut [u8])
+        requires there { place < length self.old.rings }
+        requires whole { length out.old ≡ count * ((ring_at self.old place).channels * width format) }
+        requires held { count ≤ length (ring_at self.old place).frames }
+        ensures bytes { out.new ≡ frames_out format (take count (ring_at self.old place).frames) }
+        ensures rings { self.new ≡ changed place (pulled count) self.old }
+    {
+        let window = self.windows[place];
+        let words = &self.words[window.first..window.first + window.words];
+        self.windows[place] = window.pulled(words, format, count, out);
+    }
+}
+
+// The place of the first window of a greater buffer.
+fn first_above(windows: &[Window], buffer: u32) -> Option<usize>
+    ensures { result ≡ position (λ w. nat_lt buffer w.buffer) windows.now }
+{
+    windows.iter().position(|w| buffer < w.buffer)
+}

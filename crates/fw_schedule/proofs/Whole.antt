@@ -1,0 +1,138 @@
+-- All moves of a tick are the turns, one after another.
+use Rattle.std.proofs.Common.{◌≡◌, refl, sym, ap, ◌∙◌, ℕ, suc, ◌-◌, ◌^◌, ◌≤◌, List, [], ◌∷◌, ◌++◌, map, length, Option, Some, None, Bool, true, false, cond, not, ◌==◌, ◌||◌, arith}
+use Rattle.std.proofs.lemmas.Bool.{false≢true, true≢false, eqb-true}
+use Rattle.std.proofs.lemmas.List.{append-nil}
+use Rattle.std.specs.Prelude.{All, filter_map}
+use Rattle.std.specs.List.{AllByRecursion, cons_option}
+use Rattle.sof_base.specs.Ports.{Io, InputView, OutputView}
+use Rattle.stream_law.specs.declared.graph.Kind.{Kind}
+use Rattle.stream_law.specs.declared.graph.Kind.TheVariants.{HostPlay, HostCapture, DaiPlay, DaiCapture, Volume, Mixer, Mux, Eq}
+use Rattle.stream_law.specs.declared.graph.Comp.{Comp}
+use Rattle.stream_law.specs.State.{FwState, View, RingView, History, view_of}
+use Rattle.stream_law.specs.Table.{number_of, list_of}
+use Rattle.stream_law.specs.Ways.{comp_of, components, ins, outs, active}
+use Rattle.stream_law.specs.Joins.{fits_kind}
+use Rattle.stream_law.specs.Order.{is_among, order}
+use Rattle.stream_law.specs.Move.{Audio, after_move, after_moves, ring_length, ring_room, blob_of, next_clock, audio_of, audio_after, Move}
+use Rattle.stream_law.proofs.Keyed.{keyed, keyed-values, map-same, all-from, all-both}
+use Rattle.fw_schedule.specs.declared.turn.Turn.{Turn}
+use Rattle.fw_schedule.specs.declared.turn.Action.{Action}
+use Rattle.fw_schedule.specs.declared.turn.Action.TheVariants.{Drain, Fill}
+use Rattle.fw_schedule.specs.Turns.{turn_of, after_turns}
+use Rattle.fw_schedule.specs.TurnLaws.{is_endpoint, fits_if_active, IsPlain, CanTurn, turned, with_rings}
+use Rattle.fw_schedule.proofs.Moved.{shown, IsStage, stage-moved, frames-idle}
+use Rattle.fw_schedule.proofs.ByKind.{turn-idle, runs-off, IsSource, IsSink, host-play, dai-capture, host-capture, dai-play}
+use Rattle.fw_schedule.proofs.Steps.{stepped, IsLaid, source-still, source-step, sink-still, sink-step}
+use Rattle.fw_schedule.proofs.InOrder.{order-among, comp-at}
+
+-- ---- one component
+
+module _ (v : View) (plain : IsPlain v) (blobs : ℕ → List ℕ) (t : ℕ) (rings : List RingView) (io : Io) (laid : IsLaid v rings io) where
+  move-turn : (c : ℕ) (a : Audio) → IsStage io a → is_among (components v.graph) c ≡ true → shown rings io (after_move v blobs t c a) ≡ stepped t (turn_of v c) (shown rings io a)
+  move-turn c a stage there = by_kind x.kind refl found.3
+    where
+      found : (x : Comp) × (comp_of v.graph c ≡ Some x) × ((x.id == c) ≡ true) × (is_endpoint x.kind ≡ true) × (fits_if_active v x ≡ true)
+      found = comp-at (λ x. is_endpoint x.kind) (fits_if_active v) v.graph.comps c plain.endpoints plain.fits there
+
+      x : Comp
+      x = found.0
+
+      fits : (k : Kind) → x.kind ≡ k → active v c ≡ true → fits_kind k (length (ins v.graph c)) (length (outs v.graph c)) ≡ true
+      fits k kind on =
+          sym (λ i. not (on i) || fits_kind (kind i) (length (ins v.graph c)) (length (outs v.graph c)))
+          ∙ sym (ap (λ y. not (active v y) || fits_kind x.kind (length (ins v.graph y)) (length (outs v.graph y))) (eqb-true x.id c found.2))
+          ∙ found.4
+
+      by_source : (k : Kind) → x.kind ≡ k → IsSource k → (h : Bool) → active v c ≡ h → shown rings io (after_move v blobs t c a) ≡ stepped t (turn_of v c) (shown rings io a)
+      by_source k kind source true h = source-step v blobs t c rings io laid a stage x found.1 k kind source h (fits k kind h)
+      by_source k kind source false h =
+          source-still v blobs t c rings io laid a stage x found.1 k kind source (frames-idle v t (ring_length v blobs t c a) (ring_room v blobs t c a) c (runs-off v t c h))
+          ∙ sym (ap (λ turn. stepped t turn (shown rings io a)) (turn-idle v c h))
+
+      by_sink : (k : Kind) (action : Action) (more : ℕ → ℕ → ℕ) → x.kind ≡ k → IsSink k action more → (h : Bool) → active v c ≡ h → shown rings io (after_move v blobs t c a) ≡ stepped t (turn_of v c) (shown rings io a)
+      by_sink k action more kind sink true h = sink-step v blobs t c rings io laid a stage x found.1 k kind action more sink h (fits k kind h)
+      by_sink k action more kind sink false h =
+          sink-still v blobs t c rings io laid a stage x found.1 k kind action more sink (runs-off v t c h)
+          ∙ sym (ap (λ turn. stepped t turn (shown rings io a)) (turn-idle v c h))
+
+      by_kind : (k : Kind) → x.kind ≡ k → is_endpoint k ≡ true → shown rings io (after_move v blobs t c a) ≡ stepped t (turn_of v c) (shown rings io a)
+      by_kind HostPlay kind end = by_source HostPlay kind host-play (active v c) refl
+      by_kind (DaiCapture format) kind end = by_source (DaiCapture format) kind (dai-capture format) (active v c) refl
+      by_kind HostCapture kind end = by_sink HostCapture Drain (λ most n. 0) kind host-capture (active v c) refl
+      by_kind (DaiPlay format) kind end = by_sink (DaiPlay format) Fill (λ most n. most - n) kind (dai-play format) (active v c) refl
+      by_kind Volume kind end = absurd (false≢true end)
+      by_kind Mixer kind end = absurd (false≢true end)
+      by_kind Mux kind end = absurd (false≢true end)
+      by_kind Eq kind end = absurd (false≢true end)
+
+  -- ---- all components
+
+  moves-turns : (cs : List ℕ) (a : Audio) → IsStage io a → AllByRecursion (λ c. is_among (components v.graph) c ≡ true) cs → shown rings io (after_moves v blobs t cs a) ≡ after_turns t (filter_map (turn_of v) cs) (shown rings io a)
+  moves-turns [] a stage there = refl
+  moves-turns (c ∷ cs) a stage there =
+      moves-turns cs (after_move v blobs t c a) (stage-moved v blobs t c io a stage) there.1
+      ∙ ap (after_turns t (filter_map (turn_of v) cs)) (move-turn c a stage there.0)
+      ∙ by_turn (turn_of v c)
+    where
+      by_turn : (turn : Option Turn) → after_turns t (filter_map (turn_of v) cs) (stepped t turn (shown rings io a)) ≡ after_turns t (cons_option turn (filter_map (turn_of v) cs)) (shown rings io a)
+      by_turn None = refl
+      by_turn (Some turn) = refl
+
+-- ---- what a tick begins with
+
+positions-low : (xs : List InputView) → All (λ x. x.position ≤ 2 ^ 64 - 1) xs → (slot : ℕ) → number_of (keyed (λ x. x.slot) (λ x. x.position) xs) slot ≤ 2 ^ 64 - 1
+positions-low [] low slot = omega arith
+positions-low (x ∷ xs) low slot = head (x.slot == slot) (positions-low xs (λ k d within. low (suc k) d (omega (arith, within))) slot)
+  where
+    head : (h : Bool) → number_of (keyed (λ x. x.slot) (λ x. x.position) xs) slot ≤ 2 ^ 64 - 1 → cond h x.position (number_of (keyed (λ x. x.slot) (λ x. x.position) xs) slot) ≤ 2 ^ 64 - 1
+    head true rest = low 0 x (omega arith)
+    head false rest = rest
+
+left-none : (xs : List InputView) (slot : ℕ) → is_among (map (λ (x : InputView). x.slot) xs) slot ≡ false → list_of (keyed (λ x. x.slot) (λ x. x.left) xs) slot ≡ []
+left-none [] slot gone = refl
+left-none (x ∷ xs) slot gone = head (x.slot == slot) gone (left-none xs slot)
+  where
+    head : (h : Bool) → (h || is_among (map (λ (x : InputView). x.slot) xs) slot) ≡ false → (is_among (map (λ (x : InputView). x.slot) xs) slot ≡ false → list_of (keyed (λ x. x.slot) (λ x. x.left) xs) slot ≡ []) → cond h x.left (list_of (keyed (λ x. x.slot) (λ x. x.left) xs) slot) ≡ []
+    head true h rest = absurd (true≢false h)
+    head false h rest = rest h
+
+outputs-same : (xs : List OutputView) → map (λ x. record { slot = x.slot; bytes = x.bytes ++ [] }) xs ≡ xs
+outputs-same [] = refl
+outputs-same (x ∷ xs) = λ i. record { slot = x.slot; bytes = append-nil x.bytes i } ∷ outputs-same xs i
+
+module _ (f : FwState) (io : Io) (can : CanTurn f io) where
+  begins : IsStage io (audio_of f io)
+  begins = record { low = λ x. positions-low io.inputs can.single.positions x; none = λ x gone. left-none io.inputs x gone }
+
+  laid : IsLaid (view_of f) f.rings io
+  laid = record { places = can.rings; single = can.single.rings; inputs = can.single.inputs; outputs = can.outputs }
+
+  shows-all : shown f.rings io (audio_of f io) ≡ (f.rings, io)
+  shows-all = λ i. (rings i, record { inputs = inputs i; outputs = outputs-same io.outputs i })
+    where
+      audio : Audio
+      audio = audio_of f io
+
+      rings : map (λ (r : RingView). record { buffer = r.buffer; frames = list_of (keyed (λ (r : RingView). r.buffer) (λ r. r.frames) f.rings) r.buffer }) f.rings ≡ f.rings
+      rings = map-same (λ (r : RingView). record { buffer = r.buffer; frames = list_of (keyed (λ (r : RingView). r.buffer) (λ r. r.frames) f.rings) r.buffer }) f.rings
+          (all-from f.rings (λ r e. ap (λ frames. record { buffer = r.buffer; frames = frames }) e) (keyed-values (λ (r : RingView). r.buffer) (λ r. r.frames) [] f.rings can.single.rings))
+
+      inputs : map (λ (x : InputView). record { slot = x.slot; position = number_of (keyed (λ (x : InputView). x.slot) (λ x. x.position) io.inputs) x.slot; left = list_of (keyed (λ (x : InputView). x.slot) (λ x. x.left) io.inputs) x.slot }) io.inputs ≡ io.inputs
+      inputs = map-same (λ (x : InputView). record { slot = x.slot; position = number_of (keyed (λ (x : InputView). x.slot) (λ x. x.position) io.inputs) x.slot; left = list_of (keyed (λ (x : InputView). x.slot) (λ x. x.left) io.inputs) x.slot }) io.inputs
+          (all-both io.inputs (λ x p l. λ i. record { slot = x.slot; position = p i; left = l i })
+          (keyed-values (λ (x : InputView). x.slot) (λ x. x.position) 0 io.inputs can.single.inputs) (keyed-values (λ (x : InputView). x.slot) (λ x. x.left) [] io.inputs can.single.inputs))
+
+  whole : shown f.rings io (audio_after f io) ≡ turned f io
+  whole =
+      moves-turns (view_of f) can.plain (blob_of (view_of f)) (next_clock f.clock) f.rings io laid (order f.graph) (audio_of f io) begins (order-among f.graph)
+      ∙ ap (after_turns (next_clock f.clock) (filter_map (turn_of (view_of f)) (order f.graph))) shows-all
+
+  -- a tick is the turns of those that are Active
+  pub ticks-turns : Move f io (with_rings f (turned f io).0) (turned f io).1
+  ticks-turns = record {
+    state = sym (λ i. record { heap = f.heap; clock = next_clock f.clock; graph = f.graph; streams = f.streams; rings = (whole i).0; histories = none i; staging = f.staging });
+    endpoints = sym (ap (λ p. p.1) whole);
+  }
+    where
+      none : map (λ (h : History). record { comp = h.comp; numbers = list_of (audio_after f io).numbers h.comp }) f.histories ≡ f.histories
+      none = ap (map (λ (h : History). record { comp = h.comp; numbers = list_of (audio_after f io).numbers h.comp })) can.histories ∙ sym can.histories

@@ -1,0 +1,61 @@
+-- A table of turns over rings, and what a tick leaves of them.
+use Rattle.std.specs.Prelude.{◌≡◌, ℕ, ◌+◌, ◌-◌, ◌*◌, min, ◌<◌, ◌≤◌, List, [], ◌∷◌, map, length, nat_eq, if◌then◌else◌}
+use Rattle.std.specs.List.{AllByRecursion, IsDistinct}
+use Rattle.sof_base.specs.Samples.{Frame, width}
+use Rattle.sof_base.specs.Ports.{Io, InputView, OutputView}
+use Rattle.stream_law.specs.State.{RingView}
+use Rattle.stream_law.specs.Order.{is_among}
+use Rattle.fw_ring.specs.RingLists.{Ring, RingLists, capacity_of, ring_at}
+use Rattle.fw_schedule.specs.declared.turn.Turn.{Turn}
+use Rattle.fw_schedule.specs.Turns.{frames_given, bytes_of_first}
+
+-- a ring's buffer and frames
+abbrev pub ring_seen : Ring → RingView
+ring_seen r = record { buffer = r.buffer; frames = r.frames }
+
+-- all rings so, beside the endpoints
+abbrev pub seen_at : RingLists → List InputView → List OutputView → List RingView × Io
+seen_at rings inputs outputs = (map ring_seen rings.rings, record { inputs = inputs; outputs = outputs })
+
+-- how many frames a source moves into its ring, and a sink out of it
+abbrev pub fed_now : Turn → RingLists → ℕ
+fed_now turn s = min turn.quota (turn.capacity - length (ring_at s turn.place).frames)
+
+abbrev pub drained_now : Turn → RingLists → ℕ
+drained_now turn s = min turn.quota (length (ring_at s turn.place).frames)
+
+-- the frames that a source moves, and the bytes that a sink writes, with zeros up to so many frames
+abbrev pub frames_fed : Turn → RingLists → List InputView → List Frame
+frames_fed turn s inputs = frames_given turn (fed_now turn s) inputs
+
+abbrev pub bytes_drained : Turn → ℕ → RingLists → List ℕ
+bytes_drained turn least s = bytes_of_first turn (drained_now turn s) (least - drained_now turn s) (ring_at s turn.place).frames
+
+-- a ring without its frames, and all rings so
+abbrev pub ring_emptied : Ring → Ring
+ring_emptied r = record { buffer = r.buffer; words = r.words; channels = r.channels; frames = [] }
+
+abbrev pub emptied : RingLists → RingLists
+emptied s = record { most = s.most; used = s.used; rings = map ring_emptied s.rings }
+
+-- a turn at one of these rings, of its channels and its room, and of at most 61440 bytes
+pub record IsTurnAt (rings : RingLists) (turn : Turn) : Type 0 where
+  pub period : 1 ≤ turn.period
+  pub there : turn.place < length rings.rings
+  pub channels : turn.channels ≡ (ring_at rings turn.place).channels
+  pub capacity : turn.capacity ≡ capacity_of (ring_at rings turn.place)
+  pub bytes : turn.quota * (turn.channels * width turn.format) ≤ 61440
+
+-- turns at these rings, one for a component
+pub record AreTurnsAt (rings : RingLists) (turns : List Turn) : Type 0 where
+  pub each : AllByRecursion (IsTurnAt rings) turns
+  pub single : IsDistinct nat_eq (map (λ turn. turn.comp) turns)
+
+-- outputs of the same slots, of which those of some slots alone are longer, by at most 61440 bytes
+abbrev pub Grew : List ℕ → List OutputView → List OutputView → Type 0
+Grew slots [] [] = Unit {0}
+Grew slots (o ∷ old) (n ∷ new) =
+    (n.slot ≡ o.slot)
+    × (length n.bytes ≤ length o.bytes + (if is_among slots o.slot then 61440 else 0))
+    × Grew slots old new
+Grew slots _ _ = ⊥

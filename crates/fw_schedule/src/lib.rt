@@ -1,0 +1,14 @@
+//! The turns of a tick where a graph has endpoints alone: what each moves between its slot and its ring. A call that runs
+//! nothing carries the law that these turns are the tick.
+#![tactic(auto)]
+
+mod laws;
+mod ticking;
+mod turn;
+
+pub use laws::{turns_are_a_tick, turns_stand};
+pub use ticking::{TURN_BYTES, tick};
+pub use turn::{Action, Turn};
+
+#[cfg(test)]
+mod tests;

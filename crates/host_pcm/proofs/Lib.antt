@@ -1,0 +1,9 @@
+pub mod OneMessage
+pub mod Rows
+pub mod OneAct
+pub mod StreamMessages
+pub mod StreamActs
+pub mod ThinStream
+pub mod StreamCalls
+pub mod Closings
+pub mod HostTests

@@ -1,0 +1,203 @@
+// The host's calls on streams, in the order of the table. Each takes no memory.
+//
+// All of them may answer `NotLoaded`: nothing is loaded; `NoSuch(name)`: no stream has this name; and `State(found)`: the
+// stream stands so. Those that send may answer `Refused(e)`: a message was answered with the negative error e, and what
+// passed before it stands; and `LinkDown`: an exchange failed, so the device is cut, the record says that the power is off,
+// and streams that ran or were paused are prepared.
+ghost use Rattle.std.specs.Prelude.{◌≡◌, ◌≤◌, ◌*◌};
+ghost use Rattle.sof_base.specs.Ports.{HasRoom};
+ghost use Rattle.mbox_link.specs.Calls.{world};
+ghost use Rattle.tplg_graph.specs.ThinPlan.{IsThinPlan};
+ghost use Rattle.host_widgets.specs.Host.{Agrees};
+ghost use Rattle.host_pcm.specs.Carried.{Asked};
+
+use crate::asking::{Ask, tested};
+use crate::carrying;
+use host_widgets::{Found, HostFault, Record, StreamRec, Trigger};
+use mbox_link::Dsp;
+use sof_base::{Name44, Params};
+use sof_io::{Inputs, Outputs};
+use tplg_graph::Plan;
+
+/// A closed stream is open. Nothing is sent, and the power may be off.
+pub fn open<P: Dsp>(
+    plan: &Plan,
+    kept: &mut Record,
+    heap: u32,
+    dsp: &mut P,
+    io: &mut Inputs,
+    out: &mut Outputs,
+    name: &Name44,
+) -> Result<(), HostFault>
+    requires plan { IsThinPlan plan.now }
+    requires agree { Agrees P.means plan.now kept.old dsp.old }
+    ensures asked { Asked P.means plan.now heap name.now Ask.Opening kept.old kept.new
+        (world dsp.old io.old out.old) (world dsp.new io.new out.new) result }
+    ensures agree { Agrees P.means plan.now kept.new dsp.new }
+{
+    let place = tested(plan, kept, name, Ask::Opening)?;
+    kept.streams.put(
+        place,
+        StreamRec {
+            found: Found::Open,
+            params: None,
+        },
+    );
+    Ok(())
+}
+
+/// A stream that is open or prepared has these parameters, and is prepared.
+///
+/// `Off`: the power is off. `Range(n)`: the rate is no multiple of 1000 from 8000 to 192000, or else the channels are not 1
+/// to 8.
+pub fn params<P: Dsp>(
+    plan: &Plan,
+    kept: &mut Record,
+    heap: u32,
+    dsp: &mut P,
+    io: &mut Inputs,
+    out: &mut Outputs,
+    name: &Name44,
+    p: Params,
+) -> Result<(), HostFault>
+    requires plan { IsThinPlan plan.now }
+    requires agree { Agrees P.means plan.now kept.old dsp.old }
+    requires heap { heap ≤ P.means.most dsp.old }
+    requires room { HasRoom (61440 * P.means.pending dsp.old) out.old }
+    ensures asked { Asked P.means plan.now heap name.now (Ask.Preparing p) kept.old kept.new
+        (world dsp.old io.old out.old) (world dsp.new io.new out.new) result }
+    ensures agree { Agrees P.means plan.now kept.new dsp.new }
+{
+    let place = tested(plan, kept, name, Ask::Preparing(p))?;
+    carrying::prepare(plan, kept, heap, dsp, io, out, place, p)
+}
+
+// A stream is triggered.
+fn trigger<P: Dsp>(
+    plan: &Plan,
+    kept: &mut Record,
+    heap: u32,
+    dsp: &mut P,
+    io: &mut Inputs,
+    out: &mut Outputs,
+    name: &Name44,
+    what: Trigger,
+) -> Result<(), HostFault>
+    requires plan { IsThinPlan plan.now }
+    requires agree { Agrees P.means plan.now kept.old dsp.old }
+    requires heap { heap ≤ P.means.most dsp.old }
+    requires room { HasRoom (61440 * P.means.pending dsp.old) out.old }
+    ensures asked { Asked P.means plan.now heap name.now (Ask.Triggering what) kept.old kept.new
+        (world dsp.old io.old out.old) (world dsp.new io.new out.new) result }
+    ensures agree { Agrees P.means plan.now kept.new dsp.new }
+{
+    let place = tested(plan, kept, name, Ask::Triggering(what))?;
+    carrying::trigger(plan, kept, heap, dsp, io, out, place, what)
+}
+
+/// A prepared stream runs. `Off`: the power is off.
+pub fn start<P: Dsp>(
+    plan: &Plan,
+    kept: &mut Record,
+    heap: u32,
+    dsp: &mut P,
+    io: &mut Inputs,
+    out: &mut Outputs,
+    name: &Name44,
+) -> Result<(), HostFault>
+    requires plan { IsThinPlan plan.now }
+    requires agree { Agrees P.means plan.now kept.old dsp.old }
+    requires heap { heap ≤ P.means.most dsp.old }
+    requires room { HasRoom (61440 * P.means.pending dsp.old) out.old }
+    ensures asked { Asked P.means plan.now heap name.now (Ask.Triggering Trigger.Start) kept.old kept.new
+        (world dsp.old io.old out.old) (world dsp.new io.new out.new) result }
+    ensures agree { Agrees P.means plan.now kept.new dsp.new }
+{
+    trigger(plan, kept, heap, dsp, io, out, name, Trigger::Start)
+}
+
+/// A stream that runs or is paused is prepared. `Off`: the power is off.
+pub fn stop<P: Dsp>(
+    plan: &Plan,
+    kept: &mut Record,
+    heap: u32,
+    dsp: &mut P,
+    io: &mut Inputs,
+    out: &mut Outputs,
+    name: &Name44,
+) -> Result<(), HostFault>
+    requires plan { IsThinPlan plan.now }
+    requires agree { Agrees P.means plan.now kept.old dsp.old }
+    requires heap { heap ≤ P.means.most dsp.old }
+    requires room { HasRoom (61440 * P.means.pending dsp.old) out.old }
+    ensures asked { Asked P.means plan.now heap name.now (Ask.Triggering Trigger.Stop) kept.old kept.new
+        (world dsp.old io.old out.old) (world dsp.new io.new out.new) result }
+    ensures agree { Agrees P.means plan.now kept.new dsp.new }
+{
+    trigger(plan, kept, heap, dsp, io, out, name, Trigger::Stop)
+}
+
+/// A stream that runs is paused. `Off`: the power is off.
+pub fn pause<P: Dsp>(
+    plan: &Plan,
+    kept: &mut Record,
+    heap: u32,
+    dsp: &mut P,
+    io: &mut Inputs,
+    out: &mut Outputs,
+    name: &Name44,
+) -> Result<(), HostFault>
+    requires plan { IsThinPlan plan.now }
+    requires agree { Agrees P.means plan.now kept.old dsp.old }
+    requires heap { heap ≤ P.means.most dsp.old }
+    requires room { HasRoom (61440 * P.means.pending dsp.old) out.old }
+    ensures asked { Asked P.means plan.now heap name.now (Ask.Triggering Trigger.Pause) kept.old kept.new
+        (world dsp.old io.old out.old) (world dsp.new io.new out.new) result }
+    ensures agree { Agrees P.means plan.now kept.new dsp.new }
+{
+    trigger(plan, kept, heap, dsp, io, out, name, Trigger::Pause)
+}
+
+/// A paused stream runs. `Off`: the power is off.
+pub fn release<P: Dsp>(
+    plan: &Plan,
+    kept: &mut Record,
+    heap: u32,
+    dsp: &mut P,
+    io: &mut Inputs,
+    out: &mut Outputs,
+    name: &Name44,
+) -> Result<(), HostFault>
+    requires plan { IsThinPlan plan.now }
+    requires agree { Agrees P.means plan.now kept.old dsp.old }
+    requires heap { heap ≤ P.means.most dsp.old }
+    requires room { HasRoom (61440 * P.means.pending dsp.old) out.old }
+    ensures asked { Asked P.means plan.now heap name.now (Ask.Triggering Trigger.Release) kept.old kept.new
+        (world dsp.old io.old out.old) (world dsp.new io.new out.new) result }
+    ensures agree { Agrees P.means plan.now kept.new dsp.new }
+{
+    trigger(plan, kept, heap, dsp, io, out, name, Trigger::Release)
+}
+
+/// A stream that is not closed is closed: where the power is on, it is stopped where it runs or is paused, and freed where it
+/// has parameters. While the power is off, the record alone changes.
+pub fn close<P: Dsp>(
+    plan: &Plan,
+    kept: &mut Record,
+    heap: u32,
+    dsp: &mut P,
+    io: &mut Inputs,
+    out: &mut Outputs,
+    name: &Name44,
+) -> Result<(), HostFault>
+    requires plan { IsThinPlan plan.now }
+    requires agree { Agrees P.means plan.now kept.old dsp.old }
+    requires heap { heap ≤ P.means.most dsp.old }
+    requires room { HasRoom (61440 * P.means.pending dsp.old) out.old }
+    ensures asked { Asked P.means plan.now heap name.now Ask.Closing kept.old kept.new
+        (world dsp.old io.old out.old) (world dsp.new io.new out.new) result }
+    ensures agree { Agrees P.means plan.now kept.new dsp.new }
+{
+    let place = tested(plan, kept, name, Ask::Closing)?;
+    carrying::close(plan, kept, heap, dsp, io, out, place)
+}

@@ -1,0 +1,11 @@
+//! The host's calls on streams: each looks its stream up by name, makes its tests before any message, sends its messages one
+//! after the other, and keeps the record after each that passed. A failed link cuts the device.
+#![tactic(auto)]
+
+mod asking;
+mod carrying;
+mod commands;
+mod passing;
+
+pub use asking::Ask;
+pub use commands::{close, open, params, pause, release, start, stop};

@@ -1,0 +1,34 @@
+-- Which values the words of messages may have.
+use Rattle.std.specs.Prelude.{ℕ, Bool, not, ◌&&◌, ◌||◌, ◌%◌, nat_le, ◌==◌}
+
+-- 0 for playback, 1 for capture
+abbrev pub is_direction : ℕ → Bool
+is_direction n = nat_le n 1
+
+-- S16_LE 0, S24_4LE 1, S32_LE 2
+abbrev pub is_frame_format : ℕ → Bool
+is_frame_format n = nat_le n 2
+
+-- in bytes
+abbrev pub is_buffer_size : ℕ → Bool
+is_buffer_size n = nat_le 16 n && nat_le n 16777184
+
+-- in µs
+abbrev pub is_period : ℕ → Bool
+is_period n = nat_le 1000 n && nat_le n 10000 && n % 1000 == 0
+
+-- how many channels there are, of a volume or of a stream
+abbrev pub is_channels : ℕ → Bool
+is_channels n = nat_le 1 n && nat_le n 8
+
+-- the type word of a component: HOST 1, DAI 2, VOLUME 5, MIXER 6, MUX 7, EQ_IIR 13
+abbrev pub is_comp_type : ℕ → Bool
+is_comp_type n = n == 1 || n == 2 || n == 5 || n == 6 || n == 7 || n == 13
+
+-- the type word of each buffer
+abbrev pub is_buffer_type : ℕ → Bool
+is_buffer_type n = n == 12
+
+-- the frame format of a component of a type: only a DAI's is looked at
+abbrev pub is_format_of : ℕ → ℕ → Bool
+is_format_of type n = not (type == 2) || is_frame_format n

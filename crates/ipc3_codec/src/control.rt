@@ -1,0 +1,60 @@
+// The messages on controls: which type word each has, and which values its other words may have.
+ghost use Rattle.std.specs.Prelude.{◌≡◌};
+ghost use Rattle.ipc3_codec.specs.ControlWords as words;
+
+/// What a ctrl_data is: of a message that asks or sets, or of a reply, which is as the message that sets.
+#[derive(Clone, Copy, Debug, PartialEq, Eq)]
+pub enum ControlKind {
+    GetValue,
+    SetValue,
+    GetData,
+    SetData,
+}
+
+/// The command word of a byte control, BINARY.
+pub const BINARY: u32 = 3;
+
+impl ControlKind {
+    /// The type word.
+    pub fn type_word(self) -> u32
+        ensures { result ≡ words.type_of self }
+    {
+        match self {
+            ControlKind::GetValue => 0,
+            ControlKind::SetValue => 1,
+            ControlKind::GetData => 4,
+            ControlKind::SetData => 5,
+        }
+    }
+
+    /// Values have the command 0 or 1, parts have BINARY.
+    pub fn takes_command(self, command: u32) -> bool
+        ensures { result ≡ words.takes_command self command }
+    {
+        match self {
+            ControlKind::GetValue | ControlKind::SetValue => command <= 1,
+            ControlKind::GetData | ControlKind::SetData => command == BINARY,
+        }
+    }
+
+    /// How many elements there may be: 1 to 8 values, or 1 to 260 bytes. It is not looked at where they are asked for.
+    pub fn takes_count(self, count: u32) -> bool
+        ensures { result ≡ words.takes_count self count }
+    {
+        match self {
+            ControlKind::GetValue | ControlKind::GetData => true,
+            ControlKind::SetValue => 1 <= count && count <= 8,
+            ControlKind::SetData => 1 <= count && count <= 260,
+        }
+    }
+
+    /// How many bytes may follow a part of `count` bytes: 992 in all.
+    pub fn takes_remaining(self, count: u32, remaining: u32) -> bool
+        ensures { result ≡ words.takes_remaining self count remaining }
+    {
+        match self {
+            ControlKind::SetData => count <= 992 && remaining <= 992 - count,
+            _ => true,
+        }
+    }
+}

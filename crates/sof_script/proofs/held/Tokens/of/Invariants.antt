@@ -1,0 +1,9 @@
+use Rattle.std.proofs.Common.{length}
+use Rattle.sof_script.proofs.HeldLaws.{Collected}
+use Rattle.sof_script.proofs.held.Tokens.of.Given as goal
+
+abbrev pub invariant-loop-rest : goal.invariant-loop-rest
+invariant-loop-rest l = Collected l.line l.rest l.tokens
+
+abbrev pub decreases-loop-rest : goal.decreases-loop-rest
+decreases-loop-rest l = length l.rest

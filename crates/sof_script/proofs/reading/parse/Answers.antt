@@ -1,0 +1,23 @@
+use Rattle.std.proofs.Common.{◌≡◌, Ok, Err, inr, arith, rules, sym, ap, ◌∙◌}
+use Rattle.sof_script.specs.declared.reading.ScriptFault.TheVariants.{Line}
+use Rattle.sof_script.specs.Commands.{line_item, script_of, told}
+use Rattle.sof_script.proofs.ScriptLaws.{Reading-fault, Reading-more, Reading-all}
+use Rattle.sof_script.proofs.FaultLaws.{told_fault, told_right}
+use Rattle.sof_script.proofs.reading.parse.Goals as goal
+
+pub returns-in-Err : goal.returns-in-Err
+returns-in-Err c =
+    let bytes = c.args.bytes.now in
+    let fault : script_of bytes ≡ Err (Line c.loop-rest.number c.in-Err.cause) = Reading-fault bytes c.loop-rest.rest.now c.first_line.result.0.now c.first_line.result.1.now c.loop-rest.number
+    c.in-Err.cause c.loop-rest.script c.loop-rest.invariant c.first_line.ensures.lines (ap line_item (sym c.before_return.ensures) ∙ sym c.in-Err.ensures) in
+    record { read = inr fault; few = tt; first = told_fault bytes c.loop-rest.number c.in-Err.cause fault }
+
+pub loop-rest-preserved : goal.loop-rest-preserved
+loop-rest-preserved c =
+    Reading-more c.args.bytes.now c.loop-rest.rest.now c.first_line.result.0.now c.first_line.result.1.now c.loop-rest.number c.in-Ok.next c.loop-rest.script c.add.new.script c.loop-rest.invariant
+    c.first_line.ensures.lines c.first_line.ensures.fewer (ap line_item (sym c.before_return.ensures) ∙ sym c.in-Ok.ensures) (λ read. c.in_default.ensures.added read) c.in_default.ensures.one
+
+pub returns : goal.returns
+returns c =
+    let all : script_of c.args.bytes.now ≡ Ok (told c.loop-rest.script) = Reading-all c.args.bytes.now c.loop-rest.rest.now c.loop-rest.number c.loop-rest.script c.loop-rest.invariant (search rules) in
+    record { read = all; few = omega (arith, c.loop-rest.invariant.short, c.loop-rest.invariant.few, c.requires); first = told_right c.args.bytes.now (told c.loop-rest.script) all }

@@ -1,0 +1,103 @@
+-- What a token is worth as a number, a format, hex, a name or a file. Each has one cause for a token that is none.
+use Rattle.std.specs.Prelude.{ℕ, ℤ, pos, ◌-ℤ◌, ◌+◌, ◌-◌, ◌*◌, Bool, true, false, not, ◌&&◌, nat_eq, nat_le, nat_lt, if◌then◌else◌, List, [], ◌∷◌, length, codes, Option, Some, None, Result, Ok, Err}
+use Rattle.std.specs.Str.{bytes_eq}
+use Rattle.sof_base.specs.Slots.{is_name}
+use Rattle.sof_base.specs.declared.format.Format.{Format}
+use Rattle.sof_base.specs.declared.format.Format.TheVariants.{S16, S24, S32}
+use Rattle.hex.specs.Hex.{decode_of}
+use Rattle.hex.specs.declared.error.FromHexError.{FromHexError}
+use Rattle.sof_script.specs.Splitting.{all_plain}
+
+-- ---- causes of a line at fault, least first
+
+abbrev pub byte_cause : ℕ
+byte_cause = 1
+
+abbrev pub quote_cause : ℕ
+quote_cause = 2
+
+abbrev pub word_cause : ℕ
+word_cause = 3
+
+abbrev pub count_cause : ℕ
+count_cause = 4
+
+abbrev pub number_cause : ℕ
+number_cause = 5
+
+abbrev pub hex_cause : ℕ
+hex_cause = 6
+
+abbrev pub name_cause : ℕ
+name_cause = 7
+
+-- ---- numbers
+
+-- `0` to `9`
+abbrev pub is_digit : ℕ → Bool
+is_digit b = nat_le 48 b && nat_le b 57
+
+-- the number of digits behind those of a number; none where a byte is no digit
+unfoldable pub digits_behind : ℕ → List ℕ → Option ℕ
+digits_behind n [] = Some n
+digits_behind n (b ∷ bytes) = if is_digit b then digits_behind (n * 10 + (b - 48)) bytes else None
+
+-- there is a first byte, and it is `0` (48) only where that is all
+abbrev pub begins_well : List ℕ → Bool
+begins_well [] = false
+begins_well (b ∷ []) = true
+begins_well (b ∷ c ∷ bytes) = not (nat_eq b 48)
+
+-- the number of decimal digits without a needless zero
+abbrev pub decimal_of : List ℕ → Option ℕ
+decimal_of token = if begins_well token then digits_behind 0 token else None
+
+-- a number in its range
+abbrev pub in_range : ℕ → ℕ → Option ℕ → Result ℕ ℕ
+in_range least most None = Err number_cause
+in_range least most (Some n) = if nat_le least n && nat_le n most then Ok n else Err number_cause
+
+abbrev pub number_of : ℕ → ℕ → List ℕ → Result ℕ ℕ
+number_of least most token = in_range least most (decimal_of token)
+
+-- the negative of a number
+abbrev pub negative : Result ℕ ℕ → Result ℤ ℕ
+negative (Ok n) = Ok (pos 0 -ℤ pos n)
+negative (Err cause) = Err cause
+
+-- an error number: `-` (45), and 1 to 4095 behind it
+abbrev pub error_of : List ℕ → Result ℤ ℕ
+error_of [] = Err number_cause
+error_of (b ∷ bytes) = if nat_eq b 45 then negative (number_of 1 4095 bytes) else Err number_cause
+
+-- ---- the format of a sample
+
+abbrev pub format_of : List ℕ → Result Format ℕ
+format_of token =
+    if bytes_eq token (codes "s16") then Ok S16
+    else if bytes_eq token (codes "s24") then Ok S24
+    else if bytes_eq token (codes "s32") then Ok S32
+    else Err number_cause
+
+-- ---- hex
+
+abbrev pub decoded : Result (List ℕ) FromHexError → Result (List ℕ) ℕ
+decoded (Ok bytes) = Ok bytes
+decoded (Err fault) = Err hex_cause
+
+-- the bytes of at most 2048 hex digits, two for each, in either case; `-` is no bytes
+abbrev pub hex_of : List ℕ → Result (List ℕ) ℕ
+hex_of token =
+    if bytes_eq token (codes "-") then Ok []
+    else if nat_lt 2048 (length token) then Err hex_cause
+    else decoded (decode_of token)
+
+-- ---- names and files
+
+-- 1 to 43 bytes, none of them 0
+abbrev pub name_of : List ℕ → Result (List ℕ) ℕ
+name_of token = if nat_lt 0 (length token) && is_name token then Ok token else Err name_cause
+
+-- 1 to 255 bytes, each of them one that may stand on a line
+abbrev pub file_of : List ℕ → Result (List ℕ) ℕ
+file_of token = if nat_lt 0 (length token) && nat_lt (length token) 256 && all_plain token then Ok token else Err name_cause

@@ -1,0 +1,215 @@
+// What a line is.
+ghost use Rattle.std.specs.Prelude.{◌≡◌, ◌≤◌, length};
+ghost use Rattle.sof_script.specs.Splitting.{texts};
+ghost use Rattle.sof_script.specs.Commands.{line_item, said_by, alone, one_name, one_number, bound, with_params, with_values, with_hex, with_error, with_lag, numbers_of};
+
+use crate::causes::{BYTE, COUNT, QUOTE, WORD};
+use crate::file::FileName;
+use crate::held::Tokens;
+use crate::script::Command;
+use crate::tokens::{all_may_stand, from_first_token};
+use crate::values::{error, format, hex, name, number};
+use crate::words::Word;
+use arrayvec::ArrayVec;
+use sof_base::{Bounded, Name44, Params};
+
+/// What a line is.
+#[derive(Debug, Drop)]
+pub enum Item {
+    /// It is skipped.
+    Nothing,
+    /// An endpoint's bytes come from a file (`input`) or go to it.
+    Bind {
+        input: bool,
+        endpoint: Name44,
+        file: FileName,
+    },
+    /// A command.
+    Do(Command),
+}
+
+// A word without arguments.
+fn without(args: &[&[u8]], command: Command) -> Result<Item, u8>
+    ensures { result ≡ alone command (texts args.now) }
+{
+    if args.is_empty() {
+        Ok(Item::Do(command))
+    } else {
+        Err(COUNT)
+    }
+}
+
+// The name that is the one argument.
+fn lone_name(args: &[&[u8]]) -> Result<Name44, u8>
+    ensures { result ≡ one_name (texts args.now) }
+{
+    if args.len() != 1 {
+        return Err(COUNT);
+    }
+    name(args[0])
+}
+
+// The number, from 1 on, that is the one argument.
+fn lone_number(args: &[&[u8]], most: u32) -> Result<u32, u8>
+    ensures { result ≡ one_number most (texts args.now) }
+{
+    if args.len() != 1 {
+        return Err(COUNT);
+    }
+    number(args[0], 1, most)
+}
+
+// An endpoint and its file.
+fn binding(args: &[&[u8]], input: bool) -> Result<Item, u8>
+    ensures { result ≡ bound input (texts args.now) }
+{
+    if args.len() != 2 {
+        return Err(COUNT);
+    }
+    let endpoint = name(args[0])?;
+    let file = FileName::of(args[1])?;
+    Ok(Item::Bind {
+        input,
+        endpoint,
+        file,
+    })
+}
+
+// A stream and its parameters.
+fn params(args: &[&[u8]]) -> Result<Item, u8>
+    ensures { result ≡ with_params (texts args.now) }
+{
+    if args.len() != 4 {
+        return Err(COUNT);
+    }
+    let rate = number(args[1], 0, u32::MAX)?;
+    let channels = number(args[2], 0, 255)?;
+    let format = format(args[3])?;
+    let stream = name(args[0])?;
+    let params = Params {
+        rate,
+        channels: channels as u8,
+        format,
+    };
+    Ok(Item::Do(Command::Params(stream, params)))
+}
+
+// The numbers of at most eight tokens.
+fn numbers(tokens: &[&[u8]]) -> Result<Bounded<u32, 8>, u8>
+    requires { length tokens.now ≤ 8 }
+    ensures { result ≡ numbers_of (texts tokens.now) }
+{
+    let mut numbers: ArrayVec<u32, 8> = ArrayVec::new();
+    for token in tokens {
+        numbers.push(number(token, 0, u32::MAX)?);
+    }
+    match Bounded::new(numbers.as_slice()) {
+        Some(numbers) => Ok(numbers),
+        None => Err(COUNT),
+    }
+}
+
+// A control and one to eight numbers.
+fn values(args: &[&[u8]]) -> Result<Item, u8>
+    ensures { result ≡ with_values (texts args.now) }
+{
+    if args.len() < 2 {
+        return Err(COUNT);
+    }
+    if args.len() > 9 {
+        return Err(COUNT);
+    }
+    let values = numbers(args.split_at(1).1)?;
+    let control = name(args[0])?;
+    Ok(Item::Do(Command::Set(control, values)))
+}
+
+// A control and bytes.
+fn blob(args: &[&[u8]]) -> Result<Item, u8>
+    ensures { result ≡ with_hex (texts args.now) }
+{
+    if args.len() != 2 {
+        return Err(COUNT);
+    }
+    let bytes = hex(args[1])?;
+    let control = name(args[0])?;
+    Ok(Item::Do(Command::Bytes(control, bytes)))
+}
+
+// A message and an error.
+fn refusal(args: &[&[u8]]) -> Result<Item, u8>
+    ensures { result ≡ with_error (texts args.now) }
+{
+    if args.len() != 2 {
+        return Err(COUNT);
+    }
+    let message = number(args[0], 1, 100_000)?;
+    let told = error(args[1])?;
+    Ok(Item::Do(Command::Refuse(message, told)))
+}
+
+// A message and ticks.
+fn lag(args: &[&[u8]]) -> Result<Item, u8>
+    ensures { result ≡ with_lag (texts args.now) }
+{
+    if args.len() != 2 {
+        return Err(COUNT);
+    }
+    let message = number(args[0], 1, 100_000)?;
+    let ticks = number(args[1], 1, 16)?;
+    Ok(Item::Do(Command::Lag(message, ticks)))
+}
+
+// What a word and the tokens behind it say.
+fn meant(word: Word, args: &[&[u8]]) -> Result<Item, u8>
+    ensures { result ≡ said_by word (texts args.now) }
+{
+    match word {
+        Word::In => binding(args, true),
+        Word::Out => binding(args, false),
+        Word::Load => without(args, Command::Load),
+        Word::Unload => without(args, Command::Unload),
+        Word::Suspend => without(args, Command::Suspend),
+        Word::Resume => without(args, Command::Resume),
+        Word::Show => without(args, Command::Show),
+        Word::Open => Ok(Item::Do(Command::Open(lone_name(args)?))),
+        Word::Start => Ok(Item::Do(Command::Start(lone_name(args)?))),
+        Word::Stop => Ok(Item::Do(Command::Stop(lone_name(args)?))),
+        Word::Pause => Ok(Item::Do(Command::Pause(lone_name(args)?))),
+        Word::Release => Ok(Item::Do(Command::Release(lone_name(args)?))),
+        Word::Close => Ok(Item::Do(Command::Close(lone_name(args)?))),
+        Word::Get => Ok(Item::Do(Command::Get(lone_name(args)?))),
+        Word::Read => Ok(Item::Do(Command::Read(lone_name(args)?))),
+        Word::Params => params(args),
+        Word::Set => values(args),
+        Word::Bytes => blob(args),
+        Word::Tick => Ok(Item::Do(Command::Tick(lone_number(args, 60_000)?))),
+        Word::Refuse => refusal(args),
+        Word::Drop => Ok(Item::Do(Command::Drop(lone_number(args, 100_000)?))),
+        Word::Lose => Ok(Item::Do(Command::Lose(lone_number(args, 100_000)?))),
+        Word::Lag => lag(args),
+    }
+}
+
+/// What a line is, or its least cause: a byte that may not stand there, a broken quote, an unknown word, a wrong count of
+/// tokens, a number, hex, a name.
+pub fn read_line(line: &[u8]) -> Result<Item, u8>
+    ensures { result ≡ line_item line.now }
+{
+    let Some(rest) = from_first_token(line) else {
+        return Ok(Item::Nothing);
+    };
+    if !all_may_stand(line) {
+        return Err(BYTE);
+    }
+    let Some(tokens) = Tokens::of(rest) else {
+        return Err(QUOTE);
+    };
+    let [first, args @ ..] = tokens.all() else {
+        return Ok(Item::Nothing);
+    };
+    match Word::of(first) {
+        Some(word) => meant(word, args),
+        None => Err(WORD),
+    }
+}

@@ -1,0 +1,89 @@
+-- What a call on a stream makes of a session, as it is written.
+use Rattle.std.proofs.Common.{◌≡◌, ℕ, List, [], Option, Some, None, Err, unwrap_or, refl, sym, ap, ◌∙◌, arith}
+use Rattle.sof_base.specs.Ports.{Io}
+use Rattle.mbox_link.specs.declared.fates.Entry.{Entry}
+use Rattle.mbox_link.specs.Calls.{World, Meaning}
+use Rattle.mbox_link.specs.Wire.{Wire}
+use Rattle.mbox_link.specs.Link.{link, inner}
+use Rattle.mbox_link.proofs.Led.{Led-steady}
+use Rattle.host_widgets.specs.declared.answers.Answer.{Answer}
+use Rattle.host_widgets.specs.declared.answers.Answer.TheVariants.{Fault}
+use Rattle.host_widgets.specs.declared.answers.HostFault.{HostFault}
+use Rattle.host_widgets.specs.Host.{Outcome}
+use Rattle.host_pcm.specs.declared.asking.Ask.{Ask}
+use Rattle.host_pcm.specs.Asks.{early_fault, stream_place}
+use Rattle.host_pcm.specs.Carried.{Asked, Walks, acts_at, passed_of}
+use Rattle.sof_script.specs.declared.script.Command.{Command}
+use Rattle.sof_session.specs.Seat.{Seat}
+use Rattle.sof_session.specs.Walks.{Ending, ending, walked, stand, Host, Carry, silent, answer_of, host_asked, tested_next, stream_next, place_of, command_next}
+use Rattle.sof_session.specs.Turns.{AreAgreed, StreamRan, Seated, life, Turned, turn, shown_by, host_of}
+use Rattle.sof_session.proofs.Unplanned.{Led-passes}
+use Rattle.sof_session.proofs.StayedCounts.{Stayed}
+use Rattle.sof_session.proofs.WalkEnds.{Fated-boots, walk_ends}
+use Rattle.sof_session.proofs.Agreement.{at}
+use Rattle.sof_session.proofs.Turning.{told, stood}
+use Rattle.sof_session.proofs.StreamWalks.{ends-cut, by-tests, calls-of}
+
+module _ {P : Type 0} (means : Meaning P) (old new : Seat P) (io io' : Io) (name : List ℕ) (ask : Ask) (agreed : AreAgreed means old) (same_plan : new.plan ≡ old.plan) (same_heap : new.heap ≡ old.heap) where
+  abbrev before : World (Wire P)
+  before = at old.link io
+
+  abbrev after : World (Wire P)
+  after = at new.link io'
+
+  abbrev boots : ℕ
+  boots = means.boots old.link.device
+
+  abbrev host : Host
+  host = host_of old
+
+  module _ (result : Outcome) (asked : Asked (link means) old.plan old.heap name ask old.kept new.kept before after result) (stayed : Stayed means old.link.device new.link.device) where
+    abbrev IsNext : Type 0
+    IsNext = told (stood means new) (silent (answer_of result)) ≡ stream_next name ask boots host
+
+    -- a test failed
+    fails : (fault : HostFault) → early_fault old.plan old.kept name ask ≡ Some fault → (result ≡ Err fault) × (after ≡ before) × (new.kept ≡ old.kept) → IsNext
+    fails fault early same =
+        let link_is : new.link ≡ old.link = ap (λ (w : World (Wire P)). w.device) same.1 in
+        let now : told (stood means new) (silent (answer_of result)) ≡ told (stood means old) (silent (Fault fault)) = rw (link_is, same.2, same_plan, same_heap, same.0) refl in
+        now ∙ ap (λ (o : Option HostFault). tested_next o (place_of host name) ask boots host) (sym early)
+
+    -- the acts were walked
+    walks : early_fault old.plan old.kept name ask ≡ None → (k : ℕ) → stream_place old.plan name ≡ Some k → Walks (link means) old.plan old.heap k ask old.kept new.kept before after result → IsNext
+    walks early k place x =
+        let acts = acts_at old.plan old.kept k ask in
+        let cut = ends-cut means result x.sent after x.ends in
+        let between : Stayed means old.link.device x.sent.device.device = record {
+          faults = omega (arith, cut.faults, stayed.faults);
+          faults_below = omega (arith, cut.faults, stayed.faults_below);
+          refusals = omega (arith, cut.refusals, stayed.refusals);
+          refusals_below = omega (arith, cut.refusals, stayed.refusals_below);
+        } in
+        let same_boots : means.boots new.link.device ≡ boots = cut.boots ∙ Fated-boots means old.plan old.heap old.kept x.fates.answers acts before x.sent x.fates.fated in
+        let n = passed_of x.fates.answers result in
+        let ends : ending result n new.link.sent new.link.entries ≡ walked old.plan old.heap old.kept old.link.sent old.link.entries acts =
+        ap (λ (m : ℕ). ending result n m new.link.entries) cut.sent
+        ∙ ap (λ (entries : List Entry). ending result n x.sent.device.sent entries) cut.entries
+        ∙ walk_ends means old.plan old.heap old.kept acts x.fates.answers result before x.sent agreed.unplanned x.fates.fated x.fates.walk between
+        ∙ ap (λ (entries : List Entry). walked old.plan old.heap old.kept old.link.sent entries acts) (sym agreed.unplanned.entries) in
+        let now : told (stood means new) (silent (answer_of result)) ≡ told (stand boots (host_asked host k ask (ending result n new.link.sent new.link.entries))) (silent (answer_of result)) = rw (same_boots, x.record_after, same_plan, same_heap) refl in
+        let there : told (stand boots (host_asked host k ask (walked old.plan old.heap old.kept old.link.sent old.link.entries acts))) (silent (answer_of (walked old.plan old.heap old.kept old.link.sent old.link.entries acts).outcome)) ≡ stream_next name ask boots host =
+        (λ i. tested_next (sym early i) (unwrap_or (sym place i) 0) ask boots host) in
+        now ∙ ap (λ (e : Ending). told (stand boots (host_asked host k ask e)) (silent (answer_of e.outcome))) ends ∙ there
+
+    is-next : IsNext
+    is-next = by-tests (link means) old.plan old.heap name ask old.kept new.kept before after result (early_fault old.plan old.kept name ask) refl asked fails walks
+
+  -- a command that asks this of the stream of this name, and shows nothing
+  pub stream_turned : (command : Command) (answer : Answer) → StreamRan means name ask old new io io' answer → ((n : ℕ) (h : Host) → command_next command n h ≡ stream_next name ask n h) → shown_by command old ≡ [] → Turned (life means) (turn (Carry command) answer (shown_by command old)) (Seated old) (Seated new)
+  stream_turned command answer ran asks quiet =
+      let calls = calls-of (link means) old.plan old.heap name ask old.kept new.kept before after ran.outcome ran.asked in
+      let steady = Led-steady means calls.0 (inner before) (inner after) (Led-passes means calls.0 before after agreed.unplanned calls.1) in
+      record {
+        next = λ calm.
+            let stayed : Stayed means old.link.device new.link.device = record { faults = calm.faults; faults_below = calm.faults_below; refusals = calm.refusals; refusals_below = calm.refusals_below } in
+            (λ i. told (stood means new) record { answer = ran.said i; shown = quiet i }) ∙ is-next ran.outcome ran.asked stayed ∙ sym (asks boots host);
+        faults = steady.faults;
+        refusals = steady.refusals;
+        most = steady.most;
+      }

@@ -1,0 +1,195 @@
+-- What stays Live keeps its channels and its rate, since streams that touch agree.
+use Rattle.std.proofs.Common.{◌≡◌, refl, sym, ap, ◌∙◌, ℕ, zero, suc, ◌/◌, List, [], ◌∷◌, ◌++◌, length, Option, Some, None, is_some, Bool, true, false, cond, not, inl, inr, ◌⊎◌, ◌==◌, ◌&&◌, ◌||◌, Contains, arith}
+use Rattle.std.proofs.lemmas.Bool.{false≢true, and_parts, and_from, or_left, or_right, or_cases, eqb-true, not-true, true_from_ne_false}
+use Rattle.std.proofs.lemmas.List.Folds.{list_any-append}
+use Rattle.std.specs.Option.{option_map_or, option_and_then, option_map}
+use Rattle.std.specs.List.{find, list_any, list_all}
+use Rattle.sof_base.specs.declared.format.Params.{Params}
+use Rattle.stream_law.specs.declared.graph.Comp.{Comp}
+use Rattle.stream_law.specs.declared.graph.Edge.{Edge}
+use Rattle.stream_law.specs.declared.graph.Graph.{Graph}
+use Rattle.stream_law.specs.declared.stream.StreamView.{StreamView}
+use Rattle.stream_law.specs.State.{View}
+use Rattle.stream_law.specs.Ways.{comp_of, components, buffers, source_of, sink_of, reaches, leads, is_capture, on_way, live, live_end, live_params, channels_of, rate_of, is_live_phase, touch, same_shape, agree}
+use Rattle.stream_law.specs.Moves.{capacity}
+use Rattle.stream_law.specs.Order.{is_among}
+use Rattle.stream_law.specs.Seen.{flows, is_equaliser}
+use Rattle.stream_law.specs.Stands.{StaysAsLive}
+use Rattle.stream_law.specs.Stays.{SameWays, KeepsWays, KeepsShape}
+use Rattle.stream_law.proofs.Standing.{flows-absent, equalises-there}
+
+reaches_same : (g h : Graph) → g.joins ≡ h.joins → (a b : ℕ) → reaches g a b ≡ reaches h a b
+unfolding reaches
+reaches_same g h same a b = ap (λ joins. leads joins (length joins) a b) same
+
+on_way_same : (g h : Graph) → SameWays g h → (host x : ℕ) → on_way g host x ≡ on_way h host x
+unfolding on_way
+on_way_same g h same host x = ap (λ (q : Bool × (Bool × Bool)). cond q.0 q.1.0 q.1.1) (λ i. (capture i, (reach x host i, reach host x i)))
+  where
+    by_kind : (o : Option Comp) → option_map_or (λ c. is_capture c.kind) o false ≡ option_map_or is_capture (option_map (λ x. x.kind) o) false
+    by_kind None = refl
+    by_kind (Some c) = refl
+
+    capture : option_map_or (λ c. is_capture c.kind) (comp_of g host) false ≡ option_map_or (λ c. is_capture c.kind) (comp_of h host) false
+    capture = by_kind (comp_of g host) ∙ ap (λ o. option_map_or is_capture o false) (same.kinds host) ∙ sym (by_kind (comp_of h host))
+
+    reach : (a b : ℕ) → reaches g a b ≡ reaches h a b
+    reach a b = reaches_same g h same.joins a b
+
+-- what is found passes the test, and is one of the list
+find-some : (p : StreamView → Bool) (ss : List StreamView) (s : StreamView) → find p ss ≡ Some s → (p s ≡ true) × Contains ss s
+find-some p [] s e = absurd (none_some e)
+  where
+    none_some : {t : StreamView} → None ≡ Some t → ⊥
+    none_some h = cc
+find-some p (t ∷ ts) s e = by_test (p t) refl e (find-some p ts s)
+  where
+    by_test : (h : Bool) → p t ≡ h → cond h (Some t) (find p ts) ≡ Some s → (find p ts ≡ Some s → (p s ≡ true) × Contains ts s) → (p s ≡ true) × Contains (t ∷ ts) s
+    by_test true h k rest = let same : t ≡ s = cc in (ap p (sym same) ∙ h, (0, omega arith, same))
+    by_test false h k rest = let more = rest k in let low = more.1.1 in (more.0, (suc more.1.0, omega (arith, low), more.1.2))
+
+-- a list in which some pass has one that is found
+find-any : (p : StreamView → Bool) (ss : List StreamView) → list_any p ss ≡ true → (s : StreamView) × (find p ss ≡ Some s)
+find-any p [] h = absurd (false≢true h)
+find-any p (t ∷ ts) h = by_test (p t) refl h (find-any p ts)
+  where
+    by_test : (k : Bool) → p t ≡ k → (k || list_any p ts) ≡ true → (list_any p ts ≡ true → (s : StreamView) × (find p ts ≡ Some s)) → (s : StreamView) × (cond k (Some t) (find p ts) ≡ Some s)
+    by_test true k h rest = (t, refl)
+    by_test false k h rest = rest h
+
+contains_cases : (t s : StreamView) (ts : List StreamView) → Contains (t ∷ ts) s → (t ≡ s) ⊎ Contains ts s
+contains_cases t s ts (zero, low, e) = inl e
+contains_cases t s ts (suc k, low, e) = inr (k, omega (arith, low), e)
+
+-- a test that all pass is passed by each
+list_all-of : (p : StreamView → Bool) (ss : List StreamView) (s : StreamView) → list_all p ss ≡ true → Contains ss s → p s ≡ true
+list_all-of p [] s all here = let low = here.1 in absurd (omega (arith, low))
+list_all-of p (t ∷ ts) s all here = by_case (contains_cases t s ts here) (list_all-of p ts s)
+  where
+    by_case : (t ≡ s) ⊎ Contains ts s → (list_all p ts ≡ true → Contains ts s → p s ≡ true) → p s ≡ true
+    by_case (inl e) rest = ap p (sym e) ∙ (and_parts (p t) (list_all p ts) all).0
+    by_case (inr more) rest = rest (and_parts (p t) (list_all p ts) all).1 more
+
+-- some id of a list passes a test where one does
+list_any-at : (p : ℕ → Bool) (ids : List ℕ) (x : ℕ) → is_among ids x ≡ true → p x ≡ true → list_any p ids ≡ true
+list_any-at p [] x there h = absurd (false≢true there)
+list_any-at p (i ∷ ids) x there h = by_place (or_cases (i == x) (is_among ids x) there) (list_any-at p ids x)
+  where
+    by_place : ((i == x) ≡ true) ⊎ (is_among ids x ≡ true) → (is_among ids x ≡ true → p x ≡ true → list_any p ids ≡ true) → (p i || list_any p ids) ≡ true
+    by_place (inl e) rest = or_left (p i) (list_any p ids) (ap p (eqb-true i x e) ∙ h)
+    by_place (inr e) rest = or_right (p i) (list_any p ids) (rest e h)
+
+-- streams that touch have one number of channels
+touching : (v : View) → agree v ≡ true → (s t : StreamView) → Contains v.streams s → Contains v.streams t → touch v.graph s t ≡ true → same_shape s.params t.params ≡ true
+unfolding agree
+touching v agrees s t in_s in_t touches =
+    let row = list_all-of (λ s. list_all (λ t. not (touch v.graph s t) || same_shape s.params t.params) v.streams) v.streams s agrees in_s in
+    let cell = list_all-of (λ t. not (touch v.graph s t) || same_shape s.params t.params) v.streams t row in_t in
+    sym (ap (λ h. not h || same_shape s.params t.params) touches) ∙ cell
+
+-- what is there has a value
+is_some-value : {X : Type 0} (o : Option X) → is_some o ≡ true → (x : X) × (o ≡ Some x)
+is_some-value None h = absurd (false≢true h)
+is_some-value (Some x) h = (x, refl)
+
+module _ (old new : View) (keeps : KeepsWays old new) (x : ℕ) (there : is_among (components new.graph ++ buffers new.graph) x ≡ true) (was : live old x ≡ true) (now : live new x ≡ true) where
+  -- the streams that give x its parameters, before and after
+  found_old : (s : StreamView) × (find (λ s. is_live_phase s.phase && on_way old.graph s.host x) old.streams ≡ Some s)
+  unfolding live
+  found_old = find-any (λ s. is_live_phase s.phase && on_way old.graph s.host x) old.streams was
+
+  found_new : (s : StreamView) × (find (λ s. is_live_phase s.phase && on_way new.graph s.host x) new.streams ≡ Some s)
+  unfolding live
+  found_new = find-any (λ s. is_live_phase s.phase && on_way new.graph s.host x) new.streams now
+
+  -- they have parameters
+  given_old : (p : Params) × (live_params old x ≡ Some p) × (found_old.0.params ≡ Some p)
+  given_old =
+      let s = found_old.0 in
+      let of_old = find-some (λ s. is_live_phase s.phase && on_way old.graph s.host x) old.streams s found_old.1 in
+      let p = is_some-value s.params (keeps.old_have s of_old.1 (and_parts (is_live_phase s.phase) (on_way old.graph s.host x) of_old.0).0) in
+      (p.0, ap (option_and_then (λ s. s.params)) found_old.1 ∙ p.1, p.1)
+
+  given_new : (p : Params) × (live_params new x ≡ Some p) × (found_new.0.params ≡ Some p)
+  given_new =
+      let s = found_new.0 in
+      let of_new = find-some (λ s. is_live_phase s.phase && on_way new.graph s.host x) new.streams s found_new.1 in
+      let p = is_some-value s.params (keeps.new_have s of_new.1 (and_parts (is_live_phase s.phase) (on_way new.graph s.host x) of_new.0).0) in
+      (p.0, ap (option_and_then (λ s. s.params)) found_new.1 ∙ p.1, p.1)
+
+  -- the old one is there still, and both touch at x
+  one_shape : (given_old.0.rate == given_new.0.rate && given_old.0.channels == given_new.0.channels) ≡ true
+  one_shape = sym (ap (λ (o : Option Params × Option Params). same_shape o.0 o.1) (λ i. ((kept.3 ∙ given_old.2) i, given_new.2 i))) ∙ touching new keeps.agrees kept.0 u kept.1 of_new.1 touches
+    where
+      s : StreamView
+      s = found_old.0
+
+      u : StreamView
+      u = found_new.0
+
+      of_old : ((is_live_phase s.phase && on_way old.graph s.host x) ≡ true) × Contains old.streams s
+      of_old = find-some (λ s. is_live_phase s.phase && on_way old.graph s.host x) old.streams s found_old.1
+
+      of_new : ((is_live_phase u.phase && on_way new.graph u.host x) ≡ true) × Contains new.streams u
+      of_new = find-some (λ s. is_live_phase s.phase && on_way new.graph s.host x) new.streams u found_new.1
+
+      lives : (is_live_phase s.phase ≡ true) × (on_way old.graph s.host x ≡ true)
+      lives = and_parts (is_live_phase s.phase) (on_way old.graph s.host x) of_old.0
+
+      lives_new : (is_live_phase u.phase ≡ true) × (on_way new.graph u.host x ≡ true)
+      lives_new = and_parts (is_live_phase u.phase) (on_way new.graph u.host x) of_new.0
+
+      kept : (t : StreamView) × Contains new.streams t × (t.host ≡ s.host) × (t.params ≡ s.params)
+      kept = keeps.params s of_old.1 lives.0
+
+      touches : touch new.graph kept.0 u ≡ true
+      touches = list_any-at (λ y. on_way new.graph kept.0.host y && on_way new.graph u.host y) (components new.graph ++ buffers new.graph) x there
+          (and_from (on_way new.graph kept.0.host x) (on_way new.graph u.host x) (ap (λ host. on_way new.graph host x) kept.2 ∙ sym (on_way_same old.graph new.graph keeps.ways s.host x) ∙ lives.1) lives_new.1)
+
+  -- so what is Live before and after has the same channels and the same rate
+  pub shapes-stay : (channels_of new x ≡ channels_of old x) × (rate_of new x ≡ rate_of old x)
+  unfolding channels_of rate_of
+  shapes-stay =
+      let parts = and_parts (given_old.0.rate == given_new.0.rate) (given_old.0.channels == given_new.0.channels) one_shape in (
+        ap (λ (o : Option Params). option_map_or (λ p. p.channels) o 0) given_new.1 ∙ sym (eqb-true given_old.0.channels given_new.0.channels parts.1) ∙ sym (ap (λ (o : Option Params). option_map_or (λ p. p.channels) o 0) given_old.1),
+        ap (λ (o : Option Params). option_map_or (λ p. p.rate) o 0) given_new.1 ∙ sym (eqb-true given_old.0.rate given_new.0.rate parts.0) ∙ sym (ap (λ (o : Option Params). option_map_or (λ p. p.rate) o 0) given_old.1),
+      )
+
+-- ---- what stays as it is while Live
+
+among-left : (xs ys : List ℕ) (x : ℕ) → is_among xs x ≡ true → is_among (xs ++ ys) x ≡ true
+among-left xs ys x h = list_any-append (λ id. id == x) xs ys ∙ or_left (is_among xs x) (is_among ys x) h
+
+among-right : (xs ys : List ℕ) (x : ℕ) → is_among ys x ≡ true → is_among (xs ++ ys) x ≡ true
+among-right xs ys x h = list_any-append (λ id. id == x) xs ys ∙ or_right (is_among xs x) (is_among ys x) h
+
+-- where frames may lie there is an edge
+flows-there : (v : View) (b : ℕ) → flows v b ≡ true → is_among (buffers v.graph) b ≡ true
+flows-there v b f = true_from_ne_false (is_among (buffers v.graph) b) (λ gone. false≢true (sym (flows-absent v b gone) ∙ f))
+
+flows-live : (v : View) (b : ℕ) → flows v b ≡ true → live v b ≡ true
+unfolding flows
+flows-live v b f = (and_parts (live v b) (live_end v (source_of v.graph b)) (and_parts (live v b && live_end v (source_of v.graph b)) (live_end v (sink_of v.graph b)) f).0).0
+
+pub live-stays : (old new : View) (fresh : Option ℕ) → KeepsShape old new fresh → StaysAsLive old new fresh
+unfolding capacity
+live-stays old new fresh keeps = record {
+  room = λ b was now. ap (λ (q : List Edge × ℕ). option_map_or (λ e. e.size) (find (λ e. e.buffer == b) q.0) 0 / 4 / q.1) (λ i. (
+    sym keeps.edges i,
+    (shapes-stay old new keeps.keeps b (among-right (components new.graph) (buffers new.graph) b (flows-there new b now)) (flows-live old b was) (flows-live new b now)).0 i,
+  ));
+  equaliser = λ c there goes.
+      let outer = and_parts (live old c && live new c) (not (option_map_or (λ x. x == c) fresh false)) goes in
+      let lives = and_parts (live old c) (live new c) outer.0 in (
+        and_from (live old c) (option_map_or (λ x. is_equaliser x.kind) (comp_of old.graph c) false) lives.0 (kind_same c ∙ (and_parts (live new c) (option_map_or (λ x. is_equaliser x.kind) (comp_of new.graph c) false) there).1),
+        keeps.blobs c (not-true (option_map_or (λ x. x == c) fresh false) outer.1),
+        (shapes-stay old new keeps.keeps c (among-left (components new.graph) (buffers new.graph) c (equalises-there new c there)) lives.0 lives.1).0,
+      );
+}
+  where
+    by_kind : (o : Option Comp) → option_map_or (λ x. is_equaliser x.kind) o false ≡ option_map_or is_equaliser (option_map (λ x. x.kind) o) false
+    by_kind None = refl
+    by_kind (Some c) = refl
+
+    kind_same : (c : ℕ) → option_map_or (λ x. is_equaliser x.kind) (comp_of old.graph c) false ≡ option_map_or (λ x. is_equaliser x.kind) (comp_of new.graph c) false
+    kind_same c = by_kind (comp_of old.graph c) ∙ ap (λ o. option_map_or is_equaliser o false) (keeps.keeps.ways.kinds c) ∙ sym (by_kind (comp_of new.graph c))

@@ -1,0 +1,152 @@
+-- A device and its inputs stand where moments lead: the schedule equals the equations.
+use Rattle.std.specs.Prelude.{◌≡◌, ℕ, ◌+◌, ◌-◌, ◌≤◌, ◌^◌, min, List, [], ◌++◌, drop, map, length, Option, Some, None, Bool, true, false, ◌==◌, find, if◌then◌else◌, IsTrue}
+use Rattle.std.specs.List.{list_any}
+use Rattle.std.specs.Option.{option_map_or}
+use Rattle.sof_base.specs.Samples.{Frame}
+use Rattle.sof_base.specs.Ports.{InputView}
+use Rattle.stream_law.specs.State.{FwState, View, view_of}
+use Rattle.stream_law.specs.Table.{number_of, list_of}
+use Rattle.stream_law.specs.Ways.{comp_of, buffers, ins, outs, active, channels_of, agree, is_silent}
+use Rattle.stream_law.specs.Joins.{fits_kind}
+use Rattle.stream_law.specs.Moves.{capacity}
+use Rattle.stream_law.specs.Epochs.{history_of}
+use Rattle.stream_law.specs.Order.{is_among, order}
+use Rattle.stream_law.specs.Walks.{HasAll, HasEnds}
+use Rattle.stream_law.specs.Seen.{flows, goes_on, equalises, blob_in, numbers_in}
+use Rattle.stream_law.specs.Past.{Moment, Past, Leads, start, empty_view, part_of}
+
+-- ---- look-ups
+
+-- the frames that a state keeps of a buffer
+abbrev pub ring_of : FwState → ℕ → List Frame
+ring_of f b = option_map_or (λ r. r.frames) (find (λ r. r.buffer == b) f.rings) []
+
+-- an input is bound to a slot
+abbrev pub is_bound : List InputView → ℕ → Bool
+is_bound inputs slot = list_any (λ x. x.slot == slot) inputs
+
+-- how many bytes were taken of an input, 0 where it is not bound
+abbrev pub position_of : List InputView → ℕ → ℕ
+position_of inputs slot = option_map_or (λ x. x.position) (find (λ x. x.slot == slot) inputs) 0
+
+-- the bytes that are left of an input, none where it is not bound
+abbrev pub left_of : List InputView → ℕ → List ℕ
+left_of inputs slot = option_map_or (λ x. x.left) (find (λ x. x.slot == slot) inputs) []
+
+-- ---- what is kept
+
+-- the counts of each edge agree with its frames, its room and its ends
+pub record KeepsCounts (p : Past) : Type 0 where
+  pub length_made : (b : ℕ) → length (list_of p.made b) ≡ number_of p.counts.put b
+  pub no_more_taken : (b : ℕ) → number_of p.counts.taken b ≤ number_of p.counts.put b
+  pub fits : (b : ℕ) → number_of p.counts.put b ≤ number_of p.counts.taken b + capacity p.view b
+  pub empty : (b : ℕ) → flows p.view b ≡ false → number_of p.counts.taken b ≡ number_of p.counts.put b
+
+-- the frames that lie in an edge: those that were put into it and not taken
+abbrev pub lying : Past → ℕ → List Frame
+lying p b = part_of (list_of p.made b) (number_of p.counts.taken b) (number_of p.counts.put b - number_of p.counts.taken b)
+
+-- a firmware that is on holds what the past left: each ring the frames that lie in its edge, and each Live equaliser the
+-- numbers of its epoch. Same says how its view is that of the past
+pub record Holds (Same : View → View → Type 0) (f : FwState) (p : Past) : Type 0 where
+  pub on : p.on ≡ true
+  pub clock : f.clock ≡ p.clock
+  pub view : Same (view_of f) p.view
+  pub buffers : map (λ r. r.buffer) f.rings ≡ buffers f.graph
+  pub rings : (b : ℕ) → ring_of f b ≡ lying p b
+  pub equalisers : (c : ℕ) → equalises p.view c ≡ true → is_among (map (λ h. h.comp) f.histories) c ≡ true
+  pub histories : (c : ℕ) → equalises p.view c ≡ true → numbers_in f c ≡ history_of (blob_in p.view c) (channels_of p.view c)
+      (list_of p.epochs c)
+
+-- the same of a firmware that may be off
+abbrev pub HoldsWhereOn : (View → View → Type 0) → Option FwState → Past → Type 0
+HoldsWhereOn Same (Some f) p = Holds Same f p
+HoldsWhereOn Same None p = p.on ≡ false
+
+-- each input has given its bytes up to the position of the past. Its own position stays at the last value of 64 bits
+pub record HasRead (whole : List (ℕ × List ℕ)) (inputs : List InputView) (p : Past) : Type 0 where
+  pub positions : (slot : ℕ) → is_bound inputs slot ≡ true → position_of inputs slot ≡ min (number_of p.positions slot) (2 ^ 64 - 1)
+  pub left : (slot : ℕ) → left_of inputs slot ≡ drop (number_of p.positions slot) (list_of whole slot)
+
+-- the moments led to a past up to which the inputs have given their bytes
+pub record Reads (whole : List (ℕ × List ℕ)) (inputs : List InputView) (moments : List Moment) : Type 0 where
+  pub past : Past
+  pub led : Leads whole start moments past
+  pub read : HasRead whole inputs past
+
+-- ---- the relation
+
+-- the moments led to a past whose counts are kept, that the device holds, and up to which the inputs have given their bytes
+pub record StandsBy (Same : View → View → Type 0) (device : Option FwState) (whole : List (ℕ × List ℕ)) (inputs : List InputView)
+    (moments : List Moment) : Type 0 where
+  pub past : Past
+  pub led : Leads whole start moments past
+  pub read : HasRead whole inputs past
+  pub kept : KeepsCounts past
+  pub holds : HoldsWhereOn Same device past
+  pub agrees : agree past.view ≡ true
+
+-- one view
+abbrev pub SameView : View → View → Type 0
+SameView v w = v ≡ w
+
+-- nothing is Live in either view
+abbrev pub BothSilent : View → View → Type 0
+BothSilent v w = IsTrue (is_silent v) × IsTrue (is_silent w)
+
+-- the device and the inputs stand where the moments lead, with these bytes as the inputs' whole
+abbrev pub Stands : Option FwState → List (ℕ × List ℕ) → List InputView → List Moment → Type 0
+Stands device whole inputs moments = StandsBy SameView device whole inputs moments
+
+-- the same while a load or a resume builds the graph: nothing is Live in the firmware's view and in that of the past
+abbrev pub StandsBuilding : Option FwState → List (ℕ × List ℕ) → List InputView → List Moment → Type 0
+StandsBuilding device whole inputs moments = StandsBy BothSilent device whole inputs moments
+
+-- ---- what a boot and an act that passes do to a state
+
+-- a state to which nothing has come yet
+pub record Booted (f : FwState) : Type 0 where
+  pub clock : f.clock ≡ 0
+  pub view : view_of f ≡ empty_view
+  pub rings : f.rings ≡ []
+  pub histories : f.histories ≡ []
+  pub staging : f.staging ≡ []
+
+-- an act that passes gives the state a view: rings in which no frame may lie are empty, and an epoch that does not go on begins
+pub record Sees (f : FwState) (v : View) (fresh : Option ℕ) (f' : FwState) : Type 0 where
+  pub clock : f'.clock ≡ f.clock
+  pub view : view_of f' ≡ v
+  pub buffers : map (λ r. r.buffer) f'.rings ≡ buffers f'.graph
+  pub rings : (b : ℕ) → ring_of f' b ≡ (if flows v b then ring_of f b else [])
+  pub equalisers : (c : ℕ) → equalises v c ≡ true → is_among (map (λ h. h.comp) f'.histories) c ≡ true
+  pub histories : (c : ℕ) → equalises v c ≡ true →
+      numbers_in f' c ≡ (if goes_on (view_of f) v fresh c then numbers_in f c else history_of (blob_in v c) (channels_of v c) [])
+
+-- an act that passes while nothing is Live leaves nothing Live and no frames
+pub record SeesSilent (f f' : FwState) : Type 0 where
+  pub clock : f'.clock ≡ f.clock
+  pub silent : IsTrue (is_silent (view_of f'))
+  pub buffers : map (λ r. r.buffer) f'.rings ≡ buffers f'.graph
+  pub rings : (b : ℕ) → ring_of f' b ≡ []
+
+-- an edge in which frames may go on lying keeps its room, and an equaliser whose epoch goes on its blob and channels
+pub record StaysAsLive (old new : View) (fresh : Option ℕ) : Type 0 where
+  pub room : (b : ℕ) → flows old b ≡ true → flows new b ≡ true → capacity new b ≡ capacity old b
+  pub equaliser : (c : ℕ) → equalises new c ≡ true → goes_on old new fresh c ≡ true → (equalises old c ≡ true) ×
+      (blob_in new c ≡ blob_in old c) × (channels_of new c ≡ channels_of old c)
+
+-- more bytes stand behind those that are left of an input
+pub record Fills (slot : ℕ) (more : List ℕ) (inputs inputs' : List InputView) : Type 0 where
+  pub bound : (s : ℕ) → is_bound inputs s ≡ is_bound inputs' s
+  pub positions : (s : ℕ) → position_of inputs' s ≡ position_of inputs s
+  pub left : (s : ℕ) → left_of inputs' s ≡ (if slot == s then left_of inputs s ++ more else left_of inputs s)
+
+-- ---- what a view must be for a tick
+
+-- the ends of edges are components, each component has its place in the order, and what is Active has the edges in and out
+-- that its kind may have
+pub record IsPlayable (v : View) : Type 0 where
+  pub ends : HasEnds v.graph
+  pub ordered : HasAll v.graph (order v.graph)
+  pub fits : (c : ℕ) → active v c ≡ true → option_map_or (λ x. fits_kind x.kind (length (ins v.graph c)) (length (outs v.graph c)))
+      (comp_of v.graph c) false ≡ true

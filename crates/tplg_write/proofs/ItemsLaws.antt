@@ -1,0 +1,23 @@
+-- Items written one after the other.
+use Rattle.std.proofs.Common.{◌≡◌, ℕ, ◌+◌, ◌<◌, List, [], ◌∷◌, ◌++◌, length, take, get_or, sym, ap, ◌∙◌, append-nil, append_assoc}
+use Rattle.std.proofs.lemmas.List.{map-append, take_more}
+use Rattle.sof_base.specs.Cells.{Cell, written, byte_of}
+use Rattle.sof_base.specs.Slots.{wrote_part}
+use Rattle.tplg_model.specs.Spelling.{items_cells}
+
+module _ {A : Type 0} (cells : A → List Cell) where
+  cells_one : (xs : List A) (x : A) → items_cells cells (xs ++ x ∷ []) ≡ items_cells cells xs ++ cells x
+  unfolding items_cells
+  cells_one [] x = append-nil (cells x)
+  cells_one (y ∷ xs) x = ap (λ (t : List Cell). cells y ++ t) (cells_one xs x) ∙ sym (append_assoc (cells y) (items_cells cells xs) (cells x))
+
+  pub items_none : (old : List ℕ) → wrote_part old (items_cells cells []) ≡ old
+  unfolding items_cells wrote_part
+  items_none old = append-nil old
+
+  pub items_more : (old : List ℕ) (xs : List A) (i : ℕ) (x : A) → i < length xs → x ≡ get_or xs i x → wrote_part (wrote_part old (items_cells cells (take i xs))) (cells x) ≡ wrote_part old (items_cells cells (take (i + 1) xs))
+  unfolding wrote_part
+  items_more old xs i x lt is =
+      let one : written (items_cells cells (take (i + 1) xs)) ≡ written (items_cells cells (take i xs)) ++ written (cells x) =
+      ap (λ (t : List A). written (items_cells cells t)) (take_more xs i x lt ∙ ap (λ (y : A). take i xs ++ y ∷ []) (sym is)) ∙ ap written (cells_one (take i xs) x) ∙ map-append byte_of (items_cells cells (take i xs)) (cells x) in
+      append_assoc old (written (items_cells cells (take i xs))) (written (cells x)) ∙ ap (λ (t : List ℕ). old ++ t) (sym one)

@@ -1,0 +1,14 @@
+use Rattle.std.proofs.Common.{ℕ, List, ap}
+use Rattle.tplg_model.specs.Spelling.{widget_head_slots, head_of, items_cells, control_cells}
+use Rattle.tplg_write.proofs.RoomLaws.{each_free}
+use Rattle.tplg_write.proofs.PatchLaws.{slots_then}
+use Rattle.tplg_write.proofs.widgets.WidgetSpelled.put.Goals as goal
+
+pub put_items-requires-clause-sizes : goal.put_items-requires-clause-sizes
+put_items-requires-clause-sizes c = each_free c.items.result.now
+
+pub returns-clause-ok : goal.returns-clause-ok
+returns-clause-ok c =
+    let w = c.args.self.now in
+    rw (c.in_ok-put_items.ensures.ok, c.in_ok-put_widget_head.ensures.ok, c.items.ensures) (ap (λ (a : List ℕ). record { front = c.args.sink.now.front; added = a })
+    (slots_then c.args.sink.now.added (widget_head_slots (head_of w)) (items_cells control_cells w.controls)))

@@ -1,0 +1,87 @@
+// Blocks: a header of nine words and a payload.
+ghost use Rattle.std.specs.Prelude.{◌≡◌, ◌<◌, ◌^◌, OnOk, [], ◌∷◌, length};
+ghost use Rattle.sof_base.specs.Slots.{Word};
+ghost use Rattle.tplg_model.specs.Arrays.{Each};
+ghost use Rattle.tplg_model.specs.Spelling.{IsSound, body_cells, block_cells, items_cells, kind_of, count_of};
+ghost use Rattle.tplg_write.specs.Sinks.{with_slots, with_cells};
+ghost use Rattle.tplg_write.specs.Sizes.{HasSizes};
+
+use crate::items::put_items;
+use crate::records::put_fixed;
+use crate::sink::Sink;
+use sof_base::NoMemory;
+use tplg_model::{Block, Body};
+
+// A block's payload.
+fn put_body(body: &Body, sink: &mut Sink) -> Result<(), NoMemory>
+    requires room { length (body_cells body.now) < 2 ^ 32 }
+    requires sizes { HasSizes body.now }
+    ensures ok { OnOk result (sink.new ≡ with_cells sink.old (body_cells body.now)) }
+    ensures front { sink.new.front ≡ sink.old.front }
+{
+    match body {
+        Body::Manifests(manifests) => put_items(manifests.items(), sink),
+        Body::Widgets(widgets) => put_items(widgets.items(), sink),
+        Body::Routes(routes) => put_items(routes.items(), sink),
+        Body::Pcms(pcms) => put_items(pcms.items(), sink),
+        Body::Other { bytes, .. } => put_fixed(bytes.items(), sink),
+    }
+}
+
+// The type of a block and its number of records.
+fn kind_and_count(body: &Body) -> (u32, u32)
+    requires { IsSound body.now }
+    ensures { result ≡ (kind_of body.now, count_of body.now) }
+{
+    match body {
+        Body::Manifests(manifests) => (8, manifests.items().len() as u32),
+        Body::Widgets(widgets) => (5, widgets.items().len() as u32),
+        Body::Routes(routes) => (4, routes.items().len() as u32),
+        Body::Pcms(pcms) => (7, pcms.items().len() as u32),
+        Body::Other { kind, count, .. } => (*kind, *count),
+    }
+}
+
+// A block's header up to the size of its payload: the magic word, ABI 5, version, type, 36 and vendor type.
+fn put_front(block: &Block, kind: u32, sink: &mut Sink) -> Result<(), NoMemory>
+    ensures ok { OnOk result (sink.new ≡ with_slots sink.old (Word 0x41536F43 ∷ Word 5 ∷ Word block.now.version ∷ Word kind ∷ Word 36 ∷ Word block.now.vendor_type ∷ [])) }
+    ensures front { sink.new.front ≡ sink.old.front }
+{
+    sink.word(0x41536F43)?;
+    sink.word(5)?;
+    sink.word(block.version)?;
+    sink.word(kind)?;
+    sink.word(36)?;
+    sink.word(block.vendor_type)?;
+    Ok(())
+}
+
+// One block: the size of its payload is written once the payload is there.
+fn put_block(block: &Block, sink: &mut Sink) -> Result<(), NoMemory>
+    requires { HasSizes block.now.body }
+    ensures ok { OnOk result (sink.new ≡ with_cells sink.old (block_cells block.now)) }
+    ensures front { sink.new.front ≡ sink.old.front }
+{
+    let (kind, count) = kind_and_count(&block.body);
+    put_front(block, kind, sink)?;
+    let place = sink.len();
+    sink.word(0)?;
+    sink.word(block.index)?;
+    sink.word(count)?;
+    put_body(&block.body, sink)?;
+    let size = sink.len() - place - 12;
+    sink.patch(place, size as u32);
+    Ok(())
+}
+
+/// Writes blocks, one after the other.
+pub fn put_blocks(blocks: &[Block], sink: &mut Sink) -> Result<(), NoMemory>
+    requires { Each (λ b. HasSizes b.body) blocks.now }
+    ensures ok { OnOk result (sink.new ≡ with_cells sink.old (items_cells block_cells blocks.now)) }
+    ensures front { sink.new.front ≡ sink.old.front }
+{
+    for block in blocks {
+        put_block(block, sink)?;
+    }
+    Ok(())
+}

@@ -156,29 +156,33 @@ fn prepared(alloc: Global) -> Result<Firmware, Fail> {
     Ok(firmware)
 }
 
+// What a tick writes to the DAI.
+fn ticked(alloc: Global, firmware: &mut Firmware, io: &mut Inputs) -> Result<Vec<u8>, Fail> {
+    let mut out = Outputs::new(alloc)?;
+    out.add(2)?;
+    firmware.tick(io, &mut out);
+    Ok(Vec::from_slice(alloc, out.bytes(2))?)
+}
+
 #[test]
 fn a_stream_runs_from_its_start_to_its_stop(rt: HostRuntime) -> Result<(), Fail> {
     let mut firmware = prepared(rt.alloc())?;
     let mut io = Inputs::new(rt.alloc())?;
-    let mut out = Outputs::new(rt.alloc())?;
     io.add(0, vec![in rt.alloc(); 1, 2, 3, 4, 5]?)?;
-    out.add(2)?;
-    firmware.tick(&mut io, &mut out);
-    assert_eq!(rt; out.bytes(2).len(), 0);
+    let before = ticked(rt.alloc(), &mut firmware, &mut io)?;
+    assert_eq!(rt; before.len(), 0);
     let start = [Message::TrigStart { id: 0 }];
     let replies = replies_to(rt.alloc(), &mut firmware, &start)?;
     assert!(rt; replies.as_slice() == [DONE].as_slice());
-    firmware.tick(&mut io, &mut out);
-    assert_eq!(rt; out.bytes(2).len(), 384);
+    let running = ticked(rt.alloc(), &mut firmware, &mut io)?;
+    assert_eq!(rt; running.len(), 384);
     let front = [0, 0, 1, 2, 0, 0, 3, 4, 0, 0, 5, 0];
-    assert!(rt; &out.bytes(2)[..12] == front.as_slice());
+    assert_eq!(rt; running.get(..12), Some(front.as_slice()));
     let stop = [Message::TrigStop { id: 0 }, Message::PcmFree { id: 0 }];
     let replies = replies_to(rt.alloc(), &mut firmware, &stop)?;
     assert!(rt; replies.as_slice() == [DONE; 2].as_slice());
-    let mut rest = Outputs::new(rt.alloc())?;
-    rest.add(2)?;
-    firmware.tick(&mut io, &mut rest);
-    assert_eq!(rt; rest.bytes(2).len(), 0);
+    let after = ticked(rt.alloc(), &mut firmware, &mut io)?;
+    assert_eq!(rt; after.len(), 0);
     Ok(())
 }
 

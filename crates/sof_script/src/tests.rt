@@ -50,6 +50,76 @@ fn lines_are_read(rt: HostRuntime) -> Result<(), Fail> {
     Ok(())
 }
 
+// What a command is.
+fn word_of(command: &Command) -> &'static str {
+    match command {
+        Command::Load => "load",
+        Command::Unload => "unload",
+        Command::Suspend => "suspend",
+        Command::Resume => "resume",
+        Command::Show => "show",
+        Command::Open(_) => "open",
+        Command::Start(_) => "start",
+        Command::Stop(_) => "stop",
+        Command::Pause(_) => "pause",
+        Command::Release(_) => "release",
+        Command::Close(_) => "close",
+        Command::Get(_) => "get",
+        Command::Read(_) => "read",
+        Command::Params(_, _) => "params",
+        Command::Set(_, _) => "set",
+        Command::Bytes(_, _) => "bytes",
+        Command::Refuse(_, _) => "refuse",
+        Command::Lag(_, _) => "lag",
+        Command::Tick(_) => "tick",
+        Command::Drop(_) => "drop",
+        Command::Lose(_) => "lose",
+    }
+}
+
+// What the only command of a script is.
+fn only_word(rt: &HostRuntime, text: &str) -> Option<&'static str> {
+    if text.len() > 100 {
+        return None;
+    }
+    match parse(rt.alloc(), text.as_bytes()) {
+        Ok(script) if script.commands.items().len() == 1 => {
+            Some(word_of(&script.commands.items()[0].command))
+        }
+        _ => None,
+    }
+}
+
+#[test]
+fn each_kind_of_line_is_read(rt: HostRuntime) {
+    let rows = [
+        ("load", "load"),
+        ("unload", "unload"),
+        ("suspend", "suspend"),
+        ("resume", "resume"),
+        ("show", "show"),
+        ("open S", "open"),
+        ("start S", "start"),
+        ("stop S", "stop"),
+        ("pause S", "pause"),
+        ("release S", "release"),
+        ("close S", "close"),
+        ("get C", "get"),
+        ("read C", "read"),
+        ("params S 8000 1 s24", "params"),
+        ("set C 5", "set"),
+        ("bytes C -", "bytes"),
+        ("refuse 1 -1", "refuse"),
+        ("lag 4 5", "lag"),
+        ("tick 1", "tick"),
+        ("drop 2", "drop"),
+        ("lose 3", "lose"),
+    ];
+    for (text, word) in rows {
+        assert_eq!(rt; only_word(&rt, text), Some(word));
+    }
+}
+
 #[test]
 fn each_cause_is_told(rt: HostRuntime) {
     let rows = [

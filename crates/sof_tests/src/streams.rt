@@ -11,7 +11,15 @@ fn streams_are_asked_in_every_stand(rt: HostRuntime) -> Result<(), Fail> {
             b"start PCM0P\nclose PCM0P\n",
             b"1 not loaded\n2 not loaded\n",
         ),
+        (
+            b"params PCM0P 48000 2 s16\nstop PCM0P\n",
+            b"1 not loaded\n2 not loaded\n",
+        ),
         (b"load\nopen DAI0\n", b"1 ok\n2 no such DAI0\n"),
+        (
+            b"load\nparams DAI0 1 9 s16\nstart B0\nstop x\nclose PIPE1\n",
+            b"1 ok\n2 no such DAI0\n3 no such B0\n4 no such x\n5 no such PIPE1\n",
+        ),
         (
             b"load\nparams PCM0P 48000 2 s16\nstart PCM0P\nstop PCM0P\nclose PCM0P\n",
             b"1 ok\n2 state closed\n3 state closed\n4 state closed\n5 state closed\n",

@@ -11,6 +11,7 @@ use Rattle.stream_law.specs.declared.stream.StreamView.{StreamView}
 use Rattle.stream_law.specs.State.{FwState}
 use Rattle.stream_law.specs.Ways.{is_live_phase}
 use Rattle.mbox_link.specs.Calls.{World, Meaning}
+use Rattle.tplg_model.specs.declared.pcm.Caps.{Caps}
 use Rattle.tplg_graph.specs.declared.planned.Plan.{Plan}
 use Rattle.tplg_graph.specs.declared.planned.WidgetPlan.{WidgetPlan}
 use Rattle.tplg_graph.specs.ThinPlan.{IsThinPlan, thin_graph}
@@ -22,18 +23,18 @@ use Rattle.host_widgets.specs.declared.kept.Power.TheVariants.{On, Off, Unloaded
 use Rattle.host_widgets.specs.declared.kept.StreamRec.{StreamRec}
 use Rattle.host_widgets.specs.declared.kept.Record.{Record}
 use Rattle.host_widgets.specs.declared.trigger.Trigger.TheVariants.{Stop}
-use Rattle.host_widgets.specs.HostRecord.{closed, may_have}
-use Rattle.host_widgets.specs.Expected.{phase_of, expected_view, stream_view}
+use Rattle.host_widgets.specs.HostRecord.{closed, may_have, no_stream}
+use Rattle.host_widgets.specs.Expected.{phase_of, expected_view}
 use Rattle.host_widgets.specs.Acts.{Act, Trig, Free}
 use Rattle.host_widgets.specs.Host.{Outcome, Agrees, Sides, Walk, verdict}
 use Rattle.host_widgets.specs.ActFates.{Fated}
 use Rattle.host_widgets.proofs.Walks.{Answers, passing, failing, Walked-room}
 use Rattle.host_widgets.proofs.ManyEffects.{Fated-led}
-use Rattle.host_widgets.proofs.ThinRecords.{Only, only, only_stream, view-is, record-of}
+use Rattle.host_widgets.proofs.ThinRecords.{Only, only, view-is, record-of, shown}
 use Rattle.host_pcm.specs.declared.asking.Ask.{Ask}
 use Rattle.host_pcm.specs.declared.asking.Ask.TheVariants.{Triggering, Closing}
 use Rattle.host_pcm.specs.Asks.{stream_at, is_closed, takes_trigger, closing_acts, stream_acts, acts_by, after_ask, with_stream}
-use Rattle.host_pcm.specs.Carried.{Walks, Ends, Left, no_stream, acts_at, kept_after, passed_of, state_after_acts}
+use Rattle.host_pcm.specs.Carried.{Walks, Ends, Left, acts_at, kept_after, passed_of, state_after_acts}
 use Rattle.host_pcm.proofs.OneAct.{WalksOf, flat}
 use Rattle.host_pcm.proofs.ThinStream.{walks, may}
 
@@ -50,9 +51,9 @@ single act (answer ∷ b ∷ more) result walk =
     ] walk)
 
 -- the stop of a stream that moves, and what follows it
-module _ {D : Type 0} (means : Meaning D) (pipe size : ℕ) (format : Format) (sched : ℕ) (names : List (List ℕ)) (widgets : List WidgetPlan) (heap : ℕ) (r : StreamRec) (moves : closing_acts 0 r.found ≡ Trig 0 Stop ∷ Free 0 ∷ []) where
+module _ {D : Type 0} (means : Meaning D) (pipe size : ℕ) (format : Format) (sched : ℕ) (caps : Caps) (names : List (List ℕ)) (widgets : List WidgetPlan) (heap : ℕ) (r : StreamRec) (moves : closing_acts 0 r.found ≡ Trig 0 Stop ∷ Free 0 ∷ []) where
   abbrev the_plan : Plan
-  the_plan = flat pipe size format sched names widgets
+  the_plan = flat pipe size format sched caps names widgets
 
   abbrev kept_on : StreamRec → Record
   kept_on s = record { power = On; streams = s ∷ [] }
@@ -203,7 +204,7 @@ idle-acts host Found_On is = refl
 abbrev pub idle_stream : StreamView
 idle_stream = record { host = 0; phase = Idle; params = None }
 
-idle-view : (found : Found) (params : Option Params) → is_idle found ≡ true → may_have found params ≡ true → stream_view (only_stream, record { found = found; params = params }) ≡ idle_stream
+idle-view : (found : Found) (params : Option Params) → is_idle found ≡ true → may_have found params ≡ true → shown (record { found = found; params = params }) ≡ idle_stream
 idle-view Closed None is may = refl
 idle-view Closed (Some p) is may = absurd (cc may)
 idle-view Open None is may = refl
@@ -233,7 +234,7 @@ module _ {D : Type 0} (means : Meaning D) (plan : Plan) (p : IsThinPlan plan) (h
       (loaded kept.power up)
 
   -- a stream that shows nothing, in place of one that shows nothing or while the power is off
-  module _ (r : StreamRec) (shows : stream_view (only_stream, r) ≡ idle_stream) (may_r : may_have r.found r.params ≡ true) (up : kept.power ≡ Unloaded → ⊥) (idle : kept.power ≡ On → is_idle (stream_at kept k).found ≡ true) where
+  module _ (r : StreamRec) (shows : shown r ≡ idle_stream) (may_r : may_have r.found r.params ≡ true) (up : kept.power ≡ Unloaded → ⊥) (idle : kept.power ≡ On → is_idle (stream_at kept k).found ≡ true) where
     o : Only kept
     o = only plan kept p agrees.record_is
 
@@ -255,7 +256,7 @@ module _ {D : Type 0} (means : Meaning D) (plan : Plan) (p : IsThinPlan plan) (h
       sides = ⊎_elim
           (λ on.
           let was = subst (λ (x : Power). Sides means plan kept w.device x) on agrees.sides in
-          let still : stream_view (only_stream, o.stream) ≡ idle_stream = idle-view o.stream.found o.stream.params (subst (λ (s : StreamRec). is_idle s.found ≡ true) same-stream (idle on)) o.may in
+          let still : shown o.stream ≡ idle_stream = idle-view o.stream.found o.stream.params (subst (λ (s : StreamRec). is_idle s.found ≡ true) same-stream (idle on)) o.may in
           let same : expected_view plan kept ≡ expected_view plan kept' =
           view-is plan kept o.stream p o.is ∙ ap (λ (s : StreamView). record { graph = thin_graph p.pipe p.size p.format p.sched; streams = s ∷ [] }) (still ∙ sym shows) ∙ sym (view-is plan kept' r p streams-are) in
           subst (λ (x : Power). Sides means plan kept' w.device x) (sym on) (was ∙ ap Some same))
@@ -273,10 +274,10 @@ module _ {D : Type 0} (means : Meaning D) (plan : Plan) (p : IsThinPlan plan) (h
     q = only plan kept p agrees.record_is
 
     abbrev flat-plan : Plan
-    flat-plan = flat p.pipe p.size p.format p.sched plan.names plan.widgets
+    flat-plan = flat p.pipe p.size p.format p.sched p.caps plan.names plan.widgets
 
     plan-is : plan ≡ flat-plan
-    plan-is = λ i. record { graph = p.graph i; streams = p.streams i; names = plan.names; widgets = plan.widgets }
+    plan-is = λ i. record { graph = p.graph i; streams = p.streams i; controls = p.controls i; names = plan.names; widgets = plan.widgets }
 
     kept-is : kept ≡ record { power = On; streams = q.stream ∷ [] }
     kept-is = λ i. record { power = power i; streams = q.is i }
@@ -305,11 +306,11 @@ module _ {D : Type 0} (means : Meaning D) (plan : Plan) (p : IsThinPlan plan) (h
     pub close-stops : (k1 : Record) (m : World D) (fault : HostFault) → Walks means plan heap k (Triggering Stop) kept k1 w m (Err fault) → Walks means plan heap k Closing kept k1 w m (Err fault)
     close-stops k1 m fault x =
         back k1 w m (Err fault)
-        (stop-failed means p.pipe p.size p.format p.sched plan.names plan.widgets heap q.stream acts-are k1 w m fault (there (Triggering Stop) kept _ k1 w m (Err fault) kept-is x))
+        (stop-failed means p.pipe p.size p.format p.sched p.caps plan.names plan.widgets heap q.stream acts-are k1 w m fault (there (Triggering Stop) kept _ k1 w m (Err fault) kept-is x))
 
     module _ (k1 : Record) (m : World D) (x : Walks means plan heap k (Triggering Stop) kept k1 w m (Ok tt)) where
       k1-is : k1 ≡ record { power = On; streams = record { found = Prepared; params = q.stream.params } ∷ [] }
-      k1-is = stopped-is means p.pipe p.size p.format p.sched plan.names plan.widgets heap q.stream acts-are k1 k1 w m m (there (Triggering Stop) kept _ k1 w m (Ok tt) kept-is x)
+      k1-is = stopped-is means p.pipe p.size p.format p.sched p.caps plan.names plan.widgets heap q.stream acts-are k1 k1 w m m (there (Triggering Stop) kept _ k1 w m (Ok tt) kept-is x)
 
       pub stopped-power : k1.power ≡ On
       stopped-power = ap (λ (r : Record). r.power) k1-is
@@ -320,7 +321,7 @@ module _ {D : Type 0} (means : Meaning D) (plan : Plan) (p : IsThinPlan plan) (h
       pub close-goes-on : (k2 : Record) (v : World D) (result : Outcome) → Walks means plan heap k Closing k1 k2 m v result → Walks means plan heap k Closing kept k2 w v result
       close-goes-on k2 v result y =
           back k2 w v result
-          (stop-then means p.pipe p.size p.format p.sched plan.names plan.widgets heap q.stream acts-are k1 k2 w m v (there (Triggering Stop) kept _ k1 w m (Ok tt) kept-is x) result (there Closing k1 _ k2 m v result k1-is y))
+          (stop-then means p.pipe p.size p.format p.sched p.caps plan.names plan.widgets heap q.stream acts-are k1 k2 w m v (there (Triggering Stop) kept _ k1 w m (Ok tt) kept-is x) result (there Closing k1 _ k2 m v result k1-is y))
 
 -- what the arms of a match know
 pub idle-from : (found : Found) → (found ≡ Closed) ⊎ (found ≡ Open) ⊎ (found ≡ Found_On) → is_idle found ≡ true

@@ -3,6 +3,7 @@ use Rattle.std.proofs.Common.{◌≡◌, ℕ, ◌<◌, Bool, true, false, not, c
 use Rattle.std.specs.Prelude.{IfOk, IfErr}
 use Rattle.std.proofs.lemmas.List.Quantifiers.{position-Some}
 use Rattle.mbox_link.specs.Calls.{World, Meaning}
+use Rattle.tplg_model.specs.declared.pcm.Caps.{Caps}
 use Rattle.tplg_graph.specs.declared.planned.Plan.{Plan}
 use Rattle.host_widgets.specs.declared.answers.HostFault.{HostFault}
 use Rattle.host_widgets.specs.declared.kept.Found.{Found}
@@ -11,15 +12,16 @@ use Rattle.host_widgets.specs.declared.kept.Power.TheVariants.{On, Off, Unloaded
 use Rattle.host_widgets.specs.declared.kept.Record.{Record}
 use Rattle.host_widgets.specs.Host.{Outcome}
 use Rattle.host_pcm.specs.declared.asking.Ask.{Ask}
-use Rattle.host_pcm.specs.Asks.{is_named, stream_place, takes, asks_for_power, range_fault, found_fault, power_fault, named_fault, loaded_fault, early_fault, stream_at}
-use Rattle.host_pcm.specs.Carried.{no_stream, Walks, Asked}
+use Rattle.host_pcm.specs.Asks.{is_named, stream_place, takes, asks_for_power, range_fault, found_fault, power_fault, named_fault, loaded_fault, early_fault, stream_at, caps_at}
+use Rattle.host_widgets.specs.HostRecord.{no_stream}
+use Rattle.host_pcm.specs.Carried.{Walks, Asked}
 
 -- what no failing test says, of a stream that stands so, at this power
-pub record Stood (ask : Ask) (found : Found) (power : Power) : Type 0 where
+pub record Stood (caps : Caps) (ask : Ask) (found : Found) (power : Power) : Type 0 where
   pub up : power ≡ Unloaded → ⊥
   pub powered : asks_for_power ask ≡ true → power ≡ On
   pub takes_it : takes ask found ≡ true
-  pub range : range_fault ask ≡ None
+  pub range : range_fault caps ask ≡ None
 
 tests : (t : Bool) (x : HostFault) (rest : Option HostFault) → cond (not t) (Some x) rest ≡ None → (t ≡ true) × (rest ≡ None)
 tests true x rest is = (refl, is)
@@ -29,14 +31,14 @@ off-tests : (t : Bool) (x : HostFault) (rest : Option HostFault) → cond t (Som
 off-tests true x rest is = absurd (cc is)
 off-tests false x rest is = (refl, is)
 
-stood : (ask : Ask) (found : Found) (power : Power) → loaded_fault power (power_fault ask found power) ≡ None → Stood ask found power
-stood ask found Unloaded is = absurd (cc is)
-stood ask found On is =
-    let both = tests (takes ask found) _ (range_fault ask) is in
+stood : (caps : Caps) (ask : Ask) (found : Found) (power : Power) → loaded_fault power (power_fault caps ask found power) ≡ None → Stood caps ask found power
+stood caps ask found Unloaded is = absurd (cc is)
+stood caps ask found On is =
+    let both = tests (takes ask found) _ (range_fault caps ask) is in
     record { up = λ e. cc e; powered = λ asks. refl; takes_it = both.0; range = both.1 }
-stood ask found Off is =
-    let first = off-tests (asks_for_power ask) _ (found_fault ask found) is in
-    let both = tests (takes ask found) _ (range_fault ask) first.1 in
+stood caps ask found Off is =
+    let first = off-tests (asks_for_power ask) _ (found_fault caps ask found) is in
+    let both = tests (takes ask found) _ (range_fault caps ask) first.1 in
     record { up = λ e. cc e; powered = λ asks. absurd (cc (sym first.0 ∙ asks)); takes_it = both.0; range = both.1 }
 
 module _ (plan : Plan) (kept : Record) (name : List ℕ) (ask : Ask) where
@@ -45,7 +47,7 @@ module _ (plan : Plan) (kept : Record) (name : List ℕ) (ask : Ask) where
     pub place : stream_place plan name ≡ Some k
     pub none : early_fault plan kept name ask ≡ None
     pub within : k < length plan.streams
-    pub stood : Stood ask (stream_at kept k).found kept.power
+    pub stood : Stood (caps_at plan k) ask (stream_at kept k).found kept.power
 
   pub found_place : (r : Result ℕ HostFault) (k : ℕ) → IfOk r (λ k. stream_place plan name ≡ Some k) → IfOk r (λ k. early_fault plan kept name ask ≡ None) → r ≡ Ok k → Found_place k
   found_place r k place none is =
@@ -55,7 +57,7 @@ module _ (plan : Plan) (kept : Record) (name : List ℕ) (ask : Ask) where
         place = at;
         none = no;
         within = (position-Some (λ s. is_named plan name s.host) plan.streams k no_stream at).0;
-        stood = stood ask (stream_at kept k).found kept.power (ap (λ (o : Option ℕ). loaded_fault kept.power (named_fault kept name ask o)) (sym at) ∙ no);
+        stood = stood (caps_at plan k) ask (stream_at kept k).found kept.power (ap (λ (o : Option ℕ). loaded_fault kept.power (named_fault plan kept name ask o)) (sym at) ∙ no);
       }
 
   module _ {D : Type 0} (means : Meaning D) (heap : ℕ) (w : World D) where

@@ -11,6 +11,7 @@ use Rattle.ipc3_codec.specs.Messages.{message_spelling, decoded, IsMessage}
 use Rattle.mbox_link.specs.Step.{row, row_of}
 use Rattle.mbox_link.specs.Exchange.{ticks, Rose}
 use Rattle.mbox_link.specs.Calls.{World, Meaning}
+use Rattle.tplg_model.specs.declared.pcm.Caps.{Caps}
 use Rattle.tplg_graph.specs.declared.planned.Plan.{Plan}
 use Rattle.tplg_graph.specs.declared.planned.WidgetPlan.{WidgetPlan}
 use Rattle.tplg_graph.specs.ThinPlan.{IsThinPlan, thin_graph}
@@ -50,9 +51,9 @@ pub record WalksOf {D : Type 0} (means : Meaning D) (plan : Plan) (heap k : ℕ)
   pub state : means.pending w.device ≡ 0 → (f : FwState) → means.on w.device ≡ Some f → Left means (state_after_acts plan kept k (take (passed_of fates.answers result) acts) f) result v.device
 
 -- a plan of one stream, and its record
-module _ (pipe size : ℕ) (format : Format) (sched : ℕ) (names : List (List ℕ)) (widgets : List WidgetPlan) where
+module _ (pipe size : ℕ) (format : Format) (sched : ℕ) (caps : Caps) (names : List (List ℕ)) (widgets : List WidgetPlan) where
   abbrev pub flat : Plan
-  flat = record { graph = thin_graph pipe size format sched; streams = only_stream ∷ []; names = names; widgets = widgets }
+  flat = record { graph = thin_graph pipe size format sched; streams = only_stream caps ∷ []; controls = []; names = names; widgets = widgets }
 
   abbrev pub kept_with : Power → StreamRec → Record
   kept_with power r = record { power = power; streams = r ∷ [] }

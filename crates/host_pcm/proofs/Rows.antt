@@ -16,8 +16,8 @@ use Rattle.mbox_link.specs.Step.{changed, pcm_params, is_used, kind_at, has_kind
 use Rattle.mbox_link.specs.Exchange.{ticked, ticks}
 use Rattle.tplg_graph.specs.ThinPlan.{thin_graph}
 use Rattle.host_widgets.specs.declared.kept.StreamRec.{StreamRec}
-use Rattle.host_widgets.specs.Expected.{phase_of, stream_view}
-use Rattle.host_widgets.proofs.ThinRecords.{only_stream, view_with, agree-one}
+use Rattle.host_widgets.specs.Expected.{phase_of}
+use Rattle.host_widgets.proofs.ThinRecords.{view_with, agree-one, shown}
 
 -- ticks keep the view
 pub ticks-view : (n : ℕ) (p : FwState × Io) → view_of (ticks n p).0 ≡ view_of p.0
@@ -54,12 +54,12 @@ module _ (pipe size : ℕ) (format : Format) (sched : ℕ) where
   ready = rw (eq-eqb pipe pipe refl) refl
 
   module _ (f : FwState) (r : StreamRec) (seen_so : view_of f ≡ view_with graph r) where
-    pub changed-row : (from : Phase → Bool) (to : StreamView → StreamView) → from (phase_of r.found) ≡ true → changed f 0 from to ≡ Ok (seen (record { graph = graph; streams = to (stream_view (only_stream, r)) ∷ [] }) None f)
+    pub changed-row : (from : Phase → Bool) (to : StreamView → StreamView) → from (phase_of r.found) ≡ true → changed f 0 from to ≡ Ok (seen (record { graph = graph; streams = to (shown r) ∷ [] }) None f)
     changed-row from to holds =
         let here : changed f 0 from to ≡ changed_by (view_of f) f from to = refl in
         here ∙ ap (λ (v : View). changed_by v f from to) seen_so ∙ then
       where
-        then : changed_by (view_with graph r) f from to ≡ Ok (seen (record { graph = graph; streams = to (stream_view (only_stream, r)) ∷ [] }) None f)
+        then : changed_by (view_with graph r) f from to ≡ Ok (seen (record { graph = graph; streams = to (shown r) ∷ [] }) None f)
         then = rw holds refl
 
     pub params-row : (p : Params) → is_moving (phase_of r.found) ≡ false → is_rate p.rate ≡ true → pcm_params f 0 0 p ≡ Ok (seen (prepared_in (view_with graph r) p) None f)

@@ -1,6 +1,7 @@
 -- The acts on a stream that the firmware takes, where the host's tests pass.
 use Rattle.std.proofs.Common.{◌≡◌, ℕ, Bool, true, false, not, cond, List, Option, Some, None, Ok, refl, ap}
 use Rattle.std.specs.Prelude.{◌&&◌, nat_le}
+use Rattle.std.proofs.lemmas.Bool.{and_parts}
 use Rattle.sof_base.specs.declared.format.Format.{Format}
 use Rattle.sof_base.specs.declared.format.Params.{Params}
 use Rattle.stream_law.specs.declared.stream.Phase.{Phase}
@@ -9,6 +10,7 @@ use Rattle.stream_law.specs.State.{FwState, view_of}
 use Rattle.stream_law.specs.Seen.{seen}
 use Rattle.mbox_link.specs.Step as fw
 use Rattle.mbox_link.specs.Step.{set_phase, set_stream, is_rate}
+use Rattle.tplg_model.specs.declared.pcm.Caps.{Caps}
 use Rattle.tplg_graph.specs.declared.planned.WidgetPlan.{WidgetPlan}
 use Rattle.host_widgets.specs.declared.answers.HostFault.{HostFault}
 use Rattle.host_widgets.specs.declared.kept.Found.{Found}
@@ -21,6 +23,7 @@ use Rattle.host_widgets.specs.Expected.{phase_of}
 use Rattle.host_widgets.specs.Acts.{Prepare, Trig, Free, trigger_message}
 use Rattle.host_pcm.specs.declared.asking.Ask.TheVariants.{Preparing}
 use Rattle.host_pcm.specs.Asks.{takes_trigger, takes_params, range_fault, triggered}
+use Rattle.host_pcm.specs.StreamRanges.{has_rate, has_channels, is_between}
 use Rattle.host_pcm.proofs.Rows.{changed-row, params-row}
 use Rattle.host_pcm.proofs.OneAct.{Takes, view_of_stream}
 use Rattle.host_pcm.proofs.StreamMessages.{trigger-fits, free-fits, params-fit}
@@ -94,13 +97,15 @@ trigger-may Release Found_On params is may = absurd (cc is)
 
 -- ---- ranges
 
-both-hold : (a b : Bool) (x y : HostFault) → cond (not a) (Some x) (cond (not b) (Some y) None) ≡ None → (a ≡ true) × (b ≡ true)
-both-hold true true x y is = (refl, refl)
-both-hold true false x y is = absurd (cc is)
-both-hold false b x y is = absurd (cc is)
+first-holds : (a : Bool) (x : HostFault) (rest : Option HostFault) → cond (not a) (Some x) rest ≡ None → (a ≡ true) × (rest ≡ None)
+first-holds true x rest is = (refl, is)
+first-holds false x rest is = absurd (cc is)
 
-pub ranges : (p : Params) → range_fault (Preparing p) ≡ None → (is_rate p.rate ≡ true) × ((nat_le 1 p.channels && nat_le p.channels 8) ≡ true)
-ranges p none = both-hold (is_rate p.rate) (nat_le 1 p.channels && nat_le p.channels 8) _ _ none
+pub ranges : (caps : Caps) (p : Params) → range_fault caps (Preparing p) ≡ None → (is_rate p.rate ≡ true) × ((nat_le 1 p.channels && nat_le p.channels 8) ≡ true)
+ranges caps p none =
+    let rate = first-holds (has_rate caps p.rate) _ _ none in
+    let channels = first-holds (has_channels caps p.channels) _ _ rate.1 in
+    ((and_parts (is_rate p.rate) (is_between caps.rate_min caps.rate_max p.rate) rate.0).0, (and_parts (is_between 1 8 p.channels) (is_between caps.channels_min caps.channels_max p.channels) channels.0).0)
 
 rests : (found : Found) → takes_params found ≡ true → fw.is_moving (phase_of found) ≡ false
 rests Closed is = absurd (cc is)
@@ -112,8 +117,8 @@ rests Found_On is = absurd (cc is)
 
 -- ---- the acts
 
-module _ (pipe size : ℕ) (format : Format) (sched : ℕ) (names : List (List ℕ)) (widgets : List WidgetPlan) (heap : ℕ) (r : StreamRec) where
-  pub takes-trigger : (what : Trigger) → takes_trigger what r.found ≡ true → may_have r.found r.params ≡ true → Takes pipe size format sched names widgets heap (Trig 0 what) r
+module _ (pipe size : ℕ) (format : Format) (sched : ℕ) (caps : Caps) (names : List (List ℕ)) (widgets : List WidgetPlan) (heap : ℕ) (r : StreamRec) where
+  pub takes-trigger : (what : Trigger) → takes_trigger what r.found ≡ true → may_have r.found r.params ≡ true → Takes pipe size format sched caps names widgets heap (Trig 0 what) r
   takes-trigger what is may = record {
     message = trigger-fits what;
     free = refl;
@@ -121,13 +126,13 @@ module _ (pipe size : ℕ) (format : Format) (sched : ℕ) (names : List (List �
     may = trigger-may what r.found r.params is may;
   }
     where
-      row-of : (what : Trigger) → takes_trigger what r.found ≡ true → (f : FwState) → view_of f ≡ view_of_stream pipe size format sched names widgets r → fw.row f (trigger_message 0 what) ≡ Ok (seen (view_of_stream pipe size format sched names widgets (record { found = triggered what; params = r.params })) None f)
+      row-of : (what : Trigger) → takes_trigger what r.found ≡ true → (f : FwState) → view_of f ≡ view_of_stream pipe size format sched caps names widgets r → fw.row f (trigger_message 0 what) ≡ Ok (seen (view_of_stream pipe size format sched caps names widgets (record { found = triggered what; params = r.params })) None f)
       row-of Start is f sees = changed-row pipe size format sched f r sees fw.is_prepared (set_phase 0 phases.Running) (from-phase Start r.found is)
       row-of Stop is f sees = changed-row pipe size format sched f r sees fw.is_moving (set_phase 0 phases.Prepared) (from-phase Stop r.found is)
       row-of Pause is f sees = changed-row pipe size format sched f r sees fw.is_running (set_phase 0 phases.Paused) (from-phase Pause r.found is)
       row-of Release is f sees = changed-row pipe size format sched f r sees fw.is_paused (set_phase 0 phases.Running) (from-phase Release r.found is)
 
-  pub takes-free : r.found ≡ Prepared → Takes pipe size format sched names widgets heap (Free 0) r
+  pub takes-free : r.found ≡ Prepared → Takes pipe size format sched caps names widgets heap (Free 0) r
   takes-free is = record {
     message = free-fits;
     free = refl;
@@ -135,9 +140,9 @@ module _ (pipe size : ℕ) (format : Format) (sched : ℕ) (names : List (List �
     may = refl;
   }
 
-  pub takes-params : (p : Params) → takes_params r.found ≡ true → range_fault (Preparing p) ≡ None → Takes pipe size format sched names widgets heap (Prepare 0 p) r
-  takes-params p is none =
-      let both = ranges p none in
+  pub takes-params : (can : Caps) (p : Params) → takes_params r.found ≡ true → range_fault can (Preparing p) ≡ None → Takes pipe size format sched caps names widgets heap (Prepare 0 p) r
+  takes-params can p is none =
+      let both = ranges can p none in
       record {
         message = params-fit p both.0 both.1;
         free = refl;

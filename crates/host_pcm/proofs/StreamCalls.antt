@@ -18,7 +18,7 @@ use Rattle.host_widgets.specs.Acts.{Prepare, Trig, Free, trigger_message}
 use Rattle.host_widgets.specs.Host.{Outcome, Agrees}
 use Rattle.host_pcm.specs.declared.asking.Ask.{Ask}
 use Rattle.host_pcm.specs.declared.asking.Ask.TheVariants.{Preparing, Triggering, Closing}
-use Rattle.host_pcm.specs.Asks.{stream_at, takes_trigger, takes_params, range_fault, triggered, closing_acts}
+use Rattle.host_pcm.specs.Asks.{stream_at, takes_trigger, takes_params, range_fault, caps_at, triggered, closing_acts}
 use Rattle.host_pcm.specs.Carried.{Passes, Walks}
 use Rattle.host_pcm.proofs.StreamActs.{takes-trigger, takes-free, takes-params}
 use Rattle.host_pcm.proofs.ThinStream.{stream, stream-is, may, TakesIt, act-done, act-ended}
@@ -40,7 +40,7 @@ module _ {D : Type 0} (means : Meaning D) (plan : Plan) (p : IsThinPlan plan) (h
 
   module _ (what : Trigger) (found : takes_trigger what (stream_at kept k).found ≡ true) (message : Message) (host : ℕ) (message-is : message ≡ trigger_message host what) (host-0 : host ≡ 0) (kept' : Record) (v : World D) (result : Outcome) (x : Passes means (message_spelling message) kept kept' w v result) where
     trigger-takes : TakesIt means plan p heap k within kept w agrees power (Trig 0 what)
-    trigger-takes = takes-trigger p.pipe p.size p.format p.sched plan.names plan.widgets heap mine what (subst (λ (r : StreamRec). takes_trigger what r.found ≡ true) mine-is found) may-mine
+    trigger-takes = takes-trigger p.pipe p.size p.format p.sched p.caps plan.names plan.widgets heap mine what (subst (λ (r : StreamRec). takes_trigger what r.found ≡ true) mine-is found) may-mine
 
     pub trigger-done : result ≡ Ok tt → (item : StreamRec) → item ≡ record { found = triggered what; params = (stream_at kept k).params } → (streams : List StreamRec) → streams ≡ set kept'.streams k item → Both (Triggering what) (record { power = kept'.power; streams = streams }) v (Ok tt)
     trigger-done is item item-is streams streams-are =
@@ -53,9 +53,9 @@ module _ {D : Type 0} (means : Meaning D) (plan : Plan) (p : IsThinPlan plan) (h
 
   -- ---- parameters
 
-  module _ (params : Params) (found : takes_params (stream_at kept k).found ≡ true) (range : range_fault (Preparing params) ≡ None) (message : Message) (host direction : ℕ) (message-is : message ≡ PcmParams host direction params) (host-0 : host ≡ 0) (direction-0 : direction ≡ 0) (kept' : Record) (v : World D) (result : Outcome) (x : Passes means (message_spelling message) kept kept' w v result) where
+  module _ (params : Params) (found : takes_params (stream_at kept k).found ≡ true) (range : range_fault (caps_at plan k) (Preparing params) ≡ None) (message : Message) (host direction : ℕ) (message-is : message ≡ PcmParams host direction params) (host-0 : host ≡ 0) (direction-0 : direction ≡ 0) (kept' : Record) (v : World D) (result : Outcome) (x : Passes means (message_spelling message) kept kept' w v result) where
     params-takes : TakesIt means plan p heap k within kept w agrees power (Prepare 0 params)
-    params-takes = takes-params p.pipe p.size p.format p.sched plan.names plan.widgets heap mine params (subst (λ (r : StreamRec). takes_params r.found ≡ true) mine-is found) range
+    params-takes = takes-params p.pipe p.size p.format p.sched p.caps plan.names plan.widgets heap mine (caps_at plan k) params (subst (λ (r : StreamRec). takes_params r.found ≡ true) mine-is found) range
 
     params-request : message_spelling message ≡ message_spelling (PcmParams 0 0 params)
     params-request = ap message_spelling (message-is ∙ (λ i. PcmParams (host-0 i) (direction-0 i) params))
@@ -75,7 +75,7 @@ module _ {D : Type 0} (means : Meaning D) (plan : Plan) (p : IsThinPlan plan) (h
     found-mine = subst (λ (r : StreamRec). r.found ≡ Prepared) mine-is found
 
     free-takes : TakesIt means plan p heap k within kept w agrees power (Free 0)
-    free-takes = takes-free p.pipe p.size p.format p.sched plan.names plan.widgets heap mine found-mine
+    free-takes = takes-free p.pipe p.size p.format p.sched p.caps plan.names plan.widgets heap mine found-mine
 
     free-request : message_spelling message ≡ message_spelling (PcmFree 0)
     free-request = ap message_spelling (message-is ∙ ap PcmFree host-0)

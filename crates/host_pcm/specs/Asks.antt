@@ -1,11 +1,11 @@
 -- What may be asked of a stream: when it is refused before any message, which acts it takes, and what the record says after it.
-use Rattle.std.specs.Prelude.{ℕ, List, [], ◌∷◌, get_or, set, Bool, true, false, ◌&&◌, not, nat_le, Option, Some, None, position, slice_get, if◌then◌else◌}
+use Rattle.std.specs.Prelude.{ℕ, List, [], ◌∷◌, get_or, set, Bool, true, false, not, Option, Some, None, position, slice_get, if◌then◌else◌}
 use Rattle.std.specs.Option.{option_map_or}
 use Rattle.std.specs.Str.{bytes_eq}
-use Rattle.mbox_link.specs.Step.{is_rate}
+use Rattle.tplg_model.specs.declared.pcm.Caps.{Caps}
 use Rattle.tplg_graph.specs.declared.planned.Plan.{Plan}
 use Rattle.host_widgets.specs.declared.answers.HostFault.{HostFault}
-use Rattle.host_widgets.specs.declared.answers.HostFault.TheVariants.{NotLoaded, NoSuch, State, Off, Range}
+use Rattle.host_widgets.specs.declared.answers.HostFault.TheVariants.{NotLoaded, NoSuch, State, Off}
 use Rattle.host_widgets.specs.declared.kept.Found.{Found}
 use Rattle.host_widgets.specs.declared.kept.Found.TheVariants.{Closed, Open, Prepared, Running, Paused}
 use Rattle.host_widgets.specs.declared.kept.Power.{Power}
@@ -14,8 +14,9 @@ use Rattle.host_widgets.specs.declared.kept.StreamRec.{StreamRec}
 use Rattle.host_widgets.specs.declared.kept.Record.{Record}
 use Rattle.host_widgets.specs.declared.trigger.Trigger.{Trigger}
 use Rattle.host_widgets.specs.declared.trigger.Trigger.TheVariants.{Start, Stop, Pause, Release}
-use Rattle.host_widgets.specs.HostRecord.{closed}
+use Rattle.host_widgets.specs.HostRecord.{closed, no_stream}
 use Rattle.host_widgets.specs.Acts.{Act, Prepare, Trig, Free}
+use Rattle.host_pcm.specs.StreamRanges.{params_fault}
 use Rattle.host_pcm.specs.declared.asking.Ask.{Ask}
 use Rattle.host_pcm.specs.declared.asking.Ask.TheVariants.{Opening, Preparing, Triggering, Closing}
 
@@ -61,31 +62,32 @@ asks_for_power Opening = false
 asks_for_power Closing = false
 asks_for_power ask = true
 
--- the first of rate and channels that is outside its range: frames a second, a multiple of 1000 from 8000 to 192000, and 1 to 8
-abbrev pub range_fault : Ask → Option HostFault
-range_fault (Preparing p) =
-    if not (is_rate p.rate) then Some (Range p.rate)
-    else if not (nat_le 1 p.channels && nat_le p.channels 8) then Some (Range p.channels)
-    else None
-range_fault ask = None
+-- parameters are tested against what the stream's PCM can do
+abbrev pub range_fault : Caps → Ask → Option HostFault
+range_fault caps (Preparing p) = params_fault caps p
+range_fault caps ask = None
 
 -- the tests of a stream that stands so
-abbrev pub found_fault : Ask → Found → Option HostFault
-found_fault ask found = if not (takes ask found) then Some (State found) else range_fault ask
+abbrev pub found_fault : Caps → Ask → Found → Option HostFault
+found_fault caps ask found = if not (takes ask found) then Some (State found) else range_fault caps ask
 
 -- the tests of a stream, by the power
-abbrev pub power_fault : Ask → Found → Power → Option HostFault
-power_fault ask found powers.Off = if asks_for_power ask then Some Off else found_fault ask found
-power_fault ask found power = found_fault ask found
+abbrev pub power_fault : Caps → Ask → Found → Power → Option HostFault
+power_fault caps ask found powers.Off = if asks_for_power ask then Some Off else found_fault caps ask found
+power_fault caps ask found power = found_fault caps ask found
+
+-- what the PCM of the stream at a place can do
+abbrev pub caps_at : Plan → ℕ → Caps
+caps_at plan k = (get_or plan.streams k no_stream).caps
 
 -- the record of the stream at a place
 abbrev pub stream_at : Record → ℕ → StreamRec
 stream_at kept k = get_or kept.streams k closed
 
 -- the tests where something is loaded
-abbrev pub named_fault : Record → List ℕ → Ask → Option ℕ → Option HostFault
-named_fault kept name ask None = Some (NoSuch name)
-named_fault kept name ask (Some k) = power_fault ask (stream_at kept k).found kept.power
+abbrev pub named_fault : Plan → Record → List ℕ → Ask → Option ℕ → Option HostFault
+named_fault plan kept name ask None = Some (NoSuch name)
+named_fault plan kept name ask (Some k) = power_fault (caps_at plan k) ask (stream_at kept k).found kept.power
 
 abbrev pub loaded_fault : Power → Option HostFault → Option HostFault
 loaded_fault powers.Unloaded rest = Some NotLoaded
@@ -93,7 +95,7 @@ loaded_fault power rest = rest
 
 -- the first test that fails
 abbrev pub early_fault : Plan → Record → List ℕ → Ask → Option HostFault
-early_fault plan kept name ask = loaded_fault kept.power (named_fault kept name ask (stream_place plan name))
+early_fault plan kept name ask = loaded_fault kept.power (named_fault plan kept name ask (stream_place plan name))
 
 -- ---- the acts, where the power is on
 

@@ -5,11 +5,10 @@ use Rattle.stream_law.specs.Seen.{seen}
 use Rattle.ipc3_codec.specs.declared.reply.Reply.{Reply}
 use Rattle.mbox_link.specs.Calls.{World, Meaning, Cut, Exchanged, Did}
 use Rattle.tplg_graph.specs.declared.planned.Plan.{Plan}
-use Rattle.tplg_graph.specs.declared.planned.StreamPlan.{StreamPlan}
 use Rattle.host_widgets.specs.declared.answers.HostFault.{HostFault}
 use Rattle.host_widgets.specs.declared.answers.HostFault.TheVariants.{LinkDown}
 use Rattle.host_widgets.specs.declared.kept.Record.{Record}
-use Rattle.host_widgets.specs.HostRecord.{went_down}
+use Rattle.host_widgets.specs.HostRecord.{went_down, no_stream}
 use Rattle.host_widgets.specs.Acts.{Act}
 use Rattle.host_widgets.specs.Expected.{expected_view}
 use Rattle.host_widgets.specs.Host.{Outcome, verdict}
@@ -49,10 +48,6 @@ pub record Passes {D : Type 0} (means : Meaning D) (request : List ℕ) (kept ke
   pub record_after : kept' ≡ kept_by result kept
 
 -- ---- all acts of a call
-
--- no stream: a plan has a host for each of its streams
-abbrev pub no_stream : StreamPlan
-no_stream = record { host = 0; capture = false }
 
 -- the acts that are asked of the stream at a place
 abbrev pub acts_at : Plan → Record → ℕ → Ask → List Act

@@ -1,12 +1,13 @@
 // What is asked of a stream, and the tests before any message.
 ghost use Rattle.std.specs.Prelude.{◌≡◌, IfOk, IfErr, Some, None, get_or, length};
-ghost use Rattle.mbox_link.specs.Step.{is_rate};
 ghost use Rattle.host_pcm.specs.Asks as asks;
 ghost use Rattle.host_pcm.specs.Asks.{early_fault, stream_place};
 
+use crate::ranges::params_fault;
 use host_widgets::{Found, HostFault, Power, Record, Trigger};
 use sof_base::{Name44, Params};
 use tplg_graph::Plan;
+use tplg_model::Caps;
 
 /// What is asked of a stream.
 #[derive(Clone, Copy, Debug, PartialEq, Eq)]
@@ -34,13 +35,6 @@ fn takes_trigger(what: Trigger, found: Found) -> bool
     }
 }
 
-// Frames a second that a stream may have.
-fn is_rate(rate: u32) -> bool
-    ensures { result ≡ is_rate rate }
-{
-    8000 <= rate && rate <= 192_000 && rate % 1000 == 0
-}
-
 impl Ask {
     // Whether it may be asked of a stream that stands so.
     fn takes(self, found: Found) -> bool
@@ -64,20 +58,14 @@ impl Ask {
         }
     }
 
-    // The first of rate and channels that is outside its range.
-    fn range_fault(self) -> Option<HostFault>
-        ensures { result ≡ asks.range_fault self }
+    // Parameters are tested against what the stream's PCM can do.
+    fn range_fault(self, caps: &Caps) -> Option<HostFault>
+        ensures { result ≡ asks.range_fault caps.now self }
     {
-        let Ask::Preparing(params) = self else {
-            return None;
-        };
-        if !is_rate(params.rate) {
-            return Some(HostFault::Range(params.rate));
+        match self {
+            Ask::Preparing(params) => params_fault(caps, params),
+            Ask::Opening | Ask::Triggering(_) | Ask::Closing => None,
         }
-        if !(1 <= params.channels && params.channels <= 8) {
-            return Some(HostFault::Range(u32::from(params.channels)));
-        }
-        None
     }
 }
 
@@ -102,8 +90,8 @@ fn stream_place(plan: &Plan, name: &Name44) -> Option<usize>
 }
 
 // The first test that fails of a stream that stands so.
-fn power_fault(ask: Ask, found: Found, power: Power) -> Option<HostFault>
-    ensures { result ≡ asks.power_fault ask found power }
+fn power_fault(caps: &Caps, ask: Ask, found: Found, power: Power) -> Option<HostFault>
+    ensures { result ≡ asks.power_fault caps.now ask found power }
 {
     if power == Power::Off && ask.asks_for_power() {
         return Some(HostFault::Off);
@@ -111,7 +99,7 @@ fn power_fault(ask: Ask, found: Found, power: Power) -> Option<HostFault>
     if !ask.takes(found) {
         return Some(HostFault::State(found));
     }
-    ask.range_fault()
+    ask.range_fault(caps)
 }
 
 /// The place of the stream of this name, where no test of what is asked of it fails.
@@ -128,7 +116,8 @@ pub fn tested(plan: &Plan, kept: &Record, name: &Name44, ask: Ask) -> Result<usi
         return Err(HostFault::NoSuch(name.copied()));
     };
     let found = kept.streams.items()[place].found;
-    match power_fault(ask, found, kept.power) {
+    let caps = &plan.streams.items()[place].caps;
+    match power_fault(caps, ask, found, kept.power) {
         Some(fault) => Err(fault),
         None => Ok(place),
     }

@@ -5,7 +5,7 @@ ghost use Rattle.mbox_link.specs.Calls.{world};
 ghost use Rattle.tplg_graph.specs.ThinPlan.{IsThinPlan};
 ghost use Rattle.host_widgets.specs.HostRecord.{closed};
 ghost use Rattle.host_widgets.specs.Host.{Agrees};
-ghost use Rattle.host_pcm.specs.Asks.{stream_at, takes, range_fault, triggered, with_stream};
+ghost use Rattle.host_pcm.specs.Asks.{stream_at, takes, range_fault, caps_at, triggered, with_stream};
 ghost use Rattle.host_pcm.specs.Carried.{Walks};
 
 use crate::asking::Ask;
@@ -52,12 +52,12 @@ pub fn prepare<P: Dsp>(
     requires power { kept.old.power ≡ Power.On }
     requires place { place < length plan.now.streams }
     requires found { takes (Ask.Preparing p) (stream_at kept.old place).found ≡ true }
-    requires range { range_fault (Ask.Preparing p) ≡ None }
+    requires range { range_fault (caps_at plan.now place) (Ask.Preparing p) ≡ None }
     ensures walk { Walks P.means plan.now heap place (Ask.Preparing p) kept.old kept.new
         (world dsp.old io.old out.old) (world dsp.new io.new out.new) result }
     ensures agree { Agrees P.means plan.now kept.new dsp.new }
 {
-    let stream = plan.streams.items()[place];
+    let stream = &plan.streams.items()[place];
     let message = Message::PcmParams {
         host: stream.host,
         direction: direction(stream.capture),

@@ -6,6 +6,7 @@ mod asking;
 mod carrying;
 mod commands;
 mod passing;
+mod ranges;
 
 pub use asking::Ask;
 pub use commands::{close, open, params, pause, release, start, stop};

@@ -13,6 +13,7 @@ use Rattle.ipc3_codec.specs.Messages.{IsMessage, is_frame_format}
 use Rattle.mbox_link.specs.Step.{fresh, format_of, row, is_used, has_comp, no_device, invalid}
 use Rattle.tplg_graph.specs.declared.planned.Plan.{Plan}
 use Rattle.tplg_graph.specs.declared.planned.WidgetPlan.{WidgetPlan}
+use Rattle.tplg_model.specs.declared.pcm.Caps.{Caps}
 use Rattle.tplg_graph.specs.ThinPlan.{IsThinPlan, IsWidgetPlan, thin_graph, format_number}
 use Rattle.host_widgets.specs.declared.kept.Record.{Record}
 use Rattle.host_widgets.specs.Acts.{Make, Join, Finish, message_of, bring_up_acts}
@@ -47,12 +48,13 @@ passes_or error b f = cond (not b) (Err error) (Ok f)
 abbrev passes_if : Bool → Result FwState ℤ → Result FwState ℤ
 passes_if b r = cond (not b) (Err no_device) r
 
-module _ (pipe size : ℕ) (format : Format) (sched : ℕ) (names : List (List ℕ)) (host buffer dai scheduler : WidgetPlan) where
+module _ (pipe size : ℕ) (format : Format) (sched : ℕ) (caps : Caps) (names : List (List ℕ)) (host buffer dai scheduler : WidgetPlan) where
   -- a thin plan whose words are known where they are fixed
   abbrev pub thin : Plan
   thin = record {
     graph = thin_graph pipe size format sched;
-    streams = record { host = 0; capture = false } ∷ [];
+    streams = record { host = 0; capture = false; caps = caps } ∷ [];
+    controls = [];
     names = names;
     widgets = record host { pipe = pipe } ∷ record buffer { pipe = pipe } ∷ record dai { pipe = pipe; frame_fmt = format_number format } ∷ record scheduler { pipe = pipe } ∷ [];
   }
@@ -296,14 +298,14 @@ module _ (pipe size : ℕ) (format : Format) (sched : ℕ) (names : List (List �
       brings_thin = record { follow = follow; fits = fits_all; state = stands }
 
 -- a thin plan is that one
-plan-thin : (plan : Plan) (p : IsThinPlan plan) → plan ≡ thin p.pipe p.size p.format p.sched plan.names p.host p.buffer p.dai p.scheduler
+plan-thin : (plan : Plan) (p : IsThinPlan plan) → plan ≡ thin p.pipe p.size p.format p.sched p.caps plan.names p.host p.buffer p.dai p.scheduler
 plan-thin plan p =
-    let widgets : p.host ∷ p.buffer ∷ p.dai ∷ p.scheduler ∷ [] ≡ (thin p.pipe p.size p.format p.sched plan.names p.host p.buffer p.dai p.scheduler).widgets =
+    let widgets : p.host ∷ p.buffer ∷ p.dai ∷ p.scheduler ∷ [] ≡ (thin p.pipe p.size p.format p.sched p.caps plan.names p.host p.buffer p.dai p.scheduler).widgets =
     λ i. record p.host { pipe = p.host_is.pipe_is i } ∷ record p.buffer { pipe = p.buffer_is.pipe_is i } ∷ record p.dai { pipe = p.dai_is.pipe_is i; frame_fmt = p.dai_format i } ∷ record p.scheduler { pipe = p.scheduler_is.pipe_is i } ∷ [] in
-    λ i. record { graph = p.graph i; streams = p.streams i; names = plan.names; widgets = (p.widgets ∙ widgets) i }
+    λ i. record { graph = p.graph i; streams = p.streams i; controls = p.controls i; names = plan.names; widgets = (p.widgets ∙ widgets) i }
 
 -- a fresh firmware takes the list of a thin plan
 pub brings : (plan : Plan) (heap : ℕ) (kept : Record) → IsThinPlan plan → Brings plan heap kept
 brings plan heap kept p =
     subst (λ (x : Plan). Brings x heap kept) (sym (plan-thin plan p))
-    (brings_thin p.pipe p.size p.format p.sched plan.names p.host p.buffer p.dai p.scheduler heap kept p.pipe_fits p.size_least p.size_most p.sched_is p.host_is p.buffer_is p.dai_is p.scheduler_is)
+    (brings_thin p.pipe p.size p.format p.sched p.caps plan.names p.host p.buffer p.dai p.scheduler heap kept p.pipe_fits p.size_least p.size_most p.sched_is p.host_is p.buffer_is p.dai_is p.scheduler_is)

@@ -6,11 +6,13 @@ use Rattle.sof_base.specs.declared.format.Format.{Format}
 use Rattle.sof_base.specs.declared.format.Params.{Params}
 use Rattle.stream_law.specs.declared.graph.Graph.{Graph}
 use Rattle.stream_law.specs.declared.stream.Phase.{Phase}
+use Rattle.stream_law.specs.declared.stream.StreamView.{StreamView}
 use Rattle.stream_law.specs.State.{View}
 use Rattle.stream_law.specs.Ways.{reaches, on_way, agree, is_live_phase}
 use Rattle.tplg_graph.specs.declared.planned.Plan.{Plan}
 use Rattle.tplg_graph.specs.declared.planned.StreamPlan.{StreamPlan}
 use Rattle.tplg_graph.specs.ThinPlan.{IsThinPlan, thin_graph}
+use Rattle.tplg_model.specs.declared.pcm.Caps.{Caps}
 use Rattle.host_widgets.specs.declared.kept.Found.{Found}
 use Rattle.host_widgets.specs.declared.kept.Found.TheVariants.{Closed, Open, Prepared, Running, Paused, On as Found_On}
 use Rattle.host_widgets.specs.declared.kept.Power.{Power}
@@ -21,8 +23,8 @@ use Rattle.host_widgets.specs.Expected.{expected_view, stream_view, phase_of}
 use Rattle.host_widgets.specs.Host.{IsRecordOf}
 
 -- its one stream, of this host
-abbrev pub only_stream : StreamPlan
-only_stream = record { host = 0; capture = false }
+abbrev pub only_stream : Caps → StreamPlan
+only_stream caps = record { host = 0; capture = false; caps = caps }
 
 -- one stream agrees with itself
 pub agree-one : (pipe size : ℕ) (format : Format) (sched : ℕ) (phase : Phase) (params : Option Params) → agree (record { graph = thin_graph pipe size format sched; streams = record { host = 0; phase = phase; params = params } ∷ [] }) ≡ true
@@ -30,9 +32,13 @@ unfolding agree on_way reaches
 agree-one pipe size format sched phase None = refl
 agree-one pipe size format sched phase (Some p) = rw (eq-eqb p.rate p.rate refl, eq-eqb p.channels p.channels refl) refl
 
+-- what the firmware shows of it
+abbrev pub shown : StreamRec → StreamView
+shown r = record { host = 0; phase = phase_of r.found; params = r.params }
+
 -- the view that a record of one stream says
 abbrev pub view_with : Graph → StreamRec → View
-view_with g r = record { graph = g; streams = stream_view (only_stream, r) ∷ [] }
+view_with g r = record { graph = g; streams = shown r ∷ [] }
 
 pub view-is : (plan : Plan) (kept : Record) (r : StreamRec) (p : IsThinPlan plan) → kept.streams ≡ r ∷ [] → expected_view plan kept ≡ view_with (thin_graph p.pipe p.size p.format p.sched) r
 view-is plan kept r p is = λ i. record { graph = p.graph i; streams = map stream_view (zip (p.streams i) (is i)) }

@@ -1,8 +1,10 @@
 -- The host's record: what it may be, before anything was loaded, and after the link failed.
-use Rattle.std.specs.Prelude.{map, Bool, true, false, ◌&&◌, nat_le, Option, Some, None}
+use Rattle.std.specs.Prelude.{map, [], Bool, true, false, ◌&&◌, nat_le, Option, Some, None}
 use Rattle.sof_base.specs.declared.format.Params.{Params}
 use Rattle.mbox_link.specs.Step.{is_rate}
+use Rattle.tplg_model.specs.declared.pcm.Caps.{Caps}
 use Rattle.tplg_graph.specs.declared.planned.Plan.{Plan}
+use Rattle.tplg_graph.specs.declared.planned.StreamPlan.{StreamPlan}
 use Rattle.host_widgets.specs.declared.kept.Found.{Found}
 use Rattle.host_widgets.specs.declared.kept.Found.TheVariants.{Closed, Open, Prepared, Running, Paused}
 use Rattle.host_widgets.specs.declared.kept.Power.{Power}
@@ -26,6 +28,29 @@ may_have found params = false
 -- a stream that is closed has no parameters
 abbrev pub closed : StreamRec
 closed = record { found = Closed; params = None }
+
+-- what no PCM can do
+abbrev pub no_caps : Caps
+no_caps = record {
+  name = [];
+  formats = 0;
+  rates = 0;
+  rate_min = 0;
+  rate_max = 0;
+  channels_min = 0;
+  channels_max = 0;
+  periods_min = 0;
+  periods_max = 0;
+  period_size_min = 0;
+  period_size_max = 0;
+  buffer_size_min = 0;
+  buffer_size_max = 0;
+  sig_bits = 0;
+}
+
+-- no stream: a plan has a host for each of its streams
+abbrev pub no_stream : StreamPlan
+no_stream = record { host = 0; capture = false; caps = no_caps }
 
 -- every stream of the plan is closed, at this power
 abbrev pub all_closed : Power → Plan → Record

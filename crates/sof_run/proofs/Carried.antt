@@ -6,7 +6,25 @@ use Rattle.sof_desk.specs.Desk.{DeskMeaning, Place, Spoken, Act, Heard, Does, Pu
 use Rattle.sof_session.specs.Walks.{Stand}
 use Rattle.sof_run.specs.Todo.{no_memory}
 use Rattle.sof_run.specs.Whole.{Item, Planned, Memory, Wants, Made}
-use Rattle.sof_run.specs.Runs.{Piece, puts, bytes_at, Wrote, WroteNone, Before}
+use Rattle.sof_run.specs.Runs.{Piece, puts, bytes_at, Front}
+
+-- what was written from one desk to another: pieces of the run
+pub record Carried {D : Type 0} (means : DeskMeaning D) (marks : List (Piece × Stand)) (end : ℕ × Stand) (old new : D) (status : ℕ) (s : Stand) : Type 0 where
+  pub pieces : List Piece
+  pub front : Front marks end pieces status s
+  pub wrote : (place : Place) → means.wrote new place ≡ with_more (means.wrote old place) (bytes_at place pieces)
+
+-- nothing was written but the line for want of memory, or a front of it, or no byte
+abbrev pub NoneWrote : {D : Type 0} → DeskMeaning D → D → D → Type 0
+NoneWrote means old new =
+    (part : List ℕ) × ((rest : List ℕ) × (part ++ rest ≡ no_memory))
+    × ((place : Place) → means.wrote new place ≡ (if same_place Spoken place then with_more (means.wrote old place) part else means.wrote old place))
+
+-- nothing of the run was written, and everything stands as it did
+pub record Ended {D : Type 0} (means : DeskMeaning D) (start : Stand) (old new : D) (status : ℕ) (s : Stand) : Type 0 where
+  pub ended : (status ≡ 3) ⊎ (status ≡ 7)
+  pub wrote : NoneWrote means old new
+  pub stand : s ≡ start
 
 more_none : (o : Option (List ℕ)) → o ≡ with_more o []
 more_none None = refl
@@ -22,7 +40,7 @@ module _ {D : Type 0} (means : DeskMeaning D) where
   put_part to piece part act done old new is acted place =
       acted.wrote place ∙ ap (λ a. after_act a done acted.part place (means.wrote old place)) is
 
-  pub carry : (marks : List (Piece × Stand)) (end : ℕ × Stand) (calls : List Call) (old new : D) (status : ℕ) (s : Stand) → Made (puts marks) end calls status s → Led means old calls new → Wrote means marks end old new status s
+  pub carry : (marks : List (Piece × Stand)) (end : ℕ × Stand) (calls : List Call) (old new : D) (status : ℕ) (s : Stand) → Made (puts marks) end calls status s → Led means old calls new → Carried means marks end old new status s
   carry [] end [] old new status s made led =
       record { pieces = []; front = made; wrote = λ place. ap (λ d. means.wrote d place) led ∙ more_none (means.wrote old place) }
   carry [] end (call ∷ calls) old new status s made led = absurd made
@@ -66,7 +84,7 @@ module _ {D : Type 0} (means : DeskMeaning D) where
       }
 
 -- a call of the plan was made and passed, or the run ended before it
-bind : {A B C : Type 0} → A ⊎ B → (A → C ⊎ B) → C ⊎ B
+pub bind : {A B C : Type 0} → A ⊎ B → (A → C ⊎ B) → C ⊎ B
 bind (inl a) f = f a
 bind (inr b) f = inr b
 
@@ -80,22 +98,22 @@ unwritten false o = refl
 
 module _ {D : Type 0} (means : DeskMeaning D) where
   -- no call wrote
-  none_wrote : (old new : D) → ((place : Place) → means.wrote new place ≡ means.wrote old place) → WroteNone means old new
+  pub none_wrote : (old new : D) → ((place : Place) → means.wrote new place ≡ means.wrote old place) → NoneWrote means old new
   none_wrote old new kept = ([], (no_memory, refl), λ place. kept place ∙ unwritten (same_place Spoken place) (means.wrote old place))
 
   -- the line for want of memory
-  line_wrote : (act : Act) (done : Bool) (old m new : D) → act ≡ Put Spoken no_memory → Acted means act done old m → new ≡ m → WroteNone means old new
+  line_wrote : (act : Act) (done : Bool) (old m new : D) → act ≡ Put Spoken no_memory → Acted means act done old m → new ≡ m → NoneWrote means old new
   line_wrote act done old m new is acted last =
       (acted.part, part_of done acted.part no_memory (subst (λ a. Takes a done acted.part) is acted.takes), λ place. ap (λ d. means.wrote d place) last ∙ put_part means Spoken no_memory acted.part act done old m is acted place)
 
   -- after calls that wrote nothing
-  kept_none : (old m new : D) → ((place : Place) → means.wrote m place ≡ means.wrote old place) → WroteNone means m new → WroteNone means old new
+  kept_none : (old m new : D) → ((place : Place) → means.wrote m place ≡ means.wrote old place) → NoneWrote means m new → NoneWrote means old new
   kept_none old m new kept none = (none.0, none.1, λ place. none.2 place ∙ ap (λ o. if same_place Spoken place then with_more o none.0 else o) (kept place))
 
-  kept_before : (start : Stand) (old m new : D) (status : ℕ) (s : Stand) → ((place : Place) → means.wrote m place ≡ means.wrote old place) → Before means start m new status s → Before means start old new status s
+  kept_before : (start : Stand) (old m new : D) (status : ℕ) (s : Stand) → ((place : Place) → means.wrote m place ≡ means.wrote old place) → Ended means start m new status s → Ended means start old new status s
   kept_before start old m new status s kept before = record { ended = before.ended; wrote = kept_none old m new kept before.wrote; stand = before.stand }
 
-  wants_before : (at : Stand) (old new : D) (calls : List Call) (status : ℕ) (s : Stand) → Wants at calls status s → Led means old calls new → Before means at old new status s
+  wants_before : (at : Stand) (old new : D) (calls : List Call) (status : ℕ) (s : Stand) → Wants at calls status s → Led means old calls new → Ended means at old new status s
   wants_before at old new [] status s wants led = absurd wants.0
   wants_before at old new (Load name limit heard ∷ calls) status s wants led = absurd wants.0
   wants_before at old new (Did act true ∷ calls) status s wants led =
@@ -110,8 +128,8 @@ module _ {D : Type 0} (means : DeskMeaning D) where
 
   -- a load of the plan: it passed, and wrote nothing; or the run ended
   module _ (name : List ℕ) (limit : ℕ) (bytes : List ℕ) (at : Stand) (items : List Item) (end : ℕ × Stand) (status : ℕ) (s : Stand) where
-    passes : (old new : D) (calls : List Call) → Made (Planned (Load name limit (Ok bytes)) at ∷ items) end calls status s → Led means old calls new
-        → ((m : D) × ((rest : List Call) × Made items end rest status s × Led means m rest new × ((place : Place) → means.wrote m place ≡ means.wrote old place))) ⊎ Before means at old new status s
+    pub passes : (old new : D) (calls : List Call) → Made (Planned (Load name limit (Ok bytes)) at ∷ items) end calls status s → Led means old calls new
+        → ((m : D) × ((rest : List Call) × Made items end rest status s × Led means m rest new × ((place : Place) → means.wrote m place ≡ means.wrote old place))) ⊎ Ended means at old new status s
     passes old new [] made led = absurd made
     passes old new (first ∷ calls) (inl made) led =
         let did : Does means (Load name limit (Ok bytes)) old led.0 = subst (λ c. Does means c old led.0) made.0 led.1 in
@@ -124,25 +142,6 @@ module _ {D : Type 0} (means : DeskMeaning D) where
         let did : Does means (Load name limit (Err OutOfMemory)) old led.0 = subst (λ c. Does means c old led.0) made.0 led.1 in
         inr (kept_before at old led.0 new status s (keeps name limit (Err OutOfMemory) old led.0 did) (wants_before at led.0 new calls status s made.1 led.2))
 
-  had_memory : (at : Stand) (items : List Item) (end : ℕ × Stand) (old new : D) (calls : List Call) (status : ℕ) (s : Stand) → Made (Memory at ∷ items) end calls status s → Led means old calls new → Made items end calls status s ⊎ Before means at old new status s
+  pub had_memory : (at : Stand) (items : List Item) (end : ℕ × Stand) (old new : D) (calls : List Call) (status : ℕ) (s : Stand) → Made (Memory at ∷ items) end calls status s → Led means old calls new → Made items end calls status s ⊎ Ended means at old new status s
   had_memory at items end old new calls status s (inl made) led = inl made
   had_memory at items end old new calls status s (inr wants) led = inr (wants_before at old new calls status s wants led)
-
--- after two loads, which write nothing
-module _ {D : Type 0} (means : DeskMeaning D) (marks : List (Piece × Stand)) (end : ℕ × Stand) where
-  kept_wrote : (old m new : D) (status : ℕ) (s : Stand) → ((place : Place) → means.wrote m place ≡ means.wrote old place) → Wrote means marks end m new status s → Wrote means marks end old new status s
-  kept_wrote old m new status s kept wrote =
-      record { pieces = wrote.pieces; front = wrote.front; wrote = λ place. wrote.wrote place ∙ ap (λ o. with_more o (bytes_at place wrote.pieces)) (kept place) }
-
-  kept_both : (start : Stand) (old m new : D) (status : ℕ) (s : Stand) → ((place : Place) → means.wrote m place ≡ means.wrote old place) → Wrote means marks end m new status s ⊎ Before means start m new status s → Wrote means marks end old new status s ⊎ Before means start old new status s
-  kept_both start old m new status s kept (inl wrote) = inl (kept_wrote old m new status s kept wrote)
-  kept_both start old m new status s kept (inr before) = inr (kept_before means start old m new status s kept before)
-
-  pub play_wrote : (one two : List ℕ) (limit : ℕ) (first second : List ℕ) (start : Stand) (old new : D) (calls : List Call) (status : ℕ) (s : Stand) → Made (Planned (Load one limit (Ok first)) start ∷ Planned (Load two limit (Ok second)) start ∷ Memory start ∷ puts marks) end calls status s → Led means old calls new → Wrote means marks end old new status s ⊎ Before means start old new status s
-  play_wrote one two limit first second start old new calls status s made led =
-      bind (passes means one limit first start (Planned (Load two limit (Ok second)) start ∷ Memory start ∷ puts marks) end status s old new calls made led) (λ a.
-      kept_both start old a.0 new status s a.1.3
-      (bind (passes means two limit second start (Memory start ∷ puts marks) end status s a.0 new a.1.0 a.1.1 a.1.2) (λ b.
-      kept_both start a.0 b.0 new status s b.1.3
-      (bind (had_memory means start (puts marks) end b.0 new b.1.0 status s b.1.1 b.1.2) (λ c.
-      inl (carry means marks end b.1.0 b.0 new status s c b.1.2))))))

@@ -1,23 +1,23 @@
 -- The commands and their lines, one after another.
-use Rattle.std.proofs.Common.{◌≡◌, ◌⊎◌, inl, inr, ℕ, ◌≤◌, ◌+◌, ◌<◌, Bool, true, false, List, [], ◌∷◌, length, drop, get_or, Option, Some, None, MatchOption, refl, sym, ◌∙◌, ap, subst}
+use Rattle.std.proofs.Common.{◌≡◌, ◌⊎◌, inl, inr, ℕ, suc, ◌≤◌, ◌+◌, ◌-◌, ◌<◌, Bool, true, false, List, [], ◌∷◌, ◌++◌, length, drop, get_or, Option, Some, None, MatchOption, refl, sym, ◌∙◌, ap, subst, arith}
 use Rattle.std.specs.List.{slice_get}
 use Rattle.std.proofs.lemmas.List.{drop_more, drop_all}
 use Rattle.std.proofs.lemmas.Option.{slice_get_within, get_or_from_slice_get, slice_get_cases}
 use Rattle.sof_desk.specs.Desk.{DeskMeaning, Put, Spoken, Acted}
 use Rattle.host_widgets.specs.declared.answers.Answer.{Answer}
-use Rattle.sof_base.specs.Ports.{Io}
+use Rattle.sof_base.specs.Ports.{Io, InputView}
 use Rattle.mbox_link.specs.Calls.{Meaning}
 use Rattle.sof_script.specs.declared.script.Command.{Command}
 use Rattle.sof_script.specs.declared.script.Command.TheVariants as commands
 use Rattle.sof_script.specs.declared.script.Numbered.{Numbered}
-use Rattle.sof_script.specs.Text.{answer_line}
 use Rattle.sof_session.specs.Show.{IsLineAt, show_lines}
-use Rattle.sof_session.specs.Walks.{Carry, is_built}
+use Rattle.sof_session.specs.Walks.{Out, Written, Carry, is_built}
 use Rattle.sof_session.specs.Seat.{Seat}
-use Rattle.sof_session.specs.Turns.{Ran, LifeMeaning, Turn, Turned, turn, shown_by}
+use Rattle.sof_session.specs.Turns.{Ran, LifeMeaning, Life, Seated, Turn, Turned, life, turn, shown_by}
 use Rattle.sof_run.specs.Todo as todo
 use Rattle.sof_run.specs.Todo.{Todo, Do, Played, DeskPhase, Follows, Fails, Phase}
-use Rattle.sof_run.specs.Play.{is_played, is_show, with_newline, spoken, lines_todo, command_todo, commands_todo}
+use Rattle.sof_run.specs.Rounds.{Round, rounds_after, command_rounds, rounds_of}
+use Rattle.sof_run.specs.Play.{is_played, is_show, with_newline, lines_after, flush_todo, lines_todo, round_todo, rounds_todo, commands_todo}
 use Rattle.sof_run.proofs.Steps.{do_on, do_off, step_on, beside, beside_failed}
 
 -- what the answer says of the list
@@ -61,7 +61,7 @@ played_built (commands.Read n) is = absurd (cc is)
 played_built (commands.Params n p) is = refl
 played_built (commands.Set n v) is = absurd (cc is)
 played_built (commands.Bytes n b) is = absurd (cc is)
-played_built (commands.Tick t) is = absurd (cc is)
+played_built (commands.Tick t) is = refl
 played_built (commands.Refuse k e) is = absurd (cc is)
 played_built (commands.Drop k) is = absurd (cc is)
 played_built (commands.Lose k) is = absurd (cc is)
@@ -126,44 +126,129 @@ module _ {D : Type 0} (means : DeskMeaning D) where
     shown_none (commands.Lose k) seat old is = none_said old
     shown_none (commands.Lag k t) seat old is = none_said old
 
-    pub shown_all : (command : Command) (seat later : Seat P) (io io' : Io) (answer : Answer) (done : Bool) (old new : D) → is_show command ≡ true → Ran device command seat later io io' answer → DeskPhase means (lines_todo (show_lines later.plan later.kept)) done old new → DeskPhase means (lines_todo (shown_by command seat)) done old new
-    shown_all commands.Load seat later io io' answer done old new is ran phase = absurd (cc is)
-    shown_all commands.Unload seat later io io' answer done old new is ran phase = absurd (cc is)
-    shown_all commands.Suspend seat later io io' answer done old new is ran phase = absurd (cc is)
-    shown_all commands.Resume seat later io io' answer done old new is ran phase = absurd (cc is)
-    shown_all commands.Show seat later io io' answer done old new is ran phase = subst (λ (x : Seat P). DeskPhase means (lines_todo (show_lines x.plan x.kept)) done old new) ran.0 phase
-    shown_all (commands.Open n) seat later io io' answer done old new is ran phase = absurd (cc is)
-    shown_all (commands.Start n) seat later io io' answer done old new is ran phase = absurd (cc is)
-    shown_all (commands.Stop n) seat later io io' answer done old new is ran phase = absurd (cc is)
-    shown_all (commands.Pause n) seat later io io' answer done old new is ran phase = absurd (cc is)
-    shown_all (commands.Release n) seat later io io' answer done old new is ran phase = absurd (cc is)
-    shown_all (commands.Close n) seat later io io' answer done old new is ran phase = absurd (cc is)
-    shown_all (commands.Get n) seat later io io' answer done old new is ran phase = absurd (cc is)
-    shown_all (commands.Read n) seat later io io' answer done old new is ran phase = absurd (cc is)
-    shown_all (commands.Params n p) seat later io io' answer done old new is ran phase = absurd (cc is)
-    shown_all (commands.Set n v) seat later io io' answer done old new is ran phase = absurd (cc is)
-    shown_all (commands.Bytes n b) seat later io io' answer done old new is ran phase = absurd (cc is)
-    shown_all (commands.Tick t) seat later io io' answer done old new is ran phase = absurd (cc is)
-    shown_all (commands.Refuse k e) seat later io io' answer done old new is ran phase = absurd (cc is)
-    shown_all (commands.Drop k) seat later io io' answer done old new is ran phase = absurd (cc is)
-    shown_all (commands.Lose k) seat later io io' answer done old new is ran phase = absurd (cc is)
-    shown_all (commands.Lag k t) seat later io io' answer done old new is ran phase = absurd (cc is)
+    pub shown_all : (command : Command) (seat : Seat P) (done : Bool) (old new : D) → is_show command ≡ true → DeskPhase means (lines_todo (show_lines seat.plan seat.kept)) done old new → DeskPhase means (lines_todo (shown_by command seat)) done old new
+    shown_all commands.Load seat done old new is phase = absurd (cc is)
+    shown_all commands.Unload seat done old new is phase = absurd (cc is)
+    shown_all commands.Suspend seat done old new is phase = absurd (cc is)
+    shown_all commands.Resume seat done old new is phase = absurd (cc is)
+    shown_all commands.Show seat done old new is phase = phase
+    shown_all (commands.Open n) seat done old new is phase = absurd (cc is)
+    shown_all (commands.Start n) seat done old new is phase = absurd (cc is)
+    shown_all (commands.Stop n) seat done old new is phase = absurd (cc is)
+    shown_all (commands.Pause n) seat done old new is phase = absurd (cc is)
+    shown_all (commands.Release n) seat done old new is phase = absurd (cc is)
+    shown_all (commands.Close n) seat done old new is phase = absurd (cc is)
+    shown_all (commands.Get n) seat done old new is phase = absurd (cc is)
+    shown_all (commands.Read n) seat done old new is phase = absurd (cc is)
+    shown_all (commands.Params n p) seat done old new is phase = absurd (cc is)
+    shown_all (commands.Set n v) seat done old new is phase = absurd (cc is)
+    shown_all (commands.Bytes n b) seat done old new is phase = absurd (cc is)
+    shown_all (commands.Tick t) seat done old new is phase = absurd (cc is)
+    shown_all (commands.Refuse k e) seat done old new is phase = absurd (cc is)
+    shown_all (commands.Drop k) seat done old new is phase = absurd (cc is)
+    shown_all (commands.Lose k) seat done old new is phase = absurd (cc is)
+    shown_all (commands.Lag k t) seat done old new is phase = absurd (cc is)
+
+    -- a show leaves what it shows
+    pub shown_same : (command : Command) (seat later : Seat P) (io io' : Io) (answer : Answer) → Ran device command seat later io io' answer → shown_by command later ≡ shown_by command seat
+    shown_same commands.Load seat later io io' answer ran = refl
+    shown_same commands.Unload seat later io io' answer ran = refl
+    shown_same commands.Suspend seat later io io' answer ran = refl
+    shown_same commands.Resume seat later io io' answer ran = refl
+    shown_same commands.Show seat later io io' answer ran = ap (λ (x : Seat P). show_lines x.plan x.kept) ran.0
+    shown_same (commands.Open n) seat later io io' answer ran = refl
+    shown_same (commands.Start n) seat later io io' answer ran = refl
+    shown_same (commands.Stop n) seat later io io' answer ran = refl
+    shown_same (commands.Pause n) seat later io io' answer ran = refl
+    shown_same (commands.Release n) seat later io io' answer ran = refl
+    shown_same (commands.Close n) seat later io io' answer ran = refl
+    shown_same (commands.Get n) seat later io io' answer ran = refl
+    shown_same (commands.Read n) seat later io io' answer ran = refl
+    shown_same (commands.Params n p) seat later io io' answer ran = refl
+    shown_same (commands.Set n v) seat later io io' answer ran = refl
+    shown_same (commands.Bytes n b) seat later io io' answer ran = refl
+    shown_same (commands.Tick t) seat later io io' answer ran = refl
+    shown_same (commands.Refuse k e) seat later io io' answer ran = refl
+    shown_same (commands.Drop k) seat later io io' answer ran = refl
+    shown_same (commands.Lose k) seat later io io' answer ran = refl
+    shown_same (commands.Lag k t) seat later io io' answer ran = refl
 
   module _ {P : Type 0} (dsp : LifeMeaning P) where
-    -- a turn, and then the lines of the command
-    pub carried : (numbered : Numbered) (answer : Answer) (shown : List (List ℕ)) (done : Bool) (old new : D) (p q : P) → Turned dsp (turn (Carry numbered.command) answer shown) p q → DeskPhase means (lines_todo (answer_line numbered.line answer ∷ shown)) done old new → Phase means dsp (command_todo numbered) done old p new q
-    carried numbered answer shown true old new p q turned phase = λ rest status end r ran.
-        step_on means dsp (turn (Carry numbered.command) answer shown) (λ out. lines_todo (spoken numbered.line out) rest) status old end p q r turned
-        (beside means dsp (lines_todo (answer_line numbered.line answer ∷ shown)) old new q phase rest status end r ran)
-    carried numbered answer shown false old new p q turned phase = λ rest.
-        step_on means dsp (turn (Carry numbered.command) answer shown) (λ out. lines_todo (spoken numbered.line out) rest) 3 old new p q q turned
-        (beside_failed means dsp (lines_todo (answer_line numbered.line answer ∷ shown)) old new q phase rest)
+    -- ---- one unit
 
-    -- a command more
-    pub commands_on : (script : List Numbered) (i : ℕ) (other : Numbered) (old m new : D) (p r q : P) → i < length script → Follows means dsp (commands_todo script) (commands_todo (drop i script)) old p m r → Follows means dsp (command_todo (get_or script i other)) (λ rest. rest) m r new q → Follows means dsp (commands_todo script) (commands_todo (drop (i + 1) script)) old p new q
-    commands_on script i other old m new p r q within so_far done = λ rest status end t ran.
-        so_far rest status end t (subst (λ cs. todo.Ran means dsp (commands_todo cs rest) m r status end t) (sym (drop_more script i other within)) (done (commands_todo (drop (i + 1) script) rest) status end t ran))
+    module _ (round : Round) (answer : Answer) (shown : List (List ℕ)) (written : List Written) where
+      abbrev out : Out
+      out = record { answer = answer; shown = shown; written = written }
 
-    pub commands_off : (script : List Numbered) (i : ℕ) (other : Numbered) (old m new : D) (p r q : P) → i < length script → Follows means dsp (commands_todo script) (commands_todo (drop i script)) old p m r → Fails means dsp (command_todo (get_or script i other)) m r new q → Fails means dsp (commands_todo script) old p new q
-    commands_off script i other old m new p r q within so_far failed = λ rest.
-        so_far rest 3 new q (subst (λ cs. todo.Ran means dsp (commands_todo cs rest) m r 3 new q) (sym (drop_more script i other within)) (failed (commands_todo (drop (i + 1) script) rest)))
+      abbrev lines : List (List ℕ)
+      lines = lines_after round out
+
+      abbrev after : Todo → Out → Todo
+      after rest out = flush_todo out.written (lines_todo (lines_after round out) rest)
+
+      -- a turn, the bytes, and the lines
+      pub round_said : (done : Bool) (old m new : D) (p q : P) → Turned dsp (turn (Carry round.numbered.command) answer shown written) p q → DeskPhase means (flush_todo written) true old m → DeskPhase means (lines_todo lines) done m new → Phase means dsp (round_todo round) done old p new q
+      round_said true old m new p q turned flushed said = λ rest status end r ran.
+          step_on means dsp (turn (Carry round.numbered.command) answer shown written) (after rest) status old end p q r turned
+          (beside means dsp (flush_todo written) old m q flushed (lines_todo lines rest) status end r (beside means dsp (lines_todo lines) m new q said rest status end r ran))
+      round_said false old m new p q turned flushed said = λ rest.
+          step_on means dsp (turn (Carry round.numbered.command) answer shown written) (after rest) 3 old new p q q turned
+          (beside means dsp (flush_todo written) old m q flushed (lines_todo lines rest) 3 new q (beside_failed means dsp (lines_todo lines) m new q said rest))
+
+      -- the bytes were not all appended
+      pub round_cut : (old new : D) (p q : P) → Turned dsp (turn (Carry round.numbered.command) answer shown written) p q → DeskPhase means (flush_todo written) false old new → Phase means dsp (round_todo round) false old p new q
+      round_cut old new p q turned failed = λ rest.
+          step_on means dsp (turn (Carry round.numbered.command) answer shown written) (after rest) 3 old new p q q turned
+          (beside_failed means dsp (flush_todo written) old new q failed (lines_todo lines rest))
+
+    -- ---- the units of a command
+
+    left : (n i : ℕ) → i < n → n - i ≡ suc (n - (i + 1))
+    left n i within = omega (arith, within)
+
+    module _ (numbered : Numbered) (n i : ℕ) (old m new : D) (p r q : P) (so_far : Follows means dsp (rounds_todo (rounds_after n numbered)) (rounds_todo (rounds_after (n - i) numbered)) old p m r) where
+      -- one that is not the last
+      pub rounds_on : i < n → Follows means dsp (round_todo (record { numbered = numbered; last = false })) (λ rest. rest) m r new q → Follows means dsp (rounds_todo (rounds_after n numbered)) (rounds_todo (rounds_after (n - (i + 1)) numbered)) old p new q
+      rounds_on within done = λ rest status end t ran.
+          so_far rest status end t (subst (λ k. todo.Ran means dsp (rounds_todo (rounds_after k numbered) rest) m r status end t) (sym (left n i within)) (done (rounds_todo (rounds_after (n - (i + 1)) numbered) rest) status end t ran))
+
+      pub rounds_off : i < n → Fails means dsp (round_todo (record { numbered = numbered; last = false })) m r new q → Fails means dsp (rounds_todo (rounds_after n numbered)) old p new q
+      rounds_off within failed = λ rest.
+          so_far rest 3 new q (subst (λ k. todo.Ran means dsp (rounds_todo (rounds_after k numbered) rest) m r 3 new q) (sym (left n i within)) (failed (rounds_todo (rounds_after (n - (i + 1)) numbered) rest)))
+
+      -- the last
+      pub rounds_last : (done : Bool) → n ≤ i → Phase means dsp (round_todo (record { numbered = numbered; last = true })) done m r new q → Phase means dsp (rounds_todo (rounds_after n numbered)) done old p new q
+      rounds_last true past phase = λ rest status end t ran.
+          so_far rest status end t (subst (λ k. todo.Ran means dsp (rounds_todo (rounds_after k numbered) rest) m r status end t) (sym (none n i past)) (phase rest status end t ran))
+        where
+          none : (n i : ℕ) → n ≤ i → n - i ≡ 0
+          none n i past = omega (arith, past)
+      rounds_last false past phase = λ rest.
+          so_far rest 3 new q (subst (λ k. todo.Ran means dsp (rounds_todo (rounds_after k numbered) rest) m r 3 new q) (sym (none n i past)) (phase rest))
+        where
+          none : (n i : ℕ) → n ≤ i → n - i ≡ 0
+          none n i past = omega (arith, past)
+
+    -- ---- the commands
+
+    rounds_append : (a b : List Round) (rest : Todo) → rounds_todo (a ++ b) rest ≡ rounds_todo a (rounds_todo b rest)
+    rounds_append [] b rest = refl
+    rounds_append (round ∷ a) b rest = ap (round_todo round) (rounds_append a b rest)
+
+    module _ (script : List Numbered) (i : ℕ) (other : Numbered) (old m new : D) (p r q : P) (within : i < length script) (so_far : Follows means dsp (commands_todo script) (commands_todo (drop i script)) old p m r) where
+      here : (rest : Todo) → commands_todo (drop i script) rest ≡ rounds_todo (command_rounds (get_or script i other)) (commands_todo (drop (i + 1) script) rest)
+      here rest = ap (λ cs. commands_todo cs rest) (drop_more script i other within) ∙ rounds_append (command_rounds (get_or script i other)) (rounds_of (drop (i + 1) script)) rest
+
+      -- a command more
+      pub commands_on : Follows means dsp (rounds_todo (command_rounds (get_or script i other))) (λ rest. rest) m r new q → Follows means dsp (commands_todo script) (commands_todo (drop (i + 1) script)) old p new q
+      commands_on done = λ rest status end t ran.
+          so_far rest status end t (subst (λ x. todo.Ran means dsp x m r status end t) (sym (here rest)) (done (commands_todo (drop (i + 1) script) rest) status end t ran))
+
+      pub commands_off : Fails means dsp (rounds_todo (command_rounds (get_or script i other))) m r new q → Fails means dsp (commands_todo script) old p new q
+      commands_off failed = λ rest.
+          so_far rest 3 new q (subst (λ x. todo.Ran means dsp x m r 3 new q) (sym (here rest)) (failed (commands_todo (drop (i + 1) script) rest)))
+
+-- the same slots, told otherwise
+module _ {D P : Type 0} (means : DeskMeaning D) (device : Meaning P) where
+  pub same_slots : (phase : Todo → Todo) (done : Bool) (old new : D) (p : Life P) (seat : Seat P) (inputs : List InputView) (slots slots' : List ℕ) → slots' ≡ slots → Phase means (life device) phase done old p new (Seated seat inputs slots) → Phase means (life device) phase done old p new (Seated seat inputs slots')
+  same_slots phase done old new p seat inputs slots slots' same made = subst (λ (xs : List ℕ). Phase means (life device) phase done old p new (Seated seat inputs xs)) (sym same) made

@@ -7,8 +7,12 @@ use Rattle.tplg_model.specs.declared.fault.TplgFault.{TplgFault}
 use Rattle.tplg_model.specs.declared.block.Topology.{Topology}
 use Rattle.tplg_model.specs.Reading.{topology_of}
 use Rattle.tplg_model.proofs.FileLaws.{topology_take, topology_again, topology_found}
+use Rattle.tplg_graph.specs.WellFormed.{IsWellFormed}
+use Rattle.tplg_graph.specs.RuleTest.{ruling_of}
 use Rattle.tplg_graph.specs.ThinTest.{thin_test}
 use Rattle.tplg_graph.specs.PlanOf.{plan_of}
+use Rattle.tplg_graph.specs.declared.planned.Plan.{Plan}
+use Rattle.tplg_graph.proofs.RuleTests.{none_whole, some_breaks}
 use Rattle.sof_script.specs.declared.reading.ScriptFault.{ScriptFault}
 use Rattle.sof_script.specs.declared.reading.ScriptFault.TheVariants.{Line}
 use Rattle.sof_script.specs.declared.reading.ScriptFault.TheVariants as wants
@@ -18,11 +22,14 @@ use Rattle.sof_run.specs.declared.prepare.Halt.{Halt}
 use Rattle.sof_run.specs.declared.prepare.Halt.TheVariants as halts
 use Rattle.sof_run.specs.Bindings.{wrong_binding}
 use Rattle.sof_run.specs.Words.{Form}
+use Rattle.sof_script.specs.declared.script.Numbered.{Numbered}
+use Rattle.sof_base.specs.Ports.{InputView, OutputView}
 use Rattle.sof_run.specs.Todo.{no_memory, Todo, Ask, Free, Says, Goes}
-use Rattle.sof_run.specs.Play.{Prepared, ticks_of, is_built_script, halt_line, halt_status, prepared, prepared_script, prepared_ticks, prepared_topology, prepared_thin, prepared_bindings, prepared_commands, prepared_todo, play}
+use Rattle.sof_run.specs.Play.{Prepared, ticks_of, is_built_script, halt_line, halt_status, prepared, prepared_script, prepared_ticks, prepared_topology, prepared_rules, prepared_thin, prepared_bindings, prepared_commands, prepared_todo, session_todo, play}
 use Rattle.sof_run.specs.Run.{AreBytes, IsLong, Fit, IsFile, IsBroken, IsScript, IsRun, IsHalt, last_call, Verdict}
 use Rattle.sof_run.proofs.Statuses.{IsLate}
 use Rattle.sof_run.proofs.Throughout.{session_ends}
+use Rattle.sof_run.proofs.InputVerdicts.{Outcome, opened}
 use Rattle.sof_run.proofs.ScriptReads.{never_wanting}
 
 -- a line that was said, with its status, or that was not
@@ -43,65 +50,79 @@ too_many sum over = grind (arith, nat_tests)
 few : (sum : ℕ) → nat_lt 60000 sum ≡ false → sum ≤ 60000
 few sum not = grind (arith, nat_tests)
 
-module _ (topology script : List ℕ) where
+module _ (holds : List ℕ → Option (List ℕ)) (topology script : List ℕ) where
   -- one call more before
-  more : (call : Call) (calls : List Call) (status : ℕ) → Verdict topology script calls status → Verdict topology script (call ∷ calls) status
+  more : (call : Call) (calls : List Call) (status : ℕ) → Verdict holds topology script calls status → Verdict holds topology script (call ∷ calls) status
   more call calls status (inl failed) = inl failed
   more call calls status (inr (inl long)) = inr (inl long)
   more call calls status (inr (inr (inl h))) = inr (inr (inl (h.0, h.1, h.2, h.3, last_more call (Did (Put Spoken (halt_line h.0)) true) calls h.4)))
   more call calls status (inr (inr (inr rest))) = inr (inr (inr rest))
 
-  wanting : (turns : List Turn) (calls : List Call) (status : ℕ) → Says no_memory 7 turns calls status → Verdict topology script calls status
+  wanting : (turns : List Turn) (calls : List Call) (status : ℕ) → Says no_memory 7 turns calls status → Verdict holds topology script calls status
   wanting turns calls status says = want (said no_memory 7 turns calls status says)
     where
-      want : (status ≡ 3) ⊎ ((status ≡ 7) × (last_call calls ≡ Some (Did (Put Spoken no_memory) true))) → Verdict topology script calls status
+      want : (status ≡ 3) ⊎ ((status ≡ 7) × (last_call calls ≡ Some (Did (Put Spoken no_memory) true))) → Verdict holds topology script calls status
       want (inl three) = inl (inl three)
       want (inr seven) = inl (inr seven.0)
 
-  long : (line : List ℕ) (turns : List Turn) (calls : List Call) (status : ℕ) → Says line 5 turns calls status → IsLong topology ⊎ IsLong script → Verdict topology script calls status
+  long : (line : List ℕ) (turns : List Turn) (calls : List Call) (status : ℕ) → Says line 5 turns calls status → IsLong topology ⊎ IsLong script → Verdict holds topology script calls status
   long line turns calls status says is = want (said line 5 turns calls status says)
     where
-      want : (status ≡ 3) ⊎ ((status ≡ 5) × (last_call calls ≡ Some (Did (Put Spoken line) true))) → Verdict topology script calls status
+      want : (status ≡ 3) ⊎ ((status ≡ 5) × (last_call calls ≡ Some (Did (Put Spoken line) true))) → Verdict holds topology script calls status
       want (inl three) = inl (inl three)
       want (inr five) = inr (inl (five.0, is))
 
   module _ (fit : Fit topology script) (bytes : AreBytes topology) where
     -- the files make no run, or they make one
-    stops : (why : Halt) (turns : List Turn) (calls : List Call) (status : ℕ) → IsHalt topology script why → Says (halt_line why) (halt_status why) turns calls status → Verdict topology script calls status
+    stops : (why : Halt) (turns : List Turn) (calls : List Call) (status : ℕ) → IsHalt topology script why → Says (halt_line why) (halt_status why) turns calls status → Verdict holds topology script calls status
     stops why turns calls status is says = want (said (halt_line why) (halt_status why) turns calls status says)
       where
-        want : (status ≡ 3) ⊎ ((status ≡ halt_status why) × (last_call calls ≡ Some (Did (Put Spoken (halt_line why)) true))) → Verdict topology script calls status
+        want : (status ≡ 3) ⊎ ((status ≡ halt_status why) × (last_call calls ≡ Some (Did (Put Spoken (halt_line why)) true))) → Verdict holds topology script calls status
         want (inl three) = inl (inl three)
         want (inr done) = inr (inr (inl (why, done.0, fit, is, done.1)))
 
-    runs : (t : Topology) (read : Read) (calls : List Call) (status : ℕ) → IsRun topology script t read → IsLate status → Verdict topology script calls status
-    runs t read calls status is (inl zero) = inr (inr (inr (zero, fit, (t, (read, is)))))
-    runs t read calls status is (inr three) = inl (inl three)
+    runs : (t : Topology) (read : Read) (calls : List Call) (status : ℕ) → IsRun topology script t read → Outcome holds read.bindings status → Verdict holds topology script calls status
+    runs t read calls status is (inl ended) = inl ended
+    runs t read calls status is (inr by_inputs) = inr (inr (inr (fit, (t, (read, is, by_inputs)))))
 
     -- by what each step of preparing comes to
-    module _ (heap : ℕ) (turns : List Turn) (calls : List Call) (status : ℕ) where
+    module _ {D : Type 0} (means : DeskMeaning D) (heap : ℕ) (turns : List Turn) (calls : List Call) (status : ℕ) (d e : D) (held : (name : List ℕ) → means.holds d name ≡ holds name) (led : Led means d calls e) where
+      -- behind the bindings
+      ended : (plan : Plan) (commands : List Numbered) (inputs : List InputView) (outputs : List OutputView) (later : List Call) → Goes (Free (session_todo heap plan commands inputs outputs)) turns later status → IsLate status ⊎ (status ≡ 7)
+      ended plan commands inputs outputs later (inl goes) = inl (session_ends heap plan commands inputs outputs turns later status goes)
+      ended plan commands inputs outputs later (inr says) = want (said no_memory 7 turns later status says)
+        where
+          want : (status ≡ 3) ⊎ ((status ≡ 7) × (last_call later ≡ Some (Did (Put Spoken no_memory) true))) → IsLate status ⊎ (status ≡ 7)
+          want (inl three) = inl (inr three)
+          want (inr seven) = inr seven.0
+
       abbrev Judges : Prepared → Type 0
-      Judges files = Goes (prepared_todo heap files) turns calls status → Verdict topology script calls status
+      Judges files = Goes (prepared_todo heap files) turns calls status → Verdict holds topology script calls status
 
-      by_commands : (t : Topology) (read : Read) (built : Bool) → IsScript script read → IsFile topology t → thin_test t ≡ true → wrong_binding (plan_of t) read.bindings ≡ None → is_built_script read ≡ built → Judges (prepared_commands (plan_of t) read built)
-      by_commands t read true lines file thin right built goes =
-          runs t read calls status record { lines = lines; file = file; thin = thin; right = right; built = built } (session_ends heap (plan_of t) read.commands turns calls status goes)
-      by_commands t read false lines file thin right built goes = stops halts.NotYet turns calls status (read, t, lines, file, inr (thin, right, built)) goes
+      by_commands : (t : Topology) (read : Read) (built : Bool) → IsScript script read → IsFile topology t → IsWellFormed t → thin_test t ≡ true → wrong_binding (plan_of t) read.bindings ≡ None → is_built_script read ≡ built → Judges (prepared_commands (plan_of t) read built)
+      by_commands t read true lines file whole thin right built goes =
+          runs t read calls status record { lines = lines; file = file; whole = whole; thin = thin; right = right; built = built }
+          (opened holds means (plan_of t) turns status e (λ i o. Free (session_todo heap (plan_of t) read.commands i o)) (ended (plan_of t) read.commands) read.bindings [] [] calls d held led goes)
+      by_commands t read false lines file whole thin right built goes = stops halts.NotYet turns calls status (read, t, lines, file, (whole, inr (thin, right, built))) goes
 
-      by_bindings : (t : Topology) (read : Read) (wrong : Option ℕ) → IsScript script read → IsFile topology t → thin_test t ≡ true → wrong_binding (plan_of t) read.bindings ≡ wrong → Judges (prepared_bindings (plan_of t) read wrong)
-      by_bindings t read (Some line) lines file thin is goes = stops (halts.Binding line) turns calls status (read, t, lines, file, thin, is) goes
-      by_bindings t read None lines file thin is goes = by_commands t read (is_built_script read) lines file thin is refl goes
+      by_bindings : (t : Topology) (read : Read) (wrong : Option ℕ) → IsScript script read → IsFile topology t → IsWellFormed t → thin_test t ≡ true → wrong_binding (plan_of t) read.bindings ≡ wrong → Judges (prepared_bindings (plan_of t) read wrong)
+      by_bindings t read (Some line) lines file whole thin is goes = stops (halts.Binding line) turns calls status (read, t, lines, file, whole, thin, is) goes
+      by_bindings t read None lines file whole thin is goes = by_commands t read (is_built_script read) lines file whole thin is refl goes
 
-      by_thin : (t : Topology) (read : Read) (thin : Bool) → IsScript script read → IsFile topology t → thin_test t ≡ thin → Judges (prepared_thin t read thin)
-      by_thin t read true lines file thin goes = by_bindings t read (wrong_binding (plan_of t) read.bindings) lines file thin refl goes
-      by_thin t read false lines file thin goes = stops halts.NotYet turns calls status (read, t, lines, file, inl thin) goes
+      by_thin : (t : Topology) (read : Read) (thin : Bool) → IsScript script read → IsFile topology t → IsWellFormed t → thin_test t ≡ thin → Judges (prepared_thin t read thin)
+      by_thin t read true lines file whole thin goes = by_bindings t read (wrong_binding (plan_of t) read.bindings) lines file whole thin refl goes
+      by_thin t read false lines file whole thin goes = stops halts.NotYet turns calls status (read, t, lines, file, (whole, inl thin)) goes
+
+      by_rules : (t : Topology) (read : Read) (ruling : Option (ℕ × ℕ)) → IsScript script read → IsFile topology t → ruling_of t ≡ ruling → Judges (prepared_rules t read ruling)
+      by_rules t read (Some (rule, item)) lines file is goes = stops (halts.Rule rule item) turns calls status (read, t, lines, file, some_breaks t rule item is) goes
+      by_rules t read None lines file is goes = by_thin t read (thin_test t) lines file (none_whole t is) refl goes
 
       by_topology : (read : Read) (r : Result Topology TplgFault) → IsScript script read → topology_of topology ≡ r → Judges (prepared_topology read r)
       by_topology read (Err fault) lines is goes = stops (halts.Broken fault) turns calls status ((read, lines), none, topology_found topology fault bytes is) goes
         where
           none : IsBroken topology
           none t file = cc (sym is ∙ topology_again topology t file.0 file.1)
-      by_topology read (Ok t) lines is goes = by_thin t read (thin_test t) lines (topology_take topology t bytes is) refl goes
+      by_topology read (Ok t) lines is goes = by_rules t read (ruling_of t) lines (topology_take topology t bytes is) refl goes
 
       by_ticks : (read : Read) (over : Bool) → script_of script ≡ Ok read → nat_lt 60000 (ticks_of read.commands) ≡ over → Judges (prepared_ticks topology read over)
       by_ticks read true is over goes = stops (halts.Ticks (ticks_of read.commands)) turns calls status (read, is, refl, too_many (ticks_of read.commands) over) goes
@@ -112,16 +133,16 @@ module _ (topology script : List ℕ) where
       by_script (Err wants.OutOfMemory) is goes = absurd (never_wanting script is)
       by_script (Ok read) is goes = by_ticks read (nat_lt 60000 (ticks_of read.commands)) is refl goes
 
-    free : (heap : ℕ) (turns : List Turn) (calls : List Call) (status : ℕ) → Goes (Free (prepared_todo heap (prepared topology script))) turns calls status → Verdict topology script calls status
-    free heap turns calls status (inl goes) = by_script heap turns calls status (script_of script) refl goes
-    free heap turns calls status (inr says) = wanting turns calls status says
+      free : Goes (Free (prepared_todo heap (prepared topology script))) turns calls status → Verdict holds topology script calls status
+      free (inl goes) = by_script (script_of script) refl goes
+      free (inr says) = wanting turns calls status says
 
   module _ {D : Type 0} (means : DeskMeaning D) where
     -- a load of a file that is told
     module _ (name line bytes : List ℕ) (next : List ℕ → Todo) (too_long : IsLong bytes → IsLong topology ⊎ IsLong script) where
       asked : (turns : List Turn) (calls : List Call) (status : ℕ) (d e : D) → means.holds d name ≡ Some bytes → Goes (Ask name 1048576 line next) turns calls status → Led means d calls e
-          → (length bytes ≤ 1048576 → (later : List Call) (m : D) → ((other : List ℕ) → means.holds m other ≡ means.holds d other) → Goes (next bytes) turns later status → Led means m later e → Verdict topology script later status)
-          → Verdict topology script calls status
+          → (length bytes ≤ 1048576 → (later : List Call) (m : D) → ((other : List ℕ) → means.holds m other ≡ means.holds d other) → Goes (next bytes) turns later status → Led means m later e → Verdict holds topology script later status)
+          → Verdict holds topology script calls status
       asked turns [] status d e told goes led rest = absurd goes
       asked turns (Did act done ∷ calls) status d e told goes led rest = absurd goes
       asked turns (Load n l (Ok got) ∷ calls) status d e told goes led rest =
@@ -136,8 +157,8 @@ module _ (topology script : List ℕ) where
       asked turns (Load n l (Err Failed) ∷ calls) status d e told goes led rest = inl (inl goes.2.2)
 
     -- both files are told
-    pub judge : (form : Form) (turns : List Turn) (calls : List Call) (status : ℕ) (d e : D) → means.holds d form.topology ≡ Some topology → means.holds d form.script ≡ Some script → AreBytes topology → Goes (play form) turns calls status → Led means d calls e → Verdict topology script calls status
-    judge form turns calls status d e first second bytes goes led =
+    pub judge : (form : Form) (turns : List Turn) (calls : List Call) (status : ℕ) (d e : D) → ((name : List ℕ) → means.holds d name ≡ holds name) → means.holds d form.topology ≡ Some topology → means.holds d form.script ≡ Some script → AreBytes topology → Goes (play form) turns calls status → Led means d calls e → Verdict holds topology script calls status
+    judge form turns calls status d e same first second bytes goes led =
         asked form.topology (codes "too long topology\n") topology (λ xs. Ask form.script 1048576 (codes "too long script\n") (λ ys. Free (prepared_todo form.heap (prepared xs ys)))) (λ is. inl is) turns calls status d e first goes led (λ short later m held goes led.
-        asked form.script (codes "too long script\n") script (λ ys. Free (prepared_todo form.heap (prepared topology ys))) (λ is. inr is) turns later status m e (held form.script ∙ second) goes led (λ shorter last n held goes led.
-        free (short, shorter) bytes form.heap turns last status goes))
+        asked form.script (codes "too long script\n") script (λ ys. Free (prepared_todo form.heap (prepared topology ys))) (λ is. inr is) turns later status m e (held form.script ∙ second) goes led (λ shorter last n kept goes led.
+        free (short, shorter) bytes means form.heap turns last status n e (λ name. kept name ∙ held name ∙ same name) led goes))

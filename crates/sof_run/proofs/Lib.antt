@@ -12,3 +12,14 @@ pub mod Carried
 pub mod Finish
 pub mod ScriptReads
 pub mod BindingLaws
+pub mod CheckPhases
+pub mod CheckVerdicts
+pub mod Slots
+pub mod Openings
+pub mod Flushing
+pub mod Written
+pub mod InputVerdicts
+pub mod Solving
+pub mod PlanWords
+pub mod BindingSteps
+pub mod SlotOrder

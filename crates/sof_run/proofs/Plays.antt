@@ -1,18 +1,23 @@
 -- The phases of `play`, one after another.
-use Rattle.std.proofs.Common.{◌≡◌, ℕ, Bool, true, false, List, [], Ok, refl, sym, subst, codes, arith, if◌then◌else◌}
+use Rattle.std.proofs.Common.{◌≡◌, ℕ, Bool, true, false, List, [], Option, None, Ok, refl, sym, ap, subst, codes, arith, if◌then◌else◌}
 use Rattle.sof_desk.specs.Desk.{DeskMeaning, Loaded}
 use Rattle.host_widgets.specs.declared.answers.Answer.TheVariants as answers
 use Rattle.mbox_link.specs.Calls.{Meaning}
 use Rattle.tplg_graph.specs.declared.planned.Plan.{Plan}
 use Rattle.sof_script.specs.declared.script.Numbered.{Numbered}
+use Rattle.sof_script.specs.Commands.{Read}
+use Rattle.sof_base.specs.Ports.{InputView, OutputView}
+use Rattle.sof_io.specs.Bound.{output_slots}
 use Rattle.sof_session.specs.Seat.{new_seat}
-use Rattle.sof_session.specs.Walks.{Begin}
-use Rattle.sof_session.specs.Turns.{LifeMeaning, Life, Bare, Seated, Turn, life, turn}
+use Rattle.stream_law.specs.State.{FwState}
+use Rattle.sof_session.specs.Walks.{Begin, stand, silent, first_host}
+use Rattle.sof_session.specs.Turns.{LifeMeaning, Life, Bare, Seated, Turn, Turned, life, turn}
 use Rattle.sof_run.specs.declared.prepare.Halt.{Halt}
 use Rattle.sof_run.specs.declared.prepare.Halt.TheVariants as halt
 use Rattle.sof_run.specs.Words.{Form}
 use Rattle.sof_run.specs.Todo.{Todo, End, Stop, Ask, Free, Played, Ran, Phase}
-use Rattle.sof_run.specs.Play.{Prepared, Ready, Halted, halt_line, halt_status, prepared, prepared_todo, session_todo, commands_todo, play}
+use Rattle.sof_run.specs.Play.{Prepared, Ready, Halted, halt_line, halt_status, prepared, prepared_todo, ready_todo, bindings_todo, session_todo, commands_todo, play}
+use Rattle.sof_run.specs.Opening.{Opens}
 use Rattle.sof_run.specs.Halts.{Halts}
 use Rattle.sof_run.specs.Run.{Gave}
 use Rattle.sof_run.proofs.Steps.{ask_on, free_on, free_off, alone, step_on}
@@ -30,6 +35,7 @@ module _ {D : Type 0} (means : DeskMeaning D) where
   halted_todo heap files (halt.Script line cause) status old new is played = told_todo heap files (halt.Script line cause) status old new is played
   halted_todo heap files (halt.Ticks sum) status old new is played = told_todo heap files (halt.Ticks sum) status old new is played
   halted_todo heap files (halt.Broken fault) status old new is played = told_todo heap files (halt.Broken fault) status old new is played
+  halted_todo heap files (halt.Rule rule item) status old new is played = told_todo heap files (halt.Rule rule item) status old new is played
   halted_todo heap files (halt.Binding line) status old new is played = told_todo heap files (halt.Binding line) status old new is played
   halted_todo heap files halt.NotYet status old new is played = told_todo heap files halt.NotYet status old new is played
   halted_todo heap files halt.OutOfMemory status old new is played = free_off means (prepared_todo heap files) status old new played
@@ -52,8 +58,8 @@ module _ {D P : Type 0} (means : DeskMeaning D) (dsp : LifeMeaning P) where
         (over (after topology) (asks script) m n new p q status (λ turns played. ask_on means form.script 1048576 (codes "too long script\n") asks script turns status m n new second played) ran)
 
     -- they make a run
-    pub ready_on : (plan : Plan) (commands : List Numbered) → prepared topology script ≡ Ready plan commands → Ran means dsp (Free (session_todo form.heap plan commands)) n p status new q → Ran means dsp (play form) old p status new q
-    ready_on plan commands is ran = loaded (subst (λ files. Ran means dsp (Free (prepared_todo form.heap files)) n p status new q) (sym is) ran)
+    pub ready_on : (plan : Plan) (read : Read) → prepared topology script ≡ Ready plan read → Ran means dsp (Free (ready_todo form.heap plan read)) n p status new q → Ran means dsp (play form) old p status new q
+    ready_on plan read is ran = loaded (subst (λ files. Ran means dsp (Free (prepared_todo form.heap files)) n p status new q) (sym is) ran)
 
   -- they make none
   pub halted_on : (form : Form) (topology script : List ℕ) (old m n new : D) (p : P) (status : ℕ) (h : Halt) → Loaded means form.topology 1048576 (Ok topology) old m → Loaded means form.script 1048576 (Ok script) m n → Halts h (prepared topology script) → Played means (halt_todo means h) n [] status new → Ran means dsp (play form) old p status new p
@@ -77,11 +83,29 @@ module _ {D P : Type 0} (means : DeskMeaning D) (dsp : LifeMeaning P) where
   free_ran todo old new p q status ran = over (Free todo) todo old old new p q status (λ turns played. free_on means todo turns status old new played) ran
 
 module _ {D P : Type 0} (means : DeskMeaning D) (device : Meaning P) where
-  -- a session over the device
-  pub begin_on : (plan : Plan) (heap : ℕ) (commands : List Numbered) (old new : D) (p : P) (status : ℕ) (q : Life P) → Ran means (life device) (commands_todo commands End) old (Seated (new_seat plan heap p)) status new q → Ran means (life device) (session_todo heap plan commands) old (Bare p) status new q
-  begin_on plan heap commands old new p status q ran =
-      step_on means (life device) (turn (Begin plan heap) answers.Done []) (λ out. commands_todo commands End) status old new (Bare p) (Seated (new_seat plan heap p)) q
-      record { next = λ calm. refl; faults = omega arith; refusals = omega arith; most = refl } ran
+  module _ (plan : Plan) (heap : ℕ) (inputs : List InputView) (outputs : List OutputView) (p : P) (off : device.on p ≡ None) where
+    abbrev slots : List ℕ
+    slots = output_slots outputs
+
+    -- a session that begins does nothing to its device
+    begun : Turned (life device) (turn (Begin plan heap inputs slots) answers.Done [] []) (Bare p) (Seated (new_seat plan heap p) inputs slots)
+    begun = record {
+      next = λ calm. ap (λ (on : Option FwState). (stand (device.boots p) record (first_host plan heap inputs slots) { device = on }, silent answers.Done)) off;
+      faults = omega arith;
+      refusals = omega arith;
+      most = refl;
+    }
+
+    -- a session over the device
+    pub begin_on : (commands : List Numbered) (old new : D) (status : ℕ) (q : Life P) → Ran means (life device) (commands_todo commands End) old (Seated (new_seat plan heap p) inputs slots) status new q → Ran means (life device) (session_todo heap plan commands inputs outputs) old (Bare p) status new q
+    begin_on commands old new status q ran =
+        step_on means (life device) (turn (Begin plan heap inputs slots) answers.Done [] []) (λ out. commands_todo commands End) status old new (Bare p) (Seated (new_seat plan heap p) inputs slots) q begun ran
+
+    -- the bindings come before it
+    pub opened_on : (read : Read) (old m new : D) (status : ℕ) (q : Life P) → Opens means (bindings_todo plan read.bindings [] []) inputs outputs old m → Ran means (life device) (Free (session_todo heap plan read.commands inputs outputs)) m (Bare p) status new q → Ran means (life device) (Free (ready_todo heap plan read)) old (Bare p) status new q
+    opened_on read old m new status q opens ran =
+        free_ran means (life device) (ready_todo heap plan read) old new (Bare p) q status
+        (over means (life device) (ready_todo heap plan read) (Free (session_todo heap plan read.commands inputs outputs)) old m new (Bare p) q status (λ turns played. opens (λ i o. Free (session_todo heap plan read.commands i o)) turns status new played) ran)
 
   -- nothing was done with the device
   pub gave_bare : (todo : Todo) (old new : D) (p : P) (status : ℕ) → Ran means (life device) todo old (Bare p) status new (Bare p) → Gave means device todo old p status new p

@@ -101,19 +101,19 @@ module _ {D P : Type 0} (means : DeskMeaning D) (dsp : LifeMeaning P) where
   settle holds (Ask name limit line rest) d e p q turns (Did act done ∷ calls) status held calm told goes led turned = absurd goes
   settle holds (Ask name limit line rest) d e p q turns (Load n l (Ok got) ∷ calls) status held calm told goes led turned =
       let loaded : Loaded means n l (Ok got) d led.0 = led.1 in
-      let is_told : means.holds d n ≡ Some told.0.0 = ap (means.holds d) goes.0 ∙ held name ∙ told.0.1 in
-      let same : got ≡ told.0.0 = loaded.answers.1 told.0.0 is_told in
-      loaded_made name line told.0.0 limit (dsp.stand p) (holds name) told.0.1 (λ bytes. whole holds (dsp.stand p) (rest bytes)) (λ bytes. whole_end holds (dsp.stand p) (rest bytes)) calls status (dsp.stand q) n l got goes.0 goes.1 same loaded.answers.0
-      (settle holds (rest told.0.0) led.0 e p q turns calls status (λ other. loaded.kept.holds other ∙ held other) calm (told.3 told.0.0) (subst (λ bytes. Goes (rest bytes) turns calls status) same goes.2) led.2 turned)
+      let is_told : means.holds d n ≡ Some told.0 = ap (means.holds d) goes.0 ∙ held name ∙ told.1 in
+      let same : got ≡ told.0 = loaded.answers.1 told.0 is_told in
+      loaded_made name line told.0 limit (dsp.stand p) (holds name) told.1 (λ bytes. whole holds (dsp.stand p) (rest bytes)) (λ bytes. whole_end holds (dsp.stand p) (rest bytes)) calls status (dsp.stand q) n l got goes.0 goes.1 same loaded.answers.0
+      (settle holds (rest told.0) led.0 e p q turns calls status (λ other. loaded.kept.holds other ∙ held other) calm told.2 (subst (λ bytes. Goes (rest bytes) turns calls status) same goes.2) led.2 turned)
   settle holds (Ask name limit line rest) d e p q turns (Load n l (Err TooLong) ∷ calls) status held calm told goes led turned =
       let loaded : Loaded means n l (Err TooLong) d led.0 = led.1 in
-      let is_told : means.holds d n ≡ Some told.0.0 = ap (means.holds d) goes.0 ∙ held name ∙ told.0.1 in
-      long_made name line told.0.0 limit (dsp.stand p) (holds name) told.0.1 (λ bytes. whole holds (dsp.stand p) (rest bytes)) (λ bytes. whole_end holds (dsp.stand p) (rest bytes)) calls status (dsp.stand q) n l turns goes.0 goes.1 (loaded.answers told.0.0 is_told) goes.2
+      let is_told : means.holds d n ≡ Some told.0 = ap (means.holds d) goes.0 ∙ held name ∙ told.1 in
+      long_made name line told.0 limit (dsp.stand p) (holds name) told.1 (λ bytes. whole holds (dsp.stand p) (rest bytes)) (λ bytes. whole_end holds (dsp.stand p) (rest bytes)) calls status (dsp.stand q) n l turns goes.0 goes.1 (loaded.answers told.0 is_told) goes.2
       (stays p q turns (no_turns line 5 turns calls status goes.2) turned)
   settle holds (Ask name limit line rest) d e p q turns (Load n l (Err OutOfMemory) ∷ calls) status held calm told goes led turned =
-      wanting_made name line told.0.0 limit (dsp.stand p) (holds name) told.0.1 (λ bytes. whole holds (dsp.stand p) (rest bytes)) (λ bytes. whole_end holds (dsp.stand p) (rest bytes)) calls status (dsp.stand q) n l goes.0 goes.1 (wanted p q turns calls status goes.2 turned)
+      wanting_made name line told.0 limit (dsp.stand p) (holds name) told.1 (λ bytes. whole holds (dsp.stand p) (rest bytes)) (λ bytes. whole_end holds (dsp.stand p) (rest bytes)) calls status (dsp.stand q) n l goes.0 goes.1 (wanted p q turns calls status goes.2 turned)
   settle holds (Ask name limit line rest) d e p q turns (Load n l (Err Failed) ∷ calls) status held calm told goes led turned =
-      stopped_made name line told.0.0 limit (dsp.stand p) (holds name) told.0.1 (λ bytes. whole holds (dsp.stand p) (rest bytes)) (λ bytes. whole_end holds (dsp.stand p) (rest bytes)) calls status (dsp.stand q) n l goes.0 goes.1 goes.2.1 goes.2.2 (stays p q turns goes.2.0 turned)
+      stopped_made name line told.0 limit (dsp.stand p) (holds name) told.1 (λ bytes. whole holds (dsp.stand p) (rest bytes)) (λ bytes. whole_end holds (dsp.stand p) (rest bytes)) calls status (dsp.stand q) n l goes.0 goes.1 goes.2.1 goes.2.2 (stays p q turns goes.2.0 turned)
   settle holds (Do act rest) d e p q turns [] status held calm told goes led turned = absurd goes
   settle holds (Do act rest) d e p q turns (Load n l heard ∷ calls) status held calm told goes led turned = absurd goes
   settle holds (Do act rest) d e p q turns (Did a true ∷ calls) status held calm told goes led turned =
@@ -127,5 +127,5 @@ module _ {D P : Type 0} (means : DeskMeaning D) (dsp : LifeMeaning P) where
       let to : (dsp.stand turned.0, turn.out) ≡ next task (dsp.stand p) = moved.next (calm_first p turned.0 q moved.faults moved.refusals rises calm) ∙ ap (λ x. next x (dsp.stand p)) goes.0 in
       subst (λ n. Made (whole holds n.0 (rest n.1)) (whole_end holds n.0 (rest n.1)) calls status (dsp.stand q)) to
       (settle holds (rest turn.out) d e turned.0 q turns calls status held (calm_rest p turned.0 q moved.faults moved.refusals rises calm) (told turn.out) goes.1 led turned.2)
-  settle holds (Free rest) d e p q turns calls status held calm told (inl goes) led turned = inl (settle holds rest d e p q turns calls status held calm told.1 goes led turned)
+  settle holds (Free rest) d e p q turns calls status held calm told (inl goes) led turned = inl (settle holds rest d e p q turns calls status held calm told goes led turned)
   settle holds (Free rest) d e p q turns calls status held calm told (inr says) led turned = inr (wanted p q turns calls status says turned)

@@ -6,7 +6,7 @@ use Rattle.sof_session.specs.Walks.{Out}
 use Rattle.sof_session.specs.Turns.{Turn}
 use Rattle.sof_run.specs.Todo.{no_memory, Todo, End, Stop, Ask, Do, Step, Free, Says, Goes}
 use Rattle.sof_run.specs.Whole.{Throughout}
-use Rattle.sof_run.specs.Run.{LastFails, AreLoads}
+use Rattle.sof_run.specs.Run.{LastFails, IsCreate, AreOpening}
 use Rattle.sof_run.proofs.Settle.{no_turns}
 
 module _ (P : ℕ → Type 0) (A : List ℕ → Type 0) where
@@ -39,13 +39,22 @@ module _ (P : ℕ → Type 0) (A : List ℕ → Type 0) where
 abbrev pub IsLate : ℕ → Type 0
 IsLate n = (n ≡ 0) ⊎ (n ≡ 3)
 
--- a turn comes only where nothing else is loaded, and the status is 0 or 3
+-- no file is created
+abbrev pub CreatesNone : Todo → Type 0
+CreatesNone End = Unit {0}
+CreatesNone (Stop line n) = Unit {0}
+CreatesNone (Ask name limit line rest) = (bytes : List ℕ) → CreatesNone (rest bytes)
+CreatesNone (Do act rest) = (IsCreate act → ⊥) × CreatesNone rest
+CreatesNone (Step task rest) = (out : Out) → CreatesNone (rest out)
+CreatesNone (Free rest) = CreatesNone rest
+
+-- a turn comes only where nothing else is loaded or created, and the status is 0 or 3
 abbrev pub TurnsLast : Todo → Type 0
 TurnsLast End = Unit {0}
 TurnsLast (Stop line n) = Unit {0}
 TurnsLast (Ask name limit line rest) = (bytes : List ℕ) → TurnsLast (rest bytes)
 TurnsLast (Do act rest) = TurnsLast rest
-TurnsLast (Step task rest) = (out : Out) → Throughout IsLate (λ name. ⊥) (rest out)
+TurnsLast (Step task rest) = (out : Out) → Throughout IsLate (λ name. ⊥) (rest out) × CreatesNone (rest out)
 TurnsLast (Free rest) = TurnsLast rest
 
 -- another status comes before any turn
@@ -64,31 +73,32 @@ none_turned (Do act rest) turns (Did a true ∷ calls) status goes last early = 
 none_turned (Do act rest) turns (Did a false ∷ calls) status goes last early = goes.1.0
 none_turned (Step task rest) [] calls status goes last early = refl
 none_turned (Step task rest) (turn ∷ turns) calls status goes last early =
-    absurd (early (ends IsLate (λ name. ⊥) (rest turn.out) turns calls status goes.1 (last turn.out) (inr refl)))
+    absurd (early (ends IsLate (λ name. ⊥) (rest turn.out) turns calls status goes.1 (last turn.out).0 (inr refl)))
 none_turned (Free rest) turns calls status (inl goes) last early = none_turned rest turns calls status goes last early
 none_turned (Free rest) turns calls status (inr says) last early = no_turns no_memory 7 turns calls status says
 
--- a line that is said is no load
-said_no_loads : (line : List ℕ) (n : ℕ) (turns : List Turn) (calls : List Call) (status : ℕ) → Says line n turns calls status → AreLoads calls → ⊥
+-- a line that is said is no load, and creates nothing
+said_no_loads : (line : List ℕ) (n : ℕ) (turns : List Turn) (calls : List Call) (status : ℕ) → Says line n turns calls status → AreOpening calls → ⊥
 said_no_loads line n turns [] status says loads = says
 said_no_loads line n turns (Load name limit heard ∷ calls) status says loads = says
-said_no_loads line n turns (Did act done ∷ calls) status says loads = loads
+said_no_loads line n turns (Did act done ∷ calls) status says loads = subst IsCreate says.0 loads.0
 
--- once nothing else is loaded, a desk that failed did so in another call
-loads_past : (todo : Todo) (turns : List Turn) (calls : List Call) (status : ℕ) → Goes todo turns calls status → Throughout IsLate (λ name. ⊥) todo → AreLoads calls → status ≡ 3 → ⊥
-loads_past End turns calls status goes none loads three = cc (sym goes.2 ∙ three)
-loads_past (Stop line n) turns calls status goes none loads three = said_no_loads line n turns calls status goes loads
-loads_past (Ask name limit line rest) turns calls status goes none loads three = none.0
-loads_past (Do act rest) turns [] status goes none loads three = goes
-loads_past (Do act rest) turns (Load name limit heard ∷ calls) status goes none loads three = goes
-loads_past (Do act rest) turns (Did a done ∷ calls) status goes none loads three = loads
-loads_past (Step task rest) [] calls status goes none loads three = goes
-loads_past (Step task rest) (turn ∷ turns) calls status goes none loads three = loads_past (rest turn.out) turns calls status goes.1 (none turn.out) loads three
-loads_past (Free rest) turns calls status (inl goes) none loads three = loads_past rest turns calls status goes none.1 loads three
-loads_past (Free rest) turns calls status (inr says) none loads three = said_no_loads no_memory 7 turns calls status says loads
+-- once nothing else is loaded or created, a desk that failed did so in another call
+opening_past : (todo : Todo) (turns : List Turn) (calls : List Call) (status : ℕ) → Goes todo turns calls status → Throughout IsLate (λ name. ⊥) todo → CreatesNone todo → AreOpening calls → status ≡ 3 → ⊥
+opening_past End turns calls status goes none puts loads three = cc (sym goes.2 ∙ three)
+opening_past (Stop line n) turns calls status goes none puts loads three = said_no_loads line n turns calls status goes loads
+opening_past (Ask name limit line rest) turns calls status goes none puts loads three = none.0
+opening_past (Do act rest) turns [] status goes none puts loads three = goes
+opening_past (Do act rest) turns (Load name limit heard ∷ calls) status goes none puts loads three = goes
+opening_past (Do act rest) turns (Did a true ∷ calls) status goes none puts loads three = puts.0 (subst IsCreate goes.0 loads.0)
+opening_past (Do act rest) turns (Did a false ∷ calls) status goes none puts loads three = puts.0 (subst IsCreate goes.0 loads.0)
+opening_past (Step task rest) [] calls status goes none puts loads three = goes
+opening_past (Step task rest) (turn ∷ turns) calls status goes none puts loads three = opening_past (rest turn.out) turns calls status goes.1 (none turn.out) (puts turn.out) loads three
+opening_past (Free rest) turns calls status (inl goes) none puts loads three = opening_past rest turns calls status goes none.1 puts loads three
+opening_past (Free rest) turns calls status (inr says) none puts loads three = said_no_loads no_memory 7 turns calls status says loads
 
--- a load that failed comes before any turn
-pub none_asked : (todo : Todo) (turns : List Turn) (calls : List Call) (status : ℕ) → Goes todo turns calls status → TurnsLast todo → status ≡ 3 → AreLoads calls → turns ≡ []
+-- a load or a create that failed comes before any turn
+pub none_asked : (todo : Todo) (turns : List Turn) (calls : List Call) (status : ℕ) → Goes todo turns calls status → TurnsLast todo → status ≡ 3 → AreOpening calls → turns ≡ []
 none_asked End turns calls status goes last three loads = goes.0
 none_asked (Stop line n) turns calls status goes last three loads = no_turns line n turns calls status goes
 none_asked (Ask name limit line rest) turns [] status goes last three loads = absurd goes
@@ -99,9 +109,10 @@ none_asked (Ask name limit line rest) turns (Load n l (Err OutOfMemory) ∷ call
 none_asked (Ask name limit line rest) turns (Load n l (Err Failed) ∷ calls) status goes last three loads = goes.2.0
 none_asked (Do act rest) turns [] status goes last three loads = absurd goes
 none_asked (Do act rest) turns (Load name limit heard ∷ calls) status goes last three loads = absurd goes
-none_asked (Do act rest) turns (Did a done ∷ calls) status goes last three loads = absurd loads
+none_asked (Do act rest) turns (Did a true ∷ calls) status goes last three loads = none_asked rest turns calls status goes.1 last three loads.1
+none_asked (Do act rest) turns (Did a false ∷ calls) status goes last three loads = goes.1.0
 none_asked (Step task rest) [] calls status goes last three loads = refl
-none_asked (Step task rest) (turn ∷ turns) calls status goes last three loads = absurd (loads_past (rest turn.out) turns calls status goes.1 (last turn.out) loads three)
+none_asked (Step task rest) (turn ∷ turns) calls status goes last three loads = absurd (opening_past (rest turn.out) turns calls status goes.1 (last turn.out).0 (last turn.out).1 loads three)
 none_asked (Free rest) turns calls status (inl goes) last three loads = none_asked rest turns calls status goes last three loads
 none_asked (Free rest) turns calls status (inr says) last three loads = no_turns no_memory 7 turns calls status says
 

@@ -1,51 +1,129 @@
 -- What holds throughout what `run` has to do.
-use Rattle.std.proofs.Common.{ℕ, List, [], ◌∷◌, Option, Some, None, inl, inr, refl}
+use Rattle.std.proofs.Common.{ℕ, Bool, true, false, List, [], ◌∷◌, ◌++◌, Option, Some, None, Result, Ok, Err, inl, inr, refl}
+use Rattle.sof_base.specs.Ports.{InputView, OutputView}
+use Rattle.sof_io.specs.Puts.{with_slot}
+use Rattle.sof_io.specs.Takes.{new_input}
 use Rattle.sof_desk.specs.Desk.{Call}
+use Rattle.tplg_model.specs.declared.fault.TplgFault.{TplgFault}
+use Rattle.tplg_model.specs.declared.block.Topology.{Topology}
+use Rattle.tplg_model.specs.Reading.{topology_of}
 use Rattle.tplg_graph.specs.declared.planned.Plan.{Plan}
+use Rattle.tplg_graph.specs.RuleTest.{ruling_of}
 use Rattle.sof_session.specs.Turns.{Turn}
+use Rattle.sof_script.specs.Commands.{Bound}
 use Rattle.sof_script.specs.declared.script.Numbered.{Numbered}
+use Rattle.sof_session.specs.Walks.{Written}
+use Rattle.sof_session.specs.Turns.{Turn}
 use Rattle.sof_run.specs.declared.prepare.Halt.{Halt}
 use Rattle.sof_run.specs.declared.prepare.Halt.TheVariants as halt
 use Rattle.sof_run.specs.Words.{Form}
-use Rattle.sof_run.specs.Todo.{Todo, End, Goes}
-use Rattle.sof_run.specs.Play.{Prepared, Ready, Halted, prepared, prepared_todo, spoken, lines_todo, commands_todo, session_todo, play, todo_for, halt_status}
+use Rattle.sof_run.specs.Bindings.{bound_slot}
+use Rattle.sof_run.specs.Rounds.{Round, rounds_of}
+use Rattle.sof_run.specs.Todo.{Todo, End, Free, Goes}
+use Rattle.sof_run.specs.Play.{Prepared, Ready, Halted, prepared, prepared_todo, lines_after, flush_todo, lines_todo, rounds_todo, session_todo, WithPorts, binding_todo, bindings_todo, play, halt_status}
+use Rattle.sof_run.specs.Checking.{counts_of, checked_rules, checked_file, checked, checked_todo, check}
+use Rattle.sof_run.specs.Forms.{todo_for}
 use Rattle.sof_run.specs.Whole.{Throughout}
-use Rattle.sof_run.proofs.Statuses.{IsLate, TurnsLast, ends}
+use Rattle.sof_run.proofs.Statuses.{IsLate, CreatesNone, TurnsLast, ends}
 
 module _ (P : ℕ → Type 0) (A : List ℕ → Type 0) where
+  flush_all : (written : List Written) (rest : Todo) → Throughout P A rest → Throughout P A (flush_todo written rest)
+  flush_all [] rest all = all
+  flush_all ((slot, bytes) ∷ written) rest all = flush_all written rest all
+
   lines_all : (lines : List (List ℕ)) (rest : Todo) → Throughout P A rest → Throughout P A (lines_todo lines rest)
   lines_all [] rest all = all
   lines_all (line ∷ lines) rest all = lines_all lines rest all
 
-  commands_all : (commands : List Numbered) → P 0 → Throughout P A (commands_todo commands End)
-  commands_all [] done = done
-  commands_all (command ∷ commands) done = λ out. lines_all (spoken command.line out) (commands_todo commands End) (commands_all commands done)
+  rounds_all : (rounds : List Round) → P 0 → Throughout P A (rounds_todo rounds End)
+  rounds_all [] done = done
+  rounds_all (round ∷ rounds) done = λ out. flush_all out.written (lines_todo (lines_after round out) (rounds_todo rounds End)) (lines_all (lines_after round out) (rounds_todo rounds End) (rounds_all rounds done))
+
+  session_all : (heap : ℕ) (plan : Plan) (commands : List Numbered) (inputs : List InputView) (outputs : List OutputView) → P 0 → P 7 → Throughout P A (Free (session_todo heap plan commands inputs outputs))
+  session_all heap plan commands inputs outputs done seven = (seven, λ out. rounds_all (rounds_of commands) done)
+
+  binding_all : (input : Bool) (slot : ℕ) (file : List ℕ) (inputs : List InputView) (outputs : List OutputView) (rest : WithPorts) → ((name : List ℕ) → A name) → P 5 → P 7 → ((i : List InputView) (o : List OutputView) → Throughout P A (rest i o)) → Throughout P A (binding_todo input slot file inputs outputs rest)
+  binding_all true slot file inputs outputs rest names five seven all = (names file, five, seven, λ bytes. (seven, all (inputs ++ new_input slot bytes ∷ []) outputs))
+  binding_all false slot file inputs outputs rest names five seven all = (seven, all inputs (with_slot slot outputs))
+
+  bindings_all : (plan : Plan) (bs : List Bound) (inputs : List InputView) (outputs : List OutputView) (rest : WithPorts) → ((name : List ℕ) → A name) → P 5 → P 7 → ((i : List InputView) (o : List OutputView) → Throughout P A (rest i o)) → Throughout P A (bindings_todo plan bs inputs outputs rest)
+  bindings_all plan [] inputs outputs rest names five seven all = all inputs outputs
+  bindings_all plan (b ∷ bs) inputs outputs rest names five seven all =
+      binding_all b.input (bound_slot plan b) b.file inputs outputs (λ i o. bindings_todo plan bs i o rest) names five seven (λ i o. bindings_all plan bs i o rest names five seven all)
 
   halts_all : (why : Halt) → P 2 → P 4 → P 7 → P 8 → P 9 → P (halt_status why)
   halts_all (halt.Script line cause) two four seven eight nine = four
   halts_all (halt.Ticks sum) two four seven eight nine = eight
   halts_all (halt.Broken fault) two four seven eight nine = two
+  halts_all (halt.Rule rule item) two four seven eight nine = two
   halts_all (halt.Binding line) two four seven eight nine = four
   halts_all halt.NotYet two four seven eight nine = nine
   halts_all halt.OutOfMemory two four seven eight nine = seven
 
-  prepared_all : (heap : ℕ) (files : Prepared) → P 0 → P 2 → P 4 → P 7 → P 8 → P 9 → Throughout P A (prepared_todo heap files)
-  prepared_all heap (Ready plan commands) done two four seven eight nine = λ out. commands_all commands done
-  prepared_all heap (Halted why) done two four seven eight nine = halts_all why two four seven eight nine
+  prepared_all : (heap : ℕ) (files : Prepared) → ((name : List ℕ) → A name) → P 0 → P 2 → P 4 → P 5 → P 7 → P 8 → P 9 → Throughout P A (prepared_todo heap files)
+  prepared_all heap (Ready plan read) names done two four five seven eight nine =
+      bindings_all plan read.bindings [] [] (λ i o. Free (session_todo heap plan read.commands i o)) names five seven (λ i o. session_all heap plan read.commands i o done seven)
+  prepared_all heap (Halted why) names done two four five seven eight nine = halts_all why two four seven eight nine
 
-  pub play_all : (form : Form) → P 0 → P 2 → P 4 → P 5 → P 7 → P 8 → P 9 → A form.topology → A form.script → Throughout P A (play form)
-  play_all form done two four five seven eight nine first second =
-      (first, five, seven, λ topology. (second, five, seven, λ script. (seven, prepared_all form.heap (prepared topology script) done two four seven eight nine)))
+  pub play_all : (form : Form) → P 0 → P 2 → P 4 → P 5 → P 7 → P 8 → P 9 → ((name : List ℕ) → A name) → Throughout P A (play form)
+  play_all form done two four five seven eight nine names =
+      (names form.topology, five, seven, λ topology. (names form.script, five, seven, λ script. (seven, prepared_all form.heap (prepared topology script) names done two four five seven eight nine)))
+
+  checked_all : (t : Topology) (ruling : Option (ℕ × ℕ)) → P 0 → P 2 → Throughout P A (checked_todo (checked_rules t ruling))
+  checked_all t (Some (rule, item)) done two = two
+  checked_all t None done two = lines_all (counts_of t) End done
+
+  file_all : (r : Result Topology TplgFault) → P 0 → P 2 → Throughout P A (checked_todo (checked_file r))
+  file_all (Err fault) done two = two
+  file_all (Ok t) done two = checked_all t (ruling_of t) done two
+
+  pub check_all : (name : List ℕ) → P 0 → P 2 → P 5 → P 7 → A name → Throughout P A (check name)
+  check_all name done two five seven named = (named, five, seven, λ bytes. (seven, file_all (topology_of bytes) done two))
+
+-- ---- turns come last
+
+flush_puts : (written : List Written) (rest : Todo) → CreatesNone rest → CreatesNone (flush_todo written rest)
+flush_puts [] rest puts = puts
+flush_puts ((slot, bytes) ∷ written) rest puts = ((λ is. is), flush_puts written rest puts)
+
+lines_puts : (lines : List (List ℕ)) (rest : Todo) → CreatesNone rest → CreatesNone (lines_todo lines rest)
+lines_puts [] rest puts = puts
+lines_puts (line ∷ lines) rest puts = ((λ is. is), lines_puts lines rest puts)
+
+rounds_puts : (rounds : List Round) → CreatesNone (rounds_todo rounds End)
+rounds_puts [] = tt
+rounds_puts (round ∷ rounds) = λ out. flush_puts out.written (lines_todo (lines_after round out) (rounds_todo rounds End)) (lines_puts (lines_after round out) (rounds_todo rounds End) (rounds_puts rounds))
+
+session_last : (heap : ℕ) (plan : Plan) (commands : List Numbered) (inputs : List InputView) (outputs : List OutputView) → TurnsLast (Free (session_todo heap plan commands inputs outputs))
+session_last heap plan commands inputs outputs = λ out. (rounds_all IsLate (λ name. ⊥) (rounds_of commands) (inl refl), rounds_puts (rounds_of commands))
+
+binding_last : (input : Bool) (slot : ℕ) (file : List ℕ) (inputs : List InputView) (outputs : List OutputView) (rest : WithPorts) → ((i : List InputView) (o : List OutputView) → TurnsLast (rest i o)) → TurnsLast (binding_todo input slot file inputs outputs rest)
+binding_last true slot file inputs outputs rest last = λ bytes. last (inputs ++ new_input slot bytes ∷ []) outputs
+binding_last false slot file inputs outputs rest last = last inputs (with_slot slot outputs)
+
+bindings_last : (plan : Plan) (bs : List Bound) (inputs : List InputView) (outputs : List OutputView) (rest : WithPorts) → ((i : List InputView) (o : List OutputView) → TurnsLast (rest i o)) → TurnsLast (bindings_todo plan bs inputs outputs rest)
+bindings_last plan [] inputs outputs rest last = last inputs outputs
+bindings_last plan (b ∷ bs) inputs outputs rest last =
+    binding_last b.input (bound_slot plan b) b.file inputs outputs (λ i o. bindings_todo plan bs i o rest) (λ i o. bindings_last plan bs i o rest last)
 
 prepared_last : (heap : ℕ) (files : Prepared) → TurnsLast (prepared_todo heap files)
-prepared_last heap (Ready plan commands) = λ out. commands_all IsLate (λ name. ⊥) commands (inl refl)
+prepared_last heap (Ready plan read) = bindings_last plan read.bindings [] [] (λ i o. Free (session_todo heap plan read.commands i o)) (λ i o. session_last heap plan read.commands i o)
 prepared_last heap (Halted why) = tt
 
-pub words_last : (o : Option Form) → TurnsLast (todo_for o)
-words_last None = tt
-words_last (Some form) = λ topology script. prepared_last form.heap (prepared topology script)
+lines_last : (lines : List (List ℕ)) → TurnsLast (lines_todo lines End)
+lines_last [] = tt
+lines_last (line ∷ lines) = lines_last lines
+
+checked_last : (r : Result Topology Halt) → TurnsLast (checked_todo r)
+checked_last (Ok t) = lines_last (counts_of t)
+checked_last (Err why) = tt
+
+pub words_last : (o : Option Form) (c : Option (List ℕ)) → TurnsLast (todo_for o c)
+words_last None None = tt
+words_last None (Some name) = λ bytes. checked_last (checked bytes)
+words_last (Some form) c = λ topology script. prepared_last form.heap (prepared topology script)
 
 -- a session ends with 0 or 3
-pub session_ends : (heap : ℕ) (plan : Plan) (commands : List Numbered) (turns : List Turn) (calls : List Call) (status : ℕ) → Goes (session_todo heap plan commands) turns calls status → IsLate status
-session_ends heap plan commands turns calls status goes =
-    ends IsLate (λ name. Unit {0}) (session_todo heap plan commands) turns calls status goes (λ out. commands_all IsLate (λ name. Unit {0}) commands (inl refl)) (inr refl)
+pub session_ends : (heap : ℕ) (plan : Plan) (commands : List Numbered) (inputs : List InputView) (outputs : List OutputView) (turns : List Turn) (calls : List Call) (status : ℕ) → Goes (session_todo heap plan commands inputs outputs) turns calls status → IsLate status
+session_ends heap plan commands inputs outputs turns calls status goes =
+    ends IsLate (λ name. Unit {0}) (session_todo heap plan commands inputs outputs) turns calls status goes (λ out. rounds_all IsLate (λ name. Unit {0}) (rounds_of commands) (inl refl)) (inr refl)

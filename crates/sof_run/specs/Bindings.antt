@@ -1,17 +1,19 @@
--- Which bindings of a script are right.
-use Rattle.std.specs.Prelude.{ℕ, Bool, true, false, ◌&&◌, not, if◌then◌else◌, List, [], ◌∷◌, ◌++◌, Option, Some, None}
+-- Which bindings of a script are right, and what they bind.
+use Rattle.std.specs.Prelude.{ℕ, Bool, true, false, ◌&&◌, not, if◌then◌else◌, List, [], ◌∷◌, ◌++◌, Option, Some, None, unwrap_or, find}
 use Rattle.std.specs.List.{list_any, slice_get}
 use Rattle.std.specs.Option.{option_map_or}
 use Rattle.std.specs.Str.{bytes_eq}
+use Rattle.sof_base.specs.Ports.{InputView, OutputView}
+use Rattle.stream_law.specs.declared.graph.Comp.{Comp}
 use Rattle.stream_law.specs.declared.graph.Kind.{Kind}
 use Rattle.stream_law.specs.declared.graph.Kind.TheVariants.{HostPlay, HostCapture, DaiPlay, DaiCapture}
 use Rattle.tplg_graph.specs.declared.planned.Plan.{Plan}
+use Rattle.sof_io.specs.Bound.{output_slots}
+use Rattle.sof_io.specs.Puts.{with_slot}
+use Rattle.sof_io.specs.Takes.{new_input}
 use Rattle.sof_script.specs.Commands.{Bound}
 
--- there is none
-abbrev pub has_none : List Bound → Bool
-has_none [] = true
-has_none (b ∷ bs) = false
+-- ---- which are right
 
 -- a component of this kind takes its frames from an input, or gives them to an output
 abbrev pub is_endpoint : Bool → Kind → Bool
@@ -26,9 +28,13 @@ is_endpoint false kind = false
 abbrev pub is_named : Plan → List ℕ → ℕ → Bool
 is_named plan name id = option_map_or (λ other. bytes_eq name other) (slice_get plan.names id) false
 
+-- a component is the endpoint of this direction and this name
+abbrev pub is_sought : Plan → Bool → List ℕ → Comp → Bool
+is_sought plan input name c = is_endpoint input c.kind && is_named plan name c.id
+
 -- an endpoint of this direction has this name
 abbrev pub has_endpoint : Plan → Bool → List ℕ → Bool
-has_endpoint plan input name = list_any (λ c. is_endpoint input c.kind && is_named plan name c.id) plan.graph.comps
+has_endpoint plan input name = list_any (is_sought plan input name) plan.graph.comps
 
 -- some of these binds this endpoint
 abbrev pub is_bound : List Bound → List ℕ → Bool
@@ -46,3 +52,28 @@ wrong_behind plan earlier (b ∷ bs) = if is_right plan earlier b then wrong_beh
 -- of all
 abbrev pub wrong_binding : Plan → List Bound → Option ℕ
 wrong_binding plan bindings = wrong_behind plan [] bindings
+
+-- ---- what they bind
+
+-- the slot of an endpoint is the id of its component
+abbrev pub slot_of : Plan → Bool → List ℕ → ℕ
+slot_of plan input name = option_map_or (λ c. c.id) (find (is_sought plan input name) plan.graph.comps) 0
+
+-- the slot of a binding
+abbrev pub bound_slot : Plan → Bound → ℕ
+bound_slot plan b = slot_of plan b.input b.endpoint
+
+-- the inputs that are bound, in their order, with the bytes of their files
+abbrev pub bound_inputs : Plan → (List ℕ → Option (List ℕ)) → List Bound → List InputView
+bound_inputs plan holds [] = []
+bound_inputs plan holds (b ∷ bs) =
+    if b.input then new_input (bound_slot plan b) (unwrap_or (holds b.file) []) ∷ bound_inputs plan holds bs else bound_inputs plan holds bs
+
+-- the outputs that are bound, by ascending slot, with earlier ones
+abbrev pub bound_outputs : Plan → List OutputView → List Bound → List OutputView
+bound_outputs plan outputs [] = outputs
+bound_outputs plan outputs (b ∷ bs) = bound_outputs plan (if b.input then outputs else with_slot (bound_slot plan b) outputs) bs
+
+-- the slots of the outputs that are bound, ascending
+abbrev pub bound_slots : Plan → List Bound → List ℕ
+bound_slots plan bs = output_slots (bound_outputs plan [] bs)

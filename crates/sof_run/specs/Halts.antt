@@ -1,11 +1,14 @@
--- Why files make no run, as each step of preparing it may tell.
-use Rattle.std.specs.Prelude.{◌≡◌, Bool, false, Result, Err}
+-- Why files make no run, or that they make one, as each step of preparing it may tell.
+use Rattle.std.specs.Prelude.{◌≡◌, ℕ, Bool, true, false, Option, Some, None, Result, Err}
 use Rattle.tplg_model.specs.declared.fault.TplgFault.{TplgFault}
 use Rattle.tplg_model.specs.declared.fault.TplgFault.TheVariants.{OutOfMemory}
 use Rattle.tplg_model.specs.declared.block.Topology.{Topology}
+use Rattle.tplg_graph.specs.declared.planned.Plan.{Plan}
+use Rattle.sof_script.specs.Commands.{Read}
 use Rattle.sof_run.specs.declared.prepare.Halt.{Halt}
 use Rattle.sof_run.specs.declared.prepare.Halt.TheVariants as halts
-use Rattle.sof_run.specs.Play.{Prepared, Halted}
+use Rattle.sof_run.specs.Bindings.{wrong_binding}
+use Rattle.sof_run.specs.Play.{Prepared, Halted, is_built_script}
 
 -- the halt is what the files come to; want of memory may come with any files
 abbrev pub Halts : Halt → Prepared → Type 0
@@ -24,8 +27,24 @@ HaltsAtTopology (halts.Broken fault) read = read ≡ Err fault
 HaltsAtTopology halts.OutOfMemory read = Unit {0}
 HaltsAtTopology why read = ⊥
 
--- planning halts at a topology that is not thin
-abbrev pub HaltsAtPlan : Halt → Bool → Type 0
-HaltsAtPlan halts.NotYet thin = thin ≡ false
-HaltsAtPlan halts.OutOfMemory thin = Unit {0}
-HaltsAtPlan why thin = ⊥
+-- planning halts at the first rule that a topology breaks
+abbrev pub HaltsAtRules : Halt → Option (ℕ × ℕ) → Type 0
+HaltsAtRules (halts.Rule rule item) ruling = ruling ≡ Some (rule, item)
+HaltsAtRules halts.OutOfMemory ruling = Unit {0}
+HaltsAtRules why ruling = ⊥
+
+-- where only a thin one will do, it halts there too, or where the topology breaks none and is not thin
+abbrev pub HaltsAtPlan : Halt → Option (ℕ × ℕ) → Bool → Type 0
+HaltsAtPlan (halts.Rule rule item) ruling thin = ruling ≡ Some (rule, item)
+HaltsAtPlan halts.NotYet ruling thin = (ruling ≡ None) × (thin ≡ false)
+HaltsAtPlan halts.OutOfMemory ruling thin = Unit {0}
+HaltsAtPlan why ruling thin = ⊥
+
+-- checking halts at what the bytes come to
+abbrev pub HaltsAtCheck : Halt → Result Topology Halt → Type 0
+HaltsAtCheck halts.OutOfMemory bytes = Unit {0}
+HaltsAtCheck why bytes = bytes ≡ Err why
+
+-- a script's bindings are right, and all that it asks for is built
+abbrev pub IsCarriable : Plan → Read → Type 0
+IsCarriable plan read = (wrong_binding plan read.bindings ≡ None) × (is_built_script read ≡ true)

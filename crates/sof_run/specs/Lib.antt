@@ -1,8 +1,15 @@
 pub mod Words
 pub mod Todo
 pub mod Bindings
+pub mod Rounds
 pub mod Play
+pub mod Checking
+pub mod Forms
+pub mod Opening
 pub mod Halts
 pub mod Whole
 pub mod Runs
+pub mod Solved
+pub mod TopologyBytes
+pub mod Checks
 pub mod Run

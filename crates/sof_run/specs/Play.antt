@@ -1,27 +1,33 @@
 -- What `run` has to do, by its words and by the bytes of the files that they name.
-use Rattle.std.specs.Prelude.{ℕ, Bool, true, false, ◌&&◌, nat_lt, ◌==◌, if◌then◌else◌, List, [], ◌∷◌, ◌++◌, Option, Some, None, Result, Ok, Err, codes, decimal}
+use Rattle.std.specs.Prelude.{ℕ, Bool, true, false, nat_lt, ◌==◌, if◌then◌else◌, List, [], ◌∷◌, ◌++◌, Option, Some, None, Result, Ok, Err, codes, decimal}
 use Rattle.std.specs.List.{list_all, sum_by}
-use Rattle.sof_desk.specs.Desk.{Put, Spoken}
+use Rattle.sof_base.specs.Ports.{InputView, OutputView}
+use Rattle.sof_io.specs.Bound.{output_slots}
+use Rattle.sof_io.specs.Puts.{with_slot}
+use Rattle.sof_io.specs.Takes.{new_input}
+use Rattle.sof_desk.specs.Desk.{Create, Put, Slot, Spoken}
 use Rattle.tplg_model.specs.declared.fault.TplgFault.{TplgFault}
 use Rattle.tplg_model.specs.declared.fault.TplgFault.TheVariants.{Magic, Abi, HeaderSize, Truncated, Payload, Name, ControlKind, Tokens, OutOfMemory}
 use Rattle.tplg_model.specs.declared.block.Topology.{Topology}
 use Rattle.tplg_model.specs.Reading.{topology_of}
 use Rattle.tplg_graph.specs.declared.planned.Plan.{Plan}
 use Rattle.tplg_graph.specs.ThinTest.{thin_test}
+use Rattle.tplg_graph.specs.RuleTest.{ruling_of}
 use Rattle.tplg_graph.specs.PlanOf.{plan_of}
 use Rattle.sof_script.specs.declared.script.Command.{Command}
-use Rattle.sof_script.specs.declared.script.Command.TheVariants.{Load, Show, Open, Params, Start, Stop, Close}
+use Rattle.sof_script.specs.declared.script.Command.TheVariants.{Load, Show, Open, Params, Start, Stop, Close, Tick}
 use Rattle.sof_script.specs.declared.script.Numbered.{Numbered}
 use Rattle.sof_script.specs.declared.reading.ScriptFault.{ScriptFault}
 use Rattle.sof_script.specs.declared.reading.ScriptFault.TheVariants as scripts
-use Rattle.sof_script.specs.Commands.{Read, script_of}
+use Rattle.sof_script.specs.Commands.{Bound, Read, script_of}
 use Rattle.sof_script.specs.Ticks.{line_ticks}
 use Rattle.sof_script.specs.Text.{answer_line}
-use Rattle.sof_session.specs.Walks.{Out, Begin, Carry}
+use Rattle.sof_session.specs.Walks.{Out, Written, Begin, Carry}
 use Rattle.sof_run.specs.declared.prepare.Halt.{Halt}
 use Rattle.sof_run.specs.declared.prepare.Halt.TheVariants as halts
-use Rattle.sof_run.specs.Bindings.{has_none, wrong_binding}
-use Rattle.sof_run.specs.Words.{Form, play_of}
+use Rattle.sof_run.specs.Bindings.{bound_slot, wrong_binding}
+use Rattle.sof_run.specs.Rounds.{Round, rounds_of}
+use Rattle.sof_run.specs.Words.{Form}
 use Rattle.sof_run.specs.Todo.{Todo, End, Stop, Ask, Do, Step, Free, no_memory}
 
 -- ---- what is said
@@ -57,6 +63,10 @@ cause_words n =
     else if n == 6 then codes "hex"
     else codes "name"
 
+-- the line of a rule of a topology that fails, with its least item
+abbrev pub rule_line : ℕ → ℕ → List ℕ
+rule_line rule item = with_newline (codes "topology rule " ++ decimal rule ++ codes " " ++ decimal item)
+
 -- the line of a script's line at fault
 abbrev pub script_line : ℕ → List ℕ → List ℕ
 script_line line cause = with_newline (codes "script " ++ decimal line ++ codes " " ++ cause)
@@ -66,6 +76,7 @@ abbrev pub halt_line : Halt → List ℕ
 halt_line (halts.Script line cause) = script_line line (cause_words cause)
 halt_line (halts.Ticks sum) = with_newline (codes "ticks " ++ decimal sum)
 halt_line (halts.Broken fault) = fault_line fault
+halt_line (halts.Rule rule item) = rule_line rule item
 halt_line (halts.Binding line) = script_line line (codes "binding")
 halt_line halts.NotYet = codes "not yet\n"
 halt_line halts.OutOfMemory = no_memory
@@ -75,6 +86,7 @@ abbrev pub halt_status : Halt → ℕ
 halt_status (halts.Script line cause) = 4
 halt_status (halts.Ticks sum) = 8
 halt_status (halts.Broken fault) = 2
+halt_status (halts.Rule rule item) = 2
 halt_status (halts.Binding line) = 4
 halt_status halts.NotYet = 9
 halt_status halts.OutOfMemory = 7
@@ -88,31 +100,69 @@ is_show command = false
 abbrev pub spoken : ℕ → Out → List (List ℕ)
 spoken number out = answer_line number out.answer ∷ out.shown
 
+-- the lines of a unit: those of its command, where it is the last of it
+abbrev pub lines_after : Round → Out → List (List ℕ)
+lines_after round out = if round.last then spoken round.numbered.line out else []
+
 -- ---- the commands
+
+-- one append for each output that bytes were written to
+abbrev pub flush_todo : List Written → Todo → Todo
+flush_todo [] rest = rest
+flush_todo ((slot, bytes) ∷ written) rest = Do (Put (Slot slot) bytes) (flush_todo written rest)
 
 -- one say for each line
 abbrev pub lines_todo : List (List ℕ) → Todo → Todo
 lines_todo [] rest = rest
 lines_todo (line ∷ lines) rest = Do (Put Spoken (with_newline line)) (lines_todo lines rest)
 
--- one turn, and then the lines of the command
-abbrev pub command_todo : Numbered → Todo → Todo
-command_todo numbered rest = Step (Carry numbered.command) (λ out. lines_todo (spoken numbered.line out) rest)
+-- a unit: a turn, then the bytes that it wrote, and then its lines
+abbrev pub round_todo : Round → Todo → Todo
+round_todo round rest = Step (Carry round.numbered.command) (λ out. flush_todo out.written (lines_todo (lines_after round out) rest))
 
--- each command in turn
+-- each unit in turn
+abbrev pub rounds_todo : List Round → Todo → Todo
+rounds_todo [] rest = rest
+rounds_todo (round ∷ rounds) rest = round_todo round (rounds_todo rounds rest)
+
+-- each command in turn, unit by unit
 abbrev pub commands_todo : List Numbered → Todo → Todo
-commands_todo [] rest = rest
-commands_todo (first ∷ others) rest = command_todo first (commands_todo others rest)
+commands_todo commands rest = rounds_todo (rounds_of commands) rest
 
--- a session is begun over the device, and then come the commands
-abbrev pub session_todo : ℕ → Plan → List Numbered → Todo
-session_todo heap plan commands = Step (Begin plan heap) (λ out. commands_todo commands End)
+-- a session is begun over the device with these inputs and slots of outputs, and then come the commands
+abbrev pub session_todo : ℕ → Plan → List Numbered → List InputView → List OutputView → Todo
+session_todo heap plan commands inputs outputs = Step (Begin plan heap inputs (output_slots outputs)) (λ out. commands_todo commands End)
+
+-- ---- the bindings
+
+-- what comes next has the inputs and the outputs that are there by then
+abbrev pub WithPorts : Type 0
+WithPorts = List InputView → List OutputView → Todo
+
+-- the file of an input is loaded, and then the input has its place
+abbrev pub input_todo : ℕ → List ℕ → List InputView → List OutputView → WithPorts → Todo
+input_todo slot file inputs outputs rest =
+    Ask file 4194304 (codes "too long input\n") (λ bytes. Free (rest (inputs ++ new_input slot bytes ∷ []) outputs))
+
+-- an output has its place, and then its file is created
+abbrev pub output_todo : ℕ → List ℕ → List InputView → List OutputView → WithPorts → Todo
+output_todo slot file inputs outputs rest = Free (Do (Create slot file) (rest inputs (with_slot slot outputs)))
+
+-- by the direction
+abbrev pub binding_todo : Bool → ℕ → List ℕ → List InputView → List OutputView → WithPorts → Todo
+binding_todo true slot file inputs outputs rest = input_todo slot file inputs outputs rest
+binding_todo false slot file inputs outputs rest = output_todo slot file inputs outputs rest
+
+-- each binding in turn
+abbrev pub bindings_todo : Plan → List Bound → List InputView → List OutputView → WithPorts → Todo
+bindings_todo plan [] inputs outputs rest = rest inputs outputs
+bindings_todo plan (b ∷ bs) inputs outputs rest = binding_todo b.input (bound_slot plan b) b.file inputs outputs (λ i o. bindings_todo plan bs i o rest)
 
 -- ---- the files
 
--- what the two files come to: a plan with commands, or why they make no run
+-- what the two files come to: a plan with a script, or why they make no run
 pub data Prepared : Type 0 where
-  Ready : (plan : Plan) (commands : List Numbered) → Prepared
+  Ready : (plan : Plan) (read : Read) → Prepared
   Halted : (why : Halt) → Prepared
 
 -- the commands that a run carries out so far
@@ -124,15 +174,16 @@ is_played (Params name params) = true
 is_played (Start name) = true
 is_played (Stop name) = true
 is_played (Close name) = true
+is_played (Tick n) = true
 is_played command = false
 
--- inputs are not loaded and outputs not created so far, so there is to be no binding, and each command is one of these
+-- each command is one of these
 abbrev pub is_built_script : Read → Bool
-is_built_script read = has_none read.bindings && list_all (λ n. is_played n.command) read.commands
+is_built_script read = list_all (λ n. is_played n.command) read.commands
 
 -- what is not built so far comes last
 abbrev pub prepared_commands : Plan → Read → Bool → Prepared
-prepared_commands plan read true = Ready plan read.commands
+prepared_commands plan read true = Ready plan read
 prepared_commands plan read false = Halted halts.NotYet
 
 -- each binding is to be right
@@ -140,14 +191,19 @@ abbrev pub prepared_bindings : Plan → Read → Option ℕ → Prepared
 prepared_bindings plan read (Some line) = Halted (halts.Binding line)
 prepared_bindings plan read None = prepared_commands plan read (is_built_script read)
 
--- a topology that is right is to be thin
+-- a topology that breaks no rule is to be thin
 abbrev pub prepared_thin : Topology → Read → Bool → Prepared
 prepared_thin topology read true = prepared_bindings (plan_of topology) read (wrong_binding (plan_of topology) read.bindings)
 prepared_thin topology read false = Halted halts.NotYet
 
+-- the first rule that it breaks comes before all that is over its plan
+abbrev pub prepared_rules : Topology → Read → Option (ℕ × ℕ) → Prepared
+prepared_rules topology read (Some (rule, item)) = Halted (halts.Rule rule item)
+prepared_rules topology read None = prepared_thin topology read (thin_test topology)
+
 abbrev pub prepared_topology : Read → Result Topology TplgFault → Prepared
 prepared_topology read (Err fault) = Halted (halts.Broken fault)
-prepared_topology read (Ok topology) = prepared_thin topology read (thin_test topology)
+prepared_topology read (Ok topology) = prepared_rules topology read (ruling_of topology)
 
 -- the sum of a script's ticks
 abbrev pub ticks_of : List Numbered → ℕ
@@ -168,9 +224,13 @@ prepared_script topology (Ok read) = prepared_ticks topology read (nat_lt 60000 
 abbrev pub prepared : List ℕ → List ℕ → Prepared
 prepared topology script = prepared_script topology (script_of script)
 
+-- the bindings come first, and then the session, for which memory may be wanting
+abbrev pub ready_todo : ℕ → Plan → Read → Todo
+ready_todo heap plan read = bindings_todo plan read.bindings [] [] (λ inputs outputs. Free (session_todo heap plan read.commands inputs outputs))
+
 -- what is to do then
 abbrev pub prepared_todo : ℕ → Prepared → Todo
-prepared_todo heap (Ready plan commands) = session_todo heap plan commands
+prepared_todo heap (Ready plan read) = ready_todo heap plan read
 prepared_todo heap (Halted why) = Stop (halt_line why) (halt_status why)
 
 -- ---- the words
@@ -181,12 +241,3 @@ play form =
     Ask form.topology 1048576 (codes "too long topology\n") (λ topology.
     Ask form.script 1048576 (codes "too long script\n") (λ script.
     Free (prepared_todo form.heap (prepared topology script))))
-
--- by the form of the words
-abbrev pub todo_for : Option Form → Todo
-todo_for None = Stop (codes "words\n") 1
-todo_for (Some form) = play form
-
--- all that `run` does with these words, over a device of this room
-abbrev pub todo_of : ℕ → List (List ℕ) → Todo
-todo_of room words = todo_for (play_of room words)

@@ -54,9 +54,14 @@ Throughout P A (Do act rest) = Throughout P A rest
 Throughout P A (Step task rest) = (out : Out) → Throughout P A (rest out)
 Throughout P A (Free rest) = P 7 × Throughout P A rest
 
--- each file that is loaded is told
+-- each file that is loaded is told, where those before it are what the desk holds
 abbrev pub Told : (List ℕ → Option (List ℕ)) → Todo → Type 0
-Told holds todo = Throughout (λ n. Unit {0}) (λ name. (bytes : List ℕ) × (holds name ≡ Some bytes)) todo
+Told holds End = Unit {0}
+Told holds (Stop line n) = Unit {0}
+Told holds (Ask name limit line rest) = (bytes : List ℕ) × (holds name ≡ Some bytes) × Told holds (rest bytes)
+Told holds (Do act rest) = Told holds rest
+Told holds (Step task rest) = (out : Out) → Told holds (rest out)
+Told holds (Free rest) = Told holds rest
 
 -- the same call, failed
 abbrev pub failing : Call → Call

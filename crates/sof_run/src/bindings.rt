@@ -1,4 +1,4 @@
-// Whether the bindings of a script are right.
+// Whether the bindings of a script are right, and what they bind.
 ghost use Rattle.std.specs.Prelude.{◌≡◌, ◌&&◌, length};
 ghost use Rattle.std.specs.List.{list_any};
 ghost use Rattle.std.specs.Str.{bytes_eq};
@@ -7,7 +7,7 @@ ghost use Rattle.sof_run.specs.Bindings as right;
 
 use sof_base::Name44;
 use sof_script::Binding;
-use stream_law::Kind;
+use stream_law::{Comp, Kind};
 use tplg_graph::Plan;
 
 // Whether a component of this kind takes its frames from an input, or gives them to an output.
@@ -31,12 +31,22 @@ fn is_named(plan: &Plan, name: &Name44, id: u32) -> bool
     }
 }
 
+// Whether a component is the endpoint of this direction and this name.
+fn is_sought(plan: &Plan, input: bool, name: &Name44, comp: &Comp) -> bool
+    ensures { result ≡ right.is_sought plan.now input name.now comp.now }
+{
+    is_endpoint(input, comp.kind) && is_named(plan, name, comp.id)
+}
+
 // Whether an endpoint of this direction has this name.
 fn has_endpoint(plan: &Plan, input: bool, name: &Name44) -> bool
     ensures { result ≡ right.has_endpoint plan.now input name.now }
 {
-    plan.graph.comps.items().iter().any(|comp| is_endpoint(input, comp.kind)
-        && is_named(plan, name, comp.id))
+    plan.graph
+        .comps
+        .items()
+        .iter()
+        .any(|comp| is_sought(plan, input, name, comp))
 }
 
 // Whether a binding binds this endpoint.
@@ -60,12 +70,16 @@ fn is_right(plan: &Plan, earlier: &[Binding], binding: &Binding) -> bool
     has_endpoint(plan, binding.input, &binding.endpoint) && !is_bound(earlier, &binding.endpoint)
 }
 
-/// Whether there is no binding.
-#[tactic(auto, using(crate::proofs::BindingLaws::none_same))]
-pub fn binds_nothing(bindings: &[Binding]) -> bool
-    ensures { result ≡ right.has_none (bounds_of bindings.now) }
+/// The id of the component of the endpoint of this direction and this name; 0 where there is no such endpoint.
+pub fn slot_of(plan: &Plan, input: bool, name: &Name44) -> u32
+    ensures { result ≡ right.slot_of plan.now input name.now }
 {
-    bindings.is_empty()
+    for comp in plan.graph.comps.items() {
+        if is_sought(plan, input, name, comp) {
+            return comp.id;
+        }
+    }
+    0
 }
 
 /// The line of the first binding that is wrong, if any is.

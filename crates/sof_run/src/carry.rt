@@ -1,14 +1,18 @@
 // The commands, one by one.
-ghost use Rattle.std.specs.Prelude.{◌≡◌, ◌<◌, length, true};
+ghost use Rattle.std.specs.Prelude.{◌≡◌, ◌<◌, ◌∷◌, length, true};
 ghost use Rattle.std.specs.List.{list_all};
-ghost use Rattle.sof_base.specs.Ports.{HasRoom};
+ghost use Rattle.sof_base.specs.Ports.{drained};
+ghost use Rattle.sof_io.specs.Bound.{output_slots};
 ghost use Rattle.tplg_graph.specs.ThinPlan.{IsThinPlan};
 ghost use Rattle.sof_script.specs.Text.{answer_line};
 ghost use Rattle.sof_session.specs.Show.{show_lines};
-ghost use Rattle.sof_session.specs.Turns.{Seated, life};
+ghost use Rattle.sof_session.specs.Turns.{Seated, life, shown_by};
 ghost use Rattle.sof_run.specs.Todo.{DeskPhase, Phase};
-ghost use Rattle.sof_run.specs.Play.{is_played, is_show, with_newline, lines_todo, command_todo, commands_todo};
+ghost use Rattle.sof_run.specs.Rounds.{earlier as units_before, command_rounds};
+ghost use Rattle.sof_run.specs.Play.{is_played, is_show, with_newline, lines_todo, round_todo, rounds_todo, commands_todo};
+ghost use Rattle.sof_run.specs.Opening.{AreCreated, SameCreated};
 
+use crate::files::write_outputs;
 use host_widgets::Answer;
 use mbox_link::Dsp;
 use sof_desk::Desk;
@@ -27,7 +31,8 @@ fn write_line(number: u32, answer: &Answer, line: &mut Line)
 // Says how everything stands, line by line.
 fn say_shown<D: Desk, P: Dsp>(desk: &mut D, session: &Session<P>, line: &mut Line) -> bool
     requires { IsThinPlan session.now.plan }
-    ensures { DeskPhase D.means (lines_todo (show_lines session.now.plan session.now.kept)) result desk.old desk.new }
+    ensures phase { DeskPhase D.means (lines_todo (show_lines session.now.plan session.now.kept)) result desk.old desk.new }
+    ensures created { SameCreated D.means desk.old desk.new }
 {
     let mut k = 0;
     while session.show_line(k, line) {
@@ -47,24 +52,19 @@ fn shows(command: &Command) -> bool
     matches!(command, Command::Show)
 }
 
-// One turn of the session, and then the lines of the command.
-fn do_command<D: Desk, P: Dsp>(
+// Says the lines of a command: its answer, and what it shows.
+fn say_lines<D: Desk, P: Dsp>(
     numbered: &Numbered,
+    answer: &Answer,
     desk: &mut D,
-    session: &mut Session<P>,
-    inputs: &mut Inputs,
-    outputs: &mut Outputs,
+    session: &Session<P>,
     line: &mut Line,
 ) -> bool
-    requires played { is_played numbered.now.command ≡ true }
-    requires thin { IsThinPlan session.old.plan }
-    requires room { HasRoom 0 outputs.old }
-    ensures phase { Phase D.means (life P.means) (command_todo numbered.now) result desk.old (Seated session.old) desk.new (Seated session.new) }
-    ensures plan { session.new.plan ≡ session.old.plan }
-    ensures outputs { outputs.new ≡ outputs.old }
+    requires thin { IsThinPlan session.now.plan }
+    ensures phase { DeskPhase D.means (lines_todo (answer_line numbered.now.line answer.now ∷ shown_by numbered.now.command session.now)) result desk.old desk.new }
+    ensures created { SameCreated D.means desk.old desk.new }
 {
-    let answer = session.step(&numbered.command, inputs, outputs);
-    write_line(numbered.line, &answer, line);
+    write_line(numbered.line, answer, line);
     if !desk.say(line.bytes()).is_ok() {
         return false;
     }
@@ -75,7 +75,78 @@ fn do_command<D: Desk, P: Dsp>(
     }
 }
 
-/// Each command in turn, up to a failure of the desk; answers whether all were done.
+// One unit: a turn of the session, the bytes that it wrote, and the lines of the command where it is the last of it.
+fn do_round<D: Desk, P: Dsp>(
+    numbered: &Numbered,
+    last: bool,
+    desk: &mut D,
+    session: &mut Session<P>,
+    inputs: &mut Inputs,
+    outputs: &mut Outputs,
+    line: &mut Line,
+) -> bool
+    requires played { is_played numbered.now.command ≡ true }
+    requires thin { IsThinPlan session.old.plan }
+    requires created { AreCreated D.means (output_slots outputs.old) desk.old }
+    requires empty { drained outputs.old ≡ outputs.old }
+    ensures phase { Phase D.means (life P.means) (round_todo (record { numbered = numbered.now; last = last })) result
+        desk.old (Seated session.old inputs.old (output_slots outputs.old)) desk.new (Seated session.new inputs.new (output_slots outputs.new)) }
+    ensures plan { session.new.plan ≡ session.old.plan }
+    ensures created { AreCreated D.means (output_slots outputs.new) desk.new }
+    ensures empty { drained outputs.new ≡ outputs.new }
+{
+    let answer = session.step(&numbered.command, inputs, outputs);
+    let written = write_outputs(desk, outputs);
+    outputs.drain();
+    if !written {
+        return false;
+    }
+    if last {
+        say_lines(numbered, &answer, desk, session, line)
+    } else {
+        true
+    }
+}
+
+// How many units of a command come before its last one.
+fn earlier(command: &Command) -> u32
+    ensures { result ≡ units_before command.now }
+{
+    match command {
+        Command::Tick(ticks) => ticks.saturating_sub(1),
+        _ => 0,
+    }
+}
+
+// The units of a command.
+fn do_command<D: Desk, P: Dsp>(
+    numbered: &Numbered,
+    desk: &mut D,
+    session: &mut Session<P>,
+    inputs: &mut Inputs,
+    outputs: &mut Outputs,
+    line: &mut Line,
+) -> bool
+    requires played { is_played numbered.now.command ≡ true }
+    requires thin { IsThinPlan session.old.plan }
+    requires created { AreCreated D.means (output_slots outputs.old) desk.old }
+    requires empty { drained outputs.old ≡ outputs.old }
+    ensures phase { Phase D.means (life P.means) (rounds_todo (command_rounds numbered.now)) result
+        desk.old (Seated session.old inputs.old (output_slots outputs.old)) desk.new (Seated session.new inputs.new (output_slots outputs.new)) }
+    ensures plan { session.new.plan ≡ session.old.plan }
+    ensures created { AreCreated D.means (output_slots outputs.new) desk.new }
+    ensures empty { drained outputs.new ≡ outputs.new }
+{
+    for _ in 0..earlier(&numbered.command) {
+        if !do_round(numbered, false, desk, session, inputs, outputs, line) {
+            return false;
+        }
+    }
+    do_round(numbered, true, desk, session, inputs, outputs, line)
+}
+
+/// Each command in turn, up to a failure of the desk; answers whether all were done. The outputs are empty before it, and
+/// the files of their slots are created.
 pub fn do_commands<D: Desk, P: Dsp>(
     commands: &[Numbered],
     desk: &mut D,
@@ -85,8 +156,10 @@ pub fn do_commands<D: Desk, P: Dsp>(
 ) -> bool
     requires played { list_all (λ n. is_played n.command) commands.now ≡ true }
     requires thin { IsThinPlan session.old.plan }
-    requires room { HasRoom 0 outputs.old }
-    ensures { Phase D.means (life P.means) (commands_todo commands.now) result desk.old (Seated session.old) desk.new (Seated session.new) }
+    requires created { AreCreated D.means (output_slots outputs.old) desk.old }
+    requires empty { drained outputs.old ≡ outputs.old }
+    ensures { Phase D.means (life P.means) (commands_todo commands.now) result
+        desk.old (Seated session.old inputs.old (output_slots outputs.old)) desk.new (Seated session.new inputs.new (output_slots outputs.new)) }
 {
     let mut line = Line::new();
     for numbered in commands {

@@ -4,8 +4,10 @@
 
 mod bindings;
 mod carry;
+mod check;
 mod files;
 mod lines;
+mod opening;
 mod play;
 mod prepare;
 mod words;

@@ -106,6 +106,18 @@ fn write_ticks(sum: u64, line: &mut Line)
     line.say(b"\n");
 }
 
+// The line of a rule of a topology that fails, with its newline.
+fn write_rule(rule: u8, item: u32, line: &mut Line)
+    ensures { line.new ≡ halt_line (Halt.Rule rule item) }
+{
+    line.clear();
+    line.say(b"topology rule ");
+    line.say_number(rule as u32);
+    line.say(b" ");
+    line.say_number(item);
+    line.say(b"\n");
+}
+
 /// Writes the line for files that make no run, with its newline.
 pub fn write_halt(halt: Halt, line: &mut Line)
     ensures { line.new ≡ halt_line halt }
@@ -117,6 +129,7 @@ pub fn write_halt(halt: Halt, line: &mut Line)
         } => write_script(number, cause_word(cause), line),
         Halt::Ticks(sum) => write_ticks(sum, line),
         Halt::Broken(fault) => write_fault(fault, line),
+        Halt::Rule { rule, item } => write_rule(rule, item, line),
         Halt::Binding { line: number } => write_script(number, b"binding", line),
         Halt::NotYet => {
             line.clear();
@@ -137,7 +150,7 @@ impl Halt {
         match self {
             Halt::Script { .. } | Halt::Binding { .. } => 4,
             Halt::Ticks(_) => 8,
-            Halt::Broken(_) => 2,
+            Halt::Broken(_) | Halt::Rule { .. } => 2,
             Halt::NotYet => 9,
             Halt::OutOfMemory => 7,
         }

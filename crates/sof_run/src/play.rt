@@ -1,26 +1,26 @@
 // The top call.
-ghost use Rattle.std.specs.Prelude.{◌≡◌, ◌≤◌, [], map, None, true, string_bytes, if◌then◌else◌};
-ghost use Rattle.std.specs.List.{list_all};
+ghost use Rattle.std.specs.Prelude.{◌≡◌, ◌≤◌, [], map, None, string_bytes};
 ghost use Rattle.tplg_graph.specs.ThinPlan.{IsThinPlan};
-ghost use Rattle.sof_run.specs.Todo.{Stop, Free, Played};
+ghost use Rattle.sof_run.specs.Todo.{Free, Played};
 ghost use Rattle.sof_run.specs.Words.{form as form_of};
-ghost use Rattle.sof_run.specs.Play.{is_played, halt_line, halt_status, todo_of, play, session_todo};
+ghost use Rattle.sof_script.specs.Commands.{told};
+ghost use Rattle.sof_run.specs.Halts.{IsCarriable};
+ghost use Rattle.sof_run.specs.Play.{play, ready_todo};
+ghost use Rattle.sof_run.specs.Checking.{check_of};
+ghost use Rattle.sof_run.specs.Forms.{todo_for, todo_of};
 ghost use Rattle.sof_run.specs.Run.{Gave, Whole};
 
 use crate::carry::do_commands;
-use crate::files::{fetch, stop};
-use crate::lines::write_halt;
+use crate::check::do_check;
+use crate::files::{LIMIT, fetch, status_of, stop, stop_for};
+use crate::opening::open_all;
 use crate::prepare::{Halt, Ready, prepare};
-use crate::words::{Form, read_play};
+use crate::words::{Form, read_check, read_play};
 use mbox_link::Dsp;
 use sof_desk::Desk;
 use sof_io::{Inputs, Outputs};
-use sof_script::Line;
-use sof_session::Session;
+use sof_session::{Session, command_law, first_law};
 use std::alloc::Global;
-
-/// The most bytes of a topology, and of a script.
-const LIMIT: usize = 1048576;
 
 /// How a run ended, and the device as it stands.
 #[derive(Drop)]
@@ -29,23 +29,7 @@ pub struct Ended<P: Dsp> {
     pub dsp: P,
 }
 
-// The status of a run whose commands were all done, or whose desk failed.
-fn status_of(done: bool) -> u8
-    ensures { result ≡ (if done then 0 else 3) }
-{
-    if done { 0 } else { 3 }
-}
-
-// Says why the files make no run.
-fn stop_for<D: Desk>(desk: &mut D, halt: Halt) -> u8
-    ensures { Played D.means (Stop (halt_line halt) (halt_status halt)) desk.old [] result desk.new }
-{
-    let mut line = Line::new();
-    write_halt(halt, &mut line);
-    stop(desk, line.bytes(), halt.status())
-}
-
-// A session over the device, and the commands.
+// The bindings, a session over the device, and the commands.
 fn do_session<D: Desk, P: Dsp>(
     alloc: Global,
     heap: u32,
@@ -57,8 +41,8 @@ fn do_session<D: Desk, P: Dsp>(
     requires pending { P.means.pending dsp ≡ 0 }
     requires fits { heap ≤ P.means.most dsp }
     requires thin { IsThinPlan ready.plan }
-    requires built { list_all (λ n. is_played n.command) ready.script.commands ≡ true }
-    ensures { Gave D.means P.means (Free (session_todo heap ready.plan ready.script.commands)) desk.old dsp result.status desk.new result.dsp }
+    requires carriable { IsCarriable ready.plan (told ready.script) }
+    ensures { Gave D.means P.means (Free (ready_todo heap ready.plan (told ready.script))) desk.old dsp result.status desk.new result.dsp }
 {
     let Ok(mut inputs) = Inputs::new(alloc) else {
         return Ended {
@@ -72,6 +56,17 @@ fn do_session<D: Desk, P: Dsp>(
             dsp,
         };
     };
+    let bindings = ready.script.bindings.items();
+    if let Err(status) = open_all(
+        alloc,
+        &ready.plan,
+        bindings,
+        desk,
+        &mut inputs,
+        &mut outputs,
+    ) {
+        return Ended { status, dsp };
+    }
     match Session::new(alloc, ready.plan, heap, dsp) {
         Ok(mut session) => {
             let commands = ready.script.commands.items();
@@ -112,6 +107,16 @@ fn do_play<D: Desk, P: Dsp>(alloc: Global, form: Form<'_>, desk: &mut D, dsp: P)
     }
 }
 
+// All that words that are not those of `play` ask for: the device is left alone.
+fn do_alone<D: Desk>(alloc: Global, words: &[String], desk: &mut D) -> u8
+    ensures { Played D.means (todo_for None (check_of (map string_bytes words.now))) desk.old [] result desk.new }
+{
+    match read_check(words) {
+        Some(name) => do_check(alloc, name, desk),
+        None => stop(desk, b"words\n", 1),
+    }
+}
+
 // All that the words ask for.
 fn do_words<D: Desk, P: Dsp>(alloc: Global, words: &[String], desk: &mut D, dsp: P) -> Ended<P>
     requires off { P.means.on dsp ≡ None }
@@ -121,7 +126,7 @@ fn do_words<D: Desk, P: Dsp>(alloc: Global, words: &[String], desk: &mut D, dsp:
     match read_play(words, dsp.room()) {
         Some(form) => do_play(alloc, form, desk, dsp),
         None => Ended {
-            status: stop(desk, b"words\n", 1),
+            status: do_alone(alloc, words, desk),
             dsp,
         },
     }
@@ -129,15 +134,21 @@ fn do_words<D: Desk, P: Dsp>(alloc: Global, words: &[String], desk: &mut D, dsp:
 
 /// Does what the words ask for over a desk and a device, and hands the device back.
 ///
-/// The words are `play HEAP TOPOLOGY SCRIPT`: HEAP is a decimal number of bytes without a needless leading zero, at most
-/// the device's room, and each name has 1 to 255 bytes. Both files have at most 1048576 bytes. The statuses: 0 all commands
-/// were carried out; 1 the words are of no form; 2 the topology file is broken; 3 the desk failed; 4 a line of the script is
-/// at fault, or binds what it may not; 5 a file is too long; 7 memory was wanting; 8 the script has more than 60000 ticks;
-/// 9 the topology or something that the script asks for is not built yet.
+/// The words are `play HEAP TOPOLOGY SCRIPT` or `check TOPOLOGY`: HEAP is a decimal number of bytes without a needless
+/// leading zero, at most the device's room, and each name has 1 to 255 bytes. A topology and a script have at most 1048576
+/// bytes. The script's inputs are loaded, each of at most 4194304 bytes, and its outputs created in the order of its lines,
+/// before the commands. After each tick, and after each other command, the bytes of the outputs are appended, and then the
+/// command's lines are said. The statuses: 0 all commands were carried out, or the topology is right; 1 the words are of no
+/// form; 2 the topology file is broken, or the topology breaks a rule; 3 the desk failed; 4 a line of the script is at fault,
+/// or binds what it may not; 5 a file is too long; 7 memory was wanting; 8 the script has more than 60000 ticks; 9 the
+/// topology or something that the script asks for is not built yet.
 pub fn run<D: Desk, P: Dsp>(alloc: Global, words: &[String], desk: &mut D, dsp: P) -> Ended<P>
     requires off { P.means.on dsp ≡ None }
     requires pending { P.means.pending dsp ≡ 0 }
     ensures { Whole D.means P.means (map string_bytes words.now) desk.old dsp result.status desk.new result.dsp }
 {
+    // The samples rest on these laws of a session; nothing runs here.
+    first_law();
+    command_law();
     do_words(alloc, words, desk, dsp)
 }

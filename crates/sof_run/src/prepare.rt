@@ -1,19 +1,22 @@
 // What the files of a run come to.
-ghost use Rattle.std.specs.Prelude.{◌≡◌, ◌<◌, ◌-◌, ◌^◌, true, length, Ok, MatchResult};
+ghost use Rattle.std.specs.Prelude.{◌≡◌, ◌<◌, ◌-◌, ◌^◌, true, length, None, Ok, IfOk, MatchResult};
 ghost use Rattle.tplg_model.specs.Reading.{topology_of};
+ghost use Rattle.tplg_graph.specs.RuleTest.{ruling_of};
 ghost use Rattle.tplg_graph.specs.ThinTest.{thin_test};
+ghost use Rattle.tplg_graph.specs.Needed.{IsSmall, need_on, need_of};
+ghost use Rattle.tplg_graph.specs.Thin.{IsThin};
 ghost use Rattle.tplg_graph.specs.ThinPlan.{IsThinPlan};
 ghost use Rattle.tplg_graph.specs.PlanOf.{plan_of};
 ghost use Rattle.sof_script.specs.Commands.{told};
 ghost use Rattle.std.specs.List.{list_all};
 ghost use Rattle.sof_run.specs.Bindings.{wrong_binding as wrong_of};
-ghost use Rattle.sof_run.specs.Play.{Ready as IsReady, is_played as is_carried_out, is_built_script, prepared, prepared_bindings, prepared_script};
-ghost use Rattle.sof_run.specs.Halts.{Halts, HaltsFor, HaltsAtTopology, HaltsAtPlan};
+ghost use Rattle.sof_run.specs.Play.{Ready as IsReady, is_played as is_carried_out, is_built_script, prepared, prepared_bindings, prepared_rules, prepared_script};
+ghost use Rattle.sof_run.specs.Halts.{Halts, HaltsFor, HaltsAtTopology, HaltsAtRules, HaltsAtPlan, IsCarriable};
 
-use crate::bindings::{binds_nothing, wrong_binding};
+use crate::bindings::wrong_binding;
 use sof_script::{Command, Numbered, Script, ScriptFault, parse, ticks};
 use std::alloc::Global;
-use tplg_graph::{Plan, is_thin, plan};
+use tplg_graph::{Plan, PlanFault, is_thin, plan};
 use tplg_model::Topology;
 use tplg_read::{TplgFault, read};
 
@@ -36,9 +39,11 @@ pub enum Halt {
     Ticks(u64),
     /// The topology file has this fault.
     Broken(TplgFault),
+    /// This rule of a topology, 1 to 14, is the first that fails, and this is its least item.
+    Rule { rule: u8, item: u32 },
     /// The binding of this line is wrong.
     Binding { line: u32 },
-    /// The topology is not thin, or something that the script asks for is not built yet.
+    /// The topology is well-formed and not thin, or something that the script asks for is not built yet.
     NotYet,
     /// Memory was wanting.
     OutOfMemory,
@@ -54,7 +59,8 @@ fn halt_of(fault: TplgFault) -> Halt
     }
 }
 
-fn topology_in(alloc: Global, bytes: &[u8]) -> Result<Topology, Halt>
+/// The topology of a file.
+pub fn topology_in(alloc: Global, bytes: &[u8]) -> Result<Topology, Halt>
     ensures { MatchResult result
         (λ topology. topology_of bytes.now ≡ Ok topology)
         (λ halt. HaltsAtTopology halt (topology_of bytes.now)) }
@@ -65,20 +71,33 @@ fn topology_in(alloc: Global, bytes: &[u8]) -> Result<Topology, Halt>
     }
 }
 
-// The plan of a topology that is thin.
-fn plan_in(alloc: Global, topology: &Topology) -> Result<Plan, Halt>
-    ensures { MatchResult result
-        (λ p. (thin_test topology.now ≡ true) × (p ≡ plan_of topology.now) × IsThinPlan p)
-        (λ halt. HaltsAtPlan halt (thin_test topology.now)) }
+/// The plan of a topology that is well-formed.
+#[tactic(auto, using(tplg_graph::proofs::RuleTests::whole_none, tplg_graph::proofs::RuleTests::breaks_some))]
+pub fn ruled_plan(alloc: Global, topology: &Topology) -> Result<Plan, Halt>
+    ensures plan { MatchResult result
+        (λ p. (ruling_of topology.now ≡ None) × (p ≡ plan_of topology.now))
+        (λ halt. HaltsAtRules halt (ruling_of topology.now)) }
+    ensures thin { IfOk result (λ p. IsThin topology.now → IsThinPlan p) }
+    ensures small { IfOk result (λ p. IsSmall p.graph) }
+    ensures need { IfOk result (λ p. need_on p.graph ≡ need_of topology.now) }
 {
-    let Ok(thin) = is_thin(alloc, topology) else {
-        return Err(Halt::OutOfMemory);
-    };
-    if !thin {
-        return Err(Halt::NotYet);
-    }
     match plan(alloc, topology) {
         Ok(plan) => Ok(plan),
+        Err(PlanFault::Rule { rule, item }) => Err(Halt::Rule { rule, item }),
+        Err(PlanFault::OutOfMemory) => Err(Halt::OutOfMemory),
+    }
+}
+
+// The plan of a topology that is well-formed and thin.
+fn plan_in(alloc: Global, topology: &Topology) -> Result<Plan, Halt>
+    ensures { MatchResult result
+        (λ p. (ruling_of topology.now ≡ None) × (thin_test topology.now ≡ true) × (p ≡ plan_of topology.now) × IsThinPlan p)
+        (λ halt. HaltsAtPlan halt (ruling_of topology.now) (thin_test topology.now)) }
+{
+    let plan = ruled_plan(alloc, topology)?;
+    match is_thin(alloc, topology) {
+        Ok(true) => Ok(plan),
+        Ok(false) => Err(Halt::NotYet),
         Err(_) => Err(Halt::OutOfMemory),
     }
 }
@@ -90,7 +109,7 @@ fn is_played(command: &Command) -> bool
     match command {
         Command::Load | Command::Show => true,
         Command::Open(_) | Command::Close(_) | Command::Params(_, _) => true,
-        Command::Start(_) | Command::Stop(_) => true,
+        Command::Start(_) | Command::Stop(_) | Command::Tick(_) => true,
         _ => false,
     }
 }
@@ -105,13 +124,13 @@ fn are_played(commands: &[Numbered]) -> bool
 fn asks_for_built(script: &Script) -> bool
     ensures { result ≡ is_built_script (told script.now) }
 {
-    binds_nothing(script.bindings.items()) && are_played(script.commands.items())
+    are_played(script.commands.items())
 }
 
 // A plan with a script of right bindings, of which all is built.
 fn ready_for(plan: Plan, script: Script) -> Result<Ready, Halt>
     ensures { MatchResult result
-        (λ ready. (ready.plan ≡ plan) × (list_all (λ n. is_carried_out n.command) ready.script.commands ≡ true) × (prepared_bindings plan (told script) (wrong_of plan (told script).bindings) ≡ IsReady ready.plan ready.script.commands))
+        (λ ready. (ready.plan ≡ plan) × IsCarriable ready.plan (told ready.script) × (prepared_bindings plan (told script) (wrong_of plan (told script).bindings) ≡ IsReady ready.plan (told ready.script)))
         (λ halt. Halts halt (prepared_bindings plan (told script) (wrong_of plan (told script).bindings))) }
 {
     if let Some(line) = wrong_binding(&plan, script.bindings.items()) {
@@ -123,11 +142,21 @@ fn ready_for(plan: Plan, script: Script) -> Result<Ready, Halt>
     Ok(Ready { plan, script })
 }
 
+// A script over a topology, whose rules come first.
+fn prepare_rules(alloc: Global, topology: &Topology, script: Script) -> Result<Ready, Halt>
+    ensures { MatchResult result
+        (λ ready. (prepared_rules topology.now (told script) (ruling_of topology.now) ≡ IsReady ready.plan (told ready.script)) × IsThinPlan ready.plan × IsCarriable ready.plan (told ready.script))
+        (λ halt. Halts halt (prepared_rules topology.now (told script) (ruling_of topology.now))) }
+{
+    let plan = plan_in(alloc, topology)?;
+    ready_for(plan, script)
+}
+
 // A script of which neither line is at fault, over a topology's bytes.
 fn prepare_script(alloc: Global, topology: &[u8], script: Script) -> Result<Ready, Halt>
     requires { length script.commands < 2 ^ 32 }
     ensures { MatchResult result
-        (λ ready. (prepared_script topology.now (Ok (told script)) ≡ IsReady ready.plan ready.script.commands) × IsThinPlan ready.plan × (list_all (λ n. is_carried_out n.command) ready.script.commands ≡ true))
+        (λ ready. (prepared_script topology.now (Ok (told script)) ≡ IsReady ready.plan (told ready.script)) × IsThinPlan ready.plan × IsCarriable ready.plan (told ready.script))
         (λ halt. Halts halt (prepared_script topology.now (Ok (told script)))) }
 {
     let sum = ticks(&script);
@@ -135,16 +164,15 @@ fn prepare_script(alloc: Global, topology: &[u8], script: Script) -> Result<Read
         return Err(Halt::Ticks(sum));
     }
     let topology = topology_in(alloc, topology)?;
-    let plan = plan_in(alloc, &topology)?;
-    ready_for(plan, script)
+    prepare_rules(alloc, &topology, script)
 }
 
 /// What the bytes of a topology and of a script come to. The script's lines are looked at first, then its ticks, then the
-/// topology, then the bindings, and last whether all is built.
+/// topology and its rules, then whether it is thin, then the bindings, and last whether all is built.
 pub fn prepare(alloc: Global, topology: &[u8], script: &[u8]) -> Result<Ready, Halt>
     requires { length script.now < 2 ^ 32 - 1 }
     ensures { MatchResult result
-        (λ ready. (prepared topology.now script.now ≡ IsReady ready.plan ready.script.commands) × IsThinPlan ready.plan × (list_all (λ n. is_carried_out n.command) ready.script.commands ≡ true))
+        (λ ready. (prepared topology.now script.now ≡ IsReady ready.plan (told ready.script)) × IsThinPlan ready.plan × IsCarriable ready.plan (told ready.script))
         (λ halt. Halts halt (prepared topology.now script.now)) }
 {
     match parse(alloc, script) {

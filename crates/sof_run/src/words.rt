@@ -2,6 +2,7 @@
 ghost use Rattle.std.specs.Prelude.{◌≡◌, map, MatchOption, codes, string_bytes};
 ghost use Rattle.std.specs.Str.{bytes_eq};
 ghost use Rattle.sof_run.specs.Words.{play_of, form, number_of, at_most, is_name};
+ghost use Rattle.sof_run.specs.Checking.{check_of};
 
 /// What `play` is given: the heap in bytes, and the names of its two files.
 #[derive(Clone, Copy, Debug)]
@@ -74,4 +75,29 @@ pub fn read_play<'a>(words: &'a [String], room: u32) -> Option<Form<'a>>
         topology,
         script,
     })
+}
+
+fn is_check(word: &str) -> bool
+    ensures { result ≡ bytes_eq word.now (codes "check") }
+{
+    word == "check"
+}
+
+/// `check TOPOLOGY`: the name of its file.
+pub fn read_check(words: &[String]) -> Option<&str>
+    ensures { MatchOption result
+        (check_of (map string_bytes words.now) ≡ None)
+        (λ name. check_of (map string_bytes words.now) ≡ Some name.now) }
+{
+    if words.len() != 2 {
+        return None;
+    }
+    let topology = words[1].as_str();
+    if !is_check(words[0].as_str()) {
+        return None;
+    }
+    if !is_file_name(topology) {
+        return None;
+    }
+    Some(topology)
 }

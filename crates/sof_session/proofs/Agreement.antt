@@ -20,6 +20,7 @@ use Rattle.host_widgets.proofs.ThinRecords.{closed-record}
 use Rattle.sof_session.specs.Seat.{Seat, new_seat}
 use Rattle.sof_session.specs.Turns.{AreAgreed, IsUnplanned, Powered}
 use Rattle.sof_session.proofs.Unplanned.{Led-unplanned}
+use Rattle.sof_session.proofs.Keeping.{Keeps-loaded}
 
 abbrev pub at : {D : Type 0} → D → Io → World D
 at device io = record { device = device; io = io }
@@ -55,7 +56,7 @@ module _ {P : Type 0} (means : Meaning P) (old : Seat P) (wire : Wire P) (io io'
   agreed_on : Kept → means.on wire.device ≡ Some (loaded_state old.plan old.heap (ticks_put (link means) old.link wire)) → AreAgreed means (seat_with (all_closed On old.plan))
   agreed_on calls on =
       let now : means.on wire.device ≡ Some (loaded_state old.plan old.heap 0) = on ∙ ap (λ (n : ℕ). Some (loaded_state old.plan old.heap n)) (no_ticks calls) in
-      agreed_with calls (all_closed On old.plan) (record { record_is = closed-record On old.plan agreed.thin; sides = ap (option_map view_of) now }) now
+      agreed_with calls (all_closed On old.plan) (record { record_is = closed-record On old.plan agreed.thin; sides = ap (option_map view_of) now }) (loaded_state old.plan old.heap 0, now, Keeps-loaded old.plan old.heap)
 
   agreed_off : Kept → means.on wire.device ≡ None → AreAgreed means (seat_with (first_record old.plan))
   agreed_off calls off =

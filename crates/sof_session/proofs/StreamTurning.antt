@@ -1,6 +1,8 @@
 -- What a call on a stream makes of a session, as it is written.
-use Rattle.std.proofs.Common.{◌≡◌, ℕ, List, [], Option, Some, None, Err, unwrap_or, refl, sym, ap, ◌∙◌, arith}
+use Rattle.std.proofs.Common.{◌≡◌, ℕ, List, [], take, Option, Some, None, Err, unwrap_or, refl, sym, ap, subst, ◌∙◌, arith}
+use Rattle.std.specs.Option.{option_map}
 use Rattle.sof_base.specs.Ports.{Io}
+use Rattle.stream_law.specs.State.{FwState}
 use Rattle.mbox_link.specs.declared.fates.Entry.{Entry}
 use Rattle.mbox_link.specs.Calls.{World, Meaning}
 use Rattle.mbox_link.specs.Wire.{Wire}
@@ -9,22 +11,32 @@ use Rattle.mbox_link.proofs.Led.{Led-steady}
 use Rattle.host_widgets.specs.declared.answers.Answer.{Answer}
 use Rattle.host_widgets.specs.declared.answers.Answer.TheVariants.{Fault}
 use Rattle.host_widgets.specs.declared.answers.HostFault.{HostFault}
+use Rattle.host_widgets.specs.declared.answers.HostFault.TheVariants.{LinkDown}
+use Rattle.host_widgets.specs.declared.kept.Power.{Power}
+use Rattle.host_widgets.specs.declared.kept.Power.TheVariants.{Unloaded, On, Off}
+use Rattle.host_widgets.specs.declared.kept.Record.{Record}
+use Rattle.host_widgets.specs.Acts.{Act}
 use Rattle.host_widgets.specs.Host.{Outcome}
 use Rattle.host_pcm.specs.declared.asking.Ask.{Ask}
 use Rattle.host_pcm.specs.Asks.{early_fault, stream_place}
-use Rattle.host_pcm.specs.Carried.{Asked, Walks, acts_at, passed_of}
+use Rattle.host_pcm.specs.Carried.{Asked, Walks, Left, acts_at, passed_of, state_after_acts}
 use Rattle.sof_script.specs.declared.script.Command.{Command}
 use Rattle.sof_session.specs.Seat.{Seat}
-use Rattle.sof_session.specs.Walks.{Ending, ending, walked, stand, Host, Carry, silent, answer_of, host_asked, tested_next, stream_next, place_of, command_next}
-use Rattle.sof_session.specs.Turns.{AreAgreed, StreamRan, Seated, life, Turned, turn, shown_by, host_of}
+use Rattle.sof_session.specs.Walks.{Ending, ending, walked, Stand, stand, Host, Carry, silent, answer_of, device_asked, host_asked, tested_next, stream_next, place_of, command_next, written_in}
+use Rattle.sof_session.specs.Turns.{AreAgreed, Powered, StreamRan, Seated, life, Turned, turn, shown_by, host_of}
 use Rattle.sof_session.proofs.Unplanned.{Led-passes}
 use Rattle.sof_session.proofs.StayedCounts.{Stayed}
 use Rattle.sof_session.proofs.WalkEnds.{Fated-boots, walk_ends}
 use Rattle.sof_session.proofs.Agreement.{at}
 use Rattle.sof_session.proofs.Turning.{told, stood}
-use Rattle.sof_session.proofs.StreamWalks.{ends-cut, by-tests, calls-of}
+use Rattle.sof_session.proofs.StreamWalks.{ends-cut, was-on, by-tests, calls-of}
 
-module _ {P : Type 0} (means : Meaning P) (old new : Seat P) (io io' : Io) (name : List ℕ) (ask : Ask) (agreed : AreAgreed means old) (same_plan : new.plan ≡ old.plan) (same_heap : new.heap ≡ old.heap) where
+-- off, or on with a state
+on-or-off : {R : Type 0} (device : Option FwState) → ((f : FwState) → device ≡ Some f → R) → (device ≡ None → R) → R
+on-or-off (Some f) on off = on f refl
+on-or-off None on off = off refl
+
+module _ {P : Type 0} (means : Meaning P) (old new : Seat P) (io io' : Io) (name : List ℕ) (ask : Ask) (agreed : AreAgreed means old) (same_plan : new.plan ≡ old.plan) (same_heap : new.heap ≡ old.heap) (slots : List ℕ) (later : AreAgreed means new) (same_inputs : io'.inputs ≡ io.inputs) where
   abbrev before : World (Wire P)
   before = at old.link io
 
@@ -35,18 +47,50 @@ module _ {P : Type 0} (means : Meaning P) (old new : Seat P) (io io' : Io) (name
   boots = means.boots old.link.device
 
   abbrev host : Host
-  host = host_of old
+  host = host_of means old io.inputs slots
+
+  abbrev then : Stand
+  then = stood means new io'.inputs slots
+
+  -- ---- the device
+
+  left-on : (k : ℕ) (acts : List Act) (f : FwState) → means.on old.link.device ≡ Some f → (result : Outcome) → Left (link means) (state_after_acts old.plan old.kept k acts f) result new.link → means.on new.link.device ≡ device_asked host k acts result
+  left-on k acts f on (Err LinkDown) left = left
+  left-on k acts f on result left = left ∙ ap (option_map (state_after_acts old.plan old.kept k acts)) (sym on)
+
+  stays-off : (k : ℕ) (acts : List Act) → means.on old.link.device ≡ None → (result : Outcome) → means.on new.link.device ≡ None → means.on new.link.device ≡ device_asked host k acts result
+  stays-off k acts off (Err LinkDown) now = now
+  stays-off k acts off result now = now ∙ ap (option_map (state_after_acts old.plan old.kept k acts)) (sym off)
+
+  was-off : means.on old.link.device ≡ None → old.kept.power ≡ On → ⊥
+  was-off off on = let powered : Powered means old On = subst (Powered means old) on agreed.powered in cc (sym off ∙ powered.1)
+
+  now-off : (power : Power) → Powered means new power → (power ≡ On → ⊥) → means.on new.link.device ≡ None
+  now-off Unloaded powered not = powered
+  now-off On powered not = absurd (not refl)
+  now-off Off powered not = powered
+
+  -- ---- the written call
 
   module _ (result : Outcome) (asked : Asked (link means) old.plan old.heap name ask old.kept new.kept before after result) (stayed : Stayed means old.link.device new.link.device) where
     abbrev IsNext : Type 0
-    IsNext = told (stood means new) (silent (answer_of result)) ≡ stream_next name ask boots host
+    IsNext = told then (silent (answer_of result)) ≡ stream_next name ask boots host
 
     -- a test failed
     fails : (fault : HostFault) → early_fault old.plan old.kept name ask ≡ Some fault → (result ≡ Err fault) × (after ≡ before) × (new.kept ≡ old.kept) → IsNext
     fails fault early same =
         let link_is : new.link ≡ old.link = ap (λ (w : World (Wire P)). w.device) same.1 in
-        let now : told (stood means new) (silent (answer_of result)) ≡ told (stood means old) (silent (Fault fault)) = rw (link_is, same.2, same_plan, same_heap, same.0) refl in
+        let now : told then (silent (answer_of result)) ≡ told (stand boots host) (silent (Fault fault)) = rw (link_is, same.2, same_plan, same_heap, same_inputs, same.0) refl in
         now ∙ ap (λ (o : Option HostFault). tested_next o (place_of host name) ask boots host) (sym early)
+
+    -- the device after the acts that passed
+    walked-device : (k : ℕ) → (x : Walks (link means) old.plan old.heap k ask old.kept new.kept before after result) → means.on new.link.device ≡ device_asked host k (take (passed_of x.fates.answers result) (acts_at old.plan old.kept k ask)) result
+    walked-device k x =
+        let acts = acts_at old.plan old.kept k ask in
+        let n = passed_of x.fates.answers result in
+        on-or-off (means.on old.link.device)
+        (λ f on. left-on k (take n acts) f on result (x.state agreed.pending f on))
+        (λ off. stays-off k (take n acts) off result (now-off new.kept.power later.powered (λ on. was-off off (was-on old.kept k ask acts n result (ap (λ (r : Record). r.power) (sym x.record_after) ∙ on)))))
 
     -- the acts were walked
     walks : early_fault old.plan old.kept name ask ≡ None → (k : ℕ) → stream_place old.plan name ≡ Some k → Walks (link means) old.plan old.heap k ask old.kept new.kept before after result → IsNext
@@ -66,7 +110,8 @@ module _ {P : Type 0} (means : Meaning P) (old new : Seat P) (io io' : Io) (name
         ∙ ap (λ (entries : List Entry). ending result n x.sent.device.sent entries) cut.entries
         ∙ walk_ends means old.plan old.heap old.kept acts x.fates.answers result before x.sent agreed.unplanned x.fates.fated x.fates.walk between
         ∙ ap (λ (entries : List Entry). walked old.plan old.heap old.kept old.link.sent entries acts) (sym agreed.unplanned.entries) in
-        let now : told (stood means new) (silent (answer_of result)) ≡ told (stand boots (host_asked host k ask (ending result n new.link.sent new.link.entries))) (silent (answer_of result)) = rw (same_boots, x.record_after, same_plan, same_heap) refl in
+        let device = walked-device k x in
+        let now : told then (silent (answer_of result)) ≡ told (stand boots (host_asked host k ask (ending result n new.link.sent new.link.entries))) (silent (answer_of result)) = rw (same_boots, x.record_after, same_plan, same_heap, same_inputs, device) refl in
         let there : told (stand boots (host_asked host k ask (walked old.plan old.heap old.kept old.link.sent old.link.entries acts))) (silent (answer_of (walked old.plan old.heap old.kept old.link.sent old.link.entries acts).outcome)) ≡ stream_next name ask boots host =
         (λ i. tested_next (sym early i) (unwrap_or (sym place i) 0) ask boots host) in
         now ∙ ap (λ (e : Ending). told (stand boots (host_asked host k ask e)) (silent (answer_of e.outcome))) ends ∙ there
@@ -75,14 +120,14 @@ module _ {P : Type 0} (means : Meaning P) (old new : Seat P) (io io' : Io) (name
     is-next = by-tests (link means) old.plan old.heap name ask old.kept new.kept before after result (early_fault old.plan old.kept name ask) refl asked fails walks
 
   -- a command that asks this of the stream of this name, and shows nothing
-  pub stream_turned : (command : Command) (answer : Answer) → StreamRan means name ask old new io io' answer → ((n : ℕ) (h : Host) → command_next command n h ≡ stream_next name ask n h) → shown_by command old ≡ [] → Turned (life means) (turn (Carry command) answer (shown_by command old)) (Seated old) (Seated new)
-  stream_turned command answer ran asks quiet =
+  pub stream_turned : (command : Command) (answer : Answer) → StreamRan means name ask old new io io' answer → ((n : ℕ) (h : Host) → command_next command n h ≡ stream_next name ask n h) → shown_by command old ≡ [] → written_in io'.outputs ≡ [] → Turned (life means) (turn (Carry command) answer (shown_by command old) (written_in io'.outputs)) (Seated old io.inputs slots) (Seated new io'.inputs slots)
+  stream_turned command answer ran asks quiet silence =
       let calls = calls-of (link means) old.plan old.heap name ask old.kept new.kept before after ran.outcome ran.asked in
       let steady = Led-steady means calls.0 (inner before) (inner after) (Led-passes means calls.0 before after agreed.unplanned calls.1) in
       record {
         next = λ calm.
             let stayed : Stayed means old.link.device new.link.device = record { faults = calm.faults; faults_below = calm.faults_below; refusals = calm.refusals; refusals_below = calm.refusals_below } in
-            (λ i. told (stood means new) record { answer = ran.said i; shown = quiet i }) ∙ is-next ran.outcome ran.asked stayed ∙ sym (asks boots host);
+            (λ i. told then record { answer = ran.said i; shown = quiet i; written = silence i }) ∙ is-next ran.outcome ran.asked stayed ∙ sym (asks boots host);
         faults = steady.faults;
         refusals = steady.refusals;
         most = steady.most;

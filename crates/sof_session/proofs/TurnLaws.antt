@@ -1,15 +1,22 @@
 -- Turns, one after another.
-use Rattle.std.proofs.Common.{◌≡◌, ℕ, ◌≤◌, List, [], ◌∷◌, ◌++◌, refl, sym, subst, ◌∙◌, arith}
+use Rattle.std.proofs.Common.{◌≡◌, ℕ, ◌≤◌, List, [], ◌∷◌, ◌++◌, Option, None, refl, sym, ap, subst, ◌∙◌, arith}
+use Rattle.sof_base.specs.Ports.{InputView}
+use Rattle.stream_law.specs.State.{FwState}
 use Rattle.mbox_link.specs.Calls.{Meaning}
 use Rattle.tplg_graph.specs.declared.planned.Plan.{Plan}
 use Rattle.host_widgets.specs.declared.answers.Answer.TheVariants.{Done}
 use Rattle.sof_session.specs.Seat.{new_seat}
-use Rattle.sof_session.specs.Walks.{Begin}
+use Rattle.sof_session.specs.Walks.{Begin, first_host, stand, silent}
 use Rattle.sof_session.specs.Turns.{Bare, Seated, life, LifeMeaning, Calm, Turn, Turned, turn, Turns}
 
--- a session that begins over a device
-pub begun : {P : Type 0} (means : Meaning P) (plan : Plan) (heap : ℕ) (dsp : P) → Turned (life means) (turn (Begin plan heap) Done []) (Bare dsp) (Seated (new_seat plan heap dsp))
-begun means plan heap dsp = record { next = λ calm. refl; faults = omega arith; refusals = omega arith; most = refl }
+-- a session that begins over a device that is off
+pub begun : {P : Type 0} (means : Meaning P) (plan : Plan) (heap : ℕ) (dsp : P) (inputs : List InputView) (slots : List ℕ) → means.on dsp ≡ None → Turned (life means) (turn (Begin plan heap inputs slots) Done [] []) (Bare dsp) (Seated (new_seat plan heap dsp) inputs slots)
+begun means plan heap dsp inputs slots off = record {
+  next = λ calm. ap (λ (device : Option FwState). (stand (means.boots dsp) record (first_host plan heap inputs slots) { device = device }, silent Done)) off;
+  faults = omega arith;
+  refusals = omega arith;
+  most = refl;
+}
 
 module _ {W : Type 0} (means : LifeMeaning W) where
   pub Turns-append : (turns more : List Turn) (p m q : W) → Turns means p turns m → Turns means m more q → Turns means p (turns ++ more) q

@@ -1,6 +1,7 @@
 -- What a command makes of a session, as it is written.
-use Rattle.std.proofs.Common.{◌≡◌, ℕ, List, [], Some, Ok, Err, refl, sym, ap, ◌∙◌, arith}
-use Rattle.sof_base.specs.Ports.{Io}
+use Rattle.std.proofs.Common.{◌≡◌, ℕ, List, [], Some, None, Ok, Err, refl, sym, ap, ◌∙◌, arith}
+use Rattle.sof_base.specs.Ports.{Io, InputView, OutputView}
+use Rattle.sof_io.specs.Bound.{output_slots}
 use Rattle.mbox_link.specs.declared.fates.Entry.{Entry}
 use Rattle.mbox_link.specs.Exchange.{more}
 use Rattle.mbox_link.specs.Calls.{World, Meaning}
@@ -9,19 +10,22 @@ use Rattle.mbox_link.specs.Link.{link, inner}
 use Rattle.mbox_link.proofs.Led.{Led-steady}
 use Rattle.tplg_graph.specs.declared.planned.Plan.{Plan}
 use Rattle.host_widgets.specs.declared.answers.Answer.{Answer}
-use Rattle.host_widgets.specs.declared.answers.Answer.TheVariants.{Fault}
+use Rattle.host_widgets.specs.declared.answers.Answer.TheVariants.{Fault, Show}
 use Rattle.host_widgets.specs.declared.answers.HostFault.TheVariants.{Loaded}
+use Rattle.host_widgets.specs.declared.answers.HostFault.TheVariants as faults
 use Rattle.host_widgets.specs.declared.kept.Power.{Power}
 use Rattle.host_widgets.specs.declared.kept.Power.TheVariants.{Unloaded, On, Off}
 use Rattle.host_widgets.specs.declared.kept.Record.{Record}
 use Rattle.host_widgets.specs.Acts.{bring_up_acts}
-use Rattle.host_widgets.specs.Host.{Outcome, Loads, after_load}
+use Rattle.host_widgets.specs.Expected.{loaded_state}
+use Rattle.host_widgets.specs.Host.{Outcome, Loads, LoadLeft, after_load, ticks_put}
 use Rattle.host_widgets.specs.ActFates.{LoadFates, Ends}
 use Rattle.host_pcm.specs.Carried.{passed_of}
 use Rattle.sof_script.specs.declared.script.Command.TheVariants as commands
 use Rattle.sof_session.specs.Seat.{Seat}
-use Rattle.sof_session.specs.Walks.{Ending, ending, walked, Stand, Out, Carry, silent, answer_of, load_next, host_after}
-use Rattle.sof_session.specs.Turns.{AreAgreed, IsUnplanned, LoadRan, Seated, life, Turned, turn, host_of}
+use Rattle.sof_session.specs.Show.{show_lines}
+use Rattle.sof_session.specs.Walks.{Ending, ending, walked, Host, Stand, stand, Out, Carry, silent, answer_of, device_loaded, load_next, host_after, written_in}
+use Rattle.sof_session.specs.Turns.{AreAgreed, Powered, IsUnplanned, LoadRan, Seated, life, Turned, turn, host_of}
 use Rattle.sof_session.proofs.Unplanned.{Led-passes, boot_unplanned}
 use Rattle.sof_session.proofs.StayedCounts.{Stayed}
 use Rattle.sof_session.proofs.WalkCuts.{Cuts, Cuts-none, Cuts-one}
@@ -70,50 +74,82 @@ module _ {P : Type 0} (means : Meaning P) where
 abbrev pub told : Stand → Out → Stand × Out
 told stand out = (stand, out)
 
-abbrev pub stood : {P : Type 0} → Meaning P → Seat P → Stand
-stood means seat = record { boots = means.boots seat.link.device; host = Some (host_of seat) }
+abbrev pub stood : {P : Type 0} → Meaning P → Seat P → List InputView → List ℕ → Stand
+stood means seat inputs slots = record { boots = means.boots seat.link.device; host = Some (host_of means seat inputs slots) }
 
-module _ {P : Type 0} (means : Meaning P) (old new : Seat P) (io io' : Io) (same_plan : new.plan ≡ old.plan) (same_heap : new.heap ≡ old.heap) where
+module _ {P : Type 0} (means : Meaning P) (plan : Plan) (heap : ℕ) (old new : Wire P) where
+  -- what a load leaves of a device that was off
+  device-left : (outcome : Outcome) → means.on old.device ≡ None → means.pending old.device ≡ 0 → LoadLeft (link means) plan heap old outcome new → means.on new.device ≡ device_loaded plan heap outcome
+  device-left (Ok done) off pending left =
+      let none : ticks_put (link means) old new ≡ 0 = omega (arith, pending) in
+      left.1 ∙ ap (λ (n : ℕ). Some (loaded_state plan heap n)) none
+  device-left (Err faults.NotLoaded) off pending left = absurd left
+  device-left (Err Loaded) off pending left = ap (λ (w : Wire P). means.on w.device) left ∙ off
+  device-left (Err (faults.NoSuch name)) off pending left = absurd left
+  device-left (Err (faults.State found)) off pending left = absurd left
+  device-left (Err faults.Off) off pending left = absurd left
+  device-left (Err (faults.Range n)) off pending left = absurd left
+  device-left (Err (faults.Blob n)) off pending left = absurd left
+  device-left (Err (faults.Refused e)) off pending left = left.0
+  device-left (Err faults.LinkDown) off pending left = left.0
+
+module _ {P : Type 0} (means : Meaning P) (old new : Seat P) (io io' : Io) (slots : List ℕ) (agreed : AreAgreed means old) (same_plan : new.plan ≡ old.plan) (same_heap : new.heap ≡ old.heap) (same_inputs : io'.inputs ≡ io.inputs) where
   abbrev before : World (Wire P)
   before = at old.link io
 
   abbrev after : World (Wire P)
   after = at new.link io'
 
+  abbrev then : Stand
+  then = stood means new io'.inputs slots
+
+  abbrev host : Host
+  host = host_of means old io.inputs slots
+
   -- where there was no call
-  stays : (outcome : Outcome) → after ≡ before → outcome ≡ Err Loaded → new.kept ≡ after_load old.plan outcome old.kept → told (stood means new) (silent (answer_of outcome)) ≡ told (stood means old) (silent (Fault Loaded))
+  stays : (outcome : Outcome) → after ≡ before → outcome ≡ Err Loaded → new.kept ≡ after_load old.plan outcome old.kept → told then (silent (answer_of outcome)) ≡ told (stand (means.boots old.link.device) host) (silent (Fault Loaded))
   stays outcome same is kept =
       let link_is : new.link ≡ old.link = ap (λ (w : World (Wire P)). w.device) same in
       let kept_is : new.kept ≡ old.kept = kept ∙ ap (λ (o : Outcome). after_load old.plan o old.kept) is in
-      rw (link_is, kept_is, same_plan, same_heap, is) refl
+      rw (link_is, kept_is, same_plan, same_heap, same_inputs, is) refl
 
   -- where the plan was loaded, or was tried
-  goes : (outcome : Outcome) → IsUnplanned old.link → Stayed means old.link.device new.link.device → LoadFates (link means) old.plan old.heap old.kept before after outcome → new.kept ≡ after_load old.plan outcome old.kept → told (stood means new) (silent (answer_of outcome)) ≡ load_next Unloaded (means.boots old.link.device) (host_of old)
-  goes outcome none stayed fates kept =
+  goes : (outcome : Outcome) → means.on old.link.device ≡ None → Stayed means old.link.device new.link.device → LoadFates (link means) old.plan old.heap old.kept before after outcome → LoadLeft (link means) old.plan old.heap old.link outcome new.link → new.kept ≡ after_load old.plan outcome old.kept → told then (silent (answer_of outcome)) ≡ load_next Unloaded (means.boots old.link.device) host
+  goes outcome off stayed fates left kept =
       let boots : means.boots new.link.device ≡ more (means.boots old.link.device) = load_boots means old.plan old.heap old.kept outcome before after fates in
       let n = passed means old.plan old.heap old.kept outcome before after fates in
-      let ends = load_ends means old.plan old.heap old.kept outcome before after fates none stayed in
-      let now : told (stood means new) (silent (answer_of outcome)) ≡ told (record { boots = more (means.boots old.link.device); host = Some (host_after (host_of old) (ending outcome n new.link.sent new.link.entries)) }) (silent (answer_of outcome)) = rw (boots, kept, same_plan, same_heap) refl in
-      now ∙ ap (λ (e : Ending). told (record { boots = more (means.boots old.link.device); host = Some (host_after (host_of old) e) }) (silent (answer_of e.outcome))) ends
+      let ends = load_ends means old.plan old.heap old.kept outcome before after fates agreed.unplanned stayed in
+      let device = device-left means old.plan old.heap old.link new.link outcome off agreed.pending left in
+      let now : told then (silent (answer_of outcome)) ≡ told (stand (more (means.boots old.link.device)) (host_after host (ending outcome n new.link.sent new.link.entries))) (silent (answer_of outcome)) = rw (boots, kept, same_plan, same_heap, same_inputs, device) refl in
+      now ∙ ap (λ (e : Ending). told (stand (more (means.boots old.link.device)) (host_after host e)) (silent (answer_of e.outcome))) ends
 
-  pub load_is_next : (power : Power) (outcome : Outcome) → IsUnplanned old.link → Stayed means old.link.device new.link.device → Loads (link means) old.plan old.heap power before after outcome → (power ≡ Unloaded → LoadFates (link means) old.plan old.heap old.kept before after outcome) → new.kept ≡ after_load old.plan outcome old.kept → told (stood means new) (silent (answer_of outcome)) ≡ load_next power (means.boots old.link.device) (host_of old)
-  load_is_next Unloaded outcome none stayed brought fates kept = goes outcome none stayed (fates refl) kept
-  load_is_next On outcome none stayed nothing fates kept = stays outcome nothing.0 nothing.1 kept
-  load_is_next Off outcome none stayed nothing fates kept = stays outcome nothing.0 nothing.1 kept
+  load_is_next : (power : Power) (outcome : Outcome) → Powered means old power → Stayed means old.link.device new.link.device → Loads (link means) old.plan old.heap power before after outcome → (power ≡ Unloaded → LoadFates (link means) old.plan old.heap old.kept before after outcome) → LoadLeft (link means) old.plan old.heap old.link outcome new.link → new.kept ≡ after_load old.plan outcome old.kept → told then (silent (answer_of outcome)) ≡ load_next power (means.boots old.link.device) host
+  load_is_next Unloaded outcome powered stayed brought fates left kept = goes outcome powered stayed (fates refl) left kept
+  load_is_next On outcome powered stayed nothing fates left kept = stays outcome nothing.0 nothing.1 kept
+  load_is_next Off outcome powered stayed nothing fates left kept = stays outcome nothing.0 nothing.1 kept
 
--- ---- turns
-
-module _ {P : Type 0} (means : Meaning P) where
-  pub load_turned : (old new : Seat P) (io io' : Io) (answer : Answer) → AreAgreed means old → LoadRan means old new io io' answer → new.plan ≡ old.plan → new.heap ≡ old.heap → Turned (life means) (turn (Carry commands.Load) answer []) (Seated old) (Seated new)
-  load_turned old new io io' answer agreed ran same_plan same_heap =
-      let calls = Loads-led (link means) old.plan old.heap old.kept.power (at old.link io) (at new.link io') ran.outcome ran.loads in
-      let steady = Led-steady means calls.0 (inner (at old.link io)) (inner (at new.link io')) (Led-passes means calls.0 (at old.link io) (at new.link io') agreed.unplanned calls.1) in
+  -- a load writes nothing
+  pub load_turned : (answer : Answer) → LoadRan means old new io io' answer → written_in io'.outputs ≡ [] → Turned (life means) (turn (Carry commands.Load) answer [] (written_in io'.outputs)) (Seated old io.inputs slots) (Seated new io'.inputs slots)
+  load_turned answer ran silence =
+      let calls = Loads-led (link means) old.plan old.heap old.kept.power before after ran.outcome ran.loads in
+      let steady = Led-steady means calls.0 (inner before) (inner after) (Led-passes means calls.0 before after agreed.unplanned calls.1) in
       record {
         next = λ calm.
             let stayed : Stayed means old.link.device new.link.device = record { faults = calm.faults; faults_below = calm.faults_below; refusals = calm.refusals; refusals_below = calm.refusals_below } in
-            ap (λ (a : Answer). told (stood means new) (silent a)) ran.said
-            ∙ load_is_next means old new io io' same_plan same_heap old.kept.power ran.outcome agreed.unplanned stayed ran.loads ran.fates ran.kept;
+            (λ i. told then record { answer = ran.said i; shown = []; written = silence i })
+            ∙ load_is_next old.kept.power ran.outcome agreed.powered stayed ran.loads ran.fates ran.left ran.kept;
         faults = steady.faults;
         refusals = steady.refusals;
         most = steady.most;
       }
+
+-- ---- a show
+
+module _ {P : Type 0} (means : Meaning P) where
+  pub show_turned : (seat : Seat P) (inputs : List InputView) (outputs : List OutputView) → written_in outputs ≡ [] → Turned (life means) (turn (Carry commands.Show) Show (show_lines seat.plan seat.kept) (written_in outputs)) (Seated seat inputs (output_slots outputs)) (Seated seat inputs (output_slots outputs))
+  show_turned seat inputs outputs silence = record {
+    next = λ calm. λ i. told (stood means seat inputs (output_slots outputs)) record { answer = Show; shown = show_lines seat.plan seat.kept; written = silence i };
+    faults = omega arith;
+    refusals = omega arith;
+    most = refl;
+  }

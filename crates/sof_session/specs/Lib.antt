@@ -2,3 +2,5 @@ pub mod Show
 pub mod Seat
 pub mod Walks
 pub mod Turns
+pub mod Moments
+pub mod SessionLaws

@@ -1,18 +1,19 @@
 -- The turns of a session over a device, and what its type keeps.
-use Rattle.std.specs.Prelude.{◌≡◌, ℕ, ◌+◌, ◌<◌, ◌≤◌, ◌^◌, List, [], ◌∷◌, Option, Some, None}
+use Rattle.std.specs.Prelude.{◌≡◌, ℕ, ◌+◌, ◌<◌, ◌≤◌, ◌^◌, List, [], ◌∷◌, map, Option, Some, None}
 use Rattle.sof_base.specs.Ports.{Io, InputView, OutputView}
-use Rattle.stream_law.specs.State.{FwState}
-use Rattle.mbox_link.specs.Calls.{Meaning}
+use Rattle.stream_law.specs.State.{FwState, view_of}
+use Rattle.stream_law.specs.Ways.{buffers}
+use Rattle.mbox_link.specs.Calls.{Meaning, Tick, Did}
 use Rattle.mbox_link.specs.Wire.{Wire}
 use Rattle.mbox_link.specs.Link.{link}
 use Rattle.tplg_graph.specs.declared.planned.Plan.{Plan}
 use Rattle.tplg_graph.specs.ThinPlan.{IsThinPlan}
 use Rattle.host_widgets.specs.declared.answers.Answer.{Answer}
-use Rattle.host_widgets.specs.declared.answers.Answer.TheVariants.{Show}
+use Rattle.host_widgets.specs.declared.answers.Answer.TheVariants.{Done, Show}
 use Rattle.host_widgets.specs.declared.kept.Power.{Power}
 use Rattle.host_widgets.specs.declared.kept.Power.TheVariants.{Unloaded, On, Off}
 use Rattle.host_widgets.specs.declared.kept.Record.{Record}
-use Rattle.host_widgets.specs.Expected.{expected_view, loaded_state}
+use Rattle.host_widgets.specs.Expected.{expected_view, loaded_heap}
 use Rattle.host_widgets.specs.Host.{Outcome, Agrees, Loads, LoadLeft, after_load}
 use Rattle.host_widgets.specs.ActFates.{LoadFates}
 use Rattle.host_pcm.specs.declared.asking.Ask.{Ask}
@@ -21,18 +22,22 @@ use Rattle.sof_script.specs.declared.script.Command.{Command}
 use Rattle.sof_script.specs.declared.script.Command.TheVariants as commands
 use Rattle.sof_session.specs.Seat.{Seat}
 use Rattle.sof_session.specs.Show.{show_lines}
-use Rattle.sof_session.specs.Walks.{Task, Out, Stand, Host, answer_of, asking, next}
+use Rattle.sof_session.specs.Walks.{Task, Out, Written, Stand, Host, answer_of, asking, next}
 
 -- ---- what a session's type keeps
 
--- The state of a powered device: the plan as a load leaves it, with the streams as the record says. No command so far makes a
--- tick, so the clock is 0 and no frame lies in a ring; and a thin plan has no equaliser.
-abbrev pub session_state : Plan → ℕ → Record → FwState
-session_state plan heap kept = record (loaded_state plan heap 0) { streams = (expected_view plan kept).streams }
+-- The state of a powered device: it shows what the record says, its heap is as a load leaves it, and it has a ring for each
+-- buffer. A thin plan has no equaliser.
+pub record Keeps (plan : Plan) (heap : ℕ) (kept : Record) (f : FwState) : Type 0 where
+  pub view : view_of f ≡ expected_view plan kept
+  pub pieces : f.heap ≡ loaded_heap plan heap
+  pub rings : map (λ r. r.buffer) f.rings ≡ buffers plan.graph
+  pub histories : f.histories ≡ []
+  pub staging : f.staging ≡ []
 
--- where the record says that the power is on, the device is in the session's state; else it is off
+-- where the record says that the power is on, the device is on in such a state; else it is off
 abbrev pub Powered : {P : Type 0} → Meaning P → Seat P → Power → Type 0
-Powered means seat On = means.on seat.link.device ≡ Some (session_state seat.plan seat.heap seat.kept)
+Powered means seat On = (f : FwState) × (means.on seat.link.device ≡ Some f) × Keeps seat.plan seat.heap seat.kept f
 Powered means seat Off = means.on seat.link.device ≡ None
 Powered means seat Unloaded = means.on seat.link.device ≡ None
 
@@ -73,23 +78,35 @@ pub record StreamRan {P : Type 0} (means : Meaning P) (name : List ℕ) (ask : A
 abbrev pub ports : List InputView → List OutputView → Io
 ports inputs outputs = record { inputs = inputs; outputs = outputs }
 
+-- a tick of a device that is on, by its one call on the link; one that is off is not called
+abbrev pub TickedBy : {P : Type 0} → Meaning P → Power → Wire P → Wire P → Io → Io → Type 0
+TickedBy means On old new io io' = Did (link means) Tick (record { device = old; io = io }) (record { device = new; io = io' })
+TickedBy means power old new io io' = (new ≡ old) × (io' ≡ io)
+
+-- what a tick did; the host's record stays as it is
+pub record TickRan {P : Type 0} (means : Meaning P) (old new : Seat P) (before after : Io) (answer : Answer) : Type 0 where
+  pub calls : TickedBy means old.kept.power old.link new.link before after
+  pub kept : new.kept ≡ old.kept
+  pub said : answer ≡ Done
+
 -- a call on a stream, where one is asked; no other command is carried out so far
 abbrev pub AskedRan : {P : Type 0} → Meaning P → Option (List ℕ × Ask) → Seat P → Seat P → Io → Io → Answer → Type 0
 AskedRan means (Some (name, ask)) old new io io' answer = StreamRan means name ask old new io io' answer
 AskedRan means None old new io io' answer = ⊥
 
--- what a command did: a load or a call on a stream its calls on the device, a show nothing
+-- what a command did: a load, a tick or a call on a stream its calls on the device, a show nothing
 abbrev pub Ran : {P : Type 0} → Meaning P → Command → Seat P → Seat P → Io → Io → Answer → Type 0
 Ran means commands.Load old new io io' answer = LoadRan means old new io io' answer
 Ran means commands.Show old new io io' answer = (new ≡ old) × (io' ≡ io) × (answer ≡ Show)
+Ran means (commands.Tick n) old new io io' answer = TickRan means old new io io' answer
 Ran means command old new io io' answer = AskedRan means (asking command) old new io io' answer
 
 -- ---- turns
 
--- a device before a session, and in it
+-- a device before a session, and in it with the inputs and the slots of the outputs
 pub data Life (P : Type 0) : Type 0 where
   Bare : (dsp : P) → Life P
-  Seated : (seat : Seat P) → Life P
+  Seated : (seat : Seat P) (inputs : List InputView) (slots : List ℕ) → Life P
 
 -- what a life means: how it stands, and the counts and the greatest heap of its device
 pub record LifeMeaning (W : Type 0) : Type 1 where
@@ -102,21 +119,30 @@ pub record LifeMeaning (W : Type 0) : Type 1 where
 -- the device in a life
 abbrev pub device_of : {P : Type 0} → Life P → P
 device_of (Bare dsp) = dsp
-device_of (Seated seat) = seat.link.device
+device_of (Seated seat inputs slots) = seat.link.device
 
--- what the host of a session knows
-abbrev pub host_of : {P : Type 0} → Seat P → Host
-host_of seat = record { plan = seat.plan; heap = seat.heap; kept = seat.kept; sent = seat.link.sent; entries = seat.link.entries }
+-- what the host of a session knows, with its device and the endpoints
+abbrev pub host_of : {P : Type 0} → Meaning P → Seat P → List InputView → List ℕ → Host
+host_of means seat inputs slots = record {
+  plan = seat.plan;
+  heap = seat.heap;
+  kept = seat.kept;
+  sent = seat.link.sent;
+  entries = seat.link.entries;
+  device = means.on seat.link.device;
+  inputs = inputs;
+  slots = slots;
+}
 
 -- the host in a life, once there is a session
-abbrev pub host_in : {P : Type 0} → Life P → Option Host
-host_in (Bare dsp) = None
-host_in (Seated seat) = Some (host_of seat)
+abbrev pub host_in : {P : Type 0} → Meaning P → Life P → Option Host
+host_in means (Bare dsp) = None
+host_in means (Seated seat inputs slots) = Some (host_of means seat inputs slots)
 
 -- what a life over a device means
 abbrev pub life : {P : Type 0} → Meaning P → LifeMeaning (Life P)
 life means = record {
-  stand = λ l. record { boots = means.boots (device_of l); host = host_in l };
+  stand = λ l. record { boots = means.boots (device_of l); host = host_in means l };
   most = λ l. means.most (device_of l);
   faults = λ l. means.faults (device_of l);
   refusals = λ l. means.refusals (device_of l);
@@ -136,8 +162,8 @@ pub record Turn : Type 0 where
   pub out : Out
 
 -- a turn of these parts
-abbrev pub turn : Task → Answer → List (List ℕ) → Turn
-turn task answer shown = record { task = task; out = record { answer = answer; shown = shown } }
+abbrev pub turn : Task → Answer → List (List ℕ) → List Written → Turn
+turn task answer shown written = record { task = task; out = record { answer = answer; shown = shown; written = written } }
 
 -- the lines that a command shows
 abbrev pub shown_by : {P : Type 0} → Command → Seat P → List (List ℕ)

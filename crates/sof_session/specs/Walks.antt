@@ -1,11 +1,14 @@
--- A walk of acts whose fates are planned, and what a command makes of the host.
-use Rattle.std.specs.Prelude.{ℕ, suc, Bool, true, List, [], ◌∷◌, Option, Some, None, is_some, unwrap_or, Ok, Err}
+-- A walk of acts whose fates are planned, and what a command makes of the host, the device and the endpoints.
+use Rattle.std.specs.Prelude.{ℕ, suc, Bool, true, List, [], ◌∷◌, take, map, Option, Some, None, is_some, unwrap_or, Ok, Err}
+use Rattle.std.specs.Option.{option_map}
 use Rattle.sof_base.specs.declared.errno.Errno.{Errno}
+use Rattle.sof_base.specs.Ports.{Io, InputView, OutputView}
+use Rattle.stream_law.specs.State.{FwState}
 use Rattle.mbox_link.specs.declared.fates.Entry.{Entry}
 use Rattle.mbox_link.specs.declared.fates.Fate.{Fate}
 use Rattle.mbox_link.specs.declared.fates.Fate.TheVariants.{Pass, Refuse, Drop, Lose}
 use Rattle.mbox_link.specs.Fates.{planned, without}
-use Rattle.mbox_link.specs.Exchange.{more}
+use Rattle.mbox_link.specs.Exchange.{more, ticked}
 use Rattle.tplg_graph.specs.declared.planned.Plan.{Plan}
 use Rattle.host_widgets.specs.declared.answers.HostFault.{HostFault}
 use Rattle.host_widgets.specs.declared.answers.HostFault.TheVariants.{Loaded, Refused, LinkDown}
@@ -17,11 +20,12 @@ use Rattle.host_widgets.specs.declared.kept.Record.{Record}
 use Rattle.host_widgets.specs.declared.trigger.Trigger.TheVariants as triggers
 use Rattle.host_widgets.specs.HostRecord.{first_record}
 use Rattle.host_widgets.specs.Acts.{Act, bring_up_acts}
+use Rattle.host_widgets.specs.Expected.{loaded_state}
 use Rattle.host_widgets.specs.Host.{Outcome, own, errno, after_load}
 use Rattle.host_pcm.specs.declared.asking.Ask.{Ask}
 use Rattle.host_pcm.specs.declared.asking.Ask.TheVariants.{Opening, Preparing, Triggering, Closing}
 use Rattle.host_pcm.specs.Asks.{early_fault, stream_place}
-use Rattle.host_pcm.specs.Carried.{acts_at, kept_after}
+use Rattle.host_pcm.specs.Carried.{acts_at, kept_after, state_after_acts}
 use Rattle.sof_script.specs.declared.script.Command.{Command}
 use Rattle.sof_script.specs.declared.script.Command.TheVariants as commands
 use Rattle.sof_session.specs.Show.{show_lines}
@@ -61,31 +65,41 @@ walked plan heap kept sent entries (act ∷ acts) =
 
 -- ---- a host
 
--- what the host knows: the plan and the heap, its record, how many messages were sent, and the fates that are held
+-- what the host knows, which are the plan and the heap, its record, how many messages were sent, and the fates that are held;
+-- and what is there: the device, which is off or on with a state, the inputs, and the slots of the outputs by ascending number
 pub record Host : Type 0 where
   pub plan : Plan
   pub heap : ℕ
   pub kept : Record
   pub sent : ℕ
   pub entries : List Entry
+  pub device : Option FwState
+  pub inputs : List InputView
+  pub slots : List ℕ
 
--- a host before its first command: nothing is loaded, sent or planned
-abbrev pub first_host : Plan → ℕ → Host
-first_host plan heap = record { plan = plan; heap = heap; kept = first_record plan; sent = 0; entries = [] }
+-- a host before its first command: nothing is loaded, sent or planned, and the device is off
+abbrev pub first_host : Plan → ℕ → List InputView → List ℕ → Host
+first_host plan heap inputs slots =
+    record { plan = plan; heap = heap; kept = first_record plan; sent = 0; entries = []; device = None; inputs = inputs; slots = slots }
 
 -- a host and how often its device was booted
 pub record Stand : Type 0 where
   pub boots : ℕ
   pub host : Option Host
 
--- what a command answers, and the lines that follow where it shows
+-- what is written to a slot
+abbrev pub Written : Type 0
+Written = ℕ × List ℕ
+
+-- what a command answers, the lines that follow where it shows, and the bytes that it writes, by slot
 pub record Out : Type 0 where
   pub answer : Answer
   pub shown : List (List ℕ)
+  pub written : List Written
 
--- an answer after which no lines follow
+-- an answer after which no lines follow, with nothing written
 abbrev pub silent : Answer → Out
-silent answer = record { answer = answer; shown = [] }
+silent answer = record { answer = answer; shown = []; written = [] }
 
 -- the answer of a command that answers nothing else once it is done
 abbrev pub answer_of : Outcome → Answer
@@ -98,9 +112,19 @@ stand boots h = record { boots = boots; host = Some h }
 
 -- ---- loads and shows
 
+-- a load that is done leaves the plan on the device; one that failed cuts it
+abbrev pub device_loaded : Plan → ℕ → Outcome → Option FwState
+device_loaded plan heap (Ok done) = Some (loaded_state plan heap 0)
+device_loaded plan heap (Err fault) = None
+
 -- the host after a load whose walk ended so
 abbrev pub host_after : Host → Ending → Host
-host_after h e = record { plan = h.plan; heap = h.heap; kept = after_load h.plan e.outcome h.kept; sent = e.sent; entries = e.entries }
+host_after h e = record h {
+  kept = after_load h.plan e.outcome h.kept;
+  sent = e.sent;
+  entries = e.entries;
+  device = device_loaded h.plan h.heap e.outcome;
+}
 
 -- a load that passes its test boots the device and walks the list that brings it up
 abbrev pub load_next : Power → ℕ → Host → Stand × Out
@@ -112,7 +136,7 @@ load_next Off boots h = (stand boots h, silent (Fault Loaded))
 
 -- a show changes nothing
 abbrev pub show_next : ℕ → Host → Stand × Out
-show_next boots h = (stand boots h, record { answer = Show; shown = show_lines h.plan h.kept })
+show_next boots h = (stand boots h, record { answer = Show; shown = show_lines h.plan h.kept; written = [] })
 
 -- ---- calls on streams
 
@@ -135,14 +159,18 @@ place_of h name = unwrap_or (stream_place h.plan name) 0
 abbrev pub asked_acts : Host → ℕ → Ask → List Act
 asked_acts h k ask = acts_at h.plan h.kept k ask
 
+-- a device that sees the record after each act that passed; a failed link cuts it
+abbrev pub device_asked : Host → ℕ → List Act → Outcome → Option FwState
+device_asked h k passed (Err LinkDown) = None
+device_asked h k passed outcome = option_map (state_after_acts h.plan h.kept k passed) h.device
+
 -- the host after these acts, whose walk ended so
 abbrev pub host_asked : Host → ℕ → Ask → Ending → Host
-host_asked h k ask e = record {
-  plan = h.plan;
-  heap = h.heap;
+host_asked h k ask e = record h {
   kept = kept_after h.kept k ask (asked_acts h k ask) e.passed e.outcome;
   sent = e.sent;
   entries = e.entries;
+  device = device_asked h k (take e.passed (asked_acts h k ask)) e.outcome;
 }
 
 -- the acts are walked
@@ -160,12 +188,48 @@ tested_next None k ask boots h = walk_next k ask boots h
 abbrev pub stream_next : List ℕ → Ask → ℕ → Host → Stand × Out
 stream_next name ask boots h = tested_next (early_fault h.plan h.kept name ask) (place_of h name) ask boots h
 
+-- ---- ticks
+
+-- outputs to which nothing was written yet
+abbrev pub empty_outputs : List ℕ → List OutputView
+empty_outputs slots = map (λ slot. record { slot = slot; bytes = [] }) slots
+
+-- no bytes are not written
+abbrev pub with_bytes : ℕ → List ℕ → List Written → List Written
+with_bytes slot [] rest = rest
+with_bytes slot (byte ∷ bytes) rest = (slot, byte ∷ bytes) ∷ rest
+
+-- what was written to each output that has bytes
+abbrev pub written_in : List OutputView → List Written
+written_in [] = []
+written_in (output ∷ outputs) = with_bytes output.slot output.bytes (written_in outputs)
+
+-- a tick of a device that is on in this state
+abbrev pub moved : Host → FwState → FwState × Io
+moved h f = ticked (f, record { inputs = h.inputs; outputs = empty_outputs h.slots })
+
+-- the device and the inputs go on, and the outputs are written
+abbrev pub moved_next : ℕ → Host → FwState × Io → Stand × Out
+moved_next boots h (f, io) =
+    (stand boots (record h { device = Some f; inputs = io.inputs }), record { answer = Done; shown = []; written = written_in io.outputs })
+
+-- one tick, which does nothing to a device that is off
+abbrev pub device_tick : Option FwState → ℕ → Host → Stand × Out
+device_tick (Some f) boots h = moved_next boots h (moved h f)
+device_tick None boots h = (stand boots h, silent Done)
+
+-- by the power
+abbrev pub tick_next : Power → ℕ → Host → Stand × Out
+tick_next On boots h = device_tick h.device boots h
+tick_next power boots h = (stand boots h, silent Done)
+
 -- ---- commands
 
--- the commands that are carried out so far: a load, a show, and the calls on streams
+-- the commands that are carried out so far: a load, a show, a tick, and the calls on streams
 abbrev pub is_built : Command → Bool
 is_built commands.Load = true
 is_built commands.Show = true
+is_built (commands.Tick n) = true
 is_built command = is_some (asking command)
 
 -- a call on a stream where one is asked; a command that is not carried out so far makes nothing of a host
@@ -173,20 +237,21 @@ abbrev pub asked_next : Option (List ℕ × Ask) → ℕ → Host → Stand × O
 asked_next (Some (name, ask)) boots h = stream_next name ask boots h
 asked_next None boots h = (stand boots h, silent Done)
 
--- what a command makes of a host, and what it answers
+-- what a command makes of a host, and what it answers; a `Tick` makes one tick, whatever its number
 abbrev pub command_next : Command → ℕ → Host → Stand × Out
 command_next commands.Load boots h = load_next h.kept.power boots h
 command_next commands.Show boots h = show_next boots h
+command_next (commands.Tick n) boots h = tick_next h.kept.power boots h
 command_next command boots h = asked_next (asking command) boots h
 
 -- a session is begun, or carries out a command
 pub data Task : Type 0 where
-  Begin : (plan : Plan) (heap : ℕ) → Task
+  Begin : (plan : Plan) (heap : ℕ) (inputs : List InputView) (slots : List ℕ) → Task
   Carry : (command : Command) → Task
 
 -- what a task makes of a stand, and what it answers
 abbrev pub next_by : Task → ℕ → Option Host → Stand × Out
-next_by (Begin plan heap) boots host = (stand boots (first_host plan heap), silent Done)
+next_by (Begin plan heap inputs slots) boots host = (stand boots (first_host plan heap inputs slots), silent Done)
 next_by (Carry command) boots None = (record { boots = boots; host = None }, silent Done)
 next_by (Carry command) boots (Some h) = command_next command boots h
 

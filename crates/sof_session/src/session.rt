@@ -1,16 +1,17 @@
 // A host with its device behind a link.
 ghost use Rattle.std.specs.Prelude.{◌≡◌, ◌<◌, ◌≤◌, [], true, length, MatchResult};
-ghost use Rattle.sof_base.specs.Ports.{HasRoom};
+ghost use Rattle.sof_base.specs.Ports.{HasRoom, drained};
 ghost use Rattle.tplg_graph.specs.ThinPlan.{IsThinPlan};
 ghost use Rattle.sof_session.specs.Seat.{new_seat};
 ghost use Rattle.sof_session.specs.Show.{show_lines, IsLineAt};
-ghost use Rattle.sof_session.specs.Walks.{Carry, answer_of, is_built};
-ghost use Rattle.sof_session.specs.Turns.{AreAgreed, LoadRan, StreamRan, Ran, Turned, Seated, life, turn, shown_by, ports};
+ghost use Rattle.sof_io.specs.Bound.{output_slots};
+ghost use Rattle.sof_session.specs.Walks.{Carry, answer_of, is_built, written_in};
+ghost use Rattle.sof_session.specs.Turns.{AreAgreed, LoadRan, StreamRan, TickRan, Ran, Turned, Seated, life, turn, shown_by, ports};
 
 use crate::show::show_line;
 use crate::streams::ask_stream;
 use host_pcm::Ask;
-use host_widgets::{Answer, HostFault, Record, Trigger, load};
+use host_widgets::{Answer, HostFault, Power, Record, Trigger, load};
 use mbox_link::{Dsp, FaultLink, NoRoom};
 use sof_base::{Name44, NoMemory};
 use sof_io::{Inputs, Outputs};
@@ -29,7 +30,8 @@ fn answer_of(done: Result<(), HostFault>) -> Answer
     }
 }
 
-/// A host that keeps its record of a device behind a link. The device is on with the view that the record says, or off.
+/// A host that keeps its record of a device behind a link. The device is on with the view that the record says, with a heap
+/// as the load left it and a ring for each buffer; or off.
 #[derive(Drop)]
 pub struct Session<P: Dsp> {
     link: FaultLink<P>,
@@ -81,21 +83,22 @@ impl<P: Dsp> Session<P> {
         self.link.into_dsp()
     }
 
-    /// Carries out a command that is built so far: `Load`, `Show`, or a call on a stream, which are `Open`, `Params`,
-    /// `Start`, `Stop`, `Pause`, `Release` and `Close`. `Load` boots the device and loads the plan where it is not loaded;
-    /// `Show` changes nothing, and its lines are those of `show_line`. It answers as the host's call does.
+    /// Carries out a command that is built so far: `Load`, `Show`, `Tick`, or a call on a stream, which are `Open`,
+    /// `Params`, `Start`, `Stop`, `Pause`, `Release` and `Close`. `Load` boots the device and loads the plan where it is not
+    /// loaded; `Show` changes nothing, and its lines are those of `show_line`; `Tick` makes one tick, whatever its number.
+    /// It answers as the host's call does. The outputs are empty before it, and hold what it wrote after it.
     pub fn step(&mut self, command: &Command, io: &mut Inputs, out: &mut Outputs) -> Answer
         requires built { is_built command.now ≡ true }
-        requires room { HasRoom 0 out.old }
+        requires empty { drained out.old ≡ out.old }
         ensures ran { Ran P.means command.now self.old self.new (ports io.old out.old) (ports io.new out.new) result }
-        ensures turned { Turned (life P.means) (turn (Carry command.now) result (shown_by command.now self.old)) (Seated self.old) (Seated self.new) }
+        ensures turned { Turned (life P.means) (turn (Carry command.now) result (shown_by command.now self.old) (written_in out.new)) (Seated self.old io.old (output_slots out.old)) (Seated self.new io.new (output_slots out.old)) }
         ensures plan { self.new.plan ≡ self.old.plan }
         ensures heap { self.new.heap ≡ self.old.heap }
-        ensures inputs { io.new ≡ io.old }
-        ensures outputs { out.new ≡ out.old }
+        ensures slots { output_slots out.new ≡ output_slots out.old }
     {
         match command {
             Command::Load => self.load(io, out),
+            Command::Tick(_) => self.tick(io, out),
             Command::Open(name) => self.ask(name, Ask::Opening, io, out),
             Command::Params(name, params) => self.ask(name, Ask::Preparing(*params), io, out),
             Command::Start(name) => self.ask(name, Ask::Triggering(Trigger::Start), io, out),
@@ -128,11 +131,29 @@ impl<P: Dsp> Session<P> {
         answer_of(loaded)
     }
 
+    // One tick of a device that is on.
+    fn tick(&mut self, io: &mut Inputs, out: &mut Outputs) -> Answer
+        requires { HasRoom 61440 out.old }
+        ensures ran { TickRan P.means self.old self.new (ports io.old out.old) (ports io.new out.new) result }
+        ensures agreed { AreAgreed P.means self.old }
+        ensures plan { self.new.plan ≡ self.old.plan }
+        ensures heap { self.new.heap ≡ self.old.heap }
+    {
+        match self.kept.power {
+            Power::On => {
+                self.link.tick(io, out);
+                Answer::Done
+            }
+            Power::Unloaded | Power::Off => Answer::Done,
+        }
+    }
+
     // Makes the host's call for what is asked of the stream of this name.
     fn ask(&mut self, name: &Name44, ask: Ask, io: &mut Inputs, out: &mut Outputs) -> Answer
         requires { HasRoom 0 out.old }
         ensures ran { StreamRan P.means name.now ask self.old self.new (ports io.old out.old) (ports io.new out.new) result }
         ensures agreed { AreAgreed P.means self.old }
+        ensures later { AreAgreed P.means self.new }
         ensures plan { self.new.plan ≡ self.old.plan }
         ensures heap { self.new.heap ≡ self.old.heap }
         ensures inputs { io.new ≡ io.old }

@@ -6,6 +6,7 @@ use std::alloc::Global;
 use std::test::Fail;
 use stream_law::{Comp, Edge, Graph, Kind, Pipe, Setting};
 use tplg_graph::{Plan, StreamPlan, WidgetPlan};
+use tplg_model::Caps;
 
 const WIDGET: WidgetPlan = WidgetPlan {
     pipe: 1,
@@ -60,6 +61,25 @@ fn graph(alloc: Global) -> Result<Graph, Fail> {
     })
 }
 
+fn caps() -> Result<Caps, Fail> {
+    Ok(Caps {
+        name: Name44::new(b"P0").ok_or("no name")?,
+        formats: 0,
+        rates: 0,
+        rate_min: 0,
+        rate_max: 0,
+        channels_min: 0,
+        channels_max: 0,
+        periods_min: 0,
+        periods_max: 0,
+        period_size_min: 0,
+        period_size_max: 0,
+        buffer_size_min: 0,
+        buffer_size_max: 0,
+        sig_bits: 0,
+    })
+}
+
 // A volume between a host that plays and a DAI.
 fn plan(alloc: Global) -> Result<Plan, Fail> {
     let mut names = Items::new(alloc);
@@ -72,10 +92,12 @@ fn plan(alloc: Global) -> Result<Plan, Fail> {
     streams.push(StreamPlan {
         host: 0,
         capture: false,
+        caps: caps()?,
     })?;
     Ok(Plan {
         graph: graph(alloc)?,
         streams,
+        controls: Items::new(alloc),
         names,
         widgets,
     })

@@ -1,2 +1,3 @@
 -- Worked rows of the written run.
 pub mod Rows
+pub mod CheckRows

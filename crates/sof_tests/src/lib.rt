@@ -5,6 +5,9 @@
 #[cfg(test)]
 mod changed;
 #[cfg(test)]
+mod checks;
+mod counted;
+#[cfg(test)]
 mod ends;
 #[cfg(test)]
 mod faults;
@@ -16,9 +19,15 @@ mod played;
 mod records;
 mod rows;
 #[cfg(test)]
+mod ruled;
+#[cfg(test)]
+mod rules;
+#[cfg(test)]
 mod runs;
 #[cfg(test)]
 mod scripts;
+#[cfg(test)]
+mod sounds;
 #[cfg(test)]
 mod streams;
 #[cfg(test)]
@@ -28,4 +37,5 @@ mod volume;
 #[cfg(test)]
 mod written;
 
+pub use counted::check_rows;
 pub use rows::load_and_show_rows;

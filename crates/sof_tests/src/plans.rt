@@ -4,7 +4,7 @@ use sof_base::Format;
 use std::alloc::Global;
 use std::test::Fail;
 use stream_law::{Edge, Join, Kind, Pipe};
-use tplg_graph::{Plan, StreamPlan, is_thin, need, plan};
+use tplg_graph::{Plan, is_thin, need, plan};
 use tplg_model::Topology;
 use tplg_read::read;
 
@@ -21,7 +21,9 @@ fn planned(alloc: Global) -> Result<(Plan, u64), Fail> {
     if !is_thin(alloc, &topology)? {
         return Err("not thin")?;
     }
-    let plan = plan(alloc, &topology)?;
+    let Ok(plan) = plan(alloc, &topology) else {
+        return Err("no plan")?;
+    };
     let bytes = need(&plan);
     Ok((plan, bytes))
 }
@@ -60,11 +62,11 @@ fn the_thin_graph_is_planned(rt: HostRuntime) -> Result<(), Fail> {
 fn its_plan_has_streams_names_and_words(rt: HostRuntime) -> Result<(), Fail> {
     let alloc = rt.alloc();
     let (plan, bytes) = planned(alloc)?;
-    let stream = StreamPlan {
-        host: 0,
-        capture: false,
-    };
-    assert_eq!(rt; plan.streams.items(), [stream].as_slice());
+    let streams = plan.streams.items();
+    assert_eq!(rt; streams.len(), 1);
+    assert_eq!(rt; (streams[0].host, streams[0].capture), (0, false));
+    assert_eq!(rt; streams[0].caps.name.as_bytes(), b"P0".as_slice());
+    assert!(rt; plan.controls.items().is_empty());
     let names = plan.names.items();
     assert_eq!(rt; names.len(), 4);
     assert_eq!(rt; names[2].as_bytes(), b"DAI0".as_slice());

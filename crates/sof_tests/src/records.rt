@@ -65,19 +65,30 @@ pub fn put_route(out: &mut Vec<u8>, sink: &[u8], source: &[u8]) -> Result<(), Al
     put_text(out, source)
 }
 
-/// What a direction can do; none where it has no name.
-pub fn put_caps(out: &mut Vec<u8>, name: &[u8]) -> Result<(), AllocError> {
+// What most PCMs can do: s16, s24 and s32, 8000 to 192000 frames a second, 1 to 8 samples a frame.
+const EVERY: [u32; 7] = [1092, 0, 0, 8000, 192000, 1, 8];
+
+// What a direction can do.
+fn put_caps(out: &mut Vec<u8>, name: &[u8], can: &[u32; 7]) -> Result<(), AllocError> {
     put_words(out, &[104])?;
     put_text(out, name)?;
-    if name.is_empty() {
-        return put_zeros(out, 56);
-    }
-    put_words(out, &[1092, 0, 0, 8000, 192000, 1, 8])?;
+    put_words(out, can)?;
     put_zeros(out, 28)
 }
 
-/// A PCM of these names whose playback caps are named `playback`, without capture caps.
+/// A PCM of these names whose playback caps are named `playback` and have all that most have, without capture caps.
 pub fn put_pcm(out: &mut Vec<u8>, name: &[u8], playback: &[u8]) -> Result<(), AllocError> {
+    put_pcm_that(out, name, playback, &EVERY)
+}
+
+/// The same, whose playback can do this: its formats in two words, its rates, the least and the most rate, and the least and
+/// the most number of channels.
+pub fn put_pcm_that(
+    out: &mut Vec<u8>,
+    name: &[u8],
+    playback: &[u8],
+    can: &[u32; 7],
+) -> Result<(), AllocError> {
     put_words(out, &[912])?;
     put_text(out, name)?;
     put_text(out, name)?;
@@ -87,8 +98,8 @@ pub fn put_pcm(out: &mut Vec<u8>, name: &[u8], playback: &[u8]) -> Result<(), Al
         put_zeros(out, 68)?;
     }
     put_words(out, &[0])?;
-    put_caps(out, playback)?;
-    put_caps(out, b"")?;
+    put_caps(out, playback, can)?;
+    put_caps(out, b"", &[0; 7])?;
     put_words(out, &[0, 0, 0])
 }
 

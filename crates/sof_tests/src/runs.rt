@@ -100,7 +100,7 @@ fn a_line_that_fails_leaves_a_front_of_the_run(rt: HostRuntime) -> Result<(), Fa
 
 #[test]
 fn what_is_not_built_is_told(rt: HostRuntime) -> Result<(), Fail> {
-    let outcome = played_thin(rt.alloc(), "992", b"load\ntick 1\n", None)?;
+    let outcome = played_thin(rt.alloc(), "992", b"load\npause PCM0P\n", None)?;
     assert_eq!(rt; outcome.status, 9);
     assert!(rt; !outcome.on);
     assert_eq!(rt; outcome.said.as_slice(), b"not yet\n".as_slice());

@@ -27,7 +27,7 @@ fn scripts_that_make_no_run_are_told(rt: HostRuntime) -> Result<(), Fail> {
             4,
             b"script 2 binding\n",
         ),
-        (b"out DAI0 a.raw\ntick 60000\n", 9, b"not yet\n"),
+        (b"out DAI0 a.raw\nsuspend\n", 9, b"not yet\n"),
     ] {
         let outcome = played_thin(rt.alloc(), "992", script, None)?;
         assert_eq!(rt; outcome.status, status);

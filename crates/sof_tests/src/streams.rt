@@ -1,5 +1,7 @@
 // Commands on streams, over the thin graph.
-use crate::played::played_thin;
+use crate::played::{Outcome, played, played_thin};
+use crate::thin::thin_graph_that;
+use std::alloc::Global;
 use std::test::Fail;
 
 // A command on a stream in each stand of it, with each refusal.
@@ -71,11 +73,58 @@ fn a_prepared_stream_is_shown(rt: HostRuntime) -> Result<(), Fail> {
     Ok(())
 }
 
+// A run of a script over the thin graph whose PCM can do this.
+fn played_that(alloc: Global, can: &[u32; 7], script: &[u8]) -> Result<Outcome, Fail> {
+    let topology = thin_graph_that(alloc, can)?;
+    let words = ["play", "992", "a.tplg", "s.txt"];
+    played(alloc, words.as_slice(), &topology, Some(script), None)
+}
+
+const TO_NARROW: &[u8] = b"load
+open PCM0P
+params PCM0P 15000 1 s24
+params PCM0P 49000 5 s24
+params PCM0P 16000 1 s24
+params PCM0P 48000 5 s24
+params PCM0P 16000 4 s24
+params PCM0P 16000 2 s32
+params PCM0P 48000 4 s16
+";
+
+// A PCM of s16 and s32, of 16000 to 48000 frames a second, of 2 to 4 samples a frame.
 #[test]
-fn a_running_stream_does_not_tick_yet(rt: HostRuntime) -> Result<(), Fail> {
-    let script = b"load\nopen PCM0P\ntick 1\n".as_slice();
-    let outcome = played_thin(rt.alloc(), "992", script, None)?;
-    assert_eq!(rt; outcome.status, 9);
-    assert_eq!(rt; outcome.said.as_slice(), b"not yet\n".as_slice());
+fn parameters_stay_within_a_narrow_pcm(rt: HostRuntime) -> Result<(), Fail> {
+    let can = [1028, 0, 0, 16000, 48000, 2, 4];
+    let outcome = played_that(rt.alloc(), &can, TO_NARROW)?;
+    assert_eq!(rt; outcome.status, 0);
+    assert_eq!(rt;
+        outcome.said.as_slice(),
+        b"1 ok\n2 ok\n3 range 15000\n4 range 49000\n5 range 1\n6 range 5\n7 range 6\n8 ok\n9 ok\n".as_slice()
+    );
+    Ok(())
+}
+
+const TO_WIDE: &[u8] = b"load
+open PCM0P
+params PCM0P 7000 0 s16
+params PCM0P 193000 0 s16
+params PCM0P 16500 0 s16
+params PCM0P 8000 0 s16
+params PCM0P 8000 9 s16
+params PCM0P 8000 1 s16
+params PCM0P 8000 8 s32
+params PCM0P 192000 8 s24
+";
+
+// A PCM of s24 alone, of any rate and any number of channels.
+#[test]
+fn parameters_stay_within_a_stream(rt: HostRuntime) -> Result<(), Fail> {
+    let can = [64, 0, 0, 0, 4294967295, 0, 4294967295];
+    let outcome = played_that(rt.alloc(), &can, TO_WIDE)?;
+    assert_eq!(rt; outcome.status, 0);
+    assert_eq!(rt;
+        outcome.said.as_slice(),
+        b"1 ok\n2 ok\n3 range 7000\n4 range 193000\n5 range 16500\n6 range 0\n7 range 9\n8 range 2\n9 range 10\n10 ok\n".as_slice()
+    );
     Ok(())
 }

@@ -1,9 +1,25 @@
 // The thin graph's file: a host, a buffer of 768 bytes, a DAI, a pipeline of 1000 µs, two routes and a PCM.
-use crate::records::{put_header, put_number, put_pcm, put_route, put_text, put_widget, put_words};
+use crate::records::{
+    put_header, put_number, put_pcm, put_pcm_that, put_route, put_text, put_widget, put_words,
+};
 use std::alloc::{AllocError, Global};
 
 /// The file's 2020 bytes.
 pub fn thin_graph(alloc: Global) -> Result<Vec<u8>, AllocError> {
+    let mut out = thin_front(alloc)?;
+    put_pcm(&mut out, b"Main", b"P0")?;
+    Ok(out)
+}
+
+/// The same, whose PCM can do this, as `put_pcm_that` says.
+pub fn thin_graph_that(alloc: Global, can: &[u32; 7]) -> Result<Vec<u8>, AllocError> {
+    let mut out = thin_front(alloc)?;
+    put_pcm_that(&mut out, b"Main", b"P0", can)?;
+    Ok(out)
+}
+
+// All of the file but its PCM.
+fn thin_front(alloc: Global) -> Result<Vec<u8>, AllocError> {
     let mut out = Vec::new(alloc);
     put_header(&mut out, 5, 132, 1, 1)?;
     put_widget(&mut out, 11, b"PCM0P", b"P0", 0, 0)?;
@@ -21,6 +37,5 @@ pub fn thin_graph(alloc: Global) -> Result<Vec<u8>, AllocError> {
     put_route(&mut out, b"B0", b"PCM0P")?;
     put_route(&mut out, b"DAI0", b"B0")?;
     put_header(&mut out, 7, 912, 0, 1)?;
-    put_pcm(&mut out, b"Main", b"P0")?;
     Ok(out)
 }

@@ -8,7 +8,7 @@ use tplg_read::{TplgFault, read};
 
 /// The file's 3000 bytes: a host, a buffer, a volume with its control `Master`, a buffer, a DAI, a pipeline, four routes and
 /// a PCM.
-fn volume_graph(alloc: Global) -> Result<Vec<u8>, AllocError> {
+pub fn volume_graph(alloc: Global) -> Result<Vec<u8>, AllocError> {
     let mut out = Vec::new(alloc);
     put_header(&mut out, 5, 132, 1, 1)?;
     put_widget(&mut out, 11, b"PCM0P", b"P0", 0, 0)?;

@@ -208,10 +208,10 @@ module _ (whole : List (ℕ × List ℕ)) (old : Past) (t : ℕ) (n : List (ℕ 
       by_shape x false h shape = length-frames_by_none x.kind x.setting old.view a (number_of n a) read (table ids slice_of) (list_of old.epochs a) h ∙ sym (idle (false_from_ne_true (active old.view a) (λ k. true≢false (sym (shape k) ∙ h))))
 
       by_comp : (o : Option Comp) → comp_of old.view.graph a ≡ o → length (option_map_or (λ x. frames_by x.kind x.setting old.view a (number_of n a) read (table ids slice_of) (equalised_after (list_of old.epochs a))) o []) ≡ number_of n a
-      by_comp None e = sym (idle (false_from_ne_true (active old.view a) (λ k. false≢true (sym (ap (λ o. option_map_or (λ (x : Comp). fits_kind x.kind (length (ins old.view.graph a)) (length (outs old.view.graph a))) o false) e) ∙ playable.fits a k))))
+      by_comp None e = sym (idle (false_from_ne_true (active old.view a) (λ k. false≢true (sym (ap (λ o. option_map_or (λ (x : Comp). fits_kind x.kind (length (ins old.view.graph a)) (length (outs old.view.graph a))) o false) e) ∙ playable.fits a (playable.ends.sources b a source) k))))
       by_comp (Some x) e = by_shape x (makes x.kind (table ids slice_of)) refl (λ k.
           makes-fit x.kind (ins old.view.graph a) (outs old.view.graph a) (looks old.view (frames_held old.counts new.put) a) slice_of b
-          (sym (ap (λ o. option_map_or (λ (x : Comp). fits_kind x.kind (length (ins old.view.graph a)) (length (outs old.view.graph a))) o false) e) ∙ playable.fits a k)
+          (sym (ap (λ o. option_map_or (λ (x : Comp). fits_kind x.kind (length (ins old.view.graph a)) (length (outs old.view.graph a))) o false) e) ∙ playable.fits a (playable.ends.sources b a source) k)
           (outs-among old.view.graph b a source)
           (λ plain x'. ap (λ h. not h || (active_end old.view (source_of old.view.graph x') && nat_le 1 (frames_held old.counts new.put x'))) (chooses-kind old.view a x e ∙ plain)))
 

@@ -6,7 +6,7 @@ use Rattle.sof_base.specs.Samples.{Frame}
 use Rattle.sof_base.specs.Ports.{InputView}
 use Rattle.stream_law.specs.State.{FwState, View, view_of}
 use Rattle.stream_law.specs.Table.{number_of, list_of}
-use Rattle.stream_law.specs.Ways.{comp_of, buffers, ins, outs, active, channels_of, agree, is_silent}
+use Rattle.stream_law.specs.Ways.{comp_of, components, buffers, ins, outs, active, channels_of, agree, is_silent}
 use Rattle.stream_law.specs.Joins.{fits_kind}
 use Rattle.stream_law.specs.Moves.{capacity}
 use Rattle.stream_law.specs.Epochs.{history_of}
@@ -143,10 +143,10 @@ pub record Fills (slot : ℕ) (more : List ℕ) (inputs inputs' : List InputView
 
 -- ---- what a view must be for a tick
 
--- the ends of edges are components, each component has its place in the order, and what is Active has the edges in and out
--- that its kind may have
+-- the ends of edges are components, each component has its place in the order, and a component that is Active has the edges in
+-- and out that its kind may have
 pub record IsPlayable (v : View) : Type 0 where
   pub ends : HasEnds v.graph
   pub ordered : HasAll v.graph (order v.graph)
-  pub fits : (c : ℕ) → active v c ≡ true → option_map_or (λ x. fits_kind x.kind (length (ins v.graph c)) (length (outs v.graph c)))
-      (comp_of v.graph c) false ≡ true
+  pub fits : (c : ℕ) → is_among (components v.graph) c ≡ true → active v c ≡ true →
+      option_map_or (λ x. fits_kind x.kind (length (ins v.graph c)) (length (outs v.graph c))) (comp_of v.graph c) false ≡ true

@@ -2,10 +2,10 @@
 use Rattle.std.proofs.Common.{is_some, ◌↔◌, ◌≡◌, refl, sym, ap, ◌∙◌, ℕ, zero, suc, ◌+◌, ◌<◌, ◌≤◌, List, [], ◌∷◌, Bool, true, false, cond, not, Option, Some, None, ◌⊎◌, inl, inr, arith}
 use Rattle.std.specs.List.{find, range_with_len}
 use Rattle.std.proofs.lemmas.Bool.{true≢false, cases_order}
-use Rattle.tplg_graph.specs.Rules.{Rule, tested, HoldsAll, FailsFirst, AllHold, Breaks, IsFirstFailing}
+use Rattle.tplg_graph.specs.Rules.{Rule, tested, HoldsAll, FailsFirst, AllHold, BreaksOf, IsFirstFailing}
 
 -- where all rules hold, none is broken
-pub none_breaks : (rs : List Rule) (number item : ℕ) → AllHold rs → Breaks rs number item → ⊥
+pub none_breaks : (rs : List Rule) (number item : ℕ) → AllHold rs → BreaksOf rs number item → ⊥
 none_breaks [] number item all b = b
 none_breaks (r ∷ rs) number item all (inl b) = b.1.fails (all.0 item b.1.within)
 none_breaks (r ∷ rs) number item all (inr b) = none_breaks rs number item all.1 b.1
@@ -19,7 +19,7 @@ same_item r i j f g = by_order (cases_order i j)
     by_order (inr (inr h)) = absurd (g.fails (f.before j h))
 
 -- one rule and one item are told
-pub one_breaks : (rs : List Rule) (n i m j : ℕ) → Breaks rs n i → Breaks rs m j → (n ≡ m) × (i ≡ j)
+pub one_breaks : (rs : List Rule) (n i m j : ℕ) → BreaksOf rs n i → BreaksOf rs m j → (n ≡ m) × (i ≡ j)
 one_breaks [] n i m j b c = absurd b
 one_breaks (r ∷ rs) n i m j (inl b) (inl c) = (sym b.0 ∙ c.0, same_item r i j b.1 c.1)
 one_breaks (r ∷ rs) n i m j (inl b) (inr c) = absurd (b.1.fails (c.0 i b.1.within))

@@ -1,7 +1,7 @@
 -- The plan of a thin topology has the one form.
-use Rattle.std.proofs.Common.{◌≡◌, refl, sym, ap, subst, ◌∙◌, ℕ, zero, suc, ◌+◌, ◌<◌, ◌≤◌, List, [], ◌∷◌, length, filter, position, Bool, true, false, cond, not, ◌&&◌, ◌||◌, is_some, Option, Some, None, slice_get, unwrap_or, ◌⊎◌, inl, inr, All, nat_le, map, sum, ◌*◌, arith}
+use Rattle.std.proofs.Common.{◌==◌, ◌++◌, ◌≡◌, refl, sym, ap, subst, ◌∙◌, ℕ, zero, suc, ◌≤◌, List, [], ◌∷◌, length, position, Bool, true, false, cond, not, ◌||◌, is_some, Option, Some, None, slice_get, unwrap_or, ◌⊎◌, inl, inr, All, nat_le, map, arith}
 use Rattle.std.specs.Option.{option_map, option_map_or}
-use Rattle.std.specs.List.{list_all, filter_map, cons_option}
+use Rattle.std.specs.List.{list_all, list_any, find, flat_map, filter_map, cons_option}
 use Rattle.std.proofs.lemmas.Bool.{false≢true, and_from, and_parts, leb-true}
 use Rattle.stream_law.specs.declared.graph.Graph.{Graph}
 use Rattle.stream_law.specs.declared.graph.Join.{Join}
@@ -11,47 +11,27 @@ use Rattle.tplg_graph.specs.declared.entry.Role.TheVariants.{HostPlay, HostCaptu
 use Rattle.tplg_graph.specs.declared.route_end.End.{End}
 use Rattle.tplg_graph.specs.declared.route_end.End.TheVariants as an_end
 use Rattle.tplg_graph.specs.declared.route_end.Ends.{Ends}
-use Rattle.tplg_graph.specs.Entries.{is_interpreted, is_buffer, is_buffer_role, is_scheduler, is_scheduler_role, is_dai_role, is_host_play_role, interpreted}
+use Rattle.tplg_graph.specs.Entries.{is_interpreted, is_buffer, is_buffer_role, is_scheduler, is_scheduler_role, is_dai_role, is_host_play_role, interpreted, role_of, entry_of, entries_in, widgets_in, entries_of}
 use Rattle.tplg_graph.specs.Names.{has_name}
 use Rattle.tplg_graph.specs.Ends.{end_of, end_at, real_of}
 use Rattle.tplg_graph.specs.Tokens.{format_of}
+use Rattle.tplg_graph.proofs.Interpreted.{of-interpreted, all-filter, weaker, or-front}
 use Rattle.tplg_graph.specs.Rules.{HoldsAll, AllHold}
-use Rattle.tplg_graph.specs.Table.{at, is_size, is_component_end, names_rule}
+use Rattle.tplg_graph.specs.Table.{is_size, is_component_end, names_rule, hosts_rule, is_host, has_pcm}
 use Rattle.tplg_graph.specs.Printable.{is_widget_name}
-use Rattle.tplg_graph.specs.Lists.{component_end, pipes_on, widget_plan, widgets_on, names_on}
+use Rattle.tplg_graph.specs.Lists.{component_end, control_of, pipes_on, widget_plan, widgets_on, names_on}
+use Rattle.tplg_graph.specs.declared.pcm_caps.PcmCaps.{PcmCaps}
+use Rattle.tplg_graph.specs.declared.live_control.LiveControl.{LiveControl}
+use Rattle.tplg_graph.specs.PcmList.{caps_of, is_side_of, side}
+use Rattle.tplg_graph.specs.LiveControls.{live_of}
+use Rattle.tplg_model.specs.declared.pcm.Caps.{Caps}
+use Rattle.tplg_model.specs.declared.control.Control.{Control}
+use Rattle.tplg_model.specs.declared.widget.Widget.{Widget}
+use Rattle.tplg_model.specs.declared.block.Block.{Block}
+use Rattle.tplg_model.specs.declared.block.Topology.{Topology}
 use Rattle.tplg_graph.specs.PlanOf.{plan_on}
-use Rattle.tplg_graph.specs.declared.planned.Plan.{Plan}
-use Rattle.sof_base.specs.Holes.{rounded}
-use Rattle.tplg_graph.specs.Needed.{needed_by, components_need, edges_need, need_on, IsSmall}
 use Rattle.tplg_graph.specs.Thin.{AreThinOver, thin_ends, thin_rules}
 use Rattle.tplg_graph.specs.ThinPlan.{IsThinPlan, FitsWords, thin_graph}
-
--- ---- rules, at the interpreted widgets
-
-holds-all : {X : Type 0} (xs : List X) (f : X → Bool) → ((k : ℕ) → k < length xs → at xs k f ≡ true) → list_all f xs ≡ true
-holds-all [] f all = refl
-holds-all (x ∷ xs) f all = and_from _ _ (all 0 (omega arith)) (holds-all xs f (λ k h. all (suc k) (omega arith)))
-
-all-filter : {X : Type 0} (xs : List X) (f p : X → Bool) → list_all f xs ≡ true → list_all f (filter p xs) ≡ true
-all-filter [] f p all = refl
-all-filter {X} (x ∷ xs) f p all = by_test (p x) (and_parts (f x) (list_all f xs) all).0 (all-filter xs f p (and_parts (f x) (list_all f xs) all).1)
-  where
-    by_test : (b : Bool) → f x ≡ true → list_all f (filter p xs) ≡ true → list_all f (cond b (x ∷ filter p xs) (filter p xs)) ≡ true
-    by_test true h rest = and_from _ _ h rest
-    by_test false h rest = rest
-
--- a test of each widget holds of the interpreted ones
-of-interpreted : (es ps : List Entry) (f : Entry → Bool) → ps ≡ interpreted es → ((k : ℕ) → k < length es → at es k f ≡ true) → list_all f ps ≡ true
-of-interpreted es ps f same all = ap (list_all f) same ∙ all-filter es f is_interpreted (holds-all es f all)
-
-weaker : {X : Type 0} (o : Option X) (f g : X → Bool) → ((x : X) → f x ≡ true → g x ≡ true) → option_map_or f o true ≡ true → option_map_or g o true ≡ true
-weaker None f g less h = refl
-weaker (Some x) f g less h = less x h
-
-or-front : (a b c : Bool) → (a || (b && c)) ≡ true → (a || b) ≡ true
-or-front true b c h = refl
-or-front false true c h = refl
-or-front false false c h = absurd (false≢true h)
 
 -- each interpreted widget has a name that can be printed
 named : (es ps : List Entry) → ps ≡ interpreted es → HoldsAll (names_rule es) → list_all (λ e. not (is_interpreted e) || is_widget_name e.name) ps ≡ true
@@ -111,10 +91,10 @@ role-of-scheduler (Some Scheduler) h = refl
 
 -- an interpreted widget by its fields
 abbrev pub widget : ℕ → Role → Entry → Entry
-widget index role e = record { index = index; role = Some role; name = e.name; sname = e.sname; tokens = e.tokens }
+widget index role e = record { index = index; role = Some role; name = e.name; sname = e.sname; tokens = e.tokens; control = e.control }
 
 is-widget : (index : ℕ) (role : Role) (e : Entry) → e.index ≡ index → e.role ≡ Some role → e ≡ widget index role e
-is-widget index role e p q = λ k. record { index = p k; role = q k; name = e.name; sname = e.sname; tokens = e.tokens }
+is-widget index role e p q = λ k. record { index = p k; role = q k; name = e.name; sname = e.sname; tokens = e.tokens; control = e.control }
 
 abbrev pub four : ℕ → Entry → Entry → Entry → Entry → List Entry
 four index host buffer dai scheduler = widget index HostPlay host ∷ widget index Buffer buffer ∷ widget index Dai dai ∷ widget index Scheduler scheduler ∷ []
@@ -180,8 +160,17 @@ kept-of es index h b d s js same period all =
 pipes-of : (es : List Entry) (index : ℕ) (h b d s : Entry) (k : Kept es index h b d s) → pipes_on es (four index h b d s) ≡ record { id = 3; index = index; sched = k.sched; period = 1000; complete = true } ∷ []
 pipes-of es index h b d s k = λ i. cons_option (option_map (λ sched. record { id = 3; index = index; sched = sched; period = unwrap_or (k.period i) 0; complete = true }) (component_end (k.sched_end i))) []
 
-plan-of-four : (es : List Entry) (index : ℕ) (h b d s : Entry) → Kept es index h b d s → All FitsWords (widgets_on (four index h b d s)) → IsThinPlan (plan_on es (four index h b d s) (filter_map real_of thin_ends))
-plan-of-four es index h b d s k fit =
+-- what the PCMs and the controls say of the four
+pub record Quiet (pcms : List PcmCaps) (h b d s : Entry) : Type 0 where
+  pub caps : Caps
+  pub found : caps_of pcms false h.sname ≡ Some caps
+  pub host : h.control ≡ None
+  pub buffer : b.control ≡ None
+  pub dai : d.control ≡ None
+  pub scheduler : s.control ≡ None
+
+plan-of-four : (es : List Entry) (index : ℕ) (h b d s : Entry) (pcms : List PcmCaps) → Kept es index h b d s → Quiet pcms h b d s → All FitsWords (widgets_on (four index h b d s)) → IsThinPlan (plan_on es (four index h b d s) pcms (filter_map real_of thin_ends))
+plan-of-four es index h b d s pcms k q fit =
     let host = widget_plan (widget index HostPlay h) in
     let f0 = fit 0 host (omega arith) in
     let f1 = fit 1 host (omega arith) in
@@ -194,6 +183,7 @@ plan-of-four es index h b d s k fit =
       size = unwrap_or b.tokens.size 0;
       format = format_of d.tokens.format;
       sched = k.sched;
+      caps = q.caps;
       host_name = h.name;
       buffer_name = b.name;
       dai_name = d.name;
@@ -203,7 +193,8 @@ plan-of-four es index h b d s k fit =
       dai = widget_plan (widget index Dai d);
       scheduler = widget_plan (widget index Scheduler s);
       graph = λ i. record { comps = graph.comps; edges = graph.edges; pipes = pipes-of es index h b d s k i; joins = graph.joins };
-      streams = refl;
+      streams = λ i. cons_option (option_map (λ caps. record { host = 0; capture = false; caps = caps }) (q.found i)) [];
+      controls = λ i. cons_option (control_of 0 (q.host i)) (cons_option (control_of 1 (q.buffer i)) (cons_option (control_of 2 (q.dai i)) (cons_option (control_of 3 (q.scheduler i)) [])));
       names = refl;
       widgets = refl;
       pipe_fits = f0.pipe;
@@ -251,30 +242,87 @@ is-four es ps rs same thin =
       kept = kept-of es index w.host w.buffer w.dai w.scheduler (filter_map real_of rs) (sym all ∙ same) o.period thin.form.rules;
     }
 
--- the plan over the lists of a thin topology
-pub thin-plan : (es ps : List Entry) (rs : List Ends) → ps ≡ interpreted es → AreThinOver es ps rs → All FitsWords (widgets_on ps) → IsThinPlan (plan_on es ps (filter_map real_of rs))
-thin-plan es ps rs same thin fit =
-    let f = is-four es ps rs same thin in
-    let plan = plan-of-four es f.index f.host f.buffer f.dai f.scheduler f.kept (subst (λ xs. All FitsWords (widgets_on xs)) f.widgets fit) in
-    subst (λ (p : List Entry × List Ends). IsThinPlan (plan_on es p.0 (filter_map real_of p.1))) (λ k. (sym f.widgets k, sym f.routes k)) plan
+-- a volume, a mux and an equaliser have live controls
+abbrev pub has_live_role : Option Role → Bool
+has_live_role (Some Volume) = true
+has_live_role (Some Mux) = true
+has_live_role (Some Eq) = true
+has_live_role _ = false
 
--- ---- the heap that it needs
+-- no other widget has one
+abbrev pub is_quiet : Entry → Bool
+is_quiet e = has_live_role e.role || not (is_some e.control)
 
--- a thin plan's graph is small
-pub thin-small : (p : Plan) → IsThinPlan p → IsSmall p.graph
-thin-small p thin = subst IsSmall (sym thin.graph) (record { comps = omega arith; edges = omega arith; pipes = omega arith })
+none-of : (o : Option LiveControl) → not (is_some o) ≡ true → o ≡ None
+none-of None h = refl
+none-of (Some c) h = absurd (false≢true h)
 
-need-of-four : (es : List Entry) (index : ℕ) (h b d s : Entry) (k : Kept es index h b d s) → need_on (plan_on es (four index h b d s) (filter_map real_of thin_ends)).graph ≡ sum (map needed_by (four index h b d s))
-need-of-four es index h b d s k = ap (λ pipes. components_need graph.comps + edges_need graph.edges + 64 * length pipes) (pipes-of es index h b d s k) ∙ by_buffer (rounded (32 + unwrap_or b.tokens.size 0))
+first-of-all : (e : Entry) (es : List Entry) (f : Entry → Bool) → list_all f (e ∷ es) ≡ true → f e ≡ true
+first-of-all e es f all = (and_parts (f e) (list_all f es) all).0
+
+caps-found : (p : PcmCaps → Bool) (pcms : List PcmCaps) → list_any p pcms ≡ true → (x : PcmCaps) × (find p pcms ≡ Some x)
+caps-found p [] h = absurd (false≢true h)
+caps-found p (x ∷ xs) h = by_test (p x) refl h (caps-found p xs)
   where
-    graph : Graph
-    graph = thin_graph index (unwrap_or b.tokens.size 0) (format_of d.tokens.format) k.sched
+    by_test : (b : Bool) → p x ≡ b → (b || list_any p xs) ≡ true → (list_any p xs ≡ true → (y : PcmCaps) × (find p xs ≡ Some y)) → (y : PcmCaps) × (cond b (Some x) (find p xs) ≡ Some y)
+    by_test true e h rest = (x, refl)
+    by_test false e h rest = rest h
 
-    by_buffer : (n : ℕ) → 128 + (0 + n) + 64 ≡ ((64 + n) + 64) + 64
-    by_buffer n = omega arith
+quiet-of : (es : List Entry) (pcms : List PcmCaps) (index : ℕ) (h b d s : Entry) → four index h b d s ≡ interpreted es → HoldsAll (hosts_rule es pcms) → list_all is_quiet es ≡ true → Quiet pcms h b d s
+quiet-of es pcms index h b d s same hosts quiet =
+    let q = subst (λ ps. list_all is_quiet ps ≡ true) (sym same) (all-filter es is_quiet is_interpreted quiet) in
+    let qh = and_parts (is_quiet (widget index HostPlay h)) _ q in
+    let qb = and_parts (is_quiet (widget index Buffer b)) _ qh.1 in
+    let qd = and_parts (is_quiet (widget index Dai d)) _ qb.1 in
+    let qs = and_parts (is_quiet (widget index Scheduler s)) true qd.1 in
+    let pcm = of-interpreted es (four index h b d s) (λ e. not (is_host e) || has_pcm pcms e) same (λ k w. weaker (slice_get es k) _ _ (λ e. or-front (not (is_host e)) (has_pcm pcms e) _) (hosts k w)) in
+    let heard : has_pcm pcms (widget index HostPlay h) ≡ true = (and_parts (has_pcm pcms (widget index HostPlay h)) _ pcm).0 in
+    let found = caps-found (is_side_of false h.sname) pcms (and_parts (not (length h.sname == 0)) (list_any (is_side_of false h.sname) pcms) heard).1 in
+    record {
+      caps = found.0.play;
+      found = ap (option_map (side false)) found.1;
+      host = none-of h.control qh.0;
+      buffer = none-of b.control qb.0;
+      dai = none-of d.control qd.0;
+      scheduler = none-of s.control qs.0;
+    }
 
--- what a thin topology's plan needs is what its widgets need
-pub thin-need : (es ps : List Entry) (rs : List Ends) → ps ≡ interpreted es → AreThinOver es ps rs → need_on (plan_on es ps (filter_map real_of rs)).graph ≡ sum (map needed_by ps)
-thin-need es ps rs same thin =
-    let f = is-four es ps rs same thin in
-    subst (λ (p : List Entry × List Ends). need_on (plan_on es p.0 (filter_map real_of p.1)).graph ≡ sum (map needed_by p.0)) (λ k. (sym f.widgets k, sym f.routes k)) (need-of-four es f.index f.host f.buffer f.dai f.scheduler f.kept)
+-- the plan over the lists of a thin topology
+pub thin-plan : (es : List Entry) (rs : List Ends) (pcms : List PcmCaps) → AreThinOver es (interpreted es) rs → HoldsAll (hosts_rule es pcms) → list_all is_quiet es ≡ true → All FitsWords (widgets_on (interpreted es)) → IsThinPlan (plan_on es (interpreted es) pcms (filter_map real_of rs))
+thin-plan es rs pcms thin hosts quiet fit =
+    let f = is-four es (interpreted es) rs refl thin in
+    let q = quiet-of es pcms f.index f.host f.buffer f.dai f.scheduler (sym f.widgets) hosts quiet in
+    let plan = plan-of-four es f.index f.host f.buffer f.dai f.scheduler pcms f.kept q (subst (λ xs. All FitsWords (widgets_on xs)) f.widgets fit) in
+    subst (λ (p : List Entry × List Ends). IsThinPlan (plan_on es p.0 pcms (filter_map real_of p.1))) (λ k. (sym f.widgets k, sym f.routes k)) plan
+
+-- ---- widgets of a topology have the controls of their roles
+
+quiet-controls : (r : Option Role) (cs : List Control) → (has_live_role r || not (is_some (live_of r cs))) ≡ true
+quiet-controls (Some Volume) cs = refl
+quiet-controls (Some Mux) cs = refl
+quiet-controls (Some Eq) cs = refl
+quiet-controls None [] = refl
+quiet-controls None (c ∷ cs) = quiet-controls None cs
+quiet-controls (Some HostPlay) [] = refl
+quiet-controls (Some HostPlay) (c ∷ cs) = quiet-controls (Some HostPlay) cs
+quiet-controls (Some HostCapture) [] = refl
+quiet-controls (Some HostCapture) (c ∷ cs) = quiet-controls (Some HostCapture) cs
+quiet-controls (Some Dai) [] = refl
+quiet-controls (Some Dai) (c ∷ cs) = quiet-controls (Some Dai) cs
+quiet-controls (Some Mixer) [] = refl
+quiet-controls (Some Mixer) (c ∷ cs) = quiet-controls (Some Mixer) cs
+quiet-controls (Some Buffer) [] = refl
+quiet-controls (Some Buffer) (c ∷ cs) = quiet-controls (Some Buffer) cs
+quiet-controls (Some Scheduler) [] = refl
+quiet-controls (Some Scheduler) (c ∷ cs) = quiet-controls (Some Scheduler) cs
+
+quiet-widgets : (index : ℕ) (ws : List Widget) (es : List Entry) → list_all is_quiet es ≡ true → list_all is_quiet (map (entry_of index) ws ++ es) ≡ true
+quiet-widgets index [] es rest = rest
+quiet-widgets index (w ∷ ws) es rest = and_from _ _ (quiet-controls (role_of w.id) w.controls) (quiet-widgets index ws es rest)
+
+quiet-blocks : (bs : List Block) → list_all is_quiet (flat_map entries_in bs) ≡ true
+quiet-blocks [] = refl
+quiet-blocks (b ∷ bs) = quiet-widgets b.index (widgets_in b.body) (flat_map entries_in bs) (quiet-blocks bs)
+
+pub entries-quiet : (t : Topology) → list_all is_quiet (entries_of t) ≡ true
+entries-quiet t = quiet-blocks t.blocks

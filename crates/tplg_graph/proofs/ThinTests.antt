@@ -1,5 +1,5 @@
 -- The test for a thin topology says that it is thin.
-use Rattle.std.proofs.Common.{◌≡◌, ℕ, zero, suc, ◌<◌, ◌≤◌, List, [], ◌∷◌, length, Bool, true, false, ◌&&◌, eqb, eq-eqb, Option, Some, None, Result, Ok, Err, IfOk, ◌↔◌, ◌⊎◌, inl, inr, refl, ap, arith}
+use Rattle.std.proofs.Common.{◌≡◌, ℕ, zero, suc, ◌<◌, ◌≤◌, List, [], ◌∷◌, Bool, true, false, ◌&&◌, eq-eqb, Option, Some, None, Result, Ok, Err, IfOk, ◌↔◌, ◌⊎◌, inl, inr, refl, ap, arith}
 use Rattle.std.specs.List.{filter_map}
 use Rattle.std.proofs.lemmas.Bool.{and_parts, and_from, eqb-true, cases_lt}
 use Rattle.sof_base.specs.declared.memory.NoMemory.{NoMemory}
@@ -12,9 +12,9 @@ use Rattle.tplg_graph.specs.declared.route_end.Ends.{Ends}
 use Rattle.tplg_graph.specs.Entries.{entries_of, interpreted}
 use Rattle.tplg_graph.specs.Ends.{ends_in, real_of}
 use Rattle.tplg_graph.specs.Rules.{AllHold}
-use Rattle.tplg_graph.specs.Table.{is_number, name_holds, sched_holds, period_holds, dai_holds, size_holds}
-use Rattle.tplg_graph.specs.Thin.{AreInOrder, AreThin, KeepsForm, AreThinOver, IsThin, thin_ends, thin_rules}
-use Rattle.tplg_graph.specs.ThinTest.{in_order, are_four, is_component, is_buffer_of, are_two, below, all_hold, rules_hold, thin_over, thin_test}
+use Rattle.tplg_graph.specs.Table.{is_number}
+use Rattle.tplg_graph.specs.Thin.{AreInOrder, AreThin, AreThinOver, IsThin, thin_ends, thin_rules}
+use Rattle.tplg_graph.specs.ThinTest.{in_order, are_four, is_component, is_buffer_of, are_two, below, rules_hold, thin_over, thin_test}
 
 both : (a b : Bool) → (a && b) ≡ true → (a ≡ true) × (b ≡ true)
 both a b h = and_parts a b h

@@ -11,6 +11,7 @@ use Rattle.tplg_graph.specs.declared.entry.Role.{Role}
 use Rattle.tplg_graph.specs.declared.entry.Role.TheVariants.{HostPlay, HostCapture, Dai, Volume, Mixer, Mux, Eq, Buffer, Scheduler}
 use Rattle.tplg_graph.specs.declared.entry.Entry.{Entry}
 use Rattle.tplg_graph.specs.Tokens.{tokens_of}
+use Rattle.tplg_graph.specs.LiveControls.{live_of}
 
 -- what a widget with this id of the standard is; any other is not interpreted
 abbrev pub role_of : ℕ → Option Role
@@ -35,6 +36,7 @@ entry_of index w = record {
   name = w.name;
   sname = w.sname;
   tokens = tokens_of w.tokens;
+  control = live_of (role_of w.id) w.controls;
 }
 
 -- a block's widgets
@@ -76,6 +78,14 @@ abbrev pub is_host_play_role : Option Role → Bool
 is_host_play_role (Some HostPlay) = true
 is_host_play_role _ = false
 
+abbrev pub is_host_capture_role : Option Role → Bool
+is_host_capture_role (Some HostCapture) = true
+is_host_capture_role _ = false
+
+abbrev pub is_equaliser_role : Option Role → Bool
+is_equaliser_role (Some Eq) = true
+is_equaliser_role _ = false
+
 abbrev pub is_component_role : Option Role → Bool
 is_component_role None = false
 is_component_role (Some Buffer) = false
@@ -93,6 +103,16 @@ is_dai e = is_dai_role e.role
 
 abbrev pub is_host_play : Entry → Bool
 is_host_play e = is_host_play_role e.role
+
+abbrev pub is_host_capture : Entry → Bool
+is_host_capture e = is_host_capture_role e.role
+
+abbrev pub is_equaliser : Entry → Bool
+is_equaliser e = is_equaliser_role e.role
+
+-- a live control is there
+abbrev pub has_control : Entry → Bool
+has_control e = is_some e.control
 
 abbrev pub is_component : Entry → Bool
 is_component e = is_component_role e.role

@@ -1,5 +1,8 @@
 pub mod Tokens
+pub mod LiveControls
 pub mod Entries
+pub mod PcmList
+pub mod ControlRanges
 pub mod Names
 pub mod Ends
 pub mod Lists
@@ -7,7 +10,12 @@ pub mod Needed
 pub mod Rules
 pub mod Printable
 pub mod Table
+pub mod Cycles
+pub mod Reach
 pub mod PlanOf
+pub mod WellFormed
 pub mod Thin
 pub mod ThinPlan
 pub mod ThinTest
+pub mod RuleTest
+pub mod GainOf

@@ -1,6 +1,6 @@
 -- The graph of a topology: its components, buffers, pipelines and joins, and its streams, all in file order by id. They are
 -- read off the widgets that are interpreted, the real routes, and what names name.
-use Rattle.std.specs.Prelude.{ℕ, List, length, map, find, Bool, true, false, Option, Some, None, option_and_then, unwrap_or, slice_get, if◌then◌else◌, ◌==◌}
+use Rattle.std.specs.Prelude.{ℕ, ℤ, nat_abs, List, length, map, find, Bool, true, false, Option, Some, None, option_and_then, unwrap_or, slice_get, if◌then◌else◌, ◌==◌}
 use Rattle.std.specs.Option.{option_map}
 use Rattle.std.specs.List.{list_any, filter_map, range_with_len}
 use Rattle.stream_law.specs.declared.graph.Kind.{Kind}
@@ -12,12 +12,22 @@ use Rattle.stream_law.specs.declared.graph.Pipe.{Pipe}
 use Rattle.stream_law.specs.declared.graph.Join.{Join}
 use Rattle.tplg_model.specs.declared.block.Topology.{Topology}
 use Rattle.tplg_graph.specs.declared.entry.Role.{Role}
-use Rattle.tplg_graph.specs.declared.entry.Role.TheVariants.{HostPlay, HostCapture, Dai, Volume, Mixer, Mux, Eq}
+use Rattle.tplg_graph.specs.declared.entry.Role.TheVariants.{HostPlay, HostCapture, Dai, Mixer, Mux, Eq}
+use Rattle.tplg_graph.specs.declared.entry.Role.TheVariants as role_is
 use Rattle.tplg_graph.specs.declared.entry.Entry.{Entry}
 use Rattle.tplg_graph.specs.declared.route_end.End.{End}
 use Rattle.tplg_graph.specs.declared.route_end.End.TheVariants as an_end
 use Rattle.tplg_graph.specs.declared.planned.StreamPlan.{StreamPlan}
 use Rattle.tplg_graph.specs.declared.planned.WidgetPlan.{WidgetPlan}
+use Rattle.tplg_graph.specs.declared.planned.ControlPlan.{ControlPlan}
+use Rattle.tplg_graph.specs.declared.planned.ControlKind.{ControlKind}
+use Rattle.tplg_graph.specs.declared.planned.ControlKind.TheVariants.{Volume, Choice, Blob}
+use Rattle.tplg_graph.specs.declared.live_control.Scale.{Scale}
+use Rattle.tplg_graph.specs.declared.live_control.LiveControl.{LiveControl}
+use Rattle.tplg_graph.specs.declared.live_control.LiveControl.TheVariants as live
+use Rattle.tplg_graph.specs.declared.pcm_caps.PcmCaps.{PcmCaps}
+use Rattle.tplg_graph.specs.PcmList.{caps_of}
+use Rattle.tplg_graph.specs.ControlRanges.{is_volume}
 use Rattle.tplg_graph.specs.declared.tokens.FormatToken.{FormatToken}
 use Rattle.tplg_graph.specs.Tokens.{format_of, format_number}
 use Rattle.tplg_graph.specs.Entries.{is_buffer, is_scheduler}
@@ -45,7 +55,7 @@ abbrev pub kind_of : Option Role → FormatToken → Bool → Option Kind
 kind_of (Some HostPlay) format ends = Some kind.HostPlay
 kind_of (Some HostCapture) format ends = Some kind.HostCapture
 kind_of (Some Dai) format ends = Some (if ends then kind.DaiPlay (format_of format) else kind.DaiCapture (format_of format))
-kind_of (Some Volume) format ends = Some kind.Volume
+kind_of (Some role_is.Volume) format ends = Some kind.Volume
 kind_of (Some Mixer) format ends = Some kind.Mixer
 kind_of (Some Mux) format ends = Some kind.Mux
 kind_of (Some Eq) format ends = Some kind.Eq
@@ -111,18 +121,45 @@ pipes_on es ps = filter_map (pipe_at es ps) (range_with_len 0 (length ps))
 
 -- ---- streams
 
+-- a stream has what its PCM can do: the first whose caps of its direction have the host's stream name
+abbrev pub stream_on : List PcmCaps → ℕ → Bool → List ℕ → Option StreamPlan
+stream_on pcms id capture sname = option_map (λ caps. record { host = id; capture = capture; caps = caps }) (caps_of pcms capture sname)
+
 -- a host component is a stream
-abbrev pub stream_of : ℕ → Option Role → Option StreamPlan
-stream_of id (Some HostPlay) = Some (record { host = id; capture = false })
-stream_of id (Some HostCapture) = Some (record { host = id; capture = true })
-stream_of id _ = None
+abbrev pub stream_of : List PcmCaps → ℕ → Option Role → List ℕ → Option StreamPlan
+stream_of pcms id (Some HostPlay) sname = stream_on pcms id false sname
+stream_of pcms id (Some HostCapture) sname = stream_on pcms id true sname
+stream_of pcms id _ sname = None
 
 -- the stream of this id, where it is a host
-abbrev pub stream_at : List Entry → ℕ → Option StreamPlan
-stream_at ps id = option_and_then (λ e. stream_of id e.role) (slice_get ps id)
+abbrev pub stream_at : List Entry → List PcmCaps → ℕ → Option StreamPlan
+stream_at ps pcms id = option_and_then (λ e. stream_of pcms id e.role e.sname) (slice_get ps id)
 
-abbrev pub streams_on : List Entry → List StreamPlan
-streams_on ps = filter_map (stream_at ps) (range_with_len 0 (length ps))
+abbrev pub streams_on : List Entry → List PcmCaps → List StreamPlan
+streams_on ps pcms = filter_map (stream_at ps pcms) (range_with_len 0 (length ps))
+
+-- ---- controls
+
+-- what a volume takes, where its values and channels are in range
+abbrev pub volume_kind : ℤ → ℤ → ℕ → Scale → Option ControlKind
+volume_kind min max channels scale =
+    if is_volume min max channels then Some (Volume (nat_abs min) (nat_abs max) channels scale.min scale.step scale.mute) else None
+
+-- what a live control takes
+abbrev pub kind_in : LiveControl → Option ControlKind
+kind_in (live.Volume min max channels scale) = volume_kind min max channels scale
+kind_in (live.Choice items) = Some (Choice items)
+kind_in (live.Blob max initial) = Some (Blob max initial)
+
+-- the live control of this id, where there is one
+abbrev pub control_of : ℕ → Option LiveControl → Option ControlPlan
+control_of id control = option_map (λ kind. record { comp = id; kind = kind }) (option_and_then kind_in control)
+
+abbrev pub control_at : List Entry → ℕ → Option ControlPlan
+control_at ps id = option_and_then (λ e. control_of id e.control) (slice_get ps id)
+
+abbrev pub controls_on : List Entry → List ControlPlan
+controls_on ps = filter_map (control_at ps) (range_with_len 0 (length ps))
 
 -- ---- names and words
 

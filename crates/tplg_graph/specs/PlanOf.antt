@@ -9,8 +9,13 @@ use Rattle.tplg_model.specs.declared.block.Topology.{Topology}
 use Rattle.tplg_graph.specs.declared.entry.Entry.{Entry}
 use Rattle.tplg_graph.specs.declared.planned.Plan.{Plan}
 use Rattle.tplg_graph.specs.declared.planned.StreamPlan.{StreamPlan}
+use Rattle.tplg_graph.specs.declared.planned.ControlPlan.{ControlPlan}
+use Rattle.tplg_graph.specs.declared.pcm_caps.PcmCaps.{PcmCaps}
 use Rattle.tplg_graph.specs.Entries.{entries_of, interpreted}
-use Rattle.tplg_graph.specs.Lists.{joins_of, components_on, edges_on, pipes_on, streams_on, names_on, widgets_on}
+use Rattle.std.specs.List.{filter_map}
+use Rattle.tplg_graph.specs.Ends.{all_ends, real_of}
+use Rattle.tplg_graph.specs.PcmList.{pcms_of}
+use Rattle.tplg_graph.specs.Lists.{joins_of, components_on, edges_on, pipes_on, streams_on, controls_on, names_on, widgets_on}
 
 -- the interpreted widgets: an id is a place in this list
 abbrev pub ids : Topology → List Entry
@@ -26,21 +31,32 @@ abbrev pub pipelines_of : Topology → List Pipe
 pipelines_of t = pipes_on (entries_of t) (ids t)
 
 abbrev pub streams_of : Topology → List StreamPlan
-streams_of t = streams_on (ids t)
+streams_of t = streams_on (ids t) (pcms_of t)
+
+abbrev pub controls_of : Topology → List ControlPlan
+controls_of t = controls_on (ids t)
 
 -- over the widgets, the interpreted ones and the real routes: the graph
 abbrev pub graph_on : List Entry → List Entry → List Join → Graph
 graph_on es ps js = record { comps = components_on ps js; edges = edges_on ps js; pipes = pipes_on es ps; joins = js }
 
--- and the plan
-abbrev pub plan_on : List Entry → List Entry → List Join → Plan
-plan_on es ps js = record {
-  graph = graph_on es ps js;
-  streams = streams_on ps;
+-- the plan with a graph, over the PCMs too
+abbrev pub plan_with : List Entry → List PcmCaps → Graph → Plan
+plan_with ps pcms graph = record {
+  graph = graph;
+  streams = streams_on ps pcms;
+  controls = controls_on ps;
   names = names_on ps;
   widgets = widgets_on ps;
 }
 
+abbrev pub plan_on : List Entry → List Entry → List PcmCaps → List Join → Plan
+plan_on es ps pcms js = plan_with ps pcms (graph_on es ps js)
+
+-- over the routes of a topology
+abbrev pub plan_over : List Entry → List Entry → List PcmCaps → Topology → Plan
+plan_over es ps pcms t = plan_on es ps pcms (filter_map real_of (all_ends es t))
+
 -- a topology's plan has the lists of its graph
 abbrev pub plan_of : Topology → Plan
-plan_of t = plan_on (entries_of t) (ids t) (joins_of t)
+plan_of t = plan_on (entries_of t) (ids t) (pcms_of t) (joins_of t)

@@ -7,6 +7,7 @@ use Rattle.stream_law.specs.declared.graph.Kind.TheVariants.{HostPlay, DaiPlay}
 use Rattle.stream_law.specs.declared.graph.Setting.TheVariants.{Nothing}
 pub use Rattle.tplg_graph.specs.Tokens.{format_number}
 use Rattle.tplg_graph.specs.Printable.{is_widget_name}
+use Rattle.tplg_model.specs.declared.pcm.Caps.{Caps}
 use Rattle.tplg_graph.specs.declared.planned.Plan.{Plan}
 use Rattle.tplg_graph.specs.declared.planned.WidgetPlan.{WidgetPlan}
 
@@ -46,6 +47,7 @@ pub record IsThinPlan (plan : Plan) : Type 0 where
   pub size : ℕ
   pub format : Format
   pub sched : ℕ
+  pub caps : Caps
   pub host_name : List ℕ
   pub buffer_name : List ℕ
   pub dai_name : List ℕ
@@ -55,7 +57,8 @@ pub record IsThinPlan (plan : Plan) : Type 0 where
   pub dai : WidgetPlan
   pub scheduler : WidgetPlan
   pub graph : plan.graph ≡ thin_graph pipe size format sched
-  pub streams : plan.streams ≡ record { host = 0; capture = false } ∷ []
+  pub streams : plan.streams ≡ record { host = 0; capture = false; caps = caps } ∷ []
+  pub controls : plan.controls ≡ []
   pub names : plan.names ≡ host_name ∷ buffer_name ∷ dai_name ∷ scheduler_name ∷ []
   pub widgets : plan.widgets ≡ host ∷ buffer ∷ dai ∷ scheduler ∷ []
   pub pipe_fits : pipe < 2 ^ 32

@@ -1,11 +1,11 @@
 -- The same as a test: whether a topology is thin.
-use Rattle.std.specs.Prelude.{ℕ, zero, suc, List, [], ◌∷◌, length, Bool, true, false, ◌&&◌, ◌==◌, Option, Some, None}
+use Rattle.std.specs.Prelude.{ℕ, zero, suc, List, [], ◌∷◌, length, Bool, true, false, ◌&&◌, ◌==◌}
 use Rattle.std.specs.List.{filter_map}
 use Rattle.stream_law.specs.declared.graph.Join.{Join}
 use Rattle.tplg_model.specs.declared.block.Topology.{Topology}
 use Rattle.tplg_graph.specs.declared.entry.Entry.{Entry}
 use Rattle.tplg_graph.specs.declared.route_end.End.{End}
-use Rattle.tplg_graph.specs.declared.route_end.End.TheVariants.{Buffer, Component, Other, Missing}
+use Rattle.tplg_graph.specs.declared.route_end.End.TheVariants.{Buffer, Component}
 use Rattle.tplg_graph.specs.declared.route_end.Ends.{Ends}
 use Rattle.tplg_graph.specs.Entries.{entries_of, interpreted, is_host_play, is_buffer, is_dai, is_scheduler}
 use Rattle.tplg_graph.specs.Ends.{ends_in, real_of}

@@ -7,6 +7,8 @@ use Rattle.tplg_model.specs.TokenValues.{number_of, text_of}
 use Rattle.tplg_model.specs.declared.tokens.TokenArray.{TokenArray}
 use Rattle.tplg_graph.specs.declared.tokens.FormatToken.{FormatToken}
 use Rattle.tplg_graph.specs.declared.tokens.FormatToken.TheVariants.{Absent, Known, Unknown}
+use Rattle.tplg_graph.specs.declared.tokens.Process.{Process}
+use Rattle.tplg_graph.specs.declared.tokens.Process.TheVariants.{Equaliser, Other}
 use Rattle.tplg_graph.specs.declared.tokens.WidgetTokens.{WidgetTokens}
 
 -- the texts `s16le`, `s24le` and `s32le`
@@ -32,6 +34,18 @@ abbrev pub format_token : Option (List ℕ) → FormatToken
 format_token None = Absent
 format_token (Some text) = named_format text
 
+-- the text `EQIIR`
+abbrev pub eqiir : List ℕ
+eqiir = 69 ∷ 81 ∷ 73 ∷ 73 ∷ 82 ∷ []
+
+abbrev pub named_process : List ℕ → Process
+named_process text = if bytes_eq text eqiir then Equaliser else Other
+
+-- what a widget says of what it does, where it has such a token
+abbrev pub process_token : Option (List ℕ) → Process
+process_token None = Other
+process_token (Some text) = named_process text
+
 -- a widget's tokens by their numbers
 abbrev pub tokens_of : List TokenArray → WidgetTokens
 tokens_of arrays = record {
@@ -47,6 +61,7 @@ tokens_of arrays = record {
   periods_sink = number_of arrays 400;
   periods_source = number_of arrays 401;
   format = format_token (text_of arrays 402);
+  process = process_token (text_of arrays 900);
 }
 
 -- the format of a DAI's samples; S32 where it says none

@@ -2,6 +2,7 @@
 ghost use Rattle.std.specs.Prelude.{◌≡◌, ◌++◌, ◌≤◌, IfOk, OnOk, length, map};
 ghost use Rattle.tplg_graph.specs.Entries as law;
 
+use crate::live_control::{LiveControl, live_again, live_of};
 use crate::tokens::{WidgetTokens, tokens_of};
 use sof_base::{Name44, NoMemory};
 use std::alloc::{AllocError, Global};
@@ -21,8 +22,8 @@ pub enum Role {
     Scheduler,
 }
 
-/// What the rules see of a widget: its block's index, its role where it is interpreted, its name and its stream's name, and
-/// its tokens.
+/// What the rules see of a widget: its block's index, its role where it is interpreted, its name and its stream's name, its
+/// tokens, and its live control.
 #[derive(Debug, Drop)]
 pub struct Entry {
     pub index: u32,
@@ -30,6 +31,7 @@ pub struct Entry {
     pub name: Name44,
     pub sname: Name44,
     pub tokens: WidgetTokens,
+    pub control: Option<LiveControl>,
 }
 
 /// The role of a widget with this id of the standard.
@@ -81,6 +83,24 @@ pub fn is_host_play(entry: &Entry) -> bool
     matches!(entry.role, Some(Role::HostPlay))
 }
 
+pub fn is_host_capture(entry: &Entry) -> bool
+    ensures { result ≡ law.is_host_capture entry.now }
+{
+    matches!(entry.role, Some(Role::HostCapture))
+}
+
+pub fn is_equaliser(entry: &Entry) -> bool
+    ensures { result ≡ law.is_equaliser entry.now }
+{
+    matches!(entry.role, Some(Role::Eq))
+}
+
+pub fn has_control(entry: &Entry) -> bool
+    ensures { result ≡ law.has_control entry.now }
+{
+    entry.control.is_some()
+}
+
 pub fn is_component(entry: &Entry) -> bool
     ensures { result ≡ law.is_component entry.now }
 {
@@ -92,44 +112,66 @@ pub fn is_component(entry: &Entry) -> bool
     }
 }
 
-fn entry_of(index: u32, widget: &Widget) -> Entry
-    ensures { result ≡ law.entry_of index widget.now }
+fn entry_of(alloc: Global, index: u32, widget: &Widget) -> Result<Entry, AllocError>
+    ensures { IfOk result (λ e. e ≡ law.entry_of index widget.now) }
 {
-    Entry {
+    let role = role_of(widget.id);
+    let control = live_of(alloc, role, widget.controls.items())?;
+    Ok(Entry {
         index,
-        role: role_of(widget.id),
+        role,
         name: widget.name.copied(),
         sname: widget.sname.copied(),
         tokens: tokens_of(widget.tokens.items()),
+        control,
+    })
+}
+
+fn control_again(
+    alloc: Global,
+    control: &Option<LiveControl>,
+) -> Result<Option<LiveControl>, AllocError>
+    ensures { IfOk result (λ copy. copy ≡ control.now) }
+{
+    match control {
+        None => Ok(None),
+        Some(live) => Ok(Some(live_again(alloc, live)?)),
     }
 }
 
-fn copied(entry: &Entry) -> Entry
-    ensures { result ≡ entry.now }
+fn entry_again(alloc: Global, entry: &Entry) -> Result<Entry, AllocError>
+    ensures { IfOk result (λ copy. copy ≡ entry.now) }
 {
-    Entry {
+    let control = control_again(alloc, &entry.control)?;
+    Ok(Entry {
         index: entry.index,
         role: entry.role,
         name: entry.name.copied(),
         sname: entry.sname.copied(),
         tokens: entry.tokens,
-    }
+        control,
+    })
 }
 
-fn add_widgets(index: u32, widgets: &[Widget], out: &mut Vec<Entry>) -> Result<(), AllocError>
+fn add_widgets(
+    alloc: Global,
+    index: u32,
+    widgets: &[Widget],
+    out: &mut Vec<Entry>,
+) -> Result<(), AllocError>
     ensures { OnOk result (out.new.items ≡ out.old.items ++ map (law.entry_of index) widgets.now) }
 {
     for widget in widgets {
-        out.push(entry_of(index, widget))?;
+        out.push(entry_of(alloc, index, widget)?)?;
     }
     Ok(())
 }
 
-fn add_block(block: &Block, out: &mut Vec<Entry>) -> Result<(), AllocError>
+fn add_block(alloc: Global, block: &Block, out: &mut Vec<Entry>) -> Result<(), AllocError>
     ensures { OnOk result (out.new.items ≡ out.old.items ++ law.entries_in block.now) }
 {
     match &block.body {
-        Body::Widgets(widgets) => add_widgets(block.index, widgets.items(), out),
+        Body::Widgets(widgets) => add_widgets(alloc, block.index, widgets.items(), out),
         _ => Ok(()),
     }
 }
@@ -140,7 +182,7 @@ pub fn entries(alloc: Global, topology: &Topology) -> Result<Vec<Entry>, AllocEr
 {
     let mut out = Vec::new(alloc);
     for block in topology.blocks.items() {
-        add_block(block, &mut out)?;
+        add_block(alloc, block, &mut out)?;
     }
     Ok(out)
 }
@@ -152,7 +194,7 @@ pub fn interpreted(alloc: Global, entries: &[Entry]) -> Result<Vec<Entry>, Alloc
     let mut out = Vec::new(alloc);
     for entry in entries {
         if is_interpreted(entry) {
-            out.push(copied(entry))?;
+            out.push(entry_again(alloc, entry)?)?;
         }
     }
     Ok(out)

@@ -10,6 +10,7 @@ ghost use Rattle.tplg_graph.specs.Lists as law;
 ghost use Rattle.tplg_graph.specs.ThinPlan.{FitsWords};
 
 use crate::entry::{Entry, Role, is_buffer, is_scheduler};
+use crate::pcm_caps::{PcmCaps, caps_of};
 use crate::planned::{StreamPlan, WidgetPlan};
 use crate::route_end::{End, end_of};
 use crate::tokens::{FormatToken, format_number, format_of};
@@ -176,36 +177,46 @@ pub fn pipes(
         .collect(alloc)
 }
 
-fn stream_of(id: u32, role: Option<Role>) -> Option<StreamPlan>
-    ensures { result ≡ law.stream_of id role }
+/// The stream of a host with a stream name, where a PCM has caps of that name.
+fn stream_on(pcms: &[PcmCaps], host: u32, capture: bool, sname: &[u8]) -> Option<StreamPlan>
+    ensures { result ≡ law.stream_on pcms.now host capture sname.now }
+{
+    let caps = caps_of(pcms, capture, sname)?;
+    Some(StreamPlan {
+        host,
+        capture,
+        caps,
+    })
+}
+
+fn stream_of(pcms: &[PcmCaps], id: u32, role: Option<Role>, sname: &[u8]) -> Option<StreamPlan>
+    ensures { result ≡ law.stream_of pcms.now id role sname.now }
 {
     match role {
-        Some(Role::HostPlay) => Some(StreamPlan {
-            host: id,
-            capture: false,
-        }),
-        Some(Role::HostCapture) => Some(StreamPlan {
-            host: id,
-            capture: true,
-        }),
+        Some(Role::HostPlay) => stream_on(pcms, id, false, sname),
+        Some(Role::HostCapture) => stream_on(pcms, id, true, sname),
         _ => None,
     }
 }
 
-fn stream_at(parts: &[Entry], id: u32) -> Option<StreamPlan>
-    ensures { result ≡ law.stream_at parts.now id }
+fn stream_at(parts: &[Entry], pcms: &[PcmCaps], id: u32) -> Option<StreamPlan>
+    ensures { result ≡ law.stream_at parts.now pcms.now id }
 {
     let entry = parts.get(id as usize)?;
-    stream_of(id, entry.role)
+    stream_of(pcms, id, entry.role, entry.sname.as_bytes())
 }
 
 /// The streams by the ids of their hosts.
-pub fn streams(alloc: Global, parts: &[Entry]) -> Result<Vec<StreamPlan>, AllocError>
+pub fn streams(
+    alloc: Global,
+    parts: &[Entry],
+    pcms: &[PcmCaps],
+) -> Result<Vec<StreamPlan>, AllocError>
     requires { length parts.now < 2 ^ 32 }
-    ensures { IfOk result (λ xs. xs.items ≡ law.streams_on parts.now) }
+    ensures { IfOk result (λ xs. xs.items ≡ law.streams_on parts.now pcms.now) }
 {
     (0..parts.len() as u32)
-        .filter_map(|id| stream_at(parts, id))
+        .filter_map(|id| stream_at(parts, pcms, id))
         .collect(alloc)
 }
 

@@ -3,19 +3,32 @@
 #![tactic(auto)]
 
 mod by_name;
+mod control_lists;
 mod entry;
 mod graph_lists;
 mod heap_need;
+mod live_control;
 mod making;
+mod pcm_caps;
 mod plan_fault;
 mod planned;
+mod record_rules;
 mod route_end;
+mod route_rules;
 mod rule_checks;
+mod rule_faults;
+mod rule_groups;
+#[cfg(test)]
+mod tests;
 mod thin_form;
 mod tokens;
+mod volume_gain;
+mod walk_rules;
+mod walks;
 
 pub use heap_need::need;
 pub use making::plan;
 pub use plan_fault::PlanFault;
-pub use planned::{Plan, StreamPlan, WidgetPlan};
+pub use planned::{ControlKind, ControlPlan, Plan, StreamPlan, WidgetPlan};
 pub use thin_form::is_thin;
+pub use volume_gain::gain;

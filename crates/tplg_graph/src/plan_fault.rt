@@ -1,4 +1,4 @@
-ghost use Rattle.std.specs.Prelude.{◌≡◌};
+ghost use Rattle.std.specs.Prelude.{◌≡◌, ◌<◌, ◌^◌, Err, IfSome, IsOk, MatchOption};
 
 use std::alloc::AllocError;
 
@@ -16,5 +16,19 @@ impl From<AllocError> for PlanFault {
 
     fn from(_error: AllocError) -> PlanFault {
         PlanFault::OutOfMemory
+    }
+}
+
+/// The error that tells a rule and an item, where an item fails.
+pub fn told(rule: u8, failing: Option<usize>) -> Result<(), PlanFault>
+    requires { IfSome failing (λ item. item < 2 ^ 32) }
+    ensures { MatchOption failing (IsOk result) (λ item. result ≡ Err (PlanFault.Rule rule item)) }
+{
+    match failing {
+        None => Ok(()),
+        Some(item) => Err(PlanFault::Rule {
+            rule,
+            item: item as u32,
+        }),
     }
 }

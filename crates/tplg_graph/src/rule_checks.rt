@@ -12,6 +12,7 @@ ghost use Rattle.tplg_graph.specs.Table as law;
 
 use crate::entry::{Entry, is_buffer, is_dai, is_interpreted, is_scheduler};
 use crate::route_end::{End, end_of};
+use crate::route_rules::id_at;
 use crate::tokens::FormatToken;
 use std::collections::HashMap;
 use stream_law::Join;
@@ -179,23 +180,6 @@ fn is_format(format: FormatToken) -> bool
     ensures { result ≡ law.is_format format }
 {
     !matches!(format, FormatToken::Unknown)
-}
-
-fn count_interpreted(entries: &[Entry]) -> usize
-    ensures { result ≡ count_by is_interpreted entries.now }
-{
-    entries.iter().filter(|e| is_interpreted(*e)).count()
-}
-
-/// The id of an interpreted widget: how many interpreted ones stand before it.
-fn id_at(entries: &[Entry], k: usize) -> usize
-    ensures { result ≡ id_of entries.now k }
-{
-    if k < entries.len() {
-        count_interpreted(&entries[..k])
-    } else {
-        count_interpreted(entries)
-    }
 }
 
 /// Whether a real route ends at the widget of this number.

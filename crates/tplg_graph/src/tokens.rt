@@ -15,9 +15,16 @@ pub enum FormatToken {
     Unknown,
 }
 
+/// What a widget says of what it does.
+#[derive(Clone, Copy, Debug, PartialEq, Eq)]
+pub enum Process {
+    Equaliser,
+    Other,
+}
+
 /// A widget's tokens: a buffer's size in bytes and its caps, a DAI's number and direction (0 is playback, 1 is capture), a
 /// scheduler's period in µs, priority, million instructions a second, frames a period and time domain, and the period counts
-/// of sink and source.
+/// of sink and source, its format and what it does.
 #[derive(Clone, Copy, Debug, PartialEq, Eq)]
 pub struct WidgetTokens {
     pub size: Option<u32>,
@@ -32,6 +39,7 @@ pub struct WidgetTokens {
     pub periods_sink: Option<u32>,
     pub periods_source: Option<u32>,
     pub format: FormatToken,
+    pub process: Process,
 }
 
 /// The number of the first element with a token.
@@ -135,6 +143,25 @@ fn format_token(arrays: &[TokenArray]) -> FormatToken
     }
 }
 
+fn named_process(text: &[u8]) -> Process
+    ensures { result ≡ law.named_process text.now }
+{
+    if text == b"EQIIR".as_slice() {
+        Process::Equaliser
+    } else {
+        Process::Other
+    }
+}
+
+fn process_token(arrays: &[TokenArray]) -> Process
+    ensures { result ≡ law.process_token (values.text_of arrays.now 900) }
+{
+    match text_of(arrays, 900) {
+        None => Process::Other,
+        Some(text) => named_process(text),
+    }
+}
+
 /// A widget's tokens by their numbers.
 pub fn tokens_of(arrays: &[TokenArray]) -> WidgetTokens
     ensures { result ≡ law.tokens_of arrays.now }
@@ -152,6 +179,7 @@ pub fn tokens_of(arrays: &[TokenArray]) -> WidgetTokens
         periods_sink: number_of(arrays, 400),
         periods_source: number_of(arrays, 401),
         format: format_token(arrays),
+        process: process_token(arrays),
     }
 }
 

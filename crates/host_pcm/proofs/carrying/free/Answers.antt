@@ -6,7 +6,6 @@ use Rattle.host_widgets.specs.Host.{Outcome, Agrees}
 use Rattle.host_widgets.proofs.Walks.{handed_on}
 use Rattle.host_pcm.specs.declared.asking.Ask.TheVariants.{Closing}
 use Rattle.host_pcm.specs.Carried.{Walks}
-use Rattle.host_widgets.proofs.ThinRecords.{only_stream}
 use Rattle.host_pcm.proofs.ThinStream.{host-is}
 use Rattle.host_pcm.proofs.StreamCalls.{free-done, free-ended}
 use Rattle.host_pcm.proofs.carrying.free.Goals as goal
@@ -18,7 +17,7 @@ returns-in_err-pass-clause-walk g c =
     let kept = c.args.kept.now in
     let w = world c.args.dsp.now c.args.io.now c.args.out.now in
     let v = world c.pass.new.dsp c.pass.new.io c.pass.new.out in
-    let host = ap (λ (s : StreamPlan). s.host) (host-is means plan c.requires.plan c.args.heap c.args.place c.requires.place kept w c.requires.agree c.requires.power c.items.result.now only_stream c.items.ensures) in
+    let host = ap (λ (s : StreamPlan). s.host) (host-is means plan c.requires.plan c.args.heap c.args.place c.requires.place kept w c.requires.agree c.requires.power c.items.result.now _ c.items.ensures) in
     let both = free-ended means plan c.requires.plan c.args.heap c.args.place c.requires.place kept w c.requires.agree c.requires.power c.requires.found _ _ refl host c.pass.new.kept v c.pass.result c.pass.ensures c.in_err-pass.field-0.0 c.in_err-pass.was in
     subst (λ (o : Outcome). Walks means plan c.args.heap c.args.place Closing kept c.pass.new.kept w v o) (sym (handed_on c.from_residual.result c.in_err-pass.field-0.0 c.from_residual.ensures)) both.0
 
@@ -29,7 +28,7 @@ returns-in_err-pass-clause-agree g c =
     let kept = c.args.kept.now in
     let w = world c.args.dsp.now c.args.io.now c.args.out.now in
     let v = world c.pass.new.dsp c.pass.new.io c.pass.new.out in
-    let host = ap (λ (s : StreamPlan). s.host) (host-is means plan c.requires.plan c.args.heap c.args.place c.requires.place kept w c.requires.agree c.requires.power c.items.result.now only_stream c.items.ensures) in
+    let host = ap (λ (s : StreamPlan). s.host) (host-is means plan c.requires.plan c.args.heap c.args.place c.requires.place kept w c.requires.agree c.requires.power c.items.result.now _ c.items.ensures) in
     (free-ended means plan c.requires.plan c.args.heap c.args.place c.requires.place kept w c.requires.agree c.requires.power c.requires.found _ _ refl host c.pass.new.kept v c.pass.result c.pass.ensures c.in_err-pass.field-0.0 c.in_err-pass.was).1
 
 pub returns-clause-walk : goal.returns-clause-walk
@@ -39,7 +38,7 @@ returns-clause-walk g c =
     let kept = c.args.kept.now in
     let w = world c.args.dsp.now c.args.io.now c.args.out.now in
     let v = world c.pass.new.dsp c.pass.new.io c.pass.new.out in
-    let host = ap (λ (s : StreamPlan). s.host) (host-is means plan c.requires.plan c.args.heap c.args.place c.requires.place kept w c.requires.agree c.requires.power c.items.result.now only_stream c.items.ensures) in
+    let host = ap (λ (s : StreamPlan). s.host) (host-is means plan c.requires.plan c.args.heap c.args.place c.requires.place kept w c.requires.agree c.requires.power c.items.result.now _ c.items.ensures) in
     subst (λ (new : Record). Walks means plan c.args.heap c.args.place Closing kept new w v (Ok tt)) (sym c.shut.ensures)
     (free-done means plan c.requires.plan c.args.heap c.args.place c.requires.place kept w c.requires.agree c.requires.power c.requires.found _ _ refl host c.pass.new.kept v c.pass.result c.pass.ensures c.in_ok-pass.was _
     refl _ refl).0
@@ -51,7 +50,7 @@ returns-clause-agree g c =
     let kept = c.args.kept.now in
     let w = world c.args.dsp.now c.args.io.now c.args.out.now in
     let v = world c.pass.new.dsp c.pass.new.io c.pass.new.out in
-    let host = ap (λ (s : StreamPlan). s.host) (host-is means plan c.requires.plan c.args.heap c.args.place c.requires.place kept w c.requires.agree c.requires.power c.items.result.now only_stream c.items.ensures) in
+    let host = ap (λ (s : StreamPlan). s.host) (host-is means plan c.requires.plan c.args.heap c.args.place c.requires.place kept w c.requires.agree c.requires.power c.items.result.now _ c.items.ensures) in
     subst (λ (new : Record). Agrees means plan new v.device) (sym c.shut.ensures)
     (free-done means plan c.requires.plan c.args.heap c.args.place c.requires.place kept w c.requires.agree c.requires.power c.requires.found _ _ refl host c.pass.new.kept v c.pass.result c.pass.ensures c.in_ok-pass.was _
     refl _ refl).1

@@ -1,34 +1,25 @@
-use Rattle.std.proofs.Common.{true, false, sym, ◌∙◌}
-use Rattle.sof_script.specs.Text.{answer_line}
-use Rattle.sof_session.specs.Turns.{life, shown_by, ports}
-use Rattle.sof_run.proofs.Commands.{played_built, carried, line_failed, line_said, shown_none, shown_all}
+use Rattle.std.proofs.Common.{◌∙◌}
+use Rattle.sof_session.specs.Turns.{life}
+use Rattle.sof_run.specs.Rounds.{earlier as units_before}
+use Rattle.sof_run.proofs.Commands.{rounds_on, rounds_off, rounds_last}
 use Rattle.sof_run.proofs.carry.do_command.Goals as goal
 
-pub returns-then-not-is_ok-clause-phase : goal.returns-then-not-is_ok-clause-phase
-returns-then-not-is_ok-clause-phase g c =
-    let means = g.D.Desk.means in
+pub loop-preserved : goal.loop-preserved
+loop-preserved g c =
     let numbered = c.args.numbered.now in
-    let shown = shown_by numbered.command c.args.session.now in
-    carried means (life g.P.Dsp.means) numbered c.step-answer.result shown false _ _ _ _ c.step-answer.ensures.turned
-    (line_failed means (answer_line numbered.line c.step-answer.result) shown _ _ (rw (sym c.is_ok.ensures.value ∙ c.if-not-is_ok.true, c.bytes.ensures ∙ c.write_line.ensures) at c.say.ensures))
+    record {
+      plan = c.do_round.ensures.plan ∙ c.loop.invariant.plan;
+      created = c.do_round.ensures.created;
+      empty = c.do_round.ensures.empty;
+      so_far = rounds_on g.D.Desk.means (life g.P.Dsp.means) numbered (units_before numbered.command) c.loop.counter _ _ _ _ _ _ c.loop.invariant.so_far (rw c.earlier-end.ensures at c.loop-test.true) (rw c.if-not-do_round.false at c.do_round.ensures.phase);
+    }
 
-pub returns-else-shows-clause-phase : goal.returns-else-shows-clause-phase
-returns-else-shows-clause-phase g c =
-    let means = g.D.Desk.means in
+pub returns-then-not-do_round-clause-phase : goal.returns-then-not-do_round-clause-phase
+returns-then-not-do_round-clause-phase g c =
     let numbered = c.args.numbered.now in
-    let shown = shown_by numbered.command c.args.session.now in
-    carried means (life g.P.Dsp.means) numbered c.step-answer.result shown true _ _ _ _ c.step-answer.ensures.turned
-    (line_said means (answer_line numbered.line c.step-answer.result) shown true _ _ _ (rw (sym c.is_ok.ensures.value ∙ c.if-not-is_ok.false, c.bytes.ensures ∙ c.write_line.ensures) at c.say.ensures)
-    (shown_none means g.P.Dsp.means numbered.command c.args.session.now _ (sym c.shows.ensures ∙ c.if-shows.false)))
+    rounds_off g.D.Desk.means (life g.P.Dsp.means) numbered (units_before numbered.command) c.loop.counter _ _ _ _ _ _ c.loop.invariant.so_far (rw c.earlier-end.ensures at c.loop-test.true) (rw c.if-not-do_round.true at c.do_round.ensures.phase)
 
-pub returns-then-shows-clause-phase : goal.returns-then-shows-clause-phase
-returns-then-shows-clause-phase g c =
-    let means = g.D.Desk.means in
+pub returns-clause-phase : goal.returns-clause-phase
+returns-clause-phase g c =
     let numbered = c.args.numbered.now in
-    let shown = shown_by numbered.command c.args.session.now in
-    carried means (life g.P.Dsp.means) numbered c.step-answer.result shown c.say_shown.result _ _ _ _ c.step-answer.ensures.turned
-    (line_said means (answer_line numbered.line c.step-answer.result) shown c.say_shown.result _ _ _ (rw (sym c.is_ok.ensures.value ∙ c.if-not-is_ok.false, c.bytes.ensures ∙ c.write_line.ensures) at c.say.ensures)
-    (shown_all means g.P.Dsp.means numbered.command c.args.session.now c.step-answer.new.self (ports c.args.inputs.now c.args.outputs.now) (ports c.step-answer.new.io c.step-answer.new.out) c.step-answer.result c.say_shown.result _ _ (sym c.shows.ensures ∙ c.if-shows.true) c.step-answer.ensures.ran c.say_shown.ensures))
-
-pub step-answer-requires-clause-built : goal.step-answer-requires-clause-built
-step-answer-requires-clause-built g c = played_built c.args.numbered.now.command c.requires.played
+    rounds_last g.D.Desk.means (life g.P.Dsp.means) numbered (units_before numbered.command) c.loop.counter _ _ _ _ _ _ c.loop.invariant.so_far c.do_round-2.result (rw c.earlier-end.ensures at c.loop-test.false) c.do_round-2.ensures.phase

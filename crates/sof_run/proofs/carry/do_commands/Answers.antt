@@ -1,10 +1,11 @@
 use Rattle.std.proofs.Common.{◌≤◌, length, sym, subst}
 use Rattle.std.proofs.lemmas.List.{drop_all}
-use Rattle.sof_base.specs.Ports.{HasRoom}
+use Rattle.sof_io.specs.Bound.{output_slots}
 use Rattle.tplg_graph.specs.ThinPlan.{IsThinPlan}
 use Rattle.sof_session.specs.Turns.{Seated, life}
+use Rattle.sof_run.specs.Rounds.{command_rounds}
 use Rattle.sof_run.specs.Todo.{Phase}
-use Rattle.sof_run.specs.Play.{command_todo}
+use Rattle.sof_run.specs.Play.{rounds_todo}
 use Rattle.sof_run.proofs.Commands.{commands_on, commands_off}
 use Rattle.sof_run.proofs.carry.do_commands.Goals as goal
 
@@ -12,17 +13,18 @@ pub returns-then-not-do_command : goal.returns-then-not-do_command
 returns-then-not-do_command g c =
     let means = g.D.Desk.means in
     let dsp = life g.P.Dsp.means in
-    let phase = subst (λ n. Phase means dsp (command_todo n) c.do_command.result c.loop-numbered.desk (Seated c.loop-numbered.session) c.do_command.new.desk (Seated c.do_command.new.session)) c.numbered-item.is c.do_command.ensures.phase in
+    let phase = subst (λ n. Phase means dsp (rounds_todo (command_rounds n)) c.do_command.result c.loop-numbered.desk (Seated c.loop-numbered.session c.loop-numbered.inputs (output_slots c.loop-numbered.outputs)) c.do_command.new.desk (Seated c.do_command.new.session c.do_command.new.inputs (output_slots c.do_command.new.outputs))) c.numbered-item.is c.do_command.ensures.phase in
     commands_off means dsp c.args.commands.now c.loop-numbered.numbered-index _ _ _ _ _ _ _ c.loop-numbered-test.true c.loop-numbered.invariant.so_far (rw c.if-not-do_command.true at phase)
 
 pub loop-numbered-preserved : goal.loop-numbered-preserved
 loop-numbered-preserved g c =
     let means = g.D.Desk.means in
     let dsp = life g.P.Dsp.means in
-    let phase = subst (λ n. Phase means dsp (command_todo n) c.do_command.result c.loop-numbered.desk (Seated c.loop-numbered.session) c.do_command.new.desk (Seated c.do_command.new.session)) c.numbered-item.is c.do_command.ensures.phase in
+    let phase = subst (λ n. Phase means dsp (rounds_todo (command_rounds n)) c.do_command.result c.loop-numbered.desk (Seated c.loop-numbered.session c.loop-numbered.inputs (output_slots c.loop-numbered.outputs)) c.do_command.new.desk (Seated c.do_command.new.session c.do_command.new.inputs (output_slots c.do_command.new.outputs))) c.numbered-item.is c.do_command.ensures.phase in
     record {
       thin = subst IsThinPlan (sym c.do_command.ensures.plan) c.loop-numbered.invariant.thin;
-      room = subst (HasRoom 0) (sym c.do_command.ensures.outputs) c.loop-numbered.invariant.room;
+      created = c.do_command.ensures.created;
+      empty = c.do_command.ensures.empty;
       so_far = commands_on means dsp c.args.commands.now c.loop-numbered.numbered-index _ _ _ _ _ _ _ c.loop-numbered-test.true c.loop-numbered.invariant.so_far (rw c.if-not-do_command.false at phase);
     }
 

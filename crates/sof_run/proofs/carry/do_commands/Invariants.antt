@@ -1,16 +1,21 @@
-use Rattle.std.proofs.Common.{drop}
-use Rattle.sof_base.specs.Ports.{HasRoom}
+use Rattle.std.proofs.Common.{◌≡◌, drop}
+use Rattle.sof_base.specs.Ports.{drained}
+use Rattle.sof_io.specs.Bound.{output_slots}
 use Rattle.tplg_graph.specs.ThinPlan.{IsThinPlan}
 use Rattle.sof_session.specs.Turns.{life, Seated}
 use Rattle.sof_run.specs.Todo.{Follows}
 use Rattle.sof_run.specs.Play.{commands_todo}
+use Rattle.sof_run.specs.Opening.{AreCreated}
 use Rattle.sof_run.proofs.carry.do_commands.Given as goal
 
 -- the commands that are left, done, make all done
 abbrev pub invariant-loop-numbered : goal.invariant-loop-numbered
 invariant-loop-numbered g l =
+    let means = g.D.Desk.means in
     record {
       thin : IsThinPlan l.session.plan;
-      room : HasRoom 0 l.outputs;
-      so_far : Follows g.D.Desk.means (life g.P.Dsp.means) (commands_todo l.commands) (commands_todo (drop l.numbered-index l.commands)) l.fn.desk (Seated l.fn.session) l.desk (Seated l.session);
+      created : AreCreated means (output_slots l.outputs) l.desk;
+      empty : drained l.outputs ≡ l.outputs;
+      so_far : Follows means (life g.P.Dsp.means) (commands_todo l.commands) (commands_todo (drop l.numbered-index l.commands))
+          l.fn.desk (Seated l.fn.session l.fn.inputs (output_slots l.fn.outputs)) l.desk (Seated l.session l.inputs (output_slots l.outputs));
     }

@@ -6,16 +6,25 @@ use Rattle.sof_run.proofs.carry.say_shown.Goals as goal
 pub returns-then-not-is_ok : goal.returns-then-not-is_ok
 returns-then-not-is_ok g c =
     let lines = show_lines c.args.session.now.plan c.args.session.now.kept in
-    leads_off g.D.Desk.means lines c.loop-line.k c.show_line.new.line _ _ _ (rw c.loop-line-test.true at c.show_line.ensures.line) c.loop-line.invariant
-    (rw (sym c.is_ok.ensures.value ∙ c.if-not-is_ok.true, c.bytes.ensures ∙ c.say.ensures.said) at c.say-in-loop-line.ensures)
+    record {
+      phase = leads_off g.D.Desk.means lines c.loop-line.k c.show_line.new.line _ _ _ (rw c.loop-line-test.true at c.show_line.ensures.line) c.loop-line.invariant.so_far
+          (rw (sym c.is_ok.ensures.value ∙ c.if-not-is_ok.true, c.bytes.ensures ∙ c.say.ensures.said) at c.say-in-loop-line.ensures);
+      created = λ slot. c.say-in-loop-line.ensures.created slot ∙ c.loop-line.invariant.created slot;
+    }
 
 pub loop-line-preserved : goal.loop-line-preserved
 loop-line-preserved g c =
     let lines = show_lines c.args.session.now.plan c.args.session.now.kept in
-    leads_on g.D.Desk.means lines c.loop-line.k c.show_line.new.line _ _ _ (rw c.loop-line-test.true at c.show_line.ensures.line) c.loop-line.invariant
-    (rw (sym c.is_ok.ensures.value ∙ c.if-not-is_ok.false, c.bytes.ensures ∙ c.say.ensures.said) at c.say-in-loop-line.ensures)
+    record {
+      so_far = leads_on g.D.Desk.means lines c.loop-line.k c.show_line.new.line _ _ _ (rw c.loop-line-test.true at c.show_line.ensures.line) c.loop-line.invariant.so_far
+          (rw (sym c.is_ok.ensures.value ∙ c.if-not-is_ok.false, c.bytes.ensures ∙ c.say.ensures.said) at c.say-in-loop-line.ensures);
+      created = λ slot. c.say-in-loop-line.ensures.created slot ∙ c.loop-line.invariant.created slot;
+    }
 
 pub returns : goal.returns
 returns g c =
     let lines = show_lines c.args.session.now.plan c.args.session.now.kept in
-    leads_all g.D.Desk.means lines c.loop-line.k c.show_line.new.line _ _ (rw c.loop-line-test.false at c.show_line.ensures.line) c.loop-line.invariant
+    record {
+      phase = leads_all g.D.Desk.means lines c.loop-line.k c.show_line.new.line _ _ (rw c.loop-line-test.false at c.show_line.ensures.line) c.loop-line.invariant.so_far;
+      created = c.loop-line.invariant.created;
+    }

@@ -1,5 +1,6 @@
 use Rattle.std.proofs.Common.{◌-◌, drop, length}
 use Rattle.sof_session.specs.Show.{show_lines}
+use Rattle.sof_run.specs.Opening.{SameCreated}
 use Rattle.sof_run.proofs.Commands.{Leads}
 use Rattle.sof_run.proofs.carry.say_shown.Given as goal
 
@@ -7,7 +8,10 @@ use Rattle.sof_run.proofs.carry.say_shown.Given as goal
 abbrev pub invariant-loop-line : goal.invariant-loop-line
 invariant-loop-line g l =
     let lines = show_lines l.session.plan l.session.kept in
-    Leads g.D.Desk.means lines (drop l.k lines) l.fn.desk l.desk
+    record {
+      so_far : Leads g.D.Desk.means lines (drop l.k lines) l.fn.desk l.desk;
+      created : SameCreated g.D.Desk.means l.fn.desk l.desk;
+    }
 
 abbrev pub decreases-loop-line : goal.decreases-loop-line
 decreases-loop-line g l = length (show_lines l.session.plan l.session.kept) - l.k

@@ -1,3 +1,4 @@
+use Rattle.sof_script.specs.Commands.{told}
 use Rattle.sof_session.specs.Turns.{Bare, life}
 use Rattle.sof_run.specs.Words.{form}
 use Rattle.sof_run.proofs.Plays.{gave_bare, gave_alone, second_missing, halted_on, ready_on}
@@ -19,7 +20,7 @@ returns-in-Ok-prepare g c =
       is = gave.is;
       exit = gave.exit;
       ran = ready_on g.D.Desk.means (life g.P.Dsp.means) (form c.args.form.heap c.args.form.topology.now c.args.form.script.now) c.in-Ok.bytes.items c.in-Ok-fetch.bytes.items _ _ _ _ _ _ _ c.in-Ok.ensures c.in-Ok-fetch.ensures
-          c.in-Ok-prepare.ready.plan c.in-Ok-prepare.ready.script.commands (rw (c.deref.ensures.value, c.deref-2.ensures.value) at c.in-Ok-prepare.ensures.0) gave.ran;
+          c.in-Ok-prepare.ready.plan (told c.in-Ok-prepare.ready.script) (rw (c.deref.ensures.value, c.deref-2.ensures.value) at c.in-Ok-prepare.ensures.0) gave.ran;
     }
 
 pub returns : goal.returns

@@ -1,11 +1,13 @@
-use Rattle.std.proofs.Common.{sym, subst}
+use Rattle.std.proofs.Common.{[], sym, subst}
+use Rattle.sof_io.specs.Bound.{output_slots}
+use Rattle.sof_script.specs.Commands.{told}
 use Rattle.sof_session.specs.Seat.{new_seat}
 use Rattle.sof_session.specs.Turns.{Seated, life}
 use Rattle.sof_run.specs.Run.{Gave}
 use Rattle.sof_run.specs.Todo.{Free}
-use Rattle.sof_run.specs.Play.{session_todo}
-use Rattle.sof_run.proofs.Steps.{free_off}
-use Rattle.sof_run.proofs.Plays.{gave_alone, begin_on, session_done, free_ran}
+use Rattle.sof_run.specs.Play.{session_todo, ready_todo}
+use Rattle.sof_run.proofs.Steps.{free_on, free_off}
+use Rattle.sof_run.proofs.Plays.{gave_alone, begin_on, opened_on, session_done, free_ran}
 use Rattle.sof_run.proofs.play.do_session.Goals as goal
 
 pub returns-in-Ok-new-2 : goal.returns-in-Ok-new-2
@@ -13,18 +15,38 @@ returns-in-Ok-new-2 g c =
     let means = g.D.Desk.means in
     let device = g.P.Dsp.means in
     let plan = c.args.ready.plan in
-    let commands = c.args.ready.script.commands in
+    let read = told c.args.ready.script in
+    let inputs = c.open_all.new.inputs in
+    let outputs = c.open_all.new.outputs in
     record {
-      last = Seated c.do_commands-done.new.session;
+      last = Seated c.do_commands-done.new.session c.do_commands-done.new.inputs (output_slots c.do_commands-done.new.outputs);
       is = sym c.into_dsp.ensures.dsp;
       exit = c.into_dsp.ensures.agreed;
-      ran = free_ran means (life device) _ _ _ _ _ _
-          (begin_on means device plan c.args.heap commands _ _ c.args.dsp _ _
-          (rw c.status_of.ensures (session_done means (life device) commands c.do_commands-done.result _ _ (Seated (new_seat plan c.args.heap c.args.dsp)) _
-          (rw (c.items-commands.ensures, c.in-Ok-new-2.ensures) at c.do_commands-done.ensures))));
+      ran = opened_on means device plan c.args.heap inputs outputs c.args.dsp c.requires.off read _ _ _ _ _ (rw c.items-bindings.ensures at c.in_default-open_all.ensures.done)
+          (free_ran means (life device) _ _ _ _ _ _
+          (begin_on means device plan c.args.heap inputs outputs c.args.dsp c.requires.off read.commands _ _ _ _
+          (rw c.status_of.ensures (session_done means (life device) read.commands c.do_commands-done.result _ _ (Seated (new_seat plan c.args.heap c.args.dsp) inputs (output_slots outputs)) _
+          (rw (c.items-commands.ensures, c.in-Ok-new-2.ensures) at c.do_commands-done.ensures)))));
     }
 
+pub returns-in-Err : goal.returns-in-Err
+returns-in-Err g c =
+    let means = g.D.Desk.means in
+    let plan = c.args.ready.plan in
+    let read = told c.args.ready.script in
+    let stops = rw c.items-bindings.ensures at c.in-Err.ensures.done in
+    gave_alone means g.P.Dsp.means _ _ _ _ _
+    (free_on means (ready_todo c.args.heap plan read) [] _ _ _ (stops (λ inputs outputs. Free (session_todo c.args.heap plan read.commands inputs outputs))))
+
+-- memory was wanting behind the bindings
 pub returns : goal.returns
 returns g c =
-    subst (λ dsp. Gave g.D.Desk.means g.P.Dsp.means (Free (session_todo c.args.heap c.args.ready.plan c.args.ready.script.commands)) c.args.desk.now c.args.dsp c.stop_for-in-Err.result c.stop_for-in-Err.new.desk dsp) (sym c.in-Err.ensures)
-    (gave_alone g.D.Desk.means g.P.Dsp.means _ _ _ _ _ (free_off g.D.Desk.means (session_todo c.args.heap c.args.ready.plan c.args.ready.script.commands) _ _ _ c.stop_for-in-Err.ensures))
+    let means = g.D.Desk.means in
+    let plan = c.args.ready.plan in
+    let read = told c.args.ready.script in
+    let opens = rw c.items-bindings.ensures at c.in_default-open_all.ensures.done in
+    subst (λ dsp. Gave means g.P.Dsp.means (Free (ready_todo c.args.heap plan read)) c.args.desk.now c.args.dsp c.stop_for-in-Err-new.result c.stop_for-in-Err-new.new.desk dsp) (sym c.in-Err-new.ensures)
+    (gave_alone means g.P.Dsp.means _ _ _ _ _
+    (free_on means (ready_todo c.args.heap plan read) [] _ _ _
+    (opens (λ inputs outputs. Free (session_todo c.args.heap plan read.commands inputs outputs)) [] _ _
+    (free_off means (session_todo c.args.heap plan read.commands c.open_all.new.inputs c.open_all.new.outputs) _ _ _ c.stop_for-in-Err-new.ensures))))

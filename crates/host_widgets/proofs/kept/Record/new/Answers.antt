@@ -2,7 +2,7 @@ use Rattle.std.proofs.Common.{◌∙◌, sym, ap, map, take, ◌++◌, ◌∷◌
 use Rattle.std.proofs.lemmas.List.{take_more, map-append}
 use Rattle.tplg_graph.specs.declared.planned.StreamPlan.{StreamPlan}
 use Rattle.host_widgets.specs.declared.kept.StreamRec.{StreamRec}
-use Rattle.host_widgets.specs.HostRecord.{closed}
+use Rattle.host_widgets.specs.HostRecord.{closed, no_stream}
 use Rattle.host_widgets.proofs.kept.Record.new.Goals as goal
 
 pub loop-stream-preserved : goal.loop-stream-preserved
@@ -10,7 +10,7 @@ loop-stream-preserved c =
     let streams = c.args.plan.now.streams in
     let i = c.loop-stream._stream-index in
     let within : i < length streams = omega (arith, c.loop-stream-test.true, ap length c.items-stream-items.ensures) in
-    let one : StreamPlan = record { host = 0; capture = false } in
+    let one : StreamPlan = no_stream in
     c.in_ok-push.ensures.ok
     ∙ ap (λ (s : List StreamRec). s ++ closed ∷ []) c.loop-stream.invariant
     ∙ sym (map-append (λ (s : StreamPlan). closed) (take i streams) (get_or streams i one ∷ []))

@@ -13,6 +13,12 @@ invariant_of-self g c =
     let done = c.ask_stream-asked in
     AreAgreed-asked g.P.Dsp.means (record { link = inside.link; kept = inside.kept; plan = inside.plan; heap = inside.heap }) done.new.dsp done.new.kept (ports c.args.io.now c.args.out.now) (ports done.new.io done.new.out) c.args.name.now c.args.ask done.result c.self.invariant done.ensures.asked done.ensures.agree
 
+pub returns-clause-later : goal.returns-clause-later
+returns-clause-later g c =
+    let inside = c.self.inside in
+    let done = c.ask_stream-asked in
+    AreAgreed-asked g.P.Dsp.means (record { link = inside.link; kept = inside.kept; plan = inside.plan; heap = inside.heap }) done.new.dsp done.new.kept (ports c.args.io.now c.args.out.now) (ports done.new.io done.new.out) c.args.name.now c.args.ask done.result c.self.invariant done.ensures.asked done.ensures.agree
+
 pub returns-clause-inputs : goal.returns-clause-inputs
 returns-clause-inputs g c =
     let inside = c.self.inside in

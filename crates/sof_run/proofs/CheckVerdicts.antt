@@ -1,0 +1,304 @@
+-- What `check` ensures, from what it did.
+use Rattle.std.proofs.Common.{◌≡◌, ◌⊎◌, inl, inr, ℕ, ◌≤◌, ◌<◌, Bool, true, false, List, [], ◌∷◌, ◌++◌, length, map, Option, Some, None, Result, Ok, Err, refl, sym, ◌∙◌, ap, subst, codes, arith, append_assoc, if◌then◌else◌}
+use Rattle.std.specs.List.{concat}
+use Rattle.std.proofs.lemmas.List.{append-nil}
+use Rattle.sof_desk.specs.declared.calls.LoadFault.TheVariants.{Failed, TooLong, OutOfMemory}
+use Rattle.sof_desk.specs.Desk.{DeskMeaning, Place, Spoken, Act, Put, Call, Load, Did, Heard, Led, Loaded, Acted, Part, Takes, same_place, with_more, after_act}
+use Rattle.sof_session.specs.Turns.{LifeMeaning, Turn, Turns}
+use Rattle.tplg_model.specs.declared.fault.TplgFault.{TplgFault}
+use Rattle.tplg_model.specs.declared.block.Topology.{Topology}
+use Rattle.tplg_model.specs.Reading.{topology_of}
+use Rattle.tplg_model.proofs.FileLaws.{topology_take, topology_again, topology_found}
+use Rattle.tplg_graph.specs.RuleTest.{ruling_of}
+use Rattle.tplg_graph.proofs.RuleTests.{whole_none, none_whole, some_breaks}
+use Rattle.sof_run.specs.declared.prepare.Halt.{Halt}
+use Rattle.sof_run.specs.declared.prepare.Halt.TheVariants as halts
+use Rattle.sof_run.specs.Words.{play_of}
+use Rattle.sof_run.specs.Todo.{no_memory, End, Says, Goes}
+use Rattle.sof_run.specs.Play.{with_newline, halt_line, halt_status, lines_todo}
+use Rattle.sof_run.specs.Checking.{check_of, counts_of, checked_rules, checked_file, checked, checked_todo, check}
+use Rattle.sof_run.specs.Forms.{todo_for, todo_of}
+use Rattle.sof_run.specs.TopologyBytes.{AreBytes, IsFile, IsBroken}
+use Rattle.sof_run.specs.Checks.{IsWrong, IsRight, saying, CheckVerdict, Spoke, IsFront, WroteText, Checks}
+use Rattle.sof_run.specs.Run.{Done}
+use Rattle.sof_run.proofs.Settle.{no_turns}
+
+-- ---- the words
+
+-- no words have both forms
+apart : (room : ℕ) (words : List (List ℕ)) (name : List ℕ) → check_of words ≡ Some name → play_of room words ≡ None
+apart room [] name is = absurd (cc is)
+apart room (verb ∷ []) name is = absurd (cc is)
+apart room (verb ∷ topology ∷ []) name is = refl
+apart room (verb ∷ topology ∷ more ∷ words) name is = absurd (cc is)
+
+checks_alone : (room : ℕ) (words : List (List ℕ)) (name : List ℕ) → check_of words ≡ Some name → todo_of room words ≡ check name
+checks_alone room words name is = λ i. todo_for (apart room words name is i) (is i)
+
+-- ---- the device
+
+lines_alone : (lines : List (List ℕ)) (turns : List Turn) (calls : List Call) (status : ℕ) → Goes (lines_todo lines End) turns calls status → turns ≡ []
+lines_alone [] turns calls status goes = goes.0
+lines_alone (line ∷ lines) turns [] status goes = absurd goes
+lines_alone (line ∷ lines) turns (Load name limit heard ∷ calls) status goes = absurd goes
+lines_alone (line ∷ lines) turns (Did act true ∷ calls) status goes = lines_alone lines turns calls status goes.1
+lines_alone (line ∷ lines) turns (Did act false ∷ calls) status goes = goes.1.0
+
+checked_alone : (r : Result Topology Halt) (turns : List Turn) (calls : List Call) (status : ℕ) → Goes (checked_todo r) turns calls status ⊎ Says no_memory 7 turns calls status → turns ≡ []
+checked_alone (Ok t) turns calls status (inl goes) = lines_alone (counts_of t) turns calls status goes
+checked_alone (Err why) turns calls status (inl goes) = no_turns (halt_line why) (halt_status why) turns calls status goes
+checked_alone r turns calls status (inr says) = no_turns no_memory 7 turns calls status says
+
+no_turn : (name : List ℕ) (turns : List Turn) (calls : List Call) (status : ℕ) → Goes (check name) turns calls status → turns ≡ []
+no_turn name turns [] status goes = absurd goes
+no_turn name turns (Did act done ∷ calls) status goes = absurd goes
+no_turn name turns (Load n l (Ok got) ∷ calls) status goes = checked_alone (checked got) turns calls status goes.2
+no_turn name turns (Load n l (Err TooLong) ∷ calls) status goes = no_turns (codes "too long topology\n") 5 turns calls status goes.2
+no_turn name turns (Load n l (Err OutOfMemory) ∷ calls) status goes = no_turns no_memory 7 turns calls status goes.2
+no_turn name turns (Load n l (Err Failed) ∷ calls) status goes = goes.2.0
+
+-- ---- the status
+
+-- a line that was said, with its status, or that was not
+said : (line : List ℕ) (n : ℕ) (turns : List Turn) (calls : List Call) (status : ℕ) → Says line n turns calls status → (status ≡ 3) ⊎ ((status ≡ n) × (calls ≡ saying line ∷ []))
+said line n turns [] status says = absurd says
+said line n turns (Load name limit heard ∷ calls) status says = absurd says
+said line n turns (Did act true ∷ calls) status says = inr (says.3, λ i. Did (says.0 i) true ∷ says.2 i)
+said line n turns (Did act false ∷ calls) status says = inl says.3
+
+-- all lines that were said, or not all of them were
+lines_said : (lines : List (List ℕ)) (turns : List Turn) (calls : List Call) (status : ℕ) → Goes (lines_todo lines End) turns calls status → (status ≡ 3) ⊎ ((status ≡ 0) × (calls ≡ map saying (map with_newline lines)))
+lines_said [] turns calls status goes = inr (goes.2, goes.1)
+lines_said (line ∷ lines) turns [] status goes = absurd goes
+lines_said (line ∷ lines) turns (Load name limit heard ∷ calls) status goes = absurd goes
+lines_said (line ∷ lines) turns (Did act false ∷ calls) status goes = inl goes.1.2
+lines_said (line ∷ lines) turns (Did act true ∷ calls) status goes = one_more (lines_said lines turns calls status goes.1)
+  where
+    one_more : (status ≡ 3) ⊎ ((status ≡ 0) × (calls ≡ map saying (map with_newline lines))) → (status ≡ 3) ⊎ ((status ≡ 0) × (Did act true ∷ calls ≡ map saying (map with_newline (line ∷ lines))))
+    one_more (inl three) = inl three
+    one_more (inr done) = inr (done.0, λ i. Did (goes.0 i) true ∷ done.1 i)
+
+module _ (name bytes : List ℕ) where
+  wanting : (turns : List Turn) (calls all : List Call) (status : ℕ) → Says no_memory 7 turns calls status → CheckVerdict name bytes all status
+  wanting turns calls all status says = want (said no_memory 7 turns calls status says)
+    where
+      want : (status ≡ 3) ⊎ ((status ≡ 7) × (calls ≡ saying no_memory ∷ [])) → CheckVerdict name bytes all status
+      want (inl three) = inl (inl three)
+      want (inr seven) = inl (inr seven.0)
+
+  long : (turns : List Turn) (calls : List Call) (call : Call) (status : ℕ) → call ≡ Load name 1048576 (Err TooLong) → 1048576 < length bytes → Says (codes "too long topology\n") 5 turns calls status → CheckVerdict name bytes (call ∷ calls) status
+  long turns calls call status is over says = want (said (codes "too long topology\n") 5 turns calls status says)
+    where
+      want : (status ≡ 3) ⊎ ((status ≡ 5) × (calls ≡ saying (codes "too long topology\n") ∷ [])) → CheckVerdict name bytes (call ∷ calls) status
+      want (inl three) = inl (inl three)
+      want (inr five) = inr (inl (five.0, over, λ i. is i ∷ five.1 i))
+
+  module _ (are : AreBytes bytes) (short : length bytes ≤ 1048576) (call : Call) (loads : call ≡ Load name 1048576 (Ok bytes)) (turns : List Turn) (calls : List Call) (status : ℕ) where
+    -- why it is not right is told with status 2
+    wrong : (why : Halt) → halt_status why ≡ 2 → IsWrong bytes why → Says (halt_line why) (halt_status why) turns calls status → CheckVerdict name bytes (call ∷ calls) status
+    wrong why two is says = want (said (halt_line why) (halt_status why) turns calls status says)
+      where
+        want : (status ≡ 3) ⊎ ((status ≡ halt_status why) × (calls ≡ saying (halt_line why) ∷ [])) → CheckVerdict name bytes (call ∷ calls) status
+        want (inl three) = inl (inl three)
+        want (inr done) = inr (inr (inl (why, done.0 ∙ two, short, is, λ i. loads i ∷ done.1 i)))
+
+    right : (t : Topology) → IsRight bytes t → Goes (lines_todo (counts_of t) End) turns calls status → CheckVerdict name bytes (call ∷ calls) status
+    right t is goes = want (lines_said (counts_of t) turns calls status goes)
+      where
+        want : (status ≡ 3) ⊎ ((status ≡ 0) × (calls ≡ map saying (map with_newline (counts_of t)))) → CheckVerdict name bytes (call ∷ calls) status
+        want (inl three) = inl (inl three)
+        want (inr done) = inr (inr (inr (done.0, short, (t, is, λ i. loads i ∷ done.1 i))))
+
+    by_rules : (t : Topology) (ruling : Option (ℕ × ℕ)) → IsFile bytes t → ruling_of t ≡ ruling → Goes (checked_todo (checked_rules t ruling)) turns calls status → CheckVerdict name bytes (call ∷ calls) status
+    by_rules t (Some (rule, item)) file is goes = wrong (halts.Rule rule item) refl (t, file, some_breaks t rule item is) goes
+    by_rules t None file is goes = right t (file, none_whole t is) goes
+
+    by_file : (r : Result Topology TplgFault) → topology_of bytes ≡ r → Goes (checked_todo (checked_file r)) turns calls status → CheckVerdict name bytes (call ∷ calls) status
+    by_file (Err fault) is goes = wrong (halts.Broken fault) refl (none, topology_found bytes fault are is) goes
+      where
+        none : IsBroken bytes
+        none t file = cc (sym is ∙ topology_again bytes t file.0 file.1)
+    by_file (Ok t) is goes = by_rules t (ruling_of t) (topology_take bytes t are is) refl goes
+
+    free : Goes (checked_todo (checked bytes)) turns calls status ⊎ Says no_memory 7 turns calls status → CheckVerdict name bytes (call ∷ calls) status
+    free (inl goes) = by_file (topology_of bytes) refl goes
+    free (inr says) = wanting turns calls (call ∷ calls) status says
+
+  module _ {D : Type 0} (means : DeskMeaning D) where
+    -- the file is told
+    judge : (turns : List Turn) (calls : List Call) (status : ℕ) (d e : D) → means.holds d name ≡ Some bytes → AreBytes bytes → Goes (check name) turns calls status → Led means d calls e → CheckVerdict name bytes calls status
+    judge turns [] status d e told are goes led = absurd goes
+    judge turns (Did act done ∷ calls) status d e told are goes led = absurd goes
+    judge turns (Load n l (Ok got) ∷ calls) status d e told are goes led =
+        let loaded : Loaded means n l (Ok got) d led.0 = led.1 in
+        let same : got ≡ bytes = loaded.answers.1 bytes (ap (means.holds d) goes.0 ∙ told) in
+        let short : length bytes ≤ 1048576 = subst (λ k. length bytes ≤ k) goes.1 (subst (λ xs. length xs ≤ l) same loaded.answers.0) in
+        free are short (Load n l (Ok got)) (λ i. Load (goes.0 i) (goes.1 i) (Ok (same i))) turns calls status
+        (subst (λ xs. Goes (checked_todo (checked xs)) turns calls status ⊎ Says no_memory 7 turns calls status) same goes.2)
+    judge turns (Load n l (Err TooLong) ∷ calls) status d e told are goes led =
+        let loaded : Loaded means n l (Err TooLong) d led.0 = led.1 in
+        long turns calls (Load n l (Err TooLong)) status (λ i. Load (goes.0 i) (goes.1 i) (Err TooLong)) (subst (λ k. k < length bytes) goes.1 (loaded.answers bytes (ap (means.holds d) goes.0 ∙ told))) goes.2
+    judge turns (Load n l (Err OutOfMemory) ∷ calls) status d e told are goes led = wanting turns calls (Load n l (Err OutOfMemory) ∷ calls) status goes.2
+    judge turns (Load n l (Err Failed) ∷ calls) status d e told are goes led = inl (inl goes.2.2)
+
+-- ---- what was written
+
+-- bytes behind bytes, at a place
+more_behind : (b : Bool) (o w v : Option (List ℕ)) (first rest : List ℕ) → w ≡ (if b then with_more o first else o) → v ≡ (if b then with_more w rest else w) → v ≡ (if b then with_more o (first ++ rest) else o)
+more_behind true None w v first rest one two = two ∙ ap (λ x. with_more x rest) one
+more_behind true (Some bytes) w v first rest one two = two ∙ ap (λ x. with_more x rest) one ∙ ap Some (append_assoc bytes first rest)
+more_behind false o w v first rest one two = two ∙ one
+
+none_more : (b : Bool) (o v : Option (List ℕ)) → v ≡ o → v ≡ (if b then with_more o [] else o)
+none_more true None v same = same
+none_more true (Some bytes) v same = same ∙ ap Some (sym (append-nil bytes))
+none_more false o v same = same
+
+-- a front behind a whole is a front
+front_behind : (first part text : List ℕ) → IsFront part text → IsFront (first ++ part) (first ++ text)
+front_behind first part text front = (front.0, append_assoc first part front.0 ∙ ap (λ xs. first ++ xs) front.1)
+
+module _ {D : Type 0} (means : DeskMeaning D) where
+  nothing : (d e : D) → ((place : Place) → means.wrote e place ≡ means.wrote d place) → Spoke means [] d e
+  nothing d e kept place = none_more (same_place Spoken place) (means.wrote d place) (means.wrote e place) (kept place)
+
+  behind : (first rest : List ℕ) (d m e : D) → Spoke means first d m → Spoke means rest m e → Spoke means (first ++ rest) d e
+  behind first rest d m e one two place = more_behind (same_place Spoken place) (means.wrote d place) (means.wrote m place) (means.wrote e place) first rest (one place) (two place)
+
+  put : (line : List ℕ) (act : Act) (done : Bool) (d e : D) → act ≡ Put Spoken line → (acted : Acted means act done d e) → Spoke means acted.part d e
+  put line act done d e is acted place = acted.wrote place ∙ ap (λ a. after_act a done acted.part place (means.wrote d place)) is
+
+  took : (line : List ℕ) (act : Act) (done : Bool) (part : List ℕ) → act ≡ Put Spoken line → Takes act done part → Part done part line
+  took line act done part is takes = subst (λ a. Takes a done part) is takes
+
+  -- a text was said with a status, or a front of it with 3
+  record Parted (text : List ℕ) (n : ℕ) (d e : D) (status : ℕ) : Type 0 where
+    pub part : List ℕ
+    pub spoke : Spoke means part d e
+    pub is : ((status ≡ n) × (part ≡ text)) ⊎ ((status ≡ 3) × IsFront part text)
+
+  -- nothing comes after a line that failed
+  line_failed : (line text : List ℕ) (n : ℕ) (act : Act) (calls : List Call) (d e : D) (status : ℕ) → act ≡ Put Spoken line → calls ≡ [] → status ≡ 3 → Led means d (Did act false ∷ calls) e → Parted (line ++ text) n d e status
+  line_failed line text n act calls d e status is last three led =
+      let acted : Acted means act false d led.0 = led.1 in
+      let same : e ≡ led.0 = subst (λ cs. Led means led.0 cs e) last led.2 in
+      let front = took line act false acted.part is acted.takes in
+      record {
+        part = acted.part;
+        spoke = λ place. ap (λ x. means.wrote x place) same ∙ put line act false d led.0 is acted place;
+        is = inr (three, (front.0 ++ text, sym (append_assoc acted.part front.0 text) ∙ ap (λ xs. xs ++ text) front.1));
+      }
+
+  line_parted : (line : List ℕ) (n : ℕ) (turns : List Turn) (calls : List Call) (d e : D) (status : ℕ) → Says line n turns calls status → Led means d calls e → Parted line n d e status
+  line_parted line n turns [] d e status says led = absurd says
+  line_parted line n turns (Load name limit heard ∷ calls) d e status says led = absurd says
+  line_parted line n turns (Did act true ∷ calls) d e status says led =
+      let acted : Acted means act true d led.0 = led.1 in
+      let same : e ≡ led.0 = subst (λ cs. Led means led.0 cs e) says.2 led.2 in
+      record {
+        part = acted.part;
+        spoke = λ place. ap (λ x. means.wrote x place) same ∙ put line act true d led.0 says.0 acted place;
+        is = inl (says.3, took line act true acted.part says.0 acted.takes);
+      }
+  line_parted line n turns (Did act false ∷ calls) d e status says led =
+      subst (λ text. Parted text n d e status) (append-nil line) (line_failed line [] n act calls d e status says.0 says.2 says.3 led)
+
+  lines_parted : (lines : List (List ℕ)) (turns : List Turn) (calls : List Call) (d e : D) (status : ℕ) → Goes (lines_todo lines End) turns calls status → Led means d calls e → Parted (concat (map with_newline lines)) 0 d e status
+  lines_parted [] turns [] d e status goes led =
+      record { part = []; spoke = nothing d e (λ place. ap (λ x. means.wrote x place) led); is = inl (goes.2, refl) }
+  lines_parted [] turns (call ∷ calls) d e status goes led = absurd (cc goes.1)
+  lines_parted (line ∷ lines) turns [] d e status goes led = absurd goes
+  lines_parted (line ∷ lines) turns (Load name limit heard ∷ calls) d e status goes led = absurd goes
+  lines_parted (line ∷ lines) turns (Did act false ∷ calls) d e status goes led =
+      line_failed (with_newline line) (concat (map with_newline lines)) 0 act calls d e status goes.0 goes.1.1 goes.1.2 led
+  lines_parted (line ∷ lines) turns (Did act true ∷ calls) d e status goes led =
+      let acted : Acted means act true d led.0 = led.1 in
+      let whole : acted.part ≡ with_newline line = took (with_newline line) act true acted.part goes.0 acted.takes in
+      let said : Spoke means (with_newline line) d led.0 = subst (λ part. Spoke means part d led.0) whole (put (with_newline line) act true d led.0 goes.0 acted) in
+      let others = lines_parted lines turns calls led.0 e status goes.1 led.2 in
+      record {
+        part = with_newline line ++ others.part;
+        spoke = behind (with_newline line) others.part d led.0 e said others.spoke;
+        is = joined others.part others.is;
+      }
+    where
+      joined : (part : List ℕ) → ((status ≡ 0) × (part ≡ concat (map with_newline lines))) ⊎ ((status ≡ 3) × IsFront part (concat (map with_newline lines))) → ((status ≡ 0) × (with_newline line ++ part ≡ concat (map with_newline (line ∷ lines)))) ⊎ ((status ≡ 3) × IsFront (with_newline line ++ part) (concat (map with_newline (line ∷ lines))))
+      joined part (inl done) = inl (done.0, ap (λ xs. with_newline line ++ xs) done.1)
+      joined part (inr front) = inr (front.0, front_behind (with_newline line) part (concat (map with_newline lines)) front.1)
+
+  -- after a load, which writes nothing
+  loaded_told : (text name : List ℕ) (limit : ℕ) (heard : Heard) (d m e : D) (status : ℕ) → Loaded means name limit heard d m → WroteText means text m e status → WroteText means text d e status
+  loaded_told text name limit heard d m e status loaded told =
+      record {
+        part = told.part;
+        spoke = behind [] told.part d m e (nothing d m loaded.wrote) told.spoke;
+        is = told.is;
+      }
+
+  all_told : (text : List ℕ) (d e : D) (status : ℕ) → Parted text 0 d e status → WroteText means text d e status
+  all_told text d e status parted = record { part = parted.part; spoke = parted.spoke; is = by parted.part parted.is }
+    where
+      by : (part : List ℕ) → ((status ≡ 0) × (part ≡ text)) ⊎ ((status ≡ 3) × IsFront part text) → ((status ≡ 0) × (part ≡ text)) ⊎ (((status ≡ 3) × IsFront part text) ⊎ (((status ≡ 3) ⊎ (status ≡ 7)) × IsFront part no_memory))
+      by part (inl done) = inl done
+      by part (inr front) = inr (inl front)
+
+  wanting_told : (text : List ℕ) (turns : List Turn) (calls : List Call) (d e : D) (status : ℕ) → Says no_memory 7 turns calls status → Led means d calls e → WroteText means text d e status
+  wanting_told text turns calls d e status says led =
+      let parted = line_parted no_memory 7 turns calls d e status says led in
+      record { part = parted.part; spoke = parted.spoke; is = by parted.part parted.is }
+    where
+      by : (part : List ℕ) → ((status ≡ 7) × (part ≡ no_memory)) ⊎ ((status ≡ 3) × IsFront part no_memory) → ((status ≡ 0) × (part ≡ text)) ⊎ (((status ≡ 3) × IsFront part text) ⊎ (((status ≡ 3) ⊎ (status ≡ 7)) × IsFront part no_memory))
+      by part (inl done) = inr (inr (inr done.0, ([], append-nil part ∙ done.1)))
+      by part (inr front) = inr (inr (inl front.0, front.1))
+
+  -- the counts of a right topology
+  module _ (name bytes : List ℕ) (t : Topology) (short : length bytes ≤ 1048576) (kept : checked bytes ≡ Ok t) where
+    abbrev text : List ℕ
+    text = concat (map with_newline (counts_of t))
+
+    counts_told : (turns : List Turn) (calls : List Call) (d e : D) (status : ℕ) → Goes (checked_todo (checked bytes)) turns calls status ⊎ Says no_memory 7 turns calls status → Led means d calls e → WroteText means text d e status
+    counts_told turns calls d e status (inl goes) led =
+        all_told text d e status (lines_parted (counts_of t) turns calls d e status (subst (λ r. Goes (checked_todo r) turns calls status) kept goes) led)
+    counts_told turns calls d e status (inr says) led = wanting_told text turns calls d e status says led
+
+    check_told : (turns : List Turn) (calls : List Call) (d e : D) (status : ℕ) → means.holds d name ≡ Some bytes → Goes (check name) turns calls status → Led means d calls e → WroteText means text d e status
+    check_told turns [] d e status told goes led = absurd goes
+    check_told turns (Did act done ∷ calls) d e status told goes led = absurd goes
+    check_told turns (Load n l (Ok got) ∷ calls) d e status told goes led =
+        let loaded : Loaded means n l (Ok got) d led.0 = led.1 in
+        let same : got ≡ bytes = loaded.answers.1 bytes (ap (means.holds d) goes.0 ∙ told) in
+        loaded_told text n l (Ok got) d led.0 e status loaded
+        (counts_told turns calls led.0 e status (subst (λ xs. Goes (checked_todo (checked xs)) turns calls status ⊎ Says no_memory 7 turns calls status) same goes.2) led.2)
+    check_told turns (Load n l (Err TooLong) ∷ calls) d e status told goes led =
+        let loaded : Loaded means n l (Err TooLong) d led.0 = led.1 in
+        let over : l < length bytes = loaded.answers bytes (ap (means.holds d) goes.0 ∙ told) in
+        let limit : l ≡ 1048576 = goes.1 in
+        absurd (omega (arith, over, limit, short))
+    check_told turns (Load n l (Err OutOfMemory) ∷ calls) d e status told goes led =
+        loaded_told text n l (Err OutOfMemory) d led.0 e status led.1 (wanting_told text turns calls led.0 e status goes.2 led.2)
+    check_told turns (Load n l (Err Failed) ∷ calls) d e status told goes led =
+        let last : e ≡ led.0 = subst (λ cs. Led means led.0 cs e) goes.2.1 led.2 in
+        loaded_told text n l (Err Failed) d led.0 e status led.1
+        record { part = []; spoke = nothing led.0 e (λ place. ap (λ x. means.wrote x place) last); is = inr (inl (goes.2.2, (text, refl))) }
+
+is_kept : (bytes : List ℕ) (t : Topology) → IsRight bytes t → checked bytes ≡ Ok t
+is_kept bytes t right = ap checked_file (topology_again bytes t right.0.0 right.0.1) ∙ ap (checked_rules t) (whole_none t right.1)
+
+module _ {D P : Type 0} (means : DeskMeaning D) (dsp : LifeMeaning P) (words : List (List ℕ)) (old new : D) (p q : P) (status : ℕ) (done : Done means dsp (todo_of (dsp.most p) words) old p status new q) where
+  -- what it did is that of a check
+  goes_on : (name : List ℕ) → check_of words ≡ Some name → Goes (check name) done.ran.turns done.ran.played.calls status
+  goes_on name is = subst (λ todo. Goes todo done.ran.turns done.ran.played.calls status) (checks_alone (dsp.most p) words name is) done.ran.played.goes
+
+  none : (name : List ℕ) → check_of words ≡ Some name → done.ran.turns ≡ []
+  none name is = no_turn name done.ran.turns done.ran.played.calls status (goes_on name is)
+
+  untouched : (name : List ℕ) → check_of words ≡ Some name → q ≡ p
+  untouched name is = subst (λ ts. Turns dsp p ts q) (none name is) done.ran.turned
+
+  pub checks : Checks means words old p done.ran.played.calls status new q
+  checks =
+      record {
+        alone = untouched;
+        judged = λ name bytes is told are. judge name bytes means done.ran.turns done.ran.played.calls status old new told are (goes_on name is) done.ran.played.led;
+        counted = λ name bytes t is told short right. check_told means name bytes t short (is_kept bytes t right) done.ran.turns done.ran.played.calls old new status told (goes_on name is) done.ran.played.led;
+      }

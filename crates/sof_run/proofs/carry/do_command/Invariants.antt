@@ -1,0 +1,21 @@
+use Rattle.std.proofs.Common.{◌≡◌, ◌-◌}
+use Rattle.sof_base.specs.Ports.{drained}
+use Rattle.sof_io.specs.Bound.{output_slots}
+use Rattle.sof_session.specs.Turns.{life, Seated}
+use Rattle.sof_run.specs.Todo.{Follows}
+use Rattle.sof_run.specs.Rounds.{earlier, rounds_after, command_rounds}
+use Rattle.sof_run.specs.Play.{rounds_todo}
+use Rattle.sof_run.specs.Opening.{AreCreated}
+use Rattle.sof_run.proofs.carry.do_command.Given as goal
+
+-- the units that are left, done, make all done
+abbrev pub invariant-loop : goal.invariant-loop
+invariant-loop g l =
+    let means = g.D.Desk.means in
+    record {
+      plan : l.session.plan ≡ l.fn.session.plan;
+      created : AreCreated means (output_slots l.outputs) l.desk;
+      empty : drained l.outputs ≡ l.outputs;
+      so_far : Follows means (life g.P.Dsp.means) (rounds_todo (command_rounds l.numbered)) (rounds_todo (rounds_after (earlier l.numbered.command - l.counter) l.numbered))
+          l.fn.desk (Seated l.fn.session l.fn.inputs (output_slots l.fn.outputs)) l.desk (Seated l.session l.inputs (output_slots l.outputs));
+    }

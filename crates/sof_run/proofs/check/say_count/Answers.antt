@@ -1,0 +1,10 @@
+use Rattle.std.proofs.Common.{is_ok, ◌∙◌}
+use Rattle.sof_desk.specs.Desk.{Put, Spoken}
+use Rattle.sof_run.specs.Play.{with_newline}
+use Rattle.sof_run.specs.Checking.{count_line}
+use Rattle.sof_run.proofs.Steps.{do_phase}
+use Rattle.sof_run.proofs.check.say_count.Goals as goal
+
+pub returns : goal.returns
+returns g c =
+    do_phase g.D.Desk.means (Put Spoken (with_newline (count_line c.args.word.now c.args.count))) (is_ok c.say.result) _ _ (rw (c.bytes.ensures ∙ c.write_count.ensures) at c.say.ensures)

@@ -1,0 +1,15 @@
+use Rattle.std.proofs.Common.{◌-◌, drop, length}
+use Rattle.sof_run.specs.Opening.{SameCreated}
+use Rattle.sof_run.proofs.Flushing.{Left}
+use Rattle.sof_run.proofs.files.write_outputs.Given as goal
+
+-- the outputs that are left, written, make all written
+abbrev pub invariant-loop-place : goal.invariant-loop-place
+invariant-loop-place g l =
+    record {
+      so_far : Left g.D.Desk.means l.outputs (drop l.place l.outputs) l.fn.desk l.desk;
+      created : SameCreated g.D.Desk.means l.fn.desk l.desk;
+    }
+
+abbrev pub decreases-loop-place : goal.decreases-loop-place
+decreases-loop-place g l = length l.outputs - l.place

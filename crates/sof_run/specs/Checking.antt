@@ -1,0 +1,71 @@
+-- What `check` has to do, by the bytes of the file that its words name.
+use Rattle.std.specs.Prelude.{ℕ, ◌&&◌, List, [], ◌∷◌, ◌++◌, length, Option, Some, None, Result, Ok, Err, codes, decimal, if◌then◌else◌}
+use Rattle.std.specs.Str.{bytes_eq}
+use Rattle.tplg_model.specs.declared.fault.TplgFault.{TplgFault}
+use Rattle.tplg_model.specs.declared.block.Topology.{Topology}
+use Rattle.tplg_model.specs.Reading.{topology_of}
+use Rattle.tplg_graph.specs.declared.planned.Plan.{Plan}
+use Rattle.tplg_graph.specs.Needed.{need_of}
+use Rattle.tplg_graph.specs.PlanOf.{plan_of}
+use Rattle.tplg_graph.specs.RuleTest.{ruling_of}
+use Rattle.sof_run.specs.declared.prepare.Halt.{Halt}
+use Rattle.sof_run.specs.declared.prepare.Halt.TheVariants as halts
+use Rattle.sof_run.specs.Words.{is_name}
+use Rattle.sof_run.specs.Todo.{Todo, End, Stop, Ask, Free}
+use Rattle.sof_run.specs.Play.{halt_line, halt_status, lines_todo}
+
+-- ---- the words
+
+-- `check TOPOLOGY`: the name of its file
+abbrev pub check_of : List (List ℕ) → Option (List ℕ)
+check_of (verb ∷ topology ∷ []) = if bytes_eq verb (codes "check") && is_name topology then Some topology else None
+check_of [] = None
+check_of (verb ∷ []) = None
+check_of (verb ∷ topology ∷ more ∷ words) = None
+
+-- ---- what is said
+
+-- how many there are
+abbrev pub count_line : List ℕ → ℕ → List ℕ
+count_line word n = word ++ decimal n
+
+-- what a plan has of each, and how many bytes of heap are needed; its joins are the real routes
+abbrev pub counts_on : Plan → ℕ → List (List ℕ)
+counts_on plan need =
+    count_line (codes "pipelines ") (length plan.graph.pipes)
+    ∷ count_line (codes "components ") (length plan.graph.comps)
+    ∷ count_line (codes "buffers ") (length plan.graph.edges)
+    ∷ count_line (codes "routes ") (length plan.graph.joins)
+    ∷ count_line (codes "streams ") (length plan.streams)
+    ∷ count_line (codes "controls ") (length plan.controls)
+    ∷ count_line (codes "need ") need
+    ∷ []
+
+-- the lines of a topology
+abbrev pub counts_of : Topology → List (List ℕ)
+counts_of t = counts_on (plan_of t) (need_of t)
+
+-- ---- the file
+
+-- a topology is to break no rule
+abbrev pub checked_rules : Topology → Option (ℕ × ℕ) → Result Topology Halt
+checked_rules t (Some (rule, item)) = Err (halts.Rule rule item)
+checked_rules t None = Ok t
+
+-- the first fault of the file comes before
+abbrev pub checked_file : Result Topology TplgFault → Result Topology Halt
+checked_file (Err fault) = Err (halts.Broken fault)
+checked_file (Ok t) = checked_rules t (ruling_of t)
+
+-- what the bytes come to: a topology that keeps all rules, or why they make none
+abbrev pub checked : List ℕ → Result Topology Halt
+checked bytes = checked_file (topology_of bytes)
+
+-- what is to do then
+abbrev pub checked_todo : Result Topology Halt → Todo
+checked_todo (Ok t) = lines_todo (counts_of t) End
+checked_todo (Err why) = Stop (halt_line why) (halt_status why)
+
+-- the file is loaded and checked
+abbrev pub check : List ℕ → Todo
+check name = Ask name 1048576 (codes "too long topology\n") (λ bytes. Free (checked_todo (checked bytes)))

@@ -1,0 +1,25 @@
+-- The files of bindings, as they are opened one after another.
+use Rattle.std.specs.Prelude.{◌≡◌, ℕ, true, List, []}
+use Rattle.std.specs.List.{AllByRecursion}
+use Rattle.sof_base.specs.Ports.{InputView, OutputView}
+use Rattle.sof_desk.specs.Desk.{DeskMeaning}
+use Rattle.sof_session.specs.Turns.{Turn}
+use Rattle.sof_run.specs.Todo.{Todo, Played}
+use Rattle.sof_run.specs.Play.{WithPorts}
+
+-- the files of these slots are created
+abbrev pub AreCreated : {D : Type 0} → DeskMeaning D → List ℕ → D → Type 0
+AreCreated means slots d = AllByRecursion (λ (slot : ℕ). means.created d slot ≡ true) slots
+
+-- the same are created
+abbrev pub SameCreated : {D : Type 0} → DeskMeaning D → D → D → Type 0
+SameCreated means old new = (slot : ℕ) → means.created new slot ≡ means.created old slot
+
+-- these were opened: what comes next with these inputs and outputs, done, makes the whole done
+abbrev pub Opens : {D : Type 0} → DeskMeaning D → (WithPorts → Todo) → List InputView → List OutputView → D → D → Type 0
+Opens {D} means whole inputs outputs old new =
+    (next : WithPorts) (turns : List Turn) (status : ℕ) (end : D) → Played means (next inputs outputs) new turns status end → Played means (whole next) old turns status end
+
+-- the run ended before all were opened, with this status
+abbrev pub Stops : {D : Type 0} → DeskMeaning D → (WithPorts → Todo) → ℕ → D → D → Type 0
+Stops means whole status old new = (next : WithPorts) → Played means (whole next) old [] status new

@@ -1,0 +1,12 @@
+// Worked rows of `check`, which its definition gives by computing alone. Nothing runs here.
+ghost use Rattle.std.specs.Prelude.{◌≡◌, Some, codes};
+ghost use Rattle.tplg_graph.specs.RuleTest.{ruling_of};
+ghost use Rattle.sof_tests.specs.Rows.{thin_topology};
+ghost use Rattle.sof_tests.specs.CheckRows.{empty_topology, cycle_topology, counts_said};
+
+/// The lines of the thin graph and of an empty file, and the rule that a cycle breaks.
+pub fn check_rows()
+    ensures thin { counts_said thin_topology ≡ codes "pipelines 1\ncomponents 2\nbuffers 1\nroutes 2\nstreams 1\ncontrols 0\nneed 992\n" }
+    ensures empty { counts_said empty_topology ≡ codes "pipelines 0\ncomponents 0\nbuffers 0\nroutes 0\nstreams 0\ncontrols 0\nneed 0\n" }
+    ensures cycle { ruling_of cycle_topology ≡ Some (14, 0) }
+{}

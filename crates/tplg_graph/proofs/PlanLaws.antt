@@ -1,0 +1,76 @@
+-- What a plan and a fault say of a topology.
+use Rattle.std.proofs.Common.{◌≡◌, refl, sym, subst, ℕ, suc, List, All, Result, Ok, Err, OnOk, IfOk, IfErr, inl, inr}
+use Rattle.tplg_model.specs.declared.block.Topology.{Topology}
+use Rattle.tplg_graph.specs.declared.planned.Plan.{Plan}
+use Rattle.tplg_graph.specs.declared.plan_fault.PlanFault.{PlanFault}
+use Rattle.tplg_graph.specs.declared.plan_fault.PlanFault.TheVariants as fault
+use Rattle.stream_law.specs.Ways.{components}
+use Rattle.tplg_graph.specs.Entries.{entries_of, interpreted}
+use Rattle.tplg_graph.specs.Ends.{ends_in}
+use Rattle.tplg_graph.specs.PcmList.{pcms_of}
+use Rattle.tplg_graph.specs.Lists.{joins_of}
+use Rattle.tplg_graph.specs.Rules.{AllHold, BreaksOf}
+use Rattle.tplg_graph.specs.Rules.{Rule as A_rule}
+use Rattle.tplg_graph.specs.PlanOf.{plan_of}
+use Rattle.tplg_graph.specs.Needed.{IsSmall, need_on, need_of}
+use Rattle.tplg_graph.specs.Cycles.{Reaches, IsOrderable, IsAcyclic}
+use Rattle.tplg_graph.specs.Thin.{IsThin}
+use Rattle.tplg_graph.specs.ThinPlan.{IsThinPlan, FitsWords}
+use Rattle.tplg_graph.specs.WellFormed.{IsWellFormed, IsFaultOf, Tells}
+use Rattle.tplg_graph.proofs.RuleLaws.{none_breaks, one_breaks}
+use Rattle.tplg_graph.proofs.GraphSize.{small}
+use Rattle.tplg_graph.proofs.GraphNeed.{graph-need}
+use Rattle.tplg_graph.proofs.OrderableEnds.{all-known}
+use Rattle.tplg_graph.proofs.OrderableIds.{comps-distinct, comps-below}
+use Rattle.tplg_graph.proofs.Known.{known-source, known-sink, joined-source}
+use Rattle.tplg_graph.proofs.JoinedWalks.{walk-joined}
+use Rattle.tplg_graph.proofs.ThinLaw.{thin-plan, entries-quiet}
+
+-- where all rules hold, want of memory is the one fault
+pub kept : (rs : List A_rule) (r : Result Plan PlanFault) → IfErr r (IsFaultOf rs) → AllHold rs → IfErr r (λ e. e ≡ fault.OutOfMemory)
+kept rs (Ok p) f all = tt
+kept rs (Err (fault.Rule rule item)) f all = absurd (none_breaks rs rule item all f)
+kept rs (Err fault.OutOfMemory) f all = refl
+
+-- where a rule is broken, it is told
+pub broken : (rs : List A_rule) (r : Result Plan PlanFault) → OnOk r (AllHold rs) → IfErr r (IsFaultOf rs) → (rule item : ℕ) → BreaksOf rs rule item → Tells rule item r
+broken rs (Ok p) a f rule item b = none_breaks rs rule item a b
+broken rs (Err (fault.Rule s j)) a f rule item b = let same = one_breaks rs s j rule item f b in inl (λ i. fault.Rule (same.0 i) (same.1 i))
+broken rs (Err fault.OutOfMemory) a f rule item b = inr refl
+
+-- a fact on a well-formed topology's plan
+pub on-plan : (t : Topology) (r : Result Plan PlanFault) (P : Plan → Type 0) → OnOk r (IsWellFormed t) → IfOk r (λ p. p ≡ plan_of t) → (IsWellFormed t → P (plan_of t)) → IfOk r P
+on-plan t (Ok p) P a e f = subst P (sym e) (f a)
+on-plan t (Err x) P a e f = tt
+
+pub is-small : (t : Topology) → IsWellFormed t → IsSmall (plan_of t).graph
+is-small t w = small (entries_of t) (interpreted (entries_of t)) (pcms_of t) (joins_of t) w.0
+
+-- rule 8 is the eighth
+pub is-need : (t : Topology) → IsWellFormed t → need_on (plan_of t).graph ≡ need_of t
+is-need t w = graph-need (entries_of t) (joins_of t) w.1.1.1.1.1.1.1.0
+
+pub is-orderable : (t : Topology) → IsOrderable (plan_of t).graph
+is-orderable t = record {
+  distinct = comps-distinct (interpreted (entries_of t)) (joins_of t);
+  ends = record {
+    sources = λ buffer a h. known-source (plan_of t).graph buffer a (all-known t) h;
+    sinks = λ buffer a h. known-sink (plan_of t).graph buffer a (all-known t) h;
+  };
+}
+
+-- rule 14 is behind the thirteenth
+pub is-acyclic : (t : Topology) → IsWellFormed t → IsAcyclic (plan_of t).graph
+is-acyclic t w (c, n, walk) =
+    let ps = interpreted (entries_of t) in
+    let r : Reaches (plan_of t).graph.edges c c = (n, walk-joined (plan_of t).graph (suc n) c c walk) in
+    let known = joined-source (components (plan_of t).graph) (plan_of t).graph.edges c r.1.0 (all-known t) r.1.1 in
+    w.1.1.1.1.1.1.1.1.1.1.1.1.1.0 c (comps-below ps (joins_of t) c known) r
+
+-- rule 11 is the eleventh
+thin-of : (t : Topology) → IsWellFormed t → IsThin t → All FitsWords (plan_of t).widgets → IsThinPlan (plan_of t)
+thin-of t w thin fit = thin-plan (entries_of t) (ends_in t) (pcms_of t) thin w.1.1.1.1.1.1.1.1.1.1.0 (entries-quiet t) fit
+
+pub is-thin-plan : (t : Topology) (r : Result Plan PlanFault) → OnOk r (IsWellFormed t) → IfOk r (λ p. p ≡ plan_of t) → IfOk r (λ p. All FitsWords p.widgets) → IfOk r (λ p. IsThin t → IsThinPlan p)
+is-thin-plan t (Ok p) w e fit = λ thin. subst IsThinPlan (sym e) (thin-of t w thin (subst (λ q. All FitsWords q.widgets) e fit))
+is-thin-plan t (Err x) w e fit = tt

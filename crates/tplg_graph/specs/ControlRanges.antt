@@ -1,0 +1,28 @@
+-- What a live control may say.
+use Rattle.std.specs.Prelude.{ℕ, List, [], ◌∷◌, Bool, true, ◌&&◌, nat_le, ℤ, pos, int_le, Option, Some, None}
+use Rattle.sof_base.specs.BlobForm.{is_blob}
+use Rattle.tplg_graph.specs.declared.live_control.LiveControl.{LiveControl}
+use Rattle.tplg_graph.specs.declared.live_control.LiveControl.TheVariants.{Volume, Choice, Blob}
+
+-- 0 <= min <= max <= 65535, and 1 to 8 channels
+abbrev pub is_volume : ℤ → ℤ → ℕ → Bool
+is_volume min max channels = int_le (pos 0) min && int_le min max && int_le max (pos 65535) && nat_le 1 channels && nat_le channels 8
+
+-- 1 to 16 items
+abbrev pub is_choice : ℕ → Bool
+is_choice items = nat_le 1 items && nat_le items 16
+
+-- no bytes, or a blob
+abbrev pub is_initial : List ℕ → Bool
+is_initial [] = true
+is_initial (b ∷ bs) = is_blob (b ∷ bs)
+
+abbrev pub is_control : LiveControl → Bool
+is_control (Volume min max channels scale) = is_volume min max channels
+is_control (Choice items) = is_choice items
+is_control (Blob max initial) = is_initial initial
+
+-- of the control that is there
+abbrev pub in_range : Option LiveControl → Bool
+in_range None = true
+in_range (Some control) = is_control control

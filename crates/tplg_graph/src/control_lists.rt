@@ -1,0 +1,147 @@
+// The live controls of a topology, by id.
+ghost use Rattle.std.specs.Prelude.{◌≡◌, ◌<◌, ◌^◌, ◌++◌, length, IfOk, OnOk};
+ghost use Rattle.std.specs.Option.{option_to_list};
+ghost use Rattle.sof_base.specs.BlobForm.{is_blob};
+ghost use Rattle.tplg_graph.specs.ControlRanges as ranges;
+ghost use Rattle.tplg_graph.specs.Lists as law;
+
+use crate::entry::Entry;
+use crate::live_control::{LiveControl, Scale, bytes_again};
+use crate::planned::{ControlKind, ControlPlan};
+use eq_biquad::check;
+use std::alloc::{AllocError, Global};
+
+/// Whether a volume's least and greatest value and its number of channels are in range.
+fn is_volume(min: i32, max: i32, channels: u32) -> bool
+    ensures { result ≡ ranges.is_volume min max channels }
+{
+    0 <= min && min <= max && max <= 65535 && 1 <= channels && channels <= 8
+}
+
+fn is_choice(items: u32) -> bool
+    ensures { result ≡ ranges.is_choice items }
+{
+    1 <= items && items <= 16
+}
+
+fn is_blob(bytes: &[u8]) -> bool
+    ensures { result ≡ is_blob bytes.now }
+{
+    check(bytes).is_ok()
+}
+
+fn is_initial(bytes: &[u8]) -> bool
+    ensures { result ≡ ranges.is_initial bytes.now }
+{
+    bytes.is_empty() || is_blob(bytes)
+}
+
+fn is_control(control: &LiveControl) -> bool
+    ensures { result ≡ ranges.is_control control.now }
+{
+    match control {
+        LiveControl::Volume {
+            min,
+            max,
+            channels,
+            ..
+        } => is_volume(*min, *max, *channels),
+        LiveControl::Choice { items } => is_choice(*items),
+        LiveControl::Blob { initial, .. } => is_initial(initial.items()),
+    }
+}
+
+/// Whether a live control, where there is one, is in range.
+pub fn in_range(control: &Option<LiveControl>) -> bool
+    ensures { result ≡ ranges.in_range control.now }
+{
+    match control {
+        None => true,
+        Some(control) => is_control(control),
+    }
+}
+
+fn volume_kind(min: i32, max: i32, channels: u32, scale: Scale) -> Option<ControlKind>
+    ensures { result ≡ law.volume_kind min max channels scale }
+{
+    if !is_volume(min, max, channels) {
+        return None;
+    }
+    Some(ControlKind::Volume {
+        min: min.unsigned_abs(),
+        max: max.unsigned_abs(),
+        channels: channels as u8,
+        tlv_min: scale.min,
+        tlv_step: scale.step,
+        tlv_mute: scale.mute,
+    })
+}
+
+fn kind_in(alloc: Global, control: &LiveControl) -> Result<Option<ControlKind>, AllocError>
+    ensures { IfOk result (λ o. o ≡ law.kind_in control.now) }
+{
+    match control {
+        LiveControl::Volume {
+            min,
+            max,
+            channels,
+            scale,
+        } => Ok(volume_kind(*min, *max, *channels, *scale)),
+        LiveControl::Choice { items } => Ok(Some(ControlKind::Choice { items: *items })),
+        LiveControl::Blob { max, initial } => {
+            let initial = bytes_again(alloc, initial.items())?;
+            Ok(Some(ControlKind::Blob { max: *max, initial }))
+        }
+    }
+}
+
+fn control_of(
+    alloc: Global,
+    id: u32,
+    control: &Option<LiveControl>,
+) -> Result<Option<ControlPlan>, AllocError>
+    ensures { IfOk result (λ o. o ≡ law.control_of id control.now) }
+{
+    match control {
+        None => Ok(None),
+        Some(control) => match kind_in(alloc, control)? {
+            None => Ok(None),
+            Some(kind) => Ok(Some(ControlPlan { comp: id, kind })),
+        },
+    }
+}
+
+fn control_at(alloc: Global, parts: &[Entry], id: u32) -> Result<Option<ControlPlan>, AllocError>
+    ensures { IfOk result (λ o. o ≡ law.control_at parts.now id) }
+{
+    match parts.get(id as usize) {
+        None => Ok(None),
+        Some(entry) => control_of(alloc, id, &entry.control),
+    }
+}
+
+/// One more live control, where it is there.
+fn add_control(control: Option<ControlPlan>, out: &mut Vec<ControlPlan>) -> Result<(), AllocError>
+    ensures { OnOk result (out.new.items ≡ out.old.items ++ option_to_list control) }
+{
+    match control {
+        None => Ok(()),
+        Some(control) => {
+            out.push(control)?;
+            Ok(())
+        }
+    }
+}
+
+/// The live controls by the ids of their components.
+pub fn controls(alloc: Global, parts: &[Entry]) -> Result<Vec<ControlPlan>, AllocError>
+    requires { length parts.now < 2 ^ 32 }
+    ensures { IfOk result (λ xs. xs.items ≡ law.controls_on parts.now) }
+{
+    let mut out = Vec::new(alloc);
+    for id in 0..parts.len() as u32 {
+        let control = control_at(alloc, parts, id)?;
+        add_control(control, &mut out)?;
+    }
+    Ok(out)
+}

@@ -1,0 +1,141 @@
+// Which items break the rules on counts, on PCMs and on controls.
+ghost use Rattle.std.specs.Prelude.{◌≡◌, not, length, find, count_by, take};
+ghost use Rattle.std.specs.List.{list_any, range_with_len};
+ghost use Rattle.tplg_graph.specs.Entries as entries;
+ghost use Rattle.tplg_graph.specs.Table as law;
+
+use crate::control_lists::in_range;
+use crate::entry::{
+    Entry, has_control, is_buffer, is_component, is_equaliser, is_host_capture, is_host_play,
+    is_scheduler,
+};
+use crate::pcm_caps::{PcmCaps, has_caps};
+use crate::tokens::Process;
+
+fn count_schedulers(parts: &[Entry]) -> usize
+    ensures { result ≡ count_by entries.is_scheduler parts.now }
+{
+    parts.iter().filter(|p| is_scheduler(*p)).count()
+}
+
+fn count_components(parts: &[Entry]) -> usize
+    ensures { result ≡ count_by entries.is_component parts.now }
+{
+    parts.iter().filter(|p| is_component(*p)).count()
+}
+
+fn count_buffers(parts: &[Entry]) -> usize
+    ensures { result ≡ count_by entries.is_buffer parts.now }
+{
+    parts.iter().filter(|p| is_buffer(*p)).count()
+}
+
+fn count_controls(parts: &[Entry]) -> usize
+    ensures { result ≡ count_by entries.has_control parts.now }
+{
+    parts.iter().filter(|p| has_control(*p)).count()
+}
+
+fn count_holds(parts: &[Entry], pcms: &[PcmCaps], k: usize) -> bool
+    ensures { result ≡ law.count_holds parts.now pcms.now k }
+{
+    if k == 0 {
+        count_schedulers(parts) <= 32
+    } else if k == 1 {
+        count_components(parts) <= 128
+    } else if k == 2 {
+        count_buffers(parts) <= 128
+    } else if k == 3 {
+        pcms.len() <= 16
+    } else {
+        count_controls(parts) <= 64
+    }
+}
+
+/// The first of the five counts that breaks rule 1.
+pub fn failing_count(parts: &[Entry], pcms: &[PcmCaps]) -> Option<usize>
+    ensures { result ≡ find (λ k. not (law.count_holds parts.now pcms.now k)) (range_with_len 0 5) }
+{
+    (0..5).find(|k| !count_holds(parts, pcms, *k))
+}
+
+fn is_host(entry: &Entry) -> bool
+    ensures { result ≡ law.is_host entry.now }
+{
+    is_host_play(entry) || is_host_capture(entry)
+}
+
+fn is_same_stream(entry: &Entry, other: &Entry) -> bool
+    ensures { result ≡ law.is_same_stream entry.now other.now }
+{
+    entry.sname.as_bytes() == other.sname.as_bytes()
+        && ((is_host_play(entry) && is_host_play(other))
+            || (is_host_capture(entry) && is_host_capture(other)))
+}
+
+fn has_pcm(pcms: &[PcmCaps], entry: &Entry) -> bool
+    ensures { result ≡ law.has_pcm pcms.now entry.now }
+{
+    let sname = entry.sname.as_bytes();
+    !sname.is_empty() && has_caps(pcms, is_host_capture(entry), sname)
+}
+
+fn any_same_stream(entries: &[Entry], entry: &Entry) -> bool
+    ensures { result ≡ list_any (law.is_same_stream entry.now) entries.now }
+{
+    entries.iter().any(|e| is_same_stream(entry, e))
+}
+
+/// Whether one of the first k widgets is the same stream.
+fn is_earlier_stream(entries: &[Entry], k: usize, entry: &Entry) -> bool
+    ensures { result ≡ list_any (law.is_same_stream entry.now) (take k entries.now) }
+{
+    if k < entries.len() {
+        any_same_stream(&entries[..k], entry)
+    } else {
+        any_same_stream(entries, entry)
+    }
+}
+
+fn host_holds(entries: &[Entry], pcms: &[PcmCaps], k: usize) -> bool
+    ensures { result ≡ law.host_holds entries.now pcms.now k }
+{
+    match entries.get(k) {
+        None => true,
+        Some(entry) => {
+            !is_host(entry) || (has_pcm(pcms, entry) && !is_earlier_stream(entries, k, entry))
+        }
+    }
+}
+
+/// The first host that breaks rule 11.
+pub fn failing_host(entries: &[Entry], pcms: &[PcmCaps]) -> Option<usize>
+    ensures { result ≡ find (λ k. not (law.host_holds entries.now pcms.now k)) (range_with_len 0 (length entries.now)) }
+{
+    (0..entries.len()).find(|k| !host_holds(entries, pcms, *k))
+}
+
+fn is_known_process(process: Process) -> bool
+    ensures { result ≡ law.is_known_process process }
+{
+    matches!(process, Process::Equaliser)
+}
+
+fn control_holds(entries: &[Entry], k: usize) -> bool
+    ensures { result ≡ law.control_holds entries.now k }
+{
+    match entries.get(k) {
+        None => true,
+        Some(entry) => {
+            (!is_equaliser(entry) || is_known_process(entry.tokens.process))
+                && in_range(&entry.control)
+        }
+    }
+}
+
+/// The first widget that breaks rule 13.
+pub fn failing_control(entries: &[Entry]) -> Option<usize>
+    ensures { result ≡ find (λ k. not (law.control_holds entries.now k)) (range_with_len 0 (length entries.now)) }
+{
+    (0..entries.len()).find(|k| !control_holds(entries, *k))
+}

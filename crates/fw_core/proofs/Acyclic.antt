@@ -1,55 +1,101 @@
--- Where there are endpoints alone, no edge follows another, and each end of an edge is a component.
-use Rattle.std.proofs.Common.{◌≡◌, refl, subst, ℕ, zero, suc, List, [], ◌∷◌, Option, Some, None, Bool, true, false, cond, inl, inr, ◌==◌}
-use Rattle.std.proofs.lemmas.Bool.{eq-eqb}
-use Rattle.std.specs.Prelude.{find, option_and_then}
+-- Each end of an edge is a component, and no walk of edges comes back.
+use Rattle.std.proofs.Common.{◌≡◌, refl, sym, ◌∙◌, subst, ℕ, zero, suc, Option, Some, None, true, ◌==◌, ◌&&◌}
+use Rattle.std.proofs.lemmas.Bool.{true≢false, and_parts, eqb-true}
+use Rattle.std.specs.Prelude.{option_and_then}
 use Rattle.stream_law.specs.declared.graph.Edge.{Edge}
 use Rattle.stream_law.specs.declared.graph.Comp.{Comp}
+use Rattle.stream_law.specs.declared.graph.Join.{Join}
 use Rattle.stream_law.specs.declared.graph.Graph.{Graph}
-use Rattle.stream_law.specs.Ways.{components, source_of, sink_of, is_end}
+use Rattle.stream_law.specs.Ways.{components, source_of, sink_of, edge_of}
 use Rattle.stream_law.specs.Order.{is_among, bare}
-use Rattle.stream_law.specs.Walks.{HasCycle, HasEnds}
-use Rattle.stream_law.specs.Endpoints.{is_input}
-use Rattle.mbox_link.specs.Step.{kind_at, has_kind}
-use Rattle.fw_core.specs.Kept.{IsWired, IsLinked, is_output}
-use Rattle.fw_core.proofs.Growing.{some-found}
+use Rattle.stream_law.specs.Walks.{LeadsTo, Walk, HasCycle, HasEnds}
+use Rattle.fw_core.specs.Kept.{IsWired, IsLinked, IsOpen, IsSide, IsJoinedFrom, IsJoinedTo}
 use Rattle.fw_core.proofs.Joined.{among-map}
-use Rattle.fw_core.proofs.Near.{IsIn, source-input, sink-output, never-both}
+use Rattle.fw_core.proofs.Members.{IsIn, in-all, any-in, find-in}
+use Rattle.fw_core.proofs.Walking.{Path, Walks, walks-lead}
 
--- the edge whose side is asked for
-picked : (pick : Edge → Option ℕ) (b a : ℕ) (es : List Edge) → option_and_then pick (find (λ e. e.buffer == b) es) ≡ Some a → (e : Edge) × IsIn e es × (pick e ≡ Some a)
-picked pick b a [] is = absurd (cc is)
-picked pick b a (e ∷ es) is = by (e.buffer == b) is (picked pick b a es)
-  where
-    by : (h : Bool) → option_and_then pick (cond h (Some e) (find (λ e. e.buffer == b) es)) ≡ Some a → (option_and_then pick (find (λ e. e.buffer == b) es) ≡ Some a → (x : Edge) × IsIn x es × (pick x ≡ Some a)) → (x : Edge) × IsIn x (e ∷ es) × (pick x ≡ Some a)
-    by true is rest = (e, inl refl, is)
-    by false is rest = let r = rest is in (r.0, inr r.1, r.2)
-
-end-of : (o : Option ℕ) (a : ℕ) → o ≡ Some a → is_end o a ≡ true
-end-of None a is = absurd (cc is)
-end-of (Some n) a is = let same : n ≡ a = cc is in eq-eqb n a same
+-- two joins by which an edge leads from a component to another
+record Through (g : Graph) (a c : ℕ) : Type 0 where
+  into : Join
+  out : Join
+  at_into : IsIn into g.joins
+  at_out : IsIn out g.joins
+  from : into.source ≡ a
+  between : out.source ≡ into.sink
+  to : out.sink ≡ c
 
 module _ (g : Graph) (wired : IsWired g) (linked : IsLinked g) where
-  source-kind : (b a : ℕ) → source_of g b ≡ Some a → has_kind is_input (kind_at g a) ≡ true
-  source-kind b a is = let e = picked (λ e. e.source) b a g.edges is in source-input g wired linked e.0 a e.1 (end-of _ a e.2)
-
-  sink-kind : (b a : ℕ) → sink_of g b ≡ Some a → has_kind is_output (kind_at g a) ≡ true
-  sink-kind b a is = let e = picked (λ e. e.sink) b a g.edges is in sink-output g wired linked e.0 a e.1 (end-of _ a e.2)
-
-  -- no edge comes from where another goes to, so no walk of edges comes back
-  pub none-follows : (b d a : ℕ) → sink_of g b ≡ Some a → source_of g d ≡ Some a → ⊥
-  none-follows b d a into out = never-both (kind_at g a) (source-kind d a out) (sink-kind b a into)
+  -- what is found by its buffer
+  found : (b : ℕ) (e : Edge) → edge_of g b ≡ Some e → IsIn e g.edges
+  found b e is = (find-in (λ e. e.buffer == b) g.edges e is).0
 
   pub source-there : (b a : ℕ) → source_of g b ≡ Some a → is_among (components g) a ≡ true
-  source-there b a is = among-map (λ (c : Comp). c.id) g.comps a (some-found is_input g.comps a (source-kind b a is))
+  source-there b a is = by (edge_of g b) refl is
+    where
+      side : (o : Option ℕ) → IsSide g o → o ≡ Some a → is_among (components g) a ≡ true
+      side None there is = absurd (cc is)
+      side (Some n) there is = let same : n ≡ a = cc is in among-map (λ (c : Comp). c.id) g.comps a (subst (λ n. IsSide g (Some n)) same there)
+
+      by : (o : Option Edge) → edge_of g b ≡ o → option_and_then (λ e. e.source) o ≡ Some a → is_among (components g) a ≡ true
+      by None e is = absurd (cc is)
+      by (Some e) at is = side e.source (in-all (λ e. IsSide g e.source × IsSide g e.sink) g.edges e wired.sides (found b e at)).0 is
 
   pub sink-there : (b a : ℕ) → sink_of g b ≡ Some a → is_among (components g) a ≡ true
-  sink-there b a is = among-map (λ (c : Comp). c.id) g.comps a (some-found is_output g.comps a (sink-kind b a is))
+  sink-there b a is = by (edge_of g b) refl is
+    where
+      side : (o : Option ℕ) → IsSide g o → o ≡ Some a → is_among (components g) a ≡ true
+      side None there is = absurd (cc is)
+      side (Some n) there is = let same : n ≡ a = cc is in among-map (λ (c : Comp). c.id) g.comps a (subst (λ n. IsSide g (Some n)) same there)
+
+      by : (o : Option Edge) → edge_of g b ≡ o → option_and_then (λ e. e.sink) o ≡ Some a → is_among (components g) a ≡ true
+      by None e is = absurd (cc is)
+      by (Some e) at is = side e.sink (in-all (λ e. IsSide g e.source × IsSide g e.sink) g.edges e wired.sides (found b e at)).1 is
 
   -- each end is a component
   pub each-end : HasEnds (bare g.comps g.edges)
   each-end = record { sources = source-there; sinks = sink-there }
 
-  -- and there is no cycle
+  -- an edge is two joins
+  through : (a c : ℕ) → LeadsTo (bare g.comps g.edges) a c → Through g a c
+  through a c leads = by (edge_of g leads.buffer) refl leads.source leads.sink
+    where
+      first : (o : Option ℕ) (b : ℕ) → o ≡ Some a → IsJoinedFrom g o b → (j : Join) × IsIn j g.joins × (j.source ≡ a) × (j.sink ≡ b)
+      first None b is joined = absurd (cc is)
+      first (Some n) b is joined =
+          let k = any-in (λ j. j.source == n && j.sink == b) g.joins joined in
+          let j : Join = k.0 in
+          let p = and_parts (j.source == n) (j.sink == b) k.2 in
+          let same : n ≡ a = cc is in
+          (j, k.1, eqb-true j.source n p.0 ∙ same, eqb-true j.sink b p.1)
+
+      second : (b : ℕ) (o : Option ℕ) → o ≡ Some c → IsJoinedTo g b o → (j : Join) × IsIn j g.joins × (j.source ≡ b) × (j.sink ≡ c)
+      second b None is joined = absurd (cc is)
+      second b (Some n) is joined =
+          let k = any-in (λ j. j.source == b && j.sink == n) g.joins joined in
+          let j : Join = k.0 in
+          let p = and_parts (j.source == b) (j.sink == n) k.2 in
+          let same : n ≡ c = cc is in
+          (j, k.1, eqb-true j.source b p.0, eqb-true j.sink n p.1 ∙ same)
+
+      by : (o : Option Edge) → edge_of g leads.buffer ≡ o → option_and_then (λ e. e.source) o ≡ Some a → option_and_then (λ e. e.sink) o ≡ Some c → Through g a c
+      by None at source sink = absurd (cc source)
+      by (Some e) at source sink =
+          let j = first e.source e.buffer source (in-all (λ e. IsJoinedFrom g e.source e.buffer) g.edges e linked.from (found leads.buffer e at)) in
+          let k = second e.buffer e.sink sink (in-all (λ e. IsJoinedTo g e.buffer e.sink) g.edges e linked.to (found leads.buffer e at)) in
+          record { into = j.0; out = k.0; at_into = j.1; at_out = k.1; from = j.2; between = k.2 ∙ sym j.3; to = k.3 }
+
+  -- a walk of edges is one of joins
+  walk-joins : (n a b : ℕ) → Walk (bare g.comps g.edges) n a b → Walks g.joins a b
+  walk-joins zero a b same = (0, same)
+  walk-joins (suc n) a b (c, leads, rest) =
+      let t = through a c leads in
+      let w = walk-joins n c b rest in
+      (suc (suc w.0), (t.into, t.at_into, t.from, (t.out, t.at_out, t.between, subst (λ x. Path g.joins w.0 x b) (sym t.to) w.1)))
+
+  -- so there is no cycle
   pub no-cycle : HasCycle (bare g.comps g.edges) → ⊥
-  no-cycle (c, zero, (d, leads, same)) = none-follows leads.buffer leads.buffer c (subst (λ x. sink_of g leads.buffer ≡ Some x) same leads.sink) leads.source
-  no-cycle (c, suc n, (d, leads, (e, next, rest))) = none-follows leads.buffer next.buffer d leads.sink next.source
+  no-cycle (c, n, (d, leads, rest)) =
+      let t = through c d leads in
+      let w = walk-joins n d c rest in
+      let back : Walks g.joins t.into.sink t.into.source = (suc w.0, (t.out, t.at_out, t.between, subst (λ (p : ℕ × ℕ). Path g.joins w.0 p.0 p.1) (λ i. (sym t.to i, sym t.from i)) w.1)) in
+      true≢false (sym (walks-lead g.joins t.into.sink t.into.source back) ∙ in-all (IsOpen g) g.joins t.into linked.open_ends t.at_into)

@@ -1,16 +1,18 @@
 -- What the firmware's calls do.
 use Rattle.std.proofs.Common.{◌≡◌, inl, refl, sym, ap, ◌∙◌, subst, ℕ, ◌+◌, List, Bool, true, false, cond, Option, Some, None, Result, Ok, Err, ℤ, pos, arith}
-use Rattle.std.specs.Prelude.{is_some, OnErr}
+use Rattle.std.specs.Prelude.{is_some, IfOk, OnErr}
 use Rattle.std.proofs.lemmas.Bool.{false≢true}
 use Rattle.sof_base.specs.Ports.{Io, HasRoom}
 use Rattle.sof_base.specs.declared.errno.Errno.{Errno}
+use Rattle.ipc3_codec.specs.declared.reply.Body.{Body}
 use Rattle.ipc3_codec.specs.Messages.{decoded}
+use Rattle.ipc3_codec.specs.Replies.{reply_spelling}
 use Rattle.stream_law.specs.State.{FwState}
-use Rattle.mbox_link.specs.Step.{step, replied, row_of, error_reply}
+use Rattle.mbox_link.specs.Step.{step, replied, row_of, body_of, error_reply}
 use Rattle.mbox_link.specs.Exchange.{Stepped, Rose, ticked}
 use Rattle.mbox_link.specs.Calls.{World, Exchanged, Ticked}
 use Rattle.fw_core.specs.Kept.{Held}
-use Rattle.fw_core.specs.Answers.{answer_of, error_number}
+use Rattle.fw_core.specs.Answers.{answer_of, reply_with}
 use Rattle.fw_core.specs.Device.{Chip, firmware, stepped, reply_to, with_state, after_tick}
 
 -- ---- an exchange
@@ -29,22 +31,22 @@ firmware-exchanged request answer w v done =
     })
 
 -- the state and the reply after a message that was answered so
-replied-by : (f g : FwState) (answer : Result (Unit {0}) Errno) (row : Result FwState ℤ) → answer_of g answer ≡ row → OnErr answer (g ≡ f) → replied f row ≡ (g, error_reply (error_number answer))
-replied-by f g (Ok done) row is kept = subst (λ r. replied f r ≡ (g, error_reply (pos 0))) is refl
-replied-by f g (Err error) row is kept = subst (λ r. replied f r ≡ (g, error_reply error.0)) is (ap (λ (h : FwState). (h, error_reply error.0)) (sym kept))
+replied-by : (f g : FwState) (answer : Result Body Errno) (body : Body) (row : Result FwState ℤ) → answer_of g answer ≡ row → IfOk answer (λ said. said ≡ body) → OnErr answer (g ≡ f) → replied f body row ≡ (g, reply_spelling (reply_with answer))
+replied-by f g (Ok said) body row is told kept = subst (λ r. replied f body r ≡ (g, reply_spelling (record { error = pos 0; body = said }))) is (ap (λ (b : Body). (g, reply_spelling (record { error = pos 0; body = b }))) (sym told))
+replied-by f g (Err error) body row is told kept = subst (λ r. replied f body r ≡ (g, error_reply error.0)) is (ap (λ (h : FwState). (h, error_reply error.0)) (sym kept))
 
 -- a device that answers so has done the step
-pub step-answered : (on : Bool) (boots : ℕ) (f g : Held) (answer : Result (Unit {0}) Errno) (request : List ℕ) (old : Chip) → record { state = cond on (Some f.state) None; boots = boots; most = f.room } ≡ old → is_some old.state ≡ true → answer_of g.state answer ≡ row_of f.state (decoded request) → OnErr answer (g ≡ f) → g.room ≡ f.room → (record { state = cond on (Some g.state) None; boots = boots; most = g.room } ≡ with_state (stepped old.state request) old) × (reply_to old.state request ≡ Some (error_reply (error_number answer)))
+pub step-answered : (on : Bool) (boots : ℕ) (f g : Held) (answer : Result Body Errno) (request : List ℕ) (old : Chip) → record { state = cond on (Some f.state) None; boots = boots; most = f.room } ≡ old → is_some old.state ≡ true → answer_of g.state answer ≡ row_of f.state (decoded request) → IfOk answer (λ said. said ≡ body_of f.state (decoded request)) → OnErr answer (g ≡ f) → g.room ≡ f.room → (record { state = cond on (Some g.state) None; boots = boots; most = g.room } ≡ with_state (stepped old.state request) old) × (reply_to old.state request ≡ Some (reply_spelling (reply_with answer)))
 unfolding step
-step-answered true boots f g answer request old was on is kept room =
-    let done : replied f.state (row_of f.state (decoded request)) ≡ (g.state, error_reply (error_number answer)) = replied-by f.state g.state answer (row_of f.state (decoded request)) is (same answer kept) in
-    subst (λ (d : Chip). (record { state = Some g.state; boots = boots; most = g.room } ≡ with_state (stepped d.state request) d) × (reply_to d.state request ≡ Some (error_reply (error_number answer)))) was
+step-answered true boots f g answer request old was on is told kept room =
+    let done : replied f.state (body_of f.state (decoded request)) (row_of f.state (decoded request)) ≡ (g.state, reply_spelling (reply_with answer)) = replied-by f.state g.state answer (body_of f.state (decoded request)) (row_of f.state (decoded request)) is told (same answer kept) in
+    subst (λ (d : Chip). (record { state = Some g.state; boots = boots; most = g.room } ≡ with_state (stepped d.state request) d) × (reply_to d.state request ≡ Some (reply_spelling (reply_with answer)))) was
     (λ i. record { state = Some (sym done i).0; boots = boots; most = room i }, ap (λ (p : FwState × List ℕ). Some p.1) done)
   where
-    same : (a : Result (Unit {0}) Errno) → OnErr a (g ≡ f) → OnErr a (g.state ≡ f.state)
+    same : (a : Result Body Errno) → OnErr a (g ≡ f) → OnErr a (g.state ≡ f.state)
     same (Ok done) e = e
     same (Err error) e = ap (λ (h : Held). h.state) e
-step-answered false boots f g answer request old was on is kept room = absurd (false≢true (ap (λ (d : Chip). is_some d.state) was ∙ on))
+step-answered false boots f g answer request old was on is told kept room = absurd (false≢true (ap (λ (d : Chip). is_some d.state) was ∙ on))
 
 -- ---- a tick
 

@@ -9,6 +9,7 @@ use Rattle.stream_law.specs.declared.graph.Kind.{Kind}
 use Rattle.stream_law.specs.declared.graph.Kind.TheVariants.{HostPlay, HostCapture, DaiPlay, DaiCapture, Volume, Mixer, Mux, Eq}
 use Rattle.stream_law.specs.declared.graph.Comp.{Comp}
 use Rattle.stream_law.specs.declared.graph.Edge.{Edge}
+use Rattle.stream_law.specs.declared.graph.Pipe.{Pipe}
 use Rattle.stream_law.specs.declared.graph.Graph.{Graph}
 use Rattle.stream_law.specs.declared.stream.Phase.TheVariants.{Idle}
 use Rattle.stream_law.specs.declared.stream.StreamView.{StreamView}
@@ -17,8 +18,7 @@ use Rattle.stream_law.specs.State.{View}
 use Rattle.stream_law.specs.Ways.{comp_of, source_of, sink_of, leads, reaches, on_way, is_capture, is_live_phase, live, live_end, channels_of, touch, same_shape, agree}
 use Rattle.stream_law.specs.Seen.{flows}
 use Rattle.stream_law.proofs.Placing.{list_any-placed, find-placed_apart, find-placed_there, HasDistinct-placed}
-use Rattle.mbox_link.specs.Step.{has_comp, has_edge, has_kind, kind_at, is_host, is_ready_comp, is_ready_edge, is_way_ready, with_stream}
-use Rattle.fw_schedule.specs.TurnLaws.{is_endpoint}
+use Rattle.mbox_link.specs.Step.{has_comp, has_edge, has_pipe, has_kind, kind_at, is_host, is_ready_comp, is_ready_edge, is_way_ready, with_stream}
 use Rattle.fw_core.specs.Kept.{IsWired, IsPlayable, IsSet, IsSetBy, IsSide, IsBetween, is_node, is_idle}
 use Rattle.fw_core.proofs.Ids.{any-ids}
 use Rattle.fw_core.proofs.Unreached.{eqb-turned, IsApart, apart, off-way}
@@ -276,12 +276,21 @@ module _ (g : Graph) (c : Comp) (gone : is_node g c.id ≡ false) (wired : IsWir
       let parts = or_parts (e.buffer == c.id) (list_any (λ e. e.buffer == c.id) es) none in
       (list_any-placed (λ x. x.id == e.buffer) (λ x. x.id) c g.comps ∙ or_from (c.id == e.buffer) (has_comp g e.buffer) (eqb-turned e.buffer c.id parts.0) apart.0, edges-apart es parts.1 apart.1)
 
-  pub wired-wider : is_endpoint c.kind ≡ true → IsWired wider
-  wired-wider endpoint = record {
+  -- pipelines have other ids
+  pipes-apart : (ps : List Pipe) → list_any (λ p. p.id == c.id) ps ≡ false → AllByRecursion (λ p. is_node g p.id ≡ false) ps → AllByRecursion (λ p. is_node wider p.id ≡ false) ps
+  pipes-apart [] none alone = tt
+  pipes-apart (p ∷ ps) none alone =
+      let parts = or_parts (p.id == c.id) (list_any (λ p. p.id == c.id) ps) none in
+      let was = or_parts (has_comp g p.id) (has_edge g p.id) alone.0 in
+      (or_from (has_comp wider p.id) (has_edge g p.id) (list_any-placed (λ x. x.id == p.id) (λ x. x.id) c g.comps ∙ or_from (c.id == p.id) (has_comp g p.id) (eqb-turned p.id c.id parts.0) was.0) was.1, pipes-apart ps parts.1 alone.1)
+
+  pub wired-wider : has_pipe g c.id ≡ false → IsWired wider
+  wired-wider no_pipe = record {
     ids = HasDistinct-placed (λ x. x.id) c g.comps no-comp wired.ids;
     buffers = wired.buffers;
+    names = wired.names;
+    alone = pipes-apart g.pipes no_pipe wired.alone;
     apart = edges-apart g.edges no-buffer wired.apart;
-    endpoints = all-placed (λ x. is_endpoint x.kind ≡ true) (λ x. x.id) c g.comps endpoint wired.endpoints;
     ends = all-by (IsBetween g) (IsBetween wider) (λ j e. (node-wider j.source e.0, node-wider j.sink e.1)) g.joins wired.ends;
     sides = all-by (λ e. IsSide g e.source × IsSide g e.sink) (λ e. IsSide wider e.source × IsSide wider e.sink) (λ e is. (side-wider e.source is.0, side-wider e.sink is.1)) g.edges wired.sides;
     periods = wired.periods;

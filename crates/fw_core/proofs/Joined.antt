@@ -8,9 +8,8 @@ use Rattle.stream_law.specs.declared.graph.Kind.TheVariants.{HostPlay, HostCaptu
 use Rattle.stream_law.specs.declared.graph.Edge.{Edge}
 use Rattle.stream_law.specs.declared.graph.Join.{Join}
 use Rattle.stream_law.specs.Ways.{leads}
-use Rattle.stream_law.specs.Joins.{kind_ins, kind_outs, fits_kind, joined}
+use Rattle.stream_law.specs.Joins.{is_endpoint, kind_ins, kind_outs, fits_kind, joined}
 use Rattle.stream_law.specs.Order.{is_among}
-use Rattle.fw_schedule.specs.TurnLaws.{is_endpoint}
 use Rattle.fw_core.proofs.Growing.{all-by}
 
 -- ---- lists

@@ -8,16 +8,16 @@ use Rattle.sof_base.specs.declared.format.Params.{Params}
 use Rattle.stream_law.specs.declared.graph.Comp.{Comp}
 use Rattle.stream_law.specs.declared.graph.Edge.{Edge}
 use Rattle.stream_law.specs.declared.graph.Join.{Join}
+use Rattle.stream_law.specs.declared.graph.Pipe.{Pipe}
 use Rattle.stream_law.specs.declared.graph.Graph.{Graph}
 use Rattle.stream_law.specs.declared.stream.StreamView.{StreamView}
 use Rattle.stream_law.specs.Placed.{HasDistinct}
 use Rattle.stream_law.specs.State.{View}
 use Rattle.stream_law.specs.Ways.{comp_of, components, buffers, source_of, sink_of, ins, outs, is_end, leads, reaches, on_way, is_capture, is_live_phase, live, live_end, channels_of, touch, same_shape, agree}
-use Rattle.stream_law.specs.Joins.{fits_kind, joined, with_join, has_grown, would_grow}
+use Rattle.stream_law.specs.Joins.{is_endpoint, fits_kind, joined, with_join, has_grown, would_grow}
 use Rattle.stream_law.specs.Seen.{flows}
 use Rattle.stream_law.specs.Order.{is_among}
 use Rattle.mbox_link.specs.Step.{has_comp, has_edge, kind_at, is_complete, is_ready_comp, is_ready_edge, is_way_ready, leads_in, leads_out, is_joined, takes_join, has_free_in, has_free_out}
-use Rattle.fw_schedule.specs.TurnLaws.{is_endpoint}
 use Rattle.fw_core.specs.Kept.{IsWired, IsPlayable, IsSet, IsSetBy, IsSide, IsBetween, is_node, is_idle}
 use Rattle.fw_core.proofs.Found.{found-each, ends-agree}
 use Rattle.fw_core.proofs.Stays.{heard, all-of, live-idle, given}
@@ -225,30 +225,32 @@ module _ (g : Graph) (j : Join) (wired : IsWired g) (free : is_joined g j.source
       ∙ sym (ends-agree (λ (e : Edge). e.source) c g.edges wired.buffers)
 
   -- a component that is ready takes no more
-  full-sink : (c : Comp) → find (λ x. x.id == c.id) g.comps ≡ Some c → is_endpoint c.kind ≡ true → is_ready_comp g c ≡ true → leads_out g j.source j.sink ≡ true → (j.sink == c.id) ≡ false
-  full-sink c found plain ready out = false_from_ne_true (j.sink == c.id) (λ same.
+  full-sink : (c : Comp) → find (λ x. x.id == c.id) g.comps ≡ Some c → is_ready_comp g c ≡ true → leads_out g j.source j.sink ≡ true → (j.sink == c.id) ≡ false
+  full-sink c found ready out = false_from_ne_true (j.sink == c.id) (λ same.
       let is : j.sink ≡ c.id = eqb-true j.sink c.id same in
       let no_in : leads_in g j.source j.sink ≡ false = false_from_ne_true (leads_in g j.source j.sink) (λ into. leads-apart into out) in
       let room : has_free_in g j.sink (kind_at g j.sink) ≡ true = (and_parts (leads_out g j.source j.sink) (has_free_in g j.sink (kind_at g j.sink)) (sym (ap (λ h. (h && has_free_out g j.source (kind_at g j.source)) || (leads_out g j.source j.sink && has_free_in g j.sink (kind_at g j.sink))) no_in) ∙ takes)).1 in
       let here : has_free_in g c.id (Some c.kind) ≡ true = sym (ap (λ n. has_free_in g n (kind_at g n)) is ∙ ap (λ (o : Option Comp). has_free_in g c.id (option_map (λ c. c.kind) o)) found) ∙ room in
-      full-in c.kind (length (ins g c.id)) (length (outs g c.id)) plain (and_parts (is_complete g c.pipe) (fits_kind c.kind (length (ins g c.id)) (length (outs g c.id))) ready).1 here)
+      let parts = and_parts (is_endpoint c.kind) (is_complete g c.pipe && fits_kind c.kind (length (ins g c.id)) (length (outs g c.id))) ready in
+      full-in c.kind (length (ins g c.id)) (length (outs g c.id)) parts.0 (and_parts (is_complete g c.pipe) (fits_kind c.kind (length (ins g c.id)) (length (outs g c.id))) parts.1).1 here)
 
-  full-source : (c : Comp) → find (λ x. x.id == c.id) g.comps ≡ Some c → is_endpoint c.kind ≡ true → is_ready_comp g c ≡ true → leads_in g j.source j.sink ≡ true → (j.source == c.id) ≡ false
-  full-source c found plain ready into = false_from_ne_true (j.source == c.id) (λ same.
+  full-source : (c : Comp) → find (λ x. x.id == c.id) g.comps ≡ Some c → is_ready_comp g c ≡ true → leads_in g j.source j.sink ≡ true → (j.source == c.id) ≡ false
+  full-source c found ready into = false_from_ne_true (j.source == c.id) (λ same.
       let is : j.source ≡ c.id = eqb-true j.source c.id same in
       let no_out : leads_out g j.source j.sink ≡ false = false_from_ne_true (leads_out g j.source j.sink) (λ out. leads-apart into out) in
       let room : has_free_out g j.source (kind_at g j.source) ≡ true = first (leads_in g j.source j.sink) (has_free_out g j.source (kind_at g j.source)) (sym (ap (λ h. (leads_in g j.source j.sink && has_free_out g j.source (kind_at g j.source)) || (h && has_free_in g j.sink (kind_at g j.sink))) no_out) ∙ takes) in
       let here : has_free_out g c.id (Some c.kind) ≡ true = sym (ap (λ n. has_free_out g n (kind_at g n)) is ∙ ap (λ (o : Option Comp). has_free_out g c.id (option_map (λ c. c.kind) o)) found) ∙ room in
-      full-out c.kind (length (ins g c.id)) (length (outs g c.id)) plain (and_parts (is_complete g c.pipe) (fits_kind c.kind (length (ins g c.id)) (length (outs g c.id))) ready).1 here)
+      let parts = and_parts (is_endpoint c.kind) (is_complete g c.pipe && fits_kind c.kind (length (ins g c.id)) (length (outs g c.id))) ready in
+      full-out c.kind (length (ins g c.id)) (length (outs g c.id)) parts.0 (and_parts (is_complete g c.pipe) (fits_kind c.kind (length (ins g c.id)) (length (outs g c.id))) parts.1).1 here)
     where
       first : (a b : Bool) → ((a && b) || false) ≡ true → b ≡ true
       first true true e = refl
       first true false e = absurd (false≢true e)
       first false b e = absurd (false≢true e)
 
-  comp-joined : (c : Comp) → find (λ x. x.id == c.id) g.comps ≡ Some c → is_endpoint c.kind ≡ true → is_ready_comp g c ≡ true → is_ready_comp wired_on c ≡ true
-  comp-joined c found plain ready =
-      ap (λ (n : ℕ × ℕ). is_complete g c.pipe && fits_kind c.kind n.0 n.1) (λ i. (ins-joined c.id (full-sink c found plain ready) i, outs-joined c.id (full-source c found plain ready) i)) ∙ ready
+  comp-joined : (c : Comp) → find (λ x. x.id == c.id) g.comps ≡ Some c → is_ready_comp g c ≡ true → is_ready_comp wired_on c ≡ true
+  comp-joined c found ready =
+      ap (λ (n : ℕ × ℕ). is_endpoint c.kind && (is_complete g c.pipe && fits_kind c.kind n.0 n.1)) (λ i. (ins-joined c.id (full-sink c found ready) i, outs-joined c.id (full-source c found ready) i)) ∙ ready
 
   edge-joined : (e : Edge) → is_ready_edge g e ≡ true → is_ready_edge wired_on (joined j e) ≡ true
   edge-joined e ready = by (e.buffer == j.source) (e.buffer == j.sink)
@@ -269,7 +271,7 @@ module _ (g : Graph) (j : Join) (wired : IsWired g) (free : is_joined g j.source
   ready-joined n same ready =
       let parts = and_parts (list_all (λ x. not (on_way g n x.id) || is_ready_comp g x) g.comps) (list_all (λ e. not (on_way g n e.buffer) || is_ready_edge g e) g.edges) ready in
       and_from _ _
-      (comps g.comps (found-each (λ (c : Comp). c.id) g.comps wired.ids) wired.endpoints in-comps parts.0)
+      (comps g.comps (found-each (λ (c : Comp). c.id) g.comps wired.ids) in-comps parts.0)
       (edges g.edges in-edges parts.1)
     where
       in-comps : AllByRecursion (λ c. is_among nodes c.id ≡ true) g.comps
@@ -282,13 +284,13 @@ module _ (g : Graph) (j : Join) (wired : IsWired g) (free : is_joined g j.source
       one true p q f e = f e
       one false p q f e = refl
 
-      comps : (xs : List Comp) → AllByRecursion (λ c. find (λ x. x.id == c.id) g.comps ≡ Some c) xs → AllByRecursion (λ c. is_endpoint c.kind ≡ true) xs → AllByRecursion (λ c. is_among nodes c.id ≡ true) xs → list_all (λ x. not (on_way g n x.id) || is_ready_comp g x) xs ≡ true → list_all (λ x. not (on_way wired_on n x.id) || is_ready_comp wired_on x) xs ≡ true
-      comps [] found plain there is = refl
-      comps (c ∷ xs) found plain there is =
+      comps : (xs : List Comp) → AllByRecursion (λ c. find (λ x. x.id == c.id) g.comps ≡ Some c) xs → AllByRecursion (λ c. is_among nodes c.id ≡ true) xs → list_all (λ x. not (on_way g n x.id) || is_ready_comp g x) xs ≡ true → list_all (λ x. not (on_way wired_on n x.id) || is_ready_comp wired_on x) xs ≡ true
+      comps [] found there is = refl
+      comps (c ∷ xs) found there is =
           let parts = and_parts (not (on_way g n c.id) || is_ready_comp g c) (list_all (λ x. not (on_way g n x.id) || is_ready_comp g x) xs) is in
           and_from _ _
-          (ap (λ h. not h || is_ready_comp wired_on c) (same c.id there.0) ∙ one (on_way g n c.id) (is_ready_comp g c) (is_ready_comp wired_on c) (comp-joined c found.0 plain.0) parts.0)
-          (comps xs found.1 plain.1 there.1 parts.1)
+          (ap (λ h. not h || is_ready_comp wired_on c) (same c.id there.0) ∙ one (on_way g n c.id) (is_ready_comp g c) (is_ready_comp wired_on c) (comp-joined c found.0) parts.0)
+          (comps xs found.1 there.1 parts.1)
 
       edges : (es : List Edge) → AllByRecursion (λ e. is_among nodes e.buffer ≡ true) es → list_all (λ e. not (on_way g n e.buffer) || is_ready_edge g e) es ≡ true → list_all (λ e. not (on_way wired_on n e.buffer) || is_ready_edge wired_on e) (map (joined j) es) ≡ true
       edges [] there is = refl
@@ -460,12 +462,17 @@ module _ (g : Graph) (j : Join) (wired : IsWired g) (free : is_joined g j.source
   apart-joined [] apart = tt
   apart-joined (e ∷ es) apart = (ap (has_comp g) (joined-buffer j e) ∙ apart.0, apart-joined es apart.1)
 
+  alone-joined : (ps : List Pipe) → AllByRecursion (λ p. is_node g p.id ≡ false) ps → AllByRecursion (λ p. is_node wired_on p.id ≡ false) ps
+  alone-joined [] alone = tt
+  alone-joined (p ∷ ps) alone = (ap (λ h. has_comp g p.id || h) (has-joined j g.edges p.id) ∙ alone.0, alone-joined ps alone.1)
+
   pub wired-joined : IsWired wired_on
   wired-joined = record {
     ids = wired.ids;
     buffers = distinct;
+    names = wired.names;
+    alone = alone-joined g.pipes wired.alone;
     apart = apart-joined g.edges wired.apart;
-    endpoints = wired.endpoints;
     ends = all-end g.joins wired.ends;
     sides = sides-joined g.edges frees wired.sides;
     periods = wired.periods;

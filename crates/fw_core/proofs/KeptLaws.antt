@@ -4,7 +4,7 @@ use Rattle.std.proofs.lemmas.Bool.{false≢true, or_parts}
 use Rattle.std.proofs.lemmas.List.{length-map}
 use Rattle.std.specs.Prelude.{nat_lt, None}
 use Rattle.std.specs.List.{IsDistinct, list_any, AllByRecursion}
-use Rattle.sof_base.specs.Holes.{rounded}
+use Rattle.sof_base.specs.Holes.{rounded, usable_of, fits}
 use Rattle.stream_law.specs.declared.graph.Kind.{Kind}
 use Rattle.stream_law.specs.declared.graph.Kind.TheVariants.{HostPlay, HostCapture, DaiPlay, DaiCapture, Volume, Mixer, Mux, Eq}
 use Rattle.stream_law.specs.declared.graph.Comp.{Comp}
@@ -14,21 +14,22 @@ use Rattle.stream_law.specs.declared.graph.Join.{Join}
 use Rattle.stream_law.specs.declared.graph.Graph.{Graph}
 use Rattle.stream_law.specs.declared.stream.Phase.TheVariants.{Idle}
 use Rattle.stream_law.specs.declared.stream.StreamView.{StreamView}
-use Rattle.stream_law.specs.Placed.{placed}
+use Rattle.stream_law.specs.Placed.{placed, HasDistinct}
 use Rattle.stream_law.specs.State.{HeapView, PieceView, View, RingView}
 use Rattle.stream_law.specs.Ways.{channels_of, agree}
 use Rattle.stream_law.specs.Seen.{flows, ring_seen}
-use Rattle.stream_law.proofs.Placing.{length-placed}
+use Rattle.stream_law.proofs.Placing.{length-placed, HasDistinct-placed}
 use Rattle.ipc3_codec.specs.Allowed.{is_period}
 use Rattle.mbox_link.specs.Step.{with_piece, with_stream, completed, is_used, has_comp, has_edge, has_pipe}
-use Rattle.fw_core.specs.Pieces.{carved_bytes, heap_bytes}
-use Rattle.fw_ring.specs.RingLists.{Ring, RingLists, no_rings, with_ring, fresh_ring}
-use Rattle.fw_schedule.specs.TurnLaws.{is_endpoint}
-use Rattle.fw_core.specs.Kept.{IsKept, AreRings, state_of, shown, sides, is_node}
+use Rattle.fw_core.specs.Pieces.{IsTiled, fresh_heap}
+use Rattle.fw_ring.specs.RingLists.{Ring, RingLists, AreFree, no_rings, with_ring, fresh_ring}
+use Rattle.fw_core.specs.Kept.{IsKept, AreRings, ArePieces, LiesIn, state_of, shown, sides, is_node}
+use Rattle.fw_core.proofs.Pieced.{no-piece, pieces-comp, pieces-edge, pieces-pipe, pieces-joined, pieces-completed, ids-completed, each-completed, all-lie, lies-new, ring-free, first_word}
 use Rattle.fw_core.proofs.Sides.{sides-placed}
+use Rattle.fw_core.proofs.Tiling.{fresh-tiled, carve-tiled}
 use Rattle.fw_core.proofs.SeenLaws.{keys-shown}
 use Rattle.fw_core.proofs.Growing.{all-placed, all-by, played-wider, wired-wider, flows-wider, channels-wider}
-use Rattle.stream_law.specs.Joins.{joined, would_grow}
+use Rattle.stream_law.specs.Joins.{joined, would_cycle, would_grow}
 use Rattle.mbox_link.specs.Step.{is_joined, takes_join}
 use Rattle.fw_core.proofs.Joined.{joined-size, buffers-joined}
 use Rattle.fw_core.proofs.Joining.{played-joined, wired-joined, flows-joined, channels-each}
@@ -47,23 +48,25 @@ kept-empty heap clock comps edges pipes joins streams rings most h c e p j s r =
       pipes = omega arith;
       joins = omega arith;
       streams = omega arith;
-      pieces = omega arith;
-      wired = record { ids = tt; buffers = tt; apart = tt; endpoints = tt; ends = tt; sides = tt; periods = tt };
-      linked = record { sources = tt; sinks = tt; at = tt; from = tt; to = tt };
+      pieces = record {
+        few = omega (arith, none);
+        named = subst (λ (ps : List PieceView). AllByRecursion (λ (p : PieceView). is_used (record { comps = []; edges = []; pipes = []; joins = [] }) p.id ≡ true) ps) (sym h) tt;
+        comps = tt;
+        edges = tt;
+        pipes = tt;
+      };
+      wired = record { ids = tt; buffers = tt; names = tt; apart = tt; alone = tt; ends = tt; sides = tt; periods = tt };
+      linked = record { at = tt; from = tt; to = tt; open_ends = tt };
       played = record { hosts = tt; owned = tt; each = tt; agreed = refl };
       rings = refl;
       seen = refl;
       histories = refl;
     }
 
-pub held-empty : (heap : HeapView) (clock : ℕ) (comps : List Comp) (edges : List Edge) (pipes : List Pipe) (joins : List Join) (streams : List StreamView) (rings : RingLists) (room : ℕ) → edges ≡ [] → rings ≡ no_rings (room / 4) → heap_bytes heap ≤ room → AreRings rings room (state_of heap clock comps edges pipes joins streams (map shown rings.rings))
-held-empty heap clock comps edges pipes joins streams rings room e r fits = rw (e, r) record { words = refl; channels = tt; used = omega arith; within = fits; most = refl }
+pub held-empty : (heap : HeapView) (clock : ℕ) (comps : List Comp) (edges : List Edge) (pipes : List Pipe) (joins : List Join) (streams : List StreamView) (rings : RingLists) (room bytes : ℕ) → edges ≡ [] → rings ≡ no_rings (room / 4) → heap ≡ fresh_heap bytes → bytes ≤ room → AreRings rings room (state_of heap clock comps edges pipes joins streams (map shown rings.rings))
+held-empty heap clock comps edges pipes joins streams rings room bytes e r h fits = rw (e, r, h) record { words = refl; channels = tt; lie = tt; usable = usable_of bytes; tiled = fresh-tiled bytes; within = omega (arith, fits); most = refl }
 
 -- ---- parts of a state
-
--- one piece more
-pieces-more : (id bytes : ℕ) (old new : HeapView) → new ≡ with_piece id bytes old → length new.pieces ≡ suc (length old.pieces)
-pieces-more id bytes old new is = ap (λ (h : HeapView). length h.pieces) is ∙ length-placed (λ (p : PieceView). p.id) _ old.pieces
 
 stream-length : (id : ℕ) (kind : Kind) (streams : List StreamView) → length (with_stream id kind streams) ≤ suc (length streams)
 stream-length id HostPlay streams = omega (arith, length-placed (λ (s : StreamView). s.host) (record { host = id; phase = Idle; params = None }) streams)
@@ -76,6 +79,9 @@ stream-length id Mux streams = omega arith
 stream-length id Eq streams = omega arith
 
 -- an id that names nothing
+no-pipe : (g : Graph) (id : ℕ) → is_used g id ≡ false → has_pipe g id ≡ false
+no-pipe g id e = (or_parts (is_node g id) (has_pipe g id) e).1
+
 unused-node : (g : Graph) (id : ℕ) → is_used g id ≡ false → is_node g id ≡ false
 unused-node g id e = (or_parts (is_node g id) (has_pipe g id) e).0
 
@@ -154,7 +160,7 @@ module _ (heap : HeapView) (clock : ℕ) (comps : List Comp) (edges : List Edge)
   ring-keys = sym (keys-shown rings.rings) ∙ kept.rings
 
   -- a component more
-  module _ (bytes : ℕ) (c : Comp) (heap' : HeapView) (comps' : List Comp) (streams' : List StreamView) (few : length comps < 128) (unused : is_used graph c.id ≡ false) (endpoint : is_endpoint c.kind ≡ true) (h : heap' ≡ with_piece c.id bytes heap) (e : comps' ≡ placed (λ x. x.id) c comps) (s : streams' ≡ with_stream c.id c.kind streams) where
+  module _ (bytes : ℕ) (c : Comp) (heap' : HeapView) (comps' : List Comp) (streams' : List StreamView) (few : length comps < 128) (unused : is_used graph c.id ≡ false) (h : heap' ≡ with_piece c.id bytes heap) (e : comps' ≡ placed (λ x. x.id) c comps) (s : streams' ≡ with_stream c.id c.kind streams) where
     gone : is_node graph c.id ≡ false
     gone = unused-node graph c.id unused
 
@@ -174,26 +180,32 @@ module _ (heap : HeapView) (clock : ℕ) (comps : List Comp) (edges : List Edge)
       pipes = kept.pipes;
       joins = kept.joins;
       streams = omega (arith, length-placed (λ (x : Comp). x.id) c comps, stream-length c.id c.kind streams, kept.streams);
-      pieces = omega (arith, length-placed (λ (x : Comp). x.id) c comps, pieces-more c.id bytes heap heap' h, kept.pieces);
-      linked = linked-wider graph c (or_parts (has_comp graph c.id) (has_edge graph c.id) gone).0 kept.linked;
-      wired = wired-wider graph c gone kept.wired streams kept.played endpoint;
+      pieces = subst (ArePieces wide.graph) (sym h) (pieces-comp graph heap bytes kept.pieces c);
+      linked = linked-wider graph c kept.linked;
+      wired = wired-wider graph c gone kept.wired streams kept.played (no-pipe graph c.id unused);
       played = played-wider graph c gone kept.wired streams kept.played;
       rings = kept.rings;
       seen = seen-same view wide rings.rings comp-flows kept.seen;
       histories = refl;
     }
 
-    pub held-comp : carved_bytes heap'.pieces ≡ carved_bytes heap.pieces + rounded bytes → heap_bytes heap' ≡ heap_bytes heap → AreRings rings room (state_of heap' clock comps' edges pipes joins streams' (map shown rings.rings))
-    held-comp more same = carried (λ cs ss. AreRings rings room (state_of heap' clock cs edges pipes joins ss (map shown rings.rings))) record {
+    pub held-comp : 0 < bytes → fits (rounded bytes) heap.holes ≡ true → AreRings rings room (state_of heap' clock comps' edges pipes joins streams' (map shown rings.rings))
+    held-comp some there = carried (λ cs ss. AreRings rings room (state_of heap' clock cs edges pipes joins ss (map shown rings.rings))) record {
       words = held.words;
       channels = channels-by view wide rings.rings comp-flows (each-buffer (channels-wider graph c gone kept.wired streams kept.played) rings.rings) held.channels;
-      used = omega (arith, held.used, more);
-      within = omega (arith, held.within, same);
+      lie = subst (λ (v : HeapView). AllByRecursion (LiesIn v) rings.rings) (sym h) (all-lie c.id bytes heap rings.rings (rings-apart c.id rings.rings edges ring-keys (or_parts (has_comp graph c.id) (has_edge graph c.id) gone).1) held.lie);
+      usable = held.usable;
+      tiled = subst (IsTiled held.usable) (sym h) (carve-tiled held.usable c.id bytes heap held.tiled some there (no-piece graph heap c.id kept.pieces unused));
+      within = held.within;
       most = held.most;
     }
 
+  -- the ring of a buffer more has words of its own
+  pub free-words : (id size : ℕ) → fits (rounded (32 + size)) heap.holes ≡ true → AreFree rings (first_word size heap) (size / 4)
+  free-words id size there = ring-free held.usable id size heap held.tiled there room rings held.within held.most held.lie
+
   -- a buffer more
-  module _ (id pipe size bytes : ℕ) (heap' : HeapView) (edges' : List Edge) (rings' : RingLists) (few : length edges < 128) (unused : is_used graph id ≡ false) (h : heap' ≡ with_piece id bytes heap) (e : edges' ≡ placed (λ y. y.buffer) (record { buffer = id; pipe = pipe; size = size; source = None; sink = None }) edges) (r : rings' ≡ with_ring id size rings) where
+  module _ (id pipe size first : ℕ) (heap' : HeapView) (edges' : List Edge) (rings' : RingLists) (few : length edges < 128) (unused : is_used graph id ≡ false) (h : heap' ≡ with_piece id (32 + size) heap) (at : first ≡ first_word size heap) (e : edges' ≡ placed (λ y. y.buffer) (record { buffer = id; pipe = pipe; size = size; source = None; sink = None }) edges) (r : rings' ≡ with_ring id first size rings) where
     no-node : is_node graph id ≡ false
     no-node = unused-node graph id unused
 
@@ -204,16 +216,19 @@ module _ (heap : HeapView) (clock : ℕ) (comps : List Comp) (edges : List Edge)
     long = record { graph = record { comps = comps; edges = placed (λ y. y.buffer) fresh edges; pipes = pipes; joins = joins }; streams = streams }
 
     abbrev more-rings : List Ring
-    more-rings = placed (λ r. r.buffer) (fresh_ring id size) rings.rings
+    more-rings = placed (λ r. r.buffer) (fresh_ring id first size) rings.rings
+
+    apart-rings : AllByRecursion (λ r. (r.buffer == id) ≡ false) rings.rings
+    apart-rings = rings-apart id rings.rings edges ring-keys (or_parts (has_comp graph id) (has_edge graph id) no-node).1
 
     ring-flows : AllByRecursion (λ r. flows long r.buffer ≡ flows view r.buffer) rings.rings
-    ring-flows = all-by (λ r. (r.buffer == id) ≡ false) (λ r. flows long r.buffer ≡ flows view r.buffer) (λ r other. flows-longer graph id pipe size no-node kept.wired streams kept.played r.buffer other) rings.rings (rings-apart id rings.rings edges ring-keys (or_parts (has_comp graph id) (has_edge graph id) no-node).1)
+    ring-flows = all-by (λ r. (r.buffer == id) ≡ false) (λ r. flows long r.buffer ≡ flows view r.buffer) (λ r other. flows-longer graph id pipe size no-node kept.wired streams kept.played r.buffer other) rings.rings apart-rings
 
-    stays-empty : (t : Bool) → record { buffer = id; frames = cond t [] [] } ≡ shown (fresh_ring id size)
+    stays-empty : (t : Bool) → record { buffer = id; frames = cond t [] [] } ≡ shown (fresh_ring id first size)
     stays-empty true = refl
     stays-empty false = refl
 
-    brought : (P : List Edge → RingLists → Type 0) → P (placed (λ y. y.buffer) fresh edges) (with_ring id size rings) → P edges' rings'
+    brought : (P : List Edge → RingLists → Type 0) → P (placed (λ y. y.buffer) fresh edges) (with_ring id first size rings) → P edges' rings'
     brought P p = subst (λ (q : List Edge × RingLists). P q.0 q.1) (λ i. (sym e i, sym r i)) p
 
     pub kept-buffer : IsKept (state_of heap' clock comps edges' pipes joins streams (map shown rings'.rings))
@@ -223,28 +238,32 @@ module _ (heap : HeapView) (clock : ℕ) (comps : List Comp) (edges : List Edge)
       pipes = kept.pipes;
       joins = omega (arith, kept.joins, sides-placed (λ (y : Edge). y.buffer) fresh edges);
       streams = kept.streams;
-      pieces = omega (arith, length-placed (λ (y : Edge). y.buffer) fresh edges, pieces-more id bytes heap heap' h, kept.pieces);
+      pieces = subst (ArePieces long.graph) (sym h) (pieces-edge graph heap (32 + size) kept.pieces fresh);
       linked = linked-longer graph fresh refl refl kept.linked;
-      wired = wired-longer graph id pipe size no-node kept.wired streams kept.played;
+      wired = wired-longer graph id pipe size no-node kept.wired streams kept.played (no-pipe graph id unused);
       played = played-longer graph id pipe size no-node kept.wired streams kept.played;
-      rings = keys-shown more-rings ∙ placed-pairs (λ r. r.buffer) (λ e. e.buffer) (fresh_ring id size) fresh rings.rings edges ring-keys ring-keys refl refl;
-      seen = seen-all long more-rings (all-placed (λ r. ring_seen long (shown r) ≡ shown r) (λ r. r.buffer) (fresh_ring id size) rings.rings (stays-empty (flows long id)) (seen-each long rings.rings (seen-same view long rings.rings ring-flows kept.seen)));
+      rings = keys-shown more-rings ∙ placed-pairs (λ r. r.buffer) (λ e. e.buffer) (fresh_ring id first size) fresh rings.rings edges ring-keys ring-keys refl refl;
+      seen = seen-all long more-rings (all-placed (λ r. ring_seen long (shown r) ≡ shown r) (λ r. r.buffer) (fresh_ring id first size) rings.rings (stays-empty (flows long id)) (seen-each long rings.rings (seen-same view long rings.rings ring-flows kept.seen)));
       histories = refl;
     }
 
-    pub held-buffer : carved_bytes heap'.pieces ≡ carved_bytes heap.pieces + rounded bytes → 32 + size ≤ rounded bytes → heap_bytes heap' ≡ heap_bytes heap → AreRings rings' room (state_of heap' clock comps edges' pipes joins streams (map shown rings'.rings))
-    held-buffer more fits same = brought (λ es rs. AreRings rs room (state_of heap' clock comps es pipes joins streams (map shown rs.rings))) record {
-      words = placed-pairs (λ r. r.words) (λ e. e.size / 4) (fresh_ring id size) fresh rings.rings edges ring-keys held.words refl refl;
-      channels = all-placed (λ r. flows long r.buffer ≡ true → r.channels ≡ channels_of long r.buffer) (λ r. r.buffer) (fresh_ring id size) rings.rings
+    pub held-buffer : fits (rounded (32 + size)) heap.holes ≡ true → AreRings rings' room (state_of heap' clock comps edges' pipes joins streams (map shown rings'.rings))
+    held-buffer there = brought (λ es rs. AreRings rs room (state_of heap' clock comps es pipes joins streams (map shown rs.rings))) record {
+      words = placed-pairs (λ r. r.words) (λ e. e.size / 4) (fresh_ring id first size) fresh rings.rings edges ring-keys held.words refl refl;
+      channels = all-placed (λ r. flows long r.buffer ≡ true → r.channels ≡ channels_of long r.buffer) (λ r. r.buffer) (fresh_ring id first size) rings.rings
           (λ flow. absurd (false≢true (sym (flows-fresh graph id pipe size no-node kept.wired streams kept.played) ∙ flow)))
           (channels-by view long rings.rings ring-flows (each-buffer (channels-longer graph id pipe size no-node kept.wired streams kept.played) rings.rings) held.channels);
-      used = omega (arith, held.used, more, fits);
-      within = omega (arith, held.within, same);
+      lie = subst (λ (v : HeapView). AllByRecursion (LiesIn v) more-rings) (sym h) (all-placed (LiesIn (with_piece id (32 + size) heap)) (λ r. r.buffer) (fresh_ring id first size) rings.rings
+          (subst (λ n. LiesIn (with_piece id (32 + size) heap) (fresh_ring id n size)) (sym at) (lies-new held.usable id size heap held.tiled there (no-piece graph heap id kept.pieces unused)))
+          (all-lie id (32 + size) heap rings.rings apart-rings held.lie));
+      usable = held.usable;
+      tiled = subst (IsTiled held.usable) (sym h) (carve-tiled held.usable id (32 + size) heap held.tiled (omega arith) there (no-piece graph heap id kept.pieces unused));
+      within = held.within;
       most = held.most;
     }
 
   -- other pipelines, of which as many are complete
-  module _ (heap' : HeapView) (pipes' : List Pipe) (few : length pipes' ≤ 32) (pieces : length heap'.pieces ≤ length comps + length edges + length pipes') (complete : (index : ℕ) → list_any (λ q. q.index == index && q.complete) pipes ≡ true → list_any (λ q. q.index == index && q.complete) pipes' ≡ true) (periods : AllByRecursion (λ p. is_period p.period ≡ true) pipes') where
+  module _ (heap' : HeapView) (pipes' : List Pipe) (few : length pipes' ≤ 32) (pieces : ArePieces (record { comps = comps; edges = edges; pipes = pipes'; joins = joins }) heap') (complete : (index : ℕ) → list_any (λ q. q.index == index && q.complete) pipes ≡ true → list_any (λ q. q.index == index && q.complete) pipes' ≡ true) (names : HasDistinct (λ p. p.id) pipes') (alone : AllByRecursion (λ p. is_node graph p.id ≡ false) pipes') (periods : AllByRecursion (λ p. is_period p.period ≡ true) pipes') where
     abbrev other : View
     other = record { graph = record { comps = comps; edges = edges; pipes = pipes'; joins = joins }; streams = streams }
 
@@ -260,36 +279,68 @@ module _ (heap : HeapView) (clock : ℕ) (comps : List Comp) (edges : List Edge)
       streams = kept.streams;
       pieces = pieces;
       linked = linked-other graph pipes' kept.linked;
-      wired = wired-other graph pipes' streams kept.played kept.wired periods;
+      wired = wired-other graph pipes' streams kept.played kept.wired names alone periods;
       played = played-other graph pipes' streams kept.played complete;
       rings = kept.rings;
       seen = seen-same view other rings.rings other-flows kept.seen;
       histories = refl;
     }
 
-    pub held-pipes : carved_bytes heap.pieces ≤ carved_bytes heap'.pieces → heap_bytes heap' ≡ heap_bytes heap → AreRings rings room (state_of heap' clock comps edges pipes' joins streams (map shown rings.rings))
-    held-pipes more same = record {
+    pub held-pipes : AllByRecursion (LiesIn heap') rings.rings → IsTiled held.usable heap' → AreRings rings room (state_of heap' clock comps edges pipes' joins streams (map shown rings.rings))
+    held-pipes lie tiled = record {
       words = held.words;
       channels = channels-by view other rings.rings other-flows (each-buffer (channels-other graph pipes' streams kept.played) rings.rings) held.channels;
-      used = omega (arith, held.used, more);
-      within = omega (arith, held.within, same);
+      lie = lie;
+      usable = held.usable;
+      tiled = tiled;
+      within = held.within;
       most = held.most;
     }
 
-  pub kept-pipe : (id bytes : ℕ) (x : Pipe) (heap' : HeapView) (pipes' : List Pipe) → length pipes < 32 → is_period x.period ≡ true → heap' ≡ with_piece id bytes heap → pipes' ≡ placed (λ y. y.id) x pipes → IsKept (state_of heap' clock comps edges pipes' joins streams (map shown rings.rings))
-  kept-pipe id bytes x heap' pipes' few period h e = subst (λ ps. IsKept (state_of heap' clock comps edges ps joins streams (map shown rings.rings))) (sym e) (kept-pipes heap' (placed (λ y. y.id) x pipes) (omega (arith, few, length-placed (λ (y : Pipe). y.id) x pipes)) (omega (arith, length-placed (λ (y : Pipe). y.id) x pipes, pieces-more id bytes heap heap' h, kept.pieces)) (complete-placed x pipes) (all-placed (λ p. is_period p.period ≡ true) (λ y. y.id) x pipes period kept.wired.periods))
+  -- a pipeline more
+  module _ (bytes : ℕ) (x : Pipe) (heap' : HeapView) (pipes' : List Pipe) (few : length pipes < 32) (period : is_period x.period ≡ true) (unused : is_used graph x.id ≡ false) (h : heap' ≡ with_piece x.id bytes heap) (e : pipes' ≡ placed (λ y. y.id) x pipes) where
+    abbrev piped : List Pipe
+    piped = placed (λ y. y.id) x pipes
 
-  pub held-pipe : (id bytes : ℕ) (x : Pipe) (heap' : HeapView) (pipes' : List Pipe) → length pipes < 32 → is_period x.period ≡ true → heap' ≡ with_piece id bytes heap → pipes' ≡ placed (λ y. y.id) x pipes → carved_bytes heap'.pieces ≡ carved_bytes heap.pieces + rounded bytes → heap_bytes heap' ≡ heap_bytes heap → AreRings rings room (state_of heap' clock comps edges pipes' joins streams (map shown rings.rings))
-  held-pipe id bytes x heap' pipes' few period h e more same = subst (λ ps. AreRings rings room (state_of heap' clock comps edges ps joins streams (map shown rings.rings))) (sym e) (held-pipes heap' (placed (λ y. y.id) x pipes) (omega (arith, few, length-placed (λ (y : Pipe). y.id) x pipes)) (omega (arith, length-placed (λ (y : Pipe). y.id) x pipes, pieces-more id bytes heap heap' h, kept.pieces)) (complete-placed x pipes) (all-placed (λ p. is_period p.period ≡ true) (λ y. y.id) x pipes period kept.wired.periods) (omega (arith, more)) same)
+    count : length piped ≤ 32
+    count = omega (arith, few, length-placed (λ (y : Pipe). y.id) x pipes)
 
-  pub kept-complete : (id : ℕ) (pipes' : List Pipe) → pipes' ≡ map (completed id) pipes → IsKept (state_of heap clock comps edges pipes' joins streams (map shown rings.rings))
-  kept-complete id pipes' e = subst (λ ps. IsKept (state_of heap clock comps edges ps joins streams (map shown rings.rings))) (sym e) (kept-pipes heap (map (completed id) pipes) (omega (arith, kept.pipes, length-map pipes (completed id))) (omega (arith, kept.pieces, length-map pipes (completed id))) (complete-completed id pipes) (periods-completed id pipes kept.wired.periods))
+    carved : ArePieces (record { comps = comps; edges = edges; pipes = piped; joins = joins }) heap'
+    carved = subst (ArePieces (record { comps = comps; edges = edges; pipes = piped; joins = joins })) (sym h) (pieces-pipe graph heap bytes kept.pieces x)
 
-  pub held-complete : (id : ℕ) (pipes' : List Pipe) → pipes' ≡ map (completed id) pipes → AreRings rings room (state_of heap clock comps edges pipes' joins streams (map shown rings.rings))
-  held-complete id pipes' e = subst (λ ps. AreRings rings room (state_of heap clock comps edges ps joins streams (map shown rings.rings))) (sym e) (held-pipes heap (map (completed id) pipes) (omega (arith, kept.pipes, length-map pipes (completed id))) (omega (arith, kept.pieces, length-map pipes (completed id))) (complete-completed id pipes) (periods-completed id pipes kept.wired.periods) (omega arith) refl)
+    names : HasDistinct (λ p. p.id) piped
+    names = HasDistinct-placed (λ y. y.id) x pipes (no-pipe graph x.id unused) kept.wired.names
+
+    alone : AllByRecursion (λ p. is_node graph p.id ≡ false) piped
+    alone = all-placed (λ p. is_node graph p.id ≡ false) (λ y. y.id) x pipes (unused-node graph x.id unused) kept.wired.alone
+
+    periods : AllByRecursion (λ p. is_period p.period ≡ true) piped
+    periods = all-placed (λ p. is_period p.period ≡ true) (λ y. y.id) x pipes period kept.wired.periods
+
+    pub kept-pipe : IsKept (state_of heap' clock comps edges pipes' joins streams (map shown rings.rings))
+    kept-pipe = subst (λ ps. IsKept (state_of heap' clock comps edges ps joins streams (map shown rings.rings))) (sym e) (kept-pipes heap' piped count carved (complete-placed x pipes) names alone periods)
+
+    pub held-pipe : 0 < bytes → fits (rounded bytes) heap.holes ≡ true → AreRings rings room (state_of heap' clock comps edges pipes' joins streams (map shown rings.rings))
+    held-pipe some there = subst (λ ps. AreRings rings room (state_of heap' clock comps edges ps joins streams (map shown rings.rings))) (sym e) (held-pipes heap' piped count carved (complete-placed x pipes) names alone periods
+        (subst (λ (v : HeapView). AllByRecursion (LiesIn v) rings.rings) (sym h) (all-lie x.id bytes heap rings.rings (rings-apart x.id rings.rings edges ring-keys (or_parts (has_comp graph x.id) (has_edge graph x.id) (unused-node graph x.id unused)).1) held.lie))
+        (subst (IsTiled held.usable) (sym h) (carve-tiled held.usable x.id bytes heap held.tiled some there (no-piece graph heap x.id kept.pieces unused))))
+
+  -- a pipeline that is complete
+  module _ (id : ℕ) (pipes' : List Pipe) (e : pipes' ≡ map (completed id) pipes) where
+    whole-count : length (map (completed id) pipes) ≤ 32
+    whole-count = omega (arith, kept.pipes, length-map pipes (completed id))
+
+    whole-names : HasDistinct (λ p. p.id) (map (completed id) pipes)
+    whole-names = subst (λ (ns : List ℕ). IsDistinct (λ m n. m == n) ns) (sym (ids-completed id pipes)) kept.wired.names
+
+    pub kept-complete : IsKept (state_of heap clock comps edges pipes' joins streams (map shown rings.rings))
+    kept-complete = subst (λ ps. IsKept (state_of heap clock comps edges ps joins streams (map shown rings.rings))) (sym e) (kept-pipes heap (map (completed id) pipes) whole-count (pieces-completed graph heap id kept.pieces) (complete-completed id pipes) whole-names (each-completed (λ n. is_node graph n ≡ false) id pipes kept.wired.alone) (periods-completed id pipes kept.wired.periods))
+
+    pub held-complete : AreRings rings room (state_of heap clock comps edges pipes' joins streams (map shown rings.rings))
+    held-complete = subst (λ ps. AreRings rings room (state_of heap clock comps edges ps joins streams (map shown rings.rings))) (sym e) (held-pipes heap (map (completed id) pipes) whole-count (pieces-completed graph heap id kept.pieces) (complete-completed id pipes) whole-names (each-completed (λ n. is_node graph n ≡ false) id pipes kept.wired.alone) (periods-completed id pipes kept.wired.periods) held.lie held.tiled)
 
   -- a join more
-  module _ (j : Join) (edges' : List Edge) (joins' : List Join) (room' : length joins + 1 ≤ sides (map (joined j) edges)) (free : is_joined graph j.source j.sink ≡ false) (takes : takes_join graph j.source j.sink ≡ true) (grow : would_grow graph streams j.source j.sink ≡ false) (e : edges' ≡ map (joined j) edges) (more : joins' ≡ joins ++ j ∷ []) where
+  module _ (j : Join) (edges' : List Edge) (joins' : List Join) (room' : length joins + 1 ≤ sides (map (joined j) edges)) (free : is_joined graph j.source j.sink ≡ false) (takes : takes_join graph j.source j.sink ≡ true) (grow : would_grow graph streams j.source j.sink ≡ false) (no_cycle : would_cycle graph j.source j.sink ≡ false) (e : edges' ≡ map (joined j) edges) (more : joins' ≡ joins ++ j ∷ []) where
     abbrev linked : View
     linked = record { graph = record { comps = comps; edges = map (joined j) edges; pipes = pipes; joins = joins ++ j ∷ [] }; streams = streams }
 
@@ -309,8 +360,8 @@ module _ (heap : HeapView) (clock : ℕ) (comps : List Comp) (edges : List Edge)
       pipes = kept.pipes;
       joins = omega (arith, room', length-append joins (j ∷ []));
       streams = kept.streams;
-      pieces = omega (arith, kept.pieces, length-map edges (joined j));
-      linked = linked-joined graph j kept.wired free takes streams kept.played grow kept.linked;
+      pieces = pieces-joined graph heap j kept.pieces;
+      linked = linked-joined graph j kept.wired free takes streams kept.played grow kept.linked no_cycle;
       wired = wired-joined graph j kept.wired free takes streams kept.played grow;
       played = played-joined graph j kept.wired free takes streams kept.played grow;
       rings = kept.rings ∙ sym (buffers-joined j edges);
@@ -322,7 +373,9 @@ module _ (heap : HeapView) (clock : ℕ) (comps : List Comp) (edges : List Edge)
     held-join = linking (λ es js. AreRings rings room (state_of heap clock comps es pipes js streams (map shown rings.rings))) record {
       words = held.words ∙ sym (sizes-joined j edges);
       channels = channels-by view linked rings.rings linked-flows linked-channels held.channels;
-      used = held.used;
+      lie = held.lie;
+      usable = held.usable;
+      tiled = held.tiled;
       within = held.within;
       most = held.most;
     }

@@ -1,7 +1,7 @@
 -- What a tick needs of a state.
 use Rattle.std.proofs.Common.{◌≡◌, refl, sym, ap, ◌∙◌, subst, ℕ, suc, ◌+◌, ◌/◌, ◌<◌, ◌≤◌, List, [], ◌∷◌, ◌++◌, map, filter, length, get_or, Option, Some, None, Bool, true, false, cond, not, inl, inr, ◌==◌, ◌&&◌, ◌||◌, arith}
 use Rattle.std.proofs.lemmas.Bool.{true≢false, and_parts, and_from, eqb-true, eq-eqb, leb-true}
-use Rattle.std.specs.Prelude.{find, option_and_then, nat_le, filter_map, slice_get, option_map, IsTrue}
+use Rattle.std.specs.Prelude.{option_and_then, nat_le, filter_map, slice_get, option_map, IsTrue}
 use Rattle.std.specs.Option.{option_map_or}
 use Rattle.std.specs.List.{list_any, list_all, AllByRecursion, position_or_len}
 use Rattle.sof_base.specs.declared.format.Params.{Params}
@@ -12,28 +12,24 @@ use Rattle.stream_law.specs.declared.graph.Edge.{Edge}
 use Rattle.stream_law.specs.declared.graph.Pipe.{Pipe}
 use Rattle.stream_law.specs.State.{View}
 use Rattle.stream_law.specs.Ways.{comp_of, source_of, sink_of, ins, outs, is_end, active, channels_of}
-use Rattle.stream_law.specs.Joins.{fits_kind}
+use Rattle.stream_law.specs.Joins.{is_endpoint, fits_kind}
 use Rattle.stream_law.specs.Moves.{period, fed, fed_by}
 use Rattle.stream_law.specs.Order.{order}
 use Rattle.stream_law.specs.Seen.{flows}
 use Rattle.ipc3_codec.specs.Allowed.{is_period}
-use Rattle.mbox_link.specs.Step.{is_complete}
 use Rattle.fw_ring.specs.RingLists.{Ring, RingLists, fresh_ring}
 use Rattle.fw_schedule.specs.declared.turn.Turn.{Turn}
 use Rattle.fw_schedule.specs.declared.turn.Action.{Action}
 use Rattle.fw_schedule.specs.declared.turn.Action.TheVariants.{Feed, Drain, Fill}
 use Rattle.fw_schedule.specs.Turns.{place_of, turn_at, turn_by, turn_of, turns_of}
-use Rattle.fw_schedule.specs.TurnLaws.{is_endpoint, fits_if_active, IsPlain, HasBounds, HasChannels, IsLaidOut, edges_at}
+use Rattle.fw_schedule.specs.TurnLaws.{fits_if_active, ends_if_active, IsPlain, HasBounds, HasChannels, IsLaidOut, edges_at}
 use Rattle.fw_core.specs.Kept.{IsWired, IsLinked, IsPlayable, IsSet, IsSetBy, is_idle}
 use Rattle.fw_core.proofs.Growing.{all-by}
-use Rattle.fw_core.proofs.Near.{IsIn, AtEnd}
-use Rattle.fw_core.proofs.Playing.{at-buffer, beside, active-period, active-ready}
+use Rattle.fw_core.proofs.Members.{IsIn, in-each, find-in}
+use Rattle.fw_core.proofs.Near.{AtEnd, at-buffer, plain-comp, fits-comp}
+use Rattle.fw_core.proofs.Playing.{beside, active-period, active-ready}
 
 -- ---- lists
-
-in-each : {X : Type 0} (P : X → Type 0) (xs : List X) → ((x : X) → IsIn x xs → P x) → AllByRecursion P xs
-in-each P [] f = tt
-in-each P (x ∷ xs) f = (f x (inl refl), in-each P xs (λ y here. f y (inr here)))
 
 all-true : {X : Type 0} (p : X → Bool) (xs : List X) → AllByRecursion (λ x. p x ≡ true) xs → list_all p xs ≡ true
 all-true p [] all = refl
@@ -96,13 +92,17 @@ module _ (v : View) (wired : IsWired v.graph) (linked : IsLinked v.graph) (playe
 
   pub plain : IsPlain v
   plain = record {
-    endpoints = all-true (λ x. is_endpoint x.kind) v.graph.comps wired.endpoints;
+    endpoints = all-true (ends_if_active v) v.graph.comps (in-each (λ x. ends_if_active v x ≡ true) v.graph.comps (λ c there. ends c there (active v c.id) refl));
     fits = all-true (fits_if_active v) v.graph.comps (in-each (λ x. fits_if_active v x ≡ true) v.graph.comps (λ c there. by c there (active v c.id) refl));
   }
     where
       by : (c : Comp) → IsIn c v.graph.comps → (h : Bool) → active v c.id ≡ h → (not h || fits_kind c.kind (length (ins v.graph c.id)) (length (outs v.graph c.id))) ≡ true
-      by c there true is = (and_parts (is_complete v.graph c.pipe) (fits_kind c.kind (length (ins v.graph c.id)) (length (outs v.graph c.id))) (active-ready v wired linked played c there is)).1
+      by c there true is = fits-comp v.graph c (active-ready v wired linked played c there is)
       by c there false is = refl
+
+      ends : (c : Comp) → IsIn c v.graph.comps → (h : Bool) → active v c.id ≡ h → (not h || is_endpoint c.kind) ≡ true
+      ends c there true is = plain-comp v.graph c (active-ready v wired linked played c there is)
+      ends c there false is = refl
 
   -- ---- rings
 
@@ -110,7 +110,7 @@ module _ (v : View) (wired : IsWired v.graph) (linked : IsLinked v.graph) (playe
     ring-has : (c : Comp) → IsIn c v.graph.comps → active v c.id ≡ true → (e : Edge) → IsIn e v.graph.edges → AtEnd e c.id → HasChannels v s c.id e.buffer
     ring-has c there now e at end =
         let b = beside v wired linked played c there now e at end in
-        let r = place-of (λ (r : Ring). r.buffer) (λ r. flows v r.buffer ≡ true → r.channels ≡ channels_of v r.buffer) s.rings v.graph.edges (fresh_ring 0 0) e keys had at in
+        let r = place-of (λ (r : Ring). r.buffer) (λ r. flows v r.buffer ≡ true → r.channels ≡ channels_of v r.buffer) s.rings v.graph.edges (fresh_ring 0 0 0) e keys had at in
         (r.0 (ap (flows v) r.1 ∙ b.0) ∙ ap (channels_of v) r.1 ∙ b.1, b.1)
 
     pub laid-out : IsLaidOut v s
@@ -120,19 +120,11 @@ module _ (v : View) (wired : IsWired v.graph) (linked : IsLinked v.graph) (playe
       periods = in-each (λ x. IsTrue (active v x.id) → 1 ≤ period v x.id) v.graph.comps (λ c there now. active-period v wired linked played wired.periods c there now);
       channels = in-each (λ x. IsTrue (active v x.id) → AllByRecursion (HasChannels v s x.id) (edges_at v.graph x.id)) v.graph.comps (λ c there now.
           all-append (HasChannels v s c.id) (ins v.graph c.id) (outs v.graph c.id)
-          (ids-pass (HasChannels v s c.id) (λ b. is_end (sink_of v.graph b) c.id) v.graph.edges (λ e at is. ring-has c there now e at (inr (sym (ap (λ (o : Option Edge). is_end (option_and_then (λ e. e.sink) o) c.id) (at-buffer v wired linked played e at)) ∙ is))))
-          (ids-pass (HasChannels v s c.id) (λ b. is_end (source_of v.graph b) c.id) v.graph.edges (λ e at is. ring-has c there now e at (inl (sym (ap (λ (o : Option Edge). is_end (option_and_then (λ e. e.source) o) c.id) (at-buffer v wired linked played e at)) ∙ is)))));
+          (ids-pass (HasChannels v s c.id) (λ b. is_end (sink_of v.graph b) c.id) v.graph.edges (λ e at is. ring-has c there now e at (inr (sym (ap (λ (o : Option Edge). is_end (option_and_then (λ e. e.sink) o) c.id) (at-buffer v.graph wired linked e at)) ∙ is))))
+          (ids-pass (HasChannels v s c.id) (λ b. is_end (source_of v.graph b) c.id) v.graph.edges (λ e at is. ring-has c there now e at (inl (sym (ap (λ (o : Option Edge). is_end (option_and_then (λ e. e.source) o) c.id) (at-buffer v.graph wired linked e at)) ∙ is)))));
     }
 
   -- ---- turns
-
-  find-in : (n : ℕ) (xs : List Comp) (x : Comp) → find (λ y. y.id == n) xs ≡ Some x → IsIn x xs × (x.id ≡ n)
-  find-in n [] x is = absurd (cc is)
-  find-in n (y ∷ xs) x is = by (y.id == n) refl is (find-in n xs x)
-    where
-      by : (h : Bool) → (y.id == n) ≡ h → cond h (Some y) (find (λ y. y.id == n) xs) ≡ Some x → (find (λ y. y.id == n) xs ≡ Some x → IsIn x xs × (x.id ≡ n)) → IsIn x (y ∷ xs) × (x.id ≡ n)
-      by true e is rest = let same : y ≡ x = cc is in (inl (sym same), ap (λ (z : Comp). z.id) (sym same) ∙ eqb-true y.id n e)
-      by false e is rest = let r = rest is in (inr r.0, r.1)
 
   head-of : (P : ℕ → Type 0) (ids : List ℕ) (b : ℕ) → AllByRecursion P ids → slice_get ids 0 ≡ Some b → P b
   head-of P [] b all is = absurd (cc is)
@@ -150,10 +142,10 @@ module _ (v : View) (wired : IsWired v.graph) (linked : IsLinked v.graph) (playe
   AtFlow b = (e : Edge) × IsIn e v.graph.edges × (b ≡ e.buffer) × (flows v e.buffer ≡ true)
 
   ins-flow : (c : Comp) → IsIn c v.graph.comps → active v c.id ≡ true → AllByRecursion AtFlow (ins v.graph c.id)
-  ins-flow c there now = ids-pass AtFlow (λ b. is_end (sink_of v.graph b) c.id) v.graph.edges (λ e at is. (e, at, refl, (beside v wired linked played c there now e at (inr (sym (ap (λ (o : Option Edge). is_end (option_and_then (λ e. e.sink) o) c.id) (at-buffer v wired linked played e at)) ∙ is))).0))
+  ins-flow c there now = ids-pass AtFlow (λ b. is_end (sink_of v.graph b) c.id) v.graph.edges (λ e at is. (e, at, refl, (beside v wired linked played c there now e at (inr (sym (ap (λ (o : Option Edge). is_end (option_and_then (λ e. e.sink) o) c.id) (at-buffer v.graph wired linked e at)) ∙ is))).0))
 
   outs-flow : (c : Comp) → IsIn c v.graph.comps → active v c.id ≡ true → AllByRecursion AtFlow (outs v.graph c.id)
-  outs-flow c there now = ids-pass AtFlow (λ b. is_end (source_of v.graph b) c.id) v.graph.edges (λ e at is. (e, at, refl, (beside v wired linked played c there now e at (inl (sym (ap (λ (o : Option Edge). is_end (option_and_then (λ e. e.source) o) c.id) (at-buffer v wired linked played e at)) ∙ is))).0))
+  outs-flow c there now = ids-pass AtFlow (λ b. is_end (source_of v.graph b) c.id) v.graph.edges (λ e at is. (e, at, refl, (beside v wired linked played c there now e at (inl (sym (ap (λ (o : Option Edge). is_end (option_and_then (λ e. e.source) o) c.id) (at-buffer v.graph wired linked e at)) ∙ is))).0))
 
   turn-flow : (c : ℕ) (action : Action) (ids : List ℕ) (t : Turn) → AllByRecursion AtFlow ids → option_map (turn_at v c action) (slice_get ids 0) ≡ Some t → IsFlowing v t
   turn-flow c action ids t all is = by (slice_get ids 0) refl is
@@ -183,8 +175,9 @@ module _ (v : View) (wired : IsWired v.graph) (linked : IsLinked v.graph) (playe
       by false now o found is = absurd (cc is)
       by true now None found is = absurd (cc is)
       by true now (Some x) found is =
-          let at = find-in c v.graph.comps x found in
-          kind-flow x at.0 (ap (active v) at.1 ∙ now) x.kind t (ap (λ n. turn_by x.kind v n) at.1 ∙ is)
+          let at = find-in (λ y. y.id == c) v.graph.comps x found in
+          let same : x.id ≡ c = eqb-true x.id c at.1 in
+          kind-flow x at.0 (ap (active v) same ∙ now) x.kind t (ap (λ n. turn_by x.kind v n) same ∙ is)
 
   pub all-flowing : AllByRecursion (IsFlowing v) (turns_of v)
   all-flowing = each (order v.graph)

@@ -1,41 +1,29 @@
 -- What messages keep of the sides of edges.
-use Rattle.std.proofs.Common.{◌≡◌, refl, sym, ap, ◌∙◌, ℕ, ◌+◌, ◌≤◌, List, [], ◌∷◌, ◌++◌, map, length, Option, Some, None, Bool, true, false, cond, inl, inr, ◌⊎◌, ◌==◌, ◌&&◌, ◌||◌, arith}
-use Rattle.std.proofs.lemmas.Bool.{true≢false, false≢true, false_from_ne_true, or_left, or_right, or_cases, and_parts, and_from, eqb-true, eq-eqb, leb-true}
-use Rattle.std.specs.Prelude.{find, is_some, option_map, nat_le}
+use Rattle.std.proofs.Common.{◌≡◌, refl, sym, ap, ◌∙◌, ℕ, List, [], ◌∷◌, ◌++◌, map, length, Option, Some, None, Bool, true, false, cond, inl, inr, ◌⊎◌, ◌==◌, ◌&&◌, ◌||◌}
+use Rattle.std.proofs.lemmas.Bool.{true≢false, false≢true, or_left, or_right, or_cases, and_parts, and_from, eqb-true, eq-eqb}
+use Rattle.std.specs.Prelude.{is_some}
 use Rattle.std.specs.List.{list_any, AllByRecursion}
-use Rattle.stream_law.specs.declared.graph.Kind.{Kind}
-use Rattle.stream_law.specs.declared.graph.Kind.TheVariants.{HostPlay, HostCapture, DaiPlay, DaiCapture, Volume, Mixer, Mux, Eq}
 use Rattle.stream_law.specs.declared.graph.Comp.{Comp}
 use Rattle.stream_law.specs.declared.graph.Edge.{Edge}
 use Rattle.stream_law.specs.declared.graph.Pipe.{Pipe}
 use Rattle.stream_law.specs.declared.graph.Join.{Join}
 use Rattle.stream_law.specs.declared.graph.Graph.{Graph}
-use Rattle.stream_law.specs.Placed.{placed}
-use Rattle.stream_law.specs.Ways.{is_end, ins, outs}
-use Rattle.stream_law.specs.Endpoints.{is_input}
-use Rattle.stream_law.specs.Joins.{kind_ins, kind_outs, joined, with_join}
-use Rattle.stream_law.proofs.Placing.{list_any-placed, find-placed_apart}
-use Rattle.mbox_link.specs.Step.{has_comp, has_edge, has_kind, kind_at, leads_in, leads_out, is_joined, takes_join, has_free_in, has_free_out}
-use Rattle.fw_schedule.specs.TurnLaws.{is_endpoint}
-use Rattle.fw_core.specs.Kept.{IsWired, IsLinked, IsEnd, IsJoinedFrom, IsJoinedTo, is_at, is_output}
-use Rattle.fw_core.proofs.Growing.{all-placed, all-by, some-found}
 use Rattle.stream_law.specs.declared.stream.StreamView.{StreamView}
-use Rattle.stream_law.specs.Joins.{would_grow}
-use Rattle.fw_core.specs.Kept.{IsPlayable}
+use Rattle.stream_law.specs.Placed.{placed}
+use Rattle.stream_law.specs.Ways.{is_end, leads}
+use Rattle.stream_law.specs.Joins.{joined, with_join, would_cycle, would_grow}
+use Rattle.stream_law.proofs.Placing.{list_any-placed}
+use Rattle.mbox_link.specs.Step.{has_comp, has_edge, leads_in, leads_out, is_joined, takes_join}
+use Rattle.fw_core.specs.Kept.{IsWired, IsLinked, IsPlayable, IsJoinedFrom, IsJoinedTo, is_at}
+use Rattle.fw_core.proofs.Growing.{all-placed, all-by}
 use Rattle.fw_core.proofs.Joining.{IsFree, frees, leads-apart}
-use Rattle.fw_core.proofs.Unreached.{eqb-turned}
+use Rattle.fw_core.proofs.Walking.{open-joined}
 
 -- ---- a component more
 
-module _ (g : Graph) (c : Comp) (gone : has_comp g c.id ≡ false) where
+module _ (g : Graph) (c : Comp) where
   abbrev wider : Graph
   wider = record { comps = placed (λ x. x.id) c g.comps; edges = g.edges; pipes = g.pipes; joins = g.joins }
-
-  end-wider : (test : Kind → Bool) (o : Option ℕ) → IsEnd test g o → IsEnd test wider o
-  end-wider test None is = tt
-  end-wider test (Some n) is =
-      let other : (n == c.id) ≡ false = false_from_ne_true (n == c.id) (λ same. true≢false (sym (some-found test g.comps n is) ∙ ap (has_comp g) (eqb-true n c.id same) ∙ gone)) in
-      ap (λ (o : Option Comp). has_kind test (option_map (λ x. x.kind) o)) (find-placed_apart (λ x. x.id == n) (λ x. x.id) c g.comps (eqb-turned n c.id other)) ∙ is
 
   from-same : (o : Option ℕ) (b : ℕ) → IsJoinedFrom g o b → IsJoinedFrom wider o b
   from-same None b is = tt
@@ -47,20 +35,15 @@ module _ (g : Graph) (c : Comp) (gone : has_comp g c.id ≡ false) where
 
   pub linked-wider : IsLinked g → IsLinked wider
   linked-wider linked = record {
-    sources = all-by (λ e. IsEnd is_input g e.source) (λ e. IsEnd is_input wider e.source) (λ e. end-wider is_input e.source) g.edges linked.sources;
-    sinks = all-by (λ e. IsEnd is_output g e.sink) (λ e. IsEnd is_output wider e.sink) (λ e. end-wider is_output e.sink) g.edges linked.sinks;
     at = linked.at;
     from = all-by (λ e. IsJoinedFrom g e.source e.buffer) (λ e. IsJoinedFrom wider e.source e.buffer) (λ e. from-same e.source e.buffer) g.edges linked.from;
     to = all-by (λ e. IsJoinedTo g e.buffer e.sink) (λ e. IsJoinedTo wider e.buffer e.sink) (λ e. to-same e.buffer e.sink) g.edges linked.to;
+    open_ends = linked.open_ends;
   }
 
--- ---- other edges and pipelines, with the same components and joins
+-- ---- other edges and pipelines, with the same joins
 
-module _ (g h : Graph) (comps : g.comps ≡ h.comps) (joins : g.joins ≡ h.joins) where
-  end-as : (test : Kind → Bool) (o : Option ℕ) → IsEnd test g o → IsEnd test h o
-  end-as test None is = tt
-  end-as test (Some n) is = sym (ap (λ (xs : List Comp). has_kind test (option_map (λ x. x.kind) (find (λ x. x.id == n) xs))) comps) ∙ is
-
+module _ (g h : Graph) (joins : g.joins ≡ h.joins) where
   from-as : (o : Option ℕ) (b : ℕ) → IsJoinedFrom g o b → IsJoinedFrom h o b
   from-as None b is = tt
   from-as (Some n) b is = sym (ap (λ (js : List Join). list_any (λ j. j.source == n && j.sink == b) js) joins) ∙ is
@@ -71,11 +54,10 @@ module _ (g h : Graph) (comps : g.comps ≡ h.comps) (joins : g.joins ≡ h.join
 
 pub linked-longer : (g : Graph) (e : Edge) → e.source ≡ None → e.sink ≡ None → IsLinked g → IsLinked (record { comps = g.comps; edges = placed (λ y. y.buffer) e g.edges; pipes = g.pipes; joins = g.joins })
 linked-longer g e source sink linked = record {
-  sources = all-placed (λ x. IsEnd is_input h x.source) (λ y. y.buffer) e g.edges (rw source tt) (all-by (λ x. IsEnd is_input g x.source) (λ x. IsEnd is_input h x.source) (λ x. end-as g h refl refl is_input x.source) g.edges linked.sources);
-  sinks = all-placed (λ x. IsEnd is_output h x.sink) (λ y. y.buffer) e g.edges (rw sink tt) (all-by (λ x. IsEnd is_output g x.sink) (λ x. IsEnd is_output h x.sink) (λ x. end-as g h refl refl is_output x.sink) g.edges linked.sinks);
   at = all-by (λ j. list_any (is_at j) g.edges ≡ true) (λ j. list_any (is_at j) (placed (λ y. y.buffer) e g.edges) ≡ true) (λ j is. list_any-placed (is_at j) (λ y. y.buffer) e g.edges ∙ or_right (is_at j e) _ is) g.joins linked.at;
-  from = all-placed (λ x. IsJoinedFrom h x.source x.buffer) (λ y. y.buffer) e g.edges (rw source tt) (all-by (λ x. IsJoinedFrom g x.source x.buffer) (λ x. IsJoinedFrom h x.source x.buffer) (λ x. from-as g h refl refl x.source x.buffer) g.edges linked.from);
-  to = all-placed (λ x. IsJoinedTo h x.buffer x.sink) (λ y. y.buffer) e g.edges (rw sink tt) (all-by (λ x. IsJoinedTo g x.buffer x.sink) (λ x. IsJoinedTo h x.buffer x.sink) (λ x. to-as g h refl refl x.buffer x.sink) g.edges linked.to);
+  from = all-placed (λ x. IsJoinedFrom h x.source x.buffer) (λ y. y.buffer) e g.edges (rw source tt) (all-by (λ x. IsJoinedFrom g x.source x.buffer) (λ x. IsJoinedFrom h x.source x.buffer) (λ x. from-as g h refl x.source x.buffer) g.edges linked.from);
+  to = all-placed (λ x. IsJoinedTo h x.buffer x.sink) (λ y. y.buffer) e g.edges (rw sink tt) (all-by (λ x. IsJoinedTo g x.buffer x.sink) (λ x. IsJoinedTo h x.buffer x.sink) (λ x. to-as g h refl x.buffer x.sink) g.edges linked.to);
+  open_ends = linked.open_ends;
 }
   where
     h : Graph
@@ -83,46 +65,16 @@ linked-longer g e source sink linked = record {
 
 pub linked-other : (g : Graph) (pipes : List Pipe) → IsLinked g → IsLinked (record { comps = g.comps; edges = g.edges; pipes = pipes; joins = g.joins })
 linked-other g pipes linked = record {
-  sources = all-by (λ x. IsEnd is_input g x.source) (λ x. IsEnd is_input h x.source) (λ x. end-as g h refl refl is_input x.source) g.edges linked.sources;
-  sinks = all-by (λ x. IsEnd is_output g x.sink) (λ x. IsEnd is_output h x.sink) (λ x. end-as g h refl refl is_output x.sink) g.edges linked.sinks;
   at = linked.at;
-  from = all-by (λ x. IsJoinedFrom g x.source x.buffer) (λ x. IsJoinedFrom h x.source x.buffer) (λ x. from-as g h refl refl x.source x.buffer) g.edges linked.from;
-  to = all-by (λ x. IsJoinedTo g x.buffer x.sink) (λ x. IsJoinedTo h x.buffer x.sink) (λ x. to-as g h refl refl x.buffer x.sink) g.edges linked.to;
+  from = all-by (λ x. IsJoinedFrom g x.source x.buffer) (λ x. IsJoinedFrom h x.source x.buffer) (λ x. from-as g h refl x.source x.buffer) g.edges linked.from;
+  to = all-by (λ x. IsJoinedTo g x.buffer x.sink) (λ x. IsJoinedTo h x.buffer x.sink) (λ x. to-as g h refl x.buffer x.sink) g.edges linked.to;
+  open_ends = linked.open_ends;
 }
   where
     h : Graph
     h = record { comps = g.comps; edges = g.edges; pipes = pipes; joins = g.joins }
 
 -- ---- a join more
-
-out-input : (k : Kind) (n : ℕ) → is_endpoint k ≡ true → nat_le (n + 1) (kind_outs k) ≡ true → is_input k ≡ true
-out-input HostPlay n plain room = refl
-out-input (DaiCapture format) n plain room = refl
-out-input HostCapture n plain room = let e : n + 1 ≤ 0 = leb-true (n + 1) 0 room in absurd (omega (arith, e))
-out-input (DaiPlay format) n plain room = let e : n + 1 ≤ 0 = leb-true (n + 1) 0 room in absurd (omega (arith, e))
-out-input Volume n plain room = absurd (false≢true plain)
-out-input Mixer n plain room = absurd (false≢true plain)
-out-input Mux n plain room = absurd (false≢true plain)
-out-input Eq n plain room = absurd (false≢true plain)
-
-in-output : (k : Kind) (n : ℕ) → is_endpoint k ≡ true → nat_le (n + 1) (kind_ins k) ≡ true → is_output k ≡ true
-in-output HostCapture n plain room = refl
-in-output (DaiPlay format) n plain room = refl
-in-output HostPlay n plain room = let e : n + 1 ≤ 0 = leb-true (n + 1) 0 room in absurd (omega (arith, e))
-in-output (DaiCapture format) n plain room = let e : n + 1 ≤ 0 = leb-true (n + 1) 0 room in absurd (omega (arith, e))
-in-output Volume n plain room = absurd (false≢true plain)
-in-output Mixer n plain room = absurd (false≢true plain)
-in-output Mux n plain room = absurd (false≢true plain)
-in-output Eq n plain room = absurd (false≢true plain)
-
--- a kind that is found is an endpoint's
-plain-at : (comps : List Comp) (n : ℕ) (k : Kind) → AllByRecursion (λ c. is_endpoint c.kind ≡ true) comps → option_map (λ c. c.kind) (find (λ c. c.id == n) comps) ≡ Some k → is_endpoint k ≡ true
-plain-at [] n k plain is = absurd (cc is)
-plain-at (c ∷ comps) n k plain is = by (c.id == n) is (plain-at comps n k plain.1)
-  where
-    by : (h : Bool) → option_map (λ c. c.kind) (cond h (Some c) (find (λ c. c.id == n) comps)) ≡ Some k → (option_map (λ c. c.kind) (find (λ c. c.id == n) comps) ≡ Some k → is_endpoint k ≡ true) → is_endpoint k ≡ true
-    by true is rest = let same : c.kind ≡ k = cc is in ap is_endpoint (sym same) ∙ plain.0
-    by false is rest = rest is
 
 module _ (g : Graph) (j : Join) (wired : IsWired g) (free : is_joined g j.source j.sink ≡ false) (takes : takes_join g j.source j.sink ≡ true) (ss : List StreamView) (played : IsPlayable (record { graph = g; streams = ss })) (grow : would_grow g ss j.source j.sink ≡ false) (linked : IsLinked g) where
   abbrev linked_on : Graph
@@ -135,57 +87,6 @@ module _ (g : Graph) (j : Join) (wired : IsWired g) (free : is_joined g j.source
 
   free-edges : AllByRecursion (IsFree g j) g.edges
   free-edges = frees g j wired free takes ss played grow
-
-  out-end : leads_in g j.source j.sink ≡ true → leads_out g j.source j.sink ≡ false → has_kind is_input (kind_at g j.source) ≡ true
-  out-end into no_out =
-      let room : has_free_out g j.source (kind_at g j.source) ≡ true = first (leads_in g j.source j.sink) (has_free_out g j.source (kind_at g j.source)) (sym (ap (λ h. (leads_in g j.source j.sink && has_free_out g j.source (kind_at g j.source)) || (h && has_free_in g j.sink (kind_at g j.sink))) no_out) ∙ takes) in
-      by (kind_at g j.source) refl room
-    where
-      first : (a b : Bool) → ((a && b) || false) ≡ true → b ≡ true
-      first true true e = refl
-      first true false e = absurd (false≢true e)
-      first false b e = absurd (false≢true e)
-
-      by : (o : Option Kind) → kind_at g j.source ≡ o → has_free_out g j.source o ≡ true → has_kind is_input o ≡ true
-      by None is room = absurd (false≢true room)
-      by (Some k) is room = out-input k (length (outs g j.source)) (plain-at g.comps j.source k wired.endpoints is) room
-
-  in-end : leads_out g j.source j.sink ≡ true → leads_in g j.source j.sink ≡ false → has_kind is_output (kind_at g j.sink) ≡ true
-  in-end out no_in =
-      let room : has_free_in g j.sink (kind_at g j.sink) ≡ true = (and_parts (leads_out g j.source j.sink) (has_free_in g j.sink (kind_at g j.sink)) (sym (ap (λ h. (h && has_free_out g j.source (kind_at g j.source)) || (leads_out g j.source j.sink && has_free_in g j.sink (kind_at g j.sink))) no_in) ∙ takes)).1 in
-      by (kind_at g j.sink) refl room
-    where
-      by : (o : Option Kind) → kind_at g j.sink ≡ o → has_free_in g j.sink o ≡ true → has_kind is_output o ≡ true
-      by None is room = absurd (false≢true room)
-      by (Some k) is room = in-output k (length (ins g j.sink)) (plain-at g.comps j.sink k wired.endpoints is) room
-
-  no-out : leads_in g j.source j.sink ≡ true → leads_out g j.source j.sink ≡ false
-  no-out into = false_from_ne_true (leads_out g j.source j.sink) (λ out. leads-apart g j wired free takes ss played grow into out)
-
-  no-in : leads_out g j.source j.sink ≡ true → leads_in g j.source j.sink ≡ false
-  no-in out = false_from_ne_true (leads_in g j.source j.sink) (λ into. leads-apart g j wired free takes ss played grow into out)
-
-  end-keep : (test : Kind → Bool) (o : Option ℕ) → IsEnd test g o → IsEnd test linked_on o
-  end-keep test None is = tt
-  end-keep test (Some n) is = is
-
-  sources-on : (es : List Edge) → AllByRecursion (IsFree g j) es → AllByRecursion (λ e. IsEnd is_input g e.source) es → AllByRecursion (λ e. IsEnd is_input linked_on e.source) (map (joined j) es)
-  sources-on [] fr ends = tt
-  sources-on (e ∷ es) fr ends = (by (e.buffer == j.source) (e.buffer == j.sink) refl, sources-on es fr.1 ends.1)
-    where
-      by : (h k : Bool) → (e.buffer == j.sink) ≡ k → IsEnd is_input linked_on (sided h k e).source
-      by true k is = end-keep is_input e.source ends.0
-      by false true is = let into = (fr.0.to is).2 in out-end into (no-out into)
-      by false false is = end-keep is_input e.source ends.0
-
-  sinks-on : (es : List Edge) → AllByRecursion (IsFree g j) es → AllByRecursion (λ e. IsEnd is_output g e.sink) es → AllByRecursion (λ e. IsEnd is_output linked_on e.sink) (map (joined j) es)
-  sinks-on [] fr ends = tt
-  sinks-on (e ∷ es) fr ends = (by (e.buffer == j.source) refl (e.buffer == j.sink), sinks-on es fr.1 ends.1)
-    where
-      by : (h : Bool) → (e.buffer == j.source) ≡ h → (k : Bool) → IsEnd is_output linked_on (sided h k e).sink
-      by true is k = let out = (fr.0.from is).2 in in-end out (no-in out)
-      by false is true = end-keep is_output e.sink ends.0
-      by false is false = end-keep is_output e.sink ends.0
 
   none-end : (o : Option ℕ) (c : ℕ) → is_some o ≡ false → is_end o c ≡ false
   none-end None c e = refl
@@ -297,11 +198,14 @@ module _ (g : Graph) (j : Join) (wired : IsWired g) (free : is_joined g j.source
       by false from true = to-keep e.buffer e.sink all.0
       by false from false = to-keep e.buffer e.sink all.0
 
-  pub linked-joined : IsLinked linked_on
-  linked-joined = record {
-    sources = sources-on g.edges free-edges linked.sources;
-    sinks = sinks-on g.edges free-edges linked.sinks;
+  still-open : would_cycle g j.source j.sink ≡ false → leads g.joins (length g.joins) j.sink j.source ≡ false
+  unfolding would_cycle
+  still-open no_cycle = no_cycle
+
+  pub linked-joined : would_cycle g j.source j.sink ≡ false → IsLinked linked_on
+  linked-joined no_cycle = record {
     at = at-all g.joins linked.at;
     from = from-on g.edges linked.from;
     to = to-on g.edges linked.to;
+    open_ends = open-joined g.joins j (still-open no_cycle) linked.open_ends;
   }

@@ -1,6 +1,6 @@
 -- What one buffer more, and other pipelines, keep of views.
 use Rattle.std.proofs.Common.{◌≡◌, refl, sym, ap, ◌∙◌, ℕ, suc, List, [], ◌∷◌, map, filter, length, Option, Some, None, Bool, true, false, cond, not, ◌==◌, ◌&&◌, ◌||◌}
-use Rattle.std.proofs.lemmas.Bool.{or_parts, or_left, or_right, and_parts, and_from, eq-eqb}
+use Rattle.std.proofs.lemmas.Bool.{or_from, or_parts, or_left, or_right, and_parts, and_from, eq-eqb}
 use Rattle.std.specs.Prelude.{nat_lt, is_some, option_and_then}
 use Rattle.std.specs.List.{list_any, list_all, AllByRecursion}
 use Rattle.sof_base.specs.declared.format.Params.{Params}
@@ -12,11 +12,11 @@ use Rattle.stream_law.specs.declared.stream.StreamView.{StreamView}
 use Rattle.stream_law.specs.Placed.{placed, HasDistinct}
 use Rattle.stream_law.specs.State.{View}
 use Rattle.stream_law.specs.Ways.{edge_of, source_of, sink_of, ins, outs, is_end, reaches, on_way, live, live_end, channels_of, touch, same_shape, agree}
-use Rattle.stream_law.specs.Joins.{fits_kind}
+use Rattle.stream_law.specs.Joins.{is_endpoint, fits_kind}
 use Rattle.stream_law.specs.Seen.{flows}
 use Rattle.stream_law.proofs.Placing.{list_any-placed, find-placed_apart, find-placed_there, HasDistinct-placed}
 use Rattle.ipc3_codec.specs.Allowed.{is_period}
-use Rattle.mbox_link.specs.Step.{has_comp, has_edge, is_complete, is_ready_comp, is_ready_edge, is_way_ready, completed}
+use Rattle.mbox_link.specs.Step.{has_comp, has_edge, has_pipe, is_complete, is_ready_comp, is_ready_edge, is_way_ready, completed}
 use Rattle.fw_core.specs.Kept.{IsWired, IsPlayable, IsSet, IsSetBy, IsSide, IsBetween, is_node, is_idle}
 use Rattle.fw_core.proofs.Ids.{any-ids}
 use Rattle.fw_core.proofs.Found.{ends-agree}
@@ -120,7 +120,7 @@ module _ (g : Graph) (id pipe size : ℕ) (gone : is_node g id ≡ false) (wired
     where
       each-comp : (xs : List Comp) → AllByRecursion (λ x. (not (on_way longer n x.id) || is_ready_comp longer x) ≡ (not (on_way g n x.id) || is_ready_comp g x)) xs
       each-comp [] = tt
-      each-comp (x ∷ xs) = (ap (λ (p : Bool × ℕ × ℕ). not p.0 || (is_complete g x.pipe && fits_kind x.kind p.1 p.2)) (λ i. (way-same n x.id i, ins-longer x.id i, outs-longer x.id i)), each-comp xs)
+      each-comp (x ∷ xs) = (ap (λ (p : Bool × ℕ × ℕ). not p.0 || (is_endpoint x.kind && (is_complete g x.pipe && fits_kind x.kind p.1 p.2))) (λ i. (way-same n x.id i, ins-longer x.id i, outs-longer x.id i)), each-comp xs)
 
       each-edge : (es : List Edge) → AllByRecursion (λ e. (not (on_way longer n e.buffer) || is_ready_edge g e) ≡ (not (on_way g n e.buffer) || is_ready_edge g e)) es
       each-edge [] = tt
@@ -188,12 +188,21 @@ module _ (g : Graph) (id pipe size : ℕ) (gone : is_node g id ≡ false) (wired
   side-same None is = tt
   side-same (Some n) is = is
 
-  pub wired-longer : IsWired longer
-  wired-longer = record {
+  -- pipelines have other ids
+  pipes-apart : (ps : List Pipe) → list_any (λ p. p.id == id) ps ≡ false → AllByRecursion (λ p. is_node g p.id ≡ false) ps → AllByRecursion (λ p. is_node longer p.id ≡ false) ps
+  pipes-apart [] none alone = tt
+  pipes-apart (p ∷ ps) none alone =
+      let parts = or_parts (p.id == id) (list_any (λ p. p.id == id) ps) none in
+      let was = or_parts (has_comp g p.id) (has_edge g p.id) alone.0 in
+      (or_from (has_comp g p.id) (has_edge longer p.id) was.0 (list_any-placed (λ e. e.buffer == p.id) (λ e. e.buffer) fresh g.edges ∙ or_from (id == p.id) (has_edge g p.id) (eqb-turned p.id id parts.0) was.1), pipes-apart ps parts.1 alone.1)
+
+  pub wired-longer : has_pipe g id ≡ false → IsWired longer
+  wired-longer no_pipe = record {
     ids = wired.ids;
     buffers = distinct;
+    names = wired.names;
+    alone = pipes-apart g.pipes no_pipe wired.alone;
     apart = all-placed (λ e. has_comp g e.buffer ≡ false) (λ e. e.buffer) fresh g.edges (or_parts (has_comp g id) (has_edge g id) gone).0 wired.apart;
-    endpoints = wired.endpoints;
     ends = all-by (IsBetween g) (IsBetween longer) (λ j e. (node-longer j.source e.0, node-longer j.sink e.1)) g.joins wired.ends;
     sides = all-placed (λ e. IsSide longer e.source × IsSide longer e.sink) (λ e. e.buffer) fresh g.edges (tt, tt) (all-by (λ e. IsSide g e.source × IsSide g e.sink) (λ e. IsSide longer e.source × IsSide longer e.sink) (λ e is. (side-same e.source is.0, side-same e.sink is.1)) g.edges wired.sides);
     periods = wired.periods;
@@ -208,8 +217,9 @@ module _ (g : Graph) (pipes : List Pipe) (ss : List StreamView) (played : IsPlay
   module _ (complete : (index : ℕ) → is_complete g index ≡ true → is_complete other index ≡ true) where
     comp-ready : (x : Comp) → is_ready_comp g x ≡ true → is_ready_comp other x ≡ true
     comp-ready x ready =
-        let parts = and_parts (is_complete g x.pipe) (fits_kind x.kind (length (ins g x.id)) (length (outs g x.id))) ready in
-        and_from (is_complete other x.pipe) (fits_kind x.kind (length (ins g x.id)) (length (outs g x.id))) (complete x.pipe parts.0) parts.1
+        let plain = and_parts (is_endpoint x.kind) (is_complete g x.pipe && fits_kind x.kind (length (ins g x.id)) (length (outs g x.id))) ready in
+        let parts = and_parts (is_complete g x.pipe) (fits_kind x.kind (length (ins g x.id)) (length (outs g x.id))) plain.1 in
+        and_from _ _ plain.0 (and_from (is_complete other x.pipe) (fits_kind x.kind (length (ins g x.id)) (length (outs g x.id))) (complete x.pipe parts.0) parts.1)
 
     edge-ready : (e : Edge) → is_ready_edge g e ≡ true → is_ready_edge other e ≡ true
     edge-ready e ready =
@@ -264,12 +274,13 @@ module _ (g : Graph) (pipes : List Pipe) (ss : List StreamView) (played : IsPlay
   side-other None is = tt
   side-other (Some n) is = is
 
-  pub wired-other : IsWired g → AllByRecursion (λ p. is_period p.period ≡ true) pipes → IsWired other
-  wired-other wired periods = record {
+  pub wired-other : IsWired g → HasDistinct (λ p. p.id) pipes → AllByRecursion (λ p. is_node g p.id ≡ false) pipes → AllByRecursion (λ p. is_period p.period ≡ true) pipes → IsWired other
+  wired-other wired names alone periods = record {
     ids = wired.ids;
     buffers = wired.buffers;
+    names = names;
+    alone = alone;
     apart = wired.apart;
-    endpoints = wired.endpoints;
     ends = wired.ends;
     sides = all-by (λ e. IsSide g e.source × IsSide g e.sink) (λ e. IsSide other e.source × IsSide other e.sink) (λ e is. (side-other e.source is.0, side-other e.sink is.1)) g.edges wired.sides;
     periods = periods;

@@ -25,10 +25,10 @@ buffer_new-row f id pipe size unused open_still few fits =
     ap (λ (p : Bool × Bool × Bool × Bool). cond (p.0 || p.1) (Err busy) (cond (p.2 || not p.3) (Err no_memory) (Ok (with_buffer id pipe size f)))) (λ i. (unused i, open_still i, few i, fits i))
 
 -- the tables with one more buffer
-pub with_buffer-is : (heap : HeapView) (clock : ℕ) (comps : List Comp) (edges : List Edge) (pipes : List Pipe) (joins : List Join) (streams : List StreamView) (rings : RingLists) (id pipe size : ℕ) → state_of (with_piece id (buffer_bytes size) heap) clock comps (placed (λ e. e.buffer) (record { buffer = id; pipe = pipe; size = size; source = None; sink = None }) edges) pipes joins streams (map shown (with_ring id size rings).rings) ≡ with_buffer id pipe size (state_of heap clock comps edges pipes joins streams (map shown rings.rings))
-with_buffer-is heap clock comps edges pipes joins streams rings id pipe size =
+pub with_buffer-is : (heap : HeapView) (clock : ℕ) (comps : List Comp) (edges : List Edge) (pipes : List Pipe) (joins : List Join) (streams : List StreamView) (rings : RingLists) (id pipe first size : ℕ) → state_of (with_piece id (buffer_bytes size) heap) clock comps (placed (λ e. e.buffer) (record { buffer = id; pipe = pipe; size = size; source = None; sink = None }) edges) pipes joins streams (map shown (with_ring id first size rings).rings) ≡ with_buffer id pipe size (state_of heap clock comps edges pipes joins streams (map shown rings.rings))
+with_buffer-is heap clock comps edges pipes joins streams rings id pipe first size =
     ap (λ (rs : List RingView). state_of (with_piece id (buffer_bytes size) heap) clock comps (placed (λ e. e.buffer) (record { buffer = id; pipe = pipe; size = size; source = None; sink = None }) edges) pipes joins streams rs)
-    (map-placed shown (λ (r : Ring). r.buffer) (λ (r : RingView). r.buffer) (λ r. refl) (fresh_ring id size) rings.rings)
+    (map-placed shown (λ (r : Ring). r.buffer) (λ (r : RingView). r.buffer) (λ r. refl) (fresh_ring id first size) rings.rings)
 
 -- a crossing is one of components and joins
 crosses-by : (g : Graph) → crosses (record { comps = g.comps; edges = []; pipes = []; joins = g.joins }) ≡ crosses g

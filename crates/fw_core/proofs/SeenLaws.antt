@@ -1,8 +1,8 @@
 -- What a change of streams keeps of a state.
-use Rattle.std.proofs.Common.{◌≡◌, refl, sym, ap, ◌∙◌, subst, ℕ, ◌≤◌, List, [], ◌∷◌, ◌++◌, map, filter, Some, None, Bool, true, false, cond, ◌==◌, ◌&&◌, arith, append_assoc}
-use Rattle.std.proofs.lemmas.Bool.{false≢true, and_parts, or_left, or_right, eq-eqb}
+use Rattle.std.proofs.Common.{◌≡◌, refl, sym, ap, ◌∙◌, subst, ℕ, ◌≤◌, List, [], ◌∷◌, ◌++◌, map, filter, Option, Some, None, Bool, true, false, cond, ◌==◌, ◌&&◌, arith, append_assoc}
+use Rattle.std.proofs.lemmas.Bool.{false≢true, and_parts, or_left, or_right, eqb-true, eq-eqb}
 use Rattle.std.proofs.lemmas.List.{length-map}
-use Rattle.std.specs.Prelude.{find, max}
+use Rattle.std.specs.Prelude.{max}
 use Rattle.std.specs.Option.{option_map_or}
 use Rattle.std.specs.List.{AllByRecursion}
 use Rattle.stream_law.specs.declared.graph.Kind.{Kind}
@@ -14,16 +14,19 @@ use Rattle.stream_law.specs.declared.graph.Join.{Join}
 use Rattle.stream_law.specs.declared.graph.Graph.{Graph}
 use Rattle.stream_law.specs.declared.stream.StreamView.{StreamView}
 use Rattle.stream_law.specs.State.{HeapView, View, RingView}
-use Rattle.stream_law.specs.Ways.{components, buffers, source_of, sink_of, live, live_end, channels_of}
+use Rattle.stream_law.specs.Ways.{comp_of, components, buffers, source_of, sink_of, on_way, live, live_end, channels_of}
+use Rattle.stream_law.specs.Joins.{is_endpoint}
 use Rattle.stream_law.specs.Seen.{flows, ring_seen, is_equaliser, equalises, history_seen}
 use Rattle.stream_law.specs.Order.{is_among}
 use Rattle.fw_ring.specs.RingLists.{Ring, RingLists, begun}
 use Rattle.fw_core.specs.Settled.{is_filled, settled, all_settled}
-use Rattle.fw_schedule.specs.TurnLaws.{is_endpoint}
-use Rattle.fw_core.specs.Kept.{IsKept, IsPlayable, KeepsLive, AreRings, state_of, shown}
+use Rattle.fw_core.specs.Kept.{IsKept, IsPlayable, IsSet, KeepsLive, LiesIn, AreRings, state_of, shown}
 use Rattle.fw_core.specs.Answers.{with_streams}
 use Rattle.fw_core.proofs.Settling.{all-shown, settled-buffer, settled-words, seen-again}
-use Rattle.fw_core.proofs.Stays.{heard, channels-most, channels-stay}
+use Rattle.fw_core.proofs.Members.{find-in}
+use Rattle.fw_core.proofs.Near.{plain-comp, ready-comp}
+use Rattle.fw_core.proofs.Playing.{set-way}
+use Rattle.fw_core.proofs.Stays.{heard, all-of, live-idle, channels-most, channels-stay}
 
 -- ---- no equaliser
 
@@ -37,23 +40,22 @@ plain Mixer e = refl
 plain Mux e = refl
 plain Eq e = absurd (false≢true e)
 
-no-equaliser : (comps : List Comp) (c : ℕ) → AllByRecursion (λ x. is_endpoint x.kind ≡ true) comps → option_map_or (λ x. is_equaliser x.kind) (find (λ x. x.id == c) comps) false ≡ false
-no-equaliser [] c all = refl
-no-equaliser (x ∷ xs) c all = by (x.id == c) (no-equaliser xs c all.1)
+-- what is Live is an endpoint
+no-equaliser : (v : View) → IsPlayable v → (c : ℕ) → equalises v c ≡ false
+no-equaliser v played c = by (live v c) refl (comp_of v.graph c) refl
   where
-    by : (h : Bool) → option_map_or (λ x. is_equaliser x.kind) (find (λ x. x.id == c) xs) false ≡ false → option_map_or (λ x. is_equaliser x.kind) (cond h (Some x) (find (λ x. x.id == c) xs)) false ≡ false
-    by true rest = plain x.kind all.0
-    by false rest = rest
+    by : (h : Bool) → live v c ≡ h → (o : Option Comp) → comp_of v.graph c ≡ o → (h && option_map_or (λ x. is_equaliser x.kind) o false) ≡ false
+    by false e o is = refl
+    by true e None is = refl
+    by true e (Some x) is =
+        let h = heard v c played e in
+        let way = set-way v.graph h.stream (live-idle h.stream.phase h.phase) (all-of (IsSet v.graph) v.streams h.stream played.each h.among) in
+        let f = find-in (λ y. y.id == c) v.graph.comps x is in
+        plain x.kind (plain-comp v.graph x (ready-comp v.graph h.stream.host way x f.0 (ap (on_way v.graph h.stream.host) (eqb-true x.id c f.1) ∙ h.way)))
 
-pub equalises-none : (v : View) → AllByRecursion (λ x. is_endpoint x.kind ≡ true) v.graph.comps → (ids : List ℕ) → filter (equalises v) ids ≡ []
-equalises-none v all [] = refl
-equalises-none v all (c ∷ ids) =
-    ap (λ h. cond (live v c && h) (c ∷ filter (equalises v) ids) (filter (equalises v) ids)) (no-equaliser v.graph.comps c all)
-    ∙ by (live v c) (equalises-none v all ids)
-  where
-    by : (h : Bool) → filter (equalises v) ids ≡ [] → cond (h && false) (c ∷ filter (equalises v) ids) (filter (equalises v) ids) ≡ []
-    by true rest = rest
-    by false rest = rest
+pub equalises-none : (v : View) → IsPlayable v → (ids : List ℕ) → filter (equalises v) ids ≡ []
+equalises-none v played [] = refl
+equalises-none v played (c ∷ ids) = ap (λ h. cond h (c ∷ filter (equalises v) ids) (filter (equalises v) ids)) (no-equaliser v played c) ∙ equalises-none v played ids
 
 -- ---- rings of a list of buffers
 
@@ -79,6 +81,14 @@ keys-settled v (r ∷ rs) = ap (λ (p : ℕ × List ℕ). p.0 ∷ p.1) (λ i. (s
 words-settled : (v : View) (rs : List Ring) → map (λ (r : Ring). r.words) (map (settled v) rs) ≡ map (λ (r : Ring). r.words) rs
 words-settled v [] = refl
 words-settled v (r ∷ rs) = ap (λ (p : ℕ × List ℕ). p.0 ∷ p.1) (λ i. (settled-words v r i, words-settled v rs i))
+
+lie-settled : (heap : HeapView) (v : View) (rs : List Ring) → AllByRecursion (LiesIn heap) rs → AllByRecursion (LiesIn heap) (map (settled v) rs)
+lie-settled heap v [] lie = tt
+lie-settled heap v (r ∷ rs) lie = (by (flows v r.buffer && is_filled r.frames), lie-settled heap v rs lie.1)
+  where
+    by : (h : Bool) → LiesIn heap (cond h r (begun (max 1 (channels_of v r.buffer)) r))
+    by true = lie.0
+    by false = record { piece = lie.0.piece; there = lie.0.there; front = lie.0.front; back = lie.0.back }
 
 -- what flows is Live
 pub flows-live : (v : View) (b : ℕ) → flows v b ≡ true → live v b ≡ true
@@ -146,7 +156,9 @@ module _ (heap : HeapView) (clock : ℕ) (comps : List Comp) (edges : List Edge)
     held-seen = record {
       words = words-settled view rings.rings ∙ held.words;
       channels = all-channels graph streams to keeps kept.played played rings.rings held.channels kept.seen (subst (λ (ids : List ℕ). AllByRecursion (λ (r : Ring). is_among (components graph ++ ids) r.buffer ≡ true) rings.rings) ring-keys (all-among (components graph) rings.rings));
-      used = held.used;
+      lie = lie-settled heap view rings.rings held.lie;
+      usable = held.usable;
+      tiled = held.tiled;
       within = held.within;
       most = held.most;
     }
@@ -154,7 +166,7 @@ module _ (heap : HeapView) (clock : ℕ) (comps : List Comp) (edges : List Edge)
     pub seen-is : state_of heap clock comps edges pipes joins (map to streams) (map shown (map (settled view) rings.rings)) ≡ with_streams to (state_of heap clock comps edges pipes joins streams (map shown rings.rings))
     seen-is =
         ap (λ (rs : List RingView). state_of heap clock comps edges pipes joins (map to streams) rs) (all-shown view rings.rings)
-        ∙ ap (λ (ids : List ℕ). record (with_streams to (state_of heap clock comps edges pipes joins streams (map shown rings.rings))) { histories = map (λ c. history_seen (state_of heap clock comps edges pipes joins streams (map shown rings.rings)) view None c) ids }) (sym (equalises-none view kept.wired.endpoints (components graph)))
+        ∙ ap (λ (ids : List ℕ). record (with_streams to (state_of heap clock comps edges pipes joins streams (map shown rings.rings))) { histories = map (λ c. history_seen (state_of heap clock comps edges pipes joins streams (map shown rings.rings)) view None c) ids }) (sym (equalises-none view played (components graph)))
 
     -- the same where the view is told by its parts
     module _ (cs : List Comp) (es : List Edge) (ps : List Pipe) (js : List Join) (ss streams' : List StreamView) (c-is : cs ≡ comps) (e-is : es ≡ edges) (p-is : ps ≡ pipes) (j-is : js ≡ joins) (s-is : ss ≡ streams') (new-is : streams' ≡ map to streams) where

@@ -29,7 +29,7 @@ set-same {X} (x ∷ xs) (suc i) d lt = ap (λ (ys : List X). x ∷ ys) (set-same
 pub begins : (v : View) (s : RingLists) (place k : ℕ) → (flows v (ring_at s place).buffer && is_filled (ring_at s place).frames) ≡ false → k ≡ max 1 (channels_of v (ring_at s place).buffer) → changed place (begun k) s ≡ changed place (settled v) s
 begins v s place k fails is =
     let r = ring_at s place in
-    ap (λ (x : Ring). record { most = s.most; used = s.used; rings = set s.rings place x })
+    ap (λ (x : Ring). record { most = s.most; rings = set s.rings place x })
     (ap (λ (n : ℕ). begun n r) is ∙ sym (ap (λ h. cond h r (begun (max 1 (channels_of v r.buffer)) r)) fails))
 
 -- a ring stays
@@ -37,14 +37,14 @@ pub remains : (v : View) (s : RingLists) (place : ℕ) → place < length s.ring
 remains v s place lt flow filled =
     let r = ring_at s place in
     sym (
-    ap (λ (x : Ring). record { most = s.most; used = s.used; rings = set s.rings place x }) (ap (λ (h : Bool × Bool). cond (h.0 && h.1) r (begun (max 1 (channels_of v r.buffer)) r)) (λ i. (flow i, filled i)))
-    ∙ ap (λ (rs : List Ring). record { most = s.most; used = s.used; rings = rs }) (set-same s.rings place _ lt))
+    ap (λ (x : Ring). record { most = s.most; rings = set s.rings place x }) (ap (λ (h : Bool × Bool). cond (h.0 && h.1) r (begun (max 1 (channels_of v r.buffer)) r)) (λ i. (flow i, filled i)))
+    ∙ ap (λ (rs : List Ring). record { most = s.most; rings = rs }) (set-same s.rings place _ lt))
 
 -- what a settled ring shows
 pub shown-settled : (v : View) (r : Ring) → shown (settled v r) ≡ ring_seen v (shown r)
 shown-settled v r = by (flows v r.buffer) r.frames
   where
-    by : (h : Bool) (frames : List Frame) → shown (cond (h && is_filled frames) (record { buffer = r.buffer; words = r.words; channels = r.channels; frames = frames }) (begun (max 1 (channels_of v r.buffer)) (record { buffer = r.buffer; words = r.words; channels = r.channels; frames = frames }))) ≡ record { buffer = r.buffer; frames = cond h frames [] }
+    by : (h : Bool) (frames : List Frame) → shown (cond (h && is_filled frames) (record { buffer = r.buffer; first = r.first; words = r.words; channels = r.channels; frames = frames }) (begun (max 1 (channels_of v r.buffer)) (record { buffer = r.buffer; first = r.first; words = r.words; channels = r.channels; frames = frames }))) ≡ record { buffer = r.buffer; frames = cond h frames [] }
     by true [] = refl
     by true (frame ∷ frames) = refl
     by false frames = refl
@@ -97,7 +97,7 @@ length-turned f zero (x ∷ xs) = refl
 length-turned f (suc i) (x ∷ xs) = ap suc (length-turned f i xs)
 
 -- rings of which the first i are settled
-module _ (v : View) (s t : RingLists) (edges : List Edge) (i : ℕ) (keys : map (λ (r : Ring). r.buffer) s.rings ≡ map (λ (e : Edge). e.buffer) edges) (so_far : t ≡ record { most = s.most; used = s.used; rings = turn.changed (settled v) i s.rings }) where
+module _ (v : View) (s t : RingLists) (edges : List Edge) (i : ℕ) (keys : map (λ (r : Ring). r.buffer) s.rings ≡ map (λ (e : Edge). e.buffer) edges) (so_far : t ≡ record { most = s.most; rings = turn.changed (settled v) i s.rings }) where
   pub turn-place : i < length edges → i < length t.rings
   turn-place lt = omega (arith, lt, ap (λ (x : RingLists). length x.rings) so_far, length-turned (settled v) i s.rings, same-length (λ (r : Ring). r.buffer) (λ (e : Edge). e.buffer) s.rings edges keys)
 
@@ -105,15 +105,15 @@ module _ (v : View) (s t : RingLists) (edges : List Edge) (i : ℕ) (keys : map 
   turn-key d lt =
       let within : i < length s.rings = omega (arith, lt, same-length (λ (r : Ring). r.buffer) (λ (e : Edge). e.buffer) s.rings edges keys) in
       ap (λ (x : RingLists). (ring_at x i).buffer) so_far
-      ∙ ap (λ (r : Ring). r.buffer) (turn.changed-get (settled v) i s.rings (fresh_ring 0 0) within)
-      ∙ same-key (λ (r : Ring). r.buffer) (λ (e : Edge). e.buffer) s.rings edges i (fresh_ring 0 0) d keys lt
+      ∙ ap (λ (r : Ring). r.buffer) (turn.changed-get (settled v) i s.rings (fresh_ring 0 0 0) within)
+      ∙ same-key (λ (r : Ring). r.buffer) (λ (e : Edge). e.buffer) s.rings edges i (fresh_ring 0 0 0) d keys lt
 
-  pub turn-more : (u : RingLists) → i < length edges → u ≡ changed i (settled v) t → u ≡ record { most = s.most; used = s.used; rings = turn.changed (settled v) (i + 1) s.rings }
+  pub turn-more : (u : RingLists) → i < length edges → u ≡ changed i (settled v) t → u ≡ record { most = s.most; rings = turn.changed (settled v) (i + 1) s.rings }
   turn-more u lt is =
       let within : i < length s.rings = omega (arith, lt, same-length (λ (r : Ring). r.buffer) (λ (e : Edge). e.buffer) s.rings edges keys) in
       is ∙ ap (λ (x : RingLists). changed i (settled v) x) so_far
-      ∙ ap (λ (rs : List Ring). record { most = s.most; used = s.used; rings = rs }) (turn.changed-more (settled v) i s.rings (turn.changed (settled v) i s.rings) _ (fresh_ring 0 0) within refl refl)
+      ∙ ap (λ (rs : List Ring). record { most = s.most; rings = rs }) (turn.changed-more (settled v) i s.rings (turn.changed (settled v) i s.rings) _ (fresh_ring 0 0 0) within refl refl)
 
   pub turn-all : length edges ≤ i → t ≡ all_settled v s
   turn-all le =
-      so_far ∙ ap (λ (rs : List Ring). record { most = s.most; used = s.used; rings = rs }) (turn.changed-all (settled v) i s.rings (omega (arith, le, same-length (λ (r : Ring). r.buffer) (λ (e : Edge). e.buffer) s.rings edges keys)))
+      so_far ∙ ap (λ (rs : List Ring). record { most = s.most; rings = rs }) (turn.changed-all (settled v) i s.rings (omega (arith, le, same-length (λ (r : Ring). r.buffer) (λ (e : Edge). e.buffer) s.rings edges keys)))

@@ -1,5 +1,5 @@
 -- What a tick leaves of a state.
-use Rattle.std.proofs.Common.{◌≡◌, refl, sym, ap, ◌∙◌, subst, ℕ, zero, suc, ◌-◌, ◌%◌, ◌^◌, ◌≤◌, List, [], ◌∷◌, map, get_or, set, Bool, true, false, cond, ◌==◌, arith}
+use Rattle.std.proofs.Common.{◌≡◌, refl, sym, ap, ◌∙◌, subst, ℕ, zero, suc, ◌-◌, ◌%◌, ◌^◌, ◌≤◌, List, [], ◌∷◌, map, get_or, set, Bool, true, false, cond, ◌==◌}
 use Rattle.std.specs.Prelude.{All, nat_eq}
 use Rattle.std.specs.List.{AllByRecursion, IsDistinct}
 use Rattle.sof_base.specs.Samples.{Frame}
@@ -25,7 +25,7 @@ use Rattle.fw_schedule.specs.declared.turn.Action.TheVariants.{Feed, Drain, Fill
 use Rattle.fw_schedule.specs.Turns.{no_ring, with_frames, turns_of, after_action, after_turn, after_turn_at, after_turns}
 use Rattle.fw_schedule.specs.Ticks.{ring_emptied, emptied, seen_at, AreTurnsAt}
 use Rattle.fw_schedule.specs.TurnLaws.{CanTurn, TicksAreTurns, TurnsStand, turned}
-use Rattle.fw_core.specs.Kept.{IsKept, AreRings, state_of, shown}
+use Rattle.fw_core.specs.Kept.{IsKept, AreRings, LiesIn, state_of, shown}
 use Rattle.fw_core.proofs.KeptLaws.{ring-keys}
 use Rattle.fw_core.proofs.SeenLaws.{keys-shown}
 use Rattle.fw_core.proofs.Laid.{place-of, IsFlowing, all-flowing, bounds, plain, laid-out}
@@ -110,6 +110,15 @@ all-filled : (P : ℕ → ℕ → Type 0) (rs : List Ring) → AllByRecursion (�
 all-filled P [] all = tt
 all-filled P (r ∷ rs) all = (all.0, all-filled P rs all.1)
 
+-- rings lie where they lay, filled or emptied
+lie-emptied : (heap : HeapView) (rs : List Ring) → AllByRecursion (LiesIn heap) rs → AllByRecursion (LiesIn heap) (map ring_emptied rs)
+lie-emptied heap [] lie = tt
+lie-emptied heap (r ∷ rs) lie = (record { piece = lie.0.piece; there = lie.0.there; front = lie.0.front; back = lie.0.back }, lie-emptied heap rs lie.1)
+
+lie-filled : (heap : HeapView) (rs : List Ring) → AllByRecursion (LiesIn heap) (map ring_emptied rs) → AllByRecursion (LiesIn heap) rs
+lie-filled heap [] lie = tt
+lie-filled heap (r ∷ rs) lie = (record { piece = lie.0.piece; there = lie.0.there; front = lie.0.front; back = lie.0.back }, lie-filled heap rs lie.1)
+
 -- ---- a whole tick
 
 module _ (heap : HeapView) (clock : ℕ) (comps : List Comp) (edges : List Edge) (pipes : List Pipe) (joins : List Join) (streams : List StreamView) (rings : RingLists) (room : ℕ) (kept : IsKept (state_of heap clock comps edges pipes joins streams (map shown rings.rings))) (held : AreRings rings room (state_of heap clock comps edges pipes joins streams (map shown rings.rings))) where
@@ -190,7 +199,9 @@ module _ (heap : HeapView) (clock : ℕ) (comps : List Comp) (edges : List Edge)
       held-ticked = record {
         words = same-words ∙ held.words;
         channels = all-filled (λ b n. flows view b ≡ true → n ≡ channels_of view b) rings'.rings (subst (AllByRecursion (λ (r : Ring). flows view r.buffer ≡ true → r.channels ≡ channels_of view r.buffer)) (sym same-rings) (all-emptied (λ b n. flows view b ≡ true → n ≡ channels_of view b) rings.rings held.channels));
-        used = omega (arith, held.used, ap (λ (s : RingLists). s.used) empty);
+        lie = lie-filled heap rings'.rings (subst (AllByRecursion (LiesIn heap)) (sym same-rings) (lie-emptied heap rings.rings held.lie));
+        usable = held.usable;
+        tiled = held.tiled;
         within = held.within;
         most = ap (λ (s : RingLists). s.most) empty ∙ held.most;
       }

@@ -1,9 +1,7 @@
 -- The state that tables make, and what is so of it between messages.
-use Rattle.std.specs.Prelude.{◌≡◌, ℕ, ◌+◌, ◌*◌, ◌/◌, ◌≤◌, List, [], ◌∷◌, map, length, Bool, true, false, ◌&&◌, ◌||◌, ◌==◌, Option, Some, None}
+use Rattle.std.specs.Prelude.{◌≡◌, ℕ, ◌+◌, ◌*◌, ◌/◌, ◌≤◌, List, [], ◌∷◌, map, length, find, Bool, true, false, ◌&&◌, ◌||◌, ◌==◌, Option, Some, None}
 use Rattle.std.specs.List.{list_any, AllByRecursion}
 use Rattle.sof_base.specs.declared.format.Params.{Params}
-use Rattle.stream_law.specs.declared.graph.Kind.{Kind}
-use Rattle.stream_law.specs.declared.graph.Kind.TheVariants.{HostCapture, DaiPlay}
 use Rattle.stream_law.specs.declared.graph.Comp.{Comp}
 use Rattle.stream_law.specs.declared.graph.Edge.{Edge}
 use Rattle.stream_law.specs.declared.graph.Pipe.{Pipe}
@@ -13,14 +11,12 @@ use Rattle.stream_law.specs.declared.stream.Phase.{Phase}
 use Rattle.stream_law.specs.declared.stream.Phase.TheVariants.{Idle}
 use Rattle.stream_law.specs.declared.stream.StreamView.{StreamView}
 use Rattle.stream_law.specs.Placed.{HasDistinct}
-use Rattle.stream_law.specs.State.{FwState, HeapView, View, RingView, view_of}
-use Rattle.stream_law.specs.Ways.{is_end, is_live_phase, channels_of, agree}
-use Rattle.stream_law.specs.Endpoints.{is_input}
+use Rattle.stream_law.specs.State.{FwState, PieceView, HeapView, View, RingView, view_of}
+use Rattle.stream_law.specs.Ways.{leads, is_end, is_live_phase, channels_of, agree}
 use Rattle.stream_law.specs.Seen.{flows, ring_seen}
 use Rattle.ipc3_codec.specs.Allowed.{is_period}
-use Rattle.mbox_link.specs.Step.{has_comp, has_edge, has_kind, kind_at, is_host, is_rate, is_way_ready}
-use Rattle.fw_schedule.specs.TurnLaws.{is_endpoint}
-use Rattle.fw_core.specs.Pieces.{carved_bytes, heap_bytes}
+use Rattle.mbox_link.specs.Step.{has_comp, has_edge, is_used, has_kind, kind_at, is_host, is_rate, is_way_ready}
+use Rattle.fw_core.specs.Pieces.{IsTiled}
 use Rattle.fw_ring.specs.RingLists.{Ring, RingLists}
 
 -- a ring as its frames alone
@@ -68,27 +64,17 @@ abbrev pub IsSide : Graph → Option ℕ → Type 0
 IsSide g None = Unit {0}
 IsSide g (Some c) = has_comp g c ≡ true
 
--- What is so of a graph: no two components and no two buffers have one id, and no buffer has a component's, there are
--- endpoints alone, joins and edges end at what is there, and periods are those of messages.
+-- What is so of a graph: no two components, no two buffers and no two pipelines have one id, no buffer has a component's and no
+-- pipeline has that of either, joins and edges end at what is there, and periods are those of messages.
 pub record IsWired (g : Graph) : Type 0 where
   pub ids : HasDistinct (λ c. c.id) g.comps
   pub buffers : HasDistinct (λ e. e.buffer) g.edges
+  pub names : HasDistinct (λ p. p.id) g.pipes
   pub apart : AllByRecursion (λ e. has_comp g e.buffer ≡ false) g.edges
-  pub endpoints : AllByRecursion (λ c. is_endpoint c.kind ≡ true) g.comps
+  pub alone : AllByRecursion (λ p. is_node g p.id ≡ false) g.pipes
   pub ends : AllByRecursion (IsBetween g) g.joins
   pub sides : AllByRecursion (λ e. IsSide g e.source × IsSide g e.sink) g.edges
   pub periods : AllByRecursion (λ p. is_period p.period ≡ true) g.pipes
-
--- whether a kind gives frames to an output
-abbrev pub is_output : Kind → Bool
-is_output HostCapture = true
-is_output (DaiPlay format) = true
-is_output _ = false
-
--- a side of an edge is joined to a component of such a kind, or to nothing
-abbrev pub IsEnd : (Kind → Bool) → Graph → Option ℕ → Type 0
-IsEnd test g None = Unit {0}
-IsEnd test g (Some c) = has_kind test (kind_at g c) ≡ true
 
 -- there is such a join
 abbrev pub has_join : Graph → ℕ → ℕ → Bool
@@ -107,14 +93,16 @@ IsJoinedTo g b (Some c) = has_join g b c ≡ true
 abbrev pub is_at : Join → Edge → Bool
 is_at j e = (e.buffer == j.sink && is_end e.source j.source) || (e.buffer == j.source && is_end e.sink j.sink)
 
--- What is so of the sides of a graph's edges: they come from what has an input and go to what has an output, and they are
--- those of the joins, and no others.
+-- no walk of joins leads from where a join goes to where it comes from
+abbrev pub IsOpen : Graph → Join → Type 0
+IsOpen g j = leads g.joins (length g.joins) j.sink j.source ≡ false
+
+-- What is so of the sides of a graph's edges: they are those of the joins, and no others, and no walk of joins comes back.
 pub record IsLinked (g : Graph) : Type 0 where
-  pub sources : AllByRecursion (λ e. IsEnd is_input g e.source) g.edges
-  pub sinks : AllByRecursion (λ e. IsEnd is_output g e.sink) g.edges
   pub at : AllByRecursion (λ j. list_any (is_at j) g.edges ≡ true) g.joins
   pub from : AllByRecursion (λ e. IsJoinedFrom g e.source e.buffer) g.edges
   pub to : AllByRecursion (λ e. IsJoinedTo g e.buffer e.sink) g.edges
+  pub open_ends : AllByRecursion (IsOpen g) g.joins
 
 -- ---- streams
 
@@ -142,17 +130,32 @@ pub record IsPlayable (v : View) : Type 0 where
 abbrev pub KeepsLive : (StreamView → StreamView) → List StreamView → Type 0
 KeepsLive to streams = AllByRecursion (λ s. ((to s).host ≡ s.host) × (is_live_phase s.phase ≡ true → (to s).params ≡ s.params)) streams
 
+-- ---- the heap
+
+-- a piece of this id is there
+abbrev pub has_piece : HeapView → ℕ → Bool
+has_piece heap id = list_any (λ p. p.id == id) heap.pieces
+
+-- What is so of a heap's pieces: each component, buffer and pipeline has one, and no other id has.
+pub record ArePieces (g : Graph) (heap : HeapView) : Type 0 where
+  pub few : length heap.pieces ≤ length g.comps + length g.edges + length g.pipes
+  pub named : AllByRecursion (λ p. is_used g p.id ≡ true) heap.pieces
+  pub comps : AllByRecursion (λ c. has_piece heap c.id ≡ true) g.comps
+  pub edges : AllByRecursion (λ e. has_piece heap e.buffer ≡ true) g.edges
+  pub pipes : AllByRecursion (λ p. has_piece heap p.id ≡ true) g.pipes
+
 -- ---- states
 
 -- What is so of every state: its lists are within their limits, each join is at a side of its own, each stream has a
--- component, graph and streams are as they should be, each edge has a ring, and a ring in which no frame may lie is empty.
+-- component, graph, streams and pieces are as they should be, each edge has a ring, and a ring in which no frame may lie is
+-- empty.
 pub record IsKept (f : FwState) : Type 0 where
   pub comps : length f.graph.comps ≤ 128
   pub edges : length f.graph.edges ≤ 128
   pub pipes : length f.graph.pipes ≤ 32
   pub joins : length f.graph.joins ≤ sides f.graph.edges
   pub streams : length f.streams ≤ length f.graph.comps
-  pub pieces : length f.heap.pieces ≤ length f.graph.comps + length f.graph.edges + length f.graph.pipes
+  pub pieces : ArePieces f.graph f.heap
   pub wired : IsWired f.graph
   pub linked : IsLinked f.graph
   pub played : IsPlayable (view_of f)
@@ -160,11 +163,20 @@ pub record IsKept (f : FwState) : Type 0 where
   pub seen : map (ring_seen (view_of f)) f.rings ≡ f.rings
   pub histories : f.histories ≡ []
 
--- What is so of the rings of a state: each has the words of its buffer's bytes, a ring in which frames may lie has the
--- channels of its stream, and what is carved of a heap has room for all words.
+-- a ring lies in the piece of its buffer, behind the piece's first 32 bytes
+pub record LiesIn (heap : HeapView) (r : Ring) : Type 0 where
+  pub piece : PieceView
+  pub there : find (λ p. p.id == r.buffer) heap.pieces ≡ Some piece
+  pub front : 4 * r.first ≡ piece.place + 32
+  pub back : 4 * (r.first + r.words) ≤ piece.place + piece.size
+
+-- What is so of the rings of a state: each has the words of its buffer's bytes and lies in its piece, a ring in which frames
+-- may lie has the channels of its stream, and the heap is no greater than the room for all words.
 pub record AreRings (lists : RingLists) (room : ℕ) (f : FwState) : Type 0 where
   pub words : map (λ r. r.words) lists.rings ≡ map (λ e. e.size / 4) f.graph.edges
   pub channels : AllByRecursion (λ r. flows (view_of f) r.buffer ≡ true → r.channels ≡ channels_of (view_of f) r.buffer) lists.rings
-  pub used : 4 * lists.used ≤ carved_bytes f.heap.pieces
-  pub within : heap_bytes f.heap ≤ room
+  pub lie : AllByRecursion (LiesIn f.heap) lists.rings
+  pub usable : ℕ
+  pub tiled : IsTiled usable f.heap
+  pub within : usable ≤ room
   pub most : lists.most ≡ room / 4

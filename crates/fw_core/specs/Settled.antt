@@ -17,4 +17,4 @@ settled v r = if flows v r.buffer && is_filled r.frames then r else begun (max 1
 
 -- the same for all rings
 abbrev pub all_settled : View → RingLists → RingLists
-all_settled v s = record { most = s.most; used = s.used; rings = map (settled v) s.rings }
+all_settled v s = record { most = s.most; rings = map (settled v) s.rings }

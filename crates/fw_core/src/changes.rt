@@ -1,10 +1,28 @@
-// What a message changes of buffers and pipelines that are there.
-ghost use Rattle.std.specs.Prelude.{◌≡◌, map};
+// What a message changes of components, buffers, pipelines and streams that are there.
+ghost use Rattle.std.specs.Prelude.{◌≡◌, ◌==◌, map, position};
+ghost use Rattle.stream_law.specs.Placed.{HasDistinct};
 ghost use Rattle.stream_law.specs.Joins.{joined};
-ghost use Rattle.mbox_link.specs.Step.{completed, set_stream as with_stream, set_phase as with_phase};
+ghost use Rattle.mbox_link.specs.Step.{completed, with_setting, set_stream as with_stream, set_phase as with_phase};
 
 use sof_base::Params;
-use stream_law::{Edge, Join, Phase, Pipe, StreamView};
+use stream_law::{Comp, Edge, Join, Phase, Pipe, Setting, StreamView};
+
+/// The component of this id has this setting.
+pub fn set_setting(comps: &mut [Comp], id: u32, setting: Setting)
+    requires { HasDistinct (λ c. c.id) comps.old }
+    ensures { comps.new ≡ map (with_setting id setting) comps.old }
+{
+    if let Some(place) = place_of(comps, id) {
+        comps[place].setting = setting;
+    }
+}
+
+// The place of the first component of an id.
+fn place_of(comps: &[Comp], id: u32) -> Option<usize>
+    ensures { result ≡ position (λ c. c.id == id) comps.now }
+{
+    comps.iter().position(|comp| comp.id == id)
+}
 
 // A buffer with the side set that a join is at.
 fn with_side(edge: Edge, join: Join) -> Edge

@@ -1,7 +1,7 @@
 // The firmware behind its mailbox.
 ghost use Rattle.std.specs.Prelude.{◌≡◌, IfOk, Some, None, is_some, true};
-ghost use Rattle.mbox_link.specs.Step.{error_reply};
-ghost use Rattle.fw_core.specs.Answers.{error_number};
+ghost use Rattle.ipc3_codec.specs.Replies.{reply_spelling};
+ghost use Rattle.fw_core.specs.Answers.{reply_with};
 ghost use Rattle.fw_core.specs.Device.{firmware, used_of, stepped, reply_to, with_state};
 
 use crate::player::Player;
@@ -49,23 +49,26 @@ impl Firmware {
         if self.on { self.player.used() } else { 0 }
     }
 
-    // The step of a message: its reply's error number.
-    fn error(&mut self, request: &[u8]) -> i32
+    // The step of a message: its reply.
+    fn reply(&mut self, request: &[u8]) -> Reply
         requires { is_some self.old.state ≡ true }
         ensures step { self.new ≡ with_state (stepped self.old.state request.now) self.old }
-        ensures reply { reply_to self.old.state request.now ≡ Some (error_reply result) }
+        ensures reply { reply_to self.old.state request.now ≡ Some (reply_spelling result) }
     {
-        error_of(self.player.answer(request))
+        reply_of(self.player.answer(request))
     }
 }
 
-// The error number of a reply: 0 where the message was done.
-fn error_of(answer: Result<(), Errno>) -> i32
-    ensures { result ≡ error_number answer }
+// The reply to a message: 0 and its body where it was done, or its error.
+fn reply_of(answer: Result<Body, Errno>) -> Reply
+    ensures { result ≡ reply_with answer }
 {
     match answer {
-        Ok(()) => 0,
-        Err(error) => error.0,
+        Ok(body) => Reply { error: 0, body },
+        Err(error) => Reply {
+            error: error.0,
+            body: Body::Nothing,
+        },
     }
 }
 
@@ -97,10 +100,7 @@ impl Dsp for Firmware {
         _io: &mut Inputs,
         _out: &mut Outputs,
     ) -> Result<usize, LinkFault> {
-        let answer = Reply {
-            error: self.error(request),
-            body: Body::Nothing,
-        };
+        let answer = self.reply(request);
         Ok(encode_reply(&answer, reply))
     }
 

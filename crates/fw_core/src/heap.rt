@@ -1,11 +1,14 @@
-// The heap as numbers: each piece is carved behind all earlier ones.
-ghost use Rattle.std.specs.Prelude.{◌≡◌, ◌+◌, ◌<◌, ◌≤◌, ◌^◌, length, IfOk, true};
-ghost use Rattle.sof_base.specs.Holes.{rounded, fits};
-ghost use Rattle.mbox_link.specs.Step.{with_piece};
-ghost use Rattle.fw_core.specs.Pieces.{fresh_heap, carved_bytes, heap_bytes};
+// The heap as numbers: its holes by ascending place, and its pieces by ascending id.
+ghost use Rattle.std.specs.Prelude.{◌≡◌, ◌<◌, ◌≤◌, ◌^◌, ◌==◌, length, find, option_map, IfOk, true, false};
+ghost use Rattle.std.specs.List.{list_any};
+ghost use Rattle.sof_base.specs.Holes.{rounded, fits, first_fit};
+ghost use Rattle.mbox_link.specs.Step.{with_piece, without_piece};
+ghost use Rattle.fw_core.specs.Pieces.{fresh_heap, carved_bytes, bytes_of};
+
+mod holes;
 
 use crate::table::Table;
-use sof_base::NoMemory;
+use sof_base::{Hole, NoMemory};
 use std::alloc::Global;
 use std::marker::Model;
 
@@ -33,77 +36,105 @@ impl Piece {
     }
 }
 
-/// A heap of so many usable bytes, of which the first `used` are carved.
+/// A heap of so many usable bytes, in memory for the holes and pieces of a greatest heap of `room` bytes.
 #[derive(Drop)]
 pub struct Heap {
+    room: u32,
     usable: u32,
-    used: u32,
+    holes: Vec<Hole>,
     pieces: Table<Piece, 288>,
 }
 
 impl Model for Heap {
-    ghost use Rattle.std.specs.Prelude.{◌≡◌, ◌≤◌};
-    ghost use Rattle.stream_law.specs.State.{HeapView};
-    ghost use Rattle.fw_core.specs.Pieces.{holes_behind, carved_bytes};
+    ghost use Rattle.std.specs.Prelude.{◌+◌, ◌*◌, ◌<◌, ◌≤◌, ◌^◌, vec_capacity};
+    ghost use Rattle.fw_core.specs.Pieces.{HeapHeld, IsTiled};
 
-    ghost Value = { HeapView };
+    ghost Value = { HeapHeld };
 
-    ghost view = { λ h. record { holes = holes_behind h.used h.usable; pieces = h.pieces } };
+    ghost view = { λ h. record { view = record { holes = h.holes.items; pieces = h.pieces }; room = h.room } };
 
-    ghost invariant = { λ h. (h.used ≤ h.usable) × (h.used ≡ carved_bytes h.pieces) };
+    ghost invariant = { λ h. IsTiled h.usable (record { holes = h.holes.items; pieces = h.pieces }) × (h.usable ≤ h.room) × (h.room < 2 ^ 32) × (h.room + 46 ≤ 32 * vec_capacity h.holes) };
 }
 
 impl Heap {
-    /// A heap of 0 bytes, with memory for its list of 288 pieces.
-    pub fn new(alloc: Global) -> Result<Heap, NoMemory>
-        ensures { IfOk result (λ heap. heap ≡ fresh_heap 0) }
+    /// A heap of 0 bytes, with memory for all holes and pieces of a heap of at most `room` bytes.
+    pub fn new(alloc: Global, room: u32) -> Result<Heap, NoMemory>
+        ensures { IfOk result (λ heap. heap ≡ record { view = fresh_heap 0; room = room }) }
     {
         Ok(Heap {
+            room,
             usable: 0,
-            used: 0,
+            holes: Vec::with_capacity(alloc, (room / 32 + 3) as usize)?,
             pieces: Table::new(alloc)?,
         })
     }
 
     /// A heap of so many bytes, less what passes a multiple of 16. Nothing is carved.
     pub fn reset(&mut self, bytes: u32)
-        ensures heap { self.new ≡ fresh_heap bytes }
-        ensures most { heap_bytes self.new ≤ bytes }
+        requires { bytes ≤ self.old.room }
+        ensures { self.new ≡ record { view = fresh_heap bytes; room = self.old.room } }
     {
         self.usable = bytes / UNIT * UNIT;
-        self.used = 0;
+        holes::open(&mut self.holes, self.usable);
         self.pieces.clear();
     }
 
-    /// Whether so many bytes are left, in whole units.
+    /// Whether a hole has so many bytes, in whole units.
     pub fn holds(&self, bytes: u64) -> bool
         requires { bytes < 2 ^ 63 }
-        ensures fits { result ≡ fits (rounded bytes) self.now.holes }
-        ensures room { result ≡ true → carved_bytes self.now.pieces + rounded bytes ≤ heap_bytes self.now }
+        ensures { result ≡ fits (rounded bytes) self.now.view.holes }
     {
-        self.used < self.usable && in_units(bytes) <= u64::from(self.usable - self.used)
+        holes::has_room(self.holes.as_slice(), in_units(bytes))
     }
 
-    /// Carves so many bytes for an id, in whole units.
-    pub fn carve(&mut self, id: u32, bytes: u64)
+    /// Carves so many bytes for an id, in whole units, from the front of the first hole that has them. Their place comes back.
+    pub fn carve(&mut self, id: u32, bytes: u64) -> u32
         requires small { bytes < 2 ^ 63 }
-        requires room { fits (rounded bytes) self.old.holes ≡ true }
-        requires few { length self.old.pieces < 288 }
-        ensures heap { self.new ≡ with_piece id bytes self.old }
-        ensures carved { carved_bytes self.new.pieces ≡ carved_bytes self.old.pieces + rounded bytes }
-        ensures same { heap_bytes self.new ≡ heap_bytes self.old }
+        requires some { 0 < bytes }
+        requires room { fits (rounded bytes) self.old.view.holes ≡ true }
+        requires few { length self.old.view.pieces < 288 }
+        requires fresh { list_any (λ p. p.id == id) self.old.view.pieces ≡ false }
+        ensures heap { self.new ≡ record { view = with_piece id bytes self.old.view; room = self.old.room } }
+        ensures place { result ≡ first_fit (rounded bytes) self.old.view.holes }
     {
-        let place = self.used;
-        let size = in_units(bytes) as u32;
-        self.pieces.place(Piece { id, place, size });
-        self.used += size;
+        let size = in_units(bytes);
+        let place = holes::take(&mut self.holes, size as u32);
+        self.pieces.place(Piece {
+            id,
+            place,
+            size: size as u32,
+        });
+        place
+    }
+
+    /// Gives back the piece of an id, if it has one. The hole that it leaves joins those that it touches.
+    pub fn give(&mut self, id: u32)
+        ensures { self.new ≡ record { view = without_piece id self.old.view; room = self.old.room } }
+    {
+        if let Some(hole) = self.hole_of(id) {
+            holes::give(&mut self.holes, hole);
+            self.pieces.remove(id);
+        }
     }
 
     /// How many bytes are carved.
     pub fn used(&self) -> u32
-        ensures { result ≡ carved_bytes self.now.pieces }
+        ensures { result ≡ carved_bytes self.now.view.pieces }
     {
-        self.used
+        self.usable - holes::total(self.holes.as_slice())
+    }
+
+    // The bytes of the piece of an id.
+    fn hole_of(&self, id: u32) -> Option<Hole>
+        ensures { result ≡ option_map bytes_of (find (λ p. p.id == id) self.now.view.pieces) }
+    {
+        match self.pieces.find(id) {
+            Some(piece) => Some(Hole {
+                place: piece.place,
+                size: piece.size,
+            }),
+            None => None,
+        }
     }
 }
 

@@ -3,7 +3,7 @@ ghost use Rattle.std.specs.Prelude.{◌≡◌, ◌&&◌, ◌==◌, [], length, f
 ghost use Rattle.std.specs.List.{list_any};
 ghost use Rattle.std.specs.Option.{option_map_or};
 ghost use Rattle.stream_law.specs.Ways.{leads, is_capture, is_end, on_way as lies_on};
-ghost use Rattle.stream_law.specs.Joins.{crosses as has_crossing};
+ghost use Rattle.stream_law.specs.Joins.{is_play, crosses as has_crossing};
 
 use crate::kinds;
 use stream_law::{Comp, Edge, Join};
@@ -57,20 +57,45 @@ fn comp_at(comps: &[Comp], id: u32) -> Option<&Comp>
 }
 
 /// Whether a capture's host is reached from a playback's.
-#[tactic(auto, unfolding(stream_law::specs::Ways::reaches))]
 pub fn crosses(comps: &[Comp], joins: &[Join]) -> bool
     ensures { result ≡ has_crossing (record { comps = comps.now; edges = []; pipes = []; joins = joins.now }) }
 {
-    comps.iter().any(|comp| kinds::is_host_play(comp.kind)
-        && reaches_capture(comps, joins, comp.id))
+    has_fed_capture(comps, joins)
 }
 
-// Whether a capture's host is reached from this id.
-fn reaches_capture(comps: &[Comp], joins: &[Join], from: u32) -> bool
-    ensures { result ≡ list_any (λ b. is_capture b.kind && leads joins.now (length joins.now) from b.id) comps.now }
+// The same from where walks end: no two captures are reached from one id, so no id is come to twice.
+fn has_fed_capture(comps: &[Comp], joins: &[Join]) -> bool
+    ensures { result ≡ list_any (λ b. is_capture b.kind && list_any (λ a. is_play a.kind && leads joins.now (length joins.now) a.id b.id) comps.now) comps.now }
 {
     comps.iter().any(|comp| kinds::is_host_capture(comp.kind)
-        && is_led(joins, joins.len(), from, comp.id))
+        && comes_from_play(comps, joins, joins.len(), comp.id))
+}
+
+// Whether a walk of at most `steps` joins leads from a playback's host to an id. This goes back along the joins.
+fn comes_from_play(comps: &[Comp], joins: &[Join], steps: usize, to: u32) -> bool
+    ensures { result ≡ list_any (λ a. is_play a.kind && leads joins.now steps a.id to) comps.now }
+{
+    if is_play_at(comps, to) {
+        return true;
+    }
+    if steps == 0 {
+        return false;
+    }
+    for join in joins {
+        if join.sink == to && comes_from_play(comps, joins, steps - 1, join.source) {
+            return true;
+        }
+    }
+    false
+}
+
+// Whether an id is that of a playback's host.
+fn is_play_at(comps: &[Comp], id: u32) -> bool
+    ensures { result ≡ list_any (λ a. is_play a.kind && a.id == id) comps.now }
+{
+    comps
+        .iter()
+        .any(|comp| comp.id == id && kinds::is_host_play(comp.kind))
 }
 
 /// How many buffers go into a component.

@@ -1,12 +1,14 @@
 // What a message says of its component.
-ghost use Rattle.std.specs.Prelude.{◌≡◌};
-ghost use Rattle.stream_law.specs.Joins.{kind_ins, kind_outs, fits_kind, is_play};
+ghost use Rattle.std.specs.Prelude.{◌≡◌, ◌<◌, ◌≤◌, replicate, true};
+ghost use Rattle.stream_law.specs.Joins.{kind_ins, kind_outs, fits_kind, is_play, is_endpoint as ends_there};
 ghost use Rattle.stream_law.specs.Ways.{is_capture};
-ghost use Rattle.mbox_link.specs.Step.{comp_bytes, format_of, kind_of as named_kind, is_endpoint as names_endpoint, is_host as is_of_host, goes as has_direction};
+ghost use Rattle.mbox_link.specs.Step.{comp_bytes, format_of, kind_of as named_kind, first_setting as named_setting, is_host as is_of_host, goes as has_direction};
+ghost use Rattle.fw_core.specs.Answers.{has_few_channels};
 
 use ipc3_codec::CompWords;
-use sof_base::Format;
-use stream_law::Kind;
+use sof_base::{Bounded, Format, Items};
+use std::alloc::Global;
+use stream_law::{Kind, Setting};
 
 /// A component's kind, by the words of its message.
 pub fn kind_of(words: CompWords, frame_fmt: u32) -> Kind
@@ -24,6 +26,33 @@ pub fn kind_of(words: CompWords, frame_fmt: u32) -> Kind
     }
 }
 
+/// What is set at a new component, by the words of its message: each gain of a volume is 1, a mux chooses its first input, and no
+/// blob is in force.
+pub fn first_setting(alloc: Global, words: CompWords) -> Setting
+    requires { has_few_channels words ≡ true }
+    ensures { result ≡ named_setting words }
+{
+    match words {
+        CompWords::Volume { channels, .. } => Setting::Gains(first_gains(channels)),
+        CompWords::Mux => Setting::Choice(0),
+        CompWords::Eq => Setting::Blob(Items::new(alloc)),
+        _ => Setting::Nothing,
+    }
+}
+
+// A gain of 1 for each of so many channels.
+fn first_gains(channels: u32) -> Bounded<u32, 8>
+    requires { channels ≤ 8 }
+    ensures { result ≡ replicate channels 65536 }
+{
+    let gains = [65536; 8];
+    match Bounded::new(&gains[..channels as usize]) {
+        Some(gains) => gains,
+        // Never so: there are at most 8.
+        None => Bounded::empty(),
+    }
+}
+
 // The sample format of a frame format: 0 for 16 bits, 1 for 24 bits in 4 bytes, and 32 bits for the rest.
 fn frame_format(number: u32) -> Format
     ensures { result ≡ format_of number }
@@ -37,7 +66,8 @@ fn frame_format(number: u32) -> Format
 
 /// The stated size of a component, in bytes.
 pub fn bytes_of(kind: Kind) -> u64
-    ensures { result ≡ comp_bytes kind }
+    ensures size { result ≡ comp_bytes kind }
+    ensures some { 0 < result }
 {
     match kind {
         Kind::Mixer | Kind::Mux => 32,
@@ -81,11 +111,14 @@ pub fn is_host_capture(kind: Kind) -> bool
     matches!(kind, Kind::HostCapture)
 }
 
-/// Whether the words of a message are those of an endpoint.
-pub fn is_endpoint(words: CompWords) -> bool
-    ensures { result ≡ names_endpoint words }
+/// Whether a component is an endpoint.
+pub fn is_endpoint(kind: Kind) -> bool
+    ensures { result ≡ ends_there kind }
 {
-    matches!(words, CompWords::Host { .. } | CompWords::Dai { .. })
+    matches!(
+        kind,
+        Kind::HostPlay | Kind::HostCapture | Kind::DaiPlay(_) | Kind::DaiCapture(_)
+    )
 }
 
 /// Whether a component is the host's end of a stream.

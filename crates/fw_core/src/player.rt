@@ -2,7 +2,7 @@
 ghost use Rattle.std.specs.Prelude.{◌≡◌, ◌≤◌, ◌+◌, ℕ, OnErr, IfOk};
 ghost use Rattle.sof_base.specs.Ports.{HasRoom};
 ghost use Rattle.ipc3_codec.specs.Messages.{decoded};
-ghost use Rattle.mbox_link.specs.Step.{fresh, row_of};
+ghost use Rattle.mbox_link.specs.Step.{fresh, row_of, body_of};
 ghost use Rattle.mbox_link.specs.Exchange.{ticked};
 ghost use Rattle.fw_core.specs.Pieces.{carved_bytes};
 ghost use Rattle.fw_core.specs.Answers.{answer_of};
@@ -11,6 +11,7 @@ ghost use Rattle.fw_core.specs.Device.{io_of};
 use crate::schedule::schedule;
 use crate::state::State;
 use fw_schedule::{TURN_BYTES, Turn};
+use ipc3_codec::Body;
 use sof_base::{Errno, NoMemory};
 use sof_io::{Inputs, Outputs};
 use std::alloc::Global;
@@ -72,9 +73,11 @@ impl Player {
         self.turns.clear();
     }
 
-    /// Does what a message's bytes say, or tells why not. Bytes that are no message are not valid.
-    pub fn answer(&mut self, request: &[u8]) -> Result<(), Errno>
+    /// Does what a message's bytes say, and gives the body of its reply, or tells why not. Bytes that are no message are not
+    /// valid.
+    pub fn answer(&mut self, request: &[u8]) -> Result<Body, Errno>
         ensures answer { answer_of self.new.state result ≡ row_of self.old.state (decoded request.now) }
+        ensures body { IfOk result (λ said. said ≡ body_of self.old.state (decoded request.now)) }
         ensures kept { OnErr result (self.new ≡ self.old) }
         ensures room { self.new.room ≡ self.old.room }
     {

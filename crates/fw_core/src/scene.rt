@@ -1,8 +1,10 @@
 // What host and firmware both see: a graph and its streams, and what lies on the ways of these.
-ghost use Rattle.std.specs.Prelude.{◌≡◌, ◌&&◌, ◌||◌, ◌++◌, not, map, find, option_copied, Some};
+ghost use Rattle.std.specs.Prelude.{◌≡◌, ◌&&◌, ◌||◌, ◌++◌, not, map, length, find, option_copied, true, Some};
 ghost use Rattle.std.specs.List.{list_all, list_any};
-ghost use Rattle.stream_law.specs.Ways.{edge_of, source_of, sink_of, on_way as lies_on, is_live_phase, live as is_live, live_end as has_live_end, live_params as params_of, channels_of as samples_of, components, buffers, touch as has_common, same_shape as alike, agree as is_agreed};
+ghost use Rattle.stream_law.specs.Ways.{edge_of, source_of, sink_of, ins, outs, on_way as lies_on, is_live_phase, live as is_live, live_end as has_live_end, live_params as params_of, channels_of as samples_of, components, buffers, touch as has_common, same_shape as alike, agree as is_agreed};
+ghost use Rattle.stream_law.specs.Joins.{fits_kind};
 ghost use Rattle.stream_law.specs.Seen.{flows as may_hold};
+ghost use Rattle.fw_core.specs.Answers.{are_others};
 ghost use Rattle.mbox_link.specs.Step.{is_complete as is_whole, is_way_ready as has_ready_way, is_ready_comp as is_comp_ready, is_ready_edge as is_edge_ready, set_stream};
 
 use crate::{joins, kinds};
@@ -165,9 +167,16 @@ impl<'a> Scene<'a> {
         self.edges.iter().all(|edge| !self.on_way(host, edge.buffer) || self.is_ready_edge(edge))
     }
 
-    // Whether a component's pipeline is complete, and its buffers are as many as its kind has.
+    // Whether a component is an endpoint whose pipeline is complete, and its buffers are as many as its kind has.
     fn is_ready_comp(&self, comp: &Comp) -> bool
         ensures { result ≡ is_comp_ready self.now.graph comp.now }
+    {
+        kinds::is_endpoint(comp.kind) && self.has_all_edges(comp)
+    }
+
+    // Whether a component's pipeline is complete, and its buffers are as many as its kind has.
+    fn has_all_edges(&self, comp: &Comp) -> bool
+        ensures { result ≡ (is_whole self.now.graph comp.now.pipe && fits_kind comp.now.kind (length (ins self.now.graph comp.now.id)) (length (outs self.now.graph comp.now.id))) }
     {
         self.is_complete(comp.pipe)
             && kinds::fits(
@@ -193,16 +202,17 @@ impl<'a> Scene<'a> {
             .any(|pipe| pipe.index == index && pipe.complete)
     }
 
-    /// Whether streams that touch would agree once a host's stream has these parameters.
+    /// Whether streams that touch, which agree, would agree too once a host's stream has these parameters.
     pub fn agrees_with(&self, host: u32, params: Params) -> bool
+        requires { is_agreed self.now ≡ true }
         ensures { result ≡ is_agreed (record { graph = self.now.graph; streams = map (set_stream host Phase.Prepared (Some params)) self.now.streams }) }
     {
         self.all_agree(host, params)
     }
 
-    // The same stream by stream.
+    // The same stream by stream. Those of other hosts agree.
     fn all_agree(&self, host: u32, params: Params) -> bool
-        ensures { result ≡ list_all (λ s. list_all (λ t. not (has_common self.now.graph s t) || alike (set_stream host Phase.Prepared (Some params) s).params (set_stream host Phase.Prepared (Some params) t).params) self.now.streams) self.now.streams }
+        ensures { result ≡ list_all (λ s. list_all (λ t. are_others host s t || (not (has_common self.now.graph s t) || alike (set_stream host Phase.Prepared (Some params) s).params (set_stream host Phase.Prepared (Some params) t).params)) self.now.streams) self.now.streams }
     {
         self.streams
             .iter()
@@ -211,16 +221,17 @@ impl<'a> Scene<'a> {
 
     // Whether one stream would.
     fn agrees_at(&self, stream: StreamView, host: u32, params: Params) -> bool
-        ensures { result ≡ list_all (λ t. not (has_common self.now.graph stream t) || alike (set_stream host Phase.Prepared (Some params) stream).params (set_stream host Phase.Prepared (Some params) t).params) self.now.streams }
+        ensures { result ≡ list_all (λ t. are_others host stream t || (not (has_common self.now.graph stream t) || alike (set_stream host Phase.Prepared (Some params) stream).params (set_stream host Phase.Prepared (Some params) t).params)) self.now.streams }
     {
         let shape = next_params(stream, host, params);
         self.streams.iter().all(|other| {
-            self.agree(
-                stream.host,
-                other.host,
-                shape,
-                next_params(*other, host, params),
-            )
+            (stream.host != host && other.host != host)
+                || self.agree(
+                    stream.host,
+                    other.host,
+                    shape,
+                    next_params(*other, host, params),
+                )
         })
     }
 

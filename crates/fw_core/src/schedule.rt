@@ -20,6 +20,9 @@ pub fn schedule(scene: &Scene, turns: &mut Vec<Turn>)
     ensures room { 128 ≤ vec_capacity turns.new }
 {
     turns.clear();
+    if !scene.is_running() {
+        return;
+    }
     let order = order(scene.comps, scene.edges);
     let places = order.items();
     for i in 0..places.len() {

@@ -5,6 +5,8 @@ ghost use Rattle.mbox_link.specs.Step.{fresh};
 ghost use Rattle.fw_core.specs.Kept.{IsKept};
 ghost use Rattle.fw_core.specs.Pieces.{carved_bytes};
 
+mod controls;
+mod freeing;
 mod lookups;
 mod messages;
 mod running;
@@ -19,9 +21,11 @@ use std::alloc::Global;
 use std::marker::Model;
 use stream_law::{Comp, Edge, Join, Pipe, StreamView};
 
-/// Its heap, its clock in ticks, its graph, its streams and its rings, in memory for a heap of `room` bytes.
+/// Its heap, its clock in ticks, its graph, its streams and its rings, in memory for a heap of `room` bytes. A setting without
+/// items is made with `alloc`, which takes no memory.
 #[derive(Drop)]
 pub struct State {
+    alloc: Global,
     room: u32,
     heap: Heap,
     clock: u32,
@@ -34,14 +38,14 @@ pub struct State {
 }
 
 impl Model for State {
-    ghost use Rattle.std.specs.Prelude.{◌≤◌, map, vec_capacity};
+    ghost use Rattle.std.specs.Prelude.{◌≡◌, ◌≤◌, map, vec_capacity};
     ghost use Rattle.fw_core.specs.Kept.{Held, state_of, shown, IsKept, AreRings};
 
     ghost Value = { Held };
 
-    ghost view = { λ s. record { state = state_of s.heap s.clock s.comps s.edges s.pipes s.joins.items s.streams (map shown s.rings.rings); room = s.room } };
+    ghost view = { λ s. record { state = state_of s.heap.view s.clock s.comps s.edges s.pipes s.joins.items s.streams (map shown s.rings.rings); room = s.room } };
 
-    ghost invariant = { λ s. IsKept (state_of s.heap s.clock s.comps s.edges s.pipes s.joins.items s.streams (map shown s.rings.rings)) × AreRings s.rings s.room (state_of s.heap s.clock s.comps s.edges s.pipes s.joins.items s.streams (map shown s.rings.rings)) × (256 ≤ vec_capacity s.joins) };
+    ghost invariant = { λ s. IsKept (state_of s.heap.view s.clock s.comps s.edges s.pipes s.joins.items s.streams (map shown s.rings.rings)) × AreRings s.rings s.room (state_of s.heap.view s.clock s.comps s.edges s.pipes s.joins.items s.streams (map shown s.rings.rings)) × (256 ≤ vec_capacity s.joins) × (s.heap.room ≡ s.room) };
 }
 
 impl State {
@@ -50,8 +54,9 @@ impl State {
         ensures { IfOk result (λ state. state ≡ record { state = fresh 0; room = room }) }
     {
         Ok(State {
+            alloc,
             room,
-            heap: Heap::new(alloc)?,
+            heap: Heap::new(alloc, room)?,
             clock: 0,
             comps: Table::new(alloc)?,
             edges: Table::new(alloc)?,

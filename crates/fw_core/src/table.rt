@@ -1,16 +1,16 @@
 // Lists of limited length that ascend by their keys.
-ghost use Rattle.std.specs.Prelude.{◌≡◌, ℕ, ◌<◌, ◌==◌, [], length, map, nat_lt, position, find, option_copied, IfOk};
+ghost use Rattle.std.specs.Prelude.{◌≡◌, ℕ, ◌<◌, ◌==◌, not, [], length, map, filter, nat_lt, position, find, option_copied, IfOk};
 ghost use Rattle.std.specs.List.{list_any};
-ghost use Rattle.stream_law.specs.Placed.{placed};
+ghost use Rattle.stream_law.specs.Placed.{placed, HasDistinct};
 ghost use Rattle.stream_law.specs.Joins.{joined};
-ghost use Rattle.mbox_link.specs.Step.{completed, set_stream as with_stream, set_phase as with_phase};
+ghost use Rattle.mbox_link.specs.Step.{completed, with_setting, set_stream as with_stream, set_phase as with_phase};
 
 use crate::changes;
 use crate::heap::Piece;
 use sof_base::{NoMemory, Params};
 use std::alloc::Global;
 use std::marker::Model;
-use stream_law::{Comp, Edge, Join, Phase, Pipe, StreamView};
+use stream_law::{Comp, Edge, Join, Phase, Pipe, Setting, StreamView};
 
 /// A record with a number as its key.
 pub trait Keyed: Drop {
@@ -124,11 +124,28 @@ impl<T: Keyed, const MOST: usize> Table<T, MOST> {
         let _fits = self.records.insert(place, item);
     }
 
+    /// Drops each record of this key and keeps its memory.
+    pub fn remove(&mut self, key: u32)
+        ensures { self.new ≡ filter (λ x. not (T.key x == key)) self.old }
+    {
+        self.records.retain(|x| x.key() != key);
+    }
+
     /// Drops all records and keeps their memory.
     pub fn clear(&mut self)
         ensures { self.new ≡ [] }
     {
         self.records.clear();
+    }
+}
+
+impl<const MOST: usize> Table<Comp, MOST> {
+    /// The component of this id has this setting.
+    pub fn set(&mut self, id: u32, setting: Setting)
+        requires { HasDistinct (λ c. c.id) self.old }
+        ensures { self.new ≡ map (with_setting id setting) self.old }
+    {
+        changes::set_setting(&mut self.records, id, setting);
     }
 }
 

@@ -2,19 +2,25 @@
 use crate::Firmware;
 use ipc3_codec::{CompWords, Message, encode};
 use mbox_link::Dsp;
-use sof_base::{Format, Params};
+use sof_base::{Bounded, Format, Params};
 use sof_io::{Inputs, Outputs};
 use std::alloc::Global;
 use std::test::Fail;
 
-// The first 12 bytes of what a device that is on answers to these bytes.
-fn reply_to(alloc: Global, firmware: &mut Firmware, request: &[u8]) -> Result<[u8; 12], Fail> {
+// What a device that is on answers to these bytes.
+fn whole_reply(alloc: Global, firmware: &mut Firmware, request: &[u8]) -> Result<[u8; 384], Fail> {
     let mut reply = [0; 384];
     let mut io = Inputs::new(alloc)?;
     let mut out = Outputs::new(alloc)?;
     if firmware.on() {
         let _size = firmware.exchange(request, &mut reply, &mut io, &mut out);
     }
+    Ok(reply)
+}
+
+// Its first 12 bytes.
+fn reply_to(alloc: Global, firmware: &mut Firmware, request: &[u8]) -> Result<[u8; 12], Fail> {
+    let reply = whole_reply(alloc, firmware, request)?;
     let mut front = [0; 12];
     front.copy_from_slice(&reply[..12]);
     Ok(front)
@@ -193,5 +199,68 @@ fn a_stream_that_is_not_prepared_does_not_start(rt: HostRuntime) -> Result<(), F
     let messages = [host(0), Message::TrigStart { id: 0 }];
     let replies = replies_to(rt.alloc(), &mut firmware, &messages)?;
     assert!(rt; replies.as_slice() == [DONE, INVALID].as_slice());
+    Ok(())
+}
+
+const NO_DEVICE: [u8; 12] = [12, 0, 0, 0, 0, 0, 0, 0x10, 0xed, 0xff, 0xff, 0xff];
+
+// The first words of a reply of two values.
+const TWO_VALUES: [u8; 12] = [108, 0, 0, 0, 0, 0, 0, 0x10, 0, 0, 0, 0];
+
+// A volume of two channels.
+fn volume(id: u32) -> Message {
+    Message::CompNew {
+        id,
+        pipe: 1,
+        periods_sink: 0,
+        periods_source: 0,
+        frame_fmt: 2,
+        kind: CompWords::Volume {
+            channels: 2,
+            min_value: 0,
+            max_value: 65536,
+        },
+    }
+}
+
+// The two channels and their gains, as a reply carries them.
+fn gains_of(alloc: Global, firmware: &mut Firmware, id: u32) -> Result<[u8; 16], Fail> {
+    let mut request = [0; 384];
+    let size = encode(&Message::GetValue { id, command: 0 }, &mut request);
+    let reply = whole_reply(alloc, firmware, &request[..size])?;
+    let mut gains = [0; 16];
+    gains.copy_from_slice(&reply[92..108]);
+    Ok(gains)
+}
+
+#[test]
+fn the_gains_of_a_volume_are_set_and_got_until_it_is_freed(rt: HostRuntime) -> Result<(), Fail> {
+    let mut firmware = Firmware::new(rt.alloc(), 992)?;
+    firmware.boot(992);
+    let replies = replies_to(rt.alloc(), &mut firmware, &[volume(7)])?;
+    assert!(rt; replies.as_slice() == [DONE].as_slice());
+    let first = gains_of(rt.alloc(), &mut firmware, 7)?;
+    assert!(rt; first == [0, 0, 0, 0, 0, 0, 1, 0, 1, 0, 0, 0, 0, 0, 1, 0]);
+    let messages = [
+        Message::SetValue {
+            id: 7,
+            command: 0,
+            values: Bounded::new(&[32768, 3]).unwrap_or(Bounded::empty()),
+        },
+        Message::GetValue { id: 7, command: 0 },
+        Message::GetValue { id: 7, command: 1 },
+    ];
+    let replies = replies_to(rt.alloc(), &mut firmware, &messages)?;
+    assert!(rt; replies.as_slice() == [DONE, TWO_VALUES, INVALID].as_slice());
+    let second = gains_of(rt.alloc(), &mut firmware, 7)?;
+    assert!(rt; second == [0, 0, 0, 0, 0, 0x80, 0, 0, 1, 0, 0, 0, 3, 0, 0, 0]);
+    assert_eq!(rt; firmware.used(), 64);
+    let messages = [
+        Message::CompFree { id: 7 },
+        Message::GetValue { id: 7, command: 0 },
+    ];
+    let replies = replies_to(rt.alloc(), &mut firmware, &messages)?;
+    assert!(rt; replies.as_slice() == [DONE, NO_DEVICE].as_slice());
+    assert_eq!(rt; firmware.used(), 0);
     Ok(())
 }

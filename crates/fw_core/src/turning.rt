@@ -1,6 +1,6 @@
 // The turn of a component in a view.
 ghost use Rattle.std.specs.Prelude.{◌≡◌, ◌&&◌, ◌==◌, ◌≤◌, find, position, option_copied, option_map, slice_get, unwrap_or, length, Some, None};
-ghost use Rattle.std.specs.List.{position_or_len};
+ghost use Rattle.std.specs.List.{list_any, position_or_len};
 ghost use Rattle.std.specs.Option.{option_map_or};
 ghost use Rattle.stream_law.specs.Placed.{HasDistinct};
 ghost use Rattle.stream_law.specs.Ways.{comp_of, edge_of, pipe_of, ins, is_end, is_running_phase, on_way as lies_on, active as is_active, active_end as has_active_end, live_params as params_of, rate_of, channels_of};
@@ -16,6 +16,15 @@ use sof_base::{Format, Params};
 use stream_law::{Comp, Edge, Kind, Phase, Pipe, StreamView};
 
 impl<'a> Scene<'a> {
+    /// Whether a stream is Running.
+    pub fn is_running(&self) -> bool
+        ensures { result ≡ list_any (λ s. is_running_phase s.phase) self.now.streams }
+    {
+        self.streams
+            .iter()
+            .any(|stream| is_running_at(stream.phase))
+    }
+
     /// The turn of a component, if it is an Active endpoint.
     #[tactic(auto, unfolding(fw_schedule::specs::Turns::turn_of))]
     pub fn turn(&self, comp: &Comp) -> Option<Turn>

@@ -1,6 +1,6 @@
--- Windows that have no word in common, as one of them changes and as one is put in.
+-- Windows that have no word in common, as one of them changes, is put in or is taken out.
 use Rattle.std.proofs.Common.{◌≡◌, refl, sym, ap, subst, ◌∙◌, ℕ, zero, suc, ◌+◌, ◌-◌, ◌<◌, ◌≤◌, inl, inr, Bool, true, false, cond, List, [], ◌∷◌, ◌++◌, map, length, take, drop, get_or, set, arith, ℤ, length-take, length-drop, length-append}
-use Rattle.std.specs.Prelude.{nat_lt}
+use Rattle.std.specs.Prelude.{nat_lt, filter}
 use Rattle.std.specs.List.{AllByRecursion}
 use Rattle.std.proofs.lemmas.List.{take_at, drop_at, drop-take}
 use Rattle.std.proofs.lemmas.Slice.{take-put_mid_below, drop-put_mid}
@@ -8,7 +8,7 @@ use borrow.Rule.Slice.PartMut.{put_mid}
 use Rattle.stream_law.specs.Placed.{placed}
 use Rattle.stream_law.proofs.Keyed.{all-from}
 use Rattle.fw_ring.specs.declared.window.Window.{Window}
-use Rattle.fw_ring.specs.RingsLaid.{own_words, Apart, AreApart, IsWithin}
+use Rattle.fw_ring.specs.RingsLaid.{own_words, Apart, AreApart}
 
 -- ---- items of a list
 
@@ -31,6 +31,30 @@ all-placed {X} P key x (y ∷ ys) one all = by (nat_lt (key x) (key y)) (all-pla
     by true rest = (one, all)
     by false rest = (all.0, rest)
 
+pub all-filter : {X : Type 0} (P : X → Type 0) (test : X → Bool) (xs : List X) → AllByRecursion P xs → AllByRecursion P (filter test xs)
+all-filter P test [] all = tt
+all-filter {X} P test (x ∷ xs) all = by (test x) (all-filter P test xs all.1)
+  where
+    by : (h : Bool) → AllByRecursion P (filter test xs) → AllByRecursion P (cond h (x ∷ filter test xs) (filter test xs))
+    by true rest = (all.0, rest)
+    by false rest = rest
+
+pub filter-within : {X : Type 0} (test : X → Bool) (xs : List X) → length (filter test xs) ≤ length xs
+filter-within test [] = omega arith
+filter-within {X} test (x ∷ xs) = by (test x) (filter-within test xs)
+  where
+    by : (h : Bool) → length (filter test xs) ≤ length xs → length (cond h (x ∷ filter test xs) (filter test xs)) ≤ suc (length xs)
+    by true rest = omega (arith, rest)
+    by false rest = omega (arith, rest)
+
+pub map-filter : {X Y : Type 0} (f : X → Y) (test : Y → Bool) (xs : List X) → map f (filter (λ x. test (f x)) xs) ≡ filter test (map f xs)
+map-filter f test [] = refl
+map-filter {X} {Y} f test (x ∷ xs) = by (test (f x)) (map-filter f test xs)
+  where
+    by : (h : Bool) → map f (filter (λ x. test (f x)) xs) ≡ filter test (map f xs) → map f (cond h (x ∷ filter (λ x. test (f x)) xs) (filter (λ x. test (f x)) xs)) ≡ cond h (f x ∷ filter test (map f xs)) (filter test (map f xs))
+    by true rest = ap (λ (ys : List Y). f x ∷ ys) rest
+    by false rest = rest
+
 -- ---- windows that are apart
 
 turned : (v w : Window) → Apart v w → Apart w v
@@ -50,18 +74,25 @@ apart-set (v ∷ vs) zero w w' lt is first words apart =
 apart-set (v ∷ vs) (suc i) w w' lt is first words apart =
     (all-set (Apart v) vs i w' (moved v w w' first words (all-at (Apart v) vs i w (omega arith) is apart.0)) apart.0, apart-set vs i w w' (omega arith) is first words apart.1)
 
--- a window behind all others
-pub apart-placed : (key : Window → ℕ) (used : ℕ) (w : Window) (ws : List Window) → w.first ≡ used → AllByRecursion (IsWithin used) ws → AreApart ws → AreApart (placed key w ws)
+-- a window that is apart from all others
+pub apart-placed : (key : Window → ℕ) (w : Window) (ws : List Window) → AllByRecursion (Apart w) ws → AreApart ws → AreApart (placed key w ws)
 unfolding AreApart
-apart-placed key used w [] at within apart = (tt, tt)
-apart-placed key used w (v ∷ vs) at within apart = by (nat_lt (key w) (key v)) (apart-placed key used w vs at within.1 apart.1)
+apart-placed key w [] far apart = (tt, tt)
+apart-placed key w (v ∷ vs) far apart = by (nat_lt (key w) (key v)) (apart-placed key w vs far.1 apart.1)
   where
-    far : (x : Window) → IsWithin used x → Apart w x
-    far x in_use = inr (omega (arith, at, in_use.ends))
-
     by : (h : Bool) → AreApart (placed key w vs) → AreApart (cond h (w ∷ v ∷ vs) (v ∷ placed key w vs))
-    by true rest = (all-from {P = IsWithin used} {Q = Apart w} (v ∷ vs) far within, apart)
-    by false rest = (all-placed (Apart v) key w vs (turned w v (far v within.0)) apart.0, rest)
+    by true rest = (far, apart)
+    by false rest = (all-placed (Apart v) key w vs (turned w v far.0) apart.0, rest)
+
+-- some of these windows
+pub apart-filter : (test : Window → Bool) (ws : List Window) → AreApart ws → AreApart (filter test ws)
+unfolding AreApart
+apart-filter test [] apart = tt
+apart-filter test (w ∷ ws) apart = by (test w) (apart-filter test ws apart.1)
+  where
+    by : (h : Bool) → AreApart (filter test ws) → AreApart (cond h (w ∷ filter test ws) (filter test ws))
+    by true rest = (all-filter (Apart w) test ws apart.0, rest)
+    by false rest = rest
 
 -- where one is changed, what is made of the others stays
 pub map-changed : {X : Type 0} (f g : Window → X) (ws : List Window) (i : ℕ) (w w' : Window) → i < length ws → w ≡ get_or ws i w → AreApart ws → ((v : Window) → Apart v w → g v ≡ f v) → map g (set ws i w') ≡ set (map f ws) i (g w')

@@ -1,5 +1,6 @@
--- The rings of windows, as one of them changes and as one is put in.
-use Rattle.std.proofs.Common.{◌≡◌, refl, sym, ap, ◌∙◌, ℕ, ◌+◌, ◌/◌, ◌<◌, ◌≤◌, List, [], ◌∷◌, ◌++◌, map, length, take, drop, get_or, set, arith, ℤ}
+-- The rings of windows, as one of them changes, is put in or is taken out.
+use Rattle.std.proofs.Common.{◌≡◌, refl, sym, ap, ◌∙◌, ℕ, ◌+◌, ◌/◌, ◌<◌, ◌≤◌, List, [], ◌∷◌, ◌++◌, map, length, take, drop, get_or, set, inl, inr, not, ◌==◌, arith, ℤ}
+use Rattle.std.specs.Prelude.{filter}
 use Rattle.std.specs.List.{AllByRecursion}
 use Rattle.std.proofs.lemmas.List.{get_or-map, map-set, length-map}
 use borrow.Rule.Slice.PartMut.{put_mid}
@@ -8,11 +9,11 @@ use Rattle.stream_law.specs.Placed.{placed}
 use Rattle.stream_law.proofs.Placing.{map-placed}
 use Rattle.fw_ring.specs.declared.window.Window.{Window}
 use Rattle.fw_ring.specs.declared.rings.Rings.TheInside.{Inside}
-use Rattle.fw_ring.specs.RingLists.{Ring, RingLists, fresh_ring, begun, pushed, pulled, capacity_of, IsRing}
+use Rattle.fw_ring.specs.RingLists.{Ring, RingLists, fresh_ring, begun, pushed, pulled, capacity_of, IsOutside, IsRing}
 use Rattle.fw_ring.specs.RingWords.{IsWindow, round_from, slots, frames_of}
-use Rattle.fw_ring.specs.RingsLaid.{own_words, ring_of, rings_view, AreApart, IsWithin}
+use Rattle.fw_ring.specs.RingsLaid.{own_words, ring_of, rings_view, Apart, AreApart, IsWithin}
 use Rattle.fw_ring.proofs.WindowLaws.{length-frames, frames-whole, fuller, emptier}
-use Rattle.fw_ring.proofs.ApartLaws.{map-changed, own-written, own-apart, length-own, all-at}
+use Rattle.fw_ring.proofs.ApartLaws.{map-changed, map-filter, own-written, own-apart, length-own, all-at}
 
 -- a window at a place
 pub record IsAt (ws : List Window) (place : ℕ) (w : Window) : Type 0 where
@@ -34,8 +35,8 @@ unfolding frames_of round_from
 frames-none w words none = let all = slots w.channels w.capacity words in ap (λ n. take n (drop w.start all ++ take w.start all)) none
 
 -- what holds of the window at a place
-pub within-at : (used : ℕ) (ws : List Window) (place : ℕ) (w : Window) → IsAt ws place w → AllByRecursion (IsWithin used) ws → IsWithin used w
-within-at used ws place w at within = all-at (IsWithin used) ws place w at.there at.read within
+pub within-at : (most : ℕ) (ws : List Window) (place : ℕ) (w : Window) → IsAt ws place w → AllByRecursion (IsWithin most) ws → IsWithin most w
+within-at most ws place w at within = all-at (IsWithin most) ws place w at.there at.read within
 
 -- how many frames its ring holds
 pub held-at : (words : List ℤ) (ws : List Window) (place : ℕ) (w : Window) (d : Ring) → IsAt ws place w → IsWindow w → length (get_or (map (ring_of words) ws) place d).frames ≡ w.held
@@ -46,10 +47,10 @@ pub room-at : (words : List ℤ) (ws : List Window) (place : ℕ) (w : Window) (
 room-at words ws place w d at is = ap capacity_of (ring-at words ws place w d at) ∙ sym is.capacity
 
 -- a ring that is emptied
-pub rings-begun : (words : List ℤ) (ws : List Window) (place : ℕ) (w w' : Window) (channels : ℕ) (d : Ring) → IsAt ws place w → w'.buffer ≡ w.buffer → w'.words ≡ w.words → w'.channels ≡ channels → w'.held ≡ 0 → map (ring_of words) (set ws place w') ≡ set (map (ring_of words) ws) place (begun channels (get_or (map (ring_of words) ws) place d))
-rings-begun words ws place w w' channels d at buffer count samples held =
+pub rings-begun : (words : List ℤ) (ws : List Window) (place : ℕ) (w w' : Window) (channels : ℕ) (d : Ring) → IsAt ws place w → w'.buffer ≡ w.buffer → w'.first ≡ w.first → w'.words ≡ w.words → w'.channels ≡ channels → w'.held ≡ 0 → map (ring_of words) (set ws place w') ≡ set (map (ring_of words) ws) place (begun channels (get_or (map (ring_of words) ws) place d))
+rings-begun words ws place w w' channels d at buffer first count samples held =
     let ring : ring_of words w' ≡ begun channels (ring_of words w) =
-    λ i. record { buffer = buffer i; words = count i; channels = samples i; frames = frames-none w' (own_words w' words) held i } in
+    λ i. record { buffer = buffer i; first = first i; words = count i; channels = samples i; frames = frames-none w' (own_words w' words) held i } in
     map-set (ring_of words) ws place w' ∙ ap (set (map (ring_of words) ws) place) (ring ∙ ap (begun channels) (sym (ring-at words ws place w d at)))
 
 -- a ring that loses its first frames
@@ -57,7 +58,7 @@ pub rings-pulled : (words : List ℤ) (ws : List Window) (place : ℕ) (w w' : W
 unfolding own_words
 rings-pulled words ws place w w' n d at same frames =
     let ring : ring_of words w' ≡ pulled n (ring_of words w) =
-    λ i. record { buffer = (same i).buffer; words = (same i).words; channels = (same i).channels; frames = ((λ j. frames_of w' (take ((same j).words) (drop ((same j).first) words))) ∙ frames) i } in
+    λ i. record { buffer = (same i).buffer; first = (same i).first; words = (same i).words; channels = (same i).channels; frames = ((λ j. frames_of w' (take ((same j).words) (drop ((same j).first) words))) ∙ frames) i } in
     map-set (ring_of words) ws place w' ∙ ap (set (map (ring_of words) ws) place) (ring ∙ ap (pulled n) (sym (ring-at words ws place w d at)))
 
 -- a ring with more frames, while the others stay
@@ -66,26 +67,39 @@ rings-pushed words own ws place w w' n new d at apart fits long same frames =
     let after = put_mid w.first w.words words own in
     let mine : own_words w' after ≡ own = own-written w w' words own (ap (λ x. x.first) same) (ap (λ x. x.words) same) fits long in
     let ring : ring_of after w' ≡ pushed new (ring_of words w) =
-    λ i. record { buffer = (same i).buffer; words = (same i).words; channels = (same i).channels; frames = (ap (frames_of w') mine ∙ frames) i } in
+    λ i. record { buffer = (same i).buffer; first = (same i).first; words = (same i).words; channels = (same i).channels; frames = (ap (frames_of w') mine ∙ frames) i } in
     map-changed (ring_of words) (ring_of after) ws place w w' at.there at.read apart (λ v far.
-    λ i. record { buffer = v.buffer; words = v.words; channels = v.channels; frames = frames_of v (own-apart v w words own fits long far i) })
+    λ i. record { buffer = v.buffer; first = v.first; words = v.words; channels = v.channels; frames = frames_of v (own-apart v w words own fits long far i) })
     ∙ ap (set (map (ring_of words) ws) place) (ring ∙ ap (pushed new) (sym (ring-at words ws place w d at)))
 
 -- a ring more
-pub rings-placed : (words : List ℤ) (ws : List Window) (w : Window) (buffer size : ℕ) → w.buffer ≡ buffer → w.words ≡ size / 4 → w.channels ≡ 1 → w.held ≡ 0 → map (ring_of words) (placed (λ x. x.buffer) w ws) ≡ placed (λ r. r.buffer) (fresh_ring buffer size) (map (ring_of words) ws)
-rings-placed words ws w buffer size name count samples held =
+pub rings-placed : (words : List ℤ) (ws : List Window) (w : Window) (buffer first size : ℕ) → w.buffer ≡ buffer → w.first ≡ first → w.words ≡ size / 4 → w.channels ≡ 1 → w.held ≡ 0 → map (ring_of words) (placed (λ x. x.buffer) w ws) ≡ placed (λ r. r.buffer) (fresh_ring buffer first size) (map (ring_of words) ws)
+rings-placed words ws w buffer first size name start count samples held =
     map-placed (ring_of words) (λ x. x.buffer) (λ r. r.buffer) (λ x. refl) w ws
-    ∙ ap (λ (r : Ring). placed (λ r. r.buffer) r (map (ring_of words) ws)) (λ i. record { buffer = name i; words = count i; channels = samples i; frames = frames-none w (own_words w words) held i })
+    ∙ ap (λ (r : Ring). placed (λ r. r.buffer) r (map (ring_of words) ws)) (λ i. record { buffer = name i; first = start i; words = count i; channels = samples i; frames = frames-none w (own_words w words) held i })
+
+-- a window of words that no ring has
+pub free-apart : (words : List ℤ) (ws : List Window) (w : Window) (first count : ℕ) → w.first ≡ first → w.words ≡ count → AllByRecursion (IsOutside first count) (map (ring_of words) ws) → AllByRecursion (Apart w) ws
+free-apart words [] w first count at many outside = tt
+free-apart words (v ∷ vs) w first count at many outside = (by outside.0, free-apart words vs w first count at many outside.1)
+  where
+    by : IsOutside first count (ring_of words v) → Apart w v
+    by (inl before) = inl (omega (arith, at, many, before))
+    by (inr behind) = inr (omega (arith, at, many, behind))
+
+-- the rings without that of a buffer
+pub rings-removed : (words : List ℤ) (ws : List Window) (buffer : ℕ) → map (ring_of words) (filter (λ w. not (w.buffer == buffer)) ws) ≡ filter (λ r. not (r.buffer == buffer)) (map (ring_of words) ws)
+rings-removed words ws buffer = map-filter (ring_of words) (λ r. not (r.buffer == buffer)) ws
 
 -- what is so of the rings of windows
-pub are-rings : (words : List ℤ) (used : ℕ) (ws : List Window) → used ≤ length words → AllByRecursion (IsWithin used) ws → AllByRecursion IsRing (map (ring_of words) ws)
-are-rings words used [] fits within = tt
-are-rings words used (w ∷ ws) fits within =
+pub are-rings : (words : List ℤ) (ws : List Window) → AllByRecursion (IsWithin (length words)) ws → AllByRecursion IsRing (map (ring_of words) ws)
+are-rings words [] within = tt
+are-rings words (w ∷ ws) within =
     let is = within.0.window in (
       record {
         channels = is.channels;
         room = omega (arith, length-frames w (own_words w words) is, is.held, is.capacity);
-        samples = frames-whole w (own_words w words) is (length-own w words (omega (arith, within.0.ends)));
+        samples = frames-whole w (own_words w words) is (length-own w words within.0.ends);
       },
-      are-rings words used ws fits within.1,
+      are-rings words ws within.1,
     )

@@ -12,11 +12,11 @@ own_words w words = take w.words (drop w.first words)
 
 -- the ring of a window
 abbrev pub ring_of : List ℤ → Window → Ring
-ring_of words w = record { buffer = w.buffer; words = w.words; channels = w.channels; frames = frames_of w (own_words w words) }
+ring_of words w = record { buffer = w.buffer; first = w.first; words = w.words; channels = w.channels; frames = frames_of w (own_words w words) }
 
 -- the rings of all windows
 abbrev pub rings_view : Inside → RingLists
-rings_view s = record { most = length s.words.items; used = s.used; rings = map (ring_of s.words.items) s.windows.items }
+rings_view s = record { most = length s.words.items; rings = map (ring_of s.words.items) s.windows.items }
 
 -- two windows have no word in common
 abbrev pub Apart : Window → Window → Type 0
@@ -27,15 +27,14 @@ unfoldable pub AreApart : List Window → Type 0
 AreApart [] = Unit {0}
 AreApart (w ∷ ws) = AllByRecursion (Apart w) ws × AreApart ws
 
--- a window that ends at or before the word `used`
-pub record IsWithin (used : ℕ) (w : Window) : Type 0 where
+-- a window that ends within so many words
+pub record IsWithin (most : ℕ) (w : Window) : Type 0 where
   pub window : IsWindow w
-  pub ends : w.first + w.words ≤ used
+  pub ends : w.first + w.words ≤ most
 
--- what is so of the rings: their windows are apart, and among the words that are used
+-- what is so of the rings: their windows are apart, and within the words
 pub record AreLaid (s : Inside) : Type 0 where
   pub few : (length s.windows.items ≤ 128) × (128 ≤ vec_capacity s.windows)
-  pub used : s.used ≤ length s.words.items
   pub most : length s.words.items < 2 ^ 30
-  pub windows : AllByRecursion (IsWithin s.used) s.windows.items
+  pub windows : AllByRecursion (IsWithin (length s.words.items)) s.windows.items
   pub apart : AreApart s.windows.items

@@ -1,7 +1,7 @@
 // All rings, in the words that were reserved for them.
 ghost use Rattle.std.specs.Prelude.{◌≡◌, ◌+◌, ◌*◌, ◌/◌, ◌<◌, ◌≤◌, length, take, IfOk, nat_lt, position};
 ghost use Rattle.sof_base.specs.Samples.{width, frames_in, frames_out};
-ghost use Rattle.fw_ring.specs.RingLists.{capacity_of, no_rings, with_ring, ring_at, changed, begun, pushed, pulled, AreRings};
+ghost use Rattle.fw_ring.specs.RingLists.{capacity_of, no_rings, with_ring, without_ring, ring_at, changed, begun, pushed, pulled, AreFree, AreRings};
 
 use crate::window::Window;
 use sof_base::{Format, NoMemory, Sample};
@@ -12,7 +12,6 @@ use std::marker::Model;
 #[derive(Drop)]
 pub struct Rings {
     words: Vec<Sample>,
-    used: usize,
     windows: Vec<Window>,
 }
 
@@ -36,7 +35,6 @@ impl Rings {
         let most = (room / 4) as usize;
         Ok(Rings {
             words: vec![in alloc; 0; most]?,
-            used: 0,
             windows: Vec::with_capacity(alloc, 128)?,
         })
     }
@@ -45,23 +43,28 @@ impl Rings {
     pub fn clear(&mut self)
         ensures { self.new ≡ no_rings self.old.most }
     {
-        self.used = 0;
         self.windows.clear();
     }
 
-    /// Puts in the empty ring of a buffer of `size` bytes, before the first ring of a greater buffer.
-    pub fn place(&mut self, buffer: u32, size: u32)
+    /// Puts in the empty ring of a buffer of `size` bytes, before the first ring of a greater buffer. Its words begin at the word
+    /// `first`, and no other ring has one of them.
+    pub fn place(&mut self, buffer: u32, first: usize, size: u32)
         requires few { length self.old.rings < 128 }
-        requires room { self.old.used + size / 4 ≤ self.old.most }
-        ensures { self.new ≡ with_ring buffer size self.old }
+        requires free { AreFree self.old first (size / 4) }
+        ensures { self.new ≡ with_ring buffer first size self.old }
     {
-        let words = (size / 4) as usize;
-        let window = Window::new(buffer, self.used, words);
         let end = self.windows.len();
+        let window = Window::new(buffer, first, (size / 4) as usize);
         let place = first_above(self.windows.as_slice(), buffer).unwrap_or(end);
         // It fits in the memory that was reserved, so it is never refused.
         let _fits = self.windows.insert(place, window);
-        self.used += words;
+    }
+
+    /// Takes out the ring of a buffer, if it has one. The other rings keep their frames.
+    pub fn remove(&mut self, buffer: u32)
+        ensures { self.new ≡ without_ring buffer self.old }
+    {
+        self.windows.retain(|window| window.buffer != buffer);
     }
 
     /// Empties a ring for frames of so many samples, 1 to 8.

@@ -11,7 +11,7 @@ static NEXT: [u8; 16] = [7, 0, 0, 0, 8, 0, 0, 0, 9, 0, 0, 0, 10, 0, 0, 0];
 // Eight words hold four frames of two channels, so the last of these lie round the end.
 fn round_the_end(alloc: Global) -> Result<[u8; 24], NoMemory> {
     let mut rings = Rings::new(alloc, 64)?;
-    rings.place(4, 32);
+    rings.place(4, 0, 32);
     rings.begin(0, 2);
     rings.push(0, Format::S32, 3, &FIRST);
     let mut front = [0; 16];
@@ -36,8 +36,8 @@ fn frames_round_the_end(rt: HostRuntime) {
 // The ring of buffer 4 stands before that of buffer 9, and is emptied while that keeps its frame.
 fn two_rings(alloc: Global) -> Result<(usize, usize, [u8; 2]), NoMemory> {
     let mut rings = Rings::new(alloc, 64)?;
-    rings.place(9, 12);
-    rings.place(4, 36);
+    rings.place(9, 0, 12);
+    rings.place(4, 3, 36);
     rings.push(0, Format::S16, 1, &[1, 2]);
     rings.push(1, Format::S24, 1, &[0, 0, 0x80, 0x55]);
     rings.begin(0, 2);
@@ -53,4 +53,32 @@ fn rings_stand_apart(rt: HostRuntime) {
     assert_eq!(rt; capacity, 4);
     assert_eq!(rt; held, 0);
     assert_eq!(rt; low, [0, 0x80]);
+}
+
+// Of three rings of three words the middle one is removed, and that of buffer 2 is placed into its words, before the others.
+fn middle_again(alloc: Global) -> Result<([u8; 4], [u8; 12], [u8; 4]), NoMemory> {
+    let mut rings = Rings::new(alloc, 36)?;
+    rings.place(4, 0, 12);
+    rings.place(7, 3, 12);
+    rings.place(9, 6, 12);
+    rings.push(0, Format::S32, 1, &[1, 0, 0, 0]);
+    rings.push(1, Format::S32, 1, &[2, 0, 0, 0]);
+    rings.push(2, Format::S32, 1, &[3, 0, 0, 0]);
+    rings.remove(7);
+    rings.place(2, 3, 12);
+    rings.begin(0, 3);
+    rings.push(0, Format::S32, 1, &[4, 0, 0, 0, 5, 0, 0, 0, 6, 0, 0, 0]);
+    let (mut left, mut middle, mut right) = ([0; 4], [0; 12], [0; 4]);
+    rings.pull(1, Format::S32, 1, &mut left);
+    rings.pull(0, Format::S32, 1, &mut middle);
+    rings.pull(2, Format::S32, 1, &mut right);
+    Ok((left, middle, right))
+}
+
+#[test]
+fn a_ring_takes_the_place_of_another(rt: HostRuntime) {
+    let (left, middle, right) = middle_again(rt.alloc()).expect(&rt, "memory");
+    assert_eq!(rt; left, [1, 0, 0, 0]);
+    assert_eq!(rt; middle, [4, 0, 0, 0, 5, 0, 0, 0, 6, 0, 0, 0]);
+    assert_eq!(rt; right, [3, 0, 0, 0]);
 }

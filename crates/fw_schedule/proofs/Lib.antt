@@ -1,6 +1,7 @@
 -- Lemmas on turns.
 pub mod NextFrames
 pub mod Shown
+pub mod NoFrames
 pub mod Moved
 pub mod ByKind
 pub mod Steps

@@ -1,21 +1,24 @@
 -- What the move of one component leaves of rings and endpoints, whatever it moves.
-use Rattle.std.proofs.Common.{◌≡◌, refl, sym, ap, ◌∙◌, ℕ, ◌-◌, ◌^◌, ◌≤◌, List, [], ◌∷◌, ◌++◌, map, drop, Bool, true, false, cond, not, ◌==◌, ◌&&◌, ◌||◌, arith}
+use Rattle.std.proofs.Common.{◌≡◌, refl, sym, ap, ◌∙◌, ℕ, ◌-◌, ◌^◌, ◌≤◌, List, [], ◌∷◌, ◌++◌, map, take, drop, Bool, true, false, cond, not, ◌==◌, ◌&&◌, ◌||◌, arith}
 use Rattle.std.proofs.lemmas.Bool.{eqb-true}
 use Rattle.std.proofs.lemmas.List.{append-nil}
 use Rattle.std.proofs.Math.Seq.{drop-nil}
-use Rattle.sof_base.specs.Samples.{Frame}
+use Rattle.sof_base.specs.Samples.{Frame, frames_in}
 use Rattle.sof_base.specs.Ports.{Io, InputView, moved_on}
 use Rattle.sof_io.specs.Takes.{taken}
 use Rattle.sof_io.specs.Puts.{with_piece}
 use Rattle.stream_law.specs.State.{View, RingView}
-use Rattle.stream_law.specs.Table.{number_of, list_of, updated}
+use Rattle.stream_law.specs.Table.{table, number_of, list_of, updated}
 use Rattle.stream_law.specs.Placed.{HasDistinct}
-use Rattle.stream_law.specs.Ways.{outs}
+use Rattle.stream_law.specs.Ways.{outs, channels_of}
 use Rattle.stream_law.specs.Moves.{quota, runs, chooses, fed_by, looked_at, is_empty, least, frames_to_move}
 use Rattle.stream_law.specs.Order.{is_among}
-use Rattle.stream_law.specs.Endpoints.{reads, bytes_of_frames}
-use Rattle.stream_law.specs.Move.{Audio, after_move, frames_moved, looked_now, made_now, bytes_moved, bytes_now, io_after}
+use Rattle.stream_law.specs.Made.{only_slice, frames_made}
+use Rattle.stream_law.specs.Endpoints.{format_of, reads, bytes_of_frames, bytes_written}
+use Rattle.stream_law.specs.Equaliser.{passed_frames}
+use Rattle.stream_law.specs.Move.{Audio, after_move, ring_length, ring_room, frames_moved, looked_now, fronts, made_now, bytes_moved, bytes_now, io_after}
 use Rattle.stream_law.proofs.Among.{value_of-updated_kept}
+use Rattle.fw_schedule.proofs.NoFrames.{made-none}
 use Rattle.fw_schedule.proofs.Shown.{shown_rings, shown-taken, shown-untaken, shown-put, put-none}
 
 -- rings and endpoints at a stage of a tick
@@ -102,6 +105,18 @@ module _ (v : View) (blobs : ℕ → List ℕ) (t c : ℕ) (io : Io) (a : Audio)
             ∙ (λ j. record { inputs = taken c (takes-none idle j) (io_after io a).inputs; outputs = with_piece c (silent j) (io_after io a).outputs })
             ∙ (λ j. record { inputs = shown-untaken c (λ x. number_of a.positions x) (λ x. list_of a.left x) io.inputs stage.low j; outputs = put-none c (io_after io a).outputs j })) i,
       )
+
+  -- what does not run makes nothing
+  made-idle : frames_moved v blobs t c a ≡ 0 → made_now v blobs t c a ≡ []
+  made-idle idle =
+      ap (λ n. frames_made v c n (frames_in (format_of v c) (channels_of v c) (list_of a.left c) 0 n) (table (looked_now v blobs t c a) (λ b. take n (list_of a.rings b))) (λ blob channels frames. passed_frames blob channels (list_of a.numbers c) frames)) idle
+      ∙ made-none (looked_now v blobs t c a) (λ b. list_of a.rings b) v c (list_of a.numbers c)
+
+  -- and leaves all, whatever its kind
+  pub shown-idle : (rings : List RingView) → HasDistinct (λ x. x.slot) io.inputs → HasDistinct (λ x. x.slot) io.outputs → IsStage io a → runs v t c ≡ false → shown rings io (after_move v blobs t c a) ≡ shown rings io a
+  shown-idle rings inputs outputs stage off =
+      let idle = frames-idle v t (ring_length v blobs t c a) (ring_room v blobs t c a) c off in
+      shown-still rings inputs outputs stage idle (made-idle idle) (ap (λ h. cond h (bytes_written v c (frames_moved v blobs t c a) (quota v t c) (only_slice (fronts v blobs t c a))) []) off)
 
   -- one that feeds one edge and takes from none puts its frames behind those of the edge
   pub rings-fed : (b : ℕ) → looked_now v blobs t c a ≡ [] → fed_by v c ≡ b ∷ [] → (x : ℕ) → list_of (after_move v blobs t c a).rings x ≡ cond (b == x) (list_of a.rings b ++ made_now v blobs t c a) (list_of a.rings x)

@@ -83,7 +83,7 @@ module _ (v : View) (s : RingLists) (bounds : HasBounds v) (laid : IsLaidOut v s
 
   words-at : (b : ℕ) → (ring_at s (place_of v.graph b)).words ≡ option_map_or (λ (e : Edge). e.size) (edge_of v.graph b) 0 / 4
   words-at b =
-      sym (get_or-map (λ (r : Ring). r.words) s.rings (place_of v.graph b) (fresh_ring 0 0))
+      sym (get_or-map (λ (r : Ring). r.words) s.rings (place_of v.graph b) (fresh_ring 0 0 0))
       ∙ ap (λ sizes. get_or sizes (place_of v.graph b) 0) laid.sizes
       ∙ size-place b v.graph.edges
 

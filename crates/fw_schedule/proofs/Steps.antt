@@ -99,7 +99,7 @@ module _ (v : View) (blobs : ℕ → List ℕ) (t c : ℕ) (rings : List RingVie
         by_run false = refl
 
     -- a source that moves no frame changes nothing
-    pub source-still : frames_moved v blobs t c a ≡ 0 → shown rings io (after_move v blobs t c a) ≡ shown rings io a
+    source-still : frames_moved v blobs t c a ≡ 0 → shown rings io (after_move v blobs t c a) ≡ shown rings io a
     source-still idle = shown-still v blobs t c io a rings laid.inputs laid.outputs stage idle (made-read ∙ ap (frames_in (format_of v c) (channels_of v c) (list_of a.left c) 0) idle) source-silent
 
     -- one that feeds its edge does its turn
@@ -174,7 +174,7 @@ module _ (v : View) (blobs : ℕ → List ℕ) (t c : ℕ) (rings : List RingVie
         ∙ sink.made x.setting v c (frames_moved v blobs t c a) (frames_in (format_of v c) (channels_of v c) (list_of a.left c) 0 (frames_moved v blobs t c a)) (fronts v blobs t c a) (λ blob channels frames. passed_frames blob channels (list_of a.numbers c) frames)
 
     -- a sink that does not run changes nothing
-    pub sink-still : runs v t c ≡ false → shown rings io (after_move v blobs t c a) ≡ shown rings io a
+    sink-still : runs v t c ≡ false → shown rings io (after_move v blobs t c a) ≡ shown rings io a
     sink-still off = shown-still v blobs t c io a rings laid.inputs laid.outputs stage (frames-idle v t (ring_length v blobs t c a) (ring_room v blobs t c a) c off) made-none (unrun-silent off)
 
     -- one that runs does its turn

@@ -11,31 +11,37 @@ use Rattle.stream_law.specs.declared.graph.Comp.{Comp}
 use Rattle.stream_law.specs.State.{FwState, View, RingView, History, view_of}
 use Rattle.stream_law.specs.Table.{number_of, list_of}
 use Rattle.stream_law.specs.Ways.{comp_of, components, ins, outs, active}
-use Rattle.stream_law.specs.Joins.{fits_kind}
+use Rattle.stream_law.specs.Joins.{is_endpoint, fits_kind}
 use Rattle.stream_law.specs.Order.{is_among, order}
-use Rattle.stream_law.specs.Move.{Audio, after_move, after_moves, ring_length, ring_room, blob_of, next_clock, audio_of, audio_after, Move}
+use Rattle.stream_law.specs.Move.{Audio, after_move, after_moves, blob_of, next_clock, audio_of, audio_after, Move}
 use Rattle.stream_law.proofs.Keyed.{keyed, keyed-values, map-same, all-from, all-both}
 use Rattle.fw_schedule.specs.declared.turn.Turn.{Turn}
 use Rattle.fw_schedule.specs.declared.turn.Action.{Action}
 use Rattle.fw_schedule.specs.declared.turn.Action.TheVariants.{Drain, Fill}
 use Rattle.fw_schedule.specs.Turns.{turn_of, after_turns}
-use Rattle.fw_schedule.specs.TurnLaws.{is_endpoint, fits_if_active, IsPlain, CanTurn, turned, with_rings}
-use Rattle.fw_schedule.proofs.Moved.{shown, IsStage, stage-moved, frames-idle}
+use Rattle.fw_schedule.specs.TurnLaws.{ends_if_active, fits_if_active, IsPlain, CanTurn, turned, with_rings}
+use Rattle.fw_schedule.proofs.Moved.{shown, IsStage, stage-moved, shown-idle}
 use Rattle.fw_schedule.proofs.ByKind.{turn-idle, runs-off, IsSource, IsSink, host-play, dai-capture, host-capture, dai-play}
-use Rattle.fw_schedule.proofs.Steps.{stepped, IsLaid, source-still, source-step, sink-still, sink-step}
+use Rattle.fw_schedule.proofs.Steps.{stepped, IsLaid, source-step, sink-step}
 use Rattle.fw_schedule.proofs.InOrder.{order-among, comp-at}
 
 -- ---- one component
 
 module _ (v : View) (plain : IsPlain v) (blobs : ℕ → List ℕ) (t : ℕ) (rings : List RingView) (io : Io) (laid : IsLaid v rings io) where
   move-turn : (c : ℕ) (a : Audio) → IsStage io a → is_among (components v.graph) c ≡ true → shown rings io (after_move v blobs t c a) ≡ stepped t (turn_of v c) (shown rings io a)
-  move-turn c a stage there = by_kind x.kind refl found.3
+  move-turn c a stage there = by_active (active v c) refl
     where
-      found : (x : Comp) × (comp_of v.graph c ≡ Some x) × ((x.id == c) ≡ true) × (is_endpoint x.kind ≡ true) × (fits_if_active v x ≡ true)
-      found = comp-at (λ x. is_endpoint x.kind) (fits_if_active v) v.graph.comps c plain.endpoints plain.fits there
+      found : (x : Comp) × (comp_of v.graph c ≡ Some x) × ((x.id == c) ≡ true) × (ends_if_active v x ≡ true) × (fits_if_active v x ≡ true)
+      found = comp-at (ends_if_active v) (fits_if_active v) v.graph.comps c plain.endpoints plain.fits there
 
       x : Comp
       x = found.0
+
+      ends : active v c ≡ true → is_endpoint x.kind ≡ true
+      ends on =
+          sym (ap (λ h. not h || is_endpoint x.kind) on)
+          ∙ sym (ap (λ y. not (active v y) || is_endpoint x.kind) (eqb-true x.id c found.2))
+          ∙ found.3
 
       fits : (k : Kind) → x.kind ≡ k → active v c ≡ true → fits_kind k (length (ins v.graph c)) (length (outs v.graph c)) ≡ true
       fits k kind on =
@@ -43,27 +49,27 @@ module _ (v : View) (plain : IsPlain v) (blobs : ℕ → List ℕ) (t : ℕ) (ri
           ∙ sym (ap (λ y. not (active v y) || fits_kind x.kind (length (ins v.graph y)) (length (outs v.graph y))) (eqb-true x.id c found.2))
           ∙ found.4
 
-      by_source : (k : Kind) → x.kind ≡ k → IsSource k → (h : Bool) → active v c ≡ h → shown rings io (after_move v blobs t c a) ≡ stepped t (turn_of v c) (shown rings io a)
-      by_source k kind source true h = source-step v blobs t c rings io laid a stage x found.1 k kind source h (fits k kind h)
-      by_source k kind source false h =
-          source-still v blobs t c rings io laid a stage x found.1 k kind source (frames-idle v t (ring_length v blobs t c a) (ring_room v blobs t c a) c (runs-off v t c h))
-          ∙ sym (ap (λ turn. stepped t turn (shown rings io a)) (turn-idle v c h))
+      by_source : (k : Kind) → x.kind ≡ k → IsSource k → active v c ≡ true → shown rings io (after_move v blobs t c a) ≡ stepped t (turn_of v c) (shown rings io a)
+      by_source k kind source on = source-step v blobs t c rings io laid a stage x found.1 k kind source on (fits k kind on)
 
-      by_sink : (k : Kind) (action : Action) (more : ℕ → ℕ → ℕ) → x.kind ≡ k → IsSink k action more → (h : Bool) → active v c ≡ h → shown rings io (after_move v blobs t c a) ≡ stepped t (turn_of v c) (shown rings io a)
-      by_sink k action more kind sink true h = sink-step v blobs t c rings io laid a stage x found.1 k kind action more sink h (fits k kind h)
-      by_sink k action more kind sink false h =
-          sink-still v blobs t c rings io laid a stage x found.1 k kind action more sink (runs-off v t c h)
-          ∙ sym (ap (λ turn. stepped t turn (shown rings io a)) (turn-idle v c h))
+      by_sink : (k : Kind) (action : Action) (more : ℕ → ℕ → ℕ) → x.kind ≡ k → IsSink k action more → active v c ≡ true → shown rings io (after_move v blobs t c a) ≡ stepped t (turn_of v c) (shown rings io a)
+      by_sink k action more kind sink on = sink-step v blobs t c rings io laid a stage x found.1 k kind action more sink on (fits k kind on)
 
-      by_kind : (k : Kind) → x.kind ≡ k → is_endpoint k ≡ true → shown rings io (after_move v blobs t c a) ≡ stepped t (turn_of v c) (shown rings io a)
-      by_kind HostPlay kind end = by_source HostPlay kind host-play (active v c) refl
-      by_kind (DaiCapture format) kind end = by_source (DaiCapture format) kind (dai-capture format) (active v c) refl
-      by_kind HostCapture kind end = by_sink HostCapture Drain (λ most n. 0) kind host-capture (active v c) refl
-      by_kind (DaiPlay format) kind end = by_sink (DaiPlay format) Fill (λ most n. most - n) kind (dai-play format) (active v c) refl
-      by_kind Volume kind end = absurd (false≢true end)
-      by_kind Mixer kind end = absurd (false≢true end)
-      by_kind Mux kind end = absurd (false≢true end)
-      by_kind Eq kind end = absurd (false≢true end)
+      by_kind : (k : Kind) → x.kind ≡ k → is_endpoint k ≡ true → active v c ≡ true → shown rings io (after_move v blobs t c a) ≡ stepped t (turn_of v c) (shown rings io a)
+      by_kind HostPlay kind end on = by_source HostPlay kind host-play on
+      by_kind (DaiCapture format) kind end on = by_source (DaiCapture format) kind (dai-capture format) on
+      by_kind HostCapture kind end on = by_sink HostCapture Drain (λ most n. 0) kind host-capture on
+      by_kind (DaiPlay format) kind end on = by_sink (DaiPlay format) Fill (λ most n. most - n) kind (dai-play format) on
+      by_kind Volume kind end on = absurd (false≢true end)
+      by_kind Mixer kind end on = absurd (false≢true end)
+      by_kind Mux kind end on = absurd (false≢true end)
+      by_kind Eq kind end on = absurd (false≢true end)
+
+      by_active : (h : Bool) → active v c ≡ h → shown rings io (after_move v blobs t c a) ≡ stepped t (turn_of v c) (shown rings io a)
+      by_active true on = by_kind x.kind refl (ends on) on
+      by_active false off =
+          shown-idle v blobs t c io a rings laid.inputs laid.outputs stage (runs-off v t c off)
+          ∙ sym (ap (λ turn. stepped t turn (shown rings io a)) (turn-idle v c off))
 
   -- ---- all components
 

@@ -33,10 +33,10 @@ bytes_drained turn least s = bytes_of_first turn (drained_now turn s) (least - d
 
 -- a ring without its frames, and all rings so
 abbrev pub ring_emptied : Ring → Ring
-ring_emptied r = record { buffer = r.buffer; words = r.words; channels = r.channels; frames = [] }
+ring_emptied r = record { buffer = r.buffer; first = r.first; words = r.words; channels = r.channels; frames = [] }
 
 abbrev pub emptied : RingLists → RingLists
-emptied s = record { most = s.most; used = s.used; rings = map ring_emptied s.rings }
+emptied s = record { most = s.most; rings = map ring_emptied s.rings }
 
 -- a turn at one of these rings, of its channels and its room, and of at most 61440 bytes
 pub record IsTurnAt (rings : RingLists) (turn : Turn) : Type 0 where

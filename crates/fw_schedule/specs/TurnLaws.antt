@@ -1,41 +1,35 @@
 -- The laws of turns that public calls state.
-use Rattle.std.specs.Prelude.{◌≡◌, ℕ, ◌+◌, ◌/◌, ◌≤◌, List, [], ◌++◌, map, length, Bool, true, false, ◌||◌, not, IsTrue}
+use Rattle.std.specs.Prelude.{◌≡◌, ℕ, ◌+◌, ◌/◌, ◌≤◌, List, [], ◌++◌, map, length, Bool, ◌||◌, not, IsTrue}
 use Rattle.std.specs.List.{AllByRecursion, list_all}
 use Rattle.std.specs.Option.{option_map_or}
 use Rattle.sof_base.specs.Ports.{Io, HasRoom}
-use Rattle.stream_law.specs.declared.graph.Kind.{Kind}
-use Rattle.stream_law.specs.declared.graph.Kind.TheVariants.{HostPlay, HostCapture, DaiPlay, DaiCapture}
 use Rattle.stream_law.specs.declared.graph.Comp.{Comp}
 use Rattle.stream_law.specs.declared.graph.Graph.{Graph}
 use Rattle.stream_law.specs.State.{FwState, View, RingView, view_of}
 use Rattle.stream_law.specs.Placed.{HasDistinct}
 use Rattle.stream_law.specs.Ways.{buffers, ins, outs, active, channels_of}
 use Rattle.stream_law.specs.Moves.{period}
-use Rattle.stream_law.specs.Joins.{fits_kind}
+use Rattle.stream_law.specs.Joins.{is_endpoint, fits_kind}
 use Rattle.stream_law.specs.Move.{Move, next_clock}
 use Rattle.stream_law.specs.TickLaws.{HasOneOfEach}
 use Rattle.fw_ring.specs.RingLists.{RingLists, ring_at}
 use Rattle.fw_schedule.specs.Turns.{place_of, turns_of, after_turns}
 use Rattle.fw_schedule.specs.Ticks.{AreTurnsAt}
 
--- whether a kind is that of an endpoint
-abbrev pub is_endpoint : Kind → Bool
-is_endpoint HostPlay = true
-is_endpoint HostCapture = true
-is_endpoint (DaiPlay format) = true
-is_endpoint (DaiCapture format) = true
-is_endpoint _ = false
-
 -- a component that is Active has as many edges as its kind needs
 abbrev pub fits_if_active : View → Comp → Bool
 fits_if_active v x = not (active v x.id) || fits_kind x.kind (length (ins v.graph x.id)) (length (outs v.graph x.id))
 
--- every component is an endpoint, and what is Active has the edges of its kind
+-- a component that is Active is an endpoint
+abbrev pub ends_if_active : View → Comp → Bool
+ends_if_active v x = not (active v x.id) || is_endpoint x.kind
+
+-- what is Active is an endpoint and has the edges of its kind
 pub record IsPlain (v : View) : Type 0 where
-  pub endpoints : IsTrue (list_all (λ x. is_endpoint x.kind) v.graph.comps)
+  pub endpoints : IsTrue (list_all (ends_if_active v) v.graph.comps)
   pub fits : IsTrue (list_all (fits_if_active v) v.graph.comps)
 
--- a state of endpoints alone, with the ring of each edge at the edge's place, and with no slot bound twice
+-- a state in which endpoints alone are Active, with the ring of each edge at the edge's place, and with no slot bound twice
 pub record CanTurn (f : FwState) (io : Io) : Type 0 where
   pub plain : IsPlain (view_of f)
   pub rings : map (λ r. r.buffer) f.rings ≡ buffers f.graph
@@ -51,7 +45,7 @@ turned f io = after_turns (next_clock f.clock) (turns_of (view_of f)) (f.rings, 
 abbrev pub with_rings : FwState → List RingView → FwState
 with_rings f rings = record f { clock = next_clock f.clock; rings = rings }
 
--- where all components are endpoints, a tick is the turns of those that are Active
+-- where endpoints alone are Active, a tick is their turns
 abbrev pub TicksAreTurns : Type 0
 TicksAreTurns = (f : FwState) (io : Io) → CanTurn f io → Move f io (with_rings f (turned f io).0) (turned f io).1
 

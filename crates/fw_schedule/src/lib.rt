@@ -1,4 +1,4 @@
-//! The turns of a tick where a graph has endpoints alone: what each moves between its slot and its ring. A call that runs
+//! The turns of a tick where endpoints alone are Active: what each moves between its slot and its ring. A call that runs
 //! nothing carries the law that these turns are the tick.
 #![tactic(auto)]
 

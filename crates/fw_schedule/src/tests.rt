@@ -31,7 +31,7 @@ const FILL: Turn = Turn {
 #[test]
 fn two_frames_and_then_zeros(rt: HostRuntime) -> Result<(), Fail> {
     let mut rings = Rings::new(rt.alloc(), 64)?;
-    rings.place(1, 64);
+    rings.place(1, 0, 64);
     rings.begin(0, 2);
     let mut inputs = Inputs::new(rt.alloc())?;
     inputs.add(0, vec![in rt.alloc(); 1, 0, 2, 0, 3, 0, 4, 0]?)?;

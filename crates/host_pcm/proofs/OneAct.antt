@@ -26,10 +26,11 @@ use Rattle.host_widgets.specs.Acts.{Act, message_of}
 use Rattle.host_widgets.specs.Host.{Outcome, Agrees, Walk, verdict, own, errno}
 use Rattle.host_widgets.specs.ActFates.{Fate, WalkFates}
 use Rattle.host_widgets.proofs.ReplyErrors.{reply_with}
-use Rattle.host_widgets.proofs.Exchanges.{came, verdict-zero, verdict-number}
-use Rattle.host_widgets.proofs.Effects.{row-decoded}
+use Rattle.host_widgets.proofs.Exchanges.{came, verdict-number}
+use Rattle.host_widgets.proofs.Effects.{row-decoded, verdict-done}
 use Rattle.host_widgets.proofs.Walks.{Answers, passing, failing}
-use Rattle.host_widgets.proofs.ThinRecords.{only_stream, view_with, record-of, down-record, down-rests}
+use Rattle.host_widgets.proofs.ThinRecords.{only_stream, view_with, record-of}
+use Rattle.host_widgets.proofs.Records.{down-record, down-rests}
 use Rattle.host_pcm.specs.declared.asking.Ask.{Ask}
 use Rattle.host_pcm.specs.Asks.{after_act, after_ask}
 use Rattle.host_pcm.specs.Carried.{Passes, Ends, Left, kept_by, kept_after, passed_of, outcome, state_after_acts}
@@ -110,7 +111,7 @@ module _ (pipe size : ℕ) (format : Format) (sched : ℕ) (caps : Caps) (names 
           record {
             endpoints = c.endpoints;
             way = ⊎_elim
-                (λ took. inl record { said = ap verdict took.said ∙ verdict-zero; on = took.on ∙ (let same : took.next ≡ seen (view_of_stream (after_act act r)) None before.0 = cc (sym took.row ∙ row-is) in ap Some same) })
+                (λ took. inl record { said = verdict-done before.0 flat act x.answer takes.message took.said; on = took.on ∙ (let same : took.next ≡ seen (view_of_stream (after_act act r)) None before.0 = cc (sym took.row ∙ row-is) in ap Some same) })
                 (λ rest. ⊎_elim
                 (λ it. absurd (cc (sym it.row ∙ row-is)))
                 (λ rest. ⊎_elim
@@ -225,7 +226,7 @@ module _ (pipe size : ℕ) (format : Format) (sched : ℕ) (caps : Caps) (names 
               },
               subst (λ (y : Record). Agrees means flat y v.device) (sym record_is)
                   record {
-                    record_is = down-record flat kept thin (record-of flat kept r thin refl may);
+                    record_is = down-record flat kept (record-of flat kept r thin refl may);
                     sides = (down-rests (r ∷ []), cut.0.on);
                   },
             )

@@ -1,32 +1,55 @@
 -- What each message does to a firmware that takes it, and the acts that it takes one after the other.
-use Rattle.std.proofs.Common.{◌≡◌, ◌⊎◌, inl, inr, ⊎_elim, ℕ, ◌+◌, ◌-◌, ◌<◌, pos, List, [], ◌∷◌, map, length, Option, Some, None, Ok, Err, refl, sym, ap, subst, ◌∙◌, append-nil}
+use Rattle.std.proofs.Common.{◌≡◌, ◌⊎◌, inl, inr, ⊎_elim, ℕ, ◌+◌, ◌-◌, ◌<◌, pos, List, [], ◌∷◌, map, length, Option, Some, None, unwrap_or, Ok, Err, refl, sym, ap, subst, ◌∙◌, append-nil}
+use Rattle.std.specs.Prelude.{option_and_then}
+use Rattle.std.specs.Option.{option_map}
 use Rattle.sof_base.specs.declared.errno.Errno.{Errno}
+use Rattle.stream_law.specs.declared.graph.Setting.{Setting}
+use Rattle.stream_law.specs.declared.graph.Graph.{Graph}
+use Rattle.stream_law.specs.declared.graph.Comp.{Comp}
+use Rattle.stream_law.specs.declared.graph.Edge.{Edge}
+use Rattle.stream_law.specs.declared.graph.Pipe.{Pipe}
+use Rattle.stream_law.specs.Ways.{comp_of, edge_of}
 use Rattle.stream_law.specs.Joins.{with_join}
 use Rattle.stream_law.specs.State.{FwState}
 use Rattle.ipc3_codec.specs.declared.message.Message.{Message}
 use Rattle.ipc3_codec.specs.declared.message.Message.TheVariants.{CompNew, CompFree, Connect, PipeNew, PipeFree, PipeComplete, BufferNew, BufferFree, CtxSave, SetValue, GetValue, SetData, GetData, PcmParams, PcmFree, TrigStart, TrigStop, TrigPause, TrigRelease}
+use Rattle.ipc3_codec.specs.declared.reply.Body.{Body}
+use Rattle.ipc3_codec.specs.declared.reply.Body.TheVariants.{Nothing}
 use Rattle.ipc3_codec.specs.Messages.{message_spelling, decoded, IsMessage}
 use Rattle.ipc3_codec.proofs.Spelled.{decoded-spelling}
-use Rattle.mbox_link.specs.Step.{row, row_of, kind_of, with_comp, with_buffer, with_pipe, with_pipes, completed, no_memory}
+use Rattle.mbox_link.specs.Step.{row, row_of, body, body_of, kind_of, first_setting, new_setting, with_setting, with_comps, with_comp, with_buffer, with_pipe, with_pipes, completed, no_memory}
 use Rattle.mbox_link.specs.Calls.{World, Meaning, Exchanged}
 use Rattle.tplg_graph.specs.declared.planned.Plan.{Plan}
+use Rattle.tplg_graph.specs.declared.planned.WidgetPlan.{WidgetPlan}
+use Rattle.tplg_graph.specs.declared.planned.ControlPlan.{ControlPlan}
+use Rattle.tplg_graph.specs.declared.planned.ControlKind.{ControlKind}
+use Rattle.tplg_graph.specs.declared.planned.ControlKind.TheVariants.{Volume, Choice, Blob}
+use Rattle.host_widgets.specs.Controls.{control_of}
 use Rattle.host_widgets.specs.declared.answers.HostFault.{HostFault}
 use Rattle.host_widgets.specs.declared.answers.HostFault.TheVariants.{Refused, LinkDown}
 use Rattle.host_widgets.specs.declared.kept.Record.{Record}
-use Rattle.host_widgets.specs.Acts.{Act, message_of}
+use Rattle.host_widgets.specs.declared.trigger.Trigger.TheVariants.{Start, Stop, Pause, Release}
+use Rattle.host_widgets.specs.Acts.{Act, Make, Join, Put, Finish, Prepare, Trig, Free, message_of, words_of, pipe_by_id, comp_message, buffer_message, pipe_message, set_message, put_message}
 use Rattle.host_widgets.specs.Expected.{needed_by}
 use Rattle.host_widgets.specs.Host.{verdict, errno, own, Why}
 use Rattle.host_widgets.specs.ActFates.{Fate}
-use Rattle.host_widgets.proofs.ReplyErrors.{reply_with}
+use Rattle.host_widgets.proofs.ReplyErrors.{reply_with, done_reply}
 use Rattle.host_widgets.proofs.Exchanges.{Came, came, verdict-zero, verdict-number}
 use Rattle.host_widgets.proofs.SilentTicks.{at, AreInputs, IsStill, ticks-still}
 
+-- a graph with this set at a component, where it can be set
+abbrev pub set_at : ℕ → Option Setting → Graph → Graph
+set_at id None g = g
+set_at id (Some setting) g = with_comps (map (with_setting id setting) g.comps) g
+
 -- the effect of a message that brings a device up, where it is taken
 abbrev pub effect : Message → FwState → FwState
-effect (CompNew id pipe periods_sink periods_source frame_fmt kind) f = with_comp id pipe (kind_of kind frame_fmt) f
+effect (CompNew id pipe periods_sink periods_source frame_fmt kind) f = with_comp id pipe (kind_of kind frame_fmt) (first_setting kind) f
 effect (BufferNew id pipe size caps) f = with_buffer id pipe size f
 effect (PipeNew id pipe sched period priority mips frames time_domain) f = with_pipe id pipe sched period f
 effect (Connect source sink) f = record f { graph = with_join f.graph (record { source = source; sink = sink }) }
+effect (SetValue id command values) f =
+    record f { graph = set_at id (option_and_then (λ c. new_setting c.kind c.setting command values) (comp_of f.graph id)) f.graph }
 effect (PipeComplete id) f = record f { graph = with_pipes (map (completed id) f.graph.pipes) f.graph }
 effect m f = f
 
@@ -70,6 +93,35 @@ abbrev pub FollowAll : Plan → ℕ → Record → FwState → List Act → Type
 FollowAll plan heap kept g [] = Unit {0}
 FollowAll plan heap kept g (act ∷ acts) = Follows plan heap kept g act × (own plan heap kept act ≡ None → FollowAll plan heap kept (effect (message_of plan act) g) acts)
 
+-- ---- the reply has no body
+
+made-bare : (f : FwState) (id : ℕ) (k : Option ControlPlan) (w : WidgetPlan) (c : Option Comp) (e : Option Edge) (p : Option Pipe) → body f (unwrap_or (option_map (comp_message id k w) c) (unwrap_or (option_map (buffer_message id w) e) (unwrap_or (option_map (λ p. pipe_message id w p.sched p.period) p) (pipe_message id w 0 0)))) ≡ Nothing
+made-bare f id k w (Some c) e p = refl
+made-bare f id k w None (Some e) p = refl
+made-bare f id k w None None (Some p) = refl
+made-bare f id k w None None None = refl
+
+set-bare : (f : FwState) (comp : ℕ) (kind : ControlKind) → body f (set_message comp kind) ≡ Nothing
+set-bare f comp (Volume min max channels lowest step mute) = refl
+set-bare f comp (Choice items) = refl
+set-bare f comp (Blob most initial) = refl
+
+put-bare : (f : FwState) (comp : ℕ) (k : Option ControlPlan) → body f (put_message comp k) ≡ Nothing
+put-bare f comp (Some k) = set-bare f comp k.kind
+put-bare f comp None = refl
+
+act-bare : (f : FwState) (plan : Plan) (act : Act) → body f (message_of plan act) ≡ Nothing
+act-bare f plan (Make id) = made-bare f id (control_of plan id) (words_of plan id) (comp_of plan.graph id) (edge_of plan.graph id) (pipe_by_id plan id)
+act-bare f plan (Join source sink) = refl
+act-bare f plan (Put comp) = put-bare f comp (control_of plan comp)
+act-bare f plan (Finish id) = refl
+act-bare f plan (Prepare host params) = refl
+act-bare f plan (Trig host Start) = refl
+act-bare f plan (Trig host Stop) = refl
+act-bare f plan (Trig host Pause) = refl
+act-bare f plan (Trig host Release) = refl
+act-bare f plan (Free host) = refl
+
 -- ---- one exchange
 
 decoded-message : (m : Message) → IsMessage m → decoded (message_spelling m) ≡ Ok m
@@ -77,6 +129,12 @@ decoded-message m is = ap decoded (sym (append-nil (message_spelling m))) ∙ de
 
 pub row-decoded : (f : FwState) (m : Message) → IsMessage m → row_of f (decoded (message_spelling m)) ≡ row f m
 row-decoded f m is = ap (row_of f) (decoded-message m is)
+
+-- an act that was done is answered 0
+pub verdict-done : (f : FwState) (plan : Plan) (act : Act) (answer : Option (List ℕ)) → IsMessage (message_of plan act) → answer ≡ Some (done_reply (body_of f (decoded (message_spelling (message_of plan act))))) → verdict answer ≡ Ok (reply_with (pos 0))
+verdict-done f plan act answer is said =
+    let none : body_of f (decoded (message_spelling (message_of plan act))) ≡ Nothing = ap (body_of f) (decoded-message (message_of plan act) is) ∙ act-bare f plan act in
+    ap verdict said ∙ ap (λ (b : Body). verdict (Some (done_reply b))) none ∙ verdict-zero
 
 pub own_cases : (o : Option Errno) → (o ≡ None) ⊎ ((e : Errno) × (o ≡ Some e))
 own_cases None = inl refl
@@ -110,7 +168,7 @@ module _ {D : Type 0} (means : Meaning D) (plan : Plan) (heap : ℕ) (kept : Rec
       (λ free.
       let row_is : row (at g later) (message_of plan act) ≡ Ok took.next = sym (row-decoded (at g later) (message_of plan act) follows.message) ∙ took.row in
       let next : effect (message_of plan act) (at g later) ≡ took.next = cc (sym (follows.passes free later) ∙ row_is) in
-      inl record { said = ap verdict took.said ∙ verdict-zero; free = free; on = took.on ∙ ap Some (sym next ∙ effect-at (message_of plan act) g later) })
+      inl record { said = verdict-done (at g later) plan act answer follows.message took.said; free = free; on = took.on ∙ ap Some (sym next ∙ effect-at (message_of plan act) g later) })
       (λ (e, refused). absurd (cc (sym (follows.refuses e refused later) ∙ sym (row-decoded (at g later) (message_of plan act) follows.message) ∙ took.row)))
       (own_cases (own plan heap kept act)))
       (λ rest. ⊎_elim

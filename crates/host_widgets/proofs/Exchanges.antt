@@ -1,5 +1,5 @@
 -- What an exchange did, by its answer.
-use Rattle.std.proofs.Common.{◌≡◌, ◌⊎◌, inl, inr, ⊎_elim, ℕ, ◌-◌, true, false, ℤ, pos, negsuc, List, Option, Some, None, is_some, Result, Ok, Err, refl, sym, ap, subst, ◌∙◌}
+use Rattle.std.proofs.Common.{◌≡◌, ◌⊎◌, inl, inr, ⊎_elim, ℕ, ◌-◌, Bool, true, false, cond, ℤ, pos, negsuc, List, Option, Some, None, is_some, Result, Ok, Err, refl, sym, ap, subst, ◌∙◌}
 use Rattle.std.specs.Prelude.{IfErr, ◌↔◌}
 use Rattle.std.specs.Option.{option_map}
 use Rattle.sof_base.specs.declared.errno.Errno.{Errno}
@@ -8,16 +8,17 @@ use Rattle.stream_law.specs.State.{FwState}
 use Rattle.std.specs.Int.{w32}
 use Rattle.std.specs.Int.RustNames.{FitsSigned}
 use Rattle.ipc3_codec.specs.declared.reply.Reply.{Reply}
+use Rattle.ipc3_codec.specs.declared.reply.Body.{Body}
 use Rattle.ipc3_codec.specs.declared.fault.CodecFault.{CodecFault}
 use Rattle.ipc3_codec.specs.Messages.{decoded}
 use Rattle.ipc3_codec.specs.Replies.{decoded_reply}
-use Rattle.mbox_link.specs.Step.{step, row_of, replied, error_reply}
+use Rattle.mbox_link.specs.Step.{step, row_of, body_of, replied, error_reply}
 use Rattle.mbox_link.specs.Exchange.{ticks, Rose}
 use Rattle.mbox_link.specs.Calls.{World, Meaning, Exchanged}
 use Rattle.host_widgets.specs.declared.answers.HostFault.{HostFault}
 use Rattle.host_widgets.specs.declared.answers.HostFault.TheVariants.{Refused, LinkDown}
-use Rattle.host_widgets.specs.Host.{Sent, verdict, judged, errno, is_negative}
-use Rattle.host_widgets.proofs.ReplyErrors.{reply_with, decoded-error, zero-fits, negative-fits, IsErrorNumber, row_of_numbers}
+use Rattle.host_widgets.specs.Host.{Sent, IsBare, verdict, judged, errno, is_negative}
+use Rattle.host_widgets.proofs.ReplyErrors.{reply_with, done_reply, read-zero, decoded-error, zero-fits, negative-fits, IsErrorNumber, row_of_numbers}
 
 pub state_of : (o : Option FwState) → is_some o ≡ true → (s : FwState) × (o ≡ Some s)
 state_of None some = absurd (cc some)
@@ -29,7 +30,7 @@ module _ {D : Type 0} (means : Meaning D) (request : List ℕ) (answer : Option 
   -- the firmware took the message
   pub record Took : Type 0 where
     pub next : FwState
-    pub said : answer ≡ Some (error_reply (pos 0))
+    pub said : answer ≡ Some (done_reply (body_of p.0 (decoded request)))
     pub row : row_of p.0 (decoded request) ≡ Ok next
     pub on : means.on v.device ≡ Some next
 
@@ -60,7 +61,7 @@ module _ {D : Type 0} (means : Meaning D) (request : List ℕ) (answer : Option 
     pub endpoints : v.io ≡ p.1
     pub way : Took ⊎ (RefusedIt ⊎ (Intercepted ⊎ Failed))
 
-  by_row : (r : Result FwState ℤ) → r ≡ row_of p.0 (decoded request) → (means.on v.device ≡ Some (replied p.0 r).0) → (answer ≡ Some (replied p.0 r).1) → IfErr r IsErrorNumber → Took ⊎ (RefusedIt ⊎ (Intercepted ⊎ Failed))
+  by_row : (r : Result FwState ℤ) → r ≡ row_of p.0 (decoded request) → (means.on v.device ≡ Some (replied p.0 (body_of p.0 (decoded request)) r).0) → (answer ≡ Some (replied p.0 (body_of p.0 (decoded request)) r).1) → IfErr r IsErrorNumber → Took ⊎ (RefusedIt ⊎ (Intercepted ⊎ Failed))
   by_row (Ok next) is on said number = inl record { next = next; said = said; row = sym is; on = on }
   by_row (Err e) is on said number = inr (inl record { error = e; number = number; said = said; row = sym is; on = on })
 
@@ -105,64 +106,110 @@ verdict-number e number =
     subst (λ (x : ℤ). verdict (Some (error_reply x)) ≡ Err (Refused (errno x))) (sym number.is) (ap judged (decoded-error (negsuc number.code) (negative-fits number.code number.small)))
 
 -- the fields of `Sent` that speak of the result alone
-pub record Judges (answer : Option (List ℕ)) (result : Result Reply HostFault) : Type 0 where
+pub record Judges (request : List ℕ) (answer : Option (List ℕ)) (result : Result Reply HostFault) : Type 0 where
   pub passed : (reply : Reply) → result ≡ Ok reply → (reply.error ≡ pos 0) × (option_map decoded_reply answer ≡ Some (Ok reply))
   pub refused : (e : Errno) → (result ≡ Err (Refused e)) ↔ ((reply : Reply) × (option_map decoded_reply answer ≡ Some (Ok reply)) × (is_negative reply.error ≡ true) × (errno reply.error ≡ e))
-  pub down : (result ≡ Err LinkDown) ↔ (answer ≡ None)
+  pub down : IsBare request → (result ≡ Err LinkDown) ↔ (answer ≡ None)
 
 -- one way from a fact that cannot be to another
 never : {A B : Type 0} → (A → ⊥) → (B → ⊥) → A ↔ B
 never f g = (λ a. absurd (f a), λ b. absurd (g b))
 
--- a reply of this error, as it is read
-abbrev read_as : ℤ → Option (Result Reply CodecFault)
-read_as e = Some (Ok (reply_with e))
+-- what an answer is read as
+abbrev read : Option (List ℕ) → Option (Result Reply CodecFault)
+read answer = option_map decoded_reply answer
 
-judges-zero : Judges (Some (error_reply (pos 0))) (Ok (reply_with (pos 0)))
-judges-zero =
-    let read : option_map decoded_reply (Some (error_reply (pos 0))) ≡ read_as (pos 0) = ap Some (decoded-error (pos 0) zero-fits) in
-    record {
-      passed = λ reply is. (let same : reply_with (pos 0) ≡ reply = cc is in (ap (λ (r : Reply). r.error) (sym same), read ∙ ap (λ (r : Reply). Some (Ok r)) same));
-      refused = λ e. never (λ is. cc is) (λ (reply, is, negative, number). (let same : reply_with (pos 0) ≡ reply = cc (sym read ∙ is) in let none : false ≡ true = ap (λ (r : Reply). is_negative r.error) same ∙ negative in cc none));
-      down = never (λ is. cc is) (λ is. cc is);
-    }
+abbrev reads : Option (List ℕ) → Reply → Type 0
+reads answer reply = read answer ≡ Some (Ok reply)
 
-judges-number : (code : ℕ) → IsErrorNumber (negsuc code) → Judges (Some (error_reply (negsuc code))) (Err (Refused (errno (negsuc code))))
-judges-number code number =
-    let fits = subst (λ (e : ℤ). FitsSigned w32 e) (sym number.is) (negative-fits number.code number.small) in
-    let read : option_map decoded_reply (Some (error_reply (negsuc code))) ≡ read_as (negsuc code) = ap Some (decoded-error (negsuc code) fits) in
-    record {
-      passed = λ reply is. absurd (cc is);
-      refused = λ e. (
-        λ is. (reply_with (negsuc code), read, refl, cc is),
-        λ (reply, is, negative, number). (let same : reply_with (negsuc code) ≡ reply = cc (sym read ∙ is) in let e_is : errno (negsuc code) ≡ e = ap (λ (r : Reply). errno r.error) same ∙ number in ap (λ (x : Errno). Err (Refused x)) e_is),
-      );
-      down = never (λ is. cc is) (λ is. cc is);
-    }
+-- a reply whose error is 0 passes, and one whose error is negative does not
+abbrev IsDone : Reply → Type 0
+IsDone reply = (reply.error ≡ pos 0) ⊎ (is_negative reply.error ≡ true)
 
-judges-none : Judges None (Err LinkDown)
-judges-none = record {
+-- a reply that is read, by whether its error is negative
+abbrev judged_by : Bool → Reply → Result Reply HostFault
+judged_by b reply = cond b (Err (Refused (errno reply.error))) (Ok reply)
+
+abbrev IsRefused : Option (List ℕ) → Errno → Type 0
+IsRefused answer e = (reply : Reply) × reads answer reply × (is_negative reply.error ≡ true) × (errno reply.error ≡ e)
+
+module _ (answer : Option (List ℕ)) (reply : Reply) (is : reads answer reply) where
+  one_reply : (other : Reply) → reads answer other → reply ≡ other
+  one_reply other so = cc (sym is ∙ so)
+
+  passed-by : (b : Bool) → is_negative reply.error ≡ b → IsDone reply → (other : Reply) → judged_by b reply ≡ Ok other → (other.error ≡ pos 0) × reads answer other
+  passed-by true sign done other so = absurd (cc so)
+  passed-by false sign done other so =
+      let same : reply ≡ other = cc so in
+      let zero : reply.error ≡ pos 0 = ⊎_elim (λ zero. zero) (λ negative. (let no : false ≡ true = sym sign ∙ negative in absurd (cc no))) done in
+      (ap (λ (r : Reply). r.error) (sym same) ∙ zero, is ∙ ap (λ (r : Reply). Some (Ok r)) same)
+
+  refused-by : (b : Bool) → is_negative reply.error ≡ b → (e : Errno) → (judged_by b reply ≡ Err (Refused e)) ↔ IsRefused answer e
+  refused-by true sign e = (
+    λ so. (reply, is, sign, cc so),
+    λ (other, so, negative, number). (let e_is : errno reply.error ≡ e = ap (λ (r : Reply). errno r.error) (one_reply other so) ∙ number in ap (λ (x : Errno). Err (Refused x)) e_is),
+  )
+  refused-by false sign e = never
+      (λ so. cc so)
+      (λ (other, so, negative, number). (let no : false ≡ true = sym sign ∙ ap (λ (r : Reply). is_negative r.error) (one_reply other so) ∙ negative in cc no))
+
+  up-by : (b : Bool) → judged_by b reply ≡ Err LinkDown → ⊥
+  up-by true so = cc so
+  up-by false so = cc so
+
+-- a reply with a body may not be read at all
+module _ (request bytes : List ℕ) (bare : IsBare request → (reply : Reply) × (decoded_reply bytes ≡ Ok reply)) where
+  judges-read : (d : Result Reply CodecFault) → decoded_reply bytes ≡ d → ((reply : Reply) → d ≡ Ok reply → IsDone reply) → Judges request (Some bytes) (judged d)
+  judges-read (Ok reply) is done =
+      let so : reads (Some bytes) reply = ap Some is in
+      record {
+        passed = passed-by (Some bytes) reply so (is_negative reply.error) refl (done reply refl);
+        refused = refused-by (Some bytes) reply so (is_negative reply.error) refl;
+        down = λ _. never (up-by (Some bytes) reply so (is_negative reply.error)) (λ none. cc none);
+      }
+  judges-read (Err fault) is done = record {
+    passed = λ reply so. absurd (cc so);
+    refused = λ e. never (λ so. cc so) (λ (reply, so, negative, number). (let other : Some (decoded_reply bytes) ≡ Some (Ok reply) = so in cc (sym is ∙ (let same : decoded_reply bytes ≡ Ok reply = cc other in same))));
+    down = λ is_bare. absurd (let r = bare is_bare in cc (sym is ∙ r.1));
+  }
+
+judges-none : (request : List ℕ) → Judges request None (Err LinkDown)
+judges-none request = record {
   passed = λ reply is. absurd (cc is);
   refused = λ e. never (λ is. cc is) (λ (reply, is, negative, number). cc is);
-  down = (λ is. refl, λ is. refl);
+  down = λ _. (λ is. refl, λ is. refl);
 }
 
-judges : (answer : Option (List ℕ)) (e : ℤ) → IsErrorNumber e → answer ≡ Some (error_reply e) → Judges answer (verdict answer)
-judges answer e number said =
-    let here : Judges (Some (error_reply e)) (verdict (Some (error_reply e))) =
-    subst (λ (r : Result Reply HostFault). Judges (Some (error_reply e)) r) (sym (verdict-number e number))
-    (subst (λ (x : ℤ). Judges (Some (error_reply x)) (Err (Refused (errno x)))) (sym number.is) (judges-number number.code (subst IsErrorNumber number.is number))) in
-    subst (λ (a : Option (List ℕ)). Judges a (verdict a)) (sym said) here
+-- a reply with error 0
+judges-done : (request : List ℕ) (f : FwState) → Judges request (Some (done_reply (body_of f (decoded request)))) (verdict (Some (done_reply (body_of f (decoded request)))))
+judges-done request f =
+    let body = body_of f (decoded request) in
+    let bytes = done_reply body in
+    judges-read request bytes
+    (λ bare. (reply_with (pos 0), ap (λ (b : Body). decoded_reply (done_reply b)) (bare f) ∙ decoded-error (pos 0) zero-fits))
+    (decoded_reply bytes) refl (λ reply is. inl (read-zero body reply is))
+
+-- a reply with a negative error
+judges-number : (request : List ℕ) (e : ℤ) → IsErrorNumber e → Judges request (Some (error_reply e)) (verdict (Some (error_reply e)))
+judges-number request e number =
+    let fits = subst (λ (x : ℤ). FitsSigned w32 x) (sym number.is) (negative-fits number.code number.small) in
+    let read_so : decoded_reply (error_reply e) ≡ Ok (reply_with e) = decoded-error e fits in
+    let negative : is_negative e ≡ true = ap is_negative number.is in
+    judges-read request (error_reply e) (λ _. (reply_with e, read_so)) (decoded_reply (error_reply e)) refl
+    (λ reply is. inr (let same : reply_with e ≡ reply = cc (sym read_so ∙ is) in ap (λ (r : Reply). is_negative r.error) (sym same) ∙ negative))
 
 module _ {D : Type 0} (means : Meaning D) (request : List ℕ) (answer : Option (List ℕ)) (w v : World D) where
-  judges-came : (p : FwState × Io) → Came means request answer w v p → Judges answer (verdict answer)
+  abbrev JudgesWell : Option (List ℕ) → Type 0
+  JudgesWell a = Judges request a (verdict a)
+
+  judges-came : (p : FwState × Io) → Came means request answer w v p → JudgesWell answer
   judges-came p c = ⊎_elim
-      (λ took. subst (λ (a : Option (List ℕ)). Judges a (verdict a)) (sym took.said) (subst (λ (r : Result Reply HostFault). Judges (Some (error_reply (pos 0))) r) (sym verdict-zero) judges-zero))
+      (λ took. subst JudgesWell (sym took.said) (judges-done request p.0))
       (λ rest. ⊎_elim
-      (λ own. judges answer own.error own.number own.said)
+      (λ own. subst JudgesWell (sym own.said) (judges-number request own.error own.number))
       (λ rest. ⊎_elim
-      (λ other. judges answer other.error other.number other.said)
-      (λ failed. subst (λ (a : Option (List ℕ)). Judges a (verdict a)) (sym failed.said) judges-none)
+      (λ other. subst JudgesWell (sym other.said) (judges-number request other.error other.number))
+      (λ failed. subst JudgesWell (sym failed.said) (judges-none request))
       rest)
       rest)
       c.way
@@ -171,5 +218,5 @@ module _ {D : Type 0} (means : Meaning D) (request : List ℕ) (answer : Option 
   pub sent : (result : Result Reply HostFault) → is_some (means.on w.device) ≡ true → Exchanged means request answer w v → result ≡ verdict answer → Sent means request w v result
   sent result on x said =
       let s = state_of (means.on w.device) on in
-      let j = subst (λ (r : Result Reply HostFault). Judges answer r) (sym said) (judges-came (ticks (means.pending w.device - means.pending v.device) (s.0, w.io)) (came means request answer w v s.0 s.1 x)) in
+      let j = subst (λ (r : Result Reply HostFault). Judges request answer r) (sym said) (judges-came (ticks (means.pending w.device - means.pending v.device) (s.0, w.io)) (came means request answer w v s.0 s.1 x)) in
       record { answer = answer; led = (v, x, refl); said = said; passed = j.passed; refused = j.refused; down = j.down }

@@ -1,19 +1,23 @@
 -- What the firmware answers is a reply: its error is 0, or one of the negative numbers.
-use Rattle.std.proofs.Common.{◌≡◌, ℕ, ◌<◌, ◌^◌, Bool, true, false, cond, ℤ, pos, negsuc, [], Option, Some, None, Result, Ok, Err, refl, sym, ap, ◌∙◌, arith, append-nil}
+use Rattle.std.proofs.Common.{◌≡◌, ℕ, ◌<◌, ◌^◌, Bool, true, false, cond, ℤ, pos, negsuc, List, [], Option, Some, None, Result, Ok, Err, refl, sym, ap, ◌∙◌, arith, append-nil}
 use Rattle.std.specs.Prelude.{IfErr}
-use Rattle.std.specs.Int.{w32}
+use Rattle.std.specs.Int.{w32, cast_signed}
 use Rattle.std.proofs.Math.Facts.{sfits_lit}
 use Rattle.std.specs.Int.RustNames.{FitsSigned}
 use Rattle.ipc3_codec.specs.declared.reply.Reply.{Reply}
-use Rattle.ipc3_codec.specs.declared.reply.Body.TheVariants.{Nothing}
-use Rattle.ipc3_codec.specs.Replies.{decoded_reply}
+use Rattle.ipc3_codec.specs.declared.reply.Body.{Body}
+use Rattle.ipc3_codec.specs.declared.reply.Body.TheVariants.{Nothing, Values, Part}
+use Rattle.ipc3_codec.specs.Messages.{unless_fault}
+use Rattle.ipc3_codec.specs.Replies.{decoded_reply, reply_fault, reply_of, reply_spelling}
 use Rattle.ipc3_codec.proofs.Spelled.{decoded_reply-spelling}
+use Rattle.sof_base.specs.Slots.{slots_cells, slot_cells, word_at}
 use Rattle.stream_law.specs.declared.graph.Pipe.{Pipe}
+use Rattle.stream_law.specs.declared.graph.Setting.{Setting}
 use Rattle.stream_law.specs.State.{FwState}
 use Rattle.ipc3_codec.specs.declared.message.Message.{Message}
 use Rattle.ipc3_codec.specs.declared.message.Message.TheVariants.{CompNew, CompFree, Connect, PipeNew, PipeFree, PipeComplete, BufferNew, BufferFree, CtxSave, SetValue, GetValue, SetData, GetData, PcmParams, PcmFree, TrigStart, TrigStop, TrigPause, TrigRelease}
 use Rattle.ipc3_codec.specs.declared.fault.CodecFault.{CodecFault}
-use Rattle.mbox_link.specs.Step.{error_reply, no_memory, busy, no_device, invalid, row, row_of, complete_pipe}
+use Rattle.mbox_link.specs.Step.{error_reply, no_memory, busy, no_device, invalid, row, row_of, complete_pipe, free_pipe, value_set}
 
 -- a reply without a body
 abbrev pub reply_with : ℤ → Reply
@@ -28,6 +32,28 @@ zero-fits = sfits_lit tt
 
 pub negative-fits : (code : ℕ) → code < 2 ^ 31 → FitsSigned w32 (negsuc code)
 negative-fits code small = record { sfits = small }
+
+-- ---- a reply with error 0, whatever its body
+
+abbrev pub done_reply : Body → List ℕ
+done_reply body = reply_spelling (record { error = pos 0; body = body })
+
+word-zero : (body : Body) → cast_signed w32 (word_at (done_reply body) 8) ≡ pos 0
+unfolding slots_cells slot_cells word_at
+word-zero Nothing = refl
+word-zero (Values values) = refl
+word-zero (Part part) = refl
+
+what-reads : (fault : Option CodecFault) (r reply : Reply) → unless_fault fault r ≡ Ok reply → r ≡ reply
+what-reads None r reply is = cc is
+what-reads (Some f) r reply is = absurd (cc is)
+
+-- where it is read at all, its error is 0
+pub read-zero : (body : Body) (reply : Reply) → decoded_reply (done_reply body) ≡ Ok reply → reply.error ≡ pos 0
+unfolding decoded_reply
+read-zero body reply is =
+    let b = done_reply body in
+    ap (λ (r : Reply). r.error) (sym (what-reads (reply_fault b) (reply_of b) reply is)) ∙ word-zero body
 
 -- ---- the firmware's own error numbers
 
@@ -70,6 +96,14 @@ complete_numbers : (f : FwState) (id : ℕ) (o : Option Pipe) → HasNumber (com
 complete_numbers f id None = is_invalid
 complete_numbers f id (Some p) = search numbers
 
+free_numbers : (f : FwState) (id : ℕ) (o : Option Pipe) → HasNumber (free_pipe f id o)
+free_numbers f id None = is_invalid
+free_numbers f id (Some p) = search numbers
+
+set_numbers : (f : FwState) (id : ℕ) (o : Option Setting) → HasNumber (value_set f id o)
+set_numbers f id None = is_invalid
+set_numbers f id (Some setting) = search numbers
+
 row_numbers : (f : FwState) (m : Message) → HasNumber (row f m)
 row_numbers f (CompNew id pipe periods_sink periods_source frame_fmt kind) = search numbers
 row_numbers f (BufferNew id pipe size caps) = search numbers
@@ -83,13 +117,13 @@ row_numbers f (TrigStop id) = search numbers
 row_numbers f (TrigPause id) = search numbers
 row_numbers f (TrigRelease id) = search numbers
 row_numbers f CtxSave = passes f
-row_numbers f (CompFree id) = is_invalid
-row_numbers f (PipeFree id) = is_invalid
-row_numbers f (BufferFree id) = is_invalid
-row_numbers f (SetValue id command values) = is_invalid
-row_numbers f (GetValue id command) = is_invalid
-row_numbers f (SetData id part) = is_invalid
-row_numbers f (GetData id index) = is_invalid
+row_numbers f (CompFree id) = search numbers
+row_numbers f (PipeFree id) = search (numbers, free_numbers)
+row_numbers f (BufferFree id) = search numbers
+row_numbers f (SetValue id command values) = search (numbers, set_numbers)
+row_numbers f (GetValue id command) = search numbers
+row_numbers f (SetData id part) = search numbers
+row_numbers f (GetData id index) = search numbers
 
 -- every refusal of the firmware is an error number
 pub row_of_numbers : (f : FwState) (r : Result Message CodecFault) → IfErr (row_of f r) IsErrorNumber

@@ -1,5 +1,6 @@
 -- Walks of acts, one after the other.
-use Rattle.std.proofs.Common.{◌≡◌, ◌⊎◌, inl, inr, ⊎_elim, ℕ, ◌+◌, ◌*◌, ◌<◌, List, [], ◌∷◌, ◌++◌, length, Option, is_some, true, Result, Ok, Err, refl, sym, ◌∙◌, ap, subst, arith, MatchResult, append_assoc, take, drop, get_or, take-append-drop, map}
+use Rattle.std.proofs.Common.{◌≡◌, ◌⊎◌, inl, inr, ⊎_elim, ℕ, ◌+◌, ◌*◌, ◌<◌, List, [], ◌∷◌, ◌++◌, length, Option, is_some, true, Result, Ok, Err, refl, sym, ◌∙◌, ap, subst, arith, MatchResult, append_assoc, append-nil, take, drop, get_or, take-append-drop, map}
+use Rattle.std.specs.List.{flat_map}
 use Rattle.std.specs.Result.{IsErr, IsErrAnd}
 use Rattle.std.proofs.lemmas.List.{length-map}
 use Rattle.std.proofs.Math.ListN.{get_or-map}
@@ -16,6 +17,10 @@ use Rattle.host_widgets.specs.declared.answers.HostFault.{HostFault}
 use Rattle.host_widgets.specs.Acts.{Act, message_of}
 use Rattle.host_widgets.specs.Host.{Outcome, Sent, verdict, exchanges, Walk, Walked}
 use Rattle.host_widgets.proofs.Exchanges.{state_of, came, Came-on}
+
+pub flat_map-append : {X Y : Type 0} (f : X → List Y) (xs ys : List X) → flat_map f (xs ++ ys) ≡ flat_map f xs ++ flat_map f ys
+flat_map-append f [] ys = refl
+flat_map-append f (x ∷ xs) ys = ap (λ zs. f x ++ zs) (flat_map-append f xs ys) ∙ sym (append_assoc (f x) (flat_map f xs) (flat_map f ys))
 
 abbrev pub Answers : Type 0
 Answers = List (Option (List ℕ))
@@ -177,6 +182,35 @@ module _ {D : Type 0} (means : Meaning D) (plan : Plan) where
         subst (λ (r : Outcome). Walked means plan acts w v r) (sym this)
         (subst (λ (xs : List Act). Walked means plan xs w v (Err fault)) split
         (Walked-ended (take i acts ++ act ∷ []) (drop (i + 1) acts) w v fault (Walked-then (take i acts) (act ∷ []) w m v (Err fault) so_far failed)))
+
+  -- ---- the turns of a loop over items that each are some acts
+
+  module _ {X : Type 0} (acts_of : X → List Act) (items xs : List X) (same : xs ≡ items) (i : ℕ) (d : X) (within : i < length xs) (w m v : World D) (so_far : Walked means plan (flat_map acts_of (take i items)) w m passing) (result : Outcome) (step : Walked means plan (acts_of (get_or xs i d)) m v result) where
+    within_items : i < length items
+    within_items = omega (arith, ap length same, within)
+
+    item_is : get_or xs i d ≡ get_or items i d
+    item_is = ap (λ (ys : List X). get_or ys i d) same
+
+    front : flat_map acts_of (take (i + 1) items) ≡ flat_map acts_of (take i items) ++ acts_of (get_or xs i d)
+    front =
+        ap (flat_map acts_of) (take_more items i d within_items)
+        ∙ flat_map-append acts_of (take i items) (get_or items i d ∷ [])
+        ∙ ap (λ (acts : List Act). flat_map acts_of (take i items) ++ acts) (append-nil (acts_of (get_or items i d)) ∙ ap acts_of (sym item_is))
+
+    pub walked_all : result ≡ Ok tt → Walked means plan (flat_map acts_of (take (i + 1) items)) w v passing
+    walked_all passed =
+        subst (λ (acts : List Act). Walked means plan acts w v passing) (sym front)
+        (Walked-then (flat_map acts_of (take i items)) (acts_of (get_or xs i d)) w m v passing so_far (subst (λ (r : Outcome). Walked means plan (acts_of (get_or xs i d)) m v r) passed step))
+
+    pub walked_stops : (fault : HostFault) (end : Outcome) → result ≡ Err fault → end ≡ Err fault → Walked means plan (flat_map acts_of items) w v end
+    walked_stops fault end failed this =
+        let rest : List Act = flat_map acts_of (drop (i + 1) items) in
+        let split : flat_map acts_of (take (i + 1) items) ++ rest ≡ flat_map acts_of items = sym (flat_map-append acts_of (take (i + 1) items) (drop (i + 1) items)) ∙ ap (flat_map acts_of) (take-append-drop (i + 1) items) in
+        let first = Walked-then (flat_map acts_of (take i items)) (acts_of (get_or xs i d)) w m v (Err fault) so_far (subst (λ (r : Outcome). Walked means plan (acts_of (get_or xs i d)) m v r) failed step) in
+        subst (λ (r : Outcome). Walked means plan (flat_map acts_of items) w v r) (sym this)
+        (subst (λ (acts : List Act). Walked means plan acts w v (Err fault)) split
+        (Walked-ended (flat_map acts_of (take (i + 1) items)) rest w v fault (subst (λ (acts : List Act). Walked means plan acts w v (Err fault)) (sym front) first)))
 
 -- what a `?` hands on
 pub handed_on : (result : Outcome) (fault : HostFault) → IsErr result × IsErrAnd result (λ f. f ≡ fault) → result ≡ Err fault

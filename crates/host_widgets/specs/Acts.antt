@@ -1,20 +1,25 @@
 -- What the host does to a device, and the message that it writes for each act.
-use Rattle.std.specs.Prelude.{ℕ, ◌==◌, List, ◌++◌, map, length, get_or, find, Option, unwrap_or, Some, None, if◌then◌else◌}
-use Rattle.std.specs.List.{range_with_len}
+use Rattle.std.specs.Prelude.{ℕ, ◌==◌, List, [], ◌∷◌, ◌++◌, map, length, get_or, find, Option, unwrap_or, Some, None, if◌then◌else◌}
+use Rattle.std.specs.List.{range_with_len, flat_map}
 use Rattle.std.specs.Option.{option_map}
 use Rattle.sof_base.specs.declared.format.Params.{Params}
 use Rattle.stream_law.specs.declared.graph.Kind.{Kind}
-use Rattle.stream_law.specs.declared.graph.Kind.TheVariants.{HostPlay, HostCapture, DaiPlay, DaiCapture}
+use Rattle.stream_law.specs.declared.graph.Kind.TheVariants.{HostPlay, HostCapture, DaiPlay, DaiCapture, Volume, Mixer, Mux, Eq}
 use Rattle.stream_law.specs.declared.graph.Comp.{Comp}
 use Rattle.stream_law.specs.declared.graph.Edge.{Edge}
 use Rattle.stream_law.specs.declared.graph.Pipe.{Pipe}
 use Rattle.stream_law.specs.Ways.{comp_of, edge_of, is_capture}
 use Rattle.ipc3_codec.specs.declared.message.Message.{Message}
-use Rattle.ipc3_codec.specs.declared.message.Message.TheVariants.{CompNew, BufferNew, PipeNew, Connect, PipeComplete, PcmParams, PcmFree, TrigStart, TrigStop, TrigPause, TrigRelease}
+use Rattle.ipc3_codec.specs.declared.message.Message.TheVariants.{CompNew, BufferNew, PipeNew, Connect, SetValue, PipeComplete, PcmParams, PcmFree, TrigStart, TrigStop, TrigPause, TrigRelease}
 use Rattle.ipc3_codec.specs.declared.message.CompWords.{CompWords}
 use Rattle.ipc3_codec.specs.declared.message.CompWords.TheVariants as words
 use Rattle.tplg_graph.specs.declared.planned.Plan.{Plan}
 use Rattle.tplg_graph.specs.declared.planned.WidgetPlan.{WidgetPlan}
+use Rattle.tplg_graph.specs.declared.planned.ControlPlan.{ControlPlan}
+use Rattle.tplg_graph.specs.declared.planned.ControlKind.{ControlKind}
+use Rattle.tplg_graph.specs.declared.planned.ControlKind.TheVariants.{Choice, Blob}
+use Rattle.tplg_graph.specs.GainOf.{control_gain}
+use Rattle.host_widgets.specs.Controls.{control_of, first_values, first_gains, greatest_value}
 use Rattle.host_widgets.specs.declared.trigger.Trigger.{Trigger}
 use Rattle.host_widgets.specs.declared.trigger.Trigger.TheVariants.{Start, Stop, Pause, Release}
 
@@ -22,6 +27,7 @@ use Rattle.host_widgets.specs.declared.trigger.Trigger.TheVariants.{Start, Stop,
 pub data Act : Type 0 where
   Make : (id : ℕ) → Act  -- a widget is made
   Join : (source : ℕ) → (sink : ℕ) → Act  -- a buffer and a component are joined
+  Put : (comp : ℕ) → Act  -- a live control's first values are set
   Finish : (id : ℕ) → Act  -- a pipeline is complete
   Prepare : (host : ℕ) → (params : Params) → Act  -- a stream has parameters
   Trig : (host : ℕ) → (what : Trigger) → Act  -- a stream is triggered
@@ -33,11 +39,20 @@ pub data Act : Type 0 where
 abbrev pub ids_of : Plan → List ℕ
 ids_of plan = range_with_len 0 (length plan.widgets)
 
--- each widget is made, by id; then each join is made, in the graph's order; then each pipeline is complete, by id
+-- a live control that has values sets them; no blob is sent so far
+abbrev pub put_by : ControlKind → ℕ → List Act
+put_by (Blob most initial) comp = []
+put_by kind comp = Put comp ∷ []
+
+abbrev pub put_acts : ControlPlan → List Act
+put_acts k = put_by k.kind k.comp
+
+-- each widget is made, by id; then each join is made, in the graph's order; then each live control is set, by component; and
+-- then each pipeline is complete, by id
 abbrev pub bring_up_acts : Plan → List Act
 bring_up_acts plan =
     map Make (ids_of plan)
-    ++ (map (λ j. Join j.source j.sink) plan.graph.joins ++ map (λ p. Finish p.id) plan.graph.pipes)
+    ++ (map (λ j. Join j.source j.sink) plan.graph.joins ++ (flat_map put_acts plan.controls ++ map (λ p. Finish p.id) plan.graph.pipes))
 
 -- ---- what an id names
 
@@ -66,17 +81,26 @@ pipe_by_id plan id = find (λ p. p.id == id) plan.graph.pipes
 
 -- ---- messages
 
--- a host's direction is 0 for playback and 1 for capture, a DAI's is 0 where it plays and 1 where it captures; no other kind has a message
-abbrev pub kind_words : Kind → WidgetPlan → CompWords
-kind_words HostPlay w = words.Host 0
-kind_words HostCapture w = words.Host 1
-kind_words (DaiPlay format) w = words.Dai 0 w.dai_index
-kind_words (DaiCapture format) w = words.Dai 1 w.dai_index
-kind_words _ w = words.Host 0
+-- a volume has as many gains as its control has channels, from 0 to the gain of the control's greatest value; without a control
+-- it has one, of at most 1
+abbrev pub volume_words : Option ControlPlan → CompWords
+volume_words (Some k) = words.Volume (length (first_values k.kind)) 0 (control_gain k.kind (greatest_value k.kind))
+volume_words None = words.Volume 1 0 65536
+
+-- a host's direction is 0 for playback and 1 for capture, a DAI's is 0 where it plays and 1 where it captures
+abbrev pub kind_words : Kind → Option ControlPlan → WidgetPlan → CompWords
+kind_words HostPlay k w = words.Host 0
+kind_words HostCapture k w = words.Host 1
+kind_words (DaiPlay format) k w = words.Dai 0 w.dai_index
+kind_words (DaiCapture format) k w = words.Dai 1 w.dai_index
+kind_words Volume k w = volume_words k
+kind_words Mixer k w = words.Mixer
+kind_words Mux k w = words.Mux
+kind_words Eq k w = words.Eq
 
 -- COMP_NEW
-abbrev pub comp_message : ℕ → WidgetPlan → Comp → Message
-comp_message id w c = CompNew id w.pipe w.periods_sink w.periods_source w.frame_fmt (kind_words c.kind w)
+abbrev pub comp_message : ℕ → Option ControlPlan → WidgetPlan → Comp → Message
+comp_message id k w c = CompNew id w.pipe w.periods_sink w.periods_source w.frame_fmt (kind_words c.kind k w)
 
 -- BUFFER_NEW
 abbrev pub buffer_message : ℕ → WidgetPlan → Edge → Message
@@ -88,7 +112,7 @@ pipe_message id w sched period = PipeNew id w.pipe sched period w.priority w.mip
 
 -- the message where an id names a component
 abbrev pub made_component : Plan → ℕ → WidgetPlan → Option Message
-made_component plan id w = option_map (comp_message id w) (comp_of plan.graph id)
+made_component plan id w = option_map (comp_message id (control_of plan id) w) (comp_of plan.graph id)
 
 -- where it names a buffer
 abbrev pub made_buffer : Plan → ℕ → WidgetPlan → Option Message
@@ -102,6 +126,15 @@ made_pipe plan id w = option_map (λ p. pipe_message id w p.sched p.period) (pip
 abbrev pub make_message : Plan → ℕ → WidgetPlan → Message
 make_message plan id w =
     unwrap_or (made_component plan id w) (unwrap_or (made_buffer plan id w) (unwrap_or (made_pipe plan id w) (pipe_message id w 0 0)))
+
+-- SET_VALUE: a volume's gains by command 0, a mux's choice by command 1; no other component is set so
+abbrev pub set_message : ℕ → ControlKind → Message
+set_message comp (Choice items) = SetValue comp 1 (0 ∷ [])
+set_message comp kind = SetValue comp 0 (first_gains kind)
+
+abbrev pub put_message : ℕ → Option ControlPlan → Message
+put_message comp (Some k) = set_message comp k.kind
+put_message comp None = SetValue comp 0 []
 
 -- a host's direction in messages: 0 for playback, 1 for capture
 abbrev pub direction_by : Option Comp → ℕ
@@ -122,6 +155,7 @@ trigger_message host Release = TrigRelease host
 abbrev pub message_of : Plan → Act → Message
 message_of plan (Make id) = make_message plan id (words_of plan id)
 message_of plan (Join source sink) = Connect source sink
+message_of plan (Put comp) = put_message comp (control_of plan comp)
 message_of plan (Finish id) = PipeComplete id
 message_of plan (Prepare host params) = PcmParams host (direction_of plan host) params
 message_of plan (Trig host what) = trigger_message host what

@@ -19,6 +19,7 @@ use Rattle.host_widgets.specs.declared.kept.Power.TheVariants.{On}
 use Rattle.host_widgets.specs.declared.kept.StreamRec.{StreamRec}
 use Rattle.host_widgets.specs.declared.kept.Record.{Record}
 use Rattle.host_widgets.specs.HostRecord.{all_closed}
+use Rattle.host_widgets.specs.Controls.{set_graph}
 use Rattle.host_widgets.specs.Acts.{ids_of}
 
 -- ---- the view
@@ -33,9 +34,9 @@ phase_of found = phases.Idle
 abbrev pub stream_view : StreamPlan × StreamRec → StreamView
 stream_view (s, r) = record { host = s.host; phase = phase_of r.found; params = r.params }
 
--- the plan's graph, and for each stream its host, its phase and its parameters
+-- the plan's graph with the settings of its controls, and for each stream its host, its phase and its parameters
 abbrev pub expected_view : Plan → Record → View
-expected_view plan kept = record { graph = plan.graph; streams = map stream_view (zip plan.streams kept.streams) }
+expected_view plan kept = record { graph = set_graph plan; streams = map stream_view (zip plan.streams kept.streams) }
 
 -- ---- the heap
 
@@ -73,7 +74,7 @@ abbrev pub loaded_state : Plan → ℕ → ℕ → FwState
 loaded_state plan heap clock = record {
   heap = loaded_heap plan heap;
   clock = clock;
-  graph = plan.graph;
+  graph = set_graph plan;
   streams = (expected_view plan (all_closed On plan)).streams;
   rings = empty_rings plan.graph;
   histories = [];

@@ -6,19 +6,20 @@ use Rattle.sof_base.specs.declared.errno.Errno.{Errno}
 use Rattle.sof_base.specs.declared.format.Params.{Params}
 use Rattle.stream_law.specs.declared.stream.Phase.TheVariants.{Idle}
 use Rattle.stream_law.specs.declared.stream.StreamView.{StreamView}
-use Rattle.stream_law.specs.State.{view_of}
+use Rattle.stream_law.specs.State.{FwState, view_of}
 use Rattle.stream_law.specs.Ways.{is_live_phase, touch, same_shape, agree}
 use Rattle.ipc3_codec.specs.declared.reply.Reply.{Reply}
+use Rattle.ipc3_codec.specs.declared.reply.Body.TheVariants.{Nothing}
 use Rattle.ipc3_codec.specs.declared.fault.CodecFault.{CodecFault}
-use Rattle.ipc3_codec.specs.Messages.{message_spelling}
+use Rattle.ipc3_codec.specs.Messages.{message_spelling, decoded}
 use Rattle.ipc3_codec.specs.Replies.{decoded_reply}
-use Rattle.mbox_link.specs.Step.{no_memory, invalid}
+use Rattle.mbox_link.specs.Step.{no_memory, invalid, body_of}
 use Rattle.mbox_link.specs.Exchange.{Rose}
 use Rattle.mbox_link.specs.Calls.{World, Meaning, Call, Boot, Cut, Exchange, Led}
 use Rattle.tplg_graph.specs.declared.planned.Plan.{Plan}
 use Rattle.tplg_graph.specs.declared.planned.StreamPlan.{StreamPlan}
 use Rattle.host_widgets.specs.declared.answers.HostFault.{HostFault}
-use Rattle.host_widgets.specs.declared.answers.HostFault.TheVariants.{Loaded, Refused, LinkDown}
+use Rattle.host_widgets.specs.declared.answers.HostFault.TheVariants.{NotLoaded, Loaded, Refused, LinkDown}
 use Rattle.host_widgets.specs.declared.kept.Power.{Power}
 use Rattle.host_widgets.specs.declared.kept.Power.TheVariants.{Unloaded, On, Off}
 use Rattle.host_widgets.specs.declared.kept.StreamRec.{StreamRec}
@@ -52,15 +53,19 @@ abbrev pub verdict : Option (List ℕ) → Result Reply HostFault
 verdict None = Err LinkDown
 verdict (Some bytes) = judged (decoded_reply bytes)
 
+-- whatever the firmware's state, it has no body for its reply to these bytes
+abbrev pub IsBare : List ℕ → Type 0
+IsBare request = (f : FwState) → body_of f (decoded request) ≡ Nothing
+
 -- What one exchange of these bytes, and no other call, came to. It passes with a reply whose error is 0, it is refused
--- exactly with a reply whose error is negative, and the link is down exactly where it failed.
+-- exactly with a reply whose error is negative, and, but for a reply with a body, the link is down exactly where it failed.
 pub record Sent {D : Type 0} (means : Meaning D) (request : List ℕ) (w v : World D) (result : Result Reply HostFault) : Type 0 where
   pub answer : Option (List ℕ)
   pub led : Led means w (Exchange request answer ∷ []) v
   pub said : result ≡ verdict answer
   pub passed : (reply : Reply) → result ≡ Ok reply → (reply.error ≡ pos 0) × (option_map decoded_reply answer ≡ Some (Ok reply))
   pub refused : (e : Errno) → (result ≡ Err (Refused e)) ↔ ((reply : Reply) × (option_map decoded_reply answer ≡ Some (Ok reply)) × (is_negative reply.error ≡ true) × (errno reply.error ≡ e))
-  pub down : (result ≡ Err LinkDown) ↔ (answer ≡ None)
+  pub down : IsBare request → (result ≡ Err LinkDown) ↔ (answer ≡ None)
 
 -- ---- a walk of acts
 
@@ -166,6 +171,19 @@ LoadLeft means plan heap old (Err fault) new = ⊥
 pub record SucceedsExactly {D : Type 0} (means : Meaning D) (plan : Plan) (heap : ℕ) (old : D) (result : Outcome) (new : D) : Type 0 where
   pub fit : Fits plan heap → (Rose (means.faults old) (means.faults new) → ⊥) → (Rose (means.refusals old) (means.refusals new) → ⊥) → result ≡ Ok tt
   pub unfit : (result ≡ Ok tt) → Fits plan heap
+
+-- ---- unload
+
+-- what an unload does: it cuts a device that is on, and makes no other call; where nothing is loaded the answer says so
+abbrev pub Unloads : {D : Type 0} → Meaning D → Power → World D → World D → Outcome → Type 0
+Unloads means Unloaded w v result = (v ≡ w) × (result ≡ Err NotLoaded)
+Unloads means On w v result = Led means w (Cut ∷ []) v × (result ≡ Ok tt)
+Unloads means Off w v result = (v ≡ w) × (result ≡ Ok tt)
+
+-- the record after an unload that came to this: nothing is loaded, or it stays
+abbrev pub after_unload : Plan → Outcome → Record → Record
+after_unload plan (Ok done) kept = first_record plan
+after_unload plan (Err fault) kept = kept
 
 -- ---- both sides
 

@@ -1,4 +1,5 @@
 pub mod HostRecord
+pub mod Controls
 pub mod Acts
 pub mod Expected
 pub mod Host

@@ -1,21 +1,23 @@
 // The messages that bring a device up.
 ghost use Rattle.std.specs.Prelude.{◌≡◌, ◌<◌, ◌^◌, ◌*◌, is_some, true, Some, length, map};
+ghost use Rattle.std.specs.List.{flat_map};
 ghost use Rattle.sof_base.specs.Ports.{HasRoom};
 ghost use Rattle.mbox_link.specs.Step.{fresh};
 ghost use Rattle.mbox_link.specs.Calls.{world};
-ghost use Rattle.tplg_graph.specs.ThinPlan.{IsThinPlan};
-ghost use Rattle.host_widgets.specs.Acts.{Make, Join, Finish, ids_of, bring_up_acts};
+ghost use Rattle.host_widgets.specs.Controls.{IsLoadable, HasFew, control_of};
+ghost use Rattle.host_widgets.specs.Acts.{Make, Join, Finish, ids_of, put_acts, bring_up_acts};
 ghost use Rattle.host_widgets.specs.Host.{Walked, BroughtUp};
 ghost use Rattle.host_widgets.specs.ActFates.{WalkFates};
 
 use crate::answers::HostFault;
+use crate::controls::set_message;
 use crate::kept::Record;
 use crate::messages::make_message;
 use crate::sending::send;
 use ipc3_codec::Message;
 use mbox_link::Dsp;
 use sof_io::{Inputs, Outputs};
-use tplg_graph::Plan;
+use tplg_graph::{ControlKind, ControlPlan, Plan};
 
 // Makes each widget, by id.
 fn make_widgets<P: Dsp>(
@@ -58,6 +60,47 @@ fn make_joins<P: Dsp>(
     Ok(())
 }
 
+// Sets each live control that has values, by component.
+fn put_controls<P: Dsp>(
+    plan: &Plan,
+    dsp: &mut P,
+    io: &mut Inputs,
+    out: &mut Outputs,
+) -> Result<(), HostFault>
+    requires plan { IsLoadable plan.now }
+    requires on { is_some (P.means.on dsp.old) ≡ true }
+    requires room { HasRoom (61440 * P.means.pending dsp.old) out.old }
+    ensures { Walked P.means plan.now (flat_map put_acts plan.now.controls) (world dsp.old io.old out.old) (world dsp.new io.new out.new) result }
+{
+    for control in plan.controls.items() {
+        put_control(plan, control, dsp, io, out)?;
+    }
+    Ok(())
+}
+
+// Sets a live control, if it has values.
+fn put_control<P: Dsp>(
+    plan: &Plan,
+    control: &ControlPlan,
+    dsp: &mut P,
+    io: &mut Inputs,
+    out: &mut Outputs,
+) -> Result<(), HostFault>
+    requires live { HasFew control.now.kind }
+    requires first { control_of plan.now control.now.comp ≡ Some control.now }
+    requires on { is_some (P.means.on dsp.old) ≡ true }
+    requires room { HasRoom (61440 * P.means.pending dsp.old) out.old }
+    ensures { Walked P.means plan.now (put_acts control.now) (world dsp.old io.old out.old) (world dsp.new io.new out.new) result }
+{
+    match control.kind {
+        ControlKind::Blob { .. } => Ok(()),
+        _ => {
+            send(&set_message(control.comp, &control.kind), dsp, io, out)?;
+            Ok(())
+        }
+    }
+}
+
 // Completes each pipeline, by id.
 fn finish_pipes<P: Dsp>(
     plan: &Plan,
@@ -82,6 +125,7 @@ fn send_list<P: Dsp>(
     io: &mut Inputs,
     out: &mut Outputs,
 ) -> Result<(), HostFault>
+    requires plan { IsLoadable plan.now }
     requires few { length plan.now.widgets < 2 ^ 32 }
     requires on { is_some (P.means.on dsp.old) ≡ true }
     requires room { HasRoom (61440 * P.means.pending dsp.old) out.old }
@@ -89,11 +133,13 @@ fn send_list<P: Dsp>(
 {
     make_widgets(plan, dsp, io, out)?;
     make_joins(plan, dsp, io, out)?;
+    put_controls(plan, dsp, io, out)?;
     finish_pipes(plan, dsp, io, out)
 }
 
 /// Sends the messages that bring a freshly booted device up, one exchange each, up to the first that does not pass: each
-/// widget is made by id, then each join is made in the graph's order, then each pipeline is complete by id. The record
+/// widget is made by id, then each join is made in the graph's order, then each live control that has values is set by
+/// component, then each pipeline is complete by id. The record
 /// stays as it is, and nothing is cut. `heap` is the device's heap in bytes.
 ///
 /// Ok: the device keeps the plan. `Refused(e)`: a message was answered with the negative error e. `LinkDown`: an exchange
@@ -106,7 +152,7 @@ pub fn bring_up<P: Dsp>(
     io: &mut Inputs,
     out: &mut Outputs,
 ) -> Result<(), HostFault>
-    requires plan { IsThinPlan plan.now }
+    requires plan { IsLoadable plan.now }
     requires booted { P.means.on dsp.old ≡ Some (fresh heap) }
     requires room { HasRoom (61440 * P.means.pending dsp.old) out.old }
     ensures calls { Walked P.means plan.now (bring_up_acts plan.now) (world dsp.old io.old out.old) (world dsp.new io.new out.new) result }

@@ -1,7 +1,6 @@
 // What is left after the link failed.
 ghost use Rattle.std.specs.Prelude.{◌≡◌, ◌<◌, ◌≤◌, length, map, take, drop, ◌++◌};
 ghost use Rattle.mbox_link.specs.Calls.{Cut, Did, world};
-ghost use Rattle.tplg_graph.specs.ThinPlan.{IsThinPlan};
 ghost use Rattle.host_widgets.specs.HostRecord.{halted, halted_found, went_down};
 ghost use Rattle.host_widgets.specs.Host.{Agrees, IsRecordOf};
 
@@ -48,7 +47,6 @@ pub fn link_down<P: Dsp>(
     io: &mut Inputs,
     out: &mut Outputs,
 )
-    requires plan { IsThinPlan plan.now }
     requires kept { IsRecordOf plan.now kept.old }
     ensures calls { Did P.means Cut (world dsp.old io.old out.old) (world dsp.new io.new out.new) }
     ensures kept { kept.new ≡ went_down kept.old }

@@ -1,9 +1,11 @@
 //! The host's side of a device: the record of what should be there, what each call answers, the messages that bring a
-//! device up, the view that its firmware is then expected to show, `load` over any device, and what a failed link leaves.
+//! device up, the view that its firmware is then expected to show, `load` and `unload` over any device, and
+//! what a failed link leaves.
 #![tactic(auto)]
 
 mod answers;
 mod bringing_up;
+mod controls;
 mod going_down;
 mod kept;
 mod loading;
@@ -12,11 +14,14 @@ mod sending;
 #[cfg(test)]
 mod tests;
 mod trigger;
+mod unloading;
 
 pub use answers::{Answer, HostFault};
 pub use bringing_up::bring_up;
+pub use controls::first_values;
 pub use going_down::link_down;
 pub use kept::{Found, Power, Record, StreamRec};
 pub use loading::load;
 pub use sending::send;
 pub use trigger::Trigger;
+pub use unloading::unload;

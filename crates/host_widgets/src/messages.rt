@@ -1,15 +1,17 @@
 // The messages that bring a device up.
 ghost use Rattle.std.specs.Prelude.{◌≡◌, ◌==◌, find};
 ghost use Rattle.stream_law.specs.Ways.{comp_of, edge_of};
+ghost use Rattle.host_widgets.specs.Controls.{control_of};
 ghost use Rattle.host_widgets.specs.Acts as acts;
 
+use crate::controls::volume_words;
 use ipc3_codec::{CompWords, Message};
 use stream_law::{Comp, Edge, Kind};
 use tplg_graph::{Plan, WidgetPlan};
 
 // The words of a component's kind: 0 is playback and 1 is capture.
-fn kind_words(kind: Kind, words: &WidgetPlan) -> CompWords
-    ensures { result ≡ acts.kind_words kind words.now }
+fn kind_words(plan: &Plan, id: u32, kind: Kind, words: &WidgetPlan) -> CompWords
+    ensures { result ≡ acts.kind_words kind (control_of plan.now id) words.now }
 {
     match kind {
         Kind::HostPlay => CompWords::Host { direction: 0 },
@@ -22,12 +24,15 @@ fn kind_words(kind: Kind, words: &WidgetPlan) -> CompWords
             direction: 1,
             index: words.dai_index,
         },
-        _ => CompWords::Host { direction: 0 },
+        Kind::Volume => volume_words(plan, id),
+        Kind::Mixer => CompWords::Mixer,
+        Kind::Mux => CompWords::Mux,
+        Kind::Eq => CompWords::Eq,
     }
 }
 
-fn comp_message(id: u32, words: &WidgetPlan, comp: &Comp) -> Message
-    ensures { result ≡ acts.comp_message id words.now comp.now }
+fn comp_message(plan: &Plan, id: u32, words: &WidgetPlan, comp: &Comp) -> Message
+    ensures { result ≡ acts.comp_message id (control_of plan.now id) words.now comp.now }
 {
     Message::CompNew {
         id,
@@ -35,7 +40,7 @@ fn comp_message(id: u32, words: &WidgetPlan, comp: &Comp) -> Message
         periods_sink: words.periods_sink,
         periods_source: words.periods_source,
         frame_fmt: words.frame_fmt,
-        kind: kind_words(comp.kind, words),
+        kind: kind_words(plan, id, comp.kind, words),
     }
 }
 
@@ -74,7 +79,7 @@ fn made_component(plan: &Plan, id: u32, words: &WidgetPlan) -> Option<Message>
         .items()
         .iter()
         .find(|comp| comp.id == id)
-        .map(|comp| comp_message(id, words, comp))
+        .map(|comp| comp_message(plan, id, words, comp))
 }
 
 // The message that makes the buffer of an id, where it names one.

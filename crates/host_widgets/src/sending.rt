@@ -20,7 +20,7 @@ fn judge(answer: Result<usize, LinkFault>, reply: &[u8; 384]) -> Result<Reply, H
     let Ok(size) = answer else {
         return Err(HostFault::LinkDown);
     };
-    // A device's answer is always a reply.
+    // A device's answer is always a reply; one with a body may still be one that no decoder reads.
     let Ok(reply) = decode_reply(&reply[..size]) else {
         return Err(HostFault::LinkDown);
     };
@@ -32,7 +32,8 @@ fn judge(answer: Result<usize, LinkFault>, reply: &[u8; 384]) -> Result<Reply, H
 
 /// Sends a message by one exchange, which cuts nothing.
 ///
-/// Ok is a reply whose error is 0. `Refused(e)`: the reply's error e is negative. `LinkDown`: the exchange failed.
+/// Ok is a reply whose error is 0. `Refused(e)`: the reply's error e is negative. `LinkDown`: the exchange failed, and of a
+/// reply with a body also that it can't be read.
 pub fn send<P: Dsp>(
     message: &Message,
     dsp: &mut P,

@@ -1,9 +1,9 @@
 -- Entries one after another, as loops go over them.
-use Rattle.std.proofs.Common.{◌≡◌, ℕ, ◌+◌, ◌<◌, ◌≤◌, true, false, List, [], ◌∷◌, ◌++◌, length, drop, get_or, eqb, eq-eqb, refl, sym, ◌∙◌, arith, append_assoc, append-nil, length-append}
-use Rattle.std.proofs.lemmas.Bool.{ne_eqb}
+use Rattle.std.proofs.Common.{◌≡◌, inl, inr, ℕ, ◌+◌, ◌<◌, ◌≤◌, true, false, List, [], ◌∷◌, ◌++◌, length, drop, get_or, eqb, eq-eqb, ltb, refl, sym, ap, ◌∙◌, arith, append_assoc, append-nil, length-append}
+use Rattle.std.proofs.lemmas.Bool.{ne_eqb, cases_Bool, lt-ltb, le-ltb, eqb-true, eqb-false}
 use Rattle.std.proofs.lemmas.List.{drop_more, drop_all}
 use Rattle.mbox_link.specs.declared.fates.Entry.{Entry}
-use Rattle.mbox_link.specs.Fates.{IsMeant, AllMeant, without}
+use Rattle.mbox_link.specs.Fates.{IsMeant, AllMeant, without, is_planned, has_room}
 
 pub AllMeant-push : (entries : List Entry) (entry : Entry) → AllMeant entries → IsMeant entry.fate → AllMeant (entries ++ entry ∷ [])
 AllMeant-push [] entry all meant = (meant, tt)
@@ -51,3 +51,43 @@ Kept-push-at number left all i d lt other kept =
 
 pub Kept-end : (number : ℕ) (left all : List Entry) (i : ℕ) → length all ≤ i → Kept number left (drop i all) all → left ≡ without number all
 Kept-end number left all i past kept = Kept-all number left all (rw (drop_all i all past) at kept)
+
+-- ---- room for one more
+
+-- fewer are left where one was held, and all where none was
+pub without-shorter : (number : ℕ) (entries : List Entry) → length (without number entries) ≤ length entries
+without-shorter number [] = omega arith
+without-shorter number (entry ∷ entries) = elim (cases_Bool (eqb entry.number number)) [
+  | inl same ↦ rw same (omega (arith, without-shorter number entries))
+  | inr other ↦ rw other (omega (arith, without-shorter number entries))
+]
+
+pub without-planned : (number : ℕ) (entries : List Entry) → is_planned number entries ≡ true → length (without number entries) < length entries
+without-planned number [] held = absurd (cc held)
+without-planned number (entry ∷ entries) held = elim (cases_Bool (eqb entry.number number)) [
+  | inl same ↦ rw same (omega (arith, without-shorter number entries))
+  | inr other ↦ rw other (omega (arith, without-planned number entries (rw other at held)))
+]
+
+pub without-unplanned : (number : ℕ) (entries : List Entry) → is_planned number entries ≡ false → without number entries ≡ entries
+without-unplanned number [] none = refl
+without-unplanned number (entry ∷ entries) none = elim (cases_Bool (eqb entry.number number)) [
+  | inl same ↦ absurd (cc (rw same at none))
+  | inr other ↦ rw other (ap (λ (es : List Entry). entry ∷ es) (without-unplanned number entries (rw other at none)))
+]
+
+-- there is room exactly where fewer than 64 of other messages are held
+pub room-is : (number : ℕ) (entries : List Entry) → length entries ≤ 64 → has_room number entries ≡ ltb (length (without number entries)) 64
+room-is number entries few = elim (cases_Bool (is_planned number entries)) [
+  | inl held ↦ rw held (sym (lt-ltb (length (without number entries)) 64 (omega (arith, few, without-planned number entries held))))
+  | inr none ↦ rw (none, without-unplanned number entries none) refl
+]
+
+-- the same of what a call has left
+pub full-at : (number : ℕ) (entries held left : List Entry) → held ≡ entries → length held ≤ 64 → left ≡ without number held → true ≡ eqb (length left) 64 → false ≡ has_room number entries
+full-at number entries held left same few is full =
+    rw (← same, room-is number held few, ← is) (sym (le-ltb (length left) 64 (omega (arith, eqb-true (length left) 64 (sym full)))))
+
+pub room-at : (number : ℕ) (entries held left : List Entry) → held ≡ entries → length held ≤ 64 → left ≡ without number held → length left ≤ 64 → false ≡ eqb (length left) 64 → true ≡ has_room number entries
+room-at number entries held left same few is fits less =
+    rw (← same, room-is number held few, ← is) (sym (lt-ltb (length left) 64 (omega (arith, fits, eqb-false (length left) 64 (sym less)))))

@@ -1,11 +1,12 @@
 -- A link over a device, whose messages meet their planned fates.
-use Rattle.std.specs.Prelude.{◌≡◌, ℕ, ◌+◌, List, Option, Some, None}
+use Rattle.std.specs.Prelude.{◌≡◌, ℕ, ◌+◌, Bool, true, false, List, Option, Some, None, Result, Ok, Err}
 use Rattle.mbox_link.specs.Step.{error_reply}
 use Rattle.mbox_link.specs.Exchange.{more}
 use Rattle.mbox_link.specs.Calls.{World, Meaning, Booted, CutOff, Exchanged, Ticked}
 use Rattle.mbox_link.specs.declared.fates.Fate.{Fate}
 use Rattle.mbox_link.specs.declared.fates.Fate.TheVariants.{Pass, Refuse, Drop, Lose}
-use Rattle.mbox_link.specs.Fates.{planned, without}
+use Rattle.mbox_link.specs.declared.fates.PlanFull.{PlanFull}
+use Rattle.mbox_link.specs.Fates.{planned, without, with_fate, has_room}
 use Rattle.mbox_link.specs.Wire.{Wire}
 
 -- the device behind the link, with the endpoints' bytes
@@ -49,6 +50,25 @@ after_message link dsp = record {
   dropped = dropped_after (next_fate link) link.dropped;
   refused = refused_after (next_fate link) link.refused;
 }
+
+-- the link once the k-th message from now has a fate
+abbrev pub with_plan : {P : Type 0} → ℕ → Fate → Wire P → Wire P
+with_plan k fate link = record {
+  device = link.device;
+  entries = with_fate (link.sent + k) fate link.entries;
+  sent = link.sent;
+  dropped = link.dropped;
+  refused = link.refused;
+}
+
+-- there is room for a fate of the k-th message from now
+abbrev pub can_plan : {P : Type 0} → ℕ → Wire P → Bool
+can_plan k link = has_room (link.sent + k) link.entries
+
+-- what planning that fate came to: it is planned, or there was no room and nothing changed
+abbrev pub Planned : {P : Type 0} → ℕ → Fate → Wire P → Result (Unit {0}) PlanFull → Wire P → Type 0
+Planned k fate old (Ok done) new = (can_plan k old ≡ true) × (new ≡ with_plan k fate old)
+Planned k fate old (Err full) new = (can_plan k old ≡ false) × (new ≡ old)
 
 abbrev pub link : {P : Type 0} → Meaning P → Meaning (Wire P)
 link means =

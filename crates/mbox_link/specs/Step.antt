@@ -1,29 +1,34 @@
 -- The firmware's step for a message: one row for each, its tests in the order -19, -16, -22, -12.
-use Rattle.std.specs.Prelude.{ℕ, ◌+◌, ◌&&◌, ◌||◌, Bool, true, false, not, List, [], map, length, Option, Some, None, Result, Ok, Err, ℤ, pos, negsuc, find, nat_le, ◌%◌, is_some, option_map, ◌==◌, if◌then◌else◌}
+use Rattle.std.specs.Prelude.{ℕ, ◌+◌, ◌&&◌, ◌||◌, Bool, true, false, not, List, [], ◌∷◌, map, length, replicate, filter, Option, Some, None, Result, Ok, Err, ℤ, pos, negsuc, find, nat_le, ◌%◌, is_some, option_map, option_and_then, ◌==◌, if◌then◌else◌}
 use Rattle.std.specs.List.{list_any, list_all}
+use Rattle.std.specs.Option.{option_map_or}
 use Rattle.sof_base.specs.declared.format.Format.{Format}
 use Rattle.sof_base.specs.declared.format.Format.TheVariants.{S16, S24, S32}
-use Rattle.sof_base.specs.Holes.{rounded, usable_of, fresh_holes, fits, first_fit, carved}
+use Rattle.sof_base.specs.declared.hole.Hole.{Hole}
+use Rattle.sof_base.specs.Holes.{rounded, usable_of, fresh_holes, fits, first_fit, carved, given}
 use Rattle.stream_law.specs.declared.graph.Kind.{Kind}
 use Rattle.stream_law.specs.declared.graph.Kind.TheVariants.{HostPlay, HostCapture, DaiPlay, DaiCapture, Volume, Mixer, Mux, Eq}
-use Rattle.stream_law.specs.declared.graph.Setting.TheVariants.{Nothing}
+use Rattle.stream_law.specs.declared.graph.Setting.{Setting}
+use Rattle.stream_law.specs.declared.graph.Setting.TheVariants.{Nothing, Gains, Choice, Blob}
 use Rattle.stream_law.specs.declared.graph.Comp.{Comp}
 use Rattle.stream_law.specs.declared.graph.Edge.{Edge}
 use Rattle.stream_law.specs.declared.graph.Pipe.{Pipe}
+use Rattle.stream_law.specs.declared.graph.Join.{Join}
 use Rattle.stream_law.specs.declared.graph.Graph.{Graph}
 use Rattle.stream_law.specs.declared.stream.StreamView.{StreamView}
 use Rattle.sof_base.specs.declared.format.Params.{Params}
 use Rattle.stream_law.specs.declared.stream.Phase.{Phase}
 use Rattle.stream_law.specs.declared.stream.Phase.TheVariants.{Idle, Prepared, Running, Paused}
-use Rattle.stream_law.specs.State.{FwState, HeapView, View}
-use Rattle.stream_law.specs.Ways.{comp_of, source_of, sink_of, ins, outs, on_way, agree}
+use Rattle.stream_law.specs.State.{FwState, HeapView, PieceView, View}
+use Rattle.stream_law.specs.Ways.{comp_of, edge_of, source_of, sink_of, ins, outs, on_way, agree}
 use Rattle.stream_law.specs.Placed.{placed}
 use Rattle.stream_law.specs.Seen.{seen}
-use Rattle.stream_law.specs.Joins.{kind_ins, kind_outs, fits_kind, would_cycle, would_reach, would_grow, with_join}
+use Rattle.stream_law.specs.Joins.{is_endpoint, kind_ins, kind_outs, fits_kind, would_cycle, would_reach, would_grow, with_join}
 use Rattle.ipc3_codec.specs.declared.message.Message.{Message}
 use Rattle.ipc3_codec.specs.declared.message.Message.TheVariants as messages
 use Rattle.ipc3_codec.specs.declared.message.CompWords.{CompWords}
 use Rattle.ipc3_codec.specs.declared.message.CompWords.TheVariants as words
+use Rattle.ipc3_codec.specs.declared.reply.Body.{Body}
 use Rattle.ipc3_codec.specs.declared.reply.Body.TheVariants as bodies
 use Rattle.ipc3_codec.specs.declared.fault.CodecFault.{CodecFault}
 use Rattle.ipc3_codec.specs.Messages.{decoded}
@@ -88,6 +93,17 @@ with_piece id bytes heap = record {
   pieces = placed (λ p. p.id) (record { id = id; place = first_fit (rounded bytes) heap.holes; size = rounded bytes }) heap.pieces;
 }
 
+-- what is left of a piece that is given back: the hole joins those that it touches
+abbrev pub freed : Option PieceView → List Hole → List Hole
+freed None holes = holes
+freed (Some p) holes = given (record { place = p.place; size = p.size }) holes
+
+abbrev pub without_piece : ℕ → HeapView → HeapView
+without_piece id heap = record {
+  holes = freed (find (λ p. p.id == id) heap.pieces) heap.holes;
+  pieces = filter (λ p. not (p.id == id)) heap.pieces;
+}
+
 -- ---- COMP_NEW
 
 -- a frame format's number: 0, 1, and 2 for the rest
@@ -102,6 +118,13 @@ kind_of words.Mixer frame_fmt = Mixer
 kind_of words.Mux frame_fmt = Mux
 kind_of words.Eq frame_fmt = Eq
 
+-- what is set at a new component: each gain of a volume is 1, a mux chooses its first input, and no blob is in force
+abbrev pub first_setting : CompWords → Setting
+first_setting (words.Volume channels min_value max_value) = Gains (replicate channels 65536)
+first_setting words.Mux = Choice 0
+first_setting words.Eq = Blob []
+first_setting kind = Nothing
+
 -- a host brings a stream without parameters
 abbrev pub with_stream : ℕ → Kind → List StreamView → List StreamView
 with_stream id HostPlay streams = placed (λ s. s.host) (record { host = id; phase = Idle; params = None }) streams
@@ -111,18 +134,18 @@ with_stream id kind streams = streams
 abbrev pub with_comps : List Comp → Graph → Graph
 with_comps comps g = record { comps = comps; edges = g.edges; pipes = g.pipes; joins = g.joins }
 
-abbrev pub with_comp : ℕ → ℕ → Kind → FwState → FwState
-with_comp id pipe kind f = record f {
+abbrev pub with_comp : ℕ → ℕ → Kind → Setting → FwState → FwState
+with_comp id pipe kind setting f = record f {
   heap = with_piece id (comp_bytes kind) f.heap;
-  graph = with_comps (placed (λ c. c.id) (record { id = id; kind = kind; pipe = pipe; setting = Nothing }) f.graph.comps) f.graph;
+  graph = with_comps (placed (λ c. c.id) (record { id = id; kind = kind; pipe = pipe; setting = setting }) f.graph.comps) f.graph;
   streams = with_stream id kind f.streams;
 }
 
-abbrev pub comp_new : FwState → ℕ → ℕ → Kind → Result FwState ℤ
-comp_new f id pipe kind =
+abbrev pub comp_new : FwState → ℕ → ℕ → Kind → Setting → Result FwState ℤ
+comp_new f id pipe kind setting =
     if is_used f.graph id || is_complete f.graph pipe then Err busy
     else if nat_le 128 (length f.graph.comps) || not (has_hole f (comp_bytes kind)) then Err no_memory
-    else Ok (with_comp id pipe kind f)
+    else Ok (with_comp id pipe kind setting f)
 
 -- ---- BUFFER_NEW: the buffer is joined to nothing, and its ring is empty
 
@@ -217,6 +240,127 @@ abbrev pub pipe_complete : FwState → ℕ → Result FwState ℤ
 pipe_complete f id =
     if not (is_used f.graph id) then Err no_device else complete_pipe f id (find (λ p. p.id == id) f.graph.pipes)
 
+-- ---- COMP_FREE, BUFFER_FREE and PIPE_FREE: the piece is given back
+
+-- the index of the pipeline of what an id names
+abbrev pub index_by : Option Comp → Option Edge → Option Pipe → Option ℕ
+index_by (Some c) e p = Some c.pipe
+index_by None (Some e) p = Some e.pipe
+index_by None None p = option_map (λ p. p.index) p
+
+abbrev pub index_of : Graph → ℕ → Option ℕ
+index_of g id = index_by (comp_of g id) (edge_of g id) (find (λ p. p.id == id) g.pipes)
+
+-- the pipeline of what an id names is complete
+abbrev pub has_complete_pipe : Graph → ℕ → Bool
+has_complete_pipe g id = option_map_or (is_complete g) (index_of g id) false
+
+-- a join is at this id
+abbrev pub touches : ℕ → Join → Bool
+touches id j = j.source == id || j.sink == id
+
+abbrev pub without_comp : ℕ → FwState → FwState
+without_comp id f = record f {
+  heap = without_piece id f.heap;
+  graph = with_comps (filter (λ c. not (c.id == id)) f.graph.comps) f.graph;
+  streams = filter (λ s. not (s.host == id)) f.streams;
+  histories = filter (λ h. not (h.comp == id)) f.histories;
+  staging = filter (λ s. not (s.eq == id)) f.staging;
+}
+
+abbrev pub comp_free : FwState → ℕ → Result FwState ℤ
+comp_free f id =
+    if not (is_used f.graph id) then Err no_device
+    else if has_complete_pipe f.graph id then Err busy
+    else if not (has_comp f.graph id) || list_any (touches id) f.graph.joins then Err invalid
+    else Ok (without_comp id f)
+
+-- x is on the way of a stream that has parameters
+abbrev pub is_held : Graph → List StreamView → ℕ → Bool
+is_held g streams x = list_any (λ s. is_some s.params && on_way g s.host x) streams
+
+-- a buffer goes with its joins and with its ring
+abbrev pub without_buffer : ℕ → FwState → FwState
+without_buffer id f = record f {
+  heap = without_piece id f.heap;
+  graph = record {
+    comps = f.graph.comps;
+    edges = filter (λ e. not (e.buffer == id)) f.graph.edges;
+    pipes = f.graph.pipes;
+    joins = filter (λ j. not (touches id j)) f.graph.joins;
+  };
+  rings = filter (λ r. not (r.buffer == id)) f.rings;
+}
+
+abbrev pub buffer_free : FwState → ℕ → Result FwState ℤ
+buffer_free f id =
+    if not (is_used f.graph id) then Err no_device
+    else if has_complete_pipe f.graph id then Err busy
+    else if not (has_edge f.graph id) || is_held f.graph f.streams id then Err invalid
+    else Ok (without_buffer id f)
+
+abbrev pub without_pipe : ℕ → FwState → FwState
+without_pipe id f = record f {
+  heap = without_piece id f.heap;
+  graph = with_pipes (filter (λ p. not (p.id == id)) f.graph.pipes) f.graph;
+}
+
+-- a component or a buffer of this index is on the way of a stream that has parameters
+abbrev pub is_index_held : Graph → List StreamView → ℕ → Bool
+is_index_held g streams index =
+    list_any (λ c. c.pipe == index && is_held g streams c.id) g.comps || list_any (λ e. e.pipe == index && is_held g streams e.buffer) g.edges
+
+abbrev pub free_pipe : FwState → ℕ → Option Pipe → Result FwState ℤ
+free_pipe f id None = Err invalid
+free_pipe f id (Some p) = if is_index_held f.graph f.streams p.index then Err invalid else Ok (without_pipe id f)
+
+abbrev pub pipe_free : FwState → ℕ → Result FwState ℤ
+pipe_free f id =
+    if not (is_used f.graph id) then Err no_device else free_pipe f id (find (λ p. p.id == id) f.graph.pipes)
+
+-- ---- SET_VALUE and GET_VALUE
+
+-- what values set at a component: a volume takes as many gains as it has, of at most 16777216, by command 0; and a mux a choice by command 1
+abbrev pub new_setting : Kind → Setting → ℕ → List ℕ → Option Setting
+new_setting Volume (Gains gains) command values =
+    if command == 0 && (length values == length gains && list_all (λ v. nat_le v 16777216) values) then Some (Gains values) else None
+new_setting Mux setting command (v ∷ []) = if command == 1 then Some (Choice v) else None
+new_setting kind setting command values = None
+
+abbrev pub with_setting : ℕ → Setting → Comp → Comp
+with_setting id setting c = if c.id == id then record c { setting = setting } else c
+
+-- they are in force from the next tick
+abbrev pub value_set : FwState → ℕ → Option Setting → Result FwState ℤ
+value_set f id None = Err invalid
+value_set f id (Some setting) = Ok (record f { graph = with_comps (map (with_setting id setting) f.graph.comps) f.graph })
+
+abbrev pub set_value : FwState → ℕ → ℕ → List ℕ → Result FwState ℤ
+set_value f id command values =
+    if not (is_used f.graph id) then Err no_device
+    else value_set f id (option_and_then (λ c. new_setting c.kind c.setting command values) (comp_of f.graph id))
+
+-- the values of a component: the gains of a volume by command 0, and the choice of a mux by command 1
+abbrev pub values_by : Kind → Setting → ℕ → Option (List ℕ)
+values_by Volume (Gains gains) command = if command == 0 then Some gains else None
+values_by Mux (Choice k) command = if command == 1 then Some (k ∷ []) else None
+values_by kind setting command = None
+
+abbrev pub values_at : Graph → ℕ → ℕ → Option (List ℕ)
+values_at g id command = option_and_then (λ c. values_by c.kind c.setting command) (comp_of g id)
+
+-- the state stays, and the reply carries the values
+abbrev pub get_value : FwState → ℕ → ℕ → Result FwState ℤ
+get_value f id command =
+    if not (is_used f.graph id) then Err no_device
+    else if not (is_some (values_at f.graph id command)) then Err invalid
+    else Ok f
+
+-- ---- SET_DATA and GET_DATA: no equaliser takes or gives a blob so far
+
+abbrev pub data_part : FwState → ℕ → Result FwState ℤ
+data_part f id = if is_used f.graph id then Err invalid else Err no_device
+
 -- ---- PCM_PARAMS
 
 -- whether a kind is that of a host, and its direction: 0 for playback, 1 for capture
@@ -234,9 +378,9 @@ goes kind direction = false
 abbrev pub is_rate : ℕ → Bool
 is_rate n = nat_le 8000 n && nat_le n 192000 && n % 1000 == 0
 
--- a component's pipeline is complete, and its edges are as many as its kind has
+-- a component's pipeline is complete, its edges are as many as its kind has, and it is an endpoint: no other kind is played so far
 abbrev pub is_ready_comp : Graph → Comp → Bool
-is_ready_comp g c = is_complete g c.pipe && fits_kind c.kind (length (ins g c.id)) (length (outs g c.id))
+is_ready_comp g c = is_endpoint c.kind && (is_complete g c.pipe && fits_kind c.kind (length (ins g c.id)) (length (outs g c.id)))
 
 -- a buffer's pipeline is complete, and both its sides are joined
 abbrev pub is_ready_edge : Graph → Edge → Bool
@@ -311,20 +455,20 @@ trigger f host from to = changed f host from (set_phase host to)
 
 -- ---- all rows
 
--- components that this firmware plays so far
-abbrev pub is_endpoint : CompWords → Bool
-is_endpoint (words.Host direction) = true
-is_endpoint (words.Dai direction index) = true
-is_endpoint kind = false
-
--- A message's row: the state after it, or a negative error, which leaves the state as it was. A message without a row here,
--- and a component that is no endpoint, are answered -22.
+-- a message's row: the state after it, or a negative error, which leaves the state as it was
 abbrev pub row : FwState → Message → Result FwState ℤ
-row f (messages.CompNew id pipe periods_sink periods_source frame_fmt kind) = if is_endpoint kind then comp_new f id pipe (kind_of kind frame_fmt) else Err invalid
+row f (messages.CompNew id pipe periods_sink periods_source frame_fmt kind) = comp_new f id pipe (kind_of kind frame_fmt) (first_setting kind)
+row f (messages.CompFree id) = comp_free f id
 row f (messages.BufferNew id pipe size caps) = buffer_new f id pipe size
+row f (messages.BufferFree id) = buffer_free f id
 row f (messages.PipeNew id pipe sched period priority mips frames time_domain) = pipe_new f id pipe sched period
+row f (messages.PipeFree id) = pipe_free f id
 row f (messages.Connect source sink) = connect f source sink
 row f (messages.PipeComplete id) = pipe_complete f id
+row f (messages.SetValue id command values) = set_value f id command values
+row f (messages.GetValue id command) = get_value f id command
+row f (messages.SetData id part) = data_part f id
+row f (messages.GetData id index) = data_part f id
 row f (messages.PcmParams host direction params) = pcm_params f host direction params
 row f (messages.PcmFree id) = pcm_free f id
 row f (messages.TrigStart id) = trigger f id is_prepared Running
@@ -332,24 +476,37 @@ row f (messages.TrigStop id) = trigger f id is_moving Prepared
 row f (messages.TrigPause id) = trigger f id is_running Paused
 row f (messages.TrigRelease id) = trigger f id is_paused Running
 row f messages.CtxSave = Ok f
-row f m = Err invalid
+
+-- the body of the reply to a message that is done: the values that were asked for
+abbrev pub values_body : Option (List ℕ) → Body
+values_body None = bodies.Nothing
+values_body (Some values) = bodies.Values values
+
+abbrev pub body : FwState → Message → Body
+body f (messages.GetValue id command) = values_body (values_at f.graph id command)
+body f m = bodies.Nothing
 
 -- bytes that are no message are answered -22
 abbrev pub row_of : FwState → Result Message CodecFault → Result FwState ℤ
 row_of f (Ok m) = row f m
 row_of f (Err fault) = Err invalid
 
+abbrev pub body_of : FwState → Result Message CodecFault → Body
+body_of f (Ok m) = body f m
+body_of f (Err fault) = bodies.Nothing
+
 -- the bytes of a reply without a body
 abbrev pub error_reply : ℤ → List ℕ
 error_reply error = reply_spelling (record { error = error; body = bodies.Nothing })
 
-abbrev pub replied : FwState → Result FwState ℤ → FwState × List ℕ
-replied f (Ok g) = (g, error_reply (pos 0))
-replied f (Err e) = (f, error_reply e)
+-- a message that is done is answered 0 with its body; a negative error has none
+abbrev pub replied : FwState → Body → Result FwState ℤ → FwState × List ℕ
+replied f said (Ok g) = (g, reply_spelling (record { error = pos 0; body = said }))
+replied f said (Err e) = (f, error_reply e)
 
 -- the state after the bytes of a message, and the reply's bytes
 unfoldable pub step : FwState → List ℕ → FwState × List ℕ
-step f request = replied f (row_of f (decoded request))
+step f request = replied f (body_of f (decoded request)) (row_of f (decoded request))
 
 -- ---- a boot
 

@@ -1,6 +1,6 @@
 // What becomes of messages, by their numbers.
-ghost use Rattle.std.specs.Prelude.{◌≡◌, ◌≤◌, [], length};
-ghost use Rattle.mbox_link.specs.Fates.{planned, without, IsMeant, AllMeant};
+ghost use Rattle.std.specs.Prelude.{◌≡◌, ◌≤◌, [], length, is_ok, OnOk, OnErr};
+ghost use Rattle.mbox_link.specs.Fates.{planned, without, with_fate, has_room, IsMeant, AllMeant};
 
 use arrayvec::ArrayVec;
 use std::marker::Model;
@@ -31,6 +31,10 @@ impl Default for Entry {
     }
 }
 
+/// 64 fates are held already, and this message has none among them.
+#[derive(Clone, Copy, Debug, PartialEq, Eq)]
+pub struct PlanFull;
+
 /// The planned fates of messages that have not come, at most 64. A planned refusal has a negative error.
 #[derive(Drop)]
 pub struct Fates {
@@ -58,6 +62,30 @@ impl Fates {
         Fates {
             entries: ArrayVec::new(),
         }
+    }
+
+    /// How many are held.
+    pub fn len(&self) -> u32
+        ensures { result ≡ length self.now }
+    {
+        self.entries.len() as u32
+    }
+
+    /// Gives the message of this number a fate, in place of one that it had; `PlanFull` where 64 others are held, and then
+    /// nothing changes.
+    pub fn put(&mut self, number: u64, fate: Fate) -> Result<(), PlanFull>
+        requires meant { IsMeant fate }
+        ensures room { is_ok result ≡ has_room number self.old }
+        ensures ok { OnOk result (self.new ≡ with_fate number fate self.old) }
+        ensures full { OnErr result (self.new ≡ self.old) }
+    {
+        let mut entries = others(self.entries.as_slice(), number);
+        if entries.is_full() {
+            return Err(PlanFull);
+        }
+        entries.push(Entry { number, fate });
+        self.entries = entries;
+        Ok(())
     }
 
     /// The planned fate of the message of this number, which is not held any more.

@@ -5,7 +5,9 @@
 mod device;
 mod fates;
 mod link;
+#[cfg(test)]
+mod tests;
 
 pub use device::{Dsp, LinkFault};
-pub use fates::{Entry, Fate};
+pub use fates::{Entry, Fate, PlanFull};
 pub use link::{FaultLink, NoRoom};

@@ -1,10 +1,11 @@
 // A link over a device.
-ghost use Rattle.std.specs.Prelude.{◌≡◌};
-ghost use Rattle.mbox_link.specs.Link.{link};
+ghost use Rattle.std.specs.Prelude.{◌≡◌, ◌≤◌, ◌<◌, ◌^◌, length};
+ghost use Rattle.mbox_link.specs.Fates.{IsMeant};
+ghost use Rattle.mbox_link.specs.Link.{link, Planned};
 ghost use Rattle.mbox_link.specs.Wire.{new_link};
 
 use crate::device::{Dsp, LinkFault};
-use crate::fates::{Fate, Fates};
+use crate::fates::{Fate, Fates, PlanFull};
 use ipc3_codec::{Body, Reply, encode_reply};
 use sof_io::{Inputs, Outputs};
 use std::marker::Model;
@@ -65,6 +66,25 @@ impl<P: Dsp> FaultLink<P> {
         ensures { result ≡ self.now.sent }
     {
         self.sent
+    }
+
+    /// How many planned fates are held, at most 64. One is held until its message comes.
+    pub fn held(&self) -> u32
+        ensures { result ≡ length self.now.entries }
+    {
+        self.fates.len()
+    }
+
+    /// Gives the k-th message from now this fate, in place of one that it had. It takes no memory.
+    ///
+    /// `PlanFull`: 64 fates of other messages are held, and nothing changes.
+    pub fn plan(&mut self, k: u32, fate: Fate) -> Result<(), PlanFull>
+        requires some { 1 ≤ k }
+        requires meant { IsMeant fate }
+        requires few { self.old.sent < 2 ^ 63 }
+        ensures { Planned k fate self.old result self.new }
+    {
+        self.fates.put(self.sent + u64::from(k), fate)
     }
 }
 

@@ -11,13 +11,13 @@ use Rattle.sof_script.specs.declared.script.Command.{Command}
 use Rattle.sof_script.specs.declared.script.Command.TheVariants as commands
 use Rattle.sof_script.specs.declared.script.Numbered.{Numbered}
 use Rattle.sof_session.specs.Show.{IsLineAt, show_lines}
-use Rattle.sof_session.specs.Walks.{Out, Written, Carry, is_built}
+use Rattle.sof_session.specs.Walks.{Out, Written, Carry}
 use Rattle.sof_session.specs.Seat.{Seat}
 use Rattle.sof_session.specs.Turns.{Ran, LifeMeaning, Life, Seated, Turn, Turned, life, turn, shown_by}
 use Rattle.sof_run.specs.Todo as todo
 use Rattle.sof_run.specs.Todo.{Todo, Do, Played, DeskPhase, Follows, Fails, Phase}
 use Rattle.sof_run.specs.Rounds.{Round, rounds_after, command_rounds, rounds_of}
-use Rattle.sof_run.specs.Play.{is_played, is_show, with_newline, lines_after, flush_todo, lines_todo, round_todo, rounds_todo, commands_todo}
+use Rattle.sof_run.specs.Play.{is_show, with_newline, lines_after, flush_todo, lines_todo, round_todo, rounds_todo, commands_todo}
 use Rattle.sof_run.proofs.Steps.{do_on, do_off, step_on, beside, beside_failed}
 
 -- what the answer says of the list
@@ -42,30 +42,6 @@ past_by lines k (inr past) none = past.0
 
 past : (lines : List (List ℕ)) (k : ℕ) (line : List ℕ) → IsLineAt lines k false line → length lines ≤ k
 past lines k line is = past_by lines k (slice_get_cases lines k).1 (missing (slice_get lines k) line is)
-
--- what a run carries out, a session does
-pub played_built : (command : Command) → is_played command ≡ true → is_built command ≡ true
-played_built commands.Load is = refl
-played_built commands.Unload is = absurd (cc is)
-played_built commands.Suspend is = absurd (cc is)
-played_built commands.Resume is = absurd (cc is)
-played_built commands.Show is = refl
-played_built (commands.Open n) is = refl
-played_built (commands.Start n) is = refl
-played_built (commands.Stop n) is = refl
-played_built (commands.Pause n) is = absurd (cc is)
-played_built (commands.Release n) is = absurd (cc is)
-played_built (commands.Close n) is = refl
-played_built (commands.Get n) is = absurd (cc is)
-played_built (commands.Read n) is = absurd (cc is)
-played_built (commands.Params n p) is = refl
-played_built (commands.Set n v) is = absurd (cc is)
-played_built (commands.Bytes n b) is = absurd (cc is)
-played_built (commands.Tick t) is = refl
-played_built (commands.Refuse k e) is = absurd (cc is)
-played_built (commands.Drop k) is = absurd (cc is)
-played_built (commands.Lose k) is = absurd (cc is)
-played_built (commands.Lag k t) is = absurd (cc is)
 
 module _ {D : Type 0} (means : DeskMeaning D) where
   -- no line

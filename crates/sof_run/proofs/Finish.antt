@@ -8,6 +8,7 @@ use Rattle.sof_io.specs.Takes.{new_input}
 use Rattle.sof_desk.specs.Desk.{DeskMeaning, Call, Load, Did}
 use Rattle.tplg_model.specs.declared.block.Topology.{Topology}
 use Rattle.tplg_model.proofs.FileLaws.{topology_again}
+use Rattle.tplg_graph.specs.ThinTest.{thin_test}
 use Rattle.tplg_graph.specs.PlanOf.{plan_of}
 use Rattle.tplg_graph.proofs.RuleTests.{whole_none}
 use Rattle.tplg_graph.specs.declared.planned.Plan.{Plan}
@@ -19,7 +20,7 @@ use Rattle.sof_run.specs.Words.{Form, play_of}
 use Rattle.sof_run.specs.Todo.{Todo, End, Free, Goes, Ran}
 use Rattle.sof_run.specs.Bindings.{bound_slot}
 use Rattle.sof_run.specs.Rounds.{Round, rounds_of}
-use Rattle.sof_run.specs.Play.{lines_after, flush_todo, lines_todo, rounds_todo, session_todo, WithPorts, binding_todo, bindings_todo, prepared_todo, Prepared, Ready, ticks_of, prepared, prepared_script, prepared_ticks, prepared_topology, prepared_rules, prepared_thin, prepared_bindings, prepared_commands, play}
+use Rattle.sof_run.specs.Play.{lines_after, flush_todo, lines_todo, rounds_todo, session_todo, WithPorts, binding_todo, bindings_todo, prepared_todo, Prepared, Ready, ticks_of, prepared, prepared_script, prepared_ticks, prepared_topology, prepared_rules, prepared_bindings, prepared_commands, play}
 use Rattle.sof_run.specs.Checking.{check, check_of}
 use Rattle.sof_run.specs.Forms.{todo_for, todo_of}
 use Rattle.sof_run.specs.Whole.{Planned, Memory, whole, whole_end, Throughout, Told, Made}
@@ -29,7 +30,8 @@ use Rattle.sof_run.proofs.Settle.{settle}
 use Rattle.sof_run.proofs.Judging.{judge}
 use Rattle.sof_run.proofs.SlotOrder.{ascending_more, none_ascends}
 use Rattle.sof_run.proofs.Slots.{bound_ascending}
-use Rattle.sof_run.proofs.PlanWords.{thin_plan}
+use Rattle.sof_run.proofs.PlanWords.{planned_plan}
+use Rattle.sof_run.proofs.Built.{carriable}
 use Rattle.sof_run.proofs.Solving.{are_whole, solved}
 use Rattle.sof_run.proofs.Written.{bindings_items, play_wrote}
 use Rattle.sof_run.proofs.WholeRuns.{play_whole, play_end}
@@ -135,8 +137,7 @@ files_ready topology script t read is =
     ∙ ap (prepared_ticks topology read) (not_over (ticks_of read.commands) is.lines.1)
     ∙ ap (prepared_topology read) (topology_again topology t is.file.0 is.file.1)
     ∙ ap (prepared_rules t read) (whole_none t is.whole)
-    ∙ ap (prepared_thin t read) is.thin
-    ∙ ap (prepared_bindings (plan_of t) read) is.right
+    ∙ ap (prepared_bindings (thin_test t) (plan_of t) read) is.right
     ∙ ap (prepared_commands (plan_of t) read) is.built
 
 module _ {D P : Type 0} (means : DeskMeaning D) (dsp : LifeMeaning P) (words : List (List ℕ)) (old new : D) (p q : P) (status : ℕ) (done : Done means dsp (todo_of (dsp.most p) words) old p status new q) where
@@ -167,8 +168,9 @@ module _ {D P : Type 0} (means : DeskMeaning D) (dsp : LifeMeaning P) (words : L
   solves settled stands go_on run k =
       let plan = plan_of run.t in
       let holds = means.holds old in
+      let carries = carriable (thin_test run.t) plan (planned_plan run.t run.is_run.file.0 run.is_run.whole) run.read run.is_run.right run.is_run.built in
       solved settled stands go_on plan run.form.heap (inputs_in run) (slots_in run) run.read.commands (dsp.stand p) k
-      (thin_plan run.t run.is_run.file.0 run.is_run.whole run.is_run.thin)
+      carries.loadable
       (bound_ascending ascending_more plan run.read.bindings run.is_run.right none_ascends)
       (are_whole plan holds run.read.bindings)
-      run.is_run.built
+      carries.built

@@ -25,7 +25,7 @@ use Rattle.sof_run.specs.Words.{Form}
 use Rattle.sof_script.specs.declared.script.Numbered.{Numbered}
 use Rattle.sof_base.specs.Ports.{InputView, OutputView}
 use Rattle.sof_run.specs.Todo.{no_memory, Todo, Ask, Free, Says, Goes}
-use Rattle.sof_run.specs.Play.{Prepared, ticks_of, is_built_script, halt_line, halt_status, prepared, prepared_script, prepared_ticks, prepared_topology, prepared_rules, prepared_thin, prepared_bindings, prepared_commands, prepared_todo, session_todo, play}
+use Rattle.sof_run.specs.Play.{Prepared, ticks_of, is_built_script, halt_line, halt_status, prepared, prepared_script, prepared_ticks, prepared_topology, prepared_rules, prepared_bindings, prepared_commands, prepared_todo, session_todo, play}
 use Rattle.sof_run.specs.Run.{AreBytes, IsLong, Fit, IsFile, IsBroken, IsScript, IsRun, IsHalt, last_call, Verdict}
 use Rattle.sof_run.proofs.Statuses.{IsLate}
 use Rattle.sof_run.proofs.Throughout.{session_ends}
@@ -99,23 +99,19 @@ module _ (holds : List ℕ → Option (List ℕ)) (topology script : List ℕ) w
       abbrev Judges : Prepared → Type 0
       Judges files = Goes (prepared_todo heap files) turns calls status → Verdict holds topology script calls status
 
-      by_commands : (t : Topology) (read : Read) (built : Bool) → IsScript script read → IsFile topology t → IsWellFormed t → thin_test t ≡ true → wrong_binding (plan_of t) read.bindings ≡ None → is_built_script read ≡ built → Judges (prepared_commands (plan_of t) read built)
-      by_commands t read true lines file whole thin right built goes =
-          runs t read calls status record { lines = lines; file = file; whole = whole; thin = thin; right = right; built = built }
+      by_commands : (t : Topology) (read : Read) (built : Bool) → IsScript script read → IsFile topology t → IsWellFormed t → wrong_binding (plan_of t) read.bindings ≡ None → is_built_script (thin_test t) (plan_of t) read ≡ built → Judges (prepared_commands (plan_of t) read built)
+      by_commands t read true lines file whole right built goes =
+          runs t read calls status record { lines = lines; file = file; whole = whole; right = right; built = built }
           (opened holds means (plan_of t) turns status e (λ i o. Free (session_todo heap (plan_of t) read.commands i o)) (ended (plan_of t) read.commands) read.bindings [] [] calls d held led goes)
-      by_commands t read false lines file whole thin right built goes = stops halts.NotYet turns calls status (read, t, lines, file, (whole, inr (thin, right, built))) goes
+      by_commands t read false lines file whole right built goes = stops halts.NotYet turns calls status (read, t, lines, file, (whole, right, built)) goes
 
-      by_bindings : (t : Topology) (read : Read) (wrong : Option ℕ) → IsScript script read → IsFile topology t → IsWellFormed t → thin_test t ≡ true → wrong_binding (plan_of t) read.bindings ≡ wrong → Judges (prepared_bindings (plan_of t) read wrong)
-      by_bindings t read (Some line) lines file whole thin is goes = stops (halts.Binding line) turns calls status (read, t, lines, file, whole, thin, is) goes
-      by_bindings t read None lines file whole thin is goes = by_commands t read (is_built_script read) lines file whole thin is refl goes
-
-      by_thin : (t : Topology) (read : Read) (thin : Bool) → IsScript script read → IsFile topology t → IsWellFormed t → thin_test t ≡ thin → Judges (prepared_thin t read thin)
-      by_thin t read true lines file whole thin goes = by_bindings t read (wrong_binding (plan_of t) read.bindings) lines file whole thin refl goes
-      by_thin t read false lines file whole thin goes = stops halts.NotYet turns calls status (read, t, lines, file, (whole, inl thin)) goes
+      by_bindings : (t : Topology) (read : Read) (wrong : Option ℕ) → IsScript script read → IsFile topology t → IsWellFormed t → wrong_binding (plan_of t) read.bindings ≡ wrong → Judges (prepared_bindings (thin_test t) (plan_of t) read wrong)
+      by_bindings t read (Some line) lines file whole is goes = stops (halts.Binding line) turns calls status (read, t, lines, file, whole, is) goes
+      by_bindings t read None lines file whole is goes = by_commands t read (is_built_script (thin_test t) (plan_of t) read) lines file whole is refl goes
 
       by_rules : (t : Topology) (read : Read) (ruling : Option (ℕ × ℕ)) → IsScript script read → IsFile topology t → ruling_of t ≡ ruling → Judges (prepared_rules t read ruling)
       by_rules t read (Some (rule, item)) lines file is goes = stops (halts.Rule rule item) turns calls status (read, t, lines, file, some_breaks t rule item is) goes
-      by_rules t read None lines file is goes = by_thin t read (thin_test t) lines file (none_whole t is) refl goes
+      by_rules t read None lines file is goes = by_bindings t read (wrong_binding (plan_of t) read.bindings) lines file (none_whole t is) refl goes
 
       by_topology : (read : Read) (r : Result Topology TplgFault) → IsScript script read → topology_of topology ≡ r → Judges (prepared_topology read r)
       by_topology read (Err fault) lines is goes = stops (halts.Broken fault) turns calls status ((read, lines), none, topology_found topology fault bytes is) goes

@@ -23,3 +23,8 @@ pub mod Solving
 pub mod PlanWords
 pub mod BindingSteps
 pub mod SlotOrder
+pub mod ScriptRanges
+pub mod PreparedReads
+pub mod FewMessages
+pub mod Built
+pub mod FewLines

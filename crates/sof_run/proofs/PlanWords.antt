@@ -26,6 +26,8 @@ use Rattle.tplg_graph.specs.ThinPlan.{FitsWords, IsThinPlan}
 use Rattle.tplg_graph.specs.ThinTest.{thin_test}
 use Rattle.tplg_graph.specs.WellFormed.{IsWellFormed}
 use Rattle.tplg_graph.proofs.PlanLaws.{is-thin-plan}
+use Rattle.tplg_graph.proofs.Soundness.{is-sound}
+use Rattle.sof_run.specs.Halts.{IsPlanned}
 use Rattle.tplg_graph.proofs.ThinTests.{thin-test}
 
 -- a number, where there is one, is a word
@@ -130,5 +132,9 @@ words_fit : (t : Topology) → IsTopology t → All FitsWords (plan_of t).widget
 words_fit t is = All-from_recursion FitsWords (plan_of t).widgets (plans_fit (interpreted (entries_of t)) (kept_fit (entries_of t) (all_fit t.blocks is)))
 
 -- the plan of a thin topology that is a file's is a thin plan
-pub thin_plan : (t : Topology) → IsTopology t → IsWellFormed t → thin_test t ≡ true → IsThinPlan (plan_of t)
+thin_plan : (t : Topology) → IsTopology t → IsWellFormed t → thin_test t ≡ true → IsThinPlan (plan_of t)
 thin_plan t is whole thin = is-thin-plan t (Ok (plan_of t)) whole refl (words_fit t is) ((thin-test t).0 thin)
+
+-- the plan of a topology that is a file's is a plan of its kind
+pub planned_plan : (t : Topology) → IsTopology t → IsWellFormed t → IsPlanned (thin_test t) (plan_of t)
+planned_plan t is whole = record { sound = is-sound t whole (words_fit t is); thin = λ thin. thin_plan t is whole thin }

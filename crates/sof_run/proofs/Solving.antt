@@ -1,8 +1,8 @@
 -- Each front of the units of a run solves the stream equations.
 use Rattle.std.proofs.Common.{◌≡◌, ℕ, zero, suc, nat_eq, Bool, true, false, eqb, if◌then◌else◌, List, [], ◌∷◌, ◌++◌, take, Option, Some, None, unwrap_or, refl, sym, ◌∙◌, ap, subst, inl, inr, append_assoc}
-use Rattle.std.proofs.lemmas.Bool.{cases_Bool, and_parts}
+use Rattle.std.proofs.lemmas.Bool.{cases_Bool}
 use Rattle.std.proofs.lemmas.List.{append-nil}
-use Rattle.std.specs.List.{AllByRecursion, list_all}
+use Rattle.std.specs.List.{AllByRecursion}
 use Rattle.std.specs.List.Sorted.{IsStrictlyIncreasing}
 use Rattle.sof_base.specs.Ports.{InputView}
 use Rattle.sof_desk.specs.Desk.{Place, Slot, same_place}
@@ -10,19 +10,21 @@ use Rattle.stream_law.specs.Table.{list_of}
 use Rattle.stream_law.specs.Past.{Moment, Past, start}
 use Rattle.stream_law.specs.Stands.{Stands, HasRead, position_of, left_of}
 use Rattle.tplg_graph.specs.declared.planned.Plan.{Plan}
-use Rattle.tplg_graph.specs.ThinPlan.{IsThinPlan}
+use Rattle.host_widgets.specs.Controls.{IsLoadable}
 use Rattle.sof_script.specs.Commands.{Bound}
 use Rattle.sof_script.specs.declared.script.Numbered.{Numbered}
 use Rattle.sof_session.specs.SessionLaws.{FirstIsSettled, FirstStands, CommandsGoOn}
 use Rattle.sof_session.specs.Moments.{IsSettled, GoesOn, is_slot, bytes_to, command_moments}
-use Rattle.sof_session.specs.Walks.{Host, Stand, Out, Written, stand, is_built, first_host, command_next}
+use Rattle.sof_session.specs.Walks.{Host, Stand, Out, Written, stand, IsBuilt, first_host, command_next}
+use Rattle.sof_session.proofs.PlanStays.{plan-stays}
+use Rattle.sof_run.specs.Halts.{AreBuilt}
+use Rattle.sof_script.specs.declared.script.Command.{Command}
 use Rattle.sof_io.specs.Takes.{new_input}
 use Rattle.sof_run.specs.Bindings.{bound_slot, bound_inputs}
 use Rattle.sof_run.specs.Rounds.{Round, earlier, rounds_after, rounds_of}
-use Rattle.sof_run.specs.Play.{is_played, lines_after}
+use Rattle.sof_run.specs.Play.{lines_after}
 use Rattle.sof_run.specs.Runs.{Piece, RunUnit, slot_pieces, line_pieces, begun, unit_of, units_of, run_of, after_units, pieces_of, moments_of, bytes_at}
 use Rattle.sof_run.specs.Solved.{files_of, Solved}
-use Rattle.sof_run.proofs.Commands.{played_built}
 
 -- ---- the bytes of pieces
 
@@ -52,23 +54,22 @@ unit_bytes slot written lines =
 
 -- ---- fronts
 
-abbrev AreBuilt : List Round → Type 0
-AreBuilt rounds = AllByRecursion (λ (round : Round). is_built round.numbered.command ≡ true) rounds
+abbrev AllBuilt : Plan → List Round → Type 0
+AllBuilt plan rounds = AllByRecursion (λ (round : Round). IsBuilt plan round.numbered.command) rounds
 
-built_after : (n : ℕ) (numbered : Numbered) (rest : List Round) → is_built numbered.command ≡ true → AreBuilt rest → AreBuilt (rounds_after n numbered ++ rest)
-built_after zero numbered rest built all = (built, all)
-built_after (suc n) numbered rest built all = (built, built_after n numbered rest built all)
+built_after : (plan : Plan) (n : ℕ) (numbered : Numbered) (rest : List Round) → IsBuilt plan numbered.command → AllBuilt plan rest → AllBuilt plan (rounds_after n numbered ++ rest)
+built_after plan zero numbered rest built all = (built, all)
+built_after plan (suc n) numbered rest built all = (built, built_after plan n numbered rest built all)
 
-built_rounds : (commands : List Numbered) → list_all (λ n. is_played n.command) commands ≡ true → AreBuilt (rounds_of commands)
-built_rounds [] played = tt
-built_rounds (numbered ∷ commands) played =
-    let parts = and_parts (is_played numbered.command) (list_all (λ n. is_played n.command) commands) played in
-    built_after (earlier numbered.command) numbered (rounds_of commands) (played_built numbered.command parts.0) (built_rounds commands parts.1)
+built_rounds : (plan : Plan) (commands : List Numbered) → AreBuilt plan commands → AllBuilt plan (rounds_of commands)
+built_rounds plan [] all = tt
+built_rounds plan (numbered ∷ commands) all =
+    built_after plan (earlier numbered.command) numbered (rounds_of commands) all.0 (built_rounds plan commands all.1)
 
-built_front : (k : ℕ) (rounds : List Round) → AreBuilt rounds → AreBuilt (take k rounds)
-built_front zero rounds all = tt
-built_front (suc k) [] all = tt
-built_front (suc k) (round ∷ rounds) all = (all.0, built_front k rounds all.1)
+built_front : (plan : Plan) (k : ℕ) (rounds : List Round) → AllBuilt plan rounds → AllBuilt plan (take k rounds)
+built_front plan zero rounds all = tt
+built_front plan (suc k) [] all = tt
+built_front plan (suc k) (round ∷ rounds) all = (all.0, built_front plan k rounds all.1)
 
 front_units : (k : ℕ) (rounds : List Round) (s : Stand) → take k (units_of rounds s) ≡ units_of (take k rounds) s
 front_units zero rounds s = refl
@@ -109,7 +110,7 @@ none_read inputs all = record { positions = λ slot bound. at_zero inputs slot a
 
 -- ---- units, one after another
 
-module _ (go_on : CommandsGoOn) (whole : List (ℕ × List ℕ)) (slots : List ℕ) (rising : IsStrictlyIncreasing slots) where
+module _ (go_on : CommandsGoOn) (plan : Plan) (whole : List (ℕ × List ℕ)) (slots : List ℕ) (rising : IsStrictlyIncreasing slots) where
   -- what stands after units, and what they wrote behind earlier bytes
   record GoesBy (rounds : List Round) (s : Stand) (before : List Moment) (bytes : ℕ → List ℕ) : Type 0 where
     pub host : Host
@@ -171,25 +172,26 @@ module _ (go_on : CommandsGoOn) (whole : List (ℕ × List ℕ)) (slots : List �
             let moved : Joined (before ++ (moments ++ moments_of (units_of rounds turned.0))) = subst Joined (append_assoc before moments (moments_of (units_of rounds turned.0))) (later.stands, joined) in
             record { host = later.host; is = later.is; settled = later.settled; stands = moved.0; wrote = moved.1 }
 
-  solve : (rounds : List Round) → AreBuilt rounds → (boots : ℕ) (h : Host) → IsSettled h → h.slots ≡ slots → (before : List Moment) (stood : Stands h.device whole h.inputs before) → GoesBy rounds (stand boots h) before (λ slot. list_of stood.past.bytes slot)
-  solve [] built boots h settled slots_are before stood = none_more boots h settled before stood
-  solve (round ∷ rounds) built boots h settled slots_are before stood =
-      let goes = go_on whole before round.numbered.command boots h settled built.0 (subst IsStrictlyIncreasing (sym slots_are) rising) stood in
+  solve : (rounds : List Round) → AllBuilt plan rounds → (boots : ℕ) (h : Host) → IsSettled h → h.plan ≡ plan → h.slots ≡ slots → (before : List Moment) (stood : Stands h.device whole h.inputs before) → GoesBy rounds (stand boots h) before (λ slot. list_of stood.past.bytes slot)
+  solve [] built boots h settled plan_is slots_are before stood = none_more boots h settled before stood
+  solve (round ∷ rounds) built boots h settled plan_is slots_are before stood =
+      let command : Command = round.numbered.command in
+      let goes = go_on whole before command boots h settled (subst (λ (p : Plan). IsBuilt p command) (sym plan_is) built.0) (subst IsStrictlyIncreasing (sym slots_are) rising) stood in
       one_more round rounds boots h slots_are before stood goes.0 goes.1 goes.2
       (at_unit round rounds boots h slots_are before stood goes.0 goes.1 goes.2
-      (solve rounds built.1 (command_next round.numbered.command boots h).0.boots goes.0 goes.2.settled (goes.2.slots ∙ slots_are) (before ++ command_moments round.numbered.command h) goes.2.stands))
+      (solve rounds built.1 (command_next command boots h).0.boots goes.0 goes.2.settled (plan-stays boots h command goes.0 goes.1 ∙ plan_is) (goes.2.slots ∙ slots_are) (before ++ command_moments command h) goes.2.stands))
 
 -- ---- all of it
 
-module _ (first : FirstIsSettled) (first_stands : FirstStands) (go_on : CommandsGoOn) (plan : Plan) (heap : ℕ) (inputs : List InputView) (slots : List ℕ) (commands : List Numbered) (s : Stand) (k : ℕ) (thin : IsThinPlan plan) (rising : IsStrictlyIncreasing slots) (whole : AreWhole inputs) (played : list_all (λ n. is_played n.command) commands ≡ true) where
+module _ (first : FirstIsSettled) (first_stands : FirstStands) (go_on : CommandsGoOn) (plan : Plan) (heap : ℕ) (inputs : List InputView) (slots : List ℕ) (commands : List Numbered) (s : Stand) (k : ℕ) (loadable : IsLoadable plan) (rising : IsStrictlyIncreasing slots) (whole : AreWhole inputs) (built : AreBuilt plan commands) where
   abbrev host : Host
   host = first_host plan heap inputs slots
 
   stood : (stands : Stands None (files_of inputs) inputs []) × (stands.past ≡ start)
   stood = first_stands (files_of inputs) inputs (none_read inputs whole)
 
-  goes : GoesBy go_on (files_of inputs) slots rising (take k (rounds_of commands)) (stand s.boots host) [] (λ slot. list_of stood.0.past.bytes slot)
-  goes = solve go_on (files_of inputs) slots rising (take k (rounds_of commands)) (built_front k (rounds_of commands) (built_rounds commands played)) s.boots host (first plan heap inputs slots thin) refl [] stood.0
+  goes : GoesBy go_on plan (files_of inputs) slots rising (take k (rounds_of commands)) (stand s.boots host) [] (λ slot. list_of stood.0.past.bytes slot)
+  goes = solve go_on plan (files_of inputs) slots rising (take k (rounds_of commands)) (built_front plan k (rounds_of commands) (built_rounds plan commands built)) s.boots host (first plan heap inputs slots loadable) refl refl [] stood.0
 
   pub solved : Solved inputs slots (begun plan heap inputs slots s) (take k (run_of commands (begun plan heap inputs slots s)))
   solved =

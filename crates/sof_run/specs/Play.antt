@@ -1,5 +1,5 @@
 -- What `run` has to do, by its words and by the bytes of the files that they name.
-use Rattle.std.specs.Prelude.{ℕ, Bool, true, false, nat_lt, ◌==◌, if◌then◌else◌, List, [], ◌∷◌, ◌++◌, Option, Some, None, Result, Ok, Err, codes, decimal}
+use Rattle.std.specs.Prelude.{ℕ, Bool, true, false, ◌&&◌, nat_lt, ◌==◌, if◌then◌else◌, List, [], ◌∷◌, ◌++◌, Option, Some, None, Result, Ok, Err, codes, decimal}
 use Rattle.std.specs.List.{list_all, sum_by}
 use Rattle.sof_base.specs.Ports.{InputView, OutputView}
 use Rattle.sof_io.specs.Bound.{output_slots}
@@ -14,8 +14,9 @@ use Rattle.tplg_graph.specs.declared.planned.Plan.{Plan}
 use Rattle.tplg_graph.specs.ThinTest.{thin_test}
 use Rattle.tplg_graph.specs.RuleTest.{ruling_of}
 use Rattle.tplg_graph.specs.PlanOf.{plan_of}
+use Rattle.host_widgets.specs.Controls.{has_no_blobs}
 use Rattle.sof_script.specs.declared.script.Command.{Command}
-use Rattle.sof_script.specs.declared.script.Command.TheVariants.{Load, Show, Open, Params, Start, Stop, Close, Tick}
+use Rattle.sof_script.specs.declared.script.Command.TheVariants.{Load, Unload, Show, Open, Params, Start, Stop, Close, Tick, Refuse}
 use Rattle.sof_script.specs.declared.script.Numbered.{Numbered}
 use Rattle.sof_script.specs.declared.reading.ScriptFault.{ScriptFault}
 use Rattle.sof_script.specs.declared.reading.ScriptFault.TheVariants as scripts
@@ -165,21 +166,23 @@ pub data Prepared : Type 0 where
   Ready : (plan : Plan) (read : Read) → Prepared
   Halted : (why : Halt) → Prepared
 
--- the commands that a run carries out so far
-abbrev pub is_played : Command → Bool
-is_played Load = true
-is_played Show = true
-is_played (Open name) = true
-is_played (Params name params) = true
-is_played (Start name) = true
-is_played (Stop name) = true
-is_played (Close name) = true
-is_played (Tick n) = true
-is_played command = false
+-- the commands that a run carries out so far: over every topology, and those on streams and ticks over a thin one alone
+abbrev pub is_played : Bool → Command → Bool
+is_played thin Load = true
+is_played thin Unload = true
+is_played thin Show = true
+is_played thin (Refuse k e) = true
+is_played thin (Open name) = thin
+is_played thin (Params name params) = thin
+is_played thin (Start name) = thin
+is_played thin (Stop name) = thin
+is_played thin (Close name) = thin
+is_played thin (Tick n) = thin
+is_played thin command = false
 
--- each command is one of these
-abbrev pub is_built_script : Read → Bool
-is_built_script read = list_all (λ n. is_played n.command) read.commands
+-- each command is one of these, and no equaliser of the plan begins with a blob
+abbrev pub is_built_script : Bool → Plan → Read → Bool
+is_built_script thin plan read = has_no_blobs plan && list_all (λ n. is_played thin n.command) read.commands
 
 -- what is not built so far comes last
 abbrev pub prepared_commands : Plan → Read → Bool → Prepared
@@ -187,19 +190,14 @@ prepared_commands plan read true = Ready plan read
 prepared_commands plan read false = Halted halts.NotYet
 
 -- each binding is to be right
-abbrev pub prepared_bindings : Plan → Read → Option ℕ → Prepared
-prepared_bindings plan read (Some line) = Halted (halts.Binding line)
-prepared_bindings plan read None = prepared_commands plan read (is_built_script read)
-
--- a topology that breaks no rule is to be thin
-abbrev pub prepared_thin : Topology → Read → Bool → Prepared
-prepared_thin topology read true = prepared_bindings (plan_of topology) read (wrong_binding (plan_of topology) read.bindings)
-prepared_thin topology read false = Halted halts.NotYet
+abbrev pub prepared_bindings : Bool → Plan → Read → Option ℕ → Prepared
+prepared_bindings thin plan read (Some line) = Halted (halts.Binding line)
+prepared_bindings thin plan read None = prepared_commands plan read (is_built_script thin plan read)
 
 -- the first rule that it breaks comes before all that is over its plan
 abbrev pub prepared_rules : Topology → Read → Option (ℕ × ℕ) → Prepared
 prepared_rules topology read (Some (rule, item)) = Halted (halts.Rule rule item)
-prepared_rules topology read None = prepared_thin topology read (thin_test topology)
+prepared_rules topology read None = prepared_bindings (thin_test topology) (plan_of topology) read (wrong_binding (plan_of topology) read.bindings)
 
 abbrev pub prepared_topology : Read → Result Topology TplgFault → Prepared
 prepared_topology read (Err fault) = Halted (halts.Broken fault)

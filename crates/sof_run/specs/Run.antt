@@ -88,21 +88,18 @@ Fit topology script = (length topology ≤ 1048576) × (length script ≤ 104857
 abbrev pub IsScript : List ℕ → Read → Type 0
 IsScript script read = (script_of script ≡ Ok read) × (ticks_of read.commands ≤ 60000)
 
--- the files make a run: the topology keeps all rules and is thin, the bindings are right, and all that the script asks for is built
+-- the files make a run: the topology keeps all rules, the bindings are right, and all that the script asks for is built
 pub record IsRun (topology script : List ℕ) (t : Topology) (read : Read) : Type 0 where
   pub lines : IsScript script read
   pub file : IsFile topology t
   pub whole : IsWellFormed t
-  pub thin : thin_test t ≡ true
   pub right : wrong_binding (plan_of t) read.bindings ≡ None
-  pub built : is_built_script read ≡ true
+  pub built : is_built_script (thin_test t) (plan_of t) read ≡ true
 
--- the topology keeps all rules and is not thin, or over right bindings something that the script asks for is not built
+-- the topology keeps all rules, and over right bindings something that the script asks for is not built
 abbrev pub IsUnbuilt : Topology → Read → Type 0
 IsUnbuilt t read =
-    IsWellFormed t
-    × ((thin_test t ≡ false)
-    ⊎ ((thin_test t ≡ true) × (wrong_binding (plan_of t) read.bindings ≡ None) × (is_built_script read ≡ false)))
+    IsWellFormed t × (wrong_binding (plan_of t) read.bindings ≡ None) × (is_built_script (thin_test t) (plan_of t) read ≡ false)
 
 -- Why the files make no run: a line of the script is at fault; its ticks are too many; no topology has the bytes, and this is
 -- their first fault; the topology that has them breaks this rule first, with this least item; it keeps all rules and a binding
@@ -114,7 +111,7 @@ IsHalt topology script (halts.Broken fault) = ((read : Read) × IsScript script 
 IsHalt topology script (halts.Rule rule item) = (read : Read) × (t : Topology) × IsScript script read × IsFile topology t × Breaks t rule item
 IsHalt topology script (halts.Binding line) =
     (read : Read) × (t : Topology)
-    × IsScript script read × IsFile topology t × IsWellFormed t × (thin_test t ≡ true) × (wrong_binding (plan_of t) read.bindings ≡ Some line)
+    × IsScript script read × IsFile topology t × IsWellFormed t × (wrong_binding (plan_of t) read.bindings ≡ Some line)
 IsHalt topology script halts.NotYet = (read : Read) × (t : Topology) × IsScript script read × IsFile topology t × IsUnbuilt t read
 IsHalt topology script halts.OutOfMemory = ⊥
 

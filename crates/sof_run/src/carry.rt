@@ -1,15 +1,17 @@
 // The commands, one by one.
-ghost use Rattle.std.specs.Prelude.{◌≡◌, ◌<◌, ◌∷◌, length, true};
+ghost use Rattle.std.specs.Prelude.{◌≡◌, ◌+◌, ◌<◌, ◌≤◌, ◌^◌, ◌∷◌, length, true};
 ghost use Rattle.std.specs.List.{list_all};
 ghost use Rattle.sof_base.specs.Ports.{drained};
 ghost use Rattle.sof_io.specs.Bound.{output_slots};
-ghost use Rattle.tplg_graph.specs.ThinPlan.{IsThinPlan};
+ghost use Rattle.host_widgets.specs.Controls.{IsLoadable};
 ghost use Rattle.sof_script.specs.Text.{answer_line};
 ghost use Rattle.sof_session.specs.Show.{show_lines};
+ghost use Rattle.sof_session.specs.Walks.{IsBuilt, is_in_range, most_sent};
 ghost use Rattle.sof_session.specs.Turns.{Seated, life, shown_by};
 ghost use Rattle.sof_run.specs.Todo.{DeskPhase, Phase};
 ghost use Rattle.sof_run.specs.Rounds.{earlier as units_before, command_rounds};
-ghost use Rattle.sof_run.specs.Play.{is_played, is_show, with_newline, lines_todo, round_todo, rounds_todo, commands_todo};
+ghost use Rattle.sof_run.specs.Play.{is_show, with_newline, lines_todo, round_todo, rounds_todo, commands_todo};
+ghost use Rattle.sof_run.specs.Halts.{AreBuilt};
 ghost use Rattle.sof_run.specs.Opening.{AreCreated, SameCreated};
 
 use crate::files::write_outputs;
@@ -30,7 +32,7 @@ fn write_line(number: u32, answer: &Answer, line: &mut Line)
 
 // Says how everything stands, line by line.
 fn say_shown<D: Desk, P: Dsp>(desk: &mut D, session: &Session<P>, line: &mut Line) -> bool
-    requires { IsThinPlan session.now.plan }
+    requires { IsLoadable session.now.plan }
     ensures phase { DeskPhase D.means (lines_todo (show_lines session.now.plan session.now.kept)) result desk.old desk.new }
     ensures created { SameCreated D.means desk.old desk.new }
 {
@@ -60,7 +62,7 @@ fn say_lines<D: Desk, P: Dsp>(
     session: &Session<P>,
     line: &mut Line,
 ) -> bool
-    requires thin { IsThinPlan session.now.plan }
+    requires plan { IsLoadable session.now.plan }
     ensures phase { DeskPhase D.means (lines_todo (answer_line numbered.now.line answer.now ∷ shown_by numbered.now.command session.now)) result desk.old desk.new }
     ensures created { SameCreated D.means desk.old desk.new }
 {
@@ -85,13 +87,16 @@ fn do_round<D: Desk, P: Dsp>(
     outputs: &mut Outputs,
     line: &mut Line,
 ) -> bool
-    requires played { is_played numbered.now.command ≡ true }
-    requires thin { IsThinPlan session.old.plan }
+    requires built { IsBuilt session.old.plan numbered.now.command }
+    requires numbers { is_in_range numbered.now.command ≡ true }
+    requires few { session.old.link.sent < 2 ^ 63 }
+    requires plan { IsLoadable session.old.plan }
     requires created { AreCreated D.means (output_slots outputs.old) desk.old }
     requires empty { drained outputs.old ≡ outputs.old }
     ensures phase { Phase D.means (life P.means) (round_todo (record { numbered = numbered.now; last = last })) result
         desk.old (Seated session.old inputs.old (output_slots outputs.old)) desk.new (Seated session.new inputs.new (output_slots outputs.new)) }
     ensures plan { session.new.plan ≡ session.old.plan }
+    ensures sent { session.new.link.sent ≤ session.old.link.sent + most_sent numbered.now.command }
     ensures created { AreCreated D.means (output_slots outputs.new) desk.new }
     ensures empty { drained outputs.new ≡ outputs.new }
 {
@@ -127,13 +132,16 @@ fn do_command<D: Desk, P: Dsp>(
     outputs: &mut Outputs,
     line: &mut Line,
 ) -> bool
-    requires played { is_played numbered.now.command ≡ true }
-    requires thin { IsThinPlan session.old.plan }
+    requires built { IsBuilt session.old.plan numbered.now.command }
+    requires numbers { is_in_range numbered.now.command ≡ true }
+    requires few { session.old.link.sent < 2 ^ 63 }
+    requires plan { IsLoadable session.old.plan }
     requires created { AreCreated D.means (output_slots outputs.old) desk.old }
     requires empty { drained outputs.old ≡ outputs.old }
     ensures phase { Phase D.means (life P.means) (rounds_todo (command_rounds numbered.now)) result
         desk.old (Seated session.old inputs.old (output_slots outputs.old)) desk.new (Seated session.new inputs.new (output_slots outputs.new)) }
     ensures plan { session.new.plan ≡ session.old.plan }
+    ensures sent { session.new.link.sent ≤ session.old.link.sent + 900 }
     ensures created { AreCreated D.means (output_slots outputs.new) desk.new }
     ensures empty { drained outputs.new ≡ outputs.new }
 {
@@ -154,8 +162,11 @@ pub fn do_commands<D: Desk, P: Dsp>(
     inputs: &mut Inputs,
     outputs: &mut Outputs,
 ) -> bool
-    requires played { list_all (λ n. is_played n.command) commands.now ≡ true }
-    requires thin { IsThinPlan session.old.plan }
+    requires built { AreBuilt session.old.plan commands.now }
+    requires numbers { list_all (λ n. is_in_range n.command) commands.now ≡ true }
+    requires few { length commands.now < 2 ^ 32 }
+    requires first { session.old.link.sent ≡ 0 }
+    requires plan { IsLoadable session.old.plan }
     requires created { AreCreated D.means (output_slots outputs.old) desk.old }
     requires empty { drained outputs.old ≡ outputs.old }
     ensures { Phase D.means (life P.means) (commands_todo commands.now) result

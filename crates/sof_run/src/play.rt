@@ -1,10 +1,9 @@
 // The top call.
 ghost use Rattle.std.specs.Prelude.{◌≡◌, ◌≤◌, [], map, None, string_bytes};
-ghost use Rattle.tplg_graph.specs.ThinPlan.{IsThinPlan};
 ghost use Rattle.sof_run.specs.Todo.{Free, Played};
 ghost use Rattle.sof_run.specs.Words.{form as form_of};
 ghost use Rattle.sof_script.specs.Commands.{told};
-ghost use Rattle.sof_run.specs.Halts.{IsCarriable};
+ghost use Rattle.sof_run.specs.Halts.{IsCarriable, IsInRange};
 ghost use Rattle.sof_run.specs.Play.{play, ready_todo};
 ghost use Rattle.sof_run.specs.Checking.{check_of};
 ghost use Rattle.sof_run.specs.Forms.{todo_for, todo_of};
@@ -40,8 +39,8 @@ fn do_session<D: Desk, P: Dsp>(
     requires off { P.means.on dsp ≡ None }
     requires pending { P.means.pending dsp ≡ 0 }
     requires fits { heap ≤ P.means.most dsp }
-    requires thin { IsThinPlan ready.plan }
     requires carriable { IsCarriable ready.plan (told ready.script) }
+    requires sound { IsInRange (told ready.script) }
     ensures { Gave D.means P.means (Free (ready_todo heap ready.plan (told ready.script))) desk.old dsp result.status desk.new result.dsp }
 {
     let Ok(mut inputs) = Inputs::new(alloc) else {

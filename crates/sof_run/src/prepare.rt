@@ -1,22 +1,21 @@
 // What the files of a run come to.
-ghost use Rattle.std.specs.Prelude.{◌≡◌, ◌<◌, ◌-◌, ◌^◌, true, length, None, Ok, IfOk, MatchResult};
+ghost use Rattle.std.specs.Prelude.{◌≡◌, ◌<◌, ◌-◌, ◌^◌, ◌==◌, length, None, Ok, IfOk, MatchResult};
 ghost use Rattle.tplg_model.specs.Reading.{topology_of};
 ghost use Rattle.tplg_graph.specs.RuleTest.{ruling_of};
 ghost use Rattle.tplg_graph.specs.ThinTest.{thin_test};
 ghost use Rattle.tplg_graph.specs.Needed.{IsSmall, need_on, need_of};
-ghost use Rattle.tplg_graph.specs.Thin.{IsThin};
-ghost use Rattle.tplg_graph.specs.ThinPlan.{IsThinPlan};
 ghost use Rattle.tplg_graph.specs.PlanOf.{plan_of};
+ghost use Rattle.host_widgets.specs.Controls.{first_blob, has_no_blobs};
 ghost use Rattle.sof_script.specs.Commands.{told};
 ghost use Rattle.std.specs.List.{list_all};
 ghost use Rattle.sof_run.specs.Bindings.{wrong_binding as wrong_of};
 ghost use Rattle.sof_run.specs.Play.{Ready as IsReady, is_played as is_carried_out, is_built_script, prepared, prepared_bindings, prepared_rules, prepared_script};
-ghost use Rattle.sof_run.specs.Halts.{Halts, HaltsFor, HaltsAtTopology, HaltsAtRules, HaltsAtPlan, IsCarriable};
+ghost use Rattle.sof_run.specs.Halts.{Halts, HaltsFor, HaltsAtTopology, HaltsAtRules, IsCarriable, IsPlanned};
 
 use crate::bindings::wrong_binding;
 use sof_script::{Command, Numbered, Script, ScriptFault, parse, ticks};
 use std::alloc::Global;
-use tplg_graph::{Plan, PlanFault, is_thin, plan};
+use tplg_graph::{ControlKind, ControlPlan, Plan, PlanFault, is_thin, plan};
 use tplg_model::Topology;
 use tplg_read::{TplgFault, read};
 
@@ -43,7 +42,7 @@ pub enum Halt {
     Rule { rule: u8, item: u32 },
     /// The binding of this line is wrong.
     Binding { line: u32 },
-    /// The topology is well-formed and not thin, or something that the script asks for is not built yet.
+    /// Something that the script asks for over the topology is not built yet.
     NotYet,
     /// Memory was wanting.
     OutOfMemory,
@@ -77,7 +76,7 @@ pub fn ruled_plan(alloc: Global, topology: &Topology) -> Result<Plan, Halt>
     ensures plan { MatchResult result
         (λ p. (ruling_of topology.now ≡ None) × (p ≡ plan_of topology.now))
         (λ halt. HaltsAtRules halt (ruling_of topology.now)) }
-    ensures thin { IfOk result (λ p. IsThin topology.now → IsThinPlan p) }
+    ensures planned { IfOk result (λ p. IsPlanned (thin_test topology.now) p) }
     ensures small { IfOk result (λ p. IsSmall p.graph) }
     ensures need { IfOk result (λ p. need_on p.graph ≡ need_of topology.now) }
 {
@@ -88,55 +87,72 @@ pub fn ruled_plan(alloc: Global, topology: &Topology) -> Result<Plan, Halt>
     }
 }
 
-// The plan of a topology that is well-formed and thin.
-fn plan_in(alloc: Global, topology: &Topology) -> Result<Plan, Halt>
-    ensures { MatchResult result
-        (λ p. (ruling_of topology.now ≡ None) × (thin_test topology.now ≡ true) × (p ≡ plan_of topology.now) × IsThinPlan p)
-        (λ halt. HaltsAtPlan halt (ruling_of topology.now) (thin_test topology.now)) }
+// Whether a topology is thin.
+fn asks_thin(alloc: Global, topology: &Topology) -> Result<bool, Halt>
+    ensures { MatchResult result (λ thin. thin ≡ thin_test topology.now) (λ halt. halt ≡ Halt.OutOfMemory) }
 {
-    let plan = ruled_plan(alloc, topology)?;
     match is_thin(alloc, topology) {
-        Ok(true) => Ok(plan),
-        Ok(false) => Err(Halt::NotYet),
+        Ok(thin) => Ok(thin),
         Err(_) => Err(Halt::OutOfMemory),
     }
 }
 
-// Whether a command is carried out so far.
-fn is_played(command: &Command) -> bool
-    ensures { result ≡ is_carried_out command.now }
+// Whether a command is carried out so far: streams and ticks are over a thin topology alone.
+fn is_played(thin: bool, command: &Command) -> bool
+    ensures { result ≡ is_carried_out thin command.now }
 {
     match command {
-        Command::Load | Command::Show => true,
-        Command::Open(_) | Command::Close(_) | Command::Params(_, _) => true,
-        Command::Start(_) | Command::Stop(_) | Command::Tick(_) => true,
+        Command::Load | Command::Unload | Command::Show => true,
+        Command::Refuse(_, _) => true,
+        Command::Open(_) | Command::Close(_) | Command::Params(_, _) => thin,
+        Command::Start(_) | Command::Stop(_) | Command::Tick(_) => thin,
         _ => false,
     }
 }
 
-fn are_played(commands: &[Numbered]) -> bool
-    ensures { result ≡ list_all (λ n. is_carried_out n.command) commands.now }
+fn are_played(thin: bool, commands: &[Numbered]) -> bool
+    ensures { result ≡ list_all (λ n. is_carried_out thin n.command) commands.now }
 {
-    commands.iter().all(|numbered| is_played(&numbered.command))
+    commands
+        .iter()
+        .all(|numbered| is_played(thin, &numbered.command))
 }
 
-// Whether all that a script asks for is built.
-fn asks_for_built(script: &Script) -> bool
-    ensures { result ≡ is_built_script (told script.now) }
+// Whether a control has no first blob.
+fn is_bare(control: &ControlPlan) -> bool
+    ensures { result ≡ (length (first_blob control.now.kind) == 0) }
 {
-    are_played(script.commands.items())
+    match &control.kind {
+        ControlKind::Blob { initial, .. } => initial.items().len() == 0,
+        _ => true,
+    }
+}
+
+// Whether no equaliser of a plan begins with a blob.
+fn is_without_blobs(plan: &Plan) -> bool
+    ensures { result ≡ has_no_blobs plan.now }
+{
+    plan.controls.items().iter().all(|control| is_bare(control))
+}
+
+// Whether all that a script asks for over a plan is built.
+fn asks_for_built(thin: bool, plan: &Plan, script: &Script) -> bool
+    ensures { result ≡ is_built_script thin plan.now (told script.now) }
+{
+    is_without_blobs(plan) && are_played(thin, script.commands.items())
 }
 
 // A plan with a script of right bindings, of which all is built.
-fn ready_for(plan: Plan, script: Script) -> Result<Ready, Halt>
+fn ready_for(thin: bool, plan: Plan, script: Script) -> Result<Ready, Halt>
+    requires { IsPlanned thin plan }
     ensures { MatchResult result
-        (λ ready. (ready.plan ≡ plan) × IsCarriable ready.plan (told ready.script) × (prepared_bindings plan (told script) (wrong_of plan (told script).bindings) ≡ IsReady ready.plan (told ready.script)))
-        (λ halt. Halts halt (prepared_bindings plan (told script) (wrong_of plan (told script).bindings))) }
+        (λ ready. (ready.plan ≡ plan) × IsCarriable ready.plan (told ready.script) × (prepared_bindings thin plan (told script) (wrong_of plan (told script).bindings) ≡ IsReady ready.plan (told ready.script)))
+        (λ halt. Halts halt (prepared_bindings thin plan (told script) (wrong_of plan (told script).bindings))) }
 {
     if let Some(line) = wrong_binding(&plan, script.bindings.items()) {
         return Err(Halt::Binding { line });
     }
-    if !asks_for_built(&script) {
+    if !asks_for_built(thin, &plan, &script) {
         return Err(Halt::NotYet);
     }
     Ok(Ready { plan, script })
@@ -145,18 +161,19 @@ fn ready_for(plan: Plan, script: Script) -> Result<Ready, Halt>
 // A script over a topology, whose rules come first.
 fn prepare_rules(alloc: Global, topology: &Topology, script: Script) -> Result<Ready, Halt>
     ensures { MatchResult result
-        (λ ready. (prepared_rules topology.now (told script) (ruling_of topology.now) ≡ IsReady ready.plan (told ready.script)) × IsThinPlan ready.plan × IsCarriable ready.plan (told ready.script))
+        (λ ready. (prepared_rules topology.now (told script) (ruling_of topology.now) ≡ IsReady ready.plan (told ready.script)) × IsCarriable ready.plan (told ready.script))
         (λ halt. Halts halt (prepared_rules topology.now (told script) (ruling_of topology.now))) }
 {
-    let plan = plan_in(alloc, topology)?;
-    ready_for(plan, script)
+    let plan = ruled_plan(alloc, topology)?;
+    let thin = asks_thin(alloc, topology)?;
+    ready_for(thin, plan, script)
 }
 
 // A script of which neither line is at fault, over a topology's bytes.
 fn prepare_script(alloc: Global, topology: &[u8], script: Script) -> Result<Ready, Halt>
     requires { length script.commands < 2 ^ 32 }
     ensures { MatchResult result
-        (λ ready. (prepared_script topology.now (Ok (told script)) ≡ IsReady ready.plan (told ready.script)) × IsThinPlan ready.plan × IsCarriable ready.plan (told ready.script))
+        (λ ready. (prepared_script topology.now (Ok (told script)) ≡ IsReady ready.plan (told ready.script)) × IsCarriable ready.plan (told ready.script))
         (λ halt. Halts halt (prepared_script topology.now (Ok (told script)))) }
 {
     let sum = ticks(&script);
@@ -168,11 +185,11 @@ fn prepare_script(alloc: Global, topology: &[u8], script: Script) -> Result<Read
 }
 
 /// What the bytes of a topology and of a script come to. The script's lines are looked at first, then its ticks, then the
-/// topology and its rules, then whether it is thin, then the bindings, and last whether all is built.
+/// topology and its rules, then the bindings, and last whether all is built.
 pub fn prepare(alloc: Global, topology: &[u8], script: &[u8]) -> Result<Ready, Halt>
     requires { length script.now < 2 ^ 32 - 1 }
     ensures { MatchResult result
-        (λ ready. (prepared topology.now script.now ≡ IsReady ready.plan (told ready.script)) × IsThinPlan ready.plan × IsCarriable ready.plan (told ready.script))
+        (λ ready. (prepared topology.now script.now ≡ IsReady ready.plan (told ready.script)) × IsCarriable ready.plan (told ready.script))
         (λ halt. Halts halt (prepared topology.now script.now)) }
 {
     match parse(alloc, script) {

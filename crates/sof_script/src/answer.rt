@@ -20,8 +20,8 @@ fn stand_word(found: Found) -> &'static [u8]
     }
 }
 
-// Each value in decimal digits, after a blank.
-fn say_values(values: &[u32], line: &mut Line)
+/// Writes each of at most 8 values in decimal digits, after a blank, behind a line of at most 100 bytes.
+pub fn say_values(values: &[u32], line: &mut Line)
     requires few { length values.now ≤ 8 }
     requires room { length line.old ≤ 100 }
     ensures said { line.new ≡ line.old ++ values_words values.now }

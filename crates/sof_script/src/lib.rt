@@ -16,7 +16,7 @@ mod tokens;
 mod values;
 mod words;
 
-pub use answer::write_answer;
+pub use answer::{say_values, write_answer};
 pub use line::Line;
 pub use reading::{ScriptFault, parse};
 pub use script::{Binding, Command, Numbered, Script, ticks};

@@ -8,7 +8,7 @@ use Rattle.mbox_link.specs.Wire.{Wire}
 use Rattle.mbox_link.specs.Link.{link}
 use Rattle.mbox_link.proofs.Led.{Led-steady}
 use Rattle.tplg_graph.specs.declared.planned.Plan.{Plan}
-use Rattle.tplg_graph.specs.ThinPlan.{IsThinPlan}
+use Rattle.host_widgets.specs.Controls.{IsLoadable}
 use Rattle.host_widgets.specs.declared.answers.HostFault.TheVariants.{NotLoaded, Loaded, NoSuch, State, Off, Range, Refused, LinkDown, Blob}
 use Rattle.host_widgets.specs.declared.kept.Power.{Power}
 use Rattle.host_widgets.specs.declared.kept.Power.TheVariants.{Unloaded, On, Off}
@@ -16,10 +16,10 @@ use Rattle.host_widgets.specs.declared.kept.Record.{Record}
 use Rattle.host_widgets.specs.HostRecord.{all_closed, first_record}
 use Rattle.host_widgets.specs.Expected.{loaded_state}
 use Rattle.host_widgets.specs.Host.{Outcome, Loads, LoadLeft, after_load, load_calls, ticks_put, Agrees}
-use Rattle.host_widgets.proofs.ThinRecords.{closed-record}
+use Rattle.host_widgets.proofs.Records.{closed-record}
 use Rattle.sof_session.specs.Seat.{Seat, new_seat}
-use Rattle.sof_session.specs.Turns.{AreAgreed, IsUnplanned, Powered}
-use Rattle.sof_session.proofs.Unplanned.{Led-unplanned}
+use Rattle.sof_session.specs.Turns.{AreAgreed, IsFated, Powered}
+use Rattle.sof_session.proofs.LinkFates.{Led-fated}
 use Rattle.sof_session.proofs.Keeping.{Keeps-loaded}
 
 abbrev pub at : {D : Type 0} → D → Io → World D
@@ -38,7 +38,7 @@ module _ {P : Type 0} (means : Meaning P) (old : Seat P) (wire : Wire P) (io io'
   -- what the calls keep
   pub record Kept : Type 0 where
     pub steady : Steady (link means) old.link wire
-    pub unplanned : IsUnplanned wire
+    pub fated : IsFated wire
 
   pub agreed_with : Kept → (kept : Record) → Agrees means old.plan kept wire.device → Powered means (seat_with kept) kept.power → AreAgreed means (seat_with kept)
   agreed_with calls kept agree powered = record {
@@ -46,8 +46,8 @@ module _ {P : Type 0} (means : Meaning P) (old : Seat P) (wire : Wire P) (io io'
     powered = powered;
     room = omega (arith, agreed.room, calls.steady.most);
     pending = omega (arith, agreed.pending, calls.steady.pending);
-    unplanned = calls.unplanned;
-    thin = agreed.thin;
+    fated = calls.fated;
+    loadable = agreed.loadable;
   }
 
   no_ticks : Kept → ticks_put (link means) old.link wire ≡ 0
@@ -56,13 +56,13 @@ module _ {P : Type 0} (means : Meaning P) (old : Seat P) (wire : Wire P) (io io'
   agreed_on : Kept → means.on wire.device ≡ Some (loaded_state old.plan old.heap (ticks_put (link means) old.link wire)) → AreAgreed means (seat_with (all_closed On old.plan))
   agreed_on calls on =
       let now : means.on wire.device ≡ Some (loaded_state old.plan old.heap 0) = on ∙ ap (λ (n : ℕ). Some (loaded_state old.plan old.heap n)) (no_ticks calls) in
-      agreed_with calls (all_closed On old.plan) (record { record_is = closed-record On old.plan agreed.thin; sides = ap (option_map view_of) now }) (loaded_state old.plan old.heap 0, now, Keeps-loaded old.plan old.heap)
+      agreed_with calls (all_closed On old.plan) (record { record_is = closed-record On old.plan; sides = ap (option_map view_of) now }) (loaded_state old.plan old.heap 0, now, Keeps-loaded old.plan old.heap)
 
-  agreed_off : Kept → means.on wire.device ≡ None → AreAgreed means (seat_with (first_record old.plan))
+  pub agreed_off : Kept → means.on wire.device ≡ None → AreAgreed means (seat_with (first_record old.plan))
   agreed_off calls off =
-      agreed_with calls (first_record old.plan) (record { record_is = closed-record Unloaded old.plan agreed.thin; sides = (refl, off) }) off
+      agreed_with calls (first_record old.plan) (record { record_is = closed-record Unloaded old.plan; sides = (refl, off) }) off
 
-  agreed_as_before : wire ≡ old.link → AreAgreed means (seat_with old.kept)
+  pub agreed_as_before : wire ≡ old.link → AreAgreed means (seat_with old.kept)
   agreed_as_before same = subst (λ (w : Wire P). AreAgreed means (record { link = w; kept = old.kept; plan = old.plan; heap = old.heap })) (sym same) agreed
 
   agreed_after : Kept → (outcome : Outcome) → LoadLeft (link means) old.plan old.heap old.link outcome wire → AreAgreed means (seat_with (after_load old.plan outcome old.kept))
@@ -82,17 +82,17 @@ module _ {P : Type 0} (means : Meaning P) (old : Seat P) (wire : Wire P) (io io'
       let led = Loads-led (link means) old.plan old.heap old.kept.power (at old.link io) (at wire io') outcome loads in
       let calls : Kept = record {
         steady = Led-steady (link means) led.0 (at old.link io) (at wire io') led.1;
-        unplanned = Led-unplanned means led.0 (at old.link io) (at wire io') agreed.unplanned led.1;
+        fated = Led-fated means led.0 (at old.link io) (at wire io') agreed.fated led.1;
       } in
       subst (λ (r : Record). AreAgreed means (seat_with r)) (sym is) (agreed_after calls outcome left)
 
 -- before the first command nothing is loaded, and the device is off
-pub AreAgreed-new : {P : Type 0} (means : Meaning P) (plan : Plan) (heap : ℕ) (dsp : P) → means.on dsp ≡ None → means.pending dsp ≡ 0 → heap ≤ means.most dsp → IsThinPlan plan → AreAgreed means (new_seat plan heap dsp)
-AreAgreed-new means plan heap dsp off pending room thin = record {
-  agree = record { record_is = closed-record Unloaded plan thin; sides = (refl, off) };
+pub AreAgreed-new : {P : Type 0} (means : Meaning P) (plan : Plan) (heap : ℕ) (dsp : P) → means.on dsp ≡ None → means.pending dsp ≡ 0 → heap ≤ means.most dsp → IsLoadable plan → AreAgreed means (new_seat plan heap dsp)
+AreAgreed-new means plan heap dsp off pending room loadable = record {
+  agree = record { record_is = closed-record Unloaded plan; sides = (refl, off) };
   powered = off;
   room = room;
   pending = pending;
-  unplanned = record { entries = refl; dropped = refl; refused = refl };
-  thin = thin;
+  fated = record { meant = tt; dropped = omega arith; refused = omega arith; counted = omega arith };
+  loadable = loadable;
 }

@@ -19,9 +19,11 @@ use Rattle.host_widgets.specs.declared.kept.Power.TheVariants.{Unloaded, On, Off
 use Rattle.host_widgets.specs.declared.kept.StreamRec.{StreamRec}
 use Rattle.host_widgets.specs.declared.kept.Record.{Record}
 use Rattle.host_widgets.specs.HostRecord.{went_down, no_stream, closed}
+use Rattle.host_widgets.specs.Controls.{IsLoadable}
 use Rattle.host_widgets.specs.Acts.{Act}
 use Rattle.host_widgets.specs.Host.{Outcome}
-use Rattle.host_widgets.proofs.ThinRecords.{only, shown, down-record}
+use Rattle.host_widgets.proofs.ThinRecords.{only, shown}
+use Rattle.host_widgets.proofs.Records.{down-record}
 use Rattle.host_pcm.specs.declared.asking.Ask.{Ask}
 use Rattle.host_pcm.specs.declared.asking.Ask.TheVariants.{Opening, Preparing, Triggering, Closing}
 use Rattle.host_pcm.specs.Asks.{is_named, stream_place, caps_at, named_fault, loaded_fault, early_fault, stream_at, stream_acts, after_acts, after_ask}
@@ -53,7 +55,7 @@ no-place name Unloaded is = cc is
 no-place name On is = cc is
 no-place name Off is = cc is
 
-module _ (whole : List (ℕ × List ℕ)) (inputs : List InputView) (before : List Moment) (plan : Plan) (thin : IsThinPlan plan) (heap sent : ℕ) (entries : List Entry) (slots : List ℕ) where
+module _ (whole : List (ℕ × List ℕ)) (inputs : List InputView) (before : List Moment) (plan : Plan) (thin : IsThinPlan plan) (loadable : IsLoadable plan) (heap sent : ℕ) (entries : List Entry) (slots : List ℕ) where
   -- a host with this record and this device
   abbrev pub host_with : Record → Option FwState → Host
   host_with kept device = record { plan = plan; heap = heap; kept = kept; sent = sent; entries = entries; device = device; inputs = inputs; slots = slots }
@@ -100,7 +102,7 @@ module _ (whole : List (ℕ × List ℕ)) (inputs : List InputView) (before : Li
         let went = (passed n).went in
         let still = subst (λ (ms : List Moment). Went plan thin heap whole inputs (Some (state n)) (before ++ ms) bytes) (sym (append-nil (moments n))) went in
         quietly whole slots before bytes boots (answer_of outcome) [] h' (moments n ++ [])
-        record { thin = thin; record_is = one-record plan thin On r' may'; device = (state n, refl, keeps') }
+        record { loadable = loadable; record_is = one-record plan thin On r' may'; device = (state n, refl, keeps') }
         refl (record { stands = still.after; bytes_are = still.bytes_are })
 
     done : (n sent' : ℕ) (entries' : List Entry) → n ≡ length acts → Ends (Ok tt) n sent' entries'
@@ -118,10 +120,10 @@ module _ (whole : List (ℕ × List ℕ)) (inputs : List InputView) (before : Li
         let left = one plan thin On (after_acts (take n acts) r) in
         let h' : Host = record (host_with (went_down left) None) { sent = sent'; entries = entries' } in
         let went = (passed n).went in
-        let cut = cut-stands plan thin heap whole inputs bytes (before ++ moments n) (stands-read plan thin heap whole inputs bytes (Some (state n)) (before ++ moments n) went.after went.bytes_are) in
+        let cut = cut-stands plan heap whole inputs bytes (before ++ moments n) (stands-read plan heap whole inputs bytes (Some (state n)) (before ++ moments n) went.after went.bytes_are) in
         let still = subst (λ (ms : List Moment). (s : Stands None whole inputs ms) × (s.past.bytes ≡ bytes)) (append_assoc before (moments n) (Cut ∷ [])) cut in
         quietly whole slots before bytes boots (Fault LinkDown) [] h' (moments n ++ Cut ∷ [])
-        record { thin = thin; record_is = down-record plan left thin (one-record plan thin On (after_acts (take n acts) r) (passed n).may); device = refl }
+        record { loadable = loadable; record_is = down-record plan left (one-record plan thin On (after_acts (take n acts) r) (passed n).may); device = refl }
         refl (record { stands = still.0; bytes_are = still.1 })
 
     ended : (outcome : Outcome) (n sent' : ℕ) (entries' : List Entry) → (outcome ≡ Ok tt → n ≡ length acts) → Ends outcome n sent' entries'
@@ -141,7 +143,7 @@ module _ (whole : List (ℕ × List ℕ)) (inputs : List InputView) (before : Li
     off-goes : (r' : StreamRec) → MayBe r' → Goes stood.past.bytes (stand boots (host_with (one plan thin Off r') None), silent (answer_of (Ok tt))) []
     off-goes r' may' =
         quietly whole slots before stood.past.bytes boots (answer_of (Ok tt)) [] (host_with (one plan thin Off r') None) []
-        record { thin = thin; record_is = one-record plan thin Off r' may'; device = refl }
+        record { loadable = loadable; record_is = one-record plan thin Off r' may'; device = refl }
         refl (still-at whole slots before stood.past.bytes (host_with (one plan thin Off r') None) before [] stood refl (sym (append-nil before)))
 
     off-walks : (ask : Ask) → Stood (caps_at plan 0) ask r.found Off → Goes stood.past.bytes (walk_next 0 ask boots (host_with (one plan thin Off r) None)) (tested_moments None 0 ask (host_with (one plan thin Off r) None))
@@ -188,12 +190,12 @@ module _ (whole : List (ℕ × List ℕ)) (inputs : List InputView) (before : Li
       one-goes = tested (early_fault plan (one plan thin power r) name ask) refl
 
 -- a call on the stream of this name
-pub call-goes : (whole : List (ℕ × List ℕ)) (h : Host) (settled : IsSettled h) (before : List Moment) (stood : Stands h.device whole h.inputs before) (name : List ℕ) (ask : Ask) (boots : ℕ) →
+pub call-goes : (whole : List (ℕ × List ℕ)) (h : Host) (settled : IsSettled h) (thin : IsThinPlan h.plan) (before : List Moment) (stood : Stands h.device whole h.inputs before) (name : List ℕ) (ask : Ask) (boots : ℕ) →
     GoesBy whole h.slots before stood.past.bytes (stream_next name ask boots h) (asked_moments (Some (name, ask)) h)
-call-goes whole h settled before stood name ask boots =
-    let o = only h.plan h.kept settled.thin settled.record_is in
-    let same : h.kept ≡ one h.plan settled.thin h.kept.power o.stream = (λ i. record { power = h.kept.power; streams = o.is i }) in
-    let with_kept = λ (kept : Record). host_with whole h.inputs before h.plan settled.thin h.heap h.sent h.entries h.slots kept h.device in
+call-goes whole h settled thin before stood name ask boots =
+    let o = only h.plan h.kept thin settled.record_is in
+    let same : h.kept ≡ one h.plan thin h.kept.power o.stream = (λ i. record { power = h.kept.power; streams = o.is i }) in
+    let with_kept = λ (kept : Record). host_with whole h.inputs before h.plan thin settled.loadable h.heap h.sent h.entries h.slots kept h.device in
     subst (λ (kept : Record). GoesBy whole h.slots before stood.past.bytes (stream_next name ask boots (with_kept kept)) (asked_moments (Some (name, ask)) (with_kept kept))) (sym same)
-    (one-goes whole h.inputs before h.plan settled.thin h.heap h.sent h.entries h.slots o.stream o.may name ask boots h.kept.power h.device
+    (one-goes whole h.inputs before h.plan thin settled.loadable h.heap h.sent h.entries h.slots o.stream o.may name ask boots h.kept.power h.device
     (subst (λ (kept : Record). IsSettled (with_kept kept)) same settled) stood)

@@ -11,6 +11,8 @@ use Rattle.stream_law.specs.Seen.{seen, ring_seen, equalises, history_seen}
 use Rattle.stream_law.specs.Move.{Audio, state_after}
 use Rattle.tplg_graph.specs.declared.planned.Plan.{Plan}
 use Rattle.tplg_graph.specs.ThinPlan.{IsThinPlan, thin_graph}
+use Rattle.mbox_link.specs.Step.{with_comps}
+use Rattle.host_widgets.specs.Controls.{set_comp, set_graph}
 use Rattle.host_widgets.specs.declared.kept.Power.TheVariants.{On}
 use Rattle.host_widgets.specs.declared.kept.Record.{Record}
 use Rattle.host_widgets.specs.HostRecord.{all_closed}
@@ -70,9 +72,10 @@ none-equalises pipe size format sched streams =
     let v = view_in streams (thin_graph pipe size format sched) in rw (and-false (live v 0), and-false (live v 2)) refl
 
 module _ (plan : Plan) (thin : IsThinPlan plan) (heap : ℕ) where
-  no-equaliser : (streams : List StreamView) → filter (equalises (view_in streams plan.graph)) (components plan.graph) ≡ []
+  no-equaliser : (streams : List StreamView) → filter (equalises (view_in streams (set_graph plan))) (components (set_graph plan)) ≡ []
   no-equaliser streams =
-      subst (λ (g : Graph). filter (equalises (view_in streams g)) (components g) ≡ []) (sym thin.graph) (none-equalises thin.pipe thin.size thin.format thin.sched streams)
+      let set : set_graph plan ≡ thin_graph thin.pipe thin.size thin.format thin.sched = λ i. with_comps (map (set_comp plan) (thin.graph i).comps) (thin.graph i) in
+      subst (λ (g : Graph). filter (equalises (view_in streams g)) (components g) ≡ []) (sym set) (none-equalises thin.pipe thin.size thin.format thin.sched streams)
 
   seen-rests : (now : Record) (f : FwState) → Rests plan heap f → Rests plan heap (seen (expected_view plan now) None f)
   seen-rests now f rests =

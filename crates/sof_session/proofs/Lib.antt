@@ -1,10 +1,13 @@
 pub mod LinesAt
-pub mod Unplanned
+pub mod LinkFates
 pub mod StayedCounts
+pub mod FewActs
 pub mod WalkEnds
 pub mod WalkCuts
 pub mod Agreement
 pub mod Turning
+pub mod UnloadTurning
+pub mod PlanTurning
 pub mod TurnLaws
 pub mod Keeping
 pub mod Writings
@@ -20,5 +23,7 @@ pub mod GoingOn
 pub mod LoadStands
 pub mod WalkCounts
 pub mod LoadGoes
+pub mod OtherGoes
+pub mod PlanStays
 pub mod TickGoes
 pub mod CallGoes

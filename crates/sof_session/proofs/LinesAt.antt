@@ -53,6 +53,9 @@ IsLineAt-none lines k line is = rw is refl
 pub IsLineAt-front : (lines more : List (List ℕ)) (k : ℕ) (line text : List ℕ) → k < length lines → slice_get lines k ≡ Some text → line ≡ text → IsLineAt (lines ++ more) k true line
 IsLineAt-front lines more k line text within is same = IsLineAt-some (lines ++ more) k line text (get-front lines more k within ∙ is) same
 
+pub IsLineAt-first : (lines more : List (List ℕ)) (k : ℕ) (there : Bool) (line : List ℕ) → k < length lines → IsLineAt lines k there line → IsLineAt (lines ++ more) k there line
+IsLineAt-first lines more k there line within rest = rw (get-front lines more k within) rest
+
 pub IsLineAt-behind : (lines more : List (List ℕ)) (k : ℕ) (there : Bool) (line : List ℕ) → length lines ≤ k → IsLineAt more (k - length lines) there line → IsLineAt (lines ++ more) k there line
 IsLineAt-behind lines more k there line past rest = rw (get-behind lines more k past) rest
 

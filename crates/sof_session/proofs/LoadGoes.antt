@@ -1,14 +1,11 @@
 -- What a load makes of a host goes on standing.
-use Rattle.std.proofs.Common.{◌≡◌, refl, sym, subst, ◌∙◌, ℕ, suc, List, [], ◌∷◌, ◌++◌, map, replicate, length, None, Ok, Err}
-use Rattle.std.specs.List.{range_with_len}
+use Rattle.std.proofs.Common.{◌≡◌, refl, sym, subst, ℕ, zero, suc, List, [], ◌∷◌, ◌++◌, replicate, length, None, Ok, Err}
 use Rattle.std.proofs.lemmas.List.{append-nil}
 use Rattle.stream_law.specs.Past.{Moment, Boot, Now}
 use Rattle.stream_law.specs.Stands.{Stands}
 use Rattle.mbox_link.specs.declared.fates.Entry.{Entry}
 use Rattle.mbox_link.specs.Exchange.{more}
 use Rattle.tplg_graph.specs.declared.planned.Plan.{Plan}
-use Rattle.tplg_graph.specs.declared.planned.WidgetPlan.{WidgetPlan}
-use Rattle.tplg_graph.specs.ThinPlan.{IsThinPlan}
 use Rattle.host_widgets.specs.declared.answers.HostFault.{HostFault}
 use Rattle.host_widgets.specs.declared.answers.HostFault.TheVariants.{Refused, LinkDown, Loaded}
 use Rattle.host_widgets.specs.declared.answers.Answer.TheVariants.{Fault}
@@ -16,30 +13,17 @@ use Rattle.host_widgets.specs.declared.kept.Power.{Power}
 use Rattle.host_widgets.specs.declared.kept.Power.TheVariants.{Unloaded, On, Off}
 use Rattle.host_widgets.specs.declared.kept.Record.{Record}
 use Rattle.host_widgets.specs.HostRecord.{first_record}
-use Rattle.host_widgets.specs.Acts.{Act, Make, Join, Finish, bring_up_acts}
+use Rattle.host_widgets.specs.Acts.{bring_up_acts}
 use Rattle.host_widgets.specs.Expected.{expected_view, loaded_state}
 use Rattle.host_widgets.specs.Host.{Outcome, after_load}
-use Rattle.host_widgets.proofs.ThinRecords.{closed-record}
+use Rattle.host_widgets.proofs.Records.{closed-record}
+use Rattle.host_widgets.proofs.BarePlans.{Bare, bare}
 use Rattle.sof_session.specs.Walks.{Host, Stand, Out, ending, walked, answer_of, silent, stand, host_after, load_next}
 use Rattle.sof_session.specs.Moments.{IsSettled, SettledBy, load_end, load_moments}
 use Rattle.sof_session.proofs.WalkCounts.{all-passed}
 use Rattle.sof_session.proofs.GoingOn.{GoesBy, quietly, still-at}
 use Rattle.sof_session.proofs.Keeping.{Keeps-loaded}
-use Rattle.sof_session.proofs.LoadStands.{Read, stands-read, loaded-stands, failed-stands}
-
--- the list that brings a thin plan up has acts
-record HasActs (acts : List Act) : Type 0 where
-  count : ℕ
-  is : length acts ≡ suc count
-
-of-more : (act : Act) (acts : List Act) → HasActs (act ∷ acts)
-of-more act acts = record { count = length acts; is = refl }
-
-has-acts : (plan : Plan) → IsThinPlan plan → HasActs (bring_up_acts plan)
-has-acts plan thin =
-    let rest : List Act = map (λ j. Join j.source j.sink) plan.graph.joins ++ map (λ p. Finish p.id) plan.graph.pipes in
-    subst (λ (widgets : List WidgetPlan). HasActs (map Make (range_with_len 0 (length widgets)) ++ rest)) (sym thin.widgets)
-    (of-more (Make 0) (Make 1 ∷ Make 2 ∷ Make 3 ∷ rest))
+use Rattle.sof_session.proofs.LoadStands.{Read, stands-read, bare-stands, loaded-stands, failed-stands}
 
 -- a load that failed leaves the first record
 failed-kept : (plan : Plan) (fault : HostFault) (kept : Record) → kept ≡ first_record plan → after_load plan (Err fault) kept ≡ first_record plan
@@ -61,8 +45,8 @@ module _ (whole : List (ℕ × List ℕ)) (h : Host) (settled : IsSettled h) (be
       (quietly whole h.slots before bytes boots out.answer out.shown h [] settled refl
       (still-at whole h.slots before bytes h before [] stood refl (sym (append-nil before))))
 
-  read : Read h.plan settled.thin h.heap whole h.inputs bytes before
-  read = stands-read h.plan settled.thin h.heap whole h.inputs bytes h.device before stood refl
+  read : Read h.plan h.heap whole h.inputs bytes before
+  read = stands-read h.plan h.heap whole h.inputs bytes h.device before stood refl
 
   module _ (boots : ℕ) (first : h.kept ≡ first_record h.plan) where
     -- each act that passed, of a walk that ended so
@@ -75,30 +59,41 @@ module _ (whole : List (ℕ × List ℕ)) (h : Host) (settled : IsSettled h) (be
     done : (n sent : ℕ) (entries : List Entry) → Ends (Ok tt) (suc n) sent entries
     done n sent entries =
         let h' = host_after h (ending (Ok tt) (suc n) sent entries) in
-        let went = loaded-stands h.plan settled.thin h.heap whole h.inputs bytes n before read in
+        let went = loaded-stands h.plan h.heap whole h.inputs bytes n before read in
         let moments = moments_of (suc n) (Ok tt) (first_record h.plan) in
         let goes : Goes (stand boots h', silent (answer_of (Ok tt))) moments =
         quietly whole h.slots before bytes boots (answer_of (Ok tt)) [] h' moments
-        record { thin = settled.thin; record_is = closed-record On h.plan settled.thin; device = (loaded_state h.plan h.heap 0, refl, Keeps-loaded h.plan h.heap) }
+        record { loadable = settled.loadable; record_is = closed-record On h.plan; device = (loaded_state h.plan h.heap 0, refl, Keeps-loaded h.plan h.heap) }
         refl (record { stands = went.0; bytes_are = went.1 }) in
         subst (λ (kept : Record). Goes (stand boots h', silent (answer_of (Ok tt))) (moments_of (suc n) (Ok tt) kept)) (sym first) goes
 
+    -- an empty plan
+    bare-done : (sent : ℕ) (entries : List Entry) → Bare h.plan → Ends (Ok tt) zero sent entries
+    bare-done sent entries is =
+        let h' = host_after h (ending (Ok tt) zero sent entries) in
+        let went = bare-stands h.plan h.heap whole h.inputs bytes (is.state h.heap) is.view before read in
+        let moments = moments_of zero (Ok tt) (first_record h.plan) in
+        let goes : Goes (stand boots h', silent (answer_of (Ok tt))) moments =
+        quietly whole h.slots before bytes boots (answer_of (Ok tt)) [] h' moments
+        record { loadable = settled.loadable; record_is = closed-record On h.plan; device = (loaded_state h.plan h.heap 0, refl, Keeps-loaded h.plan h.heap) }
+        refl (record { stands = went.0; bytes_are = went.1 }) in
+        subst (λ (kept : Record). Goes (stand boots h', silent (answer_of (Ok tt))) (moments_of zero (Ok tt) kept)) (sym first) goes
+
     failed : (fault : HostFault) (n sent : ℕ) (entries : List Entry) → Ends (Err fault) n sent entries
     failed fault n sent entries =
-        let went = failed-stands h.plan settled.thin h.heap whole h.inputs bytes n before read in
+        let went = failed-stands h.plan h.heap whole h.inputs bytes n before read in
         let moments = moments_of n (Err fault) (first_record h.plan) in
         let h' : Host = record h { kept = first_record h.plan; sent = sent; entries = entries; device = None } in
         let goes : Goes (stand boots h', silent (answer_of (Err fault))) moments =
         quietly whole h.slots before bytes boots (answer_of (Err fault)) [] h' moments
-        record { thin = settled.thin; record_is = closed-record Unloaded h.plan settled.thin; device = (refl, refl) }
+        record { loadable = settled.loadable; record_is = closed-record Unloaded h.plan; device = (refl, refl) }
         refl (record { stands = went.0; bytes_are = went.1 }) in
         subst (λ (k : Record × Record). Goes (stand boots (record h { kept = k.0; sent = sent; entries = entries; device = None }), silent (answer_of (Err fault))) (moments_of n (Err fault) k.1))
         (λ i. (sym (failed-kept h.plan fault h.kept first) i, sym first i)) goes
 
     ended : (outcome : Outcome) (n sent : ℕ) (entries : List Entry) → (outcome ≡ Ok tt → n ≡ length (bring_up_acts h.plan)) → Ends outcome n sent entries
-    ended (Ok done_so) n sent entries passed =
-        let has = has-acts h.plan settled.thin in
-        subst (λ (n : ℕ). Ends (Ok tt) n sent entries) (sym (passed refl ∙ has.is)) (done has.count sent entries)
+    ended (Ok done_so) zero sent entries passed = bare-done sent entries (bare h.plan settled.loadable.sound (sym (passed refl)))
+    ended (Ok done_so) (suc n) sent entries passed = done n sent entries
     ended (Err fault) n sent entries passed = failed fault n sent entries
 
   -- by the power

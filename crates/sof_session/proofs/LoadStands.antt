@@ -13,12 +13,10 @@ use Rattle.stream_law.proofs.Standing.{Stands-boot, Stands-cut, Stands-reads}
 use Rattle.stream_law.proofs.Building.{Stands-building, Stands-now_building, Stands-built}
 use Rattle.mbox_link.specs.Step.{fresh}
 use Rattle.tplg_graph.specs.declared.planned.Plan.{Plan}
-use Rattle.tplg_graph.specs.declared.planned.StreamPlan.{StreamPlan}
-use Rattle.tplg_graph.specs.ThinPlan.{IsThinPlan}
 use Rattle.host_widgets.specs.declared.kept.Power.TheVariants.{Unloaded}
-use Rattle.host_widgets.specs.HostRecord.{first_record, closed}
+use Rattle.host_widgets.specs.HostRecord.{first_record}
 use Rattle.host_widgets.specs.Expected.{expected_view, loaded_state}
-use Rattle.host_widgets.proofs.ThinRecords.{view-is, closed-record}
+use Rattle.host_widgets.proofs.Records.{closed-agrees, closed-silent}
 use Rattle.sof_session.proofs.Keeping.{Keeps-loaded}
 
 -- ---- rings without frames
@@ -34,7 +32,7 @@ rings-empty (e ∷ edges) b = by_first (e.buffer == b) (rings-empty edges b)
     by_first true rest = refl
     by_first false rest = rest
 
-module _ (plan : Plan) (thin : IsThinPlan plan) (heap : ℕ) where
+module _ (plan : Plan) (heap : ℕ) where
   abbrev loaded : FwState
   loaded = loaded_state plan heap 0
 
@@ -43,12 +41,10 @@ module _ (plan : Plan) (thin : IsThinPlan plan) (heap : ℕ) where
   rest_view = expected_view plan (first_record plan)
 
   silent : IsTrue (is_silent rest_view)
-  silent =
-      let one : (first_record plan).streams ≡ closed ∷ [] = ap (map (λ (s : StreamPlan). closed)) thin.streams in
-      ap is_silent (view-is plan (first_record plan) closed thin one)
+  silent = closed-silent Unloaded plan
 
   agrees : agree rest_view ≡ true
-  agrees = (closed-record Unloaded plan thin).shapes
+  agrees = closed-agrees Unloaded plan
 
   sees-loaded : (f : FwState) → f.clock ≡ 0 → SeesSilent f loaded
   sees-loaded f clock = record { clock = sym clock; silent = silent; buffers = (Keeps-loaded plan heap).rings; rings = λ b. rings-empty plan.graph.edges b }
@@ -112,6 +108,11 @@ module _ (plan : Plan) (thin : IsThinPlan plan) (heap : ℕ) where
     stands-built : (moments : List Moment) → Builds loaded rest_view moments → StandsSo (Some loaded) moments
     unfolding Stands-built
     stands-built moments b = (Stands-built loaded whole inputs moments b.after (sym b.view_is), b.bytes_are)
+
+    -- a load of which all acts passed, of which there is none
+    pub bare-stands : fresh heap ≡ loaded → rest_view ≡ empty_view → (moments : List Moment) → Read moments → StandsSo (Some loaded) (moments ++ Boot ∷ [])
+    bare-stands same bare moments read =
+        stands-built (moments ++ Boot ∷ []) (subst (λ (p : FwState × View). Builds p.0 p.1 (moments ++ Boot ∷ [])) (λ i. (same i, sym bare i)) (boots moments read))
 
     -- a load of which all acts passed, of which there is one
     pub loaded-stands : (n : ℕ) (moments : List Moment) → Read moments → StandsSo (Some loaded) (moments ++ (Boot ∷ replicate (suc n) now ++ []))

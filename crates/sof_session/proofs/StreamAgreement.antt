@@ -7,6 +7,7 @@ use Rattle.mbox_link.specs.Calls.{World, Meaning}
 use Rattle.mbox_link.specs.Wire.{Wire}
 use Rattle.mbox_link.specs.Link.{link}
 use Rattle.mbox_link.proofs.Led.{Led-steady}
+use Rattle.tplg_graph.specs.ThinPlan.{IsThinPlan}
 use Rattle.host_widgets.specs.declared.kept.Power.{Power}
 use Rattle.host_widgets.specs.declared.kept.Power.TheVariants.{Unloaded, On, Off}
 use Rattle.host_widgets.specs.declared.kept.Record.{Record}
@@ -17,12 +18,12 @@ use Rattle.host_pcm.specs.Asks.{early_fault}
 use Rattle.host_pcm.specs.Carried.{Asked, Walks, acts_at, passed_of, state_after_acts}
 use Rattle.sof_session.specs.Seat.{Seat}
 use Rattle.sof_session.specs.Turns.{AreAgreed, Powered, Keeps}
-use Rattle.sof_session.proofs.Unplanned.{Led-unplanned}
+use Rattle.sof_session.proofs.LinkFates.{Led-fated}
 use Rattle.sof_session.proofs.Agreement.{at, seat_with, Kept, agreed_with}
 use Rattle.sof_session.proofs.Keeping.{Rests, keeps-rests, Keeps-seen, acts-rest}
 use Rattle.sof_session.proofs.StreamWalks.{off-or-on, was-on, by-tests, calls-of}
 
-module _ {P : Type 0} (means : Meaning P) (old : Seat P) (wire : Wire P) (kept : Record) (io io' : Io) (name : List ℕ) (ask : Ask) (result : Outcome) (agreed : AreAgreed means old) (asked : Asked (link means) old.plan old.heap name ask old.kept kept (at old.link io) (at wire io') result) (agree : Agrees (link means) old.plan kept wire) where
+module _ {P : Type 0} (means : Meaning P) (old : Seat P) (wire : Wire P) (kept : Record) (io io' : Io) (name : List ℕ) (ask : Ask) (result : Outcome) (agreed : AreAgreed means old) (thin : IsThinPlan old.plan) (asked : Asked (link means) old.plan old.heap name ask old.kept kept (at old.link io) (at wire io') result) (agree : Agrees (link means) old.plan kept wire) where
   abbrev new : Seat P
   new = seat_with means old wire io io' agreed kept
 
@@ -57,7 +58,7 @@ module _ {P : Type 0} (means : Meaning P) (old : Seat P) (wire : Wire P) (kept :
         let n = passed_of x.fates.answers result in
         let before = was-powered (was-on old.kept k ask acts n result (ap (λ (r : Record). r.power) (sym x.record_after) ∙ on)) in
         let f = state_after_acts old.plan old.kept k (take n acts) before.0 in
-        let rests = acts-rest old.plan agreed.thin old.heap k (take n acts) old.kept before.0 (keeps-rests old.plan old.heap old.kept before.0 before.2) in
+        let rests = acts-rest old.plan thin old.heap k (take n acts) old.kept before.0 (keeps-rests old.plan old.heap old.kept before.0 before.2) in
         let left = x.state agreed.pending before.0 before.1 in
         ⊎_elim (λ (off : means.on wire.device ≡ None). absurd (cc (sym (ap (option_map view_of) off) ∙ sees))) (λ here. seen-state f rests here) (off-or-on (link means) f result wire left)
 
@@ -77,7 +78,7 @@ module _ {P : Type 0} (means : Meaning P) (old : Seat P) (wire : Wire P) (kept :
       let led = calls-of (link means) old.plan old.heap name ask old.kept kept (at old.link io) (at wire io') result asked in
       let calls : Kept means old wire io io' agreed = record {
         steady = Led-steady (link means) led.0 (at old.link io) (at wire io') led.1;
-        unplanned = Led-unplanned means led.0 (at old.link io) (at wire io') agreed.unplanned led.1;
+        fated = Led-fated means led.0 (at old.link io) (at wire io') agreed.fated led.1;
       } in
       let sides = sides-inside kept.power agree.sides in
       agreed_with means old wire io io' agreed calls kept (record { record_is = agree.record_is; sides = sides }) (powered kept.power refl sides)

@@ -1,13 +1,12 @@
 -- What a call on a stream makes of a session, as it is written.
-use Rattle.std.proofs.Common.{◌≡◌, ℕ, List, [], take, Option, Some, None, Err, unwrap_or, refl, sym, ap, subst, ◌∙◌, arith}
+use Rattle.std.proofs.Common.{◌≡◌, ℕ, ◌+◌, ◌<◌, ◌≤◌, ◌^◌, List, [], take, Option, Some, None, Err, unwrap_or, refl, sym, ap, subst, ◌∙◌, arith}
 use Rattle.std.specs.Option.{option_map}
 use Rattle.sof_base.specs.Ports.{Io}
 use Rattle.stream_law.specs.State.{FwState}
 use Rattle.mbox_link.specs.declared.fates.Entry.{Entry}
 use Rattle.mbox_link.specs.Calls.{World, Meaning}
 use Rattle.mbox_link.specs.Wire.{Wire}
-use Rattle.mbox_link.specs.Link.{link, inner}
-use Rattle.mbox_link.proofs.Led.{Led-steady}
+use Rattle.mbox_link.specs.Link.{link}
 use Rattle.host_widgets.specs.declared.answers.Answer.{Answer}
 use Rattle.host_widgets.specs.declared.answers.Answer.TheVariants.{Fault}
 use Rattle.host_widgets.specs.declared.answers.HostFault.{HostFault}
@@ -24,9 +23,10 @@ use Rattle.sof_script.specs.declared.script.Command.{Command}
 use Rattle.sof_session.specs.Seat.{Seat}
 use Rattle.sof_session.specs.Walks.{Ending, ending, walked, Stand, stand, Host, Carry, silent, answer_of, device_asked, host_asked, tested_next, stream_next, place_of, command_next, written_in}
 use Rattle.sof_session.specs.Turns.{AreAgreed, Powered, StreamRan, Seated, life, Turned, turn, shown_by, host_of}
-use Rattle.sof_session.proofs.Unplanned.{Led-passes}
+use Rattle.sof_session.proofs.LinkFates.{Led-inside}
+use Rattle.sof_session.proofs.FewActs.{few-asked}
 use Rattle.sof_session.proofs.StayedCounts.{Stayed}
-use Rattle.sof_session.proofs.WalkEnds.{Fated-boots, walk_ends}
+use Rattle.sof_session.proofs.WalkEnds.{Fated-boots, Fated-sent, walk_ends}
 use Rattle.sof_session.proofs.Agreement.{at}
 use Rattle.sof_session.proofs.Turning.{told, stood}
 use Rattle.sof_session.proofs.StreamWalks.{ends-cut, was-on, by-tests, calls-of}
@@ -36,7 +36,7 @@ on-or-off : {R : Type 0} (device : Option FwState) → ((f : FwState) → device
 on-or-off (Some f) on off = on f refl
 on-or-off None on off = off refl
 
-module _ {P : Type 0} (means : Meaning P) (old new : Seat P) (io io' : Io) (name : List ℕ) (ask : Ask) (agreed : AreAgreed means old) (same_plan : new.plan ≡ old.plan) (same_heap : new.heap ≡ old.heap) (slots : List ℕ) (later : AreAgreed means new) (same_inputs : io'.inputs ≡ io.inputs) where
+module _ {P : Type 0} (means : Meaning P) (old new : Seat P) (io io' : Io) (name : List ℕ) (ask : Ask) (agreed : AreAgreed means old) (below : old.link.sent < 2 ^ 63) (same_plan : new.plan ≡ old.plan) (same_heap : new.heap ≡ old.heap) (slots : List ℕ) (later : AreAgreed means new) (same_inputs : io'.inputs ≡ io.inputs) where
   abbrev before : World (Wire P)
   before = at old.link io
 
@@ -108,8 +108,7 @@ module _ {P : Type 0} (means : Meaning P) (old new : Seat P) (io io' : Io) (name
         let ends : ending result n new.link.sent new.link.entries ≡ walked old.plan old.heap old.kept old.link.sent old.link.entries acts =
         ap (λ (m : ℕ). ending result n m new.link.entries) cut.sent
         ∙ ap (λ (entries : List Entry). ending result n x.sent.device.sent entries) cut.entries
-        ∙ walk_ends means old.plan old.heap old.kept acts x.fates.answers result before x.sent agreed.unplanned x.fates.fated x.fates.walk between
-        ∙ ap (λ (entries : List Entry). walked old.plan old.heap old.kept old.link.sent entries acts) (sym agreed.unplanned.entries) in
+        ∙ walk_ends means old.plan old.heap old.kept acts x.fates.answers result before x.sent agreed.fated (omega (arith, below, few-asked old.plan old.kept k ask)) x.fates.fated x.fates.walk between in
         let device = walked-device k x in
         let now : told then (silent (answer_of result)) ≡ told (stand boots (host_asked host k ask (ending result n new.link.sent new.link.entries))) (silent (answer_of result)) = rw (same_boots, x.record_after, same_plan, same_heap, same_inputs, device) refl in
         let there : told (stand boots (host_asked host k ask (walked old.plan old.heap old.kept old.link.sent old.link.entries acts))) (silent (answer_of (walked old.plan old.heap old.kept old.link.sent old.link.entries acts).outcome)) ≡ stream_next name ask boots host =
@@ -119,11 +118,18 @@ module _ {P : Type 0} (means : Meaning P) (old new : Seat P) (io io' : Io) (name
     is-next : IsNext
     is-next = by-tests (link means) old.plan old.heap name ask old.kept new.kept before after result (early_fault old.plan old.kept name ask) refl asked fails walks
 
+  -- a call sends at most so many messages
+  pub stream_few : (result : Outcome) → Asked (link means) old.plan old.heap name ask old.kept new.kept before after result → new.link.sent ≤ old.link.sent + 900
+  stream_few result asked =
+      by-tests (link means) old.plan old.heap name ask old.kept new.kept before after result (early_fault old.plan old.kept name ask) refl asked
+      (λ fault is same. let sent : new.link.sent ≡ old.link.sent = ap (λ (w : World (Wire P)). w.device.sent) same.1 in omega (arith, sent))
+      (λ is k place x. omega (arith, (ends-cut means result x.sent after x.ends).sent, Fated-sent means old.plan old.heap old.kept x.fates.answers (acts_at old.plan old.kept k ask) before x.sent x.fates.fated, few-asked old.plan old.kept k ask))
+
   -- a command that asks this of the stream of this name, and shows nothing
   pub stream_turned : (command : Command) (answer : Answer) → StreamRan means name ask old new io io' answer → ((n : ℕ) (h : Host) → command_next command n h ≡ stream_next name ask n h) → shown_by command old ≡ [] → written_in io'.outputs ≡ [] → Turned (life means) (turn (Carry command) answer (shown_by command old) (written_in io'.outputs)) (Seated old io.inputs slots) (Seated new io'.inputs slots)
   stream_turned command answer ran asks quiet silence =
       let calls = calls-of (link means) old.plan old.heap name ask old.kept new.kept before after ran.outcome ran.asked in
-      let steady = Led-steady means calls.0 (inner before) (inner after) (Led-passes means calls.0 before after agreed.unplanned calls.1) in
+      let steady = Led-inside means calls.0 before after calls.1 in
       record {
         next = λ calm.
             let stayed : Stayed means old.link.device new.link.device = record { faults = calm.faults; faults_below = calm.faults_below; refusals = calm.refusals; refusals_below = calm.refusals_below } in

@@ -1,5 +1,5 @@
 -- What a tick asks of a view, in a thin plan.
-use Rattle.std.proofs.Common.{◌≡◌, ⊎_elim, refl, sym, subst, ℕ, List, Option, Some, None, Bool, true, false, cond, ◌==◌, ◌||◌}
+use Rattle.std.proofs.Common.{◌≡◌, ⊎_elim, refl, sym, subst, ℕ, List, map, Option, Some, None, Bool, true, false, cond, ◌==◌, ◌||◌}
 use Rattle.std.specs.Prelude.{length}
 use Rattle.std.specs.Option.{option_map_or, option_and_then}
 use Rattle.std.proofs.lemmas.Bool.{eqb-true, or_cases}
@@ -14,6 +14,8 @@ use Rattle.stream_law.specs.Walks.{HasAll, HasEnds}
 use Rattle.stream_law.specs.Stands.{IsPlayable}
 use Rattle.tplg_graph.specs.declared.planned.Plan.{Plan}
 use Rattle.tplg_graph.specs.ThinPlan.{IsThinPlan, thin_graph}
+use Rattle.mbox_link.specs.Step.{with_comps}
+use Rattle.host_widgets.specs.Controls.{set_comp, set_graph}
 
 module _ (pipe size : ℕ) (format : Format) (sched : ℕ) where
   abbrev g : Graph
@@ -60,5 +62,7 @@ module _ (pipe size : ℕ) (format : Format) (sched : ℕ) where
   thin-plays streams = record { ends = thin-ends; ordered = thin-ordered; fits = λ c there runs. thin-fits c there }
 
 -- so a tick may come
-pub plays : (plan : Plan) → IsThinPlan plan → (streams : List StreamView) → IsPlayable (record { graph = plan.graph; streams = streams })
-plays plan thin streams = subst (λ g. IsPlayable (record { graph = g; streams = streams })) (sym thin.graph) (thin-plays thin.pipe thin.size thin.format thin.sched streams)
+pub plays : (plan : Plan) → IsThinPlan plan → (streams : List StreamView) → IsPlayable (record { graph = set_graph plan; streams = streams })
+plays plan thin streams =
+    let set : set_graph plan ≡ thin_graph thin.pipe thin.size thin.format thin.sched = λ i. with_comps (map (set_comp plan) (thin.graph i).comps) (thin.graph i) in
+    subst (λ g. IsPlayable (record { graph = g; streams = streams })) (sym set) (thin-plays thin.pipe thin.size thin.format thin.sched streams)

@@ -8,6 +8,7 @@ use Rattle.stream_law.specs.Past.{Moment, Tick}
 use Rattle.stream_law.specs.Move.{Move, audio_after, state_after, io_after}
 use Rattle.stream_law.specs.Stands.{Stands, IsPlayable}
 use Rattle.stream_law.proofs.TickLaw.{Stands-tick, bytes-tick}
+use Rattle.tplg_graph.specs.ThinPlan.{IsThinPlan}
 use Rattle.host_widgets.specs.declared.kept.Power.{Power}
 use Rattle.host_widgets.specs.declared.kept.Power.TheVariants.{Unloaded, On, Off}
 use Rattle.host_widgets.specs.declared.answers.Answer.TheVariants.{Done}
@@ -31,7 +32,7 @@ module _ (f f' : FwState) (whole : List (ℕ × List ℕ)) (io io' : Io) (before
   unfolding Stands-tick
   ticks-on = record { stands = Stands-tick f whole io before stood playable f' io' move; bytes = λ slot. bytes-tick f whole io before stood playable slot }
 
-module _ (whole : List (ℕ × List ℕ)) (h : Host) (settled : IsSettled h) (rising : IsStrictlyIncreasing h.slots) (before : List Moment) where
+module _ (whole : List (ℕ × List ℕ)) (h : Host) (settled : IsSettled h) (thin : IsThinPlan h.plan) (rising : IsStrictlyIncreasing h.slots) (before : List Moment) where
   abbrev io : Io
   io = record { inputs = h.inputs; outputs = empty_outputs h.slots }
 
@@ -41,13 +42,13 @@ module _ (whole : List (ℕ × List ℕ)) (h : Host) (settled : IsSettled h) (ri
       let a = audio_after f io in
       let f' = state_after f a in
       let io' = io_after io a in
-      let playable : IsPlayable (view_of f) = subst IsPlayable (sym keeps.view) (plays h.plan settled.thin (expected_view h.plan h.kept).streams) in
+      let playable : IsPlayable (view_of f) = subst IsPlayable (sym keeps.view) (plays h.plan thin (expected_view h.plan h.kept).streams) in
       let t = ticks-on f f' whole io io' before stood (record { state = refl; endpoints = refl }) playable in
       let h' : Host = record h { device = Some f'; inputs = io'.inputs } in
       record {
         host = h';
         is_next = refl;
-        settled = record { thin = settled.thin; record_is = settled.record_is; device = subst (SettledBy h') (sym on) (f', refl, Keeps-moved h.plan h.heap h.kept f a keeps) };
+        settled = record { loadable = settled.loadable; record_is = settled.record_is; device = subst (SettledBy h') (sym on) (f', refl, Keeps-moved h.plan h.heap h.kept f a keeps) };
         slots_are = refl;
         stands = t.stands;
         wrote = λ slot bound. t.bytes slot ∙ ap (λ (bs : List ℕ). list_of stood.past.bytes slot ++ bs) (sym (bytes-to (list_of a.written) h.slots slot rising bound));

@@ -9,7 +9,7 @@ use Rattle.stream_law.specs.Move.{Audio, audio_after}
 use Rattle.mbox_link.specs.Exchange.{ticked}
 use Rattle.mbox_link.specs.Calls.{Meaning, Call, Tick, Led}
 use Rattle.mbox_link.specs.Wire.{Wire}
-use Rattle.mbox_link.specs.Link.{link, inner}
+use Rattle.mbox_link.specs.Link.{link}
 use Rattle.mbox_link.proofs.Led.{Led-one, Led-steady}
 use Rattle.host_widgets.specs.declared.answers.Answer.{Answer}
 use Rattle.host_widgets.specs.declared.answers.Answer.TheVariants.{Done}
@@ -20,7 +20,7 @@ use Rattle.sof_script.specs.declared.script.Command.TheVariants as commands
 use Rattle.sof_session.specs.Seat.{Seat}
 use Rattle.sof_session.specs.Walks.{Host, stand, Carry, silent, moved_next, device_tick, tick_next, written_in}
 use Rattle.sof_session.specs.Turns.{AreAgreed, Powered, TickedBy, TickRan, Seated, life, Turned, turn, host_of}
-use Rattle.sof_session.proofs.Unplanned.{Led-passes, Led-unplanned}
+use Rattle.sof_session.proofs.LinkFates.{Led-fated, Led-inside}
 use Rattle.sof_session.proofs.Keeping.{Keeps-moved}
 use Rattle.sof_session.proofs.Agreement.{at, seat_with, Kept, agreed_with}
 use Rattle.sof_session.proofs.Writings.{none-written, empty-outputs, same-slots}
@@ -61,7 +61,7 @@ module _ {P : Type 0} (means : Meaning P) (old : Seat P) (wire : Wire P) (io io'
       let led = Ticked-led means old.kept.power old.link wire io io' tick in
       let calls : Kept means old wire io io' agreed = record {
         steady = Led-steady (link means) led.0 (at old.link io) (at wire io') led.1;
-        unplanned = Led-unplanned means led.0 (at old.link io) (at wire io') agreed.unplanned led.1;
+        fated = Led-fated means led.0 (at old.link io) (at wire io') agreed.fated led.1;
       } in
       let both = both-ticked old.kept.power agreed.powered agreed.agree.sides tick in
       agreed_with means old wire io io' agreed calls old.kept (record { record_is = agreed.agree.record_is; sides = both.sides }) both.powered
@@ -136,7 +136,7 @@ module _ {P : Type 0} (means : Meaning P) (old new : Seat P) (io io' : Io) (agre
   pub tick_turned : (n : ℕ) (answer : Answer) → TickRan means old new io io' answer → Turned (life means) (turn (Carry (commands.Tick n)) answer [] (written_in io'.outputs)) (Seated old io.inputs slots) (Seated new io'.inputs slots)
   tick_turned n answer ran =
       let led = Ticked-led means old.kept.power old.link new.link io io' ran.calls in
-      let steady = Led-steady means led.0 (inner (at old.link io)) (inner (at new.link io')) (Led-passes means led.0 (at old.link io) (at new.link io') agreed.unplanned led.1) in
+      let steady = Led-inside means led.0 (at old.link io) (at new.link io') led.1 in
       record {
         next = λ calm. is-next answer ran.kept ran.said old.kept.power agreed.powered ran.calls;
         faults = steady.faults;

@@ -1,13 +1,12 @@
 -- What a command makes of a session, as it is written.
-use Rattle.std.proofs.Common.{◌≡◌, ℕ, List, [], Some, None, Ok, Err, refl, sym, ap, ◌∙◌, arith}
+use Rattle.std.proofs.Common.{◌≡◌, ℕ, ◌+◌, ◌*◌, ◌<◌, ◌≤◌, ◌^◌, List, [], length, Some, None, Ok, Err, refl, ap, ◌∙◌, arith}
 use Rattle.sof_base.specs.Ports.{Io, InputView, OutputView}
 use Rattle.sof_io.specs.Bound.{output_slots}
 use Rattle.mbox_link.specs.declared.fates.Entry.{Entry}
 use Rattle.mbox_link.specs.Exchange.{more}
 use Rattle.mbox_link.specs.Calls.{World, Meaning}
 use Rattle.mbox_link.specs.Wire.{Wire}
-use Rattle.mbox_link.specs.Link.{link, inner}
-use Rattle.mbox_link.proofs.Led.{Led-steady}
+use Rattle.mbox_link.specs.Link.{link}
 use Rattle.tplg_graph.specs.declared.planned.Plan.{Plan}
 use Rattle.host_widgets.specs.declared.answers.Answer.{Answer}
 use Rattle.host_widgets.specs.declared.answers.Answer.TheVariants.{Fault, Show}
@@ -25,11 +24,12 @@ use Rattle.sof_script.specs.declared.script.Command.TheVariants as commands
 use Rattle.sof_session.specs.Seat.{Seat}
 use Rattle.sof_session.specs.Show.{show_lines}
 use Rattle.sof_session.specs.Walks.{Ending, ending, walked, Host, Stand, stand, Out, Carry, silent, answer_of, device_loaded, load_next, host_after, written_in}
-use Rattle.sof_session.specs.Turns.{AreAgreed, Powered, IsUnplanned, LoadRan, Seated, life, Turned, turn, host_of}
-use Rattle.sof_session.proofs.Unplanned.{Led-passes, boot_unplanned}
+use Rattle.sof_session.specs.Turns.{AreAgreed, Powered, IsFated, LoadRan, Seated, life, Turned, turn, host_of}
+use Rattle.sof_session.proofs.LinkFates.{Led-inside, boot_fated}
 use Rattle.sof_session.proofs.StayedCounts.{Stayed}
 use Rattle.sof_session.proofs.WalkCuts.{Cuts, Cuts-none, Cuts-one}
-use Rattle.sof_session.proofs.WalkEnds.{Fated-boots, walk_ends}
+use Rattle.sof_session.proofs.WalkEnds.{Fated-boots, Fated-sent, walk_ends}
+use Rattle.host_widgets.proofs.FewJoins.{few-acts}
 use Rattle.sof_session.proofs.Agreement.{at, Loads-led}
 
 -- ---- how a load ends
@@ -51,8 +51,8 @@ module _ {P : Type 0} (means : Meaning P) where
     passed = passed_of fates.fates.answers outcome
 
     -- and the written walk
-    pub load_ends : IsUnplanned w.device → Stayed means w.device.device v.device.device → ending outcome passed v.device.sent v.device.entries ≡ walked plan heap kept w.device.sent w.device.entries (bring_up_acts plan)
-    load_ends none stayed =
+    pub load_ends : IsFated w.device → w.device.sent + length (bring_up_acts plan) < 3 * 2 ^ 62 → Stayed means w.device.device v.device.device → ending outcome passed v.device.sent v.device.entries ≡ walked plan heap kept w.device.sent w.device.entries (bring_up_acts plan)
+    load_ends held below stayed =
         let boot = fates.boot.0.did.0 in
         let cut = ends_cut means outcome fates.sent v fates.ends in
         let between : Stayed means fates.booted.device.device fates.sent.device.device = record {
@@ -62,11 +62,17 @@ module _ {P : Type 0} (means : Meaning P) where
           refusals_below = omega (arith, cut.refusals, stayed.refusals_below);
         } in
         let sent : fates.booted.device.sent ≡ w.device.sent = ap (λ (wire : Wire P). wire.sent) fates.boot.0.did.1 in
+        let entries : fates.booted.device.entries ≡ w.device.entries = ap (λ (wire : Wire P). wire.entries) fates.boot.0.did.1 in
         ap (λ (n : ℕ). ending outcome passed n v.device.entries) cut.sent
         ∙ ap (λ (entries : List Entry). ending outcome passed fates.sent.device.sent entries) cut.entries
-        ∙ walk_ends means plan heap kept (bring_up_acts plan) fates.fates.answers outcome fates.booted fates.sent (boot_unplanned means heap w fates.booted none fates.boot) fates.fates.fated fates.fates.walk between
-        ∙ ap (λ (n : ℕ). walked plan heap kept n [] (bring_up_acts plan)) sent
-        ∙ ap (λ (entries : List Entry). walked plan heap kept w.device.sent entries (bring_up_acts plan)) (sym none.entries)
+        ∙ walk_ends means plan heap kept (bring_up_acts plan) fates.fates.answers outcome fates.booted fates.sent (boot_fated means heap w fates.booted held fates.boot) (omega (arith, below, sent)) fates.fates.fated fates.fates.walk between
+        ∙ (λ i. walked plan heap kept (sent i) (entries i) (bring_up_acts plan))
+
+    -- at most one message for each act
+    pub load_sent : v.device.sent ≤ w.device.sent + length (bring_up_acts plan)
+    load_sent =
+        let sent : fates.booted.device.sent ≡ w.device.sent = ap (λ (wire : Wire P). wire.sent) fates.boot.0.did.1 in
+        omega (arith, (ends_cut means outcome fates.sent v fates.ends).sent, sent, Fated-sent means plan heap kept fates.fates.answers (bring_up_acts plan) fates.booted fates.sent fates.fates.fated)
 
 -- ---- a load
 
@@ -93,7 +99,7 @@ module _ {P : Type 0} (means : Meaning P) (plan : Plan) (heap : ℕ) (old new : 
   device-left (Err (faults.Refused e)) off pending left = left.0
   device-left (Err faults.LinkDown) off pending left = left.0
 
-module _ {P : Type 0} (means : Meaning P) (old new : Seat P) (io io' : Io) (slots : List ℕ) (agreed : AreAgreed means old) (same_plan : new.plan ≡ old.plan) (same_heap : new.heap ≡ old.heap) (same_inputs : io'.inputs ≡ io.inputs) where
+module _ {P : Type 0} (means : Meaning P) (old new : Seat P) (io io' : Io) (slots : List ℕ) (agreed : AreAgreed means old) (below : old.link.sent < 2 ^ 63) (same_plan : new.plan ≡ old.plan) (same_heap : new.heap ≡ old.heap) (same_inputs : io'.inputs ≡ io.inputs) where
   abbrev before : World (Wire P)
   before = at old.link io
 
@@ -118,7 +124,7 @@ module _ {P : Type 0} (means : Meaning P) (old new : Seat P) (io io' : Io) (slot
   goes outcome off stayed fates left kept =
       let boots : means.boots new.link.device ≡ more (means.boots old.link.device) = load_boots means old.plan old.heap old.kept outcome before after fates in
       let n = passed means old.plan old.heap old.kept outcome before after fates in
-      let ends = load_ends means old.plan old.heap old.kept outcome before after fates agreed.unplanned stayed in
+      let ends = load_ends means old.plan old.heap old.kept outcome before after fates agreed.fated (omega (arith, below, few-acts old.plan agreed.loadable)) stayed in
       let device = device-left means old.plan old.heap old.link new.link outcome off agreed.pending left in
       let now : told then (silent (answer_of outcome)) ≡ told (stand (more (means.boots old.link.device)) (host_after host (ending outcome n new.link.sent new.link.entries))) (silent (answer_of outcome)) = rw (boots, kept, same_plan, same_heap, same_inputs, device) refl in
       now ∙ ap (λ (e : Ending). told (stand (more (means.boots old.link.device)) (host_after host e)) (silent (answer_of e.outcome))) ends
@@ -128,11 +134,20 @@ module _ {P : Type 0} (means : Meaning P) (old new : Seat P) (io io' : Io) (slot
   load_is_next On outcome powered stayed nothing fates left kept = stays outcome nothing.0 nothing.1 kept
   load_is_next Off outcome powered stayed nothing fates left kept = stays outcome nothing.0 nothing.1 kept
 
+  -- a load sends at most so many messages
+  loads_few : (power : Power) (outcome : Outcome) → Loads (link means) old.plan old.heap power before after outcome → (power ≡ Unloaded → LoadFates (link means) old.plan old.heap old.kept before after outcome) → new.link.sent ≤ old.link.sent + 900
+  loads_few Unloaded outcome brought fates = omega (arith, load_sent means old.plan old.heap old.kept outcome before after (fates refl), few-acts old.plan agreed.loadable)
+  loads_few On outcome nothing fates = let same : new.link.sent ≡ old.link.sent = ap (λ (w : World (Wire P)). w.device.sent) nothing.0 in omega (arith, same)
+  loads_few Off outcome nothing fates = let same : new.link.sent ≡ old.link.sent = ap (λ (w : World (Wire P)). w.device.sent) nothing.0 in omega (arith, same)
+
+  pub load_few : (answer : Answer) → LoadRan means old new io io' answer → new.link.sent ≤ old.link.sent + 900
+  load_few answer ran = loads_few old.kept.power ran.outcome ran.loads ran.fates
+
   -- a load writes nothing
   pub load_turned : (answer : Answer) → LoadRan means old new io io' answer → written_in io'.outputs ≡ [] → Turned (life means) (turn (Carry commands.Load) answer [] (written_in io'.outputs)) (Seated old io.inputs slots) (Seated new io'.inputs slots)
   load_turned answer ran silence =
       let calls = Loads-led (link means) old.plan old.heap old.kept.power before after ran.outcome ran.loads in
-      let steady = Led-steady means calls.0 (inner before) (inner after) (Led-passes means calls.0 before after agreed.unplanned calls.1) in
+      let steady = Led-inside means calls.0 before after calls.1 in
       record {
         next = λ calm.
             let stayed : Stayed means old.link.device new.link.device = record { faults = calm.faults; faults_below = calm.faults_below; refusals = calm.refusals; refusals_below = calm.refusals_below } in

@@ -6,7 +6,6 @@ use Rattle.stream_law.specs.Table.{list_of}
 use Rattle.stream_law.specs.Past.{Moment, Boot, Cut, Now, Tick}
 use Rattle.stream_law.specs.Stands.{Stands}
 use Rattle.tplg_graph.specs.declared.planned.Plan.{Plan}
-use Rattle.tplg_graph.specs.ThinPlan.{IsThinPlan}
 use Rattle.host_widgets.specs.declared.answers.HostFault.{HostFault}
 use Rattle.host_widgets.specs.declared.answers.HostFault.TheVariants.{LinkDown}
 use Rattle.host_widgets.specs.declared.kept.Power.{Power}
@@ -14,6 +13,7 @@ use Rattle.host_widgets.specs.declared.kept.Power.TheVariants.{Unloaded, On, Off
 use Rattle.host_widgets.specs.declared.kept.Record.{Record}
 use Rattle.host_widgets.specs.HostRecord.{first_record}
 use Rattle.host_widgets.specs.Acts.{Act, bring_up_acts}
+use Rattle.host_widgets.specs.Controls.{IsLoadable}
 use Rattle.host_widgets.specs.Expected.{expected_view}
 use Rattle.host_widgets.specs.Host.{Outcome, IsRecordOf}
 use Rattle.host_pcm.specs.declared.asking.Ask.{Ask}
@@ -65,9 +65,15 @@ abbrev pub tick_moments : Power → List Moment
 tick_moments On = Tick ∷ []
 tick_moments power = []
 
--- the moments of a command, by the host before it
+-- an unload cuts a device that is on
+abbrev pub unload_moments : Power → List Moment
+unload_moments On = Cut ∷ []
+unload_moments power = []
+
+-- the moments of a command, by the host before it; a planned fate and a show have none
 abbrev pub command_moments : Command → Host → List Moment
 command_moments commands.Load h = load_moments h.kept.power h
+command_moments commands.Unload h = unload_moments h.kept.power
 command_moments (commands.Tick n) h = tick_moments h.kept.power
 command_moments command h = asked_moments (asking command) h
 
@@ -81,7 +87,7 @@ SettledBy h Off = h.device ≡ None
 
 -- a host whose device is as the record says
 pub record IsSettled (h : Host) : Type 0 where
-  pub thin : IsThinPlan h.plan
+  pub loadable : IsLoadable h.plan
   pub record_is : IsRecordOf h.plan h.kept
   pub device : SettledBy h h.kept.power
 

@@ -19,7 +19,12 @@ use Rattle.host_widgets.specs.declared.kept.Found.TheVariants.{Closed, Open, Pre
 use Rattle.host_widgets.specs.declared.kept.Found.TheVariants as founds
 use Rattle.host_widgets.specs.declared.kept.StreamRec.{StreamRec}
 use Rattle.host_widgets.specs.declared.kept.Record.{Record}
+use Rattle.tplg_graph.specs.declared.planned.ControlPlan.{ControlPlan}
+use Rattle.tplg_graph.specs.declared.planned.ControlKind.{ControlKind}
+use Rattle.tplg_graph.specs.declared.planned.ControlKind.TheVariants.{Blob}
+use Rattle.host_widgets.specs.Controls.{first_values}
 use Rattle.host_widgets.specs.Acts.{ids_of, pipe_by_id}
+use Rattle.sof_script.specs.Text.{values_words, bytes_word}
 
 -- ---- words
 
@@ -104,17 +109,36 @@ params_words (Some p) = codes " " ++ decimal p.rate ++ codes " " ++ decimal p.ch
 abbrev pub stream_line : Plan → StreamPlan × StreamRec → List ℕ
 stream_line plan (s, r) = codes "stream " ++ name_of plan s.host ++ found_words r.found ++ params_words r.params
 
+-- ---- controls
+
+-- a control's values by channel, each after a blank, or its blob; no command changes them so far, so they are its first
+abbrev pub control_words : ControlKind → List ℕ
+control_words (Blob most initial) = codes " bytes " ++ bytes_word initial
+control_words kind = codes " value" ++ values_words (first_values kind)
+
+-- a live control: the name of its component, and what it is set to
+abbrev pub control_line : Plan → ControlPlan → List ℕ
+control_line plan k = codes "control " ++ name_of plan k.comp ++ control_words k.kind
+
 -- ---- all lines
 
 -- the streams, in the order of the plan
 abbrev pub stream_lines : Plan → Record → List (List ℕ)
 stream_lines plan kept = map (stream_line plan) (zip plan.streams kept.streams)
 
--- the edges, and then the streams
-abbrev pub edge_lines : Plan → Record → List (List ℕ)
-edge_lines plan kept = map edge_line plan.graph.edges ++ stream_lines plan kept
+-- the live controls, by component
+abbrev pub control_lines : Plan → List (List ℕ)
+control_lines plan = map (control_line plan) plan.controls
 
--- the widgets by id, the edges by buffer id, and the streams
+-- the streams, and then the controls
+abbrev pub state_lines : Plan → Record → List (List ℕ)
+state_lines plan kept = stream_lines plan kept ++ control_lines plan
+
+-- the edges, and then these
+abbrev pub edge_lines : Plan → Record → List (List ℕ)
+edge_lines plan kept = map edge_line plan.graph.edges ++ state_lines plan kept
+
+-- the widgets by id, the edges by buffer id, the streams, and the live controls
 abbrev pub loaded_lines : Plan → Record → List (List ℕ)
 loaded_lines plan kept = map (widget_line plan) (ids_of plan) ++ edge_lines plan kept
 

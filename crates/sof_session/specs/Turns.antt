@@ -1,20 +1,24 @@
 -- The turns of a session over a device, and what its type keeps.
-use Rattle.std.specs.Prelude.{◌≡◌, ℕ, ◌+◌, ◌<◌, ◌≤◌, ◌^◌, List, [], ◌∷◌, map, Option, Some, None}
+use Rattle.std.specs.Prelude.{◌≡◌, ℕ, ◌<◌, ◌≤◌, ◌^◌, List, [], ◌∷◌, map, Option, Some, None, Result, Ok, Err}
 use Rattle.sof_base.specs.Ports.{Io, InputView, OutputView}
 use Rattle.stream_law.specs.State.{FwState, view_of}
 use Rattle.stream_law.specs.Ways.{buffers}
 use Rattle.mbox_link.specs.Calls.{Meaning, Tick, Did}
 use Rattle.mbox_link.specs.Wire.{Wire}
-use Rattle.mbox_link.specs.Link.{link}
+use Rattle.mbox_link.specs.declared.fates.Fate.{Fate}
+use Rattle.mbox_link.specs.declared.fates.Fate.TheVariants as fates
+use Rattle.mbox_link.specs.declared.fates.PlanFull.{PlanFull}
+use Rattle.mbox_link.specs.Fates.{AllMeant}
+use Rattle.mbox_link.specs.Link.{link, Planned}
 use Rattle.tplg_graph.specs.declared.planned.Plan.{Plan}
-use Rattle.tplg_graph.specs.ThinPlan.{IsThinPlan}
 use Rattle.host_widgets.specs.declared.answers.Answer.{Answer}
-use Rattle.host_widgets.specs.declared.answers.Answer.TheVariants.{Done, Show}
+use Rattle.host_widgets.specs.declared.answers.Answer.TheVariants as answers
 use Rattle.host_widgets.specs.declared.kept.Power.{Power}
 use Rattle.host_widgets.specs.declared.kept.Power.TheVariants.{Unloaded, On, Off}
 use Rattle.host_widgets.specs.declared.kept.Record.{Record}
+use Rattle.host_widgets.specs.Controls.{IsLoadable}
 use Rattle.host_widgets.specs.Expected.{expected_view, loaded_heap}
-use Rattle.host_widgets.specs.Host.{Outcome, Agrees, Loads, LoadLeft, after_load}
+use Rattle.host_widgets.specs.Host.{Outcome, Agrees, Loads, LoadLeft, after_load, Unloads, after_unload}
 use Rattle.host_widgets.specs.ActFates.{LoadFates}
 use Rattle.host_pcm.specs.declared.asking.Ask.{Ask}
 use Rattle.host_pcm.specs.Carried.{Asked}
@@ -27,7 +31,7 @@ use Rattle.sof_session.specs.Walks.{Task, Out, Written, Stand, Host, answer_of, 
 -- ---- what a session's type keeps
 
 -- The state of a powered device: it shows what the record says, its heap is as a load leaves it, and it has a ring for each
--- buffer. A thin plan has no equaliser.
+-- buffer. No stream has an equaliser on its way so far.
 pub record Keeps (plan : Plan) (heap : ℕ) (kept : Record) (f : FwState) : Type 0 where
   pub view : view_of f ≡ expected_view plan kept
   pub pieces : f.heap ≡ loaded_heap plan heap
@@ -41,20 +45,22 @@ Powered means seat On = (f : FwState) × (means.on seat.link.device ≡ Some f) 
 Powered means seat Off = means.on seat.link.device ≡ None
 Powered means seat Unloaded = means.on seat.link.device ≡ None
 
--- no fate was or is planned, so the link itself has lost and refused no message
-pub record IsUnplanned {P : Type 0} (wire : Wire P) : Type 0 where
-  pub entries : wire.entries ≡ []
-  pub dropped : wire.dropped ≡ 0
-  pub refused : wire.refused ≡ 0
+-- each planned refusal has a negative error, and the link has lost and refused no more messages than were sent
+pub record IsFated {P : Type 0} (wire : Wire P) : Type 0 where
+  pub meant : AllMeant wire.entries
+  pub dropped : wire.dropped ≤ wire.sent
+  pub refused : wire.refused ≤ wire.sent
+  pub counted : wire.sent < 2 ^ 64
 
--- The two sides agree: the device is on with the view that the record says, or off; no tick is pending, and no fate is planned.
+-- The two sides agree: the device is on with the view that the record says, or off; no tick is pending, and what is planned has
+-- a meaning.
 pub record AreAgreed {P : Type 0} (means : Meaning P) (seat : Seat P) : Type 0 where
   pub agree : Agrees means seat.plan seat.kept seat.link.device
   pub powered : Powered means seat seat.kept.power
   pub room : seat.heap ≤ means.most seat.link.device
   pub pending : means.pending seat.link.device ≡ 0
-  pub unplanned : IsUnplanned seat.link
-  pub thin : IsThinPlan seat.plan
+  pub fated : IsFated seat.link
+  pub loadable : IsLoadable seat.plan
 
 -- ---- a command, over any device
 
@@ -66,6 +72,26 @@ pub record LoadRan {P : Type 0} (means : Meaning P) (old new : Seat P) (before a
   pub left : LoadLeft (link means) old.plan old.heap old.link outcome new.link
   pub kept : new.kept ≡ after_load old.plan outcome old.kept
   pub said : answer ≡ answer_of outcome
+
+-- what an unload did: its calls on the link, what it came to, and the record after it
+pub record UnloadRan {P : Type 0} (means : Meaning P) (old new : Seat P) (before after : Io) (answer : Answer) : Type 0 where
+  pub outcome : Outcome
+  pub unloads : Unloads (link means) old.kept.power (record { device = old.link; io = before }) (record { device = new.link; io = after }) outcome
+  pub kept : new.kept ≡ after_unload old.plan outcome old.kept
+  pub said : answer ≡ answer_of outcome
+
+-- the answer where a fate was planned, or where there was no room for it
+abbrev pub plan_answer : Result (Unit {0}) PlanFull → Answer
+plan_answer (Ok done) = answers.Done
+plan_answer (Err full) = answers.PlanFull
+
+-- what planning a fate did: the link alone changes, with no call on its device
+pub record PlanRan {P : Type 0} (k : ℕ) (fate : Fate) (old new : Seat P) (before after : Io) (answer : Answer) : Type 0 where
+  pub outcome : Result (Unit {0}) PlanFull
+  pub planned : Planned k fate old.link outcome new.link
+  pub kept : new.kept ≡ old.kept
+  pub io : after ≡ before
+  pub said : answer ≡ plan_answer outcome
 
 -- what a call on the stream of a name did: its calls on the link, with the fate of each act, what it came to, and the record
 -- after it
@@ -87,18 +113,23 @@ TickedBy means power old new io io' = (new ≡ old) × (io' ≡ io)
 pub record TickRan {P : Type 0} (means : Meaning P) (old new : Seat P) (before after : Io) (answer : Answer) : Type 0 where
   pub calls : TickedBy means old.kept.power old.link new.link before after
   pub kept : new.kept ≡ old.kept
-  pub said : answer ≡ Done
+  pub said : answer ≡ answers.Done
 
 -- a call on a stream, where one is asked; no other command is carried out so far
 abbrev pub AskedRan : {P : Type 0} → Meaning P → Option (List ℕ × Ask) → Seat P → Seat P → Io → Io → Answer → Type 0
 AskedRan means (Some (name, ask)) old new io io' answer = StreamRan means name ask old new io io' answer
 AskedRan means None old new io io' answer = ⊥
 
--- what a command did: a load, a tick or a call on a stream its calls on the device, a show nothing
+-- what a command did: a load, an unload, a tick or a call on a stream its calls on the device, a planned fate what it does to
+-- the link, a show nothing
 abbrev pub Ran : {P : Type 0} → Meaning P → Command → Seat P → Seat P → Io → Io → Answer → Type 0
 Ran means commands.Load old new io io' answer = LoadRan means old new io io' answer
-Ran means commands.Show old new io io' answer = (new ≡ old) × (io' ≡ io) × (answer ≡ Show)
+Ran means commands.Unload old new io io' answer = UnloadRan means old new io io' answer
+Ran means commands.Show old new io io' answer = (new ≡ old) × (io' ≡ io) × (answer ≡ answers.Show)
 Ran means (commands.Tick n) old new io io' answer = TickRan means old new io io' answer
+Ran means (commands.Refuse k e) old new io io' answer = PlanRan k (fates.Refuse e) old new io io' answer
+Ran means (commands.Drop k) old new io io' answer = PlanRan k fates.Drop old new io io' answer
+Ran means (commands.Lose k) old new io io' answer = PlanRan k fates.Lose old new io io' answer
 Ran means command old new io io' answer = AskedRan means (asking command) old new io io' answer
 
 -- ---- turns
@@ -149,12 +180,13 @@ life means = record {
   pending = λ l. means.pending (device_of l);
 }
 
--- the device's own counts of faults and of refusals did not rise
+-- The device's own counts of faults and of refusals did not rise, and with the link's own counts, which are below 2^63 and so
+-- many more as a command sends messages, they are not at their last value.
 pub record Calm {W : Type 0} (means : LifeMeaning W) (old new : W) : Type 0 where
   pub faults : means.faults new ≡ means.faults old
-  pub faults_below : means.faults new + 1 < 2 ^ 64
+  pub faults_below : means.faults new < 2 ^ 62
   pub refusals : means.refusals new ≡ means.refusals old
-  pub refusals_below : means.refusals new + 1 < 2 ^ 64
+  pub refusals_below : means.refusals new < 2 ^ 62
 
 -- a task with what it answered
 pub record Turn : Type 0 where

@@ -1,5 +1,5 @@
 -- A walk of acts whose fates are planned, and what a command makes of the host, the device and the endpoints.
-use Rattle.std.specs.Prelude.{ℕ, suc, Bool, true, List, [], ◌∷◌, take, map, Option, Some, None, is_some, unwrap_or, Ok, Err}
+use Rattle.std.specs.Prelude.{◌≡◌, ◌⊎◌, ℕ, ◌+◌, suc, nat_le, nat_lt, Bool, true, false, ◌&&◌, ℤ, pos, negsuc, List, [], ◌∷◌, take, map, Option, Some, None, is_some, unwrap_or, Ok, Err}
 use Rattle.std.specs.Option.{option_map}
 use Rattle.sof_base.specs.declared.errno.Errno.{Errno}
 use Rattle.sof_base.specs.Ports.{Io, InputView, OutputView}
@@ -7,13 +7,14 @@ use Rattle.stream_law.specs.State.{FwState}
 use Rattle.mbox_link.specs.declared.fates.Entry.{Entry}
 use Rattle.mbox_link.specs.declared.fates.Fate.{Fate}
 use Rattle.mbox_link.specs.declared.fates.Fate.TheVariants.{Pass, Refuse, Drop, Lose}
-use Rattle.mbox_link.specs.Fates.{planned, without}
+use Rattle.mbox_link.specs.Fates.{planned, without, with_fate, has_room}
 use Rattle.mbox_link.specs.Exchange.{more, ticked}
 use Rattle.tplg_graph.specs.declared.planned.Plan.{Plan}
+use Rattle.tplg_graph.specs.ThinPlan.{IsThinPlan}
 use Rattle.host_widgets.specs.declared.answers.HostFault.{HostFault}
-use Rattle.host_widgets.specs.declared.answers.HostFault.TheVariants.{Loaded, Refused, LinkDown}
+use Rattle.host_widgets.specs.declared.answers.HostFault.TheVariants.{NotLoaded, Loaded, Refused, LinkDown}
 use Rattle.host_widgets.specs.declared.answers.Answer.{Answer}
-use Rattle.host_widgets.specs.declared.answers.Answer.TheVariants.{Done, Fault, Show}
+use Rattle.host_widgets.specs.declared.answers.Answer.TheVariants.{Done, Fault, PlanFull, Show}
 use Rattle.host_widgets.specs.declared.kept.Power.{Power}
 use Rattle.host_widgets.specs.declared.kept.Power.TheVariants.{Unloaded, On, Off}
 use Rattle.host_widgets.specs.declared.kept.Record.{Record}
@@ -110,7 +111,7 @@ answer_of (Err fault) = Fault fault
 abbrev pub stand : ℕ → Host → Stand
 stand boots h = record { boots = boots; host = Some h }
 
--- ---- loads and shows
+-- ---- loads, unloads and shows
 
 -- a load that is done leaves the plan on the device; one that failed cuts it
 abbrev pub device_loaded : Plan → ℕ → Outcome → Option FwState
@@ -134,9 +135,26 @@ load_next Unloaded boots h =
 load_next On boots h = (stand boots h, silent (Fault Loaded))
 load_next Off boots h = (stand boots h, silent (Fault Loaded))
 
+-- an unload leaves the record and the device as they were before anything was loaded
+abbrev pub unload_next : Power → ℕ → Host → Stand × Out
+unload_next Unloaded boots h = (stand boots h, silent (Fault NotLoaded))
+unload_next On boots h = (stand boots (record h { kept = first_record h.plan; device = None }), silent Done)
+unload_next Off boots h = (stand boots (record h { kept = first_record h.plan; device = None }), silent Done)
+
 -- a show changes nothing
 abbrev pub show_next : ℕ → Host → Stand × Out
 show_next boots h = (stand boots h, record { answer = Show; shown = show_lines h.plan h.kept; written = [] })
+
+-- ---- planned fates
+
+-- a fate is planned where there is room for it; else nothing changes
+abbrev pub planned_next : Bool → ℕ → Fate → ℕ → Host → Stand × Out
+planned_next true number fate boots h = (stand boots (record h { entries = with_fate number fate h.entries }), silent Done)
+planned_next false number fate boots h = (stand boots h, silent PlanFull)
+
+-- the k-th message from now is to have this fate
+abbrev pub plan_next : ℕ → Fate → ℕ → Host → Stand × Out
+plan_next k fate boots h = planned_next (has_room (h.sent + k) h.entries) (h.sent + k) fate boots h
 
 -- ---- calls on streams
 
@@ -225,12 +243,55 @@ tick_next power boots h = (stand boots h, silent Done)
 
 -- ---- commands
 
--- the commands that are carried out so far: a load, a show, a tick, and the calls on streams
+-- the commands that are carried out so far: a load, an unload, a show, a tick, a planned fate, and the calls on streams
 abbrev pub is_built : Command → Bool
 is_built commands.Load = true
+is_built commands.Unload = true
 is_built commands.Show = true
 is_built (commands.Tick n) = true
+is_built (commands.Refuse k e) = true
+is_built (commands.Drop k) = true
+is_built (commands.Lose k) = true
 is_built command = is_some (asking command)
+
+-- those of them that are carried out over every plan; streams and ticks are over thin plans alone
+abbrev pub is_plain : Command → Bool
+is_plain commands.Load = true
+is_plain commands.Unload = true
+is_plain commands.Show = true
+is_plain (commands.Refuse k e) = true
+is_plain (commands.Drop k) = true
+is_plain (commands.Lose k) = true
+is_plain command = false
+
+abbrev pub IsBuilt : Plan → Command → Type 0
+IsBuilt plan command = (is_plain command ≡ true) ⊎ ((is_built command ≡ true) × IsThinPlan plan)
+
+-- how far ahead a fate is planned: 1 to 100000 messages
+abbrev pub is_ahead : ℕ → Bool
+is_ahead k = nat_le 1 k && nat_le k 100000
+
+-- an error with which a message is refused: -4095 to -1
+abbrev pub is_refusal : ℤ → Bool
+is_refusal (pos n) = false
+is_refusal (negsuc n) = nat_lt n 4095
+
+-- the numbers of a planned fate are in their ranges
+abbrev pub is_in_range : Command → Bool
+is_in_range (commands.Refuse k e) = is_ahead k && is_refusal e
+is_in_range (commands.Drop k) = is_ahead k
+is_in_range (commands.Lose k) = is_ahead k
+is_in_range command = true
+
+-- whether a command makes ticks
+abbrev pub is_tick : Command → Bool
+is_tick (commands.Tick n) = true
+is_tick command = false
+
+-- the most messages that a command sends: a tick sends none
+abbrev pub most_sent : Command → ℕ
+most_sent (commands.Tick n) = 0
+most_sent command = 900
 
 -- a call on a stream where one is asked; a command that is not carried out so far makes nothing of a host
 abbrev pub asked_next : Option (List ℕ × Ask) → ℕ → Host → Stand × Out
@@ -240,8 +301,12 @@ asked_next None boots h = (stand boots h, silent Done)
 -- what a command makes of a host, and what it answers; a `Tick` makes one tick, whatever its number
 abbrev pub command_next : Command → ℕ → Host → Stand × Out
 command_next commands.Load boots h = load_next h.kept.power boots h
+command_next commands.Unload boots h = unload_next h.kept.power boots h
 command_next commands.Show boots h = show_next boots h
 command_next (commands.Tick n) boots h = tick_next h.kept.power boots h
+command_next (commands.Refuse k e) boots h = plan_next k (Refuse e) boots h
+command_next (commands.Drop k) boots h = plan_next k Drop boots h
+command_next (commands.Lose k) boots h = plan_next k Lose boots h
 command_next command boots h = asked_next (asking command) boots h
 
 -- a session is begun, or carries out a command

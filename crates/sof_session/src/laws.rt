@@ -1,7 +1,7 @@
 // What the definitions of a session entail of its device and its endpoints. Nothing runs here.
 ghost use Rattle.sof_session.specs.SessionLaws as law;
 
-/// A host of a thin plan is settled before its first command. With inputs of which nothing was read its device, which is
+/// A host is settled before its first command. With inputs of which nothing was read its device, which is
 /// off, stands: no moment was, and no byte was written.
 pub fn first_law()
     ensures settled { law.FirstIsSettled }

@@ -5,8 +5,6 @@ mod laws;
 mod session;
 mod show;
 mod streams;
-#[cfg(test)]
-mod tests;
 mod words;
 
 pub use laws::{command_law, first_law};

@@ -1,18 +1,20 @@
 // A host with its device behind a link.
-ghost use Rattle.std.specs.Prelude.{◌≡◌, ◌<◌, ◌≤◌, [], true, length, MatchResult};
-ghost use Rattle.sof_base.specs.Ports.{HasRoom, drained};
+ghost use Rattle.std.specs.Prelude.{◌≡◌, ◌+◌, ◌<◌, ◌≤◌, ◌^◌, [], true, false, length, MatchResult};
+ghost use Rattle.sof_base.specs.Ports.{Io, HasRoom, drained};
+ghost use Rattle.mbox_link.specs.Fates.{IsMeant};
 ghost use Rattle.tplg_graph.specs.ThinPlan.{IsThinPlan};
+ghost use Rattle.host_widgets.specs.Controls.{IsLoadable};
 ghost use Rattle.sof_session.specs.Seat.{new_seat};
 ghost use Rattle.sof_session.specs.Show.{show_lines, IsLineAt};
 ghost use Rattle.sof_io.specs.Bound.{output_slots};
-ghost use Rattle.sof_session.specs.Walks.{Carry, answer_of, is_built, written_in};
-ghost use Rattle.sof_session.specs.Turns.{AreAgreed, LoadRan, StreamRan, TickRan, Ran, Turned, Seated, life, turn, shown_by, ports};
+ghost use Rattle.sof_session.specs.Walks.{Carry, IsBuilt, answer_of, is_in_range, is_tick, most_sent, written_in};
+ghost use Rattle.sof_session.specs.Turns.{AreAgreed, LoadRan, UnloadRan, PlanRan, plan_answer, StreamRan, TickRan, Ran, Turned, Seated, life, turn, shown_by, ports};
 
 use crate::show::show_line;
 use crate::streams::ask_stream;
 use host_pcm::Ask;
-use host_widgets::{Answer, HostFault, Power, Record, Trigger, load};
-use mbox_link::{Dsp, FaultLink, NoRoom};
+use host_widgets::{Answer, HostFault, Power, Record, Trigger, load, unload};
+use mbox_link::{Dsp, Fate, FaultLink, NoRoom, PlanFull};
 use sof_base::{Name44, NoMemory};
 use sof_io::{Inputs, Outputs};
 use sof_script::{Command, Line};
@@ -27,6 +29,16 @@ fn answer_of(done: Result<(), HostFault>) -> Answer
     match done {
         Ok(()) => Answer::Done,
         Err(fault) => Answer::Fault(fault),
+    }
+}
+
+// The answer where a fate was planned, or where there was no room for it.
+fn plan_answer(planned: Result<(), PlanFull>) -> Answer
+    ensures { result ≡ plan_answer planned }
+{
+    match planned {
+        Ok(()) => Answer::Done,
+        Err(PlanFull) => Answer::PlanFull,
     }
 }
 
@@ -59,7 +71,7 @@ impl<P: Dsp> Session<P> {
         requires off { P.means.on dsp ≡ None }
         requires pending { P.means.pending dsp ≡ 0 }
         requires room { heap ≤ P.means.most dsp }
-        requires thin { IsThinPlan plan }
+        requires plan { IsLoadable plan }
         ensures { MatchResult result
             (λ session. session ≡ new_seat plan heap dsp)
             (λ refused. refused.dsp ≡ dsp) }
@@ -83,21 +95,31 @@ impl<P: Dsp> Session<P> {
         self.link.into_dsp()
     }
 
-    /// Carries out a command that is built so far: `Load`, `Show`, `Tick`, or a call on a stream, which are `Open`,
-    /// `Params`, `Start`, `Stop`, `Pause`, `Release` and `Close`. `Load` boots the device and loads the plan where it is not
-    /// loaded; `Show` changes nothing, and its lines are those of `show_line`; `Tick` makes one tick, whatever its number.
-    /// It answers as the host's call does. The outputs are empty before it, and hold what it wrote after it.
+    /// Carries out a command that is built so far: `Load`, `Unload`, `Show`, `Tick`, a planned fate, which are `Refuse`,
+    /// `Drop` and `Lose`, or a call on a stream, which are `Open`, `Params`, `Start`, `Stop`, `Pause`, `Release` and `Close`.
+    /// `Load` boots the device and loads the plan where it is not loaded; `Unload` cuts the device and forgets what was
+    /// loaded; `Show` changes nothing, and its lines are those of `show_line`; `Tick` makes one tick, whatever its number; a
+    /// planned fate is that of the K-th message from now, and the answer is `PlanFull` where no more can be planned. It
+    /// answers as the host's call does. The outputs are empty before it, and hold what it wrote after it.
     pub fn step(&mut self, command: &Command, io: &mut Inputs, out: &mut Outputs) -> Answer
-        requires built { is_built command.now ≡ true }
+        requires built { IsBuilt self.old.plan command.now }
+        requires numbers { is_in_range command.now ≡ true }
+        requires few { self.old.link.sent < 2 ^ 63 }
         requires empty { drained out.old ≡ out.old }
         ensures ran { Ran P.means command.now self.old self.new (ports io.old out.old) (ports io.new out.new) result }
         ensures turned { Turned (life P.means) (turn (Carry command.now) result (shown_by command.now self.old) (written_in out.new)) (Seated self.old io.old (output_slots out.old)) (Seated self.new io.new (output_slots out.old)) }
         ensures plan { self.new.plan ≡ self.old.plan }
         ensures heap { self.new.heap ≡ self.old.heap }
         ensures slots { output_slots out.new ≡ output_slots out.old }
+        ensures sent { self.new.link.sent ≤ self.old.link.sent + most_sent command.now }
+        ensures still { is_tick command.now ≡ false → (io.new ≡ io.old) × (out.new ≡ out.old) }
     {
         match command {
             Command::Load => self.load(io, out),
+            Command::Unload => self.unload(io, out),
+            Command::Refuse(k, error) => self.plan_fate(*k, Fate::Refuse(*error)),
+            Command::Drop(k) => self.plan_fate(*k, Fate::Drop),
+            Command::Lose(k) => self.plan_fate(*k, Fate::Lose),
             Command::Tick(_) => self.tick(io, out),
             Command::Open(name) => self.ask(name, Ask::Opening, io, out),
             Command::Params(name, params) => self.ask(name, Ask::Preparing(*params), io, out),
@@ -131,6 +153,40 @@ impl<P: Dsp> Session<P> {
         answer_of(loaded)
     }
 
+    // Cuts the device and forgets what was loaded.
+    fn unload(&mut self, io: &mut Inputs, out: &mut Outputs) -> Answer
+        requires { HasRoom 0 out.old }
+        ensures ran { UnloadRan P.means self.old self.new (ports io.old out.old) (ports io.new out.new) result }
+        ensures agreed { AreAgreed P.means self.old }
+        ensures plan { self.new.plan ≡ self.old.plan }
+        ensures heap { self.new.heap ≡ self.old.heap }
+        ensures inputs { io.new ≡ io.old }
+        ensures outputs { out.new ≡ out.old }
+    {
+        let unloaded = unload(
+            &self.plan,
+            &mut self.kept,
+            self.heap,
+            &mut self.link,
+            io,
+            out,
+        );
+        answer_of(unloaded)
+    }
+
+    // The k-th message from now is to have this fate.
+    fn plan_fate(&mut self, k: u32, fate: Fate) -> Answer
+        requires ahead { 1 ≤ k }
+        requires meant { IsMeant fate }
+        requires few { self.old.link.sent < 2 ^ 63 }
+        ensures ran { (io : Io) → PlanRan k fate self.old self.new io io result }
+        ensures plan { self.new.plan ≡ self.old.plan }
+        ensures heap { self.new.heap ≡ self.old.heap }
+    {
+        let planned = self.link.plan(k, fate);
+        plan_answer(planned)
+    }
+
     // One tick of a device that is on.
     fn tick(&mut self, io: &mut Inputs, out: &mut Outputs) -> Answer
         requires { HasRoom 61440 out.old }
@@ -150,7 +206,8 @@ impl<P: Dsp> Session<P> {
 
     // Makes the host's call for what is asked of the stream of this name.
     fn ask(&mut self, name: &Name44, ask: Ask, io: &mut Inputs, out: &mut Outputs) -> Answer
-        requires { HasRoom 0 out.old }
+        requires thin { IsThinPlan self.old.plan }
+        requires room { HasRoom 0 out.old }
         ensures ran { StreamRan P.means name.now ask self.old self.new (ports io.old out.old) (ports io.new out.new) result }
         ensures agreed { AreAgreed P.means self.old }
         ensures later { AreAgreed P.means self.new }

@@ -30,7 +30,6 @@ fn files_that_make_no_run_are_told(rt: HostRuntime) -> Result<(), Fail> {
             b"topology truncated 0\n".as_slice(),
         ),
         (b"", b"tick 1\n", 9, 9, b"not yet\n"),
-        (b"", b"load\n", 9, 9, b"not yet\n"),
         (b"", b"load\n", 2, 3, b""),
         (b"CoS", b"load\n", 3, 3, b"topolo"),
     ] {

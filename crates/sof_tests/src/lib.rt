@@ -3,6 +3,8 @@
 #![tactic(auto)]
 
 #[cfg(test)]
+mod alone;
+#[cfg(test)]
 mod changed;
 #[cfg(test)]
 mod checks;
@@ -10,7 +12,13 @@ mod counted;
 #[cfg(test)]
 mod ends;
 #[cfg(test)]
+mod fated;
+#[cfg(test)]
 mod faults;
+#[cfg(test)]
+mod graphs;
+#[cfg(test)]
+mod loads;
 #[cfg(test)]
 mod plans;
 #[cfg(test)]

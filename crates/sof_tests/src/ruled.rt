@@ -8,8 +8,8 @@ use std::test::Fail;
 use tplg_graph::{PlanFault, plan};
 use tplg_read::read;
 
-// The rule that a file's topology breaks, and its item; 0 where it is no topology, and none where it has a plan.
-fn broken_rule(alloc: Global, file: &[u8]) -> Option<(u8, u32)> {
+/// The rule that a file's topology breaks, and its item; 0 where it is no topology, and none where it has a plan.
+pub fn broken_rule(alloc: Global, file: &[u8]) -> Option<(u8, u32)> {
     let Ok(topology) = read(alloc, file) else {
         return Some((0, 0));
     };

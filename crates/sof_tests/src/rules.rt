@@ -1,8 +1,7 @@
-// Topologies that break a rule, and one that keeps all of them and is not thin, each before any command.
+// Topologies that break a rule, each before any command.
 use crate::played::{Outcome, played};
 use crate::records::{put_header, put_mixer, put_number, put_route, put_widget};
 use crate::thin::thin_graph;
-use crate::volume::volume_graph;
 use std::alloc::{AllocError, Global};
 use std::test::Fail;
 
@@ -70,15 +69,5 @@ fn a_cycle_is_told(rt: HostRuntime) -> Result<(), Fail> {
     assert_eq!(rt; outcome.status, 2);
     assert!(rt; !outcome.on);
     assert_eq!(rt; outcome.said.as_slice(), b"topology rule 14 0\n".as_slice());
-    Ok(())
-}
-
-#[test]
-fn a_volume_is_not_built(rt: HostRuntime) -> Result<(), Fail> {
-    let alloc = rt.alloc();
-    let outcome = loaded(alloc, &volume_graph(alloc)?)?;
-    assert_eq!(rt; outcome.status, 9);
-    assert!(rt; !outcome.on);
-    assert_eq!(rt; outcome.said.as_slice(), b"not yet\n".as_slice());
     Ok(())
 }

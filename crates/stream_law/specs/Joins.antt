@@ -9,6 +9,14 @@ use Rattle.stream_law.specs.declared.graph.Graph.{Graph}
 use Rattle.stream_law.specs.declared.stream.StreamView.{StreamView}
 use Rattle.stream_law.specs.Ways.{components, buffers, leads, reaches, on_way, is_capture}
 
+-- whether a kind is that of an endpoint, whose frames come from an input or go to an output
+abbrev pub is_endpoint : Kind → Bool
+is_endpoint HostPlay = true
+is_endpoint HostCapture = true
+is_endpoint (DaiPlay format) = true
+is_endpoint (DaiCapture format) = true
+is_endpoint _ = false
+
 -- the greatest number of edges into a component of a kind
 abbrev pub kind_ins : Kind → ℕ
 kind_ins HostPlay = 0

@@ -1,5 +1,5 @@
 // A graph of components and buffers.
-use sof_base::{Format, Items};
+use sof_base::{Bounded, Format, Items};
 
 /// What a component is. A DAI has the format of its endpoint's samples.
 #[derive(Clone, Copy, Debug, PartialEq, Eq)]
@@ -14,12 +14,12 @@ pub enum Kind {
     Eq,
 }
 
-/// What is set at a component: a volume's gains (65536 is 1) by channel, a mux's chosen input from 0, or an equaliser's
+/// What is set at a component: a volume's gains (65536 is 1) by channel, at most 8, a mux's chosen input from 0, or an equaliser's
 /// blob, empty where none is in force.
 #[derive(Debug, Drop)]
 pub enum Setting {
     Nothing,
-    Gains(Items<u32>),
+    Gains(Bounded<u32, 8>),
     Choice(u32),
     Blob(Items<u8>),
 }

@@ -17,11 +17,11 @@ use Rattle.tplg_graph.specs.PlanOf.{graph_on}
 use Rattle.tplg_graph.specs.Needed.{IsSmall}
 use Rattle.tplg_graph.proofs.Indexed.{by-index, length-indexed}
 
-cond-none : {Y : Type 0} (b : Bool) (o : Option Y) → b ≡ false → cond b o None ≡ None
+pub cond-none : {Y : Type 0} (b : Bool) (o : Option Y) → b ≡ false → cond b o None ≡ None
 cond-none true o h = absurd (false≢true (sym h))
 cond-none false o h = refl
 
-no-kind : (r : Option Role) (format : FormatToken) (ends : Bool) → is_component_role r ≡ false → kind_of r format ends ≡ None
+pub no-kind : (r : Option Role) (format : FormatToken) (ends : Bool) → is_component_role r ≡ false → kind_of r format ends ≡ None
 no-kind None format ends h = refl
 no-kind (Some Buffer) format ends h = refl
 no-kind (Some Scheduler) format ends h = refl

@@ -12,7 +12,7 @@ use Rattle.tplg_graph.specs.Cycles.{joined, Walk}
 end_at : (o : Option ℕ) (c : ℕ) → o ≡ Some c → is_end o c ≡ true
 end_at o c e = ap (λ x. is_end x c) e ∙ eq-eqb c c refl
 
-edge-joined : (es : List Edge) (buffer a c : ℕ) → option_and_then (λ e. e.source) (find (λ e. e.buffer == buffer) es) ≡ Some a → option_and_then (λ e. e.sink) (find (λ e. e.buffer == buffer) es) ≡ Some c → joined es a c ≡ true
+pub edge-joined : (es : List Edge) (buffer a c : ℕ) → option_and_then (λ e. e.source) (find (λ e. e.buffer == buffer) es) ≡ Some a → option_and_then (λ e. e.sink) (find (λ e. e.buffer == buffer) es) ≡ Some c → joined es a c ≡ true
 edge-joined [] buffer a c s t = absurd (cc s)
 edge-joined (e ∷ es) buffer a c s t = by_test (e.buffer == buffer) s t (λ k l. edge-joined es buffer a c k l)
   where

@@ -21,3 +21,12 @@ pub mod Leading
 pub mod RuleTests
 pub mod Gains
 pub mod Known
+pub mod KeyedLists
+pub mod ByIds
+pub mod NamedIds
+pub mod WalkedJoins
+pub mod FittingKinds
+pub mod DistinctIndices
+pub mod HostStreams
+pub mod LiveKinds
+pub mod Soundness

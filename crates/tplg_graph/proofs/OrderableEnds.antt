@@ -28,7 +28,7 @@ use Rattle.tplg_graph.specs.Lists.{joins_of, kind_of, is_sink, component_of, com
 
 -- ---- a component's id is among those of the components
 
-component-kind : (p : Option Role) (f : FormatToken) (b : Bool) → is_component_role p ≡ true → (k : Kind) × (kind_of p f b ≡ Some k)
+pub component-kind : (p : Option Role) (f : FormatToken) (b : Bool) → is_component_role p ≡ true → (k : Kind) × (kind_of p f b ≡ Some k)
 component-kind None f b h = absurd (false≢true h)
 component-kind (Some role_is.Buffer) f b h = absurd (false≢true h)
 component-kind (Some Scheduler) f b h = absurd (false≢true h)
@@ -102,7 +102,7 @@ from_end es name x h = by_place (position (has_name name) (interpreted es)) (is_
     by_place None true h = inr (inl (sym h))
     by_place None false h = inr (inr (sym h))
 
-component-end : (es : List Entry) (name : List ℕ) (a : ℕ) → end_of es name ≡ Component a → IsComp (interpreted es) a
+pub component-end : (es : List Entry) (name : List ℕ) (a : ℕ) → end_of es name ≡ Component a → IsComp (interpreted es) a
 component-end es name a h = by_case (from_end es name (Component a) h)
   where
     by_case : ((k : ℕ) × (e : Entry) × (slice_get (interpreted es) k ≡ Some e) × (end_at e k ≡ Component a)) ⊎ ((Component a ≡ Other) ⊎ (Component a ≡ Missing)) → IsComp (interpreted es) a
@@ -153,12 +153,12 @@ good-append : (es : List Entry) (xs ys : List Join) → AllByRecursion (Good (in
 good-append es [] ys a b = b
 good-append es (x ∷ xs) ys a b = (a.0, good-append es xs ys a.1 b)
 
-good-blocks : (es : List Entry) (bs : List Block) → AllByRecursion (Good (interpreted es)) (filter_map real_of (flat_map (block_ends es) bs))
+pub good-blocks : (es : List Entry) (bs : List Block) → AllByRecursion (Good (interpreted es)) (filter_map real_of (flat_map (block_ends es) bs))
 good-blocks es [] = tt
 good-blocks es (b ∷ bs) = subst (AllByRecursion (Good (interpreted es))) (sym (filter_map-append real_of (block_ends es b) (flat_map (block_ends es) bs))) (good-append es (filter_map real_of (block_ends es b)) (filter_map real_of (flat_map (block_ends es) bs)) (good-routes es (routes_in b.body)) (good-blocks es bs))
 
 -- the first that passes is good, and passes
-find-good : (es : List Entry) (p : Join → Bool) (js : List Join) (j : Join) → AllByRecursion (Good es) js → find p js ≡ Some j → Good es j × (p j ≡ true)
+pub find-good : (es : List Entry) (p : Join → Bool) (js : List Join) (j : Join) → AllByRecursion (Good es) js → find p js ≡ Some j → Good es j × (p j ≡ true)
 find-good es p [] j all e = cc
 find-good es p (x ∷ xs) j all e = by_test (p x) refl e (find-good es p xs j all.1)
   where
@@ -179,7 +179,7 @@ buffer-only (Some Mixer) h k = false≢true h
 buffer-only (Some Mux) h k = false≢true h
 buffer-only (Some Eq) h k = false≢true h
 
-apart : (es : List Entry) (k a : ℕ) → a ≡ k → IsBuf es k → IsComp es a → ⊥
+pub apart : (es : List Entry) (k a : ℕ) → a ≡ k → IsBuf es k → IsComp es a → ⊥
 apart es k a s b c = let e : c.entry ≡ b.entry = some_same (sym c.there ∙ ap (slice_get es) s ∙ b.there) in buffer-only b.entry.role b.sort (ap is_component (sym e) ∙ c.sort)
   where
     some_same : {X : Type 0} {x y : X} → Some x ≡ Some y → x ≡ y

@@ -34,7 +34,7 @@ use Rattle.tplg_graph.specs.Thin.{AreThinOver, thin_ends, thin_rules}
 use Rattle.tplg_graph.specs.ThinPlan.{IsThinPlan, FitsWords, thin_graph}
 
 -- each interpreted widget has a name that can be printed
-named : (es ps : List Entry) → ps ≡ interpreted es → HoldsAll (names_rule es) → list_all (λ e. not (is_interpreted e) || is_widget_name e.name) ps ≡ true
+pub named : (es ps : List Entry) → ps ≡ interpreted es → HoldsAll (names_rule es) → list_all (λ e. not (is_interpreted e) || is_widget_name e.name) ps ≡ true
 named es ps same kept = of-interpreted es ps _ same (λ k h. weaker (slice_get es k) _ _ (λ e. or-front (not (is_interpreted e)) (is_widget_name e.name) _) (kept k h))
 
 -- ---- roles
@@ -108,7 +108,7 @@ scheduling index h b d s (Some (suc (suc zero))) otherwise c other e = inr (let 
 scheduling index h b d s (Some (suc (suc (suc zero)))) otherwise c other e = cc
 scheduling index h b d s (Some (suc (suc (suc (suc n))))) otherwise c other e = cc
 
-component-of : (x : End) → is_component_end x ≡ true → (c : ℕ) × (x ≡ an_end.Component c)
+pub component-of : (x : End) → is_component_end x ≡ true → (c : ℕ) × (x ≡ an_end.Component c)
 component-of (an_end.Component c) h = (c, refl)
 component-of (an_end.Buffer c) h = absurd (false≢true h)
 component-of an_end.Other h = absurd (false≢true h)
@@ -128,7 +128,7 @@ pub record IsSize (n : ℕ) : Type 0 where
   pub least : 16 ≤ n
   pub most : n ≤ 16777184
 
-size-of : (o : Option ℕ) → is_size o ≡ true → IsSize (unwrap_or o 0)
+pub size-of : (o : Option ℕ) → is_size o ≡ true → IsSize (unwrap_or o 0)
 size-of None h = absurd (false≢true h)
 size-of (Some n) h = record { least = leb-true 16 n (and_parts (nat_le 16 n) (nat_le n 16777184) h).0; most = leb-true n 16777184 (and_parts (nat_le 16 n) (nat_le n 16777184) h).1 }
 
@@ -260,7 +260,7 @@ none-of (Some c) h = absurd (false≢true h)
 first-of-all : (e : Entry) (es : List Entry) (f : Entry → Bool) → list_all f (e ∷ es) ≡ true → f e ≡ true
 first-of-all e es f all = (and_parts (f e) (list_all f es) all).0
 
-caps-found : (p : PcmCaps → Bool) (pcms : List PcmCaps) → list_any p pcms ≡ true → (x : PcmCaps) × (find p pcms ≡ Some x)
+pub caps-found : (p : PcmCaps → Bool) (pcms : List PcmCaps) → list_any p pcms ≡ true → (x : PcmCaps) × (find p pcms ≡ Some x)
 caps-found p [] h = absurd (false≢true h)
 caps-found p (x ∷ xs) h = by_test (p x) refl h (caps-found p xs)
   where

@@ -16,6 +16,7 @@ pub mod PlanOf
 pub mod WellFormed
 pub mod Thin
 pub mod ThinPlan
+pub mod Sound
 pub mod ThinTest
 pub mod RuleTest
 pub mod GainOf

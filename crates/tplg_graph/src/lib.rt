@@ -31,4 +31,4 @@ pub use making::plan;
 pub use plan_fault::PlanFault;
 pub use planned::{ControlKind, ControlPlan, Plan, StreamPlan, WidgetPlan};
 pub use thin_form::is_thin;
-pub use volume_gain::gain;
+pub use volume_gain::{gain, half_decibels};

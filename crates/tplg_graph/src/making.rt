@@ -13,6 +13,7 @@ ghost use Rattle.tplg_graph.specs.Cycles.{IsOrderable, IsAcyclic};
 ghost use Rattle.tplg_graph.specs.WellFormed as rules;
 ghost use Rattle.tplg_graph.specs.Thin.{IsThin};
 ghost use Rattle.tplg_graph.specs.ThinPlan.{IsThinPlan, FitsWords};
+ghost use Rattle.tplg_graph.specs.Sound.{IsSound};
 
 use crate::by_name::{all_by_name, interpreted_by_name};
 use crate::control_lists::controls;
@@ -233,6 +234,7 @@ pub fn plan(alloc: Global, topology: &Topology) -> Result<Plan, PlanFault>
     ensures need { IfOk result (λ p. need_on p.graph ≡ need_of topology.now) }
     ensures orderable { IfOk result (λ p. IsOrderable p.graph) }
     ensures acyclic { IfOk result (λ p. IsAcyclic p.graph) }
+    ensures sound { IfOk result (λ p. IsSound p) }
 {
     plan_in_form(alloc, topology)
 }

@@ -59,8 +59,9 @@ fn halves(hundredths: i128) -> i128
     hundredths.div_euclid(50)
 }
 
-/// The half decibels of a value, from -200 to 84.
-fn half_decibels(lowest: i32, step: u32, value: u32) -> i32
+/// The half decibels of a volume's value, from -200 to 84, by its control's scale: the hundredths of a decibel at value 0, and
+/// how many each value adds.
+pub fn half_decibels(lowest: i32, step: u32, value: u32) -> i32
     ensures value { result ≡ law.half_decibels lowest step value }
     ensures most { result ≤ℤ pos 84 }
 {

@@ -1,17 +1,16 @@
 // What each message does, and why it is refused: its tests in the order -19, -16, -22, -12.
-ghost use Rattle.std.specs.Prelude.{◌≡◌, ◌+◌, ◌<◌, ◌≤◌, ◌||◌, [], ◌∷◌, ◌++◌, OnErr, length, map, vec_capacity, Ok, Err, true, false, if◌then◌else◌};
-ghost use Rattle.stream_law.specs.Joins.{joined, would_reach, would_grow, with_join};
-ghost use Rattle.mbox_link.specs.Step.{invalid, with_stream, comp_new as comp_new_row, buffer_new as buffer_new_row, pipe_new as pipe_new_row, connect as connect_row, pipe_complete as pipe_complete_row, is_joined, takes_join, is_endpoint, kind_of as named_kind, row, row_of};
+ghost use Rattle.std.specs.Prelude.{◌≡◌, ◌+◌, ◌<◌, ◌≤◌, ◌||◌, [], ◌∷◌, ◌++◌, OnErr, IfOk, length, map, vec_capacity, Ok, Err, true, false, if◌then◌else◌};
+ghost use Rattle.stream_law.specs.Joins.{joined, would_cycle, would_reach, would_grow, with_join};
+ghost use Rattle.mbox_link.specs.Step.{invalid, with_stream, comp_new as comp_new_row, buffer_new as buffer_new_row, pipe_new as pipe_new_row, connect as connect_row, pipe_complete as pipe_complete_row, data_part as data_row, is_joined, takes_join, row, row_of, body, body_of};
 ghost use Rattle.ipc3_codec.specs.Allowed.{is_period};
 ghost use Rattle.ipc3_codec.specs.Messages.{decoded, IsAllowed};
-ghost use Rattle.fw_schedule.specs.TurnLaws.{is_endpoint as is_endpoint_kind};
 ghost use Rattle.fw_core.specs.Kept.{sides};
 ghost use Rattle.fw_core.specs.Answers.{answer_of};
 
 use super::State;
 use crate::table::Table;
 use crate::{growth, kinds};
-use ipc3_codec::{CompWords, Message, decode};
+use ipc3_codec::{Body, Message, decode};
 use sof_base::Errno;
 use stream_law::{Comp, Edge, Join, Kind, Phase, Pipe, Setting, StreamView};
 
@@ -21,9 +20,11 @@ const PIPE_BYTES: u64 = 64;
 const BUFFER_BYTES: u64 = 32;
 
 impl State {
-    /// Does what a message's bytes say, or tells why not. Bytes that are no message are not valid.
-    pub fn answer(&mut self, request: &[u8]) -> Result<(), Errno>
+    /// Does what a message's bytes say, and gives the body of its reply, or tells why not. Bytes that are no message are not
+    /// valid.
+    pub fn answer(&mut self, request: &[u8]) -> Result<Body, Errno>
         ensures answer { answer_of self.new.state result ≡ row_of self.old.state (decoded request.now) }
+        ensures body { IfOk result (λ said. said ≡ body_of self.old.state (decoded request.now)) }
         ensures kept { OnErr result (self.new ≡ self.old) }
         ensures room { self.new.room ≡ self.old.room }
     {
@@ -33,69 +34,90 @@ impl State {
         }
     }
 
+    // The same for a message. Values alone are the body of a reply.
+    fn handle(&mut self, message: &Message) -> Result<Body, Errno>
+        requires { IsAllowed message.now }
+        ensures answer { answer_of self.new.state result ≡ row self.old.state message.now }
+        ensures body { IfOk result (λ said. said ≡ body self.old.state message.now) }
+        ensures kept { OnErr result (self.new ≡ self.old) }
+        ensures room { self.new.room ≡ self.old.room }
+    {
+        if let Message::GetValue { id, command } = *message {
+            return self.get_value(id, command);
+        }
+        self.act(message)?;
+        Ok(Body::Nothing)
+    }
+
     // Does what a message says, or tells why not.
-    fn handle(&mut self, message: &Message) -> Result<(), Errno>
+    fn act(&mut self, message: &Message) -> Result<(), Errno>
         requires { IsAllowed message.now }
         ensures answer { answer_of self.new.state result ≡ row self.old.state message.now }
         ensures kept { OnErr result (self.new ≡ self.old) }
         ensures room { self.new.room ≡ self.old.room }
     {
-        match *message {
+        match message {
             Message::CompNew {
                 id,
                 pipe,
                 frame_fmt,
                 kind,
                 ..
-            } => self.endpoint_new(id, pipe, kind, frame_fmt),
-            Message::BufferNew { id, pipe, size, .. } => self.buffer_new(id, pipe, size),
+            } => {
+                let setting = kinds::first_setting(self.alloc, *kind);
+                self.comp_new(*id, *pipe, kinds::kind_of(*kind, *frame_fmt), setting)
+            }
+            Message::CompFree { id } => self.comp_free(*id),
+            Message::BufferNew { id, pipe, size, .. } => self.buffer_new(*id, *pipe, *size),
+            Message::BufferFree { id } => self.buffer_free(*id),
             Message::PipeNew {
                 id,
                 pipe,
                 sched,
                 period,
                 ..
-            } => self.pipe_new(id, pipe, sched, period),
-            Message::Connect { source, sink } => self.connect(source, sink),
-            Message::PipeComplete { id } => self.pipe_complete(id),
+            } => self.pipe_new(*id, *pipe, *sched, *period),
+            Message::PipeFree { id } => self.pipe_free(*id),
+            Message::Connect { source, sink } => self.connect(*source, *sink),
+            Message::PipeComplete { id } => self.pipe_complete(*id),
+            Message::SetValue {
+                id,
+                command,
+                values,
+            } => self.set_value(*id, *command, values),
+            Message::GetValue { id, command } => match self.get_value(*id, *command) {
+                Ok(_) => Ok(()),
+                Err(error) => Err(error),
+            },
+            Message::SetData { id, .. } | Message::GetData { id, .. } => self.data_part(*id),
             Message::PcmParams {
                 host,
                 direction,
                 params,
-            } => self.pcm_params(host, direction, params),
-            Message::PcmFree { id } => self.pcm_free(id),
-            Message::TrigStart { id } => self.trig_start(id),
-            Message::TrigStop { id } => self.trig_stop(id),
-            Message::TrigPause { id } => self.trig_pause(id),
-            Message::TrigRelease { id } => self.trig_release(id),
+            } => self.pcm_params(*host, *direction, *params),
+            Message::PcmFree { id } => self.pcm_free(*id),
+            Message::TrigStart { id } => self.trig_start(*id),
+            Message::TrigStop { id } => self.trig_stop(*id),
+            Message::TrigPause { id } => self.trig_pause(*id),
+            Message::TrigRelease { id } => self.trig_release(*id),
             Message::CtxSave => Ok(()),
-            _ => Err(Errno::INVALID),
         }
     }
 
-    // A component, if it is an endpoint.
-    fn endpoint_new(
-        &mut self,
-        id: u32,
-        pipe: u32,
-        words: CompWords,
-        frame_fmt: u32,
-    ) -> Result<(), Errno>
-        ensures answer { answer_of self.new.state result ≡ (if is_endpoint words then comp_new_row self.old.state id pipe (named_kind words frame_fmt) else Err invalid) }
-        ensures kept { OnErr result (self.new ≡ self.old) }
-        ensures room { self.new.room ≡ self.old.room }
+    // A part of a blob: no equaliser takes or gives one so far.
+    fn data_part(&self, id: u32) -> Result<(), Errno>
+        ensures { answer_of self.now.state result ≡ data_row self.now.state id }
     {
-        if kinds::is_endpoint(words) {
-            self.comp_new(id, pipe, kinds::kind_of(words, frame_fmt))
-        } else {
+        if self.is_used(id) {
             Err(Errno::INVALID)
+        } else {
+            Err(Errno::NO_DEVICE)
         }
     }
 
     /// A component of this kind, in the pipeline of this index. A host brings a stream without parameters.
-    fn comp_new(&mut self, id: u32, pipe: u32, kind: Kind) -> Result<(), Errno>
-        requires { is_endpoint_kind kind ≡ true }
-        ensures answer { answer_of self.new.state result ≡ comp_new_row self.old.state id pipe kind }
+    fn comp_new(&mut self, id: u32, pipe: u32, kind: Kind, setting: Setting) -> Result<(), Errno>
+        ensures answer { answer_of self.new.state result ≡ comp_new_row self.old.state id pipe kind setting }
         ensures kept { OnErr result (self.new ≡ self.old) }
         ensures room { self.new.room ≡ self.old.room }
     {
@@ -112,12 +134,13 @@ impl State {
             id,
             kind,
             pipe,
-            setting: Setting::Nothing,
+            setting,
         });
         Ok(())
     }
 
-    /// A buffer of so many bytes, in the pipeline of this index, joined to nothing.
+    /// A buffer of so many bytes, in the pipeline of this index, joined to nothing. Its ring lies behind the first 32 bytes of its
+    /// piece.
     fn buffer_new(&mut self, id: u32, pipe: u32, size: u32) -> Result<(), Errno>
         ensures answer { answer_of self.new.state result ≡ buffer_new_row self.old.state id pipe size }
         ensures kept { OnErr result (self.new ≡ self.old) }
@@ -130,7 +153,7 @@ impl State {
         if self.edges.len() >= 128 || !self.heap.holds(bytes) {
             return Err(Errno::NO_MEMORY);
         }
-        self.heap.carve(id, bytes);
+        let place = self.heap.carve(id, bytes);
         self.edges.place(Edge {
             buffer: id,
             pipe,
@@ -138,7 +161,8 @@ impl State {
             source: None,
             sink: None,
         });
-        self.rings.place(id, size);
+        let first = (place as usize + 32) / 4;
+        self.rings.place(id, first, size);
         Ok(())
     }
 
@@ -190,6 +214,7 @@ impl State {
         requires side { length self.old.state.graph.joins + 1 ≤ sides (map (joined join) self.old.state.graph.edges) }
         requires free { is_joined self.old.state.graph join.source join.sink ≡ false }
         requires takes { takes_join self.old.state.graph join.source join.sink ≡ true }
+        requires open_ends { would_cycle self.old.state.graph join.source join.sink ≡ false }
         ensures answer { answer_of self.new.state result ≡ (if would_reach self.old.state.graph join.source join.sink || would_grow self.old.state.graph self.old.state.streams join.source join.sink then Err invalid else Ok (record self.old.state { graph = with_join self.old.state.graph join })) }
         ensures kept { OnErr result (self.new ≡ self.old) }
         ensures room { self.new.room ≡ self.old.room }

@@ -9,6 +9,7 @@ use Rattle.stream_law.specs.Walks.{HasCycle, HasEnds}
 use Rattle.fw_schedule.specs.Turns.{turn_of}
 use Rattle.fw_core.proofs.Acyclic as acyclic
 use Rattle.fw_core.proofs.Heads.{turns-more, turns-all, order-by}
+use Rattle.fw_core.proofs.Silent.{silent-turns}
 use Rattle.fw_core.proofs.schedule.schedule.Goals as goal
 
 pub loop-i-preserved : goal.loop-i-preserved
@@ -39,3 +40,6 @@ order-order-requires-clause-open c =
     let comps : c.scene.inside.comps.now ≡ v.graph.comps = ap (λ (v : View). v.graph.comps) c.scene.view_is in
     let edges : c.scene.inside.edges.now ≡ v.graph.edges = ap (λ (v : View). v.graph.edges) c.scene.view_is in
     subst (λ (p : List Comp × List Edge). HasCycle (bare p.0 p.1) → ⊥) (λ i. (sym comps i, sym edges i)) (acyclic.no-cycle v.graph c.requires.wired c.requires.linked)
+
+pub returns-then-not-is_running-clause-turns : goal.returns-then-not-is_running-clause-turns
+returns-then-not-is_running-clause-turns c = c.clear.ensures.items ∙ sym (silent-turns c.args.scene.now (sym c.is_running.ensures ∙ c.if-not-is_running.true))

@@ -13,7 +13,7 @@ turns =
     ∷ record { comp = 2; period = 1; quota = 3; place = 0; channels = 2; format = S32; capacity = 8; action = Fill }
     ∷ []
 
-stand : AreTurnsAt (changed 0 (begun 2) (with_ring 1 64 (no_rings 16))) turns
+stand : AreTurnsAt (changed 0 (begun 2) (with_ring 1 0 64 (no_rings 16))) turns
 unfolding IsDistinct
 stand = record {
   each = (
@@ -24,4 +24,4 @@ stand = record {
 }
 
 pub tick-requires-clause-turns : goal.tick-requires-clause-turns
-tick-requires-clause-turns g c = subst (λ s. AreTurnsAt s turns) (sym (c.begin.ensures ∙ ap (changed 0 (begun 2)) (c.place.ensures ∙ ap (with_ring 1 64) c.in_ok-rings.ensures))) stand
+tick-requires-clause-turns g c = subst (λ s. AreTurnsAt s turns) (sym (c.begin.ensures ∙ ap (changed 0 (begun 2)) (c.place.ensures ∙ ap (with_ring 1 0 64) c.in_ok-rings.ensures))) stand

@@ -1,13 +1,14 @@
-use Rattle.std.proofs.Common.{length, arith, ap, is_some}
+use Rattle.std.proofs.Common.{ap, is_some}
 use Rattle.sof_base.specs.Ports.{Io}
 use Rattle.mbox_link.specs.Calls.{world}
 use Rattle.host_widgets.proofs.SilentTicks.{AreInputs}
 use Rattle.host_widgets.proofs.ManyEffects.{brought_up, walk_fates}
-use Rattle.host_widgets.proofs.ThinBrings.{brings}
+use Rattle.host_widgets.proofs.Brings.{brings}
+use Rattle.host_widgets.proofs.Loadables.{few-widgets}
 use Rattle.host_widgets.proofs.bringing_up.bring_up.Goals as goal
 
 pub send_list-requires-clause-few : goal.send_list-requires-clause-few
-send_list-requires-clause-few g c = omega (arith, ap length c.requires.plan.widgets)
+send_list-requires-clause-few g c = few-widgets c.args.plan.now c.requires.plan
 
 pub send_list-requires-clause-on : goal.send_list-requires-clause-on
 send_list-requires-clause-on g c = ap is_some c.requires.booted

@@ -1,4 +1,5 @@
 use Rattle.std.proofs.Common.{◌≡◌, length}
+use Rattle.host_widgets.specs.HostRecord.{halted}
 use Rattle.host_widgets.proofs.Halting.{so_far}
 use Rattle.host_widgets.proofs.going_down.halt_all.Given as goal
 
@@ -6,5 +7,5 @@ use Rattle.host_widgets.proofs.going_down.halt_all.Given as goal
 abbrev pub invariant-loop-place : goal.invariant-loop-place
 invariant-loop-place l = record {
   long : length l.streams ≡ length l.initial.streams;
-  halted : l.streams ≡ so_far l.initial.streams l.place;
+  halted : l.streams ≡ so_far halted l.initial.streams l.place;
 }

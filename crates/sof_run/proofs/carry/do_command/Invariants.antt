@@ -1,4 +1,4 @@
-use Rattle.std.proofs.Common.{◌≡◌, ◌-◌}
+use Rattle.std.proofs.Common.{◌≡◌, ◌≤◌, ◌-◌}
 use Rattle.sof_base.specs.Ports.{drained}
 use Rattle.sof_io.specs.Bound.{output_slots}
 use Rattle.sof_session.specs.Turns.{life, Seated}
@@ -14,6 +14,7 @@ invariant-loop g l =
     let means = g.D.Desk.means in
     record {
       plan : l.session.plan ≡ l.fn.session.plan;
+      sent : l.session.link.sent ≤ l.fn.session.link.sent;
       created : AreCreated means (output_slots l.outputs) l.desk;
       empty : drained l.outputs ≡ l.outputs;
       so_far : Follows means (life g.P.Dsp.means) (rounds_todo (command_rounds l.numbered)) (rounds_todo (rounds_after (earlier l.numbered.command - l.counter) l.numbered))

@@ -1,7 +1,11 @@
-use Rattle.std.proofs.Common.{◌≤◌, length, sym, subst}
+use Rattle.std.proofs.Common.{◌≤◌, length, sym, subst, ◌∙◌, arith}
 use Rattle.std.proofs.lemmas.List.{drop_all}
 use Rattle.sof_io.specs.Bound.{output_slots}
-use Rattle.tplg_graph.specs.ThinPlan.{IsThinPlan}
+use Rattle.tplg_graph.specs.declared.planned.Plan.{Plan}
+use Rattle.host_widgets.specs.Controls.{IsLoadable}
+use Rattle.sof_script.specs.declared.script.Numbered.{Numbered}
+use Rattle.sof_session.specs.Walks.{IsBuilt}
+use Rattle.sof_run.proofs.Built.{built_at}
 use Rattle.sof_session.specs.Turns.{Seated, life}
 use Rattle.sof_run.specs.Rounds.{command_rounds}
 use Rattle.sof_run.specs.Todo.{Phase}
@@ -22,9 +26,10 @@ loop-numbered-preserved g c =
     let dsp = life g.P.Dsp.means in
     let phase = subst (λ n. Phase means dsp (rounds_todo (command_rounds n)) c.do_command.result c.loop-numbered.desk (Seated c.loop-numbered.session c.loop-numbered.inputs (output_slots c.loop-numbered.outputs)) c.do_command.new.desk (Seated c.do_command.new.session c.do_command.new.inputs (output_slots c.do_command.new.outputs))) c.numbered-item.is c.do_command.ensures.phase in
     record {
-      thin = subst IsThinPlan (sym c.do_command.ensures.plan) c.loop-numbered.invariant.thin;
+      plan = c.do_command.ensures.plan ∙ c.loop-numbered.invariant.plan;
       created = c.do_command.ensures.created;
       empty = c.do_command.ensures.empty;
+      sent = omega (arith, c.do_command.ensures.sent, c.loop-numbered.invariant.sent);
       so_far = commands_on means dsp c.args.commands.now c.loop-numbered.numbered-index _ _ _ _ _ _ _ c.loop-numbered-test.true c.loop-numbered.invariant.so_far (rw c.if-not-do_command.false at phase);
     }
 
@@ -32,3 +37,12 @@ pub returns : goal.returns
 returns g c =
     let past : length c.args.commands.now ≤ c.loop-numbered.numbered-index = c.loop-numbered-test.false in
     rw drop_all at c.loop-numbered.invariant.so_far
+
+pub do_command-requires-clause-built : goal.do_command-requires-clause-built
+do_command-requires-clause-built g c =
+    let here = built_at c.args.session.now.plan c.args.commands.now c.loop-numbered.numbered-index c.numbered-item.result c.loop-numbered-test.true c.requires.built in
+    let item = subst (λ (n : Numbered). IsBuilt c.args.session.now.plan n.command) (sym c.numbered-item.is) here in
+    subst (λ (p : Plan). IsBuilt p c.numbered-item.result.command) (sym c.loop-numbered.invariant.plan) item
+
+pub do_command-requires-clause-plan : goal.do_command-requires-clause-plan
+do_command-requires-clause-plan g c = subst IsLoadable (sym c.loop-numbered.invariant.plan) c.requires.plan

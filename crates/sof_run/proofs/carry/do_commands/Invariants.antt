@@ -1,7 +1,6 @@
-use Rattle.std.proofs.Common.{◌≡◌, drop}
+use Rattle.std.proofs.Common.{◌≡◌, ◌≤◌, ◌*◌, drop}
 use Rattle.sof_base.specs.Ports.{drained}
 use Rattle.sof_io.specs.Bound.{output_slots}
-use Rattle.tplg_graph.specs.ThinPlan.{IsThinPlan}
 use Rattle.sof_session.specs.Turns.{life, Seated}
 use Rattle.sof_run.specs.Todo.{Follows}
 use Rattle.sof_run.specs.Play.{commands_todo}
@@ -13,9 +12,10 @@ abbrev pub invariant-loop-numbered : goal.invariant-loop-numbered
 invariant-loop-numbered g l =
     let means = g.D.Desk.means in
     record {
-      thin : IsThinPlan l.session.plan;
+      plan : l.session.plan ≡ l.fn.session.plan;
       created : AreCreated means (output_slots l.outputs) l.desk;
       empty : drained l.outputs ≡ l.outputs;
+      sent : l.session.link.sent ≤ 900 * l.numbered-index;
       so_far : Follows means (life g.P.Dsp.means) (commands_todo l.commands) (commands_todo (drop l.numbered-index l.commands))
           l.fn.desk (Seated l.fn.session l.fn.inputs (output_slots l.fn.outputs)) l.desk (Seated l.session l.inputs (output_slots l.outputs));
     }

@@ -1,5 +1,6 @@
-use Rattle.std.proofs.Common.{sym, ◌∙◌}
+use Rattle.std.proofs.Common.{sym, ◌∙◌, arith}
 use Rattle.sof_session.specs.Show.{show_lines}
+use Rattle.sof_run.proofs.FewLines.{line_within, few_lines}
 use Rattle.sof_run.proofs.Commands.{leads_on, leads_off, leads_all}
 use Rattle.sof_run.proofs.carry.say_shown.Goals as goal
 
@@ -28,3 +29,15 @@ returns g c =
       phase = leads_all g.D.Desk.means lines c.loop-line.k c.show_line.new.line _ _ (rw c.loop-line-test.false at c.show_line.ensures.line) c.loop-line.invariant.so_far;
       created = c.loop-line.invariant.created;
     }
+
+pub overflow_add-k : goal.overflow_add-k
+overflow_add-k g c =
+    let plan = c.args.session.now.plan in
+    let kept = c.args.session.now.kept in
+    omega (arith, line_within (show_lines plan kept) c.loop-line.k c.show_line.new.line (rw c.loop-line-test.true at c.show_line.ensures.line), few_lines plan c.requires kept)
+
+pub loop-line-smaller : goal.loop-line-smaller
+loop-line-smaller g c =
+    let plan = c.args.session.now.plan in
+    let kept = c.args.session.now.kept in
+    omega (arith, line_within (show_lines plan kept) c.loop-line.k c.show_line.new.line (rw c.loop-line-test.true at c.show_line.ensures.line))

@@ -1,7 +1,10 @@
+use Rattle.std.proofs.Common.{arith}
 use Rattle.sof_script.specs.Commands.{told}
 use Rattle.sof_session.specs.Turns.{Bare, life}
 use Rattle.sof_run.specs.Words.{form}
 use Rattle.sof_run.proofs.Plays.{gave_bare, gave_alone, second_missing, halted_on, ready_on}
+use Rattle.sof_run.proofs.ScriptRanges.{script_sound}
+use Rattle.sof_run.proofs.PreparedReads.{prepared_read}
 use Rattle.sof_run.proofs.play.do_play.Goals as goal
 
 pub returns-in-Err : goal.returns-in-Err
@@ -28,3 +31,9 @@ returns g c =
     gave_bare g.D.Desk.means g.P.Dsp.means _ _ _ _ _
     (halted_on g.D.Desk.means (life g.P.Dsp.means) (form c.args.form.heap c.args.form.topology.now c.args.form.script.now) c.in-Ok.bytes.items c.in-Ok-fetch.bytes.items _ _ _ _ (Bare c.args.dsp) _ c.in-Err-prepare.halt c.in-Ok.ensures c.in-Ok-fetch.ensures
     (rw (c.deref.ensures.value, c.deref-2.ensures.value) at c.in-Err-prepare.ensures) c.stop_for.ensures)
+
+pub do_session-requires-clause-sound : goal.do_session-requires-clause-sound
+do_session-requires-clause-sound g c =
+    let plan = c.in-Ok-prepare.ready.plan in
+    let read = told c.in-Ok-prepare.ready.script in
+    script_sound c.in-Ok-fetch.bytes.items read (omega (arith, c.in-Ok-fetch.ensures.answers.0)) (prepared_read plan read c.in-Ok.bytes.items c.in-Ok-fetch.bytes.items (rw (c.deref.ensures.value, c.deref-2.ensures.value) at c.in-Ok-prepare.ensures.0))

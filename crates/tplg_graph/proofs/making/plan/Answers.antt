@@ -3,6 +3,7 @@ use Rattle.tplg_graph.specs.WellFormed.{rules_of}
 use Rattle.tplg_graph.specs.Needed.{IsSmall, need_on, need_of}
 use Rattle.tplg_graph.specs.Cycles.{IsOrderable, IsAcyclic}
 use Rattle.tplg_graph.proofs.PlanLaws.{kept, broken, on-plan, is-small, is-need, is-orderable, is-acyclic, is-thin-plan}
+use Rattle.tplg_graph.proofs.Soundness.{is-sound-plan}
 use Rattle.tplg_graph.proofs.making.plan.Goals as goal
 
 pub returns-clause-kept : goal.returns-clause-kept
@@ -25,3 +26,6 @@ returns-clause-orderable c = on-plan c.args.topology.now c.plan_in_form.result (
 
 pub returns-clause-acyclic : goal.returns-clause-acyclic
 returns-clause-acyclic c = on-plan c.args.topology.now c.plan_in_form.result (λ p. IsAcyclic p.graph) c.plan_in_form.ensures.ok c.plan_in_form.ensures.lists (is-acyclic c.args.topology.now)
+
+pub returns-clause-sound : goal.returns-clause-sound
+returns-clause-sound c = is-sound-plan c.args.topology.now c.plan_in_form.result c.plan_in_form.ensures.ok c.plan_in_form.ensures.lists c.plan_in_form.ensures.fit

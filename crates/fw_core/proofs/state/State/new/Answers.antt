@@ -1,12 +1,12 @@
 use Rattle.std.proofs.Common.{ap, arith}
-use Rattle.stream_law.specs.State.{HeapView}
-use Rattle.fw_core.specs.Pieces.{heap_bytes}
+use Rattle.fw_core.specs.Pieces.{HeapHeld}
 use Rattle.fw_core.proofs.KeptLaws.{kept-empty, held-empty}
 use Rattle.fw_core.proofs.state.State.new.Goals as goal
 
 pub invariant_of-result : goal.invariant_of-result
 invariant_of-result c = (
-  kept-empty _ _ _ _ _ _ _ _ _ (ap (λ (h : HeapView). h.pieces) c.in_ok-new.ensures) c.in_ok-new-2.ensures c.in_ok-new-3.ensures c.in_ok-new-4.ensures c.in_ok-with_capacity.ensures.items c.in_ok-new-5.ensures c.in_ok-new-6.ensures,
-  held-empty _ _ _ _ _ _ _ _ _ c.in_ok-new-3.ensures c.in_ok-new-6.ensures (omega (arith, ap heap_bytes c.in_ok-new.ensures)),
+  kept-empty _ _ _ _ _ _ _ _ _ (ap (λ (h : HeapHeld). h.view.pieces) c.in_ok-new.ensures) c.in_ok-new-2.ensures c.in_ok-new-3.ensures c.in_ok-new-4.ensures c.in_ok-with_capacity.ensures.items c.in_ok-new-5.ensures c.in_ok-new-6.ensures,
+  held-empty _ _ _ _ _ _ _ _ _ 0 c.in_ok-new-3.ensures c.in_ok-new-6.ensures (ap (λ (h : HeapHeld). h.view) c.in_ok-new.ensures) (omega arith),
   omega (arith, c.in_ok-with_capacity.ensures.exact),
+  ap (λ (h : HeapHeld). h.room) c.in_ok-new.ensures,
 )

@@ -9,13 +9,12 @@ pub invariant_of-self : goal.invariant_of-self
 invariant_of-self c =
     let r = c.self.inside in let v = c.self.invariant in let w = c.index-window.result.now in let w' = c.begun.result in let ws = r.windows.items in let place = c.args.place in
     let at = here r c.args.self.now place w c.self.view_is c.requires.there c.index-window.ensures in
-    let is = within-at r.used ws place w at v.windows in
+    let is = within-at (length r.words.items) ws place w at v.windows in
     let f = c.begun.ensures.lies in let none = c.begun.ensures.empty in
     record {
       few = (omega (arith, length-set ws place w', v.few), v.few.1);
-      used = v.used;
       most = v.most;
-      windows = all-set (IsWithin r.used) ws place w' (record { window = c.begun.ensures.window; ends = omega (arith, is.ends, f) }) v.windows;
+      windows = all-set (IsWithin (length r.words.items)) ws place w' (record { window = c.begun.ensures.window; ends = omega (arith, is.ends, f) }) v.windows;
       apart = apart-set ws place w w' at.there at.read f.1 f.2 v.apart;
     }
 
@@ -24,4 +23,4 @@ returns c =
     let r = c.self.inside in let w = c.index-window.result.now in let ws = r.windows.items in let place = c.args.place in
     let at = here r c.args.self.now place w c.self.view_is c.requires.there c.index-window.ensures in
     let f = c.begun.ensures.lies in let none = c.begun.ensures.empty in
-    rw (← c.self.view_is) (λ i. record { most = length r.words.items; used = r.used; rings = rings-begun r.words.items ws place w c.begun.result c.args.channels (fresh_ring 0 0) at f.0 f.2 none.0 none.1 i })
+    rw (← c.self.view_is) (λ i. record { most = length r.words.items; rings = rings-begun r.words.items ws place w c.begun.result c.args.channels (fresh_ring 0 0 0) at f.0 f.1 f.2 none.0 none.1 i })

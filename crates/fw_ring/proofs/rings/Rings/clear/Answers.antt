@@ -9,8 +9,7 @@ invariant_of-self c =
     let v = c.self.invariant in let none = c.clear.ensures.items in
     record {
       few = (omega (arith, ap length none), omega (arith, c.clear.ensures.capacity, v.few));
-      used = omega arith;
       most = v.most;
-      windows = subst (AllByRecursion (IsWithin 0)) (sym none) tt;
+      windows = subst (AllByRecursion (IsWithin (length c.self.inside.words.items))) (sym none) tt;
       apart = subst AreApart (sym none) apart-none;
     }

@@ -7,4 +7,4 @@ pub returns-clause-count : goal.returns-clause-count
 returns-clause-count c =
     let r = c.self.inside in let w = c.index.result.now in let ws = r.windows.items in
     let at = here r c.args.self.now c.args.place w c.self.view_is c.requires c.index.ensures in
-    sym (held-at r.words.items ws c.args.place w (fresh_ring 0 0) at (within-at r.used ws c.args.place w at c.self.invariant.windows).window) ∙ ap (λ s. length (ring_at s c.args.place).frames) c.self.view_is
+    sym (held-at r.words.items ws c.args.place w (fresh_ring 0 0 0) at (within-at (length r.words.items) ws c.args.place w at c.self.invariant.windows).window) ∙ ap (λ s. length (ring_at s c.args.place).frames) c.self.view_is

@@ -9,6 +9,5 @@ returns-clause-rings c =
     let r = c.self.inside in let v = c.self.invariant in
     rw (← c.self.view_is) (record {
       few = omega (arith, length-map r.windows.items (ring_of r.words.items), v.few);
-      used = v.used;
-      each = are-rings r.words.items r.used r.windows.items v.used v.windows;
+      each = are-rings r.words.items r.windows.items v.windows;
     })

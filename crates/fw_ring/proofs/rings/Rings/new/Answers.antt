@@ -1,4 +1,4 @@
-use Rattle.std.proofs.Common.{sym, subst, arith, rules}
+use Rattle.std.proofs.Common.{sym, subst, length, rules}
 use Rattle.std.specs.List.{AllByRecursion}
 use Rattle.fw_ring.specs.RingsLaid.{AreApart, IsWithin}
 use Rattle.fw_ring.proofs.ApartLaws.{apart-none}
@@ -9,8 +9,7 @@ invariant_of-result c =
     let none = c.in_ok-with_capacity.ensures.items in
     record {
       few = search rules;
-      used = omega arith;
       most = search rules;
-      windows = subst (AllByRecursion (IsWithin 0)) (sym none) tt;
+      windows = subst (AllByRecursion (IsWithin (length c.in_ok-vec.field-0.items))) (sym none) tt;
       apart = subst AreApart (sym none) apart-none;
     }

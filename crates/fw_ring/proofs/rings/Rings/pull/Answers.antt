@@ -12,21 +12,20 @@ pub pulled-requires-clause-held : goal.pulled-requires-clause-held
 pulled-requires-clause-held c =
     let r = c.self.inside in let w = c.index-window.result.now in let ws = r.windows.items in let place = c.args.place in
     let at = here r c.args.self.now place w c.self.view_is c.requires.there c.index-window.ensures in
-    let is = within-at r.used ws place w at c.self.invariant.windows in
-    omega (arith, c.requires.held, ap (λ s. length (ring_at s place).frames) c.self.view_is, held-at r.words.items ws place w (fresh_ring 0 0) at is.window)
+    let is = within-at (length r.words.items) ws place w at c.self.invariant.windows in
+    omega (arith, c.requires.held, ap (λ s. length (ring_at s place).frames) c.self.view_is, held-at r.words.items ws place w (fresh_ring 0 0 0) at is.window)
 
 pub invariant_of-self : goal.invariant_of-self
 invariant_of-self c =
     let r = c.self.inside in let v = c.self.invariant in let w = c.index-window.result.now in let w' = c.pulled.result in let ws = r.windows.items in let place = c.args.place in
     let at = here r c.args.self.now place w c.self.view_is c.requires.there c.index-window.ensures in
-    let is = within-at r.used ws place w at v.windows in
+    let is = within-at (length r.words.items) ws place w at v.windows in
     let same = c.pulled.ensures.window in
-    let few : c.args.count ≤ w.held = omega (arith, c.requires.held, ap (λ s. length (ring_at s place).frames) c.self.view_is, held-at r.words.items ws place w (fresh_ring 0 0) at is.window) in
+    let few : c.args.count ≤ w.held = omega (arith, c.requires.held, ap (λ s. length (ring_at s place).frames) c.self.view_is, held-at r.words.items ws place w (fresh_ring 0 0 0) at is.window) in
     record {
       few = (omega (arith, length-set ws place w', v.few), v.few.1);
-      used = v.used;
       most = v.most;
-      windows = all-set (IsWithin r.used) ws place w' (record { window = subst IsWindow (sym same) (emptier-is w c.args.count is.window few); ends = omega (arith, is.ends, ap (λ x. x.first) same, ap (λ x. x.words) same) }) v.windows;
+      windows = all-set (IsWithin (length r.words.items)) ws place w' (record { window = subst IsWindow (sym same) (emptier-is w c.args.count is.window few); ends = omega (arith, is.ends, ap (λ x. x.first) same, ap (λ x. x.words) same) }) v.windows;
       apart = apart-set ws place w w' at.there at.read (ap (λ x. x.first) same) (ap (λ x. x.words) same) v.apart;
     }
 
@@ -35,7 +34,7 @@ returns-clause-bytes c =
     let r = c.self.inside in let w = c.index-window.result.now in let ws = r.windows.items in let place = c.args.place in let words = r.words.items in
     let at = here r c.args.self.now place w c.self.view_is c.requires.there c.index-window.ensures in
     c.pulled.ensures.bytes ∙ ap (λ (t : List ℤ). frames_out c.args.format (take c.args.count (frames_of w t))) (own-read w words c.deref.result.now c.deref.ensures.value)
-    ∙ ap (λ (t : List Frame). frames_out c.args.format (take c.args.count t)) (sym (ap (λ x. x.frames) (ring-at words ws place w (fresh_ring 0 0) at)) ∙ ap (λ s. (ring_at s place).frames) c.self.view_is)
+    ∙ ap (λ (t : List Frame). frames_out c.args.format (take c.args.count t)) (sym (ap (λ x. x.frames) (ring-at words ws place w (fresh_ring 0 0 0) at)) ∙ ap (λ s. (ring_at s place).frames) c.self.view_is)
 
 pub returns-clause-rings : goal.returns-clause-rings
 returns-clause-rings c =
@@ -44,4 +43,4 @@ returns-clause-rings c =
     let own = own-read w words c.deref.result.now c.deref.ensures.value in
     let left : frames_of w' (own_words w words) ≡ drop c.args.count (frames_of w (own_words w words)) =
     sym (ap (frames_of w') own) ∙ c.pulled.ensures.frames ∙ ap (λ (t : List ℤ). drop c.args.count (frames_of w t)) own in
-    rw (← c.self.view_is) (λ i. record { most = length words; used = r.used; rings = rings-pulled words ws place w w' c.args.count (fresh_ring 0 0) at c.pulled.ensures.window left i })
+    rw (← c.self.view_is) (λ i. record { most = length words; rings = rings-pulled words ws place w w' c.args.count (fresh_ring 0 0 0) at c.pulled.ensures.window left i })

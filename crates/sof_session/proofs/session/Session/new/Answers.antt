@@ -8,5 +8,5 @@ invariant_of-result g c =
     let plan = c.args.plan in
     let kept : c.in-Ok.kept ≡ first_record plan = subst (λ r. IfOk r (λ x. x ≡ first_record plan)) c.in-Ok.is c.new.ensures in
     let link = c.new-in-Ok.ensures in
-    let agreed = AreAgreed-new g.P.Dsp.means plan c.args.heap c.args.dsp c.requires.off c.requires.pending c.requires.room c.requires.thin in
+    let agreed = AreAgreed-new g.P.Dsp.means plan c.args.heap c.args.dsp c.requires.off c.requires.pending c.requires.room c.requires.plan in
     rw (kept, link) agreed

@@ -1,0 +1,20 @@
+use Rattle.std.proofs.Common.{◌≡◌, ◌∙◌, sym, ap, false, Some, ◌==◌}
+use Rattle.std.specs.Prelude.{find}
+use Rattle.mbox_link.specs.Step.{is_index_held, without_piece}
+use Rattle.fw_core.specs.Pieces.{HeapHeld}
+use Rattle.fw_core.specs.Kept.{Held}
+use Rattle.fw_core.proofs.FreeingLaws.{kept-pipe_free, held-pipe_free}
+use Rattle.fw_core.proofs.state.State.pipe_free.Goals as goal
+
+pub invariant_of-self : goal.invariant_of-self
+invariant_of-self c =
+    let s = c.self.inside in
+    let p = c.in-Some.pipe in
+    let found : find (λ q. q.id == c.args.id) s.pipes ≡ Some p = ap (λ (h : Held). find (λ q. q.id == c.args.id) h.state.graph.pipes) c.self.view_is ∙ sym c.pipe.ensures ∙ c.in-Some.is in
+    let free : is_index_held (record { comps = s.comps; edges = s.edges; pipes = s.pipes; joins = s.joins.items }) s.streams p.index ≡ false = ap (λ (h : Held). is_index_held h.state.graph h.state.streams p.index) c.self.view_is ∙ sym c.is_index_held.ensures ∙ c.if-is_index_held.false in
+    let given : c.give.new.self.view ≡ without_piece c.args.id s.heap.view = ap (λ (h : HeapHeld). h.view) c.give.ensures in (
+      kept-pipe_free s.heap.view s.clock s.comps s.edges s.pipes s.joins.items s.streams s.rings s.room c.self.invariant.0 c.self.invariant.1 c.args.id p c.give.new.self.view c.remove.new.self found free given c.remove.ensures,
+      held-pipe_free s.heap.view s.clock s.comps s.edges s.pipes s.joins.items s.streams s.rings s.room c.self.invariant.0 c.self.invariant.1 c.args.id p c.give.new.self.view c.remove.new.self found free given c.remove.ensures,
+      c.self.invariant.2,
+      ap (λ (h : HeapHeld). h.room) c.give.ensures ∙ c.self.invariant.3,
+    )

@@ -1,0 +1,12 @@
+-- A fresh firmware takes the list of every plan that is loaded.
+use Rattle.std.proofs.Common.{ℕ}
+use Rattle.tplg_graph.specs.declared.planned.Plan.{Plan}
+use Rattle.host_widgets.specs.declared.kept.Record.{Record}
+use Rattle.host_widgets.specs.Controls.{IsLoadable}
+use Rattle.host_widgets.proofs.ManyEffects.{Brings}
+use Rattle.host_widgets.proofs.Makes.{brings-by}
+use Rattle.host_widgets.proofs.RestTaken.{rest_acts, rest-behind, rest-goes}
+
+pub brings : (plan : Plan) (heap : ℕ) (kept : Record) → IsLoadable plan → Brings plan heap kept
+brings plan heap kept loadable =
+    brings-by plan heap kept loadable.sound (rest_acts plan) (rest-behind plan) (rest-goes plan heap kept loadable.sound loadable.blobs)

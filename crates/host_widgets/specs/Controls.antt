@@ -1,0 +1,91 @@
+-- The live controls of a plan: their first values, and what these set at components.
+use Rattle.std.specs.Prelude.{◌≡◌, ℕ, suc, ◌-◌, ◌≤◌, ℤ, pos, negsuc, Bool, true, false, not, ◌&&◌, ◌==◌, List, [], ◌∷◌, map, length, replicate, find, Option, Some, None, unwrap_or}
+use Rattle.std.specs.List.{list_all, range_with_len}
+use Rattle.stream_law.specs.declared.graph.Kind.{Kind}
+use Rattle.stream_law.specs.declared.graph.Kind.TheVariants as kinds
+use Rattle.stream_law.specs.declared.graph.Setting.{Setting}
+use Rattle.stream_law.specs.declared.graph.Setting.TheVariants as settings
+use Rattle.stream_law.specs.declared.graph.Comp.{Comp}
+use Rattle.stream_law.specs.declared.graph.Graph.{Graph}
+use Rattle.stream_law.specs.Gain.{half_decibels}
+use Rattle.mbox_link.specs.Step.{with_comps}
+use Rattle.tplg_graph.specs.declared.planned.Plan.{Plan}
+use Rattle.tplg_graph.specs.declared.planned.ControlPlan.{ControlPlan}
+use Rattle.tplg_graph.specs.declared.planned.ControlKind.{ControlKind}
+use Rattle.tplg_graph.specs.declared.planned.ControlKind.TheVariants.{Volume, Choice, Blob}
+use Rattle.tplg_graph.specs.GainOf.{control_gain}
+use Rattle.tplg_graph.specs.Sound.{IsSound}
+
+-- the live control of a component
+abbrev pub control_of : Plan → ℕ → Option ControlPlan
+control_of plan id = find (λ k. k.comp == id) plan.controls
+
+-- ---- first values
+
+abbrev pub is_at_least_one : ℤ → Bool
+is_at_least_one (pos h) = true
+is_at_least_one (negsuc h) = false
+
+-- a value that is not silent and whose gain is 1 or more
+abbrev pub is_full : ℤ → ℕ → ℕ → ℕ → Bool
+is_full lowest step mute value = not (value == 0 && not (mute == 0)) && is_at_least_one (half_decibels lowest step value)
+
+-- a volume begins at the least such value, or at its greatest where there is none; a mux begins at its first input
+unfoldable pub first_value : ControlKind → ℕ
+first_value (Volume min max channels lowest step mute) = unwrap_or (find (is_full lowest step mute) (range_with_len min (suc max - min))) max
+first_value (Choice items) = 0
+first_value (Blob most initial) = 0
+
+-- the greatest value of a volume
+abbrev pub greatest_value : ControlKind → ℕ
+greatest_value (Volume min max channels lowest step mute) = max
+greatest_value kind = 0
+
+-- by channel; a choice has one
+abbrev pub first_values : ControlKind → List ℕ
+first_values (Volume min max channels lowest step mute) = replicate channels (first_value (Volume min max channels lowest step mute))
+first_values (Choice items) = 0 ∷ []
+first_values (Blob most initial) = []
+
+-- an equaliser's first blob
+abbrev pub first_blob : ControlKind → List ℕ
+first_blob (Blob most initial) = initial
+first_blob kind = []
+
+-- ---- what is set at components
+
+-- the gains of a control's first values
+abbrev pub first_gains : ControlKind → List ℕ
+first_gains kind = map (control_gain kind) (first_values kind)
+
+-- without a live control a volume has one gain, which is 1, a mux chooses its first input, and an equaliser has no blob
+abbrev pub setting_by : Kind → Option ControlPlan → Setting
+setting_by kinds.Volume (Some k) = settings.Gains (first_gains k.kind)
+setting_by kinds.Volume None = settings.Gains (65536 ∷ [])
+setting_by kinds.Mux k = settings.Choice 0
+setting_by kinds.Eq (Some k) = settings.Blob (first_blob k.kind)
+setting_by kinds.Eq None = settings.Blob []
+setting_by kind k = settings.Nothing
+
+abbrev pub set_comp : Plan → Comp → Comp
+set_comp plan c = record { id = c.id; kind = c.kind; pipe = c.pipe; setting = setting_by c.kind (control_of plan c.id) }
+
+-- the plan's graph with what is set at its components
+abbrev pub set_graph : Plan → Graph
+set_graph plan = with_comps (map (set_comp plan) plan.graph.comps) plan.graph
+
+-- no equaliser begins with a blob
+abbrev pub has_no_blobs : Plan → Bool
+has_no_blobs plan = list_all (λ k. length (first_blob k.kind) == 0) plan.controls
+
+-- ---- what is so of controls
+
+-- a volume has at most 8 channels and values of at most 65535
+abbrev pub HasFew : ControlKind → Type 0
+HasFew (Volume min max channels lowest step mute) = (max ≤ 65535) × (channels ≤ 8)
+HasFew kind = Unit {0}
+
+-- what is so of the plans that are loaded: they are those of well-formed topologies, and so far no equaliser begins with a blob
+pub record IsLoadable (plan : Plan) : Type 0 where
+  pub sound : IsSound plan
+  pub blobs : has_no_blobs plan ≡ true

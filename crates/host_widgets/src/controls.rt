@@ -1,0 +1,146 @@
+// Live controls, and what their first values set.
+ghost use Rattle.std.specs.Prelude.{◌≡◌, ◌==◌, ◌<◌, ◌≤◌, ◌^◌, suc, ◌-◌, find, unwrap_or, replicate, length, option_copied};
+ghost use Rattle.std.specs.List.{range_with_len};
+ghost use Rattle.host_widgets.specs.Controls as law;
+ghost use Rattle.host_widgets.specs.Acts as acts;
+
+use ipc3_codec::{CompWords, Message};
+use sof_base::Bounded;
+use tplg_graph::{ControlKind, ControlPlan, Plan, gain, half_decibels};
+
+/// The live control of a component, where it has one.
+pub fn control_of(plan: &Plan, comp: u32) -> Option<&ControlPlan>
+    ensures { option_copied result ≡ law.control_of plan.now comp }
+{
+    plan.controls
+        .items()
+        .iter()
+        .find(|control| control.comp == comp)
+}
+
+// Whether a value is not silent, and its gain is 1 or more.
+fn is_full(lowest: i32, step: u32, mute: u32, value: u32) -> bool
+    ensures { result ≡ law.is_full lowest step mute value }
+{
+    !(value == 0 && mute != 0) && half_decibels(lowest, step, value) >= 0
+}
+
+// The least such value, or the greatest value where there is none.
+fn first_full(min: u32, max: u32, lowest: i32, step: u32, mute: u32) -> u32
+    requires { max < 2 ^ 32 - 1 }
+    ensures { result ≡ unwrap_or (find (law.is_full lowest step mute) (range_with_len min (suc max - min))) max }
+{
+    for value in min..max + 1 {
+        if is_full(lowest, step, mute, value) {
+            return value;
+        }
+    }
+    max
+}
+
+// So many numbers that are all this one.
+fn same_numbers(count: u8, number: u32) -> Bounded<u32, 8>
+    requires { count ≤ 8 }
+    ensures { result ≡ replicate count number }
+{
+    let numbers = [number; 8];
+    match Bounded::new(&numbers[..usize::from(count)]) {
+        Some(list) => list,
+        // Never so: there are at most 8.
+        None => Bounded::empty(),
+    }
+}
+
+// How many values a control has, by channel.
+fn count(kind: &ControlKind) -> u8
+    ensures { result ≡ length (law.first_values kind.now) }
+{
+    match kind {
+        ControlKind::Volume { channels, .. } => *channels,
+        ControlKind::Choice { .. } => 1,
+        ControlKind::Blob { .. } => 0,
+    }
+}
+
+// The value that a control begins with on all its channels. A volume begins at the least that is not silent and whose gain is 1
+// or more, or at its greatest where there is none; a choice at 0. A blob has none, and 0 stands for it.
+#[tactic(auto, unfolding(crate::specs::Controls::first_value))]
+fn first_value(kind: &ControlKind) -> u32
+    requires { law.HasFew kind.now }
+    ensures { result ≡ law.first_value kind.now }
+{
+    match kind {
+        ControlKind::Volume {
+            min,
+            max,
+            tlv_min,
+            tlv_step,
+            tlv_mute,
+            ..
+        } => first_full(*min, *max, *tlv_min, *tlv_step, *tlv_mute),
+        ControlKind::Choice { .. } | ControlKind::Blob { .. } => 0,
+    }
+}
+
+/// The values that a control begins with, by channel; a choice has one, and a blob none.
+pub fn first_values(kind: &ControlKind) -> Bounded<u32, 8>
+    requires { law.HasFew kind.now }
+    ensures { result ≡ law.first_values kind.now }
+{
+    same_numbers(count(kind), first_value(kind))
+}
+
+// The greatest value of a volume.
+fn greatest_value(kind: &ControlKind) -> u32
+    ensures { result ≡ law.greatest_value kind.now }
+{
+    match kind {
+        ControlKind::Volume { max, .. } => *max,
+        _ => 0,
+    }
+}
+
+// The gains of a volume's first values.
+fn first_gains(kind: &ControlKind) -> Bounded<u32, 8>
+    requires { law.HasFew kind.now }
+    ensures { result ≡ law.first_gains kind.now }
+{
+    same_numbers(count(kind), gain(kind, first_value(kind)))
+}
+
+/// The words of the volume of this id: how many gains it has, and from 0 to which gain.
+pub fn volume_words(plan: &Plan, id: u32) -> CompWords
+    ensures { result ≡ acts.volume_words (law.control_of plan.now id) }
+{
+    match control_of(plan, id) {
+        Some(control) => CompWords::Volume {
+            channels: u32::from(count(&control.kind)),
+            min_value: 0,
+            max_value: gain(&control.kind, greatest_value(&control.kind)),
+        },
+        None => CompWords::Volume {
+            channels: 1,
+            min_value: 0,
+            max_value: 65536,
+        },
+    }
+}
+
+/// The message that sets a control's first values.
+pub fn set_message(comp: u32, kind: &ControlKind) -> Message
+    requires { law.HasFew kind.now }
+    ensures { result ≡ acts.set_message comp kind.now }
+{
+    match kind {
+        ControlKind::Choice { .. } => Message::SetValue {
+            id: comp,
+            command: 1,
+            values: same_numbers(1, 0),
+        },
+        _ => Message::SetValue {
+            id: comp,
+            command: 0,
+            values: first_gains(kind),
+        },
+    }
+}

@@ -1,0 +1,68 @@
+// What was loaded is let go.
+ghost use Rattle.std.specs.Prelude.{◌≡◌, ◌↔◌, ◌≤◌, ◌<◌, ◌*◌, length, map};
+ghost use Rattle.sof_base.specs.Ports.{HasRoom};
+ghost use Rattle.mbox_link.specs.Calls.{world};
+ghost use Rattle.host_widgets.specs.HostRecord.{closed};
+ghost use Rattle.host_widgets.specs.Host.{Agrees, Unloads, after_unload};
+
+use crate::answers::HostFault;
+use crate::kept::{Found, Power, Record, StreamRec};
+use mbox_link::Dsp;
+use sof_base::Items;
+use sof_io::{Inputs, Outputs};
+use tplg_graph::Plan;
+
+// Every stream is closed.
+fn close_all(streams: &mut Items<StreamRec>)
+    ensures { streams.new ≡ map (λ s. closed) streams.old }
+{
+    let count = streams.items().len();
+    for place in 0..count {
+        streams.put(
+            place,
+            StreamRec {
+                found: Found::Closed,
+                params: None,
+            },
+        );
+    }
+}
+
+/// Unloads the plan: the device is off, and the record is as before the first load. It takes no memory, and sends no message.
+/// Whether the device is cut goes by the record's power: one that is off already is not cut again.
+///
+/// `NotLoaded`: nothing was loaded, and nothing changes.
+pub fn unload<P: Dsp>(
+    plan: &Plan,
+    kept: &mut Record,
+    heap: u32,
+    dsp: &mut P,
+    io: &mut Inputs,
+    out: &mut Outputs,
+) -> Result<(), HostFault>
+    requires agree { Agrees P.means plan.now kept.old dsp.old }
+    requires heap { heap ≤ P.means.most dsp.old }
+    requires room { HasRoom (61440 * P.means.pending dsp.old) out.old }
+    // Which calls it made on the device, and what they came to.
+    ensures calls { Unloads P.means kept.old.power (world dsp.old io.old out.old) (world dsp.new io.new out.new) result }
+    ensures unloaded { (result ≡ Err HostFault.NotLoaded) ↔ (kept.old.power ≡ Power.Unloaded) }
+    ensures kept { kept.new ≡ after_unload plan.now result kept.old }
+    ensures agree { Agrees P.means plan.now kept.new dsp.new }
+    ensures inputs { io.new ≡ io.old }
+    ensures outputs { out.new ≡ out.old }
+{
+    match kept.power {
+        Power::Unloaded => Err(HostFault::NotLoaded),
+        Power::On => {
+            dsp.cut();
+            kept.power = Power::Unloaded;
+            close_all(&mut kept.streams);
+            Ok(())
+        }
+        Power::Off => {
+            kept.power = Power::Unloaded;
+            close_all(&mut kept.streams);
+            Ok(())
+        }
+    }
+}

@@ -1,0 +1,54 @@
+-- How many messages the commands of a run send.
+use Rattle.std.proofs.Common.{◌≡◌, refl, ℕ, ◌<◌, ◌≤◌, arith}
+use Rattle.sof_script.specs.declared.script.Command.{Command}
+use Rattle.sof_script.specs.declared.script.Command.TheVariants as commands
+use Rattle.sof_session.specs.Walks.{most_sent}
+use Rattle.sof_run.specs.Rounds.{earlier}
+
+-- a command of more than one unit makes ticks, and sends none
+pub none_before : (command : Command) (n : ℕ) → n < earlier command → most_sent command ≡ 0
+none_before commands.Load n below = absurd (omega (arith, below))
+none_before commands.Unload n below = absurd (omega (arith, below))
+none_before commands.Suspend n below = absurd (omega (arith, below))
+none_before commands.Resume n below = absurd (omega (arith, below))
+none_before commands.Show n below = absurd (omega (arith, below))
+none_before (commands.Open name) n below = absurd (omega (arith, below))
+none_before (commands.Start name) n below = absurd (omega (arith, below))
+none_before (commands.Stop name) n below = absurd (omega (arith, below))
+none_before (commands.Pause name) n below = absurd (omega (arith, below))
+none_before (commands.Release name) n below = absurd (omega (arith, below))
+none_before (commands.Close name) n below = absurd (omega (arith, below))
+none_before (commands.Get name) n below = absurd (omega (arith, below))
+none_before (commands.Read name) n below = absurd (omega (arith, below))
+none_before (commands.Params name p) n below = absurd (omega (arith, below))
+none_before (commands.Set name v) n below = absurd (omega (arith, below))
+none_before (commands.Bytes name b) n below = absurd (omega (arith, below))
+none_before (commands.Tick t) n below = refl
+none_before (commands.Refuse k e) n below = absurd (omega (arith, below))
+none_before (commands.Drop k) n below = absurd (omega (arith, below))
+none_before (commands.Lose k) n below = absurd (omega (arith, below))
+none_before (commands.Lag k t) n below = absurd (omega (arith, below))
+
+-- no command sends more than this
+pub at_most : (command : Command) → most_sent command ≤ 900
+at_most commands.Load = omega arith
+at_most commands.Unload = omega arith
+at_most commands.Suspend = omega arith
+at_most commands.Resume = omega arith
+at_most commands.Show = omega arith
+at_most (commands.Open name) = omega arith
+at_most (commands.Start name) = omega arith
+at_most (commands.Stop name) = omega arith
+at_most (commands.Pause name) = omega arith
+at_most (commands.Release name) = omega arith
+at_most (commands.Close name) = omega arith
+at_most (commands.Get name) = omega arith
+at_most (commands.Read name) = omega arith
+at_most (commands.Params name p) = omega arith
+at_most (commands.Set name v) = omega arith
+at_most (commands.Bytes name b) = omega arith
+at_most (commands.Tick t) = omega arith
+at_most (commands.Refuse k e) = omega arith
+at_most (commands.Drop k) = omega arith
+at_most (commands.Lose k) = omega arith
+at_most (commands.Lag k t) = omega arith

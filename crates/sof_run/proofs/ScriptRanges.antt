@@ -1,0 +1,232 @@
+-- The numbers of a script's commands are in their ranges, and there are at most as many commands as bytes.
+use Rattle.std.proofs.Common.{◌≡◌, refl, sym, subst, ℕ, zero, suc, ◌+◌, ◌≤◌, ◌<◌, ◌^◌, ℤ, pos, negsuc, Bool, true, false, cond, ◌&&◌, List, [], ◌∷◌, length, Option, Some, None, Result, Ok, Err, arith}
+use Rattle.std.specs.Prelude.{IfOk, nat_le, nat_eq, ◌-ℤ◌}
+use Rattle.std.specs.List.{list_all}
+use Rattle.std.proofs.Math.IntN.{+ℤ_idl}
+use Rattle.std.proofs.lemmas.Bool.{and_parts, and_from, leb-true, lt-ltb, false≢true}
+use Rattle.sof_base.specs.declared.format.Format.{Format}
+use Rattle.sof_script.specs.declared.script.Command.{Command}
+use Rattle.sof_script.specs.declared.script.Command.TheVariants as commands
+use Rattle.sof_script.specs.declared.items.Item.{Item}
+use Rattle.sof_script.specs.declared.items.Item.TheVariants.{Nothing, Bind, Do}
+use Rattle.sof_script.specs.declared.reading.ScriptFault.{ScriptFault}
+use Rattle.sof_script.specs.declared.words.Word.{Word}
+use Rattle.sof_script.specs.declared.words.Word.TheVariants as words
+use Rattle.sof_script.specs.Splitting.{before_line, with_byte, lines_of, without_return, is_skipped, all_plain, tokens_of}
+use Rattle.sof_script.specs.ValueForms.{byte_cause, count_cause, number_cause, name_of, file_of, format_of, hex_of, in_range, decimal_of, number_of, negative, error_of}
+use Rattle.sof_script.specs.Words.{word_of}
+use Rattle.sof_script.specs.Commands.{◌⊛◌, any_number, message_number, numbers_of, one_name, one_number, alone, bound, with_params, with_values, with_hex, with_error, with_lag, said_by, behind_word, item_of, line_item, Read, with_item, lines_read, script_of}
+use Rattle.sof_session.specs.Walks.{is_ahead, is_refusal, is_in_range}
+use Rattle.sof_run.specs.Halts.{IsInRange}
+
+-- ---- one line
+
+-- a command whose numbers are in their ranges, or no command
+abbrev Ranged : Item → Type 0
+Ranged (Do command) = is_in_range command ≡ true
+Ranged Nothing = Unit {0}
+Ranged (Bind input endpoint file) = Unit {0}
+
+abbrev Fine : Result Item ℕ → Type 0
+Fine r = IfOk r Ranged
+
+-- one value more, of which something is known
+applied : {A B : Type 0} (P : A → Type 0) (Q : B → Type 0) (r : Result (A → B) ℕ) (a : Result A ℕ) → IfOk r (λ f. (v : A) → P v → Q (f v)) → IfOk a P → IfOk (r ⊛ a) Q
+applied P Q (Ok f) (Ok v) all has = all v has
+applied P Q (Ok f) (Err cause) all has = tt
+applied P Q (Err cause) (Ok v) all has = tt
+applied P Q (Err cause) (Err other) all has = tt
+
+-- and any value more
+with_any : {A B : Type 0} (Q : B → Type 0) (r : Result (A → B) ℕ) (a : Result A ℕ) → IfOk r (λ f. (v : A) → Q (f v)) → IfOk (r ⊛ a) Q
+with_any Q (Ok f) (Ok v) all = all v
+with_any Q (Ok f) (Err cause) all = tt
+with_any Q (Err cause) (Ok v) all = tt
+with_any Q (Err cause) (Err other) all = tt
+
+always : {A : Type 0} (make : A → Item) (a : Result A ℕ) → ((v : A) → Ranged (make v)) → Fine (Ok make ⊛ a)
+always make a all = with_any Ranged (Ok make) a all
+
+always_two : {A B : Type 0} (make : A → B → Item) (a : Result A ℕ) (b : Result B ℕ) → ((v : A) (u : B) → Ranged (make v u)) → Fine (Ok make ⊛ a ⊛ b)
+always_two {A} {B} make a b all = with_any Ranged (Ok make ⊛ a) b (with_any (λ (f : B → Item). (u : B) → Ranged (f u)) (Ok make) a all)
+
+fine_if : (b : Bool) (r s : Result Item ℕ) → Fine r → Fine s → Fine (cond b r s)
+fine_if true r s first rest = first
+fine_if false r s first rest = rest
+
+-- ---- numbers
+
+abbrev Between : ℕ → ℕ → ℕ → Type 0
+Between least most n = (nat_le least n && nat_le n most) ≡ true
+
+in_between : (least most : ℕ) (o : Option ℕ) → IfOk (in_range least most o) (Between least most)
+in_between least most None = tt
+in_between least most (Some n) = by_test (nat_le least n && nat_le n most) refl
+  where
+    by_test : (t : Bool) → (nat_le least n && nat_le n most) ≡ t → IfOk (cond t (Ok n) (Err number_cause)) (Between least most)
+    by_test true is = is
+    by_test false is = tt
+
+one_between : (most : ℕ) (args : List (List ℕ)) → IfOk (one_number most args) (Between 1 most)
+one_between most [] = tt
+one_between most (token ∷ []) = in_between 1 most (decimal_of token)
+one_between most (token ∷ other ∷ args) = tt
+
+below_zero : (n : ℕ) → Between 1 4095 n → is_refusal (pos 0 -ℤ pos n) ≡ true
+below_zero zero is = absurd (false≢true is)
+below_zero (suc n) is =
+    subst (λ (e : ℤ). is_refusal e ≡ true) (sym (+ℤ_idl (negsuc n))) (lt-ltb n 4095 (omega (arith, leb-true (suc n) 4095 (and_parts (nat_le 1 (suc n)) (nat_le (suc n) 4095) is).1)))
+
+negative_refuses : (r : Result ℕ ℕ) → IfOk r (Between 1 4095) → IfOk (negative r) (λ e. is_refusal e ≡ true)
+negative_refuses (Ok n) is = below_zero n is
+negative_refuses (Err cause) is = tt
+
+error_refuses : (token : List ℕ) → IfOk (error_of token) (λ e. is_refusal e ≡ true)
+error_refuses [] = tt
+error_refuses (b ∷ bytes) = by_sign (nat_eq b 45)
+  where
+    by_sign : (t : Bool) → IfOk (cond t (negative (number_of 1 4095 bytes)) (Err number_cause)) (λ e. is_refusal e ≡ true)
+    by_sign true = negative_refuses (number_of 1 4095 bytes) (in_between 1 4095 (decimal_of bytes))
+    by_sign false = tt
+
+-- ---- what a word says
+
+alone_fine : (command : Command) (args : List (List ℕ)) → is_in_range command ≡ true → Fine (alone command args)
+alone_fine command [] is = is
+alone_fine command (token ∷ args) is = tt
+
+bound_fine : (input : Bool) (args : List (List ℕ)) → Fine (bound input args)
+bound_fine input [] = tt
+bound_fine input (endpoint ∷ []) = tt
+bound_fine input (endpoint ∷ file ∷ []) = always_two (Bind input) (name_of endpoint) (file_of file) (λ e f. tt)
+bound_fine input (endpoint ∷ file ∷ other ∷ args) = tt
+
+params_fine : (args : List (List ℕ)) → Fine (with_params args)
+params_fine [] = tt
+params_fine (stream ∷ []) = tt
+params_fine (stream ∷ rate ∷ []) = tt
+params_fine (stream ∷ rate ∷ channels ∷ []) = tt
+params_fine (stream ∷ rate ∷ channels ∷ format ∷ []) =
+    let make : List ℕ → ℕ → ℕ → Format → Item = λ s r c f. Do (commands.Params s (record { rate = r; channels = c; format = f })) in
+    with_any Ranged (Ok make ⊛ name_of stream ⊛ any_number rate ⊛ number_of 0 255 channels) (format_of format)
+    (with_any (λ (f : Format → Item). (v : Format) → Ranged (f v)) (Ok make ⊛ name_of stream ⊛ any_number rate) (number_of 0 255 channels)
+    (with_any (λ (f : ℕ → Format → Item). (c : ℕ) (v : Format) → Ranged (f c v)) (Ok make ⊛ name_of stream) (any_number rate)
+    (with_any (λ (f : ℕ → ℕ → Format → Item). (r : ℕ) (c : ℕ) (v : Format) → Ranged (f r c v)) (Ok make) (name_of stream) (λ s r c f. refl))))
+params_fine (stream ∷ rate ∷ channels ∷ format ∷ other ∷ args) = tt
+
+values_fine : (args : List (List ℕ)) → Fine (with_values args)
+values_fine [] = tt
+values_fine (control ∷ []) = tt
+values_fine (control ∷ value ∷ values) =
+    let make : List ℕ → List ℕ → Item = λ c vs. Do (commands.Set c vs) in
+    fine_if (nat_le (length values) 7) (Ok make ⊛ name_of control ⊛ numbers_of (value ∷ values)) (Err count_cause) (always_two make (name_of control) (numbers_of (value ∷ values)) (λ c vs. refl)) tt
+
+hex_fine : (args : List (List ℕ)) → Fine (with_hex args)
+hex_fine [] = tt
+hex_fine (control ∷ []) = tt
+hex_fine (control ∷ hex ∷ []) =
+    let make : List ℕ → List ℕ → Item = λ c bytes. Do (commands.Bytes c bytes) in always_two make (name_of control) (hex_of hex) (λ c bytes. refl)
+hex_fine (control ∷ hex ∷ other ∷ args) = tt
+
+refuse_fine : (args : List (List ℕ)) → Fine (with_error args)
+refuse_fine [] = tt
+refuse_fine (message ∷ []) = tt
+refuse_fine (message ∷ error ∷ []) =
+    let make : ℕ → ℤ → Item = λ k e. Do (commands.Refuse k e) in
+    applied (λ (e : ℤ). is_refusal e ≡ true) Ranged (Ok make ⊛ message_number message) (error_of error)
+    (applied (λ (k : ℕ). is_ahead k ≡ true) (λ (f : ℤ → Item). (e : ℤ) → is_refusal e ≡ true → Ranged (f e)) (Ok make) (message_number message)
+    (λ k ahead e refusal. and_from (is_ahead k) (is_refusal e) ahead refusal) (in_between 1 100000 (decimal_of message)))
+    (error_refuses error)
+refuse_fine (message ∷ error ∷ other ∷ args) = tt
+
+lag_fine : (args : List (List ℕ)) → Fine (with_lag args)
+lag_fine [] = tt
+lag_fine (message ∷ []) = tt
+lag_fine (message ∷ ticks ∷ []) =
+    let make : ℕ → ℕ → Item = λ k n. Do (commands.Lag k n) in always_two make (message_number message) (number_of 1 16 ticks) (λ k n. refl)
+lag_fine (message ∷ ticks ∷ other ∷ args) = tt
+
+said_fine : (word : Word) (args : List (List ℕ)) → Fine (said_by word args)
+said_fine words.In args = bound_fine true args
+said_fine words.Out args = bound_fine false args
+said_fine words.Load args = alone_fine commands.Load args refl
+said_fine words.Unload args = alone_fine commands.Unload args refl
+said_fine words.Suspend args = alone_fine commands.Suspend args refl
+said_fine words.Resume args = alone_fine commands.Resume args refl
+said_fine words.Show args = alone_fine commands.Show args refl
+said_fine words.Open args = let make : List ℕ → Item = λ n. Do (commands.Open n) in always make (one_name args) (λ n. refl)
+said_fine words.Start args = let make : List ℕ → Item = λ n. Do (commands.Start n) in always make (one_name args) (λ n. refl)
+said_fine words.Stop args = let make : List ℕ → Item = λ n. Do (commands.Stop n) in always make (one_name args) (λ n. refl)
+said_fine words.Pause args = let make : List ℕ → Item = λ n. Do (commands.Pause n) in always make (one_name args) (λ n. refl)
+said_fine words.Release args = let make : List ℕ → Item = λ n. Do (commands.Release n) in always make (one_name args) (λ n. refl)
+said_fine words.Close args = let make : List ℕ → Item = λ n. Do (commands.Close n) in always make (one_name args) (λ n. refl)
+said_fine words.Get args = let make : List ℕ → Item = λ n. Do (commands.Get n) in always make (one_name args) (λ n. refl)
+said_fine words.Read args = let make : List ℕ → Item = λ n. Do (commands.Read n) in always make (one_name args) (λ n. refl)
+said_fine words.Params args = params_fine args
+said_fine words.Set args = values_fine args
+said_fine words.Bytes args = hex_fine args
+said_fine words.Tick args = let make : ℕ → Item = λ n. Do (commands.Tick n) in always make (one_number 60000 args) (λ n. refl)
+said_fine words.Refuse args = refuse_fine args
+said_fine words.Drop args = let make : ℕ → Item = λ n. Do (commands.Drop n) in applied (Between 1 100000) Ranged (Ok make) (one_number 100000 args) (λ n is. is) (one_between 100000 args)
+said_fine words.Lose args = let make : ℕ → Item = λ n. Do (commands.Lose n) in applied (Between 1 100000) Ranged (Ok make) (one_number 100000 args) (λ n is. is) (one_between 100000 args)
+said_fine words.Lag args = lag_fine args
+
+behind_fine : (word : Option Word) (args : List (List ℕ)) → Fine (behind_word word args)
+behind_fine None args = tt
+behind_fine (Some word) args = said_fine word args
+
+item_fine : (tokens : Option (List (List ℕ))) → Fine (item_of tokens)
+item_fine None = tt
+item_fine (Some []) = tt
+item_fine (Some (first ∷ args)) = behind_fine (word_of first) args
+
+line_fine : (line : List ℕ) → Fine (line_item line)
+line_fine line =
+    fine_if (is_skipped line) (Ok Nothing) (cond (all_plain line) (item_of (tokens_of line)) (Err byte_cause)) tt
+    (fine_if (all_plain line) (item_of (tokens_of line)) (Err byte_cause) (item_fine (tokens_of line)) tt)
+
+-- ---- all lines
+
+-- commands whose numbers are in their ranges, at most so many
+record Sound (most : ℕ) (read : Read) : Type 0 where
+  ranges : list_all (λ n. is_in_range n.command) read.commands ≡ true
+  few : length read.commands ≤ most
+
+abbrev AllSound : ℕ → Result Read ScriptFault → Type 0
+AllSound most r = IfOk r (Sound most)
+
+more_sound : (line most : ℕ) (item : Result Item ℕ) (rest : Result Read ScriptFault) → Fine item → AllSound most rest → AllSound (suc most) (with_item line item rest)
+more_sound line most (Err cause) rest fine sound = tt
+more_sound line most (Ok item) (Err fault) fine sound = tt
+more_sound line most (Ok Nothing) (Ok read) fine sound = record { ranges = sound.ranges; few = omega (arith, sound.few) }
+more_sound line most (Ok (Bind input endpoint file)) (Ok read) fine sound = record { ranges = sound.ranges; few = omega (arith, sound.few) }
+more_sound line most (Ok (Do command)) (Ok read) fine sound =
+    record { ranges = and_from (is_in_range command) (list_all (λ n. is_in_range n.command) read.commands) fine sound.ranges; few = omega (arith, sound.few) }
+
+lines_sound : (number : ℕ) (lines : List (List ℕ)) → AllSound (length lines) (lines_read number lines)
+unfolding lines_read
+lines_sound number [] = record { ranges = refl; few = omega arith }
+lines_sound number (line ∷ lines) = more_sound number (length lines) (line_item (without_return line)) (lines_read (number + 1) lines) (line_fine (without_return line)) (lines_sound (number + 1) lines)
+
+-- each line has a byte
+one_more : (b : ℕ) (lines : List (List ℕ)) → length (before_line b lines) ≤ suc (length lines)
+one_more b [] = omega arith
+one_more b (line ∷ lines) = omega arith
+
+byte_more : (b : ℕ) (lines : List (List ℕ)) → length (with_byte b lines) ≤ suc (length lines)
+byte_more b lines = by_test (nat_eq b 10)
+  where
+    by_test : (t : Bool) → length (cond t ([] ∷ lines) (before_line b lines)) ≤ suc (length lines)
+    by_test true = omega arith
+    by_test false = one_more b lines
+
+few_lines : (bytes : List ℕ) → length (lines_of bytes) ≤ length bytes
+unfolding lines_of
+few_lines [] = omega arith
+few_lines (b ∷ bytes) = omega (arith, byte_more b (lines_of bytes), few_lines bytes)
+
+-- a script that was read
+pub script_sound : (bytes : List ℕ) (read : Read) → length bytes < 2 ^ 32 → script_of bytes ≡ Ok read → IsInRange read
+script_sound bytes read small is =
+    let sound : Sound (length (lines_of bytes)) read = subst (λ (r : Result Read ScriptFault). AllSound (length (lines_of bytes)) r) is (lines_sound 1 (lines_of bytes)) in
+    record { ranges = sound.ranges; few = omega (arith, sound.few, few_lines bytes, small) }

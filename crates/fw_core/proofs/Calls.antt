@@ -1,5 +1,5 @@
 -- What the firmware's calls do.
-use Rattle.std.proofs.Common.{◌≡◌, inl, refl, sym, ap, ◌∙◌, subst, ℕ, ◌+◌, List, Bool, true, false, cond, Option, Some, None, Result, Ok, Err, ℤ, pos, arith}
+use Rattle.std.proofs.Common.{◌≡◌, inl, refl, sym, ap, ◌∙◌, subst, ℕ, ◌+◌, List, [], Bool, true, false, cond, Option, Some, None, Result, Ok, Err, ℤ, pos, arith}
 use Rattle.std.specs.Prelude.{is_some, IfOk, OnErr}
 use Rattle.std.proofs.lemmas.Bool.{false≢true}
 use Rattle.sof_base.specs.Ports.{Io, HasRoom}
@@ -24,10 +24,10 @@ pub firmware-exchanged : (request : List ℕ) (answer : Option (List ℕ)) (w v 
 firmware-exchanged request answer w v done =
     subst (λ a. Exchanged firmware request a w v) (sym done.0) (subst (λ x. Exchanged firmware request (reply_to w.device.state request) w x) (sym done.1) record {
       did = (refl, refl);
-      step = λ f is. step-done (Rose 0 0) (Rose 0 0) w.device.state f w.io request is;
+      step = λ f is. step-done (Rose [] []) (Rose [] []) w.device.state f w.io request is;
       room = λ n room. room;
       boots = refl;
-      steady = record { faults = omega arith; refusals = omega arith; boots = omega arith; pending = omega arith; most = refl };
+      steady = record { faults = tt; refusals = tt; boots = omega arith; pending = omega arith; most = refl };
     })
 
 -- the state and the reply after a message that was answered so

@@ -15,7 +15,7 @@ use Rattle.stream_law.specs.declared.graph.Graph.{Graph}
 use Rattle.stream_law.specs.declared.stream.StreamView.{StreamView}
 use Rattle.stream_law.specs.Placed.{HasDistinct}
 use Rattle.stream_law.specs.Ways.{comp_of, components, buffers, ins, outs, is_end, leads, reaches, on_way, is_capture}
-use Rattle.stream_law.specs.Joins.{fits_kind, is_endpoint}
+use Rattle.stream_law.specs.Joins.{fits_kind}
 use Rattle.stream_law.specs.Order.{is_among}
 use Rattle.mbox_link.specs.Step.{has_comp, has_edge, has_kind, is_host, kind_at, is_complete, is_ready_comp, is_ready_edge, is_way_ready, touches, is_used}
 use Rattle.fw_core.specs.Kept.{IsWired, IsLinked, IsSet, IsSetBy, IsSide, IsBetween, IsJoinedFrom, IsJoinedTo, is_node, is_idle, has_join}
@@ -108,7 +108,7 @@ module _ (g : Graph) (id : ℕ) (wired : IsWired g) (linked : IsLinked g) (free 
       let is : c.id ≡ id = eqb-true c.id id found.2 in
       let on : on_way g id c.id ≡ true = ap (on_way g id) is ∙ way-here g id in
       let now : is_ready_comp g c ≡ true = sym (ap (λ h. not h || is_ready_comp g c) on) ∙ found.1 in
-      let fits = (and_parts (is_complete g c.pipe) (fits_kind c.kind (length (ins g c.id)) (length (outs g c.id))) (and_parts (is_endpoint c.kind) (is_complete g c.pipe && fits_kind c.kind (length (ins g c.id)) (length (outs g c.id))) now).1).1 in
+      let fits = (and_parts (is_complete g c.pipe) (fits_kind c.kind (length (ins g c.id)) (length (outs g c.id))) now).1 in
       true≢false (sym fits ∙ ap (λ n. fits_kind c.kind (length (ins g n)) (length (outs g n))) is ∙ ap (λ (p : ℕ × ℕ). fits_kind c.kind p.0 p.1) (λ i. (ins-none i, outs-none i)) ∙ never-fits c.kind)
 
   -- ---- what is left

@@ -1,8 +1,8 @@
 -- A graph of which a buffer is taken away with its joins.
 use Rattle.std.proofs.Common.{◌≡◌, refl, sym, ap, ◌∙◌, subst, ℕ, ◌+◌, ◌≤◌, List, [], ◌∷◌, ◌++◌, filter, length, Option, Some, None, Bool, true, false, cond, not, inl, inr, ◌⊎◌, ◌==◌, ◌&&◌, ◌||◌, arith}
-use Rattle.std.proofs.lemmas.Bool.{true≢false, false≢true, false_from_ne_true, or_parts, or_from, or_left, or_right, or_cases, and_parts, and_from, eqb-true}
+use Rattle.std.proofs.lemmas.Bool.{true≢false, false≢true, false_from_ne_true, or_parts, or_from, or_left, or_right, or_cases, and_parts, and_from, eqb-true, eq-eqb, leb-true, le-leb}
 use Rattle.std.proofs.lemmas.List.Filters.{length-filter_both}
-use Rattle.std.specs.Prelude.{find, is_some, option_map, option_and_then}
+use Rattle.std.specs.Prelude.{find, is_some, nat_le, option_map, option_and_then}
 use Rattle.std.specs.Option.{option_map_or}
 use Rattle.std.specs.List.{list_any, list_all, AllByRecursion}
 use Rattle.sof_base.specs.declared.format.Params.{Params}
@@ -15,13 +15,15 @@ use Rattle.stream_law.specs.declared.graph.Graph.{Graph}
 use Rattle.stream_law.specs.declared.stream.StreamView.{StreamView}
 use Rattle.stream_law.specs.Placed.{HasDistinct}
 use Rattle.stream_law.specs.Ways.{comp_of, edge_of, source_of, sink_of, components, buffers, ins, outs, is_end, leads, reaches, on_way, is_capture}
-use Rattle.stream_law.specs.Joins.{fits_kind, is_endpoint}
+use Rattle.stream_law.specs.Joins.{fits_kind}
 use Rattle.stream_law.specs.Order.{is_among}
 use Rattle.mbox_link.specs.Step.{has_comp, has_edge, has_kind, is_host, kind_at, is_complete, is_ready_comp, is_ready_edge, is_way_ready, is_held, touches, is_used}
 use Rattle.fw_core.specs.Kept.{IsWired, IsLinked, IsSet, IsSetBy, IsSide, IsBetween, IsJoinedFrom, IsJoinedTo, IsOpen, is_at, is_node, is_idle, side, sides}
 use Rattle.fw_core.proofs.Found.{found-each, ends-agree}
 use Rattle.fw_core.proofs.Fewer.{all-kept, all-filter, all-both, all-any, all-test, test-all, any-kept, any-with, any-to, any-of_kept, none-kept, none-each, among-kept, among-both, some-pass, two-pass, filter-kept, one-key, distinct-filter, apart-by, not-true, not-false, other-any, other-find}
 use Rattle.fw_core.proofs.Growing.{all-by}
+use Rattle.fw_core.proofs.Members.{IsIn, any-in, in-any, in-kept}
+use Rattle.fw_core.proofs.Near.{complete-comp, fits-comp, play-in, capture-out, source-goes, sink-goes, edge-into, edge-outof}
 use Rattle.fw_core.proofs.Trips.{goes_from, IsTrip, Trip, trip-none, trip-first, trip-last, trip-end, trip-start, trip-of, trip-leads, trip-reached, reached-trip}
 
 same-test : (a b : Bool) → (a ≡ true → b ≡ true) → (b ≡ true → a ≡ true) → a ≡ b
@@ -29,47 +31,56 @@ same-test true b f h = sym (f refl)
 same-test false true f h = h refl
 same-test false false f h = refl
 
--- what is so of kinds that play so far
-one-in : (k : Kind) (m n : ℕ) → is_endpoint k ≡ true → fits_kind k m n ≡ true → m ≤ 1
-one-in HostPlay m n plain fits = let e : m ≡ 0 = eqb-true m 0 (and_parts (m == 0) (n == 1) fits).0 in omega (arith, e)
-one-in HostCapture m n plain fits = let e : m ≡ 1 = eqb-true m 1 (and_parts (m == 1) (n == 0) fits).0 in omega (arith, e)
-one-in (DaiPlay format) m n plain fits = let e : m ≡ 1 = eqb-true m 1 (and_parts (m == 1) (n == 0) fits).0 in omega (arith, e)
-one-in (DaiCapture format) m n plain fits = let e : m ≡ 0 = eqb-true m 0 (and_parts (m == 0) (n == 1) fits).0 in omega (arith, e)
-one-in Volume m n plain fits = absurd (false≢true plain)
-one-in Mixer m n plain fits = absurd (false≢true plain)
-one-in Mux m n plain fits = absurd (false≢true plain)
-one-in Eq m n plain fits = absurd (false≢true plain)
+-- at most one edge comes out of what is ready
+one-out : (k : Kind) (m n : ℕ) → fits_kind k m n ≡ true → n ≤ 1
+one-out HostPlay m n fits = let e : n ≡ 1 = eqb-true n 1 (and_parts (m == 0) (n == 1) fits).1 in omega (arith, e)
+one-out HostCapture m n fits = let e : n ≡ 0 = eqb-true n 0 (and_parts (m == 1) (n == 0) fits).1 in omega (arith, e)
+one-out (DaiPlay format) m n fits = let e : n ≡ 0 = eqb-true n 0 (and_parts (m == 1) (n == 0) fits).1 in omega (arith, e)
+one-out (DaiCapture format) m n fits = let e : n ≡ 1 = eqb-true n 1 (and_parts (m == 0) (n == 1) fits).1 in omega (arith, e)
+one-out Volume m n fits = let e : n ≡ 1 = eqb-true n 1 (and_parts (m == 1) (n == 1) fits).1 in omega (arith, e)
+one-out Mixer m n fits = let e : n ≡ 1 = eqb-true n 1 (and_parts (nat_le 1 m && nat_le m 8) (n == 1) fits).1 in omega (arith, e)
+one-out Mux m n fits = let e : n ≡ 1 = eqb-true n 1 (and_parts (nat_le 1 m && nat_le m 8) (n == 1) fits).1 in omega (arith, e)
+one-out Eq m n fits = let e : n ≡ 1 = eqb-true n 1 (and_parts (m == 1) (n == 1) fits).1 in omega (arith, e)
 
-one-out : (k : Kind) (m n : ℕ) → is_endpoint k ≡ true → fits_kind k m n ≡ true → n ≤ 1
-one-out HostPlay m n plain fits = let e : n ≡ 1 = eqb-true n 1 (and_parts (m == 0) (n == 1) fits).1 in omega (arith, e)
-one-out HostCapture m n plain fits = let e : n ≡ 0 = eqb-true n 0 (and_parts (m == 1) (n == 0) fits).1 in omega (arith, e)
-one-out (DaiPlay format) m n plain fits = let e : n ≡ 0 = eqb-true n 0 (and_parts (m == 1) (n == 0) fits).1 in omega (arith, e)
-one-out (DaiCapture format) m n plain fits = let e : n ≡ 1 = eqb-true n 1 (and_parts (m == 0) (n == 1) fits).1 in omega (arith, e)
-one-out Volume m n plain fits = absurd (false≢true plain)
-one-out Mixer m n plain fits = absurd (false≢true plain)
-one-out Mux m n plain fits = absurd (false≢true plain)
-one-out Eq m n plain fits = absurd (false≢true plain)
+-- fewer edges in, but one at least, are as many as the kind has
+fits-fewer : (k : Kind) (m n l : ℕ) → 1 ≤ l → l ≤ m → fits_kind k m n ≡ true → fits_kind k l n ≡ true
+fits-fewer k m n l some most fits = by k fits
+  where
+    same : m ≡ 1 → l ≡ m
+    same e = omega (arith, e, some, most)
 
--- nothing goes into a playback's host, and nothing comes out of a capture's
-play-in : (k : Kind) (m n : ℕ) → is_host k ≡ true → is_capture k ≡ false → fits_kind k m n ≡ true → m ≡ 0
-play-in HostPlay m n host play fits = eqb-true m 0 (and_parts (m == 0) (n == 1) fits).0
-play-in HostCapture m n host play fits = absurd (true≢false play)
-play-in (DaiPlay format) m n host play fits = absurd (false≢true host)
-play-in (DaiCapture format) m n host play fits = absurd (false≢true host)
-play-in Volume m n host play fits = absurd (false≢true host)
-play-in Mixer m n host play fits = absurd (false≢true host)
-play-in Mux m n host play fits = absurd (false≢true host)
-play-in Eq m n host play fits = absurd (false≢true host)
+    none : m ≡ 0 → ⊥
+    none e = omega (arith, e, some, most)
 
-capture-out : (k : Kind) (m n : ℕ) → is_capture k ≡ true → fits_kind k m n ≡ true → n ≡ 0
-capture-out HostCapture m n capture fits = eqb-true n 0 (and_parts (m == 1) (n == 0) fits).1
-capture-out HostPlay m n capture fits = absurd (false≢true capture)
-capture-out (DaiPlay format) m n capture fits = absurd (false≢true capture)
-capture-out (DaiCapture format) m n capture fits = absurd (false≢true capture)
-capture-out Volume m n capture fits = absurd (false≢true capture)
-capture-out Mixer m n capture fits = absurd (false≢true capture)
-capture-out Mux m n capture fits = absurd (false≢true capture)
-capture-out Eq m n capture fits = absurd (false≢true capture)
+    many : ((nat_le 1 m && nat_le m 8) && n == 1) ≡ true → ((nat_le 1 l && nat_le l 8) && n == 1) ≡ true
+    many fits =
+        let p = and_parts (nat_le 1 m && nat_le m 8) (n == 1) fits in
+        let few : m ≤ 8 = leb-true m 8 (and_parts (nat_le 1 m) (nat_le m 8) p.0).1 in
+        and_from _ _ (and_from _ _ (le-leb 1 l some) (le-leb l 8 (omega (arith, few, most)))) p.1
+
+    by : (k : Kind) → fits_kind k m n ≡ true → fits_kind k l n ≡ true
+    by HostPlay fits = absurd (none (eqb-true m 0 (and_parts (m == 0) (n == 1) fits).0))
+    by (DaiCapture format) fits = absurd (none (eqb-true m 0 (and_parts (m == 0) (n == 1) fits).0))
+    by HostCapture fits = ap (λ i. i == 1 && n == 0) (same (eqb-true m 1 (and_parts (m == 1) (n == 0) fits).0)) ∙ fits
+    by (DaiPlay format) fits = ap (λ i. i == 1 && n == 0) (same (eqb-true m 1 (and_parts (m == 1) (n == 0) fits).0)) ∙ fits
+    by Volume fits = ap (λ i. i == 1 && n == 1) (same (eqb-true m 1 (and_parts (m == 1) (n == 1) fits).0)) ∙ fits
+    by Eq fits = ap (λ i. i == 1 && n == 1) (same (eqb-true m 1 (and_parts (m == 1) (n == 1) fits).0)) ∙ fits
+    by Mixer fits = many fits
+    by Mux fits = many fits
+
+-- of fewer edges no more pass
+pass-fewer : (keep test : Edge → Bool) (es : List Edge) → length (filter test (filter keep es)) ≤ length (filter test es)
+pass-fewer keep test [] = omega arith
+pass-fewer keep test (e ∷ es) = by (keep e) (test e) refl (pass-fewer keep test es)
+  where
+    by : (h t : Bool) → test e ≡ t → length (filter test (filter keep es)) ≤ length (filter test es) → length (filter test (cond h (e ∷ filter keep es) (filter keep es))) ≤ length (cond t (e ∷ filter test es) (filter test es))
+    by true t is rest = subst (λ k. length (cond k (e ∷ filter test (filter keep es)) (filter test (filter keep es))) ≤ length (cond t (e ∷ filter test es) (filter test es))) (sym is) (both t rest)
+      where
+        both : (t : Bool) → length (filter test (filter keep es)) ≤ length (filter test es) → length (cond t (e ∷ filter test (filter keep es)) (filter test (filter keep es))) ≤ length (cond t (e ∷ filter test es) (filter test es))
+        both true rest = omega (arith, rest)
+        both false rest = rest
+    by false true is rest = omega (arith, rest)
+    by false false is rest = rest
 
 module _ (g : Graph) (id : ℕ) (wired : IsWired g) (linked : IsLinked g) (there : has_edge g id ≡ true) where
   abbrev less : Graph
@@ -155,7 +166,7 @@ module _ (g : Graph) (id : ℕ) (wired : IsWired g) (linked : IsLinked g) (there
       by true off = to-here h x off
       by false off = from-here h x off
 
-  -- ---- what a host covers has no other buffer
+  -- ---- the edges of what is on a way
 
   abbrev into : ℕ → Edge → Bool
   into c e = is_end e.sink c
@@ -163,55 +174,22 @@ module _ (g : Graph) (id : ℕ) (wired : IsWired g) (linked : IsLinked g) (there
   abbrev outof : ℕ → Edge → Bool
   outof c e = is_end e.source c
 
-  goes-to : (b : ℕ) (o : Option ℕ) (c : ℕ) → IsJoinedTo g b o → is_end o c ≡ true → goes_from g.joins b c ≡ true
-  goes-to b None c joined e = absurd (false≢true e)
-  goes-to b (Some a) c joined e = ap (goes_from g.joins b) (sym (eqb-true a c e)) ∙ joined
-
-  comes-from : (o : Option ℕ) (b c : ℕ) → IsJoinedFrom g o b → is_end o c ≡ true → goes_from g.joins c b ≡ true
-  comes-from None b c joined e = absurd (false≢true e)
-  comes-from (Some a) b c joined e = ap (λ n. goes_from g.joins n b) (sym (eqb-true a c e)) ∙ joined
-
   into-goes : (c : ℕ) → list_any (λ e. into c e && e.buffer == id) g.edges ≡ true → goes_from g.joins id c ≡ true
   into-goes c any =
-      let found = any-with (λ (e : Edge). IsJoinedTo g e.buffer e.sink) (λ e. into c e && e.buffer == id) g.edges linked.to any in
-      let e : Edge = found.0 in
-      let parts = and_parts (into c e) (e.buffer == id) found.2 in
-      ap (λ n. goes_from g.joins n c) (sym (eqb-true e.buffer id parts.1)) ∙ goes-to e.buffer e.sink c found.1 parts.0
+      let found = any-in (λ e. into c e && e.buffer == id) g.edges any in
+      let parts = and_parts (into c found.0) (found.0.buffer == id) found.2 in
+      ap (λ n. goes_from g.joins n c) (sym (eqb-true found.0.buffer id parts.1)) ∙ sink-goes g wired linked found.0 found.1 c parts.0
 
   outof-goes : (c : ℕ) → list_any (λ e. outof c e && e.buffer == id) g.edges ≡ true → goes_from g.joins c id ≡ true
   outof-goes c any =
-      let found = any-with (λ (e : Edge). IsJoinedFrom g e.source e.buffer) (λ e. outof c e && e.buffer == id) g.edges linked.from any in
-      let e : Edge = found.0 in
-      let parts = and_parts (outof c e) (e.buffer == id) found.2 in
-      ap (λ n. goes_from g.joins c n) (sym (eqb-true e.buffer id parts.1)) ∙ comes-from e.source e.buffer c found.1 parts.0
-
-  -- the edge that a join to a component, or from one, is at
-  at-join : (a c : ℕ) → goes_from g.joins a c ≡ true → list_any (λ e. (e.buffer == c && is_end e.source a) || (e.buffer == a && is_end e.sink c)) g.edges ≡ true
-  at-join a c any =
-      let found = any-with (λ (j : Join). list_any (is_at j) g.edges ≡ true) (λ j. j.source == a && j.sink == c) g.joins linked.at any in
-      let j : Join = found.0 in
-      let parts = and_parts (j.source == a) (j.sink == c) found.2 in
-      ap (λ (p : ℕ × ℕ). list_any (λ (e : Edge). (e.buffer == p.1 && is_end e.source p.0) || (e.buffer == p.0 && is_end e.sink p.1)) g.edges) (λ i. (sym (eqb-true j.source a parts.0) i, sym (eqb-true j.sink c parts.1) i)) ∙ found.1
-
-  join-into : (b c : ℕ) → has_comp g c ≡ true → goes_from g.joins b c ≡ true → list_any (λ e. into c e && e.buffer == b) g.edges ≡ true
-  join-into b c comp any = any-to (λ (e : Edge). has_comp g e.buffer ≡ false) (λ e. (e.buffer == c && is_end e.source b) || (e.buffer == b && is_end e.sink c)) (λ e. into c e && e.buffer == b) each g.edges wired.apart (at-join b c any)
-    where
-      each : (e : Edge) → has_comp g e.buffer ≡ false → ((e.buffer == c && is_end e.source b) || (e.buffer == b && is_end e.sink c)) ≡ true → (into c e && e.buffer == b) ≡ true
-      each e apart is = by (or_cases (e.buffer == c && is_end e.source b) (e.buffer == b && is_end e.sink c) is)
-        where
-          by : ((e.buffer == c && is_end e.source b) ≡ true) ⊎ ((e.buffer == b && is_end e.sink c) ≡ true) → (into c e && e.buffer == b) ≡ true
-          by (inl wrong) = absurd (true≢false (sym comp ∙ ap (has_comp g) (sym (eqb-true e.buffer c (and_parts (e.buffer == c) (is_end e.source b) wrong).0)) ∙ apart))
-          by (inr right) = let parts = and_parts (e.buffer == b) (is_end e.sink c) right in and_from (into c e) (e.buffer == b) parts.1 parts.0
+      let found = any-in (λ e. outof c e && e.buffer == id) g.edges any in
+      let parts = and_parts (outof c found.0) (found.0.buffer == id) found.2 in
+      ap (λ n. goes_from g.joins c n) (sym (eqb-true found.0.buffer id parts.1)) ∙ source-goes g wired linked found.0 found.1 c parts.0
 
   join-outof : (c b : ℕ) → has_comp g c ≡ true → goes_from g.joins c b ≡ true → list_any (λ e. outof c e && e.buffer == b) g.edges ≡ true
-  join-outof c b comp any = any-to (λ (e : Edge). has_comp g e.buffer ≡ false) (λ e. (e.buffer == b && is_end e.source c) || (e.buffer == c && is_end e.sink b)) (λ e. outof c e && e.buffer == b) each g.edges wired.apart (at-join c b any)
-    where
-      each : (e : Edge) → has_comp g e.buffer ≡ false → ((e.buffer == b && is_end e.source c) || (e.buffer == c && is_end e.sink b)) ≡ true → (outof c e && e.buffer == b) ≡ true
-      each e apart is = by (or_cases (e.buffer == b && is_end e.source c) (e.buffer == c && is_end e.sink b) is)
-        where
-          by : ((e.buffer == b && is_end e.source c) ≡ true) ⊎ ((e.buffer == c && is_end e.sink b) ≡ true) → (outof c e && e.buffer == b) ≡ true
-          by (inl right) = let parts = and_parts (e.buffer == b) (is_end e.source c) right in and_from (outof c e) (e.buffer == b) parts.1 parts.0
-          by (inr wrong) = absurd (true≢false (sym comp ∙ ap (has_comp g) (sym (eqb-true e.buffer c (and_parts (e.buffer == c) (is_end e.sink b) wrong).0)) ∙ apart))
+  join-outof c b comp goes =
+      let e = edge-outof g wired linked c b comp goes in
+      in-any (λ e. outof c e && e.buffer == b) g.edges e.0 e.1 (and_from (outof c e.0) (e.0.buffer == b) e.3 (eq-eqb e.0.buffer b e.2))
 
   buffers-apart : (b : ℕ) → (b == id) ≡ false → (es : List Edge) → AllByRecursion (λ e. (e.buffer == b) ≡ true → (e.buffer == id) ≡ true → ⊥) es
   buffers-apart b far es = all-any (λ (e : Edge). (e.buffer == b) ≡ true → (e.buffer == id) ≡ true → ⊥) (λ e is_b is_id. true≢false (sym (ap (λ n. n == id) (sym (eqb-true e.buffer b is_b)) ∙ is_id) ∙ far)) es
@@ -226,11 +204,8 @@ module _ (g : Graph) (id : ℕ) (wired : IsWired g) (linked : IsLinked g) (there
   any-first p q es e = any-to (λ (e : Edge). Unit {0}) (λ e. p e && q e) p (λ e u both. (and_parts (p e) (q e) both).0) es (all-any (λ (e : Edge). Unit {0}) (λ e. tt) es) e
 
   module _ (h : ℕ) (host : has_kind is_host (kind_at g h) ≡ true) (off : on_way g h id ≡ false) (c : Comp) (comp : has_comp g c.id ≡ true) (found : find (λ x. x.id == c.id) g.comps ≡ Some c) (on : on_way g h c.id ≡ true) (ready : is_ready_comp g c ≡ true) where
-    plain : is_endpoint c.kind ≡ true
-    plain = (and_parts (is_endpoint c.kind) (is_complete g c.pipe && fits_kind c.kind (length (ins g c.id)) (length (outs g c.id))) ready).0
-
     fits : fits_kind c.kind (length (ins g c.id)) (length (outs g c.id)) ≡ true
-    fits = (and_parts (is_complete g c.pipe) (fits_kind c.kind (length (ins g c.id)) (length (outs g c.id))) (and_parts (is_endpoint c.kind) (is_complete g c.pipe && fits_kind c.kind (length (ins g c.id)) (length (outs g c.id))) ready).1).1
+    fits = fits-comp g c ready
 
     -- the host's own kind
     own-host : h ≡ c.id → is_host c.kind ≡ true
@@ -243,24 +218,11 @@ module _ (g : Graph) (id : ℕ) (wired : IsWired g) (linked : IsLinked g) (there
     unfolding on_way
     split t is x = ap (λ k. cond k (reaches g x h) (reaches g h x)) is
 
-    none-into : list_any (λ e. into c.id e && e.buffer == id) g.edges ≡ true → ⊥
-    none-into any = by (option_map_or (λ c. is_capture c.kind) (comp_of g h) false) refl
-      where
-        by : (t : Bool) → option_map_or (λ c. is_capture c.kind) (comp_of g h) false ≡ t → ⊥
-        by true is = true≢false (sym (reached-trip g id h (trip-first g.joins id c.id h (into-goes c.id any) (trip-reached g c.id h (sym (split true is c.id) ∙ on)))) ∙ (sym (split true is id) ∙ off))
-        by false is = at (λ t. true≢false (sym (reached-trip g h id t) ∙ (sym (split false is id) ∙ off))) (trip-end g.joins h c.id (trip-reached g h c.id (sym (split false is c.id) ∙ on)))
-          where
-            at : (Trip g.joins h id → ⊥) → (h ≡ c.id) ⊎ ((b : ℕ) × Trip g.joins h b × (goes_from g.joins b c.id ≡ true)) → ⊥
-            at never (inl same) =
-                let none : length (ins g c.id) ≡ 0 = play-in c.kind (length (ins g c.id)) (length (outs g c.id)) (own-host same) (own-capture false is same) fits in
-                let some : 1 ≤ length (filter (into c.id) g.edges) = some-pass (into c.id) g.edges (any-first (into c.id) (λ e. e.buffer == id) g.edges any) in
-                omega (arith, none, some, ins-are c.id)
-            at never (inr r) =
-                let far : (r.0 == id) ≡ false = other r.0 id (λ e. never (subst (Trip g.joins h) e r.1)) in
-                let two : 2 ≤ length (filter (into c.id) g.edges) = two-pass (into c.id) (λ e. e.buffer == r.0) (λ e. e.buffer == id) g.edges (buffers-apart r.0 far g.edges) (join-into r.0 c.id comp r.2) any in
-                let one : length (ins g c.id) ≤ 1 = one-in c.kind (length (ins g c.id)) (length (outs g c.id)) plain fits in
-                omega (arith, two, one, ins-are c.id)
+    -- the buffer, which is not on the way, leads into nothing on the way of a capture
+    none-into : option_map_or (λ c. is_capture c.kind) (comp_of g h) false ≡ true → list_any (λ e. into c.id e && e.buffer == id) g.edges ≡ true → ⊥
+    none-into is any = true≢false (sym (reached-trip g id h (trip-first g.joins id c.id h (into-goes c.id any) (trip-reached g c.id h (sym (split true is c.id) ∙ on)))) ∙ (sym (split true is id) ∙ off))
 
+    -- and out of nothing on a way: a playback's goes on to it, and a capture's takes the one edge out
     none-outof : list_any (λ e. outof c.id e && e.buffer == id) g.edges ≡ true → ⊥
     none-outof any = by (option_map_or (λ c. is_capture c.kind) (comp_of g h) false) refl
       where
@@ -276,10 +238,10 @@ module _ (g : Graph) (id : ℕ) (wired : IsWired g) (linked : IsLinked g) (there
             at never (inr r) =
                 let far : (r.0 == id) ≡ false = other r.0 id (λ e. never (subst (λ n. Trip g.joins n h) e r.2)) in
                 let two : 2 ≤ length (filter (outof c.id) g.edges) = two-pass (outof c.id) (λ e. e.buffer == r.0) (λ e. e.buffer == id) g.edges (buffers-apart r.0 far g.edges) (join-outof c.id r.0 comp r.1) any in
-                let one : length (outs g c.id) ≤ 1 = one-out c.kind (length (ins g c.id)) (length (outs g c.id)) plain fits in
+                let one : length (outs g c.id) ≤ 1 = one-out c.kind (length (ins g c.id)) (length (outs g c.id)) fits in
                 omega (arith, two, one, outs-are c.id)
 
-    -- so as many buffers as before are at what a host covers
+    -- so as many edges as before pass a test that the buffer's does not
     spared : (test : Edge → Bool) → (list_any (λ e. test e && e.buffer == id) g.edges ≡ true → ⊥) → filter test less.edges ≡ filter test g.edges
     spared test none = filter-kept keep test g.edges (all-by (λ e. (test e && e.buffer == id) ≡ false) (λ e. keep e ≡ false → test e ≡ false) (λ e fails gone. left (test e) (e.buffer == id) (not-false (e.buffer == id) gone) fails) g.edges (none-each (λ e. test e && e.buffer == id) g.edges (false_from_ne_true (list_any (λ e. test e && e.buffer == id) g.edges) none)))
       where
@@ -290,14 +252,39 @@ module _ (g : Graph) (id : ℕ) (wired : IsWired g) (linked : IsLinked g) (there
     distinct-left : HasDistinct (λ e. e.buffer) less.edges
     distinct-left = distinct-filter (λ (e : Edge). e.buffer) keep g.edges wired.buffers
 
-    ins-left : length (ins less c.id) ≡ length (ins g c.id)
-    ins-left = ends-agree (λ (e : Edge). e.sink) c.id less.edges distinct-left ∙ ap (λ (es : List Edge). length es) (spared (into c.id) none-into) ∙ sym (ins-are c.id)
-
     outs-left : length (outs less c.id) ≡ length (outs g c.id)
     outs-left = ends-agree (λ (e : Edge). e.source) c.id less.edges distinct-left ∙ ap (λ (es : List Edge). length es) (spared (outof c.id) none-outof) ∙ sym (outs-are c.id)
 
+    ins-less : length (ins less c.id) ≡ length (filter (into c.id) less.edges)
+    ins-less = ends-agree (λ (e : Edge). e.sink) c.id less.edges distinct-left
+
+    ins-most : length (ins less c.id) ≤ length (ins g c.id)
+    ins-most = omega (arith, ins-less, pass-fewer keep (into c.id) g.edges, ins-are c.id)
+
+    -- as many edges in are left, or one at least, by which the way comes
+    ins-left : (length (ins less c.id) ≡ length (ins g c.id)) ⊎ (1 ≤ length (ins less c.id))
+    ins-left = by (option_map_or (λ c. is_capture c.kind) (comp_of g h) false) refl
+      where
+        by : (t : Bool) → option_map_or (λ c. is_capture c.kind) (comp_of g h) false ≡ t → (length (ins less c.id) ≡ length (ins g c.id)) ⊎ (1 ≤ length (ins less c.id))
+        by true is = inl (ins-less ∙ ap (λ (es : List Edge). length es) (spared (into c.id) (none-into is)) ∙ sym (ins-are c.id))
+        by false is = at (λ t. true≢false (sym (reached-trip g h id t) ∙ (sym (split false is id) ∙ off))) (trip-end g.joins h c.id (trip-reached g h c.id (sym (split false is c.id) ∙ on)))
+          where
+            at : (Trip g.joins h id → ⊥) → (h ≡ c.id) ⊎ ((b : ℕ) × Trip g.joins h b × (goes_from g.joins b c.id ≡ true)) → (length (ins less c.id) ≡ length (ins g c.id)) ⊎ (1 ≤ length (ins less c.id))
+            at never (inl same) =
+                let none : length (ins g c.id) ≡ 0 = play-in c.kind (length (ins g c.id)) (length (outs g c.id)) (own-host same) (own-capture false is same) fits in
+                inl (omega (arith, none, ins-most))
+            at never (inr r) =
+                let far : (r.0 == id) ≡ false = other r.0 id (λ e. never (subst (Trip g.joins h) e r.1)) in
+                let e = edge-into g wired linked r.0 c.id comp r.2 in
+                let left : IsIn e.0 less.edges = in-kept keep g.edges e.0 e.1 (ap (λ n. not (n == id)) e.2 ∙ ap not far) in
+                inr (omega (arith, ins-less, some-pass (into c.id) less.edges (in-any (into c.id) less.edges e.0 left e.3)))
+
     comp-ready : is_ready_comp less c ≡ true
-    comp-ready = ap (λ (p : ℕ × ℕ). is_endpoint c.kind && (is_complete g c.pipe && fits_kind c.kind p.0 p.1)) (λ i. (ins-left i, outs-left i)) ∙ ready
+    comp-ready = and_from (is_complete g c.pipe) _ (complete-comp g c ready) (ap (λ n. fits_kind c.kind (length (ins less c.id)) n) outs-left ∙ by ins-left)
+      where
+        by : (length (ins less c.id) ≡ length (ins g c.id)) ⊎ (1 ≤ length (ins less c.id)) → fits_kind c.kind (length (ins less c.id)) (length (outs g c.id)) ≡ true
+        by (inl same) = ap (λ m. fits_kind c.kind m (length (outs g c.id))) same ∙ fits
+        by (inr some) = fits-fewer c.kind (length (ins g c.id)) (length (outs g c.id)) (length (ins less c.id)) some ins-most fits
 
   ready-left : (h : ℕ) → has_kind is_host (kind_at g h) ≡ true → on_way g h id ≡ false → is_way_ready g h ≡ true → is_way_ready less h ≡ true
   unfolding is_way_ready

@@ -10,7 +10,7 @@ use Rattle.stream_law.specs.declared.graph.Pipe.{Pipe}
 use Rattle.stream_law.specs.declared.graph.Graph.{Graph}
 use Rattle.stream_law.specs.declared.stream.StreamView.{StreamView}
 use Rattle.stream_law.specs.Ways.{ins, outs, reaches, on_way}
-use Rattle.stream_law.specs.Joins.{fits_kind, is_endpoint}
+use Rattle.stream_law.specs.Joins.{fits_kind}
 use Rattle.ipc3_codec.specs.Allowed.{is_period}
 use Rattle.mbox_link.specs.Step.{has_comp, has_edge, is_complete, is_ready_comp, is_ready_edge, is_way_ready, is_held, is_index_held, is_used}
 use Rattle.fw_core.specs.Kept.{IsWired, IsLinked, IsSet, IsSetBy, IsSide, IsJoinedFrom, IsJoinedTo, is_node, is_idle}
@@ -76,7 +76,7 @@ module _ (g : Graph) (id : ℕ) (p : Pipe) (found : find (λ q. q.id == id) g.pi
         comp-ready x all = ap (λ t. not t || is_ready_comp less x) (way-pipe s.host x.id) ∙ by (on_way g s.host x.id) refl all.1
           where
             by : (t : Bool) → on_way g s.host x.id ≡ t → (not t || is_ready_comp g x) ≡ true → (not t || is_ready_comp less x) ≡ true
-            by true on now = ap (λ t. is_endpoint x.kind && (t && fits_kind x.kind (length (ins g x.id)) (length (outs g x.id)))) (complete-other x.pipe (other-index s among has x.pipe x.id all.0 on)) ∙ now
+            by true on now = ap (λ t. t && fits_kind x.kind (length (ins g x.id)) (length (outs g x.id))) (complete-other x.pipe (other-index s among has x.pipe x.id all.0 on)) ∙ now
             by false on now = refl
 
         edge-ready : (e : Edge) → ((e.pipe == p.index && is_held g ss e.buffer) ≡ false) × ((not (on_way g s.host e.buffer) || is_ready_edge g e) ≡ true) → (not (on_way less s.host e.buffer) || is_ready_edge less e) ≡ true

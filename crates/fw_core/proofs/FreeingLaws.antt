@@ -11,21 +11,23 @@ use Rattle.stream_law.specs.declared.graph.Pipe.{Pipe}
 use Rattle.stream_law.specs.declared.graph.Join.{Join}
 use Rattle.stream_law.specs.declared.graph.Graph.{Graph}
 use Rattle.stream_law.specs.declared.stream.StreamView.{StreamView}
-use Rattle.stream_law.specs.State.{FwState, HeapView, View, RingView}
-use Rattle.stream_law.specs.Ways.{channels_of}
+use Rattle.stream_law.specs.State.{FwState, HeapView, View, RingView, History}
+use Rattle.stream_law.specs.Ways.{live, channels_of}
+use Rattle.stream_law.specs.Made.{blob}
 use Rattle.stream_law.specs.Seen.{flows, ring_seen}
-use Rattle.mbox_link.specs.Step.{no_device, busy, invalid, buffer_free, without_buffer, has_complete_pipe, with_setting, has_kind, is_host, kind_at, without_piece, touches, has_comp, has_edge, is_held, is_index_held, is_used}
+use Rattle.mbox_link.specs.Step.{no_device, busy, invalid, buffer_free, without_comp, without_buffer, has_complete_pipe, with_comps, with_setting, has_kind, is_host, kind_at, without_piece, touches, has_comp, has_edge, is_held, is_index_held, is_used}
 use Rattle.fw_ring.specs.RingLists.{Ring, RingLists, without_ring}
 use Rattle.fw_core.specs.Kept.{IsKept, AreRings, IsPlayable, LiesIn, state_of, shown, is_node, has_piece}
 use Rattle.fw_core.proofs.Fewer.{all-kept, all-filter, all-both, all-any, filter-every, length-filter, none-each, keys-left, not-true}
-use Rattle.fw_core.proofs.SameWays.{played-same, channels-same, flows-same}
+use Rattle.fw_core.proofs.SameWays.{played-same, live-same, channels-same, flows-same}
+use Rattle.fw_core.proofs.Histories.{histories-same, histories-set, histories-left}
 use Rattle.fw_core.proofs.FewerPieces.{HasOther, pieces-less, lies-less}
 use Rattle.fw_core.proofs.FewerComps.{streams-few, used-other, linked-comp_less, wired-comp_less, bare-comp, ways-comp, owned-comp, ready-comp, nodes-comp}
 use Rattle.fw_core.proofs.FewerEdges.{source-left, sink-left, used-left, wired-edge_less, linked-edge_less, joins-left, bare-edge, ways-edge, ready-edge, nodes-edge}
 use Rattle.fw_core.proofs.FewerPipes.{ways-pipe, bare-pipe, ready-pipe, used-pipe, linked-pipe_less, wired-pipe_less}
 use Rattle.fw_core.proofs.Settings.{ways-set, bare-set, readies-set, owned-set, nodes-set, linked-set, wired-set, pieces-set}
 use Rattle.fw_core.proofs.Growing.{all-by}
-use Rattle.fw_core.proofs.KeptLaws.{seen-each, seen-all, seen-same, channels-by, each-buffer}
+use Rattle.fw_core.proofs.KeptLaws.{seen-each, seen-all, seen-same, channels-by, each-buffer, each-comp}
 use Rattle.fw_core.proofs.SeenLaws.{keys-shown}
 use Rattle.fw_core.proofs.Tiling.{give-tiled}
 
@@ -73,6 +75,9 @@ module _ (heap : HeapView) (clock : ℕ) (comps : List Comp) (edges : List Edge)
 
   abbrev view : View
   view = record { graph = graph; streams = streams }
+
+  abbrev state : FwState
+  state = state_of heap clock comps edges pipes joins streams (map shown rings.rings)
 
   ring-keys : map (λ (r : Ring). r.buffer) rings.rings ≡ map (λ (e : Edge). e.buffer) edges
   ring-keys = sym (keys-shown rings.rings) ∙ kept.rings
@@ -138,8 +143,15 @@ module _ (heap : HeapView) (clock : ℕ) (comps : List Comp) (edges : List Edge)
       played = comp-played;
       rings = kept.rings;
       seen = seen-same view comp-view rings.rings comp-flows kept.seen;
+      unset = all-filter (λ (x : Comp). not (x.id == id)) (λ x. blob x.setting ≡ []) comps kept.unset;
       histories = refl;
     }
+
+    -- and are those of the row
+    pub comp_free-is : state_of heap' clock comps' edges pipes joins streams' (map shown rings.rings) ≡ without_comp id state
+    comp_free-is =
+        ap (λ (q : HeapView × List Comp × List StreamView). state_of q.0 clock q.1 edges pipes joins q.2 (map shown rings.rings)) (λ i. (h i, c i, s i))
+        ∙ ap (λ (hs : List History). record (without_comp id state) { histories = hs }) (histories-left id view comp-view refl (live-same graph comp-graph (λ s. not (s.host == id)) streams kept.played (bare-comp graph id kept.wired kept.linked free streams kept.played.owned kept.played.each) (ways-comp graph id kept.wired kept.linked free streams)))
 
     pub held-comp_free : AreRings rings room (state_of heap' clock comps' edges pipes joins streams' (map shown rings.rings))
     held-comp_free = freed (λ hs cs ss. AreRings rings room (state_of hs clock cs edges pipes joins ss (map shown rings.rings))) record {
@@ -180,6 +192,9 @@ module _ (heap : HeapView) (clock : ℕ) (comps : List Comp) (edges : List Edge)
     edge-flows : AllByRecursion (λ r. flows edge-view r.buffer ≡ flows view r.buffer) fewer
     edge-flows = all-by (λ r. (r.buffer == id) ≡ false) (λ r. flows edge-view r.buffer ≡ flows view r.buffer) (λ r far. every (λ ss. flows (record { graph = edge-graph; streams = ss }) r.buffer ≡ flows view r.buffer) (flows-same graph edge-graph (λ s. true) streams kept.played (bare-edge graph id kept.wired kept.linked there streams) (ways-edge graph id kept.wired kept.linked there streams free) r.buffer (source-left graph id kept.wired kept.linked there r.buffer far) (sink-left graph id kept.wired kept.linked there r.buffer far))) fewer fewer-other
 
+    edge-live : (x : ℕ) → live edge-view x ≡ live view x
+    edge-live x = every (λ ss. live (record { graph = edge-graph; streams = ss }) x ≡ live view x) (live-same graph edge-graph (λ s. true) streams kept.played (bare-edge graph id kept.wired kept.linked there streams) (ways-edge graph id kept.wired kept.linked there streams free) x)
+
     edge-channels : (x : ℕ) → channels_of edge-view x ≡ channels_of view x
     edge-channels x = every (λ ss. channels_of (record { graph = edge-graph; streams = ss }) x ≡ channels_of view x) (channels-same graph edge-graph (λ s. true) streams kept.played (bare-edge graph id kept.wired kept.linked there streams) (ways-edge graph id kept.wired kept.linked there streams free) x)
 
@@ -205,8 +220,17 @@ module _ (heap : HeapView) (clock : ℕ) (comps : List Comp) (edges : List Edge)
       played = edge-played;
       rings = keys-shown fewer ∙ keys-left (λ (r : Ring). r.buffer) id rings.rings ∙ ap (filter (λ n. not (n == id))) ring-keys ∙ sym (keys-left (λ (e : Edge). e.buffer) id edges);
       seen = seen-same view edge-view fewer edge-flows (seen-all view fewer (all-filter (λ (r : Ring). not (r.buffer == id)) (λ r. ring_seen view (shown r) ≡ shown r) rings.rings (seen-each view rings.rings kept.seen)));
+      unset = kept.unset;
       histories = refl;
     }
+
+    pub buffer_free-is : state_of heap' clock comps edges' pipes joins' streams (map shown rings'.rings) ≡ without_buffer id state
+    buffer_free-is =
+        ap (λ (q : HeapView × List Edge × List Join × RingLists). state_of q.0 clock comps q.1 pipes q.2 streams (map shown q.3.rings)) (λ i. (h i, e i, j i, r i))
+        ∙ ap (λ (q : List RingView × List History). record (without_buffer id state) { rings = q.0; histories = q.1 }) (λ i. (
+          shown-left id rings.rings i,
+          histories-same view edge-view refl (each-comp edge-live comps) i,
+        ))
 
     pub held-buffer_free : AreRings rings' room (state_of heap' clock comps edges' pipes joins' streams (map shown rings'.rings))
     held-buffer_free = without (λ hs es js rs. AreRings rs room (state_of hs clock comps es pipes js streams (map shown rs.rings))) record {
@@ -273,6 +297,7 @@ module _ (heap : HeapView) (clock : ℕ) (comps : List Comp) (edges : List Edge)
       played = pipe-played;
       rings = kept.rings;
       seen = seen-same view pipe-view rings.rings pipe-flows kept.seen;
+      unset = kept.unset;
       histories = refl;
     }
 
@@ -289,7 +314,7 @@ module _ (heap : HeapView) (clock : ℕ) (comps : List Comp) (edges : List Edge)
 
   -- ---- a setting
 
-  module _ (id : ℕ) (setting : Setting) (comps' : List Comp) (c : comps' ≡ map (with_setting id setting) comps) where
+  module _ (id : ℕ) (setting : Setting) (comps' : List Comp) (c : comps' ≡ map (with_setting id setting) comps) (plain : blob setting ≡ []) where
     abbrev set-graph : Graph
     set-graph = record { comps = map (with_setting id setting) comps; edges = edges; pipes = pipes; joins = joins }
 
@@ -301,6 +326,17 @@ module _ (heap : HeapView) (clock : ℕ) (comps : List Comp) (edges : List Edge)
 
     set-flows : AllByRecursion (λ r. flows set-view r.buffer ≡ flows view r.buffer) rings.rings
     set-flows = all-any (λ (r : Ring). flows set-view r.buffer ≡ flows view r.buffer) (λ r. same-streams (λ ss. flows (record { graph = set-graph; streams = ss }) r.buffer ≡ flows view r.buffer) (flows-same graph set-graph (λ s. true) streams kept.played (bare-set id setting graph streams) (ways-set id setting graph streams) r.buffer refl refl)) rings.rings
+
+    set-live : (x : ℕ) → live set-view x ≡ live view x
+    set-live x = same-streams (λ ss. live (record { graph = set-graph; streams = ss }) x ≡ live view x) (live-same graph set-graph (λ s. true) streams kept.played (bare-set id setting graph streams) (ways-set id setting graph streams) x)
+
+    unset-set : (cs : List Comp) → AllByRecursion (λ x. blob x.setting ≡ []) cs → AllByRecursion (λ x. blob x.setting ≡ []) (map (with_setting id setting) cs)
+    unset-set [] all = tt
+    unset-set (x ∷ cs) all = (by (x.id == id), unset-set cs all.1)
+      where
+        by : (h : Bool) → blob (cond h (record x { setting = setting }) x).setting ≡ []
+        by true = plain
+        by false = all.0
 
     set-channels : (x : ℕ) → channels_of set-view x ≡ channels_of view x
     set-channels x = same-streams (λ ss. channels_of (record { graph = set-graph; streams = ss }) x ≡ channels_of view x) (channels-same graph set-graph (λ s. true) streams kept.played (bare-set id setting graph streams) (ways-set id setting graph streams) x)
@@ -321,8 +357,14 @@ module _ (heap : HeapView) (clock : ℕ) (comps : List Comp) (edges : List Edge)
       played = set-played;
       rings = kept.rings;
       seen = seen-same view set-view rings.rings set-flows kept.seen;
+      unset = unset-set comps kept.unset;
       histories = refl;
     }
+
+    pub setting-is : state_of heap clock comps' edges pipes joins streams (map shown rings.rings) ≡ record state { graph = with_comps (map (with_setting id setting) comps) graph }
+    setting-is =
+        ap (λ (cs : List Comp). state_of heap clock cs edges pipes joins streams (map shown rings.rings)) c
+        ∙ ap (λ (hs : List History). record state { graph = with_comps (map (with_setting id setting) comps) graph; histories = hs }) (histories-set id setting view set-view refl set-live)
 
     pub held-setting : AreRings rings room (state_of heap clock comps' edges pipes joins streams (map shown rings.rings))
     held-setting = subst (λ (cs : List Comp). AreRings rings room (state_of heap clock cs edges pipes joins streams (map shown rings.rings))) (sym c) record {
@@ -336,10 +378,6 @@ module _ (heap : HeapView) (clock : ℕ) (comps : List Comp) (edges : List Edge)
     }
 
 -- ---- the row of a buffer
-
--- the tables without a buffer
-pub without_buffer-is : (heap : HeapView) (clock : ℕ) (comps : List Comp) (edges : List Edge) (pipes : List Pipe) (joins : List Join) (streams : List StreamView) (rings : RingLists) (id : ℕ) → state_of (without_piece id heap) clock comps (filter (λ e. not (e.buffer == id)) edges) pipes (filter (λ j. not (touches id j)) joins) streams (map shown (without_ring id rings).rings) ≡ without_buffer id (state_of heap clock comps edges pipes joins streams (map shown rings.rings))
-without_buffer-is heap clock comps edges pipes joins streams rings id = ap (λ (rs : List RingView). state_of (without_piece id heap) clock comps (filter (λ e. not (e.buffer == id)) edges) pipes (filter (λ j. not (touches id j)) joins) streams rs) (shown-left id rings.rings)
 
 -- a row whose tests pass
 pub buffer_free-row : (f : FwState) (id : ℕ) → is_used f.graph id ≡ true → has_complete_pipe f.graph id ≡ false → has_edge f.graph id ≡ true → is_held f.graph f.streams id ≡ false → buffer_free f id ≡ Ok (without_buffer id f)

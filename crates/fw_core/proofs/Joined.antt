@@ -1,6 +1,6 @@
 -- What one join more does to lists, walks and edges.
-use Rattle.std.proofs.Common.{◌≡◌, refl, sym, ap, ◌∙◌, ℕ, zero, suc, ◌+◌, ◌≤◌, List, [], ◌∷◌, ◌++◌, map, filter, Some, Bool, true, false, cond, inl, inr, ◌⊎◌, ◌==◌, ◌||◌, arith}
-use Rattle.std.proofs.lemmas.Bool.{true≢false, false≢true, false_from_ne_true, or_from, or_parts, or_left, or_right, or_cases, and_parts, eqb-true, eq-eqb, leb-true}
+use Rattle.std.proofs.Common.{◌≡◌, refl, sym, ap, ◌∙◌, ℕ, zero, suc, ◌+◌, ◌≤◌, List, [], ◌∷◌, ◌++◌, map, filter, Some, Bool, true, false, cond, inl, inr, ◌⊎◌, ◌==◌, ◌&&◌, ◌||◌, arith}
+use Rattle.std.proofs.lemmas.Bool.{true≢false, false≢true, false_from_ne_true, or_from, or_parts, or_left, or_right, or_cases, and_parts, and_from, eqb-true, eq-eqb, leb-true, le-leb}
 use Rattle.std.specs.Prelude.{nat_le}
 use Rattle.std.specs.List.{list_any, AllByRecursion}
 use Rattle.stream_law.specs.declared.graph.Kind.{Kind}
@@ -8,7 +8,7 @@ use Rattle.stream_law.specs.declared.graph.Kind.TheVariants.{HostPlay, HostCaptu
 use Rattle.stream_law.specs.declared.graph.Edge.{Edge}
 use Rattle.stream_law.specs.declared.graph.Join.{Join}
 use Rattle.stream_law.specs.Ways.{leads}
-use Rattle.stream_law.specs.Joins.{is_endpoint, kind_ins, kind_outs, fits_kind, joined}
+use Rattle.stream_law.specs.Joins.{kind_ins, kind_outs, fits_kind, joined}
 use Rattle.stream_law.specs.Order.{is_among}
 use Rattle.fw_core.proofs.Growing.{all-by}
 
@@ -91,33 +91,53 @@ leads-more js j (suc n) a b e = by (or_cases (a == b) (list_any (λ k. leads js 
 
 -- ---- kinds
 
-pub full-in : (k : Kind) (m n : ℕ) → is_endpoint k ≡ true → fits_kind k m n ≡ true → nat_le (m + 1) (kind_ins k) ≡ true → ⊥
-full-in HostPlay m n plain fits room = let e : m + 1 ≤ 0 = leb-true (m + 1) 0 room in omega (arith, e)
-full-in (DaiCapture format) m n plain fits room = let e : m + 1 ≤ 0 = leb-true (m + 1) 0 room in omega (arith, e)
-full-in HostCapture m n plain fits room =
-    let one : m ≡ 1 = eqb-true m 1 (and_parts (m == 1) (n == 0) fits).0 in
-    let e : m + 1 ≤ 1 = leb-true (m + 1) 1 room in omega (arith, e, one)
-full-in (DaiPlay format) m n plain fits room =
-    let one : m ≡ 1 = eqb-true m 1 (and_parts (m == 1) (n == 0) fits).0 in
-    let e : m + 1 ≤ 1 = leb-true (m + 1) 1 room in omega (arith, e, one)
-full-in Volume m n plain fits room = absurd (false≢true plain)
-full-in Mixer m n plain fits room = absurd (false≢true plain)
-full-in Mux m n plain fits room = absurd (false≢true plain)
-full-in Eq m n plain fits room = absurd (false≢true plain)
+-- a component with the edges of its kind takes no more out, and still has them with one more in, where it takes one
+pub full-out : (k : Kind) (m n : ℕ) → fits_kind k m n ≡ true → nat_le (n + 1) (kind_outs k) ≡ true → ⊥
+full-out HostCapture m n fits room = let e : n + 1 ≤ 0 = leb-true (n + 1) 0 room in omega (arith, e)
+full-out (DaiPlay format) m n fits room = let e : n + 1 ≤ 0 = leb-true (n + 1) 0 room in omega (arith, e)
+full-out HostPlay m n fits room =
+    let one : n ≡ 1 = eqb-true n 1 (and_parts (m == 0) (n == 1) fits).1 in
+    let e : n + 1 ≤ 1 = leb-true (n + 1) 1 room in omega (arith, e, one)
+full-out (DaiCapture format) m n fits room =
+    let one : n ≡ 1 = eqb-true n 1 (and_parts (m == 0) (n == 1) fits).1 in
+    let e : n + 1 ≤ 1 = leb-true (n + 1) 1 room in omega (arith, e, one)
+full-out Volume m n fits room =
+    let one : n ≡ 1 = eqb-true n 1 (and_parts (m == 1) (n == 1) fits).1 in
+    let e : n + 1 ≤ 1 = leb-true (n + 1) 1 room in omega (arith, e, one)
+full-out Eq m n fits room =
+    let one : n ≡ 1 = eqb-true n 1 (and_parts (m == 1) (n == 1) fits).1 in
+    let e : n + 1 ≤ 1 = leb-true (n + 1) 1 room in omega (arith, e, one)
+full-out Mixer m n fits room =
+    let one : n ≡ 1 = eqb-true n 1 (and_parts (nat_le 1 m && nat_le m 8) (n == 1) fits).1 in
+    let e : n + 1 ≤ 1 = leb-true (n + 1) 1 room in omega (arith, e, one)
+full-out Mux m n fits room =
+    let one : n ≡ 1 = eqb-true n 1 (and_parts (nat_le 1 m && nat_le m 8) (n == 1) fits).1 in
+    let e : n + 1 ≤ 1 = leb-true (n + 1) 1 room in omega (arith, e, one)
 
-pub full-out : (k : Kind) (m n : ℕ) → is_endpoint k ≡ true → fits_kind k m n ≡ true → nat_le (n + 1) (kind_outs k) ≡ true → ⊥
-full-out HostCapture m n plain fits room = let e : n + 1 ≤ 0 = leb-true (n + 1) 0 room in omega (arith, e)
-full-out (DaiPlay format) m n plain fits room = let e : n + 1 ≤ 0 = leb-true (n + 1) 0 room in omega (arith, e)
-full-out HostPlay m n plain fits room =
-    let one : n ≡ 1 = eqb-true n 1 (and_parts (m == 0) (n == 1) fits).1 in
-    let e : n + 1 ≤ 1 = leb-true (n + 1) 1 room in omega (arith, e, one)
-full-out (DaiCapture format) m n plain fits room =
-    let one : n ≡ 1 = eqb-true n 1 (and_parts (m == 0) (n == 1) fits).1 in
-    let e : n + 1 ≤ 1 = leb-true (n + 1) 1 room in omega (arith, e, one)
-full-out Volume m n plain fits room = absurd (false≢true plain)
-full-out Mixer m n plain fits room = absurd (false≢true plain)
-full-out Mux m n plain fits room = absurd (false≢true plain)
-full-out Eq m n plain fits room = absurd (false≢true plain)
+pub fits-more : (k : Kind) (m n l : ℕ) → m ≤ l → l ≤ m + 1 → nat_le (m + 1) (kind_ins k) ≡ true → fits_kind k m n ≡ true → fits_kind k l n ≡ true
+fits-more k m n l least most room fits = by k room fits
+  where
+    none : m + 1 ≤ 0 → ⊥
+    none le = omega (arith, le)
+
+    one : m + 1 ≤ 1 → m ≡ 1 → ⊥
+    one le e = omega (arith, le, e)
+
+    many : m + 1 ≤ 8 → ((nat_le 1 m && nat_le m 8) && n == 1) ≡ true → ((nat_le 1 l && nat_le l 8) && n == 1) ≡ true
+    many le fits =
+        let p = and_parts (nat_le 1 m && nat_le m 8) (n == 1) fits in
+        let some : 1 ≤ m = leb-true 1 m (and_parts (nat_le 1 m) (nat_le m 8) p.0).0 in
+        and_from _ _ (and_from _ _ (le-leb 1 l (omega (arith, some, least))) (le-leb l 8 (omega (arith, le, most)))) p.1
+
+    by : (k : Kind) → nat_le (m + 1) (kind_ins k) ≡ true → fits_kind k m n ≡ true → fits_kind k l n ≡ true
+    by HostPlay room fits = absurd (none (leb-true (m + 1) 0 room))
+    by (DaiCapture format) room fits = absurd (none (leb-true (m + 1) 0 room))
+    by HostCapture room fits = absurd (one (leb-true (m + 1) 1 room) (eqb-true m 1 (and_parts (m == 1) (n == 0) fits).0))
+    by (DaiPlay format) room fits = absurd (one (leb-true (m + 1) 1 room) (eqb-true m 1 (and_parts (m == 1) (n == 0) fits).0))
+    by Volume room fits = absurd (one (leb-true (m + 1) 1 room) (eqb-true m 1 (and_parts (m == 1) (n == 1) fits).0))
+    by Eq room fits = absurd (one (leb-true (m + 1) 1 room) (eqb-true m 1 (and_parts (m == 1) (n == 1) fits).0))
+    by Mixer room fits = many (leb-true (m + 1) 8 room) fits
+    by Mux room fits = many (leb-true (m + 1) 8 room) fits
 
 -- ---- edges
 

@@ -1,7 +1,7 @@
 -- What one join more keeps of views.
-use Rattle.std.proofs.Common.{◌≡◌, refl, sym, ap, ◌∙◌, subst, ℕ, suc, List, [], ◌∷◌, ◌++◌, map, filter, length, Option, Some, None, Bool, true, false, cond, not, inl, inr, ◌⊎◌, ◌==◌, ◌&&◌, ◌||◌, arith, length-append}
+use Rattle.std.proofs.Common.{◌≡◌, refl, sym, ap, ◌∙◌, subst, ℕ, suc, ◌+◌, ◌≤◌, List, [], ◌∷◌, ◌++◌, map, filter, length, Option, Some, None, Bool, true, false, cond, not, inl, inr, ◌⊎◌, ◌==◌, ◌&&◌, ◌||◌, arith, length-append}
 use Rattle.std.proofs.lemmas.Bool.{true≢false, false≢true, false_from_ne_true, or_parts, or_left, or_right, or_cases, and_parts, and_from, eqb-true}
-use Rattle.std.specs.Prelude.{find, is_some, option_map, option_and_then}
+use Rattle.std.specs.Prelude.{find, is_some, nat_le, option_map, option_and_then}
 use Rattle.std.specs.Option.{option_map_or}
 use Rattle.std.specs.List.{list_any, list_all, AllByRecursion, IsDistinct}
 use Rattle.sof_base.specs.declared.format.Params.{Params}
@@ -14,15 +14,17 @@ use Rattle.stream_law.specs.declared.stream.StreamView.{StreamView}
 use Rattle.stream_law.specs.Placed.{HasDistinct}
 use Rattle.stream_law.specs.State.{View}
 use Rattle.stream_law.specs.Ways.{comp_of, components, buffers, source_of, sink_of, ins, outs, is_end, leads, reaches, on_way, is_capture, is_live_phase, live, live_end, channels_of, touch, same_shape, agree}
-use Rattle.stream_law.specs.Joins.{is_endpoint, fits_kind, joined, with_join, has_grown, would_grow}
+use Rattle.stream_law.specs.Joins.{kind_ins, fits_kind, joined, with_join, has_grown, would_grow}
 use Rattle.stream_law.specs.Seen.{flows}
 use Rattle.stream_law.specs.Order.{is_among}
 use Rattle.mbox_link.specs.Step.{has_comp, has_edge, kind_at, is_complete, is_ready_comp, is_ready_edge, is_way_ready, leads_in, leads_out, is_joined, takes_join, has_free_in, has_free_out}
 use Rattle.fw_core.specs.Kept.{IsWired, IsPlayable, IsSet, IsSetBy, IsSide, IsBetween, is_node, is_idle}
 use Rattle.fw_core.proofs.Found.{found-each, ends-agree}
 use Rattle.fw_core.proofs.Stays.{heard, all-of, live-idle, given}
+use Rattle.fw_core.proofs.Fewer.{all-any, one-key}
 use Rattle.fw_core.proofs.Growing.{all-by, any-same, find-same}
-use Rattle.fw_core.proofs.Joined.{any-false, any-less, among-map, among-left, all-own, leads-more, full-in, full-out, sided, joined-buffer, buffers-joined, has-joined}
+use Rattle.fw_core.proofs.Near.{complete-comp, fits-comp}
+use Rattle.fw_core.proofs.Joined.{any-false, any-less, among-map, among-left, all-own, leads-more, full-out, fits-more, sided, joined-buffer, buffers-joined, has-joined}
 
 -- ---- the graph with the join
 
@@ -224,15 +226,59 @@ module _ (g : Graph) (j : Join) (wired : IsWired g) (free : is_joined g j.source
       ∙ counted (λ e. e.source) c g.edges (all-by (IsFree g j) (λ e. is_end (joined j e).source c ≡ is_end e.source c) (λ e fr. source-same c e fr other) g.edges frees)
       ∙ sym (ends-agree (λ (e : Edge). e.source) c g.edges wired.buffers)
 
-  -- a component that is ready takes no more
-  full-sink : (c : Comp) → find (λ x. x.id == c.id) g.comps ≡ Some c → is_ready_comp g c ≡ true → leads_out g j.source j.sink ≡ true → (j.sink == c.id) ≡ false
-  full-sink c found ready out = false_from_ne_true (j.sink == c.id) (λ same.
+  -- one sink more, at most
+  counted-sinks : (c : ℕ) (es : List Edge) → AllByRecursion (IsFree g j) es → (length (filter (λ e. is_end e.sink c) es) ≤ length (filter (λ e. is_end e.sink c) (map (joined j) es))) × (length (filter (λ e. is_end e.sink c) (map (joined j) es)) ≤ length (filter (λ e. is_end e.sink c) es) + length (filter (λ e. e.buffer == j.source) es))
+  counted-sinks c [] fr = (omega arith, omega arith)
+  counted-sinks c (e ∷ es) fr = step (is_end e.sink c) (is_end (joined j e).sink c) (e.buffer == j.source) (kept (e.buffer == j.source) refl (e.buffer == j.sink)) (set (e.buffer == j.source) (e.buffer == j.sink)) (counted-sinks c es fr.1)
+    where
+      none : (o : Option ℕ) → is_some o ≡ false → is_end o c ≡ true → ⊥
+      none None e is = false≢true is
+      none (Some n) e is = true≢false e
+
+      kept : (h : Bool) → (e.buffer == j.source) ≡ h → (k : Bool) → is_end e.sink c ≡ true → is_end (sided h k j e).sink c ≡ true
+      kept true same k is = absurd (none e.sink (fr.0.from same).0 is)
+      kept false same true is = is
+      kept false same false is = is
+
+      set : (h k : Bool) → is_end (sided h k j e).sink c ≡ true → (is_end e.sink c ≡ true) ⊎ (h ≡ true)
+      set true k is = inr refl
+      set false true is = inl is
+      set false false is = inl is
+
+      step : (p q r : Bool) → (p ≡ true → q ≡ true) → (q ≡ true → (p ≡ true) ⊎ (r ≡ true)) → (length (filter (λ e. is_end e.sink c) es) ≤ length (filter (λ e. is_end e.sink c) (map (joined j) es))) × (length (filter (λ e. is_end e.sink c) (map (joined j) es)) ≤ length (filter (λ e. is_end e.sink c) es) + length (filter (λ e. e.buffer == j.source) es)) → (length (cond p (e ∷ filter (λ e. is_end e.sink c) es) (filter (λ e. is_end e.sink c) es)) ≤ length (cond q (joined j e ∷ filter (λ e. is_end e.sink c) (map (joined j) es)) (filter (λ e. is_end e.sink c) (map (joined j) es)))) × (length (cond q (joined j e ∷ filter (λ e. is_end e.sink c) (map (joined j) es)) (filter (λ e. is_end e.sink c) (map (joined j) es))) ≤ length (cond p (e ∷ filter (λ e. is_end e.sink c) es) (filter (λ e. is_end e.sink c) es)) + length (cond r (e ∷ filter (λ e. e.buffer == j.source) es) (filter (λ e. e.buffer == j.source) es)))
+      step true true true f h rest = (omega (arith, rest.0), omega (arith, rest.1))
+      step true true false f h rest = (omega (arith, rest.0), omega (arith, rest.1))
+      step true false r f h rest = absurd (false≢true (f refl))
+      step false true true f h rest = (omega (arith, rest.0), omega (arith, rest.1))
+      step false true false f h rest = by (h refl)
+        where
+          by : {A : Type 0} → (false ≡ true) ⊎ (false ≡ true) → A
+          by (inl e) = absurd (false≢true e)
+          by (inr e) = absurd (false≢true e)
+      step false false true f h rest = (omega (arith, rest.0), omega (arith, rest.1))
+      step false false false f h rest = (omega (arith, rest.0), omega (arith, rest.1))
+
+  one-source : length (filter (λ e. e.buffer == j.source) g.edges) ≤ 1
+  one-source = by (one-key (λ (e : Edge). e.buffer) j.source (λ e. Unit {0}) g.edges wired.buffers (all-any (λ (e : Edge). Unit {0}) (λ e. tt) g.edges))
+    where
+      by : (filter (λ e. e.buffer == j.source) g.edges ≡ []) ⊎ ((e : Edge) × Unit {0} × ((e.buffer == j.source) ≡ true) × (filter (λ e. e.buffer == j.source) g.edges ≡ e ∷ [])) → length (filter (λ e. e.buffer == j.source) g.edges) ≤ 1
+      by (inl none) = let is : length (filter (λ e. e.buffer == j.source) g.edges) ≡ 0 = ap (λ (es : List Edge). length es) none in omega (arith, is)
+      by (inr one) = let is : length (filter (λ e. e.buffer == j.source) g.edges) ≡ 1 = ap (λ (es : List Edge). length es) one.3 in omega (arith, is)
+
+  ins-more : (c : ℕ) → (length (ins g c) ≤ length (ins wired_on c)) × (length (ins wired_on c) ≤ length (ins g c) + 1)
+  ins-more c =
+      let n = counted-sinks c g.edges frees in
+      let old_ins = ends-agree (λ (e : Edge). e.sink) c g.edges wired.buffers in
+      let new_ins = ends-agree (λ (e : Edge). e.sink) c (map (joined j) g.edges) distinct in
+      (omega (arith, n.0, old_ins, new_ins), omega (arith, n.1, old_ins, new_ins, one-source))
+
+  -- where the join goes to a component, it takes one more in; and one that is ready takes no more out
+  room-in : (c : Comp) → find (λ x. x.id == c.id) g.comps ≡ Some c → leads_out g j.source j.sink ≡ true → (j.sink == c.id) ≡ true → nat_le (length (ins g c.id) + 1) (kind_ins c.kind) ≡ true
+  room-in c found out same =
       let is : j.sink ≡ c.id = eqb-true j.sink c.id same in
       let no_in : leads_in g j.source j.sink ≡ false = false_from_ne_true (leads_in g j.source j.sink) (λ into. leads-apart into out) in
       let room : has_free_in g j.sink (kind_at g j.sink) ≡ true = (and_parts (leads_out g j.source j.sink) (has_free_in g j.sink (kind_at g j.sink)) (sym (ap (λ h. (h && has_free_out g j.source (kind_at g j.source)) || (leads_out g j.source j.sink && has_free_in g j.sink (kind_at g j.sink))) no_in) ∙ takes)).1 in
-      let here : has_free_in g c.id (Some c.kind) ≡ true = sym (ap (λ n. has_free_in g n (kind_at g n)) is ∙ ap (λ (o : Option Comp). has_free_in g c.id (option_map (λ c. c.kind) o)) found) ∙ room in
-      let parts = and_parts (is_endpoint c.kind) (is_complete g c.pipe && fits_kind c.kind (length (ins g c.id)) (length (outs g c.id))) ready in
-      full-in c.kind (length (ins g c.id)) (length (outs g c.id)) parts.0 (and_parts (is_complete g c.pipe) (fits_kind c.kind (length (ins g c.id)) (length (outs g c.id))) parts.1).1 here)
+      sym (ap (λ n. has_free_in g n (kind_at g n)) is ∙ ap (λ (o : Option Comp). has_free_in g c.id (option_map (λ c. c.kind) o)) found) ∙ room
 
   full-source : (c : Comp) → find (λ x. x.id == c.id) g.comps ≡ Some c → is_ready_comp g c ≡ true → leads_in g j.source j.sink ≡ true → (j.source == c.id) ≡ false
   full-source c found ready into = false_from_ne_true (j.source == c.id) (λ same.
@@ -240,8 +286,7 @@ module _ (g : Graph) (j : Join) (wired : IsWired g) (free : is_joined g j.source
       let no_out : leads_out g j.source j.sink ≡ false = false_from_ne_true (leads_out g j.source j.sink) (λ out. leads-apart into out) in
       let room : has_free_out g j.source (kind_at g j.source) ≡ true = first (leads_in g j.source j.sink) (has_free_out g j.source (kind_at g j.source)) (sym (ap (λ h. (leads_in g j.source j.sink && has_free_out g j.source (kind_at g j.source)) || (h && has_free_in g j.sink (kind_at g j.sink))) no_out) ∙ takes) in
       let here : has_free_out g c.id (Some c.kind) ≡ true = sym (ap (λ n. has_free_out g n (kind_at g n)) is ∙ ap (λ (o : Option Comp). has_free_out g c.id (option_map (λ c. c.kind) o)) found) ∙ room in
-      let parts = and_parts (is_endpoint c.kind) (is_complete g c.pipe && fits_kind c.kind (length (ins g c.id)) (length (outs g c.id))) ready in
-      full-out c.kind (length (ins g c.id)) (length (outs g c.id)) parts.0 (and_parts (is_complete g c.pipe) (fits_kind c.kind (length (ins g c.id)) (length (outs g c.id))) parts.1).1 here)
+      full-out c.kind (length (ins g c.id)) (length (outs g c.id)) (fits-comp g c ready) here)
     where
       first : (a b : Bool) → ((a && b) || false) ≡ true → b ≡ true
       first true true e = refl
@@ -249,8 +294,12 @@ module _ (g : Graph) (j : Join) (wired : IsWired g) (free : is_joined g j.source
       first false b e = absurd (false≢true e)
 
   comp-joined : (c : Comp) → find (λ x. x.id == c.id) g.comps ≡ Some c → is_ready_comp g c ≡ true → is_ready_comp wired_on c ≡ true
-  comp-joined c found ready =
-      ap (λ (n : ℕ × ℕ). is_endpoint c.kind && (is_complete g c.pipe && fits_kind c.kind n.0 n.1)) (λ i. (ins-joined c.id (full-sink c found ready) i, outs-joined c.id (full-source c found ready) i)) ∙ ready
+  comp-joined c found ready = and_from (is_complete g c.pipe) _ (complete-comp g c ready) (ap (fits_kind c.kind (length (ins wired_on c.id))) (outs-joined c.id (full-source c found ready)) ∙ by (leads_out g j.source j.sink) refl (j.sink == c.id) refl)
+    where
+      by : (h : Bool) → leads_out g j.source j.sink ≡ h → (k : Bool) → (j.sink == c.id) ≡ k → fits_kind c.kind (length (ins wired_on c.id)) (length (outs g c.id)) ≡ true
+      by true out true same = let n = ins-more c.id in fits-more c.kind (length (ins g c.id)) (length (outs g c.id)) (length (ins wired_on c.id)) n.0 n.1 (room-in c found out same) (fits-comp g c ready)
+      by true out false other = ap (λ m. fits_kind c.kind m (length (outs g c.id))) (ins-joined c.id (λ leads. other)) ∙ fits-comp g c ready
+      by false out k is = ap (λ m. fits_kind c.kind m (length (outs g c.id))) (ins-joined c.id (λ leads. absurd (true≢false (sym leads ∙ out)))) ∙ fits-comp g c ready
 
   edge-joined : (e : Edge) → is_ready_edge g e ≡ true → is_ready_edge wired_on (joined j e) ≡ true
   edge-joined e ready = by (e.buffer == j.source) (e.buffer == j.sink)

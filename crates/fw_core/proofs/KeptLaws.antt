@@ -15,12 +15,13 @@ use Rattle.stream_law.specs.declared.graph.Graph.{Graph}
 use Rattle.stream_law.specs.declared.stream.Phase.TheVariants.{Idle}
 use Rattle.stream_law.specs.declared.stream.StreamView.{StreamView}
 use Rattle.stream_law.specs.Placed.{placed, HasDistinct}
-use Rattle.stream_law.specs.State.{HeapView, PieceView, View, RingView}
-use Rattle.stream_law.specs.Ways.{channels_of, agree}
+use Rattle.stream_law.specs.State.{FwState, HeapView, PieceView, View, RingView, History}
+use Rattle.stream_law.specs.Ways.{components, buffers, live, channels_of, agree}
+use Rattle.stream_law.specs.Made.{blob}
 use Rattle.stream_law.specs.Seen.{flows, ring_seen}
-use Rattle.stream_law.proofs.Placing.{length-placed, HasDistinct-placed}
+use Rattle.stream_law.proofs.Placing.{length-placed, map-placed, HasDistinct-placed}
 use Rattle.ipc3_codec.specs.Allowed.{is_period}
-use Rattle.mbox_link.specs.Step.{with_piece, with_stream, completed, is_used, has_comp, has_edge, has_pipe}
+use Rattle.mbox_link.specs.Step.{comp_bytes, with_piece, with_comp, with_buffer, with_pipes, with_stream, completed, is_used, has_comp, has_edge, has_pipe}
 use Rattle.fw_core.specs.Pieces.{IsTiled, fresh_heap}
 use Rattle.fw_ring.specs.RingLists.{Ring, RingLists, AreFree, no_rings, with_ring, fresh_ring}
 use Rattle.fw_core.specs.Kept.{IsKept, AreRings, ArePieces, LiesIn, state_of, shown, sides, is_node}
@@ -28,13 +29,16 @@ use Rattle.fw_core.proofs.Pieced.{no-piece, pieces-comp, pieces-edge, pieces-pip
 use Rattle.fw_core.proofs.Sides.{sides-placed}
 use Rattle.fw_core.proofs.Tiling.{fresh-tiled, carve-tiled}
 use Rattle.fw_core.proofs.SeenLaws.{keys-shown}
-use Rattle.fw_core.proofs.Growing.{all-placed, all-by, played-wider, wired-wider, flows-wider, channels-wider}
-use Rattle.stream_law.specs.Joins.{joined, would_cycle, would_grow}
+use Rattle.fw_core.proofs.Growing.{all-placed, all-by, played-wider, wired-wider, live-wider, flows-wider, channels-wider}
+use Rattle.fw_core.proofs.Histories.{histories-same, histories-placed}
+use Rattle.fw_core.proofs.Members.{in-each}
+use Rattle.fw_core.proofs.Near.{in-comps}
+use Rattle.stream_law.specs.Joins.{joined, would_cycle, would_grow, with_join}
 use Rattle.mbox_link.specs.Step.{is_joined, takes_join}
-use Rattle.fw_core.proofs.Joined.{joined-size, buffers-joined}
-use Rattle.fw_core.proofs.Joining.{played-joined, wired-joined, flows-joined, channels-each}
+use Rattle.fw_core.proofs.Joined.{joined-size, buffers-joined, among-left}
+use Rattle.fw_core.proofs.Joining.{played-joined, wired-joined, live-joined, flows-joined, channels-each}
 use Rattle.fw_core.proofs.Linking.{linked-wider, linked-longer, linked-other, linked-joined}
-use Rattle.fw_core.proofs.Longer.{played-longer, wired-longer, flows-longer, flows-fresh, channels-longer, played-other, wired-other, flows-other, channels-other, complete-placed, complete-completed, periods-completed}
+use Rattle.fw_core.proofs.Longer.{played-longer, wired-longer, live-longer, flows-longer, flows-fresh, channels-longer, played-other, wired-other, live-other, flows-other, channels-other, complete-placed, complete-completed, periods-completed}
 
 -- ---- the empty state
 
@@ -60,6 +64,7 @@ kept-empty heap clock comps edges pipes joins streams rings most h c e p j s r =
       played = record { hosts = tt; owned = tt; each = tt; agreed = refl };
       rings = refl;
       seen = refl;
+      unset = tt;
       histories = refl;
     }
 
@@ -114,6 +119,11 @@ pub each-buffer : {P : ℕ → Type 0} → ((b : ℕ) → P b) → (rs : List Ri
 each-buffer f [] = tt
 each-buffer f (r ∷ rs) = (f r.buffer, each-buffer f rs)
 
+-- and of each component's id
+pub each-comp : {P : ℕ → Type 0} → ((n : ℕ) → P n) → (xs : List Comp) → AllByRecursion (λ x. P x.id) xs
+each-comp f [] = tt
+each-comp f (x ∷ xs) = (f x.id, each-comp f xs)
+
 -- lists of the same keys, with a record more of one key
 placed-pairs : (f : Ring → ℕ) (h : Edge → ℕ) (r : Ring) (e : Edge) (rs : List Ring) (es : List Edge) → map (λ (r : Ring). r.buffer) rs ≡ map (λ (e : Edge). e.buffer) es → map f rs ≡ map h es → r.buffer ≡ e.buffer → f r ≡ h e → map f (placed (λ r. r.buffer) r rs) ≡ map h (placed (λ e. e.buffer) e es)
 placed-pairs f h r e [] [] keys same key is = ap (λ (n : ℕ). n ∷ []) is
@@ -156,11 +166,14 @@ module _ (heap : HeapView) (clock : ℕ) (comps : List Comp) (edges : List Edge)
   abbrev view : View
   view = record { graph = graph; streams = streams }
 
+  abbrev state : FwState
+  state = state_of heap clock comps edges pipes joins streams (map shown rings.rings)
+
   pub ring-keys : map (λ (r : Ring). r.buffer) rings.rings ≡ map (λ (e : Edge). e.buffer) edges
   ring-keys = sym (keys-shown rings.rings) ∙ kept.rings
 
   -- a component more
-  module _ (bytes : ℕ) (c : Comp) (heap' : HeapView) (comps' : List Comp) (streams' : List StreamView) (few : length comps < 128) (unused : is_used graph c.id ≡ false) (h : heap' ≡ with_piece c.id bytes heap) (e : comps' ≡ placed (λ x. x.id) c comps) (s : streams' ≡ with_stream c.id c.kind streams) where
+  module _ (bytes : ℕ) (c : Comp) (heap' : HeapView) (comps' : List Comp) (streams' : List StreamView) (few : length comps < 128) (unused : is_used graph c.id ≡ false) (h : heap' ≡ with_piece c.id bytes heap) (e : comps' ≡ placed (λ x. x.id) c comps) (s : streams' ≡ with_stream c.id c.kind streams) (plain : blob c.setting ≡ []) where
     gone : is_node graph c.id ≡ false
     gone = unused-node graph c.id unused
 
@@ -186,8 +199,15 @@ module _ (heap : HeapView) (clock : ℕ) (comps : List Comp) (edges : List Edge)
       played = played-wider graph c gone kept.wired streams kept.played;
       rings = kept.rings;
       seen = seen-same view wide rings.rings comp-flows kept.seen;
+      unset = all-placed (λ x. blob x.setting ≡ []) (λ x. x.id) c comps plain kept.unset;
       histories = refl;
     }
+
+    -- and are those of the row
+    pub comp-is : bytes ≡ comp_bytes c.kind → state_of heap' clock comps' edges pipes joins streams' (map shown rings.rings) ≡ with_comp c.id c.pipe c.kind c.setting state
+    comp-is size =
+        ap (λ (q : HeapView × List Comp × List StreamView). state_of q.0 clock q.1 edges pipes joins q.2 (map shown rings.rings)) (λ i. ((h ∙ ap (λ n. with_piece c.id n heap) size) i, e i, s i))
+        ∙ ap (λ (hs : List History). record (with_comp c.id c.pipe c.kind c.setting state) { histories = hs }) (histories-placed graph streams c wide refl (or_parts (has_comp graph c.id) (has_edge graph c.id) gone).0 gone kept.wired kept.played.owned (live-wider graph c gone kept.wired streams kept.played))
 
     pub held-comp : 0 < bytes → fits (rounded bytes) heap.holes ≡ true → AreRings rings room (state_of heap' clock comps' edges pipes joins streams' (map shown rings.rings))
     held-comp some there = carried (λ cs ss. AreRings rings room (state_of heap' clock cs edges pipes joins ss (map shown rings.rings))) record {
@@ -244,8 +264,17 @@ module _ (heap : HeapView) (clock : ℕ) (comps : List Comp) (edges : List Edge)
       played = played-longer graph id pipe size no-node kept.wired streams kept.played;
       rings = keys-shown more-rings ∙ placed-pairs (λ r. r.buffer) (λ e. e.buffer) (fresh_ring id first size) fresh rings.rings edges ring-keys ring-keys refl refl;
       seen = seen-all long more-rings (all-placed (λ r. ring_seen long (shown r) ≡ shown r) (λ r. r.buffer) (fresh_ring id first size) rings.rings (stays-empty (flows long id)) (seen-each long rings.rings (seen-same view long rings.rings ring-flows kept.seen)));
+      unset = kept.unset;
       histories = refl;
     }
+
+    pub buffer-is : state_of heap' clock comps edges' pipes joins streams (map shown rings'.rings) ≡ with_buffer id pipe size state
+    buffer-is =
+        ap (λ (q : HeapView × List Edge × RingLists). state_of q.0 clock comps q.1 pipes joins streams (map shown q.2.rings)) (λ i. (h i, e i, r i))
+        ∙ ap (λ (q : List RingView × List History). record (with_buffer id pipe size state) { rings = q.0; histories = q.1 }) (λ i. (
+          map-placed shown (λ (r : Ring). r.buffer) (λ (r : RingView). r.buffer) (λ r. refl) (fresh_ring id first size) rings.rings i,
+          histories-same view long refl (each-comp (live-longer graph id pipe size no-node kept.wired streams kept.played) comps) i,
+        ))
 
     pub held-buffer : fits (rounded (32 + size)) heap.holes ≡ true → AreRings rings' room (state_of heap' clock comps edges' pipes joins streams (map shown rings'.rings))
     held-buffer there = brought (λ es rs. AreRings rs room (state_of heap' clock comps es pipes joins streams (map shown rs.rings))) record {
@@ -261,6 +290,10 @@ module _ (heap : HeapView) (clock : ℕ) (comps : List Comp) (edges : List Edge)
       within = held.within;
       most = held.most;
     }
+
+  -- the state with other pipelines has the histories that it had
+  pub pipes-is : (heap' : HeapView) (pipes' : List Pipe) → state_of heap' clock comps edges pipes' joins streams (map shown rings.rings) ≡ record state { heap = heap'; graph = with_pipes pipes' graph }
+  pipes-is heap' pipes' = ap (λ (hs : List History). record state { heap = heap'; graph = with_pipes pipes' graph; histories = hs }) (histories-same view (record { graph = with_pipes pipes' graph; streams = streams }) refl (each-comp (live-other graph pipes' streams kept.played) comps))
 
   -- other pipelines, of which as many are complete
   module _ (heap' : HeapView) (pipes' : List Pipe) (few : length pipes' ≤ 32) (pieces : ArePieces (record { comps = comps; edges = edges; pipes = pipes'; joins = joins }) heap') (complete : (index : ℕ) → list_any (λ q. q.index == index && q.complete) pipes ≡ true → list_any (λ q. q.index == index && q.complete) pipes' ≡ true) (names : HasDistinct (λ p. p.id) pipes') (alone : AllByRecursion (λ p. is_node graph p.id ≡ false) pipes') (periods : AllByRecursion (λ p. is_period p.period ≡ true) pipes') where
@@ -283,6 +316,7 @@ module _ (heap : HeapView) (clock : ℕ) (comps : List Comp) (edges : List Edge)
       played = played-other graph pipes' streams kept.played complete;
       rings = kept.rings;
       seen = seen-same view other rings.rings other-flows kept.seen;
+      unset = kept.unset;
       histories = refl;
     }
 
@@ -366,8 +400,14 @@ module _ (heap : HeapView) (clock : ℕ) (comps : List Comp) (edges : List Edge)
       played = played-joined graph j kept.wired free takes streams kept.played grow;
       rings = kept.rings ∙ sym (buffers-joined j edges);
       seen = seen-same view linked rings.rings linked-flows kept.seen;
+      unset = kept.unset;
       histories = refl;
     }
+
+    pub join-is : state_of heap clock comps edges' pipes joins' streams (map shown rings.rings) ≡ record state { graph = with_join graph j }
+    join-is =
+        ap (λ (q : List Edge × List Join). state_of heap clock comps q.0 pipes q.1 streams (map shown rings.rings)) (λ i. (e i, more i))
+        ∙ ap (λ (hs : List History). record state { graph = with_join graph j; histories = hs }) (histories-same view linked refl (in-each (λ x. live linked x.id ≡ live view x.id) comps (λ x there. live-joined graph j kept.wired free takes streams kept.played grow x.id (among-left (components graph) (buffers graph) x.id (in-comps comps x there)))))
 
     pub held-join : AreRings rings room (state_of heap clock comps edges' pipes joins' streams (map shown rings.rings))
     held-join = linking (λ es js. AreRings rings room (state_of heap clock comps es pipes js streams (map shown rings.rings))) record {

@@ -3,7 +3,7 @@ use Rattle.std.proofs.Common.{◌≡◌, refl, sym, ap, ◌∙◌, subst, ℕ, s
 use Rattle.std.proofs.lemmas.Bool.{true≢false, and_parts, and_from, eqb-true, eq-eqb, leb-true}
 use Rattle.std.specs.Prelude.{option_and_then, nat_le, filter_map, slice_get, option_map, IsTrue}
 use Rattle.std.specs.Option.{option_map_or}
-use Rattle.std.specs.List.{list_any, list_all, AllByRecursion, position_or_len}
+use Rattle.std.specs.List.{list_all, AllByRecursion, position_or_len}
 use Rattle.sof_base.specs.declared.format.Params.{Params}
 use Rattle.stream_law.specs.declared.graph.Kind.{Kind}
 use Rattle.stream_law.specs.declared.graph.Kind.TheVariants.{HostPlay, HostCapture, DaiPlay, DaiCapture, Volume, Mixer, Mux, Eq}
@@ -11,7 +11,7 @@ use Rattle.stream_law.specs.declared.graph.Comp.{Comp}
 use Rattle.stream_law.specs.declared.graph.Edge.{Edge}
 use Rattle.stream_law.specs.declared.graph.Pipe.{Pipe}
 use Rattle.stream_law.specs.State.{View}
-use Rattle.stream_law.specs.Ways.{comp_of, source_of, sink_of, ins, outs, is_end, active, channels_of}
+use Rattle.stream_law.specs.Ways.{comp_of, source_of, sink_of, ins, outs, is_end, live, active, channels_of}
 use Rattle.stream_law.specs.Joins.{is_endpoint, fits_kind}
 use Rattle.stream_law.specs.Moves.{period, fed, fed_by}
 use Rattle.stream_law.specs.Order.{order}
@@ -23,11 +23,13 @@ use Rattle.fw_schedule.specs.declared.turn.Action.{Action}
 use Rattle.fw_schedule.specs.declared.turn.Action.TheVariants.{Feed, Drain, Fill}
 use Rattle.fw_schedule.specs.Turns.{place_of, turn_at, turn_by, turn_of, turns_of}
 use Rattle.fw_schedule.specs.TurnLaws.{fits_if_active, ends_if_active, IsPlain, HasBounds, HasChannels, IsLaidOut, edges_at}
+use Rattle.mbox_link.specs.Exchange.{plays}
 use Rattle.fw_core.specs.Kept.{IsWired, IsLinked, IsPlayable, IsSet, IsSetBy, is_idle}
+use Rattle.fw_core.proofs.Fewer.{all-test}
 use Rattle.fw_core.proofs.Growing.{all-by}
-use Rattle.fw_core.proofs.Members.{IsIn, in-each, find-in}
-use Rattle.fw_core.proofs.Near.{AtEnd, at-buffer, plain-comp, fits-comp}
-use Rattle.fw_core.proofs.Playing.{beside, active-period, active-ready}
+use Rattle.fw_core.proofs.Members.{IsIn, in-all, in-each, find-in}
+use Rattle.fw_core.proofs.Near.{AtEnd, at-buffer, fits-comp}
+use Rattle.fw_core.proofs.Playing.{beside, active-live, active-period, active-ready}
 
 -- ---- lists
 
@@ -90,6 +92,15 @@ module _ (v : View) (wired : IsWired v.graph) (linked : IsLinked v.graph) (playe
     periods = all-by (λ p. is_period p.period ≡ true) (λ p. p.period ≤ 10000) (λ p is. period-by p is) v.graph.pipes wired.periods;
   }
 
+-- ---- where what is Live is an endpoint
+
+module _ (v : View) (wired : IsWired v.graph) (linked : IsLinked v.graph) (played : IsPlayable v) (live_ends : plays v ≡ true) where
+  -- what is Active is Live, so an endpoint
+  ends-there : (c : Comp) → IsIn c v.graph.comps → active v c.id ≡ true → is_endpoint c.kind ≡ true
+  ends-there c there now =
+      let all = all-test (λ (x : Comp). not (live v x.id) || is_endpoint x.kind) v.graph.comps live_ends in
+      sym (ap (λ h. not h || is_endpoint c.kind) (active-live v wired linked played c.id now)) ∙ in-all (λ x. (not (live v x.id) || is_endpoint x.kind) ≡ true) v.graph.comps c all there
+
   pub plain : IsPlain v
   plain = record {
     endpoints = all-true (ends_if_active v) v.graph.comps (in-each (λ x. ends_if_active v x ≡ true) v.graph.comps (λ c there. ends c there (active v c.id) refl));
@@ -101,7 +112,7 @@ module _ (v : View) (wired : IsWired v.graph) (linked : IsLinked v.graph) (playe
       by c there false is = refl
 
       ends : (c : Comp) → IsIn c v.graph.comps → (h : Bool) → active v c.id ≡ h → (not h || is_endpoint c.kind) ≡ true
-      ends c there true is = plain-comp v.graph c (active-ready v wired linked played c there is)
+      ends c there true is = ends-there c there is
       ends c there false is = refl
 
   -- ---- rings
@@ -109,7 +120,7 @@ module _ (v : View) (wired : IsWired v.graph) (linked : IsLinked v.graph) (playe
   module _ (s : RingLists) (keys : map (λ (r : Ring). r.buffer) s.rings ≡ map (λ (e : Edge). e.buffer) v.graph.edges) (words : map (λ r. r.words) s.rings ≡ map (λ e. e.size / 4) v.graph.edges) (had : AllByRecursion (λ r. flows v r.buffer ≡ true → r.channels ≡ channels_of v r.buffer) s.rings) where
     ring-has : (c : Comp) → IsIn c v.graph.comps → active v c.id ≡ true → (e : Edge) → IsIn e v.graph.edges → AtEnd e c.id → HasChannels v s c.id e.buffer
     ring-has c there now e at end =
-        let b = beside v wired linked played c there now e at end in
+        let b = beside v wired linked played c there (ends-there c there now) now e at end in
         let r = place-of (λ (r : Ring). r.buffer) (λ r. flows v r.buffer ≡ true → r.channels ≡ channels_of v r.buffer) s.rings v.graph.edges (fresh_ring 0 0 0) e keys had at in
         (r.0 (ap (flows v) r.1 ∙ b.0) ∙ ap (channels_of v) r.1 ∙ b.1, b.1)
 
@@ -142,10 +153,10 @@ module _ (v : View) (wired : IsWired v.graph) (linked : IsLinked v.graph) (playe
   AtFlow b = (e : Edge) × IsIn e v.graph.edges × (b ≡ e.buffer) × (flows v e.buffer ≡ true)
 
   ins-flow : (c : Comp) → IsIn c v.graph.comps → active v c.id ≡ true → AllByRecursion AtFlow (ins v.graph c.id)
-  ins-flow c there now = ids-pass AtFlow (λ b. is_end (sink_of v.graph b) c.id) v.graph.edges (λ e at is. (e, at, refl, (beside v wired linked played c there now e at (inr (sym (ap (λ (o : Option Edge). is_end (option_and_then (λ e. e.sink) o) c.id) (at-buffer v.graph wired linked e at)) ∙ is))).0))
+  ins-flow c there now = ids-pass AtFlow (λ b. is_end (sink_of v.graph b) c.id) v.graph.edges (λ e at is. (e, at, refl, (beside v wired linked played c there (ends-there c there now) now e at (inr (sym (ap (λ (o : Option Edge). is_end (option_and_then (λ e. e.sink) o) c.id) (at-buffer v.graph wired linked e at)) ∙ is))).0))
 
   outs-flow : (c : Comp) → IsIn c v.graph.comps → active v c.id ≡ true → AllByRecursion AtFlow (outs v.graph c.id)
-  outs-flow c there now = ids-pass AtFlow (λ b. is_end (source_of v.graph b) c.id) v.graph.edges (λ e at is. (e, at, refl, (beside v wired linked played c there now e at (inl (sym (ap (λ (o : Option Edge). is_end (option_and_then (λ e. e.source) o) c.id) (at-buffer v.graph wired linked e at)) ∙ is))).0))
+  outs-flow c there now = ids-pass AtFlow (λ b. is_end (source_of v.graph b) c.id) v.graph.edges (λ e at is. (e, at, refl, (beside v wired linked played c there (ends-there c there now) now e at (inl (sym (ap (λ (o : Option Edge). is_end (option_and_then (λ e. e.source) o) c.id) (at-buffer v.graph wired linked e at)) ∙ is))).0))
 
   turn-flow : (c : ℕ) (action : Action) (ids : List ℕ) (t : Turn) → AllByRecursion AtFlow ids → option_map (turn_at v c action) (slice_get ids 0) ≡ Some t → IsFlowing v t
   turn-flow c action ids t all is = by (slice_get ids 0) refl is

@@ -3,6 +3,7 @@ pub mod Agreeing
 pub mod Found
 pub mod Growing
 pub mod Heads
+pub mod Histories
 pub mod HoleLists
 pub mod Ids
 pub mod InTurn

@@ -12,7 +12,7 @@ use Rattle.stream_law.specs.declared.stream.StreamView.{StreamView}
 use Rattle.stream_law.specs.Placed.{placed, HasDistinct}
 use Rattle.stream_law.specs.State.{View}
 use Rattle.stream_law.specs.Ways.{edge_of, source_of, sink_of, ins, outs, is_end, reaches, on_way, live, live_end, channels_of, touch, same_shape, agree}
-use Rattle.stream_law.specs.Joins.{is_endpoint, fits_kind}
+use Rattle.stream_law.specs.Joins.{fits_kind}
 use Rattle.stream_law.specs.Seen.{flows}
 use Rattle.stream_law.proofs.Placing.{list_any-placed, find-placed_apart, find-placed_there, HasDistinct-placed}
 use Rattle.ipc3_codec.specs.Allowed.{is_period}
@@ -120,7 +120,7 @@ module _ (g : Graph) (id pipe size : ℕ) (gone : is_node g id ≡ false) (wired
     where
       each-comp : (xs : List Comp) → AllByRecursion (λ x. (not (on_way longer n x.id) || is_ready_comp longer x) ≡ (not (on_way g n x.id) || is_ready_comp g x)) xs
       each-comp [] = tt
-      each-comp (x ∷ xs) = (ap (λ (p : Bool × ℕ × ℕ). not p.0 || (is_endpoint x.kind && (is_complete g x.pipe && fits_kind x.kind p.1 p.2))) (λ i. (way-same n x.id i, ins-longer x.id i, outs-longer x.id i)), each-comp xs)
+      each-comp (x ∷ xs) = (ap (λ (p : Bool × ℕ × ℕ). not p.0 || (is_complete g x.pipe && fits_kind x.kind p.1 p.2)) (λ i. (way-same n x.id i, ins-longer x.id i, outs-longer x.id i)), each-comp xs)
 
       each-edge : (es : List Edge) → AllByRecursion (λ e. (not (on_way longer n e.buffer) || is_ready_edge g e) ≡ (not (on_way g n e.buffer) || is_ready_edge g e)) es
       each-edge [] = tt
@@ -217,9 +217,8 @@ module _ (g : Graph) (pipes : List Pipe) (ss : List StreamView) (played : IsPlay
   module _ (complete : (index : ℕ) → is_complete g index ≡ true → is_complete other index ≡ true) where
     comp-ready : (x : Comp) → is_ready_comp g x ≡ true → is_ready_comp other x ≡ true
     comp-ready x ready =
-        let plain = and_parts (is_endpoint x.kind) (is_complete g x.pipe && fits_kind x.kind (length (ins g x.id)) (length (outs g x.id))) ready in
-        let parts = and_parts (is_complete g x.pipe) (fits_kind x.kind (length (ins g x.id)) (length (outs g x.id))) plain.1 in
-        and_from _ _ plain.0 (and_from (is_complete other x.pipe) (fits_kind x.kind (length (ins g x.id)) (length (outs g x.id))) (complete x.pipe parts.0) parts.1)
+        let parts = and_parts (is_complete g x.pipe) (fits_kind x.kind (length (ins g x.id)) (length (outs g x.id))) ready in
+        and_from (is_complete other x.pipe) (fits_kind x.kind (length (ins g x.id)) (length (outs g x.id))) (complete x.pipe parts.0) parts.1
 
     edge-ready : (e : Edge) → is_ready_edge g e ≡ true → is_ready_edge other e ≡ true
     edge-ready e ready =

@@ -114,14 +114,8 @@ in-end {X} (k ∷ xs) y x (inr more) = by (in-end xs y x more)
     by (inl here) = inl (inr here)
     by (inr same) = inr same
 
--- ---- two members that differ are two
+-- ---- a list with a member is not empty
 
 pub in-length : {X : Type 0} (xs : List X) (x : X) → IsIn x xs → 1 ≤ length xs
 in-length [] x here = absurd here
 in-length (y ∷ ys) x here = omega arith
-
-pub two-length : {X : Type 0} (xs : List X) (x y : X) → IsIn x xs → IsIn y xs → (x ≡ y → ⊥) → 2 ≤ length xs
-two-length [] x y here there apart = absurd here
-two-length (z ∷ zs) x y (inl e) (inl f) apart = absurd (apart (e ∙ sym f))
-two-length (z ∷ zs) x y (inl e) (inr there) apart = omega (arith, in-length zs y there)
-two-length (z ∷ zs) x y (inr here) f apart = omega (arith, in-length zs x here)

@@ -1,14 +1,13 @@
 -- What Active components find at their edges.
-use Rattle.std.proofs.Common.{◌≡◌, refl, sym, ap, ◌∙◌, subst, ℕ, ◌/◌, ◌≤◌, List, [], ◌∷◌, ◌++◌, length, Option, Some, None, Bool, true, false, cond, inl, inr, ◌==◌, ◌&&◌, ◌||◌, arith}
-use Rattle.std.proofs.lemmas.Bool.{true≢false, false≢true, or_left, or_right, and_parts, and_from, eqb-true, eq-eqb, leb-true}
+use Rattle.std.proofs.Common.{◌≡◌, refl, sym, ap, ◌∙◌, subst, ℕ, ◌/◌, ◌≤◌, List, [], ◌∷◌, ◌++◌, length, Option, Some, None, Bool, true, false, cond, inl, inr, ◌⊎◌, ◌==◌, ◌&&◌, ◌||◌, arith}
+use Rattle.std.proofs.lemmas.Bool.{true≢false, false≢true, or_left, or_right, and_parts, and_from, eq-eqb, leb-true}
 use Rattle.std.specs.Prelude.{find, is_some, option_map, option_and_then, nat_le}
 use Rattle.std.specs.Option.{option_map_or}
 use Rattle.std.specs.List.{list_any, AllByRecursion}
 use Rattle.sof_base.specs.declared.format.Params.{Params}
-use Rattle.stream_law.specs.declared.graph.Kind.{Kind}
-use Rattle.stream_law.specs.declared.graph.Kind.TheVariants.{HostPlay, HostCapture, DaiPlay, DaiCapture, Volume, Mixer, Mux, Eq}
 use Rattle.stream_law.specs.declared.graph.Comp.{Comp}
 use Rattle.stream_law.specs.declared.graph.Edge.{Edge}
+use Rattle.stream_law.specs.declared.graph.Join.{Join}
 use Rattle.stream_law.specs.declared.graph.Pipe.{Pipe}
 use Rattle.stream_law.specs.declared.graph.Graph.{Graph}
 use Rattle.stream_law.specs.declared.stream.Phase.{Phase}
@@ -16,7 +15,7 @@ use Rattle.stream_law.specs.declared.stream.Phase.TheVariants.{Idle, Prepared, R
 use Rattle.stream_law.specs.declared.stream.StreamView.{StreamView}
 use Rattle.stream_law.specs.State.{View}
 use Rattle.stream_law.specs.Ways.{comp_of, pipe_of, ins, outs, components, buffers, is_end, reaches, on_way, is_capture, is_live_phase, is_running_phase, live, live_end, active, channels_of, touch}
-use Rattle.stream_law.specs.Joins.{fits_kind}
+use Rattle.stream_law.specs.Joins.{is_endpoint, fits_kind}
 use Rattle.stream_law.specs.Moves.{period}
 use Rattle.stream_law.specs.Order.{is_among}
 use Rattle.stream_law.specs.Seen.{flows}
@@ -26,36 +25,16 @@ use Rattle.fw_core.specs.Kept.{IsWired, IsLinked, IsPlayable, IsSet, IsSetBy, is
 use Rattle.fw_core.proofs.Found.{found-each}
 use Rattle.fw_core.proofs.Growing.{some-found}
 use Rattle.fw_core.proofs.Joined.{among-left, among-right}
-use Rattle.fw_core.proofs.Members.{IsIn, in-all, in-any, find-in}
+use Rattle.fw_core.proofs.Members.{IsIn, in-all, in-any}
 use Rattle.fw_core.proofs.Stays.{IsOf, heard, all-of, find-some, find-any, live-idle, given, touching, list_any-at, one-shape}
-use Rattle.fw_core.proofs.Near.{leads-here, AtEnd, IsNear, end-some, complete-comp, fits-comp, ready-comp, ready-edge, no-id, in-buffers, in-comps, no-comp, at-buffer, in-ins, in-outs, one-at, leads-in, leads-out, leads-through, play-near, capture-near}
+use Rattle.fw_core.proofs.Trips.{goes_from, Trip, trip-none, trip-first, trip-last, trip-end, trip-start, trip-reached, reached-trip}
+use Rattle.fw_core.proofs.Near.{AtEnd, end-some, complete-comp, fits-comp, ready-comp, ready-edge, no-id, play-in, capture-out, in-buffers, in-comps, no-comp, at-buffer, in-ins, in-outs, one-at, source-goes, sink-goes, edge-into, edge-outof, goes-source, goes-sink}
 
 running-live : (phase : Phase) → is_running_phase phase ≡ true → is_live_phase phase ≡ true
 running-live Running e = refl
 running-live Paused e = refl
 running-live Idle e = absurd (false≢true e)
 running-live Prepared e = absurd (false≢true e)
-
--- the edges of a host that is ready lead away from it for playback, and to it for capture
-play-outs : (k : Kind) (m n : ℕ) → is_host k ≡ true → is_capture k ≡ false → fits_kind k m n ≡ true → m ≡ 0
-play-outs HostPlay m n e f fits = eqb-true m 0 (and_parts (m == 0) (n == 1) fits).0
-play-outs HostCapture m n e f fits = absurd (true≢false f)
-play-outs (DaiPlay format) m n e f fits = absurd (false≢true e)
-play-outs (DaiCapture format) m n e f fits = absurd (false≢true e)
-play-outs Volume m n e f fits = absurd (false≢true e)
-play-outs Mixer m n e f fits = absurd (false≢true e)
-play-outs Mux m n e f fits = absurd (false≢true e)
-play-outs Eq m n e f fits = absurd (false≢true e)
-
-capture-ins : (k : Kind) (m n : ℕ) → is_capture k ≡ true → fits_kind k m n ≡ true → n ≡ 0
-capture-ins HostCapture m n f fits = eqb-true n 0 (and_parts (m == 1) (n == 0) fits).1
-capture-ins HostPlay m n f fits = absurd (false≢true f)
-capture-ins (DaiPlay format) m n f fits = absurd (false≢true f)
-capture-ins (DaiCapture format) m n f fits = absurd (false≢true f)
-capture-ins Volume m n f fits = absurd (false≢true f)
-capture-ins Mixer m n f fits = absurd (false≢true f)
-capture-ins Mux m n f fits = absurd (false≢true f)
-capture-ins Eq m n f fits = absurd (false≢true f)
 
 -- a Running stream on whose way x is
 pub record IsRun (v : View) (x : ℕ) : Type 0 where
@@ -86,76 +65,84 @@ module _ (v : View) (wired : IsWired v.graph) (linked : IsLinked v.graph) (playe
   host-kind : (s : StreamView) → IsOf s v.streams → has_kind is_host (kind_at v.graph s.host) ≡ true
   host-kind s among = all-of (λ s. has_kind is_host (kind_at v.graph s.host) ≡ true) v.streams s played.owned among
 
-  reach-here : (a : ℕ) → reaches v.graph a a ≡ true
-  unfolding reaches
-  reach-here a = leads-here v.graph.joins (length v.graph.joins) a
-
-  -- a host, and which way its stream goes
-  module _ (h : ℕ) (host : has_kind is_host (kind_at v.graph h) ≡ true) (ready : is_way_ready v.graph h ≡ true) where
-    host-there : has_comp v.graph h ≡ true
-    host-there = some-found is_host v.graph.comps h host
-
-    way : (c : Comp) → comp_of v.graph h ≡ Some c → (t : Bool) → is_capture c.kind ≡ t → (x : ℕ) → on_way v.graph h x ≡ cond t (reaches v.graph x h) (reaches v.graph h x)
-    unfolding on_way
-    way c is t e x = ap (λ (o : Option Comp). cond (option_map_or (λ c. is_capture c.kind) o false) (reaches v.graph x h) (reaches v.graph h x)) is ∙ ap (λ t. cond t (reaches v.graph x h) (reaches v.graph h x)) e
-
-    pub is-near : (x : ℕ) → on_way v.graph h x ≡ true → IsNear v.graph h x
-    is-near x on = by (comp_of v.graph h) refl
-      where
-        by : (o : Option Comp) → comp_of v.graph h ≡ o → IsNear v.graph h x
-        by None is = absurd (false≢true (ap (λ (o : Option Comp). has_kind is_host (option_map (λ c. c.kind) o)) (sym is) ∙ host))
-        by (Some c) is = side (is_capture c.kind) refl
-          where
-            side : (t : Bool) → is_capture c.kind ≡ t → IsNear v.graph h x
-            side true e = capture-near v.graph wired linked h host-there ready (λ y reached. way c is true e y ∙ reached) x (sym (way c is true e x) ∙ on)
-            side false e = play-near v.graph wired linked h host-there ready (λ y reached. way c is false e y ∙ reached) x (sym (way c is false e x) ∙ on)
-
   same-end : (o : Option ℕ) (a b : ℕ) → is_end o a ≡ true → is_end o b ≡ true → a ≡ b
   same-end o a b is_a is_b = let both : Some a ≡ Some b = sym (end-some o a is_a) ∙ end-some o b is_b in cc both
 
-  -- the buffer at a host whose way is ready, and what is at the buffer's sides, are on the host's way
-  pub covers : (h : ℕ) → has_kind is_host (kind_at v.graph h) ≡ true → is_way_ready v.graph h ≡ true → (e : Edge) → IsIn e v.graph.edges → AtEnd e h → (on_way v.graph h e.buffer ≡ true) × ((x : ℕ) → AtEnd e x → on_way v.graph h x ≡ true)
-  covers h host ready e there end = by (comp_of v.graph h) refl
+  is-comp : (c : Comp) → IsIn c v.graph.comps → has_comp v.graph c.id ≡ true
+  is-comp c there = in-any (λ x. x.id == c.id) v.graph.comps c there (eq-eqb c.id c.id refl)
+
+  -- no host is a buffer
+  host-apart : (h : ℕ) → has_kind is_host (kind_at v.graph h) ≡ true → (e : Edge) → IsIn e v.graph.edges → h ≡ e.buffer → ⊥
+  host-apart h host e there same = no-comp v.graph wired linked e there (ap (has_comp v.graph) (sym same) ∙ some-found is_host v.graph.comps h host)
+
+  -- where an endpoint is on the way of a host, so are its edge and what is at the edge's ends
+  covers : (h : ℕ) → has_kind is_host (kind_at v.graph h) ≡ true → (c : Comp) → IsIn c v.graph.comps → is_endpoint c.kind ≡ true → is_ready_comp v.graph c ≡ true → on_way v.graph h c.id ≡ true → (e : Edge) → IsIn e v.graph.edges → AtEnd e c.id → (on_way v.graph h e.buffer ≡ true) × ((x : ℕ) → AtEnd e x → on_way v.graph h x ≡ true)
+  unfolding on_way
+  covers h host c there ends ready on e at end = by (option_map_or (λ c. is_capture c.kind) (comp_of v.graph h) false) refl on
     where
-      by : (o : Option Comp) → comp_of v.graph h ≡ o → (on_way v.graph h e.buffer ≡ true) × ((x : ℕ) → AtEnd e x → on_way v.graph h x ≡ true)
-      by None is = absurd (false≢true (ap (λ (o : Option Comp). has_kind is_host (option_map (λ c. c.kind) o)) (sym is) ∙ host))
-      by (Some c) is = side (is_capture c.kind) refl
+      js : List Join
+      js = v.graph.joins
+
+      fits : fits_kind c.kind (length (ins v.graph c.id)) (length (outs v.graph c.id)) ≡ true
+      fits = fits-comp v.graph c ready
+
+      -- the host's own kind, where it is the component
+      own : h ≡ c.id → comp_of v.graph h ≡ Some c
+      own same = ap (comp_of v.graph) same ∙ in-all (λ x. find (λ y. y.id == x.id) v.graph.comps ≡ Some x) v.graph.comps c (found-each (λ (x : Comp). x.id) v.graph.comps wired.ids) there
+
+      own-host : h ≡ c.id → is_host c.kind ≡ true
+      own-host same = ap (λ (o : Option Comp). has_kind is_host (option_map (λ c. c.kind) o)) (sym (own same)) ∙ host
+
+      own-side : (t : Bool) → option_map_or (λ c. is_capture c.kind) (comp_of v.graph h) false ≡ t → h ≡ c.id → is_capture c.kind ≡ t
+      own-side t is same = ap (λ (o : Option Comp). option_map_or (λ c. is_capture c.kind) o false) (sym (own same)) ∙ is
+
+      only : (f : Edge) → IsIn f v.graph.edges → AtEnd f c.id → f ≡ e
+      only f here end_f = one-at v.graph wired linked c ends ready f e here at end_f end
+
+      play : option_map_or (λ c. is_capture c.kind) (comp_of v.graph h) false ≡ false → (h ≡ c.id) ⊎ ((b : ℕ) × Trip js h b × (goes_from js b c.id ≡ true)) → Trip js h e.buffer
+      play side (inl same) = first end
         where
-          kind : is_host c.kind ≡ true
-          kind = ap (λ (o : Option Comp). has_kind is_host (option_map (λ c. c.kind) o)) (sym is) ∙ host
+          first : AtEnd e c.id → Trip js h e.buffer
+          first (inl from) = trip-first js h e.buffer e.buffer (source-goes v.graph wired linked e at h (ap (is_end e.source) same ∙ from)) (trip-none js e.buffer e.buffer refl)
+          first (inr to) = absurd (no-id (ins v.graph c.id) e.buffer (play-in c.kind (length (ins v.graph c.id)) (length (outs v.graph c.id)) (own-host same) (own-side false side same) fits) (in-ins v.graph wired linked e c.id at to))
+      play side (inr last) =
+          let f = edge-into v.graph wired linked last.0 c.id (is-comp c there) last.2 in
+          subst (Trip js h) (sym f.2 ∙ ap (λ (y : Edge). y.buffer) (only f.0 f.1 (inr f.3))) last.1
 
-          found : IsIn c v.graph.comps × ((c.id == h) ≡ true)
-          found = find-in (λ x. x.id == h) v.graph.comps c is
+      capture : option_map_or (λ c. is_capture c.kind) (comp_of v.graph h) false ≡ true → (c.id ≡ h) ⊎ ((b : ℕ) × (goes_from js c.id b ≡ true) × Trip js b h) → Trip js e.buffer h
+      capture side (inl same) = last end
+        where
+          last : AtEnd e c.id → Trip js e.buffer h
+          last (inl from) = absurd (no-id (outs v.graph c.id) e.buffer (capture-out c.kind (length (ins v.graph c.id)) (length (outs v.graph c.id)) (own-side true side (sym same)) fits) (in-outs v.graph wired linked e c.id at from))
+          last (inr to) = trip-first js e.buffer h h (sink-goes v.graph wired linked e at h (ap (is_end e.sink) (sym same) ∙ to)) (trip-none js h h refl)
+      capture side (inr first) =
+          let f = edge-outof v.graph wired linked c.id first.0 (is-comp c there) first.1 in
+          subst (λ n. Trip js n h) (sym f.2 ∙ ap (λ (y : Edge). y.buffer) (only f.0 f.1 (inl f.3))) first.2
 
-          same : c.id ≡ h
-          same = eqb-true c.id h found.1
+      -- from the host to the buffer, and on to its sink; and the way there leads through its source
+      reached : Trip js h e.buffer → (x : ℕ) → AtEnd e x → Trip js h x
+      reached t x (inr to) = trip-last js h e.buffer x t (sink-goes v.graph wired linked e at x to)
+      reached t x (inl from) = before (trip-end js h e.buffer t)
+        where
+          before : (h ≡ e.buffer) ⊎ ((b : ℕ) × Trip js h b × (goes_from js b e.buffer ≡ true)) → Trip js h x
+          before (inl same) = absurd (host-apart h host e at same)
+          before (inr last) = subst (Trip js h) (same-end e.source last.0 x (goes-source v.graph wired linked e at last.0 last.2) from) last.1
 
-          on_itself : (t : Bool) → is_capture c.kind ≡ t → on_way v.graph h c.id ≡ true
-          on_itself true k = way h host ready c is true k c.id ∙ ap (λ n. reaches v.graph n h) same ∙ reach-here h
-          on_itself false k = way h host ready c is false k c.id ∙ ap (λ n. reaches v.graph h n) same ∙ reach-here h
+      reaching : Trip js e.buffer h → (x : ℕ) → AtEnd e x → Trip js x h
+      reaching t x (inl from) = trip-first js x e.buffer h (source-goes v.graph wired linked e at x from) t
+      reaching t x (inr to) = after (trip-start js e.buffer h t)
+        where
+          after : (e.buffer ≡ h) ⊎ ((b : ℕ) × (goes_from js e.buffer b ≡ true) × Trip js b h) → Trip js x h
+          after (inl same) = absurd (host-apart h host e at (sym same))
+          after (inr first) = subst (λ n. Trip js n h) (same-end e.sink first.0 x (goes-sink v.graph wired linked e at first.0 first.1) to) first.2
 
-          fits : fits_kind c.kind (length (ins v.graph c.id)) (length (outs v.graph c.id)) ≡ true
-          fits = fits-comp v.graph c (ready-comp v.graph h ready c found.0 (on_itself (is_capture c.kind) refl))
-
-          side : (t : Bool) → is_capture c.kind ≡ t → (on_way v.graph h e.buffer ≡ true) × ((x : ℕ) → AtEnd e x → on_way v.graph h x ≡ true)
-          side true k = at end
-            where
-              at : AtEnd e h → (on_way v.graph h e.buffer ≡ true) × ((x : ℕ) → AtEnd e x → on_way v.graph h x ≡ true)
-              at (inl a) = absurd (no-id (outs v.graph c.id) e.buffer (capture-ins c.kind (length (ins v.graph c.id)) (length (outs v.graph c.id)) k fits) (in-outs v.graph wired linked e c.id there (ap (is_end e.source) same ∙ a)))
-              at (inr a) = (way h host ready c is true k e.buffer ∙ leads-out v.graph wired linked e there h a, λ x end. way h host ready c is true k x ∙ each x end)
-                where
-                  each : (x : ℕ) → AtEnd e x → reaches v.graph x h ≡ true
-                  each x (inl b) = leads-through v.graph wired linked e there x h b a
-                  each x (inr b) = ap (λ n. reaches v.graph n h) (same-end e.sink x h b a) ∙ reach-here h
-          side false k = at end
-            where
-              at : AtEnd e h → (on_way v.graph h e.buffer ≡ true) × ((x : ℕ) → AtEnd e x → on_way v.graph h x ≡ true)
-              at (inr a) = absurd (no-id (ins v.graph c.id) e.buffer (play-outs c.kind (length (ins v.graph c.id)) (length (outs v.graph c.id)) kind k fits) (in-ins v.graph wired linked e c.id there (ap (is_end e.sink) same ∙ a)))
-              at (inl a) = (way h host ready c is false k e.buffer ∙ leads-in v.graph wired linked e there h a, λ x end. way h host ready c is false k x ∙ each x end)
-                where
-                  each : (x : ℕ) → AtEnd e x → reaches v.graph h x ≡ true
-                  each x (inr b) = leads-through v.graph wired linked e there h x a b
-                  each x (inl b) = ap (λ n. reaches v.graph h n) (same-end e.source x h b a) ∙ reach-here h
+      by : (t : Bool) → option_map_or (λ c. is_capture c.kind) (comp_of v.graph h) false ≡ t → cond t (reaches v.graph c.id h) (reaches v.graph h c.id) ≡ true → (cond t (reaches v.graph e.buffer h) (reaches v.graph h e.buffer) ≡ true) × ((x : ℕ) → AtEnd e x → cond t (reaches v.graph x h) (reaches v.graph h x) ≡ true)
+      by true side on =
+          let t = capture side (trip-start js c.id h (trip-reached v.graph c.id h on)) in
+          (reached-trip v.graph e.buffer h t, λ x end. reached-trip v.graph x h (reaching t x end))
+      by false side on =
+          let t = play side (trip-end js h c.id (trip-reached v.graph h c.id on)) in
+          (reached-trip v.graph h e.buffer t, λ x end. reached-trip v.graph h x (reached t x end))
 
   -- ---- what is Active
 
@@ -186,24 +173,20 @@ module _ (v : View) (wired : IsWired v.graph) (linked : IsLinked v.graph) (playe
       let r = run v c.id now in
       ready-comp v.graph r.stream.host (set-way v.graph r.stream (awake r.stream r.phase) (all-of (IsSet v.graph) v.streams r.stream played.each r.among)) c there r.way
 
-  -- and its edges are at the host of a Running stream on whose way it is
-  at-host : (c : Comp) → IsIn c v.graph.comps → is_ready_comp v.graph c ≡ true → (h : ℕ) → IsNear v.graph h c.id → (e : Edge) → IsIn e v.graph.edges → AtEnd e c.id → AtEnd e h
-  at-host c there ready h (inl same) e at end = subst (AtEnd e) (sym same) end
-  at-host c there ready h (inr (f, at_f, end_f, inl buffer)) e at end = absurd (no-comp v.graph wired linked f at_f (ap (has_comp v.graph) buffer ∙ in-any (λ x. x.id == c.id) v.graph.comps c there (eq-eqb c.id c.id refl)))
-  at-host c there ready h (inr (f, at_f, end_f, inr end_c)) e at end = subst (λ (y : Edge). AtEnd y h) (one-at v.graph wired linked c there ready f e at_f at end_c end) end_f
+  pub active-live : (x : ℕ) → active v x ≡ true → live v x ≡ true
+  active-live x now = let r = run v x now in live-by r.stream r.among (running-live r.stream.phase r.phase) x r.way
 
-  -- at an edge of an Active component frames flow, in its channels
-  pub beside : (c : Comp) → IsIn c v.graph.comps → active v c.id ≡ true → (e : Edge) → IsIn e v.graph.edges → AtEnd e c.id → (flows v e.buffer ≡ true) × (channels_of v e.buffer ≡ channels_of v c.id)
+  -- at an edge of an Active endpoint frames flow, in its channels
+  pub beside : (c : Comp) → IsIn c v.graph.comps → is_endpoint c.kind ≡ true → active v c.id ≡ true → (e : Edge) → IsIn e v.graph.edges → AtEnd e c.id → (flows v e.buffer ≡ true) × (channels_of v e.buffer ≡ channels_of v c.id)
   unfolding flows
-  beside c there now e at end =
+  beside c there ends now e at end =
       let r = run v c.id now in
       let s : StreamView = r.stream in
       let host = host-kind s r.among in
       let is_set = all-of (IsSet v.graph) v.streams s played.each r.among in
       let lives = running-live s.phase r.phase in
       let way = set-way v.graph s (awake s r.phase) is_set in
-      let end_h = at-host c there (active-ready c there now) s.host (is-near s.host host way c.id r.way) e at end in
-      let cov = covers s.host host way e at end_h in
+      let cov = covers s.host host c there ends (active-ready c there now) r.way e at end in
       let ready = ready-edge v.graph s.host way e at cov.0 in
       let p = given v.graph s (awake s r.phase) is_set in
       let both = and_parts (is_complete v.graph e.pipe && is_some e.source) (is_some e.sink) ready in

@@ -1,34 +1,55 @@
 -- Rows of messages, by their tests.
-use Rattle.std.proofs.Common.{◌≡◌, refl, sym, ap, ◌∙◌, ℕ, List, [], ◌∷◌, ◌++◌, map, length, Bool, true, false, cond, not, ◌||◌, ◌&&◌, None, Result, Ok, Err, ℤ}
-use Rattle.std.specs.Prelude.{nat_le, is_some}
+use Rattle.std.proofs.Common.{◌≡◌, refl, sym, ap, ◌∙◌, ℕ, List, [], ◌∷◌, ◌++◌, map, length, Bool, true, false, cond, not, ◌==◌, ◌||◌, ◌&&◌, Option, Some, Result, Ok, Err, ℤ}
+use Rattle.std.specs.Prelude.{find, nat_le, is_some, option_and_then}
 use Rattle.std.specs.List.{list_any, AllByRecursion}
-use Rattle.stream_law.specs.Ways.{reaches, on_way, components}
+use Rattle.stream_law.specs.Ways.{reaches, on_way, comp_of, components}
+use Rattle.stream_law.specs.declared.graph.Kind.{Kind}
+use Rattle.stream_law.specs.declared.graph.Setting.{Setting}
 use Rattle.stream_law.specs.declared.graph.Comp.{Comp}
 use Rattle.stream_law.specs.declared.graph.Edge.{Edge}
 use Rattle.stream_law.specs.declared.graph.Pipe.{Pipe}
 use Rattle.stream_law.specs.declared.graph.Graph.{Graph}
 use Rattle.stream_law.specs.declared.graph.Join.{Join}
 use Rattle.stream_law.specs.declared.stream.StreamView.{StreamView}
-use Rattle.stream_law.specs.State.{FwState, HeapView, RingView}
-use Rattle.stream_law.specs.Placed.{placed}
+use Rattle.stream_law.specs.State.{FwState}
 use Rattle.stream_law.specs.Joins.{crosses, has_grown, would_cycle, would_reach, would_grow, with_join}
-use Rattle.stream_law.proofs.Placing.{map-placed}
-use Rattle.mbox_link.specs.Step.{invalid, busy, no_device, no_memory, is_used, is_complete, has_hole, buffer_bytes, with_piece, with_buffer, buffer_new, is_joined, takes_join, connect}
-use Rattle.fw_ring.specs.RingLists.{Ring, RingLists, with_ring, fresh_ring}
-use Rattle.fw_core.specs.Kept.{state_of, shown}
+use Rattle.mbox_link.specs.Step.{invalid, busy, no_device, no_memory, has_comp, is_used, has_index, is_complete, has_hole, comp_bytes, with_comp, comp_new, buffer_bytes, with_buffer, buffer_new, pipe_bytes, with_pipes, with_pipe, pipe_new, is_joined, takes_join, connect, completed, complete_pipe, pipe_complete, has_complete_pipe, touches, without_comp, comp_free, is_index_held, without_pipe, free_pipe, pipe_free, new_setting, with_comps, with_setting, value_set, set_value}
 use Rattle.fw_core.proofs.Growing.{any-same}
 use Rattle.fw_core.proofs.Joined.{buffers-joined}
 
--- a row of buffer_new whose tests pass
+-- rows whose tests pass
+pub comp_new-row : (f : FwState) (id pipe : ℕ) (kind : Kind) (setting : Setting) → is_used f.graph id ≡ false → is_complete f.graph pipe ≡ false → nat_le 128 (length f.graph.comps) ≡ false → has_hole f (comp_bytes kind) ≡ true → comp_new f id pipe kind setting ≡ Ok (with_comp id pipe kind setting f)
+comp_new-row f id pipe kind setting unused open_still few fits =
+    ap (λ (p : Bool × Bool × Bool × Bool). cond (p.0 || p.1) (Err busy) (cond (p.2 || not p.3) (Err no_memory) (Ok (with_comp id pipe kind setting f)))) (λ i. (unused i, open_still i, few i, fits i))
+
+pub pipe_new-row : (f : FwState) (id index sched period : ℕ) → is_used f.graph id ≡ false → has_index f.graph index ≡ false → nat_le 32 (length f.graph.pipes) ≡ false → has_hole f pipe_bytes ≡ true → pipe_new f id index sched period ≡ Ok (with_pipe id index sched period f)
+pipe_new-row f id index sched period unused no_index few fits =
+    ap (λ (p : Bool × Bool × Bool × Bool). cond (p.0 || p.1) (Err busy) (cond (p.2 || not p.3) (Err no_memory) (Ok (with_pipe id index sched period f)))) (λ i. (unused i, no_index i, few i, fits i))
+
+pub pipe_complete-row : (f : FwState) (id : ℕ) (p : Pipe) → is_used f.graph id ≡ true → find (λ p. p.id == id) f.graph.pipes ≡ Some p → is_used f.graph p.sched ≡ true → p.complete ≡ false → has_comp f.graph p.sched ≡ true → pipe_complete f id ≡ Ok (record f { graph = with_pipes (map (completed id) f.graph.pipes) f.graph })
+pipe_complete-row f id p used found sched open_still comp =
+    ap (λ (q : Bool × Option Pipe). cond (not q.0) (Err no_device) (complete_pipe f id q.1)) (λ i. (used i, found i))
+    ∙ ap (λ (q : Bool × Bool × Bool). cond (not q.0) (Err no_device) (cond q.1 (Err busy) (cond (not q.2) (Err invalid) (Ok (record f { graph = with_pipes (map (completed id) f.graph.pipes) f.graph }))))) (λ i. (sched i, open_still i, comp i))
+
+pub comp_free-row : (f : FwState) (id : ℕ) → is_used f.graph id ≡ true → has_complete_pipe f.graph id ≡ false → has_comp f.graph id ≡ true → list_any (touches id) f.graph.joins ≡ false → comp_free f id ≡ Ok (without_comp id f)
+comp_free-row f id used still there free =
+    ap (λ (p : Bool × Bool × Bool × Bool). row_by p.0 p.1 p.2 p.3) (λ i. (used i, still i, there i, free i))
+  where
+    row_by : (used complete there touched : Bool) → Result FwState ℤ
+    row_by used complete there touched = cond (not used) (Err no_device) (cond complete (Err busy) (cond (not there || touched) (Err invalid) (Ok (without_comp id f))))
+
+pub pipe_free-row : (f : FwState) (id : ℕ) (p : Pipe) → is_used f.graph id ≡ true → find (λ p. p.id == id) f.graph.pipes ≡ Some p → is_index_held f.graph f.streams p.index ≡ false → pipe_free f id ≡ Ok (without_pipe id f)
+pipe_free-row f id p used found free =
+    ap (λ (q : Bool × Option Pipe). cond (not q.0) (Err no_device) (free_pipe f id q.1)) (λ i. (used i, found i))
+    ∙ ap (λ h. cond h (Err invalid) (Ok (without_pipe id f))) free
+
+pub set_value-row : (f : FwState) (id command : ℕ) (values : List ℕ) (setting : Setting) → is_used f.graph id ≡ true → option_and_then (λ c. new_setting c.kind c.setting command values) (comp_of f.graph id) ≡ Some setting → set_value f id command values ≡ Ok (record f { graph = with_comps (map (with_setting id setting) f.graph.comps) f.graph })
+set_value-row f id command values setting used is =
+    ap (λ (q : Bool × Option Setting). cond (not q.0) (Err no_device) (value_set f id q.1)) (λ i. (used i, is i))
+
 pub buffer_new-row : (f : FwState) (id pipe size : ℕ) → is_used f.graph id ≡ false → is_complete f.graph pipe ≡ false → nat_le 128 (length f.graph.edges) ≡ false → has_hole f (buffer_bytes size) ≡ true → buffer_new f id pipe size ≡ Ok (with_buffer id pipe size f)
 buffer_new-row f id pipe size unused open_still few fits =
     ap (λ (p : Bool × Bool × Bool × Bool). cond (p.0 || p.1) (Err busy) (cond (p.2 || not p.3) (Err no_memory) (Ok (with_buffer id pipe size f)))) (λ i. (unused i, open_still i, few i, fits i))
-
--- the tables with one more buffer
-pub with_buffer-is : (heap : HeapView) (clock : ℕ) (comps : List Comp) (edges : List Edge) (pipes : List Pipe) (joins : List Join) (streams : List StreamView) (rings : RingLists) (id pipe first size : ℕ) → state_of (with_piece id (buffer_bytes size) heap) clock comps (placed (λ e. e.buffer) (record { buffer = id; pipe = pipe; size = size; source = None; sink = None }) edges) pipes joins streams (map shown (with_ring id first size rings).rings) ≡ with_buffer id pipe size (state_of heap clock comps edges pipes joins streams (map shown rings.rings))
-with_buffer-is heap clock comps edges pipes joins streams rings id pipe first size =
-    ap (λ (rs : List RingView). state_of (with_piece id (buffer_bytes size) heap) clock comps (placed (λ e. e.buffer) (record { buffer = id; pipe = pipe; size = size; source = None; sink = None }) edges) pipes joins streams rs)
-    (map-placed shown (λ (r : Ring). r.buffer) (λ (r : RingView). r.buffer) (λ r. refl) (fresh_ring id first size) rings.rings)
 
 -- a crossing is one of components and joins
 crosses-by : (g : Graph) → crosses (record { comps = g.comps; edges = []; pipes = []; joins = g.joins }) ≡ crosses g

@@ -1,61 +1,26 @@
 -- What a change of streams keeps of a state.
-use Rattle.std.proofs.Common.{◌≡◌, refl, sym, ap, ◌∙◌, subst, ℕ, ◌≤◌, List, [], ◌∷◌, ◌++◌, map, filter, Option, Some, None, Bool, true, false, cond, ◌==◌, ◌&&◌, arith, append_assoc}
-use Rattle.std.proofs.lemmas.Bool.{false≢true, and_parts, or_left, or_right, eqb-true, eq-eqb}
+use Rattle.std.proofs.Common.{◌≡◌, refl, sym, ap, ◌∙◌, subst, ℕ, ◌≤◌, List, [], ◌∷◌, ◌++◌, map, None, Bool, true, false, cond, ◌==◌, ◌&&◌, arith, append_assoc}
+use Rattle.std.proofs.lemmas.Bool.{false≢true, and_parts, or_left, or_right, eq-eqb}
 use Rattle.std.proofs.lemmas.List.{length-map}
 use Rattle.std.specs.Prelude.{max}
-use Rattle.std.specs.Option.{option_map_or}
 use Rattle.std.specs.List.{AllByRecursion}
-use Rattle.stream_law.specs.declared.graph.Kind.{Kind}
-use Rattle.stream_law.specs.declared.graph.Kind.TheVariants.{HostPlay, HostCapture, DaiPlay, DaiCapture, Volume, Mixer, Mux, Eq}
 use Rattle.stream_law.specs.declared.graph.Comp.{Comp}
 use Rattle.stream_law.specs.declared.graph.Edge.{Edge}
 use Rattle.stream_law.specs.declared.graph.Pipe.{Pipe}
 use Rattle.stream_law.specs.declared.graph.Join.{Join}
 use Rattle.stream_law.specs.declared.graph.Graph.{Graph}
 use Rattle.stream_law.specs.declared.stream.StreamView.{StreamView}
-use Rattle.stream_law.specs.State.{HeapView, View, RingView}
-use Rattle.stream_law.specs.Ways.{comp_of, components, buffers, source_of, sink_of, on_way, live, live_end, channels_of}
-use Rattle.stream_law.specs.Joins.{is_endpoint}
-use Rattle.stream_law.specs.Seen.{flows, ring_seen, is_equaliser, equalises, history_seen}
+use Rattle.stream_law.specs.State.{HeapView, View, RingView, History}
+use Rattle.stream_law.specs.Ways.{components, buffers, source_of, sink_of, live, live_end, channels_of}
+use Rattle.stream_law.specs.Seen.{flows, ring_seen}
 use Rattle.stream_law.specs.Order.{is_among}
 use Rattle.fw_ring.specs.RingLists.{Ring, RingLists, begun}
 use Rattle.fw_core.specs.Settled.{is_filled, settled, all_settled}
-use Rattle.fw_core.specs.Kept.{IsKept, IsPlayable, IsSet, KeepsLive, LiesIn, AreRings, state_of, shown}
+use Rattle.fw_core.specs.Kept.{IsKept, IsPlayable, KeepsLive, LiesIn, AreRings, state_of, shown}
 use Rattle.fw_core.specs.Answers.{with_streams}
 use Rattle.fw_core.proofs.Settling.{all-shown, settled-buffer, settled-words, seen-again}
-use Rattle.fw_core.proofs.Members.{find-in}
-use Rattle.fw_core.proofs.Near.{plain-comp, ready-comp}
-use Rattle.fw_core.proofs.Playing.{set-way}
-use Rattle.fw_core.proofs.Stays.{heard, all-of, live-idle, channels-most, channels-stay}
-
--- ---- no equaliser
-
-plain : (k : Kind) → is_endpoint k ≡ true → is_equaliser k ≡ false
-plain HostPlay e = refl
-plain HostCapture e = refl
-plain (DaiPlay format) e = refl
-plain (DaiCapture format) e = refl
-plain Volume e = refl
-plain Mixer e = refl
-plain Mux e = refl
-plain Eq e = absurd (false≢true e)
-
--- what is Live is an endpoint
-no-equaliser : (v : View) → IsPlayable v → (c : ℕ) → equalises v c ≡ false
-no-equaliser v played c = by (live v c) refl (comp_of v.graph c) refl
-  where
-    by : (h : Bool) → live v c ≡ h → (o : Option Comp) → comp_of v.graph c ≡ o → (h && option_map_or (λ x. is_equaliser x.kind) o false) ≡ false
-    by false e o is = refl
-    by true e None is = refl
-    by true e (Some x) is =
-        let h = heard v c played e in
-        let way = set-way v.graph h.stream (live-idle h.stream.phase h.phase) (all-of (IsSet v.graph) v.streams h.stream played.each h.among) in
-        let f = find-in (λ y. y.id == c) v.graph.comps x is in
-        plain x.kind (plain-comp v.graph x (ready-comp v.graph h.stream.host way x f.0 (ap (on_way v.graph h.stream.host) (eqb-true x.id c f.1) ∙ h.way)))
-
-pub equalises-none : (v : View) → IsPlayable v → (ids : List ℕ) → filter (equalises v) ids ≡ []
-equalises-none v played [] = refl
-equalises-none v played (c ∷ ids) = ap (λ h. cond h (c ∷ filter (equalises v) ids) (filter (equalises v) ids)) (no-equaliser v played c) ∙ equalises-none v played ids
+use Rattle.fw_core.proofs.Histories.{seen-bare}
+use Rattle.fw_core.proofs.Stays.{heard, channels-most, channels-stay}
 
 -- ---- rings of a list of buffers
 
@@ -149,6 +114,7 @@ module _ (heap : HeapView) (clock : ℕ) (comps : List Comp) (edges : List Edge)
       played = played;
       rings = keys-shown (map (settled view) rings.rings) ∙ keys-settled view rings.rings ∙ ring-keys;
       seen = ap (map (ring_seen view)) (all-shown view rings.rings) ∙ seen-again view (map shown rings.rings) ∙ sym (all-shown view rings.rings);
+      unset = kept.unset;
       histories = refl;
     }
 
@@ -166,7 +132,7 @@ module _ (heap : HeapView) (clock : ℕ) (comps : List Comp) (edges : List Edge)
     pub seen-is : state_of heap clock comps edges pipes joins (map to streams) (map shown (map (settled view) rings.rings)) ≡ with_streams to (state_of heap clock comps edges pipes joins streams (map shown rings.rings))
     seen-is =
         ap (λ (rs : List RingView). state_of heap clock comps edges pipes joins (map to streams) rs) (all-shown view rings.rings)
-        ∙ ap (λ (ids : List ℕ). record (with_streams to (state_of heap clock comps edges pipes joins streams (map shown rings.rings))) { histories = map (λ c. history_seen (state_of heap clock comps edges pipes joins streams (map shown rings.rings)) view None c) ids }) (sym (equalises-none view played (components graph)))
+        ∙ ap (λ (hs : List History). record (with_streams to (state_of heap clock comps edges pipes joins streams (map shown rings.rings))) { histories = hs }) (sym (seen-bare (state_of heap clock comps edges pipes joins streams (map shown rings.rings)) view None (record { graph = graph; streams = streams }) refl kept.unset))
 
     -- the same where the view is told by its parts
     module _ (cs : List Comp) (es : List Edge) (ps : List Pipe) (js : List Join) (ss streams' : List StreamView) (c-is : cs ≡ comps) (e-is : es ≡ edges) (p-is : ps ≡ pipes) (j-is : js ≡ joins) (s-is : ss ≡ streams') (new-is : streams' ≡ map to streams) where

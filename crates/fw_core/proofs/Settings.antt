@@ -14,7 +14,7 @@ use Rattle.stream_law.specs.declared.stream.StreamView.{StreamView}
 use Rattle.stream_law.specs.Placed.{HasDistinct}
 use Rattle.stream_law.specs.State.{HeapView}
 use Rattle.stream_law.specs.Ways.{comp_of, components, buffers, ins, outs, leads, reaches, on_way, is_capture}
-use Rattle.stream_law.specs.Joins.{fits_kind, is_endpoint}
+use Rattle.stream_law.specs.Joins.{fits_kind}
 use Rattle.stream_law.specs.Order.{is_among}
 use Rattle.mbox_link.specs.Step.{has_comp, has_edge, has_kind, is_host, kind_at, is_complete, is_ready_comp, is_ready_edge, is_way_ready, is_used, with_setting}
 use Rattle.fw_core.specs.Kept.{ArePieces, IsWired, IsLinked, IsSet, IsSetBy, IsSide, IsBetween, IsJoinedFrom, IsJoinedTo, is_node, is_idle, has_piece}
@@ -159,7 +159,7 @@ module _ (id : ℕ) (setting : Setting) where
       where
         comp-ready : (x : Comp) → (not (on_way g h x.id) || is_ready_comp g x) ≡ true → (not (on_way after h (set x).id) || is_ready_comp after (set x)) ≡ true
         comp-ready x was =
-            ap (λ (p : ℕ × ℕ × Kind). not (on_way after h p.0) || (is_endpoint p.2 && (is_complete g p.1 && fits_kind p.2 (length (ins g p.0)) (length (outs g p.0))))) (λ i. (set-id x i, set-pipe x i, set-kind x i))
+            ap (λ (p : ℕ × ℕ × Kind). not (on_way after h p.0) || (is_complete g p.1 && fits_kind p.2 (length (ins g p.0)) (length (outs g p.0)))) (λ i. (set-id x i, set-pipe x i, set-kind x i))
             ∙ ap (λ t. not t || is_ready_comp g x) (way-set h x.id) ∙ was
 
     pub readies-set : (ss : List StreamView) → AllByRecursion (IsSet g) ss → AllByRecursion (λ s. true ≡ true → is_some s.params ≡ true → is_way_ready after s.host ≡ true) ss

@@ -10,14 +10,15 @@ use Rattle.stream_law.specs.declared.graph.Edge.{Edge}
 use Rattle.stream_law.specs.declared.graph.Pipe.{Pipe}
 use Rattle.stream_law.specs.declared.graph.Join.{Join}
 use Rattle.stream_law.specs.declared.stream.StreamView.{StreamView}
-use Rattle.stream_law.specs.State.{FwState, HeapView, View, RingView, view_of}
+use Rattle.stream_law.specs.State.{FwState, HeapView, View, RingView, History, view_of}
 use Rattle.stream_law.specs.Placed.{HasDistinct}
 use Rattle.stream_law.specs.Ways.{channels_of}
 use Rattle.stream_law.specs.Seen.{flows, ring_seen}
 use Rattle.stream_law.specs.Move.{next_clock}
 use Rattle.stream_law.specs.Order.{order}
 use Rattle.mbox_link.specs.Step.{fresh}
-use Rattle.mbox_link.specs.Exchange.{ticked}
+use Rattle.mbox_link.specs.Exchange.{plays, ticked}
+use Rattle.mbox_link.proofs.Plays.{ticked-plays}
 use Rattle.fw_ring.specs.RingLists.{Ring, RingLists}
 use Rattle.fw_schedule.specs.declared.turn.Turn.{Turn}
 use Rattle.fw_schedule.specs.declared.turn.Action.{Action}
@@ -26,6 +27,7 @@ use Rattle.fw_schedule.specs.Turns.{no_ring, with_frames, turns_of, after_action
 use Rattle.fw_schedule.specs.Ticks.{ring_emptied, emptied, seen_at, AreTurnsAt}
 use Rattle.fw_schedule.specs.TurnLaws.{CanTurn, TicksAreTurns, TurnsStand, turned}
 use Rattle.fw_core.specs.Kept.{IsKept, AreRings, LiesIn, state_of, shown}
+use Rattle.fw_core.proofs.Histories.{histories-none}
 use Rattle.fw_core.proofs.KeptLaws.{ring-keys}
 use Rattle.fw_core.proofs.SeenLaws.{keys-shown}
 use Rattle.fw_core.proofs.Laid.{place-of, IsFlowing, all-flowing, bounds, plain, laid-out}
@@ -132,20 +134,20 @@ module _ (heap : HeapView) (clock : ℕ) (comps : List Comp) (edges : List Edge)
   keys = ring-keys heap clock comps edges pipes joins streams rings room kept held
 
   -- the turns can be run
-  pub turns-run : TurnsStand → (turns : List Turn) → turns ≡ turns_of view → AreTurnsAt rings turns
-  turns-run stand turns is = subst (AreTurnsAt rings) (sym is) (stand view rings (bounds view kept.wired kept.linked kept.played) (laid-out view kept.wired kept.linked kept.played rings keys held.words held.channels))
+  pub turns-run : plays view ≡ true → TurnsStand → (turns : List Turn) → turns ≡ turns_of view → AreTurnsAt rings turns
+  turns-run playing stand turns is = subst (AreTurnsAt rings) (sym is) (stand view rings (bounds view kept.wired kept.linked kept.played) (laid-out view kept.wired kept.linked kept.played playing rings keys held.words held.channels))
 
   -- and are the tick
-  module _ (law : TicksAreTurns) (io : Io) (slots : IsDistinct nat_eq (input_slots io.inputs)) (within : All (λ x. x.position ≤ 2 ^ 64 - 1) io.inputs) (outs : HasDistinct (λ (x : OutputView). x.slot) io.outputs) where
+  module _ (playing : plays view ≡ true) (law : TicksAreTurns) (io : Io) (slots : IsDistinct nat_eq (input_slots io.inputs)) (within : All (λ x. x.position ≤ 2 ^ 64 - 1) io.inputs) (outs : HasDistinct (λ (x : OutputView). x.slot) io.outputs) where
     can-turn : CanTurn state io
     unfolding IsDistinct
     can-turn = record {
-      plain = plain view kept.wired kept.linked kept.played;
+      plain = plain view kept.wired kept.linked kept.played playing;
       rings = kept.rings;
-      histories = refl;
+      histories = histories-none view playing;
       single = record {
         rings = subst (λ (ns : List ℕ). IsDistinct (λ m n. m == n) ns) (sym kept.rings) kept.wired.buffers;
-        histories = tt;
+        histories = subst (HasDistinct (λ (h : History). h.comp)) (sym (histories-none view playing)) tt;
         inputs = slots;
         positions = within;
       };
@@ -161,9 +163,10 @@ module _ (heap : HeapView) (clock : ℕ) (comps : List Comp) (edges : List Edge)
       state-ticked =
           ap (λ (p : ℕ × List RingView). state_of heap p.0 comps edges pipes joins streams p.1) (λ i. (next i, (as-turned i).0))
           ∙ (law state io can-turn).state
+          ∙ sym (ap (λ (p : FwState × Io). p.0) (ticked-plays state io playing))
 
       pub io-ticked : record { inputs = inputs; outputs = outputs } ≡ (ticked (state, io)).1
-      io-ticked = ap (λ (p : List RingView × Io). p.1) as-turned ∙ (law state io can-turn).endpoints
+      io-ticked = ap (λ (p : List RingView × Io). p.1) as-turned ∙ (law state io can-turn).endpoints ∙ sym (ap (λ (p : FwState × Io). p.1) (ticked-plays state io playing))
 
       same-rings : map ring_emptied rings'.rings ≡ map ring_emptied rings.rings
       same-rings = ap (λ (s : RingLists). s.rings) empty
@@ -176,7 +179,7 @@ module _ (heap : HeapView) (clock : ℕ) (comps : List Comp) (edges : List Edge)
 
       stays : map (ring_seen view) (map shown rings'.rings) ≡ map shown rings'.rings
       stays =
-          let all = (turns-stay view (next_clock clock) (turns_of view) (all-flowing view kept.wired kept.linked kept.played) (seen_at rings io.inputs io.outputs) (stay-each view (map shown rings.rings) kept.seen, kept.rings)).0 in
+          let all = (turns-stay view (next_clock clock) (turns_of view) (all-flowing view kept.wired kept.linked kept.played playing) (seen_at rings io.inputs io.outputs) (stay-each view (map shown rings.rings) kept.seen, kept.rings)).0 in
           subst (λ (rs : List RingView). map (ring_seen view) rs ≡ rs) (sym (ap (λ (p : List RingView × Io). p.0) as-turned)) (stay-all view _ all)
 
       pub kept-ticked : IsKept (state_of heap clock' comps edges pipes joins streams (map shown rings'.rings))
@@ -192,6 +195,7 @@ module _ (heap : HeapView) (clock : ℕ) (comps : List Comp) (edges : List Edge)
         played = kept.played;
         rings = keys-shown rings'.rings ∙ same-keys ∙ keys;
         seen = stays;
+        unset = kept.unset;
         histories = refl;
       }
 

@@ -1,5 +1,5 @@
 -- The firmware as a value, and what each call does to it.
-use Rattle.std.specs.Prelude.{◌≡◌, ℕ, List, Option, Some, None}
+use Rattle.std.specs.Prelude.{◌≡◌, ℕ, List, [], Option, Some, None}
 use Rattle.sof_base.specs.Ports.{InputView, OutputView, Io}
 use Rattle.stream_law.specs.State.{FwState}
 use Rattle.mbox_link.specs.Step.{step, fresh}
@@ -40,13 +40,13 @@ abbrev pub after_tick : Option FwState → World Chip → World Chip
 after_tick None w = w
 after_tick (Some f) w = record { device = with_state (Some (ticked (f, w.io)).0) w.device; io = (ticked (f, w.io)).1 }
 
--- its link never fails, and it refuses nothing that its step takes
+-- it has no link that can fail or refuse
 abbrev pub firmware : Meaning Chip
 firmware =
     record {
       on = λ chip. chip.state;
-      faults = λ chip. 0;
-      refusals = λ chip. 0;
+      faults = λ chip. [];
+      refusals = λ chip. [];
       boots = λ chip. chip.boots;
       pending = λ chip. 0;
       most = λ chip. chip.most;

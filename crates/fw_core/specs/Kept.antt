@@ -1,5 +1,5 @@
 -- The state that tables make, and what is so of it between messages.
-use Rattle.std.specs.Prelude.{◌≡◌, ℕ, ◌+◌, ◌*◌, ◌/◌, ◌≤◌, List, [], ◌∷◌, map, length, find, Bool, true, false, ◌&&◌, ◌||◌, ◌==◌, Option, Some, None}
+use Rattle.std.specs.Prelude.{◌≡◌, ℕ, ◌+◌, ◌*◌, ◌/◌, ◌≤◌, List, [], ◌∷◌, map, length, filter, find, Bool, true, false, ◌&&◌, ◌||◌, ◌==◌, Option, Some, None}
 use Rattle.std.specs.List.{list_any, AllByRecursion}
 use Rattle.sof_base.specs.declared.format.Params.{Params}
 use Rattle.stream_law.specs.declared.graph.Comp.{Comp}
@@ -11,9 +11,10 @@ use Rattle.stream_law.specs.declared.stream.Phase.{Phase}
 use Rattle.stream_law.specs.declared.stream.Phase.TheVariants.{Idle}
 use Rattle.stream_law.specs.declared.stream.StreamView.{StreamView}
 use Rattle.stream_law.specs.Placed.{HasDistinct}
-use Rattle.stream_law.specs.State.{FwState, PieceView, HeapView, View, RingView, view_of}
-use Rattle.stream_law.specs.Ways.{leads, is_end, is_live_phase, channels_of, agree}
-use Rattle.stream_law.specs.Seen.{flows, ring_seen}
+use Rattle.stream_law.specs.State.{FwState, PieceView, HeapView, View, RingView, History, view_of}
+use Rattle.stream_law.specs.Ways.{components, leads, is_end, is_live_phase, channels_of, agree}
+use Rattle.stream_law.specs.Made.{blob}
+use Rattle.stream_law.specs.Seen.{flows, ring_seen, equalises}
 use Rattle.ipc3_codec.specs.Allowed.{is_period}
 use Rattle.mbox_link.specs.Step.{has_comp, has_edge, is_used, has_kind, kind_at, is_host, is_rate, is_way_ready}
 use Rattle.fw_core.specs.Pieces.{IsTiled}
@@ -23,6 +24,10 @@ use Rattle.fw_ring.specs.RingLists.{Ring, RingLists}
 abbrev pub shown : Ring → RingView
 shown r = record { buffer = r.buffer; frames = r.frames }
 
+-- each Live equaliser has a history without numbers, since no blob is in force
+abbrev pub bare_histories : View → List History
+bare_histories v = map (λ c. record { comp = c; numbers = [] }) (filter (equalises v) (components v.graph))
+
 -- the state with this heap, clock and graph and with these streams and rings, where no blob is in force or staged
 abbrev pub state_of : HeapView → ℕ → List Comp → List Edge → List Pipe → List Join → List StreamView → List RingView → FwState
 state_of heap clock comps edges pipes joins streams rings = record {
@@ -31,7 +36,7 @@ state_of heap clock comps edges pipes joins streams rings = record {
   graph = record { comps = comps; edges = edges; pipes = pipes; joins = joins };
   streams = streams;
   rings = rings;
-  histories = [];
+  histories = bare_histories (record { graph = record { comps = comps; edges = edges; pipes = pipes; joins = joins }; streams = streams });
   staging = [];
 }
 
@@ -147,8 +152,8 @@ pub record ArePieces (g : Graph) (heap : HeapView) : Type 0 where
 -- ---- states
 
 -- What is so of every state: its lists are within their limits, each join is at a side of its own, each stream has a
--- component, graph, streams and pieces are as they should be, each edge has a ring, and a ring in which no frame may lie is
--- empty.
+-- component, graph, streams and pieces are as they should be, each edge has a ring, a ring in which no frame may lie is empty,
+-- no blob is in force, and no history has numbers.
 pub record IsKept (f : FwState) : Type 0 where
   pub comps : length f.graph.comps ≤ 128
   pub edges : length f.graph.edges ≤ 128
@@ -161,7 +166,8 @@ pub record IsKept (f : FwState) : Type 0 where
   pub played : IsPlayable (view_of f)
   pub rings : map (λ r. r.buffer) f.rings ≡ map (λ e. e.buffer) f.graph.edges
   pub seen : map (ring_seen (view_of f)) f.rings ≡ f.rings
-  pub histories : f.histories ≡ []
+  pub unset : AllByRecursion (λ c. blob c.setting ≡ []) f.graph.comps
+  pub histories : f.histories ≡ bare_histories (view_of f)
 
 -- a ring lies in the piece of its buffer, behind the piece's first 32 bytes
 pub record LiesIn (heap : HeapView) (r : Ring) : Type 0 where

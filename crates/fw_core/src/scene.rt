@@ -1,10 +1,11 @@
 // What host and firmware both see: a graph and its streams, and what lies on the ways of these.
-ghost use Rattle.std.specs.Prelude.{◌≡◌, ◌&&◌, ◌||◌, ◌++◌, not, map, length, find, option_copied, true, Some};
+ghost use Rattle.std.specs.Prelude.{◌≡◌, ◌&&◌, ◌||◌, ◌++◌, not, map, find, option_copied, true, Some};
 ghost use Rattle.std.specs.List.{list_all, list_any};
-ghost use Rattle.stream_law.specs.Ways.{edge_of, source_of, sink_of, ins, outs, on_way as lies_on, is_live_phase, live as is_live, live_end as has_live_end, live_params as params_of, channels_of as samples_of, components, buffers, touch as has_common, same_shape as alike, agree as is_agreed};
-ghost use Rattle.stream_law.specs.Joins.{fits_kind};
+ghost use Rattle.stream_law.specs.Ways.{edge_of, source_of, sink_of, on_way as lies_on, is_live_phase, live as is_live, live_end as has_live_end, live_params as params_of, channels_of as samples_of, components, buffers, touch as has_common, same_shape as alike, agree as is_agreed};
+ghost use Rattle.stream_law.specs.Joins.{is_endpoint as ends_there};
 ghost use Rattle.stream_law.specs.Seen.{flows as may_hold};
 ghost use Rattle.fw_core.specs.Answers.{are_others};
+ghost use Rattle.mbox_link.specs.Exchange.{plays as is_played};
 ghost use Rattle.mbox_link.specs.Step.{is_complete as is_whole, is_way_ready as has_ready_way, is_ready_comp as is_comp_ready, is_ready_edge as is_edge_ready, set_stream};
 
 use crate::{joins, kinds};
@@ -48,6 +49,34 @@ impl<'a> Scene<'a> {
         ensures { result ≡ is_live self.now id }
     {
         self.streams.iter().any(|stream| is_live_at(stream.phase) && self.on_way(stream.host, id))
+    }
+
+    /// Whether each component that is Live is an endpoint.
+    pub fn plays(&self) -> bool
+        ensures { result ≡ is_played self.now }
+    {
+        !self.has_live_stream() || self.has_live_ends()
+    }
+
+    // Whether a stream is Running or Paused.
+    fn has_live_stream(&self) -> bool
+        ensures { result ≡ list_any (λ s. is_live_phase s.phase) self.now.streams }
+    {
+        self.streams.iter().any(|stream| is_live_at(stream.phase))
+    }
+
+    // Whether each component is an endpoint or not Live.
+    fn has_live_ends(&self) -> bool
+        ensures { result ≡ is_played self.now }
+    {
+        self.comps.iter().all(|comp| self.ends_or_rests(comp))
+    }
+
+    // Whether a component is an endpoint or not Live.
+    fn ends_or_rests(&self, comp: &Comp) -> bool
+        ensures { result ≡ (not (is_live self.now comp.now.id) || ends_there comp.now.kind) }
+    {
+        kinds::is_endpoint(comp.kind) || !self.live(comp.id)
     }
 
     /// Whether an end of an edge is there and Live.
@@ -167,16 +196,9 @@ impl<'a> Scene<'a> {
         self.edges.iter().all(|edge| !self.on_way(host, edge.buffer) || self.is_ready_edge(edge))
     }
 
-    // Whether a component is an endpoint whose pipeline is complete, and its buffers are as many as its kind has.
+    // Whether a component's pipeline is complete, and its buffers are as many as its kind has.
     fn is_ready_comp(&self, comp: &Comp) -> bool
         ensures { result ≡ is_comp_ready self.now.graph comp.now }
-    {
-        kinds::is_endpoint(comp.kind) && self.has_all_edges(comp)
-    }
-
-    // Whether a component's pipeline is complete, and its buffers are as many as its kind has.
-    fn has_all_edges(&self, comp: &Comp) -> bool
-        ensures { result ≡ (is_whole self.now.graph comp.now.pipe && fits_kind comp.now.kind (length (ins self.now.graph comp.now.id)) (length (outs self.now.graph comp.now.id))) }
     {
         self.is_complete(comp.pipe)
             && kinds::fits(

@@ -136,7 +136,20 @@ fn its_pipeline_does_not_fit_in_976_bytes(rt: HostRuntime) -> Result<(), Fail> {
     Ok(())
 }
 
-// A firmware with one playback stream that is set to 48000 frames a second of two channels of 16 bits.
+// Parameters of a playback stream: 48000 frames a second of two channels of 16 bits.
+fn stereo(host: u32) -> Message {
+    Message::PcmParams {
+        host,
+        direction: 0,
+        params: Params {
+            rate: 48000,
+            channels: 2,
+            format: Format::S16,
+        },
+    }
+}
+
+// A firmware with one playback stream that has these.
 fn prepared(alloc: Global) -> Result<Firmware, Fail> {
     let mut firmware = Firmware::new(alloc, 992)?;
     firmware.boot(992);
@@ -148,15 +161,7 @@ fn prepared(alloc: Global) -> Result<Firmware, Fail> {
         Message::Connect { source: 0, sink: 1 },
         Message::Connect { source: 1, sink: 2 },
         Message::PipeComplete { id: 3 },
-        Message::PcmParams {
-            host: 0,
-            direction: 0,
-            params: Params {
-                rate: 48000,
-                channels: 2,
-                format: Format::S16,
-            },
-        },
+        stereo(0),
     ];
     let _replies = replies_to(alloc, &mut firmware, &messages)?;
     Ok(firmware)
@@ -262,5 +267,71 @@ fn the_gains_of_a_volume_are_set_and_got_until_it_is_freed(rt: HostRuntime) -> R
     let replies = replies_to(rt.alloc(), &mut firmware, &messages)?;
     assert!(rt; replies.as_slice() == [DONE, NO_DEVICE].as_slice());
     assert_eq!(rt; firmware.used(), 0);
+    Ok(())
+}
+
+// An equaliser, as a component of id 4.
+fn equaliser() -> Message {
+    Message::CompNew {
+        id: 4,
+        pipe: 1,
+        periods_sink: 0,
+        periods_source: 0,
+        frame_fmt: 2,
+        kind: CompWords::Eq,
+    }
+}
+
+// A firmware with a host, a component of id 4 and a DAI in a row, in a heap of so many bytes, which they fill.
+fn through(alloc: Global, bytes: u32, component: Message) -> Result<Firmware, Fail> {
+    let mut firmware = Firmware::new(alloc, bytes)?;
+    firmware.boot(bytes);
+    let messages = [
+        host(0),
+        buffer(1),
+        component,
+        buffer(5),
+        dai(2),
+        pipeline(3, 2),
+        Message::Connect { source: 0, sink: 1 },
+        Message::Connect { source: 1, sink: 4 },
+        Message::Connect { source: 4, sink: 5 },
+        Message::Connect { source: 5, sink: 2 },
+        Message::PipeComplete { id: 3 },
+    ];
+    let _replies = replies_to(alloc, &mut firmware, &messages)?;
+    Ok(firmware)
+}
+
+#[test]
+fn a_stream_through_a_volume_starts_and_moves_nothing_so_far(rt: HostRuntime) -> Result<(), Fail> {
+    let mut firmware = through(rt.alloc(), 1856, volume(4))?;
+    let start = [stereo(0), Message::TrigStart { id: 0 }];
+    let replies = replies_to(rt.alloc(), &mut firmware, &start)?;
+    assert!(rt; replies.as_slice() == [DONE; 2].as_slice());
+    let mut io = Inputs::new(rt.alloc())?;
+    io.add(0, vec![in rt.alloc(); 1, 2, 3, 4, 5]?)?;
+    let running = ticked(rt.alloc(), &mut firmware, &mut io)?;
+    assert_eq!(rt; running.len(), 0);
+    let mut front = [0; 4];
+    io.take(0, &mut front);
+    assert_eq!(rt; front, [1, 2, 3, 4]);
+    let stop = [Message::TrigStop { id: 0 }, Message::PcmFree { id: 0 }];
+    let replies = replies_to(rt.alloc(), &mut firmware, &stop)?;
+    assert!(rt; replies.as_slice() == [DONE; 2].as_slice());
+    assert_eq!(rt; firmware.used(), 1856);
+    Ok(())
+}
+
+#[test]
+fn a_stream_through_an_equaliser_starts_and_stops(rt: HostRuntime) -> Result<(), Fail> {
+    let mut firmware = through(rt.alloc(), 5952, equaliser())?;
+    let messages = [
+        stereo(0),
+        Message::TrigStart { id: 0 },
+        Message::TrigStop { id: 0 },
+    ];
+    let replies = replies_to(rt.alloc(), &mut firmware, &messages)?;
+    assert!(rt; replies.as_slice() == [DONE; 3].as_slice());
     Ok(())
 }

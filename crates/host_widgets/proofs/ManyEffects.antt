@@ -1,13 +1,13 @@
 -- What a walk of acts leaves in a firmware that follows.
-use Rattle.std.proofs.Common.{◌≡◌, inl, inr, ⊎_elim, ℕ, ◌+◌, ◌-◌, ◌≤◌, List, [], ◌∷◌, Option, Some, None, is_some, pos, MatchResult, Result, Ok, Err, refl, sym, ap, subst, ◌∙◌, arith}
+use Rattle.std.proofs.Common.{◌≡◌, inl, inr, ⊎_elim, ℕ, ◌+◌, ◌-◌, List, [], ◌∷◌, Option, Some, None, is_some, pos, MatchResult, Result, Ok, Err, refl, sym, ap, subst, ◌∙◌, arith}
 use Rattle.sof_base.specs.declared.errno.Errno.{Errno}
 use Rattle.sof_base.specs.Ports.{Io}
 use Rattle.stream_law.specs.State.{FwState}
 use Rattle.ipc3_codec.specs.declared.reply.Reply.{Reply}
 use Rattle.mbox_link.specs.Step.{fresh}
-use Rattle.mbox_link.specs.Exchange.{Rose}
 use Rattle.mbox_link.specs.Calls.{World, Meaning, Led, Steady}
 use Rattle.mbox_link.proofs.Led.{Steady-by}
+use Rattle.mbox_link.proofs.Steps.{NoneFell-same, Rose-within}
 use Rattle.tplg_graph.specs.declared.planned.Plan.{Plan}
 use Rattle.host_widgets.specs.declared.answers.HostFault.{HostFault}
 use Rattle.host_widgets.specs.declared.answers.HostFault.TheVariants.{NotLoaded, Loaded, NoSuch, State, Off, Range, Refused, LinkDown, Blob}
@@ -20,11 +20,6 @@ use Rattle.host_widgets.proofs.ReplyErrors.{reply_with}
 use Rattle.host_widgets.proofs.Walks.{Answers, passing, Walk-goes, Walk-ends, Walked-on}
 use Rattle.host_widgets.proofs.SilentTicks.{at, AreInputs}
 use Rattle.host_widgets.proofs.Effects.{effect, effects, FollowAll, one}
-
--- a count that rose between rose over all
-Rose-within : (a b c d : ℕ) → a ≤ b → c ≤ d → Rose b c → Rose a d
-Rose-within a b c d before later (inl less) = inl (omega arith)
-Rose-within a b c d before later (inr last) = inr (omega arith)
 
 -- none of these acts is refused by the firmware itself
 abbrev pub AllFree : Plan → ℕ → Record → List Act → Type 0
@@ -47,7 +42,7 @@ module _ {D : Type 0} (means : Meaning D) (plan : Plan) (heap : ℕ) (kept : Rec
       Rose-within (means.faults a) (means.faults b) (means.faults c) (means.faults d) before.faults later.faults why
 
   Steady-none : (a : D) → Steady means a a
-  Steady-none a = record { faults = omega arith; refusals = omega arith; boots = omega arith; pending = omega arith; most = refl }
+  Steady-none a = record { faults = NoneFell-same (means.faults a); refusals = NoneFell-same (means.refusals a); boots = omega arith; pending = omega arith; most = refl }
 
   -- acts that have all passed
   pub record Passed (acts : List Act) (w v : World D) (g : FwState) (t : ℕ) : Type 0 where

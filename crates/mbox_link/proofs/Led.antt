@@ -1,7 +1,9 @@
 -- Calls, one after another.
 use Rattle.std.proofs.Common.{◌≤◌, ℕ, ◌+◌, replicate, List, [], ◌∷◌, ◌++◌, refl, sym, ◌∙◌, subst, arith}
 use Rattle.std.proofs.lemmas.List.{replicate-append-replicate}
+use Rattle.mbox_link.specs.Exchange.{NoneFell}
 use Rattle.mbox_link.specs.Calls.{World, Meaning, Call, Boot, Cut, Exchange, Tick, Did, Led, Steady, Quiet, Ticked}
+use Rattle.mbox_link.proofs.Steps.{NoneFell-same, NoneFell-by}
 
 module _ {D : Type 0} (means : Meaning D) where
   pub Led-one : (w v : World D) (call : Call) → Did means call w v → Led means w (call ∷ []) v
@@ -26,8 +28,8 @@ module _ {D : Type 0} (means : Meaning D) where
   pub Steady-by : (a b c : D) → Steady means a b → Steady means b c → Steady means a c
   Steady-by a b c first then =
       record {
-        faults = omega (arith, first.faults, then.faults);
-        refusals = omega (arith, first.refusals, then.refusals);
+        faults = NoneFell-by (means.faults a) (means.faults b) (means.faults c) first.faults then.faults;
+        refusals = NoneFell-by (means.refusals a) (means.refusals b) (means.refusals c) first.refusals then.refusals;
         boots = omega (arith, first.boots, then.boots);
         pending = omega (arith, first.pending, then.pending);
         most = then.most ∙ first.most;
@@ -36,8 +38,8 @@ module _ {D : Type 0} (means : Meaning D) where
   pub Steady-quiet : (a b : D) → Quiet means a b → means.boots a ≤ means.boots b → Steady means a b
   Steady-quiet a b quiet boots =
       record {
-        faults = omega (arith, quiet.faults);
-        refusals = omega (arith, quiet.refusals);
+        faults = subst (NoneFell (means.faults a)) (sym quiet.faults) (NoneFell-same (means.faults a));
+        refusals = subst (NoneFell (means.refusals a)) (sym quiet.refusals) (NoneFell-same (means.refusals a));
         boots = boots;
         pending = omega (arith, quiet.pending);
         most = quiet.most;
@@ -50,7 +52,7 @@ module _ {D : Type 0} (means : Meaning D) where
   Did-steady Tick w v d = Steady-quiet w.device v.device d.quiet (omega (arith, d.boots))
 
   pub Led-steady : (calls : List Call) (w v : World D) → Led means w calls v → Steady means w.device v.device
-  Led-steady [] w v led = subst (λ x. Steady means w.device x.device) (sym led) record { faults = omega arith; refusals = omega arith; boots = omega arith; pending = omega arith; most = refl }
+  Led-steady [] w v led = subst (λ x. Steady means w.device x.device) (sym led) record { faults = NoneFell-same (means.faults w.device); refusals = NoneFell-same (means.refusals w.device); boots = omega arith; pending = omega arith; most = refl }
   Led-steady (call ∷ calls) w v led = Steady-by w.device led.0.device v.device (Did-steady call w led.0 led.1) (Led-steady calls led.0 v led.2)
 
   -- one tick more

@@ -3,7 +3,7 @@ use Rattle.std.specs.Prelude.{◌≡◌, ◌+◌, ◌-◌, ◌*◌, ◌≤◌, �
 use Rattle.sof_base.specs.Ports.{InputView, OutputView, Io, HasRoom}
 use Rattle.stream_law.specs.State.{FwState}
 use Rattle.mbox_link.specs.Step.{fresh}
-use Rattle.mbox_link.specs.Exchange.{ticked, ticks, Stepped, Rose, more}
+use Rattle.mbox_link.specs.Exchange.{ticked, ticks, Stepped, Rose, NoneFell, more}
 
 -- a device with the endpoints' bytes
 pub record World (D : Type 0) : Type 0 where
@@ -16,8 +16,8 @@ world device inputs outputs = record { device = device; io = record { inputs = i
 -- what a device means: its state, its counts, and what each call does and answers
 pub record Meaning (D : Type 0) : Type 1 where
   pub on : D → Option FwState  -- off, or on with a state
-  pub faults : D → ℕ  -- how often the link failed
-  pub refusals : D → ℕ  -- how often a message was refused that the firmware would have taken
+  pub faults : D → List ℕ  -- how often the link failed, at each link on the way
+  pub refusals : D → List ℕ  -- how often a message was refused that the firmware would have taken, at each link on the way
   pub boots : D → ℕ  -- how often it was booted
   pub pending : D → ℕ  -- the ticks that it may yet put before messages
   pub most : D → ℕ  -- the greatest heap, in bytes
@@ -35,8 +35,8 @@ pub data Call : Type 0 where
 
 -- what every call keeps: no count falls, `pending` does not rise, and the greatest heap stays
 pub record Steady {D : Type 0} (means : Meaning D) (old new : D) : Type 0 where
-  pub faults : means.faults old ≤ means.faults new
-  pub refusals : means.refusals old ≤ means.refusals new
+  pub faults : NoneFell (means.faults old) (means.faults new)
+  pub refusals : NoneFell (means.refusals old) (means.refusals new)
   pub boots : means.boots old ≤ means.boots new
   pub pending : means.pending new ≤ means.pending old
   pub most : means.most new ≡ means.most old

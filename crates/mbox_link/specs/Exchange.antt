@@ -1,14 +1,22 @@
 -- What an exchange and a tick leave and answer.
-use Rattle.std.specs.Prelude.{◌≡◌, ◌⊎◌, ℕ, zero, suc, ◌+◌, ◌<◌, ◌≤◌, ◌^◌, ◌-◌, min, List, take, Option, Some, None, Result, Ok, Err, negsuc}
+use Rattle.std.specs.Prelude.{◌≡◌, ◌⊎◌, ℕ, zero, suc, ◌+◌, ◌<◌, ◌≤◌, ◌^◌, ◌-◌, min, Bool, not, ◌||◌, List, [], ◌∷◌, take, Option, Some, None, Result, Ok, Err, negsuc, if◌then◌else◌}
+use Rattle.std.specs.List.{list_all}
 use Rattle.sof_base.specs.Ports.{Io}
-use Rattle.stream_law.specs.State.{FwState}
+use Rattle.stream_law.specs.State.{FwState, View, view_of}
+use Rattle.stream_law.specs.Ways.{live}
+use Rattle.stream_law.specs.Joins.{is_endpoint}
 use Rattle.stream_law.specs.Move.{state_after, audio_after, io_after}
 use Rattle.mbox_link.specs.declared.device.LinkFault.{LinkFault}
 use Rattle.mbox_link.specs.Step.{step, error_reply}
 
--- a state with the endpoints' bytes, after a tick and after so many
+-- each component that is Live is an endpoint; no other kind moves frames so far
+abbrev pub plays : View → Bool
+plays v = list_all (λ c. not (live v c.id) || is_endpoint c.kind) v.graph.comps
+
+-- a state with the endpoints' bytes, after a tick and after so many: it moves by the laws where it plays, and else not at all
 abbrev pub ticked : FwState × Io → FwState × Io
-ticked p = (state_after p.0 (audio_after p.0 p.1), io_after p.1 (audio_after p.0 p.1))
+ticked p =
+    if plays (view_of p.0) then (state_after p.0 (audio_after p.0 p.1), io_after p.1 (audio_after p.0 p.1)) else p
 
 abbrev pub ticks : ℕ → FwState × Io → FwState × Io
 ticks zero p = p
@@ -34,9 +42,18 @@ Stepped refused faulted p request (Some reply) after io =
 Stepped refused faulted p request None after io =
     (io ≡ p.1) × faulted × ((after ≡ Some (step p.0 request).0) ⊎ (after ≡ Some p.0))
 
--- a count rose, or stands at its last value
-abbrev pub Rose : ℕ → ℕ → Type 0
-Rose before after = (before < after) ⊎ (2 ^ 64 ≤ after + 1)
+-- one of these counts rose, or stands at its last value
+abbrev pub Rose : List ℕ → List ℕ → Type 0
+Rose [] after = ⊥
+Rose (m ∷ before) [] = ⊥
+Rose (m ∷ before) (n ∷ after) = ((m < n) ⊎ (2 ^ 64 ≤ n + 1)) ⊎ Rose before after
+
+-- none of these counts fell
+abbrev pub NoneFell : List ℕ → List ℕ → Type 0
+NoneFell [] [] = Unit {0}
+NoneFell [] (n ∷ after) = ⊥
+NoneFell (m ∷ before) [] = ⊥
+NoneFell (m ∷ before) (n ∷ after) = (m ≤ n) × NoneFell before after
 
 -- one more, up to the last value
 abbrev pub more : ℕ → ℕ

@@ -1,5 +1,5 @@
 -- A link over a device, whose messages meet their planned fates.
-use Rattle.std.specs.Prelude.{◌≡◌, ℕ, ◌+◌, Bool, true, false, List, Option, Some, None, Result, Ok, Err}
+use Rattle.std.specs.Prelude.{◌≡◌, ℕ, ◌+◌, Bool, true, false, List, ◌∷◌, Option, Some, None, Result, Ok, Err}
 use Rattle.mbox_link.specs.Step.{error_reply}
 use Rattle.mbox_link.specs.Exchange.{more}
 use Rattle.mbox_link.specs.Calls.{World, Meaning, Booted, CutOff, Exchanged, Ticked}
@@ -74,8 +74,8 @@ abbrev pub link : {P : Type 0} → Meaning P → Meaning (Wire P)
 link means =
     record {
       on = λ l. means.on l.device;
-      faults = λ l. means.faults l.device + l.dropped;
-      refusals = λ l. means.refusals l.device + l.refused;
+      faults = λ l. l.dropped ∷ means.faults l.device;
+      refusals = λ l. l.refused ∷ means.refusals l.device;
       boots = λ l. means.boots l.device;
       pending = λ l. means.pending l.device;
       most = λ l. means.most l.device;

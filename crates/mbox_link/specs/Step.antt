@@ -23,7 +23,7 @@ use Rattle.stream_law.specs.State.{FwState, HeapView, PieceView, View}
 use Rattle.stream_law.specs.Ways.{comp_of, edge_of, source_of, sink_of, ins, outs, on_way, agree}
 use Rattle.stream_law.specs.Placed.{placed}
 use Rattle.stream_law.specs.Seen.{seen}
-use Rattle.stream_law.specs.Joins.{is_endpoint, kind_ins, kind_outs, fits_kind, would_cycle, would_reach, would_grow, with_join}
+use Rattle.stream_law.specs.Joins.{kind_ins, kind_outs, fits_kind, would_cycle, would_reach, would_grow, with_join}
 use Rattle.ipc3_codec.specs.declared.message.Message.{Message}
 use Rattle.ipc3_codec.specs.declared.message.Message.TheVariants as messages
 use Rattle.ipc3_codec.specs.declared.message.CompWords.{CompWords}
@@ -378,9 +378,9 @@ goes kind direction = false
 abbrev pub is_rate : ℕ → Bool
 is_rate n = nat_le 8000 n && nat_le n 192000 && n % 1000 == 0
 
--- a component's pipeline is complete, its edges are as many as its kind has, and it is an endpoint: no other kind is played so far
+-- a component's pipeline is complete, and its edges are as many as its kind has
 abbrev pub is_ready_comp : Graph → Comp → Bool
-is_ready_comp g c = is_endpoint c.kind && (is_complete g c.pipe && fits_kind c.kind (length (ins g c.id)) (length (outs g c.id)))
+is_ready_comp g c = is_complete g c.pipe && fits_kind c.kind (length (ins g c.id)) (length (outs g c.id))
 
 -- a buffer's pipeline is complete, and both its sides are joined
 abbrev pub is_ready_edge : Graph → Edge → Bool

@@ -10,8 +10,8 @@ use sof_io::{Inputs, Outputs};
 #[derive(Clone, Copy, Debug, PartialEq, Eq)]
 pub struct LinkFault;
 
-/// A DSP behind a mailbox: off, or on with a state. Its counts of boots, of faults and of refusals never fall and stay at
-/// their last value.
+/// A DSP behind a mailbox: off, or on with a state. Its count of boots and those of faults and of refusals, one at each link
+/// on the way to it, never fall and stay at their last value.
 pub trait Dsp: Drop {
     /// Its state, its counts, and what each call does.
     ghost means: { Meaning Self };
@@ -36,8 +36,8 @@ pub trait Dsp: Drop {
     /// Delivers a message of at most 384 bytes and takes its reply, which stands at the front of `reply`.
     ///
     /// First come as many ticks as the device's pending ones fall by. Ok: the firmware's step for these bytes was done and
-    /// the reply is its reply, or the count of refusals rose, the reply is a negative error without a body and the step was
-    /// not done. Err: the count of faults rose, and the step was done whole or not at all.
+    /// the reply is its reply, or a count of refusals rose, the reply is a negative error without a body and the step was
+    /// not done. Err: a count of faults rose, and the step was done whole or not at all.
     fn exchange(
         &mut self,
         request: &[u8],
@@ -51,7 +51,8 @@ pub trait Dsp: Drop {
         ensures did { Exchanged means request.now (answered result reply.new)
             (world self.old io.old out.old) (world self.new io.new out.new) };
 
-    /// A tick where it is on, else nothing. It puts at most 61440 bytes to each output.
+    /// A tick where it is on, else nothing. It puts at most 61440 bytes to each output. Frames move where each component on
+    /// the way of a Running or Paused stream is an endpoint; where another kind is there, nothing moves so far.
     fn tick(&mut self, io: &mut Inputs, out: &mut Outputs)
         requires room { HasRoom 61440 out.old }
         ensures { Ticked means (world self.old io.old out.old) (world self.new io.new out.new) };

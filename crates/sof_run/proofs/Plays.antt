@@ -1,5 +1,5 @@
 -- The phases of `play`, one after another.
-use Rattle.std.proofs.Common.{◌≡◌, ℕ, Bool, true, false, List, [], Option, None, Ok, refl, sym, ap, subst, codes, arith, if◌then◌else◌}
+use Rattle.std.proofs.Common.{◌≡◌, ℕ, Bool, true, false, List, [], None, Ok, refl, sym, subst, codes, if◌then◌else◌}
 use Rattle.sof_desk.specs.Desk.{DeskMeaning, Loaded}
 use Rattle.host_widgets.specs.declared.answers.Answer.TheVariants as answers
 use Rattle.mbox_link.specs.Calls.{Meaning}
@@ -8,10 +8,10 @@ use Rattle.sof_script.specs.declared.script.Numbered.{Numbered}
 use Rattle.sof_script.specs.Commands.{Read}
 use Rattle.sof_base.specs.Ports.{InputView, OutputView}
 use Rattle.sof_io.specs.Bound.{output_slots}
+use Rattle.sof_session.proofs.TurnLaws.{begun}
 use Rattle.sof_session.specs.Seat.{new_seat}
-use Rattle.stream_law.specs.State.{FwState}
-use Rattle.sof_session.specs.Walks.{Begin, stand, silent, first_host}
-use Rattle.sof_session.specs.Turns.{LifeMeaning, Life, Bare, Seated, Turn, Turned, life, turn}
+use Rattle.sof_session.specs.Walks.{Begin}
+use Rattle.sof_session.specs.Turns.{LifeMeaning, Life, Bare, Seated, Turn, life, turn}
 use Rattle.sof_run.specs.declared.prepare.Halt.{Halt}
 use Rattle.sof_run.specs.declared.prepare.Halt.TheVariants as halt
 use Rattle.sof_run.specs.Words.{Form}
@@ -87,19 +87,10 @@ module _ {D P : Type 0} (means : DeskMeaning D) (device : Meaning P) where
     abbrev slots : List ℕ
     slots = output_slots outputs
 
-    -- a session that begins does nothing to its device
-    begun : Turned (life device) (turn (Begin plan heap inputs slots) answers.Done [] []) (Bare p) (Seated (new_seat plan heap p) inputs slots)
-    begun = record {
-      next = λ calm. ap (λ (on : Option FwState). (stand (device.boots p) record (first_host plan heap inputs slots) { device = on }, silent answers.Done)) off;
-      faults = omega arith;
-      refusals = omega arith;
-      most = refl;
-    }
-
     -- a session over the device
     pub begin_on : (commands : List Numbered) (old new : D) (status : ℕ) (q : Life P) → Ran means (life device) (commands_todo commands End) old (Seated (new_seat plan heap p) inputs slots) status new q → Ran means (life device) (session_todo heap plan commands inputs outputs) old (Bare p) status new q
     begin_on commands old new status q ran =
-        step_on means (life device) (turn (Begin plan heap inputs slots) answers.Done [] []) (λ out. commands_todo commands End) status old new (Bare p) (Seated (new_seat plan heap p) inputs slots) q begun ran
+        step_on means (life device) (turn (Begin plan heap inputs slots) answers.Done [] []) (λ out. commands_todo commands End) status old new (Bare p) (Seated (new_seat plan heap p) inputs slots) q (begun device plan heap p inputs slots off) ran
 
     -- the bindings come before it
     pub opened_on : (read : Read) (old m new : D) (status : ℕ) (q : Life P) → Opens means (bindings_todo plan read.bindings [] []) inputs outputs old m → Ran means (life device) (Free (session_todo heap plan read.commands inputs outputs)) m (Bare p) status new q → Ran means (life device) (Free (ready_todo heap plan read)) old (Bare p) status new q

@@ -1,8 +1,10 @@
 -- What was done is the whole, or its front.
-use Rattle.std.proofs.Common.{◌≡◌, inl, inr, ℕ, ◌<◌, ◌≤◌, true, false, nat_le, List, [], ◌∷◌, length, Option, Some, Ok, Err, ◌∙◌, ap, subst, arith, if◌then◌else◌}
+use Rattle.std.proofs.Common.{◌≡◌, inl, inr, ℕ, ◌<◌, ◌≤◌, true, false, nat_le, List, [], ◌∷◌, length, Option, Some, Ok, Err, sym, ◌∙◌, ap, subst, arith, if◌then◌else◌}
 use Rattle.std.proofs.lemmas.Bool.Decides.{nat_tests}
 use Rattle.sof_desk.specs.declared.calls.LoadFault.TheVariants.{Failed, TooLong, OutOfMemory}
 use Rattle.sof_desk.specs.Desk.{DeskMeaning, Call, Load, Did, Led, Loaded}
+use Rattle.mbox_link.specs.Exchange.{NoneFell}
+use Rattle.mbox_link.proofs.Steps.{NoneFell-same, NoneFell-by, Rose-within}
 use Rattle.sof_session.specs.Walks.{Stand, next}
 use Rattle.sof_session.specs.Turns.{LifeMeaning, Calm, Turn, Turned, Turns}
 use Rattle.sof_run.specs.Todo.{no_memory, Todo, End, Stop, Ask, Do, Step, Free, Says, Goes}
@@ -32,29 +34,23 @@ module _ {D P : Type 0} (means : DeskMeaning D) (dsp : LifeMeaning P) where
   stays p q turns none turned = ap dsp.stand (subst (λ ts. Turns dsp p ts q) none turned)
 
   -- neither count of the device falls
-  never_fewer : (p q : P) (turns : List Turn) → Turns dsp p turns q → (dsp.faults p ≤ dsp.faults q) × (dsp.refusals p ≤ dsp.refusals q)
-  never_fewer p q [] turned = (omega (arith, ap dsp.faults turned), omega (arith, ap dsp.refusals turned))
-  never_fewer p q (turn ∷ turns) turned =
-      let faults : dsp.faults p ≤ dsp.faults turned.0 = turned.1.faults in
-      let refusals : dsp.refusals p ≤ dsp.refusals turned.0 = turned.1.refusals in
-      let rest = never_fewer turned.0 q turns turned.2 in
-      (omega (arith, faults, rest.0), omega (arith, refusals, rest.1))
+  none_fell : (p q : P) (turns : List Turn) → Turns dsp p turns q → NoneFell (dsp.faults p) (dsp.faults q) × NoneFell (dsp.refusals p) (dsp.refusals q)
+  none_fell p q [] turned = subst (λ (x : P). NoneFell (dsp.faults p) (dsp.faults x) × NoneFell (dsp.refusals p) (dsp.refusals x)) (sym turned) (NoneFell-same (dsp.faults p), NoneFell-same (dsp.refusals p))
+  none_fell p q (turn ∷ turns) turned =
+      let rest = none_fell turned.0 q turns turned.2 in
+      (NoneFell-by (dsp.faults p) (dsp.faults turned.0) (dsp.faults q) turned.1.faults rest.0, NoneFell-by (dsp.refusals p) (dsp.refusals turned.0) (dsp.refusals q) turned.1.refusals rest.1)
 
-  module _ (p m q : P) (faults : dsp.faults p ≤ dsp.faults m) (refusals : dsp.refusals p ≤ dsp.refusals m) (rest : (dsp.faults m ≤ dsp.faults q) × (dsp.refusals m ≤ dsp.refusals q)) (calm : Calm dsp p q) where
+  module _ (p m q : P) (faults : NoneFell (dsp.faults p) (dsp.faults m)) (refusals : NoneFell (dsp.refusals p) (dsp.refusals m)) (rest : NoneFell (dsp.faults m) (dsp.faults q) × NoneFell (dsp.refusals m) (dsp.refusals q)) (calm : Calm dsp p q) where
     calm_first : Calm dsp p m
     calm_first = record {
-      faults = omega (arith, faults, rest.0, calm.faults);
-      faults_below = omega (arith, faults, rest.0, calm.faults, calm.faults_below);
-      refusals = omega (arith, refusals, rest.1, calm.refusals);
-      refusals_below = omega (arith, refusals, rest.1, calm.refusals, calm.refusals_below);
+      faults = λ rose. calm.faults (Rose-within (dsp.faults p) (dsp.faults p) (dsp.faults m) (dsp.faults q) (NoneFell-same (dsp.faults p)) rest.0 rose);
+      refusals = λ rose. calm.refusals (Rose-within (dsp.refusals p) (dsp.refusals p) (dsp.refusals m) (dsp.refusals q) (NoneFell-same (dsp.refusals p)) rest.1 rose);
     }
 
     calm_rest : Calm dsp m q
     calm_rest = record {
-      faults = omega (arith, faults, rest.0, calm.faults);
-      faults_below = calm.faults_below;
-      refusals = omega (arith, refusals, rest.1, calm.refusals);
-      refusals_below = calm.refusals_below;
+      faults = λ rose. calm.faults (Rose-within (dsp.faults p) (dsp.faults m) (dsp.faults q) (dsp.faults q) faults (NoneFell-same (dsp.faults q)) rose);
+      refusals = λ rose. calm.refusals (Rose-within (dsp.refusals p) (dsp.refusals m) (dsp.refusals q) (dsp.refusals q) refusals (NoneFell-same (dsp.refusals q)) rose);
     }
 
   wanted : (p q : P) (turns : List Turn) (calls : List Call) (status : ℕ) → Says no_memory 7 turns calls status → Turns dsp p turns q → Wants (dsp.stand p) calls status (dsp.stand q)
@@ -123,7 +119,7 @@ module _ {D P : Type 0} (means : DeskMeaning D) (dsp : LifeMeaning P) where
   settle holds (Step task rest) d e p q [] calls status held calm told goes led turned = absurd goes
   settle holds (Step task rest) d e p q (turn ∷ turns) calls status held calm told goes led turned =
       let moved : Turned dsp turn p turned.0 = turned.1 in
-      let rises = never_fewer turned.0 q turns turned.2 in
+      let rises = none_fell turned.0 q turns turned.2 in
       let to : (dsp.stand turned.0, turn.out) ≡ next task (dsp.stand p) = moved.next (calm_first p turned.0 q moved.faults moved.refusals rises calm) ∙ ap (λ x. next x (dsp.stand p)) goes.0 in
       subst (λ n. Made (whole holds n.0 (rest n.1)) (whole_end holds n.0 (rest n.1)) calls status (dsp.stand q)) to
       (settle holds (rest turn.out) d e turned.0 q turns calls status held (calm_rest p turned.0 q moved.faults moved.refusals rises calm) (told turn.out) goes.1 led turned.2)

@@ -9,6 +9,7 @@ use Rattle.mbox_link.specs.Exchange.{more}
 use Rattle.mbox_link.specs.Calls.{World, Meaning, Call, Boot, Cut, Exchange, Tick, Did, Led, Exchanged, Steady}
 use Rattle.mbox_link.specs.Wire.{Wire}
 use Rattle.mbox_link.specs.Link.{link, inner, over, Met, after_message, next_fate, dropped_after, refused_after}
+use Rattle.mbox_link.proofs.Steps.{NoneFell-same}
 use Rattle.mbox_link.proofs.Led.{Steady-by, Led-steady}
 use Rattle.sof_session.specs.Turns.{IsFated}
 
@@ -66,7 +67,7 @@ message_fated wire dsp after fated is = subst IsFated (sym is) record {
 
 module _ {P : Type 0} (means : Meaning P) where
   pub Steady-none : (a b : P) → b ≡ a → Steady means a b
-  Steady-none a b same = subst (Steady means a) (sym same) record { faults = omega arith; refusals = omega arith; boots = omega arith; pending = omega arith; most = refl }
+  Steady-none a b same = subst (Steady means a) (sym same) record { faults = NoneFell-same (means.faults a); refusals = NoneFell-same (means.refusals a); boots = omega arith; pending = omega arith; most = refl }
 
   met_steady : (fate : Fate) (request : List ℕ) (answer : Option (List ℕ)) (w v : World P) → Met means fate request answer w v → Steady means w.device v.device
   met_steady Pass request answer w v met = met.steady

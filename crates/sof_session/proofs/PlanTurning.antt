@@ -5,9 +5,11 @@ use Rattle.sof_base.specs.Ports.{Io}
 use Rattle.mbox_link.specs.declared.fates.Fate.{Fate}
 use Rattle.mbox_link.specs.declared.fates.PlanFull.{PlanFull}
 use Rattle.mbox_link.specs.Fates.{without, IsMeant, IsError}
+use Rattle.mbox_link.specs.Exchange.{NoneFell}
 use Rattle.mbox_link.specs.Calls.{Meaning}
 use Rattle.mbox_link.specs.Wire.{Wire}
 use Rattle.mbox_link.specs.Link.{Planned, with_plan}
+use Rattle.mbox_link.proofs.Steps.{NoneFell-same}
 use Rattle.mbox_link.proofs.FateLaws.{AllMeant-push}
 use Rattle.host_widgets.specs.declared.answers.Answer.{Answer}
 use Rattle.host_widgets.specs.declared.kept.Power.{Power}
@@ -91,14 +93,12 @@ module _ {P : Type 0} (means : Meaning P) (old new : Seat P) (io io' : Io) (slot
   pub plan_turned : (command : Command) (answer : Answer) → PlanRan k fate old new io io' answer → ((n : ℕ) (h : Host) → command_next command n h ≡ plan_next k fate n h) → shown_by command old ≡ [] → written_in io'.outputs ≡ [] → Turned (life means) (turn (Carry command) answer (shown_by command old) (written_in io'.outputs)) (Seated old io.inputs slots) (Seated new io'.inputs slots)
   plan_turned command answer ran plans quiet silence =
       let device = device-is ran.outcome ran.planned in
-      let faults : means.faults new.link.device ≡ means.faults old.link.device = ap (λ (d : P). means.faults d) device in
-      let refusals : means.refusals new.link.device ≡ means.refusals old.link.device = ap (λ (d : P). means.refusals d) device in
       record {
         next = λ calm.
             (λ i. told (stood means new io'.inputs slots) record { answer = ran.said i; shown = quiet i; written = silence i })
             ∙ is-next ran.outcome ran.planned ran.kept ran.io
             ∙ sym (plans boots host);
-        faults = omega (arith, faults);
-        refusals = omega (arith, refusals);
+        faults = subst (λ (d : P). NoneFell (means.faults old.link.device) (means.faults d)) (sym device) (NoneFell-same (means.faults old.link.device));
+        refusals = subst (λ (d : P). NoneFell (means.refusals old.link.device) (means.refusals d)) (sym device) (NoneFell-same (means.refusals old.link.device));
         most = ap (λ (d : P). means.most d) device;
       }

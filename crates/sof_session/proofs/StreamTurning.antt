@@ -4,6 +4,7 @@ use Rattle.std.specs.Option.{option_map}
 use Rattle.sof_base.specs.Ports.{Io}
 use Rattle.stream_law.specs.State.{FwState}
 use Rattle.mbox_link.specs.declared.fates.Entry.{Entry}
+use Rattle.mbox_link.specs.Exchange.{Rose}
 use Rattle.mbox_link.specs.Calls.{World, Meaning}
 use Rattle.mbox_link.specs.Wire.{Wire}
 use Rattle.mbox_link.specs.Link.{link}
@@ -98,10 +99,8 @@ module _ {P : Type 0} (means : Meaning P) (old new : Seat P) (io io' : Io) (name
         let acts = acts_at old.plan old.kept k ask in
         let cut = ends-cut means result x.sent after x.ends in
         let between : Stayed means old.link.device x.sent.device.device = record {
-          faults = omega (arith, cut.faults, stayed.faults);
-          faults_below = omega (arith, cut.faults, stayed.faults_below);
-          refusals = omega (arith, cut.refusals, stayed.refusals);
-          refusals_below = omega (arith, cut.refusals, stayed.refusals_below);
+          faults = λ rose. stayed.faults (subst (Rose (means.faults old.link.device)) (sym cut.faults) rose);
+          refusals = λ rose. stayed.refusals (subst (Rose (means.refusals old.link.device)) (sym cut.refusals) rose);
         } in
         let same_boots : means.boots new.link.device ≡ boots = cut.boots ∙ Fated-boots means old.plan old.heap old.kept x.fates.answers acts before x.sent x.fates.fated in
         let n = passed_of x.fates.answers result in
@@ -132,7 +131,7 @@ module _ {P : Type 0} (means : Meaning P) (old new : Seat P) (io io' : Io) (name
       let steady = Led-inside means calls.0 before after calls.1 in
       record {
         next = λ calm.
-            let stayed : Stayed means old.link.device new.link.device = record { faults = calm.faults; faults_below = calm.faults_below; refusals = calm.refusals; refusals_below = calm.refusals_below } in
+            let stayed : Stayed means old.link.device new.link.device = record { faults = calm.faults; refusals = calm.refusals } in
             (λ i. told then record { answer = ran.said i; shown = quiet i; written = silence i }) ∙ is-next ran.outcome ran.asked stayed ∙ sym (asks boots host);
         faults = steady.faults;
         refusals = steady.refusals;

@@ -1,10 +1,11 @@
 -- What a command makes of a session, as it is written.
-use Rattle.std.proofs.Common.{◌≡◌, ℕ, ◌+◌, ◌*◌, ◌<◌, ◌≤◌, ◌^◌, List, [], length, Some, None, Ok, Err, refl, ap, ◌∙◌, arith}
+use Rattle.std.proofs.Common.{◌≡◌, ℕ, ◌+◌, ◌*◌, ◌<◌, ◌≤◌, ◌^◌, List, [], length, Some, None, Ok, Err, refl, sym, ap, subst, ◌∙◌, arith}
 use Rattle.sof_base.specs.Ports.{Io, InputView, OutputView}
 use Rattle.sof_io.specs.Bound.{output_slots}
 use Rattle.mbox_link.specs.declared.fates.Entry.{Entry}
-use Rattle.mbox_link.specs.Exchange.{more}
+use Rattle.mbox_link.specs.Exchange.{Rose, more}
 use Rattle.mbox_link.specs.Calls.{World, Meaning}
+use Rattle.mbox_link.proofs.Steps.{NoneFell-same}
 use Rattle.mbox_link.specs.Wire.{Wire}
 use Rattle.mbox_link.specs.Link.{link}
 use Rattle.tplg_graph.specs.declared.planned.Plan.{Plan}
@@ -56,10 +57,8 @@ module _ {P : Type 0} (means : Meaning P) where
         let boot = fates.boot.0.did.0 in
         let cut = ends_cut means outcome fates.sent v fates.ends in
         let between : Stayed means fates.booted.device.device fates.sent.device.device = record {
-          faults = omega (arith, boot.quiet.faults, cut.faults, stayed.faults);
-          faults_below = omega (arith, cut.faults, stayed.faults_below);
-          refusals = omega (arith, boot.quiet.refusals, cut.refusals, stayed.refusals);
-          refusals_below = omega (arith, cut.refusals, stayed.refusals_below);
+          faults = λ rose. stayed.faults (subst (λ (p : List ℕ × List ℕ). Rose p.0 p.1) (λ i. (boot.quiet.faults i, sym cut.faults i)) rose);
+          refusals = λ rose. stayed.refusals (subst (λ (p : List ℕ × List ℕ). Rose p.0 p.1) (λ i. (boot.quiet.refusals i, sym cut.refusals i)) rose);
         } in
         let sent : fates.booted.device.sent ≡ w.device.sent = ap (λ (wire : Wire P). wire.sent) fates.boot.0.did.1 in
         let entries : fates.booted.device.entries ≡ w.device.entries = ap (λ (wire : Wire P). wire.entries) fates.boot.0.did.1 in
@@ -150,7 +149,7 @@ module _ {P : Type 0} (means : Meaning P) (old new : Seat P) (io io' : Io) (slot
       let steady = Led-inside means calls.0 before after calls.1 in
       record {
         next = λ calm.
-            let stayed : Stayed means old.link.device new.link.device = record { faults = calm.faults; faults_below = calm.faults_below; refusals = calm.refusals; refusals_below = calm.refusals_below } in
+            let stayed : Stayed means old.link.device new.link.device = record { faults = calm.faults; refusals = calm.refusals } in
             (λ i. told then record { answer = ran.said i; shown = []; written = silence i })
             ∙ load_is_next old.kept.power ran.outcome agreed.powered stayed ran.loads ran.fates ran.left ran.kept;
         faults = steady.faults;
@@ -164,7 +163,7 @@ module _ {P : Type 0} (means : Meaning P) where
   pub show_turned : (seat : Seat P) (inputs : List InputView) (outputs : List OutputView) → written_in outputs ≡ [] → Turned (life means) (turn (Carry commands.Show) Show (show_lines seat.plan seat.kept) (written_in outputs)) (Seated seat inputs (output_slots outputs)) (Seated seat inputs (output_slots outputs))
   show_turned seat inputs outputs silence = record {
     next = λ calm. λ i. told (stood means seat inputs (output_slots outputs)) record { answer = Show; shown = show_lines seat.plan seat.kept; written = silence i };
-    faults = omega arith;
-    refusals = omega arith;
+    faults = NoneFell-same (means.faults seat.link.device);
+    refusals = NoneFell-same (means.refusals seat.link.device);
     most = refl;
   }

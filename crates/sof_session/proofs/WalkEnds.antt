@@ -25,7 +25,7 @@ use Rattle.host_pcm.specs.Carried.{passed_of}
 use Rattle.sof_session.specs.Walks.{Ending, ending, outcome_by, on_from, walked}
 use Rattle.sof_session.specs.Turns.{IsFated}
 use Rattle.sof_session.proofs.LinkFates.{planned-meant, more-few, Steady-none, exchange_steady, exchange_fated, exchange_sent, exchange_entries}
-use Rattle.sof_session.proofs.StayedCounts.{Stayed, Stayed-first, Stayed-rest, sum_not_risen}
+use Rattle.sof_session.proofs.StayedCounts.{Stayed, Stayed-between, none-rose}
 
 abbrev Answers : Type 0
 Answers = List (Option (List ℕ))
@@ -75,10 +75,10 @@ module _ {P : Type 0} (means : Meaning P) (w m : World (Wire P)) (is : m.device 
   same_refused = ap (λ (wire : Wire P). wire.refused) is ∙ ap (λ (lot : Lot). refused_after lot w.device.refused) passes
 
   no_fault : Rose ((link means).faults w.device) ((link means).faults m.device) → ⊥
-  no_fault = sum_not_risen (means.faults w.device.device) (means.faults m.device.device) w.device.dropped m.device.dropped stayed.faults stayed.faults_below same_dropped (omega (arith, below, fated.dropped))
+  no_fault = none-rose (means.faults w.device.device) (means.faults m.device.device) w.device.dropped m.device.dropped stayed.faults same_dropped (omega (arith, below, fated.dropped))
 
   no_refusal : Rose ((link means).refusals w.device) ((link means).refusals m.device) → ⊥
-  no_refusal = sum_not_risen (means.refusals w.device.device) (means.refusals m.device.device) w.device.refused m.device.refused stayed.refusals stayed.refusals_below same_refused (omega (arith, below, fated.refused))
+  no_refusal = none-rose (means.refusals w.device.device) (means.refusals m.device.device) w.device.refused m.device.refused stayed.refusals same_refused (omega (arith, below, fated.refused))
 
 -- ---- acts, one after another
 
@@ -135,14 +135,14 @@ module _ {P : Type 0} (means : Meaning P) (plan : Plan) (heap : ℕ) (kept : Rec
       let entries = exchange_entries means request answer w m x in
       let first = exchange_steady means request answer w m x in
       let later = Fated-steady answers acts m v fated.3 in
-      let here = Stayed-first means w.device.device m.device.device v.device.device first later stayed in
+      let here = Stayed-between means w.device.device w.device.device m.device.device v.device.device (Steady-none means w.device.device w.device.device refl) later stayed in
       let low : w.device.sent < 3 * 2 ^ 62 = omega (arith, below) in
       let lot = next_fate w.device in
       let outcome = by_fate means request (own plan heap kept act) w m lot answer (planned-meant (more w.device.sent) w.device.entries held.meant)
       (λ passes. no_fault means w m x.did.1 passes held low here) (λ passes. no_refusal means w m x.did.1 passes held low here) x.did.0 fated.2 in
       let then_below : m.device.sent + length acts < 3 * 2 ^ 62 = omega (arith, below, sent, more-few w.device.sent) in
       let goes_on = λ (walk : Walk acts answers result).
-      let rest = walk_ends acts answers result m v left then_below fated.3 walk (Stayed-rest means w.device.device m.device.device v.device.device first later stayed) in
+      let rest = walk_ends acts answers result m v left then_below fated.3 walk (Stayed-between means w.device.device m.device.device v.device.device v.device.device first (Steady-none means v.device.device v.device.device refl) stayed) in
       ap (λ (n : ℕ). ending result n v.device.sent v.device.entries) (passed-more answer acts answers result walk) ∙ ap counting rest in
       let stops = λ (fault : HostFault) (nothing : answers ≡ []) (is : result ≡ Err fault).
       let same : v ≡ m = subst (λ (xs : Answers). Fated (link means) plan heap kept xs acts m v) nothing fated.3 in

@@ -3,6 +3,7 @@ use Rattle.std.specs.Prelude.{◌≡◌, ℕ, ◌<◌, ◌≤◌, ◌^◌, List,
 use Rattle.sof_base.specs.Ports.{Io, InputView, OutputView}
 use Rattle.stream_law.specs.State.{FwState, view_of}
 use Rattle.stream_law.specs.Ways.{buffers}
+use Rattle.mbox_link.specs.Exchange.{Rose, NoneFell}
 use Rattle.mbox_link.specs.Calls.{Meaning, Tick, Did}
 use Rattle.mbox_link.specs.Wire.{Wire}
 use Rattle.mbox_link.specs.declared.fates.Fate.{Fate}
@@ -143,8 +144,8 @@ pub data Life (P : Type 0) : Type 0 where
 pub record LifeMeaning (W : Type 0) : Type 1 where
   pub stand : W → Stand
   pub most : W → ℕ
-  pub faults : W → ℕ
-  pub refusals : W → ℕ
+  pub faults : W → List ℕ
+  pub refusals : W → List ℕ
   pub pending : W → ℕ
 
 -- the device in a life
@@ -180,13 +181,10 @@ life means = record {
   pending = λ l. means.pending (device_of l);
 }
 
--- The device's own counts of faults and of refusals did not rise, and with the link's own counts, which are below 2^63 and so
--- many more as a command sends messages, they are not at their last value.
+-- no count of faults and none of refusals of the device rose
 pub record Calm {W : Type 0} (means : LifeMeaning W) (old new : W) : Type 0 where
-  pub faults : means.faults new ≡ means.faults old
-  pub faults_below : means.faults new < 2 ^ 62
-  pub refusals : means.refusals new ≡ means.refusals old
-  pub refusals_below : means.refusals new < 2 ^ 62
+  pub faults : Rose (means.faults old) (means.faults new) → ⊥
+  pub refusals : Rose (means.refusals old) (means.refusals new) → ⊥
 
 -- a task with what it answered
 pub record Turn : Type 0 where
@@ -205,8 +203,8 @@ shown_by command seat = []
 -- What a turn does: where the device's counts did not rise, the written next stand and answer; and no count falls.
 pub record Turned {W : Type 0} (means : LifeMeaning W) (turn : Turn) (old new : W) : Type 0 where
   pub next : Calm means old new → (means.stand new, turn.out) ≡ next turn.task (means.stand old)
-  pub faults : means.faults old ≤ means.faults new
-  pub refusals : means.refusals old ≤ means.refusals new
+  pub faults : NoneFell (means.faults old) (means.faults new)
+  pub refusals : NoneFell (means.refusals old) (means.refusals new)
   pub most : means.most new ≡ means.most old
 
 -- turns, one after another

@@ -29,8 +29,8 @@ fn with_direction(alloc: Global, direction: u32) -> Result<Vec<u8>, AllocError> 
     Ok(file)
 }
 
-// A third route with an end that is no widget, one from a buffer to itself, a buffer without routes, and a DAI that plays and
-// says that it captures.
+// A third route with an end that is no widget, one from a buffer to itself, a buffer without routes, a volume
+// without routes, and a DAI that plays and says that it captures.
 #[test]
 fn routes_buffers_and_directions_alone(rt: HostRuntime) -> Result<(), Fail> {
     let alloc = rt.alloc();
@@ -45,6 +45,10 @@ fn routes_buffers_and_directions_alone(rt: HostRuntime) -> Result<(), Fail> {
     let mut idle = thin_graph(alloc)?;
     put_sized(&mut idle, 16, 1, b"B1", b"", (100, 768))?;
     assert_eq!(rt; broken_rule(alloc, &idle), Some((5, 4)));
+    let mut unjoined = thin_graph(alloc)?;
+    put_header(&mut unjoined, 5, 132, 1, 1)?;
+    put_widget(&mut unjoined, 4, b"V0", b"", 0, 0)?;
+    assert_eq!(rt; broken_rule(alloc, &unjoined), Some((6, 4)));
     assert_eq!(rt;
         broken_rule(alloc, &with_direction(alloc, 1)?),
         Some((10, 2))

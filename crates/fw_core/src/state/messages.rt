@@ -1,6 +1,7 @@
 // What each message does, and why it is refused: its tests in the order -19, -16, -22, -12.
 ghost use Rattle.std.specs.Prelude.{◌≡◌, ◌+◌, ◌<◌, ◌≤◌, ◌||◌, [], ◌∷◌, ◌++◌, OnErr, IfOk, length, map, vec_capacity, Ok, Err, true, false, if◌then◌else◌};
 ghost use Rattle.stream_law.specs.Joins.{joined, would_cycle, would_reach, would_grow, with_join};
+ghost use Rattle.stream_law.specs.Made.{blob};
 ghost use Rattle.mbox_link.specs.Step.{invalid, with_stream, comp_new as comp_new_row, buffer_new as buffer_new_row, pipe_new as pipe_new_row, connect as connect_row, pipe_complete as pipe_complete_row, data_part as data_row, is_joined, takes_join, row, row_of, body, body_of};
 ghost use Rattle.ipc3_codec.specs.Allowed.{is_period};
 ghost use Rattle.ipc3_codec.specs.Messages.{decoded, IsAllowed};
@@ -115,8 +116,9 @@ impl State {
         }
     }
 
-    /// A component of this kind, in the pipeline of this index. A host brings a stream without parameters.
+    /// A component of this kind, in the pipeline of this index, with no blob in force. A host brings a stream without parameters.
     fn comp_new(&mut self, id: u32, pipe: u32, kind: Kind, setting: Setting) -> Result<(), Errno>
+        requires { blob setting ≡ [] }
         ensures answer { answer_of self.new.state result ≡ comp_new_row self.old.state id pipe kind setting }
         ensures kept { OnErr result (self.new ≡ self.old) }
         ensures room { self.new.room ≡ self.old.room }

@@ -1,17 +1,10 @@
-use Rattle.std.proofs.Common.{◌≡◌, ◌∙◌, sym, ap, true, false, ◌==◌, List, map, Result, Ok, ℤ}
+use Rattle.std.proofs.Common.{◌≡◌, ◌∙◌, sym, ap, true, false, ◌==◌, Ok}
 use Rattle.std.specs.List.{list_any}
-use Rattle.stream_law.specs.declared.graph.Edge.{Edge}
-use Rattle.stream_law.specs.declared.graph.Join.{Join}
-use Rattle.stream_law.specs.State.{FwState, HeapView}
 use Rattle.mbox_link.specs.Step.{has_edge, is_held, without_piece, without_buffer}
-use Rattle.fw_ring.specs.RingLists.{RingLists}
 use Rattle.fw_core.specs.Pieces.{HeapHeld}
-use Rattle.fw_core.specs.Kept.{Held, state_of, shown}
-use Rattle.fw_core.proofs.FreeingLaws.{kept-buffer_free, held-buffer_free, without_buffer-is, buffer_free-row}
+use Rattle.fw_core.specs.Kept.{Held}
+use Rattle.fw_core.proofs.FreeingLaws.{kept-buffer_free, held-buffer_free, buffer_free-is, buffer_free-row}
 use Rattle.fw_core.proofs.state.State.buffer_free.Goals as goal
-
-abbrev done : FwState → Result FwState ℤ
-done f = Ok f
 
 pub invariant_of-self : goal.invariant_of-self
 invariant_of-self c =
@@ -30,7 +23,7 @@ returns-clause-answer c =
     let s = c.self.inside in
     let given : c.give.new.self.view ≡ without_piece c.args.id s.heap.view = ap (λ (h : HeapHeld). h.view) c.give.ensures in
     let edge : has_edge c.args.self.now.state.graph c.args.id ≡ true = ap (λ (h : Held). has_edge h.state.graph c.args.id) (sym c.self.view_is) ∙ sym c.has.ensures ∙ c.if-not-has.false in
-    ap (λ (p : HeapView × List Edge × List Join × RingLists). done (state_of p.0 s.clock s.comps p.1 s.pipes p.2 s.streams (map shown p.3.rings))) (λ i. (given i, c.remove.ensures i, c.remove_joins.ensures.items i, c.remove-2.ensures i))
-    ∙ ap done (without_buffer-is s.heap.view s.clock s.comps s.edges s.pipes s.joins.items s.streams s.rings c.args.id)
-    ∙ ap (λ (h : Held). done (without_buffer c.args.id h.state)) c.self.view_is
-    ∙ sym (buffer_free-row c.args.self.now.state c.args.id (sym c.is_used.ensures ∙ c.if-not-is_used.false) (sym c.has_complete_pipe.ensures ∙ c.if-has_complete_pipe.false) edge (sym c.is_held.ensures ∙ c.if-is_held.false))
+    let free : is_held c.args.self.now.state.graph c.args.self.now.state.streams c.args.id ≡ false = sym c.is_held.ensures ∙ c.if-is_held.false in
+    ap Ok (buffer_free-is s.heap.view s.clock s.comps s.edges s.pipes s.joins.items s.streams s.rings s.room c.self.invariant.0 c.self.invariant.1 c.args.id c.give.new.self.view c.remove.new.self c.remove_joins.new.joins.items c.remove-2.new.self (sym c.has.ensures ∙ c.if-not-has.false) (ap (λ (h : Held). is_held h.state.graph h.state.streams c.args.id) c.self.view_is ∙ free) given c.remove.ensures c.remove_joins.ensures.items c.remove-2.ensures)
+    ∙ ap (λ (h : Held). Ok (without_buffer c.args.id h.state)) c.self.view_is
+    ∙ sym (buffer_free-row c.args.self.now.state c.args.id (sym c.is_used.ensures ∙ c.if-not-is_used.false) (sym c.has_complete_pipe.ensures ∙ c.if-has_complete_pipe.false) edge free)

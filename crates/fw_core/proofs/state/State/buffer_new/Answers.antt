@@ -1,16 +1,15 @@
-use Rattle.std.proofs.Common.{◌≡◌, ◌+◌, ◌/◌, ◌∙◌, sym, ap, subst, List, length, map, Ok, false, true, arith}
+use Rattle.std.proofs.Common.{◌≡◌, ◌+◌, ◌/◌, ◌∙◌, sym, ap, subst, length, map, Ok, false, true, arith}
 use Rattle.std.proofs.lemmas.Bool.{lt-leb}
 use Rattle.std.specs.Prelude.{nat_le}
 use Rattle.sof_base.specs.Holes.{rounded, fits, first_fit}
-use Rattle.stream_law.specs.declared.graph.Edge.{Edge}
-use Rattle.stream_law.specs.State.{FwState, HeapView}
+use Rattle.stream_law.specs.State.{FwState}
 use Rattle.mbox_link.specs.Step.{is_used, is_complete, has_hole, buffer_bytes, with_piece, with_buffer}
-use Rattle.fw_ring.specs.RingLists.{RingLists, AreFree}
+use Rattle.fw_ring.specs.RingLists.{AreFree}
 use Rattle.fw_core.specs.Kept.{Held, state_of, shown}
 use Rattle.fw_core.specs.Pieces.{HeapHeld}
-use Rattle.fw_core.proofs.KeptLaws.{kept-buffer, held-buffer, free-words}
+use Rattle.fw_core.proofs.KeptLaws.{kept-buffer, held-buffer, buffer-is, free-words}
 use Rattle.fw_core.proofs.Pieced.{no-piece, first_word}
-use Rattle.fw_core.proofs.Rows.{buffer_new-row, with_buffer-is}
+use Rattle.fw_core.proofs.Rows.{buffer_new-row}
 use Rattle.fw_core.proofs.state.State.buffer_new.Goals as goal
 
 pub carve-place-requires-clause-few : goal.carve-place-requires-clause-few
@@ -57,7 +56,7 @@ returns-clause-answer c =
     let bytes : 32 + c.from-bytes.result ≡ buffer_bytes c.args.size = ap (λ n. 32 + n) c.from-bytes.ensures in
     let carved : c.carve-place.new.self.view ≡ with_piece c.args.id (buffer_bytes c.args.size) s.heap.view = ap (λ (h : HeapHeld). h.view) c.carve-place.ensures.heap ∙ ap (λ n. with_piece c.args.id n s.heap.view) bytes in
     let fits : has_hole old (buffer_bytes c.args.size) ≡ true = ap (λ n. has_hole old n) (sym bytes) ∙ sym c.holds.ensures ∙ c.if-not-holds.false in
-    ap (λ (p : HeapView × List Edge × RingLists). Ok (state_of p.0 s.clock s.comps p.1 s.pipes s.joins.items s.streams (map shown p.2.rings))) (λ i. (carved i, c.place.ensures i, c.place-2.ensures i))
-    ∙ ap Ok (with_buffer-is s.heap.view s.clock s.comps s.edges s.pipes s.joins.items s.streams s.rings c.args.id c.args.pipe ((c.carve-place.result + 32) / 4) c.args.size)
+    let at : (c.carve-place.result + 32) / 4 ≡ first_word c.args.size s.heap.view = ap (λ n. (n + 32) / 4) (c.carve-place.ensures.place ∙ ap (λ n. first_fit (rounded n) s.heap.view.holes) bytes) in
+    ap Ok (buffer-is s.heap.view s.clock s.comps s.edges s.pipes s.joins.items s.streams s.rings s.room c.self.invariant.0 c.self.invariant.1 c.args.id c.args.pipe c.args.size ((c.carve-place.result + 32) / 4) c.carve-place.new.self.view c.place.new.self c.place-2.new.self (omega (arith, c.len.ensures)) (ap (λ (h : Held). is_used h.state.graph c.args.id) c.self.view_is ∙ unused) carved at c.place.ensures c.place-2.ensures)
     ∙ ap (λ (h : Held). Ok (with_buffer c.args.id c.args.pipe c.args.size h.state)) c.self.view_is
     ∙ sym (buffer_new-row f c.args.id c.args.pipe c.args.size unused open_still (ap (λ (h : Held). nat_le 128 (length h.state.graph.edges)) (sym c.self.view_is) ∙ few) (ap (λ (h : Held). has_hole h.state (buffer_bytes c.args.size)) (sym c.self.view_is) ∙ fits))

@@ -1,9 +1,13 @@
-use Rattle.std.proofs.Common.{◌≡◌, ◌∙◌, sym, ap, false, Some, ◌==◌}
+use Rattle.std.proofs.Common.{◌≡◌, ◌∙◌, sym, ap, List, map, filter, not, Ok, false, Some, ◌==◌}
 use Rattle.std.specs.Prelude.{find}
-use Rattle.mbox_link.specs.Step.{is_index_held, without_piece}
+use Rattle.stream_law.specs.declared.graph.Pipe.{Pipe}
+use Rattle.stream_law.specs.State.{HeapView}
+use Rattle.mbox_link.specs.Step.{is_index_held, without_piece, without_pipe}
 use Rattle.fw_core.specs.Pieces.{HeapHeld}
-use Rattle.fw_core.specs.Kept.{Held}
+use Rattle.fw_core.specs.Kept.{Held, state_of, shown}
 use Rattle.fw_core.proofs.FreeingLaws.{kept-pipe_free, held-pipe_free}
+use Rattle.fw_core.proofs.KeptLaws.{pipes-is}
+use Rattle.fw_core.proofs.Rows.{pipe_free-row}
 use Rattle.fw_core.proofs.state.State.pipe_free.Goals as goal
 
 pub invariant_of-self : goal.invariant_of-self
@@ -18,3 +22,12 @@ invariant_of-self c =
       c.self.invariant.2,
       ap (λ (h : HeapHeld). h.room) c.give.ensures ∙ c.self.invariant.3,
     )
+
+pub returns-clause-answer : goal.returns-clause-answer
+returns-clause-answer c =
+    let s = c.self.inside in
+    let f = c.args.self.now.state in
+    ap (λ (p : HeapView × List Pipe). Ok (state_of p.0 s.clock s.comps s.edges p.1 s.joins.items s.streams (map shown s.rings.rings))) (λ i. (ap (λ (h : HeapHeld). h.view) c.give.ensures i, c.remove.ensures i))
+    ∙ ap Ok (pipes-is s.heap.view s.clock s.comps s.edges s.pipes s.joins.items s.streams s.rings s.room c.self.invariant.0 c.self.invariant.1 (without_piece c.args.id s.heap.view) (filter (λ p. not (p.id == c.args.id)) s.pipes))
+    ∙ ap (λ (h : Held). Ok (without_pipe c.args.id h.state)) c.self.view_is
+    ∙ sym (pipe_free-row f c.args.id c.in-Some.pipe (sym c.is_used.ensures ∙ c.if-not-is_used.false) (sym c.pipe.ensures ∙ c.in-Some.is) (sym c.is_index_held.ensures ∙ c.if-is_index_held.false))

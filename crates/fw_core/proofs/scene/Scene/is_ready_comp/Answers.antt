@@ -4,7 +4,7 @@ use Rattle.stream_law.specs.State.{View}
 use Rattle.stream_law.specs.Ways.{ins, outs}
 use Rattle.stream_law.specs.Joins.{fits_kind}
 use Rattle.fw_core.proofs.Found.{ends-agree}
-use Rattle.fw_core.proofs.scene.Scene.has_all_edges.Goals as goal
+use Rattle.fw_core.proofs.scene.Scene.is_ready_comp.Goals as goal
 
 pub returns-then-is_complete : goal.returns-then-is_complete
 returns-then-is_complete c =

@@ -41,4 +41,5 @@ pub mod FewerPipes
 pub mod Settings
 pub mod FreeingLaws
 pub mod Silent
+pub mod Seeking
 pub mod Backwards

@@ -3,3 +3,4 @@ pub mod Kept
 pub mod Settled
 pub mod Answers
 pub mod Device
+pub mod Sought

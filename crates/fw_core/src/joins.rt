@@ -39,8 +39,8 @@ pub fn on_way(comps: &[Comp], joins: &[Join], host: u32, id: u32) -> bool
     }
 }
 
-// Whether an id is that of a capture's host.
-fn is_capture_at(comps: &[Comp], id: u32) -> bool
+/// Whether an id is that of a capture's host.
+pub fn is_capture_at(comps: &[Comp], id: u32) -> bool
     ensures { result ≡ option_map_or (λ c. is_capture c.kind) (find (λ c. c.id == id) comps.now) false }
 {
     match comp_at(comps, id) {

@@ -18,5 +18,6 @@ mod table;
 #[cfg(test)]
 mod tests;
 mod turning;
+mod walks;
 
 pub use firmware::Firmware;

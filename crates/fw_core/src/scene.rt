@@ -6,7 +6,7 @@ ghost use Rattle.stream_law.specs.Joins.{is_endpoint as ends_there};
 ghost use Rattle.stream_law.specs.Seen.{flows as may_hold};
 ghost use Rattle.fw_core.specs.Answers.{are_others};
 ghost use Rattle.mbox_link.specs.Exchange.{plays as is_played};
-ghost use Rattle.mbox_link.specs.Step.{is_complete as is_whole, is_way_ready as has_ready_way, is_ready_comp as is_comp_ready, is_ready_edge as is_edge_ready, set_stream};
+ghost use Rattle.mbox_link.specs.Step.{is_complete as is_whole, is_ready_comp as is_comp_ready, is_ready_edge as is_edge_ready, set_stream};
 
 use crate::{joins, kinds};
 use sof_base::Params;
@@ -117,28 +117,6 @@ impl<'a> Scene<'a> {
         }
     }
 
-    /// Whether the ways of two hosts' streams share something.
-    pub fn touch(&self, first: u32, second: u32) -> bool
-        ensures { result ≡ list_any (λ x. lies_on self.now.graph first x && lies_on self.now.graph second x) (components self.now.graph ++ buffers self.now.graph) }
-    {
-        self.share_comp(first, second) || self.share_edge(first, second)
-    }
-
-    // Whether they share a component.
-    fn share_comp(&self, first: u32, second: u32) -> bool
-        ensures { result ≡ list_any (λ c. lies_on self.now.graph first c.id && lies_on self.now.graph second c.id) self.now.graph.comps }
-    {
-        self.comps.iter().any(|comp| self.on_way(first, comp.id) && self.on_way(second, comp.id))
-    }
-
-    // Whether they share a buffer.
-    fn share_edge(&self, first: u32, second: u32) -> bool
-        ensures { result ≡ list_any (λ e. lies_on self.now.graph first e.buffer && lies_on self.now.graph second e.buffer) self.now.graph.edges }
-    {
-        self.edges.iter().any(|edge| self.on_way(first, edge.buffer)
-            && self.on_way(second, edge.buffer))
-    }
-
     /// Whether frames may lie in a buffer: it is Live and has Live ends.
     #[tactic(auto, unfolding(stream_law::specs::Seen::flows))]
     pub fn flows(&self, buffer: u32) -> bool
@@ -174,30 +152,8 @@ impl<'a> Scene<'a> {
         self.edges.iter().find(|edge| edge.buffer == buffer)
     }
 
-    /// Whether all that is on the way of a host's stream is ready.
-    #[tactic(auto, unfolding(mbox_link::specs::Step::is_way_ready))]
-    pub fn is_way_ready(&self, host: u32) -> bool
-        ensures { result ≡ has_ready_way self.now.graph host }
-    {
-        self.has_ready_comps(host) && self.has_ready_edges(host)
-    }
-
-    // Whether its components are.
-    fn has_ready_comps(&self, host: u32) -> bool
-        ensures { result ≡ list_all (λ c. not (lies_on self.now.graph host c.id) || is_comp_ready self.now.graph c) self.now.graph.comps }
-    {
-        self.comps.iter().all(|comp| !self.on_way(host, comp.id) || self.is_ready_comp(comp))
-    }
-
-    // Whether its buffers are.
-    fn has_ready_edges(&self, host: u32) -> bool
-        ensures { result ≡ list_all (λ e. not (lies_on self.now.graph host e.buffer) || is_edge_ready self.now.graph e) self.now.graph.edges }
-    {
-        self.edges.iter().all(|edge| !self.on_way(host, edge.buffer) || self.is_ready_edge(edge))
-    }
-
-    // Whether a component's pipeline is complete, and its buffers are as many as its kind has.
-    fn is_ready_comp(&self, comp: &Comp) -> bool
+    /// Whether a component's pipeline is complete, and its buffers are as many as its kind has.
+    pub fn is_ready_comp(&self, comp: &Comp) -> bool
         ensures { result ≡ is_comp_ready self.now.graph comp.now }
     {
         self.is_complete(comp.pipe)
@@ -208,8 +164,8 @@ impl<'a> Scene<'a> {
             )
     }
 
-    // Whether a buffer's pipeline is complete, and both its sides are joined.
-    fn is_ready_edge(&self, edge: &Edge) -> bool
+    /// Whether a buffer's pipeline is complete, and both its sides are joined.
+    pub fn is_ready_edge(&self, edge: &Edge) -> bool
         ensures { result ≡ is_edge_ready self.now.graph edge.now }
     {
         self.is_complete(edge.pipe) && edge.source.is_some() && edge.sink.is_some()

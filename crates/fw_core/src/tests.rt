@@ -270,26 +270,14 @@ fn the_gains_of_a_volume_are_set_and_got_until_it_is_freed(rt: HostRuntime) -> R
     Ok(())
 }
 
-// An equaliser, as a component of id 4.
-fn equaliser() -> Message {
-    Message::CompNew {
-        id: 4,
-        pipe: 1,
-        periods_sink: 0,
-        periods_source: 0,
-        frame_fmt: 2,
-        kind: CompWords::Eq,
-    }
-}
-
-// A firmware with a host, a component of id 4 and a DAI in a row, in a heap of so many bytes, which they fill.
-fn through(alloc: Global, bytes: u32, component: Message) -> Result<Firmware, Fail> {
-    let mut firmware = Firmware::new(alloc, bytes)?;
-    firmware.boot(bytes);
+// A firmware with a host, a volume and a DAI in a row.
+fn through(alloc: Global) -> Result<Firmware, Fail> {
+    let mut firmware = Firmware::new(alloc, 1856)?;
+    firmware.boot(1856);
     let messages = [
         host(0),
         buffer(1),
-        component,
+        volume(4),
         buffer(5),
         dai(2),
         pipeline(3, 2),
@@ -305,7 +293,7 @@ fn through(alloc: Global, bytes: u32, component: Message) -> Result<Firmware, Fa
 
 #[test]
 fn a_stream_through_a_volume_starts_and_moves_nothing_so_far(rt: HostRuntime) -> Result<(), Fail> {
-    let mut firmware = through(rt.alloc(), 1856, volume(4))?;
+    let mut firmware = through(rt.alloc())?;
     let start = [stereo(0), Message::TrigStart { id: 0 }];
     let replies = replies_to(rt.alloc(), &mut firmware, &start)?;
     assert!(rt; replies.as_slice() == [DONE; 2].as_slice());
@@ -316,22 +304,5 @@ fn a_stream_through_a_volume_starts_and_moves_nothing_so_far(rt: HostRuntime) ->
     let mut front = [0; 4];
     io.take(0, &mut front);
     assert_eq!(rt; front, [1, 2, 3, 4]);
-    let stop = [Message::TrigStop { id: 0 }, Message::PcmFree { id: 0 }];
-    let replies = replies_to(rt.alloc(), &mut firmware, &stop)?;
-    assert!(rt; replies.as_slice() == [DONE; 2].as_slice());
-    assert_eq!(rt; firmware.used(), 1856);
-    Ok(())
-}
-
-#[test]
-fn a_stream_through_an_equaliser_starts_and_stops(rt: HostRuntime) -> Result<(), Fail> {
-    let mut firmware = through(rt.alloc(), 5952, equaliser())?;
-    let messages = [
-        stereo(0),
-        Message::TrigStart { id: 0 },
-        Message::TrigStop { id: 0 },
-    ];
-    let replies = replies_to(rt.alloc(), &mut firmware, &messages)?;
-    assert!(rt; replies.as_slice() == [DONE; 3].as_slice());
     Ok(())
 }

@@ -10,6 +10,7 @@ ghost use Rattle.fw_schedule.specs.Turns.{place_of, turn_at as has_turn_at, turn
 ghost use Rattle.fw_schedule.specs.TurnLaws.{HasBounds};
 
 use crate::joins::is_at;
+use crate::kinds;
 use crate::scene::Scene;
 use fw_schedule::{Action, Turn};
 use sof_base::{Format, Params};
@@ -32,7 +33,7 @@ impl<'a> Scene<'a> {
         requires bounds { HasBounds self.now }
         ensures { result ≡ has_turn self.now comp.now.id }
     {
-        if !self.active(comp.id) {
+        if !kinds::is_endpoint(comp.kind) || !self.active(comp.id) {
             return None;
         }
         match comp.kind {

@@ -1,9 +1,9 @@
 -- Histories without numbers, one for each Live equaliser.
-use Rattle.std.proofs.Common.{◌≡◌, refl, sym, ap, ◌∙◌, ℕ, zero, suc, ◌+◌, ◌*◌, List, [], ◌∷◌, ◌++◌, map, filter, length, replicate, Option, Some, None, Bool, true, false, cond, not, ◌==◌, ◌&&◌, ◌||◌, ℤ, pos, arith}
-use Rattle.std.proofs.lemmas.Bool.{false≢true, le-ltb, eqb-true}
+use Rattle.std.proofs.Common.{◌≡◌, refl, sym, ap, ◌∙◌, subst, ℕ, zero, suc, ◌+◌, ◌*◌, List, [], ◌∷◌, ◌++◌, map, filter, length, replicate, Option, Some, None, Bool, true, false, cond, not, ◌==◌, ◌&&◌, ◌||◌, ℤ, pos, arith}
+use Rattle.std.proofs.lemmas.Bool.{le-ltb}
 use Rattle.std.specs.Prelude.{find, nat_lt, nat_le, option_and_then}
 use Rattle.std.specs.Option.{option_map_or}
-use Rattle.std.specs.List.{list_all, AllByRecursion}
+use Rattle.std.specs.List.{list_all, AllByRecursion, IsDistinct}
 use Rattle.sof_base.specs.Equations.{Section}
 use Rattle.sof_base.specs.Slots.{word_at}
 use Rattle.stream_law.specs.declared.graph.Kind.{Kind}
@@ -13,10 +13,9 @@ use Rattle.stream_law.specs.declared.graph.Setting.TheVariants.{Nothing, Gains, 
 use Rattle.stream_law.specs.declared.graph.Comp.{Comp}
 use Rattle.stream_law.specs.declared.graph.Graph.{Graph}
 use Rattle.stream_law.specs.declared.stream.StreamView.{StreamView}
-use Rattle.stream_law.specs.Placed.{placed}
+use Rattle.stream_law.specs.Placed.{placed, HasDistinct}
 use Rattle.stream_law.specs.State.{FwState, View, History}
 use Rattle.stream_law.specs.Ways.{comp_of, components, is_live_phase, live, channels_of}
-use Rattle.stream_law.specs.Joins.{is_endpoint}
 use Rattle.stream_law.specs.Made.{blob}
 use Rattle.stream_law.specs.Equaliser.{blob_channels, assigned_sections, blob_word, sections_of}
 use Rattle.stream_law.specs.Seen.{is_equaliser, equalises, goes_on, blob_in, fresh_from, fresh_numbers, numbers_in, history_seen}
@@ -24,11 +23,9 @@ use Rattle.stream_law.proofs.Placing.{find-placed_apart, map-placed}
 use Rattle.ipc3_codec.specs.declared.message.CompWords.{CompWords}
 use Rattle.ipc3_codec.specs.declared.message.CompWords.TheVariants as words
 use Rattle.mbox_link.specs.Step.{has_comp, has_kind, is_host, kind_at, first_setting, new_setting, with_setting}
-use Rattle.mbox_link.specs.Exchange.{plays}
 use Rattle.fw_core.specs.Kept.{IsWired, is_node, bare_histories}
-use Rattle.fw_core.proofs.Fewer.{all-test, keys-left, none-each, other-find}
+use Rattle.fw_core.proofs.Fewer.{keys-left, none-each, other-find, distinct-filter}
 use Rattle.fw_core.proofs.Growing.{hosts-apart}
-use Rattle.fw_core.proofs.Members.{find-in, in-all}
 use Rattle.fw_core.proofs.Unreached.{eqb-turned, IsApart, apart, off-way}
 
 abbrev bare : ℕ → History
@@ -238,32 +235,26 @@ histories-left id v w are lives =
         by true e rest = rest ∙ gone (equalises v n) e
         by false e rest = ap (λ h. map bare (cond h (n ∷ filter (equalises w) (filter (λ n. not (n == id)) ids)) (filter (equalises w) (filter (λ n. not (n == id)) ids)))) (same n e) ∙ last (equalises v n) e rest
 
--- ---- where all that is Live is an endpoint
+-- ---- the histories of a view
 
-no-equaliser : (k : Kind) → is_endpoint k ≡ true → is_equaliser k ≡ false
-no-equaliser HostPlay e = refl
-no-equaliser HostCapture e = refl
-no-equaliser (DaiPlay format) e = refl
-no-equaliser (DaiCapture format) e = refl
-no-equaliser Volume e = refl
-no-equaliser Mixer e = refl
-no-equaliser Mux e = refl
-no-equaliser Eq e = absurd (false≢true e)
-
-none-equalises : (v : View) → plays v ≡ true → (c : ℕ) → equalises v c ≡ false
-none-equalises v playing c = by (live v c) refl (comp_of v.graph c) refl
+-- they have no numbers
+pub bare-numbers : (v : View) → AllByRecursion (λ h. h.numbers ≡ []) (bare_histories v)
+bare-numbers v = each (filter (equalises v) (components v.graph))
   where
-    by : (h : Bool) → live v c ≡ h → (o : Option Comp) → comp_of v.graph c ≡ o → (h && option_map_or (λ x. is_equaliser x.kind) o false) ≡ false
-    by false e o is = refl
-    by true e None is = refl
-    by true e (Some x) is =
-        let f = find-in (λ y. y.id == c) v.graph.comps x is in
-        let ends : (not (live v x.id) || is_endpoint x.kind) ≡ true = in-all (λ y. (not (live v y.id) || is_endpoint y.kind) ≡ true) v.graph.comps x (all-test (λ y. not (live v y.id) || is_endpoint y.kind) v.graph.comps playing) f.0 in
-        no-equaliser x.kind (sym (ap (λ h. not h || is_endpoint x.kind) (ap (live v) (eqb-true x.id c f.1) ∙ e)) ∙ ends)
+    each : (ids : List ℕ) → AllByRecursion (λ h. h.numbers ≡ []) (map bare ids)
+    each [] = tt
+    each (c ∷ ids) = (refl, each ids)
 
-pub histories-none : (v : View) → plays v ≡ true → bare_histories v ≡ []
-histories-none v playing = ap (map bare) (each (components v.graph))
+-- and are of different components
+pub bare-distinct : (v : View) → HasDistinct (λ (c : Comp). c.id) v.graph.comps → HasDistinct (λ (h : History). h.comp) (bare_histories v)
+bare-distinct v ids =
+    subst (IsDistinct (λ m n. m == n)) (sym (comps-bare (filter (equalises v) (components v.graph))))
+    (distinct-filter (λ (n : ℕ). n) (equalises v) (components v.graph) (subst (IsDistinct (λ m n. m == n)) (sym (same (components v.graph))) ids))
   where
-    each : (ids : List ℕ) → filter (equalises v) ids ≡ []
-    each [] = refl
-    each (c ∷ ids) = ap (λ h. cond h (c ∷ filter (equalises v) ids) (filter (equalises v) ids)) (none-equalises v playing c) ∙ each ids
+    comps-bare : (ids : List ℕ) → map (λ (h : History). h.comp) (map bare ids) ≡ map (λ (n : ℕ). n) ids
+    comps-bare [] = refl
+    comps-bare (c ∷ ids) = ap (λ (ns : List ℕ). c ∷ ns) (comps-bare ids)
+
+    same : (ids : List ℕ) → map (λ (n : ℕ). n) ids ≡ ids
+    same [] = refl
+    same (c ∷ ids) = ap (λ (ns : List ℕ). c ∷ ns) (same ids)

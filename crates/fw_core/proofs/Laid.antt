@@ -11,25 +11,23 @@ use Rattle.stream_law.specs.declared.graph.Comp.{Comp}
 use Rattle.stream_law.specs.declared.graph.Edge.{Edge}
 use Rattle.stream_law.specs.declared.graph.Pipe.{Pipe}
 use Rattle.stream_law.specs.State.{View}
-use Rattle.stream_law.specs.Ways.{comp_of, source_of, sink_of, ins, outs, is_end, live, active, channels_of}
-use Rattle.stream_law.specs.Joins.{is_endpoint, fits_kind}
-use Rattle.stream_law.specs.Moves.{period, fed, fed_by}
+use Rattle.stream_law.specs.Ways.{comp_of, source_of, sink_of, ins, outs, is_end, active, active_end, channels_of}
+use Rattle.stream_law.specs.Joins.{fits_kind}
+use Rattle.stream_law.specs.Moves.{period, is_choosy, chooses, fed, fed_by}
 use Rattle.stream_law.specs.Order.{order}
 use Rattle.stream_law.specs.Seen.{flows}
 use Rattle.ipc3_codec.specs.Allowed.{is_period}
 use Rattle.fw_ring.specs.RingLists.{Ring, RingLists, fresh_ring}
 use Rattle.fw_schedule.specs.declared.turn.Turn.{Turn}
 use Rattle.fw_schedule.specs.declared.turn.Action.{Action}
-use Rattle.fw_schedule.specs.declared.turn.Action.TheVariants.{Feed, Drain, Fill}
-use Rattle.fw_schedule.specs.Turns.{place_of, turn_at, turn_by, turn_of, turns_of}
-use Rattle.fw_schedule.specs.TurnLaws.{fits_if_active, ends_if_active, IsPlain, HasBounds, HasChannels, IsLaidOut, edges_at}
-use Rattle.mbox_link.specs.Exchange.{plays}
+use Rattle.fw_schedule.specs.declared.turn.Action.TheVariants.{Feed, Drain, Fill, Make}
+use Rattle.fw_schedule.specs.Turns.{place_of, inlets_of, kernel_by, turn_at, turn_by, turn_of, turns_of}
+use Rattle.fw_schedule.specs.TurnLaws.{fits_if_active, IsFit, HasBounds, HasChannels, IsLaidOut, edges_at}
 use Rattle.fw_core.specs.Kept.{IsWired, IsLinked, IsPlayable, IsSet, IsSetBy, is_idle}
-use Rattle.fw_core.proofs.Fewer.{all-test}
 use Rattle.fw_core.proofs.Growing.{all-by}
-use Rattle.fw_core.proofs.Members.{IsIn, in-all, in-each, find-in}
-use Rattle.fw_core.proofs.Near.{AtEnd, at-buffer, fits-comp}
-use Rattle.fw_core.proofs.Playing.{beside, active-live, active-period, active-ready}
+use Rattle.fw_core.proofs.Members.{IsIn, in-each, find-in}
+use Rattle.fw_core.proofs.Near.{at-buffer, fits-comp, no-loop}
+use Rattle.fw_core.proofs.Playing.{IsAlong, along-out, along-in, chooses-kind, active-period, active-ready}
 
 -- ---- lists
 
@@ -50,6 +48,15 @@ ids-pass P test (e ∷ es) f = by (test e.buffer) refl (ids-pass P test es (λ x
     by true is rest = (f e (inl refl) is, rest)
     by false is rest = rest
 
+-- and what follows from it, of those that pass a second
+pub all-filter : (P Q : ℕ → Type 0) (test : ℕ → Bool) (ids : List ℕ) → AllByRecursion P ids → ((n : ℕ) → P n → test n ≡ true → Q n) → AllByRecursion Q (filter test ids)
+all-filter P Q test [] all f = tt
+all-filter P Q test (n ∷ ids) all f = by (test n) refl (all-filter P Q test ids all.1 f)
+  where
+    by : (h : Bool) → test n ≡ h → AllByRecursion Q (filter test ids) → AllByRecursion Q (cond h (n ∷ filter test ids) (filter test ids))
+    by true is rest = (f n all.0 is, rest)
+    by false is rest = rest
+
 -- a record at the place of an edge is that of its buffer, in a list of the same keys
 pub place-of : {X : Type 0} (key : X → ℕ) (P : X → Type 0) (rs : List X) (es : List Edge) (d : X) (e : Edge) → map key rs ≡ map (λ (e : Edge). e.buffer) es → AllByRecursion P rs → IsIn e es → P (get_or rs (position_or_len (λ y. y.buffer == e.buffer) es) d) × (key (get_or rs (position_or_len (λ y. y.buffer == e.buffer) es) d) ≡ e.buffer) × (position_or_len (λ y. y.buffer == e.buffer) es < length rs)
 place-of key P rs [] d e keys all here = absurd here
@@ -67,9 +74,18 @@ place-of {X} key P (r ∷ rs) (y ∷ es) d e keys all here = by (y.buffer == e.b
         let found = rest more in
         (subst (λ n. P (get_or (r ∷ rs) n d)) next found.0, subst (λ n. key (get_or (r ∷ rs) n d) ≡ e.buffer) next found.1, omega (arith, found.2))
 
--- a turn is at a buffer in which frames flow
-abbrev pub IsFlowing : View → Turn → Type 0
-IsFlowing v t = (e : Edge) × IsIn e v.graph.edges × (t.place ≡ place_of v.graph e.buffer) × (flows v e.buffer ≡ true)
+-- a place is that of a buffer in which frames flow
+abbrev pub IsFlowing : View → ℕ → Type 0
+IsFlowing v place = (e : Edge) × IsIn e v.graph.edges × (place ≡ place_of v.graph e.buffer) × (flows v e.buffer ≡ true)
+
+-- a kernel takes from such places
+abbrev pub TakesFlowing : View → Action → Type 0
+TakesFlowing v (Make kernel) = AllByRecursion (IsFlowing v) kernel.inlets
+TakesFlowing v action = Unit {0}
+
+-- a turn is at such a place, and takes from such places
+abbrev pub TurnsFlowing : View → Turn → Type 0
+TurnsFlowing v t = IsFlowing v t.place × TakesFlowing v t.action
 
 -- ---- bounds
 
@@ -92,47 +108,53 @@ module _ (v : View) (wired : IsWired v.graph) (linked : IsLinked v.graph) (playe
     periods = all-by (λ p. is_period p.period ≡ true) (λ p. p.period ≤ 10000) (λ p is. period-by p is) v.graph.pipes wired.periods;
   }
 
--- ---- where what is Live is an endpoint
+-- ---- edges
 
-module _ (v : View) (wired : IsWired v.graph) (linked : IsLinked v.graph) (played : IsPlayable v) (live_ends : plays v ≡ true) where
-  -- what is Active is Live, so an endpoint
-  ends-there : (c : Comp) → IsIn c v.graph.comps → active v c.id ≡ true → is_endpoint c.kind ≡ true
-  ends-there c there now =
-      let all = all-test (λ (x : Comp). not (live v x.id) || is_endpoint x.kind) v.graph.comps live_ends in
-      sym (ap (λ h. not h || is_endpoint c.kind) (active-live v wired linked played c.id now)) ∙ in-all (λ x. (not (live v x.id) || is_endpoint x.kind) ≡ true) v.graph.comps c all there
-
-  pub plain : IsPlain v
-  plain = record {
-    endpoints = all-true (ends_if_active v) v.graph.comps (in-each (λ x. ends_if_active v x ≡ true) v.graph.comps (λ c there. ends c there (active v c.id) refl));
-    fits = all-true (fits_if_active v) v.graph.comps (in-each (λ x. fits_if_active v x ≡ true) v.graph.comps (λ c there. by c there (active v c.id) refl));
-  }
+module _ (v : View) (wired : IsWired v.graph) (linked : IsLinked v.graph) (played : IsPlayable v) where
+  -- what is Active has the edges of its kind
+  pub fit : IsFit v
+  fit = all-true (fits_if_active v) v.graph.comps (in-each (λ x. fits_if_active v x ≡ true) v.graph.comps (λ c there. by c there (active v c.id) refl))
     where
       by : (c : Comp) → IsIn c v.graph.comps → (h : Bool) → active v c.id ≡ h → (not h || fits_kind c.kind (length (ins v.graph c.id)) (length (outs v.graph c.id))) ≡ true
       by c there true is = fits-comp v.graph c (active-ready v wired linked played c there is)
       by c there false is = refl
 
-      ends : (c : Comp) → IsIn c v.graph.comps → (h : Bool) → active v c.id ≡ h → (not h || is_endpoint c.kind) ≡ true
-      ends c there true is = ends-there c there is
-      ends c there false is = refl
+  -- an edge into a component
+  abbrev GoesTo : ℕ → ℕ → Type 0
+  GoesTo c b = (e : Edge) × IsIn e v.graph.edges × (b ≡ e.buffer) × (is_end e.sink c ≡ true)
+
+  abbrev Along : ℕ → ℕ → Type 0
+  Along c b = IsAlong v wired linked played c b
+
+  inlets-along : (c : Comp) → IsIn c v.graph.comps → active v c.id ≡ true → AllByRecursion (Along c.id) (inlets_of v c.id)
+  inlets-along c there now =
+      all-filter (GoesTo c.id) (Along c.id) (λ b. not (chooses v c.id) || active_end v (source_of v.graph b)) (ins v.graph c.id)
+      (ids-pass (GoesTo c.id) (λ b. is_end (sink_of v.graph b) c.id) v.graph.edges (λ e at is. (e, at, refl, sym (ap (λ (o : Option Edge). is_end (option_and_then (λ e. e.sink) o) c.id) (at-buffer v.graph wired linked e at)) ∙ is)))
+      (λ b to is. subst (Along c.id) (sym to.2) (along-in v wired linked played c there now to.0 to.1 to.3 (ap (λ n. not (chooses v c.id) || active_end v (source_of v.graph n)) (sym to.2) ∙ is)))
+
+  outs-along : (c : Comp) → IsIn c v.graph.comps → active v c.id ≡ true → AllByRecursion (Along c.id) (outs v.graph c.id)
+  outs-along c there now = ids-pass (Along c.id) (λ b. is_end (source_of v.graph b) c.id) v.graph.edges (λ e at is. along-out v wired linked played c there now e at (sym (ap (λ (o : Option Edge). is_end (option_and_then (λ e. e.source) o) c.id) (at-buffer v.graph wired linked e at)) ∙ is))
 
   -- ---- rings
 
   module _ (s : RingLists) (keys : map (λ (r : Ring). r.buffer) s.rings ≡ map (λ (e : Edge). e.buffer) v.graph.edges) (words : map (λ r. r.words) s.rings ≡ map (λ e. e.size / 4) v.graph.edges) (had : AllByRecursion (λ r. flows v r.buffer ≡ true → r.channels ≡ channels_of v r.buffer) s.rings) where
-    ring-has : (c : Comp) → IsIn c v.graph.comps → active v c.id ≡ true → (e : Edge) → IsIn e v.graph.edges → AtEnd e c.id → HasChannels v s c.id e.buffer
-    ring-has c there now e at end =
-        let b = beside v wired linked played c there (ends-there c there now) now e at end in
-        let r = place-of (λ (r : Ring). r.buffer) (λ r. flows v r.buffer ≡ true → r.channels ≡ channels_of v r.buffer) s.rings v.graph.edges (fresh_ring 0 0 0) e keys had at in
-        (r.0 (ap (flows v) r.1 ∙ b.0) ∙ ap (channels_of v) r.1 ∙ b.1, b.1)
+    ring-has : (c b : ℕ) → Along c b → HasChannels v s c b
+    ring-has c b a =
+        let e : Edge = a.edge in
+        let r = place-of (λ (r : Ring). r.buffer) (λ r. flows v r.buffer ≡ true → r.channels ≡ channels_of v r.buffer) s.rings v.graph.edges (fresh_ring 0 0 0) e keys had a.among in
+        subst (HasChannels v s c) (sym a.is) (r.0 (ap (flows v) r.1 ∙ a.flow) ∙ ap (channels_of v) r.1 ∙ a.channels, a.channels)
 
     pub laid-out : IsLaidOut v s
     laid-out = record {
       places = keys;
       sizes = words;
+      buffers = wired.buffers;
+      loops = no-loop v.graph wired linked;
       periods = in-each (λ x. IsTrue (active v x.id) → 1 ≤ period v x.id) v.graph.comps (λ c there now. active-period v wired linked played wired.periods c there now);
-      channels = in-each (λ x. IsTrue (active v x.id) → AllByRecursion (HasChannels v s x.id) (edges_at v.graph x.id)) v.graph.comps (λ c there now.
-          all-append (HasChannels v s c.id) (ins v.graph c.id) (outs v.graph c.id)
-          (ids-pass (HasChannels v s c.id) (λ b. is_end (sink_of v.graph b) c.id) v.graph.edges (λ e at is. ring-has c there now e at (inr (sym (ap (λ (o : Option Edge). is_end (option_and_then (λ e. e.sink) o) c.id) (at-buffer v.graph wired linked e at)) ∙ is))))
-          (ids-pass (HasChannels v s c.id) (λ b. is_end (source_of v.graph b) c.id) v.graph.edges (λ e at is. ring-has c there now e at (inl (sym (ap (λ (o : Option Edge). is_end (option_and_then (λ e. e.source) o) c.id) (at-buffer v.graph wired linked e at)) ∙ is)))));
+      channels = in-each (λ x. IsTrue (active v x.id) → AllByRecursion (HasChannels v s x.id) (edges_at v x.id)) v.graph.comps (λ c there now.
+          all-append (HasChannels v s c.id) (inlets_of v c.id) (outs v.graph c.id)
+          (all-by (Along c.id) (HasChannels v s c.id) (ring-has c.id) (inlets_of v c.id) (inlets-along c there now))
+          (all-by (Along c.id) (HasChannels v s c.id) (ring-has c.id) (outs v.graph c.id) (outs-along c there now)));
     }
 
   -- ---- turns
@@ -141,62 +163,64 @@ module _ (v : View) (wired : IsWired v.graph) (linked : IsLinked v.graph) (playe
   head-of P [] b all is = absurd (cc is)
   head-of P (i ∷ ids) b all is = let same : i ≡ b = cc is in subst P same all.0
 
-  all-filter : (P : ℕ → Type 0) (test : ℕ → Bool) (ids : List ℕ) → AllByRecursion P ids → AllByRecursion P (filter test ids)
-  all-filter P test [] all = tt
-  all-filter P test (i ∷ ids) all = by (test i) (all-filter P test ids all.1)
+  place-flows : (c b : ℕ) → Along c b → IsFlowing v (place_of v.graph b)
+  place-flows c b a = (a.edge, a.among, ap (place_of v.graph) a.is, a.flow)
+
+  places-flow : (c : ℕ) (ids : List ℕ) → AllByRecursion (Along c) ids → AllByRecursion (IsFlowing v) (map (place_of v.graph) ids)
+  places-flow c [] all = tt
+  places-flow c (b ∷ ids) all = (place-flows c b all.0, places-flow c ids all.1)
+
+  turn-flow : (c : ℕ) (action : Action) → TakesFlowing v action → (ids : List ℕ) (t : Turn) → AllByRecursion (Along c) ids → option_map (turn_at v c action) (slice_get ids 0) ≡ Some t → TurnsFlowing v t
+  turn-flow c action takes ids t all is = by (slice_get ids 0) refl is
     where
-      by : (h : Bool) → AllByRecursion P (filter test ids) → AllByRecursion P (cond h (i ∷ filter test ids) (filter test ids))
-      by true rest = (all.0, rest)
-      by false rest = rest
-
-  abbrev AtFlow : ℕ → Type 0
-  AtFlow b = (e : Edge) × IsIn e v.graph.edges × (b ≡ e.buffer) × (flows v e.buffer ≡ true)
-
-  ins-flow : (c : Comp) → IsIn c v.graph.comps → active v c.id ≡ true → AllByRecursion AtFlow (ins v.graph c.id)
-  ins-flow c there now = ids-pass AtFlow (λ b. is_end (sink_of v.graph b) c.id) v.graph.edges (λ e at is. (e, at, refl, (beside v wired linked played c there (ends-there c there now) now e at (inr (sym (ap (λ (o : Option Edge). is_end (option_and_then (λ e. e.sink) o) c.id) (at-buffer v.graph wired linked e at)) ∙ is))).0))
-
-  outs-flow : (c : Comp) → IsIn c v.graph.comps → active v c.id ≡ true → AllByRecursion AtFlow (outs v.graph c.id)
-  outs-flow c there now = ids-pass AtFlow (λ b. is_end (source_of v.graph b) c.id) v.graph.edges (λ e at is. (e, at, refl, (beside v wired linked played c there (ends-there c there now) now e at (inl (sym (ap (λ (o : Option Edge). is_end (option_and_then (λ e. e.source) o) c.id) (at-buffer v.graph wired linked e at)) ∙ is))).0))
-
-  turn-flow : (c : ℕ) (action : Action) (ids : List ℕ) (t : Turn) → AllByRecursion AtFlow ids → option_map (turn_at v c action) (slice_get ids 0) ≡ Some t → IsFlowing v t
-  turn-flow c action ids t all is = by (slice_get ids 0) refl is
-    where
-      by : (o : Option ℕ) → slice_get ids 0 ≡ o → option_map (turn_at v c action) o ≡ Some t → IsFlowing v t
+      by : (o : Option ℕ) → slice_get ids 0 ≡ o → option_map (turn_at v c action) o ≡ Some t → TurnsFlowing v t
       by None e is = absurd (cc is)
       by (Some b) e is =
           let same : turn_at v c action b ≡ t = cc is in
-          let f = head-of AtFlow ids b all e in
-          (f.0, f.1, ap (λ (x : Turn). x.place) (sym same) ∙ ap (place_of v.graph) f.2, f.3)
+          subst (TurnsFlowing v) same (place-flows c b (head-of (Along c) ids b all e), takes)
 
-  kind-flow : (x : Comp) → IsIn x v.graph.comps → active v x.id ≡ true → (k : Kind) (t : Turn) → turn_by k v x.id ≡ Some t → IsFlowing v t
-  kind-flow x there now HostPlay t is = turn-flow x.id Feed (fed_by v x.id) t (all-filter AtFlow (fed v) (outs v.graph x.id) (outs-flow x there now)) is
-  kind-flow x there now (DaiCapture format) t is = turn-flow x.id Feed (fed_by v x.id) t (all-filter AtFlow (fed v) (outs v.graph x.id) (outs-flow x there now)) is
-  kind-flow x there now HostCapture t is = turn-flow x.id Drain (ins v.graph x.id) t (ins-flow x there now) is
-  kind-flow x there now (DaiPlay format) t is = turn-flow x.id Fill (ins v.graph x.id) t (ins-flow x there now) is
-  kind-flow x there now Volume t is = absurd (cc is)
-  kind-flow x there now Mixer t is = absurd (cc is)
-  kind-flow x there now Mux t is = absurd (cc is)
-  kind-flow x there now Eq t is = absurd (cc is)
+  kind-flow : (x : Comp) → IsIn x v.graph.comps → active v x.id ≡ true → (t : Turn) → turn_by x.kind x.setting v x.id ≡ Some t → TurnsFlowing v t
+  kind-flow x there now t is = by x.kind refl is
+    where
+      fed-along : AllByRecursion (Along x.id) (fed_by v x.id)
+      fed-along = all-filter (Along x.id) (Along x.id) (fed v) (outs v.graph x.id) (outs-along x there now) (λ b a is. a)
 
-  one-flow : (c : ℕ) (t : Turn) → turn_of v c ≡ Some t → IsFlowing v t
+      -- a sink takes frames from all edges into it
+      ins-along : is_choosy x.kind ≡ false → AllByRecursion (Along x.id) (ins v.graph x.id)
+      ins-along plain = ids-pass (Along x.id) (λ b. is_end (sink_of v.graph b) x.id) v.graph.edges (λ e at is. along-in v wired linked played x there now e at (sym (ap (λ (o : Option Edge). is_end (option_and_then (λ e. e.sink) o) x.id) (at-buffer v.graph wired linked e at)) ∙ is) (ap (λ h. not h || active_end v (source_of v.graph e.buffer)) (chooses-kind v wired linked played x there ∙ plain)))
+
+      make : (k : Kind) → option_map (turn_at v x.id (Make (kernel_by k x.setting v x.id))) (slice_get (fed_by v x.id) 0) ≡ Some t → TurnsFlowing v t
+      make k is = turn-flow x.id (Make (kernel_by k x.setting v x.id)) (places-flow x.id (inlets_of v x.id) (inlets-along x there now)) (fed_by v x.id) t fed-along is
+
+      by : (k : Kind) → x.kind ≡ k → turn_by k x.setting v x.id ≡ Some t → TurnsFlowing v t
+      by HostPlay same is = turn-flow x.id Feed tt (fed_by v x.id) t fed-along is
+      by (DaiCapture format) same is = turn-flow x.id Feed tt (fed_by v x.id) t fed-along is
+      by HostCapture same is = turn-flow x.id Drain tt (ins v.graph x.id) t (ins-along (ap is_choosy same)) is
+      by (DaiPlay format) same is = turn-flow x.id Fill tt (ins v.graph x.id) t (ins-along (ap is_choosy same)) is
+      by Volume same is = make Volume is
+      by Mixer same is = make Mixer is
+      by Mux same is = make Mux is
+      by Eq same is = make Eq is
+
+  one-flow : (c : ℕ) (t : Turn) → turn_of v c ≡ Some t → TurnsFlowing v t
   unfolding turn_of
   one-flow c t is = by (active v c) refl (comp_of v.graph c) refl is
     where
-      by : (h : Bool) → active v c ≡ h → (o : Option Comp) → comp_of v.graph c ≡ o → cond h (option_map_or (λ x. turn_by x.kind v c) o None) None ≡ Some t → IsFlowing v t
+      by : (h : Bool) → active v c ≡ h → (o : Option Comp) → comp_of v.graph c ≡ o → cond h (option_map_or (λ x. turn_by x.kind x.setting v c) o None) None ≡ Some t → TurnsFlowing v t
       by false now o found is = absurd (cc is)
       by true now None found is = absurd (cc is)
       by true now (Some x) found is =
           let at = find-in (λ y. y.id == c) v.graph.comps x found in
           let same : x.id ≡ c = eqb-true x.id c at.1 in
-          kind-flow x at.0 (ap (active v) same ∙ now) x.kind t (ap (λ n. turn_by x.kind v n) same ∙ is)
+          kind-flow x at.0 (ap (active v) same ∙ now) t (ap (λ n. turn_by x.kind x.setting v n) same ∙ is)
 
-  pub all-flowing : AllByRecursion (IsFlowing v) (turns_of v)
+  pub all-flowing : AllByRecursion (TurnsFlowing v) (turns_of v)
   all-flowing = each (order v.graph)
     where
-      each : (ids : List ℕ) → AllByRecursion (IsFlowing v) (filter_map (turn_of v) ids)
+      each : (ids : List ℕ) → AllByRecursion (TurnsFlowing v) (filter_map (turn_of v) ids)
       each [] = tt
       each (c ∷ ids) = by (turn_of v c) refl (each ids)
         where
-          by : (o : Option Turn) → turn_of v c ≡ o → AllByRecursion (IsFlowing v) (filter_map (turn_of v) ids) → AllByRecursion (IsFlowing v) (filter_map (turn_of v) (c ∷ ids))
-          by None e rest = subst (λ o. AllByRecursion (IsFlowing v) (Rattle.std.specs.List.cons_option o (filter_map (turn_of v) ids))) (sym e) rest
-          by (Some t) e rest = subst (λ o. AllByRecursion (IsFlowing v) (Rattle.std.specs.List.cons_option o (filter_map (turn_of v) ids))) (sym e) (one-flow c t e, rest)
+          by : (o : Option Turn) → turn_of v c ≡ o → AllByRecursion (TurnsFlowing v) (filter_map (turn_of v) ids) → AllByRecursion (TurnsFlowing v) (filter_map (turn_of v) (c ∷ ids))
+          by None e rest = subst (λ o. AllByRecursion (TurnsFlowing v) (Rattle.std.specs.List.cons_option o (filter_map (turn_of v) ids))) (sym e) rest
+          by (Some t) e rest = subst (λ o. AllByRecursion (TurnsFlowing v) (Rattle.std.specs.List.cons_option o (filter_map (turn_of v) ids))) (sym e) (one-flow c t e, rest)

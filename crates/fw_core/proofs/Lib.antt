@@ -7,6 +7,7 @@ pub mod Histories
 pub mod HoleLists
 pub mod Ids
 pub mod InTurn
+pub mod Inlets
 pub mod Inserting
 pub mod Joined
 pub mod Joining

@@ -1,7 +1,7 @@
 -- What is ready on the way of a host, and the edges and joins at components and buffers.
-use Rattle.std.proofs.Common.{◌≡◌, refl, sym, ap, ◌∙◌, subst, ℕ, List, [], ◌∷◌, map, filter, length, Option, Some, None, Bool, true, false, cond, not, inl, inr, ◌⊎◌, ◌==◌, ◌&&◌, ◌||◌, arith}
-use Rattle.std.proofs.lemmas.Bool.{true≢false, false≢true, or_left, or_right, or_cases, and_parts, eqb-true, eq-eqb}
-use Rattle.std.specs.Prelude.{find, option_and_then}
+use Rattle.std.proofs.Common.{◌≡◌, refl, sym, ap, ◌∙◌, subst, ℕ, List, [], ◌∷◌, map, filter, length, Option, Some, None, Bool, true, false, cond, not, inl, inr, ◌⊎◌, ◌==◌, ◌&&◌, ◌||◌, ◌≤◌, arith}
+use Rattle.std.proofs.lemmas.Bool.{true≢false, false≢true, false_from_ne_true, or_left, or_right, or_cases, and_parts, eqb-true, eq-eqb}
+use Rattle.std.specs.Prelude.{find, option_and_then, nat_le}
 use Rattle.std.specs.List.{list_any, list_all}
 use Rattle.stream_law.specs.declared.graph.Kind.{Kind}
 use Rattle.stream_law.specs.declared.graph.Kind.TheVariants.{HostPlay, HostCapture, DaiPlay, DaiCapture, Volume, Mixer, Mux, Eq}
@@ -9,14 +9,15 @@ use Rattle.stream_law.specs.declared.graph.Comp.{Comp}
 use Rattle.stream_law.specs.declared.graph.Edge.{Edge}
 use Rattle.stream_law.specs.declared.graph.Join.{Join}
 use Rattle.stream_law.specs.declared.graph.Graph.{Graph}
-use Rattle.stream_law.specs.Ways.{edge_of, source_of, sink_of, ins, outs, buffers, is_end, on_way, is_capture}
-use Rattle.stream_law.specs.Joins.{is_endpoint, fits_kind}
+use Rattle.stream_law.specs.Ways.{edge_of, source_of, sink_of, ins, outs, buffers, is_end, leads, on_way, is_capture}
+use Rattle.stream_law.specs.Joins.{fits_kind}
+use Rattle.stream_law.specs.Moves.{is_choosy}
 use Rattle.stream_law.specs.Order.{is_among}
 use Rattle.mbox_link.specs.Step.{has_comp, is_host, is_complete, is_ready_comp, is_ready_edge, is_way_ready}
-use Rattle.fw_core.specs.Kept.{IsWired, IsLinked, IsSide, IsJoinedFrom, IsJoinedTo, is_at}
+use Rattle.fw_core.specs.Kept.{IsWired, IsLinked, IsSide, IsJoinedFrom, IsJoinedTo, IsOpen, is_at}
 use Rattle.fw_core.proofs.Found.{found-each}
-use Rattle.fw_core.proofs.Members.{IsIn, in-all, any-in}
-use Rattle.fw_core.proofs.Trips.{goes_from}
+use Rattle.fw_core.proofs.Members.{IsIn, in-all, any-in, find-in}
+use Rattle.fw_core.proofs.Trips.{goes_from, trip-none, trip-first, trip-leads}
 
 -- ---- sides
 
@@ -57,8 +58,8 @@ ready-edge g n ready e there on = at g.edges (and_parts (list_all (λ x. not (on
 
 -- ---- edges of a component
 
--- one id of a list of one
-one-id : (ids : List ℕ) (a b : ℕ) → length ids ≡ 1 → is_among ids a ≡ true → is_among ids b ≡ true → a ≡ b
+-- one id of a list of at most one
+one-id : (ids : List ℕ) (a b : ℕ) → length ids ≤ 1 → is_among ids a ≡ true → is_among ids b ≡ true → a ≡ b
 one-id [] a b one here there = absurd (false≢true here)
 one-id (x ∷ []) a b one here there = sym (eqb-true x a (only (x == a) here)) ∙ eqb-true x b (only (x == b) there)
   where
@@ -71,16 +72,27 @@ pub no-id : (ids : List ℕ) (a : ℕ) → length ids ≡ 0 → is_among ids a �
 no-id [] a none here = false≢true here
 no-id (x ∷ ids) a none here = omega (arith, none)
 
--- an endpoint that is ready has one edge, in or out
-fits-one : (k : Kind) (m n : ℕ) → is_endpoint k ≡ true → fits_kind k m n ≡ true → ((m ≡ 1) × (n ≡ 0)) ⊎ ((m ≡ 0) × (n ≡ 1))
-fits-one HostPlay m n plain fits = let p = and_parts (m == 0) (n == 1) fits in inr (eqb-true m 0 p.0, eqb-true n 1 p.1)
-fits-one (DaiCapture format) m n plain fits = let p = and_parts (m == 0) (n == 1) fits in inr (eqb-true m 0 p.0, eqb-true n 1 p.1)
-fits-one HostCapture m n plain fits = let p = and_parts (m == 1) (n == 0) fits in inl (eqb-true m 1 p.0, eqb-true n 0 p.1)
-fits-one (DaiPlay format) m n plain fits = let p = and_parts (m == 1) (n == 0) fits in inl (eqb-true m 1 p.0, eqb-true n 0 p.1)
-fits-one Volume m n plain fits = absurd (false≢true plain)
-fits-one Mixer m n plain fits = absurd (false≢true plain)
-fits-one Mux m n plain fits = absurd (false≢true plain)
-fits-one Eq m n plain fits = absurd (false≢true plain)
+-- what is ready has at most one edge out
+pub fits-out : (k : Kind) (m n : ℕ) → fits_kind k m n ≡ true → n ≤ 1
+fits-out HostPlay m n fits = let one = eqb-true n 1 (and_parts (m == 0) (n == 1) fits).1 in omega (arith, one)
+fits-out HostCapture m n fits = let none = eqb-true n 0 (and_parts (m == 1) (n == 0) fits).1 in omega (arith, none)
+fits-out (DaiPlay format) m n fits = let none = eqb-true n 0 (and_parts (m == 1) (n == 0) fits).1 in omega (arith, none)
+fits-out (DaiCapture format) m n fits = let one = eqb-true n 1 (and_parts (m == 0) (n == 1) fits).1 in omega (arith, one)
+fits-out Volume m n fits = let one = eqb-true n 1 (and_parts (m == 1) (n == 1) fits).1 in omega (arith, one)
+fits-out Mixer m n fits = let one = eqb-true n 1 (and_parts (nat_le 1 m && nat_le m 8) (n == 1) fits).1 in omega (arith, one)
+fits-out Mux m n fits = let one = eqb-true n 1 (and_parts (nat_le 1 m && nat_le m 8) (n == 1) fits).1 in omega (arith, one)
+fits-out Eq m n fits = let one = eqb-true n 1 (and_parts (m == 1) (n == 1) fits).1 in omega (arith, one)
+
+-- and one edge in, where it does not choose
+pub fits-in : (k : Kind) (m n : ℕ) → is_choosy k ≡ false → fits_kind k m n ≡ true → m ≤ 1
+fits-in HostPlay m n plain fits = let none = eqb-true m 0 (and_parts (m == 0) (n == 1) fits).0 in omega (arith, none)
+fits-in HostCapture m n plain fits = let one = eqb-true m 1 (and_parts (m == 1) (n == 0) fits).0 in omega (arith, one)
+fits-in (DaiPlay format) m n plain fits = let one = eqb-true m 1 (and_parts (m == 1) (n == 0) fits).0 in omega (arith, one)
+fits-in (DaiCapture format) m n plain fits = let none = eqb-true m 0 (and_parts (m == 0) (n == 1) fits).0 in omega (arith, none)
+fits-in Volume m n plain fits = let one = eqb-true m 1 (and_parts (m == 1) (n == 1) fits).0 in omega (arith, one)
+fits-in Mixer m n plain fits = absurd (true≢false plain)
+fits-in Mux m n plain fits = absurd (true≢false plain)
+fits-in Eq m n plain fits = let one = eqb-true m 1 (and_parts (m == 1) (n == 1) fits).0 in omega (arith, one)
 
 -- nothing goes into a playback's host, and nothing comes out of a capture's
 pub play-in : (k : Kind) (m n : ℕ) → is_host k ≡ true → is_capture k ≡ false → fits_kind k m n ≡ true → m ≡ 0
@@ -129,7 +141,7 @@ module _ (g : Graph) (wired : IsWired g) (linked : IsLinked g) where
   side-comp None c side is = absurd (false≢true is)
   side-comp (Some n) c side is = ap (has_comp g) (sym (eqb-true n c is)) ∙ side
 
-  source-comp : (e : Edge) (c : ℕ) → IsIn e g.edges → is_end e.source c ≡ true → has_comp g c ≡ true
+  pub source-comp : (e : Edge) (c : ℕ) → IsIn e g.edges → is_end e.source c ≡ true → has_comp g c ≡ true
   source-comp e c there is = side-comp e.source c (in-all (λ e. IsSide g e.source × IsSide g e.sink) g.edges e wired.sides there).0 is
 
   sink-comp : (e : Edge) (c : ℕ) → IsIn e g.edges → is_end e.sink c ≡ true → has_comp g c ≡ true
@@ -156,18 +168,12 @@ module _ (g : Graph) (wired : IsWired g) (linked : IsLinked g) where
   pub in-outs : (e : Edge) (c : ℕ) → IsIn e g.edges → is_end e.source c ≡ true → is_among (outs g c) e.buffer ≡ true
   in-outs e c there is = among-filter (λ b. is_end (source_of g b) c) (buffers g) e.buffer (in-buffers g.edges e there) (ap (λ (o : Option Edge). is_end (option_and_then (λ e. e.source) o) c) (at-buffer e there) ∙ is)
 
-  -- edges at an endpoint that is ready are one
-  pub one-at : (c : Comp) → is_endpoint c.kind ≡ true → is_ready_comp g c ≡ true → (e f : Edge) → IsIn e g.edges → IsIn f g.edges → AtEnd e c.id → AtEnd f c.id → e ≡ f
-  one-at c ends ready e f at_e at_f end_e end_f =
-      by (fits-one c.kind (length (ins g c.id)) (length (outs g c.id)) ends (fits-comp g c ready)) end_e end_f
-    where
-      by : ((length (ins g c.id) ≡ 1) × (length (outs g c.id) ≡ 0)) ⊎ ((length (ins g c.id) ≡ 0) × (length (outs g c.id) ≡ 1)) → AtEnd e c.id → AtEnd f c.id → e ≡ f
-      by (inl n) (inr a) (inr b) = one-edge e f at_e at_f (one-id (ins g c.id) e.buffer f.buffer n.0 (in-ins e c.id at_e a) (in-ins f c.id at_f b))
-      by (inr n) (inl a) (inl b) = one-edge e f at_e at_f (one-id (outs g c.id) e.buffer f.buffer n.1 (in-outs e c.id at_e a) (in-outs f c.id at_f b))
-      by (inl n) (inl a) b = absurd (no-id (outs g c.id) e.buffer n.1 (in-outs e c.id at_e a))
-      by (inl n) (inr a) (inl b) = absurd (no-id (outs g c.id) f.buffer n.1 (in-outs f c.id at_f b))
-      by (inr n) (inr a) b = absurd (no-id (ins g c.id) e.buffer n.0 (in-ins e c.id at_e a))
-      by (inr n) (inl a) (inr b) = absurd (no-id (ins g c.id) f.buffer n.0 (in-ins f c.id at_f b))
+  -- edges out of what has at most one are one, and so are edges into it
+  pub one-out : (c : ℕ) → length (outs g c) ≤ 1 → (e f : Edge) → IsIn e g.edges → IsIn f g.edges → is_end e.source c ≡ true → is_end f.source c ≡ true → e ≡ f
+  one-out c few e f at_e at_f end_e end_f = one-edge e f at_e at_f (one-id (outs g c) e.buffer f.buffer few (in-outs e c at_e end_e) (in-outs f c at_f end_f))
+
+  pub one-in : (c : ℕ) → length (ins g c) ≤ 1 → (e f : Edge) → IsIn e g.edges → IsIn f g.edges → is_end e.sink c ≡ true → is_end f.sink c ≡ true → e ≡ f
+  one-in c few e f at_e at_f end_e end_f = one-edge e f at_e at_f (one-id (ins g c) e.buffer f.buffer few (in-ins e c at_e end_e) (in-ins f c at_f end_f))
 
   -- ---- joins
 
@@ -228,3 +234,19 @@ module _ (g : Graph) (wired : IsWired g) (linked : IsLinked g) where
       by : (f : Edge) × IsIn f g.edges × (((f.buffer ≡ a) × (is_end f.source e.buffer ≡ true)) ⊎ ((f.buffer ≡ e.buffer) × (is_end f.sink a ≡ true))) → is_end e.sink a ≡ true
       by (f, here, inl wrong) = absurd (no-comp e there (source-comp f e.buffer here wrong.1))
       by (f, here, inr right) = subst (λ (y : Edge). is_end y.sink a ≡ true) (one-edge f e here there right.0) right.1
+
+  -- no edge goes from a component to itself: its joins would make a walk that comes back
+  pub no-loop : (b c : ℕ) → is_end (source_of g b) c ≡ true → is_end (sink_of g b) c ≡ false
+  no-loop b c from = by (edge_of g b) refl from
+    where
+      by : (o : Option Edge) → edge_of g b ≡ o → is_end (option_and_then (λ e. e.source) o) c ≡ true → is_end (option_and_then (λ e. e.sink) o) c ≡ false
+      by None found is = absurd (false≢true is)
+      by (Some e) found is = false_from_ne_true (is_end e.sink c) (λ back.
+          let there = (find-in (λ (y : Edge). y.buffer == b) g.edges e found).0 in
+          let any = any-in (λ (j : Join). j.source == c && j.sink == e.buffer) g.joins (source-goes e there c is) in
+          let j : Join = any.0 in
+          let same = and_parts (j.source == c) (j.sink == e.buffer) any.2 in
+          let walk = trip-first g.joins e.buffer c c (sink-goes e there c back) (trip-none g.joins c c refl) in
+          let again : leads g.joins (length g.joins) j.sink j.source ≡ true =
+          ap (λ (p : ℕ × ℕ). leads g.joins (length g.joins) p.0 p.1) (λ i. (eqb-true j.sink e.buffer same.1 i, eqb-true j.source c same.0 i)) ∙ trip-leads g.joins e.buffer c walk in
+          true≢false (sym again ∙ in-all (IsOpen g) g.joins j linked.open_ends any.1))

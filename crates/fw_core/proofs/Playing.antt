@@ -1,22 +1,21 @@
--- What Active components find at their edges.
-use Rattle.std.proofs.Common.{◌≡◌, refl, sym, ap, ◌∙◌, subst, ℕ, ◌/◌, ◌≤◌, List, [], ◌∷◌, ◌++◌, length, Option, Some, None, Bool, true, false, cond, inl, inr, ◌⊎◌, ◌==◌, ◌&&◌, ◌||◌, arith}
-use Rattle.std.proofs.lemmas.Bool.{true≢false, false≢true, or_left, or_right, and_parts, and_from, eq-eqb, leb-true}
+-- What components that are Active find at their edges.
+use Rattle.std.proofs.Common.{◌≡◌, refl, sym, ap, ◌∙◌, subst, ℕ, ◌/◌, ◌≤◌, List, [], ◌∷◌, ◌++◌, length, Option, Some, None, Bool, true, false, cond, not, inl, inr, ◌⊎◌, ◌==◌, ◌&&◌, ◌||◌, arith}
+use Rattle.std.proofs.lemmas.Bool.{true≢false, false≢true, or_left, or_right, and_parts, and_from, eqb-true, eq-eqb, leb-true}
 use Rattle.std.specs.Prelude.{find, is_some, option_map, option_and_then, nat_le}
 use Rattle.std.specs.Option.{option_map_or}
 use Rattle.std.specs.List.{list_any, AllByRecursion}
 use Rattle.sof_base.specs.declared.format.Params.{Params}
 use Rattle.stream_law.specs.declared.graph.Comp.{Comp}
 use Rattle.stream_law.specs.declared.graph.Edge.{Edge}
-use Rattle.stream_law.specs.declared.graph.Join.{Join}
 use Rattle.stream_law.specs.declared.graph.Pipe.{Pipe}
 use Rattle.stream_law.specs.declared.graph.Graph.{Graph}
 use Rattle.stream_law.specs.declared.stream.Phase.{Phase}
 use Rattle.stream_law.specs.declared.stream.Phase.TheVariants.{Idle, Prepared, Running, Paused}
 use Rattle.stream_law.specs.declared.stream.StreamView.{StreamView}
 use Rattle.stream_law.specs.State.{View}
-use Rattle.stream_law.specs.Ways.{comp_of, pipe_of, ins, outs, components, buffers, is_end, reaches, on_way, is_capture, is_live_phase, is_running_phase, live, live_end, active, channels_of, touch}
-use Rattle.stream_law.specs.Joins.{is_endpoint, fits_kind}
-use Rattle.stream_law.specs.Moves.{period}
+use Rattle.stream_law.specs.Ways.{comp_of, pipe_of, source_of, ins, outs, components, buffers, is_end, reaches, on_way, is_capture, is_live_phase, is_running_phase, live, live_end, active, active_end, channels_of, touch}
+use Rattle.stream_law.specs.Joins.{fits_kind}
+use Rattle.stream_law.specs.Moves.{period, is_choosy, chooses}
 use Rattle.stream_law.specs.Order.{is_among}
 use Rattle.stream_law.specs.Seen.{flows}
 use Rattle.ipc3_codec.specs.Allowed.{is_period}
@@ -25,10 +24,10 @@ use Rattle.fw_core.specs.Kept.{IsWired, IsLinked, IsPlayable, IsSet, IsSetBy, is
 use Rattle.fw_core.proofs.Found.{found-each}
 use Rattle.fw_core.proofs.Growing.{some-found}
 use Rattle.fw_core.proofs.Joined.{among-left, among-right}
-use Rattle.fw_core.proofs.Members.{IsIn, in-all, in-any}
+use Rattle.fw_core.proofs.Members.{IsIn, in-all, in-any, any-in}
 use Rattle.fw_core.proofs.Stays.{IsOf, heard, all-of, find-some, find-any, live-idle, given, touching, list_any-at, one-shape}
-use Rattle.fw_core.proofs.Trips.{goes_from, Trip, trip-none, trip-first, trip-last, trip-end, trip-start, trip-reached, reached-trip}
-use Rattle.fw_core.proofs.Near.{AtEnd, end-some, complete-comp, fits-comp, ready-comp, ready-edge, no-id, play-in, capture-out, in-buffers, in-comps, no-comp, at-buffer, in-ins, in-outs, one-at, source-goes, sink-goes, edge-into, edge-outof, goes-source, goes-sink}
+use Rattle.fw_core.proofs.Trips.{goes_from, Trip, trip-first, trip-last, trip-end, trip-start, trip-reached, reached-trip}
+use Rattle.fw_core.proofs.Near.{AtEnd, end-some, complete-comp, fits-comp, ready-comp, ready-edge, no-id, fits-out, fits-in, play-in, capture-out, in-buffers, in-comps, no-comp, at-buffer, source-comp, in-ins, in-outs, one-out, one-in, source-goes, sink-goes, edge-into, edge-outof, goes-source, goes-sink}
 
 running-live : (phase : Phase) → is_running_phase phase ≡ true → is_live_phase phase ≡ true
 running-live Running e = refl
@@ -71,78 +70,102 @@ module _ (v : View) (wired : IsWired v.graph) (linked : IsLinked v.graph) (playe
   is-comp : (c : Comp) → IsIn c v.graph.comps → has_comp v.graph c.id ≡ true
   is-comp c there = in-any (λ x. x.id == c.id) v.graph.comps c there (eq-eqb c.id c.id refl)
 
+  pub comp-at : (c : Comp) → IsIn c v.graph.comps → comp_of v.graph c.id ≡ Some c
+  comp-at c there = in-all (λ x. find (λ y. y.id == x.id) v.graph.comps ≡ Some x) v.graph.comps c (found-each (λ (x : Comp). x.id) v.graph.comps wired.ids) there
+
   -- no host is a buffer
   host-apart : (h : ℕ) → has_kind is_host (kind_at v.graph h) ≡ true → (e : Edge) → IsIn e v.graph.edges → h ≡ e.buffer → ⊥
   host-apart h host e there same = no-comp v.graph wired linked e there (ap (has_comp v.graph) (sym same) ∙ some-found is_host v.graph.comps h host)
 
-  -- where an endpoint is on the way of a host, so are its edge and what is at the edge's ends
-  covers : (h : ℕ) → has_kind is_host (kind_at v.graph h) ≡ true → (c : Comp) → IsIn c v.graph.comps → is_endpoint c.kind ≡ true → is_ready_comp v.graph c ≡ true → on_way v.graph h c.id ≡ true → (e : Edge) → IsIn e v.graph.edges → AtEnd e c.id → (on_way v.graph h e.buffer ≡ true) × ((x : ℕ) → AtEnd e x → on_way v.graph h x ≡ true)
-  unfolding on_way
-  covers h host c there ends ready on e at end = by (option_map_or (λ c. is_capture c.kind) (comp_of v.graph h) false) refl on
-    where
-      js : List Join
-      js = v.graph.joins
+  -- an edge is on the way of a host, and so are its ends
+  abbrev Covers : ℕ → Edge → Type 0
+  Covers h e = (on_way v.graph h e.buffer ≡ true) × ((x : ℕ) → AtEnd e x → on_way v.graph h x ≡ true)
 
+  -- whose stream is a capture or not
+  module _ (h : ℕ) (host : has_kind is_host (kind_at v.graph h) ≡ true) (e : Edge) (at : IsIn e v.graph.edges) where
+    abbrev captures : Bool
+    captures = option_map_or (λ c. is_capture c.kind) (comp_of v.graph h) false
+
+    -- from the host to the buffer, and on to its sink; and the way there leads through its source
+    reached : Trip v.graph.joins h e.buffer → (x : ℕ) → AtEnd e x → Trip v.graph.joins h x
+    reached t x (inr to) = trip-last v.graph.joins h e.buffer x t (sink-goes v.graph wired linked e at x to)
+    reached t x (inl from) = before (trip-end v.graph.joins h e.buffer t)
+      where
+        before : (h ≡ e.buffer) ⊎ ((b : ℕ) × Trip v.graph.joins h b × (goes_from v.graph.joins b e.buffer ≡ true)) → Trip v.graph.joins h x
+        before (inl same) = absurd (host-apart h host e at same)
+        before (inr last) = subst (Trip v.graph.joins h) (same-end e.source last.0 x (goes-source v.graph wired linked e at last.0 last.2) from) last.1
+
+    reaching : Trip v.graph.joins e.buffer h → (x : ℕ) → AtEnd e x → Trip v.graph.joins x h
+    reaching t x (inl from) = trip-first v.graph.joins x e.buffer h (source-goes v.graph wired linked e at x from) t
+    reaching t x (inr to) = after (trip-start v.graph.joins e.buffer h t)
+      where
+        after : (e.buffer ≡ h) ⊎ ((b : ℕ) × (goes_from v.graph.joins e.buffer b ≡ true) × Trip v.graph.joins b h) → Trip v.graph.joins x h
+        after (inl same) = absurd (host-apart h host e at (sym same))
+        after (inr first) = subst (λ n. Trip v.graph.joins n h) (same-end e.sink first.0 x (goes-sink v.graph wired linked e at first.0 first.1) to) first.2
+
+    -- the trips of a component and of the edge's buffer, by the side of the host
+    abbrev TripAt : Bool → ℕ → Type 0
+    TripAt true x = Trip v.graph.joins x h
+    TripAt false x = Trip v.graph.joins h x
+
+    covers : ((t : Bool) → captures ≡ t → TripAt t e.buffer) → Covers h e
+    unfolding on_way
+    covers trip = by captures refl
+      where
+        by : (t : Bool) → captures ≡ t → (cond t (reaches v.graph e.buffer h) (reaches v.graph h e.buffer) ≡ true) × ((x : ℕ) → AtEnd e x → cond t (reaches v.graph x h) (reaches v.graph h x) ≡ true)
+        by true side = let t = trip true side in (reached-trip v.graph e.buffer h t, λ x end. reached-trip v.graph x h (reaching t x end))
+        by false side = let t = trip false side in (reached-trip v.graph h e.buffer t, λ x end. reached-trip v.graph h x (reached t x end))
+
+    -- where a component is on the way of the host, so is its only edge out, and its only edge in
+    module _ (c : Comp) (there : IsIn c v.graph.comps) (ready : is_ready_comp v.graph c ≡ true) (on : on_way v.graph h c.id ≡ true) where
       fits : fits_kind c.kind (length (ins v.graph c.id)) (length (outs v.graph c.id)) ≡ true
       fits = fits-comp v.graph c ready
 
       -- the host's own kind, where it is the component
       own : h ≡ c.id → comp_of v.graph h ≡ Some c
-      own same = ap (comp_of v.graph) same ∙ in-all (λ x. find (λ y. y.id == x.id) v.graph.comps ≡ Some x) v.graph.comps c (found-each (λ (x : Comp). x.id) v.graph.comps wired.ids) there
+      own same = ap (comp_of v.graph) same ∙ comp-at c there
 
       own-host : h ≡ c.id → is_host c.kind ≡ true
       own-host same = ap (λ (o : Option Comp). has_kind is_host (option_map (λ c. c.kind) o)) (sym (own same)) ∙ host
 
-      own-side : (t : Bool) → option_map_or (λ c. is_capture c.kind) (comp_of v.graph h) false ≡ t → h ≡ c.id → is_capture c.kind ≡ t
+      own-side : (t : Bool) → captures ≡ t → h ≡ c.id → is_capture c.kind ≡ t
       own-side t is same = ap (λ (o : Option Comp). option_map_or (λ c. is_capture c.kind) o false) (sym (own same)) ∙ is
 
-      only : (f : Edge) → IsIn f v.graph.edges → AtEnd f c.id → f ≡ e
-      only f here end_f = one-at v.graph wired linked c ends ready f e here at end_f end
-
-      play : option_map_or (λ c. is_capture c.kind) (comp_of v.graph h) false ≡ false → (h ≡ c.id) ⊎ ((b : ℕ) × Trip js h b × (goes_from js b c.id ≡ true)) → Trip js h e.buffer
-      play side (inl same) = first end
+      trip-at : (t : Bool) → captures ≡ t → TripAt t c.id
+      unfolding on_way
+      trip-at t is = by t (ap (λ k. cond k (reaches v.graph c.id h) (reaches v.graph h c.id)) (sym is) ∙ on)
         where
-          first : AtEnd e c.id → Trip js h e.buffer
-          first (inl from) = trip-first js h e.buffer e.buffer (source-goes v.graph wired linked e at h (ap (is_end e.source) same ∙ from)) (trip-none js e.buffer e.buffer refl)
-          first (inr to) = absurd (no-id (ins v.graph c.id) e.buffer (play-in c.kind (length (ins v.graph c.id)) (length (outs v.graph c.id)) (own-host same) (own-side false side same) fits) (in-ins v.graph wired linked e c.id at to))
-      play side (inr last) =
-          let f = edge-into v.graph wired linked last.0 c.id (is-comp c there) last.2 in
-          subst (Trip js h) (sym f.2 ∙ ap (λ (y : Edge). y.buffer) (only f.0 f.1 (inr f.3))) last.1
+          by : (t : Bool) → cond t (reaches v.graph c.id h) (reaches v.graph h c.id) ≡ true → TripAt t c.id
+          by true on = trip-reached v.graph c.id h on
+          by false on = trip-reached v.graph h c.id on
 
-      capture : option_map_or (λ c. is_capture c.kind) (comp_of v.graph h) false ≡ true → (c.id ≡ h) ⊎ ((b : ℕ) × (goes_from js c.id b ≡ true) × Trip js b h) → Trip js e.buffer h
-      capture side (inl same) = last end
+      covers-out : is_end e.source c.id ≡ true → Covers h e
+      covers-out from = covers by
         where
-          last : AtEnd e c.id → Trip js e.buffer h
-          last (inl from) = absurd (no-id (outs v.graph c.id) e.buffer (capture-out c.kind (length (ins v.graph c.id)) (length (outs v.graph c.id)) (own-side true side (sym same)) fits) (in-outs v.graph wired linked e c.id at from))
-          last (inr to) = trip-first js e.buffer h h (sink-goes v.graph wired linked e at h (ap (is_end e.sink) (sym same) ∙ to)) (trip-none js h h refl)
-      capture side (inr first) =
-          let f = edge-outof v.graph wired linked c.id first.0 (is-comp c there) first.1 in
-          subst (λ n. Trip js n h) (sym f.2 ∙ ap (λ (y : Edge). y.buffer) (only f.0 f.1 (inl f.3))) first.2
+          by : (t : Bool) → captures ≡ t → TripAt t e.buffer
+          by false side = trip-last v.graph.joins h c.id e.buffer (trip-at false side) (source-goes v.graph wired linked e at c.id from)
+          by true side = next (trip-start v.graph.joins c.id h (trip-at true side))
+            where
+              next : (c.id ≡ h) ⊎ ((b : ℕ) × (goes_from v.graph.joins c.id b ≡ true) × Trip v.graph.joins b h) → Trip v.graph.joins e.buffer h
+              next (inl same) = absurd (no-id (outs v.graph c.id) e.buffer (capture-out c.kind (length (ins v.graph c.id)) (length (outs v.graph c.id)) (own-side true side (sym same)) fits) (in-outs v.graph wired linked e c.id at from))
+              next (inr first) =
+                  let f = edge-outof v.graph wired linked c.id first.0 (is-comp c there) first.1 in
+                  let only = one-out v.graph wired linked c.id (fits-out c.kind (length (ins v.graph c.id)) (length (outs v.graph c.id)) fits) f.0 e f.1 at f.3 from in
+                  subst (λ n. Trip v.graph.joins n h) (sym f.2 ∙ ap (λ (y : Edge). y.buffer) only) first.2
 
-      -- from the host to the buffer, and on to its sink; and the way there leads through its source
-      reached : Trip js h e.buffer → (x : ℕ) → AtEnd e x → Trip js h x
-      reached t x (inr to) = trip-last js h e.buffer x t (sink-goes v.graph wired linked e at x to)
-      reached t x (inl from) = before (trip-end js h e.buffer t)
+      covers-in : is_choosy c.kind ≡ false → is_end e.sink c.id ≡ true → Covers h e
+      covers-in plain to = covers by
         where
-          before : (h ≡ e.buffer) ⊎ ((b : ℕ) × Trip js h b × (goes_from js b e.buffer ≡ true)) → Trip js h x
-          before (inl same) = absurd (host-apart h host e at same)
-          before (inr last) = subst (Trip js h) (same-end e.source last.0 x (goes-source v.graph wired linked e at last.0 last.2) from) last.1
-
-      reaching : Trip js e.buffer h → (x : ℕ) → AtEnd e x → Trip js x h
-      reaching t x (inl from) = trip-first js x e.buffer h (source-goes v.graph wired linked e at x from) t
-      reaching t x (inr to) = after (trip-start js e.buffer h t)
-        where
-          after : (e.buffer ≡ h) ⊎ ((b : ℕ) × (goes_from js e.buffer b ≡ true) × Trip js b h) → Trip js x h
-          after (inl same) = absurd (host-apart h host e at (sym same))
-          after (inr first) = subst (λ n. Trip js n h) (same-end e.sink first.0 x (goes-sink v.graph wired linked e at first.0 first.1) to) first.2
-
-      by : (t : Bool) → option_map_or (λ c. is_capture c.kind) (comp_of v.graph h) false ≡ t → cond t (reaches v.graph c.id h) (reaches v.graph h c.id) ≡ true → (cond t (reaches v.graph e.buffer h) (reaches v.graph h e.buffer) ≡ true) × ((x : ℕ) → AtEnd e x → cond t (reaches v.graph x h) (reaches v.graph h x) ≡ true)
-      by true side on =
-          let t = capture side (trip-start js c.id h (trip-reached v.graph c.id h on)) in
-          (reached-trip v.graph e.buffer h t, λ x end. reached-trip v.graph x h (reaching t x end))
-      by false side on =
-          let t = play side (trip-end js h c.id (trip-reached v.graph h c.id on)) in
-          (reached-trip v.graph h e.buffer t, λ x end. reached-trip v.graph h x (reached t x end))
+          by : (t : Bool) → captures ≡ t → TripAt t e.buffer
+          by true side = trip-first v.graph.joins e.buffer c.id h (sink-goes v.graph wired linked e at c.id to) (trip-at true side)
+          by false side = next (trip-end v.graph.joins h c.id (trip-at false side))
+            where
+              next : (h ≡ c.id) ⊎ ((b : ℕ) × Trip v.graph.joins h b × (goes_from v.graph.joins b c.id ≡ true)) → Trip v.graph.joins h e.buffer
+              next (inl same) = absurd (no-id (ins v.graph c.id) e.buffer (play-in c.kind (length (ins v.graph c.id)) (length (outs v.graph c.id)) (own-host same) (own-side false side same) fits) (in-ins v.graph wired linked e c.id at to))
+              next (inr last) =
+                  let f = edge-into v.graph wired linked last.0 c.id (is-comp c there) last.2 in
+                  let only = one-in v.graph wired linked c.id (fits-in c.kind (length (ins v.graph c.id)) (length (outs v.graph c.id)) plain fits) f.0 e f.1 at f.3 to in
+                  subst (Trip v.graph.joins h) (sym f.2 ∙ ap (λ (y : Edge). y.buffer) only) last.1
 
   -- ---- what is Active
 
@@ -176,32 +199,95 @@ module _ (v : View) (wired : IsWired v.graph) (linked : IsLinked v.graph) (playe
   pub active-live : (x : ℕ) → active v x ≡ true → live v x ≡ true
   active-live x now = let r = run v x now in live-by r.stream r.among (running-live r.stream.phase r.phase) x r.way
 
-  -- at an edge of an Active endpoint frames flow, in its channels
-  pub beside : (c : Comp) → IsIn c v.graph.comps → is_endpoint c.kind ≡ true → active v c.id ≡ true → (e : Edge) → IsIn e v.graph.edges → AtEnd e c.id → (flows v e.buffer ≡ true) × (channels_of v e.buffer ≡ channels_of v c.id)
+  -- a Running stream on whose way an edge and its ends are
+  record Shared (e : Edge) : Type 0 where
+    stream : StreamView
+    among : IsOf stream v.streams
+    phase : is_running_phase stream.phase ≡ true
+    covered : Covers stream.host e
+
+  -- frames flow along such an edge
+  shared-flows : (e : Edge) → IsIn e v.graph.edges → Shared e → flows v e.buffer ≡ true
   unfolding flows
-  beside c there ends now e at end =
-      let r = run v c.id now in
+  shared-flows e at r =
       let s : StreamView = r.stream in
-      let host = host-kind s r.among in
       let is_set = all-of (IsSet v.graph) v.streams s played.each r.among in
       let lives = running-live s.phase r.phase in
       let way = set-way v.graph s (awake s r.phase) is_set in
-      let cov = covers s.host host c there ends (active-ready c there now) r.way e at end in
-      let ready = ready-edge v.graph s.host way e at cov.0 in
-      let p = given v.graph s (awake s r.phase) is_set in
+      let ready = ready-edge v.graph s.host way e at r.covered.0 in
       let both = and_parts (is_complete v.graph e.pipe && is_some e.source) (is_some e.sink) ready in
       let ends : (live_end v e.source ≡ true) × (live_end v e.sink ≡ true) = (
-        some-live e.source (λ n is. live-by s r.among lives n (cov.1 n (inl is))) (and_parts (is_complete v.graph e.pipe) (is_some e.source) both.0).1,
-        some-live e.sink (λ n is. live-by s r.among lives n (cov.1 n (inr is))) both.1,
-      ) in (
-        and_from _ _ (and_from _ _ (live-by s r.among lives e.buffer cov.0) (ap (λ (o : Option Edge). live_end v (option_and_then (λ e. e.source) o)) (at-buffer v.graph wired linked e at) ∙ ends.0)) (ap (λ (o : Option Edge). live_end v (option_and_then (λ e. e.sink) o)) (at-buffer v.graph wired linked e at) ∙ ends.1),
-        channels-by s r.among lives p.0 p.1 e.buffer (among-right (components v.graph) (buffers v.graph) e.buffer (in-buffers v.graph.edges e at)) cov.0
-            ∙ sym (channels-by s r.among lives p.0 p.1 c.id (among-left (components v.graph) (buffers v.graph) c.id (in-comps v.graph.comps c there)) r.way),
-      )
+        some-live e.source (λ n is. live-by s r.among lives n (r.covered.1 n (inl is))) (and_parts (is_complete v.graph e.pipe) (is_some e.source) both.0).1,
+        some-live e.sink (λ n is. live-by s r.among lives n (r.covered.1 n (inr is))) both.1,
+      ) in
+      and_from _ _ (and_from _ _ (live-by s r.among lives e.buffer r.covered.0) (ap (λ (o : Option Edge). live_end v (option_and_then (λ e. e.source) o)) (at-buffer v.graph wired linked e at) ∙ ends.0)) (ap (λ (o : Option Edge). live_end v (option_and_then (λ e. e.sink) o)) (at-buffer v.graph wired linked e at) ∙ ends.1)
     where
       some-live : (o : Option ℕ) → ((n : ℕ) → is_end o n ≡ true → live v n ≡ true) → is_some o ≡ true → live_end v o ≡ true
       some-live None f e = absurd (false≢true e)
       some-live (Some n) f e = f n (eq-eqb n n refl)
+
+  -- in the channels of its ends
+  shared-channels : (e : Edge) → IsIn e v.graph.edges → Shared e → (c : Comp) → IsIn c v.graph.comps → AtEnd e c.id → channels_of v e.buffer ≡ channels_of v c.id
+  shared-channels e at r c there end =
+      let s : StreamView = r.stream in
+      let is_set = all-of (IsSet v.graph) v.streams s played.each r.among in
+      let lives = running-live s.phase r.phase in
+      let p = given v.graph s (awake s r.phase) is_set in
+      channels-by s r.among lives p.0 p.1 e.buffer (among-right (components v.graph) (buffers v.graph) e.buffer (in-buffers v.graph.edges e at)) r.covered.0
+      ∙ sym (channels-by s r.among lives p.0 p.1 c.id (among-left (components v.graph) (buffers v.graph) c.id (in-comps v.graph.comps c there)) (r.covered.1 c.id end))
+
+  -- the edge out of a component that is Active is such an edge
+  shared-out : (c : Comp) → IsIn c v.graph.comps → active v c.id ≡ true → (e : Edge) → IsIn e v.graph.edges → is_end e.source c.id ≡ true → Shared e
+  shared-out c there now e at from =
+      let r = run v c.id now in
+      record { stream = r.stream; among = r.among; phase = r.phase; covered = covers-out r.stream.host (host-kind r.stream r.among) e at c there (active-ready c there now) r.way from }
+
+  -- and so is the edge into it, unless it chooses
+  shared-in : (c : Comp) → IsIn c v.graph.comps → active v c.id ≡ true → is_choosy c.kind ≡ false → (e : Edge) → IsIn e v.graph.edges → is_end e.sink c.id ≡ true → Shared e
+  shared-in c there now plain e at to =
+      let r = run v c.id now in
+      record { stream = r.stream; among = r.among; phase = r.phase; covered = covers-in r.stream.host (host-kind r.stream r.among) e at c there (active-ready c there now) r.way plain to }
+
+  -- and an edge into it whose source is Active
+  shared-fed : (e : Edge) → IsIn e v.graph.edges → active_end v e.source ≡ true → Shared e
+  shared-fed e at now = by e.source refl now
+    where
+      by : (o : Option ℕ) → e.source ≡ o → option_map_or (active v) o false ≡ true → Shared e
+      by None is now = absurd (false≢true now)
+      by (Some a) is now =
+          let from : is_end e.source a ≡ true = ap (λ (o : Option ℕ). is_end o a) is ∙ eq-eqb a a refl in
+          let found = any-in (λ (x : Comp). x.id == a) v.graph.comps (source-comp v.graph wired linked e a at from) in
+          let x : Comp = found.0 in
+          let same : x.id ≡ a = eqb-true x.id a found.2 in
+          shared-out x found.1 (ap (active v) same ∙ now) e at (ap (is_end e.source) same ∙ from)
+
+  -- what a component that is Active finds at an edge
+  pub record IsAlong (c b : ℕ) : Type 0 where
+    pub edge : Edge
+    pub among : IsIn edge v.graph.edges
+    pub is : b ≡ edge.buffer
+    pub flow : flows v edge.buffer ≡ true
+    pub channels : channels_of v edge.buffer ≡ channels_of v c
+
+  -- at the edge out of it
+  pub along-out : (c : Comp) → IsIn c v.graph.comps → active v c.id ≡ true → (e : Edge) → IsIn e v.graph.edges → is_end e.source c.id ≡ true → IsAlong c.id e.buffer
+  along-out c there now e at from =
+      let r = shared-out c there now e at from in
+      record { edge = e; among = at; is = refl; flow = shared-flows e at r; channels = shared-channels e at r c there (inl from) }
+
+  pub chooses-kind : (c : Comp) → IsIn c v.graph.comps → chooses v c.id ≡ is_choosy c.kind
+  unfolding chooses
+  chooses-kind c there = ap (λ (o : Option Comp). option_map_or (λ x. is_choosy x.kind) o false) (comp-at c there)
+
+  -- and at an edge that it may take frames from
+  pub along-in : (c : Comp) → IsIn c v.graph.comps → active v c.id ≡ true → (e : Edge) → IsIn e v.graph.edges → is_end e.sink c.id ≡ true → (not (chooses v c.id) || active_end v (source_of v.graph e.buffer)) ≡ true → IsAlong c.id e.buffer
+  along-in c there now e at to takes =
+      let r = by (is_choosy c.kind) refl (sym (ap (λ h. not h || active_end v (source_of v.graph e.buffer)) (chooses-kind c there)) ∙ takes) in
+      record { edge = e; among = at; is = refl; flow = shared-flows e at r; channels = shared-channels e at r c there (inr to) }
+    where
+      by : (h : Bool) → is_choosy c.kind ≡ h → (not h || active_end v (source_of v.graph e.buffer)) ≡ true → Shared e
+      by false plain is = shared-in c there now plain e at to
+      by true some is = shared-fed e at (sym (ap (λ (o : Option Edge). active_end v (option_and_then (λ e. e.source) o)) (at-buffer v.graph wired linked e at)) ∙ is)
 
   -- its pipeline has a period
   pub active-period : AllByRecursion (λ p. is_period p.period ≡ true) v.graph.pipes → (c : Comp) → IsIn c v.graph.comps → active v c.id ≡ true → 1 ≤ period v c.id
@@ -212,7 +298,7 @@ module _ (v : View) (wired : IsWired v.graph) (linked : IsLinked v.graph) (playe
       let p : Pipe = found.0 in
       let long : 1000 ≤ p.period = leb-true 1000 p.period (and_parts (nat_le 1000 p.period) (nat_le p.period 10000) (and_parts (nat_le 1000 p.period && nat_le p.period 10000) _ found.2).0).0 in
       let is : period v c.id ≡ p.period / 1000 =
-      ap (λ (o : Option Comp). option_map_or (λ x. option_map_or (λ p. p.period) (pipe_of v.graph x.pipe) 0) o 0 / 1000) (in-all (λ x. find (λ y. y.id == x.id) v.graph.comps ≡ Some x) v.graph.comps c (found-each (λ (x : Comp). x.id) v.graph.comps wired.ids) there)
+      ap (λ (o : Option Comp). option_map_or (λ x. option_map_or (λ p. p.period) (pipe_of v.graph x.pipe) 0) o 0 / 1000) (comp-at c there)
       ∙ ap (λ (o : Option Pipe). option_map_or (λ p. p.period) o 0 / 1000) found.1 in
       omega (arith, is, long)
     where

@@ -17,7 +17,7 @@ any-fewer {X} p q (x ∷ xs) none =
 
 no-turn : (v : View) (c : ℕ) → list_any (λ s. is_running_phase s.phase) v.streams ≡ false → turn_of v c ≡ None
 unfolding active turn_of
-no-turn v c none = ap (λ h. cond h (option_map_or (λ x. turn_by x.kind v c) (comp_of v.graph c) None) None) (any-fewer (λ (s : StreamView). is_running_phase s.phase) (λ s. on_way v.graph s.host c) v.streams none)
+no-turn v c none = ap (λ h. cond h (option_map_or (λ x. turn_by x.kind x.setting v c) (comp_of v.graph c) None) None) (any-fewer (λ (s : StreamView). is_running_phase s.phase) (λ s. on_way v.graph s.host c) v.streams none)
 
 map-none : {X Y : Type 0} (f : X → Option Y) (xs : List X) → ((x : X) → f x ≡ None) → filter_map f xs ≡ []
 map-none f [] none = refl

@@ -1,6 +1,6 @@
 -- What a tick leaves of a state.
-use Rattle.std.proofs.Common.{◌≡◌, refl, sym, ap, ◌∙◌, subst, ℕ, zero, suc, ◌-◌, ◌%◌, ◌^◌, ◌≤◌, List, [], ◌∷◌, map, get_or, set, Bool, true, false, cond, ◌==◌}
-use Rattle.std.specs.Prelude.{All, nat_eq}
+use Rattle.std.proofs.Common.{◌≡◌, refl, sym, ap, ◌∙◌, subst, ℕ, zero, suc, ◌-◌, ◌%◌, ◌^◌, ◌≤◌, List, [], ◌∷◌, map, length, drop, get_or, set, Bool, true, false, cond, ◌==◌}
+use Rattle.std.specs.Prelude.{All, nat_eq, nat_le}
 use Rattle.std.specs.List.{AllByRecursion, IsDistinct}
 use Rattle.sof_base.specs.Samples.{Frame}
 use Rattle.sof_base.specs.Ports.{Io, InputView, OutputView}
@@ -10,27 +10,29 @@ use Rattle.stream_law.specs.declared.graph.Edge.{Edge}
 use Rattle.stream_law.specs.declared.graph.Pipe.{Pipe}
 use Rattle.stream_law.specs.declared.graph.Join.{Join}
 use Rattle.stream_law.specs.declared.stream.StreamView.{StreamView}
-use Rattle.stream_law.specs.State.{FwState, HeapView, View, RingView, History, view_of}
+use Rattle.stream_law.specs.State.{FwState, HeapView, View, RingView, view_of}
 use Rattle.stream_law.specs.Placed.{HasDistinct}
 use Rattle.stream_law.specs.Ways.{channels_of}
 use Rattle.stream_law.specs.Seen.{flows, ring_seen}
 use Rattle.stream_law.specs.Move.{next_clock}
 use Rattle.stream_law.specs.Order.{order}
 use Rattle.mbox_link.specs.Step.{fresh}
-use Rattle.mbox_link.specs.Exchange.{plays, ticked}
-use Rattle.mbox_link.proofs.Plays.{ticked-plays}
+use Rattle.mbox_link.specs.Exchange.{ticked}
 use Rattle.fw_ring.specs.RingLists.{Ring, RingLists}
+use Rattle.fw_components.specs.declared.kernel.Kernel.{Kernel}
+use Rattle.fw_components.specs.Places.{no_ring, frames_at, with_frames, ring_emptied, emptied}
+use Rattle.fw_components.specs.Kernels.{looked, frames_moved, drained, moved}
 use Rattle.fw_schedule.specs.declared.turn.Turn.{Turn}
 use Rattle.fw_schedule.specs.declared.turn.Action.{Action}
-use Rattle.fw_schedule.specs.declared.turn.Action.TheVariants.{Feed, Drain, Fill}
-use Rattle.fw_schedule.specs.Turns.{no_ring, with_frames, turns_of, after_action, after_turn, after_turn_at, after_turns}
-use Rattle.fw_schedule.specs.Ticks.{ring_emptied, emptied, seen_at, AreTurnsAt}
+use Rattle.fw_schedule.specs.declared.turn.Action.TheVariants.{Feed, Drain, Fill, Make}
+use Rattle.fw_schedule.specs.Turns.{turns_of, after_action, after_turn, after_turn_at, after_turns}
+use Rattle.fw_schedule.specs.Ticks.{seen_at, AreTurnsAt}
 use Rattle.fw_schedule.specs.TurnLaws.{CanTurn, TicksAreTurns, TurnsStand, turned}
 use Rattle.fw_core.specs.Kept.{IsKept, AreRings, LiesIn, state_of, shown}
-use Rattle.fw_core.proofs.Histories.{histories-none}
+use Rattle.fw_core.proofs.Histories.{bare-numbers, bare-distinct}
 use Rattle.fw_core.proofs.KeptLaws.{ring-keys}
 use Rattle.fw_core.proofs.SeenLaws.{keys-shown}
-use Rattle.fw_core.proofs.Laid.{place-of, IsFlowing, all-flowing, bounds, plain, laid-out}
+use Rattle.fw_core.proofs.Laid.{place-of, all-filter, IsFlowing, TakesFlowing, TurnsFlowing, all-flowing, bounds, fit, laid-out}
 
 -- a fresh state has no turns
 pub no-turns : (heap : ℕ) → turns_of (view_of (fresh heap)) ≡ []
@@ -59,30 +61,40 @@ module _ (v : View) where
   abbrev Stays : RingView → Type 0
   Stays r = ring_seen v r ≡ r
 
-  -- frames at a place where frames flow
-  frames-stay : (t : Turn) → IsFlowing v t → (frames : List Frame) (rs : List RingView) → map (λ (r : RingView). r.buffer) rs ≡ map (λ (e : Edge). e.buffer) v.graph.edges → AllByRecursion Stays rs → AllByRecursion Stays (with_frames t.place frames rs) × (map (λ (r : RingView). r.buffer) (with_frames t.place frames rs) ≡ map (λ (e : Edge). e.buffer) v.graph.edges)
-  frames-stay t flow frames rs keys all =
-      let e : Edge = flow.0 in
-      let found = place-of (λ (r : RingView). r.buffer) (λ r. Unit {0}) rs v.graph.edges no_ring e keys (every-one rs) flow.1 in
-      let here : (get_or rs t.place no_ring).buffer ≡ e.buffer = ap (λ n. (get_or rs n no_ring).buffer) flow.2 ∙ found.1 in
-      let flows_there : flows v (get_or rs t.place no_ring).buffer ≡ true = ap (flows v) here ∙ flow.3 in (
-        all-set Stays rs t.place (record { buffer = (get_or rs t.place no_ring).buffer; frames = frames }) all (ap (λ h. record { buffer = (get_or rs t.place no_ring).buffer; frames = cond h frames [] }) flows_there),
-        set-key (λ (r : RingView). r.buffer) rs t.place no_ring (record { buffer = (get_or rs t.place no_ring).buffer; frames = frames }) refl ∙ keys,
-      )
-
   abbrev Kept : List RingView → Type 0
   Kept rs = AllByRecursion Stays rs × (map (λ (r : RingView). r.buffer) rs ≡ map (λ (e : Edge). e.buffer) v.graph.edges)
 
-  turn-stay : (t : Turn) → IsFlowing v t → (p : List RingView × Io) → Kept p.0 → Kept (after_turn t p).0
-  unfolding after_turn
-  turn-stay t flow p kept = by t.action
-    where
-      by : (a : Action) → Kept (after_action a t p).0
-      by Feed = frames-stay t flow _ p.0 kept.1 kept.0
-      by Drain = frames-stay t flow _ p.0 kept.1 kept.0
-      by Fill = frames-stay t flow _ p.0 kept.1 kept.0
+  -- frames at a place where frames flow
+  frames-stay : (place : ℕ) → IsFlowing v place → (frames : List Frame) (rs : List RingView) → Kept rs → Kept (with_frames place frames rs)
+  frames-stay place flow frames rs (all, keys) =
+      let e : Edge = flow.0 in
+      let found = place-of (λ (r : RingView). r.buffer) (λ r. Unit {0}) rs v.graph.edges no_ring e keys (every-one rs) flow.1 in
+      let here : (get_or rs place no_ring).buffer ≡ e.buffer = ap (λ n. (get_or rs n no_ring).buffer) flow.2 ∙ found.1 in
+      let flows_there : flows v (get_or rs place no_ring).buffer ≡ true = ap (flows v) here ∙ flow.3 in (
+        all-set Stays rs place (record { buffer = (get_or rs place no_ring).buffer; frames = frames }) all (ap (λ h. record { buffer = (get_or rs place no_ring).buffer; frames = cond h frames [] }) flows_there),
+        set-key (λ (r : RingView). r.buffer) rs place no_ring (record { buffer = (get_or rs place no_ring).buffer; frames = frames }) refl ∙ keys,
+      )
 
-  turns-stay : (clock : ℕ) (ts : List Turn) → AllByRecursion (IsFlowing v) ts → (p : List RingView × Io) → Kept p.0 → Kept (after_turns clock ts p).0
+  -- and at the places that a kernel takes from
+  drained-stay : (n : ℕ) (inlets : List ℕ) → AllByRecursion (IsFlowing v) inlets → (rs : List RingView) → Kept rs → Kept (drained n inlets rs)
+  drained-stay n [] flow rs kept = kept
+  drained-stay n (inlet ∷ inlets) flow rs kept = drained-stay n inlets flow.1 (with_frames inlet (drop n (frames_at inlet rs)) rs) (frames-stay inlet flow.0 (drop n (frames_at inlet rs)) rs kept)
+
+  kernel-stay : (kernel : Kernel) → AllByRecursion (IsFlowing v) kernel.inlets → (place : ℕ) → IsFlowing v place → (n channels : ℕ) (rs : List RingView) → Kept rs → Kept (moved kernel n channels place rs)
+  kernel-stay kernel takes place flow n channels rs kept =
+      frames-stay place flow _ (drained n (looked kernel rs) rs) (drained-stay n (looked kernel rs) (all-filter (IsFlowing v) (IsFlowing v) (λ inlet. nat_le 1 (length (frames_at inlet rs))) kernel.inlets takes (λ inlet f is. f)) rs kept)
+
+  turn-stay : (t : Turn) → TurnsFlowing v t → (p : List RingView × Io) → Kept p.0 → Kept (after_turn t p).0
+  unfolding after_turn
+  turn-stay t flow p kept = by t.action flow.1
+    where
+      by : (a : Action) → TakesFlowing v a → Kept (after_action a t p).0
+      by Feed takes = frames-stay t.place flow.0 _ p.0 kept
+      by Drain takes = frames-stay t.place flow.0 _ p.0 kept
+      by Fill takes = frames-stay t.place flow.0 _ p.0 kept
+      by (Make kernel) takes = kernel-stay kernel takes t.place flow.0 (frames_moved kernel t.quota t.capacity t.place p.0) t.channels p.0 kept
+
+  turns-stay : (clock : ℕ) (ts : List Turn) → AllByRecursion (TurnsFlowing v) ts → (p : List RingView × Io) → Kept p.0 → Kept (after_turns clock ts p).0
   turns-stay clock [] flow p kept = kept
   turns-stay clock (t ∷ ts) flow p kept = turns-stay clock ts flow.1 (after_turn_at clock t p) (by (clock % t.period == 0))
     where
@@ -134,20 +146,21 @@ module _ (heap : HeapView) (clock : ℕ) (comps : List Comp) (edges : List Edge)
   keys = ring-keys heap clock comps edges pipes joins streams rings room kept held
 
   -- the turns can be run
-  pub turns-run : plays view ≡ true → TurnsStand → (turns : List Turn) → turns ≡ turns_of view → AreTurnsAt rings turns
-  turns-run playing stand turns is = subst (AreTurnsAt rings) (sym is) (stand view rings (bounds view kept.wired kept.linked kept.played) (laid-out view kept.wired kept.linked kept.played playing rings keys held.words held.channels))
+  pub turns-run : TurnsStand → (turns : List Turn) → turns ≡ turns_of view → AreTurnsAt rings turns
+  turns-run stand turns is = subst (AreTurnsAt rings) (sym is) (stand view rings (bounds view kept.wired kept.linked kept.played) (laid-out view kept.wired kept.linked kept.played rings keys held.words held.channels))
 
   -- and are the tick
-  module _ (playing : plays view ≡ true) (law : TicksAreTurns) (io : Io) (slots : IsDistinct nat_eq (input_slots io.inputs)) (within : All (λ x. x.position ≤ 2 ^ 64 - 1) io.inputs) (outs : HasDistinct (λ (x : OutputView). x.slot) io.outputs) where
+  module _ (law : TicksAreTurns) (io : Io) (slots : IsDistinct nat_eq (input_slots io.inputs)) (within : All (λ x. x.position ≤ 2 ^ 64 - 1) io.inputs) (outs : HasDistinct (λ (x : OutputView). x.slot) io.outputs) where
     can-turn : CanTurn state io
     unfolding IsDistinct
     can-turn = record {
-      plain = plain view kept.wired kept.linked kept.played playing;
+      fits = fit view kept.wired kept.linked kept.played;
       rings = kept.rings;
-      histories = histories-none view playing;
+      unset = kept.unset;
+      numbers = bare-numbers view;
       single = record {
         rings = subst (λ (ns : List ℕ). IsDistinct (λ m n. m == n) ns) (sym kept.rings) kept.wired.buffers;
-        histories = subst (HasDistinct (λ (h : History). h.comp)) (sym (histories-none view playing)) tt;
+        histories = bare-distinct view kept.wired.ids;
         inputs = slots;
         positions = within;
       };
@@ -163,10 +176,9 @@ module _ (heap : HeapView) (clock : ℕ) (comps : List Comp) (edges : List Edge)
       state-ticked =
           ap (λ (p : ℕ × List RingView). state_of heap p.0 comps edges pipes joins streams p.1) (λ i. (next i, (as-turned i).0))
           ∙ (law state io can-turn).state
-          ∙ sym (ap (λ (p : FwState × Io). p.0) (ticked-plays state io playing))
 
       pub io-ticked : record { inputs = inputs; outputs = outputs } ≡ (ticked (state, io)).1
-      io-ticked = ap (λ (p : List RingView × Io). p.1) as-turned ∙ (law state io can-turn).endpoints ∙ sym (ap (λ (p : FwState × Io). p.1) (ticked-plays state io playing))
+      io-ticked = ap (λ (p : List RingView × Io). p.1) as-turned ∙ (law state io can-turn).endpoints
 
       same-rings : map ring_emptied rings'.rings ≡ map ring_emptied rings.rings
       same-rings = ap (λ (s : RingLists). s.rings) empty
@@ -179,7 +191,7 @@ module _ (heap : HeapView) (clock : ℕ) (comps : List Comp) (edges : List Edge)
 
       stays : map (ring_seen view) (map shown rings'.rings) ≡ map shown rings'.rings
       stays =
-          let all = (turns-stay view (next_clock clock) (turns_of view) (all-flowing view kept.wired kept.linked kept.played playing) (seen_at rings io.inputs io.outputs) (stay-each view (map shown rings.rings) kept.seen, kept.rings)).0 in
+          let all = (turns-stay view (next_clock clock) (turns_of view) (all-flowing view kept.wired kept.linked kept.played) (seen_at rings io.inputs io.outputs) (stay-each view (map shown rings.rings) kept.seen, kept.rings)).0 in
           subst (λ (rs : List RingView). map (ring_seen view) rs ≡ rs) (sym (ap (λ (p : List RingView × Io). p.0) as-turned)) (stay-all view _ all)
 
       pub kept-ticked : IsKept (state_of heap clock' comps edges pipes joins streams (map shown rings'.rings))

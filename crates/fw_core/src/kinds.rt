@@ -1,6 +1,6 @@
 // What a message says of its component.
 ghost use Rattle.std.specs.Prelude.{◌≡◌, ◌<◌, ◌≤◌, replicate, true};
-ghost use Rattle.stream_law.specs.Joins.{kind_ins, kind_outs, fits_kind, is_play, is_endpoint as ends_there};
+ghost use Rattle.stream_law.specs.Joins.{kind_ins, kind_outs, fits_kind, is_play};
 ghost use Rattle.stream_law.specs.Ways.{is_capture};
 ghost use Rattle.mbox_link.specs.Step.{comp_bytes, format_of, kind_of as named_kind, first_setting as named_setting, is_host as is_of_host, goes as has_direction};
 ghost use Rattle.fw_core.specs.Answers.{has_few_channels};
@@ -109,16 +109,6 @@ pub fn is_host_capture(kind: Kind) -> bool
     ensures { result ≡ is_capture kind }
 {
     matches!(kind, Kind::HostCapture)
-}
-
-/// Whether a component is an endpoint.
-pub fn is_endpoint(kind: Kind) -> bool
-    ensures { result ≡ ends_there kind }
-{
-    matches!(
-        kind,
-        Kind::HostPlay | Kind::HostCapture | Kind::DaiPlay(_) | Kind::DaiCapture(_)
-    )
 }
 
 /// Whether a component is the host's end of a stream.

@@ -8,6 +8,7 @@ mod growth;
 mod heap;
 mod joins;
 mod kinds;
+mod making;
 mod order;
 mod player;
 mod scene;
@@ -15,8 +16,6 @@ mod schedule;
 mod settle;
 mod state;
 mod table;
-#[cfg(test)]
-mod tests;
 mod turning;
 mod walks;
 

@@ -10,6 +10,7 @@ ghost use Rattle.fw_core.specs.Device.{io_of};
 
 use crate::schedule::schedule;
 use crate::state::State;
+use fw_components::Workspace;
 use fw_schedule::{TURN_BYTES, Turn};
 use ipc3_codec::Body;
 use sof_base::{Errno, NoMemory};
@@ -17,20 +18,18 @@ use sof_io::{Inputs, Outputs};
 use std::alloc::Global;
 use std::marker::Model;
 
-/// A state, the turns of its graph and streams, whether each of its components that is Live is an endpoint, and room for the
-/// bytes of a turn.
+/// A state, the turns of its graph and streams, and room for the bytes and the samples of a turn.
 #[derive(Drop)]
 pub struct Player {
     state: State,
     turns: Vec<Turn>,
-    plays: bool,
     scratch: Vec<u8>,
+    workspace: Workspace,
 }
 
 impl Model for Player {
     ghost use Rattle.std.specs.Prelude.{◌≡◌, ◌≤◌, length, vec_capacity};
     ghost use Rattle.stream_law.specs.State.{view_of};
-    ghost use Rattle.mbox_link.specs.Exchange.{plays as is_played};
     ghost use Rattle.fw_schedule.specs.Turns.{turns_of};
     ghost use Rattle.fw_core.specs.Kept.{Held};
 
@@ -38,7 +37,7 @@ impl Model for Player {
 
     ghost view = { λ p. p.state };
 
-    ghost invariant = { λ p. (p.turns.items ≡ turns_of (view_of p.state.state)) × (p.plays ≡ is_played (view_of p.state.state)) × (128 ≤ vec_capacity p.turns) × (61440 ≤ length p.scratch.items) };
+    ghost invariant = { λ p. (p.turns.items ≡ turns_of (view_of p.state.state)) × (128 ≤ vec_capacity p.turns) × (61440 ≤ length p.scratch.items) };
 }
 
 impl Player {
@@ -49,8 +48,8 @@ impl Player {
         Ok(Player {
             state: State::new(alloc, room)?,
             turns: Vec::with_capacity(alloc, 128)?,
-            plays: true,
             scratch: vec![in alloc; 0; TURN_BYTES]?,
+            workspace: Workspace::new(alloc)?,
         })
     }
 
@@ -75,7 +74,6 @@ impl Player {
     {
         self.state.reset(heap);
         self.turns.clear();
-        self.plays = true;
     }
 
     /// Does what a message's bytes say, and gives the body of its reply, or tells why not. Bytes that are no message are not
@@ -89,25 +87,22 @@ impl Player {
         let answer = self.state.answer(request);
         let scene = self.state.scene();
         schedule(&scene, &mut self.turns);
-        self.plays = scene.plays();
         answer
     }
 
-    /// A tick: each Active endpoint whose pipeline runs has its turn. Frames move where each component on the way of a Running
-    /// or Paused stream is an endpoint; where another kind is there, nothing moves so far.
+    /// A tick: each Active component whose pipeline runs has its turn.
     pub fn tick(&mut self, inputs: &mut Inputs, outputs: &mut Outputs)
         requires { HasRoom 61440 outputs.old }
         ensures state { self.new ≡ record { state = (ticked (self.old.state, io_of inputs.old outputs.old)).0; room = self.old.room } }
         ensures io { io_of inputs.new outputs.new ≡ (ticked (self.old.state, io_of inputs.old outputs.old)).1 }
         ensures room { (n : ℕ) → HasRoom (n + 61440) outputs.old → HasRoom n outputs.new }
     {
-        if self.plays {
-            self.state.run(
-                self.turns.as_slice(),
-                self.scratch.as_mut_slice(),
-                inputs,
-                outputs,
-            );
-        }
+        self.state.run(
+            self.turns.as_slice(),
+            self.scratch.as_mut_slice(),
+            &mut self.workspace,
+            inputs,
+            outputs,
+        );
     }
 }

@@ -2,10 +2,8 @@
 ghost use Rattle.std.specs.Prelude.{◌≡◌, ◌&&◌, ◌||◌, ◌++◌, not, map, find, option_copied, true, Some};
 ghost use Rattle.std.specs.List.{list_all, list_any};
 ghost use Rattle.stream_law.specs.Ways.{edge_of, source_of, sink_of, on_way as lies_on, is_live_phase, live as is_live, live_end as has_live_end, live_params as params_of, channels_of as samples_of, components, buffers, touch as has_common, same_shape as alike, agree as is_agreed};
-ghost use Rattle.stream_law.specs.Joins.{is_endpoint as ends_there};
 ghost use Rattle.stream_law.specs.Seen.{flows as may_hold};
 ghost use Rattle.fw_core.specs.Answers.{are_others};
-ghost use Rattle.mbox_link.specs.Exchange.{plays as is_played};
 ghost use Rattle.mbox_link.specs.Step.{is_complete as is_whole, is_ready_comp as is_comp_ready, is_ready_edge as is_edge_ready, set_stream};
 
 use crate::{joins, kinds};
@@ -49,34 +47,6 @@ impl<'a> Scene<'a> {
         ensures { result ≡ is_live self.now id }
     {
         self.streams.iter().any(|stream| is_live_at(stream.phase) && self.on_way(stream.host, id))
-    }
-
-    /// Whether each component that is Live is an endpoint.
-    pub fn plays(&self) -> bool
-        ensures { result ≡ is_played self.now }
-    {
-        !self.has_live_stream() || self.has_live_ends()
-    }
-
-    // Whether a stream is Running or Paused.
-    fn has_live_stream(&self) -> bool
-        ensures { result ≡ list_any (λ s. is_live_phase s.phase) self.now.streams }
-    {
-        self.streams.iter().any(|stream| is_live_at(stream.phase))
-    }
-
-    // Whether each component is an endpoint or not Live.
-    fn has_live_ends(&self) -> bool
-        ensures { result ≡ is_played self.now }
-    {
-        self.comps.iter().all(|comp| self.ends_or_rests(comp))
-    }
-
-    // Whether a component is an endpoint or not Live.
-    fn ends_or_rests(&self, comp: &Comp) -> bool
-        ensures { result ≡ (not (is_live self.now comp.now.id) || ends_there comp.now.kind) }
-    {
-        kinds::is_endpoint(comp.kind) || !self.live(comp.id)
     }
 
     /// Whether an end of an edge is there and Live.
@@ -125,8 +95,8 @@ impl<'a> Scene<'a> {
         self.live(buffer) && self.live_end(self.source(buffer)) && self.live_end(self.sink(buffer))
     }
 
-    // The component that a buffer comes from.
-    fn source(&self, buffer: u32) -> Option<u32>
+    /// The component that a buffer comes from.
+    pub fn source(&self, buffer: u32) -> Option<u32>
         ensures { result ≡ source_of self.now.graph buffer }
     {
         match self.edge(buffer) {

@@ -2,7 +2,7 @@
 ghost use Rattle.std.specs.Prelude.{◌≡◌, ◌<◌, ◌≤◌, ◌+◌, ◌++◌, [], ◌∷◌, length, filter_map, slice_index, vec_capacity};
 ghost use Rattle.stream_law.specs.Ways.{components};
 ghost use Rattle.fw_schedule.specs.Turns.{turn_of, turns_of};
-ghost use Rattle.fw_schedule.specs.TurnLaws.{HasBounds};
+ghost use Rattle.fw_schedule.specs.TurnLaws.{HasBounds, IsFit};
 ghost use Rattle.fw_core.specs.Kept.{IsLinked, IsWired};
 
 use crate::order::order;
@@ -15,6 +15,7 @@ pub fn schedule(scene: &Scene, turns: &mut Vec<Turn>)
     requires wired { IsWired scene.now.graph }
     requires linked { IsLinked scene.now.graph }
     requires bounds { HasBounds scene.now }
+    requires fits { IsFit scene.now }
     requires room { 128 ≤ vec_capacity turns.old }
     ensures turns { turns.new.items ≡ turns_of scene.now }
     ensures room { 128 ≤ vec_capacity turns.new }
@@ -30,12 +31,13 @@ pub fn schedule(scene: &Scene, turns: &mut Vec<Turn>)
     }
 }
 
-// One turn more, if the component at a place is an Active endpoint.
+// One turn more, if the component at a place is Active.
 fn add_turn(scene: &Scene, place: usize, turns: &mut Vec<Turn>)
     requires there { place < length scene.now.graph.comps }
     requires limit { length scene.now.graph.comps ≤ 128 }
     requires wired { IsWired scene.now.graph }
     requires bounds { HasBounds scene.now }
+    requires fits { IsFit scene.now }
     requires few { length turns.old.items < 128 }
     requires room { 128 ≤ vec_capacity turns.old }
     ensures turns { turns.new.items ≡ turns.old.items ++ filter_map (turn_of scene.now) (slice_index (components scene.now.graph) place ∷ []) }

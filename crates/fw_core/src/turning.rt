@@ -1,5 +1,5 @@
 // The turn of a component in a view.
-ghost use Rattle.std.specs.Prelude.{◌≡◌, ◌&&◌, ◌==◌, ◌≤◌, find, position, option_copied, option_map, slice_get, unwrap_or, length, Some, None};
+ghost use Rattle.std.specs.Prelude.{◌≡◌, ◌&&◌, ◌==◌, ◌≤◌, find, position, option_copied, option_map, slice_get, unwrap_or, length, true, Some, None};
 ghost use Rattle.std.specs.List.{list_any, position_or_len};
 ghost use Rattle.std.specs.Option.{option_map_or};
 ghost use Rattle.stream_law.specs.Placed.{HasDistinct};
@@ -7,10 +7,9 @@ ghost use Rattle.stream_law.specs.Ways.{comp_of, edge_of, pipe_of, ins, is_end, 
 ghost use Rattle.stream_law.specs.Moves.{capacity as room_of, period as period_of, quota as quota_of, fed as is_fed_by, fed_by};
 ghost use Rattle.stream_law.specs.Endpoints.{stream_format as format_of_stream, format_of as format_at};
 ghost use Rattle.fw_schedule.specs.Turns.{place_of, turn_at as has_turn_at, turn_of as has_turn};
-ghost use Rattle.fw_schedule.specs.TurnLaws.{HasBounds};
+ghost use Rattle.fw_schedule.specs.TurnLaws.{HasBounds, fits_if_active};
 
 use crate::joins::is_at;
-use crate::kinds;
 use crate::scene::Scene;
 use fw_schedule::{Action, Turn};
 use sof_base::{Format, Params};
@@ -26,14 +25,15 @@ impl<'a> Scene<'a> {
             .any(|stream| is_running_at(stream.phase))
     }
 
-    /// The turn of a component, if it is an Active endpoint.
+    /// The turn of a component, if it is Active.
     #[tactic(auto, unfolding(fw_schedule::specs::Turns::turn_of))]
     pub fn turn(&self, comp: &Comp) -> Option<Turn>
         requires there { comp_of self.now.graph comp.now.id ≡ Some comp.now }
         requires bounds { HasBounds self.now }
+        requires fits { fits_if_active self.now comp.now ≡ true }
         ensures { result ≡ has_turn self.now comp.now.id }
     {
-        if !kinds::is_endpoint(comp.kind) || !self.active(comp.id) {
+        if !self.active(comp.id) {
             return None;
         }
         match comp.kind {
@@ -42,7 +42,11 @@ impl<'a> Scene<'a> {
             }
             Kind::HostCapture => self.turn_at(comp, Action::Drain, self.first_in(comp.id)),
             Kind::DaiPlay(_) => self.turn_at(comp, Action::Fill, self.first_in(comp.id)),
-            _ => None,
+            _ => self.turn_at(
+                comp,
+                Action::Make(self.kernel(comp)),
+                self.first_fed(comp.id),
+            ),
         }
     }
 
@@ -67,17 +71,17 @@ impl<'a> Scene<'a> {
         }
     }
 
-    // Whether a component or a buffer is on the way of a Running stream.
+    /// Whether a component or a buffer is on the way of a Running stream.
     #[tactic(auto, unfolding(stream_law::specs::Ways::active))]
-    fn active(&self, id: u32) -> bool
+    pub fn active(&self, id: u32) -> bool
         ensures { result ≡ is_active self.now id }
     {
         self.streams.iter().any(|stream| is_running_at(stream.phase)
             && self.on_way(stream.host, id))
     }
 
-    // Whether an end of an edge is there and Active.
-    fn active_end(&self, end: Option<u32>) -> bool
+    /// Whether an end of an edge is there and Active.
+    pub fn active_end(&self, end: Option<u32>) -> bool
         ensures { result ≡ has_active_end self.now end }
     {
         match end {
@@ -132,8 +136,8 @@ impl<'a> Scene<'a> {
         self.edges.iter().find(|edge| is_at(edge.sink, id))
     }
 
-    // Where a buffer's edge stands among all edges.
-    fn place(&self, buffer: u32) -> usize
+    /// Where a buffer's edge stands among all edges.
+    pub fn place(&self, buffer: u32) -> usize
         ensures { result ≡ place_of self.now.graph buffer }
     {
         let end = self.edges.len();

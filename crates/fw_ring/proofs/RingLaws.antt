@@ -1,6 +1,6 @@
 -- The rings of windows, as one of them changes, is put in or is taken out.
-use Rattle.std.proofs.Common.{◌≡◌, refl, sym, ap, ◌∙◌, ℕ, ◌+◌, ◌/◌, ◌<◌, ◌≤◌, List, [], ◌∷◌, ◌++◌, map, length, take, drop, get_or, set, inl, inr, not, ◌==◌, arith, ℤ}
-use Rattle.std.specs.Prelude.{filter}
+use Rattle.std.proofs.Common.{◌≡◌, refl, sym, ap, subst, ◌∙◌, ℕ, ◌+◌, ◌/◌, ◌<◌, ◌≤◌, List, [], ◌∷◌, ◌++◌, map, length, take, drop, get_or, set, inl, inr, not, ◌==◌, arith, length-set, ℤ}
+use Rattle.std.specs.Prelude.{filter, vec_capacity}
 use Rattle.std.specs.List.{AllByRecursion}
 use Rattle.std.proofs.lemmas.List.{get_or-map, map-set, length-map}
 use borrow.Rule.Slice.PartMut.{put_mid}
@@ -9,11 +9,11 @@ use Rattle.stream_law.specs.Placed.{placed}
 use Rattle.stream_law.proofs.Placing.{map-placed}
 use Rattle.fw_ring.specs.declared.window.Window.{Window}
 use Rattle.fw_ring.specs.declared.rings.Rings.TheInside.{Inside}
-use Rattle.fw_ring.specs.RingLists.{Ring, RingLists, fresh_ring, begun, pushed, pulled, capacity_of, IsOutside, IsRing}
+use Rattle.fw_ring.specs.RingLists.{Ring, RingLists, fresh_ring, ring_at, begun, pushed, pulled, capacity_of, IsOutside, IsRing}
 use Rattle.fw_ring.specs.RingWords.{IsWindow, round_from, slots, frames_of}
-use Rattle.fw_ring.specs.RingsLaid.{own_words, ring_of, rings_view, Apart, AreApart, IsWithin}
+use Rattle.fw_ring.specs.RingsLaid.{own_words, ring_of, rings_view, Apart, AreApart, IsWithin, AreLaid}
 use Rattle.fw_ring.proofs.WindowLaws.{length-frames, frames-whole, fuller, emptier}
-use Rattle.fw_ring.proofs.ApartLaws.{map-changed, map-filter, own-written, own-apart, length-own, all-at}
+use Rattle.fw_ring.proofs.ApartLaws.{map-changed, map-filter, own-written, own-apart, length-own, all-at, all-set, apart-set}
 
 -- a window at a place
 pub record IsAt (ws : List Window) (place : ℕ) (w : Window) : Type 0 where
@@ -45,6 +45,30 @@ held-at words ws place w d at is = ap (λ r. length r.frames) (ring-at words ws 
 -- how many it has room for
 pub room-at : (words : List ℤ) (ws : List Window) (place : ℕ) (w : Window) (d : Ring) → IsAt ws place w → IsWindow w → capacity_of (get_or (map (ring_of words) ws) place d) ≡ w.capacity
 room-at words ws place w d at is = ap capacity_of (ring-at words ws place w d at) ∙ sym is.capacity
+
+-- so many of its frames are frames of the window
+pub held-now : (r : Inside) (now : RingLists) (place n : ℕ) (w : Window) → rings_view r ≡ now → IsAt r.windows.items place w → IsWindow w → n ≤ length (ring_at now place).frames → n ≤ w.held
+held-now r now place n w view at is held =
+    omega (arith, held, ap (λ (s : RingLists). length (ring_at s place).frames) view, held-at r.words.items r.windows.items place w (fresh_ring 0 0 0) at is)
+
+-- what it has room for the window has room for
+pub fit-now : (r : Inside) (now : RingLists) (place n : ℕ) (w : Window) → rings_view r ≡ now → IsAt r.windows.items place w → IsWindow w → length (ring_at now place).frames + n ≤ capacity_of (ring_at now place) → w.held + n ≤ w.capacity
+fit-now r now place n w view at is fit =
+    let d = fresh_ring 0 0 0 in
+    omega (arith, fit, ap (λ (s : RingLists). length (ring_at s place).frames) view, ap (λ (s : RingLists). capacity_of (ring_at s place)) view, held-at r.words.items r.windows.items place w d at is, room-at r.words.items r.windows.items place w d at is)
+
+-- rings of which one window is changed, in the words that it had
+pub laid-changed : (r s : Inside) (place : ℕ) (w w' : Window) → AreLaid r → IsAt r.windows.items place w → s.windows.items ≡ set r.windows.items place w' → vec_capacity s.windows ≡ vec_capacity r.windows → length s.words.items ≡ length r.words.items → IsWindow w' → w'.first ≡ w.first → w'.words ≡ w.words → AreLaid s
+laid-changed r s place w w' v at windows capacity many is first words =
+    let ws = r.windows.items in let most = length r.words.items in
+    let ends : w'.first + w'.words ≤ most = omega (arith, (within-at most ws place w at v.windows).ends, first, words) in
+    record {
+      few = (omega (arith, ap length windows, length-set ws place w', v.few), omega (arith, capacity, v.few));
+      most = omega (arith, many, v.most);
+      windows = subst (AllByRecursion (IsWithin (length s.words.items))) (sym windows)
+          (subst (λ n. AllByRecursion (IsWithin n) (set ws place w')) (sym many) (all-set (IsWithin most) ws place w' (record { window = is; ends = ends }) v.windows));
+      apart = subst AreApart (sym windows) (apart-set ws place w w' at.there at.read first words v.apart);
+    }
 
 -- a ring that is emptied
 pub rings-begun : (words : List ℤ) (ws : List Window) (place : ℕ) (w w' : Window) (channels : ℕ) (d : Ring) → IsAt ws place w → w'.buffer ≡ w.buffer → w'.first ≡ w.first → w'.words ≡ w.words → w'.channels ≡ channels → w'.held ≡ 0 → map (ring_of words) (set ws place w') ≡ set (map (ring_of words) ws) place (begun channels (get_or (map (ring_of words) ws) place d))

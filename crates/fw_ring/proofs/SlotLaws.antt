@@ -1,15 +1,14 @@
 -- Frames whose words lie one after the other.
-use Rattle.std.proofs.Common.{◌≡◌, refl, sym, ap, ◌∙◌, ℕ, zero, suc, ◌+◌, ◌-◌, ◌*◌, ◌<◌, ◌≤◌, List, [], ◌∷◌, ◌++◌, length, take, drop, get_or, map, arith, append_assoc, length-take, length-drop, length-append, ℤ, pos}
+use Rattle.std.proofs.Common.{◌≡◌, refl, sym, ap, ◌∙◌, ℕ, zero, suc, ◌+◌, ◌-◌, ◌*◌, ◌<◌, ◌≤◌, List, [], ◌∷◌, ◌++◌, length, take, drop, get_or, map, arith, length-take, length-drop, length-append, ℤ, pos}
 use Rattle.std.proofs.lemmas.List.{take-take, take_at, drop_at, drop-drop, drop-take, get_or-take, get_or-drop, take-append-drop, get_or_append_left, get_or-append_right}
 use Rattle.std.specs.List.{range_with_len}
 use Rattle.std.proofs.lemmas.List.FromFn.{fill_by_all, get_or-map-range_with_len, length-map-range_with_len}
 use Rattle.std.proofs.Math.Nat.{mul-le-mul_right}
 use borrow.Rule.Slice.PartMut.{put_mid}
 use Rattle.sof_base.specs.declared.format.Format.{Format}
-use Rattle.sof_base.specs.Samples.{Frame, width, sample_in_of, frame_in, frames_in, frame_out, frames_out, AreFrames}
+use Rattle.sof_base.specs.Samples.{Frame, width, sample_in_of, frame_in, frames_in, AreFrames}
 use Rattle.sof_base.proofs.SampleLaws.{frames_in-append, frames_in-drop}
 use Rattle.fw_ring.specs.RingWords.{slots, round_from}
-use Rattle.fw_ring.proofs.SampleRuns.{frame_out-append}
 use Rattle.fw_ring.proofs.RoundLaws.{by_less}
 
 pub length-slots : (c n : ℕ) (ws : List ℤ) → length (slots c n ws) ≡ n
@@ -46,6 +45,10 @@ slots-append c a b xs ys long =
     ∙ ap (λ (t : List ℤ). slots c a (xs ++ ys) ++ slots c b t) (drop_at xs ys (a * c) long)
     ∙ ap (λ (t : List Frame). t ++ slots c b ys) (sym (slots-take c a (xs ++ ys)) ∙ ap (slots c a) (take_at xs ys (a * c) long))
 
+-- frames of the first words, and of those behind them
+pub slots-front : (c a b : ℕ) (ws : List ℤ) → slots c a (take (a * c) ws) ++ slots c b (drop (a * c) ws) ≡ slots c (a + b) ws
+slots-front c a b ws = ap (λ (t : List Frame). t ++ slots c b (drop (a * c) ws)) (slots-take c a ws) ∙ sym (slots-more c a b ws)
+
 -- words in the place of those of m frames are the frames in their place
 pub slots-put : (c t m n : ℕ) (ws xs : List ℤ) → t + m ≤ n → n * c ≤ length ws → length xs ≡ m * c → slots c n (put_mid (t * c) (m * c) ws xs) ≡ put_mid t m (slots c n ws) (slots c m xs)
 slots-put c t m n ws xs fits long count =
@@ -74,17 +77,6 @@ pub take-slots : (c m n : ℕ) (ws : List ℤ) → m ≤ n → take m (slots c n
 take-slots c m n ws le =
     let all : n ≡ m + (n - m) = omega arith in
     ap (λ k. take m (slots c k ws)) all ∙ ap (take m) (slots-more c m (n - m) ws) ∙ take_at (slots c m ws) (slots c (n - m) (drop (m * c) ws)) m (length-slots c m ws)
-
--- the bytes of frames are those of their words
-pub frames_out-slots : (format : Format) (c n : ℕ) (ws : List ℤ) → frames_out format (slots c n ws) ≡ frame_out format (take (n * c) ws)
-unfolding slots
-frames_out-slots format c zero ws = let p : 0 * c ≡ 0 = omega arith in ap (λ k. frame_out format (take k ws)) (sym p)
-frames_out-slots format c (suc n) ws =
-    let p : suc n * c ≡ c + n * c = omega arith in
-    let most : c ≤ suc n * c = omega arith in
-    ap (λ (t : List ℕ). frame_out format (take c ws) ++ t) (frames_out-slots format c n (drop c ws))
-    ∙ sym (frame_out-append format (take c ws) (take (n * c) (drop c ws)))
-    ∙ ap (frame_out format) ((λ i. sym (take-take c (suc n * c) ws most) i ++ sym (ap (λ k. drop c (take k ws)) p ∙ drop-take c (n * c) ws) i) ∙ take-append-drop c (take (suc n * c) ws))
 
 -- the frame at a place
 pub get-slots : (c n j : ℕ) (ws : List ℤ) (d : Frame) → j < n → get_or (slots c n ws) j d ≡ take c (drop (j * c) ws)
@@ -139,16 +131,6 @@ frames_in-more format c a b bytes long =
         (λ high. get_or-append_right xs ys a k [] lx high ∙ get_or-map-range_with_len (λ j. g (a * m + j * m)) 0 b (k - a) (k - a) [] (omega arith) (omega arith)
         ∙ ap g (let e : a * m + (k - a) * m ≡ 0 + k * m = steps a k m high in e)))
 
-pub frames_out-append : (format : Format) (xs ys : List Frame) → frames_out format (xs ++ ys) ≡ frames_out format xs ++ frames_out format ys
-frames_out-append format [] ys = refl
-frames_out-append format (f ∷ fs) ys = ap (λ (t : List ℕ). frame_out format f ++ t) (frames_out-append format fs ys) ∙ sym (append_assoc (frame_out format f) (frames_out format fs) (frames_out format ys))
-
--- the bytes of the first frames, and of those behind them
-pub frames_out-more : (format : Format) (a b : ℕ) (fs : List Frame) → frames_out format (take a fs) ++ frames_out format (take b (drop a fs)) ≡ frames_out format (take (a + b) fs)
-frames_out-more format a b fs =
-    sym (frames_out-append format (take a fs) (take b (drop a fs)))
-    ∙ ap (frames_out format) ((λ i. sym (take-take a (a + b) fs (omega arith)) i ++ sym (drop-take a b fs) i) ∙ take-append-drop a (take (a + b) fs))
-
 -- the bytes of the frames behind the first ones
 pub rest-whole : (a n m : ℕ) → a ≤ n → n * m - a * m ≡ (n - a) * m
 rest-whole a n m le = let all : n ≡ a + (n - a) = omega arith in let e : n * m ≡ a * m + (n - a) * m = ap (λ k. k * m) all ∙ omega arith in omega (arith, e)
@@ -157,7 +139,7 @@ whole-append : (c : ℕ) (xs ys : List Frame) → AreFrames c xs → AreFrames c
 whole-append c [] ys ax ay = ay
 whole-append c (x ∷ xs) ys ax ay = (ax.0, whole-append c xs ys ax.1 ay)
 
-whole-take : (c n : ℕ) (xs : List Frame) → AreFrames c xs → AreFrames c (take n xs)
+pub whole-take : (c n : ℕ) (xs : List Frame) → AreFrames c xs → AreFrames c (take n xs)
 whole-take c zero xs are = tt
 whole-take c (suc n) [] are = tt
 whole-take c (suc n) (x ∷ xs) are = (are.0, whole-take c n xs are.1)

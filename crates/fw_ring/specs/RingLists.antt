@@ -1,5 +1,5 @@
 -- The rings of a firmware's buffers, as lists of frames.
-use Rattle.std.specs.Prelude.{ℕ, ◌⊎◌, ◌+◌, ◌/◌, ◌≤◌, List, [], ◌++◌, length, drop, filter, not, ◌==◌, slice_index_or, slice_set}
+use Rattle.std.specs.Prelude.{ℕ, ◌⊎◌, ◌+◌, ◌/◌, ◌≤◌, List, [], ◌∷◌, ◌++◌, length, drop, ℤ, filter, not, ◌==◌, slice_index_or, slice_set}
 use Rattle.std.specs.List.{AllByRecursion}
 use Rattle.sof_base.specs.Samples.{Frame, AreFrames}
 use Rattle.stream_law.specs.Placed.{placed}
@@ -66,6 +66,11 @@ pushed new r = record { buffer = r.buffer; first = r.first; words = r.words; cha
 -- it has lost its first frames
 abbrev pub pulled : ℕ → Ring → Ring
 pulled n r = record { buffer = r.buffer; first = r.first; words = r.words; channels = r.channels; frames = drop n r.frames }
+
+-- the samples of frames, frame after frame
+abbrev pub samples_of : List Frame → List ℤ
+samples_of [] = []
+samples_of (frame ∷ frames) = frame ++ samples_of frames
 
 -- what is so of a ring: a frame has 1 to 8 samples, each frame has as many, and there is room for all
 pub record IsRing (r : Ring) : Type 0 where

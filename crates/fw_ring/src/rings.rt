@@ -1,7 +1,8 @@
 // All rings, in the words that were reserved for them.
-ghost use Rattle.std.specs.Prelude.{◌≡◌, ◌+◌, ◌*◌, ◌/◌, ◌<◌, ◌≤◌, length, take, IfOk, nat_lt, position};
+ghost use Rattle.std.specs.Prelude.{◌≡◌, ◌+◌, ◌*◌, ◌/◌, ◌%◌, ◌<◌, ◌≤◌, ◌++◌, length, take, IfOk, nat_lt, position};
 ghost use Rattle.sof_base.specs.Samples.{width, frames_in, frames_out};
-ghost use Rattle.fw_ring.specs.RingLists.{capacity_of, no_rings, with_ring, without_ring, ring_at, changed, begun, pushed, pulled, AreFree, AreRings};
+ghost use Rattle.fw_ring.specs.RingLists.{capacity_of, no_rings, with_ring, without_ring, ring_at, changed, begun, pushed, pulled, samples_of, AreFree, AreRings};
+ghost use Rattle.fw_ring.specs.RingWords.{slots};
 
 use crate::window::Window;
 use sof_base::{Format, NoMemory, Sample};
@@ -112,6 +113,42 @@ impl Rings {
         let window = self.windows[place];
         let words = &mut self.words[window.first..window.first + window.words];
         self.windows[place] = window.pushed(words, format, count, bytes);
+    }
+
+    /// The samples of the first `count` frames of a ring: those up to the end of its words, and then those from their beginning.
+    /// Each part has whole frames.
+    pub fn spans(&self, place: usize, count: usize) -> (&[Sample], &[Sample])
+        requires there { place < length self.now.rings }
+        requires held { count ≤ length (ring_at self.now place).frames }
+        ensures samples { result.0.now ++ result.1.now ≡ samples_of (take count (ring_at self.now place).frames) }
+        ensures whole { length result.0.now % (ring_at self.now place).channels ≡ 0 }
+        ensures rings { AreRings self.now }
+    {
+        let window = self.windows[place];
+        let words = &self.words[window.first..window.first + window.words];
+        window.spans(words, count)
+    }
+
+    /// Takes the first `count` frames out of a ring.
+    pub fn take(&mut self, place: usize, count: usize)
+        requires there { place < length self.old.rings }
+        requires held { count ≤ length (ring_at self.old place).frames }
+        ensures { self.new ≡ changed place (pulled count) self.old }
+    {
+        let window = self.windows[place];
+        self.windows[place] = window.shortened(count);
+    }
+
+    /// Appends the `count` frames of these samples; the ring has room for them.
+    pub fn push_frames(&mut self, place: usize, count: usize, samples: &[Sample])
+        requires there { place < length self.old.rings }
+        requires whole { length samples.now ≡ count * (ring_at self.old place).channels }
+        requires fit { length (ring_at self.old place).frames + count ≤ capacity_of (ring_at self.old place) }
+        ensures { self.new ≡ changed place (pushed (slots (ring_at self.old place).channels count samples.now)) self.old }
+    {
+        let window = self.windows[place];
+        let words = &mut self.words[window.first..window.first + window.words];
+        self.windows[place] = window.extended(words, count, samples);
     }
 
     /// Takes the first `count` frames out of a ring, and writes them as bytes of a format.

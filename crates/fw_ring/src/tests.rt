@@ -33,6 +33,25 @@ fn frames_round_the_end(rt: HostRuntime) {
     );
 }
 
+// The same frames by their samples: each look gives the words up to the end, and then those from the beginning.
+#[test]
+#[tactic(auto, unfolding(crate::specs::RingWords::slots))]
+fn spans_round_the_end(rt: HostRuntime) {
+    let mut rings = Rings::new(rt.alloc(), 64).expect(&rt, "memory");
+    rings.place(4, 0, 32);
+    rings.begin(0, 2);
+    rings.push_frames(0, 3, &[1, 2, 3, 4, 5, 6]);
+    rings.take(0, 2);
+    rings.push_frames(0, 2, &[7, 8, 9, 10]);
+    let (front, back) = rings.spans(0, 3);
+    assert_eq!(rt; front, [5, 6, 7, 8].as_slice());
+    assert_eq!(rt; back, [9, 10].as_slice());
+    rings.take(0, 1);
+    let (front, back) = rings.spans(0, 2);
+    assert_eq!(rt; front, [7, 8].as_slice());
+    assert_eq!(rt; back, [9, 10].as_slice());
+}
+
 // The ring of buffer 4 stands before that of buffer 9, and is emptied while that keeps its frame.
 fn two_rings(alloc: Global) -> Result<(usize, usize, [u8; 2]), NoMemory> {
     let mut rings = Rings::new(alloc, 64)?;

@@ -1,7 +1,8 @@
 // The frames of one ring, in words of its own.
-ghost use Rattle.std.specs.Prelude.{◌≡◌, ◌+◌, ◌-◌, ◌*◌, ◌/◌, ◌<◌, ◌≤◌, ◌^◌, ◌++◌, length, take, drop};
+ghost use Rattle.std.specs.Prelude.{◌≡◌, ◌+◌, ◌-◌, ◌*◌, ◌/◌, ◌%◌, ◌<◌, ◌≤◌, ◌^◌, ◌++◌, length, take, drop};
 ghost use Rattle.sof_base.specs.Samples.{width, frames_in, frames_out};
-ghost use Rattle.fw_ring.specs.RingWords.{IsWindow, frames_of, wrapped};
+ghost use Rattle.fw_ring.specs.RingLists.{samples_of};
+ghost use Rattle.fw_ring.specs.RingWords.{IsWindow, slots, frames_of, wrapped};
 
 use crate::runs::{read_samples, write_samples};
 use sof_base::{Format, Sample};
@@ -72,6 +73,52 @@ impl Window {
         first.appended(words, format, count - near, back)
     }
 
+    /// Appends the `count` frames of these samples.
+    pub fn extended(self, words: &mut [Sample], count: usize, samples: &[Sample]) -> Window
+        requires window { IsWindow self }
+        requires words { length words.old ≡ self.words }
+        requires whole { length samples.now ≡ count * self.channels }
+        requires fit { self.held + count ≤ self.capacity }
+        ensures window { result ≡ record self { held = self.held + count } }
+        ensures frames { frames_of result words.new ≡ frames_of self words.old ++ slots self.channels count samples.now }
+    {
+        let near = self.capacity - wrap(self.capacity, self.start, self.held);
+        if count <= near {
+            return self.copied(words, count, samples);
+        }
+        let (front, back) = samples.split_at(near * self.channels);
+        let first = self.copied(words, near, front);
+        first.copied(words, count - near, back)
+    }
+
+    /// The words of the first `count` frames: those up to the end of the room, and then those from its beginning.
+    pub fn spans(self, words: &[Sample], count: usize) -> (&[Sample], &[Sample])
+        requires window { IsWindow self }
+        requires words { length words.now ≡ self.words }
+        requires held { count ≤ self.held }
+        ensures samples { result.0.now ++ result.1.now ≡ samples_of (take count (frames_of self words.now)) }
+        ensures whole { length result.0.now % self.channels ≡ 0 }
+    {
+        let near = count.min(self.capacity - self.start);
+        let at = self.start * self.channels;
+        let front = &words[at..at + near * self.channels];
+        let back = &words[..(count - near) * self.channels];
+        (front, back)
+    }
+
+    /// The window without its first `count` frames.
+    pub fn shortened(self, count: usize) -> Window
+        requires window { IsWindow self }
+        requires held { count ≤ self.held }
+        ensures { result ≡ record self { start = wrapped self.capacity self.start count; held = self.held - count } }
+    {
+        Window {
+            start: wrap(self.capacity, self.start, count),
+            held: self.held - count,
+            ..self
+        }
+    }
+
     /// Writes the first `count` frames as bytes, and drops them.
     pub fn pulled(self, words: &[Sample], format: Format, count: usize, out: &mut [u8]) -> Window
         requires window { IsWindow self }
@@ -82,13 +129,11 @@ impl Window {
         ensures bytes { out.new ≡ frames_out format (take count (frames_of self words.now)) }
         ensures frames { frames_of result words.now ≡ drop count (frames_of self words.now) }
     {
-        let near = self.capacity - self.start;
-        if count <= near {
-            return self.taken(words, format, count, out);
-        }
-        let (front, back) = out.split_at_mut(near * (self.channels * format.width()));
-        let first = self.taken(words, format, near, front);
-        first.taken(words, format, count - near, back)
+        let (front, back) = self.spans(words, count);
+        let (near, far) = out.split_at_mut(front.len() * format.width());
+        write_samples(format, front, near);
+        write_samples(format, back, far);
+        self.shortened(count)
     }
 
     // Appends frames that come to lie before the end of the words.
@@ -109,22 +154,20 @@ impl Window {
         }
     }
 
-    // Writes and drops frames that lie before the end of the words.
-    fn taken(self, words: &[Sample], format: Format, count: usize, out: &mut [u8]) -> Window
+    // Appends frames of samples that come to lie before the end of the words.
+    fn copied(self, words: &mut [Sample], count: usize, samples: &[Sample]) -> Window
         requires window { IsWindow self }
-        requires words { length words.now ≡ self.words }
-        requires whole { length out.old ≡ count * (self.channels * width format) }
-        requires held { count ≤ self.held }
-        requires near { self.start + count ≤ self.capacity }
-        ensures window { result ≡ record self { start = wrapped self.capacity self.start count; held = self.held - count } }
-        ensures bytes { out.new ≡ frames_out format (take count (frames_of self words.now)) }
-        ensures frames { frames_of result words.now ≡ drop count (frames_of self words.now) }
+        requires words { length words.old ≡ self.words }
+        requires whole { length samples.now ≡ count * self.channels }
+        requires fit { self.held + count ≤ self.capacity }
+        requires near { wrapped self.capacity self.start self.held + count ≤ self.capacity }
+        ensures window { result ≡ record self { held = self.held + count } }
+        ensures frames { frames_of result words.new ≡ frames_of self words.old ++ slots self.channels count samples.now }
     {
-        let at = self.start * self.channels;
-        write_samples(format, &words[at..at + count * self.channels], out);
+        let at = wrap(self.capacity, self.start, self.held) * self.channels;
+        words[at..at + count * self.channels].copy_from_slice(samples);
         Window {
-            start: wrap(self.capacity, self.start, count),
-            held: self.held - count,
+            held: self.held + count,
             ..self
         }
     }

@@ -1,5 +1,5 @@
 -- How many bytes a turn writes at most.
-use Rattle.std.proofs.Common.{◌≡◌, refl, ap, ℕ, zero, suc, ◌+◌, ◌-◌, ◌*◌, ◌/◌, ◌%◌, ◌≤◌, List, [], ◌∷◌, ◌++◌, map, length, take, drop, replicate, Option, Some, None, Bool, true, false, cond, ◌==◌, ◌&&◌, arith, length-append, subst}
+use Rattle.std.proofs.Common.{◌≡◌, refl, ap, ℕ, zero, suc, ◌+◌, ◌-◌, ◌*◌, ◌/◌, ◌%◌, ◌≤◌, List, [], ◌∷◌, ◌++◌, map, length, take, drop, replicate, Option, Some, None, Bool, true, false, cond, ◌==◌, ◌&&◌, arith, length-append, pos, subst}
 use Rattle.std.proofs.lemmas.List.{length-replicate, length-take}
 use Rattle.std.specs.Prelude.{filter_map, find, option_map, slice_get}
 use Rattle.std.specs.List.{AllByRecursion, IsDistinct, range_with_len, cons_option}
@@ -7,23 +7,31 @@ use Rattle.std.specs.Option.{option_map_or, option_and_then}
 use Rattle.sof_base.specs.declared.format.Format.{Format}
 use Rattle.sof_base.specs.declared.format.Format.TheVariants.{S16, S24, S32}
 use Rattle.sof_base.specs.declared.format.Params.{Params}
-use Rattle.sof_base.specs.Samples.{Frame, width, frame_in, frame_out, frames_out, sample_in_of}
+use Rattle.sof_base.specs.Samples.{Frame, width, frame_in, frame_out, frames_out, sample_in_of, sample_of, silence, sat}
+use Rattle.sof_base.specs.Equations.{amplified, channel_gain, volume_of, exact_sum, mixed}
 use Rattle.sof_base.specs.Ports.{Io, HasRoom}
 use Rattle.sof_base.proofs.SampleLaws.{length-frame_out}
 use Rattle.stream_law.specs.declared.graph.Kind.{Kind}
 use Rattle.stream_law.specs.declared.graph.Kind.TheVariants.{HostPlay, HostCapture, DaiPlay, DaiCapture, Volume, Mixer, Mux, Eq}
 use Rattle.stream_law.specs.declared.graph.Comp.{Comp}
 use Rattle.stream_law.specs.declared.graph.Pipe.{Pipe}
+use Rattle.stream_law.specs.declared.graph.Setting.{Setting}
 use Rattle.stream_law.specs.declared.stream.StreamView.{StreamView}
 use Rattle.stream_law.specs.State.{FwState, View, RingView, view_of}
 use Rattle.stream_law.specs.Ways.{comp_of, pipe_of, ins, active, is_live_phase, on_way, rate_of, channels_of}
 use Rattle.stream_law.specs.Moves.{period, quota, fed_by}
 use Rattle.stream_law.specs.Order.{order}
 use Rattle.stream_law.specs.Move.{next_clock}
+use Rattle.stream_law.specs.Made.{only_slice, chosen_slice, frames_at as frames_of_each}
+use Rattle.fw_components.specs.declared.kernel.Effect.{Effect}
+use Rattle.fw_components.specs.declared.kernel.Effect.TheVariants.{Pass, Amplify, Mix, Choose}
+use Rattle.fw_components.specs.declared.kernel.Kernel.{Kernel}
+use Rattle.fw_components.specs.Places.{frames_at, with_frames}
+use Rattle.fw_components.specs.Kernels.{looked, frames_moved, slices, passed, made_by, drained, moved}
 use Rattle.fw_schedule.specs.declared.turn.Action.{Action}
-use Rattle.fw_schedule.specs.declared.turn.Action.TheVariants.{Feed, Drain, Fill}
+use Rattle.fw_schedule.specs.declared.turn.Action.TheVariants.{Feed, Drain, Fill, Make}
 use Rattle.fw_schedule.specs.declared.turn.Turn.{Turn}
-use Rattle.fw_schedule.specs.Turns.{turn_at, turn_by, turn_of, frames_at, with_frames, fed_frames, drained_frames, after_drain, after_action, after_turn, after_turn_at, after_turns}
+use Rattle.fw_schedule.specs.Turns.{turn_at, kernel_by, turn_by, turn_of, fed_frames, drained_frames, after_drain, after_action, after_turn, after_turn_at, after_turns}
 use Rattle.fw_schedule.specs.TurnLaws.{HasBounds, AreNarrow, turned}
 use Rattle.fw_schedule.proofs.InOrder.{order-distinct}
 use Rattle.fw_schedule.specs.Ticks.{Grew}
@@ -84,6 +92,56 @@ with_frames-narrow place frames [] new narrow = tt
 with_frames-narrow zero frames (r ∷ rings) new narrow = (new, narrow.1)
 with_frames-narrow (suc place) frames (r ∷ rings) new narrow = (narrow.0, with_frames-narrow place frames rings new narrow.1)
 
+-- ---- a kernel
+
+-- frames of the same size
+same-narrow : {X : Type 0} (size : ℕ) (f : X → Frame) (xs : List X) → ((x : X) → length (f x) ≡ size) → size ≤ 8 → IsNarrow (map f xs)
+same-narrow size f [] sized few = tt
+same-narrow size f (x ∷ xs) sized few = (omega (arith, sized x, few), same-narrow size f xs sized few)
+
+-- and the same frame again and again
+replicate-narrow : (n : ℕ) (frame : Frame) → length frame ≤ 8 → IsNarrow (replicate n frame)
+replicate-narrow zero frame few = tt
+replicate-narrow (suc n) frame few = (few, replicate-narrow n frame few)
+
+-- slices of such frames
+abbrev AreSlices : List (ℕ × List Frame) → Type 0
+AreSlices entries = AllByRecursion (λ entry. IsNarrow entry.1) entries
+
+-- those that it takes of rings
+slices-narrow : (n : ℕ) (inlets : List ℕ) (rings : List RingView) → AreNarrow rings → AreSlices (slices inlets n rings)
+slices-narrow n [] rings narrow = tt
+slices-narrow n (inlet ∷ inlets) rings narrow = (take-narrow n (frames_at inlet rings) (frames_at-narrow inlet rings narrow), slices-narrow n inlets rings narrow)
+
+-- the one that is chosen, or silence
+chosen-narrow : (channels n : ℕ) (inlet : Option ℕ) (entries : List (ℕ × List Frame)) → channels ≤ 8 → AreSlices entries → IsNarrow (chosen_slice entries channels n inlet)
+chosen-narrow channels n None entries few narrow = replicate-narrow n (silence channels) (omega (arith, few, length-range (λ (_ : ℕ). pos 0) 0 channels))
+chosen-narrow channels n (Some b) [] few narrow = replicate-narrow n (silence channels) (omega (arith, few, length-range (λ (_ : ℕ). pos 0) 0 channels))
+chosen-narrow channels n (Some b) (entry ∷ entries) few narrow = by_id (entry.0 == b) (chosen-narrow channels n (Some b) entries few narrow.1)
+  where
+    by_id : (h : Bool) → IsNarrow (chosen_slice entries channels n (Some b)) → IsNarrow (option_map_or (λ e. e.1) (cond h (Some entry) (find (λ e. e.0 == b) entries)) (replicate n (silence channels)))
+    by_id true rest = narrow.0
+    by_id false rest = rest
+
+-- what it makes of them
+made-narrow : (effect : Effect) (channels n : ℕ) (entries : List (ℕ × List Frame)) → channels ≤ 8 → AreSlices entries → IsNarrow (made_by effect channels n entries)
+made-narrow Pass channels n entries few narrow = same-narrow channels (passed channels) (only_slice entries) (λ frame. length-range (sample_of frame) 0 channels) few
+made-narrow (Amplify gains) channels n entries few narrow = same-narrow channels (volume_of channels gains) (only_slice entries) (λ frame. length-range (λ k. amplified (channel_gain gains k) (sample_of frame k)) 0 channels) few
+made-narrow Mix channels n entries few narrow = same-narrow channels (λ j. mixed channels (frames_of_each entries j)) (range_with_len 0 n) (λ j. length-range (λ k. sat 32 (exact_sum k (frames_of_each entries j))) 0 channels) few
+made-narrow (Choose inlet) channels n entries few narrow = chosen-narrow channels n inlet entries few narrow
+
+-- the rings that it takes them from
+drained-narrow : (n : ℕ) (inlets : List ℕ) (rings : List RingView) → AreNarrow rings → AreNarrow (drained n inlets rings)
+drained-narrow n [] rings narrow = narrow
+drained-narrow n (inlet ∷ inlets) rings narrow = drained-narrow n inlets (with_frames inlet (drop n (frames_at inlet rings)) rings)
+    (with_frames-narrow inlet (drop n (frames_at inlet rings)) rings (drop-narrow n (frames_at inlet rings) (frames_at-narrow inlet rings narrow)) narrow)
+
+-- and all rings after it
+kernel-narrow : (kernel : Kernel) (n channels place : ℕ) (rings : List RingView) → channels ≤ 8 → AreNarrow rings → AreNarrow (moved kernel n channels place rings)
+kernel-narrow kernel n channels place rings few narrow = with_frames-narrow place _ (drained n (looked kernel rings) rings)
+    (append-narrow (frames_at place rings) _ (frames_at-narrow place rings narrow) (made-narrow kernel.effect channels n (slices (looked kernel rings) n rings) few (slices-narrow n (looked kernel rings) rings narrow)))
+    (drained-narrow n (looked kernel rings) rings narrow)
+
 -- ---- one turn
 
 -- a turn of one of these components that moves at most 1920 frames of at most 8 samples
@@ -121,6 +179,10 @@ action-turned Fill c turn p small narrow = record {
   narrow = with_frames-narrow turn.place _ p.0 (drop-narrow (drained_frames turn p.0) (frames_at turn.place p.0) (frames_at-narrow turn.place p.0 narrow)) narrow;
   grew = subst (λ s. Grew (s ∷ []) p.1.outputs (after_drain turn (drained_frames turn p.0) (turn.quota - drained_frames turn p.0) p).1.outputs) small.comp
       (grew-piece turn.comp _ p.1.outputs (piece-small turn (drained_frames turn p.0) (turn.quota - drained_frames turn p.0) (frames_at turn.place p.0) small.quota small.channels (omega arith) (frames_at-narrow turn.place p.0 narrow)));
+}
+action-turned (Make kernel) c turn p small narrow = record {
+  narrow = kernel-narrow kernel (frames_moved kernel turn.quota turn.capacity turn.place p.0) turn.channels turn.place p.0 small.channels narrow;
+  grew = grew-still (c ∷ []) p.1.outputs;
 }
 
 turn-turned : (t c : ℕ) (turn : Turn) (p : List RingView × Io) → IsSmall c turn → AreNarrow p.0 → Turned c p (after_turn_at t turn p)
@@ -177,25 +239,25 @@ module _ (v : View) (bounds : HasBounds v) where
   small-first c action [] = tt
   small-first c action (b ∷ bs) = small-at c b action
 
-  small-by : (k : Kind) (c : ℕ) → AllSmall c (turn_by k v c)
-  small-by HostPlay c = small-first c Feed (fed_by v c)
-  small-by (DaiCapture format) c = small-first c Feed (fed_by v c)
-  small-by HostCapture c = small-first c Drain (ins v.graph c)
-  small-by (DaiPlay format) c = small-first c Fill (ins v.graph c)
-  small-by Volume c = tt
-  small-by Mixer c = tt
-  small-by Mux c = tt
-  small-by Eq c = tt
+  small-by : (k : Kind) (setting : Setting) (c : ℕ) → AllSmall c (turn_by k setting v c)
+  small-by HostPlay setting c = small-first c Feed (fed_by v c)
+  small-by (DaiCapture format) setting c = small-first c Feed (fed_by v c)
+  small-by HostCapture setting c = small-first c Drain (ins v.graph c)
+  small-by (DaiPlay format) setting c = small-first c Fill (ins v.graph c)
+  small-by Volume setting c = small-first c (Make (kernel_by Volume setting v c)) (fed_by v c)
+  small-by Mixer setting c = small-first c (Make (kernel_by Mixer setting v c)) (fed_by v c)
+  small-by Mux setting c = small-first c (Make (kernel_by Mux setting v c)) (fed_by v c)
+  small-by Eq setting c = small-first c (Make (kernel_by Eq setting v c)) (fed_by v c)
 
   pub small-of : (c : ℕ) → AllSmall c (turn_of v c)
   unfolding turn_of
   small-of c = by_active (active v c)
     where
-      by_comp : (o : Option Comp) → AllSmall c (option_map_or (λ x. turn_by x.kind v c) o None)
+      by_comp : (o : Option Comp) → AllSmall c (option_map_or (λ x. turn_by x.kind x.setting v c) o None)
       by_comp None = tt
-      by_comp (Some x) = small-by x.kind c
+      by_comp (Some x) = small-by x.kind x.setting c
 
-      by_active : (h : Bool) → AllSmall c (cond h (option_map_or (λ x. turn_by x.kind v c) (comp_of v.graph c) None) None)
+      by_active : (h : Bool) → AllSmall c (cond h (option_map_or (λ x. turn_by x.kind x.setting v c) (comp_of v.graph c) None) None)
       by_active true = by_comp (comp_of v.graph c)
       by_active false = tt
 

@@ -68,14 +68,13 @@ pub order-distinct : (g : Graph) → IsDistinct (λ a b. a == b) (order g)
 unfolding order
 order-distinct g = placed-distinct g (length (components g)) [] (components g)
 
--- a component by its id, which passes two tests that all pass
-pub comp-at : (p q : Comp → Bool) (comps : List Comp) (c : ℕ) → list_all p comps ≡ true → list_all q comps ≡ true → is_among (map (λ x. x.id) comps) c ≡ true → (x : Comp) × (find (λ x. x.id == c) comps ≡ Some x) × ((x.id == c) ≡ true) × (p x ≡ true) × (q x ≡ true)
-comp-at p q [] c ps qs there = absurd (false≢true there)
-comp-at p q (y ∷ ys) c ps qs there =
+-- a component by its id, which passes a test that all pass
+pub comp-at : (p : Comp → Bool) (comps : List Comp) (c : ℕ) → list_all p comps ≡ true → is_among (map (λ x. x.id) comps) c ≡ true → (x : Comp) × (find (λ x. x.id == c) comps ≡ Some x) × ((x.id == c) ≡ true) × (p x ≡ true)
+comp-at p [] c ps there = absurd (false≢true there)
+comp-at p (y ∷ ys) c ps there =
     let pp = and_parts (p y) (list_all p ys) ps in
-    let qq = and_parts (q y) (list_all q ys) qs in
-    by_first (y.id == c) refl there pp.0 qq.0 (comp-at p q ys c pp.1 qq.1)
+    by_first (y.id == c) refl there pp.0 (comp-at p ys c pp.1)
   where
-    by_first : (h : Bool) → (y.id == c) ≡ h → (h || is_among (map (λ x. x.id) ys) c) ≡ true → p y ≡ true → q y ≡ true → (is_among (map (λ x. x.id) ys) c ≡ true → (x : Comp) × (find (λ x. x.id == c) ys ≡ Some x) × ((x.id == c) ≡ true) × (p x ≡ true) × (q x ≡ true)) → (x : Comp) × (cond h (Some y) (find (λ x. x.id == c) ys) ≡ Some x) × ((x.id == c) ≡ true) × (p x ≡ true) × (q x ≡ true)
-    by_first true e h py qy rest = (y, refl, e, py, qy)
-    by_first false e h py qy rest = rest h
+    by_first : (h : Bool) → (y.id == c) ≡ h → (h || is_among (map (λ x. x.id) ys) c) ≡ true → p y ≡ true → (is_among (map (λ x. x.id) ys) c ≡ true → (x : Comp) × (find (λ x. x.id == c) ys ≡ Some x) × ((x.id == c) ≡ true) × (p x ≡ true)) → (x : Comp) × (cond h (Some y) (find (λ x. x.id == c) ys) ≡ Some x) × ((x.id == c) ≡ true) × (p x ≡ true)
+    by_first true e h py rest = (y, refl, e, py)
+    by_first false e h py rest = rest h

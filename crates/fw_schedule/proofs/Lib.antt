@@ -2,9 +2,13 @@
 pub mod NextFrames
 pub mod Shown
 pub mod NoFrames
+pub mod NoNumbers
 pub mod Moved
+pub mod KernelMade
 pub mod ByKind
+pub mod KernelRings
 pub mod Steps
+pub mod KernelSteps
 pub mod InOrder
 pub mod Whole
 pub mod Growing

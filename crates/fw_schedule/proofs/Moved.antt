@@ -15,20 +15,22 @@ use Rattle.stream_law.specs.Moves.{quota, runs, chooses, fed_by, looked_at, is_e
 use Rattle.stream_law.specs.Order.{is_among}
 use Rattle.stream_law.specs.Made.{only_slice, frames_made}
 use Rattle.stream_law.specs.Endpoints.{format_of, reads, bytes_of_frames, bytes_written}
-use Rattle.stream_law.specs.Equaliser.{passed_frames}
+use Rattle.stream_law.specs.Equaliser.{passed_frames, numbers_after}
 use Rattle.stream_law.specs.Move.{Audio, after_move, ring_length, ring_room, frames_moved, looked_now, fronts, made_now, bytes_moved, bytes_now, io_after}
-use Rattle.stream_law.proofs.Among.{value_of-updated_kept}
+use Rattle.stream_law.proofs.Among.{value_of-updated_among, value_of-updated_apart, value_of-updated_kept}
 use Rattle.fw_schedule.proofs.NoFrames.{made-none}
+use Rattle.fw_schedule.proofs.NoNumbers.{numbers-none}
 use Rattle.fw_schedule.proofs.Shown.{shown_rings, shown-taken, shown-untaken, shown-put, put-none}
 
 -- rings and endpoints at a stage of a tick
 abbrev pub shown : List RingView → Io → Audio → List RingView × Io
 shown rings io a = (shown_rings (λ b. list_of a.rings b) rings, io_after io a)
 
--- no position is past its last value, and nothing is left of a slot that is not bound
+-- no position is past its last value, nothing is left of a slot that is not bound, and no number is kept
 pub record IsStage (io : Io) (a : Audio) : Type 0 where
   pub low : (x : ℕ) → number_of a.positions x ≤ 2 ^ 64 - 1
   pub none : (x : ℕ) → is_among (map (λ (i : InputView). i.slot) io.inputs) x ≡ false → list_of a.left x ≡ []
+  pub numbers : (x : ℕ) → list_of a.numbers x ≡ []
 
 -- ---- how many frames
 
@@ -54,6 +56,18 @@ frames-run v t held free c looked fed run picks look feed some =
     (λ i. cond (run i && (not (picks i) || not (is_empty (look i))) && (is_empty (outs v.graph c) || not (is_empty (feed i)))) (least (quota v t c) (map held (look i) ++ map free (feed i))) 0)
     ∙ ap (λ h. cond h (least (quota v t c) (map held looked ++ map free fed)) 0) some
 
+-- what runs, feeds one edge, and looks at something if it chooses, moves the least of these, and nothing where it looks at nothing
+pub frames-looked : (v : View) (t : ℕ) (held free : ℕ → ℕ) (c b : ℕ) (looked : List ℕ) → runs v t c ≡ true → looked_at v held c ≡ looked → fed_by v c ≡ b ∷ [] → (not (chooses v c) || not (is_empty (looked_at v held c))) ≡ not (is_empty looked) → frames_to_move v t held free c ≡ cond (is_empty looked) 0 (least (quota v t c) (map held looked ++ free b ∷ []))
+unfolding frames_to_move
+frames-looked v t held free c b looked run look feed some =
+    (λ i. cond (run i && some i && (is_empty (outs v.graph c) || not (is_empty (feed i)))) (least (quota v t c) (map held (look i) ++ map free (feed i))) 0)
+    ∙ both (is_empty looked) (is_empty (outs v.graph c))
+  where
+    both : (p q : Bool) → cond (not p && (q || true)) (least (quota v t c) (map held looked ++ free b ∷ [])) 0 ≡ cond p 0 (least (quota v t c) (map held looked ++ free b ∷ []))
+    both true q = refl
+    both false true = refl
+    both false false = refl
+
 -- ---- endpoints
 
 module _ (v : View) (blobs : ℕ → List ℕ) (t c : ℕ) (io : Io) (a : Audio) where
@@ -64,9 +78,13 @@ module _ (v : View) (blobs : ℕ → List ℕ) (t c : ℕ) (io : Io) (a : Audio)
     outputs = shown-put c (bytes_now v blobs t c a) (λ x. list_of a.written x) io.outputs outputs i;
   }
 
-  pub stage-moved : IsStage io a → IsStage io (after_move v blobs t c a)
-  stage-moved stage = record { low = λ x. low x (c == x); none = λ x gone. none x gone (c == x) refl }
+  pub stage-moved : blobs c ≡ [] → IsStage io a → IsStage io (after_move v blobs t c a)
+  stage-moved unset stage = record { low = λ x. low x (c == x); none = λ x gone. none x gone (c == x) refl; numbers = λ x. numbers x (c == x) }
     where
+      numbers : (x : ℕ) (h : Bool) → cond h (numbers_after (blobs c) (channels_of v c) (list_of a.numbers c) (only_slice (fronts v blobs t c a))) (list_of a.numbers x) ≡ []
+      numbers x true = (λ i. numbers_after (unset i) (channels_of v c) (stage.numbers c i) (only_slice (fronts v blobs t c a))) ∙ numbers-none (channels_of v c) (only_slice (fronts v blobs t c a))
+      numbers x false = stage.numbers x
+
       low : (x : ℕ) (h : Bool) → cond h (moved_on (number_of a.positions c) (bytes_moved v blobs t c a)) (number_of a.positions x) ≤ 2 ^ 64 - 1
       low x true = omega arith
       low x false = stage.low x
@@ -107,7 +125,7 @@ module _ (v : View) (blobs : ℕ → List ℕ) (t c : ℕ) (io : Io) (a : Audio)
       )
 
   -- what does not run makes nothing
-  made-idle : frames_moved v blobs t c a ≡ 0 → made_now v blobs t c a ≡ []
+  pub made-idle : frames_moved v blobs t c a ≡ 0 → made_now v blobs t c a ≡ []
   made-idle idle =
       ap (λ n. frames_made v c n (frames_in (format_of v c) (channels_of v c) (list_of a.left c) 0 n) (table (looked_now v blobs t c a) (λ b. take n (list_of a.rings b))) (λ blob channels frames. passed_frames blob channels (list_of a.numbers c) frames)) idle
       ∙ made-none (looked_now v blobs t c a) (λ b. list_of a.rings b) v c (list_of a.numbers c)
@@ -127,3 +145,13 @@ module _ (v : View) (blobs : ℕ → List ℕ) (t c : ℕ) (io : Io) (a : Audio)
   pub rings-drained : (b : ℕ) → looked_now v blobs t c a ≡ b ∷ [] → fed_by v c ≡ [] → (x : ℕ) → list_of (after_move v blobs t c a).rings x ≡ cond (b == x) (drop (frames_moved v blobs t c a) (list_of a.rings b)) (list_of a.rings x)
   rings-drained b look feed x =
       λ i. list_of (updated (feed i) (λ b. list_of a.rings b ++ made_now v blobs t c a) (updated (look i) (λ b. drop (frames_moved v blobs t c a) (list_of a.rings b)) a.rings)) x
+
+  -- one that takes from some edges and feeds one drops its frames of each, and puts what it makes behind those of the edge that it feeds
+  pub rings-made : (b : ℕ) (ids : List ℕ) → looked_now v blobs t c a ≡ ids → fed_by v c ≡ b ∷ [] → (x : ℕ) → list_of (after_move v blobs t c a).rings x ≡ cond (b == x) (list_of a.rings b ++ made_now v blobs t c a) (cond (is_among ids x) (drop (frames_moved v blobs t c a) (list_of a.rings x)) (list_of a.rings x))
+  rings-made b ids look feed x =
+      (λ i. list_of (updated (feed i) (λ b. list_of a.rings b ++ made_now v blobs t c a) (updated (look i) (λ b. drop (frames_moved v blobs t c a) (list_of a.rings b)) a.rings)) x)
+      ∙ ap (cond (b == x) (list_of a.rings b ++ made_now v blobs t c a)) (by_place (is_among ids x) refl)
+    where
+      by_place : (h : Bool) → is_among ids x ≡ h → list_of (updated ids (λ b. drop (frames_moved v blobs t c a) (list_of a.rings b)) a.rings) x ≡ cond h (drop (frames_moved v blobs t c a) (list_of a.rings x)) (list_of a.rings x)
+      by_place true h = value_of-updated_among [] ids (λ b. drop (frames_moved v blobs t c a) (list_of a.rings b)) a.rings x h
+      by_place false h = value_of-updated_apart [] ids (λ b. drop (frames_moved v blobs t c a) (list_of a.rings b)) a.rings x h

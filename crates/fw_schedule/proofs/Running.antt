@@ -7,12 +7,15 @@ use Rattle.sof_io.specs.Takes.{given, taken}
 use Rattle.sof_io.specs.Puts.{with_piece}
 use Rattle.stream_law.specs.State.{RingView}
 use Rattle.fw_ring.specs.RingLists.{RingLists, ring_at, changed, pushed, pulled}
+use Rattle.fw_components.specs.declared.kernel.Kernel.{Kernel}
+use Rattle.fw_components.specs.Places.{frames_at, with_frames, ring_seen, rings_seen, emptied}
+use Rattle.fw_components.specs.Kernels.{after_kernel}
 use Rattle.fw_schedule.specs.declared.turn.Action.{Action}
-use Rattle.fw_schedule.specs.declared.turn.Action.TheVariants.{Feed, Drain, Fill}
+use Rattle.fw_schedule.specs.declared.turn.Action.TheVariants.{Feed, Drain, Fill, Make}
 use Rattle.fw_schedule.specs.declared.turn.Turn.{Turn}
-use Rattle.fw_schedule.specs.Turns.{frames_at, with_frames, turn_bytes, drained_frames, after_drain, after_action, after_turn, after_turn_at}
-use Rattle.fw_schedule.specs.Ticks.{ring_seen, seen_at, emptied}
-use Rattle.fw_schedule.proofs.RingsSeen.{frames-seen, seen-changed, emptied-changed}
+use Rattle.fw_schedule.specs.Turns.{turn_bytes, drained_frames, after_drain, after_action, after_turn, after_turn_at}
+use Rattle.fw_schedule.specs.Ticks.{seen_at}
+use Rattle.fw_components.proofs.RingsSeen.{frames-seen, seen-changed, emptied-changed}
 
 module _ (turn : Turn) (clock : ℕ) (s : RingLists) (inputs : List InputView) (outputs : List OutputView) where
   p : List RingView × Io
@@ -65,6 +68,10 @@ module _ (turn : Turn) (clock : ℕ) (s : RingLists) (inputs : List InputView) (
   pub filled-turned : (s' : RingLists) (outputs' : List OutputView) → clock % turn.period ≡ 0 → turn.action ≡ Fill → s' ≡ changed turn.place (pulled (min turn.quota (length (ring_at s turn.place).frames))) s → outputs' ≡ with_piece turn.comp (frames_out turn.format (take (min turn.quota (length (ring_at s turn.place).frames)) (ring_at s turn.place).frames) ++ replicate (turn_bytes turn (turn.quota - min turn.quota (length (ring_at s turn.place).frames))) 0) outputs → seen_at s' inputs outputs' ≡ after_turn_at clock turn (seen_at s inputs outputs)
   unfolding p
   filled-turned s' outputs' run is rings puts = drained-turned turn.quota s' outputs' rings puts ∙ runs-now Fill run is
+
+  pub made-turned : (kernel : Kernel) (s' : RingLists) → clock % turn.period ≡ 0 → turn.action ≡ Make kernel → rings_seen s' ≡ after_kernel kernel turn.quota turn.channels turn.capacity turn.place (rings_seen s) → seen_at s' inputs outputs ≡ after_turn_at clock turn (seen_at s inputs outputs)
+  unfolding p
+  made-turned kernel s' run is moved = ap (λ rings. (rings, record { inputs = inputs; outputs = outputs })) moved ∙ runs-now (Make kernel) run is
 
 -- the rings keep all but their frames
 pub fed-kept : (place : ℕ) (new : List Frame) (s s' : RingLists) → s' ≡ changed place (pushed new) s → emptied s' ≡ emptied s

@@ -25,10 +25,11 @@ use Rattle.stream_law.specs.Endpoints.{format_of, bytes_of_frames, bytes_written
 use Rattle.stream_law.specs.Equaliser.{passed_frames}
 use Rattle.stream_law.specs.Move.{Audio, after_move, ring_length, ring_room, frames_moved, looked_now, fronts, made_now, bytes_moved, bytes_now, io_after}
 use Rattle.stream_law.proofs.Among.{is_among-filter}
+use Rattle.fw_components.specs.Places.{frames_at, with_frames}
 use Rattle.fw_schedule.specs.declared.turn.Action.{Action}
 use Rattle.fw_schedule.specs.declared.turn.Action.TheVariants.{Feed}
 use Rattle.fw_schedule.specs.declared.turn.Turn.{Turn}
-use Rattle.fw_schedule.specs.Turns.{place_of, turn_at, turn_of, frames_at, with_frames, turn_bytes, fed_frames, drained_frames, after_turn, after_turn_at}
+use Rattle.fw_schedule.specs.Turns.{place_of, turn_at, turn_of, turn_bytes, fed_frames, drained_frames, after_turn, after_turn_at}
 use Rattle.fw_schedule.proofs.NextFrames.{frames-next}
 use Rattle.fw_schedule.proofs.Shown.{shown_rings, ring_place, shown-set, shown-frames, shown-left, shown-untaken, put-none}
 use Rattle.fw_schedule.proofs.Moved.{shown, IsStage, frames-idle, frames-unfed, frames-run, io-moved, shown-still, rings-fed, rings-drained}
@@ -53,7 +54,7 @@ one-from_length [] one = absurd (omega (arith, one))
 one-from_length (x ∷ xs) one = (x, ap (λ ys. x ∷ ys) (nil_from_length xs (omega (arith, one))))
 
 -- the only element of a filtered list was there
-there-from_filter : (p : ℕ → Bool) (xs : List ℕ) (x : ℕ) → filter p xs ≡ x ∷ [] → is_among xs x ≡ true
+pub there-from_filter : (p : ℕ → Bool) (xs : List ℕ) (x : ℕ) → filter p xs ≡ x ∷ [] → is_among xs x ≡ true
 there-from_filter p xs x only = (and_parts (p x) (is_among xs x) (sym (is_among-filter p xs x) ∙ ap (λ l. is_among l x) only ∙ or_left (x == x) false (eq-eqb x x refl))).1
 
 -- a place among records is that among their keys
@@ -65,7 +66,7 @@ place-keys key b (x ∷ xs) = ap (λ n. cond (not (key x == b)) (1 + n) 0) (plac
 pub place-ring : (v : View) (rings : List RingView) (b : ℕ) → map (λ r. r.buffer) rings ≡ buffers v.graph → place_of v.graph b ≡ ring_place b rings
 place-ring v rings b places = place-keys (λ (e : Edge). e.buffer) b v.graph.edges ∙ ap (position_or_len (λ n. n == b)) (sym places) ∙ sym (place-keys (λ (r : RingView). r.buffer) b rings)
 
-quota-any : (v : View) (t c : ℕ) → quota v t c ≡ quota v 0 c
+pub quota-any : (v : View) (t c : ℕ) → quota v t c ≡ quota v 0 c
 unfolding quota
 quota-any v t c = refl
 
@@ -77,7 +78,7 @@ module _ (v : View) (blobs : ℕ → List ℕ) (t c : ℕ) (rings : List RingVie
   left-shown = shown-left c (λ x. number_of a.positions x) (λ x. list_of a.left x) io.inputs (stage.none c)
 
   -- the frames of a ring that is there
-  front-of : (b : ℕ) → is_among (buffers v.graph) b ≡ true → frames_at (place_of v.graph b) (shown rings io a).0 ≡ list_of a.rings b
+  pub front-of : (b : ℕ) → is_among (buffers v.graph) b ≡ true → frames_at (place_of v.graph b) (shown rings io a).0 ≡ list_of a.rings b
   front-of b there =
       ap (λ q. frames_at q (shown rings io a).0) (place-ring v rings b laid.places)
       ∙ shown-frames b (λ b. list_of a.rings b) rings (ap (λ ids. is_among ids b) laid.places ∙ there)
@@ -153,7 +154,7 @@ module _ (v : View) (blobs : ℕ → List ℕ) (t c : ℕ) (rings : List RingVie
         out = one-from_length (outs v.graph c) sizes.1
 
         turn-is : (l : List ℕ) → fed_by v c ≡ l → turn_of v c ≡ option_map (turn_at v c Feed) (slice_get l 0)
-        turn-is l feed = turn-of v c x is k kind on ∙ source.turn v c ∙ ap (λ l. option_map (turn_at v c Feed) (slice_get l 0)) feed
+        turn-is l feed = turn-of v c x is k kind on ∙ source.turn x.setting v c ∙ ap (λ l. option_map (turn_at v c Feed) (slice_get l 0)) feed
 
         by_clock : (h : Bool) → (t % period v c == 0) ≡ h → fed_by v c ≡ out.0 ∷ [] → shown rings io (after_move v blobs t c a) ≡ cond h (after_turn (turn_at v c Feed out.0) (shown rings io a)) (shown rings io a)
         by_clock true h feed = source-fed out.0 (nil_from_length (ins v.graph c) sizes.0) out.1 feed (runs-on v t c on ∙ h)
@@ -240,7 +241,7 @@ module _ (v : View) (blobs : ℕ → List ℕ) (t c : ℕ) (rings : List RingVie
         into = one-from_length (ins v.graph c) sizes.0
 
         turn-is : turn_of v c ≡ Some (turn_at v c action into.0)
-        turn-is = turn-of v c x is k kind on ∙ sink.turn v c ∙ ap (λ l. option_map (turn_at v c action) (slice_get l 0)) into.1
+        turn-is = turn-of v c x is k kind on ∙ sink.turn x.setting v c ∙ ap (λ l. option_map (turn_at v c action) (slice_get l 0)) into.1
 
         by_clock : (h : Bool) → (t % period v c == 0) ≡ h → shown rings io (after_move v blobs t c a) ≡ cond h (after_turn (turn_at v c action into.0) (shown rings io a)) (shown rings io a)
         by_clock true h = sink-drained into.0 into.1 (nil_from_length (outs v.graph c) sizes.1) (runs-on v t c on ∙ h)

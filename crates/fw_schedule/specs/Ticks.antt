@@ -5,17 +5,17 @@ use Rattle.sof_base.specs.Samples.{Frame, width}
 use Rattle.sof_base.specs.Ports.{Io, InputView, OutputView}
 use Rattle.stream_law.specs.State.{RingView}
 use Rattle.stream_law.specs.Order.{is_among}
-use Rattle.fw_ring.specs.RingLists.{Ring, RingLists, capacity_of, ring_at}
+use Rattle.fw_ring.specs.RingLists.{RingLists, capacity_of, ring_at}
+use Rattle.fw_components.specs.Places.{rings_seen}
+use Rattle.fw_components.specs.Kernels.{IsKernelAt}
+use Rattle.fw_schedule.specs.declared.turn.Action.{Action}
+use Rattle.fw_schedule.specs.declared.turn.Action.TheVariants.{Make}
 use Rattle.fw_schedule.specs.declared.turn.Turn.{Turn}
 use Rattle.fw_schedule.specs.Turns.{frames_given, bytes_of_first}
 
--- a ring's buffer and frames
-abbrev pub ring_seen : Ring → RingView
-ring_seen r = record { buffer = r.buffer; frames = r.frames }
-
--- all rings so, beside the endpoints
+-- rings beside the endpoints
 abbrev pub seen_at : RingLists → List InputView → List OutputView → List RingView × Io
-seen_at rings inputs outputs = (map ring_seen rings.rings, record { inputs = inputs; outputs = outputs })
+seen_at rings inputs outputs = (rings_seen rings, record { inputs = inputs; outputs = outputs })
 
 -- how many frames a source moves into its ring, and a sink out of it
 abbrev pub fed_now : Turn → RingLists → ℕ
@@ -31,12 +31,10 @@ frames_fed turn s inputs = frames_given turn (fed_now turn s) inputs
 abbrev pub bytes_drained : Turn → ℕ → RingLists → List ℕ
 bytes_drained turn least s = bytes_of_first turn (drained_now turn s) (least - drained_now turn s) (ring_at s turn.place).frames
 
--- a ring without its frames, and all rings so
-abbrev pub ring_emptied : Ring → Ring
-ring_emptied r = record { buffer = r.buffer; first = r.first; words = r.words; channels = r.channels; frames = [] }
-
-abbrev pub emptied : RingLists → RingLists
-emptied s = record { most = s.most; rings = map ring_emptied s.rings }
+-- a kernel can run at these rings
+abbrev pub IsActionAt : RingLists → Turn → Action → Type 0
+IsActionAt rings turn (Make kernel) = IsKernelAt rings kernel turn.quota turn.channels turn.capacity turn.place
+IsActionAt rings turn _ = Unit {0}
 
 -- a turn at one of these rings, of its channels and its room, and of at most 61440 bytes
 pub record IsTurnAt (rings : RingLists) (turn : Turn) : Type 0 where
@@ -45,6 +43,7 @@ pub record IsTurnAt (rings : RingLists) (turn : Turn) : Type 0 where
   pub channels : turn.channels ≡ (ring_at rings turn.place).channels
   pub capacity : turn.capacity ≡ capacity_of (ring_at rings turn.place)
   pub bytes : turn.quota * (turn.channels * width turn.format) ≤ 61440
+  pub action : IsActionAt rings turn turn.action
 
 -- turns at these rings, one for a component
 pub record AreTurnsAt (rings : RingLists) (turns : List Turn) : Type 0 where

@@ -1,5 +1,5 @@
--- What each Active endpoint of a view does at a tick, and what its turns leave of rings and endpoints.
-use Rattle.std.specs.Prelude.{ℕ, ◌-◌, ◌*◌, ◌%◌, min, List, [], ◌∷◌, ◌++◌, length, take, drop, set, get_or, replicate, filter_map, slice_get, Option, None, option_map, if◌then◌else◌, ◌==◌}
+-- What each Active component of a view does at a tick, and what its turns leave of rings and endpoints.
+use Rattle.std.specs.Prelude.{ℕ, ◌-◌, ◌*◌, ◌%◌, min, List, [], ◌∷◌, ◌++◌, map, length, take, drop, replicate, filter, filter_map, slice_get, Option, None, option_map, not, ◌||◌, if◌then◌else◌, ◌==◌}
 use Rattle.std.specs.List.{position_or_len}
 use Rattle.std.specs.Option.{option_map_or}
 use Rattle.sof_base.specs.Samples.{Frame, width, frames_in, frames_out}
@@ -7,15 +7,22 @@ use Rattle.sof_base.specs.Ports.{Io, InputView}
 use Rattle.sof_io.specs.Takes.{given, taken}
 use Rattle.sof_io.specs.Puts.{with_piece}
 use Rattle.stream_law.specs.declared.graph.Kind.{Kind}
-use Rattle.stream_law.specs.declared.graph.Kind.TheVariants.{HostPlay, HostCapture, DaiPlay, DaiCapture}
+use Rattle.stream_law.specs.declared.graph.Kind.TheVariants.{HostPlay, HostCapture, DaiPlay, DaiCapture, Volume, Mixer, Mux}
+use Rattle.stream_law.specs.declared.graph.Setting.{Setting}
 use Rattle.stream_law.specs.declared.graph.Graph.{Graph}
 use Rattle.stream_law.specs.State.{View, RingView}
-use Rattle.stream_law.specs.Ways.{comp_of, ins, active, channels_of}
-use Rattle.stream_law.specs.Moves.{capacity, period, quota, fed_by}
+use Rattle.stream_law.specs.Ways.{comp_of, source_of, ins, inputs, active, active_end, channels_of}
+use Rattle.stream_law.specs.Moves.{capacity, period, quota, chooses, fed_by}
 use Rattle.stream_law.specs.Order.{order}
+use Rattle.stream_law.specs.Made.{gains, choice}
 use Rattle.stream_law.specs.Endpoints.{format_of}
+use Rattle.fw_components.specs.declared.kernel.Effect.{Effect}
+use Rattle.fw_components.specs.declared.kernel.Effect.TheVariants.{Pass, Amplify, Mix, Choose}
+use Rattle.fw_components.specs.declared.kernel.Kernel.{Kernel}
+use Rattle.fw_components.specs.Places.{frames_at, with_frames}
+use Rattle.fw_components.specs.Kernels.{after_kernel}
 use Rattle.fw_schedule.specs.declared.turn.Action.{Action}
-use Rattle.fw_schedule.specs.declared.turn.Action.TheVariants.{Feed, Drain, Fill}
+use Rattle.fw_schedule.specs.declared.turn.Action.TheVariants.{Feed, Drain, Fill, Make}
 use Rattle.fw_schedule.specs.declared.turn.Turn.{Turn}
 
 -- ---- the turns of a view
@@ -37,35 +44,38 @@ turn_at v c action b = record {
   action = action;
 }
 
--- a source has a turn at the edge that it feeds, if it feeds one, and a sink at its edge in
-abbrev pub turn_by : Kind → View → ℕ → Option Turn
-turn_by HostPlay v c = option_map (turn_at v c Feed) (slice_get (fed_by v c) 0)
-turn_by (DaiCapture format) v c = option_map (turn_at v c Feed) (slice_get (fed_by v c) 0)
-turn_by HostCapture v c = option_map (turn_at v c Drain) (slice_get (ins v.graph c) 0)
-turn_by (DaiPlay format) v c = option_map (turn_at v c Fill) (slice_get (ins v.graph c) 0)
-turn_by _ v c = None
+-- the edges that c may take frames from: those into it, but for a mixer or a mux those alone whose source is Active
+abbrev pub inlets_of : View → ℕ → List ℕ
+inlets_of v c = filter (λ b. not (chooses v c) || active_end v (source_of v.graph b)) (ins v.graph c)
 
--- the turn of c, if it is an Active endpoint
+-- what c makes of its frames, with the ring of a mux's chosen input
+abbrev pub effect_by : Kind → Setting → View → ℕ → Effect
+effect_by Volume setting v c = Amplify (gains setting)
+effect_by Mixer setting v c = Mix
+effect_by Mux setting v c = Choose (option_map (place_of v.graph) (slice_get (inputs v.graph c) (choice setting)))
+effect_by _ setting v c = Pass
+
+-- it takes them from the rings of these edges
+abbrev pub kernel_by : Kind → Setting → View → ℕ → Kernel
+kernel_by k setting v c = record { inlets = map (place_of v.graph) (inlets_of v c); effect = effect_by k setting v c }
+
+-- a sink has a turn at its edge in, and any other component at the edge that it feeds, if it feeds one
+abbrev pub turn_by : Kind → Setting → View → ℕ → Option Turn
+turn_by HostPlay setting v c = option_map (turn_at v c Feed) (slice_get (fed_by v c) 0)
+turn_by (DaiCapture format) setting v c = option_map (turn_at v c Feed) (slice_get (fed_by v c) 0)
+turn_by HostCapture setting v c = option_map (turn_at v c Drain) (slice_get (ins v.graph c) 0)
+turn_by (DaiPlay format) setting v c = option_map (turn_at v c Fill) (slice_get (ins v.graph c) 0)
+turn_by k setting v c = option_map (turn_at v c (Make (kernel_by k setting v c))) (slice_get (fed_by v c) 0)
+
+-- the turn of c, if it is Active
 unfoldable pub turn_of : View → ℕ → Option Turn
-turn_of v c = if active v c then option_map_or (λ x. turn_by x.kind v c) (comp_of v.graph c) None else None
+turn_of v c = if active v c then option_map_or (λ x. turn_by x.kind x.setting v c) (comp_of v.graph c) None else None
 
 -- the turns of all components, in the order in which they move
 abbrev pub turns_of : View → List Turn
 turns_of v = filter_map (turn_of v) (order v.graph)
 
 -- ---- a turn
-
--- a place where there is no ring
-abbrev pub no_ring : RingView
-no_ring = record { buffer = 0; frames = [] }
-
--- the frames of the ring at a place
-abbrev pub frames_at : ℕ → List RingView → List Frame
-frames_at place rings = (get_or rings place no_ring).frames
-
--- the rings with other frames at a place
-abbrev pub with_frames : ℕ → List Frame → List RingView → List RingView
-with_frames place frames rings = set rings place (record { buffer = (get_or rings place no_ring).buffer; frames = frames })
 
 -- how many bytes n frames have at the endpoint
 abbrev pub turn_bytes : Turn → ℕ → ℕ
@@ -106,6 +116,7 @@ abbrev pub after_action : Action → Turn → List RingView × Io → List RingV
 after_action Feed turn p = after_feed turn (fed_frames turn p.0) p
 after_action Drain turn p = after_drain turn (drained_frames turn p.0) 0 p
 after_action Fill turn p = after_drain turn (drained_frames turn p.0) (turn.quota - drained_frames turn p.0) p
+after_action (Make kernel) turn p = (after_kernel kernel turn.quota turn.channels turn.capacity turn.place p.0, p.1)
 
 -- the same by the turn's action
 unfoldable pub after_turn : Turn → List RingView × Io → List RingView × Io

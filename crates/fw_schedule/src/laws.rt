@@ -1,9 +1,8 @@
 // What a table of turns entails. Nothing runs here.
 ghost use Rattle.fw_schedule.specs.TurnLaws.{TicksAreTurns, TicksLeaveRoom, TurnsStand};
 
-/// Where endpoints alone are Active, and have the edges of their kind, a tick is their turns, one after another: a component
-/// of another kind leaves all as it is. No output grows by more than 61440 bytes at a tick: ten periods of 192 frames of 8
-/// samples of 4 bytes.
+/// Where what is Active has the edges of its kind and no blob is in force, a tick is the turns, one after another. No output
+/// grows by more than 61440 bytes at a tick: ten periods of 192 frames of 8 samples of 4 bytes.
 pub fn turns_are_a_tick()
     ensures turns { TicksAreTurns }
     ensures room { TicksLeaveRoom }

@@ -1,5 +1,5 @@
-//! The turns of a tick where endpoints alone are Active: what each moves between its slot and its ring. A call that runs
-//! nothing carries the law that these turns are the tick.
+//! The turns of a tick: what each Active component moves between its rings, and an endpoint between its slot and its ring. A call
+//! that runs nothing carries the law that these turns are the tick.
 #![tactic(auto)]
 
 mod laws;

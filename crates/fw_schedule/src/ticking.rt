@@ -5,23 +5,27 @@ ghost use Rattle.sof_base.specs.Ports.{HasRoom};
 ghost use Rattle.sof_io.specs.Takes.{taken};
 ghost use Rattle.sof_io.specs.Puts.{room_at, with_piece};
 ghost use Rattle.fw_ring.specs.RingLists.{changed, pushed, pulled};
+ghost use Rattle.fw_components.specs.Places.{emptied};
 ghost use Rattle.fw_schedule.specs.Turns.{turn_bytes, after_turn_at, after_turns};
-ghost use Rattle.fw_schedule.specs.Ticks.{IsTurnAt, AreTurnsAt, Grew, fed_now, drained_now, frames_fed, bytes_drained, seen_at, emptied};
+ghost use Rattle.fw_schedule.specs.Ticks.{IsTurnAt, AreTurnsAt, Grew, fed_now, drained_now, frames_fed, bytes_drained, seen_at};
 
 use crate::turn::{Action, Turn};
+use fw_components::Workspace;
 use fw_ring::Rings;
 use sof_io::{Inputs, Outputs};
 
 /// The most bytes that a turn moves: ten periods of 192 frames of 8 samples of 4 bytes.
 pub const TURN_BYTES: usize = 61440;
 
-/// Runs the turns whose pipelines run at this clock, one after another. `scratch` has at least [`TURN_BYTES`] bytes, which a
-/// turn's bytes pass through, and each output has room for as many more. This takes no memory.
+/// Runs the turns whose pipelines run at this clock, one after another. `scratch` has at least [`TURN_BYTES`] bytes, which an
+/// endpoint's bytes pass through, other components' samples pass through `workspace`, and each output has room for as many
+/// bytes more. This takes no memory.
 pub fn tick(
     turns: &[Turn],
     clock: u32,
     rings: &mut Rings,
     scratch: &mut [u8],
+    workspace: &mut Workspace,
     inputs: &mut Inputs,
     outputs: &mut Outputs,
 )
@@ -33,7 +37,7 @@ pub fn tick(
     ensures room { (n : ℕ) → HasRoom (n + 61440) outputs.old → HasRoom n outputs.new }
 {
     for turn in turns {
-        turn.run_at(clock, rings, scratch, inputs, outputs);
+        turn.run_at(clock, rings, scratch, workspace, inputs, outputs);
     }
 }
 
@@ -44,6 +48,7 @@ impl Turn {
         clock: u32,
         rings: &mut Rings,
         scratch: &mut [u8],
+        workspace: &mut Workspace,
         inputs: &mut Inputs,
         outputs: &mut Outputs,
     )
@@ -57,10 +62,18 @@ impl Turn {
         if clock % self.period != 0 {
             return;
         }
-        match self.action {
+        match &self.action {
             Action::Feed => self.feed(rings, scratch, inputs),
             Action::Drain => self.drain(0, rings, scratch, outputs),
             Action::Fill => self.drain(self.quota as usize, rings, scratch, outputs),
+            Action::Make(kernel) => kernel.run(
+                self.quota,
+                self.channels,
+                self.capacity,
+                self.place,
+                rings,
+                workspace,
+            ),
         }
     }
 

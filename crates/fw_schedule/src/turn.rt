@@ -1,8 +1,9 @@
-// What an endpoint does at a tick.
+// What a component does at a tick.
+use fw_components::Kernel;
 use sof_base::Format;
 
-/// How an endpoint moves its frames.
-#[derive(Clone, Copy, Debug, PartialEq, Eq)]
+/// How a component moves its frames.
+#[derive(Debug, Drop)]
 pub enum Action {
     /// From its input into its ring.
     Feed,
@@ -10,23 +11,25 @@ pub enum Action {
     Drain,
     /// From its ring to its output, and then zeros up to its quota.
     Fill,
+    /// From the rings of its inputs into its ring.
+    Make(Kernel),
 }
 
-/// What an Active endpoint does at each tick at which its pipeline runs: it moves its quota of frames, or as many as its ring
-/// holds or has room for.
-#[derive(Clone, Copy, Debug, PartialEq, Eq)]
+/// What an Active component does at each tick at which its pipeline runs: it moves its quota of frames, or as many as its rings
+/// hold or have room for.
+#[derive(Debug, Drop)]
 pub struct Turn {
-    /// The endpoint's component id, which is its slot.
+    /// The component's id, which is an endpoint's slot.
     pub comp: u32,
     /// The period of its pipeline, in ticks.
     pub period: u32,
     /// The most frames that it moves.
     pub quota: u32,
-    /// Where its ring stands among all rings, from 0.
+    /// Where its ring stands among all rings, from 0; that of its output, where it has inputs too.
     pub place: usize,
     /// Samples a frame.
     pub channels: u8,
-    /// How a sample lies in the endpoint's bytes.
+    /// How a sample lies in an endpoint's bytes.
     pub format: Format,
     /// The most frames that its ring holds.
     pub capacity: u32,

@@ -14,7 +14,6 @@ use Rattle.stream_law.specs.Ways.{reaches, on_way, agree}
 use Rattle.stream_law.specs.Seen.{seen}
 use Rattle.mbox_link.specs.Step.{changed, pcm_params, is_used, kind_at, has_kind, has_phase, is_host, goes, is_rate, is_moving, is_way_ready, set_stream, no_device, invalid}
 use Rattle.mbox_link.specs.Exchange.{ticked, ticks}
-use Rattle.mbox_link.proofs.Plays.{ticked-view}
 use Rattle.tplg_graph.specs.ThinPlan.{thin_graph}
 use Rattle.host_widgets.specs.declared.kept.StreamRec.{StreamRec}
 use Rattle.host_widgets.specs.Expected.{phase_of}
@@ -23,7 +22,7 @@ use Rattle.host_widgets.proofs.ThinRecords.{view_with, agree-one, shown}
 -- ticks keep the view
 pub ticks-view : (n : ℕ) (p : FwState × Io) → view_of (ticks n p).0 ≡ view_of p.0
 ticks-view zero p = refl
-ticks-view (suc n) p = ticks-view n (ticked p) ∙ ticked-view p
+ticks-view (suc n) p = ticks-view n (ticked p)
 
 -- ---- the rows by the view
 

@@ -11,7 +11,6 @@ use Rattle.stream_law.specs.Move.{next_clock}
 use Rattle.stream_law.specs.TickLaws.{HasOneOfEach, clocked}
 use Rattle.stream_law.proofs.Silent.{silent-tick}
 use Rattle.mbox_link.specs.Exchange.{ticked, ticks}
-use Rattle.mbox_link.proofs.Plays.{silent-plays, ticked-plays}
 
 -- a state whose clock has counted so many ticks
 abbrev pub at : FwState → ℕ → FwState
@@ -36,7 +35,7 @@ tick-still g t io still are =
     let single : HasOneOfEach (at g t) io = record { rings = still.rings; histories = still.histories; inputs = are.distinct; positions = are.positions } in
     let move = silent-tick (at g t) io still.silent single in
     let clock : clocked (at g t) ≡ at g (t + 1) = ap (λ (n : ℕ). record g { clock = n }) (next-clock t) in
-    ticked-plays (at g t) io (silent-plays (view_of g) still.silent) ∙ (λ i. ((sym move.state ∙ clock) i, sym move.endpoints i))
+    λ i. ((sym move.state ∙ clock) i, sym move.endpoints i)
 
 -- so many ticks
 pub ticks-still : (n : ℕ) (g : FwState) (t : ℕ) (io : Io) → IsStill g → AreInputs io.inputs → ticks n (at g t, io) ≡ (at g (t + n), io)

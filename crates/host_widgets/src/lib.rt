@@ -11,8 +11,6 @@ mod kept;
 mod loading;
 mod messages;
 mod sending;
-#[cfg(test)]
-mod tests;
 mod trigger;
 mod unloading;
 

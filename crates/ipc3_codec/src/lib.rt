@@ -25,6 +25,3 @@ pub use fault::CodecFault;
 pub use laws::{messages_are_decoded, replies_are_decoded};
 pub use message::{CompWords, Message};
 pub use reply::{Body, Reply};
-
-#[cfg(test)]
-mod tests;

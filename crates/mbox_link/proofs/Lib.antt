@@ -3,4 +3,3 @@ pub mod Rooms
 pub mod Steps
 pub mod FateLaws
 pub mod LinkCalls
-pub mod Plays

@@ -1,22 +1,14 @@
 -- What an exchange and a tick leave and answer.
-use Rattle.std.specs.Prelude.{◌≡◌, ◌⊎◌, ℕ, zero, suc, ◌+◌, ◌<◌, ◌≤◌, ◌^◌, ◌-◌, min, Bool, not, ◌||◌, List, [], ◌∷◌, take, Option, Some, None, Result, Ok, Err, negsuc, if◌then◌else◌}
-use Rattle.std.specs.List.{list_all}
+use Rattle.std.specs.Prelude.{◌≡◌, ◌⊎◌, ℕ, zero, suc, ◌+◌, ◌<◌, ◌≤◌, ◌^◌, ◌-◌, min, List, [], ◌∷◌, take, Option, Some, None, Result, Ok, Err, negsuc}
 use Rattle.sof_base.specs.Ports.{Io}
-use Rattle.stream_law.specs.State.{FwState, View, view_of}
-use Rattle.stream_law.specs.Ways.{live}
-use Rattle.stream_law.specs.Joins.{is_endpoint}
+use Rattle.stream_law.specs.State.{FwState}
 use Rattle.stream_law.specs.Move.{state_after, audio_after, io_after}
 use Rattle.mbox_link.specs.declared.device.LinkFault.{LinkFault}
 use Rattle.mbox_link.specs.Step.{step, error_reply}
 
--- each component that is Live is an endpoint; no other kind moves frames so far
-abbrev pub plays : View → Bool
-plays v = list_all (λ c. not (live v c.id) || is_endpoint c.kind) v.graph.comps
-
--- a state with the endpoints' bytes, after a tick and after so many: it moves by the laws where it plays, and else not at all
+-- a state with the endpoints' bytes, after a tick and after so many
 abbrev pub ticked : FwState × Io → FwState × Io
-ticked p =
-    if plays (view_of p.0) then (state_after p.0 (audio_after p.0 p.1), io_after p.1 (audio_after p.0 p.1)) else p
+ticked p = (state_after p.0 (audio_after p.0 p.1), io_after p.1 (audio_after p.0 p.1))
 
 abbrev pub ticks : ℕ → FwState × Io → FwState × Io
 ticks zero p = p

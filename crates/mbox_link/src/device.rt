@@ -51,8 +51,7 @@ pub trait Dsp: Drop {
         ensures did { Exchanged means request.now (answered result reply.new)
             (world self.old io.old out.old) (world self.new io.new out.new) };
 
-    /// A tick where it is on, else nothing. It puts at most 61440 bytes to each output. Frames move where each component on
-    /// the way of a Running or Paused stream is an endpoint; where another kind is there, nothing moves so far.
+    /// A tick where it is on, else nothing. It puts at most 61440 bytes to each output.
     fn tick(&mut self, io: &mut Inputs, out: &mut Outputs)
         requires room { HasRoom 61440 out.old }
         ensures { Ticked means (world self.old io.old out.old) (world self.new io.new out.new) };

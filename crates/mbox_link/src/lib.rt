@@ -5,8 +5,6 @@
 mod device;
 mod fates;
 mod link;
-#[cfg(test)]
-mod tests;
 
 pub use device::{Dsp, LinkFault};
 pub use fates::{Entry, Fate, PlanFull};

@@ -1,7 +1,6 @@
 -- What a powered device keeps: after a load, after the acts of a call, and after a tick.
-use Rattle.std.proofs.Common.{◌≡◌, ℕ, Bool, true, false, ◌&&◌, if◌then◌else◌, List, [], ◌∷◌, map, filter, None, refl, sym, ap, subst, ◌∙◌}
+use Rattle.std.proofs.Common.{◌≡◌, ℕ, Bool, true, false, ◌&&◌, List, [], ◌∷◌, map, filter, None, refl, sym, ap, subst, ◌∙◌}
 use Rattle.sof_base.specs.declared.format.Format.{Format}
-use Rattle.sof_base.specs.Ports.{Io}
 use Rattle.stream_law.specs.declared.graph.Edge.{Edge}
 use Rattle.stream_law.specs.declared.graph.Graph.{Graph}
 use Rattle.stream_law.specs.declared.stream.StreamView.{StreamView}
@@ -9,11 +8,10 @@ use Rattle.stream_law.specs.State.{FwState, View, RingView, History, view_of}
 use Rattle.stream_law.specs.Table.{list_of}
 use Rattle.stream_law.specs.Ways.{live, components, buffers}
 use Rattle.stream_law.specs.Seen.{seen, ring_seen, equalises, history_seen}
-use Rattle.stream_law.specs.Move.{Audio, state_after, audio_after, io_after}
+use Rattle.stream_law.specs.Move.{Audio, state_after}
 use Rattle.tplg_graph.specs.declared.planned.Plan.{Plan}
 use Rattle.tplg_graph.specs.ThinPlan.{IsThinPlan, thin_graph}
 use Rattle.mbox_link.specs.Step.{with_comps}
-use Rattle.mbox_link.specs.Exchange.{plays, ticked}
 use Rattle.host_widgets.specs.Controls.{set_comp, set_graph}
 use Rattle.host_widgets.specs.declared.kept.Power.TheVariants.{On}
 use Rattle.host_widgets.specs.declared.kept.Record.{Record}
@@ -111,14 +109,3 @@ module _ (plan : Plan) (heap : ℕ) (kept : Record) (f : FwState) (a : Audio) wh
     histories = ap (map history_after) keeps.histories;
     staging = keeps.staging;
   }
-
-module _ (plan : Plan) (heap : ℕ) (kept : Record) (f : FwState) (io : Io) where
-  pub Keeps-ticked : Keeps plan heap kept f → Keeps plan heap kept (ticked (f, io)).0
-  Keeps-ticked keeps = by (plays (view_of f))
-    where
-      after : Bool → FwState × Io
-      after h = if h then (state_after f (audio_after f io), io_after io (audio_after f io)) else (f, io)
-
-      by : (h : Bool) → Keeps plan heap kept (after h).0
-      by true = Keeps-moved plan heap kept f (audio_after f io) keeps
-      by false = keeps

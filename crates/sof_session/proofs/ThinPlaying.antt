@@ -1,14 +1,13 @@
 -- What a tick asks of a view, in a thin plan.
-use Rattle.std.proofs.Common.{◌≡◌, ⊎_elim, refl, sym, subst, ℕ, List, map, Option, Some, None, Bool, true, false, cond, not, ◌==◌, ◌||◌}
+use Rattle.std.proofs.Common.{◌≡◌, ⊎_elim, refl, sym, subst, ℕ, List, map, Option, Some, None, Bool, true, false, cond, ◌==◌, ◌||◌}
 use Rattle.std.specs.Prelude.{length}
 use Rattle.std.specs.Option.{option_map_or, option_and_then}
-use Rattle.std.proofs.lemmas.Bool.{eqb-true, or_cases, or_right, and_from}
+use Rattle.std.proofs.lemmas.Bool.{eqb-true, or_cases}
 use Rattle.sof_base.specs.declared.format.Format.{Format}
 use Rattle.stream_law.specs.declared.graph.Edge.{Edge}
 use Rattle.stream_law.specs.declared.graph.Graph.{Graph}
 use Rattle.stream_law.specs.declared.stream.StreamView.{StreamView}
-use Rattle.stream_law.specs.State.{View}
-use Rattle.stream_law.specs.Ways.{comp_of, components, ins, outs, live}
+use Rattle.stream_law.specs.Ways.{comp_of, components, ins, outs}
 use Rattle.stream_law.specs.Joins.{fits_kind}
 use Rattle.stream_law.specs.Order.{is_among, order}
 use Rattle.stream_law.specs.Walks.{HasAll, HasEnds}
@@ -16,7 +15,6 @@ use Rattle.stream_law.specs.Stands.{IsPlayable}
 use Rattle.tplg_graph.specs.declared.planned.Plan.{Plan}
 use Rattle.tplg_graph.specs.ThinPlan.{IsThinPlan, thin_graph}
 use Rattle.mbox_link.specs.Step.{with_comps}
-use Rattle.mbox_link.specs.Exchange.{plays as moves}
 use Rattle.host_widgets.specs.Controls.{set_comp, set_graph}
 
 module _ (pipe size : ℕ) (format : Format) (sched : ℕ) where
@@ -68,14 +66,3 @@ pub plays : (plan : Plan) → IsThinPlan plan → (streams : List StreamView) �
 plays plan thin streams =
     let set : set_graph plan ≡ thin_graph thin.pipe thin.size thin.format thin.sched = λ i. with_comps (map (set_comp plan) (thin.graph i).comps) (thin.graph i) in
     subst (λ g. IsPlayable (record { graph = g; streams = streams })) (sym set) (thin-plays thin.pipe thin.size thin.format thin.sched streams)
-
--- and frames move, since all is an endpoint
-pub thin-moves : (plan : Plan) → IsThinPlan plan → (streams : List StreamView) → moves (record { graph = set_graph plan; streams = streams }) ≡ true
-thin-moves plan thin streams =
-    let set : set_graph plan ≡ thin_graph thin.pipe thin.size thin.format thin.sched = λ i. with_comps (map (set_comp plan) (thin.graph i).comps) (thin.graph i) in
-    subst (λ (g : Graph). moves (record { graph = g; streams = streams }) ≡ true) (sym set) (ends thin.pipe thin.size thin.format thin.sched)
-  where
-    ends : (pipe size : ℕ) (format : Format) (sched : ℕ) → moves (record { graph = thin_graph pipe size format sched; streams = streams }) ≡ true
-    ends pipe size format sched =
-        let v : View = record { graph = thin_graph pipe size format sched; streams = streams } in
-        and_from _ _ (or_right (not (live v 0)) true refl) (and_from _ _ (or_right (not (live v 2)) true refl) refl)

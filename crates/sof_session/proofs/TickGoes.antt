@@ -1,16 +1,14 @@
 -- What a tick makes of a host goes on standing.
-use Rattle.std.proofs.Common.{◌≡◌, refl, sym, ap, subst, ◌∙◌, ℕ, true, List, [], ◌∷◌, ◌++◌, Option, Some, None}
+use Rattle.std.proofs.Common.{◌≡◌, refl, sym, ap, subst, ◌∙◌, ℕ, List, [], ◌∷◌, ◌++◌, Option, Some, None}
 use Rattle.std.specs.List.Sorted.{IsStrictlyIncreasing}
 use Rattle.sof_base.specs.Ports.{Io}
-use Rattle.stream_law.specs.State.{FwState, View, view_of}
+use Rattle.stream_law.specs.State.{FwState, view_of}
 use Rattle.stream_law.specs.Table.{list_of}
 use Rattle.stream_law.specs.Past.{Moment, Tick}
 use Rattle.stream_law.specs.Move.{Move, audio_after, state_after, io_after}
 use Rattle.stream_law.specs.Stands.{Stands, IsPlayable}
 use Rattle.stream_law.proofs.TickLaw.{Stands-tick, bytes-tick}
 use Rattle.tplg_graph.specs.ThinPlan.{IsThinPlan}
-use Rattle.mbox_link.specs.Exchange.{plays as moves}
-use Rattle.mbox_link.proofs.Plays.{ticked-plays}
 use Rattle.host_widgets.specs.declared.kept.Power.{Power}
 use Rattle.host_widgets.specs.declared.kept.Power.TheVariants.{Unloaded, On, Off}
 use Rattle.host_widgets.specs.declared.answers.Answer.TheVariants.{Done}
@@ -19,7 +17,7 @@ use Rattle.sof_session.specs.Turns.{Keeps}
 use Rattle.sof_session.specs.Walks.{Host, silent, empty_outputs, moved, moved_next, device_tick, tick_next}
 use Rattle.sof_session.specs.Moments.{IsSettled, SettledBy, tick_moments}
 use Rattle.sof_session.proofs.WrittenTo.{bytes-to}
-use Rattle.sof_session.proofs.ThinPlaying.{plays, thin-moves}
+use Rattle.sof_session.proofs.ThinPlaying.{plays}
 use Rattle.sof_session.proofs.Keeping.{Keeps-moved}
 use Rattle.sof_session.proofs.GoingOn.{GoesBy}
 use Rattle.sof_session.proofs.LoadGoes.{stays}
@@ -38,10 +36,9 @@ module _ (whole : List (ℕ × List ℕ)) (h : Host) (settled : IsSettled h) (th
   abbrev io : Io
   io = record { inputs = h.inputs; outputs = empty_outputs h.slots }
 
-  -- by the laws
-  moves-so : (boots : ℕ) (f : FwState) → h.kept.power ≡ On → Keeps h.plan h.heap h.kept f → (stood : Stands (Some f) whole h.inputs before) →
-      GoesBy whole h.slots before stood.past.bytes (moved_next boots h (state_after f (audio_after f io), io_after io (audio_after f io))) (Tick ∷ [])
-  moves-so boots f on keeps stood =
+  moves-on : (boots : ℕ) (f : FwState) → h.kept.power ≡ On → Keeps h.plan h.heap h.kept f → (stood : Stands (Some f) whole h.inputs before) →
+      GoesBy whole h.slots before stood.past.bytes (moved_next boots h (moved h f)) (Tick ∷ [])
+  moves-on boots f on keeps stood =
       let a = audio_after f io in
       let f' = state_after f a in
       let io' = io_after io a in
@@ -56,13 +53,6 @@ module _ (whole : List (ℕ × List ℕ)) (h : Host) (settled : IsSettled h) (th
         stands = t.stands;
         wrote = λ slot bound. t.bytes slot ∙ ap (λ (bs : List ℕ). list_of stood.past.bytes slot ++ bs) (sym (bytes-to (list_of a.written) h.slots slot rising bound));
       }
-
-  -- and so by a tick, since all is an endpoint
-  moves-on : (boots : ℕ) (f : FwState) → h.kept.power ≡ On → Keeps h.plan h.heap h.kept f → (stood : Stands (Some f) whole h.inputs before) →
-      GoesBy whole h.slots before stood.past.bytes (moved_next boots h (moved h f)) (Tick ∷ [])
-  moves-on boots f on keeps stood =
-      let playing : moves (view_of f) ≡ true = subst (λ (v : View). moves v ≡ true) (sym keeps.view) (thin-moves h.plan thin (expected_view h.plan h.kept).streams) in
-      subst (λ (p : FwState × Io). GoesBy whole h.slots before stood.past.bytes (moved_next boots h p) (Tick ∷ [])) (sym (ticked-plays f io playing)) (moves-so boots f on keeps stood)
 
   -- a device that is on
   device-ticks : (boots : ℕ) (device : Option FwState) (f : FwState) → device ≡ Some f → h.kept.power ≡ On → Keeps h.plan h.heap h.kept f → (stood : Stands device whole h.inputs before) →

@@ -1,13 +1,12 @@
 -- What a tick makes of a session: the two sides agree after it, and it is as it is written.
-use Rattle.std.proofs.Common.{◌≡◌, ℕ, Bool, true, false, if◌then◌else◌, List, [], ◌∷◌, ◌++◌, Option, Some, refl, sym, ap, ◌∙◌}
+use Rattle.std.proofs.Common.{◌≡◌, ℕ, List, [], ◌∷◌, ◌++◌, Option, Some, refl, sym, ap, ◌∙◌}
 use Rattle.std.specs.Option.{option_map}
 use Rattle.sof_base.specs.Ports.{Io, OutputView, drained}
 use Rattle.sof_io.specs.Bound.{output_slots}
 use Rattle.stream_law.specs.State.{FwState, view_of}
 use Rattle.stream_law.specs.Table.{list_of}
-use Rattle.stream_law.specs.Move.{Audio, state_after, audio_after, io_after}
-use Rattle.mbox_link.specs.Exchange.{plays, ticked}
-use Rattle.mbox_link.proofs.Plays.{ticked-view}
+use Rattle.stream_law.specs.Move.{Audio, audio_after}
+use Rattle.mbox_link.specs.Exchange.{ticked}
 use Rattle.mbox_link.specs.Calls.{Meaning, Call, Tick, Led}
 use Rattle.mbox_link.specs.Wire.{Wire}
 use Rattle.mbox_link.specs.Link.{link}
@@ -22,7 +21,7 @@ use Rattle.sof_session.specs.Seat.{Seat}
 use Rattle.sof_session.specs.Walks.{Host, stand, Carry, silent, moved_next, device_tick, tick_next, written_in}
 use Rattle.sof_session.specs.Turns.{AreAgreed, Powered, TickedBy, TickRan, Seated, life, Turned, turn, host_of}
 use Rattle.sof_session.proofs.LinkFates.{Led-fated, Led-inside}
-use Rattle.sof_session.proofs.Keeping.{Keeps-ticked}
+use Rattle.sof_session.proofs.Keeping.{Keeps-moved}
 use Rattle.sof_session.proofs.Agreement.{at, seat_with, Kept, agreed_with}
 use Rattle.sof_session.proofs.Writings.{none-written, empty-outputs, same-slots}
 use Rattle.sof_session.proofs.Turning.{told, stood}
@@ -49,8 +48,8 @@ module _ {P : Type 0} (means : Meaning P) (old : Seat P) (wire : Wire P) (io io'
       let keeps = powered.2 in
       let on = tick.on f powered.1 in
       record {
-        sides = ap (option_map view_of) on.0 ∙ ap Some (ticked-view (f, io) ∙ keeps.view);
-        powered = ((ticked (f, io)).0, on.0, Keeps-ticked old.plan old.heap old.kept f io keeps);
+        sides = ap (option_map view_of) on.0 ∙ ap Some keeps.view;
+        powered = ((ticked (f, io)).0, on.0, Keeps-moved old.plan old.heap old.kept f (audio_after f io) keeps);
       }
   both-ticked Unloaded powered sides same =
       let device = ap (λ (w : Wire P). means.on w.device) same.0 in record { sides = (sides.0, device ∙ sides.1); powered = device ∙ powered }
@@ -72,20 +71,10 @@ module _ {P : Type 0} (means : Meaning P) (old : Seat P) (wire : Wire P) (io io'
 abbrev output_after : Audio → OutputView → OutputView
 output_after a output = record { slot = output.slot; bytes = output.bytes ++ list_of a.written output.slot }
 
-slots-ticked : (f : FwState) (io : Io) → output_slots (ticked (f, io)).1.outputs ≡ output_slots io.outputs
-slots-ticked f io = by (plays (view_of f))
-  where
-    after : Bool → FwState × Io
-    after h = if h then (state_after f (audio_after f io), io_after io (audio_after f io)) else (f, io)
-
-    by : (h : Bool) → output_slots (after h).1.outputs ≡ output_slots io.outputs
-    by true = same-slots (output_after (audio_after f io)) (λ output. refl) io.outputs
-    by false = refl
-
 module _ {P : Type 0} (means : Meaning P) (old : Seat P) (wire : Wire P) (io io' : Io) where
   slots-stay : (power : Power) → Powered means old power → TickedBy means power old.link wire io io' → output_slots io'.outputs ≡ output_slots io.outputs
   slots-stay On powered tick =
-      ap (λ (x : Io). output_slots x.outputs) (tick.on powered.0 powered.1).1 ∙ slots-ticked powered.0 io
+      ap (λ (x : Io). output_slots x.outputs) (tick.on powered.0 powered.1).1 ∙ same-slots (output_after (audio_after powered.0 io)) (λ output. refl) io.outputs
   slots-stay Unloaded powered same = ap (λ (x : Io). output_slots x.outputs) same.1
   slots-stay Off powered same = ap (λ (x : Io). output_slots x.outputs) same.1
 

@@ -10,6 +10,8 @@ mod changed;
 mod checks;
 mod counted;
 #[cfg(test)]
+mod device;
+#[cfg(test)]
 mod ends;
 #[cfg(test)]
 mod fated;
@@ -19,6 +21,8 @@ mod faults;
 mod graphs;
 #[cfg(test)]
 mod loads;
+#[cfg(test)]
+mod messages;
 #[cfg(test)]
 mod plans;
 #[cfg(test)]

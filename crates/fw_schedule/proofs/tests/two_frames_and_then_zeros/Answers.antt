@@ -17,8 +17,8 @@ stand : AreTurnsAt (changed 0 (begun 2) (with_ring 1 0 64 (no_rings 16))) turns
 unfolding IsDistinct
 stand = record {
   each = (
-    record { period = omega arith; there = omega arith; channels = refl; capacity = refl; bytes = omega arith },
-    (record { period = omega arith; there = omega arith; channels = refl; capacity = refl; bytes = omega arith }, tt),
+    record { period = omega arith; there = omega arith; channels = refl; capacity = refl; bytes = omega arith; action = tt },
+    (record { period = omega arith; there = omega arith; channels = refl; capacity = refl; bytes = omega arith; action = tt }, tt),
   );
   single = ((refl, tt), (tt, tt));
 }

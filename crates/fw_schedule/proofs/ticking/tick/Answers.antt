@@ -1,18 +1,12 @@
-use Rattle.std.proofs.Common.{◌≡◌, sym, ap, ◌∙◌, refl, ℕ, suc, ◌+◌, List, ◌∷◌, drop, get_or, drop-cons, arith}
+use Rattle.std.proofs.Common.{◌≡◌, sym, ap, ◌∙◌, refl, subst, suc, ◌+◌, List, ◌∷◌, drop, drop-cons, arith}
 use Rattle.std.proofs.lemmas.List.{drop_all}
-use Rattle.sof_base.specs.declared.format.Format.TheVariants.{S16}
 use Rattle.fw_schedule.specs.declared.turn.Turn.{Turn}
-use Rattle.fw_schedule.specs.declared.turn.Action.TheVariants.{Feed}
 use Rattle.fw_schedule.specs.Turns.{after_turns}
 use Rattle.fw_schedule.specs.Ticks.{IsTurnAt, seen_at}
 use Rattle.fw_schedule.proofs.Growing.{grew-room}
 use Rattle.fw_schedule.proofs.RingsSeen.{turn-kept}
 use Rattle.fw_schedule.proofs.OneByOne.{comps, all-at, room-each, room-behind, apart-first, room-first, grew-first, grew-last}
 use Rattle.fw_schedule.proofs.ticking.tick.Goals as goal
-
--- what stands past the last turn
-abbrev no_turn : Turn
-no_turn = record { comp = 0; period = 0; quota = 0; place = 0; channels = 0; format = S16; capacity = 0; action = Feed }
 
 pub loop-turn-init : goal.loop-turn-init
 loop-turn-init c = record {
@@ -25,14 +19,16 @@ loop-turn-init c = record {
 
 pub run_at-requires-clause-turn : goal.run_at-requires-clause-turn
 run_at-requires-clause-turn c =
-    turn-kept c.args.rings.now c.loop-turn.rings _ c.loop-turn.invariant.rings
-    (all-at (IsTurnAt c.args.rings.now) c.args.turns.now c.loop-turn.turn-index _ c.loop-turn-test.true c.requires.turns.each)
+    let turn = c.turn-item.result in
+    turn-kept c.args.rings.now c.loop-turn.rings turn c.loop-turn.invariant.rings
+    (subst (IsTurnAt c.args.rings.now) (sym c.turn-item.is) (all-at (IsTurnAt c.args.rings.now) c.args.turns.now c.loop-turn.turn-index turn c.loop-turn-test.true c.requires.turns.each))
 
 pub loop-turn-preserved : goal.loop-turn-preserved
 loop-turn-preserved c =
-    let turn = get_or c.args.turns.now c.loop-turn.turn-index no_turn in
+    let turn = c.turn-item.result in
     let rest = drop (c.loop-turn.turn-index + 1) c.args.turns.now in
-    let left : drop c.loop-turn.turn-index c.args.turns.now ≡ turn ∷ rest = drop-cons c.args.turns.now c.loop-turn.turn-index no_turn c.loop-turn-test.true ∙ ap (λ (k : ℕ). turn ∷ drop k c.args.turns.now) (let e : suc c.loop-turn.turn-index ≡ c.loop-turn.turn-index + 1 = omega arith in e) in
+    let next : suc c.loop-turn.turn-index ≡ c.loop-turn.turn-index + 1 = omega arith in
+    let left : drop c.loop-turn.turn-index c.args.turns.now ≡ turn ∷ rest = drop-cons c.args.turns.now c.loop-turn.turn-index turn c.loop-turn-test.true ∙ (λ i. sym c.turn-item.is i ∷ drop (next i) c.args.turns.now) in
     let apart = apart-first turn rest (drop c.loop-turn.turn-index c.args.turns.now) left c.loop-turn.invariant.single in
     record {
       turned =

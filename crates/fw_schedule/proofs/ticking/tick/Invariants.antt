@@ -3,8 +3,9 @@ use Rattle.std.specs.List.{AllByRecursion, IsDistinct}
 use Rattle.std.specs.Prelude.{nat_eq}
 use Rattle.sof_base.specs.Ports.{OutputView}
 use Rattle.sof_io.specs.Puts.{room_at}
+use Rattle.fw_components.specs.Places.{emptied}
 use Rattle.fw_schedule.specs.Turns.{after_turns}
-use Rattle.fw_schedule.specs.Ticks.{Grew, seen_at, emptied}
+use Rattle.fw_schedule.specs.Ticks.{Grew, seen_at}
 use Rattle.fw_schedule.proofs.ticking.tick.Given as goal
 
 -- the turns that are left lead from what is there to what all turns lead to, and have room

@@ -1,33 +1,27 @@
-use Rattle.std.proofs.Common.{◌≡◌, ◌≤◌, sym, ap, subst, ◌∙◌, length, take, drop, arith, length-set, List, ℤ}
+use Rattle.std.proofs.Common.{◌≡◌, refl, sym, ap, subst, ◌∙◌, length, take, drop, List, ℤ}
 use Rattle.sof_base.specs.Samples.{Frame, frames_out}
 use Rattle.fw_ring.specs.RingLists.{ring_at, fresh_ring}
 use Rattle.fw_ring.specs.RingWords.{IsWindow, frames_of}
-use Rattle.fw_ring.specs.RingsLaid.{IsWithin, own_words}
+use Rattle.fw_ring.specs.RingsLaid.{own_words}
 use Rattle.fw_ring.proofs.WindowLaws.{emptier-is}
-use Rattle.fw_ring.proofs.ApartLaws.{all-set, apart-set, own-read}
-use Rattle.fw_ring.proofs.RingLaws.{here, ring-at, held-at, within-at, rings-pulled}
+use Rattle.fw_ring.proofs.ApartLaws.{own-read}
+use Rattle.fw_ring.proofs.RingLaws.{here, ring-at, within-at, held-now, laid-changed, rings-pulled}
 use Rattle.fw_ring.proofs.rings.Rings.pull.Goals as goal
 
 pub pulled-requires-clause-held : goal.pulled-requires-clause-held
 pulled-requires-clause-held c =
-    let r = c.self.inside in let w = c.index-window.result.now in let ws = r.windows.items in let place = c.args.place in
-    let at = here r c.args.self.now place w c.self.view_is c.requires.there c.index-window.ensures in
-    let is = within-at (length r.words.items) ws place w at c.self.invariant.windows in
-    omega (arith, c.requires.held, ap (λ s. length (ring_at s place).frames) c.self.view_is, held-at r.words.items ws place w (fresh_ring 0 0 0) at is.window)
+    let r = c.self.inside in let now = c.args.self.now in let w = c.index-window.result.now in let place = c.args.place in
+    let at = here r now place w c.self.view_is c.requires.there c.index-window.ensures in
+    held-now r now place c.args.count w c.self.view_is at (within-at (length r.words.items) r.windows.items place w at c.self.invariant.windows).window c.requires.held
 
 pub invariant_of-self : goal.invariant_of-self
 invariant_of-self c =
-    let r = c.self.inside in let v = c.self.invariant in let w = c.index-window.result.now in let w' = c.pulled.result in let ws = r.windows.items in let place = c.args.place in
-    let at = here r c.args.self.now place w c.self.view_is c.requires.there c.index-window.ensures in
-    let is = within-at (length r.words.items) ws place w at v.windows in
+    let r = c.self.inside in let now = c.args.self.now in let w = c.index-window.result.now in let w' = c.pulled.result in let place = c.args.place in
+    let at = here r now place w c.self.view_is c.requires.there c.index-window.ensures in
+    let is = (within-at (length r.words.items) r.windows.items place w at c.self.invariant.windows).window in
+    let few = held-now r now place c.args.count w c.self.view_is at is c.requires.held in
     let same = c.pulled.ensures.window in
-    let few : c.args.count ≤ w.held = omega (arith, c.requires.held, ap (λ s. length (ring_at s place).frames) c.self.view_is, held-at r.words.items ws place w (fresh_ring 0 0 0) at is.window) in
-    record {
-      few = (omega (arith, length-set ws place w', v.few), v.few.1);
-      most = v.most;
-      windows = all-set (IsWithin (length r.words.items)) ws place w' (record { window = subst IsWindow (sym same) (emptier-is w c.args.count is.window few); ends = omega (arith, is.ends, ap (λ x. x.first) same, ap (λ x. x.words) same) }) v.windows;
-      apart = apart-set ws place w w' at.there at.read (ap (λ x. x.first) same) (ap (λ x. x.words) same) v.apart;
-    }
+    laid-changed r _ place w w' c.self.invariant at refl refl refl (subst IsWindow (sym same) (emptier-is w c.args.count is few)) (ap (λ x. x.first) same) (ap (λ x. x.words) same)
 
 pub returns-clause-bytes : goal.returns-clause-bytes
 returns-clause-bytes c =

@@ -1,44 +1,36 @@
-use Rattle.std.proofs.Common.{◌≡◌, ◌≤◌, ◌-◌, ◌+◌, sym, ap, subst, ◌∙◌, ℕ, length, map, set, get_or, arith, length-set, List, ◌++◌, ℤ}
+use Rattle.std.proofs.Common.{◌≡◌, ◌≤◌, ◌-◌, ◌+◌, refl, sym, ap, subst, ◌∙◌, ℕ, length, map, set, get_or, arith, List, ◌++◌, ℤ}
 use Rattle.std.proofs.lemmas.List.{with_items_is}
 use Rattle.std.specs.Vec.{with_items}
-use Rattle.std.specs.List.{AllByRecursion}
 use borrow.Rule.Slice.PartMut.{put_mid}
 use Rattle.sof_base.specs.Samples.{frames_in}
-use Rattle.fw_ring.specs.RingLists.{ring_at, fresh_ring, capacity_of, pushed}
+use Rattle.fw_ring.specs.RingLists.{fresh_ring, pushed}
 use Rattle.fw_ring.specs.RingWords.{IsWindow, frames_of}
-use Rattle.fw_ring.specs.RingsLaid.{IsWithin, own_words, ring_of}
+use Rattle.fw_ring.specs.RingsLaid.{own_words, ring_of}
 use Rattle.fw_ring.proofs.WindowLaws.{fuller-is}
-use Rattle.fw_ring.proofs.ApartLaws.{all-set, apart-set, own-read, put-read, length-put, length-own}
-use Rattle.fw_ring.proofs.RingLaws.{here, ring-at, held-at, room-at, within-at, rings-pushed}
+use Rattle.fw_ring.proofs.ApartLaws.{own-read, put-read, length-put, length-own}
+use Rattle.fw_ring.proofs.RingLaws.{here, ring-at, within-at, fit-now, laid-changed, rings-pushed}
 use Rattle.fw_ring.proofs.rings.Rings.push.Goals as goal
 
 pub pushed-requires-clause-fit : goal.pushed-requires-clause-fit
 pushed-requires-clause-fit c =
-    let r = c.self.inside in let w = c.index-window.result.now in let ws = r.windows.items in let place = c.args.place in
-    let at = here r c.args.self.now place w c.self.view_is c.requires.there c.index-window.ensures in
-    let is = within-at (length r.words.items) ws place w at c.self.invariant.windows in
-    omega (arith, c.requires.fit, ap (λ s. length (ring_at s place).frames) c.self.view_is, ap (λ s. capacity_of (ring_at s place)) c.self.view_is, held-at r.words.items ws place w (fresh_ring 0 0 0) at is.window, room-at r.words.items ws place w (fresh_ring 0 0 0) at is.window)
+    let r = c.self.inside in let now = c.args.self.now in let w = c.index-window.result.now in let place = c.args.place in
+    let at = here r now place w c.self.view_is c.requires.there c.index-window.ensures in
+    fit-now r now place c.args.count w c.self.view_is at (within-at (length r.words.items) r.windows.items place w at c.self.invariant.windows).window c.requires.fit
 
 pub invariant_of-self : goal.invariant_of-self
 invariant_of-self c =
-    let r = c.self.inside in let v = c.self.invariant in let w = c.index-window.result.now in let w' = c.pushed.result in let ws = r.windows.items in let place = c.args.place in let words = r.words.items in
-    let at = here r c.args.self.now place w c.self.view_is c.requires.there c.index-window.ensures in
-    let is = within-at (length r.words.items) ws place w at v.windows in
+    let r = c.self.inside in let now = c.args.self.now in let w = c.index-window.result.now in let w' = c.pushed.result in let ws = r.windows.items in let place = c.args.place in let words = r.words.items in
+    let at = here r now place w c.self.view_is c.requires.there c.index-window.ensures in
+    let is = within-at (length words) ws place w at c.self.invariant.windows in
+    let fit = fit-now r now place c.args.count w c.self.view_is at is.window c.requires.fit in
     let same = c.pushed.ensures.window in
-    let fit : w.held + c.args.count ≤ w.capacity =
-    omega (arith, c.requires.fit, ap (λ s. length (ring_at s place).frames) c.self.view_is, ap (λ s. capacity_of (ring_at s place)) c.self.view_is, held-at words ws place w (fresh_ring 0 0 0) at is.window, room-at words ws place w (fresh_ring 0 0 0) at is.window) in
     let own = own-read w words c.deref_mut.result.now c.deref_mut.ensures.value in
     let within : w.first + w.words ≤ length words = is.ends in
     let long : length c.pushed.new.words ≡ w.words = c.pushed.auto.words ∙ ap length own ∙ length-own w words within in
     let after = put_mid w.first (w.first + w.words - w.first) c.deref_mut.result.now c.pushed.new.words in
     let kept : length after ≡ length words = ap length (put-read w words c.deref_mut.result.now c.pushed.new.words c.deref_mut.ensures.value) ∙ length-put w words c.pushed.new.words within long in
     let items : (with_items r.words after).items ≡ after = with_items_is r.words after (let full = c.deref_mut.ensures.len in omega (arith, full, kept, ap length c.deref_mut.ensures.value)) in
-    record {
-      few = (omega (arith, length-set ws place w', v.few), v.few.1);
-      most = omega (arith, ap length items, kept, v.most);
-      windows = subst (λ n. AllByRecursion (IsWithin n) (set ws place w')) (sym (ap length items ∙ kept)) (all-set (IsWithin (length words)) ws place w' (record { window = subst IsWindow (sym same) (fuller-is w c.args.count is.window fit); ends = omega (arith, is.ends, ap (λ x. x.first) same, ap (λ x. x.words) same) }) v.windows);
-      apart = apart-set ws place w w' at.there at.read (ap (λ x. x.first) same) (ap (λ x. x.words) same) v.apart;
-    }
+    laid-changed r _ place w w' c.self.invariant at refl refl (ap length items ∙ kept) (subst IsWindow (sym same) (fuller-is w c.args.count is.window fit)) (ap (λ x. x.first) same) (ap (λ x. x.words) same)
 
 pub returns : goal.returns
 returns c =

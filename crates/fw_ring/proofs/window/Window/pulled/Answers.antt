@@ -1,22 +1,34 @@
-use Rattle.std.proofs.Common.{◌≡◌, ◌∙◌, sym, ap, ℕ, ◌+◌, ◌-◌, ◌*◌, ◌++◌, List, length, take, arith, length-drop}
-use Rattle.sof_base.specs.Samples.{Frame, width, frames_out}
+use Rattle.std.proofs.Common.{◌≡◌, ◌∙◌, sym, ap, ◌*◌, ◌++◌, length, take, arith, length-drop}
+use Rattle.sof_base.specs.Samples.{width, frame_out}
 use Rattle.fw_ring.specs.RingWords.{frames_of}
-use Rattle.fw_ring.proofs.SlotLaws.{frames_out-more, rest-whole}
+use Rattle.fw_ring.proofs.SampleRuns.{frame_out-append}
+use Rattle.fw_ring.proofs.Flat.{frames_out-samples}
+use Rattle.fw_ring.proofs.WindowLaws.{bytes-of-spans, frames-drop}
 use Rattle.fw_ring.proofs.window.Window.pulled.Goals as goal
 
-pub taken-requires-2-clause-whole : goal.taken-requires-2-clause-whole
-taken-requires-2-clause-whole c =
-    let w = c.args.self in let near : ℕ = w.capacity - w.start in let m : ℕ = w.channels * width c.args.format in
-    let same = ap (λ x. x.channels) c.taken-first.ensures.window in
-    let size : near * (w.channels * c.width.result) ≡ near * m = ap (λ n. near * (w.channels * n)) c.width.ensures in
-    ap length c.split_at_mut-front.ensures.back ∙ length-drop (near * (w.channels * c.width.result)) c.args.out.now
-    ∙ (λ i. c.requires.whole i - size i) ∙ rest-whole near c.args.count m (omega (arith, c.if-count-near.false))
-    ∙ ap (λ n. (c.args.count - near) * (n * width c.args.format)) (sym same)
+pub split_at_mut-near-requires : goal.split_at_mut-near-requires
+split_at_mut-near-requires c =
+    let w = c.args.self in let front = c.spans.result.0.now in let back = c.spans.result.1.now in let m = width c.args.format in
+    let whole = bytes-of-spans w c.args.words.now front back c.args.count m c.requires.window c.requires.words c.requires.held c.spans.ensures.samples in
+    let size : length front * c.width.result ≡ length front * m = ap (λ n. length front * n) c.width.ensures in
+    omega (arith, size, whole, c.requires.whole)
+
+pub write_samples-requires-2 : goal.write_samples-requires-2
+write_samples-requires-2 c =
+    let w = c.args.self in let front = c.spans.result.0.now in let back = c.spans.result.1.now in let m = width c.args.format in
+    let whole = bytes-of-spans w c.args.words.now front back c.args.count m c.requires.window c.requires.words c.requires.held c.spans.ensures.samples in
+    let size : length front * c.width.result ≡ length front * m = ap (λ n. length front * n) c.width.ensures in
+    omega (arith, ap length c.split_at_mut-near.ensures.back, length-drop (length front * c.width.result) c.args.out.now, size, whole, c.requires.whole)
 
 pub returns-clause-bytes : goal.returns-clause-bytes
 returns-clause-bytes c =
-    let w = c.args.self in let format = c.args.format in let held = frames_of w c.args.words.now in
-    let near : ℕ = w.capacity - w.start in let rest : ℕ = c.args.count - near in
-    let all : near + rest ≡ c.args.count = omega (arith, c.if-count-near.false) in
-    (λ i. c.taken-first.ensures.bytes i ++ (c.taken-2.ensures.bytes ∙ ap (λ (t : List Frame). frames_out format (take rest t)) c.taken-first.ensures.frames) i)
-    ∙ frames_out-more format near rest held ∙ ap (λ n. frames_out format (take n held)) all
+    let format = c.args.format in let front = c.spans.result.0.now in let back = c.spans.result.1.now in
+    (λ i. c.write_samples.ensures i ++ c.write_samples-2.ensures i)
+    ∙ sym (frame_out-append format front back)
+    ∙ ap (frame_out format) c.spans.ensures.samples
+    ∙ sym (frames_out-samples format (take c.args.count (frames_of c.args.self c.args.words.now)))
+
+pub returns-clause-frames : goal.returns-clause-frames
+returns-clause-frames c =
+    let w = c.args.self in let words = c.args.words.now in
+    ap (λ x. frames_of x words) c.shortened.ensures ∙ frames-drop w words c.args.count c.requires.window c.requires.held

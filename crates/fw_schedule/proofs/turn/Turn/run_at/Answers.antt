@@ -1,6 +1,6 @@
 use Rattle.std.proofs.Common.{◌∷◌, []}
 use Rattle.fw_schedule.proofs.Growing.{grew-still}
-use Rattle.fw_schedule.proofs.Running.{fed-turned, only-turned, filled-turned, fed-kept, drained-kept}
+use Rattle.fw_schedule.proofs.Running.{fed-turned, only-turned, filled-turned, made-turned, fed-kept, drained-kept}
 use Rattle.fw_schedule.proofs.turn.Turn.run_at.Goals as goal
 
 pub returns-then-clock-self-ne0-clause-grew : goal.returns-then-clock-self-ne0-clause-grew
@@ -26,3 +26,9 @@ returns-in-Fill-clause-turned c = filled-turned c.args.self.now c.args.clock c.a
 
 pub returns-in-Fill-clause-rings : goal.returns-in-Fill-clause-rings
 returns-in-Fill-clause-rings c = drained-kept _ _ _ _ c.drain-in-Fill.ensures.rings
+
+pub returns-in-Make-clause-turned : goal.returns-in-Make-clause-turned
+returns-in-Make-clause-turned c = made-turned c.args.self.now c.args.clock c.args.rings.now c.args.inputs.now c.args.outputs.now c.in-Make.kernel c.run.new.rings c.if-clock-self-ne0.false c.in-Make.is c.run.ensures.moved
+
+pub returns-in-Make-clause-grew : goal.returns-in-Make-clause-grew
+returns-in-Make-clause-grew c = grew-still (c.args.self.now.comp ∷ []) c.args.outputs.now

@@ -3,8 +3,6 @@
 
 mod blob_walk;
 mod fault;
-#[cfg(test)]
-mod tests;
 
 pub use blob_walk::check;
 pub use fault::EqFault;

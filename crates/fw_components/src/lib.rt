@@ -6,8 +6,6 @@ mod kernel;
 mod looking;
 mod making;
 mod taking;
-#[cfg(test)]
-mod tests;
 mod workspace;
 
 pub use kernel::{Effect, Kernel};

@@ -4,8 +4,6 @@
 
 mod rings;
 mod runs;
-#[cfg(test)]
-mod tests;
 mod window;
 
 pub use rings::Rings;

@@ -9,6 +9,3 @@ mod turn;
 pub use laws::{turns_are_a_tick, turns_stand};
 pub use ticking::{TURN_BYTES, tick};
 pub use turn::{Action, Turn};
-
-#[cfg(test)]
-mod tests;

@@ -14,6 +14,3 @@ mod transfer;
 pub use calls::{Desk, DeskFailed, LoadFault};
 pub use mem::MemDesk;
 pub use os::OsDesk;
-
-#[cfg(test)]
-mod tests;

@@ -8,6 +8,3 @@ mod outputs;
 
 pub use inputs::Inputs;
 pub use outputs::Outputs;
-
-#[cfg(test)]
-mod tests;

@@ -10,8 +10,6 @@ mod line;
 mod lines;
 mod reading;
 mod script;
-#[cfg(test)]
-mod tests;
 mod tokens;
 mod values;
 mod words;

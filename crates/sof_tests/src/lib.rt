@@ -10,8 +10,6 @@ mod changed;
 mod checks;
 mod counted;
 #[cfg(test)]
-mod device;
-#[cfg(test)]
 mod ends;
 #[cfg(test)]
 mod fated;
@@ -21,8 +19,6 @@ mod faults;
 mod graphs;
 #[cfg(test)]
 mod loads;
-#[cfg(test)]
-mod messages;
 #[cfg(test)]
 mod plans;
 #[cfg(test)]

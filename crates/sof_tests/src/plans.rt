@@ -1,10 +1,10 @@
-// The thin graph's plan, and graphs that are not thin.
+// The thin graph's plan, graphs that are not thin, and the gain of a volume's value.
 use crate::thin::thin_graph;
 use sof_base::Format;
 use std::alloc::Global;
 use std::test::Fail;
 use stream_law::{Edge, Join, Kind, Pipe};
-use tplg_graph::{Plan, is_thin, need, plan};
+use tplg_graph::{ControlKind, Plan, gain, is_thin, need, plan};
 use tplg_model::Topology;
 use tplg_read::read;
 
@@ -95,5 +95,23 @@ fn other_graphs_are_not_thin(rt: HostRuntime) -> Result<(), Fail> {
         let topology = topology_of(alloc, &bytes)?;
         assert!(rt; !is_thin(alloc, &topology)?);
     }
+    Ok(())
+}
+
+// A control from -64 dB by steps of 2 dB: value 31 is four half decibels below 1, value 32 is 1, value 0 is silent.
+#[test]
+fn a_value_of_a_volume_has_its_gain(rt: HostRuntime) -> Result<(), Fail> {
+    let volume = ControlKind::Volume {
+        min: 0,
+        max: 32,
+        channels: 2,
+        tlv_min: -6400,
+        tlv_step: 200,
+        tlv_mute: 1,
+    };
+    assert_eq!(rt;
+        (gain(&volume, 31), gain(&volume, 32), gain(&volume, 0)),
+        (52056, 65536, 0)
+    );
     Ok(())
 }

@@ -18,8 +18,6 @@ mod route_rules;
 mod rule_checks;
 mod rule_faults;
 mod rule_groups;
-#[cfg(test)]
-mod tests;
 mod thin_form;
 mod tokens;
 mod volume_gain;

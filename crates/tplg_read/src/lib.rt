@@ -15,6 +15,3 @@ mod widgets;
 pub use file::read;
 pub use laws::files_are_spelled;
 pub use tplg_model::TplgFault;
-
-#[cfg(test)]
-mod tests;

@@ -13,6 +13,3 @@ pub use fault::TokenFault;
 pub use laws::arrays_are_spelled;
 pub use reading::read_arrays;
 pub use writing::write_arrays;
-
-#[cfg(test)]
-mod tests;

@@ -13,6 +13,3 @@ mod widgets;
 
 pub use file::write;
 pub use laws::what_is_read_can_be_written;
-
-#[cfg(test)]
-mod tests;

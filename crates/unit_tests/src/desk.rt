@@ -1,4 +1,5 @@
-use crate::{Desk, DeskFailed, LoadFault, MemDesk, OsDesk};
+// A desk in memory and one over real files.
+use sof_desk::{Desk, DeskFailed, LoadFault, MemDesk, OsDesk};
 use std::test::Fail;
 
 #[test]

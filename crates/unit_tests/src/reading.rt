@@ -1,6 +1,7 @@
-use super::*;
+// Topology files, read.
 use std::test::*;
-use tplg_model::{Body, Control, TokenArray};
+use tplg_model::{Body, Control, TokenArray, Topology};
+use tplg_read::{TplgFault, read};
 
 /// Appends words, little-endian.
 fn put_words(out: &mut Vec<u8>, words: &[u32]) -> Result<(), Fail> {

@@ -1,6 +1,6 @@
 ghost use Rattle.std.specs.Prelude.{◌≤◌, length};
 
-use crate::{Effect, Kernel, Workspace};
+use fw_components::{Effect, Kernel, Workspace};
 use fw_ring::Rings;
 use sof_base::{Bounded, NoMemory, Sample};
 use std::alloc::Global;

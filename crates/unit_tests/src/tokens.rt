@@ -1,6 +1,7 @@
-use super::*;
+// Vendor arrays, read and written.
 use std::test::*;
 use tplg_model::{NumberTuple, TextTuple, TokenArray};
+use tplg_tokens::{TokenFault, read_arrays, write_arrays};
 
 /// One array of words: the token 100 with the value 768.
 static SIZE_768: [u8; 20] = [

@@ -26,7 +26,18 @@ fn reply_to(alloc: Global, firmware: &mut Firmware, request: &[u8]) -> Result<[u
     Ok(front)
 }
 
-// The same for each message.
+// Sends a message that is done.
+fn send(alloc: Global, firmware: &mut Firmware, message: &Message) -> Result<(), Fail> {
+    let mut request = [0; 384];
+    let size = encode(message, &mut request);
+    if reply_to(alloc, firmware, &request[..size])? == DONE {
+        Ok(())
+    } else {
+        Err("refused")?
+    }
+}
+
+// What it answers to each message.
 fn replies_to(
     alloc: Global,
     firmware: &mut Firmware,
@@ -306,38 +317,51 @@ fn a_stream_goes_through_a_volume(rt: HostRuntime) -> Result<(), Fail> {
     Ok(())
 }
 
-// A firmware with two hosts that a mixer takes frames from, and a DAI that it feeds.
-fn together(alloc: Global) -> Result<Firmware, Fail> {
-    let mut firmware = Firmware::new(alloc, 4096)?;
-    firmware.boot(4096);
-    let mixer = Message::CompNew {
-        id: 4,
+// A buffer between two components.
+fn join(
+    alloc: Global,
+    firmware: &mut Firmware,
+    source: u32,
+    id: u32,
+    sink: u32,
+) -> Result<(), Fail> {
+    send(alloc, firmware, &buffer(id))?;
+    send(alloc, firmware, &Message::Connect { source, sink: id })?;
+    send(alloc, firmware, &Message::Connect { source: id, sink })
+}
+
+// A mixer.
+fn mixer(id: u32) -> Message {
+    Message::CompNew {
+        id,
         pipe: 1,
         periods_sink: 0,
         periods_source: 0,
         frame_fmt: 2,
         kind: CompWords::Mixer,
-    };
-    let messages = [
-        host(0),
-        buffer(1),
-        host(6),
-        buffer(7),
-        mixer,
-        buffer(5),
-        dai(2),
-        pipeline(3, 2),
-        Message::Connect { source: 0, sink: 1 },
-        Message::Connect { source: 1, sink: 4 },
-        Message::Connect { source: 6, sink: 7 },
-        Message::Connect { source: 7, sink: 4 },
-        Message::Connect { source: 4, sink: 5 },
-        Message::Connect { source: 5, sink: 2 },
-        Message::PipeComplete { id: 3 },
-        stereo(0),
-        stereo(6),
-    ];
-    let _replies = replies_to(alloc, &mut firmware, &messages)?;
+    }
+}
+
+// The components of a graph of two hosts, a mixer and a DAI.
+fn parts(alloc: Global, firmware: &mut Firmware) -> Result<(), Fail> {
+    send(alloc, firmware, &host(0))?;
+    send(alloc, firmware, &host(6))?;
+    send(alloc, firmware, &mixer(4))?;
+    send(alloc, firmware, &dai(2))?;
+    send(alloc, firmware, &pipeline(3, 2))
+}
+
+// A firmware with two hosts that a mixer takes frames from, and a DAI that it feeds.
+fn together(alloc: Global) -> Result<Firmware, Fail> {
+    let mut firmware = Firmware::new(alloc, 4096)?;
+    firmware.boot(4096);
+    parts(alloc, &mut firmware)?;
+    join(alloc, &mut firmware, 0, 1, 4)?;
+    join(alloc, &mut firmware, 6, 7, 4)?;
+    join(alloc, &mut firmware, 4, 5, 2)?;
+    send(alloc, &mut firmware, &Message::PipeComplete { id: 3 })?;
+    send(alloc, &mut firmware, &stereo(0))?;
+    send(alloc, &mut firmware, &stereo(6))?;
     Ok(firmware)
 }
 

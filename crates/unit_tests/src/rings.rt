@@ -1,4 +1,5 @@
-use crate::rings::Rings;
+// Rings as lists of frames.
+use fw_ring::Rings;
 use sof_base::{Format, NoMemory};
 use std::alloc::Global;
 
@@ -35,7 +36,7 @@ fn frames_round_the_end(rt: HostRuntime) {
 
 // The same frames by their samples: each look gives the words up to the end, and then those from the beginning.
 #[test]
-#[tactic(auto, unfolding(crate::specs::RingWords::slots))]
+#[tactic(auto, unfolding(fw_ring::specs::RingWords::slots))]
 fn spans_round_the_end(rt: HostRuntime) {
     let mut rings = Rings::new(rt.alloc(), 64).expect(&rt, "memory");
     rings.place(4, 0, 32);

@@ -1,6 +1,5 @@
 // Blobs that stand in the source.
-use crate::blob_walk::check;
-use crate::fault::EqFault;
+use eq_biquad::{EqFault, check};
 use std::test::Fail;
 
 fn put(blob: &mut [u8], at: usize, word: u32) {

@@ -1,4 +1,5 @@
-use crate::{Inputs, Outputs};
+// Inputs and outputs as lists of bytes.
+use sof_io::{Inputs, Outputs};
 use std::test::Fail;
 
 #[test]

@@ -1,4 +1,5 @@
-use crate::*;
+// Kernels over samples.
+use fw_gain::{mix_add, mix_begin, mix_end, select, volume};
 
 #[test]
 fn a_mix_is_held_once(rt: HostRuntime) {

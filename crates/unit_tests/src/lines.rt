@@ -1,6 +1,7 @@
-use super::*;
+// Scripts and the lines of answers.
 use host_widgets::{Answer, Found, HostFault};
 use sof_base::{Bounded, Errno, Format, Name44};
+use sof_script::{Command, Line, ScriptFault, parse, ticks, write_answer};
 use std::test::Fail;
 
 // The line and the cause of a script's fault; none where it is a script.

@@ -9,7 +9,7 @@ use Rattle.fw_components.specs.Places.{emptied}
 use Rattle.fw_components.specs.Kernels.{IsKernelAt}
 use Rattle.fw_components.proofs.RingsSeen.{emptied-changed}
 use Rattle.fw_components.proofs.KernelKept.{count-kept, kernel-kept}
-use Rattle.fw_components.proofs.tests.fed.Goals as goal
+use Rattle.unit_tests.proofs.moves.fed.Goals as goal
 
 -- the three rings before they hold frames
 abbrev three : RingLists

@@ -1,6 +1,7 @@
-use crate::{Action, Turn, tick};
+// Turns of a tick.
 use fw_components::{Effect, Kernel, Workspace};
 use fw_ring::Rings;
+use fw_schedule::{Action, Turn, tick};
 use sof_base::{Bounded, Format};
 use sof_io::{Inputs, Outputs};
 use std::test::Fail;

@@ -9,14 +9,17 @@ use crate::lines::{before_return, first_line};
 use crate::script::{Binding, Numbered, Script};
 use sof_base::{Items, NoMemory};
 use std::alloc::Global;
+use thiserror::Error;
 
 /// Why there is no script.
-#[derive(Clone, Copy, Debug, PartialEq, Eq)]
+#[derive(Clone, Copy, Debug, PartialEq, Eq, Error)]
 pub enum ScriptFault {
     /// The first line at fault, from 1, and its least cause: 1 a byte, 2 a quote, 3 the word, 4 the count of tokens,
     /// 5 a number or format, 6 hex, 7 a name or file.
+    #[error("line {line} has fault {cause}")]
     Line { line: u32, cause: u8 },
     /// Memory was wanting.
+    #[error("out of memory")]
     OutOfMemory,
 }
 

@@ -1,11 +1,14 @@
 ghost use Rattle.std.specs.Prelude.{◌≡◌, ◌<◌, ◌^◌, Err, IfSome, IsOk, MatchOption};
 
 use std::alloc::AllocError;
+use thiserror::Error;
 
 /// Why there is no plan: the first rule that is broken, with its first item, or want of memory.
-#[derive(Clone, Copy, Debug, PartialEq, Eq)]
+#[derive(Clone, Copy, Debug, PartialEq, Eq, Error)]
 pub enum PlanFault {
+    #[error("item {item} breaks rule {rule}")]
     Rule { rule: u8, item: u32 },
+    #[error("out of memory")]
     OutOfMemory,
 }
 

@@ -3,18 +3,23 @@ ghost use Rattle.std.specs.Prelude.{◌≡◌};
 ghost use Rattle.tplg_tokens.specs.declared.fault.TokenFault.TheVariants.{OutOfMemory};
 
 use sof_base::NoMemory;
+use thiserror::Error;
 
 /// The first fault of bytes that are no vendor arrays, with the place of the array at fault, in bytes from 0; or want of
 /// memory.
-#[derive(Clone, Copy, Debug, PartialEq, Eq)]
+#[derive(Clone, Copy, Debug, PartialEq, Eq, Error)]
 pub enum TokenFault {
     /// Fewer bytes are left than an array's three words, or than its size.
+    #[error("the array at byte {0} goes beyond the bytes")]
     Short(usize),
     /// An array's size word is not that of its three words and its elements.
+    #[error("the array at byte {0} has not the size of its elements")]
     Size(usize),
     /// An array's type, this one, is above 5.
+    #[error("the array at byte {0} has the type {1}")]
     Kind(usize, u32),
     /// Memory was wanting.
+    #[error("out of memory")]
     OutOfMemory,
 }
 

@@ -59,6 +59,29 @@ and-first : (x y : Bool) → (x && y) ≡ true → (x ≡ true) × (y ≡ true)
 and-first true y e = (refl, e)
 and-first false y e = absurd (true≢false (sym e))
 
+-- a walk that is not done comes to where a join leads there from
+pub leads-back : (joins : List Join) (n a b : ℕ) → leads joins (suc n) a b ≡ (a == b || list_any (λ j. leads joins n a j.source) (filter (λ j. j.sink == b) joins))
+leads-back joins n a b = same-tests _ _ to back
+  where
+    far : Bool
+    far = list_any (λ (j : Join). leads joins n a j.source) (filter (λ j. j.sink == b) joins)
+
+    to : leads joins (suc n) a b ≡ true → (a == b || far) ≡ true
+    to is = by (last-of joins n a b is)
+      where
+        by : ((a == b) ≡ true) ⊎ HasLast joins n a b → (a == b || far) ≡ true
+        by (inl same) = or_left (a == b) far same
+        by (inr last) = or_right (a == b) far (filter-any (λ (j : Join). leads joins n a j.source) (λ j. j.sink == b) joins last.join last.there (eq-eqb last.join.sink b last.to) last.before)
+
+    back : (a == b || far) ≡ true → leads joins (suc n) a b ≡ true
+    back is = by (or_cases (a == b) far is)
+      where
+        by : ((a == b) ≡ true) ⊎ (far ≡ true) → leads joins (suc n) a b ≡ true
+        by (inl same) = or_left (a == b) _ same
+        by (inr any) =
+            let found = in-filter (λ (j : Join). leads joins n a j.source) (λ j. j.sink == b) joins any in
+            walk-more joins n a b found.0 found.1 (eqb-true _ b found.2) found.3
+
 -- a walk comes from a member that passes: it is there, or comes to where a join leads there from
 pub from-any : {X : Type 0} (p : X → Bool) (key : X → ℕ) (xs : List X) (joins : List Join) (n b : ℕ) → list_any (λ x. p x && leads joins (suc n) (key x) b) xs ≡ (list_any (λ x. p x && key x == b) xs || list_any (λ j. list_any (λ x. p x && leads joins n (key x) j.source) xs) (filter (λ j. j.sink == b) joins))
 from-any {X} p key xs joins n b = same-tests _ _ to back

@@ -44,3 +44,5 @@ pub mod FreeingLaws
 pub mod Silent
 pub mod Seeking
 pub mod Backwards
+pub mod Marking
+pub mod OneWay

@@ -9,6 +9,7 @@ mod heap;
 mod joins;
 mod kinds;
 mod making;
+mod marks;
 mod order;
 mod player;
 mod scene;

@@ -8,6 +8,7 @@ ghost use Rattle.fw_core.specs.Pieces.{carved_bytes};
 ghost use Rattle.fw_core.specs.Answers.{answer_of};
 ghost use Rattle.fw_core.specs.Device.{io_of};
 
+use crate::marks::Marks;
 use crate::schedule::schedule;
 use crate::state::State;
 use fw_components::Workspace;
@@ -18,10 +19,11 @@ use sof_io::{Inputs, Outputs};
 use std::alloc::Global;
 use std::marker::Model;
 
-/// A state, the turns of its graph and streams, and room for the bytes and the samples of a turn.
+/// A state, the turns of its graph and streams, room for marks of their ways, and for the bytes and the samples of a turn.
 #[derive(Drop)]
 pub struct Player {
     state: State,
+    marks: Marks,
     turns: Vec<Turn>,
     scratch: Vec<u8>,
     workspace: Workspace,
@@ -47,6 +49,7 @@ impl Player {
     {
         Ok(Player {
             state: State::new(alloc, room)?,
+            marks: Marks::new(alloc)?,
             turns: Vec::with_capacity(alloc, 128)?,
             scratch: vec![in alloc; 0; TURN_BYTES]?,
             workspace: Workspace::new(alloc)?,
@@ -86,7 +89,8 @@ impl Player {
     {
         let answer = self.state.answer(request);
         let scene = self.state.scene();
-        schedule(&scene, &mut self.turns);
+        let marked = self.marks.over(scene);
+        schedule(&marked, &mut self.turns);
         answer
     }
 

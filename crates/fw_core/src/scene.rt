@@ -1,11 +1,13 @@
 // What host and firmware both see: a graph and its streams, and what lies on the ways of these.
 ghost use Rattle.std.specs.Prelude.{◌≡◌, ◌&&◌, ◌||◌, ◌++◌, not, map, find, option_copied, true, Some};
 ghost use Rattle.std.specs.List.{list_all, list_any};
-ghost use Rattle.stream_law.specs.Ways.{edge_of, source_of, sink_of, on_way as lies_on, is_live_phase, live as is_live, live_end as has_live_end, live_params as params_of, channels_of as samples_of, components, buffers, touch as has_common, same_shape as alike, agree as is_agreed};
+ghost use Rattle.stream_law.specs.Ways.{edge_of, source_of, sink_of, on_way as lies_on, is_live_phase, is_running_phase, live as is_live, active as is_active, live_end as has_live_end, live_params as params_of, channels_of as samples_of, components, buffers, touch as has_common, same_shape as alike, agree as is_agreed};
 ghost use Rattle.stream_law.specs.Seen.{flows as may_hold};
 ghost use Rattle.fw_core.specs.Answers.{are_others};
+ghost use Rattle.fw_core.specs.Marked.{first_on};
 ghost use Rattle.mbox_link.specs.Step.{is_complete as is_whole, is_ready_comp as is_comp_ready, is_ready_edge as is_edge_ready, set_stream};
 
+use crate::marks::{Mark, mark_of};
 use crate::{joins, kinds};
 use sof_base::Params;
 use std::marker::Model;
@@ -19,17 +21,23 @@ pub struct Scene<'a> {
     pub pipes: &'a [Pipe],
     pub joins: &'a [Join],
     pub streams: &'a [StreamView],
+    /// The ids that are marked with the first stream that is Running or Paused.
+    pub live: &'a [Mark],
+    /// The same with the first that is Running.
+    pub active: &'a [Mark],
 }
 
 impl<'a> Model for Scene<'a> {
     ghost use Rattle.stream_law.specs.Placed.{HasDistinct};
     ghost use Rattle.stream_law.specs.State.{View};
+    ghost use Rattle.stream_law.specs.Ways.{is_live_phase, is_running_phase};
+    ghost use Rattle.fw_core.specs.Marked.{scene_of, AreRight};
 
     ghost Value = { View };
 
-    ghost view = { λ a. record { graph = record { comps = a.comps.now; edges = a.edges.now; pipes = a.pipes.now; joins = a.joins.now }; streams = a.streams.now } };
+    ghost view = { λ a. scene_of a.comps.now a.edges.now a.pipes.now a.joins.now a.streams.now };
 
-    ghost invariant = { λ a. HasDistinct (λ e. e.buffer) a.edges.now };
+    ghost invariant = { λ a. HasDistinct (λ e. e.buffer) a.edges.now × AreRight is_live_phase (scene_of a.comps.now a.edges.now a.pipes.now a.joins.now a.streams.now) a.live.now × AreRight is_running_phase (scene_of a.comps.now a.edges.now a.pipes.now a.joins.now a.streams.now) a.active.now };
 }
 
 impl<'a> Scene<'a> {
@@ -46,7 +54,7 @@ impl<'a> Scene<'a> {
     pub fn live(&self, id: u32) -> bool
         ensures { result ≡ is_live self.now id }
     {
-        self.streams.iter().any(|stream| is_live_at(stream.phase) && self.on_way(stream.host, id))
+        self.live_stream(id).is_some()
     }
 
     /// Whether an end of an edge is there and Live.
@@ -69,11 +77,47 @@ impl<'a> Scene<'a> {
         }
     }
 
-    // A Live stream on whose way a component or a buffer is.
-    fn live_stream(&self, id: u32) -> Option<&StreamView>
-        ensures { option_copied result ≡ find (λ s. is_live_phase s.phase && lies_on self.now.graph s.host id) self.now.streams }
+    // The first stream that is Running or Paused on whose way a component or a buffer is.
+    fn live_stream(&self, id: u32) -> Option<StreamView>
+        ensures { result ≡ first_on is_live_phase self.now id }
+    {
+        match mark_of(self.live, id) {
+            Some(mark) => mark.found,
+            None => self.search_live(id).copied(),
+        }
+    }
+
+    // The same where it is not marked.
+    fn search_live(&self, id: u32) -> Option<&StreamView>
+        ensures { option_copied result ≡ first_on is_live_phase self.now id }
     {
         self.streams.iter().find(|stream| is_live_at(stream.phase) && self.on_way(stream.host, id))
+    }
+
+    /// Whether a component or a buffer is on the way of a stream that is Running.
+    #[tactic(auto, unfolding(stream_law::specs::Ways::active))]
+    pub fn active(&self, id: u32) -> bool
+        ensures { result ≡ is_active self.now id }
+    {
+        self.active_stream(id).is_some()
+    }
+
+    // The first stream that is Running on whose way a component or a buffer is.
+    fn active_stream(&self, id: u32) -> Option<StreamView>
+        ensures { result ≡ first_on is_running_phase self.now id }
+    {
+        match mark_of(self.active, id) {
+            Some(mark) => mark.found,
+            None => self.search_active(id).copied(),
+        }
+    }
+
+    // The same where it is not marked.
+    fn search_active(&self, id: u32) -> Option<&StreamView>
+        ensures { option_copied result ≡ first_on is_running_phase self.now id }
+    {
+        self.streams.iter().find(|stream| is_running_at(stream.phase)
+            && self.on_way(stream.host, id))
     }
 
     /// How many samples a frame has there; 0 where nothing is Live.
@@ -202,11 +246,18 @@ fn next_params(stream: StreamView, host: u32, params: Params) -> Option<Params>
     }
 }
 
-// Whether a stream of this phase is Running or Paused.
-fn is_live_at(phase: Phase) -> bool
+/// Whether a stream of this phase is Running or Paused.
+pub fn is_live_at(phase: Phase) -> bool
     ensures { result ≡ is_live_phase phase }
 {
     matches!(phase, Phase::Running | Phase::Paused)
+}
+
+/// Whether a stream of this phase is Running.
+pub fn is_running_at(phase: Phase) -> bool
+    ensures { result ≡ is_running_phase phase }
+{
+    matches!(phase, Phase::Running)
 }
 
 // One rate and one number of channels, where both streams have parameters.

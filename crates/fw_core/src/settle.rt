@@ -3,8 +3,10 @@ ghost use Rattle.std.specs.Prelude.{◌≡◌, ℕ, ◌<◌, ◌≤◌, map, len
 ghost use Rattle.stream_law.specs.Placed.{HasDistinct};
 ghost use Rattle.stream_law.specs.Ways.{channels_of};
 ghost use Rattle.fw_ring.specs.RingLists.{changed, ring_at};
+ghost use Rattle.fw_core.specs.Marked.{scene_of};
 ghost use Rattle.fw_core.specs.Settled.{settled, all_settled};
 
+use crate::marks::Marks;
 use crate::scene::Scene;
 use fw_ring::Rings;
 use stream_law::{Comp, Edge, Join, Pipe, StreamView};
@@ -27,20 +29,23 @@ pub fn settle_parts(
     pipes: &[Pipe],
     joins: &[Join],
     streams: &[StreamView],
+    marks: &mut Marks,
     rings: &mut Rings,
 )
     requires buffers { HasDistinct (λ e. e.buffer) edges.now }
     requires rings { map (λ r. r.buffer) rings.old.rings ≡ map (λ e. e.buffer) edges.now }
-    requires channels { (b : ℕ) → channels_of (record { graph = record { comps = comps.now; edges = edges.now; pipes = pipes.now; joins = joins.now }; streams = streams.now }) b ≤ 8 }
-    ensures { rings.new ≡ all_settled (record { graph = record { comps = comps.now; edges = edges.now; pipes = pipes.now; joins = joins.now }; streams = streams.now }) rings.old }
+    requires channels { (b : ℕ) → channels_of (scene_of comps.now edges.now pipes.now joins.now streams.now) b ≤ 8 }
+    ensures { rings.new ≡ all_settled (scene_of comps.now edges.now pipes.now joins.now streams.now) rings.old }
 {
-    let scene = Scene {
+    let scene = marks.over(Scene {
         comps,
         edges,
         pipes,
         joins,
         streams,
-    };
+        live: &[],
+        active: &[],
+    });
     settle(&scene, rings);
 }
 

@@ -13,6 +13,7 @@ mod running;
 mod streams;
 
 use crate::heap::Heap;
+use crate::marks::Marks;
 use crate::scene::Scene;
 use crate::table::Table;
 use fw_ring::Rings;
@@ -21,8 +22,8 @@ use std::alloc::Global;
 use std::marker::Model;
 use stream_law::{Comp, Edge, Join, Pipe, StreamView};
 
-/// Its heap, its clock in ticks, its graph, its streams and its rings, in memory for a heap of `room` bytes. A setting without
-/// items is made with `alloc`, which takes no memory.
+/// Its heap, its clock in ticks, its graph, its streams and its rings, in memory for a heap of `room` bytes, and room for marks of
+/// their ways. A setting without items is made with `alloc`, which takes no memory.
 #[derive(Drop)]
 pub struct State {
     alloc: Global,
@@ -35,6 +36,7 @@ pub struct State {
     joins: Vec<Join>,
     streams: Table<StreamView, 128>,
     rings: Rings,
+    marks: Marks,
 }
 
 impl Model for State {
@@ -64,6 +66,7 @@ impl State {
             joins: Vec::with_capacity(alloc, 256)?,
             streams: Table::new(alloc)?,
             rings: Rings::new(alloc, room)?,
+            marks: Marks::new(alloc)?,
         })
     }
 
@@ -107,6 +110,8 @@ impl State {
             pipes: self.pipes.records(),
             joins: self.joins.as_slice(),
             streams: self.streams.records(),
+            live: &[],
+            active: &[],
         }
     }
 }

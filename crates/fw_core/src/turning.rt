@@ -3,17 +3,17 @@ ghost use Rattle.std.specs.Prelude.{◌≡◌, ◌&&◌, ◌==◌, ◌≤◌, fi
 ghost use Rattle.std.specs.List.{list_any, position_or_len};
 ghost use Rattle.std.specs.Option.{option_map_or};
 ghost use Rattle.stream_law.specs.Placed.{HasDistinct};
-ghost use Rattle.stream_law.specs.Ways.{comp_of, edge_of, pipe_of, ins, is_end, is_running_phase, on_way as lies_on, active as is_active, active_end as has_active_end, live_params as params_of, rate_of, channels_of};
+ghost use Rattle.stream_law.specs.Ways.{comp_of, edge_of, pipe_of, ins, is_end, is_running_phase, active_end as has_active_end, live_params as params_of, rate_of, channels_of};
 ghost use Rattle.stream_law.specs.Moves.{capacity as room_of, period as period_of, quota as quota_of, fed as is_fed_by, fed_by};
 ghost use Rattle.stream_law.specs.Endpoints.{stream_format as format_of_stream, format_of as format_at};
 ghost use Rattle.fw_schedule.specs.Turns.{place_of, turn_at as has_turn_at, turn_of as has_turn};
 ghost use Rattle.fw_schedule.specs.TurnLaws.{HasBounds, fits_if_active};
 
 use crate::joins::is_at;
-use crate::scene::Scene;
+use crate::scene::{Scene, is_running_at};
 use fw_schedule::{Action, Turn};
 use sof_base::{Format, Params};
-use stream_law::{Comp, Edge, Kind, Phase, Pipe, StreamView};
+use stream_law::{Comp, Edge, Kind, Pipe, StreamView};
 
 impl<'a> Scene<'a> {
     /// Whether a stream is Running.
@@ -69,15 +69,6 @@ impl<'a> Scene<'a> {
             }),
             None => None,
         }
-    }
-
-    /// Whether a component or a buffer is on the way of a Running stream.
-    #[tactic(auto, unfolding(stream_law::specs::Ways::active))]
-    pub fn active(&self, id: u32) -> bool
-        ensures { result ≡ is_active self.now id }
-    {
-        self.streams.iter().any(|stream| is_running_at(stream.phase)
-            && self.on_way(stream.host, id))
     }
 
     /// Whether an end of an edge is there and Active.
@@ -257,11 +248,4 @@ fn format_in(params: Option<Params>) -> Format
         Some(params) => params.format,
         None => Format::S32,
     }
-}
-
-// Whether a stream of this phase is Running.
-fn is_running_at(phase: Phase) -> bool
-    ensures { result ≡ is_running_phase phase }
-{
-    matches!(phase, Phase::Running)
 }

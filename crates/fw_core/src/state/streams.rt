@@ -137,6 +137,7 @@ impl State {
             self.pipes.records(),
             self.joins.as_slice(),
             self.streams.records(),
+            &mut self.marks,
             &mut self.rings,
         );
     }
@@ -154,6 +155,7 @@ impl State {
             self.pipes.records(),
             self.joins.as_slice(),
             self.streams.records(),
+            &mut self.marks,
             &mut self.rings,
         );
     }

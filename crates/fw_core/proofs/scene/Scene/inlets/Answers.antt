@@ -8,7 +8,7 @@ use Rattle.fw_core.proofs.scene.Scene.inlets.Goals.{then-is_inlet, else-is_inlet
 pub loop-place-init : goal.loop-place-init
 loop-place-init c = record {
   room = refl;
-  few = let most = inlets-few c.args.self.now c.args.comp.now c.self.inside.edges.now (ap (λ (v : View). v.graph.edges) c.self.view_is) c.self.invariant c.requires.there in omega (arith, most, c.requires.few);
+  few = let most = inlets-few c.args.self.now c.args.comp.now c.self.inside.edges.now (ap (λ (v : View). v.graph.edges) c.self.view_is) c.self.invariant.0 c.requires.there in omega (arith, most, c.requires.few);
   so_far = refl;
 }
 
@@ -69,4 +69,4 @@ pub returns-in-Some : goal.returns-in-Some
 returns-in-Some c =
     kept-is _ (take c.loop-place.count c.loop-place.places) c.in-Some.places (sym c.in-Some.is ∙ c.new.ensures)
     ∙ spots-all (is_inlet c.args.self.now c.args.comp.now) _ _ c.loop-place.place c.self.inside.edges.now c.loop-place-test.false c.loop-place.invariant.so_far
-    ∙ inlets-of c.args.self.now c.args.comp.now c.self.inside.edges.now (ap (λ (v : View). v.graph.edges) c.self.view_is) c.self.invariant c.requires.there
+    ∙ inlets-of c.args.self.now c.args.comp.now c.self.inside.edges.now (ap (λ (v : View). v.graph.edges) c.self.view_is) c.self.invariant.0 c.requires.there

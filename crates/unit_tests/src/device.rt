@@ -26,30 +26,20 @@ fn reply_to(alloc: Global, firmware: &mut Firmware, request: &[u8]) -> Result<[u
     Ok(front)
 }
 
-// Sends a message that is done.
-fn send(alloc: Global, firmware: &mut Firmware, message: &Message) -> Result<(), Fail> {
+// What it answers to a message.
+fn answer(alloc: Global, firmware: &mut Firmware, message: &Message) -> Result<[u8; 12], Fail> {
     let mut request = [0; 384];
     let size = encode(message, &mut request);
-    if reply_to(alloc, firmware, &request[..size])? == DONE {
+    reply_to(alloc, firmware, &request[..size])
+}
+
+// Sends a message that is done.
+fn send(alloc: Global, firmware: &mut Firmware, message: &Message) -> Result<(), Fail> {
+    if answer(alloc, firmware, message)? == DONE {
         Ok(())
     } else {
         Err("refused")?
     }
-}
-
-// What it answers to each message.
-fn replies_to(
-    alloc: Global,
-    firmware: &mut Firmware,
-    messages: &[Message],
-) -> Result<Vec<[u8; 12]>, Fail> {
-    let mut replies = Vec::new(alloc);
-    for message in messages {
-        let mut request = [0; 384];
-        let size = encode(message, &mut request);
-        replies.push(reply_to(alloc, firmware, &request[..size])?)?;
-    }
-    Ok(replies)
 }
 
 fn host(id: u32) -> Message {
@@ -105,44 +95,70 @@ const NO_MEMORY: [u8; 12] = [12, 0, 0, 0, 0, 0, 0, 0x10, 0xf4, 0xff, 0xff, 0xff]
 
 const INVALID: [u8; 12] = [12, 0, 0, 0, 0, 0, 0, 0x10, 0xea, 0xff, 0xff, 0xff];
 
+// A device with a heap of so many bytes.
+fn booted(alloc: Global, heap: u32) -> Result<Firmware, Fail> {
+    let mut firmware = Firmware::new(alloc, 4096)?;
+    if heap <= 4096 {
+        firmware.boot(heap);
+    }
+    Ok(firmware)
+}
+
 #[test]
 fn bytes_that_are_no_message_are_not_valid(rt: HostRuntime) -> Result<(), Fail> {
-    let mut firmware = Firmware::new(rt.alloc(), 992)?;
-    firmware.boot(992);
+    let mut firmware = booted(rt.alloc(), 992)?;
     let request = [
         20, 0, 0, 0, 0, 0, 1, 0x30, 0, 0, 0, 0, 1, 0, 0, 0, 1, 0, 0, 0,
     ];
-    assert_eq!(rt; reply_to(rt.alloc(), &mut firmware, &request)?, INVALID);
+    let reply = reply_to(rt.alloc(), &mut firmware, &request)?;
+    assert_eq!(rt; reply, INVALID);
     assert_eq!(rt; firmware.used(), 0);
     Ok(())
 }
 
+// A buffer between two components.
+fn join(
+    alloc: Global,
+    firmware: &mut Firmware,
+    source: u32,
+    id: u32,
+    sink: u32,
+) -> Result<(), Fail> {
+    send(alloc, firmware, &buffer(id))?;
+    send(alloc, firmware, &Message::Connect { source, sink: id })?;
+    send(alloc, firmware, &Message::Connect { source: id, sink })
+}
+
+// A host and a DAI with a buffer between them, in a complete pipeline.
+fn thin(alloc: Global, firmware: &mut Firmware) -> Result<(), Fail> {
+    send(alloc, firmware, &host(0))?;
+    send(alloc, firmware, &dai(2))?;
+    join(alloc, firmware, 0, 1, 2)?;
+    send(alloc, firmware, &pipeline(3, 2))?;
+    send(alloc, firmware, &Message::PipeComplete { id: 3 })
+}
+
 #[test]
 fn one_stream_fits_in_992_bytes(rt: HostRuntime) -> Result<(), Fail> {
-    let mut firmware = Firmware::new(rt.alloc(), 992)?;
-    firmware.boot(992);
-    let messages = [
-        host(0),
-        buffer(1),
-        dai(2),
-        pipeline(3, 2),
-        Message::Connect { source: 0, sink: 1 },
-        Message::Connect { source: 1, sink: 2 },
-        Message::PipeComplete { id: 3 },
-    ];
-    let replies = replies_to(rt.alloc(), &mut firmware, &messages)?;
-    assert!(rt; replies.as_slice() == [DONE; 7].as_slice());
+    let mut firmware = booted(rt.alloc(), 992)?;
+    thin(rt.alloc(), &mut firmware)?;
     assert_eq!(rt; firmware.used(), 992);
     Ok(())
 }
 
+// What a pipeline is answered behind a host, a buffer and a DAI.
+fn pipeline_last(alloc: Global, firmware: &mut Firmware) -> Result<[u8; 12], Fail> {
+    send(alloc, firmware, &host(0))?;
+    send(alloc, firmware, &buffer(1))?;
+    send(alloc, firmware, &dai(2))?;
+    answer(alloc, firmware, &pipeline(3, 2))
+}
+
 #[test]
 fn its_pipeline_does_not_fit_in_976_bytes(rt: HostRuntime) -> Result<(), Fail> {
-    let mut firmware = Firmware::new(rt.alloc(), 992)?;
-    firmware.boot(976);
-    let messages = [host(0), buffer(1), dai(2), pipeline(3, 2)];
-    let replies = replies_to(rt.alloc(), &mut firmware, &messages)?;
-    assert!(rt; replies.as_slice() == [DONE, DONE, DONE, NO_MEMORY].as_slice());
+    let mut firmware = booted(rt.alloc(), 976)?;
+    let last = pipeline_last(rt.alloc(), &mut firmware)?;
+    assert_eq!(rt; last, NO_MEMORY);
     assert_eq!(rt; firmware.used(), 928);
     Ok(())
 }
@@ -160,61 +176,69 @@ fn stereo(host: u32) -> Message {
     }
 }
 
-// A firmware with one playback stream that has these.
-fn prepared(alloc: Global) -> Result<Firmware, Fail> {
-    let mut firmware = Firmware::new(alloc, 992)?;
-    firmware.boot(992);
-    let messages = [
-        host(0),
-        buffer(1),
-        dai(2),
-        pipeline(3, 2),
-        Message::Connect { source: 0, sink: 1 },
-        Message::Connect { source: 1, sink: 2 },
-        Message::PipeComplete { id: 3 },
-        stereo(0),
-    ];
-    let _replies = replies_to(alloc, &mut firmware, &messages)?;
-    Ok(firmware)
-}
-
-// What a tick writes to the DAI.
-fn ticked(alloc: Global, firmware: &mut Firmware, io: &mut Inputs) -> Result<Vec<u8>, Fail> {
+// The length of what a tick writes to the DAI, in bytes, and its front.
+fn ticked(
+    alloc: Global,
+    firmware: &mut Firmware,
+    io: &mut Inputs,
+) -> Result<(usize, [u8; 12]), Fail> {
     let mut out = Outputs::new(alloc)?;
     out.add(2)?;
     firmware.tick(io, &mut out);
-    Ok(Vec::from_slice(alloc, out.bytes(2))?)
+    let bytes = out.bytes(2);
+    let mut front = [0; 12];
+    if 12 <= bytes.len() {
+        front.copy_from_slice(&bytes[..12]);
+    }
+    Ok((bytes.len(), front))
+}
+
+// An input of a host.
+fn input(alloc: Global, host: u32, bytes: &[u8]) -> Result<Inputs, Fail> {
+    let mut io = Inputs::new(alloc)?;
+    io.add(host, Vec::from_slice(alloc, bytes)?)?;
+    Ok(io)
+}
+
+// A tick before a stream starts, one while it runs, and one behind its stop.
+fn three_ticks(
+    alloc: Global,
+    firmware: &mut Firmware,
+    io: &mut Inputs,
+) -> Result<[(usize, [u8; 12]); 3], Fail> {
+    thin(alloc, firmware)?;
+    send(alloc, firmware, &stereo(0))?;
+    let before = ticked(alloc, firmware, io)?;
+    send(alloc, firmware, &Message::TrigStart { id: 0 })?;
+    let running = ticked(alloc, firmware, io)?;
+    send(alloc, firmware, &Message::TrigStop { id: 0 })?;
+    send(alloc, firmware, &Message::PcmFree { id: 0 })?;
+    let after = ticked(alloc, firmware, io)?;
+    Ok([before, running, after])
 }
 
 #[test]
 fn a_stream_runs_from_its_start_to_its_stop(rt: HostRuntime) -> Result<(), Fail> {
-    let mut firmware = prepared(rt.alloc())?;
-    let mut io = Inputs::new(rt.alloc())?;
-    io.add(0, vec![in rt.alloc(); 1, 2, 3, 4, 5]?)?;
-    let before = ticked(rt.alloc(), &mut firmware, &mut io)?;
-    assert_eq!(rt; before.len(), 0);
-    let start = [Message::TrigStart { id: 0 }];
-    let replies = replies_to(rt.alloc(), &mut firmware, &start)?;
-    assert!(rt; replies.as_slice() == [DONE].as_slice());
-    let running = ticked(rt.alloc(), &mut firmware, &mut io)?;
-    assert_eq!(rt; running.len(), 384);
-    let front = [0, 0, 1, 2, 0, 0, 3, 4, 0, 0, 5, 0];
-    assert_eq!(rt; running.get(..12), Some(front.as_slice()));
-    let stop = [Message::TrigStop { id: 0 }, Message::PcmFree { id: 0 }];
-    let replies = replies_to(rt.alloc(), &mut firmware, &stop)?;
-    assert!(rt; replies.as_slice() == [DONE; 2].as_slice());
-    let after = ticked(rt.alloc(), &mut firmware, &mut io)?;
-    assert_eq!(rt; after.len(), 0);
+    let mut io = input(rt.alloc(), 0, &[1, 2, 3, 4, 5])?;
+    let mut firmware = booted(rt.alloc(), 992)?;
+    let [before, running, after] = three_ticks(rt.alloc(), &mut firmware, &mut io)?;
+    assert_eq!(rt; before.0, 0);
+    assert_eq!(rt; running, (384, [0, 0, 1, 2, 0, 0, 3, 4, 0, 0, 5, 0]));
+    assert_eq!(rt; after.0, 0);
     Ok(())
+}
+
+// What a start is answered behind a host alone.
+fn start_of_a_host(alloc: Global, firmware: &mut Firmware) -> Result<[u8; 12], Fail> {
+    send(alloc, firmware, &host(0))?;
+    answer(alloc, firmware, &Message::TrigStart { id: 0 })
 }
 
 #[test]
 fn a_stream_that_is_not_prepared_does_not_start(rt: HostRuntime) -> Result<(), Fail> {
-    let mut firmware = Firmware::new(rt.alloc(), 992)?;
-    firmware.boot(992);
-    let messages = [host(0), Message::TrigStart { id: 0 }];
-    let replies = replies_to(rt.alloc(), &mut firmware, &messages)?;
-    assert!(rt; replies.as_slice() == [DONE, INVALID].as_slice());
+    let mut firmware = booted(rt.alloc(), 992)?;
+    let reply = start_of_a_host(rt.alloc(), &mut firmware)?;
+    assert_eq!(rt; reply, INVALID);
     Ok(())
 }
 
@@ -249,85 +273,72 @@ fn gains_of(alloc: Global, firmware: &mut Firmware, id: u32) -> Result<[u8; 16],
     Ok(gains)
 }
 
+// A volume's gains at first, and once they are set; what a value of another command is answered.
+fn two_gains(
+    alloc: Global,
+    firmware: &mut Firmware,
+) -> Result<([u8; 16], [u8; 16], [u8; 12]), Fail> {
+    send(alloc, firmware, &volume(7))?;
+    let first = gains_of(alloc, firmware, 7)?;
+    let half = Message::SetValue {
+        id: 7,
+        command: 0,
+        values: Bounded::new(&[32768, 3]).unwrap_or(Bounded::empty()),
+    };
+    send(alloc, firmware, &half)?;
+    let second = gains_of(alloc, firmware, 7)?;
+    let other = answer(alloc, firmware, &Message::GetValue { id: 7, command: 1 })?;
+    Ok((first, second, other))
+}
+
+// What its value is answered before it is freed, and behind that.
+fn freed(alloc: Global, firmware: &mut Firmware) -> Result<([u8; 12], [u8; 12]), Fail> {
+    let there = answer(alloc, firmware, &Message::GetValue { id: 7, command: 0 })?;
+    send(alloc, firmware, &Message::CompFree { id: 7 })?;
+    let gone = answer(alloc, firmware, &Message::GetValue { id: 7, command: 0 })?;
+    Ok((there, gone))
+}
+
 #[test]
 fn the_gains_of_a_volume_are_set_and_got_until_it_is_freed(rt: HostRuntime) -> Result<(), Fail> {
-    let mut firmware = Firmware::new(rt.alloc(), 992)?;
-    firmware.boot(992);
-    let replies = replies_to(rt.alloc(), &mut firmware, &[volume(7)])?;
-    assert!(rt; replies.as_slice() == [DONE].as_slice());
-    let first = gains_of(rt.alloc(), &mut firmware, 7)?;
+    let mut firmware = booted(rt.alloc(), 992)?;
+    let (first, second, other) = two_gains(rt.alloc(), &mut firmware)?;
     assert!(rt; first == [0, 0, 0, 0, 0, 0, 1, 0, 1, 0, 0, 0, 0, 0, 1, 0]);
-    let messages = [
-        Message::SetValue {
-            id: 7,
-            command: 0,
-            values: Bounded::new(&[32768, 3]).unwrap_or(Bounded::empty()),
-        },
-        Message::GetValue { id: 7, command: 0 },
-        Message::GetValue { id: 7, command: 1 },
-    ];
-    let replies = replies_to(rt.alloc(), &mut firmware, &messages)?;
-    assert!(rt; replies.as_slice() == [DONE, TWO_VALUES, INVALID].as_slice());
-    let second = gains_of(rt.alloc(), &mut firmware, 7)?;
     assert!(rt; second == [0, 0, 0, 0, 0, 0x80, 0, 0, 1, 0, 0, 0, 3, 0, 0, 0]);
+    assert_eq!(rt; other, INVALID);
     assert_eq!(rt; firmware.used(), 64);
-    let messages = [
-        Message::CompFree { id: 7 },
-        Message::GetValue { id: 7, command: 0 },
-    ];
-    let replies = replies_to(rt.alloc(), &mut firmware, &messages)?;
-    assert!(rt; replies.as_slice() == [DONE, NO_DEVICE].as_slice());
+    let (there, gone) = freed(rt.alloc(), &mut firmware)?;
+    assert_eq!(rt; there, TWO_VALUES);
+    assert_eq!(rt; gone, NO_DEVICE);
     assert_eq!(rt; firmware.used(), 0);
     Ok(())
 }
 
-// A firmware with a host, a volume and a DAI in a row.
-fn through(alloc: Global) -> Result<Firmware, Fail> {
-    let mut firmware = Firmware::new(alloc, 1856)?;
-    firmware.boot(1856);
-    let messages = [
-        host(0),
-        buffer(1),
-        volume(4),
-        buffer(5),
-        dai(2),
-        pipeline(3, 2),
-        Message::Connect { source: 0, sink: 1 },
-        Message::Connect { source: 1, sink: 4 },
-        Message::Connect { source: 4, sink: 5 },
-        Message::Connect { source: 5, sink: 2 },
-        Message::PipeComplete { id: 3 },
-    ];
-    let _replies = replies_to(alloc, &mut firmware, &messages)?;
-    Ok(firmware)
+// A host, a volume and a DAI in a row, and a tick of their stream.
+fn through(
+    alloc: Global,
+    firmware: &mut Firmware,
+    io: &mut Inputs,
+) -> Result<(usize, [u8; 12]), Fail> {
+    send(alloc, firmware, &host(0))?;
+    send(alloc, firmware, &volume(4))?;
+    send(alloc, firmware, &dai(2))?;
+    send(alloc, firmware, &pipeline(3, 2))?;
+    join(alloc, firmware, 0, 1, 4)?;
+    join(alloc, firmware, 4, 5, 2)?;
+    send(alloc, firmware, &Message::PipeComplete { id: 3 })?;
+    send(alloc, firmware, &stereo(0))?;
+    send(alloc, firmware, &Message::TrigStart { id: 0 })?;
+    ticked(alloc, firmware, io)
 }
 
 #[test]
 fn a_stream_goes_through_a_volume(rt: HostRuntime) -> Result<(), Fail> {
-    let mut firmware = through(rt.alloc())?;
-    let start = [stereo(0), Message::TrigStart { id: 0 }];
-    let replies = replies_to(rt.alloc(), &mut firmware, &start)?;
-    assert!(rt; replies.as_slice() == [DONE; 2].as_slice());
-    let mut io = Inputs::new(rt.alloc())?;
-    io.add(0, vec![in rt.alloc(); 0xff, 0x7f]?)?;
-    let running = ticked(rt.alloc(), &mut firmware, &mut io)?;
-    assert_eq!(rt; running.len(), 384);
-    let front = [0, 0, 0xff, 0x7f, 0, 0, 0, 0];
-    assert_eq!(rt; running.get(..8), Some(front.as_slice()));
+    let mut io = input(rt.alloc(), 0, &[0xff, 0x7f])?;
+    let mut firmware = booted(rt.alloc(), 1856)?;
+    let running = through(rt.alloc(), &mut firmware, &mut io)?;
+    assert_eq!(rt; running, (384, [0, 0, 0xff, 0x7f, 0, 0, 0, 0, 0, 0, 0, 0]));
     Ok(())
-}
-
-// A buffer between two components.
-fn join(
-    alloc: Global,
-    firmware: &mut Firmware,
-    source: u32,
-    id: u32,
-    sink: u32,
-) -> Result<(), Fail> {
-    send(alloc, firmware, &buffer(id))?;
-    send(alloc, firmware, &Message::Connect { source, sink: id })?;
-    send(alloc, firmware, &Message::Connect { source: id, sink })
 }
 
 // A mixer.
@@ -351,18 +362,24 @@ fn parts(alloc: Global, firmware: &mut Firmware) -> Result<(), Fail> {
     send(alloc, firmware, &pipeline(3, 2))
 }
 
-// A firmware with two hosts that a mixer takes frames from, and a DAI that it feeds.
-fn together(alloc: Global) -> Result<Firmware, Fail> {
-    let mut firmware = Firmware::new(alloc, 4096)?;
-    firmware.boot(4096);
-    parts(alloc, &mut firmware)?;
-    join(alloc, &mut firmware, 0, 1, 4)?;
-    join(alloc, &mut firmware, 6, 7, 4)?;
-    join(alloc, &mut firmware, 4, 5, 2)?;
-    send(alloc, &mut firmware, &Message::PipeComplete { id: 3 })?;
-    send(alloc, &mut firmware, &stereo(0))?;
-    send(alloc, &mut firmware, &stereo(6))?;
-    Ok(firmware)
+// Two hosts that a mixer takes frames from, and a DAI that it feeds: a tick of the first alone, and one of both.
+fn together(
+    alloc: Global,
+    firmware: &mut Firmware,
+    io: &mut Inputs,
+) -> Result<[(usize, [u8; 12]); 2], Fail> {
+    parts(alloc, firmware)?;
+    join(alloc, firmware, 0, 1, 4)?;
+    join(alloc, firmware, 6, 7, 4)?;
+    join(alloc, firmware, 4, 5, 2)?;
+    send(alloc, firmware, &Message::PipeComplete { id: 3 })?;
+    send(alloc, firmware, &stereo(0))?;
+    send(alloc, firmware, &stereo(6))?;
+    send(alloc, firmware, &Message::TrigStart { id: 0 })?;
+    let alone = ticked(alloc, firmware, io)?;
+    send(alloc, firmware, &Message::TrigStart { id: 6 })?;
+    let both = ticked(alloc, firmware, io)?;
+    Ok([alone, both])
 }
 
 // Two ticks of 16-bit samples of two channels, all with this value.
@@ -374,21 +391,20 @@ fn samples(alloc: Global, value: u16) -> Result<Vec<u8>, Fail> {
     Ok(bytes)
 }
 
+// The inputs of both.
+fn inputs(alloc: Global) -> Result<Inputs, Fail> {
+    let mut io = Inputs::new(alloc)?;
+    io.add(0, samples(alloc, 1000)?)?;
+    io.add(6, samples(alloc, 1)?)?;
+    Ok(io)
+}
+
 #[test]
 fn a_mixer_adds_the_streams_that_run(rt: HostRuntime) -> Result<(), Fail> {
-    let mut firmware = together(rt.alloc())?;
-    let mut io = Inputs::new(rt.alloc())?;
-    io.add(0, samples(rt.alloc(), 1000)?)?;
-    io.add(6, samples(rt.alloc(), 1)?)?;
-    let first = [Message::TrigStart { id: 0 }];
-    let replies = replies_to(rt.alloc(), &mut firmware, &first)?;
-    assert!(rt; replies.as_slice() == [DONE].as_slice());
-    let alone = ticked(rt.alloc(), &mut firmware, &mut io)?;
-    assert_eq!(rt; alone.get(..4), Some([0, 0, 0xe8, 0x03].as_slice()));
-    let second = [Message::TrigStart { id: 6 }];
-    let replies = replies_to(rt.alloc(), &mut firmware, &second)?;
-    assert!(rt; replies.as_slice() == [DONE].as_slice());
-    let both = ticked(rt.alloc(), &mut firmware, &mut io)?;
-    assert_eq!(rt; both.get(..4), Some([0, 0, 0xe9, 0x03].as_slice()));
+    let mut io = inputs(rt.alloc())?;
+    let mut firmware = booted(rt.alloc(), 4096)?;
+    let [alone, both] = together(rt.alloc(), &mut firmware, &mut io)?;
+    assert_eq!(rt; alone.1, [0, 0, 0xe8, 3, 0, 0, 0xe8, 3, 0, 0, 0xe8, 3]);
+    assert_eq!(rt; both.1, [0, 0, 0xe9, 3, 0, 0, 0xe9, 3, 0, 0, 0xe9, 3]);
     Ok(())
 }

@@ -45,4 +45,6 @@ pub mod Silent
 pub mod Seeking
 pub mod Backwards
 pub mod Marking
+pub mod Listing
 pub mod OneWay
+pub mod Passing

@@ -1,6 +1,8 @@
 -- Marks along walks, and for many streams.
-use Rattle.std.proofs.Common.{◌≡◌, refl, sym, ap, ◌∙◌, subst, ℕ, suc, ◌+◌, ◌<◌, ◌≤◌, List, [], ◌∷◌, map, filter, find, length, drop, get_or, set, Bool, true, false, cond, ◌==◌, ◌||◌, Option, None, Some, option_map, is_some}
-use Rattle.std.proofs.lemmas.List.{drop_more, drop_all, set-get_or}
+use Rattle.std.proofs.Common.{◌≡◌, refl, sym, ap, ◌∙◌, subst, ℕ, suc, ◌+◌, ◌<◌, ◌≤◌, List, [], ◌∷◌, map, filter, find, length, take, drop, get_or, set, Bool, true, false, cond, ◌==◌, ◌||◌, Option, None, Some, option_map, is_some}
+use Rattle.std.proofs.lemmas.List.{drop_more, drop_all, take_more, take_all, set-get_or}
+use Rattle.std.proofs.lemmas.List.Folds.{find-append}
+use Rattle.std.specs.Option.{option_or}
 use Rattle.std.specs.Prelude.{if◌then◌else◌}
 use Rattle.std.proofs.lemmas.Bool.{eqb-true, eq-eqb, ne_eqb}
 use Rattle.std.specs.List.{list_any}
@@ -85,16 +87,7 @@ before-first joins n to s old new marks =
     ∙ sym (both-marks (λ x. x == to) rest s old)
     ∙ ap (map (marked rest s)) (sym marks)
 
--- ---- many streams
-
--- what was found, or else this
-abbrev pub later : Option StreamView → Option StreamView → Option StreamView
-later None g = g
-later (Some t) g = Some t
-
--- an id with the first of these streams, unless it has one
-abbrev pub with-first : (StreamView → ℕ → Bool) → List StreamView → Mark → Mark
-with-first on ss m = record { id = m.id; found = later m.found (find (λ s. on s m.id) ss) }
+-- ---- marks changed one by one
 
 each-mark : (f g : Mark → Mark) (ms : List Mark) → ((m : Mark) → f m ≡ g m) → map f ms ≡ map g ms
 each-mark f g [] eq = refl
@@ -104,47 +97,49 @@ twice-mapped : (f g : Mark → Mark) (ms : List Mark) → map f (map g ms) ≡ m
 twice-mapped f g [] = refl
 twice-mapped f g (m ∷ ms) = ap (λ (rest : List Mark). f (g m) ∷ rest) (twice-mapped f g ms)
 
--- what all streams mark where no id has one
-pub streams-first : (on : StreamView → ℕ → Bool) (ss : List StreamView) (ms : List Mark) → ms ≡ map (λ m. record { id = m.id; found = None }) ms → map (λ m. record { id = m.id; found = find (λ s. on s m.id) ss }) ms ≡ map (with-first on ss) ms
-streams-first on ss ms bare = sym (ap (map (with-first on ss)) bare ∙ twice-mapped (with-first on ss) (λ m. record { id = m.id; found = None }) ms)
+-- ---- many streams
 
-one-later : (here : Bool) (s : StreamView) (f rest : Option StreamView) → later f (cond here (Some s) rest) ≡ later (if here then or_this s f else f) rest
-one-later true s None rest = refl
-one-later true s (Some t) rest = refl
-one-later false s f rest = refl
+-- an id with the first of these streams
+abbrev pub first-of : (StreamView → ℕ → Bool) → List StreamView → Mark → Mark
+first-of on ss m = record { id = m.id; found = find (λ s. on s m.id) ss }
 
--- a stream that passes
-pub streams-more : (on : StreamView → ℕ → Bool) (p : ℕ → Bool) (ss : List StreamView) (i : ℕ) (d : StreamView) (ms new : List Mark) → i < length ss → ((x : ℕ) → on (get_or ss i d) x ≡ p x) → new ≡ map (marked p (get_or ss i d)) ms → map (with-first on (drop i ss)) ms ≡ map (with-first on (drop (i + 1) ss)) new
-streams-more on p ss i d ms new below same marks =
-    each-mark _ (λ m. with-first on (drop (i + 1) ss) (marked p (get_or ss i d) m)) ms (λ m.
-    ap (λ (rest : List StreamView). record { id = m.id; found = later m.found (find (λ s. on s m.id) rest) }) (drop_more ss i d below)
-    ∙ ap (λ (h : Bool). record { id = m.id; found = later m.found (cond h (Some (get_or ss i d)) (find (λ s. on s m.id) (drop (i + 1) ss))) }) (same m.id)
-    ∙ ap (λ (f : Option StreamView). record { id = m.id; found = f }) (one-later (p m.id) (get_or ss i d) m.found (find (λ s. on s m.id) (drop (i + 1) ss))))
-    ∙ sym (twice-mapped (with-first on (drop (i + 1) ss)) (marked p (get_or ss i d)) ms)
-    ∙ ap (map (with-first on (drop (i + 1) ss))) (sym marks)
+last-found : (here : Bool) (s : StreamView) (f : Option StreamView) → (if here then or_this s f else f) ≡ option_or f (cond here (Some s) None)
+last-found true s None = refl
+last-found true s (Some t) = refl
+last-found false s None = refl
+last-found false s (Some t) = refl
 
--- one that doesn't
-pub streams-less : (on : StreamView → ℕ → Bool) (ss : List StreamView) (i : ℕ) (d : StreamView) (ms : List Mark) → i < length ss → ((x : ℕ) → on (get_or ss i d) x ≡ false) → map (with-first on (drop i ss)) ms ≡ map (with-first on (drop (i + 1) ss)) ms
-streams-less on ss i d ms below same =
-    each-mark _ _ ms (λ m.
-    ap (λ (rest : List StreamView). record { id = m.id; found = later m.found (find (λ s. on s m.id) rest) }) (drop_more ss i d below)
-    ∙ ap (λ (h : Bool). record { id = m.id; found = later m.found (cond h (Some (get_or ss i d)) (find (λ s. on s m.id) (drop (i + 1) ss))) }) (same m.id))
+-- one more stream
+pub streams-more : (on : StreamView → ℕ → Bool) (p : ℕ → Bool) (ss : List StreamView) (i : ℕ) (d : StreamView) (old ms new : List Mark) → i < length ss → ((x : ℕ) → on (get_or ss i d) x ≡ p x) → ms ≡ map (first-of on (take i ss)) old → new ≡ map (marked p (get_or ss i d)) ms → new ≡ map (first-of on (take (i + 1) ss)) old
+streams-more on p ss i d old ms new below same so_far marks =
+    marks
+    ∙ ap (map (marked p s)) so_far
+    ∙ twice-mapped (marked p s) (first-of on (take i ss)) old
+    ∙ each-mark (λ m. marked p s (first-of on (take i ss) m)) (first-of on (take (i + 1) ss)) old (λ m. ap (λ (f : Option StreamView). let r : Mark = record { id = m.id; found = f } in r) (one m))
+  where
+    s : StreamView
+    s = get_or ss i d
 
-later-none : (f : Option StreamView) → later f None ≡ f
-later-none None = refl
-later-none (Some t) = refl
+    one : (m : Mark) → (if p m.id then or_this s (find (λ s. on s m.id) (take i ss)) else find (λ s. on s m.id) (take i ss)) ≡ find (λ s. on s m.id) (take (i + 1) ss)
+    one m =
+        last-found (p m.id) s (find (λ s. on s m.id) (take i ss))
+        ∙ ap (λ (h : Bool). option_or (find (λ s. on s m.id) (take i ss)) (cond h (Some s) None)) (sym (same m.id))
+        ∙ sym (find-append (λ s. on s m.id) (take i ss) (s ∷ []))
+        ∙ ap (find (λ s. on s m.id)) (sym (take_more ss i d below))
 
-map-same : (ms : List Mark) → map (λ (m : Mark). m) ms ≡ ms
-map-same [] = refl
-map-same (m ∷ ms) = ap (λ (rest : List Mark). m ∷ rest) (map-same ms)
+-- one that marks nothing
+pub streams-less : (on : StreamView → ℕ → Bool) (ss : List StreamView) (i : ℕ) (d : StreamView) (old ms new : List Mark) → i < length ss → ((x : ℕ) → on (get_or ss i d) x ≡ false) → ms ≡ map (first-of on (take i ss)) old → new ≡ ms → new ≡ map (first-of on (take (i + 1) ss)) old
+streams-less on ss i d old ms new below same so_far is = streams-more on (λ x. false) ss i d old ms new below same so_far (is ∙ sym (no-marks (get_or ss i d) ms))
 
--- at the end each has its first
-pub streams-all : (on : StreamView → ℕ → Bool) (ss : List StreamView) (i : ℕ) (old ms : List Mark) → length ss ≤ i → map (λ m. record { id = m.id; found = find (λ s. on s m.id) ss }) old ≡ map (with-first on (drop i ss)) ms → ms ≡ map (λ m. record { id = m.id; found = find (λ s. on s m.id) ss }) ms
-streams-all on ss i old ms over so_far =
-    let first : Mark → Mark = λ m. record { id = m.id; found = find (λ s. on s m.id) ss } in
-    let is : ms ≡ map first old =
-    sym (so_far ∙ ap (λ (rest : List StreamView). map (with-first on rest) ms) (drop_all i ss over) ∙ each-mark (with-first on []) (λ m. m) ms (λ m. ap (λ (f : Option StreamView). record { id = m.id; found = f }) (later-none m.found)) ∙ map-same ms) in
-    is ∙ sym (twice-mapped first first old) ∙ ap (map first) (sym is)
+-- all of them
+pub streams-all : (on : StreamView → ℕ → Bool) (ss : List StreamView) (i : ℕ) (old ms : List Mark) → length ss ≤ i → ms ≡ map (first-of on (take i ss)) old → ms ≡ map (first-of on ss) old
+streams-all on ss i old ms over so_far = so_far ∙ ap (λ (ts : List StreamView). map (first-of on ts) old) (take_all i ss over)
+
+-- so each id has its first
+pub each-own : (f : ℕ → Option StreamView) (old ms : List Mark) → ms ≡ map (λ m. record { id = m.id; found = f m.id }) old → ms ≡ map (λ m. record { id = m.id; found = f m.id }) ms
+each-own f old ms is =
+    let own : Mark → Mark = λ m. record { id = m.id; found = f m.id } in
+    is ∙ sym (twice-mapped own own old) ∙ ap (map own) (sym is)
 
 -- ---- looking up
 

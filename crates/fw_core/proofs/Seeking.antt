@@ -1,5 +1,5 @@
--- Walks that meet what is sought.
-use Rattle.std.proofs.Common.{◌≡◌, refl, sym, ap, ◌∙◌, ℕ, zero, suc, List, [], ◌∷◌, ◌++◌, map, filter, length, Bool, true, false, cond, not, ◌==◌, ◌&&◌, ◌||◌}
+-- Walks that meet what is not ready.
+use Rattle.std.proofs.Common.{◌≡◌, refl, sym, ap, ◌∙◌, ℕ, zero, suc, List, [], ◌∷◌, map, filter, length, Bool, true, false, cond, not, ◌==◌, ◌&&◌, ◌||◌}
 use Rattle.std.proofs.lemmas.Bool.{eqb-true, eq-eqb}
 use Rattle.std.proofs.lemmas.List.Folds.{list_any-append}
 use Rattle.std.specs.List.{list_any, list_all}
@@ -8,10 +8,9 @@ use Rattle.stream_law.specs.declared.graph.Comp.{Comp}
 use Rattle.stream_law.specs.declared.graph.Edge.{Edge}
 use Rattle.stream_law.specs.declared.graph.Graph.{Graph}
 use Rattle.stream_law.specs.declared.graph.Join.{Join}
-use Rattle.stream_law.specs.Ways.{components, buffers, comp_of, leads, reaches, on_way, is_capture}
+use Rattle.stream_law.specs.Ways.{comp_of, leads, reaches, on_way, is_capture}
 use Rattle.mbox_link.specs.Step.{is_ready_comp, is_ready_edge, is_way_ready}
-use Rattle.fw_core.specs.declared.walks.Sought.TheVariants.{Unready, OnWay}
-use Rattle.fw_core.specs.Sought.{sought}
+use Rattle.fw_core.specs.Unready.{unready}
 use Rattle.fw_core.proofs.Backwards.{from-here, from-joins, any-turned}
 
 -- ---- what is there and not ready
@@ -32,7 +31,7 @@ named {X} key ready id (x ∷ xs) = by (ready x) (named key ready id xs)
     by true rest = ap (λ h. h || list_any (λ x. key x == id && not (ready x)) xs) (last (key x == id)) ∙ rest
     by false rest = ap (λ (p : Bool × Bool). p.0 || p.1) (λ i. (first (key x == id) i, rest i))
 
-pub unready-named : (g : Graph) (id : ℕ) → (list_any (λ c. c.id == id && not (is_ready_comp g c)) g.comps || list_any (λ e. e.buffer == id && not (is_ready_edge g e)) g.edges) ≡ list_any (λ n. n == id) (sought g Unready)
+pub unready-named : (g : Graph) (id : ℕ) → (list_any (λ c. c.id == id && not (is_ready_comp g c)) g.comps || list_any (λ e. e.buffer == id && not (is_ready_edge g e)) g.edges) ≡ list_any (λ n. n == id) (unready g)
 unready-named g id =
     ap (λ (p : Bool × Bool). p.0 || p.1) (λ i. (named (λ (c : Comp). c.id) (is_ready_comp g) id g.comps i, named (λ (e : Edge). e.buffer) (is_ready_edge g) id g.edges i))
     ∙ sym (list_any-append (λ n. n == id) (map (λ (c : Comp). c.id) (filter (λ c. not (is_ready_comp g c)) g.comps)) (map (λ (e : Edge). e.buffer) (filter (λ e. not (is_ready_edge g e)) g.edges)))
@@ -61,53 +60,15 @@ none-met {X} key ready on (x ∷ xs) = by (ready x) (none-met key ready on xs)
         ap (λ (p : Bool × Bool). p.0 && p.1) (λ i. (fails (on (key x)) i, rest i))
         ∙ not-or (on (key x)) (list_any on (map key (filter (λ x. not (ready x)) xs)))
 
-pub ready-unmet : (g : Graph) (on : ℕ → Bool) → (list_all (λ c. not (on c.id) || is_ready_comp g c) g.comps && list_all (λ e. not (on e.buffer) || is_ready_edge g e) g.edges) ≡ not (list_any on (sought g Unready))
+pub ready-unmet : (g : Graph) (on : ℕ → Bool) → (list_all (λ c. not (on c.id) || is_ready_comp g c) g.comps && list_all (λ e. not (on e.buffer) || is_ready_edge g e) g.edges) ≡ not (list_any on (unready g))
 ready-unmet g on =
     ap (λ (p : Bool × Bool). p.0 && p.1) (λ i. (none-met (λ (c : Comp). c.id) (is_ready_comp g) on g.comps i, none-met (λ (e : Edge). e.buffer) (is_ready_edge g) on g.edges i))
     ∙ not-or (list_any on (map (λ (c : Comp). c.id) (filter (λ c. not (is_ready_comp g c)) g.comps))) (list_any on (map (λ (e : Edge). e.buffer) (filter (λ e. not (is_ready_edge g e)) g.edges)))
     ∙ ap not (sym (list_any-append on (map (λ (c : Comp). c.id) (filter (λ c. not (is_ready_comp g c)) g.comps)) (map (λ (e : Edge). e.buffer) (filter (λ e. not (is_ready_edge g e)) g.edges))))
 
-pub ready-met : (g : Graph) (host : ℕ) → not (list_any (on_way g host) (sought g Unready)) ≡ is_way_ready g host
+pub ready-met : (g : Graph) (host : ℕ) → not (list_any (on_way g host) (unready g)) ≡ is_way_ready g host
 unfolding is_way_ready
 ready-met g host = sym (ready-unmet g (on_way g host))
-
--- ---- what is on two ways
-
-any-filter : (p q : ℕ → Bool) (ids : List ℕ) → list_any p (filter q ids) ≡ list_any (λ x. p x && q x) ids
-any-filter p q [] = refl
-any-filter p q (x ∷ ids) = by (q x) (any-filter p q ids)
-  where
-    last : (h : Bool) → false ≡ (h && false)
-    last true = refl
-    last false = refl
-
-    first : (h : Bool) → h ≡ (h && true)
-    first true = refl
-    first false = refl
-
-    by : (h : Bool) → list_any p (filter q ids) ≡ list_any (λ x. p x && q x) ids → list_any p (cond h (x ∷ filter q ids) (filter q ids)) ≡ ((p x && h) || list_any (λ x. p x && q x) ids)
-    by true rest = ap (λ (h : Bool × Bool). h.0 || h.1) (λ i. (first (p x) i, rest i))
-    by false rest = rest ∙ ap (λ h. h || list_any (λ x. p x && q x) ids) (last (p x))
-
-pub both-met : (g : Graph) (first second : ℕ) → list_any (on_way g first) (sought g (OnWay second)) ≡ list_any (λ x. on_way g first x && on_way g second x) (components g ++ buffers g)
-both-met g first second = any-filter (on_way g first) (on_way g second) (components g ++ buffers g)
-
-one-of : (p : ℕ → Bool) (id : ℕ) (ids : List ℕ) → list_any (λ x. x == id && p x) ids ≡ (list_any (λ x. x == id) ids && p id)
-one-of p id [] = refl
-one-of p id (x ∷ ids) = by (x == id) refl (one-of p id ids)
-  where
-    held : (a b : Bool) → (b || (a && b)) ≡ b
-    held true true = refl
-    held true false = refl
-    held false true = refl
-    held false false = refl
-
-    by : (h : Bool) → (x == id) ≡ h → list_any (λ x. x == id && p x) ids ≡ (list_any (λ x. x == id) ids && p id) → ((h && p x) || list_any (λ x. x == id && p x) ids) ≡ ((h || list_any (λ x. x == id) ids) && p id)
-    by true is rest = ap (λ (h : Bool × Bool). h.0 || h.1) (λ i. (ap p (eqb-true x id is) i, rest i)) ∙ held (list_any (λ x. x == id) ids) (p id)
-    by false is rest = rest
-
-pub way-named : (g : Graph) (host id : ℕ) → (list_any (λ x. x == id) (components g ++ buffers g) && on_way g host id) ≡ list_any (λ x. x == id) (sought g (OnWay host))
-way-named g host id = sym (any-filter (λ x. x == id) (on_way g host) (components g ++ buffers g) ∙ one-of (on_way g host) id (components g ++ buffers g))
 
 -- ---- the walks of a host: to it for capture, and from it for playback
 
@@ -133,7 +94,7 @@ module _ (ids : List ℕ) (joins : List Join) (n b : ℕ) where
 
 -- ---- walks to ids
 
-turned-equal : (a b : ℕ) → (a == b) ≡ (b == a)
+pub turned-equal : (a b : ℕ) → (a == b) ≡ (b == a)
 turned-equal a b = by (a == b) refl (b == a) refl
   where
     by : (h : Bool) → (a == b) ≡ h → (k : Bool) → (b == a) ≡ k → h ≡ k
@@ -152,7 +113,7 @@ any-or {X} p q (x ∷ xs) = by (p x) (q x) (list_any p xs) (any-or p q xs)
     by false true false rest = refl
     by false false c rest = rest
 
-any-alike : {X : Type 0} (p q : X → Bool) (xs : List X) → ((x : X) → p x ≡ q x) → list_any p xs ≡ list_any q xs
+pub any-alike : {X : Type 0} (p q : X → Bool) (xs : List X) → ((x : X) → p x ≡ q x) → list_any p xs ≡ list_any q xs
 any-alike p q [] same = refl
 any-alike p q (x ∷ xs) same = ap (λ (h : Bool × Bool). h.0 || h.1) (λ i. (same x i, any-alike p q xs same i))
 

@@ -1,5 +1,5 @@
 -- What a message was answered.
-use Rattle.std.specs.Prelude.{ℕ, ℤ, pos, map, Bool, true, not, ◌&&◌, ◌==◌, nat_le, None, Result, Ok, Err, if◌then◌else◌}
+use Rattle.std.specs.Prelude.{ℕ, ℤ, pos, map, Bool, true, not, ◌&&◌, nat_le, None, Result, Ok, Err, if◌then◌else◌}
 use Rattle.sof_base.specs.declared.errno.Errno.{Errno}
 use Rattle.ipc3_codec.specs.declared.message.CompWords.{CompWords}
 use Rattle.ipc3_codec.specs.declared.message.CompWords.TheVariants.{Volume}
@@ -25,10 +25,6 @@ reply_with (Err error) = record { error = error.0; body = Nothing }
 abbrev pub has_few_channels : CompWords → Bool
 has_few_channels (Volume channels min_value max_value) = nat_le channels 8
 has_few_channels words = true
-
--- two streams are those of other hosts than this
-abbrev pub are_others : ℕ → StreamView → StreamView → Bool
-are_others host s t = not (s.host == host) && not (t.host == host)
 
 -- a state whose streams are changed, and what that leaves of its rings
 abbrev pub with_streams : (StreamView → StreamView) → FwState → FwState

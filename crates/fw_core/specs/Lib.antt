@@ -4,4 +4,4 @@ pub mod Marked
 pub mod Settled
 pub mod Answers
 pub mod Device
-pub mod Sought
+pub mod Unready

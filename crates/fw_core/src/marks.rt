@@ -1,13 +1,19 @@
 // The first stream on whose way each component and buffer is, by one walk along each way.
-ghost use Rattle.std.specs.Prelude.{◌≡◌, ◌==◌, [], map, find, option_copied, true};
-ghost use Rattle.stream_law.specs.Ways.{leads, on_way as lies_on, is_live_phase, is_running_phase};
-ghost use Rattle.fw_core.specs.Marked.{marked, AreBare, AreRight};
+ghost use Rattle.std.specs.Prelude.{◌≡◌, ◌==◌, ◌<◌, ◌≤◌, ◌++◌, [], ◌∷◌, length, map, find, is_some, option_copied, vec_capacity, IfOk};
+ghost use Rattle.std.specs.List.{list_any};
+ghost use Rattle.stream_law.specs.Ways.{on_way as lies_on, is_live_phase, is_running_phase};
+ghost use Rattle.fw_core.specs.Marked.{bare, marked, AreBare, AreRight, IsAhead};
 
-use crate::joins::is_capture_at;
+mod agreement;
+mod growth;
+mod way;
+
+use self::way::mark_way;
 use crate::scene::{Scene, is_live_at, is_running_at};
 use sof_base::NoMemory;
 use std::alloc::Global;
-use stream_law::{Comp, Join, StreamView};
+use std::marker::Model;
+use stream_law::{Comp, Edge, Join, StreamView};
 
 /// A component or a buffer, and a stream on whose way it is, if one was found.
 #[derive(Clone, Copy)]
@@ -23,9 +29,22 @@ pub struct Marks {
     active: Vec<Mark>,
 }
 
+impl Model for Marks {
+    ghost use Rattle.std.specs.Prelude.{◌≤◌, List, vec_capacity};
+    ghost use Rattle.fw_core.specs.declared.marks.Mark.{Mark};
+
+    ghost Value = { List Mark × List Mark };
+
+    ghost view = { λ m. (m.live.items, m.active.items) };
+
+    ghost invariant = { λ m. (256 ≤ vec_capacity m.live) × (256 ≤ vec_capacity m.active) };
+}
+
 impl Marks {
     /// No marks.
-    pub fn new(alloc: Global) -> Result<Marks, NoMemory> {
+    pub fn new(alloc: Global) -> Result<Marks, NoMemory>
+        ensures { IfOk result (λ marks. marks ≡ ([], [])) }
+    {
         Ok(Marks {
             live: Vec::with_capacity(alloc, 256)?,
             active: Vec::with_capacity(alloc, 256)?,
@@ -34,11 +53,13 @@ impl Marks {
 
     /// A graph and its streams with the marks that they make.
     pub fn over<'a>(&'a mut self, scene: Scene<'a>) -> Scene<'a>
+        requires comps { length scene.graph.comps ≤ 128 }
+        requires edges { length scene.graph.edges ≤ 128 }
         ensures { result ≡ scene.entry }
     {
-        list(&mut self.live, &scene);
+        list(&mut self.live, scene.comps, scene.edges);
         mark_live(&mut self.live, &scene);
-        list(&mut self.active, &scene);
+        list(&mut self.active, scene.comps, scene.edges);
         mark_active(&mut self.active, &scene);
         Scene {
             live: self.live.as_slice(),
@@ -49,25 +70,38 @@ impl Marks {
 }
 
 // Lists all components and buffers.
-fn list(marks: &mut Vec<Mark>, scene: &Scene)
-    ensures { AreBare marks.new.items }
+fn list(marks: &mut Vec<Mark>, comps: &[Comp], edges: &[Edge])
+    requires comps { length comps.now ≤ 128 }
+    requires edges { length edges.now ≤ 128 }
+    requires room { 256 ≤ vec_capacity marks.old }
+    ensures listed { marks.new.items ≡ map bare (map (λ c. c.id) comps.now ++ map (λ e. e.buffer) edges.now) }
+    ensures room { 256 ≤ vec_capacity marks.new }
 {
     marks.clear();
-    for comp in scene.comps {
+    for comp in comps {
         add(marks, comp.id);
     }
-    for edge in scene.edges {
+    for edge in edges {
         add(marks, edge.buffer);
     }
 }
 
 // Lists one id more.
 fn add(marks: &mut Vec<Mark>, id: u32)
-    requires { AreBare marks.old.items }
-    ensures { AreBare marks.new.items }
+    requires few { length marks.old.items < 256 }
+    requires room { 256 ≤ vec_capacity marks.old }
+    ensures listed { marks.new.items ≡ marks.old.items ++ bare id ∷ [] }
+    ensures room { 256 ≤ vec_capacity marks.new }
 {
-    // It fits in the memory that was reserved. One that was not listed would be searched for.
+    // It fits in the memory that was reserved, so it is never refused.
     let _fits = marks.push(Mark { id, found: None });
+}
+
+// Whether a stream was found for one of the ids.
+fn has_found(marks: &[Mark]) -> bool
+    ensures { result ≡ list_any (λ m. is_some m.found) marks.now }
+{
+    marks.iter().any(|mark| mark.found.is_some())
 }
 
 /// What was marked of an id, if it is listed.
@@ -101,68 +135,11 @@ fn mark_active(marks: &mut [Mark], scene: &Scene)
     }
 }
 
-// Marks what is on a stream's way.
-#[tactic(auto, unfolding(stream_law::specs::Ways::on_way, stream_law::specs::Ways::reaches))]
-fn mark_way(marks: &mut [Mark], comps: &[Comp], joins: &[Join], stream: StreamView)
-    ensures { marks.new ≡ map (marked (lies_on (record { comps = comps.now; edges = []; pipes = []; joins = joins.now }) stream.host) stream) marks.old }
+// Marks what is on a stream's way in a list, whose room stays.
+fn mark_listed(marks: &mut Vec<Mark>, comps: &[Comp], joins: &[Join], stream: StreamView)
+    requires { IsAhead comps.now joins.now stream.host marks.old.items }
+    ensures marked { marks.new.items ≡ map (marked (lies_on (record { comps = comps.now; edges = []; pipes = []; joins = joins.now }) stream.host) stream) marks.old.items }
+    ensures room { vec_capacity marks.new ≡ vec_capacity marks.old }
 {
-    if is_capture_at(comps, stream.host) {
-        mark_before(marks, joins, joins.len(), stream.host, stream);
-    } else {
-        mark_behind(marks, joins, joins.len(), stream.host, stream);
-    }
-}
-
-// Marks an id and all to which a walk of at most `steps` joins leads from there.
-fn mark_behind(marks: &mut [Mark], joins: &[Join], steps: usize, from: u32, stream: StreamView)
-    ensures { marks.new ≡ map (marked (leads joins.now steps from) stream) marks.old }
-{
-    mark_id(marks, from, stream);
-    if steps == 0 {
-        return;
-    }
-    for join in joins {
-        if join.source == from {
-            mark_behind(marks, joins, steps - 1, join.sink, stream);
-        }
-    }
-}
-
-// Marks an id and all from which a walk of at most `steps` joins leads there.
-fn mark_before(marks: &mut [Mark], joins: &[Join], steps: usize, to: u32, stream: StreamView)
-    ensures { marks.new ≡ map (marked (λ x. leads joins.now steps x to) stream) marks.old }
-{
-    mark_id(marks, to, stream);
-    if steps == 0 {
-        return;
-    }
-    for join in joins {
-        if join.sink == to {
-            mark_before(marks, joins, steps - 1, join.source, stream);
-        }
-    }
-}
-
-// Marks an id.
-fn mark_id(marks: &mut [Mark], id: u32, stream: StreamView)
-    ensures { marks.new ≡ map (marked (λ x. x == id) stream) marks.old }
-{
-    for i in 0..marks.len() {
-        if marks[i].id == id {
-            marks[i] = with_stream(marks[i], stream);
-        }
-    }
-}
-
-// What was marked, with this stream if it has none.
-fn with_stream(mark: Mark, stream: StreamView) -> Mark
-    ensures { result ≡ marked (λ x. true) stream mark }
-{
-    match mark.found {
-        Some(_) => mark,
-        None => Mark {
-            found: Some(stream),
-            ..mark
-        },
-    }
+    mark_way(marks, comps, joins, stream);
 }

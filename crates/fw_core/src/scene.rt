@@ -1,11 +1,9 @@
 // What host and firmware both see: a graph and its streams, and what lies on the ways of these.
-ghost use Rattle.std.specs.Prelude.{◌≡◌, ◌&&◌, ◌||◌, ◌++◌, not, map, find, option_copied, true, Some};
-ghost use Rattle.std.specs.List.{list_all, list_any};
-ghost use Rattle.stream_law.specs.Ways.{edge_of, source_of, sink_of, on_way as lies_on, is_live_phase, is_running_phase, live as is_live, active as is_active, live_end as has_live_end, live_params as params_of, channels_of as samples_of, components, buffers, touch as has_common, same_shape as alike, agree as is_agreed};
+ghost use Rattle.std.specs.Prelude.{◌≡◌, ◌&&◌, option_copied};
+ghost use Rattle.stream_law.specs.Ways.{edge_of, source_of, sink_of, on_way as lies_on, is_live_phase, is_running_phase, live as is_live, active as is_active, live_end as has_live_end, live_params as params_of, channels_of as samples_of};
 ghost use Rattle.stream_law.specs.Seen.{flows as may_hold};
-ghost use Rattle.fw_core.specs.Answers.{are_others};
 ghost use Rattle.fw_core.specs.Marked.{first_on};
-ghost use Rattle.mbox_link.specs.Step.{is_complete as is_whole, is_ready_comp as is_comp_ready, is_ready_edge as is_edge_ready, set_stream};
+ghost use Rattle.mbox_link.specs.Step.{is_complete as is_whole, is_ready_comp as is_comp_ready, is_ready_edge as is_edge_ready};
 
 use crate::marks::{Mark, mark_of};
 use crate::{joins, kinds};
@@ -193,57 +191,6 @@ impl<'a> Scene<'a> {
             .iter()
             .any(|pipe| pipe.index == index && pipe.complete)
     }
-
-    /// Whether streams that touch, which agree, would agree too once a host's stream has these parameters.
-    pub fn agrees_with(&self, host: u32, params: Params) -> bool
-        requires { is_agreed self.now ≡ true }
-        ensures { result ≡ is_agreed (record { graph = self.now.graph; streams = map (set_stream host Phase.Prepared (Some params)) self.now.streams }) }
-    {
-        self.all_agree(host, params)
-    }
-
-    // The same stream by stream. Those of other hosts agree.
-    fn all_agree(&self, host: u32, params: Params) -> bool
-        ensures { result ≡ list_all (λ s. list_all (λ t. are_others host s t || (not (has_common self.now.graph s t) || alike (set_stream host Phase.Prepared (Some params) s).params (set_stream host Phase.Prepared (Some params) t).params)) self.now.streams) self.now.streams }
-    {
-        self.streams
-            .iter()
-            .all(|stream| self.agrees_at(*stream, host, params))
-    }
-
-    // Whether one stream would.
-    fn agrees_at(&self, stream: StreamView, host: u32, params: Params) -> bool
-        ensures { result ≡ list_all (λ t. are_others host stream t || (not (has_common self.now.graph stream t) || alike (set_stream host Phase.Prepared (Some params) stream).params (set_stream host Phase.Prepared (Some params) t).params)) self.now.streams }
-    {
-        let shape = next_params(stream, host, params);
-        self.streams.iter().all(|other| {
-            (stream.host != host && other.host != host)
-                || self.agree(
-                    stream.host,
-                    other.host,
-                    shape,
-                    next_params(*other, host, params),
-                )
-        })
-    }
-
-    // Whether two hosts' streams with these parameters do not touch, or have one shape.
-    fn agree(&self, first: u32, second: u32, one: Option<Params>, other: Option<Params>) -> bool
-        ensures { result ≡ (not (list_any (λ x. lies_on self.now.graph first x && lies_on self.now.graph second x) (components self.now.graph ++ buffers self.now.graph)) || alike one other) }
-    {
-        same_shape(one, other) || !self.touch(first, second)
-    }
-}
-
-// A stream's parameters once a host's stream has these.
-fn next_params(stream: StreamView, host: u32, params: Params) -> Option<Params>
-    ensures { result ≡ (set_stream host Phase.Prepared (Some params) stream).params }
-{
-    if stream.host == host {
-        Some(params)
-    } else {
-        stream.params
-    }
 }
 
 /// Whether a stream of this phase is Running or Paused.
@@ -258,14 +205,4 @@ pub fn is_running_at(phase: Phase) -> bool
     ensures { result ≡ is_running_phase phase }
 {
     matches!(phase, Phase::Running)
-}
-
-// One rate and one number of channels, where both streams have parameters.
-fn same_shape(first: Option<Params>, second: Option<Params>) -> bool
-    ensures { result ≡ alike first second }
-{
-    match (first, second) {
-        (Some(p), Some(q)) => p.rate == q.rate && p.channels == q.channels,
-        _ => true,
-    }
 }

@@ -32,6 +32,8 @@ pub fn settle_parts(
     marks: &mut Marks,
     rings: &mut Rings,
 )
+    requires few { length comps.now ≤ 128 }
+    requires limit { length edges.now ≤ 128 }
     requires buffers { HasDistinct (λ e. e.buffer) edges.now }
     requires rings { map (λ r. r.buffer) rings.old.rings ≡ map (λ e. e.buffer) edges.now }
     requires channels { (b : ℕ) → channels_of (scene_of comps.now edges.now pipes.now joins.now streams.now) b ≤ 8 }

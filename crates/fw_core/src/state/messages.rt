@@ -229,6 +229,7 @@ impl State {
             self.joins.as_slice(),
             count,
             self.streams.records(),
+            &mut self.marks,
         ) {
             self.joins.truncate(count);
             return Err(Errno::INVALID);

@@ -8,6 +8,7 @@ ghost use Rattle.fw_core.specs.Answers.{answer_of, changed_if, with_streams};
 
 use super::State;
 use crate::kinds;
+use crate::scene::Scene;
 use crate::settle::settle_parts;
 use sof_base::{Errno, Params};
 use stream_law::Phase;
@@ -112,16 +113,41 @@ impl State {
     }
 
     // Whether a host's stream does not take these parameters.
-    fn refuses_params(&self, host: u32, direction: u32, params: Params) -> bool
-        ensures refused { result ≡ (not (has_kind (λ kind. goes kind direction) (kind_at self.now.state.graph host)) || has_phase is_moving (phase_at self.now.state host) || not (is_rate params.rate) || not (is_way_ready self.now.state.graph host) || not (agree (with_params self.now.state host params))) }
-        ensures kept { IsKept self.now.state }
+    fn refuses_params(&mut self, host: u32, direction: u32, params: Params) -> bool
+        ensures refused { result ≡ (not (has_kind (λ kind. goes kind direction) (kind_at self.old.state.graph host)) || has_phase is_moving (phase_at self.old.state host) || not (is_rate params.rate) || not (is_way_ready self.old.state.graph host) || not (agree (with_params self.old.state host params))) }
+        ensures same { self.new ≡ self.old }
+        ensures kept { result ≡ false → IsKept self.old.state }
     {
-        let scene = self.scene();
         !self.goes(host, direction)
             || matches!(self.phase(host), Some(Phase::Running | Phase::Paused))
             || !has_right_rate(params.rate)
-            || !scene.is_way_ready(host)
-            || !scene.agrees_with(host, params)
+            || !self.is_way_ready(host)
+            || !self.agrees_with(host, params)
+    }
+
+    // Whether all that is on the way of a host's stream is ready.
+    fn is_way_ready(&self, host: u32) -> bool
+        ensures ready { result ≡ is_way_ready self.now.state.graph host }
+        ensures kept { IsKept self.now.state }
+    {
+        self.scene().is_way_ready(host)
+    }
+
+    // Whether streams agree once a host's stream has these parameters.
+    fn agrees_with(&mut self, host: u32, params: Params) -> bool
+        ensures agrees { result ≡ agree (with_params self.old.state host params) }
+        ensures same { self.new ≡ self.old }
+    {
+        let scene = Scene {
+            comps: self.comps.records(),
+            edges: self.edges.records(),
+            pipes: self.pipes.records(),
+            joins: self.joins.as_slice(),
+            streams: self.streams.records(),
+            live: &[],
+            active: &[],
+        };
+        self.marks.agree_with(&scene, host, params)
     }
 
     // The stream of this host has this phase and these parameters.

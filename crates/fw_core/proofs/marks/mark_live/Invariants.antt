@@ -1,7 +1,8 @@
-use Rattle.std.proofs.Common.{◌≡◌, ◌&&◌, map, find, drop}
-use Rattle.stream_law.specs.Ways.{on_way, is_live_phase}
-use Rattle.fw_core.proofs.Marking.{with-first}
+use Rattle.std.proofs.Common.{◌≡◌, map, take}
+use Rattle.stream_law.specs.Ways.{is_live_phase}
+use Rattle.fw_core.proofs.Marking.{first-of}
+use Rattle.fw_core.proofs.OneWay.{passing}
 use Rattle.fw_core.proofs.marks.mark_live.Given as goal
 
 abbrev pub invariant-loop-stream : goal.invariant-loop-stream
-invariant-loop-stream l = map (λ m. record { id = m.id; found = find (λ s. is_live_phase s.phase && on_way l.scene.graph s.host m.id) l.stream-items }) l.fn.marks ≡ map (with-first (λ s x. is_live_phase s.phase && on_way l.scene.graph s.host x) (drop l.stream-index l.stream-items)) l.marks
+invariant-loop-stream l = l.marks ≡ map (first-of (passing (λ s. is_live_phase s.phase) l.scene.graph) (take l.stream-index l.stream-items)) l.fn.marks

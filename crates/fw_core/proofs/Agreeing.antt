@@ -34,7 +34,7 @@ all-fails p xs x here fails = by (list_all p xs) refl
     by true is = absurd (true≢false (sym (all-at p xs x here is) ∙ fails))
     by false is = refl
 
-none-at : {X : Type 0} (p : X → Bool) (xs : List X) → list_any p xs ≡ false → (x : X) → IsIn x xs → p x ≡ false
+pub none-at : {X : Type 0} (p : X → Bool) (xs : List X) → list_any p xs ≡ false → (x : X) → IsIn x xs → p x ≡ false
 none-at p xs none x here = by (p x) refl
   where
     by : (h : Bool) → p x ≡ h → h ≡ false
@@ -45,7 +45,7 @@ none-at p xs none x here = by (p x) refl
 pub any-here : {X : Type 0} (p : X → Bool) (xs : List X) (i : ℕ) (d : X) → i < length xs → p (get_or xs i d) ≡ true → list_any p (drop i xs) ≡ true
 any-here p xs i d below is = ap (list_any p) (drop_more xs i d below) ∙ ap (λ h. h || list_any p (drop (i + 1) xs)) is
 
-not-true : (b : Bool) → not b ≡ true → b ≡ false
+pub not-true : (b : Bool) → not b ≡ true → b ≡ false
 not-true true is = absurd (false≢true is)
 not-true false is = refl
 

@@ -48,3 +48,4 @@ pub mod Marking
 pub mod Listing
 pub mod OneWay
 pub mod Passing
+pub mod Nearing

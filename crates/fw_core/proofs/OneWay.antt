@@ -1,8 +1,10 @@
 -- A way needs components and joins alone, and the streams whose ways are marked pass or don't.
-use Rattle.std.proofs.Common.{◌≡◌, refl, sym, ap, ◌∙◌, ℕ, ◌+◌, ◌<◌, List, [], ◌++◌, map, filter, length, take, get_or, Bool, true, false, ◌&&◌}
+use Rattle.std.proofs.Common.{◌≡◌, refl, sym, ap, ◌∙◌, ℕ, ◌+◌, ◌<◌, List, [], ◌++◌, map, filter, length, take, get_or, Bool, true, false, is_some, ◌&&◌, ◌||◌, ◌==◌}
+use Rattle.std.specs.List.{list_any}
 use Rattle.stream_law.specs.declared.graph.Graph.{Graph}
 use Rattle.stream_law.specs.declared.stream.StreamView.{StreamView}
 use Rattle.stream_law.specs.State.{View}
+use Rattle.mbox_link.specs.Step.{is_held, is_index_held}
 use Rattle.stream_law.specs.Ways.{components, buffers, on_way, reaches}
 use Rattle.fw_core.specs.declared.marks.Mark.{Mark}
 use Rattle.fw_core.specs.Marked.{bare, marked}
@@ -34,3 +36,12 @@ pub way-listed : (told v : View) (host : ℕ) → told ≡ v → map bare (filte
 way-listed told v host is =
     ap (map bare) (filter-alike (on_way (record { comps = told.graph.comps; edges = []; pipes = []; joins = told.graph.joins }) host) (on_way told.graph host) (components told.graph ++ buffers told.graph) (λ x. sym (bare-way told.graph host x)))
     ∙ ap (λ (w : View). map bare (filter (on_way w.graph host) (components w.graph ++ buffers w.graph))) is
+
+-- whether something is held needs no edges either
+pub held-by : (g : Graph) (ss : List StreamView) (x : ℕ) → list_any (λ s. is_some s.params && on_way (record { comps = g.comps; edges = []; pipes = []; joins = g.joins }) s.host x) ss ≡ is_held g ss x
+unfolding on_way reaches
+held-by g ss x = refl
+
+pub index-held-by : (g : Graph) (ss : List StreamView) (index : ℕ) → (list_any (λ c. c.pipe == index && list_any (λ s. is_some s.params && on_way (record { comps = g.comps; edges = []; pipes = []; joins = g.joins }) s.host c.id) ss) g.comps || list_any (λ e. e.pipe == index && list_any (λ s. is_some s.params && on_way (record { comps = g.comps; edges = []; pipes = []; joins = g.joins }) s.host e.buffer) ss) g.edges) ≡ is_index_held g ss index
+unfolding on_way reaches
+index-held-by g ss index = refl

@@ -12,6 +12,7 @@ use Rattle.stream_law.specs.State.{View}
 use Rattle.stream_law.specs.Ways.{leads, on_way, reaches}
 use Rattle.fw_core.specs.declared.marks.Mark.{Mark}
 use Rattle.fw_core.specs.Marked.{bare, marked, or_this, captures, is_passed, IsAhead}
+use Rattle.fw_core.proofs.Agreeing.{not-true}
 use Rattle.fw_core.proofs.Marking.{first-of, any-found}
 use Rattle.fw_core.proofs.Members.{in-all, in-any, find-in}
 use Rattle.fw_core.proofs.OneWay.{passing}
@@ -91,13 +92,9 @@ module _ (comps : List Comp) (joins : List Join) (p : ℕ → Bool) (s : StreamV
 
 -- ---- all that is marked is the first of some streams
 
-play-way : (g : Graph) (host x : ℕ) → captures g.comps host ≡ false → on_way g host x ≡ leads g.joins (length g.joins) host x
+pub play-way : (g : Graph) (host x : ℕ) → captures g.comps host ≡ false → on_way g host x ≡ leads g.joins (length g.joins) host x
 unfolding on_way reaches
 play-way g host x play = ap (λ h. cond h (leads g.joins (length g.joins) x host) (leads g.joins (length g.joins) host x)) play
-
-not-true : (b : Bool) → not b ≡ true → b ≡ false
-not-true true is = absurd (false≢true is)
-not-true false is = refl
 
 module _ (passes : StreamView → Bool) (g : Graph) (host : ℕ) (ss : List StreamView) where
   abbrev on : StreamView → ℕ → Bool

@@ -103,7 +103,7 @@ turned-equal a b = by (a == b) refl (b == a) refl
     by false is true same = sym is ∙ eq-eqb a b (sym (eqb-true b a same))
     by false is false same = refl
 
-any-or : {X : Type 0} (p q : X → Bool) (xs : List X) → list_any (λ x. p x || q x) xs ≡ (list_any p xs || list_any q xs)
+pub any-or : {X : Type 0} (p q : X → Bool) (xs : List X) → list_any (λ x. p x || q x) xs ≡ (list_any p xs || list_any q xs)
 any-or p q [] = refl
 any-or {X} p q (x ∷ xs) = by (p x) (q x) (list_any p xs) (any-or p q xs)
   where

@@ -86,7 +86,7 @@ walks-lead joins a b w = let s = short (length joins) joins (omega arith) w.0 a 
 -- ---- one join more
 
 -- a walk goes along the old joins, or by them to the new one and on from it
-through : (joins : List Join) (j : Join) (m a b : ℕ) → Path (joins ++ j ∷ []) m a b → Walks joins a b ⊎ (Walks joins a j.source × Walks joins j.sink b)
+pub through : (joins : List Join) (j : Join) (m a b : ℕ) → Path (joins ++ j ∷ []) m a b → Walks joins a b ⊎ (Walks joins a j.source × Walks joins j.sink b)
 through joins j zero a b p = inl (0, p)
 through joins j (suc m) a b (k, there, from, p) = by (in-end joins j k there) (through joins j m k.sink b p)
   where

@@ -1,5 +1,5 @@
 -- What is on the ways of streams, found for many ids at once.
-use Rattle.std.specs.Prelude.{◌≡◌, ℕ, ◌&&◌, ◌==◌, not, Bool, if◌then◌else◌, true, false, List, map, find, length, Option, None, Some, is_some}
+use Rattle.std.specs.Prelude.{◌≡◌, ℕ, ◌&&◌, ◌==◌, not, Bool, if◌then◌else◌, true, false, List, [], map, find, length, Option, None, Some, is_some}
 use Rattle.std.specs.List.{AllByRecursion}
 use Rattle.std.specs.Option.{option_map_or}
 use Rattle.sof_base.specs.declared.format.Params.{Params}
@@ -12,6 +12,8 @@ use Rattle.stream_law.specs.declared.stream.StreamView.{StreamView}
 use Rattle.stream_law.specs.State.{View}
 use Rattle.stream_law.specs.Ways.{leads, on_way, is_capture, same_shape}
 use Rattle.fw_core.specs.declared.marks.Mark.{Mark}
+use Rattle.fw_core.specs.declared.marks.holding.Side.{Side}
+use Rattle.fw_core.specs.declared.marks.holding.Side.TheVariants.{Any, Playback, Capture}
 
 -- a graph and its streams by their lists
 abbrev pub scene_of : List Comp → List Edge → List Pipe → List Join → List StreamView → View
@@ -57,3 +59,17 @@ is_passed comps host m = option_map_or (λ t. not (t.host == host) && not (captu
 -- such a stream goes on along all joins, so each id that is listed and to which a walk leads from there has a stream too
 abbrev pub IsAhead : List Comp → List Join → ℕ → List Mark → Type 0
 IsAhead comps joins host marks = AllByRecursion (λ m. is_passed comps host m ≡ true → AllByRecursion (λ k. leads joins (length joins) m.id k.id ≡ true → is_some k.found ≡ true) marks) marks
+
+-- the end of a join at which it would lead away from a host's way
+abbrev pub near_end : List Comp → Join → ℕ → ℕ
+near_end comps j host = if captures comps host then j.sink else j.source
+
+-- a stream has parameters, and is a playback's or a capture's where only these are asked for
+abbrev pub is_set_on : List Comp → Side → StreamView → Bool
+is_set_on comps Any s = is_some s.params
+is_set_on comps Playback s = is_some s.params && not (captures comps s.host)
+is_set_on comps Capture s = is_some s.params && captures comps s.host
+
+-- each id that is listed has its first stream of those that are asked for
+abbrev pub AreHeld : List Comp → List Join → List StreamView → Side → List Mark → Type 0
+AreHeld comps joins streams side marks = marks ≡ map (λ m. record { id = m.id; found = find (λ s. is_set_on comps side s && on_way (record { comps = comps; edges = []; pipes = []; joins = joins }) s.host m.id) streams }) marks

@@ -6,6 +6,7 @@ ghost use Rattle.fw_core.specs.Marked.{bare, marked, AreBare, AreRight, IsAhead}
 
 mod agreement;
 mod growth;
+mod holding;
 mod way;
 
 use self::way::mark_way;

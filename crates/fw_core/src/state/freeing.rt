@@ -1,12 +1,10 @@
 // What messages take away, with its piece of the heap: a component, a buffer or a pipeline.
-ghost use Rattle.std.specs.Prelude.{◌≡◌, ◌≤◌, ◌&&◌, ◌==◌, OnErr, filter, not, vec_capacity};
+ghost use Rattle.std.specs.Prelude.{◌≡◌, ◌≤◌, ◌==◌, OnErr, filter, not, vec_capacity};
 ghost use Rattle.std.specs.List.{list_any};
-ghost use Rattle.stream_law.specs.Ways.{on_way};
 ghost use Rattle.mbox_link.specs.Step.{comp_free as comp_free_row, buffer_free as buffer_free_row, pipe_free as pipe_free_row, index_of, has_complete_pipe as is_of_complete_pipe, touches as is_touching, is_held as is_held_by, is_index_held as is_index_held_by};
 ghost use Rattle.fw_core.specs.Answers.{answer_of};
 
 use super::State;
-use crate::joins;
 use sof_base::Errno;
 use stream_law::Join;
 
@@ -107,47 +105,32 @@ impl State {
         self.joins.as_slice().iter().any(|join| touches(*join, id))
     }
 
-    // Whether a component or a buffer is on the way of a host's stream.
-    #[tactic(auto, unfolding(stream_law::specs::Ways::on_way, stream_law::specs::Ways::reaches))]
-    fn is_on_way(&self, host: u32, id: u32) -> bool
-        ensures { result ≡ on_way self.now.state.graph host id }
-    {
-        joins::on_way(self.comps.records(), self.joins.as_slice(), host, id)
-    }
-
     // Whether a component or a buffer is on the way of a stream that has parameters.
-    fn is_held(&self, id: u32) -> bool
-        ensures { result ≡ is_held_by self.now.state.graph self.now.state.streams id }
+    fn is_held(&mut self, id: u32) -> bool
+        ensures held { result ≡ is_held_by self.old.state.graph self.old.state.streams id }
+        ensures same { self.new ≡ self.old }
     {
-        self.streams.records().iter().any(|stream| stream.params.is_some()
-            && self.is_on_way(stream.host, id))
+        self.marks.is_held(
+            self.comps.records(),
+            self.edges.records(),
+            self.joins.as_slice(),
+            self.streams.records(),
+            id,
+        )
     }
 
     // Whether a component or a buffer of an index is.
-    fn is_index_held(&self, index: u32) -> bool
-        ensures { result ≡ is_index_held_by self.now.state.graph self.now.state.streams index }
+    fn is_index_held(&mut self, index: u32) -> bool
+        ensures held { result ≡ is_index_held_by self.old.state.graph self.old.state.streams index }
+        ensures same { self.new ≡ self.old }
     {
-        self.has_held_comp(index) || self.has_held_edge(index)
-    }
-
-    // Whether a component of an index is.
-    fn has_held_comp(&self, index: u32) -> bool
-        ensures { result ≡ list_any (λ c. c.pipe == index && is_held_by self.now.state.graph self.now.state.streams c.id) self.now.state.graph.comps }
-    {
-        self.comps
-            .records()
-            .iter()
-            .any(|comp| comp.pipe == index && self.is_held(comp.id))
-    }
-
-    // Whether a buffer of an index is.
-    fn has_held_edge(&self, index: u32) -> bool
-        ensures { result ≡ list_any (λ e. e.pipe == index && is_held_by self.now.state.graph self.now.state.streams e.buffer) self.now.state.graph.edges }
-    {
-        self.edges
-            .records()
-            .iter()
-            .any(|edge| edge.pipe == index && self.is_held(edge.buffer))
+        self.marks.is_index_held(
+            self.comps.records(),
+            self.edges.records(),
+            self.joins.as_slice(),
+            self.streams.records(),
+            index,
+        )
     }
 }
 

@@ -228,6 +228,7 @@ impl State {
             self.edges.records(),
             self.joins.as_slice(),
             count,
+            join,
             self.streams.records(),
             &mut self.marks,
         ) {

@@ -14,8 +14,9 @@ pub invariant_of-self : goal.invariant_of-self
 invariant_of-self c =
     let s = c.self.inside in
     let p = c.in-Some.pipe in
-    let found : find (λ q. q.id == c.args.id) s.pipes ≡ Some p = ap (λ (h : Held). find (λ q. q.id == c.args.id) h.state.graph.pipes) c.self.view_is ∙ sym c.pipe.ensures ∙ c.in-Some.is in
-    let free : is_index_held (record { comps = s.comps; edges = s.edges; pipes = s.pipes; joins = s.joins.items }) s.streams p.index ≡ false = ap (λ (h : Held). is_index_held h.state.graph h.state.streams p.index) c.self.view_is ∙ sym c.is_index_held.ensures ∙ c.if-is_index_held.false in
+    let same = c.self.view_is ∙ c.is_index_held.ensures.same in
+    let found : find (λ q. q.id == c.args.id) s.pipes ≡ Some p = ap (λ (h : Held). find (λ q. q.id == c.args.id) h.state.graph.pipes) same ∙ sym c.pipe.ensures ∙ c.in-Some.is in
+    let free : is_index_held (record { comps = s.comps; edges = s.edges; pipes = s.pipes; joins = s.joins.items }) s.streams p.index ≡ false = ap (λ (h : Held). is_index_held h.state.graph h.state.streams p.index) same ∙ sym c.is_index_held.ensures.held ∙ c.if-is_index_held.false in
     let given : c.give.new.self.view ≡ without_piece c.args.id s.heap.view = ap (λ (h : HeapHeld). h.view) c.give.ensures in (
       kept-pipe_free s.heap.view s.clock s.comps s.edges s.pipes s.joins.items s.streams s.rings s.room c.self.invariant.0 c.self.invariant.1 c.args.id p c.give.new.self.view c.remove.new.self found free given c.remove.ensures,
       held-pipe_free s.heap.view s.clock s.comps s.edges s.pipes s.joins.items s.streams s.rings s.room c.self.invariant.0 c.self.invariant.1 c.args.id p c.give.new.self.view c.remove.new.self found free given c.remove.ensures,
@@ -27,7 +28,8 @@ pub returns-clause-answer : goal.returns-clause-answer
 returns-clause-answer c =
     let s = c.self.inside in
     let f = c.args.self.now.state in
+    let same = c.self.view_is ∙ c.is_index_held.ensures.same in
     ap (λ (p : HeapView × List Pipe). Ok (state_of p.0 s.clock s.comps s.edges p.1 s.joins.items s.streams (map shown s.rings.rings))) (λ i. (ap (λ (h : HeapHeld). h.view) c.give.ensures i, c.remove.ensures i))
     ∙ ap Ok (pipes-is s.heap.view s.clock s.comps s.edges s.pipes s.joins.items s.streams s.rings s.room c.self.invariant.0 c.self.invariant.1 (without_piece c.args.id s.heap.view) (filter (λ p. not (p.id == c.args.id)) s.pipes))
-    ∙ ap (λ (h : Held). Ok (without_pipe c.args.id h.state)) c.self.view_is
-    ∙ sym (pipe_free-row f c.args.id c.in-Some.pipe (sym c.is_used.ensures ∙ c.if-not-is_used.false) (sym c.pipe.ensures ∙ c.in-Some.is) (sym c.is_index_held.ensures ∙ c.if-is_index_held.false))
+    ∙ ap (λ (h : Held). Ok (without_pipe c.args.id h.state)) same
+    ∙ sym (pipe_free-row f c.args.id c.in-Some.pipe (sym c.is_used.ensures ∙ c.if-not-is_used.false) (sym c.pipe.ensures ∙ c.in-Some.is) (sym c.is_index_held.ensures.held ∙ c.if-is_index_held.false))

@@ -23,7 +23,8 @@ pub struct Mark {
     pub found: Option<StreamView>,
 }
 
-/// Marks of what is Live and of what is Active, in memory for all components and buffers.
+/// Marks of what is Live and of what is Active, in memory for all components and buffers. Between messages the first list also
+/// serves to tell what touches, grows and is held.
 #[derive(Drop)]
 pub struct Marks {
     live: Vec<Mark>,

@@ -68,8 +68,8 @@ fn is_other_play(found: Option<StreamView>, comps: &[Comp], host: u32) -> bool
     }
 }
 
-// Marks an id and all from which a walk of at most `steps` joins leads there. No two captures' ways share something, as no join
-// leads from one id to two.
+// Marks an id and all from which a walk of at most `steps` joins leads there. This stops nowhere: no id takes two joins out, so
+// captures' ways do not meet.
 fn mark_before(marks: &mut [Mark], joins: &[Join], steps: usize, to: u32, stream: StreamView)
     ensures { marks.new ≡ map (marked (λ x. leads joins.now steps x to) stream) marks.old }
 {

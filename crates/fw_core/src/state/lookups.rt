@@ -77,10 +77,11 @@ impl State {
 
     /// Whether an id is that of a host of this direction.
     pub fn goes(&self, id: u32, direction: u32) -> bool
-        ensures { result ≡ has_kind (λ kind. has_direction kind direction) (kind_at self.now.state.graph id) }
+        ensures goes { result ≡ has_kind (λ kind. has_direction kind direction) (kind_at self.now.state.graph id) }
+        ensures kept { IsKept self.now.state }
     {
-        match self.kind(id) {
-            Some(kind) => kinds::goes(kind, direction),
+        match self.comps.find(id) {
+            Some(comp) => kinds::goes(comp.kind, direction),
             None => false,
         }
     }

@@ -116,7 +116,7 @@ impl State {
     fn refuses_params(&mut self, host: u32, direction: u32, params: Params) -> bool
         ensures refused { result ≡ (not (has_kind (λ kind. goes kind direction) (kind_at self.old.state.graph host)) || has_phase is_moving (phase_at self.old.state host) || not (is_rate params.rate) || not (is_way_ready self.old.state.graph host) || not (agree (with_params self.old.state host params))) }
         ensures same { self.new ≡ self.old }
-        ensures kept { result ≡ false → IsKept self.old.state }
+        ensures kept { IsKept self.old.state }
     {
         !self.goes(host, direction)
             || matches!(self.phase(host), Some(Phase::Running | Phase::Paused))
@@ -127,8 +127,7 @@ impl State {
 
     // Whether all that is on the way of a host's stream is ready.
     fn is_way_ready(&self, host: u32) -> bool
-        ensures ready { result ≡ is_way_ready self.now.state.graph host }
-        ensures kept { IsKept self.now.state }
+        ensures { result ≡ is_way_ready self.now.state.graph host }
     {
         self.scene().is_way_ready(host)
     }

@@ -6,7 +6,7 @@ use Rattle.std.proofs.Math.Seq.{take-add}
 use Rattle.std.proofs.lemmas.Nat.{le_bytes_2, le_bytes_4, le_bytes_8, from_le_bytes-to_le_bytes_8, from_le_bytes-to_le_bytes_2, from_le_bytes-to_le_bytes_4}
 use Rattle.std.specs.Int.{w16, w32, w64, from_le_bytes, to_le_bytes}
 use Rattle.sof_base.specs.Cells.{fixed, loose, Fits}
-use Rattle.sof_base.specs.Slots.{Slot, Word, Half, Long, Size, Label, Words, Raw, Spare, zeros, words_bytes, slot_cells, slots_cells, NoZero, AreWords, IsSlot, AreSlots, part, until_zero, has_zero, word_at, half_at, long_at, name_at, has_name, words_at, Shape, A_word, A_half, A_long, A_size, A_name, A_words, Bytes, A_spare, width, slot_at, named, widths, slots_from, all_named, shape_of, shapes_of}
+use Rattle.sof_base.specs.Slots.{Slot, Word, Half, Long, Size, Label, Words, Raw, Spare, zeros, words_bytes, slot_cells, slots_cells, NoZero, AreWords, IsSlot, AreSlots, part, until_zero, has_zero, word_at, half_at, long_at, name_at, has_name, words_at, Shape, A_word, A_half, A_long, A_size, A_name, A_words, Bytes, A_spare, shape_width, slot_at, name_ends, widths, slots_from, all_named, shape_of, shapes_of}
 use Rattle.sof_base.proofs.Fitting.{Fits-length, Fits-append, Fits-split, Fits-fixed, is_fixed, Fits-loose}
 
 abbrev pub IsBytes : List ℕ → Type 0
@@ -66,7 +66,7 @@ until-again (suc x ∷ name) (b ∷ bs) pads h f =
 -- ---- one field
 
 pub record Reads (s : Shape) (bytes : List ℕ) (at : ℕ) : Type 0 where
-  pub fits : Fits (part bytes at (width s)) (slot_cells (slot_at s bytes at))
+  pub fits : Fits (part bytes at (shape_width s)) (slot_cells (slot_at s bytes at))
   pub is : IsSlot (slot_at s bytes at)
 
 pub part-add : (bytes : List ℕ) (at m n : ℕ) → part bytes at (m + n) ≡ part bytes at m ++ part bytes (at + m) n
@@ -101,7 +101,7 @@ words_read : (n : ℕ) (bytes : List ℕ) (at : ℕ) → IsBytes bytes → at + 
 unfolding words_at words_bytes AreWords word_at
 words_read n bytes at h long = (subst (λ (x : List ℕ). Fits x (fixed (words_bytes (words_at n bytes at)))) (words_same n bytes at h long) (Fits-fixed (words_bytes (words_at n bytes at))), words_fit n bytes at h long)
 
-pub slot_reads : (s : Shape) (bytes : List ℕ) (at : ℕ) → IsBytes bytes → at + width s ≤ length bytes → named s bytes at ≡ true → Reads s bytes at
+pub slot_reads : (s : Shape) (bytes : List ℕ) (at : ℕ) → IsBytes bytes → at + shape_width s ≤ length bytes → name_ends s bytes at ≡ true → Reads s bytes at
 unfolding slot_cells IsSlot word_at half_at long_at name_at has_name
 slot_reads A_word bytes at h long ok =
     let p = part bytes at 4 in
@@ -151,7 +151,7 @@ length-words_bytes [] = refl
 length-words_bytes (n ∷ ns) = omega (arith, length-append (to_le_bytes w32 n) (words_bytes ns), length-words_bytes ns)
 
 -- the width of a field is the number of its cells
-pub length-slot_cells : (s : Slot) → IsSlot s → length (slot_cells s) ≡ width (shape_of s)
+pub length-slot_cells : (s : Slot) → IsSlot s → length (slot_cells s) ≡ shape_width (shape_of s)
 unfolding slot_cells IsSlot
 length-slot_cells (Word n) is = refl
 length-slot_cells (Half n) is = refl
@@ -178,9 +178,9 @@ words_again (n ∷ ns) bytes at is e =
 -- what is spelled is read again
 pub record Again (s : Slot) (bytes : List ℕ) (at : ℕ) : Type 0 where
   pub slot : slot_at (shape_of s) bytes at ≡ s
-  pub ok : named (shape_of s) bytes at ≡ true
+  pub ok : name_ends (shape_of s) bytes at ≡ true
 
-pub slot_again : (s : Slot) (bytes : List ℕ) (at : ℕ) → IsSlot s → Fits (part bytes at (width (shape_of s))) (slot_cells s) → Again s bytes at
+pub slot_again : (s : Slot) (bytes : List ℕ) (at : ℕ) → IsSlot s → Fits (part bytes at (shape_width (shape_of s))) (slot_cells s) → Again s bytes at
 unfolding slot_cells IsSlot word_at half_at long_at name_at has_name
 slot_again (Word n) bytes at is f =
     let e = is_fixed (part bytes at 4) (to_le_bytes w32 n) f in
@@ -210,12 +210,12 @@ pub slots_read : (ss : List Shape) (bytes : List ℕ) (at off : ℕ) → IsBytes
 unfolding slots_cells AreSlots Fits
 slots_read [] bytes at off h long ok = (tt, tt)
 slots_read (s ∷ ss) bytes at off h long ok =
-    let place : at + (off + width s) ≡ at + off + width s = omega arith in
-    let both = and_true (named s bytes (at + off)) (all_named ss bytes at (off + width s)) ok in
+    let place : at + (off + shape_width s) ≡ at + off + shape_width s = omega arith in
+    let both = and_true (name_ends s bytes (at + off)) (all_named ss bytes at (off + shape_width s)) ok in
     let one = slot_reads s bytes (at + off) h (omega arith) both.0 in
-    let others = slots_read ss bytes at (off + width s) h (omega arith) both.1 in
-    let others_here : Fits (part bytes (at + off + width s) (widths ss)) (slots_cells (slots_from ss bytes at (off + width s))) = subst (λ (p : ℕ). Fits (part bytes p (widths ss)) (slots_cells (slots_from ss bytes at (off + width s)))) place others.0 in
-    (rw (part-add bytes (at + off) (width s) (widths ss)) (Fits-append (part bytes (at + off) (width s)) (part bytes (at + off + width s) (widths ss)) (slot_cells (slot_at s bytes (at + off))) (slots_cells (slots_from ss bytes at (off + width s))) one.fits others_here), (one.is, others.1))
+    let others = slots_read ss bytes at (off + shape_width s) h (omega arith) both.1 in
+    let others_here : Fits (part bytes (at + off + shape_width s) (widths ss)) (slots_cells (slots_from ss bytes at (off + shape_width s))) = subst (λ (p : ℕ). Fits (part bytes p (widths ss)) (slots_cells (slots_from ss bytes at (off + shape_width s)))) place others.0 in
+    (rw (part-add bytes (at + off) (shape_width s) (widths ss)) (Fits-append (part bytes (at + off) (shape_width s)) (part bytes (at + off + shape_width s) (widths ss)) (slot_cells (slot_at s bytes (at + off))) (slots_cells (slots_from ss bytes at (off + shape_width s))) one.fits others_here), (one.is, others.1))
 
 pub length-slots : (ss : List Slot) → AreSlots ss → length (slots_cells ss) ≡ widths (shapes_of ss)
 unfolding slots_cells AreSlots
@@ -232,11 +232,11 @@ unfolding slots_cells AreSlots
 slots_again [] bytes front rest at off are e f = record { slots = refl; ok = refl }
 slots_again (s ∷ ss) bytes front rest at off are e f =
     let parts = Fits-split front (slot_cells s) (slots_cells ss) f in
-    let len : length parts.first ≡ width (shape_of s) = Fits-length parts.first (slot_cells s) parts.fits_first ∙ length-slot_cells s are.0 in
+    let len : length parts.first ≡ shape_width (shape_of s) = Fits-length parts.first (slot_cells s) parts.fits_first ∙ length-slot_cells s are.0 in
     let here : drop (at + off) bytes ≡ parts.first ++ (parts.second ++ rest) = e ∙ ap (λ (t : List ℕ). t ++ rest) parts.whole ∙ append_assoc parts.first parts.second rest in
-    let is : part bytes (at + off) (width (shape_of s)) ≡ parts.first = ap (take (width (shape_of s))) here ∙ take_at parts.first (parts.second ++ rest) (width (shape_of s)) len in
-    let place : at + off + width (shape_of s) ≡ at + (off + width (shape_of s)) = omega arith in
-    let after : drop (at + (off + width (shape_of s))) bytes ≡ parts.second ++ rest = ap (λ (n : ℕ). drop n bytes) (sym place) ∙ sym (drop-drop (width (shape_of s)) (at + off) bytes) ∙ ap (drop (width (shape_of s))) here ∙ drop_at parts.first (parts.second ++ rest) (width (shape_of s)) len in
+    let is : part bytes (at + off) (shape_width (shape_of s)) ≡ parts.first = ap (take (shape_width (shape_of s))) here ∙ take_at parts.first (parts.second ++ rest) (shape_width (shape_of s)) len in
+    let place : at + off + shape_width (shape_of s) ≡ at + (off + shape_width (shape_of s)) = omega arith in
+    let after : drop (at + (off + shape_width (shape_of s))) bytes ≡ parts.second ++ rest = ap (λ (n : ℕ). drop n bytes) (sym place) ∙ sym (drop-drop (shape_width (shape_of s)) (at + off) bytes) ∙ ap (drop (shape_width (shape_of s))) here ∙ drop_at parts.first (parts.second ++ rest) (shape_width (shape_of s)) len in
     let one = slot_again s bytes (at + off) are.0 (rw is parts.fits_first) in
-    let others = slots_again ss bytes parts.second rest at (off + width (shape_of s)) are.1 after parts.fits_second in
+    let others = slots_again ss bytes parts.second rest at (off + shape_width (shape_of s)) are.1 after parts.fits_second in
     record { slots = rw (one.slot, others.slots) refl; ok = rw (one.ok, others.ok) refl }

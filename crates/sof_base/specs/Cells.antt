@@ -38,8 +38,8 @@ is_loose (Loose x ∷ cs) zero = true
 is_loose (c ∷ cs) (suc i) = is_loose cs i
 
 -- one length, and the same outside the loose places
-abbrev pub Agrees : List ℕ → List Cell → Type 0
-Agrees b cs = (length b ≡ length (written cs)) × ((i : ℕ) → is_loose cs i ≡ false → slice_index b i ≡ slice_index (written cs) i)
+abbrev pub AgreesOutsideLoose : List ℕ → List Cell → Type 0
+AgreesOutsideLoose b cs = (length b ≡ length (written cs)) × ((i : ℕ) → is_loose cs i ≡ false → slice_index b i ≡ slice_index (written cs) i)
 
 -- and inside them
 abbrev pub IsCanonical : List ℕ → List Cell → Type 0

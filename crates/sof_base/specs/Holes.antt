@@ -1,5 +1,5 @@
 -- The free parts of a heap as a list, and what carving and giving back make of it. Places and sizes are in bytes.
-use Rattle.std.specs.Prelude.{◌≡◌, ℕ, ◌+◌, ◌-◌, ◌*◌, ◌/◌, ◌%◌, ◌<◌, ◌≤◌, Bool, false, ◌||◌, List, [], ◌∷◌, IsTrue, ◌==◌, nat_le, nat_lt, if◌then◌else◌}
+use Rattle.std.specs.Prelude.{◌≡◌, ℕ, ◌+◌, ◌-◌, ◌*◌, ◌/◌, ◌%◌, ◌<◌, ◌≤◌, Bool, false, ◌||◌, List, [], ◌∷◌, ◌==◌, nat_le, nat_lt, if◌then◌else◌}
 use Rattle.sof_base.specs.declared.hole.Hole.{Hole}
 
 -- n, up to a multiple of 16
@@ -23,10 +23,6 @@ total (h ∷ hs) = h.size + total hs
 abbrev pub fits : ℕ → List Hole → Bool
 fits n [] = false
 fits n (h ∷ hs) = nat_le n h.size || fits n hs
-
--- the same as a fact
-abbrev pub Fits : ℕ → List Hole → Type 0
-Fits n hs = IsTrue (fits n hs)
 
 -- the place of the first hole that has n bytes
 abbrev pub first_fit : ℕ → List Hole → ℕ

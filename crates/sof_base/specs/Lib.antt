@@ -5,3 +5,4 @@ pub mod Equations
 pub mod Holes
 pub mod Ports
 pub mod BlobForm
+pub mod Rates

@@ -1,5 +1,6 @@
 -- The endpoints' bytes, as contracts see them.
 use Rattle.std.specs.Prelude.{ℕ, ◌+◌, ◌-◌, ◌≤◌, ◌^◌, min, List, [], ◌∷◌, length}
+use Rattle.sof_base.specs.declared.limits.TheConstants.{OUTPUT_BYTES}
 
 -- an input: its endpoint's component id, how many bytes were taken of it, and those that are left
 pub record InputView : Type 0 where
@@ -24,7 +25,7 @@ moved_on position n = min (position + n) (2 ^ 64 - 1)
 -- every output has room for n more bytes, of 1048576
 abbrev pub HasRoom : ℕ → List OutputView → Type 0
 HasRoom n [] = Unit {0}
-HasRoom n (output ∷ outputs) = (length output.bytes + n ≤ 1048576) × HasRoom n outputs
+HasRoom n (output ∷ outputs) = (length output.bytes + n ≤ OUTPUT_BYTES) × HasRoom n outputs
 
 -- the outputs with no bytes
 abbrev pub drained : List OutputView → List OutputView

@@ -142,15 +142,15 @@ pub data Shape : Type 0 where
   A_spare : List ℕ → Shape
 
 -- how many bytes it has
-abbrev pub width : Shape → ℕ
-width A_word = 4
-width A_half = 2
-width A_long = 8
-width (A_size n) = 4
-width A_name = 44
-width (A_words n) = 4 * n
-width (Bytes n) = n
-width (A_spare bytes) = length bytes
+abbrev pub shape_width : Shape → ℕ
+shape_width A_word = 4
+shape_width A_half = 2
+shape_width A_long = 8
+shape_width (A_size n) = 4
+shape_width A_name = 44
+shape_width (A_words n) = 4 * n
+shape_width (Bytes n) = n
+shape_width (A_spare bytes) = length bytes
 
 -- the field that lies at a place
 abbrev pub slot_at : Shape → List ℕ → ℕ → Slot
@@ -164,30 +164,30 @@ slot_at (Bytes n) bytes at = Raw (part bytes at n)
 slot_at (A_spare spare) bytes at = Spare spare
 
 -- a name there has a 0
-abbrev pub named : Shape → List ℕ → ℕ → Bool
-named A_word bytes at = true
-named A_half bytes at = true
-named A_long bytes at = true
-named (A_size n) bytes at = true
-named A_name bytes at = has_name bytes at
-named (A_words n) bytes at = true
-named (Bytes n) bytes at = true
-named (A_spare spare) bytes at = true
+abbrev pub name_ends : Shape → List ℕ → ℕ → Bool
+name_ends A_word bytes at = true
+name_ends A_half bytes at = true
+name_ends A_long bytes at = true
+name_ends (A_size n) bytes at = true
+name_ends A_name bytes at = has_name bytes at
+name_ends (A_words n) bytes at = true
+name_ends (Bytes n) bytes at = true
+name_ends (A_spare spare) bytes at = true
 
 -- the bytes of fields, one after the other
 abbrev pub widths : List Shape → ℕ
 widths [] = 0
-widths (s ∷ ss) = width s + widths ss
+widths (s ∷ ss) = shape_width s + widths ss
 
 -- the fields from a place and an offset on
 abbrev pub slots_from : List Shape → List ℕ → ℕ → ℕ → List Slot
 slots_from [] bytes at off = []
-slots_from (s ∷ ss) bytes at off = slot_at s bytes (at + off) ∷ slots_from ss bytes at (off + width s)
+slots_from (s ∷ ss) bytes at off = slot_at s bytes (at + off) ∷ slots_from ss bytes at (off + shape_width s)
 
 -- each name has a 0
 abbrev pub all_named : List Shape → List ℕ → ℕ → ℕ → Bool
 all_named [] bytes at off = true
-all_named (s ∷ ss) bytes at off = named s bytes (at + off) && all_named ss bytes at (off + width s)
+all_named (s ∷ ss) bytes at off = name_ends s bytes (at + off) && all_named ss bytes at (off + shape_width s)
 
 -- the kind of a field
 abbrev pub shape_of : Slot → Shape

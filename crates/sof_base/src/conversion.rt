@@ -4,6 +4,7 @@ ghost use Rattle.sof_base.specs.Samples.{sat, rounded, width, sample_in_of, samp
 
 use crate::fields::{half, word};
 use crate::format::{Format, Sample};
+use byteorder::{ByteOrder, LittleEndian};
 
 /// The number held to the range of an `i32`.
 pub fn sat32(x: i64) -> i32
@@ -36,9 +37,9 @@ pub fn sample_out(format: Format, x: Sample, bytes: &mut [u8])
     ensures { bytes.new ≡ sample_out_of format x }
 {
     match format {
-        Format::S16 => bytes.copy_from_slice(&half_out(x).to_le_bytes()),
-        Format::S24 => bytes.copy_from_slice(&low_out(x).to_le_bytes()),
-        Format::S32 => bytes.copy_from_slice(&x.to_le_bytes()),
+        Format::S16 => LittleEndian::write_i16(bytes, half_out(x)),
+        Format::S24 => LittleEndian::write_i32(bytes, low_out(x)),
+        Format::S32 => LittleEndian::write_i32(bytes, x),
     }
 }
 

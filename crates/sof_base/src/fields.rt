@@ -3,6 +3,7 @@ ghost use Rattle.std.specs.Prelude.{◌≡◌, ◌≤◌, ◌+◌, ◌*◌, leng
 ghost use Rattle.sof_base.specs.Slots as slots;
 
 use crate::name::Name44;
+use byteorder::{ByteOrder, LittleEndian};
 
 /// The little-endian number of the four bytes from a place on; none exactly where fewer are there.
 pub fn word_at(bytes: &[u8], at: usize) -> Option<u32>
@@ -20,8 +21,7 @@ pub fn word(bytes: &[u8], at: usize) -> u32
     requires { at + 4 ≤ length bytes.now }
     ensures { result ≡ slots.word_at bytes.now at }
 {
-    let b = &bytes[at..at + 4];
-    u32::from_le_bytes([b[0], b[1], b[2], b[3]])
+    LittleEndian::read_u32(&bytes[at..at + 4])
 }
 
 /// The little-endian number of the two bytes from a place on.
@@ -30,8 +30,7 @@ pub fn half(bytes: &[u8], at: usize) -> u16
     requires { at + 2 ≤ length bytes.now }
     ensures { result ≡ slots.half_at bytes.now at }
 {
-    let b = &bytes[at..at + 2];
-    u16::from_le_bytes([b[0], b[1]])
+    LittleEndian::read_u16(&bytes[at..at + 2])
 }
 
 /// The little-endian number of the eight bytes from a place on.
@@ -40,8 +39,7 @@ pub fn long(bytes: &[u8], at: usize) -> u64
     requires { at + 8 ≤ length bytes.now }
     ensures { result ≡ slots.long_at bytes.now at }
 {
-    let b = &bytes[at..at + 8];
-    u64::from_le_bytes([b[0], b[1], b[2], b[3], b[4], b[5], b[6], b[7]])
+    LittleEndian::read_u64(&bytes[at..at + 8])
 }
 
 /// The name in the field of 44 bytes from a place on; none where the field has no 0.

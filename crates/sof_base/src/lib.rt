@@ -1,4 +1,4 @@
-//! What every other crate speaks of: names, numbers in bytes, sample formats, stream parameters and error numbers.
+//! What every other crate speaks of: names, numbers in bytes, sample formats, stream parameters, limits, error numbers, and a line of text.
 #![tactic(auto)]
 
 mod bounded;
@@ -8,6 +8,8 @@ mod fields;
 mod format;
 mod hole;
 mod items;
+mod limits;
+mod line;
 mod memory;
 mod name;
 mod part;
@@ -22,6 +24,8 @@ pub use fields::{bytes_at, half, label, long, word, word_at, words_at};
 pub use format::{Format, Params, Sample};
 pub use hole::Hole;
 pub use items::Items;
+pub use limits::{MAX_RATE, MIN_RATE, OUTPUT_BYTES, TURN_BYTES, is_rate};
+pub use line::Line;
 pub use memory::NoMemory;
 pub use name::Name44;
 pub use part::{Part, PartBytes};

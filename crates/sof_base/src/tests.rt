@@ -74,3 +74,26 @@ fn a_list_grows_at_its_end(rt: HostRuntime) {
     assert!(rt; list.push(9).is_ok());
     assert!(rt; list.items() == [7, 9].as_slice());
 }
+
+#[test]
+fn a_rate_is_a_multiple_of_1000(rt: HostRuntime) {
+    assert!(rt; is_rate(MIN_RATE));
+    assert!(rt; is_rate(MAX_RATE));
+    assert!(rt; !is_rate(7000));
+    assert!(rt; !is_rate(44100));
+    assert!(rt; !is_rate(193_000));
+}
+
+#[test]
+fn a_line_is_said_piece_by_piece(rt: HostRuntime) {
+    let mut line = Line::new();
+    line.say(b"7 bytes ");
+    line.say_hex(&[0x0a, 0xff]);
+    line.say(b" ");
+    line.say_signed(-22);
+    line.say(b" ");
+    line.say_number(u32::MAX);
+    assert!(rt; line.bytes() == b"7 bytes 0aff -22 4294967295".as_slice());
+    line.clear();
+    assert!(rt; line.bytes().is_empty());
+}

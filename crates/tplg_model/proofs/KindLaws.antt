@@ -4,7 +4,7 @@ use Rattle.std.proofs.lemmas.Bool.{ltb-false, le-ltb}
 use Rattle.tplg_model.specs.declared.fault.TplgFault.{TplgFault}
 use Rattle.tplg_model.specs.declared.fault.TplgFault.TheVariants.{Payload, Name}
 use Rattle.sof_base.specs.Cells.{Fits}
-use Rattle.sof_base.specs.Slots.{Slot, Word, Half, Long, Size, Label, Words, Raw, Spare, Shape, Bytes, slots_cells, AreSlots, word_at, width, widths, slots_from, all_named, shapes_of}
+use Rattle.sof_base.specs.Slots.{Slot, Word, Half, Long, Size, Label, Words, Raw, Spare, Shape, Bytes, slots_cells, AreSlots, word_at, shape_width, widths, slots_from, all_named, shapes_of}
 use Rattle.sof_base.proofs.FieldLaws.{IsBytes, slots_read, slots_again, length-slots}
 use Rattle.sof_base.proofs.Fitting.{Fits-length}
 use Rattle.tplg_model.specs.Outcomes.{◌>>=◌}
@@ -91,7 +91,7 @@ widths-more (s ∷ head) n = omega (arith, widths-more head n)
 
 named-more : (head : List Shape) (n : ℕ) (bytes : List ℕ) (at off : ℕ) → all_named (head ++ Bytes n ∷ []) bytes at off ≡ all_named head bytes at off
 named-more [] n bytes at off = refl
-named-more (s ∷ head) n bytes at off = rw (named-more head n bytes at (off + width s)) refl
+named-more (s ∷ head) n bytes at off = rw (named-more head n bytes at (off + shape_width s)) refl
 
 module _ {A : Type 0} (w : ℕ) (head : List Shape) (make : ℕ → List ℕ → A) (slots : A → List Slot) (size : A → ℕ) (Kind : List ℕ → Type 0) (Rest : A → Type 0) (k : SizedKind w head make slots size Kind Rest) where
   pub sized_takes : (at : ℕ) (bytes : List ℕ) (x : A) (n : ℕ) → IsBytes bytes → Kind bytes → sized_step w head make at bytes ≡ Ok (x, n) → Took bytes (slots_cells (slots x)) n × (AreSlots (slots x) × Rest x)

@@ -1,6 +1,6 @@
 -- To fit cells is to agree outside the loose places.
 use Rattle.std.proofs.Common.{◌≡◌, ℕ, zero, suc, false, List, [], ◌∷◌, length, get_or, refl, ap, arith}
-use Rattle.sof_base.specs.Cells.{Cell, Fixed, Loose, written, Fits, is_loose, Agrees, IsCanonical}
+use Rattle.sof_base.specs.Cells.{Cell, Fixed, Loose, written, Fits, is_loose, AgreesOutsideLoose, IsCanonical}
 
 Same : List ℕ → List Cell → Type 0
 Same b cs = (i : ℕ) → is_loose cs i ≡ false → get_or b i 0 ≡ get_or (written cs) i 0
@@ -27,11 +27,11 @@ both (x ∷ b) [] f = absurd f
 both (x ∷ b) (Fixed y ∷ cs) f = let r = both b cs f.1 in (ap suc r.0, same_fixed x y b cs f.0 r.1)
 both (x ∷ b) (Loose y ∷ cs) f = let r = both b cs f in (ap suc r.0, same_loose x y b cs r.1)
 
-pub agrees : (b : List ℕ) (cs : List Cell) → Fits b cs → Agrees b cs
+pub agrees : (b : List ℕ) (cs : List Cell) → Fits b cs → AgreesOutsideLoose b cs
 unfolding Same
 agrees b cs f = both b cs f
 
-pub fits : (b : List ℕ) (cs : List Cell) → Agrees b cs → Fits b cs
+pub fits : (b : List ℕ) (cs : List Cell) → AgreesOutsideLoose b cs → Fits b cs
 unfolding Fits is_loose
 fits [] [] a = tt
 fits [] (c ∷ cs) a = absurd (omega (arith, a.0))

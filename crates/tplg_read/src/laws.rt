@@ -1,7 +1,7 @@
 // What holds of every topology and all bytes.
 
 ghost use Rattle.std.specs.Prelude.{◌≡◌, ◌<◌, ◌↔◌, ℕ, List, Ok, Err, slice_index};
-ghost use Rattle.sof_base.specs.Cells.{Agrees, IsCanonical};
+ghost use Rattle.sof_base.specs.Cells.{AgreesOutsideLoose, IsCanonical};
 ghost use Rattle.tplg_model.specs.File.{IsTopology, IsFileOf, IsFileFault, spelling, topology_cells};
 ghost use Rattle.tplg_model.specs.Reading.{topology_of};
 ghost use Rattle.tplg_model.specs.declared.block.Topology.{Topology};
@@ -10,7 +10,7 @@ ghost use Rattle.tplg_model.specs.declared.fault.TplgFault.{TplgFault as Fault};
 /// A file is one of at most one topology, and what is written of a topology is its file.
 pub fn files_are_spelled()
     // A file has the length of what is written, and agrees with it outside the loose places.
-    ensures literal { (bytes : List ℕ) (t : Topology) → IsFileOf bytes t ↔ Agrees bytes (topology_cells t) }
+    ensures literal { (bytes : List ℕ) (t : Topology) → IsFileOf bytes t ↔ AgreesOutsideLoose bytes (topology_cells t) }
     // Bytes are the file of at most one topology.
     ensures one { (bytes : List ℕ) (t u : Topology) → IsTopology t → IsTopology u → IsFileOf bytes t → IsFileOf bytes u → t ≡ u }
     // What is written of a topology is its file.

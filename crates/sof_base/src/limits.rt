@@ -1,0 +1,22 @@
+// Least and greatest numbers of which several layers speak.
+ghost use Rattle.std.specs.Prelude.{◌≡◌};
+ghost use Rattle.sof_base.specs.Rates as rates;
+
+/// The most bytes that one run of an endpoint moves: ten periods of 192 frames of 8 samples of 4 bytes.
+pub const TURN_BYTES: usize = 61440;
+
+/// The most bytes that an output holds.
+pub const OUTPUT_BYTES: usize = 1_048_576;
+
+/// The fewest frames a second that a stream may have.
+pub const MIN_RATE: u32 = 8000;
+
+/// The most frames a second that a stream may have.
+pub const MAX_RATE: u32 = 192_000;
+
+/// Whether a stream may have so many frames a second: a multiple of 1000 from [`MIN_RATE`] to [`MAX_RATE`].
+pub fn is_rate(rate: u32) -> bool
+    ensures { result ≡ rates.is_rate rate }
+{
+    MIN_RATE <= rate && rate <= MAX_RATE && rate % 1000 == 0
+}

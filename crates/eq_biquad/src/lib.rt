@@ -3,6 +3,8 @@
 
 mod blob_walk;
 mod fault;
+mod laws;
 
 pub use blob_walk::check;
 pub use fault::EqFault;
+pub use laws::blobs_are_forms;

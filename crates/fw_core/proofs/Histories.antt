@@ -17,7 +17,8 @@ use Rattle.stream_law.specs.Placed.{placed, HasDistinct}
 use Rattle.stream_law.specs.State.{FwState, View, History}
 use Rattle.stream_law.specs.Ways.{comp_of, components, is_live_phase, live, channels_of}
 use Rattle.stream_law.specs.Made.{blob}
-use Rattle.stream_law.specs.Equaliser.{blob_channels, assigned_sections, blob_word, sections_of}
+use Rattle.sof_base.specs.Blob.{blob_channels, assignment_at}
+use Rattle.stream_law.specs.Equaliser.{assigned_sections, sections_of}
 use Rattle.stream_law.specs.Seen.{is_equaliser, equalises, goes_on, blob_in, fresh_from, fresh_numbers, numbers_in, history_seen}
 use Rattle.stream_law.proofs.Placing.{find-placed_apart, map-placed}
 use Rattle.ipc3_codec.specs.declared.message.CompWords.{CompWords}
@@ -35,7 +36,7 @@ bare c = record { comp = c; numbers = [] }
 
 none-sections : (k : ℕ) → sections_of [] k ≡ []
 unfolding sections_of word_at
-none-sections k = ap (λ h. cond h (assigned_sections [] (blob_word [] (60 + 4 * k))) []) (le-ltb k (blob_channels []) (omega arith))
+none-sections k = ap (λ h. cond h (assigned_sections [] (assignment_at [] k)) []) (le-ltb k (blob_channels []) (omega arith))
 
 fresh-none : (k n : ℕ) → fresh_from k [] n ≡ []
 fresh-none k zero = refl

@@ -4,13 +4,14 @@ use Rattle.std.proofs.lemmas.Bool.{le-ltb}
 use Rattle.std.specs.List.{range_with_len}
 use Rattle.sof_base.specs.Samples.{Frame, sample_of}
 use Rattle.sof_base.specs.Slots.{word_at}
-use Rattle.stream_law.specs.Equaliser.{blob_channels, assigned_sections, blob_word, sections_of, passed_sections, PassedFrame, passed_channels, passed_frames, numbers_after}
+use Rattle.sof_base.specs.Blob.{blob_channels, assignment_at}
+use Rattle.stream_law.specs.Equaliser.{assigned_sections, sections_of, passed_sections, PassedFrame, passed_channels, passed_frames, numbers_after}
 use Rattle.fw_components.specs.Kernels.{passed}
 
 -- an empty blob has no sections
 sections-none : (k : ℕ) → sections_of [] k ≡ []
 unfolding sections_of word_at
-sections-none k = ap (λ h. cond h (assigned_sections [] (blob_word [] (60 + 4 * k))) []) (le-ltb k (blob_channels []) (omega arith))
+sections-none k = ap (λ h. cond h (assigned_sections [] (assignment_at [] k)) []) (le-ltb k (blob_channels []) (omega arith))
 
 -- so a frame's samples pass, one of each channel
 frame-passed : (k left : ℕ) (frame : Frame) → passed_channels [] k left [] frame ≡ record { frame = map (sample_of frame) (range_with_len k left); numbers = [] }

@@ -75,7 +75,7 @@ part-add bytes at m n = take-add m n (drop at bytes) ∙ ap (λ (t : List ℕ). 
 part_none : (bytes : List ℕ) (at : ℕ) → part bytes at 0 ≡ []
 part_none bytes at = refl
 
-words_same : (n : ℕ) (bytes : List ℕ) (at : ℕ) → IsBytes bytes → at + 4 * n ≤ length bytes → words_bytes (words_at n bytes at) ≡ part bytes at (4 * n)
+pub words_same : (n : ℕ) (bytes : List ℕ) (at : ℕ) → IsBytes bytes → at + 4 * n ≤ length bytes → words_bytes (words_at n bytes at) ≡ part bytes at (4 * n)
 unfolding words_at words_bytes word_at
 words_same zero bytes at h long = refl
 words_same (suc n) bytes at h long =
@@ -85,7 +85,7 @@ words_same (suc n) bytes at h long =
     let others = words_same n bytes (at + 4) h (omega (arith, long)) in
     ap (λ (t : List ℕ). t ++ words_bytes (words_at n bytes (at + 4))) one ∙ ap (λ (t : List ℕ). p ++ t) others ∙ sym (part-add bytes at 4 (4 * n)) ∙ ap (part bytes at) (sym k)
 
-words_fit : (n : ℕ) (bytes : List ℕ) (at : ℕ) → IsBytes bytes → at + 4 * n ≤ length bytes → AreWords (words_at n bytes at)
+pub words_fit : (n : ℕ) (bytes : List ℕ) (at : ℕ) → IsBytes bytes → at + 4 * n ≤ length bytes → AreWords (words_at n bytes at)
 unfolding words_at AreWords word_at
 words_fit zero bytes at h long = tt
 words_fit (suc n) bytes at h long =
@@ -145,7 +145,7 @@ length-loose : (bs : List ℕ) → length (loose bs) ≡ length bs
 length-loose [] = refl
 length-loose (b ∷ bs) = ap suc (length-loose bs)
 
-length-words_bytes : (ns : List ℕ) → length (words_bytes ns) ≡ 4 * length ns
+pub length-words_bytes : (ns : List ℕ) → length (words_bytes ns) ≡ 4 * length ns
 unfolding words_bytes
 length-words_bytes [] = refl
 length-words_bytes (n ∷ ns) = omega (arith, length-append (to_le_bytes w32 n) (words_bytes ns), length-words_bytes ns)
@@ -164,7 +164,7 @@ length-slot_cells (Label name) is =
 length-slot_cells (Raw bytes) is = length-fixed bytes
 length-slot_cells (Spare bytes) is = length-loose bytes
 
-words_again : (ns : List ℕ) (bytes : List ℕ) (at : ℕ) → AreWords ns → part bytes at (4 * length ns) ≡ words_bytes ns → words_at (length ns) bytes at ≡ ns
+pub words_again : (ns : List ℕ) (bytes : List ℕ) (at : ℕ) → AreWords ns → part bytes at (4 * length ns) ≡ words_bytes ns → words_at (length ns) bytes at ≡ ns
 unfolding words_at words_bytes AreWords word_at
 words_again [] bytes at is e = refl
 words_again (n ∷ ns) bytes at is e =

@@ -4,3 +4,8 @@ pub mod NameLaws
 pub mod WordLaws
 pub mod WriteLaws
 pub mod SampleLaws
+pub mod FirstFaults
+pub mod BlobTests
+pub mod BlobRead
+pub mod BlobSpelt
+pub mod BlobLaws

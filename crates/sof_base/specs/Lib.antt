@@ -1,8 +1,9 @@
 pub mod Cells
 pub mod Slots
 pub mod Samples
+pub mod Rates
 pub mod Equations
 pub mod Holes
 pub mod Ports
-pub mod BlobForm
-pub mod Rates
+pub mod Blob
+pub mod BlobFaults

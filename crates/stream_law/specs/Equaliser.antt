@@ -1,49 +1,24 @@
 -- An equaliser's sections as its blob has them, and frames through them by the two numbers that each section keeps.
 use Rattle.std.specs.Prelude.{ℕ, zero, suc, ◌+◌, ◌*◌, List, [], ◌∷◌, ◌++◌, map, length, drop, get_or, ℤ, pos, negsuc, ◌+ℤ◌, ◌*ℤ◌, if◌then◌else◌, nat_lt}
 use Rattle.std.specs.List.{range_with_len}
-use Rattle.sof_base.specs.Slots.{word_at}
-use Rattle.sof_base.specs.Samples.{Frame, sat, rounded, signed_of, sample_of}
+use Rattle.sof_base.specs.Blob.{blob_channels, assignment_at, section_count, section_place, section_at}
+use Rattle.sof_base.specs.Samples.{Frame, sat, rounded, sample_of}
 use Rattle.sof_base.specs.Equations.{Section, section_output}
 
--- ---- the words of a blob
+-- ---- the sections of a channel
 
--- the signed word at a place
-abbrev pub blob_word : List ℕ → ℕ → ℤ
-blob_word blob place = signed_of 32 (word_at blob place)
-
--- how many channels have an assignment
-abbrev pub blob_channels : List ℕ → ℕ
-blob_channels blob = word_at blob 36
-
--- the section at a place
-abbrev pub section_at : List ℕ → ℕ → Section
-section_at blob place = record {
-  a2 = blob_word blob place;
-  a1 = blob_word blob (place + 4);
-  b2 = blob_word blob (place + 8);
-  b1 = blob_word blob (place + 12);
-  b0 = blob_word blob (place + 16);
-  shift = blob_word blob (place + 20);
-  gain = blob_word blob (place + 24);
-}
-
--- where response r begins, counted from the response at a place: 24 bytes of header, and 28 for each section
-abbrev pub response_place : List ℕ → ℕ → ℕ → ℕ
-response_place blob place zero = place
-response_place blob place (suc r) = response_place blob (place + 24 + 28 * word_at blob place) r
-
--- the sections of the response at a place
+-- the sections of response r
 abbrev pub response_sections : List ℕ → ℕ → List Section
-response_sections blob place = map (λ i. section_at blob (place + 24 + 28 * i)) (range_with_len 0 (word_at blob place))
+response_sections blob r = map (λ s. section_at blob (section_place blob r s)) (range_with_len 0 (section_count blob r))
 
--- the sections of the response with this assignment, none where it is negative
+-- those of the response with this assignment, none where it is negative
 abbrev pub assigned_sections : List ℕ → ℤ → List Section
-assigned_sections blob (pos r) = response_sections blob (response_place blob (60 + 4 * blob_channels blob) r)
+assigned_sections blob (pos r) = response_sections blob r
 assigned_sections blob (negsuc n) = []
 
 -- the sections in series that channel k passes through, none where it has no assignment
 unfoldable pub sections_of : List ℕ → ℕ → List Section
-sections_of blob k = if nat_lt k (blob_channels blob) then assigned_sections blob (blob_word blob (60 + 4 * k)) else []
+sections_of blob k = if nat_lt k (blob_channels blob) then assigned_sections blob (assignment_at blob k) else []
 
 -- ---- one sample, frame and list of frames, by the two numbers that each section keeps of what came before:
 -- b1*x1 + b2*x2 + a1*w1 + a2*w2 and b2*x1 + a2*w1, with x1, x2, w1 and w2 its last inputs and inner values, or 0

@@ -1,6 +1,6 @@
 -- What a live control may say.
 use Rattle.std.specs.Prelude.{ℕ, List, [], ◌∷◌, Bool, true, ◌&&◌, nat_le, ℤ, pos, int_le, Option, Some, None}
-use Rattle.sof_base.specs.BlobForm.{is_blob}
+use Rattle.sof_base.specs.BlobFaults.{is_blob}
 use Rattle.tplg_graph.specs.declared.live_control.LiveControl.{LiveControl}
 use Rattle.tplg_graph.specs.declared.live_control.LiveControl.TheVariants.{Volume, Choice, Blob}
 

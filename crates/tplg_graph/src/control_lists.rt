@@ -1,7 +1,7 @@
 // The live controls of a topology, by id.
 ghost use Rattle.std.specs.Prelude.{◌≡◌, ◌<◌, ◌^◌, ◌++◌, length, IfOk, OnOk};
 ghost use Rattle.std.specs.Option.{option_to_list};
-ghost use Rattle.sof_base.specs.BlobForm.{is_blob};
+ghost use Rattle.sof_base.specs.BlobFaults.{is_blob};
 ghost use Rattle.tplg_graph.specs.ControlRanges as ranges;
 ghost use Rattle.tplg_graph.specs.Lists as law;
 

@@ -1,0 +1,139 @@
+-- An equaliser's blob, after the standard's IIR configuration (SOF IPC3, ABI 3): the ABI header of 32 bytes, a head of 28, an
+-- assignment for each channel, and responses, each a head of 24 bytes and its sections of 28. All of it is words of 32 bits.
+use Rattle.std.specs.Prelude.{◌≡◌, ℕ, zero, suc, ◌+◌, ◌-◌, ◌*◌, ◌≤◌, List, [], ◌∷◌, ◌++◌, length, Bool, true, ◌&&◌, nat_le, ℤ, pos, negsuc, int_le, int_lt}
+use Rattle.std.specs.Int.{w32, cast_signed}
+use Rattle.std.specs.List.{AllByRecursion, flat_map}
+use Rattle.sof_base.specs.Slots.{AreWords, words_bytes, word_at}
+use Rattle.sof_base.specs.Equations.{Section}
+
+-- ---- the fields; reserved words, the header's type and abi and the head's size are not looked at: nothing restricts them
+
+-- a section: its coefficients, shift and gain
+pub record SectionFields : Type 0 where
+  pub a2 : ℕ
+  pub a1 : ℕ
+  pub b2 : ℕ
+  pub b1 : ℕ
+  pub b0 : ℕ
+  pub shift : ℕ
+  pub gain : ℕ
+
+-- a response: four reserved words, and its sections, all of them in series
+pub record ResponseFields : Type 0 where
+  pub reserved : List ℕ
+  pub sections : List SectionFields
+
+-- a blob: of the header its type, its abi and four reserved words; of the head its size and four reserved words; the number of
+-- each channel's response, -1 for none; and the responses
+pub record BlobFields : Type 0 where
+  pub kind : ℕ
+  pub abi : ℕ
+  pub header_reserved : List ℕ
+  pub head_size : ℕ
+  pub head_reserved : List ℕ
+  pub assignments : List ℕ
+  pub responses : List ResponseFields
+
+-- ---- their words, one after the other
+
+-- the magic word, "SOF" and a zero
+abbrev pub blob_magic : ℕ
+blob_magic = 4607827
+
+abbrev pub section_words : SectionFields → List ℕ
+section_words s = s.a2 ∷ s.a1 ∷ s.b2 ∷ s.b1 ∷ s.b0 ∷ s.shift ∷ s.gain ∷ []
+
+-- the number of sections, how many are in series, the reserved words, and the sections
+abbrev pub response_words : ResponseFields → List ℕ
+response_words r = length r.sections ∷ length r.sections ∷ (r.reserved ++ flat_map section_words r.sections)
+
+-- of a blob with so many bytes behind its header
+abbrev pub blob_words : ℕ → BlobFields → List ℕ
+blob_words size f =
+    blob_magic ∷ f.kind ∷ size ∷ f.abi
+    ∷ (f.header_reserved ++ (f.head_size ∷ length f.assignments ∷ length f.responses
+    ∷ (f.head_reserved ++ (f.assignments ++ flat_map response_words f.responses))))
+
+-- ---- the ranges
+
+-- a number from 1 to 8
+abbrev pub is_count : ℕ → Bool
+is_count n = nat_le 1 n && nat_le n 8
+
+-- -1, or the number of one of n responses
+abbrev pub is_assignment : ℕ → ℤ → Bool
+is_assignment n assignment = int_le (negsuc 0) assignment && int_lt assignment (pos n)
+
+-- -13 to 31
+abbrev pub is_shift : ℤ → Bool
+is_shift shift = int_le (negsuc 12) shift && int_le shift (pos 31)
+
+-- a word as a signed number
+abbrev pub signed : ℕ → ℤ
+signed word = cast_signed w32 word
+
+pub record IsResponse (r : ResponseFields) : Type 0 where
+  pub reserved : length r.reserved ≡ 4
+  pub count : is_count (length r.sections) ≡ true
+  pub shifts : AllByRecursion (λ s. is_shift (signed s.shift) ≡ true) r.sections
+
+pub record AreBlobFields (f : BlobFields) : Type 0 where
+  pub header_reserved : length f.header_reserved ≡ 4
+  pub head_reserved : length f.head_reserved ≡ 4
+  pub channels : is_count (length f.assignments) ≡ true
+  pub count : is_count (length f.responses) ≡ true
+  pub assignments : AllByRecursion (λ a. is_assignment (length f.responses) (signed a) ≡ true) f.assignments
+  pub responses : AllByRecursion IsResponse f.responses
+
+-- ---- blobs
+
+-- 60 to 1024 bytes are a blob: the words of such fields, joined, and then any rest
+pub record IsBlob (b : List ℕ) : Type 0 where
+  pub fields : BlobFields
+  pub rest : List ℕ
+  pub spelling : b ≡ words_bytes (blob_words (length b - 32) fields) ++ rest
+  pub words : AreWords (blob_words (length b - 32) fields)
+  pub in_range : AreBlobFields fields
+  pub size : (60 ≤ length b) × (length b ≤ 1024)
+
+-- ---- where the parts of a blob lie
+
+-- the signed number at a place
+abbrev pub signed_at : List ℕ → ℕ → ℤ
+signed_at b place = signed (word_at b place)
+
+-- how many channels have an assignment, and how many responses there are
+abbrev pub blob_channels : List ℕ → ℕ
+blob_channels b = word_at b 36
+
+abbrev pub blob_responses : List ℕ → ℕ
+blob_responses b = word_at b 40
+
+-- the response of a channel
+abbrev pub assignment_at : List ℕ → ℕ → ℤ
+assignment_at b channel = signed_at b (60 + 4 * channel)
+
+-- the place of a response: behind the assignments and the responses before it, 24 bytes of head and 28 for each section
+abbrev pub response_at : List ℕ → ℕ → ℕ
+response_at b zero = 60 + 4 * blob_channels b
+response_at b (suc r) = response_at b r + 24 + 28 * word_at b (response_at b r)
+
+-- how many sections it has
+abbrev pub section_count : List ℕ → ℕ → ℕ
+section_count b r = word_at b (response_at b r)
+
+-- the place of a section of it
+abbrev pub section_place : List ℕ → ℕ → ℕ → ℕ
+section_place b r s = response_at b r + 24 + 28 * s
+
+-- the section at a place
+abbrev pub section_at : List ℕ → ℕ → Section
+section_at b place = record {
+  a2 = signed_at b place;
+  a1 = signed_at b (place + 4);
+  b2 = signed_at b (place + 8);
+  b1 = signed_at b (place + 12);
+  b0 = signed_at b (place + 16);
+  shift = signed_at b (place + 20);
+  gain = signed_at b (place + 24);
+}

@@ -6,4 +6,5 @@ pub mod ActsOfShelf
 pub mod CallSteps
 pub mod KnownTransfers
 pub mod OpenSlots
+pub mod OutFileLaws
 pub mod ActsOfReal

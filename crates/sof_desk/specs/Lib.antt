@@ -6,5 +6,6 @@ pub mod Plans
 pub mod HeldFiles
 pub mod Shelf
 pub mod ShelfCalls
+pub mod OutFiles
 pub mod RealDesk
 pub mod Transfers

@@ -5,10 +5,11 @@ use Rattle.sof_desk.specs.declared.calls.LoadFault.TheVariants.{Failed, TooLong,
 use Rattle.sof_desk.specs.declared.os.TheConstants.{SLOTS}
 use Rattle.sof_desk.specs.Counts.{one_more}
 use Rattle.sof_desk.specs.Desk.{DeskMeaning, Act, Create, Put, Heard}
+use Rattle.sof_desk.specs.OutFiles.{OutView, slots_of, Gives}
 
--- the slots that were created, and how many calls failed
+-- the files of the slots that were created, and how many calls failed
 pub record RealDesk : Type 0 where
-  pub slots : List ℕ
+  pub files : List OutView
   pub faults : ℕ
 
 -- whether a slot was created
@@ -31,16 +32,18 @@ has_failed (Err Failed) = true
 has_failed (Err TooLong) = false
 has_failed (Err OutOfMemory) = false
 
--- a call keeps to its slots and counts a failure, and no more slots are created than there is room for
+-- a call keeps to its slots, gives its bytes to its own file and counts a failure; no more slots are created than there is
+-- room for
 pub record RealActs (act : Act) (done : Bool) (old new : RealDesk) : Type 0 where
   pub faults : new.faults ≡ (if done then old.faults else one_more old.faults)
-  pub slots : new.slots ≡ slots_after act done old.slots
-  pub room : length old.slots ≤ SLOTS → length new.slots ≤ SLOTS
+  pub slots : slots_of new.files ≡ slots_after act done (slots_of old.files)
+  pub gives : Gives act done old.files new.files
+  pub room : length old.files ≤ SLOTS → length new.files ≤ SLOTS
 
--- a load keeps the slots and counts a failure
+-- a load keeps the files and counts a failure
 pub record RealLoads (name : List ℕ) (limit : ℕ) (heard : Heard) (old new : RealDesk) : Type 0 where
   pub faults : new.faults ≡ (if has_failed heard then one_more old.faults else old.faults)
-  pub slots : new.slots ≡ old.slots
+  pub files : new.files ≡ old.files
 
 -- what such a desk means: it tells no content
 abbrev pub real : DeskMeaning RealDesk
@@ -49,7 +52,7 @@ real =
       faults = λ d. d.faults;
       holds = λ d name. None;
       wrote = λ d place. None;
-      created = λ d slot. has_slot slot d.slots;
+      created = λ d slot. has_slot slot (slots_of d.files);
       load = RealLoads;
       act = RealActs;
     }

@@ -4,9 +4,11 @@
 #![tactic(auto)]
 
 mod calls;
+mod faults;
 mod file;
 mod mem;
 mod os;
+mod out_file;
 mod plan;
 mod store;
 mod transfer;

@@ -1,5 +1,5 @@
 // A desk in memory, which tells all and fails by plan.
-ghost use Rattle.std.specs.Prelude.{◌≡◌, is_ok, IfOk, OnOk, OnErr, if◌then◌else◌};
+ghost use Rattle.std.specs.Prelude.{◌≡◌, IfOk, OnOk, OnErr};
 ghost use Rattle.std.specs.Option.{option_copied};
 ghost use Rattle.sof_desk.specs.Counts.{one_more};
 ghost use Rattle.sof_desk.specs.HeldFiles.{input_file, output_file};
@@ -7,6 +7,7 @@ ghost use Rattle.sof_desk.specs.Shelf.{empty_shelf, with_file, with_plan, file_b
 ghost use Rattle.sof_desk.specs.ShelfCalls.{shelf, planned_next};
 
 use crate::calls::{Desk, DeskFailed, LoadFault};
+use crate::faults::Faults;
 use crate::file::MemFile;
 use crate::plan::Planned;
 use crate::store::Store;
@@ -24,7 +25,7 @@ pub struct MemDesk {
     said: Store,
     plans: Vec<Planned>,
     calls: u64,
-    faults: u64,
+    faults: Faults,
 }
 
 impl Model for MemDesk {
@@ -52,7 +53,7 @@ impl MemDesk {
             said: Store::new(alloc, room)?,
             plans: Vec::new(alloc),
             calls: 0,
-            faults: 0,
+            faults: Faults::none(),
         })
     }
 
@@ -110,26 +111,6 @@ impl MemDesk {
         self.calls = self.calls.saturating_add(1);
         plan::planned_at(&self.plans, self.calls)
     }
-
-    fn count_fault(&mut self)
-        ensures { self.new ≡ record self.old { faults = one_more self.old.faults } }
-    {
-        self.faults = self.faults.saturating_add(1);
-    }
-
-    /// Counts a failure where there is one.
-    fn answer(&mut self, done: bool) -> Result<(), DeskFailed>
-        ensures answer { is_ok result ≡ done }
-        ensures after { self.new ≡ record self.old {
-          faults = if done then self.old.faults else one_more self.old.faults;
-        } }
-    {
-        if done {
-            return Ok(());
-        }
-        self.count_fault();
-        Err(DeskFailed)
-    }
 }
 
 impl Desk for MemDesk {
@@ -142,7 +123,7 @@ impl Desk for MemDesk {
             None => file::loaded_of(&self.files, name),
         };
         let Some(bytes) = loaded else {
-            self.count_fault();
+            self.faults.count_one();
             return Err(LoadFault::Failed);
         };
         if bytes.len() > limit {
@@ -157,18 +138,18 @@ impl Desk for MemDesk {
     fn create(&mut self, slot: u32, name: &str) -> Result<(), DeskFailed> {
         let planned = self.count_call();
         let done = planned.is_none() && file::create_in(&mut self.files, slot, name);
-        self.answer(done)
+        self.faults.answer(done)
     }
 
     fn append(&mut self, slot: u32, piece: &[u8]) -> Result<(), DeskFailed> {
         let planned = self.count_call();
         let done = file::append_in(&mut self.files, slot, piece, planned);
-        self.answer(done)
+        self.faults.answer(done)
     }
 
     fn say(&mut self, piece: &[u8]) -> Result<(), DeskFailed> {
         let planned = self.count_call();
         let done = self.said.take(piece, planned);
-        self.answer(done)
+        self.faults.answer(done)
     }
 }

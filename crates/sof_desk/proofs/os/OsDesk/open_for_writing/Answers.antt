@@ -1,16 +1,30 @@
-use Rattle.std.proofs.Common.{◌∙◌, ap, refl, map}
+use Rattle.std.proofs.Common.{◌∙◌, ap}
+use Rattle.sof_desk.specs.OutFiles.{slots_of, given_at}
 use Rattle.sof_desk.specs.RealDesk.{RealDesk, slots_with}
 use Rattle.sof_desk.proofs.OpenSlots.{slots-set, slots-push}
+use Rattle.sof_desk.proofs.OutFileLaws.{beside, beside_new}
 use Rattle.sof_desk.proofs.os.OsDesk.open_for_writing.Goals as goal
 
-pub returns-in-Some-clause-slots : goal.returns-in-Some-clause-slots
-returns-in-Some-clause-slots g c =
-    slots-set (λ opened. opened.slot) c.args.slot c.self.inside.files.items c.in-Some.place (record { slot = c.args.slot; file = c.in-Ok.file }) (cc) refl
-    ∙ ap (λ (d : RealDesk). slots_with c.args.slot d.slots) c.self.view_is
+pub returns-in-Some-place-clause-slots : goal.returns-in-Some-place-clause-slots
+returns-in-Some-place-clause-slots g c =
+    slots-set (λ f. f.slot) c.args.slot c.self.inside.files.items c.in-Some-place.place c.in-Some.opened (cc) c.in-Some.ensures.slot
+    ∙ ap (λ (d : RealDesk). slots_with c.args.slot (slots_of d.files)) c.self.view_is
+
+pub returns-in-Some-place-clause-others : goal.returns-in-Some-place-clause-others
+returns-in-Some-place-clause-others g c other apart =
+    beside c.args.slot c.self.inside.files.items c.in-Some-place.place c.in-Some.opened (cc) c.in-Some.ensures.slot other apart
+    ∙ ap (λ (d : RealDesk). given_at other d.files) c.self.view_is
 
 pub returns-in-None-clause-slots : goal.returns-in-None-clause-slots
 returns-in-None-clause-slots g c =
     let items = rw c.unwrap.ensures at c.push.ensures.items in
-    ap (map (λ opened. opened.slot)) items
-    ∙ (slots-push (λ opened. opened.slot) c.args.slot c.self.inside.files.items (record { slot = c.args.slot; file = c.in-Ok.file }) (cc) refl
-    ∙ ap (λ (d : RealDesk). slots_with c.args.slot d.slots) c.self.view_is)
+    ap slots_of items
+    ∙ (slots-push (λ f. f.slot) c.args.slot c.self.inside.files.items c.in-Some.opened (cc) c.in-Some.ensures.slot
+    ∙ ap (λ (d : RealDesk). slots_with c.args.slot (slots_of d.files)) c.self.view_is)
+
+pub returns-in-None-clause-others : goal.returns-in-None-clause-others
+returns-in-None-clause-others g c other apart =
+    let items = rw c.unwrap.ensures at c.push.ensures.items in
+    ap (given_at other) items
+    ∙ (beside_new c.args.slot c.self.inside.files.items c.in-Some.opened c.in-Some.ensures.slot other apart
+    ∙ ap (λ (d : RealDesk). given_at other d.files) c.self.view_is)

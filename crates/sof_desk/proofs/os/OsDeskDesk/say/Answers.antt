@@ -1,0 +1,31 @@
+use Rattle.std.proofs.Common.{◌≡◌, ◌∙◌, true, sym, ap, subst, is_ok, length, arith}
+use Rattle.std.proofs.lemmas.List.{with_items_is}
+use Rattle.std.specs.Vec.{with_items}
+use Rattle.sof_desk.specs.Desk.{Put, Spoken}
+use Rattle.sof_desk.specs.OutFiles.{Gives, slots_of}
+use Rattle.sof_desk.specs.RealDesk.{RealDesk}
+use Rattle.sof_desk.proofs.ActsOfReal.{puts}
+use Rattle.sof_desk.proofs.os.OsDeskDesk.say.Goals as goal
+use Rattle.sof_desk.proofs.os.OsDeskDesk.say.Goals.{then-write_kept_of, else-write_kept_of}
+
+pub returns : goal.returns
+returns g c =
+    let inside = c.self.inside in
+    let mid : RealDesk = record { files = inside.files.items; faults = inside.faults } in
+    let wrote = c.write_kept_of in
+    let done = c.if-write_kept_of.done in
+    let files = wrote.new.files in
+    let kept : length files ≡ inside.files.len = omega (arith, wrote.auto.files, c.deref_mut.ensures.len) in
+    let items = with_items_is inside.files files kept in
+    let new : RealDesk = record { files = (with_items inside.files files).items; faults = c.answer.new.self } in
+    let all : done ≡ true → wrote.result ≡ true = λ yes.
+    elim c.if-write_kept_of.branch [
+      | then-write_kept_of w ↦ w.if-write_kept_of.true
+      | else-write_kept_of w ↦ sym w.done-is ∙ yes
+    ] in
+    let gives : Gives (Put Spoken c.args.piece.now) done mid.files files =
+    (rw c.deref_mut.ensures.value at wrote.ensures.given, λ yes. wrote.ensures.none (all yes)) in
+    puts Spoken c.args.piece.now (is_ok c.answer.result) done c.args.self.now mid new c.self.view_is c.answer.ensures.answer
+    (ap slots_of items ∙ rw c.deref_mut.ensures.value at wrote.ensures.slots)
+    (subst (λ fs. Gives (Put Spoken c.args.piece.now) done mid.files fs) (sym items) gives)
+    c.answer.ensures.after

@@ -1,5 +1,5 @@
 -- Samples: their numbers inside the firmware, and their bytes in the three formats. Full scale is the range of 32 bits.
-use Rattle.std.specs.Prelude.{◌≡◌, ℕ, ◌+◌, ◌-◌, ◌*◌, ◌%◌, ◌^◌, List, [], ◌∷◌, ◌++◌, map, get_or, length, ℤ, pos, ◌+ℤ◌, ◌-ℤ◌, ◌*ℤ◌, if◌then◌else◌, nat_lt, ◌==◌, Option, Some, None}
+use Rattle.std.specs.Prelude.{◌≡◌, ℕ, zero, suc, ◌+◌, ◌-◌, ◌*◌, ◌%◌, ◌^◌, List, [], ◌∷◌, ◌++◌, map, take, drop, get_or, length, ℤ, pos, ◌+ℤ◌, ◌-ℤ◌, ◌*ℤ◌, if◌then◌else◌, nat_lt, ◌==◌, Option, Some, None}
 use Rattle.std.specs.Int.{w16, w32, to_le_bytes, cast_unsigned, saturate_to_bits, int_div_euclid}
 use Rattle.std.specs.List.{range_with_len}
 use Rattle.sof_base.specs.declared.format.Format.{Format}
@@ -79,3 +79,13 @@ frame_out format (x ∷ xs) = sample_out_of format x ++ frame_out format xs
 abbrev pub frames_out : Format → List Frame → List ℕ
 frames_out format [] = []
 frames_out format (f ∷ fs) = frame_out format f ++ frames_out format fs
+
+-- n frames of so many channels, whose samples lie one after the other
+abbrev pub frames_of : ℕ → ℕ → List ℤ → List Frame
+frames_of channels zero samples = []
+frames_of channels (suc n) samples = take channels samples ∷ frames_of channels n (drop channels samples)
+
+-- the samples of frames, frame after frame
+abbrev pub samples_of : List Frame → List ℤ
+samples_of [] = []
+samples_of (frame ∷ frames) = frame ++ samples_of frames

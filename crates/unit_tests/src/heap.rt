@@ -1,0 +1,73 @@
+// A region and its pieces.
+use fw_heap::Region;
+use sof_base::NoMemory;
+use std::alloc::Global;
+
+// A region without a byte is full.
+fn without_a_byte(alloc: Global) -> Result<bool, NoMemory> {
+    let mut region = Region::new(alloc, 0)?;
+    let full = match region.carve(1) {
+        Ok(piece) => {
+            region.give(piece);
+            false
+        }
+        Err(_) => true,
+    };
+    region.close();
+    Ok(full)
+}
+
+// In 64 bytes a piece of 17 takes 32, and one of 32 the rest. Where the first comes back, 33 bytes do not fit and 16 do.
+fn pieces_of_64_bytes(alloc: Global) -> Result<bool, NoMemory> {
+    let mut region = Region::new(alloc, 64)?;
+    region.limit(64);
+    let Ok(first) = region.carve(17) else {
+        region.close();
+        return Ok(false);
+    };
+    let mut right = first.size() == 32 && first.place() == 0;
+    let Ok(second) = region.carve(32) else {
+        region.give(first);
+        region.close();
+        return Ok(false);
+    };
+    right = right && second.place() == 32 && region.used() == 64;
+    match region.carve(1) {
+        Ok(piece) => {
+            region.give(piece);
+            right = false;
+        }
+        Err(_) => (),
+    }
+    region.give(first);
+    match region.carve(33) {
+        Ok(piece) => {
+            region.give(piece);
+            right = false;
+        }
+        Err(_) => (),
+    }
+    match region.carve(16) {
+        Ok(piece) => {
+            right = right && piece.place() == 0 && piece.size() == 16;
+            region.give(piece);
+        }
+        Err(_) => right = false,
+    }
+    region.give(second);
+    right = right && region.used() == 0;
+    region.close();
+    Ok(right)
+}
+
+#[test]
+fn no_piece_without_a_byte(rt: HostRuntime) {
+    let full = without_a_byte(rt.alloc());
+    assert!(rt; matches!(full, Ok(true)));
+}
+
+#[test]
+fn pieces_are_rounded_and_come_back(rt: HostRuntime) {
+    let right = pieces_of_64_bytes(rt.alloc());
+    assert!(rt; matches!(right, Ok(true)));
+}

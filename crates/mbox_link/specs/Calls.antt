@@ -1,6 +1,7 @@
 -- The calls made on a device, in order.
 use Rattle.std.specs.Prelude.{◌≡◌, ◌+◌, ◌-◌, ◌*◌, ◌≤◌, ℕ, List, [], ◌∷◌, Option, Some, None}
 use Rattle.sof_base.specs.Ports.{InputView, OutputView, Io, HasRoom}
+use Rattle.sof_base.specs.declared.limits.TheConstants.{TURN_BYTES}
 use Rattle.stream_law.specs.State.{FwState}
 use Rattle.mbox_link.specs.Step.{fresh}
 use Rattle.mbox_link.specs.Exchange.{ticked, ticks, Stepped, Rose, NoneFell, more}
@@ -67,7 +68,7 @@ pub record CutOff {D : Type 0} (means : Meaning D) (old new : D) : Type 0 where
 pub record Exchanged {D : Type 0} (means : Meaning D) (request : List ℕ) (answer : Option (List ℕ)) (w v : World D) : Type 0 where
   pub did : means.exchange request answer w v
   pub step : (s : FwState) → means.on w.device ≡ Some s → Stepped (Rose (means.refusals w.device) (means.refusals v.device)) (Rose (means.faults w.device) (means.faults v.device)) (ticks (means.pending w.device - means.pending v.device) (s, w.io)) request answer (means.on v.device) v.io
-  pub room : (n : ℕ) → HasRoom (61440 * means.pending w.device + n) w.io.outputs → HasRoom (61440 * means.pending v.device + n) v.io.outputs
+  pub room : (n : ℕ) → HasRoom (TURN_BYTES * means.pending w.device + n) w.io.outputs → HasRoom (TURN_BYTES * means.pending v.device + n) v.io.outputs
   pub boots : means.boots v.device ≡ means.boots w.device
   pub steady : Steady means w.device v.device
 
@@ -76,7 +77,7 @@ pub record Ticked {D : Type 0} (means : Meaning D) (w v : World D) : Type 0 wher
   pub did : means.tick w v
   pub on : (s : FwState) → means.on w.device ≡ Some s → (means.on v.device ≡ Some (ticked (s, w.io)).0) × (v.io ≡ (ticked (s, w.io)).1)
   pub off : means.on w.device ≡ None → (means.on v.device ≡ None) × (v.io ≡ w.io)
-  pub room : (n : ℕ) → HasRoom (n + 61440) w.io.outputs → HasRoom n v.io.outputs
+  pub room : (n : ℕ) → HasRoom (n + TURN_BYTES) w.io.outputs → HasRoom n v.io.outputs
   pub boots : means.boots v.device ≡ means.boots w.device
   pub quiet : Quiet means w.device v.device
 

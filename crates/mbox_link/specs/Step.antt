@@ -1,10 +1,11 @@
 -- The firmware's step for a message: one row for each, its tests in the order -19, -16, -22, -12.
-use Rattle.std.specs.Prelude.{ℕ, ◌+◌, ◌&&◌, ◌||◌, Bool, true, false, not, List, [], ◌∷◌, map, length, replicate, filter, Option, Some, None, Result, Ok, Err, ℤ, pos, negsuc, find, nat_le, ◌%◌, is_some, option_map, option_and_then, ◌==◌, if◌then◌else◌}
+use Rattle.std.specs.Prelude.{ℕ, ◌+◌, ◌&&◌, ◌||◌, Bool, true, false, not, List, [], ◌∷◌, map, length, replicate, filter, Option, Some, None, Result, Ok, Err, ℤ, pos, negsuc, find, nat_le, is_some, option_map, option_and_then, ◌==◌, if◌then◌else◌}
 use Rattle.std.specs.List.{list_any, list_all}
 use Rattle.std.specs.Option.{option_map_or}
 use Rattle.sof_base.specs.declared.format.Format.{Format}
 use Rattle.sof_base.specs.declared.format.Format.TheVariants.{S16, S24, S32}
 use Rattle.sof_base.specs.declared.hole.Hole.{Hole}
+pub use Rattle.sof_base.specs.Rates.{is_rate}
 use Rattle.sof_base.specs.Holes.{rounded, usable_of, fresh_holes, fits, first_fit, carved, given}
 use Rattle.stream_law.specs.declared.graph.Kind.{Kind}
 use Rattle.stream_law.specs.declared.graph.Kind.TheVariants.{HostPlay, HostCapture, DaiPlay, DaiCapture, Volume, Mixer, Mux, Eq}
@@ -373,10 +374,6 @@ abbrev pub goes : Kind → ℕ → Bool
 goes HostPlay direction = direction == 0
 goes HostCapture direction = direction == 1
 goes kind direction = false
-
--- frames a second
-abbrev pub is_rate : ℕ → Bool
-is_rate n = nat_le 8000 n && nat_le n 192000 && n % 1000 == 0
 
 -- a component's pipeline is complete, and its edges are as many as its kind has
 abbrev pub is_ready_comp : Graph → Comp → Bool

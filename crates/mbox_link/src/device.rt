@@ -1,6 +1,7 @@
 // A device as the host sees it: off, or on with a state, and what each of its calls does.
 ghost use Rattle.std.specs.Prelude.{◌≡◌, ◌≤◌, ◌*◌, is_some, true, IfOk};
 ghost use Rattle.sof_base.specs.Ports.{HasRoom};
+ghost use Rattle.sof_base.specs.declared.limits.TheConstants.{TURN_BYTES};
 ghost use Rattle.mbox_link.specs.Exchange.{answered};
 ghost use Rattle.mbox_link.specs.Calls.{Meaning, Booted, CutOff, Exchanged, Ticked, world};
 
@@ -46,13 +47,13 @@ pub trait Dsp: Drop {
         out: &mut Outputs,
     ) -> Result<usize, LinkFault>
         requires on { is_some (means.on self.old) ≡ true }
-        requires room { HasRoom (61440 * means.pending self.old) out.old }
+        requires room { HasRoom (TURN_BYTES * means.pending self.old) out.old }
         ensures short { IfOk result (λ n. n ≤ 384) }
         ensures did { Exchanged means request.now (answered result reply.new)
             (world self.old io.old out.old) (world self.new io.new out.new) };
 
-    /// A tick where it is on, else nothing. It puts at most 61440 bytes to each output.
+    /// A tick where it is on, else nothing. It puts at most `TURN_BYTES`, 61440, to each output.
     fn tick(&mut self, io: &mut Inputs, out: &mut Outputs)
-        requires room { HasRoom 61440 out.old }
+        requires room { HasRoom TURN_BYTES out.old }
         ensures { Ticked means (world self.old io.old out.old) (world self.new io.new out.new) };
 }

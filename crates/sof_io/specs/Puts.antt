@@ -1,6 +1,7 @@
 -- What an output holds, and its room.
 use Rattle.std.specs.Prelude.{ℕ, ◌-◌, ◌^◌, ◌==◌, nat_lt, List, [], ◌∷◌, ◌++◌, length, if◌then◌else◌}
 use Rattle.sof_base.specs.Ports.{OutputView}
+use Rattle.sof_base.specs.declared.limits.TheConstants.{OUTPUT_BYTES}
 
 -- an output with no bytes
 abbrev pub new_output : ℕ → OutputView
@@ -23,7 +24,7 @@ bytes_at slot (output ∷ outputs) = if output.slot == slot then output.bytes el
 -- how many more bytes a slot can hold, of 1048576; an unknown slot drops any number
 abbrev pub room_at : ℕ → List OutputView → ℕ
 room_at slot [] = 2 ^ 64 - 1
-room_at slot (output ∷ outputs) = if output.slot == slot then 1048576 - length output.bytes else room_at slot outputs
+room_at slot (output ∷ outputs) = if output.slot == slot then OUTPUT_BYTES - length output.bytes else room_at slot outputs
 
 -- the outputs with a piece more at a slot; the same for an unknown slot
 abbrev pub with_piece : ℕ → List ℕ → List OutputView → List OutputView

@@ -2,12 +2,9 @@
 ghost use Rattle.std.specs.Prelude.{◌≡◌, ◌+◌, ◌-◌, ◌≤◌, length, IfOk};
 ghost use Rattle.sof_io.specs.Puts.{new_output, longer_output};
 
-use sof_base::NoMemory;
+use sof_base::{NoMemory, OUTPUT_BYTES};
 use std::alloc::Global;
 use std::marker::Model;
-
-/// How many bytes an output can hold.
-pub const CAPACITY: usize = 1048576;
 
 /// The bytes of one output, in memory that was reserved for them. Contracts see its slot and its bytes.
 #[derive(Debug, Drop)]
@@ -19,22 +16,23 @@ pub struct Output {
 impl Model for Output {
     ghost use Rattle.std.specs.Prelude.{◌≤◌, vec_len, vec_capacity};
     ghost use Rattle.sof_base.specs.Ports.{OutputView};
+    ghost use Rattle.sof_base.specs.declared.limits.TheConstants.{OUTPUT_BYTES};
 
     ghost Value = { OutputView };
 
     ghost view = { λ s. record { slot = s.slot; bytes = s.bytes.items } };
 
-    ghost invariant = { λ s. (vec_len s.bytes ≤ 1048576) × (1048576 ≤ vec_capacity s.bytes) };
+    ghost invariant = { λ s. (vec_len s.bytes ≤ OUTPUT_BYTES) × (OUTPUT_BYTES ≤ vec_capacity s.bytes) };
 }
 
 impl Output {
-    /// An output with no bytes, and memory for 1048576.
+    /// An output with no bytes, and memory for [`OUTPUT_BYTES`].
     pub fn new(alloc: Global, slot: u32) -> Result<Output, NoMemory>
         ensures { IfOk result (λ output. output ≡ new_output slot) }
     {
         Ok(Output {
             slot,
-            bytes: Vec::with_capacity(alloc, CAPACITY)?,
+            bytes: Vec::with_capacity(alloc, OUTPUT_BYTES)?,
         })
     }
 
@@ -45,24 +43,24 @@ impl Output {
         self.slot
     }
 
-    /// The bytes that were put and not yet drained, at most 1048576.
+    /// The bytes that were put and not yet drained, at most [`OUTPUT_BYTES`].
     pub fn bytes(&self) -> &[u8]
         ensures bytes { result.now ≡ self.now.bytes }
-        ensures bound { length self.now.bytes ≤ 1048576 }
+        ensures bound { length self.now.bytes ≤ OUTPUT_BYTES }
     {
         self.bytes.as_slice()
     }
 
     /// How many more bytes it can hold.
     pub fn room(&self) -> usize
-        ensures { result ≡ 1048576 - length self.now.bytes }
+        ensures { result ≡ OUTPUT_BYTES - length self.now.bytes }
     {
-        CAPACITY - self.bytes.len()
+        OUTPUT_BYTES - self.bytes.len()
     }
 
     /// Puts a piece behind its bytes.
     pub fn put(&mut self, piece: &[u8])
-        requires { length self.old.bytes + length piece.now ≤ 1048576 }
+        requires { length self.old.bytes + length piece.now ≤ OUTPUT_BYTES }
         ensures { self.new ≡ longer_output piece.now self.old }
     {
         // It fits in the memory that was reserved, so it is never refused.

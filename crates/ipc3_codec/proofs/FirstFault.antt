@@ -1,25 +1,28 @@
 -- Reading word by word gives the message, or the first fault.
-use Rattle.std.proofs.Common.{◌≡◌, ℕ, Bool, true, false, cond, List, [], ◌∷◌, ◌++◌, length, Option, Some, None, Result, Ok, Err, refl, ap, ◌∙◌, append-nil}
-use Rattle.std.specs.Prelude.{nat_lt, not, ◌==◌}
+use Rattle.std.proofs.Common.{◌≡◌, ℕ, Bool, true, false, cond, List, [], ◌∷◌, ◌++◌, length, Option, Some, None, Result, Ok, Err, refl, sym, ap, ◌∙◌, append-nil}
+use Rattle.std.specs.Prelude.{nat_lt, nat_le, not, ◌&&◌, ◌==◌, is_some}
 use Rattle.sof_base.specs.Slots.{word_at, part}
 use Rattle.ipc3_codec.specs.declared.command.CommandWord.{CommandWord}
 use Rattle.ipc3_codec.specs.declared.command.CommandWord.TheVariants as commands
 use Rattle.ipc3_codec.specs.declared.control.ControlKind.{ControlKind}
 use Rattle.ipc3_codec.specs.declared.control.ControlKind.TheVariants as kinds
+use Rattle.ipc3_codec.specs.declared.component_type.CompType.{CompType}
 use Rattle.ipc3_codec.specs.declared.message.Message.{Message}
-use Rattle.ipc3_codec.specs.declared.message.Message.TheVariants.{SetValue, GetValue, SetData, GetData}
+use Rattle.ipc3_codec.specs.declared.message.CompWords.{CompWords}
+use Rattle.ipc3_codec.specs.declared.message.Message.TheVariants.{CompNew, SetValue, GetValue, SetData, GetData}
 use Rattle.ipc3_codec.specs.declared.components.Config.{Config}
 use Rattle.ipc3_codec.specs.declared.controls.Control.{Control}
 use Rattle.ipc3_codec.specs.declared.streams.Stream.{Stream}
 use Rattle.ipc3_codec.specs.declared.fault.CodecFault.{CodecFault}
-use Rattle.ipc3_codec.specs.declared.fault.CodecFault.TheVariants.{Short, SizeWord}
+use Rattle.ipc3_codec.specs.declared.fault.CodecFault.TheVariants.{Short, SizeWord, Field}
 use Rattle.ipc3_codec.specs.Allowed.{is_direction, is_frame_format, is_channels, is_comp_type, is_format_of}
 use Rattle.ipc3_codec.specs.Commands.{command_numbered}
+use Rattle.ipc3_codec.specs.ComponentTypes.{type_numbered}
 use Rattle.ipc3_codec.specs.Places.{Place, any_bytes, any_word, any_words, any_run, word_of, half_of}
 use Rattle.ipc3_codec.specs.StreamWords.{stream_places, format_of, params_at}
 use Rattle.ipc3_codec.specs.ControlWords.{type_of, takes_command, takes_count, takes_remaining, payload_places, control_rest_places, control_places, values_in, part_in}
-use Rattle.ipc3_codec.specs.Messages.{is_sized, places_of, config_places, kind_places, comp_words, message_of, decoded_body, decoded}
-use Rattle.ipc3_codec.specs.Reading.{◌>>=◌, framed, read_as, config_in, words_in, comp_in, format_in, stream_in, params_in, target_in, control_in, values_read, bytes_in, part_read, set_value_in, get_value_in, set_data_in, get_data_in, command_in, numbered_in, framed_message_in}
+use Rattle.ipc3_codec.specs.Messages.{is_sized, comp_places, places_of, config_places, kind_places, comp_words, typed_words, message_of, decoded_body, decoded}
+use Rattle.ipc3_codec.specs.Reading.{◌>>=◌, framed, word_in, run_in, read_as, known_type, comp_type_in, config_in, words_in, comp_in, format_in, stream_in, params_in, target_in, control_in, values_read, bytes_in, part_read, set_value_in, get_value_in, set_data_in, get_data_in, command_in, numbered_in, framed_message_in}
 use Rattle.ipc3_codec.proofs.Places.{read_as-is, then_read, then_run, then_word}
 
 -- the last block
@@ -31,7 +34,7 @@ last_read b r ps x y f is e = then_read b r ps [] x y f is e ∙ ap (λ (qs : Li
 abbrev config_at : List ℕ → Config
 config_at b = record { periods_sink = word_at b 36; periods_source = word_at b 40; frame_fmt = word_at b 48 }
 
-config_is : (b : List ℕ) (type : ℕ) → config_in b type ≡ read_as b (config_places b type) (config_at b)
+config_is : (b : List ℕ) (type : CompType) → config_in b type ≡ read_as b (config_places b type) (config_at b)
 unfolding config_in
 config_is b type =
     let q1 : List Place = any_words 52 3 in
@@ -47,23 +50,69 @@ config_is b type =
     then_word b (word_of b 48 (is_format_of type)) q1 y _ (λ _.
     then_run b 4 52 3 [] y _ refl)))))
 
-comp_is : (b : List ℕ) → comp_in b ≡ read_as b (places_of b commands.CompNew) (message_of b commands.CompNew)
-unfolding comp_in words_in
-comp_is b =
-    let type = word_at b 12 in
+-- the type word is read as its type, or it is a fault
+type_step : (within : Bool) (o : Option CompType) (n : ℕ) (f : ℕ → Result CompType CodecFault) → f n ≡ known_type 12 o → (cond (not (within && true)) (Err (Field 12)) (Ok n) >>= f) ≡ (cond (not (within && is_some o)) (Err (Field 12)) (Ok n) >>= λ (_ : ℕ). known_type 12 o)
+type_step true (Some type) n f e = e
+type_step true None n f e = e
+type_step false o n f e = refl
+
+type_known : (b : List ℕ) → comp_type_in b 12 ≡ (word_in b (word_of b 12 is_comp_type) >>= λ _. known_type 12 (type_numbered (word_at b 12)))
+unfolding comp_type_in word_in
+type_known b = type_step (nat_le 16 (word_at b 0)) (type_numbered (word_at b 12)) (word_at b 12) (λ (n : ℕ). known_type 12 (type_numbered n)) refl
+
+no_type : (within : Bool) (o : Option CompType) (n : ℕ) (fault : CodecFault) → o ≡ None → cond (not (within && is_some o)) (Err fault) (Ok n) ≡ Err fault
+no_type within (Some type) n fault e = absurd cc
+no_type true None n fault e = refl
+no_type false None n fault e = refl
+
+type_refused : (b : List ℕ) → type_numbered (word_at b 12) ≡ None → word_in b (word_of b 12 is_comp_type) ≡ Err (Field 12)
+unfolding word_in
+type_refused b none = no_type (nat_le 16 (word_at b 0)) (type_numbered (word_at b 12)) (word_at b 12) (Field 12) none
+
+abbrev comp_at : List ℕ → CompWords → Message
+comp_at b words = CompNew (word_at b 8) (word_at b 16) (word_at b 36) (word_at b 40) (word_at b 48) words
+
+-- a component behind its type word
+abbrev typed_in : List ℕ → CompType → Result Message CodecFault
+typed_in b type = do
+  _ ← word_in b (any_word 16)
+  _ ← run_in b 4 20 2
+  config ← config_in b type
+  words ← words_in b type
+  Ok (CompNew (word_at b 8) (word_at b 16) config.periods_sink config.periods_source config.frame_fmt words)
+
+abbrev typed_places : List ℕ → CompType → List Place
+typed_places b type = any_words 16 3 ++ (config_places b type ++ kind_places b type)
+
+typed_is : (b : List ℕ) (type : CompType) → typed_in b type ≡ read_as b (typed_places b type) (comp_at b (comp_words b type))
+unfolding words_in
+typed_is b type =
     let words = comp_words b type in
     let q1 : List Place = kind_places b type in
     let q2 : List Place = config_places b type ++ q1 in
     let q3 : List Place = any_run 4 20 2 ++ q2 in
-    let q4 : List Place = any_word 16 ∷ q3 in
-    let q5 : List Place = word_of b 12 is_comp_type ∷ q4 in
-    let y = message_of b commands.CompNew in
-    then_word b (any_word 8) q5 y _ (λ _.
-    then_word b (word_of b 12 is_comp_type) q4 y _ (λ _.
+    let y = comp_at b words in
     then_word b (any_word 16) q3 y _ (λ _.
     then_run b 4 20 2 q2 y _
     (then_read b (config_in b type) (config_places b type) q1 (config_at b) y _ (config_is b type)
-    (last_read b (words_in b type) q1 words y _ refl refl)))))
+    (last_read b (words_in b type) q1 words y _ refl refl)))
+
+comp_by : (b : List ℕ) (o : Option CompType) → type_numbered (word_at b 12) ≡ o → comp_in b ≡ read_as b (comp_places b o) (comp_at b (typed_words b o))
+unfolding comp_in
+comp_by b None none =
+    let place : Place = word_of b 12 is_comp_type in
+    let y = comp_at b (typed_words b None) in
+    let refused : word_in b place ≡ Err (Field 12) = type_refused b none in
+    let fault : comp_type_in b 12 ≡ Err (Field 12) = type_known b ∙ ap (λ (r : Result ℕ CodecFault). r >>= λ _. known_type 12 (type_numbered (word_at b 12))) refused in
+    then_word b (any_word 8) (place ∷ []) y _ (λ _. ap (λ (r : Result CompType CodecFault). r >>= typed_in b) fault ∙ sym (ap (λ (r : Result ℕ CodecFault). r >>= λ _. Ok y) refused))
+comp_by b (Some type) some =
+    let place : Place = word_of b 12 is_comp_type in
+    let y = comp_at b (comp_words b type) in
+    let known : comp_type_in b 12 ≡ read_as b (place ∷ []) type = type_known b ∙ ap (λ (o : Option CompType). word_in b place >>= λ _. known_type 12 o) some in
+    then_word b (any_word 8) (place ∷ typed_places b type) y _ (λ _. then_read b (comp_type_in b 12) (place ∷ []) (typed_places b type) type y (typed_in b) known (typed_is b type))
+
+comp_is : (b : List ℕ) → comp_in b ≡ read_as b (places_of b commands.CompNew) (message_of b commands.CompNew)
+comp_is b = comp_by b (type_numbered (word_at b 12)) refl
 
 -- ---- streams
 

@@ -1,21 +1,24 @@
 -- Bytes none of whose places is bad have the words of a message.
-use Rattle.std.proofs.Common.{◌≡◌, ℕ, ◌+◌, ◌≤◌, List, [], ◌∷◌, ◌++◌, length, refl, sym, ap, ◌∙◌, arith}
+use Rattle.std.proofs.Common.{◌≡◌, ℕ, ◌+◌, ◌≤◌, true, false, List, [], ◌∷◌, ◌++◌, length, Option, Some, None, refl, sym, ap, subst, ◌∙◌, arith}
 use Rattle.std.proofs.lemmas.Bool.{eqb-true}
-use Rattle.std.specs.Prelude.{◌==◌}
+use Rattle.std.specs.Prelude.{◌==◌, is_some}
 use Rattle.sof_base.specs.Slots.{Slot, Word, Size, word_at, part, slots_from, shapes_of, Bytes}
 use Rattle.ipc3_codec.specs.declared.command.CommandWord.{CommandWord}
 use Rattle.ipc3_codec.specs.declared.command.CommandWord.TheVariants as commands
+use Rattle.ipc3_codec.specs.declared.component_type.CompType.{CompType}
+use Rattle.ipc3_codec.specs.declared.component_type.CompType.TheVariants as types
 use Rattle.ipc3_codec.specs.declared.control.ControlKind.{ControlKind}
 use Rattle.ipc3_codec.specs.declared.control.ControlKind.TheVariants as kinds
 use Rattle.ipc3_codec.specs.declared.message.Message.{Message}
 use Rattle.ipc3_codec.specs.declared.message.Message.TheVariants.{CompNew}
 use Rattle.ipc3_codec.specs.declared.message.CompWords.{CompWords}
+use Rattle.ipc3_codec.specs.ComponentTypes.{type_number, type_numbered}
 use Rattle.ipc3_codec.specs.Places.{Place, any_words, word_of}
 use Rattle.ipc3_codec.specs.StreamWords.{host_buffer_slots}
 use Rattle.ipc3_codec.specs.ControlWords.{type_of, values_in, part_in, part_slots, control_rest_places, payload_places}
-use Rattle.ipc3_codec.specs.Messages.{IsAllowed, size_of, command_of, body_slots, comp_places, comp_words, places_of, message_of}
+use Rattle.ipc3_codec.specs.Messages.{IsAllowed, size_of, command_of, body_slots, comp_places, comp_words, typed_words, places_of, message_of}
 use Rattle.ipc3_codec.proofs.Places.{AllGood, AllGood-split, good_at}
-use Rattle.ipc3_codec.proofs.Spellings.{comp_cases, number_again, length-values_at, values_room, values_found, part_found}
+use Rattle.ipc3_codec.proofs.Spellings.{type_is, number_again, length-values_at, values_room, values_found, part_found}
 use Rattle.sof_base.proofs.FieldLaws.{length-part}
 
 -- m has this command, and its words stand in b
@@ -30,47 +33,39 @@ pub record Found (b : List ℕ) (c : CommandWord) (m : Message) : Type 0 where
 abbrev comp_of : List ℕ → CompWords → Message
 comp_of b words = CompNew (word_at b 8) (word_at b 16) (word_at b 36) (word_at b 40) (word_at b 48) words
 
-abbrev OfType : List ℕ → ℕ → Type 0
-OfType b n = word_at b 12 ≡ n → AllGood b (comp_places b n) → Found b commands.CompNew (comp_of b (comp_words b n))
+abbrev OfType : List ℕ → CompType → Type 0
+OfType b t = word_at b 12 ≡ type_number t → AllGood b (comp_places b (Some t)) → Found b commands.CompNew (comp_of b (comp_words b t))
 
-host_found : (b : List ℕ) → OfType b 1
-host_found b type good =
-    let last = good_at b (comp_places b 1) 16 good in
-    let direction = good_at b (comp_places b 1) 14 good in
+typed_found : (b : List ℕ) (t : CompType) → OfType b t
+typed_found b types.Host type good =
+    let last = good_at b (comp_places b (Some types.Host)) 16 good in
+    let direction = good_at b (comp_places b (Some types.Host)) 14 good in
     record { is = refl; room = last.within; same = rw type refl; allowed = direction.allowed }
-
-dai_found : (b : List ℕ) → OfType b 2
-dai_found b type good =
-    let last = good_at b (comp_places b 2) 17 good in
-    let format = good_at b (comp_places b 2) 10 good in
-    let direction = good_at b (comp_places b 2) 14 good in
+typed_found b types.Dai type good =
+    let last = good_at b (comp_places b (Some types.Dai)) 17 good in
+    let format = good_at b (comp_places b (Some types.Dai)) 10 good in
+    let direction = good_at b (comp_places b (Some types.Dai)) 14 good in
     record { is = refl; room = last.within; same = rw type refl; allowed = (format.allowed, direction.allowed) }
-
-volume_found : (b : List ℕ) → OfType b 5
-volume_found b type good =
-    let last = good_at b (comp_places b 5) 18 good in
-    let channels = good_at b (comp_places b 5) 14 good in
+typed_found b types.Volume type good =
+    let last = good_at b (comp_places b (Some types.Volume)) 18 good in
+    let channels = good_at b (comp_places b (Some types.Volume)) 14 good in
     record { is = refl; room = last.within; same = rw type refl; allowed = channels.allowed }
-
-mixer_found : (b : List ℕ) → OfType b 6
-mixer_found b type good =
-    let last = good_at b (comp_places b 6) 13 good in
+typed_found b types.Mixer type good =
+    let last = good_at b (comp_places b (Some types.Mixer)) 13 good in
+    record { is = refl; room = last.within; same = rw type refl; allowed = tt }
+typed_found b types.Mux type good =
+    let last = good_at b (comp_places b (Some types.Mux)) 13 good in
+    record { is = refl; room = last.within; same = rw type refl; allowed = tt }
+typed_found b types.EqIir type good =
+    let last = good_at b (comp_places b (Some types.EqIir)) 22 good in
     record { is = refl; room = last.within; same = rw type refl; allowed = tt }
 
-mux_found : (b : List ℕ) → OfType b 7
-mux_found b type good =
-    let last = good_at b (comp_places b 7) 13 good in
-    record { is = refl; room = last.within; same = rw type refl; allowed = tt }
-
-eq_found : (b : List ℕ) → OfType b 13
-eq_found b type good =
-    let last = good_at b (comp_places b 13) 22 good in
-    record { is = refl; room = last.within; same = rw type refl; allowed = tt }
-
-comp_found : (b : List ℕ) → AllGood b (places_of b commands.CompNew) → Found b commands.CompNew (message_of b commands.CompNew)
-comp_found b good =
-    let type = good_at b (comp_places b (word_at b 12)) 1 good in
-    comp_cases (OfType b) (word_at b 12) type.allowed (host_found b) (dai_found b) (volume_found b) (mixer_found b) (mux_found b) (eq_found b) refl good
+comp_found : (b : List ℕ) (o : Option CompType) → type_numbered (word_at b 12) ≡ o → AllGood b (comp_places b o) → Found b commands.CompNew (comp_of b (typed_words b o))
+comp_found b None none good =
+    let type : is_some (type_numbered (word_at b 12)) ≡ true = good.1.0.allowed in
+    let no : false ≡ true = subst (λ (o : Option CompType). is_some o ≡ true) none type in
+    absurd cc
+comp_found b (Some t) some good = typed_found b t (type_is (word_at b 12) t some) good
 
 -- ---- the other messages with words of their own
 
@@ -164,7 +159,7 @@ set_data_found b inside good =
 
 -- a message whose id is all that it has
 pub body_found : (b : List ℕ) (c : CommandWord) → 8 ≤ word_at b 0 → word_at b 0 ≤ length b → AllGood b (places_of b c) → Found b c (message_of b c)
-body_found b commands.CompNew head inside good = comp_found b good
+body_found b commands.CompNew head inside good = comp_found b (type_numbered (word_at b 12)) refl good
 body_found b commands.Connect head inside good = record { is = refl; room = good.1.0.within; same = refl; allowed = tt }
 body_found b commands.PipeNew head inside good = pipe_found b good
 body_found b commands.BufferNew head inside good = buffer_found b good

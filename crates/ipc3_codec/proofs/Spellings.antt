@@ -10,7 +10,9 @@ use Rattle.sof_base.specs.declared.format.Format.TheVariants.{S16, S24, S32}
 use Rattle.sof_base.proofs.FieldLaws.{length-part}
 use Rattle.ipc3_codec.specs.declared.command.CommandWord.{CommandWord}
 use Rattle.ipc3_codec.specs.declared.command.CommandWord.TheVariants as commands
-use Rattle.ipc3_codec.specs.Allowed.{is_comp_type, is_frame_format}
+use Rattle.ipc3_codec.specs.declared.component_type.CompType.{CompType}
+use Rattle.ipc3_codec.specs.Allowed.{is_frame_format}
+use Rattle.ipc3_codec.specs.ComponentTypes.{type_number, all_types, type_numbered}
 use Rattle.ipc3_codec.specs.Commands.{number_of, all_commands, command_numbered}
 use Rattle.ipc3_codec.specs.StreamWords.{format_of}
 use Rattle.ipc3_codec.specs.ControlWords.{value_slots, value_places, values_at}
@@ -75,24 +77,9 @@ fields_from (s ∷ ss) (suc i) = fields_from ss i
 
 -- ---- the types of components, and frame formats
 
-pub comp_cases : (P : ℕ → Type 0) (n : ℕ) → is_comp_type n ≡ true → P 1 → P 2 → P 5 → P 6 → P 7 → P 13 → P n
-comp_cases P n is p1 p2 p5 p6 p7 p13 =
-    elim (cases_Bool (eqb n 1)) [
-      | inl e ↦ subst P (sym (eqb-true n 1 e)) p1
-      | inr e1 ↦ elim (cases_Bool (eqb n 2)) [
-        | inl e ↦ subst P (sym (eqb-true n 2 e)) p2
-        | inr e2 ↦ elim (cases_Bool (eqb n 5)) [
-          | inl e ↦ subst P (sym (eqb-true n 5 e)) p5
-          | inr e5 ↦ elim (cases_Bool (eqb n 6)) [
-            | inl e ↦ subst P (sym (eqb-true n 6 e)) p6
-            | inr e6 ↦ elim (cases_Bool (eqb n 7)) [
-              | inl e ↦ subst P (sym (eqb-true n 7 e)) p7
-              | inr e7 ↦ let last : eqb n 13 ≡ true = rw (e1, e2, e5, e6, e7) at is in subst P (sym (eqb-true n 13 last)) p13
-            ]
-          ]
-        ]
-      ]
-    ]
+-- the type word of the type of a type word
+pub type_is : (n : ℕ) (t : CompType) → type_numbered n ≡ Some t → n ≡ type_number t
+type_is n t e = eqb-true n (type_number t) (found (λ (t : CompType). n == type_number t) all_types t e)
 
 pub number_again : (n : ℕ) → is_frame_format n ≡ true → frame_format (format_of n) ≡ n
 number_again n is =

@@ -1,5 +1,5 @@
 -- Words that are written one after the other.
-use Rattle.std.proofs.Common.{◌≡◌, ℕ, suc, ◌+◌, ◌≤◌, ◌<◌, List, [], ◌∷◌, ◌++◌, length, take, get_or, refl, sym, ap, ◌∙◌, append_assoc, append-nil, arith}
+use Rattle.std.proofs.Common.{◌≡◌, ℕ, suc, ◌+◌, ◌≤◌, ◌<◌, List, [], ◌∷◌, ◌++◌, length, take, get_or, refl, sym, ap, ◌∙◌, append_assoc, append-nil, arith, length-append}
 use Rattle.std.proofs.lemmas.List.{take_more, map-append, length-take}
 use Rattle.std.proofs.lemmas.Slice.{take-put_mid}
 use Rattle.std.specs.Int.{w16, w32, to_le_bytes}
@@ -15,6 +15,11 @@ words_bytes-push : (ns : List ℕ) (n : ℕ) → words_bytes (ns ++ n ∷ []) �
 unfolding words_bytes
 words_bytes-push [] n = append-nil (to_le_bytes w32 n)
 words_bytes-push (m ∷ ns) n = ap (λ (t : List ℕ). to_le_bytes w32 m ++ t) (words_bytes-push ns n) ∙ sym (append_assoc (to_le_bytes w32 m) (words_bytes ns) (to_le_bytes w32 n))
+
+-- bytes that are written over as many
+pub written_over : (front rest bytes : List ℕ) → bytes ≡ front ++ rest → length bytes ≡ length front → bytes ≡ front
+written_over front [] bytes is same = is ∙ append-nil front
+written_over front (x ∷ rest) bytes is same = absurd (omega (arith, same, ap length is, length-append front (x ∷ rest)))
 
 -- one more word behind those that are written
 pub words_bytes-more : (front words out bytes : List ℕ) (end i k : ℕ) → end ≤ length out → i < length words → bytes ≡ to_le_bytes w32 (get_or words i 0) → take end out ≡ front ++ words_bytes (take i words) → take (end + 4) (put_mid end k out bytes) ≡ front ++ words_bytes (take (i + 1) words)

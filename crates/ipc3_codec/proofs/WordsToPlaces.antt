@@ -1,15 +1,17 @@
 -- Bytes that have the words of a message have no bad place, and are read as it.
-use Rattle.std.proofs.Common.{◌≡◌, ℕ, ◌+◌, ◌*◌, ◌≤◌, List, [], ◌∷◌, length, refl, sym, ap, subst, arith}
+use Rattle.std.proofs.Common.{◌≡◌, ℕ, ◌+◌, ◌*◌, ◌≤◌, List, [], ◌∷◌, length, Some, refl, sym, ap, subst, arith}
 use Rattle.sof_base.specs.Slots.{Slot, Word, Size, Raw, word_at, half_at, part, slots_from, shapes_of, Bytes}
 use Rattle.sof_base.specs.Samples.{frame_format}
 use Rattle.sof_base.specs.declared.part.Part.{Part}
 use Rattle.sof_base.specs.declared.format.Params.{Params}
 use Rattle.ipc3_codec.specs.declared.command.CommandWord.TheVariants as commands
+use Rattle.ipc3_codec.specs.declared.component_type.CompType.TheVariants as types
 use Rattle.ipc3_codec.specs.declared.control.ControlKind.TheVariants as kinds
 use Rattle.ipc3_codec.specs.declared.message.Message.{Message}
 use Rattle.ipc3_codec.specs.declared.message.Message.TheVariants.{CompNew, CompFree, Connect, PipeNew, PipeFree, PipeComplete, BufferNew, BufferFree, CtxSave, SetValue, GetValue, SetData, GetData, PcmParams, PcmFree, TrigStart, TrigStop, TrigPause, TrigRelease}
 use Rattle.ipc3_codec.specs.declared.message.CompWords.{CompWords}
 use Rattle.ipc3_codec.specs.declared.message.CompWords.TheVariants.{Host, Dai, Volume, Mixer, Mux, Eq}
+use Rattle.ipc3_codec.specs.ComponentTypes.{type_number, type_numbered}
 use Rattle.ipc3_codec.specs.Places.{any_words, any_bytes}
 use Rattle.ipc3_codec.specs.ControlWords.{value_slots, part_in, payload_places}
 use Rattle.ipc3_codec.specs.Messages.{IsKind, IsAllowed, size_of, comp_size, comp_type, command_of, kind_slots, body_slots, comp_places, places_of, message_of}
@@ -34,7 +36,7 @@ id_good b room = AllGood-from b 12 (any_words 8 1) room refl refl
 -- a component whose type has no words that carry something
 bare_is : (b : List ℕ) (id pipe periods_sink periods_source frame_fmt : ℕ) (kind : CompWords) (more : List Slot)
     → Word (word_at b 8) ∷ Word (word_at b 12) ∷ Word (word_at b 16) ∷ Size 0 ∷ Size 0 ∷ Size 36 ∷ Size 0 ∷ Word (word_at b 36) ∷ Word (word_at b 40) ∷ Size 0 ∷ Word (word_at b 48) ∷ more
-    ≡ Word id ∷ Word (comp_type kind) ∷ Word pipe ∷ Size 0 ∷ Size 0 ∷ Size 36 ∷ Size 0 ∷ Word periods_sink ∷ Word periods_source ∷ Size 0 ∷ Word frame_fmt ∷ more
+    ≡ Word id ∷ Word (type_number (comp_type kind)) ∷ Word pipe ∷ Size 0 ∷ Size 0 ∷ Size 36 ∷ Size 0 ∷ Word periods_sink ∷ Word periods_source ∷ Size 0 ∷ Word frame_fmt ∷ more
     → CompNew (word_at b 8) (word_at b 16) (word_at b 36) (word_at b 40) (word_at b 48) kind ≡ CompNew id pipe periods_sink periods_source frame_fmt kind
 bare_is b id pipe periods_sink periods_source frame_fmt kind more e =
     let w8 : word_at b 8 ≡ id = ap (λ (ss : List Slot). number_at ss 0) e in
@@ -53,7 +55,7 @@ comp_only b id pipe periods_sink periods_source frame_fmt (Host direction) room 
     let w40 : word_at b 40 ≡ periods_source = ap (λ (ss : List Slot). number_at ss 8) e in
     let w48 : word_at b 48 ≡ frame_fmt = ap (λ (ss : List Slot). number_at ss 10) e in
     let w64 : word_at b 64 ≡ direction = ap (λ (ss : List Slot). number_at ss 14) e in
-    record { good = subst (λ (n : ℕ). AllGood b (comp_places b n)) (sym type) (AllGood-from b 76 (comp_places b 1) room refl (rw (type, w64, allowed) refl)); is = rw (type, w8, w16, w36, w40, w48, w64) refl }
+    record { good = subst (λ (n : ℕ). AllGood b (comp_places b (type_numbered n))) (sym type) (AllGood-from b 76 (comp_places b (Some types.Host)) room refl (rw (type, w64, allowed) refl)); is = rw (type, w8, w16, w36, w40, w48, w64) refl }
 comp_only b id pipe periods_sink periods_source frame_fmt (Dai direction index) room e allowed =
     let type : word_at b 12 ≡ 2 = cc in
     let w8 : word_at b 8 ≡ id = ap (λ (ss : List Slot). number_at ss 0) e in
@@ -63,7 +65,7 @@ comp_only b id pipe periods_sink periods_source frame_fmt (Dai direction index) 
     let w48 : word_at b 48 ≡ frame_fmt = ap (λ (ss : List Slot). number_at ss 10) e in
     let w64 : word_at b 64 ≡ direction = ap (λ (ss : List Slot). number_at ss 14) e in
     let w68 : word_at b 68 ≡ index = ap (λ (ss : List Slot). number_at ss 15) e in
-    record { good = subst (λ (n : ℕ). AllGood b (comp_places b n)) (sym type) (AllGood-from b 80 (comp_places b 2) room refl (rw (type, w48, w64, allowed.0, allowed.1) refl)); is = rw (type, w8, w16, w36, w40, w48, w64, w68) refl }
+    record { good = subst (λ (n : ℕ). AllGood b (comp_places b (type_numbered n))) (sym type) (AllGood-from b 80 (comp_places b (Some types.Dai)) room refl (rw (type, w48, w64, allowed.0, allowed.1) refl)); is = rw (type, w8, w16, w36, w40, w48, w64, w68) refl }
 comp_only b id pipe periods_sink periods_source frame_fmt (Volume channels min_value max_value) room e allowed =
     let type : word_at b 12 ≡ 5 = cc in
     let w8 : word_at b 8 ≡ id = ap (λ (ss : List Slot). number_at ss 0) e in
@@ -74,16 +76,16 @@ comp_only b id pipe periods_sink periods_source frame_fmt (Volume channels min_v
     let w64 : word_at b 64 ≡ channels = ap (λ (ss : List Slot). number_at ss 14) e in
     let w68 : word_at b 68 ≡ min_value = ap (λ (ss : List Slot). number_at ss 15) e in
     let w72 : word_at b 72 ≡ max_value = ap (λ (ss : List Slot). number_at ss 16) e in
-    record { good = subst (λ (n : ℕ). AllGood b (comp_places b n)) (sym type) (AllGood-from b 84 (comp_places b 5) room refl (rw (type, w64, allowed) refl)); is = rw (type, w8, w16, w36, w40, w48, w64, w68, w72) refl }
+    record { good = subst (λ (n : ℕ). AllGood b (comp_places b (type_numbered n))) (sym type) (AllGood-from b 84 (comp_places b (Some types.Volume)) room refl (rw (type, w64, allowed) refl)); is = rw (type, w8, w16, w36, w40, w48, w64, w68, w72) refl }
 comp_only b id pipe periods_sink periods_source frame_fmt Mixer room e allowed =
     let type : word_at b 12 ≡ 6 = ap (λ (ss : List Slot). number_at ss 1) e in
-    record { good = subst (λ (n : ℕ). AllGood b (comp_places b n)) (sym type) (AllGood-from b 64 (comp_places b 6) room refl (rw type refl)); is = rw type (bare_is b id pipe periods_sink periods_source frame_fmt Mixer (Size 0 ∷ Size 0 ∷ Size 0 ∷ []) e) }
+    record { good = subst (λ (n : ℕ). AllGood b (comp_places b (type_numbered n))) (sym type) (AllGood-from b 64 (comp_places b (Some types.Mixer)) room refl (rw type refl)); is = rw type (bare_is b id pipe periods_sink periods_source frame_fmt Mixer (Size 0 ∷ Size 0 ∷ Size 0 ∷ []) e) }
 comp_only b id pipe periods_sink periods_source frame_fmt Mux room e allowed =
     let type : word_at b 12 ≡ 7 = ap (λ (ss : List Slot). number_at ss 1) e in
-    record { good = subst (λ (n : ℕ). AllGood b (comp_places b n)) (sym type) (AllGood-from b 64 (comp_places b 7) room refl (rw type refl)); is = rw type (bare_is b id pipe periods_sink periods_source frame_fmt Mux (Size 0 ∷ Size 0 ∷ Size 0 ∷ []) e) }
+    record { good = subst (λ (n : ℕ). AllGood b (comp_places b (type_numbered n))) (sym type) (AllGood-from b 64 (comp_places b (Some types.Mux)) room refl (rw type refl)); is = rw type (bare_is b id pipe periods_sink periods_source frame_fmt Mux (Size 0 ∷ Size 0 ∷ Size 0 ∷ []) e) }
 comp_only b id pipe periods_sink periods_source frame_fmt Eq room e allowed =
     let type : word_at b 12 ≡ 13 = ap (λ (ss : List Slot). number_at ss 1) e in
-    record { good = subst (λ (n : ℕ). AllGood b (comp_places b n)) (sym type) (AllGood-from b 100 (comp_places b 13) room refl (rw type refl)); is = rw type (bare_is b id pipe periods_sink periods_source frame_fmt Eq (Size 0 ∷ Size 0 ∷ Size 0 ∷ kind_slots Eq) e) }
+    record { good = subst (λ (n : ℕ). AllGood b (comp_places b (type_numbered n))) (sym type) (AllGood-from b 100 (comp_places b (Some types.EqIir)) room refl (rw type refl)); is = rw type (bare_is b id pipe periods_sink periods_source frame_fmt Eq (Size 0 ∷ Size 0 ∷ Size 0 ∷ kind_slots Eq) e) }
 
 -- ---- streams
 

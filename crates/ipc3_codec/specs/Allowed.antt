@@ -1,5 +1,9 @@
 -- Which values the words of messages may have.
-use Rattle.std.specs.Prelude.{ℕ, Bool, not, ◌&&◌, ◌||◌, ◌%◌, nat_le, ◌==◌}
+use Rattle.std.specs.Prelude.{ℕ, Bool, true, ◌&&◌, ◌%◌, nat_le, ◌==◌, is_some}
+use Rattle.ipc3_codec.specs.declared.component_type.CompType.{CompType}
+use Rattle.ipc3_codec.specs.declared.component_type.CompType.TheVariants.{Dai}
+use Rattle.ipc3_codec.specs.declared.component_type.TheConstants.{BUFFER}
+use Rattle.ipc3_codec.specs.ComponentTypes.{type_numbered}
 
 -- 0 for playback, 1 for capture
 abbrev pub is_direction : ℕ → Bool
@@ -21,14 +25,15 @@ is_period n = nat_le 1000 n && nat_le n 10000 && n % 1000 == 0
 abbrev pub is_channels : ℕ → Bool
 is_channels n = nat_le 1 n && nat_le n 8
 
--- the type word of a component: HOST 1, DAI 2, VOLUME 5, MIXER 6, MUX 7, EQ_IIR 13
+-- the type word of a component
 abbrev pub is_comp_type : ℕ → Bool
-is_comp_type n = n == 1 || n == 2 || n == 5 || n == 6 || n == 7 || n == 13
+is_comp_type n = is_some (type_numbered n)
 
 -- the type word of each buffer
 abbrev pub is_buffer_type : ℕ → Bool
-is_buffer_type n = n == 12
+is_buffer_type n = n == BUFFER
 
 -- the frame format of a component of a type: only a DAI's is looked at
-abbrev pub is_format_of : ℕ → ℕ → Bool
-is_format_of type n = not (type == 2) || is_frame_format n
+abbrev pub is_format_of : CompType → ℕ → Bool
+is_format_of Dai n = is_frame_format n
+is_format_of type n = true

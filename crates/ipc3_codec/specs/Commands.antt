@@ -2,28 +2,29 @@
 use Rattle.std.specs.Prelude.{ℕ, List, [], ◌∷◌, Option, find, ◌==◌}
 use Rattle.ipc3_codec.specs.declared.command.CommandWord.{CommandWord}
 use Rattle.ipc3_codec.specs.declared.command.CommandWord.TheVariants.{CompNew, CompFree, Connect, PipeNew, PipeFree, PipeComplete, BufferNew, BufferFree, CtxSave, SetValue, GetValue, SetData, GetData, PcmParams, PcmFree, TrigStart, TrigStop, TrigPause, TrigRelease}
+use Rattle.ipc3_codec.specs.declared.command.TheConstants.{COMP_NEW, COMP_FREE, CONNECT, PIPE_NEW, PIPE_FREE, PIPE_COMPLETE, BUFFER_NEW, BUFFER_FREE, CTX_SAVE, SET_VALUE, GET_VALUE, SET_DATA, GET_DATA, PCM_PARAMS, PCM_FREE, TRIG_START, TRIG_STOP, TRIG_PAUSE, TRIG_RELEASE}
 
 -- the word of a command
 abbrev pub number_of : CommandWord → ℕ
-number_of CompNew = 0x30010000
-number_of CompFree = 0x30020000
-number_of Connect = 0x30030000
-number_of PipeNew = 0x30100000
-number_of PipeFree = 0x30110000
-number_of PipeComplete = 0x30130000
-number_of BufferNew = 0x30200000
-number_of BufferFree = 0x30210000
-number_of CtxSave = 0x40010000
-number_of SetValue = 0x50010000
-number_of GetValue = 0x50020000
-number_of SetData = 0x50030000
-number_of GetData = 0x50040000
-number_of PcmParams = 0x60010000
-number_of PcmFree = 0x60030000
-number_of TrigStart = 0x60040000
-number_of TrigStop = 0x60050000
-number_of TrigPause = 0x60060000
-number_of TrigRelease = 0x60070000
+number_of CompNew = COMP_NEW
+number_of CompFree = COMP_FREE
+number_of Connect = CONNECT
+number_of PipeNew = PIPE_NEW
+number_of PipeFree = PIPE_FREE
+number_of PipeComplete = PIPE_COMPLETE
+number_of BufferNew = BUFFER_NEW
+number_of BufferFree = BUFFER_FREE
+number_of CtxSave = CTX_SAVE
+number_of SetValue = SET_VALUE
+number_of GetValue = GET_VALUE
+number_of SetData = SET_DATA
+number_of GetData = GET_DATA
+number_of PcmParams = PCM_PARAMS
+number_of PcmFree = PCM_FREE
+number_of TrigStart = TRIG_START
+number_of TrigStop = TRIG_STOP
+number_of TrigPause = TRIG_PAUSE
+number_of TrigRelease = TRIG_RELEASE
 
 -- all commands
 abbrev pub all_commands : List CommandWord

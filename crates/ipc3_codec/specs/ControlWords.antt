@@ -1,25 +1,26 @@
 -- The words of messages on controls, ctrl_data, and what stands behind them: values or a part of a blob.
-use Rattle.std.specs.Prelude.{ℕ, zero, suc, ◌+◌, Bool, true, ◌&&◌, List, [], ◌∷◌, ◌++◌, nat_le, ◌==◌}
+use Rattle.std.specs.Prelude.{ℕ, zero, suc, ◌+◌, Bool, true, ◌&&◌, ◌||◌, List, [], ◌∷◌, ◌++◌, nat_le, ◌==◌}
 use Rattle.sof_base.specs.Slots.{Slot, Word, Size, Raw, word_at, part}
 use Rattle.sof_base.specs.declared.part.Part.{Part}
 use Rattle.ipc3_codec.specs.declared.control.ControlKind.{ControlKind}
 use Rattle.ipc3_codec.specs.declared.control.ControlKind.TheVariants.{GetValue, SetValue, GetData, SetData}
+use Rattle.ipc3_codec.specs.declared.control.TheConstants.{VALUE_CHAN_GET, VALUE_CHAN_SET, DATA_GET, DATA_SET, CTRL_VOLUME, CTRL_ENUM, CTRL_BINARY}
 use Rattle.ipc3_codec.specs.Places.{Place, any_word, any_words, any_bytes, word_of}
 use Rattle.ipc3_codec.specs.StreamWords.{host_buffer_slots}
 
--- VALUE_CHAN_GET, VALUE_CHAN_SET, DATA_GET, DATA_SET
+-- the type word: VALUE_CHAN_GET 0, VALUE_CHAN_SET 1, DATA_GET 4, DATA_SET 5
 abbrev pub type_of : ControlKind → ℕ
-type_of GetValue = 0
-type_of SetValue = 1
-type_of GetData = 4
-type_of SetData = 5
+type_of GetValue = VALUE_CHAN_GET
+type_of SetValue = VALUE_CHAN_SET
+type_of GetData = DATA_GET
+type_of SetData = DATA_SET
 
 -- VOLUME 0 or ENUM 1 for values, BINARY 3 for parts
 abbrev pub takes_command : ControlKind → ℕ → Bool
-takes_command GetValue n = nat_le n 1
-takes_command SetValue n = nat_le n 1
-takes_command GetData n = n == 3
-takes_command SetData n = n == 3
+takes_command GetValue n = n == CTRL_VOLUME || n == CTRL_ENUM
+takes_command SetValue n = n == CTRL_VOLUME || n == CTRL_ENUM
+takes_command GetData n = n == CTRL_BINARY
+takes_command SetData n = n == CTRL_BINARY
 
 -- num_elems: 1 to 8 values, or 1 to 260 bytes; it is not looked at where they are asked for
 abbrev pub takes_count : ControlKind → ℕ → Bool

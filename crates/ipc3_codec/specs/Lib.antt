@@ -1,4 +1,5 @@
 pub mod Commands
+pub mod ComponentTypes
 pub mod Allowed
 pub mod Places
 pub mod StreamWords
@@ -7,3 +8,4 @@ pub mod Messages
 pub mod Replies
 pub mod Reading
 pub mod Writing
+pub mod FaultNumbers

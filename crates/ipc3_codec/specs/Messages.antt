@@ -4,7 +4,11 @@ use Rattle.sof_base.specs.Cells.{Fits, written}
 use Rattle.sof_base.specs.Slots.{Slot, Word, Size, slots_cells, AreSlots, word_at}
 use Rattle.ipc3_codec.specs.declared.command.CommandWord.{CommandWord}
 use Rattle.ipc3_codec.specs.declared.command.CommandWord.TheVariants as commands
+use Rattle.ipc3_codec.specs.declared.component_type.CompType.{CompType}
+use Rattle.ipc3_codec.specs.declared.component_type.CompType.TheVariants as types
+use Rattle.ipc3_codec.specs.declared.component_type.TheConstants.{BUFFER}
 use Rattle.ipc3_codec.specs.declared.control.ControlKind.TheVariants as kinds
+use Rattle.ipc3_codec.specs.declared.control.TheConstants.{CTRL_BINARY}
 use Rattle.ipc3_codec.specs.declared.message.Message.{Message}
 use Rattle.ipc3_codec.specs.declared.message.Message.TheVariants.{CompNew, CompFree, Connect, PipeNew, PipeFree, PipeComplete, BufferNew, BufferFree, CtxSave, SetValue, GetValue, SetData, GetData, PcmParams, PcmFree, TrigStart, TrigStop, TrigPause, TrigRelease}
 use Rattle.ipc3_codec.specs.declared.message.CompWords.{CompWords}
@@ -12,6 +16,7 @@ use Rattle.ipc3_codec.specs.declared.message.CompWords.TheVariants.{Host, Dai, V
 use Rattle.ipc3_codec.specs.declared.fault.CodecFault.{CodecFault}
 use Rattle.ipc3_codec.specs.declared.fault.CodecFault.TheVariants.{Short, SizeWord, Command}
 use Rattle.ipc3_codec.specs.Commands.{number_of, command_numbered}
+use Rattle.ipc3_codec.specs.ComponentTypes.{type_number, type_numbered}
 pub use Rattle.ipc3_codec.specs.Allowed.{is_direction, is_frame_format, is_buffer_size, is_period, is_channels, is_comp_type, is_buffer_type, is_format_of}
 use Rattle.ipc3_codec.specs.Places.{Place, any_word, any_words, word_of, is_bad, field_fault}
 use Rattle.ipc3_codec.specs.StreamWords.{stream_slots, stream_places, params_at}
@@ -19,14 +24,14 @@ use Rattle.ipc3_codec.specs.ControlWords.{takes_command, takes_count, takes_rema
 
 -- ---- how a message is spelled: a `Word` carries something, a `Size` is written so and not looked at
 
--- the type word of a component
-abbrev pub comp_type : CompWords → ℕ
-comp_type (Host direction) = 1
-comp_type (Dai direction index) = 2
-comp_type (Volume channels min_value max_value) = 5
-comp_type Mixer = 6
-comp_type Mux = 7
-comp_type Eq = 13
+-- the type of a component
+abbrev pub comp_type : CompWords → CompType
+comp_type (Host direction) = types.Host
+comp_type (Dai direction index) = types.Dai
+comp_type (Volume channels min_value max_value) = types.Volume
+comp_type Mixer = types.Mixer
+comp_type Mux = types.Mux
+comp_type Eq = types.EqIir
 
 -- the words of a component's type: a host's direction, no_irq and dmac_config; a DAI's direction, index, type and a reserved word;
 -- a volume's channels, least and greatest value and two words of its ramp; an equaliser's size, type and seven reserved words
@@ -99,7 +104,7 @@ command_of (TrigRelease id) = commands.TrigRelease
 -- the words behind the header, in the order of the profile's table
 abbrev pub body_slots : Message → List Slot
 body_slots (CompNew id pipe periods_sink periods_source frame_fmt kind) =
-    Word id ∷ Word (comp_type kind) ∷ Word pipe ∷ Size 0 ∷ Size 0 ∷ (config_slots periods_sink periods_source frame_fmt ++ kind_slots kind)
+    Word id ∷ Word (type_number (comp_type kind)) ∷ Word pipe ∷ Size 0 ∷ Size 0 ∷ (config_slots periods_sink periods_source frame_fmt ++ kind_slots kind)
 body_slots (CompFree id) = Word id ∷ []
 body_slots (Connect source sink) = Word source ∷ Word sink ∷ []
 body_slots (PipeNew id pipe sched period priority mips frames time_domain) =
@@ -107,7 +112,7 @@ body_slots (PipeNew id pipe sched period priority mips frames time_domain) =
 body_slots (PipeFree id) = Word id ∷ []
 body_slots (PipeComplete id) = Word id ∷ []
 body_slots (BufferNew id pipe size caps) =
-    Word id ∷ Word 12 ∷ Word pipe ∷ Size 0 ∷ Size 0 ∷ Word size ∷ Word caps ∷ Size 0 ∷ Size 0 ∷ []
+    Word id ∷ Word BUFFER ∷ Word pipe ∷ Size 0 ∷ Size 0 ∷ Word size ∷ Word caps ∷ Size 0 ∷ Size 0 ∷ []
 body_slots (BufferFree id) = Word id ∷ []
 body_slots CtxSave = []
 body_slots (SetValue id command values) =
@@ -115,9 +120,9 @@ body_slots (SetValue id command values) =
 body_slots (GetValue id command) =
     control_slots (Size 0) (Word id) kinds.GetValue (Word command) (Size 0) (Size 0) (Size 0)
 body_slots (SetData id part) =
-    control_slots (Size 0) (Word id) kinds.SetData (Word 3) (Word (length part.bytes)) (Word part.remaining) (Word part.index) ++ part_slots part
+    control_slots (Size 0) (Word id) kinds.SetData (Word CTRL_BINARY) (Word (length part.bytes)) (Word part.remaining) (Word part.index) ++ part_slots part
 body_slots (GetData id index) =
-    control_slots (Size 0) (Word id) kinds.GetData (Word 3) (Size 0) (Size 0) (Word index)
+    control_slots (Size 0) (Word id) kinds.GetData (Word CTRL_BINARY) (Size 0) (Size 0) (Word index)
 body_slots (PcmParams host direction params) = Word host ∷ Size 0 ∷ Size 0 ∷ Size 0 ∷ stream_slots direction params
 body_slots (PcmFree id) = Word id ∷ []
 body_slots (TrigStart id) = Word id ∷ []
@@ -185,26 +190,27 @@ pub record Means (b : List ℕ) (m : Message) : Type 0 where
 
 -- ---- the first fault
 
--- the words of the config of a component whose type word is this one
-abbrev pub config_places : List ℕ → ℕ → List Place
+-- the words of the config of a component of this type
+abbrev pub config_places : List ℕ → CompType → List Place
 config_places b type = any_words 28 5 ++ word_of b 48 (is_format_of type) ∷ any_words 52 3
 
 -- the words of its type, behind the config
-abbrev pub kind_places : List ℕ → ℕ → List Place
-kind_places b type =
-    if type == 1 then word_of b 64 is_direction ∷ any_words 68 2
-    else if type == 2 then word_of b 64 is_direction ∷ any_words 68 3
-    else if type == 5 then word_of b 64 is_channels ∷ any_words 68 4
-    else if type == 13 then any_words 64 9
-    else []
+abbrev pub kind_places : List ℕ → CompType → List Place
+kind_places b types.Host = word_of b 64 is_direction ∷ any_words 68 2
+kind_places b types.Dai = word_of b 64 is_direction ∷ any_words 68 3
+kind_places b types.Volume = word_of b 64 is_channels ∷ any_words 68 4
+kind_places b types.Mixer = []
+kind_places b types.Mux = []
+kind_places b types.EqIir = any_words 64 9
 
--- the words behind the header of its COMP_NEW
-abbrev pub comp_places : List ℕ → ℕ → List Place
-comp_places b type = any_word 8 ∷ word_of b 12 is_comp_type ∷ (any_words 16 3 ++ (config_places b type ++ kind_places b type))
+-- the words behind the header of its COMP_NEW; the type word is the last where it is none
+abbrev pub comp_places : List ℕ → Option CompType → List Place
+comp_places b None = any_word 8 ∷ word_of b 12 is_comp_type ∷ []
+comp_places b (Some type) = any_word 8 ∷ word_of b 12 is_comp_type ∷ (any_words 16 3 ++ (config_places b type ++ kind_places b type))
 
 -- the words behind the header of bytes with this command
 abbrev pub places_of : List ℕ → CommandWord → List Place
-places_of b commands.CompNew = comp_places b (word_at b 12)
+places_of b commands.CompNew = comp_places b (type_numbered (word_at b 12))
 places_of b commands.Connect = any_words 8 2
 places_of b commands.PipeNew = any_words 8 4 ++ word_of b 24 is_period ∷ any_words 28 5
 places_of b commands.BufferNew = any_word 8 ∷ word_of b 12 is_buffer_type ∷ (any_words 16 3 ++ word_of b 28 is_buffer_size ∷ any_words 32 3)
@@ -230,19 +236,23 @@ message_fault b =
 
 -- ---- the message that the words of bytes are
 
--- what the type word of bytes, and the words behind the config, are
-abbrev pub comp_words : List ℕ → ℕ → CompWords
-comp_words b type =
-    if type == 1 then Host (word_at b 64)
-    else if type == 2 then Dai (word_at b 64) (word_at b 68)
-    else if type == 5 then Volume (word_at b 64) (word_at b 68) (word_at b 72)
-    else if type == 6 then Mixer
-    else if type == 7 then Mux
-    else Eq
+-- what the words behind the config of this type are
+abbrev pub comp_words : List ℕ → CompType → CompWords
+comp_words b types.Host = Host (word_at b 64)
+comp_words b types.Dai = Dai (word_at b 64) (word_at b 68)
+comp_words b types.Volume = Volume (word_at b 64) (word_at b 68) (word_at b 72)
+comp_words b types.Mixer = Mixer
+comp_words b types.Mux = Mux
+comp_words b types.EqIir = Eq
+
+-- of the type of a type word; where it is none the bytes are refused, and these words are not looked at
+abbrev pub typed_words : List ℕ → Option CompType → CompWords
+typed_words b None = Mixer
+typed_words b (Some type) = comp_words b type
 
 -- the message that bytes are, where they have this command
 abbrev pub message_of : List ℕ → CommandWord → Message
-message_of b commands.CompNew = CompNew (word_at b 8) (word_at b 16) (word_at b 36) (word_at b 40) (word_at b 48) (comp_words b (word_at b 12))
+message_of b commands.CompNew = CompNew (word_at b 8) (word_at b 16) (word_at b 36) (word_at b 40) (word_at b 48) (typed_words b (type_numbered (word_at b 12)))
 message_of b commands.CompFree = CompFree (word_at b 8)
 message_of b commands.Connect = Connect (word_at b 8) (word_at b 12)
 message_of b commands.PipeNew = PipeNew (word_at b 8) (word_at b 12) (word_at b 16) (word_at b 24) (word_at b 28) (word_at b 32) (word_at b 36) (word_at b 44)

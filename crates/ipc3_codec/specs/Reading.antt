@@ -6,8 +6,11 @@ use Rattle.sof_base.specs.declared.format.Format.{Format}
 use Rattle.sof_base.specs.declared.part.Part.{Part}
 use Rattle.ipc3_codec.specs.declared.command.CommandWord.{CommandWord}
 use Rattle.ipc3_codec.specs.declared.command.CommandWord.TheVariants as commands
+use Rattle.ipc3_codec.specs.declared.component_type.CompType.{CompType}
 use Rattle.ipc3_codec.specs.declared.control.ControlKind.{ControlKind}
 use Rattle.ipc3_codec.specs.declared.control.ControlKind.TheVariants as kinds
+use Rattle.ipc3_codec.specs.declared.command.TheConstants.{REPLY}
+use Rattle.ipc3_codec.specs.declared.control.TheConstants.{DATA_SET}
 use Rattle.ipc3_codec.specs.declared.message.Message.{Message}
 use Rattle.ipc3_codec.specs.declared.message.Message.TheVariants.{CompNew, CtxSave, SetValue, GetValue, SetData, GetData, PcmParams}
 use Rattle.ipc3_codec.specs.declared.message.CompWords.{CompWords}
@@ -19,8 +22,9 @@ use Rattle.ipc3_codec.specs.declared.fault.CodecFault.TheVariants.{Short, SizeWo
 use Rattle.ipc3_codec.specs.declared.reply.Body.{Body}
 use Rattle.ipc3_codec.specs.declared.reply.Body.TheVariants as bodies
 use Rattle.ipc3_codec.specs.declared.reply.Reply.{Reply}
-use Rattle.ipc3_codec.specs.Allowed.{is_direction, is_frame_format, is_channels, is_comp_type, is_format_of}
+use Rattle.ipc3_codec.specs.Allowed.{is_direction, is_frame_format, is_channels, is_format_of}
 use Rattle.ipc3_codec.specs.Commands.{command_numbered}
+use Rattle.ipc3_codec.specs.ComponentTypes.{type_numbered}
 use Rattle.ipc3_codec.specs.Places.{Place, any_bytes, any_word, any_words, any_run, word_of, half_of, is_bad}
 use Rattle.ipc3_codec.specs.StreamWords.{format_of}
 use Rattle.ipc3_codec.specs.ControlWords.{type_of, takes_command, takes_count, takes_remaining, value_places, values_in}
@@ -59,8 +63,17 @@ run_in b width at n = read_as b (any_run width at n) tt
 
 -- ---- components
 
--- a component's config
-unfoldable pub config_in : List ℕ → ℕ → Result Config CodecFault
+-- a type, or a fault at its place
+abbrev pub known_type : ℕ → Option CompType → Result CompType CodecFault
+known_type at None = Err (Field at)
+known_type at (Some type) = Ok type
+
+-- the type of the type word at a place
+unfoldable pub comp_type_in : List ℕ → ℕ → Result CompType CodecFault
+comp_type_in b at = word_in b (any_word at) >>= λ number. known_type at (type_numbered number)
+
+-- the config of a component of this type
+unfoldable pub config_in : List ℕ → CompType → Result Config CodecFault
 config_in b type = do
   _ ← run_in b 4 28 2
   _ ← word_in b (any_word 36)
@@ -71,18 +84,18 @@ config_in b type = do
   Ok (record { periods_sink = word_at b 36; periods_source = word_at b 40; frame_fmt = word_at b 48 })
 
 -- the words of a component's type
-unfoldable pub words_in : List ℕ → ℕ → Result CompWords CodecFault
+unfoldable pub words_in : List ℕ → CompType → Result CompWords CodecFault
 words_in b type = read_as b (kind_places b type) (comp_words b type)
 
 -- a component
 unfoldable pub comp_in : List ℕ → Result Message CodecFault
 comp_in b = do
   _ ← word_in b (any_word 8)
-  _ ← word_in b (word_of b 12 is_comp_type)
+  type ← comp_type_in b 12
   _ ← word_in b (any_word 16)
   _ ← run_in b 4 20 2
-  config ← config_in b (word_at b 12)
-  words ← words_in b (word_at b 12)
+  config ← config_in b type
+  words ← words_in b type
   Ok (CompNew (word_at b 8) (word_at b 16) config.periods_sink config.periods_source config.frame_fmt words)
 
 -- ---- streams
@@ -213,7 +226,7 @@ framed_message_in b = framed 8 b >>= λ frame. numbered_in frame (command_number
 
 -- the type of a body
 unfoldable pub type_in : List ℕ → ℕ → Result ControlKind CodecFault
-type_in b at = read_as b (word_of b at is_body_type ∷ []) (if word_at b at == 5 then kinds.SetData else kinds.SetValue)
+type_in b at = read_as b (word_of b at is_body_type ∷ []) (if word_at b at == DATA_SET then kinds.SetData else kinds.SetValue)
 
 -- the words up to it
 unfoldable pub kind_in : List ℕ → Result ControlKind CodecFault
@@ -241,4 +254,4 @@ body_in b =
 abbrev pub framed_reply_in : List ℕ → Result Reply CodecFault
 framed_reply_in b = do
   frame ← framed 12 b
-  if word_at frame 4 == 0x10000000 then (body_in frame >>= λ body. Ok (record { error = cast_signed w32 (word_at frame 8); body = body })) else Err (Command (word_at frame 4))
+  if word_at frame 4 == REPLY then (body_in frame >>= λ body. Ok (record { error = cast_signed w32 (word_at frame 8); body = body })) else Err (Command (word_at frame 4))

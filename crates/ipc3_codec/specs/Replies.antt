@@ -6,6 +6,8 @@ use Rattle.sof_base.specs.Cells.{Fits, written}
 use Rattle.sof_base.specs.Slots.{Slot, Word, Size, AreSlots, slots_cells, word_at}
 use Rattle.ipc3_codec.specs.declared.control.ControlKind.{ControlKind}
 use Rattle.ipc3_codec.specs.declared.control.ControlKind.TheVariants as kinds
+use Rattle.ipc3_codec.specs.declared.command.TheConstants.{REPLY}
+use Rattle.ipc3_codec.specs.declared.control.TheConstants.{VALUE_CHAN_SET, DATA_SET, CTRL_BINARY}
 use Rattle.ipc3_codec.specs.declared.reply.Body.{Body}
 use Rattle.ipc3_codec.specs.declared.reply.Body.TheVariants.{Nothing, Values, Part}
 use Rattle.ipc3_codec.specs.declared.reply.Reply.{Reply}
@@ -33,11 +35,11 @@ body_words error Nothing = error ∷ []
 body_words error (Values values) =
     control_slots error (Size 0) kinds.SetValue (Size 0) (Word (length values)) (Size 0) (Size 0) ++ value_slots 0 values
 body_words error (Part part) =
-    control_slots error (Size 0) kinds.SetData (Word 3) (Word (length part.bytes)) (Word part.remaining) (Word part.index) ++ part_slots part
+    control_slots error (Size 0) kinds.SetData (Word CTRL_BINARY) (Word (length part.bytes)) (Word part.remaining) (Word part.index) ++ part_slots part
 
 -- all words of a reply: its size, the reply command, the error in two's complement, and what its body has
 abbrev pub reply_slots : Reply → List Slot
-reply_slots r = size_slot r.body ∷ Word 0x10000000 ∷ body_words (Word (cast_unsigned w32 r.error)) r.body
+reply_slots r = size_slot r.body ∷ Word REPLY ∷ body_words (Word (cast_unsigned w32 r.error)) r.body
 
 -- the bytes that are answered
 abbrev pub reply_spelling : Reply → List ℕ
@@ -70,11 +72,11 @@ pub record MeansReply (b : List ℕ) (r : Reply) : Type 0 where
 
 -- the types of bodies: VALUE_CHAN_SET, DATA_SET
 abbrev pub is_body_type : ℕ → Bool
-is_body_type n = n == 1 || n == 5
+is_body_type n = n == VALUE_CHAN_SET || n == DATA_SET
 
 -- what a body is, by its type
 abbrev pub body_kind : List ℕ → ControlKind
-body_kind b = if word_at b 16 == 5 then kinds.SetData else kinds.SetValue
+body_kind b = if word_at b 16 == DATA_SET then kinds.SetData else kinds.SetValue
 
 -- behind its header a reply with a body is a ctrl_data
 abbrev pub body_places : List ℕ → ControlKind → List Place
@@ -88,7 +90,7 @@ unfoldable pub reply_fault : List ℕ → Option CodecFault
 reply_fault b =
     if nat_lt (length b) 12 then Some Short
     else if not (is_sized 12 b) then Some SizeWord
-    else if not (word_at b 4 == 0x10000000) then Some (Command (word_at b 4))
+    else if not (word_at b 4 == REPLY) then Some (Command (word_at b 4))
     else field_fault (find (is_bad b) (reply_places b))
 
 -- the body of a type

@@ -1,29 +1,27 @@
 // Words that have some values alone.
 ghost use Rattle.std.specs.Prelude.{◌≡◌, ◌==◌, true, IfOk};
 ghost use Rattle.sof_base.specs.Slots.{word_at, half_at};
-ghost use Rattle.ipc3_codec.specs.Allowed.{is_comp_type, is_buffer_type, is_format_of, is_direction, is_buffer_size, is_period, is_channels};
+ghost use Rattle.ipc3_codec.specs.Allowed.{is_buffer_type, is_format_of, is_direction, is_buffer_size, is_period, is_channels};
 ghost use Rattle.ipc3_codec.specs.ControlWords.{type_of, takes_command, takes_count, takes_remaining};
 ghost use Rattle.ipc3_codec.specs.Places.{word_of, half_of};
 ghost use Rattle.ipc3_codec.specs.Replies.{is_body_type};
-ghost use Rattle.ipc3_codec.specs.Reading.{word_in, format_in, type_in};
+ghost use Rattle.ipc3_codec.specs.Reading.{word_in, format_in, comp_type_in, type_in};
 
-use crate::command::{BUFFER, DAI, EQ_IIR, HOST, MIXER, MUX, VOLUME};
-use crate::control::ControlKind;
+use crate::component_type::{BUFFER, CompType};
+use crate::control::{ControlKind, DATA_SET, VALUE_CHAN_SET};
 use crate::fault::CodecFault;
 use crate::frame::Frame;
 use sof_base::Format;
 
 impl<'a> Frame<'a> {
     /// The type word of a component.
-    #[tactic(auto, unfolding(crate::specs::Reading::word_in))]
-    pub fn comp_type(&self, at: usize) -> Result<u32, CodecFault>
-        ensures read { result ≡ word_in self.now (word_of self.now at is_comp_type) }
-        ensures value { IfOk result (λ n. n ≡ word_at self.now at) }
+    #[tactic(auto, unfolding(crate::specs::Reading::word_in, crate::specs::Reading::comp_type_in))]
+    pub fn comp_type(&self, at: usize) -> Result<CompType, CodecFault>
+        ensures { result ≡ comp_type_in self.now at }
     {
-        let kind = self.word(at)?;
-        match kind {
-            HOST | DAI | VOLUME | MIXER | MUX | EQ_IIR => Ok(kind),
-            _ => Err(CodecFault::Field(at)),
+        match CompType::from_number(self.word(at)?) {
+            Some(kind) => Ok(kind),
+            None => Err(CodecFault::Field(at)),
         }
     }
 
@@ -41,15 +39,20 @@ impl<'a> Frame<'a> {
 
     /// The frame format of a component of this type: a DAI's is 0 to 2.
     #[tactic(auto, unfolding(crate::specs::Reading::word_in))]
-    pub fn frame_format(&self, at: usize, kind: u32) -> Result<u32, CodecFault>
+    pub fn frame_format(&self, at: usize, kind: CompType) -> Result<u32, CodecFault>
         ensures read { result ≡ word_in self.now (word_of self.now at (is_format_of kind)) }
         ensures value { IfOk result (λ n. n ≡ word_at self.now at) }
     {
         let format = self.word(at)?;
-        if kind == DAI && format > 2 {
-            return Err(CodecFault::Field(at));
+        match kind {
+            CompType::Dai if format > 2 => Err(CodecFault::Field(at)),
+            CompType::Dai
+            | CompType::Host
+            | CompType::Volume
+            | CompType::Mixer
+            | CompType::Mux
+            | CompType::EqIir => Ok(format),
         }
-        Ok(format)
     }
 
     /// A stream's frame format.
@@ -149,8 +152,8 @@ impl<'a> Frame<'a> {
         ensures sort { IfOk result (λ k. is_body_type (type_of k) ≡ true) }
     {
         match self.word(at)? {
-            1 => Ok(ControlKind::SetValue),
-            5 => Ok(ControlKind::SetData),
+            VALUE_CHAN_SET => Ok(ControlKind::SetValue),
+            DATA_SET => Ok(ControlKind::SetData),
             _ => Err(CodecFault::Field(at)),
         }
     }

@@ -3,9 +3,10 @@ ghost use Rattle.std.specs.Prelude.{◌≡◌};
 ghost use Rattle.sof_base.specs.Slots.{word_at};
 ghost use Rattle.ipc3_codec.specs.Messages.{kind_places};
 ghost use Rattle.ipc3_codec.specs.Reading.{read_as, config_in, words_in, comp_in};
+ghost use Rattle.ipc3_codec.specs.declared.component_type.CompType.TheVariants as types;
 ghost use Rattle.ipc3_codec.specs.declared.message.CompWords.TheVariants as words;
 
-use crate::command::{DAI, EQ_IIR, HOST, MIXER, MUX, VOLUME};
+use crate::component_type::CompType;
 use crate::fault::CodecFault;
 use crate::frame::Frame;
 use crate::message::{CompWords, Message};
@@ -42,7 +43,7 @@ pub fn comp_new(frame: &Frame) -> Result<Message, CodecFault>
 
 /// The config of a component of this type, from byte 28 to 64.
 #[tactic(auto, unfolding(crate::specs::Reading::config_in))]
-fn config_words(frame: &Frame, kind: u32) -> Result<Config, CodecFault>
+fn config_words(frame: &Frame, kind: CompType) -> Result<Config, CodecFault>
     ensures { result ≡ config_in frame.now kind }
 {
     // size and command
@@ -62,22 +63,21 @@ fn config_words(frame: &Frame, kind: u32) -> Result<Config, CodecFault>
 
 /// The words of a component's type, from byte 64 on.
 #[tactic(auto, unfolding(crate::specs::Reading::words_in))]
-fn comp_words(frame: &Frame, kind: u32) -> Result<CompWords, CodecFault>
+fn comp_words(frame: &Frame, kind: CompType) -> Result<CompWords, CodecFault>
     ensures { result ≡ words_in frame.now kind }
 {
     match kind {
-        HOST => host_words(frame),
-        DAI => dai_words(frame),
-        VOLUME => volume_words(frame),
-        MIXER => Ok(CompWords::Mixer),
-        MUX => Ok(CompWords::Mux),
-        EQ_IIR => eq_words(frame),
-        _ => Ok(CompWords::Eq),
+        CompType::Host => host_words(frame),
+        CompType::Dai => dai_words(frame),
+        CompType::Volume => volume_words(frame),
+        CompType::Mixer => Ok(CompWords::Mixer),
+        CompType::Mux => Ok(CompWords::Mux),
+        CompType::EqIir => eq_words(frame),
     }
 }
 
 fn host_words(frame: &Frame) -> Result<CompWords, CodecFault>
-    ensures { result ≡ read_as frame.now (kind_places frame.now 1) (words.Host (word_at frame.now 64)) }
+    ensures { result ≡ read_as frame.now (kind_places frame.now types.Host) (words.Host (word_at frame.now 64)) }
 {
     let direction = frame.direction(64)?;
     let _no_irq = frame.word(68)?;
@@ -86,7 +86,7 @@ fn host_words(frame: &Frame) -> Result<CompWords, CodecFault>
 }
 
 fn dai_words(frame: &Frame) -> Result<CompWords, CodecFault>
-    ensures { result ≡ read_as frame.now (kind_places frame.now 2) (words.Dai (word_at frame.now 64) (word_at frame.now 68)) }
+    ensures { result ≡ read_as frame.now (kind_places frame.now types.Dai) (words.Dai (word_at frame.now 64) (word_at frame.now 68)) }
 {
     let direction = frame.direction(64)?;
     let index = frame.word(68)?;
@@ -96,7 +96,7 @@ fn dai_words(frame: &Frame) -> Result<CompWords, CodecFault>
 }
 
 fn volume_words(frame: &Frame) -> Result<CompWords, CodecFault>
-    ensures { result ≡ read_as frame.now (kind_places frame.now 5) (words.Volume (word_at frame.now 64) (word_at frame.now 68) (word_at frame.now 72)) }
+    ensures { result ≡ read_as frame.now (kind_places frame.now types.Volume) (words.Volume (word_at frame.now 64) (word_at frame.now 68) (word_at frame.now 72)) }
 {
     let channels = frame.gains(64)?;
     let min_value = frame.word(68)?;
@@ -113,7 +113,7 @@ fn volume_words(frame: &Frame) -> Result<CompWords, CodecFault>
 /// An equaliser's size, type and seven reserved words.
 #[tactic(auto, unfolding(crate::specs::Reading::run_in))]
 fn eq_words(frame: &Frame) -> Result<CompWords, CodecFault>
-    ensures { result ≡ read_as frame.now (kind_places frame.now 13) words.Eq }
+    ensures { result ≡ read_as frame.now (kind_places frame.now types.EqIir) words.Eq }
 {
     frame.run(4, 64, 9)?;
     Ok(CompWords::Eq)

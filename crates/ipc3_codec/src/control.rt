@@ -11,8 +11,23 @@ pub enum ControlKind {
     SetData,
 }
 
-/// The command word of a byte control, BINARY.
-pub const BINARY: u32 = 3;
+// The type words.
+
+pub const VALUE_CHAN_GET: u32 = 0;
+
+pub const VALUE_CHAN_SET: u32 = 1;
+
+pub const DATA_GET: u32 = 4;
+
+pub const DATA_SET: u32 = 5;
+
+// The commands: the gains of a volume, the choice of a mux, the bytes of an equaliser.
+
+pub const CTRL_VOLUME: u32 = 0;
+
+pub const CTRL_ENUM: u32 = 1;
+
+pub const CTRL_BINARY: u32 = 3;
 
 impl ControlKind {
     /// The type word.
@@ -20,20 +35,22 @@ impl ControlKind {
         ensures { result ≡ words.type_of self }
     {
         match self {
-            ControlKind::GetValue => 0,
-            ControlKind::SetValue => 1,
-            ControlKind::GetData => 4,
-            ControlKind::SetData => 5,
+            ControlKind::GetValue => VALUE_CHAN_GET,
+            ControlKind::SetValue => VALUE_CHAN_SET,
+            ControlKind::GetData => DATA_GET,
+            ControlKind::SetData => DATA_SET,
         }
     }
 
-    /// Values have the command 0 or 1, parts have BINARY.
+    /// Values have the command VOLUME or ENUM, parts have BINARY.
     pub fn takes_command(self, command: u32) -> bool
         ensures { result ≡ words.takes_command self command }
     {
         match self {
-            ControlKind::GetValue | ControlKind::SetValue => command <= 1,
-            ControlKind::GetData | ControlKind::SetData => command == BINARY,
+            ControlKind::GetValue | ControlKind::SetValue => {
+                command == CTRL_VOLUME || command == CTRL_ENUM
+            }
+            ControlKind::GetData | ControlKind::SetData => command == CTRL_BINARY,
         }
     }
 
@@ -53,8 +70,8 @@ impl ControlKind {
         ensures { result ≡ words.takes_remaining self count remaining }
     {
         match self {
+            ControlKind::GetValue | ControlKind::SetValue | ControlKind::GetData => true,
             ControlKind::SetData => count <= 992 && remaining <= 992 - count,
-            _ => true,
         }
     }
 }

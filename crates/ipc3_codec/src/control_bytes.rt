@@ -8,9 +8,9 @@ ghost use Rattle.ipc3_codec.specs.declared.control.ControlKind.TheVariants as ki
 ghost use Rattle.ipc3_codec.specs.declared.message.Message.TheVariants as messages;
 
 use crate::command::CommandWord;
-use crate::control::{BINARY, ControlKind};
+use crate::control::{CTRL_BINARY, ControlKind};
 use crate::controls::Control;
-use crate::putting::{put, put_bytes, put_values};
+use crate::written_words::{put, put_bytes, put_values};
 use sof_base::{Bounded, Part};
 
 /// The first words of a message or a reply on a control.
@@ -88,7 +88,7 @@ pub fn put_part_control(
         id,
     };
     let control = Control {
-        command: BINARY,
+        command: CTRL_BINARY,
         count,
         remaining: part.remaining,
         index: part.index,
@@ -169,7 +169,7 @@ pub fn put_get_data(out: &mut [u8; 384], id: u32, index: u32) -> usize
         id,
     };
     let control = Control {
-        command: BINARY,
+        command: CTRL_BINARY,
         count: 0,
         remaining: 0,
         index,

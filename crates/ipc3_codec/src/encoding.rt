@@ -8,15 +8,16 @@ ghost use Rattle.ipc3_codec.specs.Messages.{comp_size, comp_type, kind_slots, me
 ghost use Rattle.ipc3_codec.specs.Replies.{reply_size, reply_spelling};
 ghost use Rattle.ipc3_codec.specs.declared.message.Message.TheVariants as messages;
 
-use crate::command::{BUFFER, CommandWord, DAI, EQ_IIR, HOST, MIXER, MUX, REPLY, VOLUME};
+use crate::command::{CommandWord, REPLY};
+use crate::component_type::{BUFFER, CompType};
 use crate::components::Config;
 use crate::control_bytes::{
     put_get_data, put_get_value, put_part_control, put_set_data, put_set_value, put_value_control,
 };
 use crate::message::{CompWords, Message};
-use crate::putting::put;
 use crate::reply::{Body, Reply};
 use crate::stream_bytes::put_params;
+use crate::written_words::put;
 
 /// How many bytes the COMP_NEW of this type has.
 fn comp_size(kind: CompWords) -> u32
@@ -32,17 +33,17 @@ fn comp_size(kind: CompWords) -> u32
     }
 }
 
-/// The type word of a component.
-fn comp_type(kind: CompWords) -> u32
+/// The type of a component.
+fn comp_type(kind: CompWords) -> CompType
     ensures { result ≡ comp_type kind }
 {
     match kind {
-        CompWords::Host { .. } => HOST,
-        CompWords::Dai { .. } => DAI,
-        CompWords::Volume { .. } => VOLUME,
-        CompWords::Mixer => MIXER,
-        CompWords::Mux => MUX,
-        CompWords::Eq => EQ_IIR,
+        CompWords::Host { .. } => CompType::Host,
+        CompWords::Dai { .. } => CompType::Dai,
+        CompWords::Volume { .. } => CompType::Volume,
+        CompWords::Mixer => CompType::Mixer,
+        CompWords::Mux => CompType::Mux,
+        CompWords::Eq => CompType::EqIir,
     }
 }
 
@@ -73,7 +74,7 @@ fn put_comp(out: &mut [u8; 384], id: u32, pipe: u32, config: Config, kind: CompW
     ensures bytes { take result out.new ≡ message_spelling (messages.CompNew id pipe config.periods_sink config.periods_source config.frame_fmt kind) }
 {
     let at = put(out, 0, &[comp_size(kind), CommandWord::CompNew.number()]);
-    let at = put(out, at, &[id, comp_type(kind), pipe, 0, 0]);
+    let at = put(out, at, &[id, comp_type(kind).number(), pipe, 0, 0]);
     let at = put(
         out,
         at,

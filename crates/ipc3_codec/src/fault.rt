@@ -1,19 +1,36 @@
 // Why bytes are no message.
+ghost use Rattle.std.specs.Prelude.{◌≡◌};
+ghost use Rattle.ipc3_codec.specs.FaultNumbers.{fault_number};
+
 use thiserror::Error;
 
 /// The first fault of bytes that are no message, or no reply.
 #[derive(Clone, Copy, Debug, PartialEq, Eq, Error)]
 pub enum CodecFault {
     /// Fewer bytes than a header has: 8, or 12 of a reply.
-    #[error("fewer bytes than a header has")]
+    #[error("byte 0: fewer bytes than a header has")]
     Short,
     /// The size word is below the header's size, above 384 or above the number of bytes.
-    #[error("the size word is not that of a message")]
+    #[error("byte 0: the size word is below the header, above 384 or above the bytes")]
     SizeWord,
     /// The command word, this one, is none of the profile's.
-    #[error("no message has the command word {0}")]
+    #[error("byte 4: {0:#010x} is no command")]
     Command(u32),
     /// The word at this place does not lie within the size word, or its value is not allowed there.
-    #[error("the word at byte {0} is missing or not allowed")]
+    #[error("byte {0}: the word is missing or not allowed")]
     Field(usize),
+}
+
+impl CodecFault {
+    /// Its number, from 1 to 4.
+    pub fn number(&self) -> u8
+        ensures { result ≡ fault_number self.now }
+    {
+        match self {
+            CodecFault::Short => 1,
+            CodecFault::SizeWord => 2,
+            CodecFault::Command(_) => 3,
+            CodecFault::Field(_) => 4,
+        }
+    }
 }

@@ -2,8 +2,9 @@
 //! encoded into at most 384 bytes, and how bytes are decoded, with the first fault and its place.
 #![tactic(auto)]
 
-mod checked;
-mod command;
+mod allowed_words;
+pub mod command;
+pub mod component_type;
 mod components;
 mod control;
 mod control_bytes;
@@ -14,10 +15,10 @@ mod fault;
 mod frame;
 mod laws;
 mod message;
-mod putting;
 mod reply;
 mod stream_bytes;
 mod streams;
+mod written_words;
 
 pub use decoding::{decode, decode_reply};
 pub use encoding::{encode, encode_reply};

@@ -7,7 +7,7 @@ ghost use Rattle.ipc3_codec.specs.StreamWords as streams;
 ghost use Rattle.ipc3_codec.specs.declared.message.Message.TheVariants as messages;
 
 use crate::command::CommandWord;
-use crate::putting::{put, put_halves};
+use crate::written_words::{put, put_halves};
 use sof_base::{Format, Params};
 
 /// How many bytes of a sample carry it.

@@ -1,9 +1,11 @@
-// Numbers and bytes behind what is written of a message. Each call tells how many bytes there are then.
+// Words and bytes that are written behind the first bytes of a message. Each call tells how many bytes there are then.
 ghost use Rattle.std.specs.Prelude.{◌≡◌, ◌≤◌, ◌+◌, ◌*◌, ◌++◌, length, take};
 ghost use Rattle.sof_base.specs.Cells.{written};
 ghost use Rattle.sof_base.specs.Slots.{slots_cells, words_bytes};
 ghost use Rattle.ipc3_codec.specs.ControlWords.{value_slots};
 ghost use Rattle.ipc3_codec.specs.Writing.{halves_bytes};
+
+use byteorder::{ByteOrder, LittleEndian};
 
 /// Writes words behind the first `at` bytes.
 pub fn put(out: &mut [u8; 384], at: usize, words: &[u32]) -> usize
@@ -13,7 +15,7 @@ pub fn put(out: &mut [u8; 384], at: usize, words: &[u32]) -> usize
 {
     let mut end = at;
     for word in words {
-        out[end..end + 4].copy_from_slice(&word.to_le_bytes());
+        LittleEndian::write_u32(&mut out[end..end + 4], *word);
         end += 4;
     }
     end
@@ -27,7 +29,7 @@ pub fn put_halves(out: &mut [u8; 384], at: usize, halves: &[u16]) -> usize
 {
     let mut end = at;
     for half in halves {
-        out[end..end + 2].copy_from_slice(&half.to_le_bytes());
+        LittleEndian::write_u16(&mut out[end..end + 2], *half);
         end += 2;
     }
     end

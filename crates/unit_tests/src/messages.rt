@@ -1,6 +1,7 @@
 // Worked rows of messages and replies as bytes.
 use ipc3_codec::{Body, CodecFault, Message, Reply, decode, decode_reply, encode, encode_reply};
 use sof_base::{Bounded, Format, Params, Part, PartBytes};
+use std::test::Fail;
 
 /// The word at a place.
 fn word(out: &[u8; 384], at: usize) -> u32 {
@@ -224,4 +225,18 @@ fn faults_are_named_at_their_place(rt: HostRuntime) {
     assert!(rt; matches!(&decode(&unknown), Err(CodecFault::Command(0x30FF_0000))));
     assert!(rt; matches!(&decode_reply(&reply), Err(CodecFault::Field(16))));
     assert!(rt; matches!(&decode_reply(&reply[..11]), Err(CodecFault::Short)));
+}
+
+#[test]
+fn faults_are_told_by_number_and_place(rt: HostRuntime) -> Result<(), Fail> {
+    let command = CodecFault::Command(0x30FF_0000);
+    let field = CodecFault::Field(12);
+    assert_eq!(rt; (CodecFault::Short.number(), CodecFault::SizeWord.number()), (1, 2));
+    assert_eq!(rt; (command.number(), field.number()), (3, 4));
+    let text = format!(in rt.alloc(); "{command}, {field}")?;
+    assert_eq!(rt;
+        text.as_str(),
+        "byte 4: 0x30ff0000 is no command, byte 12: the word is missing or not allowed"
+    );
+    Ok(())
 }

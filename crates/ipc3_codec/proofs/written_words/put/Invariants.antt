@@ -1,6 +1,6 @@
 use Rattle.std.proofs.Common.{◌≡◌, ◌+◌, ◌*◌, ◌++◌, take}
 use Rattle.sof_base.specs.Slots.{words_bytes}
-use Rattle.ipc3_codec.proofs.putting.put.Given as goal
+use Rattle.ipc3_codec.proofs.written_words.put.Given as goal
 
 abbrev pub invariant-loop-word : goal.invariant-loop-word
 invariant-loop-word l = record {

@@ -1,6 +1,6 @@
 use Rattle.std.proofs.Common.{◌≡◌, ◌+◌, ◌*◌, ◌++◌, take}
 use Rattle.ipc3_codec.specs.Writing.{halves_bytes}
-use Rattle.ipc3_codec.proofs.putting.put_halves.Given as goal
+use Rattle.ipc3_codec.proofs.written_words.put_halves.Given as goal
 
 abbrev pub invariant-loop-half : goal.invariant-loop-half
 invariant-loop-half l = record {

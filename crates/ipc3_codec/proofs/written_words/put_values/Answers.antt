@@ -4,7 +4,7 @@ use Rattle.sof_base.specs.Cells.{written}
 use Rattle.sof_base.specs.Slots.{slots_cells, words_bytes}
 use Rattle.ipc3_codec.specs.ControlWords.{value_slots}
 use Rattle.ipc3_codec.proofs.WordList.{values-more}
-use Rattle.ipc3_codec.proofs.putting.put_values.Goals as goal
+use Rattle.ipc3_codec.proofs.written_words.put_values.Goals as goal
 
 pub loop-i-init : goal.loop-i-init
 unfolding slots_cells

@@ -4,7 +4,7 @@ use Rattle.std.specs.Prelude.{None, nat_le, ◌==◌}
 use Rattle.std.proofs.lemmas.Bool.{leb-true, le-leb, eqb-true, eq-eqb, and_parts, and_from}
 use Rattle.sof_base.specs.Slots.{word_at}
 use Rattle.sof_base.specs.Blob.{blob_magic, is_count, is_assignment, is_shift, signed_at, blob_channels, blob_responses, assignment_at, response_at, section_count, section_place}
-use Rattle.sof_base.specs.BlobFaults.{BlobFault, Size, Magic, HeaderSize, Channels, Responses, Assignment, Sections, Shift, Length, Test, first_fault, head_tests, assignment_tests, section_tests, counts_tests, response_tests, blob_fault}
+use Rattle.sof_base.specs.BlobFaults.{BlobFault, Size, Magic, HeaderSize, Channels, Responses, Assignment, Sections, Shift, Length, BlobTest, first_fault, head_tests, assignment_tests, section_tests, counts_tests, response_tests, blob_fault}
 use Rattle.sof_base.proofs.FirstFaults.{tests_of, first-append, first-both, first-each, first-none}
 
 -- what a walk over a blob finds
@@ -28,11 +28,11 @@ is_counted n low high = and_from (nat_le 1 n) (nat_le n 8) (le-leb 1 n low) (le-
 
 -- ---- one test
 
-passed : (fault : BlobFault) (holds : Bool) (rest : List Test) → first_fault ((fault, holds) ∷ rest) ≡ None → (holds ≡ true) × (first_fault rest ≡ None)
+passed : (fault : BlobFault) (holds : Bool) (rest : List BlobTest) → first_fault ((fault, holds) ∷ rest) ≡ None → (holds ≡ true) × (first_fault rest ≡ None)
 passed fault true rest e = (refl, e)
 passed fault false rest e = absurd cc
 
-pass : (fault : BlobFault) (holds : Bool) (rest : List Test) → holds ≡ true → first_fault rest ≡ None → first_fault ((fault, holds) ∷ rest) ≡ None
+pass : (fault : BlobFault) (holds : Bool) (rest : List BlobTest) → holds ≡ true → first_fault rest ≡ None → first_fault ((fault, holds) ∷ rest) ≡ None
 pass fault true rest is e = e
 pass fault false rest is e = absurd cc
 
@@ -47,7 +47,7 @@ reaches b end fault holds low is = pass Length (nat_le end (length b)) ((fault, 
 
 -- ---- from the tests
 
-each : (tests : ℕ → List Test) (n k : ℕ) → first_fault (tests_of tests 0 n) ≡ None → k < n → first_fault (tests k) ≡ None
+each : (tests : ℕ → List BlobTest) (n k : ℕ) → first_fault (tests_of tests 0 n) ≡ None → k < n → first_fault (tests k) ≡ None
 each tests n k none low = ap (λ j. first_fault (tests j)) (let e : k ≡ 0 + k = omega arith in e) ∙ first-each tests 0 n k none low
 
 record HasCounts (b : List ℕ) (r : ℕ) : Type 0 where
@@ -109,7 +109,7 @@ tested-sound b none =
 
 -- ---- and back
 
-all : (tests : ℕ → List Test) (n : ℕ) → ((k : ℕ) → k < n → first_fault (tests k) ≡ None) → first_fault (tests_of tests 0 n) ≡ None
+all : (tests : ℕ → List BlobTest) (n : ℕ) → ((k : ℕ) → k < n → first_fault (tests k) ≡ None) → first_fault (tests_of tests 0 n) ≡ None
 all tests n each = first-none tests 0 n (λ k low. ap (λ j. first_fault (tests j)) (let e : 0 + k ≡ k = omega arith in e) ∙ each k low)
 
 head-passes : (b : List ℕ) → IsSound b → first_fault (head_tests b) ≡ None

@@ -2,30 +2,30 @@
 use Rattle.std.proofs.Common.{◌≡◌, refl, ap, ◌∙◌, ℕ, zero, suc, ◌+◌, ◌-◌, ◌<◌, true, false, List, [], ◌∷◌, ◌++◌, arith}
 use Rattle.std.specs.Prelude.{Some, None}
 use Rattle.std.specs.List.{flat_map, range_with_len}
-use Rattle.sof_base.specs.BlobFaults.{BlobFault, Test, first_fault}
+use Rattle.sof_base.specs.BlobFaults.{BlobFault, BlobTest, first_fault}
 
-pub first-append : (xs ys : List Test) → first_fault xs ≡ None → first_fault (xs ++ ys) ≡ first_fault ys
+pub first-append : (xs ys : List BlobTest) → first_fault xs ≡ None → first_fault (xs ++ ys) ≡ first_fault ys
 first-append [] ys none = refl
 first-append ((f, true) ∷ xs) ys none = first-append xs ys none
 first-append ((f, false) ∷ xs) ys none = absurd cc
 
-pub first-found : (xs ys : List Test) (fault : BlobFault) → first_fault xs ≡ Some fault → first_fault (xs ++ ys) ≡ Some fault
+pub first-found : (xs ys : List BlobTest) (fault : BlobFault) → first_fault xs ≡ Some fault → first_fault (xs ++ ys) ≡ Some fault
 first-found [] ys fault e = absurd cc
 first-found ((f, true) ∷ xs) ys fault e = first-found xs ys fault e
 first-found ((f, false) ∷ xs) ys fault e = e
 
 -- two lists without a fault
-pub first-both : (xs ys : List Test) → first_fault (xs ++ ys) ≡ None → (first_fault xs ≡ None) × (first_fault ys ≡ None)
+pub first-both : (xs ys : List BlobTest) → first_fault (xs ++ ys) ≡ None → (first_fault xs ≡ None) × (first_fault ys ≡ None)
 first-both [] ys none = (refl, none)
 first-both ((f, true) ∷ xs) ys none = first-both xs ys none
 first-both ((f, false) ∷ xs) ys none = absurd cc
 
 -- ---- the tests of items by their numbers
 
-abbrev pub tests_of : (ℕ → List Test) → ℕ → ℕ → List Test
+abbrev pub tests_of : (ℕ → List BlobTest) → ℕ → ℕ → List BlobTest
 tests_of tests a n = flat_map tests (range_with_len a n)
 
-pub first-range : (tests : ℕ → List Test) (a k n : ℕ) → first_fault (tests_of tests a k) ≡ None → first_fault (tests_of tests a (k + n)) ≡ first_fault (tests_of tests (a + k) n)
+pub first-range : (tests : ℕ → List BlobTest) (a k n : ℕ) → first_fault (tests_of tests a k) ≡ None → first_fault (tests_of tests a (k + n)) ≡ first_fault (tests_of tests (a + k) n)
 first-range tests a zero n none =
     (λ i. first_fault (tests_of tests ((let e : a ≡ a + 0 = omega arith in e) i) ((let e : 0 + n ≡ n = omega arith in e) i)))
 first-range tests a (suc k) n none =
@@ -36,14 +36,14 @@ first-range tests a (suc k) n none =
     ∙ ap (λ m. first_fault (tests_of tests m n)) (let e : a + 1 + k ≡ a + suc k = omega arith in e)
 
 -- one item more without a fault
-pub first-more : (tests : ℕ → List Test) (k : ℕ) → first_fault (tests_of tests 0 k) ≡ None → first_fault (tests k) ≡ None → first_fault (tests_of tests 0 (k + 1)) ≡ None
+pub first-more : (tests : ℕ → List BlobTest) (k : ℕ) → first_fault (tests_of tests 0 k) ≡ None → first_fault (tests k) ≡ None → first_fault (tests_of tests 0 (k + 1)) ≡ None
 first-more tests k none here =
     first-range tests 0 k 1 none
     ∙ ap (λ m. first_fault (tests_of tests m 1)) (let e : 0 + k ≡ k = omega arith in e)
     ∙ first-append (tests k) [] here
 
 -- the first of n items that has a fault
-pub first-at : (tests : ℕ → List Test) (k n : ℕ) (fault : BlobFault) → k < n → first_fault (tests_of tests 0 k) ≡ None → first_fault (tests k) ≡ Some fault → first_fault (tests_of tests 0 n) ≡ Some fault
+pub first-at : (tests : ℕ → List BlobTest) (k n : ℕ) (fault : BlobFault) → k < n → first_fault (tests_of tests 0 k) ≡ None → first_fault (tests k) ≡ Some fault → first_fault (tests_of tests 0 n) ≡ Some fault
 first-at tests k n fault low none here = by (n - suc k) (omega arith)
   where
     by : (m : ℕ) → n ≡ k + suc m → first_fault (tests_of tests 0 n) ≡ Some fault
@@ -54,7 +54,7 @@ first-at tests k n fault low none here = by (n - suc k) (omega arith)
         ∙ first-found (tests k) (tests_of tests (k + 1) m) fault here
 
 -- each of n items without a fault
-pub first-each : (tests : ℕ → List Test) (a n k : ℕ) → first_fault (tests_of tests a n) ≡ None → k < n → first_fault (tests (a + k)) ≡ None
+pub first-each : (tests : ℕ → List BlobTest) (a n k : ℕ) → first_fault (tests_of tests a n) ≡ None → k < n → first_fault (tests (a + k)) ≡ None
 first-each tests a zero k none low = absurd (omega arith)
 first-each tests a (suc n) zero none low =
     ap (λ j. first_fault (tests j)) (let e : a + 0 ≡ a = omega arith in e) ∙ (first-both (tests a) (tests_of tests (a + 1) n) none).0
@@ -62,7 +62,7 @@ first-each tests a (suc n) (suc k) none low =
     ap (λ j. first_fault (tests j)) (let e : a + suc k ≡ a + 1 + k = omega arith in e)
     ∙ first-each tests (a + 1) n k (first-both (tests a) (tests_of tests (a + 1) n) none).1 (omega arith)
 
-pub first-none : (tests : ℕ → List Test) (a n : ℕ) → ((k : ℕ) → k < n → first_fault (tests (a + k)) ≡ None) → first_fault (tests_of tests a n) ≡ None
+pub first-none : (tests : ℕ → List BlobTest) (a n : ℕ) → ((k : ℕ) → k < n → first_fault (tests (a + k)) ≡ None) → first_fault (tests_of tests a n) ≡ None
 first-none tests a zero each = refl
 first-none tests a (suc n) each =
     first-append (tests a) (tests_of tests (a + 1) n) (ap (λ j. first_fault (tests j)) (let e : a ≡ a + 0 = omega arith in e) ∙ each 0 (omega arith))

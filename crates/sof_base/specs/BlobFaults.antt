@@ -18,22 +18,22 @@ pub data BlobFault : Type 0 where
   Length : BlobFault
 
 -- a fault, and whether bytes are without it
-abbrev pub Test : Type 0
-Test = BlobFault × Bool
+abbrev pub BlobTest : Type 0
+BlobTest = BlobFault × Bool
 
 -- the fault of the first test that fails
-abbrev pub first_fault : List Test → Option BlobFault
+abbrev pub first_fault : List BlobTest → Option BlobFault
 first_fault [] = None
 first_fault (test ∷ tests) = if test.1 then first_fault tests else Some test.0
 
 -- the bytes do not end before this place
-abbrev pub reach : List ℕ → ℕ → Test
+abbrev pub reach : List ℕ → ℕ → BlobTest
 reach b end = (Length, nat_le end (length b))
 
 -- ---- the tests
 
 -- the header and the head
-abbrev pub head_tests : List ℕ → List Test
+abbrev pub head_tests : List ℕ → List BlobTest
 head_tests b =
     (Size, nat_le 60 (length b) && nat_le (length b) 1024)
     ∷ (Magic, word_at b 0 == blob_magic)
@@ -43,33 +43,33 @@ head_tests b =
     ∷ []
 
 -- a channel's assignment
-abbrev pub assignment_tests : List ℕ → ℕ → List Test
+abbrev pub assignment_tests : List ℕ → ℕ → List BlobTest
 assignment_tests b channel =
     reach b (60 + 4 * channel + 4)
     ∷ (Assignment channel, is_assignment (blob_responses b) (assignment_at b channel))
     ∷ []
 
 -- a section
-abbrev pub section_tests : List ℕ → ℕ → ℕ → List Test
+abbrev pub section_tests : List ℕ → ℕ → ℕ → List BlobTest
 section_tests b response section =
     reach b (section_place b response section + 28)
     ∷ (Shift response section, is_shift (signed_at b (section_place b response section + 20)))
     ∷ []
 
 -- the head of a response: both of its counts
-abbrev pub counts_tests : List ℕ → ℕ → List Test
+abbrev pub counts_tests : List ℕ → ℕ → List BlobTest
 counts_tests b response =
     reach b (response_at b response + 24)
     ∷ (Sections response, is_count (section_count b response) && word_at b (response_at b response + 4) == section_count b response)
     ∷ []
 
 -- a response: its head, and then its sections
-abbrev pub response_tests : List ℕ → ℕ → List Test
+abbrev pub response_tests : List ℕ → ℕ → List BlobTest
 response_tests b response =
     counts_tests b response ++ flat_map (section_tests b response) (range_with_len 0 (section_count b response))
 
 -- all of them
-abbrev pub blob_tests : List ℕ → List Test
+abbrev pub blob_tests : List ℕ → List BlobTest
 blob_tests b =
     head_tests b
     ++ (flat_map (assignment_tests b) (range_with_len 0 (blob_channels b))

@@ -40,7 +40,7 @@ no-cycle g ends all c = ranks-no_cycle g (place_of (order g)) (order-ranks g end
 -- ---- a cycle
 
 -- what is among a list with one more
-push_cases : (xs : List ℕ) (y x : ℕ) → is_among (xs ++ y ∷ []) x ≡ true → (is_among xs x ≡ true) ⊎ (y ≡ x)
+pub push_cases : (xs : List ℕ) (y x : ℕ) → is_among (xs ++ y ∷ []) x ≡ true → (is_among xs x ≡ true) ⊎ (y ≡ x)
 push_cases xs y x h = first (or_cases (is_among xs x) ((y == x) || false) (sym (list_any-append (λ (id : ℕ). id == x) xs (y ∷ [])) ∙ h))
   where
     second : ((y == x) ≡ true) ⊎ (false ≡ true) → (is_among xs x ≡ true) ⊎ (y ≡ x)
@@ -52,12 +52,12 @@ push_cases xs y x h = first (or_cases (is_among xs x) ((y == x) || false) (sym (
     first (inr k) = second (or_cases (y == x) false k)
 
 -- std's word for the same
-member_among : (xs : List ℕ) (x : ℕ) → list_any (nat_eq x) xs ≡ is_among xs x
+pub member_among : (xs : List ℕ) (x : ℕ) → list_any (nat_eq x) xs ≡ is_among xs x
 member_among [] x = refl
 member_among (y ∷ ys) x = ap (λ t. t || list_any (nat_eq x) ys) (eqb_turned x y) ∙ ap (λ t. (y == x) || t) (member_among ys x)
 
 -- distinct ids of a list are no more than it has
-distinct-le : (xs ids : List ℕ) → IsDistinct nat_eq xs → ((x : ℕ) → is_among xs x ≡ true → is_among ids x ≡ true) → length xs ≤ length ids
+pub distinct-le : (xs ids : List ℕ) → IsDistinct nat_eq xs → ((x : ℕ) → is_among xs x ≡ true → is_among ids x ≡ true) → length xs ≤ length ids
 distinct-le xs ids d there = length-le_from_is_member nat_eq_equiv xs ids d (λ q h. member_among ids q ∙ there q (sym (member_among xs q) ∙ h))
 
 -- each component that is not placed has a source that is not

@@ -7,6 +7,7 @@ use Rattle.std.specs.List.{range_with_len}
 use Rattle.std.proofs.lemmas.List.{length-append, length-map, append_assoc, append-nil, map-append, get_or_append_left, drop_at}
 use Rattle.std.proofs.Math.Seq.{get_or-append_seam}
 use Rattle.std.proofs.lemmas.List.FromFn.{length-map-range_with_len, map-range_with_len_more}
+use Rattle.sof_base.proofs.SampleLaws.{map-range_same}
 use Rattle.sof_base.specs.Samples.{Frame, sat, rounded, sample_of}
 use Rattle.sof_base.specs.Equations.{Section, before, inner_value, inner_values, section_output, after_section, after_sections}
 use Rattle.stream_law.specs.Equaliser.{sections_of, next_inner, next_numbers, passed_sections, passed_channels, passed_frames, numbers_after}
@@ -163,12 +164,6 @@ passed_channels-frame blob k (suc left) epoch f =
         sym (get_or-append_seam (channel_out blob k epoch) (passed_sections (sections_of blob k) (sections_history (sections_of blob k) (channel_of k epoch) ++ history_from (k + 1) blob epoch left) (sample_of f k)).sample [] (pos 0))
         ∙ ap (λ (v : List ℤ × ℕ). get_or v.0 v.1 (pos 0)) (λ i. (sym (channel_out-more blob k epoch f (history_from (k + 1) blob epoch left)) i, length-channel_out blob k epoch i))
 
-pub map-range_same : {X : Type 0} (f g : ℕ → X) (a n : ℕ) → ((j : ℕ) → j < a + n → f j ≡ g j) → map f (range_with_len a n) ≡ map g (range_with_len a n)
-map-range_same f g a zero same = refl
-map-range_same f g a (suc n) same =
-    ap (λ y. y ∷ map f (range_with_len (a + 1) n)) (same a (omega arith))
-    ∙ ap (λ l. g a ∷ l) (map-range_same f g (a + 1) n (λ j low. same j (omega arith)))
-
 -- one more frame is the one that the numbers give
 equalised-more : (blob : List ℕ) (channels : ℕ) (epoch : List Frame) (f : Frame) → equalised blob channels (epoch ++ f ∷ []) ≡ equalised blob channels epoch ++ (passed_channels blob 0 channels (history_of blob channels epoch) f).frame ∷ []
 unfolding equalised history_of
@@ -208,3 +203,15 @@ history_of-append blob channels epoch (f ∷ fs) =
 pub length-equalised : (blob : List ℕ) (channels : ℕ) (frames : List Frame) → length (equalised blob channels frames) ≡ length frames
 unfolding equalised
 length-equalised blob channels frames = length-map-range_with_len _ 0 (length frames)
+
+-- ---- runs, from any numbers
+
+pub passed_frames-append : (blob : List ℕ) (channels : ℕ) (numbers : List ℤ) (xs ys : List Frame) → passed_frames blob channels numbers (xs ++ ys) ≡ passed_frames blob channels numbers xs ++ passed_frames blob channels (numbers_after blob channels numbers xs) ys
+passed_frames-append blob channels numbers [] ys = refl
+passed_frames-append blob channels numbers (x ∷ xs) ys =
+    let p = passed_channels blob 0 channels numbers x in
+    ap (λ l. p.frame ∷ l) (passed_frames-append blob channels p.numbers xs ys)
+
+pub numbers_after-append : (blob : List ℕ) (channels : ℕ) (numbers : List ℤ) (xs ys : List Frame) → numbers_after blob channels numbers (xs ++ ys) ≡ numbers_after blob channels (numbers_after blob channels numbers xs) ys
+numbers_after-append blob channels numbers [] ys = refl
+numbers_after-append blob channels numbers (x ∷ xs) ys = numbers_after-append blob channels (passed_channels blob 0 channels numbers x).numbers xs ys

@@ -24,33 +24,7 @@ use Rattle.sof_base.specs.Ports.{InputView}
 use Rattle.stream_law.specs.Stands.{left_of, Stands, Fills}
 use Rattle.stream_law.proofs.Among.{value_of-updated_among, value_of-updated_apart}
 use Rattle.stream_law.proofs.Standing.{comp-absent}
-use Rattle.stream_law.proofs.Equalising.{map-range_same}
-
--- what lies within a list lies so within a longer one
-word_at-append : (xs ys : List ℕ) (place : ℕ) → place + 4 ≤ length xs → word_at (xs ++ ys) place ≡ word_at xs place
-unfolding word_at
-word_at-append xs ys place fits = ap (λ l. from_le_bytes w32 (take 4 l)) (drop-append-le place xs ys (omega (arith, fits))) ∙ ap (from_le_bytes w32) (take-append-le 4 (drop place xs) ys (omega (arith, fits, length-drop place xs)))
-
-half_at-append : (xs ys : List ℕ) (place : ℕ) → place + 2 ≤ length xs → half_at (xs ++ ys) place ≡ half_at xs place
-unfolding half_at
-half_at-append xs ys place fits = ap (λ l. from_le_bytes w16 (take 2 l)) (drop-append-le place xs ys (omega (arith, fits))) ∙ ap (from_le_bytes w16) (take-append-le 2 (drop place xs) ys (omega (arith, fits, length-drop place xs)))
-
-sample_in_of-append : (format : Format) (xs ys : List ℕ) (place : ℕ) → place + width format ≤ length xs → sample_in_of format (xs ++ ys) place ≡ sample_in_of format xs place
-sample_in_of-append S16 xs ys place fits = ap (λ k. signed_of 16 k *ℤ pos 65536) (half_at-append xs ys place fits)
-sample_in_of-append S24 xs ys place fits = ap (λ k. signed_of 24 (k % 2 ^ 24) *ℤ pos 256) (word_at-append xs ys place fits)
-sample_in_of-append S32 xs ys place fits = ap (λ k. signed_of 32 k) (word_at-append xs ys place fits)
-
-times-fits : (j n m : ℕ) → j < n → j * m + m ≤ n * m
-times-fits j n m low = grind arith
-
-frame_in-append : (format : Format) (channels : ℕ) (xs ys : List ℕ) (place : ℕ) → place + channels * width format ≤ length xs → frame_in format channels (xs ++ ys) place ≡ frame_in format channels xs place
-frame_in-append format channels xs ys place fits = map-range_same (λ k. sample_in_of format (xs ++ ys) (place + k * width format)) (λ k. sample_in_of format xs (place + k * width format)) 0 channels (λ k low.
-    sample_in_of-append format xs ys (place + k * width format) (let most : k * width format + width format ≤ channels * width format = times-fits k channels (width format) (omega arith) in omega arith))
-
--- frames within a list are those of a longer one
-frames_in-append : (format : Format) (channels : ℕ) (xs ys : List ℕ) (place n : ℕ) → place + n * (channels * width format) ≤ length xs → frames_in format channels (xs ++ ys) place n ≡ frames_in format channels xs place n
-frames_in-append format channels xs ys place n fits = map-range_same (λ j. frame_in format channels (xs ++ ys) (place + j * (channels * width format))) (λ j. frame_in format channels xs (place + j * (channels * width format))) 0 n (λ j low.
-    frame_in-append format channels xs ys (place + j * (channels * width format)) (let most : j * (channels * width format) + channels * width format ≤ n * (channels * width format) = times-fits j n (channels * width format) (omega arith) in omega arith))
+use Rattle.sof_base.proofs.SampleLaws.{frames_in-append}
 
 -- what reads no input makes its frames without it
 frames_made-unread : (v : View) (c n : ℕ) (read other : List Frame) (s : List (ℕ × List Frame)) (f : List ℕ → ℕ → List Frame → List Frame) → reads v c ≡ false → frames_made v c n read s f ≡ frames_made v c n other s f

@@ -23,6 +23,8 @@ pub mod Shapes
 pub mod TurnLaws
 pub mod Waits
 pub mod Cycles
+pub mod Members
+pub mod Walking
 pub mod Taking
 pub mod Whole
 pub mod BareGraphs

@@ -17,7 +17,8 @@ use Rattle.stream_law.specs.Equaliser.{passed_frames, numbers_after}
 use Rattle.stream_law.specs.Seen.{equalises, is_equaliser}
 use Rattle.stream_law.specs.Epochs.{history_of}
 use Rattle.stream_law.specs.Endpoints.{format_of, reads, bytes_of_frames, bytes_written}
-use Rattle.stream_law.proofs.Endings.{frames_in-drop, passed_frames-history, numbers_after-history}
+use Rattle.sof_base.proofs.SampleLaws.{frames_in-drop}
+use Rattle.stream_law.proofs.Endings.{passed_frames-history, numbers_after-history}
 use Rattle.stream_law.proofs.Among.{table_same_among, value_of-table_among, value_of-updated_among, value_of-updated_apart}
 use Rattle.stream_law.proofs.OneSolution.{frames_to_move_same, looked_at_same, frames_to_move-le_held, is_end-some}
 use Rattle.stream_law.proofs.Parts.{length-part_of, take-part_of, drop-part_of, part_of-grow}

@@ -13,7 +13,7 @@ use Rattle.stream_law.specs.Order.{is_among}
 use Rattle.stream_law.specs.Equaliser.{sections_of}
 use Rattle.stream_law.specs.Epochs.{sections_history, history_from, history_of}
 use Rattle.stream_law.specs.Seen.{flows, equalises, goes_on, blob_in, numbers_in, fresh_from, fresh_numbers, ring_seen, seen}
-use Rattle.stream_law.specs.Stands.{ring_of, Sees, SeesSilent}
+use Rattle.stream_law.specs.Stands.{ring_frames, Sees, SeesSilent}
 use Rattle.stream_law.proofs.Among.{is_among-filter}
 use Rattle.stream_law.proofs.Keyed.{keys-remade}
 use Rattle.stream_law.proofs.Standing.{equalises-there}
@@ -42,13 +42,13 @@ history_of-fresh blob channels = history-fresh 0 blob channels
 -- ---- a state in a new view
 
 -- a ring that is there keeps its frames where they may lie in it
-ring_of-seen : (v : View) (rings : List RingView) (b : ℕ) → option_map_or (λ (r : RingView). r.frames) (find (λ (r : RingView). r.buffer == b) (map (ring_seen v) rings)) [] ≡ cond (flows v b) (option_map_or (λ (r : RingView). r.frames) (find (λ (r : RingView). r.buffer == b) rings) []) []
-ring_of-seen v [] b = either (flows v b)
+ring_frames-seen : (v : View) (rings : List RingView) (b : ℕ) → option_map_or (λ (r : RingView). r.frames) (find (λ (r : RingView). r.buffer == b) (map (ring_seen v) rings)) [] ≡ cond (flows v b) (option_map_or (λ (r : RingView). r.frames) (find (λ (r : RingView). r.buffer == b) rings) []) []
+ring_frames-seen v [] b = either (flows v b)
   where
     either : (h : Bool) → ◌≡◌ {A = List Frame} [] (cond h [] [])
     either true = refl
     either false = refl
-ring_of-seen v (r ∷ rings) b = by_equal (r.buffer == b) refl (ring_of-seen v rings b)
+ring_frames-seen v (r ∷ rings) b = by_equal (r.buffer == b) refl (ring_frames-seen v rings b)
   where
     by_equal : (h : Bool) → (r.buffer == b) ≡ h → option_map_or (λ (r : RingView). r.frames) (find (λ (r : RingView). r.buffer == b) (map (ring_seen v) rings)) [] ≡ cond (flows v b) (option_map_or (λ (r : RingView). r.frames) (find (λ (r : RingView). r.buffer == b) rings) []) []
         → option_map_or (λ (r : RingView). r.frames) (cond h (Some (ring_seen v r)) (find (λ (r : RingView). r.buffer == b) (map (ring_seen v) rings))) [] ≡ cond (flows v b) (option_map_or (λ (r : RingView). r.frames) (cond h (Some r) (find (λ (r : RingView). r.buffer == b) rings)) []) []
@@ -89,7 +89,7 @@ module _ (f : FwState) (v : View) (fresh : Option ℕ) where
     clock = refl;
     view = refl;
     buffers = rings-named ∙ named;
-    rings = ring_of-seen v f.rings;
+    rings = ring_frames-seen v f.rings;
     equalisers = λ c there. ap (λ l. is_among l c) (map-comps numbers-seen (filter (equalises v) (components v.graph))) ∙ there-among c there;
     histories = λ c there. history-found numbers-seen (filter (equalises v) (components v.graph)) c (there-among c there) ∙ ap (cond (goes_on (view_of f) v fresh c) (numbers_in f c)) (sym (history_of-fresh (blob_in v c) (channels_of v c)));
   }
@@ -99,5 +99,5 @@ module _ (f : FwState) (v : View) (fresh : Option ℕ) where
     clock = refl;
     silent = silent;
     buffers = rings-named ∙ named;
-    rings = λ b. ring_of-seen v f.rings b ∙ cond-false (flows v b) (ring_of f b) [] (silent-flows v b silent);
+    rings = λ b. ring_frames-seen v f.rings b ∙ cond-false (flows v b) (ring_frames f b) [] (silent-flows v b silent);
   }

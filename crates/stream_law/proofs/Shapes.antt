@@ -49,7 +49,7 @@ find-some p (t ∷ ts) s e = by_test (p t) refl e (find-some p ts s)
     by_test false h k rest = let more = rest k in let low = more.1.1 in (more.0, (suc more.1.0, omega (arith, low), more.1.2))
 
 -- a list in which some pass has one that is found
-find-any : (p : StreamView → Bool) (ss : List StreamView) → list_any p ss ≡ true → (s : StreamView) × (find p ss ≡ Some s)
+pub find-any : (p : StreamView → Bool) (ss : List StreamView) → list_any p ss ≡ true → (s : StreamView) × (find p ss ≡ Some s)
 find-any p [] h = absurd (false≢true h)
 find-any p (t ∷ ts) h = by_test (p t) refl h (find-any p ts)
   where
@@ -71,7 +71,7 @@ list_all-of p (t ∷ ts) s all here = by_case (contains_cases t s ts here) (list
     by_case (inr more) rest = rest (and_parts (p t) (list_all p ts) all).1 more
 
 -- some id of a list passes a test where one does
-list_any-at : (p : ℕ → Bool) (ids : List ℕ) (x : ℕ) → is_among ids x ≡ true → p x ≡ true → list_any p ids ≡ true
+pub list_any-at : (p : ℕ → Bool) (ids : List ℕ) (x : ℕ) → is_among ids x ≡ true → p x ≡ true → list_any p ids ≡ true
 list_any-at p [] x there h = absurd (false≢true there)
 list_any-at p (i ∷ ids) x there h = by_place (or_cases (i == x) (is_among ids x) there) (list_any-at p ids x)
   where
@@ -167,7 +167,7 @@ among-right xs ys x h = list_any-append (λ id. id == x) xs ys ∙ or_right (is_
 flows-there : (v : View) (b : ℕ) → flows v b ≡ true → is_among (buffers v.graph) b ≡ true
 flows-there v b f = true_from_ne_false (is_among (buffers v.graph) b) (λ gone. false≢true (sym (flows-absent v b gone) ∙ f))
 
-flows-live : (v : View) (b : ℕ) → flows v b ≡ true → live v b ≡ true
+pub flows-live : (v : View) (b : ℕ) → flows v b ≡ true → live v b ≡ true
 unfolding flows
 flows-live v b f = (and_parts (live v b) (live_end v (source_of v.graph b)) (and_parts (live v b && live_end v (source_of v.graph b)) (live_end v (sink_of v.graph b)) f).0).0
 

@@ -88,7 +88,7 @@ abbrev pub HasPlaces : Audio → Type 0
 HasPlaces a = (x : ℕ) → number_of a.positions x ≤ 2 ^ 64 - 1
 
 -- a position that no byte moves stays
-moved_on-none : (n : ℕ) → n ≤ 2 ^ 64 - 1 → moved_on n 0 ≡ n
+pub moved_on-none : (n : ℕ) → n ≤ 2 ^ 64 - 1 → moved_on n 0 ≡ n
 moved_on-none n low = omega (arith, low)
 
 module _ (v : View) (silent : IsTrue (is_silent v)) (blobs : ℕ → List ℕ) (t : ℕ) where
@@ -152,7 +152,7 @@ module _ (v : View) (silent : IsTrue (is_silent v)) (blobs : ℕ → List ℕ) (
 -- ---- a whole tick
 
 -- the positions of inputs are within range as a table too
-positions-low : (xs : List InputView) → All (λ x. x.position ≤ 2 ^ 64 - 1) xs → (slot : ℕ) → number_of (keyed (λ x. x.slot) (λ x. x.position) xs) slot ≤ 2 ^ 64 - 1
+pub positions-low : (xs : List InputView) → All (λ x. x.position ≤ 2 ^ 64 - 1) xs → (slot : ℕ) → number_of (keyed (λ x. x.slot) (λ x. x.position) xs) slot ≤ 2 ^ 64 - 1
 positions-low [] low slot = omega arith
 positions-low (x ∷ xs) low slot = head (x.slot == slot) (positions-low xs (λ k d within. low (suc k) d (omega (arith, within))) slot)
   where

@@ -22,3 +22,5 @@ pub mod Move
 pub mod TickLaws
 pub mod StreamLaws
 pub mod WorkedGraphs
+pub mod ReachLaws
+pub mod EqualiserLaws

@@ -18,8 +18,8 @@ use Rattle.stream_law.specs.Past.{Moment, Past, Leads, start, empty_view, part_o
 -- ---- look-ups
 
 -- the frames that a state keeps of a buffer
-abbrev pub ring_of : FwState → ℕ → List Frame
-ring_of f b = option_map_or (λ r. r.frames) (find (λ r. r.buffer == b) f.rings) []
+abbrev pub ring_frames : FwState → ℕ → List Frame
+ring_frames f b = option_map_or (λ r. r.frames) (find (λ r. r.buffer == b) f.rings) []
 
 -- an input is bound to a slot
 abbrev pub is_bound : List InputView → ℕ → Bool
@@ -53,7 +53,7 @@ pub record Holds (Same : View → View → Type 0) (f : FwState) (p : Past) : Ty
   pub clock : f.clock ≡ p.clock
   pub view : Same (view_of f) p.view
   pub buffers : map (λ r. r.buffer) f.rings ≡ buffers f.graph
-  pub rings : (b : ℕ) → ring_of f b ≡ lying p b
+  pub rings : (b : ℕ) → ring_frames f b ≡ lying p b
   pub equalisers : (c : ℕ) → equalises p.view c ≡ true → is_among (map (λ h. h.comp) f.histories) c ≡ true
   pub histories : (c : ℕ) → equalises p.view c ≡ true → numbers_in f c ≡ history_of (blob_in p.view c) (channels_of p.view c)
       (list_of p.epochs c)
@@ -117,7 +117,7 @@ pub record Sees (f : FwState) (v : View) (fresh : Option ℕ) (f' : FwState) : T
   pub clock : f'.clock ≡ f.clock
   pub view : view_of f' ≡ v
   pub buffers : map (λ r. r.buffer) f'.rings ≡ buffers f'.graph
-  pub rings : (b : ℕ) → ring_of f' b ≡ (if flows v b then ring_of f b else [])
+  pub rings : (b : ℕ) → ring_frames f' b ≡ (if flows v b then ring_frames f b else [])
   pub equalisers : (c : ℕ) → equalises v c ≡ true → is_among (map (λ h. h.comp) f'.histories) c ≡ true
   pub histories : (c : ℕ) → equalises v c ≡ true →
       numbers_in f' c ≡ (if goes_on (view_of f) v fresh c then numbers_in f c else history_of (blob_in v c) (channels_of v c) [])
@@ -127,7 +127,7 @@ pub record SeesSilent (f f' : FwState) : Type 0 where
   pub clock : f'.clock ≡ f.clock
   pub silent : IsTrue (is_silent (view_of f'))
   pub buffers : map (λ r. r.buffer) f'.rings ≡ buffers f'.graph
-  pub rings : (b : ℕ) → ring_of f' b ≡ []
+  pub rings : (b : ℕ) → ring_frames f' b ≡ []
 
 -- an edge in which frames may go on lying keeps its room, and an equaliser whose epoch goes on its blob and channels
 pub record StaysAsLive (old new : View) (fresh : Option ℕ) : Type 0 where

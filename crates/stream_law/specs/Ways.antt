@@ -65,8 +65,8 @@ inputs g c = map (λ j. j.source) (filter (λ j. j.sink == c) g.joins)
 -- ---- walks and ways
 
 -- the joins that the walks of ways go along: all
-abbrev pub walked : Graph → List Join
-walked g = g.joins
+abbrev pub way_joins : Graph → List Join
+way_joins g = g.joins
 
 -- a walk of at most n joins leads from a to b
 abbrev pub leads : List Join → ℕ → ℕ → ℕ → Bool
@@ -75,7 +75,7 @@ leads joins (suc n) a b = a == b || list_any (λ j. leads joins n j.sink b) (fil
 
 -- b is a, or is reached from a
 unfoldable pub reaches : Graph → ℕ → ℕ → Bool
-reaches g a b = leads (walked g) (length (walked g)) a b
+reaches g a b = leads (way_joins g) (length (way_joins g)) a b
 
 -- whether a kind is that of a capture stream's host
 abbrev pub is_capture : Kind → Bool

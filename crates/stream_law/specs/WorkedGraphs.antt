@@ -80,8 +80,8 @@ volume_graph = record {
 }
 
 -- a stream with parameters
-abbrev pub stream_at : ℕ → Phase → ℕ → ℕ → Format → StreamView
-stream_at host phase rate channels format = record { host = host; phase = phase; params = Some (record { rate = rate; channels = channels; format = format }) }
+abbrev pub worked_stream : ℕ → Phase → ℕ → ℕ → Format → StreamView
+worked_stream host phase rate channels format = record { host = host; phase = phase; params = Some (record { rate = rate; channels = channels; format = format }) }
 
 -- a stream without
 abbrev pub idle_stream : ℕ → StreamView
@@ -106,12 +106,12 @@ abbrev pub empty_ring : ℕ → RingView
 empty_ring b = record { buffer = b; frames = [] }
 
 -- an input of which nothing was read beside an empty output
-abbrev pub ends_of : ℕ → List ℕ → ℕ → Io
-ends_of from bytes to = record { inputs = record { slot = from; position = 0; left = bytes } ∷ []; outputs = record { slot = to; bytes = [] } ∷ [] }
+abbrev pub worked_ends : ℕ → List ℕ → ℕ → Io
+worked_ends from bytes to = record { inputs = record { slot = from; position = 0; left = bytes } ∷ []; outputs = record { slot = to; bytes = [] } ∷ [] }
 
 -- the streams have these phases from now on
-abbrev pub with_streams : List StreamView → Machine → Machine
-with_streams streams m = record { f = record { heap = m.f.heap; clock = m.f.clock; graph = m.f.graph; streams = streams; rings = m.f.rings; histories = m.f.histories; staging = m.f.staging }; io = m.io }
+abbrev pub machine_with : List StreamView → Machine → Machine
+machine_with streams m = record { f = record { heap = m.f.heap; clock = m.f.clock; graph = m.f.graph; streams = streams; rings = m.f.rings; histories = m.f.histories; staging = m.f.staging }; io = m.io }
 
 -- n ticks
 abbrev pub after_ticks : ℕ → Machine → Machine
@@ -137,28 +137,28 @@ output slot bytes = record { slot = slot; bytes = bytes } ∷ []
 -- the outputs after a tick at 48000 frames a second from component 0 to component 2, with this buffer, host and input
 abbrev pub pair_tick : Kind → Kind → ℕ → ℕ → ℕ → Format → List ℕ → List OutputView
 pair_tick first second size host channels format bytes =
-    (after_ticks 1 (machine_of (pair_graph first second size) (stream_at host Running 48000 channels format ∷ []) (empty_ring 1 ∷ []) (ends_of 0 bytes 2))).io.outputs
+    (after_ticks 1 (machine_of (pair_graph first second size) (worked_stream host Running 48000 channels format ∷ []) (empty_ring 1 ∷ []) (worked_ends 0 bytes 2))).io.outputs
 
 -- the mix graph's streams, the second in this phase
 abbrev pub mix_streams : Phase → List StreamView
-mix_streams phase = stream_at 0 Running 1000 2 S16 ∷ stream_at 3 phase 1000 2 S16 ∷ []
+mix_streams phase = worked_stream 0 Running 1000 2 S16 ∷ worked_stream 3 phase 1000 2 S16 ∷ []
 
 -- its outputs after two ticks with one stream Running and six with both
 abbrev pub mix_run : List OutputView
 mix_run =
     let two = after_ticks 2 (machine_of mix_graph (mix_streams Prepared) (empty_ring 1 ∷ empty_ring 4 ∷ empty_ring 7 ∷ []) mix_io) in
-    (after_ticks 6 (with_streams (mix_streams Running) two)).io.outputs
+    (after_ticks 6 (machine_with (mix_streams Running) two)).io.outputs
 
 -- the volume graph's stream in this phase
 abbrev pub volume_stream : Phase → List StreamView
-volume_stream phase = stream_at 0 phase 2000 1 S16 ∷ []
+volume_stream phase = worked_stream 0 phase 2000 1 S16 ∷ []
 
 -- its outputs after two ticks, three in pause and one more
 abbrev pub pause_run : List ℕ → List OutputView
 pause_run bytes =
-    let two = after_ticks 2 (machine_of volume_graph (volume_stream Running) (empty_ring 1 ∷ empty_ring 3 ∷ []) (ends_of 0 bytes 4)) in
-    let five = after_ticks 3 (with_streams (volume_stream Paused) two) in
-    (after_ticks 1 (with_streams (volume_stream Running) five)).io.outputs
+    let two = after_ticks 2 (machine_of volume_graph (volume_stream Running) (empty_ring 1 ∷ empty_ring 3 ∷ []) (worked_ends 0 bytes 4)) in
+    let five = after_ticks 3 (machine_with (volume_stream Paused) two) in
+    (after_ticks 1 (machine_with (volume_stream Running) five)).io.outputs
 
 -- ---- an equaliser's section
 

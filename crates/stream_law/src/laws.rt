@@ -1,5 +1,7 @@
 // What the definitions of ticks and streams entail. Nothing runs here.
 ghost use Rattle.stream_law.specs.TickLaws.{SilentTicksDoNothingElse, SilentTicksMoveTheClockAlone};
+ghost use Rattle.stream_law.specs.ReachLaws.{ReachedByWalks, ClosedByWalks};
+ghost use Rattle.stream_law.specs.EqualiserLaws.{RunsAreOne, EpochsGoOn};
 ghost use Rattle.stream_law.specs.StreamLaws as law;
 
 /// While no stream is Running or Paused, a tick moves the firmware's clock alone: rings, histories, inputs and outputs
@@ -15,6 +17,19 @@ pub fn order_law()
     ensures whole { law.OrderIsWhole }
     ensures ranks { law.OrderRanks }
     ensures no_cycle { law.RanksHaveNoCycle }
+{}
+
+/// What joins reach is what walks of any length lead to, and a join closes a cycle exactly where one leads back.
+pub fn reach_law()
+    ensures reached { ReachedByWalks }
+    ensures closed { ClosedByWalks }
+{}
+
+/// An equaliser over frames that come in two runs is that over the joined frames, and keeps the numbers that it keeps there.
+/// An epoch goes on as its equations by index say.
+pub fn equaliser_law()
+    ensures runs { RunsAreOne }
+    ensures epochs { EpochsGoOn }
 {}
 
 /// The equations of a tick's counts have a solution where edges have no cycle, and it is one.

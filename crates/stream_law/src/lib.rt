@@ -12,8 +12,8 @@ mod worked;
 
 pub use graph::{Comp, Edge, Graph, Join, Kind, Pipe, Setting};
 pub use laws::{
-    boot_law, building_laws, cut_law, fill_law, now_law, one_past, one_solution, order_law,
-    seen_law, silent_tick, start_law, stay_laws, tick_law,
+    boot_law, building_laws, cut_law, equaliser_law, fill_law, now_law, one_past, one_solution,
+    order_law, reach_law, seen_law, silent_tick, start_law, stay_laws, tick_law,
 };
 pub use ordering::{Cycle, order, order_of};
 pub use stream::{Phase, StreamView};

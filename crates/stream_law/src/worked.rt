@@ -86,9 +86,9 @@ pub fn join_rows()
     ensures to_a_capture { would_reach (worked.half_graph Kind.HostPlay Kind.HostCapture) 1 2 ≡ true }
     ensures onward { would_cycle (worked.half_graph Kind.Volume Kind.Volume) 1 2 ≡ false }
     ensures back { would_cycle (worked.half_graph Kind.Volume Kind.Volume) 1 0 ≡ true }
-    ensures grows { would_grow (worked.half_graph Kind.HostPlay (Kind.DaiPlay Format.S32)) (worked.stream_at 0 Phase.Prepared 48000 2 Format.S16 ∷ []) 1 2 ≡ true }
+    ensures grows { would_grow (worked.half_graph Kind.HostPlay (Kind.DaiPlay Format.S32)) (worked.worked_stream 0 Phase.Prepared 48000 2 Format.S16 ∷ []) 1 2 ≡ true }
     ensures idle { would_grow (worked.half_graph Kind.HostPlay (Kind.DaiPlay Format.S32)) (worked.idle_stream 0 ∷ []) 1 2 ≡ false }
-    ensures beside { would_grow worked.open_mix_graph (worked.stream_at 0 Phase.Running 48000 2 Format.S16 ∷ []) 4 6 ≡ false }
-    ensures within { would_grow worked.open_mix_graph (worked.stream_at 3 Phase.Running 48000 2 Format.S16 ∷ []) 4 6 ≡ true }
+    ensures beside { would_grow worked.open_mix_graph (worked.worked_stream 0 Phase.Running 48000 2 Format.S16 ∷ []) 4 6 ≡ false }
+    ensures within { would_grow worked.open_mix_graph (worked.worked_stream 3 Phase.Running 48000 2 Format.S16 ∷ []) 4 6 ≡ true }
     ensures joined { (with_join worked.open_mix_graph (record { source = 4; sink = 6 })).edges ≡ worked.mix_graph.edges }
 {}

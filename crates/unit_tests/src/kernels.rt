@@ -1,23 +1,55 @@
 // Kernels over samples.
 use fw_gain::{mix_add, mix_begin, mix_end, select, volume};
 
+// Eleven samples: eight go through lanes, and three one by one.
 #[test]
 fn a_mix_is_held_once(rt: HostRuntime) {
-    let mut sums = [7; 1];
+    let mut sums = [7; 11];
     mix_begin(&mut sums);
-    mix_add(&mut sums, &[2147483647]);
-    mix_add(&mut sums, &[1]);
-    mix_add(&mut sums, &[-2147483648]);
-    let mut mixed = [9; 1];
+    mix_add(&mut sums, &[2147483647; 11]);
+    mix_add(&mut sums, &[1; 11]);
+    mix_add(&mut sums, &[-2147483648; 11]);
+    let mut mixed = [9; 11];
     mix_end(&sums, &mut mixed);
-    assert_eq!(rt; mixed, [0]);
+    assert_eq!(rt; mixed, [0; 11]);
+}
+
+#[test]
+fn sums_are_held_on_both_sides(rt: HostRuntime) {
+    let sums = [
+        2147483648,
+        -2147483649,
+        5,
+        -5,
+        2147483647,
+        -2147483648,
+        4611686018427387904,
+        -4611686018427387904,
+        2147483648,
+        -2147483649,
+    ];
+    let most = 2147483647;
+    let least = -2147483648;
+    let mut mixed = [0; 10];
+    mix_end(&sums, &mut mixed);
+    assert_eq!(rt; mixed, [most, least, 5, -5, most, least, most, least, most, least]);
 }
 
 #[test]
 fn a_gain_is_rounded(rt: HostRuntime) {
-    let mut louder = [0; 1];
-    volume(&[32767 * 65536], &mut louder, 1, &[52056]);
-    assert_eq!(rt; (i64::from(louder[0]) + 32768).div_euclid(65536), 26027);
+    let mut louder = [0; 9];
+    volume(&[32767 * 65536; 9], &mut louder, 1, &[52056]);
+    for sample in louder {
+        assert_eq!(rt; (i64::from(sample) + 32768).div_euclid(65536), 26027);
+    }
+}
+
+#[test]
+fn each_channel_has_its_gain(rt: HostRuntime) {
+    let samples = [32767 * 65536, -5, 32767 * 65536, 0, 1, -1, 7, -2147483648, 0];
+    let mut scaled = [9; 9];
+    volume(&samples, &mut scaled, 2, &[52056, 65536]);
+    assert_eq!(rt; scaled, [1705718952, -5, 1705718952, 0, 1, -1, 6, -2147483648, 0]);
 }
 
 #[test]

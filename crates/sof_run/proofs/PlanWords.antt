@@ -55,7 +55,7 @@ unfolding Each
 found_in [] token are = tt
 found_in (Uuid items ∷ arrays) token are = found_in arrays token are.1
 found_in (Text items ∷ arrays) token are = found_in arrays token are.1
-found_in (Number kind items ∷ arrays) token are = found_word items (flat_map numbers_in arrays) token are.0.elements.2 (found_in arrays token are.1)
+found_in (Number numbers ∷ arrays) token are = found_word numbers.items (flat_map numbers_in arrays) token are.0.elements.2 (found_in arrays token are.1)
 
 token_word : (arrays : List TokenArray) (token : ℕ) → AreArrays arrays → IsWord (number_of arrays token)
 unfolding number_of

@@ -20,7 +20,7 @@ use Rattle.sof_run.specs.Runs.{RunUnit, begun, run_of, marked, bytes_at, after_u
 
 -- one number
 abbrev pub number : ℕ → ℕ → TokenArray
-number token value = Number 4 (record { token = token; value = value } ∷ [])
+number token value = Number (record { kind = 4; items = record { token = token; value = value } ∷ [] })
 
 -- a widget of a name and a stream's name
 abbrev pub widget : ℕ → List ℕ → List ℕ → List TokenArray → Widget

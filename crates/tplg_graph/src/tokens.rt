@@ -58,7 +58,7 @@ fn number_in(array: &TokenArray, token: u32) -> Option<u32>
     ensures { result ≡ values.first_number (values.numbers_in array.now) token }
 {
     match array {
-        TokenArray::Number { items, .. } => first_number(items.items(), token),
+        TokenArray::Number(numbers) => first_number(numbers.items(), token),
         _ => None,
     }
 }
@@ -103,7 +103,7 @@ fn text_in<'a>(array: &'a TokenArray, token: u32) -> Option<&'a [u8]>
     ensures { option_copied result ≡ values.first_text (values.texts_in array.now) token }
 {
     match array {
-        TokenArray::Text(items) => first_text(items.items(), token),
+        TokenArray::Text(texts) => first_text(texts.items(), token),
         _ => None,
     }
 }

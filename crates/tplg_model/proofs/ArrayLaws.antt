@@ -5,6 +5,7 @@ use Rattle.std.proofs.lemmas.List.{take_at}
 use Rattle.std.specs.Int.{w32, to_le_bytes}
 use Rattle.sof_base.specs.Slots.{part, word_at}
 use Rattle.sof_base.proofs.FieldLaws.{IsBytes, part-add}
+use Rattle.tplg_model.specs.declared.tokens.NumberTuple.{NumberTuple}
 use Rattle.tplg_model.specs.declared.tokens.TokenArray.{TokenArray}
 use Rattle.tplg_model.specs.declared.tokens.TokenArray.TheVariants.{Uuid, Text, Number}
 use Rattle.tplg_model.specs.Arrays.{element_size, type_of, count_of, array_size, uuid_spelling, text_spelling, number_spelling, elements_spelling, array_spelling, Each, IsUuid, IsText, IsNumber, HasElements, HasSize, IsArray, ArrayFault, array_fault, elements_at, uuid_at, text_at, number_at, array_with, array_at}
@@ -52,13 +53,13 @@ record Reads (kind count : ℕ) (bytes : List ℕ) (a : TokenArray) : Type 0 whe
   same : elements_spelling a ≡ part bytes 12 (count * element_size kind)
   has : HasElements a
 
-number_size : (kind : ℕ) → 2 ≤ kind → element_size kind ≡ 8
+pub number_size : (kind : ℕ) → 2 ≤ kind → element_size kind ≡ 8
 number_size kind le =
     let a : eqb kind 0 ≡ false = ne_eqb kind 0 (λ e. omega (arith, e, le)) in
     let b : eqb kind 1 ≡ false = ne_eqb kind 1 (λ e. omega (arith, e, le)) in
     rw (a, b) refl
 
-number_array : (kind count : ℕ) (bytes : List ℕ) → 2 ≤ kind → array_with kind count bytes ≡ Number kind (elements_at 8 number_at count bytes 12)
+number_array : (kind count : ℕ) (bytes : List ℕ) → 2 ≤ kind → array_with kind count bytes ≡ Number (record { kind = kind; items = elements_at 8 number_at count bytes 12 })
 number_array kind count bytes le =
     let a : eqb kind 0 ≡ false = ne_eqb kind 0 (λ e. omega (arith, e, le)) in
     let b : eqb kind 1 ≡ false = ne_eqb kind 1 (λ e. omega (arith, e, le)) in
@@ -70,7 +71,7 @@ numbers_read kind count bytes h from to long =
     let fits : 12 + count * 8 ≤ length bytes = rw eight at long in
     rw (number_array kind count bytes from) (record {
       type_is = refl;
-      count_is = length-elements 8 number_at number_spelling IsNumber number_element count bytes 12;
+      count_is = length-elements 8 number_at count bytes 12;
       same = rw eight (elements_same 8 number_at number_spelling IsNumber number_element count bytes 12 h fits);
       has = (from, to, elements_are 8 number_at number_spelling IsNumber number_element count bytes 12 h fits);
     })
@@ -78,13 +79,13 @@ numbers_read kind count bytes h from to long =
 with_read : (kind count : ℕ) (bytes : List ℕ) → IsBytes bytes → kind ≤ 5 → 12 + count * element_size kind ≤ length bytes → Reads kind count bytes (array_with kind count bytes)
 with_read zero count bytes h known long = record {
   type_is = refl;
-  count_is = length-elements 20 uuid_at uuid_spelling IsUuid uuid_element count bytes 12;
+  count_is = length-elements 20 uuid_at count bytes 12;
   same = elements_same 20 uuid_at uuid_spelling IsUuid uuid_element count bytes 12 h long;
   has = elements_are 20 uuid_at uuid_spelling IsUuid uuid_element count bytes 12 h long;
 }
 with_read (suc zero) count bytes h known long = record {
   type_is = refl;
-  count_is = length-elements 48 text_at text_spelling IsText text_element count bytes 12;
+  count_is = length-elements 48 text_at count bytes 12;
   same = elements_same 48 text_at text_spelling IsText text_element count bytes 12 h long;
   has = elements_are 48 text_at text_spelling IsText text_element count bytes 12 h long;
 }
@@ -133,17 +134,18 @@ record Spelled (a : TokenArray) : Type 0 where
 is_spelled : (a : TokenArray) → IsArray a → Spelled a
 is_spelled (Uuid items) is = record { known = omega arith; count = omega (arith, is.size); width = elements_width 20 uuid_at uuid_spelling IsUuid uuid_element items is.elements }
 is_spelled (Text items) is = record { known = omega arith; count = omega (arith, is.size); width = elements_width 48 text_at text_spelling IsText text_element items is.elements }
-is_spelled (Number kind items) is =
-    let eight = number_size kind is.elements.0 in
-    let small : 12 + length items * 8 < 2 ^ 32 = rw eight at is.size in
-    record { known = is.elements.1; count = omega (arith, small); width = rw eight (elements_width 8 number_at number_spelling IsNumber number_element items is.elements.2) }
+is_spelled (Number numbers) is =
+    let eight = number_size numbers.kind is.elements.0 in
+    let small : 12 + length numbers.items * 8 < 2 ^ 32 = rw eight at is.size in
+    record { known = is.elements.1; count = omega (arith, small); width = rw eight (elements_width 8 number_at number_spelling IsNumber number_element numbers.items is.elements.2) }
 
 with_again : (a : TokenArray) (bytes : List ℕ) → HasElements a → part bytes 12 (count_of a * element_size (type_of a)) ≡ elements_spelling a → array_with (type_of a) (count_of a) bytes ≡ a
 with_again (Uuid items) bytes has e = ap Uuid (elements_again 20 uuid_at uuid_spelling IsUuid uuid_element items bytes 12 has e)
 with_again (Text items) bytes has e = ap Text (elements_again 48 text_at text_spelling IsText text_element items bytes 12 has e)
-with_again (Number kind items) bytes has e =
-    let eight = number_size kind has.0 in
-    number_array kind (length items) bytes has.0 ∙ ap (Number kind) (elements_again 8 number_at number_spelling IsNumber number_element items bytes 12 has.2 (rw eight at e))
+with_again (Number numbers) bytes has e =
+    let eight = number_size numbers.kind has.0 in
+    number_array numbers.kind (length numbers.items) bytes has.0
+    ∙ ap (λ (items : List NumberTuple). Number (record { kind = numbers.kind; items = items })) (elements_again 8 number_at number_spelling IsNumber number_element numbers.items bytes 12 has.2 (rw eight at e))
 
 pub length-spelling : (a : TokenArray) → IsArray a → length (array_spelling a) ≡ array_size a
 unfolding array_spelling
@@ -175,9 +177,3 @@ array_again a rest is =
     (word_again bytes 8 (count_of a) p.count refl)
     (take_at (elements_spelling a) rest (count_of a * element_size (type_of a)) p.width)
     (omega (arith, p.width, length-append (elements_spelling a) rest))
-
--- the sizes of the program's arrays fit their words
-pub sizes_fit : (xs : List TokenArray) → Each IsArray xs → Each HasSize xs
-unfolding Each
-sizes_fit [] are = tt
-sizes_fit (x ∷ xs) are = (are.0.size, sizes_fit xs are.1)

@@ -1,6 +1,6 @@
 -- An element that is read is the element that is spelled, and what is spelled is read again.
-use Rattle.std.proofs.Common.{◌≡◌, ℕ, zero, suc, ◌+◌, ◌*◌, ◌≤◌, ◌<◌, ◌^◌, List, [], ◌∷◌, ◌++◌, length, take, drop, get_or, refl, sym, ap, ◌∙◌, arith, length-append}
-use Rattle.std.proofs.lemmas.List.{take_at, drop_at, drop-drop, drop-take, take-take}
+use Rattle.std.proofs.Common.{◌≡◌, ℕ, zero, suc, ◌+◌, ◌*◌, ◌≤◌, ◌<◌, ◌^◌, List, [], ◌∷◌, ◌++◌, length, take, drop, get_or, refl, sym, ap, subst, ◌∙◌, arith, length-append}
+use Rattle.std.proofs.lemmas.List.{take_at, take_more, drop_at, drop-drop, drop-take, take-take}
 use Rattle.std.proofs.lemmas.Nat.{le_bytes_4, from_le_bytes-to_le_bytes_4}
 use Rattle.std.specs.List.{flat_map}
 use Rattle.std.specs.Int.{w32, from_le_bytes, to_le_bytes}
@@ -77,12 +77,12 @@ number_element = record {
 
 -- ---- elements one after the other
 
-module _ {A : Type 0} (size : ℕ) (element : List ℕ → ℕ → A) (spelling : A → List ℕ) (Is : A → Type 0) (kind : IsElement size element spelling Is) where
-  pub length-elements : (n : ℕ) (bytes : List ℕ) (at : ℕ) → length (elements_at size element n bytes at) ≡ n
-  unfolding elements_at
-  length-elements zero bytes at = refl
-  length-elements (suc n) bytes at = ap suc (length-elements n bytes (at + size))
+pub length-elements : {A : Type 0} (size : ℕ) (element : List ℕ → ℕ → A) (n : ℕ) (bytes : List ℕ) (at : ℕ) → length (elements_at size element n bytes at) ≡ n
+unfolding elements_at
+length-elements size element zero bytes at = refl
+length-elements size element (suc n) bytes at = ap suc (length-elements size element n bytes (at + size))
 
+module _ {A : Type 0} (size : ℕ) (element : List ℕ → ℕ → A) (spelling : A → List ℕ) (Is : A → Type 0) (kind : IsElement size element spelling Is) where
   pub elements_same : (n : ℕ) (bytes : List ℕ) (at : ℕ) → IsBytes bytes → at + n * size ≤ length bytes → flat_map spelling (elements_at size element n bytes at) ≡ part bytes at (n * size)
   unfolding elements_at
   elements_same zero bytes at h long = let k : 0 * size ≡ 0 = omega arith in rw k refl
@@ -122,3 +122,13 @@ unfolding Each
 each_at Is [] i d are lt = absurd (omega arith)
 each_at Is (x ∷ xs) zero d are lt = are.0
 each_at Is (x ∷ xs) (suc i) d are lt = each_at Is xs i d are.1 (omega arith)
+
+each_append : {A : Type 0} (Is : A → Type 0) (xs : List A) (x : A) → Each Is xs → Is x → Each Is (xs ++ x ∷ [])
+unfolding Each
+each_append Is [] x are is = (is, tt)
+each_append Is (y ∷ xs) x are is = (are.0, each_append Is xs x are.1 is)
+
+-- what holds of each item before a place, and of the item there
+pub each_more : {A : Type 0} (Is : A → Type 0) (xs : List A) (i : ℕ) (x : A) → i < length xs → x ≡ get_or xs i x → Each Is (take i xs) → Is x → Each Is (take (i + 1) xs)
+each_more Is xs i x lt e are is =
+    subst (Each Is) (sym (take_more xs i x lt ∙ ap (λ y. take i xs ++ y ∷ []) (sym e))) (each_append Is (take i xs) x are is)

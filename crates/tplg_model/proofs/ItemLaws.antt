@@ -27,6 +27,12 @@ pub record IsItem {A : Type 0} (step : ℕ → List ℕ → Result (A × ℕ) Tp
 
 -- ---- items
 
+-- the cells of one more item
+pub items_cells-more : {A : Type 0} (cells : A → List Cell) (xs : List A) (x : A) → items_cells cells (xs ++ x ∷ []) ≡ items_cells cells xs ++ cells x
+unfolding items_cells
+items_cells-more cells [] x = append-nil (cells x)
+items_cells-more cells (y ∷ xs) x = ap (λ (t : List Cell). cells y ++ t) (items_cells-more cells xs x) ∙ sym (append_assoc (cells y) (items_cells cells xs) (cells x))
+
 abbrev pub with_front : {A : Type 0} → List A → ℕ → Result (List A × ℕ) TplgFault → Result (List A × ℕ) TplgFault
 with_front front used read = read >>= λ x. Ok (front ++ x.0, used + x.1)
 

@@ -19,13 +19,13 @@ element_size kind = if kind == 0 then 20 else if kind == 1 then 48 else 8
 abbrev pub type_of : TokenArray → ℕ
 type_of (Uuid items) = 0
 type_of (Text items) = 1
-type_of (Number kind items) = kind
+type_of (Number numbers) = numbers.kind
 
 -- an array's number of elements
 abbrev pub count_of : TokenArray → ℕ
 count_of (Uuid items) = length items
 count_of (Text items) = length items
-count_of (Number kind items) = length items
+count_of (Number numbers) = length numbers.items
 
 -- an array's bytes: three words, and its elements
 abbrev pub array_size : TokenArray → ℕ
@@ -47,7 +47,7 @@ number_spelling t = to_le_bytes w32 t.token ++ to_le_bytes w32 t.value
 abbrev pub elements_spelling : TokenArray → List ℕ
 elements_spelling (Uuid items) = flat_map uuid_spelling items
 elements_spelling (Text items) = flat_map text_spelling items
-elements_spelling (Number kind items) = flat_map number_spelling items
+elements_spelling (Number numbers) = flat_map number_spelling numbers.items
 
 -- an array: its size, its type, its number of elements, and its elements
 unfoldable pub array_spelling : TokenArray → List ℕ
@@ -84,11 +84,11 @@ IsText t = (t.token < 2 ^ 32) × (length t.bytes ≡ 44)
 abbrev pub IsNumber : NumberTuple → Type 0
 IsNumber t = (t.token < 2 ^ 32) × (t.value < 2 ^ 32)
 
--- an array's elements are the program's, and the type of an array of numbers is 2 to 5
+-- an array's elements are the program's, and an array of numbers is of type 2 to 5
 abbrev pub HasElements : TokenArray → Type 0
 HasElements (Uuid items) = Each IsUuid items
 HasElements (Text items) = Each IsText items
-HasElements (Number kind items) = (2 ≤ kind) × (kind ≤ 5) × Each IsNumber items
+HasElements (Number numbers) = (2 ≤ numbers.kind) × (numbers.kind ≤ 5) × Each IsNumber numbers.items
 
 -- an array's size fits its word
 abbrev pub HasSize : TokenArray → Type 0
@@ -153,7 +153,7 @@ abbrev pub array_with : ℕ → ℕ → List ℕ → TokenArray
 array_with kind count bytes =
     if kind == 0 then Uuid (elements_at 20 uuid_at count bytes 12)
     else if kind == 1 then Text (elements_at 48 text_at count bytes 12)
-    else Number kind (elements_at 8 number_at count bytes 12)
+    else Number (record { kind = kind; items = elements_at 8 number_at count bytes 12 })
 
 -- the array at the front of bytes that have no fault there
 unfoldable pub array_at : List ℕ → TokenArray

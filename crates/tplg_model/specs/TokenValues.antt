@@ -11,13 +11,13 @@ use Rattle.tplg_model.specs.declared.tokens.TokenArray.TheVariants.{Uuid, Text, 
 abbrev pub numbers_in : TokenArray → List NumberTuple
 numbers_in (Uuid items) = []
 numbers_in (Text items) = []
-numbers_in (Number kind items) = items
+numbers_in (Number numbers) = numbers.items
 
 -- an array's elements where it is one of texts
 abbrev pub texts_in : TokenArray → List TextTuple
 texts_in (Uuid items) = []
 texts_in (Text items) = items
-texts_in (Number kind items) = []
+texts_in (Number numbers) = []
 
 -- the number of the first element with a token
 abbrev pub first_number : List NumberTuple → ℕ → Option ℕ

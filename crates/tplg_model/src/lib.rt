@@ -2,16 +2,23 @@
 //! file spells them.
 #![tactic(auto)]
 
+pub mod array_type;
 mod block;
+mod block_header;
+pub mod block_type;
 mod control;
+pub mod control_kind;
 mod fault;
 mod pcm;
+pub mod token_number;
 mod tokens;
 mod widget;
+pub mod widget_kind;
 
 pub use block::{Block, Body, Manifest, Route, Topology};
+pub use block_header::{ABI, HEADER_BYTES, MAGIC};
 pub use control::{Control, ControlHead};
 pub use fault::TplgFault;
 pub use pcm::{Caps, Pcm, StreamRecord, Streams};
-pub use tokens::{NumberTuple, TextTuple, TokenArray, UuidTuple};
+pub use tokens::{NumberArray, NumberTuple, TextArray, TextTuple, TokenArray, UuidArray, UuidTuple};
 pub use widget::Widget;

@@ -1,11 +1,22 @@
 // The elements of vendor arrays, one after the other.
 ghost use Rattle.std.specs.Prelude.{◌≡◌, ◌≤◌, ◌+◌, ◌*◌, ◌++◌, ℕ, List, length, take, IfOk, OnOk};
 ghost use Rattle.std.specs.List.{flat_map};
-ghost use Rattle.tplg_model.specs.Arrays.{elements_at, uuid_at, text_at, number_at, uuid_spelling, text_spelling, number_spelling};
+ghost use Rattle.std.specs.Int.{w32, to_le_bytes};
+ghost use Rattle.tplg_model.specs.Arrays.{Each, IsUuid, IsText, IsNumber, elements_at, uuid_at, text_at, number_at, uuid_spelling, text_spelling, number_spelling};
 
+use byteorder::{ByteOrder, LittleEndian};
 use sof_base::{Items, NoMemory, bytes_at, word};
 use std::alloc::{AllocError, Global};
 use tplg_model::{NumberTuple, TextTuple, UuidTuple};
+
+/// The four bytes of a word, the low one first.
+pub fn word_bytes(n: u32) -> [u8; 4]
+    ensures { result ≡ to_le_bytes w32 n }
+{
+    let mut bytes = [0; 4];
+    LittleEndian::write_u32(&mut bytes, n);
+    bytes
+}
 
 /// An element of a vendor array: how many bytes it takes, how it is read, and how it is spelled.
 pub trait Element: Sized {
@@ -14,6 +25,9 @@ pub trait Element: Sized {
     ghost element: { List ℕ → ℕ → Self };
 
     ghost spelling: { Self → List ℕ };
+
+    /// Its numbers and bytes are the program's.
+    ghost is: { Self → Type 0 };
 
     /// Its bytes, the token's four with them.
     const SIZE: usize;
@@ -26,6 +40,7 @@ pub trait Element: Sized {
     /// Appends its bytes. Where memory is wanting, some of them may have been written.
     fn write(&self, out: &mut Vec<u8>) -> Result<(), AllocError>
         ensures ok { OnOk result (out.new.items ≡ out.old.items ++ spelling self.now) }
+        ensures is { OnOk result (is self.now) }
         ensures kept { take (length out.old.items) out.new.items ≡ out.old.items };
 }
 
@@ -35,6 +50,8 @@ impl Element for UuidTuple {
     ghost element = { uuid_at };
 
     ghost spelling = { uuid_spelling };
+
+    ghost is = { IsUuid };
 
     const SIZE: usize = 20;
 
@@ -46,7 +63,7 @@ impl Element for UuidTuple {
     }
 
     fn write(&self, out: &mut Vec<u8>) -> Result<(), AllocError> {
-        out.extend_from_slice(&self.token.to_le_bytes())?;
+        out.extend_from_slice(&word_bytes(self.token))?;
         out.extend_from_slice(&self.bytes)
     }
 }
@@ -58,6 +75,8 @@ impl Element for TextTuple {
 
     ghost spelling = { text_spelling };
 
+    ghost is = { IsText };
+
     const SIZE: usize = 48;
 
     fn read(bytes: &[u8], at: usize) -> TextTuple {
@@ -68,7 +87,7 @@ impl Element for TextTuple {
     }
 
     fn write(&self, out: &mut Vec<u8>) -> Result<(), AllocError> {
-        out.extend_from_slice(&self.token.to_le_bytes())?;
+        out.extend_from_slice(&word_bytes(self.token))?;
         out.extend_from_slice(&self.bytes)
     }
 }
@@ -80,6 +99,8 @@ impl Element for NumberTuple {
 
     ghost spelling = { number_spelling };
 
+    ghost is = { IsNumber };
+
     const SIZE: usize = 8;
 
     fn read(bytes: &[u8], at: usize) -> NumberTuple {
@@ -90,8 +111,8 @@ impl Element for NumberTuple {
     }
 
     fn write(&self, out: &mut Vec<u8>) -> Result<(), AllocError> {
-        out.extend_from_slice(&self.token.to_le_bytes())?;
-        out.extend_from_slice(&self.value.to_le_bytes())
+        out.extend_from_slice(&word_bytes(self.token))?;
+        out.extend_from_slice(&word_bytes(self.value))
     }
 }
 
@@ -103,7 +124,8 @@ pub fn read_elements<E: Element + Drop>(
     at: usize,
 ) -> Result<Items<E>, NoMemory>
     requires { at + count * E.SIZE ≤ length bytes.now }
-    ensures { IfOk result (λ elements. elements ≡ elements_at E.SIZE E.element count bytes.now at) }
+    ensures are { IfOk result (λ elements. elements ≡ elements_at E.SIZE E.element count bytes.now at) }
+    ensures count { IfOk result (λ elements. length elements ≡ count) }
 {
     let mut elements = Items::new(alloc);
     let mut place = at;
@@ -117,6 +139,7 @@ pub fn read_elements<E: Element + Drop>(
 /// Appends the bytes of elements, one after the other. Where memory is wanting, some of them may have been written.
 pub fn write_elements<E: Element>(elements: &[E], out: &mut Vec<u8>) -> Result<(), AllocError>
     ensures ok { OnOk result (out.new.items ≡ out.old.items ++ flat_map E.spelling elements.now) }
+    ensures are { OnOk result (Each E.is elements.now) }
     ensures kept { take (length out.old.items) out.new.items ≡ out.old.items }
 {
     for element in elements {

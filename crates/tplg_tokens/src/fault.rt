@@ -10,13 +10,13 @@ use thiserror::Error;
 #[derive(Clone, Copy, Debug, PartialEq, Eq, Error)]
 pub enum TokenFault {
     /// Fewer bytes are left than an array's three words, or than its size.
-    #[error("the array at byte {0} goes beyond the bytes")]
+    #[error("array at byte {0}: it goes beyond the bytes")]
     Short(usize),
     /// An array's size word is not that of its three words and its elements.
-    #[error("the array at byte {0} has not the size of its elements")]
+    #[error("array at byte {0}: the size word is not that of its elements")]
     Size(usize),
     /// An array's type, this one, is above 5.
-    #[error("the array at byte {0} has the type {1}")]
+    #[error("array at byte {0}: type is {1}, above 5")]
     Kind(usize, u32),
     /// Memory was wanting.
     #[error("out of memory")]

@@ -9,6 +9,7 @@ mod laws;
 mod reading;
 mod writing;
 
+pub use element::word_bytes;
 pub use fault::TokenFault;
 pub use laws::arrays_are_spelled;
 pub use reading::read_arrays;

@@ -4,13 +4,9 @@ use Rattle.std.proofs.lemmas.List.{map-append, take_more}
 use Rattle.sof_base.specs.Cells.{Cell, written, byte_of}
 use Rattle.sof_base.specs.Slots.{wrote_part}
 use Rattle.tplg_model.specs.Spelling.{items_cells}
+use Rattle.tplg_model.proofs.ItemLaws.{items_cells-more}
 
 module _ {A : Type 0} (cells : A → List Cell) where
-  cells_one : (xs : List A) (x : A) → items_cells cells (xs ++ x ∷ []) ≡ items_cells cells xs ++ cells x
-  unfolding items_cells
-  cells_one [] x = append-nil (cells x)
-  cells_one (y ∷ xs) x = ap (λ (t : List Cell). cells y ++ t) (cells_one xs x) ∙ sym (append_assoc (cells y) (items_cells cells xs) (cells x))
-
   pub items_none : (old : List ℕ) → wrote_part old (items_cells cells []) ≡ old
   unfolding items_cells wrote_part
   items_none old = append-nil old
@@ -19,5 +15,5 @@ module _ {A : Type 0} (cells : A → List Cell) where
   unfolding wrote_part
   items_more old xs i x lt is =
       let one : written (items_cells cells (take (i + 1) xs)) ≡ written (items_cells cells (take i xs)) ++ written (cells x) =
-      ap (λ (t : List A). written (items_cells cells t)) (take_more xs i x lt ∙ ap (λ (y : A). take i xs ++ y ∷ []) (sym is)) ∙ ap written (cells_one (take i xs) x) ∙ map-append byte_of (items_cells cells (take i xs)) (cells x) in
+      ap (λ (t : List A). written (items_cells cells t)) (take_more xs i x lt ∙ ap (λ (y : A). take i xs ++ y ∷ []) (sym is)) ∙ ap written (items_cells-more cells (take i xs) x) ∙ map-append byte_of (items_cells cells (take i xs)) (cells x) in
       append_assoc old (written (items_cells cells (take i xs))) (written (cells x)) ∙ ap (λ (t : List ℕ). old ++ t) (sym one)

@@ -4,3 +4,4 @@ pub mod RoomLaws
 pub mod ControlRoom
 pub mod PatchLaws
 pub mod SizeLaws
+pub mod OfProgram

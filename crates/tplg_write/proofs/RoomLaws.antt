@@ -4,7 +4,6 @@ use Rattle.std.proofs.lemmas.List.{length-map}
 use Rattle.sof_base.specs.Cells.{Cell, fixed, written, byte_of}
 use Rattle.sof_base.specs.Slots.{Slot, Raw, slot_cells, slots_cells}
 use Rattle.sof_base.proofs.FieldLaws.{length-fixed}
-use Rattle.tplg_model.specs.Arrays.{Each}
 use Rattle.tplg_model.specs.Spelling.{items_cells, joined}
 
 -- bytes among fields
@@ -25,12 +24,6 @@ module _ {A : Type 0} (cells : A → List Cell) where
   item_among [] i d lt = absurd (omega arith)
   item_among (x ∷ xs) zero d lt = omega (arith, length-append (cells x) (items_cells cells xs))
   item_among (x ∷ xs) (suc i) d lt = omega (arith, item_among xs i d (omega arith), length-append (cells x) (items_cells cells xs))
-
--- nothing is asked of items
-pub each_free : {A : Type 0} (xs : List A) → Each (λ _. Unit {0}) xs
-unfolding Each
-each_free [] = tt
-each_free (x ∷ xs) = (tt, each_free xs)
 
 pub length_written : (cells : List Cell) → length (written cells) ≡ length cells
 length_written cells = length-map cells byte_of

@@ -1,12 +1,12 @@
 -- Numbers written over bytes, and fields behind what was written.
-use Rattle.std.proofs.Common.{◌≡◌, ℕ, ◌+◌, ◌≤◌, List, [], ◌∷◌, ◌++◌, length, take, drop, sym, ap, ◌∙◌, arith, append-nil, append_assoc}
+use Rattle.std.proofs.Common.{◌≡◌, ℕ, suc, ◌+◌, ◌<◌, ◌≤◌, ◌^◌, slice_index, List, [], ◌∷◌, ◌++◌, length, take, drop, sym, ap, ◌∙◌, arith, append-nil, append_assoc}
 use Rattle.std.proofs.Math.Seq.{take-add, take-append_seam, drop-append_seam}
 use Rattle.std.proofs.lemmas.List.{drop-drop, length-take-le}
 use Rattle.std.specs.Int.{w32, to_le_bytes}
 use borrow.Rule.Slice.PartMut.{put_mid}
 use Rattle.std.proofs.lemmas.List.{map-append}
 use Rattle.sof_base.specs.Cells.{Cell, written, byte_of}
-use Rattle.sof_base.specs.Slots.{wrote_part}
+use Rattle.sof_base.specs.Slots.{wrote_part, AreWords}
 use Rattle.tplg_model.specs.Spelling.{joined}
 use Rattle.tplg_write.specs.Sinks.{Sunk, patched}
 
@@ -47,3 +47,11 @@ parts_wrote old (c ∷ cs) =
     parts_wrote (old ++ written c) cs
     ∙ append_assoc old (written c) (written (joined cs))
     ∙ ap (λ (t : List ℕ). old ++ t) (sym (map-append byte_of c (joined cs)))
+
+-- ---- words
+
+-- words of the program each fit four bytes
+pub are_words : (ws : List ℕ) → ((i : ℕ) → slice_index ws i < 2 ^ 32) → AreWords ws
+unfolding AreWords
+are_words [] fit = tt
+are_words (w ∷ ws) fit = (fit 0, are_words ws (λ i. fit (suc i)))

@@ -2,9 +2,8 @@
 ghost use Rattle.std.specs.Prelude.{◌≡◌, ◌<◌, ◌^◌, OnOk, [], ◌∷◌, length};
 ghost use Rattle.sof_base.specs.Slots.{Word};
 ghost use Rattle.tplg_model.specs.Arrays.{Each};
-ghost use Rattle.tplg_model.specs.Spelling.{IsSound, body_cells, block_cells, items_cells, kind_of, count_of};
+ghost use Rattle.tplg_model.specs.Spelling.{IsSound, IsBody, IsBlock, body_cells, block_cells, items_cells, kind_of, count_of};
 ghost use Rattle.tplg_write.specs.Sinks.{with_slots, with_cells};
-ghost use Rattle.tplg_write.specs.Sizes.{HasSizes};
 
 use crate::items::put_items;
 use crate::records::put_fixed;
@@ -15,8 +14,8 @@ use tplg_model::{Block, Body};
 // A block's payload.
 fn put_body(body: &Body, sink: &mut Sink) -> Result<(), NoMemory>
     requires room { length (body_cells body.now) < 2 ^ 32 }
-    requires sizes { HasSizes body.now }
     ensures ok { OnOk result (sink.new ≡ with_cells sink.old (body_cells body.now)) }
+    ensures is { OnOk result (IsBody body.now) }
     ensures front { sink.new.front ≡ sink.old.front }
 {
     match body {
@@ -31,7 +30,8 @@ fn put_body(body: &Body, sink: &mut Sink) -> Result<(), NoMemory>
 // The type of a block and its number of records.
 fn kind_and_count(body: &Body) -> (u32, u32)
     requires { IsSound body.now }
-    ensures { result ≡ (kind_of body.now, count_of body.now) }
+    ensures words { result ≡ (kind_of body.now, count_of body.now) }
+    ensures fit { (kind_of body.now < 2 ^ 32) × (count_of body.now < 2 ^ 32) }
 {
     match body {
         Body::Manifests(manifests) => (8, manifests.items().len() as u32),
@@ -45,6 +45,7 @@ fn kind_and_count(body: &Body) -> (u32, u32)
 // A block's header up to the size of its payload: the magic word, ABI 5, version, type, 36 and vendor type.
 fn put_front(block: &Block, kind: u32, sink: &mut Sink) -> Result<(), NoMemory>
     ensures ok { OnOk result (sink.new ≡ with_slots sink.old (Word 0x41536F43 ∷ Word 5 ∷ Word block.now.version ∷ Word kind ∷ Word 36 ∷ Word block.now.vendor_type ∷ [])) }
+    ensures fit { OnOk result ((block.now.version < 2 ^ 32) × (block.now.vendor_type < 2 ^ 32)) }
     ensures front { sink.new.front ≡ sink.old.front }
 {
     sink.word(0x41536F43)?;
@@ -58,8 +59,8 @@ fn put_front(block: &Block, kind: u32, sink: &mut Sink) -> Result<(), NoMemory>
 
 // One block: the size of its payload is written once the payload is there.
 fn put_block(block: &Block, sink: &mut Sink) -> Result<(), NoMemory>
-    requires { HasSizes block.now.body }
     ensures ok { OnOk result (sink.new ≡ with_cells sink.old (block_cells block.now)) }
+    ensures is { OnOk result (IsBlock block.now) }
     ensures front { sink.new.front ≡ sink.old.front }
 {
     let (kind, count) = kind_and_count(&block.body);
@@ -76,8 +77,8 @@ fn put_block(block: &Block, sink: &mut Sink) -> Result<(), NoMemory>
 
 /// Writes blocks, one after the other.
 pub fn put_blocks(blocks: &[Block], sink: &mut Sink) -> Result<(), NoMemory>
-    requires { Each (λ b. HasSizes b.body) blocks.now }
     ensures ok { OnOk result (sink.new ≡ with_cells sink.old (items_cells block_cells blocks.now)) }
+    ensures are { OnOk result (Each IsBlock blocks.now) }
     ensures front { sink.new.front ≡ sink.old.front }
 {
     for block in blocks {

@@ -1,6 +1,7 @@
 // A widget's controls: a head, and what each kind has behind it.
 ghost use Rattle.std.specs.Prelude.{◌≡◌, ◌<◌, ◌^◌, OnOk, length};
-ghost use Rattle.tplg_model.specs.Spelling.{control_head_slots, control_slots, control_cells};
+ghost use Rattle.sof_base.specs.Slots.{AreSlots};
+ghost use Rattle.tplg_model.specs.Spelling.{IsControl, HasLengths, control_head_slots, control_slots, control_cells};
 ghost use Rattle.tplg_write.specs.Sinks.{with_slots, with_cells};
 
 use crate::items::Spelled;
@@ -9,8 +10,11 @@ use sof_base::NoMemory;
 use tplg_model::{Control, ControlHead};
 
 // A control's head, with the number of its kind.
+#[tactic(auto, unfolding(sof_base::specs::Slots::AreSlots, sof_base::specs::Slots::IsSlot))]
 fn put_control_head(kind: u32, head: &ControlHead, sink: &mut Sink) -> Result<(), NoMemory>
     ensures ok { OnOk result (sink.new ≡ with_slots sink.old (control_head_slots kind head.now)) }
+    ensures is { OnOk result (AreSlots (control_head_slots kind head.now)) }
+    ensures tlv { OnOk result (length head.now.tlv ≡ 32) }
     ensures front { sink.new.front ≡ sink.old.front }
 {
     sink.size(204)?;
@@ -27,9 +31,11 @@ fn put_control_head(kind: u32, head: &ControlHead, sink: &mut Sink) -> Result<()
 }
 
 // The words of a control. Its private data has fewer than 2^32 bytes.
+#[tactic(auto, unfolding(sof_base::specs::Slots::AreSlots, sof_base::specs::Slots::IsSlot))]
 fn put_control(control: &Control, sink: &mut Sink) -> Result<(), NoMemory>
     requires { length (control_cells control.now) < 2 ^ 32 }
     ensures ok { OnOk result (sink.new ≡ with_slots sink.old (control_slots control.now)) }
+    ensures is { OnOk result (IsControl control.now) }
     ensures front { sink.new.front ≡ sink.old.front }
 {
     match control {
@@ -105,9 +111,9 @@ fn put_control(control: &Control, sink: &mut Sink) -> Result<(), NoMemory>
 impl Spelled for Control {
     ghost cells = { control_cells };
 
-    ghost has_sizes = { λ _. Unit {0} };
+    ghost is = { IsControl };
 
-    #[tactic(auto, using(sof_base::proofs::WriteLaws::part_slots))]
+    #[tactic(auto, using(sof_base::proofs::WriteLaws::part_slots), unfolding(sof_base::specs::Slots::AreSlots, sof_base::specs::Slots::IsSlot))]
     fn put(&self, sink: &mut Sink) -> Result<(), NoMemory> {
         put_control(self, sink)?;
         Ok(())

@@ -1,7 +1,7 @@
 // A whole file.
-ghost use Rattle.std.specs.Prelude.{◌≡◌, ◌++◌, OnOk, OnErr};
-ghost use Rattle.tplg_model.specs.File.{spelling};
-ghost use Rattle.tplg_write.specs.Sizes.{HasArraySizes};
+ghost use Rattle.std.specs.Prelude.{◌≡◌, ◌++◌, Ok, OnOk, OnErr};
+ghost use Rattle.tplg_model.specs.File.{IsTopology, spelling};
+ghost use Rattle.tplg_model.specs.Reading.{topology_of};
 
 use crate::blocks::put_blocks;
 use crate::sink::Sink;
@@ -9,11 +9,12 @@ use sof_base::NoMemory;
 use std::mem::replace;
 use tplg_model::Topology;
 
-/// Appends the bytes of a topology's file. Each of its vendor arrays has fewer than 2^32 bytes, as all have that were read.
-/// Where memory is wanting, `out` stays as it was.
+/// Appends the bytes of a topology's file. Where memory is wanting, `out` stays as it was.
 pub fn write(topology: &Topology, out: &mut Vec<u8>) -> Result<(), NoMemory>
-    requires { HasArraySizes topology.now }
     ensures ok { OnOk result (out.new.items ≡ out.old.items ++ spelling topology.now) }
+    // The topology is one of the program, so that what is written is read as it.
+    ensures is { OnOk result (IsTopology topology.now) }
+    ensures again { OnOk result (topology_of (spelling topology.now) ≡ Ok topology.now) }
     ensures err { OnErr result (out.new.items ≡ out.old.items) }
 {
     let empty = Vec::new(*out.allocator());

@@ -12,22 +12,22 @@ use sof_base::NoMemory;
 pub trait Spelled: Sized {
     ghost cells: { Self → List Cell };
 
-    /// What its size words must have room for.
-    ghost has_sizes: { Self → Type 0 };
+    /// Its numbers, names and lists are the program's.
+    ghost is: { Self → Type 0 };
 
     /// Writes its bytes, which are fewer than 2^32. Where memory is wanting, some of them may have been written.
     fn put(&self, sink: &mut Sink) -> Result<(), NoMemory>
         requires room { length (cells self.now) < 2 ^ 32 }
-        requires sizes { has_sizes self.now }
         ensures ok { OnOk result (sink.new ≡ with_cells sink.old (cells self.now)) }
+        ensures is { OnOk result (is self.now) }
         ensures front { sink.new.front ≡ sink.old.front };
 }
 
 /// Writes the bytes of items, one after the other.
 pub fn put_items<I: Spelled>(items: &[I], sink: &mut Sink) -> Result<(), NoMemory>
     requires room { length (items_cells I.cells items.now) < 2 ^ 32 }
-    requires sizes { Each I.has_sizes items.now }
     ensures ok { OnOk result (sink.new ≡ with_cells sink.old (items_cells I.cells items.now)) }
+    ensures are { OnOk result (Each I.is items.now) }
     ensures front { sink.new.front ≡ sink.old.front }
 {
     for item in items {

@@ -1,8 +1,8 @@
 // Records of a fixed form: routes, manifests and PCMs, field by field in the order of their tables.
 ghost use Rattle.std.specs.Prelude.{◌≡◌, ◌<◌, ◌^◌, OnOk, List, [], ◌∷◌, length};
 ghost use Rattle.sof_base.specs.Cells.{fixed};
-ghost use Rattle.sof_base.specs.Slots.{Word, slots_cells};
-ghost use Rattle.tplg_model.specs.Spelling.{route_cells, manifest_cells, stream_cells, caps_slots, caps_cells, pcm_head_slots, pcm_tail_slots, pcm_cells, items_cells};
+ghost use Rattle.sof_base.specs.Slots.{Word, slots_cells, AreSlots};
+ghost use Rattle.tplg_model.specs.Spelling.{IsRoute, route_cells, IsManifest, manifest_cells, stream_slots, stream_cells, IsPcm, caps_slots, caps_cells, pcm_head_slots, pcm_tail_slots, pcm_cells, items_cells};
 ghost use Rattle.tplg_write.specs.Sinks.{with_slots, with_cells};
 
 use crate::items::{Spelled, put_items};
@@ -13,9 +13,9 @@ use tplg_model::{Caps, Manifest, Pcm, Route, StreamRecord};
 impl Spelled for Route {
     ghost cells = { route_cells };
 
-    ghost has_sizes = { λ _. Unit {0} };
+    ghost is = { IsRoute };
 
-    #[tactic(auto, using(sof_base::proofs::WriteLaws::part_slots))]
+    #[tactic(auto, using(sof_base::proofs::WriteLaws::part_slots), unfolding(sof_base::specs::Slots::AreSlots, sof_base::specs::Slots::IsSlot))]
     fn put(&self, sink: &mut Sink) -> Result<(), NoMemory> {
         sink.label(&self.sink)?;
         sink.label(&self.control)?;
@@ -27,9 +27,9 @@ impl Spelled for Route {
 impl Spelled for Manifest {
     ghost cells = { manifest_cells };
 
-    ghost has_sizes = { λ _. Unit {0} };
+    ghost is = { IsManifest };
 
-    #[tactic(auto, using(sof_base::proofs::WriteLaws::part_slots))]
+    #[tactic(auto, using(sof_base::proofs::WriteLaws::part_slots), unfolding(sof_base::specs::Slots::AreSlots, sof_base::specs::Slots::IsSlot))]
     fn put(&self, sink: &mut Sink) -> Result<(), NoMemory> {
         sink.size(112)?;
         sink.words(&self.words)?;
@@ -42,9 +42,9 @@ impl Spelled for Manifest {
 impl Spelled for StreamRecord {
     ghost cells = { stream_cells };
 
-    ghost has_sizes = { λ _. Unit {0} };
+    ghost is = { λ s. AreSlots (stream_slots s) };
 
-    #[tactic(auto, using(sof_base::proofs::WriteLaws::part_slots))]
+    #[tactic(auto, using(sof_base::proofs::WriteLaws::part_slots), unfolding(sof_base::specs::Slots::AreSlots, sof_base::specs::Slots::IsSlot))]
     fn put(&self, sink: &mut Sink) -> Result<(), NoMemory> {
         sink.size(72)?;
         sink.label(&self.name)?;
@@ -58,8 +58,10 @@ impl Spelled for StreamRecord {
 }
 
 // The words of caps.
+#[tactic(auto, unfolding(sof_base::specs::Slots::AreSlots, sof_base::specs::Slots::IsSlot))]
 fn put_caps(caps: &Caps, sink: &mut Sink) -> Result<(), NoMemory>
     ensures ok { OnOk result (sink.new ≡ with_slots sink.old (caps_slots caps.now)) }
+    ensures is { OnOk result (AreSlots (caps_slots caps.now)) }
     ensures front { sink.new.front ≡ sink.old.front }
 {
     sink.size(104)?;
@@ -83,9 +85,9 @@ fn put_caps(caps: &Caps, sink: &mut Sink) -> Result<(), NoMemory>
 impl Spelled for Caps {
     ghost cells = { caps_cells };
 
-    ghost has_sizes = { λ _. Unit {0} };
+    ghost is = { λ c. AreSlots (caps_slots c) };
 
-    #[tactic(auto, using(sof_base::proofs::WriteLaws::part_slots))]
+    #[tactic(auto, using(sof_base::proofs::WriteLaws::part_slots), unfolding(sof_base::specs::Slots::AreSlots, sof_base::specs::Slots::IsSlot))]
     fn put(&self, sink: &mut Sink) -> Result<(), NoMemory> {
         put_caps(self, sink)?;
         Ok(())
@@ -93,9 +95,10 @@ impl Spelled for Caps {
 }
 
 // A PCM, up to its stream records.
-#[tactic(auto, using(sof_base::proofs::WriteLaws::part_slots))]
+#[tactic(auto, using(sof_base::proofs::WriteLaws::part_slots), unfolding(sof_base::specs::Slots::AreSlots, sof_base::specs::Slots::IsSlot))]
 fn put_pcm_head(pcm: &Pcm, sink: &mut Sink) -> Result<(), NoMemory>
     ensures ok { OnOk result (sink.new ≡ with_cells sink.old (slots_cells (pcm_head_slots pcm.now))) }
+    ensures is { OnOk result (AreSlots (pcm_head_slots pcm.now)) }
     ensures front { sink.new.front ≡ sink.old.front }
 {
     sink.size(912)?;
@@ -110,9 +113,10 @@ fn put_pcm_head(pcm: &Pcm, sink: &mut Sink) -> Result<(), NoMemory>
 }
 
 // The number of its stream records that count.
-#[tactic(auto, using(sof_base::proofs::WriteLaws::part_slots))]
+#[tactic(auto, using(sof_base::proofs::WriteLaws::part_slots), unfolding(sof_base::specs::Slots::AreSlots, sof_base::specs::Slots::IsSlot))]
 fn put_number(number: u32, sink: &mut Sink) -> Result<(), NoMemory>
     ensures ok { OnOk result (sink.new ≡ with_cells sink.old (slots_cells (Word number ∷ []))) }
+    ensures is { AreSlots (Word number ∷ []) }
     ensures front { sink.new.front ≡ sink.old.front }
 {
     sink.word(number)?;
@@ -120,10 +124,11 @@ fn put_number(number: u32, sink: &mut Sink) -> Result<(), NoMemory>
 }
 
 // From its flags on, up to its private data.
-#[tactic(auto, using(sof_base::proofs::WriteLaws::part_slots))]
+#[tactic(auto, using(sof_base::proofs::WriteLaws::part_slots), unfolding(sof_base::specs::Slots::AreSlots, sof_base::specs::Slots::IsSlot))]
 fn put_pcm_tail(pcm: &Pcm, sink: &mut Sink) -> Result<(), NoMemory>
     requires { length pcm.now.private < 2 ^ 32 }
     ensures ok { OnOk result (sink.new ≡ with_cells sink.old (slots_cells (pcm_tail_slots pcm.now))) }
+    ensures is { OnOk result (AreSlots (pcm_tail_slots pcm.now)) }
     ensures front { sink.new.front ≡ sink.old.front }
 {
     sink.word(pcm.flag_mask)?;
@@ -145,7 +150,7 @@ pub fn put_fixed(bytes: &[u8], sink: &mut Sink) -> Result<(), NoMemory>
 impl Spelled for Pcm {
     ghost cells = { pcm_cells };
 
-    ghost has_sizes = { λ _. Unit {0} };
+    ghost is = { IsPcm };
 
     fn put(&self, sink: &mut Sink) -> Result<(), NoMemory> {
         put_pcm_head(self, sink)?;

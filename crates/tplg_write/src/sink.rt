@@ -1,13 +1,14 @@
 // Bytes that grow behind others, which are kept whatever becomes of them.
-ghost use Rattle.std.specs.Prelude.{◌≡◌, ◌≤◌, ◌+◌, ◌++◌, [], OnOk, length};
-ghost use Rattle.sof_base.specs.Slots.{Word, Half, Long, Size, Label, Words, Raw, wrote};
-ghost use Rattle.tplg_model.specs.Arrays.{arrays_spelling, HasSize, Each};
+ghost use Rattle.std.specs.Prelude.{◌≡◌, ◌≤◌, ◌<◌, ◌+◌, ◌^◌, ◌++◌, [], Ok, OnOk, length};
+ghost use Rattle.sof_base.specs.Slots.{Word, Half, Long, Size, Label, Words, Raw, wrote, IsName, AreWords};
+ghost use Rattle.tplg_model.specs.Arrays.{AreArrays, arrays_spelling};
 ghost use Rattle.tplg_write.specs.Sinks.{with_slot, patched};
 
+use byteorder::{ByteOrder, LittleEndian};
 use sof_base::{Name44, NoMemory};
 use std::marker::Model;
 use tplg_model::TokenArray;
-use tplg_tokens::write_arrays;
+use tplg_tokens::{word_bytes, write_arrays};
 
 static ZEROS: [u8; 44] = [0; 44];
 
@@ -75,27 +76,34 @@ impl Sink {
     #[tactic(auto, unfolding(sof_base::specs::Slots::wrote, sof_base::specs::Slots::slot_cells))]
     pub fn word(&mut self, n: u32) -> Result<(), NoMemory>
         ensures ok { OnOk result (self.new ≡ with_slot self.old (Word n)) }
+        ensures fits { n < 2 ^ 32 }
         ensures front { self.new.front ≡ self.old.front }
     {
-        self.put(&n.to_le_bytes())
+        self.put(&word_bytes(n))
     }
 
     /// A number as two bytes, little-endian.
     #[tactic(auto, unfolding(sof_base::specs::Slots::wrote, sof_base::specs::Slots::slot_cells))]
     pub fn half(&mut self, n: u16) -> Result<(), NoMemory>
         ensures ok { OnOk result (self.new ≡ with_slot self.old (Half n)) }
+        ensures fits { n < 2 ^ 16 }
         ensures front { self.new.front ≡ self.old.front }
     {
-        self.put(&n.to_le_bytes())
+        let mut bytes = [0; 2];
+        LittleEndian::write_u16(&mut bytes, n);
+        self.put(&bytes)
     }
 
     /// A number as eight bytes, little-endian.
     #[tactic(auto, unfolding(sof_base::specs::Slots::wrote, sof_base::specs::Slots::slot_cells))]
     pub fn long(&mut self, n: u64) -> Result<(), NoMemory>
         ensures ok { OnOk result (self.new ≡ with_slot self.old (Long n)) }
+        ensures fits { n < 2 ^ 64 }
         ensures front { self.new.front ≡ self.old.front }
     {
-        self.put(&n.to_le_bytes())
+        let mut bytes = [0; 8];
+        LittleEndian::write_u64(&mut bytes, n);
+        self.put(&bytes)
     }
 
     /// A size word, which readers ignore.
@@ -104,7 +112,7 @@ impl Sink {
         ensures ok { OnOk result (self.new ≡ with_slot self.old (Size n)) }
         ensures front { self.new.front ≡ self.old.front }
     {
-        self.put(&n.to_le_bytes())
+        self.put(&word_bytes(n))
     }
 
     /// Bytes as they are.
@@ -119,6 +127,7 @@ impl Sink {
     /// A name and zeros behind it, 44 bytes in all.
     pub fn label(&mut self, name: &Name44) -> Result<(), NoMemory>
         ensures ok { OnOk result (self.new ≡ with_slot self.old (Label name.now)) }
+        ensures fits { IsName name.now }
         ensures front { self.new.front ≡ self.old.front }
     {
         let bytes = name.as_bytes();
@@ -130,18 +139,19 @@ impl Sink {
     /// Numbers as four bytes each, little-endian.
     pub fn words(&mut self, words: &[u32]) -> Result<(), NoMemory>
         ensures ok { OnOk result (self.new ≡ with_slot self.old (Words words.now)) }
+        ensures fit { AreWords words.now }
         ensures front { self.new.front ≡ self.old.front }
     {
         for word in words {
-            self.put(&word.to_le_bytes())?;
+            self.put(&word_bytes(*word))?;
         }
         Ok(())
     }
 
     /// Vendor arrays, one after the other.
     pub fn arrays(&mut self, arrays: &[TokenArray]) -> Result<(), NoMemory>
-        requires { Each HasSize arrays.now }
         ensures ok { OnOk result (self.new ≡ record { front = self.old.front; added = self.old.added ++ arrays_spelling arrays.now }) }
+        ensures are { OnOk result (AreArrays arrays.now) }
         ensures front { self.new.front ≡ self.old.front }
     {
         write_arrays(arrays, &mut self.bytes)
@@ -154,6 +164,6 @@ impl Sink {
         ensures front { self.new.front ≡ self.old.front }
     {
         let place = self.kept + at;
-        self.bytes[place..place + 4].copy_from_slice(&n.to_le_bytes());
+        self.bytes[place..place + 4].copy_from_slice(&word_bytes(n));
     }
 }

@@ -1,8 +1,8 @@
 // A widget: its words and names, its vendor arrays as private data, and its controls.
 ghost use Rattle.std.specs.Prelude.{◌≡◌, ◌<◌, ◌^◌, OnOk, [], ◌∷◌, length};
 ghost use Rattle.sof_base.specs.Slots.{Word, Raw};
-ghost use Rattle.tplg_model.specs.Arrays.{arrays_spelling, HasSize, Each};
-ghost use Rattle.tplg_model.specs.Spelling.{widget_cells, widget_head_slots, head_of};
+ghost use Rattle.tplg_model.specs.Arrays.{AreArrays, arrays_spelling};
+ghost use Rattle.tplg_model.specs.Spelling.{IsWidget, IsWidgetHead, widget_cells, widget_head_slots, head_of};
 ghost use Rattle.tplg_write.specs.Sinks.{with_slots, with_cells};
 
 use crate::items::{Spelled, put_items};
@@ -13,8 +13,8 @@ use tplg_model::{TokenArray, Widget};
 // Vendor arrays as private data: the number of their bytes, and their bytes.
 fn put_tokens(tokens: &[TokenArray], sink: &mut Sink) -> Result<(), NoMemory>
     requires room { length (arrays_spelling tokens.now) < 2 ^ 32 }
-    requires sizes { Each HasSize tokens.now }
     ensures ok { OnOk result (sink.new ≡ with_slots sink.old (Word (length (arrays_spelling tokens.now)) ∷ Raw (arrays_spelling tokens.now) ∷ [])) }
+    ensures are { OnOk result (AreArrays tokens.now) }
     ensures front { sink.new.front ≡ sink.old.front }
 {
     let place = sink.len();
@@ -26,10 +26,11 @@ fn put_tokens(tokens: &[TokenArray], sink: &mut Sink) -> Result<(), NoMemory>
 }
 
 // A widget up to its controls, of which it says only the number.
+#[tactic(auto, unfolding(sof_base::specs::Slots::AreSlots, sof_base::specs::Slots::IsSlot))]
 fn put_widget_head(widget: &Widget, sink: &mut Sink) -> Result<(), NoMemory>
     requires room { length (widget_cells widget.now) < 2 ^ 32 }
-    requires sizes { Each HasSize widget.now.tokens }
     ensures ok { OnOk result (sink.new ≡ with_slots sink.old (widget_head_slots (head_of widget.now))) }
+    ensures is { OnOk result (IsWidgetHead (head_of widget.now)) }
     ensures front { sink.new.front ≡ sink.old.front }
 {
     sink.size(132)?;
@@ -47,7 +48,7 @@ fn put_widget_head(widget: &Widget, sink: &mut Sink) -> Result<(), NoMemory>
 impl Spelled for Widget {
     ghost cells = { widget_cells };
 
-    ghost has_sizes = { λ w. Each HasSize w.tokens };
+    ghost is = { IsWidget };
 
     fn put(&self, sink: &mut Sink) -> Result<(), NoMemory> {
         put_widget_head(self, sink)?;

@@ -120,12 +120,12 @@ fn the_thin_graph_is_read(rt: HostRuntime) -> Result<(), Fail> {
     };
     assert_eq!(rt; widget.id, 16);
     assert_eq!(rt; widget.name.as_bytes().len(), 2);
-    let Some(TokenArray::Number { kind, items }) = widget.tokens.items().get(0) else {
+    let Some(TokenArray::Number(numbers)) = widget.tokens.items().get(0) else {
         return Err("numbers".into());
     };
-    assert_eq!(rt; *kind, 4);
+    assert_eq!(rt; numbers.kind(), 4);
     assert_eq!(rt;
-        items.items().get(0).map(|t| (t.token, t.value)),
+        numbers.items().get(0).map(|t| (t.token, t.value)),
         Some((100, 768))
     );
     let Some(last) = blocks.get(5) else {

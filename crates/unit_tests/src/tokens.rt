@@ -19,7 +19,6 @@ fn format_s16le() -> [u8; 60] {
 }
 
 /// Two bytes, and behind them the arrays that bytes are, written again.
-#[tactic(auto, using(tplg_model::proofs::ArrayLaws::sizes_fit))]
 fn written_again(rt: &HostRuntime, bytes: &[u8]) -> Result<Vec<u8>, Fail> {
     let Ok(arrays) = read_arrays(rt.alloc(), bytes) else {
         return Err(Fail::from("they are arrays"));
@@ -36,12 +35,12 @@ fn an_array_of_a_number_is_read(rt: HostRuntime) -> Result<(), Fail> {
     let arrays = read_arrays(rt.alloc(), &SIZE_768)
         .ok()
         .ok_or("it is an array")?;
-    let [TokenArray::Number { kind, items }] = arrays.items() else {
+    let [TokenArray::Number(numbers)] = arrays.items() else {
         return Err(Fail::from("it is one array of numbers"));
     };
-    assert_eq!(rt; *kind, 4);
+    assert_eq!(rt; numbers.kind(), 4);
     assert_eq!(rt;
-        items.items(),
+        numbers.items(),
         [NumberTuple {
             token: 100,
             value: 768
@@ -57,10 +56,10 @@ fn an_array_of_a_text_is_read(rt: HostRuntime) -> Result<(), Fail> {
     let arrays = read_arrays(rt.alloc(), &bytes)
         .ok()
         .ok_or("it is an array")?;
-    let [TokenArray::Text(items)] = arrays.items() else {
+    let [TokenArray::Text(texts)] = arrays.items() else {
         return Err(Fail::from("it is one array of texts"));
     };
-    let [TextTuple { token, bytes }] = items.items() else {
+    let [TextTuple { token, bytes }] = texts.items() else {
         return Err(Fail::from("it is one text"));
     };
     assert_eq!(rt; *token, 402);

@@ -15,3 +15,15 @@ overflow_cast-result-in-Routes c = omega (arith, count_fits (Routes c.in-Routes.
 
 pub overflow_cast-result-in-Pcms : goal.overflow_cast-result-in-Pcms
 overflow_cast-result-in-Pcms c = omega (arith, count_fits (Pcms c.in-Pcms.pcms) (subst IsSound c.in-Pcms.is c.requires) tt, ap length c.items-in-Pcms.ensures)
+
+pub returns-in-Manifests-clause-fit : goal.returns-in-Manifests-clause-fit
+returns-in-Manifests-clause-fit c = rw (c.in-Manifests.is) (omega arith, count_fits (Manifests c.in-Manifests.manifests) (subst IsSound c.in-Manifests.is c.requires) tt)
+
+pub returns-in-Widgets-clause-fit : goal.returns-in-Widgets-clause-fit
+returns-in-Widgets-clause-fit c = rw (c.in-Widgets.is) (omega arith, count_fits (Widgets c.in-Widgets.widgets) (subst IsSound c.in-Widgets.is c.requires) tt)
+
+pub returns-in-Routes-clause-fit : goal.returns-in-Routes-clause-fit
+returns-in-Routes-clause-fit c = rw (c.in-Routes.is) (omega arith, count_fits (Routes c.in-Routes.routes) (subst IsSound c.in-Routes.is c.requires) tt)
+
+pub returns-in-Pcms-clause-fit : goal.returns-in-Pcms-clause-fit
+returns-in-Pcms-clause-fit c = rw (c.in-Pcms.is) (omega arith, count_fits (Pcms c.in-Pcms.pcms) (subst IsSound c.in-Pcms.is c.requires) tt)

@@ -1,6 +1,5 @@
 use Rattle.std.proofs.Common.{ℕ, List, ap}
 use Rattle.tplg_model.specs.Spelling.{pcm_parts}
-use Rattle.tplg_write.proofs.RoomLaws.{each_free}
 use Rattle.tplg_write.proofs.SinkLaws.{parts_wrote}
 use Rattle.tplg_write.proofs.records.PcmSpelled.put.Goals as goal
 
@@ -8,6 +7,3 @@ pub returns-clause-ok : goal.returns-clause-ok
 returns-clause-ok c =
     rw (c.in_ok-put_fixed.ensures.ok, c.in_ok-put_pcm_tail.ensures.ok, c.in_ok-put-2.ensures.ok, c.in_ok-put.ensures.ok, c.in_ok-put_number.ensures.ok, c.in_ok-put_items.ensures.ok, c.in_ok-put_pcm_head.ensures.ok, c.items-2.ensures, c.items.ensures.value)
     (ap (λ (a : List ℕ). record { front = c.args.sink.now.front; added = a }) (parts_wrote c.args.sink.now.added (pcm_parts c.args.self.now)))
-
-pub put_items-requires-clause-sizes : goal.put_items-requires-clause-sizes
-put_items-requires-clause-sizes c = each_free c.items.result.now

@@ -13,4 +13,4 @@ returns-clause-added c =
     let is = c.copy_from_slice.new.self in
     let items = with_items_is inside.bytes (put_mid at size was is) (same_len_mid at size was is c.copy_from_slice.ensures.len ∙ c.deref_mut.ensures.len) in
     rw (← c.self.view_is) ((λ i. sunk (take inside.kept (items i)) (drop inside.kept (items i)))
-    ∙ sunk_patched inside.kept c.args.at c.args.n size inside.bytes.items was is c.self.invariant c.deref_mut.ensures.value (omega arith) (c.copy_from_slice.ensures.after ∙ c.to_le_bytes.ensures))
+    ∙ sunk_patched inside.kept c.args.at c.args.n size inside.bytes.items was is c.self.invariant c.deref_mut.ensures.value (omega arith) (c.copy_from_slice.ensures.after ∙ c.word_bytes.ensures))

@@ -1,11 +1,7 @@
 use Rattle.std.proofs.Common.{ℕ, List, ap}
 use Rattle.tplg_model.specs.Spelling.{widget_head_slots, head_of, items_cells, control_cells}
-use Rattle.tplg_write.proofs.RoomLaws.{each_free}
 use Rattle.tplg_write.proofs.PatchLaws.{slots_then}
 use Rattle.tplg_write.proofs.widgets.WidgetSpelled.put.Goals as goal
-
-pub put_items-requires-clause-sizes : goal.put_items-requires-clause-sizes
-put_items-requires-clause-sizes c = each_free c.items.result.now
 
 pub returns-clause-ok : goal.returns-clause-ok
 returns-clause-ok c =

@@ -1,0 +1,9 @@
+pub mod ArithLaws
+pub mod ByteLaws
+pub mod Cases
+pub mod LaneLaws
+pub mod Lookups
+pub mod NumberLaws
+pub mod PartLaws
+pub mod PassLaws
+pub mod StepLaws

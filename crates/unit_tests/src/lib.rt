@@ -10,6 +10,8 @@ mod device;
 #[cfg(test)]
 mod endpoints;
 #[cfg(test)]
+mod equaliser;
+#[cfg(test)]
 mod heap;
 #[cfg(test)]
 mod kernels;

@@ -1,0 +1,34 @@
+-- How an equaliser's piece keeps bytes and numbers in its words.
+use Rattle.std.specs.Prelude.{ℕ, zero, suc, ◌+◌, ◌*◌, ◌^◌, ◌<◌, ◌≤◌, List, [], ◌∷◌, take, drop, ℤ, pos, ◌+ℤ◌, ◌*ℤ◌, nat_abs}
+use Rattle.std.specs.Int.{w32, cast_unsigned}
+use Rattle.sof_base.specs.declared.format.Format.TheVariants.{S32}
+use Rattle.sof_base.specs.Samples.{sample_of, frame_out}
+
+-- the bytes of words, four for each, the low one first
+abbrev pub bytes_of : List ℤ → List ℕ
+bytes_of words = frame_out S32 words
+
+-- n words from a place on
+abbrev pub words_from : ℕ → ℕ → List ℤ → List ℤ
+words_from place n words = take n (drop place words)
+
+-- a word as 32 bits
+abbrev pub bits_at : List ℤ → ℕ → ℕ
+bits_at words i = cast_unsigned w32 (sample_of words i)
+
+-- a number, and 32 bits below it
+abbrev pub joined : ℤ → ℕ → ℤ
+joined high low = (high *ℤ pos (2 ^ 32)) +ℤ pos low
+
+-- the number whose 128 bits, in two's complement, are the four words from a place on, the low one first
+abbrev pub wide_at : List ℤ → ℕ → ℤ
+wide_at words i = joined (joined (joined (sample_of words (i + 3)) (bits_at words (i + 2))) (bits_at words (i + 1))) (bits_at words i)
+
+-- the two numbers of each of n sections, eight words for each, from a place on
+abbrev pub numbers_at : List ℤ → ℕ → ℕ → List ℤ
+numbers_at words place zero = []
+numbers_at words place (suc n) = wide_at words place ∷ wide_at words (place + 4) ∷ numbers_at words (place + 8) n
+
+-- what is so of the words of all numbers: the first of two is a sum of four products of 32 bits, the second one of two
+unfoldable pub AreNumbers : List ℤ → Type 0
+AreNumbers words = (k : ℕ) → k < 64 → (nat_abs (wide_at words (8 * k)) ≤ 2 ^ 64) × (nat_abs (wide_at words (8 * k + 4)) ≤ 2 ^ 63)

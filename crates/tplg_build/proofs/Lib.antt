@@ -1,0 +1,5 @@
+pub mod Ascending
+pub mod FieldSizes
+pub mod RecordSizes
+pub mod ArraySizes
+pub mod Padded

@@ -1,0 +1,3 @@
+pub mod WidgetForm
+pub mod PcmForm
+pub mod TopologyForm

@@ -1,0 +1,57 @@
+// A whole topology.
+ghost use Rattle.std.specs.Prelude.{◌≡◌, ◌++◌, map, IfOk, OnOk};
+ghost use Rattle.tplg_build.specs.TopologyForm as form;
+
+use crate::pcms::pcm_block;
+use crate::routes::route_block;
+use crate::source::{SourcePcm, SourceRoute, SourceWidget, TopologySource};
+use crate::widgets::widget_block;
+use sof_base::{Items, NoMemory};
+use std::alloc::Global;
+use tplg_model::{Block, Topology};
+
+fn put_widgets(
+    alloc: Global,
+    widgets: &[SourceWidget],
+    blocks: &mut Items<Block>,
+) -> Result<(), NoMemory>
+    ensures { OnOk result (blocks.new ≡ blocks.old ++ map form.widget_block widgets.now) }
+{
+    for widget in widgets {
+        blocks.push(widget_block(alloc, widget)?)?;
+    }
+    Ok(())
+}
+
+fn put_routes(
+    alloc: Global,
+    routes: &[SourceRoute],
+    blocks: &mut Items<Block>,
+) -> Result<(), NoMemory>
+    ensures { OnOk result (blocks.new ≡ blocks.old ++ form.route_blocks routes.now) }
+{
+    if routes.is_empty() {
+        return Ok(());
+    }
+    blocks.push(route_block(alloc, routes)?)
+}
+
+fn put_pcms(alloc: Global, pcms: &[SourcePcm], blocks: &mut Items<Block>) -> Result<(), NoMemory>
+    ensures { OnOk result (blocks.new ≡ blocks.old ++ map form.pcm_block pcms.now) }
+{
+    for pcm in pcms {
+        blocks.push(pcm_block(alloc, pcm)?)?;
+    }
+    Ok(())
+}
+
+/// The topology that a source states: a block for each widget, one for all routes where there are any, and one for each PCM.
+pub fn build(alloc: Global, source: &TopologySource) -> Result<Topology, NoMemory>
+    ensures { IfOk result (λ t. t ≡ form.topology_stated source.now) }
+{
+    let mut blocks = Items::new(alloc);
+    put_widgets(alloc, source.widgets.items(), &mut blocks)?;
+    put_routes(alloc, source.routes.items(), &mut blocks)?;
+    put_pcms(alloc, source.pcms.items(), &mut blocks)?;
+    Ok(Topology { blocks })
+}

@@ -1,0 +1,19 @@
+//! Builds topologies from what a source states of them: widgets with tokens and controls, routes, and PCMs with their caps.
+//! What a source does not state is filled in.
+#![tactic(auto)]
+
+mod building;
+mod choices;
+mod controls;
+mod names;
+mod pcms;
+mod routes;
+mod source;
+mod tokens;
+mod widgets;
+
+pub use building::build;
+pub use choices::Choices;
+pub use source::{
+    PcmLimits, SourceControl, SourcePcm, SourceRoute, SourceWidget, TopologySource, WidgetKind,
+};

@@ -1,0 +1,80 @@
+"""The bytes of files that are too large to be kept in a case, each from one line of its `made`.
+
+A line is FILE, a blank, a recipe and its arguments; FILE is a path in the case, as `in.raw`, `stdout` or `expected/out.raw`.
+A line that begins with '#' is a remark. Several lines of one FILE are joined.
+
+  repeat COUNT HEX       these bytes, so many times
+  numbers COUNT BELOW    16-bit numbers that count from 0, and from 0 again before they reach BELOW
+  lines FIRST LAST TEXT  a line for each number from FIRST to LAST; `{n}` in TEXT is the number
+  text TEXT              one line
+  widened SIZE FILE      the 16-bit samples of FILE as 32-bit ones, as far as SIZE bytes go, and then zeros
+  changed FILE AT HEX    FILE with these bytes at a place
+  front COUNT FILE       the first COUNT bytes of FILE
+  graph NAME             tests/graphs/NAME.tplg
+  example NAME           examples/NAME
+  limits MORE            a topology at every limit but for one buffer, with one more of MORE where it is given (topology.py)
+"""
+import os
+import struct
+
+import topology
+
+HERE = os.path.dirname(os.path.abspath(__file__))
+
+
+def widened(size, samples):
+    count = min(len(samples) // 2, size // 4)
+    wide = bytearray(size)
+    wide[2 : 4 * count : 4] = samples[0 : 2 * count : 2]
+    wide[3 : 4 * count : 4] = samples[1 : 2 * count : 2]
+    return bytes(wide)
+
+
+def changed(data, at, new):
+    return data[:at] + new + data[at + len(new) :]
+
+
+def kept(*parts):
+    with open(os.path.join(HERE, *parts), "rb") as file:
+        return file.read()
+
+
+def bytes_of(recipe, rest, files):
+    if recipe == "repeat":
+        count, digits = rest.split()
+        return bytes.fromhex(digits) * int(count)
+    if recipe == "numbers":
+        count, below = (int(word) for word in rest.split())
+        return struct.pack(f"<{count}H", *(n % below for n in range(count)))
+    if recipe == "lines":
+        first, last, text = rest.split(" ", 2)
+        return "".join(text.replace("{n}", str(n)) + "\n" for n in range(int(first), int(last) + 1)).encode()
+    if recipe == "text":
+        return (rest + "\n").encode()
+    if recipe == "widened":
+        size, name = rest.split()
+        return widened(int(size), files[name])
+    if recipe == "changed":
+        name, at, digits = rest.split()
+        return changed(files[name], int(at), bytes.fromhex(digits))
+    if recipe == "front":
+        count, name = rest.split()
+        return files[name][: int(count)]
+    if recipe == "graph":
+        return kept("graphs", rest + ".tplg")
+    if recipe == "example":
+        return kept("..", "examples", rest)
+    if recipe == "limits":
+        return topology.at_the_limits(rest)
+    raise ValueError(f"no recipe {recipe!r}")
+
+
+def make(text, files):
+    """The files that the lines of `made` name, by their path in the case."""
+    made = {}
+    for line in text.split("\n"):
+        if line and not line.startswith("#"):
+            path, recipe, *rest = line.split(" ", 2)
+            data = bytes_of(recipe, "".join(rest), {**files, **made})
+            made[path] = made.get(path, b"") + data
+    return made

@@ -1,0 +1,106 @@
+"""Spells a topology file, as docs/FORMATS.md says, apart from the program: a graph that stands at the limits of a topology."""
+import struct
+
+MIXER, VOLUME, HOST, DAI, BUFFER, SCHEDULER = 3, 4, 11, 14, 16, 17
+SIZE, PERIOD, FORMAT = 100, 200, 402
+FORMATS = 4 | 64 | 1024  # s16, s24 and s32
+
+
+def words(*values):
+    return struct.pack(f"<{len(values)}I", *(value % 2**32 for value in values))
+
+
+def name(text):
+    return text.encode().ljust(44, b"\0")
+
+
+def block(kind, index, records):
+    payload = b"".join(records)
+    return words(0x41536F43, 5, 0, kind, 36, 0, len(payload), index, len(records)) + payload
+
+
+def numbers(tokens):
+    pairs = [word for token in sorted(tokens) for word in (token, tokens[token])]
+    return words(12 + 8 * len(tokens), 4, len(tokens), *pairs) if tokens else b""
+
+
+def texts(tokens):
+    items = b"".join(words(token) + name(tokens[token]) for token in sorted(tokens))
+    return words(12 + 48 * len(tokens), 1, len(tokens)) + items if tokens else b""
+
+
+def volume_control(text, channels, least, most, tlv):
+    head = words(204, 1) + name(text) + words(0, 0, 0, 1, 136, 1, *tlv, *[0] * (32 - len(tlv)))
+    body = words(360, least, most, most, 0, channels, *[16, 0, 0, 0] * 8, 0)
+    return head + body
+
+
+def widget(kind, index, text, stream="", tokens={}, format_text=None, control=b""):
+    private = numbers(tokens) + texts({FORMAT: format_text} if format_text else {})
+    record = words(132, kind) + name(text) + name(stream) + bytes(28) + words(1 if control else 0, len(private))
+    return block(5, index, [record + private + control])
+
+
+def routes(pairs):
+    return block(4, 0, [name(sink) + name("") + name(source) for source, sink in pairs])
+
+
+def pcm(text, number, stream):
+    """A PCM that plays 8000 to 192000 frames a second of 1 to 8 samples."""
+    streams = b"".join(words(72) + bytes(68) for _ in range(8))
+    caps = words(104) + name(stream) + struct.pack("<Q", FORMATS) + words(0, 8000, 192000, 1, 8, *[0] * 7)
+    none = words(104) + bytes(100)
+    record = words(912) + name(text) + name(text) + words(number, number, 1, 0, 0) + streams + words(0) + caps + none
+    return block(7, 0, [record + words(0, 0, 0)])
+
+
+def at_the_limits(more=""):
+    """16 hosts, each through four volumes and two mixers, and a row of mixers from chain to chain to one DAI.
+
+    It has 32 pipelines, 128 components, 127 buffers, 16 PCMs and 64 controls. `more` names what it has one more of than is
+    right: a pipeline, a component, a buffer (129), a PCM or a control.
+    """
+    widgets, edges = [], []
+
+    def join(source, sink, index):
+        buffer = f"B{len(edges)}"
+        widgets.append(widget(BUFFER, index, buffer, tokens={SIZE: 768}))
+        edges.append((source, buffer, sink))
+
+    row = None
+    for chain in range(16):
+        first, second = 2 * chain + 1, 2 * chain + 2
+        host = f"PCM{chain}P"
+        parts = [(HOST, host, first)]
+        parts += [(VOLUME, f"VOL{chain}.{k}", first if k < 2 else second) for k in range(4)]
+        parts += [(MIXER, f"MIX{chain}.{k}", second) for k in range(2)]
+        if more == "control" and chain == 0:
+            parts[-1] = (VOLUME, *parts[-1][1:])
+        for kind, text, index in parts:
+            stream = f"P{chain}" if kind == HOST else ""
+            control = volume_control("Level", 2, 0, 32, (-6400, 200, 1)) if kind == VOLUME else b""
+            widgets.append(widget(kind, index, text, stream, control=control))
+        for (_, source, index), (_, sink, _) in zip(parts, parts[1:]):
+            join(source, sink, index)
+        for index, sname in ((first, host), (second, f"VOL{chain}.2")):
+            widgets.append(widget(SCHEDULER, index, f"PIPE{index}", sname, {PERIOD: 1000}))
+        last = f"MIX{chain}.1"
+        if row is None:
+            row = last
+            continue
+        join_here = f"ROW{chain}"
+        widgets.append(widget(MIXER, second, join_here))
+        join(row, join_here, second)
+        join(last, join_here, second)
+        row = join_here
+    widgets.append(widget(DAI, 32, "DAI0", format_text="s32le"))
+    join(row, "DAI0", 32)
+    if more == "pipeline":
+        widgets.append(widget(SCHEDULER, 33, "PIPE33", "PCM0P", {PERIOD: 1000}))
+    if more == "component":
+        widgets.append(widget(MIXER, 32, "ALONE"))
+    if more == "buffer":
+        widgets += [widget(BUFFER, 32, f"ALONE{k}", tokens={SIZE: 768}) for k in range(2)]
+    pairs = [pair for source, buffer, sink in edges for pair in ((source, buffer), (buffer, sink))]
+    pcms = [pcm(f"Main {k}", k, f"P{k}") for k in range(17 if more == "pcm" else 16)]
+    return b"".join(widgets) + routes(pairs) + b"".join(pcms)

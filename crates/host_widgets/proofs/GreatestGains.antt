@@ -1,6 +1,6 @@
 -- A control's gains are at most 16777216, and a message can say them.
 use Rattle.std.proofs.Common.{◌≡◌, refl, ap, ◌∙◌, ℕ, zero, suc, ◌+◌, ◌*◌, ◌/◌, ◌≤◌, ◌<◌, ◌^◌, ℤ, pos, negsuc, List, [], ◌∷◌, map, length, Bool, true, false, not, cond, ◌==◌, ◌&&◌, arith}
-use Rattle.std.specs.Prelude.{nat_le, int_lt, ◌≤ℤ◌, ◌+ℤ◌}
+use Rattle.std.specs.Prelude.{nat_le, int_lt, ◌≤ℤ◌, ◌+ℤ◌, ◌||◌}
 use Rattle.std.specs.Int.{int_min, int_max, int_div_euclid}
 use Rattle.std.specs.List.{list_all, AllByRecursion}
 use Rattle.std.proofs.lemmas.Bool.{le-leb}
@@ -72,7 +72,13 @@ unfolding AreSlots IsSlot
 value-slots channel [] few are = tt
 value-slots channel (v ∷ vs) few are = (omega (arith, few), (omega (arith, are.0), value-slots (channel + 1) vs (omega (arith, few)) are.1))
 
+-- the command of a volume or of a mux
+of-values : (command : ℕ) → command ≤ 1 → (command == 0 || command == 1) ≡ true
+of-values zero low = refl
+of-values (suc zero) low = refl
+of-values (suc (suc command)) low = absurd (omega (arith, low))
+
 pub set-message : (id command : ℕ) (values : List ℕ) → id < 2 ^ 32 → command ≤ 1 → 1 ≤ length values → length values ≤ 8 → AreGains values → IsMessage (SetValue id command values)
 unfolding AreSlots IsSlot
 set-message id command values fits low some few are =
-    ((tt, (omega arith, (tt, (fits, (omega arith, (omega (arith, low), (tt, (tt, (tt, (tt, (tt, (tt, (tt, (tt, (omega (arith, few), (tt, (tt, (tt, (tt, (tt, (tt, (tt, (tt, value-slots 0 values (omega (arith, few)) are))))))))))))))))))))))), (le-leb command 1 low, rw (le-leb 1 (length values) some, le-leb (length values) 8 few) refl))
+    ((tt, (omega arith, (tt, (fits, (omega arith, (omega (arith, low), (tt, (tt, (tt, (tt, (tt, (tt, (tt, (tt, (omega (arith, few), (tt, (tt, (tt, (tt, (tt, (tt, (tt, (tt, value-slots 0 values (omega (arith, few)) are))))))))))))))))))))))), (of-values command low, rw (le-leb 1 (length values) some, le-leb (length values) 8 few) refl))

@@ -16,16 +16,16 @@ pub enum HostFault {
     #[error("no stream or control has this name")]
     NoSuch(Name44),
     /// The stream, or the power, stands so, and the call asks for another stand.
-    #[error("another state is asked for")]
+    #[error("another state than {0:?} is asked for")]
     State(Found),
     /// The device is off.
     #[error("the device is off")]
     Off,
     /// This number is outside its range.
-    #[error("{0} is out of range")]
+    #[error("{0} is outside its range")]
     Range(u32),
     /// A message was answered with this negative error number.
-    #[error("the message was refused")]
+    #[error("a message was refused with error {}", .0.0)]
     Refused(Errno),
     /// The link failed.
     #[error("the link failed")]

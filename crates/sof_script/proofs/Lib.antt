@@ -1,6 +1,6 @@
 pub mod LineLaws
 pub mod TokenLaws
-pub mod HeldLaws
+pub mod LineTokenLaws
 pub mod ValueLaws
 pub mod ItemLaws
 pub mod ScriptLaws

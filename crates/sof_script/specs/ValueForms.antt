@@ -6,30 +6,31 @@ use Rattle.sof_base.specs.declared.format.Format.{Format}
 use Rattle.sof_base.specs.declared.format.Format.TheVariants.{S16, S24, S32}
 use Rattle.hex.specs.Hex.{decode_of}
 use Rattle.hex.specs.declared.error.FromHexError.{FromHexError}
+use Rattle.sof_script.specs.declared.fault_causes.TheConstants.{BYTE, QUOTE, WORD, COUNT, NUMBER, HEX, NAME}
 use Rattle.sof_script.specs.Splitting.{all_plain}
 
 -- ---- causes of a line at fault, least first
 
 abbrev pub byte_cause : ℕ
-byte_cause = 1
+byte_cause = BYTE
 
 abbrev pub quote_cause : ℕ
-quote_cause = 2
+quote_cause = QUOTE
 
 abbrev pub word_cause : ℕ
-word_cause = 3
+word_cause = WORD
 
 abbrev pub count_cause : ℕ
-count_cause = 4
+count_cause = COUNT
 
 abbrev pub number_cause : ℕ
-number_cause = 5
+number_cause = NUMBER
 
 abbrev pub hex_cause : ℕ
-hex_cause = 6
+hex_cause = HEX
 
 abbrev pub name_cause : ℕ
-name_cause = 7
+name_cause = NAME
 
 -- ---- numbers
 

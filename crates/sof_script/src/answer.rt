@@ -2,8 +2,8 @@
 ghost use Rattle.std.specs.Prelude.{◌≡◌, ◌+◌, ◌*◌, ◌<◌, ◌≤◌, ◌++◌, length, codes};
 ghost use Rattle.sof_script.specs.Text.{answer_line, answer_words, fault_words, found_word, values_words, bytes_word};
 
-use crate::line::Line;
 use host_widgets::{Answer, Found, HostFault};
+use sof_base::Line;
 
 // How something stands.
 fn stand_word(found: Found) -> &'static [u8]

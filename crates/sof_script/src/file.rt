@@ -2,7 +2,7 @@
 ghost use Rattle.std.specs.Prelude.{◌≡◌, IfOk, string_bytes};
 ghost use Rattle.sof_script.specs.ValueForms.{file_of};
 
-use crate::causes::NAME;
+use crate::fault_causes::NAME;
 use crate::tokens::all_may_stand;
 use sof_base::{Bounded, NoMemory};
 use std::alloc::Global;

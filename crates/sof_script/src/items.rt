@@ -3,9 +3,9 @@ ghost use Rattle.std.specs.Prelude.{◌≡◌, ◌≤◌, length};
 ghost use Rattle.sof_script.specs.Splitting.{texts};
 ghost use Rattle.sof_script.specs.Commands.{line_item, said_by, alone, one_name, one_number, bound, with_params, with_values, with_hex, with_error, with_lag, numbers_of};
 
-use crate::causes::{BYTE, COUNT, QUOTE, WORD};
+use crate::fault_causes::{BYTE, COUNT, QUOTE, WORD};
 use crate::file::FileName;
-use crate::held::Tokens;
+use crate::line_tokens::Tokens;
 use crate::script::Command;
 use crate::tokens::{all_may_stand, from_first_token};
 use crate::values::{error, format, hex, name, number};

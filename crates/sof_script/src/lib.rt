@@ -2,11 +2,10 @@
 #![tactic(auto)]
 
 mod answer;
-mod causes;
+mod fault_causes;
 mod file;
-mod held;
 mod items;
-mod line;
+mod line_tokens;
 mod lines;
 mod reading;
 mod script;
@@ -15,7 +14,7 @@ mod values;
 mod words;
 
 pub use answer::{say_values, write_answer};
-pub use line::Line;
 pub use reading::{ScriptFault, parse};
 pub use script::{Binding, Command, Numbered, Script, ticks};
+pub use sof_base::Line;
 pub use values::numbers_are_decimal;

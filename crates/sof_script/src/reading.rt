@@ -4,6 +4,7 @@ ghost use Rattle.sof_script.specs.Commands.{Read, script_of, told, with_item, be
 ghost use Rattle.sof_script.specs.Faults.{AllRight, IsToldOf};
 ghost use Rattle.sof_script.specs.Splitting.{lines_of};
 
+use crate::fault_causes::cause_word;
 use crate::items::{Item, read_line};
 use crate::lines::{before_return, first_line};
 use crate::script::{Binding, Numbered, Script};
@@ -16,7 +17,7 @@ use thiserror::Error;
 pub enum ScriptFault {
     /// The first line at fault, from 1, and its least cause: 1 a byte, 2 a quote, 3 the word, 4 the count of tokens,
     /// 5 a number or format, 6 hex, 7 a name or file.
-    #[error("line {line} has fault {cause}")]
+    #[error("line {line}: {word}", word = cause_word(*.cause))]
     Line { line: u32, cause: u8 },
     /// Memory was wanting.
     #[error("out of memory")]

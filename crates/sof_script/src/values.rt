@@ -2,7 +2,7 @@
 ghost use Rattle.std.specs.Prelude.{◌≡◌, ◌<◌, ◌≤◌, ◌^◌, ℕ, List, MatchOption, IfOk, Some, decimal};
 ghost use Rattle.sof_script.specs.ValueForms.{is_digit, digits_behind, begins_well, decimal_of, number_of, error_of, format_of, hex_of, name_of};
 
-use crate::causes::{HEX, NAME, NUMBER};
+use crate::fault_causes::{HEX, NAME, NUMBER};
 use sof_base::{Bounded, Format, Name44};
 
 // `0` to `9`.

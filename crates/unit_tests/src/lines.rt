@@ -171,3 +171,11 @@ fn answers_say_their_lines(rt: HostRuntime) -> Result<(), Fail> {
     }
     Ok(())
 }
+
+#[test]
+fn a_fault_names_its_line_and_its_cause(rt: HostRuntime) -> Result<(), Fail> {
+    let fault = ScriptFault::Line { line: 7, cause: 2 };
+    let text = format!(in rt.alloc(); "{fault}")?;
+    assert_eq!(rt; text.as_str(), "line 7: quote");
+    Ok(())
+}

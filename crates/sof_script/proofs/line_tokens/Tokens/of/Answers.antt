@@ -1,6 +1,6 @@
 use Rattle.std.proofs.Common.{rules}
-use Rattle.sof_script.proofs.HeldLaws.{Collected-more, Collected-all}
-use Rattle.sof_script.proofs.held.Tokens.of.Goals as goal
+use Rattle.sof_script.proofs.LineTokenLaws.{Collected-more, Collected-all}
+use Rattle.sof_script.proofs.line_tokens.Tokens.of.Goals as goal
 
 pub loop-rest-preserved : goal.loop-rest-preserved
 loop-rest-preserved c =

@@ -1,6 +1,6 @@
 use Rattle.std.proofs.Common.{◌∷◌, ◌++◌, ◌∙◌, [], List, ℕ, ap, take}
-use Rattle.sof_script.proofs.HeldLaws.{kept_one}
-use Rattle.sof_script.proofs.held.Tokens.keep.Goals as goal
+use Rattle.sof_script.proofs.LineTokenLaws.{kept_one}
+use Rattle.sof_script.proofs.line_tokens.Tokens.keep.Goals as goal
 
 pub returns-then-self-lt11 : goal.returns-then-self-lt11
 returns-then-self-lt11 c =

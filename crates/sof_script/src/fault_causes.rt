@@ -20,3 +20,16 @@ pub const HEX: u8 = 6;
 
 /// A name of 0 or more than 43 bytes, or a file of 0 or more than 255.
 pub const NAME: u8 = 7;
+
+/// The word of a cause, as it stands behind the number of its line.
+pub fn cause_word(cause: u8) -> &'static str {
+    match cause {
+        BYTE => "byte",
+        QUOTE => "quote",
+        WORD => "word",
+        COUNT => "count",
+        NUMBER => "number",
+        HEX => "hex",
+        _ => "name",
+    }
+}

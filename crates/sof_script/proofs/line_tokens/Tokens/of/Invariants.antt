@@ -1,6 +1,6 @@
 use Rattle.std.proofs.Common.{length}
-use Rattle.sof_script.proofs.HeldLaws.{Collected}
-use Rattle.sof_script.proofs.held.Tokens.of.Given as goal
+use Rattle.sof_script.proofs.LineTokenLaws.{Collected}
+use Rattle.sof_script.proofs.line_tokens.Tokens.of.Given as goal
 
 abbrev pub invariant-loop-rest : goal.invariant-loop-rest
 invariant-loop-rest l = Collected l.line l.rest l.tokens

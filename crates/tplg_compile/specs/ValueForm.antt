@@ -1,0 +1,120 @@
+-- How a value of a source is read, and what stands at a key. Nothing where it is of another type or outside its range.
+use Rattle.std.specs.Prelude.{ℕ, ℤ, pos, negsuc, Bool, true, false, ◌&&◌, ◌||◌, nat_lt, nat_le, ◌==◌, int_le, if◌then◌else◌, List, [], ◌∷◌, length, Option, Some, None, option_map, Result, Ok, Err}
+use Rattle.std.specs.Str.{bytes_eq}
+use Rattle.std.specs.Borrow.{Bor}
+use Rattle.sof_base.specs.Slots.{is_name}
+use Rattle.hex.specs.Hex.{decode_of}
+use Rattle.hex.specs.declared.error.FromHexError.{FromHexError}
+use Rattle.toml.specs.Data.{Data, Items, no_items, item, Members, no_members, member, get_member, as_str, as_integer, as_table}
+use Rattle.toml.specs.View.{view}
+use Rattle.toml.specs.declared.value.Value.{Value}
+use Rattle.tplg_compile.specs.Outcomes.{◌>>=◌}
+
+-- ---- values
+
+-- an integer from 0 to 4294967295
+abbrev pub natural : ℤ → Option ℕ
+natural (pos n) = if nat_lt n 4294967296 then Some n else None
+natural (negsuc n) = None
+
+-- a number from 0 to 4294967295
+unfoldable pub number_of : Data → Option ℕ
+number_of d = do
+  z ← as_integer d
+  natural z
+
+-- a number from 0 to 65535
+unfoldable pub index_of : Data → Option ℕ
+index_of d = do
+  n ← number_of d
+  if nat_le n 65535 then Some n else None
+
+-- a number from -2147483648 to 2147483647
+unfoldable pub signed_of : Data → Option ℤ
+signed_of d = do
+  z ← as_integer d
+  if int_le (negsuc 2147483647) z && int_le z (pos 2147483647) then Some z else None
+
+-- a text of at most 43 bytes, none of them 0
+unfoldable pub name_of : Data → Option (List ℕ)
+name_of d = do
+  text ← as_str d
+  if is_name text then Some text else None
+
+-- such a text that is not empty
+unfoldable pub filled_of : Data → Option (List ℕ)
+filled_of d = do
+  text ← name_of d
+  if length text == 0 then None else Some text
+
+-- the bytes of an even number of hex digits
+abbrev pub decoded : Result (List ℕ) FromHexError → Option (List ℕ)
+decoded (Ok bytes) = Some bytes
+decoded (Err fault) = None
+
+unfoldable pub blob_of : Data → Option (List ℕ)
+blob_of d = do
+  text ← as_str d
+  decoded (decode_of text)
+
+-- ---- lists of values
+
+-- the items of an array as a list
+abbrev pub list_of : Items → List Data
+list_of no_items = []
+list_of (item d ds) = d ∷ list_of ds
+
+-- the values of the program
+abbrev pub seen : List Value → List Data
+seen [] = []
+seen (v ∷ vs) = view v ∷ seen vs
+
+-- each value read, in their order
+unfoldable pub each : {A : Type 0} → (Data → Option A) → List Data → Option (List A)
+each read [] = Some []
+each read (d ∷ ds) = do
+  first ← read d
+  more ← each read ds
+  Some (first ∷ more)
+
+-- a value that has to be a table, read
+unfoldable pub in_table : {A : Type 0} → (Members → Option A) → Data → Option A
+in_table read d = do
+  entry ← as_table d
+  read entry
+
+-- ---- keys
+
+-- the value at a key that has to stand there
+unfoldable pub required_at : {A : Type 0} → (Data → Option A) → List ℕ → Members → Option A
+required_at read key entry = do
+  d ← get_member key entry
+  read d
+
+-- a value read, where there is one
+abbrev pub perhaps : {A : Type 0} → (Data → Option A) → Option Data → Option (Option A)
+perhaps read None = Some None
+perhaps read (Some d) = option_map Some (read d)
+
+-- the value at a key that may be absent
+unfoldable pub optional_at : {A : Type 0} → (Data → Option A) → List ℕ → Members → Option (Option A)
+optional_at read key entry = perhaps read (get_member key entry)
+
+-- a key is one of these
+abbrev pub is_among : List ℕ → List (List ℕ) → Bool
+is_among key [] = false
+is_among key (k ∷ ks) = bytes_eq key k || is_among key ks
+
+-- each key of an entry is one of these
+abbrev pub has_only : List (List ℕ) → Members → Bool
+has_only keys no_members = true
+has_only keys (member k d ms) = is_among k keys && has_only keys ms
+
+-- the texts of slices
+abbrev pub texts : List (Bor (List ℕ)) → List (List ℕ)
+texts [] = []
+texts (r ∷ rs) = r.now ∷ texts rs
+
+-- something where each key of an entry is one of these
+unfoldable pub only : List (List ℕ) → Members → Option (Unit {0})
+only keys entry = if has_only keys entry then Some tt else None

@@ -1,0 +1,84 @@
+// From a text to a topology.
+ghost use Rattle.std.specs.Prelude.{◌≡◌, ◌≤◌, ◌⊎◌, length, IfOk, IfErr, OnOk, Ok, Err};
+ghost use Rattle.toml.specs.View.{table_view};
+ghost use Rattle.tplg_model.specs.File.{IsTopology};
+ghost use Rattle.tplg_model.specs.declared.block.Topology.{Topology as TopologyValue};
+ghost use Rattle.tplg_compile.specs.declared.source_fault.SourceFault.{SourceFault as Fault};
+ghost use Rattle.tplg_compile.specs.Results.{Gives};
+ghost use Rattle.tplg_compile.specs.InOrder.{compiled_of};
+ghost use Rattle.tplg_compile.specs.Compiled.{IsDocument, IsCompiled, IsCompileFault, KeepsRules, IsRuleFault, rule_told};
+
+use crate::document::topology;
+use crate::source_fault::SourceFault;
+use std::alloc::Global;
+use toml::Table;
+use tplg_graph::{PlanFault, plan};
+use tplg_model::Topology;
+
+// The table of a text.
+fn parsed(alloc: Global, text: &[u8]) -> Result<Table, SourceFault>
+    ensures ok { IfOk result (λ t. IsDocument text.now (table_view t)) }
+    ensures err { IfErr result (λ f. (f ≡ SourceFault.OutOfMemory) ⊎ ((f ≡ SourceFault.Syntax) × IsCompileFault text.now f)) }
+{
+    match toml::table_from_slice(alloc, text) {
+        Ok(table) => Ok(table),
+        Err(error) => {
+            if error.is_memory() {
+                Err(SourceFault::OutOfMemory)
+            } else {
+                Err(SourceFault::Syntax)
+            }
+        }
+    }
+}
+
+// How a planner's fault is told.
+fn told(fault: PlanFault) -> SourceFault
+    ensures { result ≡ rule_told fault }
+{
+    match fault {
+        PlanFault::Rule { rule, item } => SourceFault::Rule { rule, item },
+        PlanFault::OutOfMemory => SourceFault::OutOfMemory,
+    }
+}
+
+// Whether a topology keeps all rules.
+fn check_rules(alloc: Global, topology: &Topology) -> Result<(), SourceFault>
+    ensures ok { OnOk result (KeepsRules topology.now) }
+    ensures err { IfErr result (λ f. (f ≡ SourceFault.OutOfMemory) ⊎ IsRuleFault topology.now f) }
+{
+    match plan(alloc, topology) {
+        Ok(_) => Ok(()),
+        Err(fault) => Err(told(fault)),
+    }
+}
+
+fn compiled(alloc: Global, text: &[u8]) -> Result<Topology, SourceFault>
+    ensures found { IfOk result (IsCompiled text.now) }
+    ensures sound { IfOk result IsTopology }
+    ensures fault { IfErr result (λ f. (f ≡ SourceFault.OutOfMemory) ⊎ IsCompileFault text.now f) }
+{
+    let table = parsed(alloc, text)?;
+    let topology = topology(alloc, &table)?;
+    check_rules(alloc, &topology)?;
+    Ok(topology)
+}
+
+/// The topology that a text is the source of, where it keeps all rules.
+pub fn compile(alloc: Global, text: &[u8]) -> Result<Topology, SourceFault>
+    requires { length text.now ≤ 1048576 }
+    // The text is the source of what is answered.
+    ensures found { IfOk result (IsCompiled text.now) }
+    // It can be written, and what is written is its file.
+    ensures sound { IfOk result IsTopology }
+    // A topology that the text is the source of is answered, unless memory runs out.
+    ensures only { (t : TopologyValue) → IsCompiled text.now t → Gives (λ x. x) result (Ok t) }
+    // A fault is what is wrong with the text, or want of memory.
+    ensures fault { IfErr result (λ f. (f ≡ SourceFault.OutOfMemory) ⊎ IsCompileFault text.now f) }
+    // What is wrong with the text is answered, unless memory runs out.
+    ensures fault_only { (f : Fault) → IsCompileFault text.now f → Gives (λ x. x) result (Err f) }
+    // The same as a function of the text.
+    ensures gives { Gives (λ x. x) result (compiled_of text.now) }
+{
+    compiled(alloc, text)
+}

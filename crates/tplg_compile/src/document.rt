@@ -1,0 +1,232 @@
+// A document: its lists, and the records of their entries.
+ghost use Rattle.std.specs.Prelude.{◌≡◌, Option, IfOk};
+ghost use Rattle.toml.specs.Data.{Members};
+ghost use Rattle.tplg_compile.specs.declared.source_fault.List.{List as ListName};
+ghost use Rattle.tplg_compile.specs.declared.source_fault.List.TheVariants as list_name;
+ghost use Rattle.toml.specs.View.{view, table_view};
+ghost use Rattle.tplg_model.specs.Arrays.{Each};
+ghost use Rattle.tplg_model.specs.Spelling.{IsBlock, IsRoute};
+ghost use Rattle.tplg_model.specs.File.{IsTopology};
+ghost use Rattle.tplg_compile.specs.Outcomes.{Finds};
+ghost use Rattle.tplg_compile.specs.Results.{Gives};
+ghost use Rattle.tplg_compile.specs.ValueForm.{in_table, seen};
+ghost use Rattle.tplg_compile.specs.WidgetForm.{widget_of};
+ghost use Rattle.tplg_compile.specs.PcmForm.{route_of, pcm_of};
+ghost use Rattle.tplg_compile.specs.DocumentLists as lists;
+ghost use Rattle.tplg_compile.specs.InOrder as source;
+
+use crate::entry::{only, value_at};
+use crate::entry_fault::EntryFault;
+use crate::keys::DOCUMENT_KEYS;
+use crate::pcms::pcm;
+use crate::routes::{route, route_block};
+use crate::source_fault::{List, SourceFault};
+use crate::widgets::widget;
+use sof_base::Items;
+use std::alloc::Global;
+use toml::{Table, Value};
+use tplg_model::{Block, Route, Topology};
+
+// The entries of the lists of a document.
+#[derive(Clone, Copy)]
+struct Entries<'a> {
+    widgets: &'a [Value],
+    routes: &'a [Value],
+    pcms: &'a [Value],
+}
+
+// Whether each value is a table.
+fn are_tables(values: &[Value]) -> bool
+    ensures { result ≡ lists.are_tables (seen values.now) }
+{
+    for value in values {
+        if !value.is_table() {
+            return false;
+        }
+    }
+    true
+}
+
+// The entries of a value, an array of tables.
+#[tactic(auto, unfolding(crate::specs::DocumentLists::entries_of))]
+fn tables(value: &Value) -> Result<&[Value], EntryFault>
+    ensures { Finds (λ x. seen x.now) result (lists.entries_of (view value.now)) }
+{
+    let Some(array) = value.as_array() else {
+        return Err(EntryFault::Misfit);
+    };
+    if !are_tables(array.as_slice()) {
+        return Err(EntryFault::Misfit);
+    }
+    Ok(array.as_slice())
+}
+
+// The entries of a list, which may be absent.
+#[tactic(auto, unfolding(crate::specs::DocumentLists::entries_at))]
+fn entries_at<'a>(table: &'a Table, key: &str) -> Result<&'a [Value], EntryFault>
+    ensures { Finds (λ x. seen x.now) result (lists.entries_at key.now (table_view table.now)) }
+{
+    match value_at(table, key) {
+        Some(value) => tables(value),
+        None => Ok(&[]),
+    }
+}
+
+// The entries of the three lists.
+#[tactic(auto, unfolding(crate::specs::DocumentLists::lists_of))]
+fn entries_of(table: &Table) -> Result<Entries<'_>, EntryFault>
+    ensures { Finds (λ x. record { widgets = seen x.widgets.now; routes = seen x.routes.now; pcms = seen x.pcms.now }) result (lists.lists_of (table_view table.now)) }
+{
+    only(table, &DOCUMENT_KEYS)?;
+    let widgets = entries_at(table, "widget")?;
+    let routes = entries_at(table, "route")?;
+    let pcms = entries_at(table, "pcm")?;
+    Ok(Entries {
+        widgets,
+        routes,
+        pcms,
+    })
+}
+
+// What the entries of a list become.
+trait EntryList {
+    type Record: Drop;
+
+    ghost list: { ListName };
+
+    ghost read: { Members → Option Self.Record };
+
+    ghost valid: { Self.Record → Type 0 };
+
+    fn list() -> List
+        ensures { result ≡ Self.list };
+
+    fn record(alloc: Global, entry: &Table) -> Result<Self::Record, EntryFault>
+        ensures found { Finds (λ x. x) result (Self.read (table_view entry.now)) }
+        ensures sound { IfOk result Self.valid };
+}
+
+struct Widgets;
+
+impl EntryList for Widgets {
+    type Record = Block;
+
+    ghost list = { list_name.Widget };
+
+    ghost read = { widget_of };
+
+    ghost valid = { IsBlock };
+
+    fn list() -> List {
+        List::Widget
+    }
+
+    fn record(alloc: Global, entry: &Table) -> Result<Block, EntryFault> {
+        widget(alloc, entry)
+    }
+}
+
+struct Routes;
+
+impl EntryList for Routes {
+    type Record = Route;
+
+    ghost list = { list_name.Route };
+
+    ghost read = { route_of };
+
+    ghost valid = { IsRoute };
+
+    fn list() -> List {
+        List::Route
+    }
+
+    fn record(_alloc: Global, entry: &Table) -> Result<Route, EntryFault> {
+        route(entry)
+    }
+}
+
+struct Pcms;
+
+impl EntryList for Pcms {
+    type Record = Block;
+
+    ghost list = { list_name.Pcm };
+
+    ghost read = { pcm_of };
+
+    ghost valid = { IsBlock };
+
+    fn list() -> List {
+        List::Pcm
+    }
+
+    fn record(alloc: Global, entry: &Table) -> Result<Block, EntryFault> {
+        pcm(alloc, entry)
+    }
+}
+
+// The record of an entry.
+#[tactic(auto, unfolding(crate::specs::ValueForm::in_table))]
+fn record<L: EntryList>(alloc: Global, entry: &Value) -> Result<L::Record, EntryFault>
+    ensures found { Finds (λ x. x) result (in_table L.read (view entry.now)) }
+    ensures sound { IfOk result L.valid }
+{
+    let Some(entry) = entry.as_table() else {
+        return Err(EntryFault::Misfit);
+    };
+    L::record(alloc, entry)
+}
+
+// The fault of an entry at a place of a list.
+fn told(fault: EntryFault, list: List, entry: u32) -> SourceFault
+    ensures { result ≡ source.told fault list entry }
+{
+    match fault {
+        EntryFault::Misfit => SourceFault::Shape { list, entry },
+        EntryFault::OutOfMemory => SourceFault::OutOfMemory,
+    }
+}
+
+// The most entries of a list. More do not come of a source's text.
+const MOST: usize = 0xffff_ffff;
+
+// The records of the entries of a list, up to the first at fault.
+fn records<L: EntryList>(alloc: Global, entries: &[Value]) -> Result<Vec<L::Record>, SourceFault>
+    ensures gives { Gives (λ x. x.items) result (source.entries_read L.list (in_table L.read) 0 (seen entries.now)) }
+    ensures sound { IfOk result (λ x. Each L.valid x.items) }
+{
+    if entries.len() > MOST {
+        return Err(SourceFault::OutOfMemory);
+    }
+    let mut records = Vec::new(alloc);
+    for (place, entry) in entries.iter().enumerate() {
+        match record::<L>(alloc, entry) {
+            Ok(record) => records.push(record)?,
+            Err(fault) => return Err(told(fault, L::list(), place as u32)),
+        }
+    }
+    Ok(records)
+}
+
+/// The topology of a document, or its first fault.
+#[tactic(auto, unfolding(crate::specs::InOrder::source_of))]
+pub fn topology(alloc: Global, table: &Table) -> Result<Topology, SourceFault>
+    ensures gives { Gives (λ x. x) result (source.source_of (table_view table.now)) }
+    ensures sound { IfOk result IsTopology }
+{
+    let entries = match entries_of(table) {
+        Ok(entries) => entries,
+        Err(fault) => return Err(told(fault, List::Top, 0)),
+    };
+    let mut blocks = records::<Widgets>(alloc, entries.widgets)?;
+    let routes = records::<Routes>(alloc, entries.routes)?;
+    let mut pcms = records::<Pcms>(alloc, entries.pcms)?;
+    if !routes.is_empty() {
+        blocks.push(route_block(routes)?)?;
+    }
+    blocks.append(&mut pcms)?;
+    Ok(Topology {
+        blocks: Items::from_vec(blocks),
+    })
+}

@@ -5,20 +5,21 @@ use Rattle.std.specs.List.{flat_map}
 use Rattle.std.specs.Int.{w32, to_le_bytes}
 use Rattle.sof_base.specs.Cells.{Cell, fixed}
 use Rattle.sof_base.specs.Slots.{part, word_at}
+use Rattle.tplg_model.specs.declared.array_type.TheConstants.{UUID, STRING, BOOL, SHORT}
 use Rattle.tplg_model.specs.declared.tokens.UuidTuple.{UuidTuple}
 use Rattle.tplg_model.specs.declared.tokens.TextTuple.{TextTuple}
 use Rattle.tplg_model.specs.declared.tokens.NumberTuple.{NumberTuple}
 use Rattle.tplg_model.specs.declared.tokens.TokenArray.{TokenArray}
 use Rattle.tplg_model.specs.declared.tokens.TokenArray.TheVariants.{Uuid, Text, Number}
 
--- the bytes of an element by its array's type: a token of 4, and 16 of a UUID (0), 44 of a text (1) or 4 of a number
+-- the bytes of an element by its array's type: a token of 4, and 16 of a UUID, 44 of a text or 4 of a number
 abbrev pub element_size : ℕ → ℕ
-element_size kind = if kind == 0 then 20 else if kind == 1 then 48 else 8
+element_size kind = if kind == UUID then 20 else if kind == STRING then 48 else 8
 
 -- an array's type
 abbrev pub type_of : TokenArray → ℕ
-type_of (Uuid items) = 0
-type_of (Text items) = 1
+type_of (Uuid items) = UUID
+type_of (Text items) = STRING
 type_of (Number numbers) = numbers.kind
 
 -- an array's number of elements
@@ -88,7 +89,7 @@ IsNumber t = (t.token < 2 ^ 32) × (t.value < 2 ^ 32)
 abbrev pub HasElements : TokenArray → Type 0
 HasElements (Uuid items) = Each IsUuid items
 HasElements (Text items) = Each IsText items
-HasElements (Number numbers) = (2 ≤ numbers.kind) × (numbers.kind ≤ 5) × Each IsNumber numbers.items
+HasElements (Number numbers) = (BOOL ≤ numbers.kind) × (numbers.kind ≤ SHORT) × Each IsNumber numbers.items
 
 -- an array's size fits its word
 abbrev pub HasSize : TokenArray → Type 0
@@ -115,7 +116,7 @@ pub data ArrayFault : Type 0 where
 abbrev pub array_fault : ℕ → List ℕ → Option ArrayFault
 array_fault at bytes =
     if nat_lt (length bytes) 12 then Some (Too_short at)
-    else if nat_lt 5 (word_at bytes 4) then Some (Unknown_type at (word_at bytes 4))
+    else if nat_lt SHORT (word_at bytes 4) then Some (Unknown_type at (word_at bytes 4))
     else if word_at bytes 0 == 12 + word_at bytes 8 * element_size (word_at bytes 4) then
     (if nat_lt (length bytes) (word_at bytes 0) then Some (Too_short at) else None)
     else Some (Wrong_size at)
@@ -151,8 +152,8 @@ number_at bytes at = record { token = word_at bytes at; value = word_at bytes (a
 -- the array of a type with a number of elements at the front of bytes
 abbrev pub array_with : ℕ → ℕ → List ℕ → TokenArray
 array_with kind count bytes =
-    if kind == 0 then Uuid (elements_at 20 uuid_at count bytes 12)
-    else if kind == 1 then Text (elements_at 48 text_at count bytes 12)
+    if kind == UUID then Uuid (elements_at 20 uuid_at count bytes 12)
+    else if kind == STRING then Text (elements_at 48 text_at count bytes 12)
     else Number (record { kind = kind; items = elements_at 8 number_at count bytes 12 })
 
 -- the array at the front of bytes that have no fault there

@@ -2,6 +2,9 @@
 use Rattle.std.specs.Prelude.{◌≡◌, ℕ, ◌+◌, ◌-◌, ◌<◌, Bool, true, ◌&&◌, List, [], ◌∷◌, ◌++◌, length, Option, Some, None, ◌⊎◌, nat_lt, ◌==◌, if◌then◌else◌}
 use Rattle.sof_base.specs.Cells.{Cell, Fits, written, is_loose}
 use Rattle.sof_base.specs.Slots.{word_at, has_name, part}
+use Rattle.tplg_model.specs.declared.block_header.TheConstants.{MAGIC, ABI, HEADER_BYTES}
+use Rattle.tplg_model.specs.declared.block_type.TheConstants.{DAPM_GRAPH, DAPM_WIDGET, PCM, MANIFEST}
+use Rattle.tplg_model.specs.declared.control_kind.TheConstants as control_kind
 use Rattle.tplg_model.specs.declared.fault.TplgFault.{TplgFault}
 use Rattle.tplg_model.specs.declared.fault.TplgFault.TheVariants.{Truncated, Magic, Abi, HeaderSize, Payload, Name, ControlKind, Tokens}
 use Rattle.tplg_model.specs.declared.block.Topology.{Topology}
@@ -72,9 +75,9 @@ PcmFault at bytes f = sized_fault 912 pcm_names at bytes ≡ Some f
 abbrev pub control_fault : ℕ → List ℕ → Option TplgFault
 control_fault at bytes =
     if nat_lt (length bytes) 204 then Some (Payload at)
-    else if word_at bytes 64 == 1 then sized_fault 360 (8 ∷ []) at bytes
-    else if word_at bytes 64 == 4 then sized_fault 1764 (8 ∷ []) at bytes
-    else if word_at bytes 64 == 5 then sized_fault 240 (8 ∷ []) at bytes
+    else if word_at bytes 64 == control_kind.MIXER then sized_fault 360 (8 ∷ []) at bytes
+    else if word_at bytes 64 == control_kind.ENUM then sized_fault 1764 (8 ∷ []) at bytes
+    else if word_at bytes 64 == control_kind.BYTES then sized_fault 240 (8 ∷ []) at bytes
     else if has_name bytes 8 then Some (ControlKind at (word_at bytes 64))
     else Some (Name at)
 
@@ -140,9 +143,9 @@ WidgetFault at bytes f =
 abbrev pub header_fault : ℕ → List ℕ → Option TplgFault
 header_fault at bytes =
     if nat_lt (length bytes) 36 then Some (Truncated at)
-    else if word_at bytes 0 == 0x41536F43 then
-    if word_at bytes 4 == 5 then
-    if word_at bytes 16 == 36 then
+    else if word_at bytes 0 == MAGIC then
+    if word_at bytes 4 == ABI then
+    if word_at bytes 16 == HEADER_BYTES then
     if nat_lt (length bytes - 36) (word_at bytes 24) then Some (Truncated at)
     else None
     else Some (HeaderSize at)
@@ -152,10 +155,10 @@ header_fault at bytes =
 -- the payload of a block, by its type
 abbrev pub PayloadFault : ℕ → ℕ → ℕ → List ℕ → TplgFault → Type 0
 PayloadFault kind count at payload f =
-    ((kind ≡ 4) × RecordsFault route_cells IsRoute RouteFault count at payload f)
-    ⊎ (((kind ≡ 5) × RecordsFault widget_cells IsWidget WidgetFault count at payload f)
-    ⊎ (((kind ≡ 7) × RecordsFault pcm_cells IsPcm PcmFault count at payload f)
-    ⊎ ((kind ≡ 8) × RecordsFault manifest_cells IsManifest ManifestFault count at payload f)))
+    ((kind ≡ DAPM_GRAPH) × RecordsFault route_cells IsRoute RouteFault count at payload f)
+    ⊎ (((kind ≡ DAPM_WIDGET) × RecordsFault widget_cells IsWidget WidgetFault count at payload f)
+    ⊎ (((kind ≡ PCM) × RecordsFault pcm_cells IsPcm PcmFault count at payload f)
+    ⊎ ((kind ≡ MANIFEST) × RecordsFault manifest_cells IsManifest ManifestFault count at payload f)))
 
 -- the header is at fault, or it is right and its payload is
 abbrev pub BlockFault : ℕ → List ℕ → TplgFault → Type 0

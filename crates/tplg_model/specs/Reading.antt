@@ -2,6 +2,9 @@
 use Rattle.std.specs.Prelude.{ℕ, zero, suc, ◌+◌, ◌-◌, List, [], ◌∷◌, length, drop, Result, Ok, Err, nat_lt, ◌==◌, if◌then◌else◌}
 use Rattle.std.specs.Int.{w32, cast_signed}
 use Rattle.sof_base.specs.Slots.{word_at, half_at, long_at, name_at, has_name, words_at, part}
+use Rattle.tplg_model.specs.declared.block_header.TheConstants.{MAGIC, ABI, HEADER_BYTES}
+use Rattle.tplg_model.specs.declared.block_type.TheConstants.{DAPM_GRAPH, DAPM_WIDGET, PCM, MANIFEST}
+use Rattle.tplg_model.specs.declared.control_kind.TheConstants as control_kind
 use Rattle.tplg_model.specs.declared.fault.TplgFault.{TplgFault}
 use Rattle.tplg_model.specs.declared.fault.TplgFault.TheVariants.{Truncated, Magic, Abi, HeaderSize, Payload, Name, ControlKind, Tokens}
 use Rattle.tplg_model.specs.declared.tokens.TokenArray.{TokenArray}
@@ -229,9 +232,9 @@ unknown_step at bytes = do
 unfoldable pub control_step : ℕ → List ℕ → Result (Control × ℕ) TplgFault
 control_step at bytes =
     if nat_lt (length bytes) 204 then Err (Payload at)
-    else if word_at bytes 64 == 1 then mixer_step at bytes
-    else if word_at bytes 64 == 4 then enum_step at bytes
-    else if word_at bytes 64 == 5 then bytes_step at bytes
+    else if word_at bytes 64 == control_kind.MIXER then mixer_step at bytes
+    else if word_at bytes 64 == control_kind.ENUM then enum_step at bytes
+    else if word_at bytes 64 == control_kind.BYTES then bytes_step at bytes
     else unknown_step at bytes
 
 -- ---- widgets
@@ -291,19 +294,19 @@ widget_step at bytes = do
 -- the payload of a block by its type; bytes are kept where the type has no records
 unfoldable pub body_at : ℕ → ℕ → ℕ → List ℕ → Result Body TplgFault
 body_at kind count at payload =
-    if kind == 4 then (all_items route_step count at payload >>= λ rs. Ok (Routes rs))
-    else if kind == 5 then (all_items widget_step count at payload >>= λ ws. Ok (Widgets ws))
-    else if kind == 7 then (all_items pcm_step count at payload >>= λ ps. Ok (Pcms ps))
-    else if kind == 8 then (all_items manifest_step count at payload >>= λ ms. Ok (Manifests ms))
+    if kind == DAPM_GRAPH then (all_items route_step count at payload >>= λ rs. Ok (Routes rs))
+    else if kind == DAPM_WIDGET then (all_items widget_step count at payload >>= λ ws. Ok (Widgets ws))
+    else if kind == PCM then (all_items pcm_step count at payload >>= λ ps. Ok (Pcms ps))
+    else if kind == MANIFEST then (all_items manifest_step count at payload >>= λ ms. Ok (Manifests ms))
     else Ok (Other kind count payload)
 
 -- the first fault of a header, where there is one
 abbrev pub header_then : {A : Type 0} → ℕ → List ℕ → Result A TplgFault → Result A TplgFault
 header_then at bytes right =
     if nat_lt (length bytes) 36 then Err (Truncated at)
-    else if word_at bytes 0 == 0x41536F43 then
-    if word_at bytes 4 == 5 then
-    if word_at bytes 16 == 36 then
+    else if word_at bytes 0 == MAGIC then
+    if word_at bytes 4 == ABI then
+    if word_at bytes 16 == HEADER_BYTES then
     if nat_lt (length bytes - 36) (word_at bytes 24) then Err (Truncated at)
     else right
     else Err (HeaderSize at)

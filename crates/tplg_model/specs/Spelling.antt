@@ -4,6 +4,9 @@ use Rattle.std.specs.Int.{w32, cast_unsigned}
 use Rattle.sof_base.specs.Cells.{Cell, fixed}
 use Rattle.sof_base.specs.Slots.{Slot, Word, Half, Long, Size, Label, Words, Raw, slots_cells, AreSlots}
 use Rattle.tplg_model.specs.Arrays.{Each, AreArrays, arrays_spelling}
+use Rattle.tplg_model.specs.declared.block_header.TheConstants.{MAGIC, ABI, HEADER_BYTES}
+use Rattle.tplg_model.specs.declared.block_type.TheConstants.{DAPM_GRAPH, DAPM_WIDGET, PCM, MANIFEST}
+use Rattle.tplg_model.specs.declared.control_kind.TheConstants as control_kind
 use Rattle.tplg_model.specs.declared.tokens.TokenArray.{TokenArray}
 use Rattle.tplg_model.specs.declared.block.Route.{Route}
 use Rattle.tplg_model.specs.declared.block.Manifest.{Manifest}
@@ -121,15 +124,15 @@ control_head_slots kind h =
 -- a mixer, an enum or a bytes control: its head, its own size and words, and private data
 abbrev pub control_slots : Control → List Slot
 control_slots (Mixer head min max platform_max invert num_channels channels private) =
-    control_head_slots 1 head
+    control_head_slots control_kind.MIXER head
     ++ Size 360 ∷ Word (cast_unsigned w32 min) ∷ Word (cast_unsigned w32 max) ∷ Word (cast_unsigned w32 platform_max) ∷ Word invert
     ∷ Word num_channels ∷ Words channels ∷ Word (length private) ∷ Raw private ∷ []
 control_slots (Enum head num_channels channels items mask count texts values private) =
-    control_head_slots 4 head
+    control_head_slots control_kind.ENUM head
     ++ Size 1764 ∷ Word num_channels ∷ Words channels ∷ Word items ∷ Word mask ∷ Word count ∷ Raw texts ∷ Words values
     ∷ Word (length private) ∷ Raw private ∷ []
 control_slots (Bytes head max mask base num_regs ext_ops private) =
-    control_head_slots 5 head
+    control_head_slots control_kind.BYTES head
     ++ Size 240 ∷ Word max ∷ Word mask ∷ Word base ∷ Word num_regs ∷ Words ext_ops ∷ Word (length private) ∷ Raw private ∷ []
 
 -- a control's bytes
@@ -211,10 +214,10 @@ body_cells (Other kind count bytes) = fixed bytes
 
 -- a block's type
 abbrev pub kind_of : Body → ℕ
-kind_of (Manifests ms) = 8
-kind_of (Widgets ws) = 5
-kind_of (Routes rs) = 4
-kind_of (Pcms ps) = 7
+kind_of (Manifests ms) = MANIFEST
+kind_of (Widgets ws) = DAPM_WIDGET
+kind_of (Routes rs) = DAPM_GRAPH
+kind_of (Pcms ps) = PCM
 kind_of (Other kind count bytes) = kind
 
 -- its number of records
@@ -227,10 +230,10 @@ count_of (Other kind count bytes) = count
 
 -- a type whose payload is no records
 pub record HasNoRecords (kind : ℕ) : Type 0 where
-  pub no_routes : kind ≡ 4 → ⊥
-  pub no_widgets : kind ≡ 5 → ⊥
-  pub no_pcms : kind ≡ 7 → ⊥
-  pub no_manifests : kind ≡ 8 → ⊥
+  pub no_routes : kind ≡ DAPM_GRAPH → ⊥
+  pub no_widgets : kind ≡ DAPM_WIDGET → ⊥
+  pub no_pcms : kind ≡ PCM → ⊥
+  pub no_manifests : kind ≡ MANIFEST → ⊥
 
 -- bytes are kept only where the type has no records
 abbrev pub IsKept : Body → Type 0
@@ -249,10 +252,10 @@ pub record BlockValue : Type 0 where
   pub index : ℕ
   pub body : Body
 
--- the nine words of a header: the magic word, ABI 5, version, type, 36, vendor type, payload size, index, count
+-- the nine words of a header: the magic word, the ABI, version, type, its own size, vendor type, payload size, index, count
 abbrev pub words_slots : ℕ → ℕ → ℕ → ℕ → ℕ → ℕ → List Slot
 words_slots version kind vendor_type size index count =
-    Word 0x41536F43 ∷ Word 5 ∷ Word version ∷ Word kind ∷ Word 36
+    Word MAGIC ∷ Word ABI ∷ Word version ∷ Word kind ∷ Word HEADER_BYTES
     ∷ Word vendor_type ∷ Word size ∷ Word index ∷ Word count ∷ []
 
 -- the header of a block

@@ -7,7 +7,8 @@ use crate::fields::kept;
 use crate::items::all_items;
 use sof_base::{Items, word};
 use std::alloc::Global;
-use tplg_model::{Block, Body, TplgFault};
+use tplg_model::block_type::{DAPM_GRAPH, DAPM_WIDGET, MANIFEST, PCM};
+use tplg_model::{ABI, Block, Body, HEADER_BYTES, MAGIC, TplgFault};
 
 #[tactic(auto, unfolding(tplg_model::specs::Reading::body_at))]
 fn body_at(
@@ -21,10 +22,10 @@ fn body_at(
     ensures { Gives (λ x. x) result (reading.body_at kind count at payload.now) }
 {
     match kind {
-        4 => Ok(Body::Routes(all_items(alloc, count, at, payload)?)),
-        5 => Ok(Body::Widgets(all_items(alloc, count, at, payload)?)),
-        7 => Ok(Body::Pcms(all_items(alloc, count, at, payload)?)),
-        8 => Ok(Body::Manifests(all_items(alloc, count, at, payload)?)),
+        DAPM_GRAPH => Ok(Body::Routes(all_items(alloc, count, at, payload)?)),
+        DAPM_WIDGET => Ok(Body::Widgets(all_items(alloc, count, at, payload)?)),
+        PCM => Ok(Body::Pcms(all_items(alloc, count, at, payload)?)),
+        MANIFEST => Ok(Body::Manifests(all_items(alloc, count, at, payload)?)),
         _ => Ok(Body::Other {
             kind,
             count,
@@ -43,14 +44,14 @@ fn block_at(alloc: Global, at: usize, bytes: &[u8]) -> Result<(Block, usize), Tp
     if bytes.len() < 36 {
         return Err(TplgFault::Truncated(at));
     }
-    if word(bytes, 0) != 0x41536F43 {
+    if word(bytes, 0) != MAGIC {
         return Err(TplgFault::Magic(at));
     }
     let abi = word(bytes, 4);
-    if abi != 5 {
+    if abi != ABI {
         return Err(TplgFault::Abi(at, abi));
     }
-    if word(bytes, 16) != 36 {
+    if word(bytes, 16) != HEADER_BYTES {
         return Err(TplgFault::HeaderSize(at));
     }
     let size = word(bytes, 24) as usize;

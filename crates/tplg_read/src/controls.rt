@@ -7,7 +7,7 @@ use crate::fields::{kept, name_at, tail_size};
 use crate::items::Item;
 use sof_base::{Name44, bytes_at, word, words_at};
 use std::alloc::Global;
-use tplg_model::{Control, ControlHead, TplgFault};
+use tplg_model::{Control, ControlHead, TplgFault, control_kind};
 
 /// The head of a control, whose name was read.
 #[tactic(auto, unfolding(tplg_model::specs::Reading::control_head_with))]
@@ -113,9 +113,9 @@ impl Item for Control {
             return Err(TplgFault::Payload(at));
         }
         match word(bytes, 64) {
-            1 => mixer_at(alloc, at, bytes),
-            4 => enum_at(alloc, at, bytes),
-            5 => bytes_control_at(alloc, at, bytes),
+            control_kind::MIXER => mixer_at(alloc, at, bytes),
+            control_kind::ENUM => enum_at(alloc, at, bytes),
+            control_kind::BYTES => bytes_control_at(alloc, at, bytes),
             _ => unknown_at(at, bytes),
         }
     }

@@ -9,10 +9,10 @@ use Rattle.tplg_model.specs.Arrays.{type_of, count_of, array_size, elements_spel
 use Rattle.tplg_model.proofs.ArrayListLaws.{SoFar, SoFar-fault, read_is, fault_is}
 use Rattle.tplg_tokens.specs.declared.fault.TokenFault.{TokenFault}
 use Rattle.tplg_tokens.specs.declared.fault.TokenFault.TheVariants.{Short, Size, Kind, OutOfMemory}
-use Rattle.tplg_tokens.specs.Answers.{Names, Gives}
+use Rattle.tplg_tokens.specs.Answers.{NamesFault, GivesArrays}
 
 -- an array's fault is the whole's
-pub stops : (bytes : List ℕ) (xs : List TokenArray) (used : ℕ) (f : TokenFault) → used < length bytes → SoFar bytes xs used → Names (λ g. array_fault used (drop used bytes) ≡ Some g) f → Gives (Err f) (arrays_of bytes)
+pub stops : (bytes : List ℕ) (xs : List TokenArray) (used : ℕ) (f : TokenFault) → used < length bytes → SoFar bytes xs used → NamesFault (λ g. array_fault used (drop used bytes) ≡ Some g) f → GivesArrays (Err f) (arrays_of bytes)
 stops bytes xs used (Short at) lt s e = SoFar-fault bytes xs used _ lt s e
 stops bytes xs used (Size at) lt s e = SoFar-fault bytes xs used _ lt s e
 stops bytes xs used (Kind at kind) lt s e = SoFar-fault bytes xs used _ lt s e
@@ -20,17 +20,17 @@ stops bytes xs used OutOfMemory lt s e = tt
 
 -- ---- what an answer says
 
-pub is_found : (bytes : List ℕ) (r : Result (List TokenArray) TokenFault) → IsBytes bytes → Gives r (arrays_of bytes) → IfOk r (λ xs. AreArrays xs × AreArraysOf bytes xs)
+pub is_found : (bytes : List ℕ) (r : Result (List TokenArray) TokenFault) → IsBytes bytes → GivesArrays r (arrays_of bytes) → IfOk r (λ xs. AreArrays xs × AreArraysOf bytes xs)
 is_found bytes (Ok xs) h g = let p = read_is bytes xs h g in (p.1, p.0)
 is_found bytes (Err f) h g = tt
 
-fault_named : (bytes : List ℕ) (f : TokenFault) → IsBytes bytes → Names (λ g. arrays_of bytes ≡ Err g) f → Names (IsTokenFault bytes) f
+fault_named : (bytes : List ℕ) (f : TokenFault) → IsBytes bytes → NamesFault (λ g. arrays_of bytes ≡ Err g) f → NamesFault (IsTokenFault bytes) f
 fault_named bytes (Short at) h e = fault_is bytes _ h e
 fault_named bytes (Size at) h e = fault_is bytes _ h e
 fault_named bytes (Kind at kind) h e = fault_is bytes _ h e
 fault_named bytes OutOfMemory h e = tt
 
-pub is_fault : (bytes : List ℕ) (r : Result (List TokenArray) TokenFault) → IsBytes bytes → Gives r (arrays_of bytes) → IfErr r (Names (IsTokenFault bytes))
+pub is_fault : (bytes : List ℕ) (r : Result (List TokenArray) TokenFault) → IsBytes bytes → GivesArrays r (arrays_of bytes) → IfErr r (NamesFault (IsTokenFault bytes))
 is_fault bytes (Ok xs) h g = tt
 is_fault bytes (Err f) h g = fault_named bytes f h g
 

@@ -6,13 +6,13 @@ use Rattle.tplg_tokens.specs.declared.fault.TokenFault.{TokenFault}
 use Rattle.tplg_tokens.specs.declared.fault.TokenFault.TheVariants.{Short, Size, Kind, OutOfMemory}
 
 -- the array's fault that is answered is so; want of memory says nothing of the arrays
-abbrev pub Names : (ArrayFault → Type 0) → TokenFault → Type 0
-Names Is (Short at) = Is (Too_short at)
-Names Is (Size at) = Is (Wrong_size at)
-Names Is (Kind at kind) = Is (Unknown_type at kind)
-Names Is OutOfMemory = Unit {0}
+abbrev pub NamesFault : (ArrayFault → Type 0) → TokenFault → Type 0
+NamesFault Is (Short at) = Is (Too_short at)
+NamesFault Is (Size at) = Is (Wrong_size at)
+NamesFault Is (Kind at kind) = Is (Unknown_type at kind)
+NamesFault Is OutOfMemory = Unit {0}
 
 -- the answer is what reading gives, unless memory ran out
-abbrev pub Gives : Result (List TokenArray) TokenFault → Result (List TokenArray) ArrayFault → Type 0
-Gives (Ok arrays) read = read ≡ Ok arrays
-Gives (Err fault) read = Names (λ f. read ≡ Err f) fault
+abbrev pub GivesArrays : Result (List TokenArray) TokenFault → Result (List TokenArray) ArrayFault → Type 0
+GivesArrays (Ok arrays) read = read ≡ Ok arrays
+GivesArrays (Err fault) read = NamesFault (λ f. read ≡ Err f) fault

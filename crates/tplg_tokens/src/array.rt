@@ -3,12 +3,13 @@ ghost use Rattle.std.specs.Prelude.{◌≡◌, ◌≤◌, ◌<◌, ◌+◌, ◌*
 ghost use Rattle.sof_base.specs.Slots.{word_at};
 ghost use Rattle.std.specs.Int.{w32, to_le_bytes};
 ghost use Rattle.tplg_model.specs.Arrays.{element_size, type_of, count_of, elements_spelling, array_fault, array_at, array_size, array_spelling, HasSize, HasElements, IsArray};
-ghost use Rattle.tplg_tokens.specs.Answers.{Names};
+ghost use Rattle.tplg_tokens.specs.Answers.{NamesFault};
 
 use crate::element::{Element, read_elements, word_bytes, write_elements};
 use crate::fault::TokenFault;
 use sof_base::{NoMemory, word};
 use std::alloc::{AllocError, Global};
+use tplg_model::array_type::{SHORT, STRING, UUID};
 use tplg_model::{NumberArray, NumberTuple, TextArray, TextTuple, TokenArray, UuidArray, UuidTuple};
 
 /// The bytes of an element by its array's type.
@@ -16,8 +17,8 @@ fn element_bytes(kind: u32) -> usize
     ensures { result ≡ element_size kind }
 {
     match kind {
-        0 => UuidTuple::SIZE,
-        1 => TextTuple::SIZE,
+        UUID => UuidTuple::SIZE,
+        STRING => TextTuple::SIZE,
         _ => NumberTuple::SIZE,
     }
 }
@@ -28,13 +29,13 @@ pub fn whole_size(bytes: &[u8], at: usize) -> Result<usize, TokenFault>
     ensures whole { IfOk result (λ size. (array_fault at bytes.now ≡ None) × (size ≡ word_at bytes.now 0)) }
     ensures small { IfOk result (λ size. size < 2 ^ 32) }
     ensures only { array_fault at bytes.now ≡ None → IsOk result }
-    ensures fault { IfErr result (Names (λ f. array_fault at bytes.now ≡ Some f)) }
+    ensures fault { IfErr result (NamesFault (λ f. array_fault at bytes.now ≡ Some f)) }
 {
     if bytes.len() < 12 {
         return Err(TokenFault::Short(at));
     }
     let kind = word(bytes, 4);
-    if kind > 5 {
+    if kind > SHORT {
         return Err(TokenFault::Kind(at, kind));
     }
     let size = word(bytes, 0) as usize;
@@ -60,11 +61,11 @@ pub fn read_array(alloc: Global, bytes: &[u8]) -> Result<TokenArray, NoMemory>
     let kind = word(bytes, 4);
     let count = word(bytes, 8);
     match kind {
-        0 => {
+        UUID => {
             let elements = read_elements(alloc, count, bytes, 12)?;
             Ok(TokenArray::Uuid(UuidArray::of(elements)))
         }
-        1 => {
+        STRING => {
             let elements = read_elements(alloc, count, bytes, 12)?;
             Ok(TokenArray::Text(TextArray::of(elements)))
         }
@@ -83,11 +84,11 @@ fn array_words(array: &TokenArray) -> (u32, u32, u32)
     match array {
         TokenArray::Uuid(uuids) => {
             let count = uuids.items().len() as u32;
-            (12 + count * 20, 0, count)
+            (12 + count * 20, UUID, count)
         }
         TokenArray::Text(texts) => {
             let count = texts.items().len() as u32;
-            (12 + count * 48, 1, count)
+            (12 + count * 48, STRING, count)
         }
         TokenArray::Number(numbers) => {
             let count = numbers.items().len() as u32;

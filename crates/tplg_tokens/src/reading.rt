@@ -1,6 +1,6 @@
 ghost use Rattle.std.specs.Prelude.{List, IfOk, IfErr, Ok, Err};
 ghost use Rattle.tplg_model.specs.Arrays.{AreArrays, AreArraysOf, ArrayFault, IsTokenFault, arrays_of};
-ghost use Rattle.tplg_tokens.specs.Answers.{Names, Gives};
+ghost use Rattle.tplg_tokens.specs.Answers.{NamesFault, GivesArrays};
 
 use crate::array::{read_array, whole_size};
 use crate::fault::TokenFault;
@@ -13,19 +13,19 @@ pub fn read_arrays(alloc: Global, bytes: &[u8]) -> Result<Items<TokenArray>, Tok
     // The bytes are the arrays that are read.
     ensures found { IfOk result (λ arrays. AreArrays arrays × AreArraysOf bytes.now arrays) }
     // Arrays that the bytes are, are read, unless memory runs out.
-    ensures only { (arrays : List TokenArray) → AreArrays arrays → AreArraysOf bytes.now arrays → Gives result (Ok arrays) }
+    ensures only { (arrays : List TokenArray) → AreArrays arrays → AreArraysOf bytes.now arrays → GivesArrays result (Ok arrays) }
     // A fault is the first one, or want of memory.
-    ensures fault { IfErr result (Names (IsTokenFault bytes.now)) }
+    ensures fault { IfErr result (NamesFault (IsTokenFault bytes.now)) }
     // The first fault is answered, unless memory runs out.
-    ensures fault_only { (fault : ArrayFault) → IsTokenFault bytes.now fault → Gives result (Err fault) }
+    ensures fault_only { (fault : ArrayFault) → IsTokenFault bytes.now fault → GivesArrays result (Err fault) }
     // The answer is what reading gives, unless memory runs out.
-    ensures gives { Gives result (arrays_of bytes.now) }
+    ensures gives { GivesArrays result (arrays_of bytes.now) }
 {
     each_array(alloc, bytes)
 }
 
 fn each_array(alloc: Global, bytes: &[u8]) -> Result<Items<TokenArray>, TokenFault>
-    ensures { Gives result (arrays_of bytes.now) }
+    ensures { GivesArrays result (arrays_of bytes.now) }
 {
     let mut arrays = Items::new(alloc);
     let mut used = 0;

@@ -9,7 +9,8 @@ use crate::items::put_items;
 use crate::records::put_fixed;
 use crate::sink::Sink;
 use sof_base::NoMemory;
-use tplg_model::{Block, Body};
+use tplg_model::block_type::{DAPM_GRAPH, DAPM_WIDGET, MANIFEST, PCM};
+use tplg_model::{ABI, Block, Body, HEADER_BYTES, MAGIC};
 
 // A block's payload.
 fn put_body(body: &Body, sink: &mut Sink) -> Result<(), NoMemory>
@@ -34,25 +35,25 @@ fn kind_and_count(body: &Body) -> (u32, u32)
     ensures fit { (kind_of body.now < 2 ^ 32) × (count_of body.now < 2 ^ 32) }
 {
     match body {
-        Body::Manifests(manifests) => (8, manifests.items().len() as u32),
-        Body::Widgets(widgets) => (5, widgets.items().len() as u32),
-        Body::Routes(routes) => (4, routes.items().len() as u32),
-        Body::Pcms(pcms) => (7, pcms.items().len() as u32),
+        Body::Manifests(manifests) => (MANIFEST, manifests.items().len() as u32),
+        Body::Widgets(widgets) => (DAPM_WIDGET, widgets.items().len() as u32),
+        Body::Routes(routes) => (DAPM_GRAPH, routes.items().len() as u32),
+        Body::Pcms(pcms) => (PCM, pcms.items().len() as u32),
         Body::Other { kind, count, .. } => (*kind, *count),
     }
 }
 
-// A block's header up to the size of its payload: the magic word, ABI 5, version, type, 36 and vendor type.
+// A block's header up to the size of its payload: the magic word, the ABI, version, type, its own size and vendor type.
 fn put_front(block: &Block, kind: u32, sink: &mut Sink) -> Result<(), NoMemory>
-    ensures ok { OnOk result (sink.new ≡ with_slots sink.old (Word 0x41536F43 ∷ Word 5 ∷ Word block.now.version ∷ Word kind ∷ Word 36 ∷ Word block.now.vendor_type ∷ [])) }
+    ensures ok { OnOk result (sink.new ≡ with_slots sink.old (Word MAGIC ∷ Word ABI ∷ Word block.now.version ∷ Word kind ∷ Word HEADER_BYTES ∷ Word block.now.vendor_type ∷ [])) }
     ensures fit { OnOk result ((block.now.version < 2 ^ 32) × (block.now.vendor_type < 2 ^ 32)) }
     ensures front { sink.new.front ≡ sink.old.front }
 {
-    sink.word(0x41536F43)?;
-    sink.word(5)?;
+    sink.word(MAGIC)?;
+    sink.word(ABI)?;
     sink.word(block.version)?;
     sink.word(kind)?;
-    sink.word(36)?;
+    sink.word(HEADER_BYTES)?;
     sink.word(block.vendor_type)?;
     Ok(())
 }

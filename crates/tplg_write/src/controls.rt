@@ -7,7 +7,7 @@ ghost use Rattle.tplg_write.specs.Sinks.{with_slots, with_cells};
 use crate::items::Spelled;
 use crate::sink::Sink;
 use sof_base::NoMemory;
-use tplg_model::{Control, ControlHead};
+use tplg_model::{Control, ControlHead, control_kind};
 
 // A control's head, with the number of its kind.
 #[tactic(auto, unfolding(sof_base::specs::Slots::AreSlots, sof_base::specs::Slots::IsSlot))]
@@ -49,7 +49,7 @@ fn put_control(control: &Control, sink: &mut Sink) -> Result<(), NoMemory>
             channels,
             private,
         } => {
-            put_control_head(1, head, sink)?;
+            put_control_head(control_kind::MIXER, head, sink)?;
             sink.size(360)?;
             sink.word(min.cast_unsigned())?;
             sink.word(max.cast_unsigned())?;
@@ -72,7 +72,7 @@ fn put_control(control: &Control, sink: &mut Sink) -> Result<(), NoMemory>
             values,
             private,
         } => {
-            put_control_head(4, head, sink)?;
+            put_control_head(control_kind::ENUM, head, sink)?;
             sink.size(1764)?;
             sink.word(*num_channels)?;
             sink.words(channels)?;
@@ -94,7 +94,7 @@ fn put_control(control: &Control, sink: &mut Sink) -> Result<(), NoMemory>
             ext_ops,
             private,
         } => {
-            put_control_head(5, head, sink)?;
+            put_control_head(control_kind::BYTES, head, sink)?;
             sink.size(240)?;
             sink.word(*max)?;
             sink.word(*mask)?;

@@ -12,9 +12,9 @@ use Rattle.mbox_link.specs.Step.{row, row_of}
 use Rattle.mbox_link.specs.Exchange.{ticks, Rose}
 use Rattle.mbox_link.specs.Calls.{World, Meaning}
 use Rattle.tplg_model.specs.declared.pcm.Caps.{Caps}
-use Rattle.tplg_graph.specs.declared.planned.Plan.{Plan}
-use Rattle.tplg_graph.specs.declared.planned.WidgetPlan.{WidgetPlan}
-use Rattle.tplg_graph.specs.ThinPlan.{IsThinPlan, thin_graph}
+use Rattle.tplg_plan.specs.declared.plans.Plan.{Plan}
+use Rattle.tplg_plan.specs.declared.plans.WidgetPlan.{WidgetPlan}
+use Rattle.tplg_plan.specs.ThinPlan.{IsThinPlan, thin_graph}
 use Rattle.host_widgets.specs.declared.answers.HostFault.{HostFault}
 use Rattle.host_widgets.specs.declared.answers.HostFault.TheVariants.{Refused, LinkDown}
 use Rattle.host_widgets.specs.declared.kept.Power.{Power}

@@ -14,7 +14,7 @@ use Rattle.stream_law.specs.Ways.{reaches, on_way, agree}
 use Rattle.stream_law.specs.Seen.{seen}
 use Rattle.mbox_link.specs.Step.{changed, pcm_params, is_used, kind_at, has_kind, has_phase, is_host, goes, is_rate, is_moving, is_way_ready, set_stream, no_device, invalid}
 use Rattle.mbox_link.specs.Exchange.{ticked, ticks}
-use Rattle.tplg_graph.specs.ThinPlan.{thin_graph}
+use Rattle.tplg_plan.specs.ThinPlan.{thin_graph}
 use Rattle.host_widgets.specs.declared.kept.StreamRec.{StreamRec}
 use Rattle.host_widgets.specs.Expected.{phase_of}
 use Rattle.host_widgets.proofs.ThinRecords.{view_with, agree-one, shown}

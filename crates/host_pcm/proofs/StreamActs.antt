@@ -11,7 +11,7 @@ use Rattle.stream_law.specs.Seen.{seen}
 use Rattle.mbox_link.specs.Step as fw
 use Rattle.mbox_link.specs.Step.{set_phase, set_stream, is_rate}
 use Rattle.tplg_model.specs.declared.pcm.Caps.{Caps}
-use Rattle.tplg_graph.specs.declared.planned.WidgetPlan.{WidgetPlan}
+use Rattle.tplg_plan.specs.declared.plans.WidgetPlan.{WidgetPlan}
 use Rattle.host_widgets.specs.declared.answers.HostFault.{HostFault}
 use Rattle.host_widgets.specs.declared.kept.Found.{Found}
 use Rattle.host_widgets.specs.declared.kept.Found.TheVariants.{Closed, Open, Prepared, Running, Paused, On as Found_On}

@@ -5,8 +5,8 @@ use Rattle.ipc3_codec.specs.declared.message.Message.{Message}
 use Rattle.ipc3_codec.specs.declared.message.Message.TheVariants.{PcmFree, PcmParams}
 use Rattle.ipc3_codec.specs.Messages.{message_spelling}
 use Rattle.mbox_link.specs.Calls.{World, Meaning}
-use Rattle.tplg_graph.specs.declared.planned.Plan.{Plan}
-use Rattle.tplg_graph.specs.ThinPlan.{IsThinPlan}
+use Rattle.tplg_plan.specs.declared.plans.Plan.{Plan}
+use Rattle.tplg_plan.specs.ThinPlan.{IsThinPlan}
 use Rattle.host_widgets.specs.declared.answers.HostFault.{HostFault}
 use Rattle.host_widgets.specs.declared.kept.Found.TheVariants.{Prepared}
 use Rattle.host_widgets.specs.declared.kept.Power.TheVariants.{On}

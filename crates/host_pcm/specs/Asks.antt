@@ -3,7 +3,7 @@ use Rattle.std.specs.Prelude.{ℕ, List, [], ◌∷◌, get_or, set, Bool, true,
 use Rattle.std.specs.Option.{option_map_or}
 use Rattle.std.specs.Str.{bytes_eq}
 use Rattle.tplg_model.specs.declared.pcm.Caps.{Caps}
-use Rattle.tplg_graph.specs.declared.planned.Plan.{Plan}
+use Rattle.tplg_plan.specs.declared.plans.Plan.{Plan}
 use Rattle.host_widgets.specs.declared.answers.HostFault.{HostFault}
 use Rattle.host_widgets.specs.declared.answers.HostFault.TheVariants.{NotLoaded, NoSuch, State, Off}
 use Rattle.host_widgets.specs.declared.kept.Found.{Found}

@@ -4,7 +4,7 @@ use Rattle.stream_law.specs.State.{FwState}
 use Rattle.stream_law.specs.Seen.{seen}
 use Rattle.ipc3_codec.specs.declared.reply.Reply.{Reply}
 use Rattle.mbox_link.specs.Calls.{World, Meaning, Cut, Exchanged, Did}
-use Rattle.tplg_graph.specs.declared.planned.Plan.{Plan}
+use Rattle.tplg_plan.specs.declared.plans.Plan.{Plan}
 use Rattle.host_widgets.specs.declared.answers.HostFault.{HostFault}
 use Rattle.host_widgets.specs.declared.answers.HostFault.TheVariants.{LinkDown}
 use Rattle.host_widgets.specs.declared.kept.Record.{Record}

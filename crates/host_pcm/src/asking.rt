@@ -6,7 +6,7 @@ ghost use Rattle.host_pcm.specs.Asks.{early_fault, stream_place};
 use crate::ranges::params_fault;
 use host_widgets::{Found, HostFault, Power, Record, Trigger};
 use sof_base::{Name44, Params};
-use tplg_graph::Plan;
+use tplg_plan::Plan;
 use tplg_model::Caps;
 
 /// What is asked of a stream.

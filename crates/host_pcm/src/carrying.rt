@@ -2,7 +2,7 @@
 ghost use Rattle.std.specs.Prelude.{◌≡◌, ◌<◌, ◌*◌, true, None, length, if◌then◌else◌};
 ghost use Rattle.sof_base.specs.Ports.{HasRoom};
 ghost use Rattle.mbox_link.specs.Calls.{world};
-ghost use Rattle.tplg_graph.specs.ThinPlan.{IsThinPlan};
+ghost use Rattle.tplg_plan.specs.ThinPlan.{IsThinPlan};
 ghost use Rattle.host_widgets.specs.HostRecord.{closed};
 ghost use Rattle.host_widgets.specs.Host.{Agrees};
 ghost use Rattle.host_pcm.specs.Asks.{stream_at, takes, range_fault, caps_at, triggered, with_stream};
@@ -15,7 +15,7 @@ use ipc3_codec::Message;
 use mbox_link::Dsp;
 use sof_base::Params;
 use sof_io::{Inputs, Outputs};
-use tplg_graph::Plan;
+use tplg_plan::Plan;
 
 // How far a stream is after a trigger.
 fn triggered(what: Trigger) -> Found

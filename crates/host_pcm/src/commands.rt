@@ -7,7 +7,7 @@
 ghost use Rattle.std.specs.Prelude.{◌≡◌, ◌≤◌, ◌*◌};
 ghost use Rattle.sof_base.specs.Ports.{HasRoom};
 ghost use Rattle.mbox_link.specs.Calls.{world};
-ghost use Rattle.tplg_graph.specs.ThinPlan.{IsThinPlan};
+ghost use Rattle.tplg_plan.specs.ThinPlan.{IsThinPlan};
 ghost use Rattle.host_widgets.specs.Host.{Agrees};
 ghost use Rattle.host_pcm.specs.Carried.{Asked};
 
@@ -17,7 +17,7 @@ use host_widgets::{Found, HostFault, Record, StreamRec, Trigger};
 use mbox_link::Dsp;
 use sof_base::{Name44, Params};
 use sof_io::{Inputs, Outputs};
-use tplg_graph::Plan;
+use tplg_plan::Plan;
 
 /// A closed stream is open. Nothing is sent, and the power may be off.
 pub fn open<P: Dsp>(

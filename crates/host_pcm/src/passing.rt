@@ -3,7 +3,7 @@ ghost use Rattle.std.specs.Prelude.{◌≡◌, ◌*◌, is_some, true};
 ghost use Rattle.sof_base.specs.Ports.{HasRoom};
 ghost use Rattle.ipc3_codec.specs.Messages.{message_spelling};
 ghost use Rattle.mbox_link.specs.Calls.{world};
-ghost use Rattle.tplg_graph.specs.ThinPlan.{IsThinPlan};
+ghost use Rattle.tplg_plan.specs.ThinPlan.{IsThinPlan};
 ghost use Rattle.host_widgets.specs.Host.{IsRecordOf};
 ghost use Rattle.host_pcm.specs.Carried.{Passes, is_down};
 
@@ -11,7 +11,7 @@ use host_widgets::{HostFault, Record, link_down, send};
 use ipc3_codec::Message;
 use mbox_link::Dsp;
 use sof_io::{Inputs, Outputs};
-use tplg_graph::Plan;
+use tplg_plan::Plan;
 
 // Whether the link failed.
 fn is_down(fault: &HostFault) -> bool

@@ -9,9 +9,9 @@ use Rattle.stream_law.specs.declared.graph.Edge.{Edge}
 use Rattle.stream_law.specs.declared.graph.Pipe.{Pipe}
 use Rattle.stream_law.specs.Past.{empty_view}
 use Rattle.mbox_link.specs.Step.{fresh}
-use Rattle.tplg_graph.specs.declared.planned.Plan.{Plan}
-use Rattle.tplg_graph.specs.declared.planned.StreamPlan.{StreamPlan}
-use Rattle.tplg_graph.specs.Sound.{IsSound, host_of}
+use Rattle.tplg_plan.specs.declared.plans.Plan.{Plan}
+use Rattle.tplg_plan.specs.declared.plans.StreamPlan.{StreamPlan}
+use Rattle.tplg_plan.specs.Sound.{IsSound, host_of}
 use Rattle.host_widgets.specs.HostRecord.{closed, first_record}
 use Rattle.host_widgets.specs.Controls.{set_comp, set_graph}
 use Rattle.host_widgets.specs.Acts.{Act, Make, Join, Finish, ids_of, put_acts, bring_up_acts}

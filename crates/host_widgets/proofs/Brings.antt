@@ -1,6 +1,6 @@
 -- A fresh firmware takes the list of every plan that is loaded.
 use Rattle.std.proofs.Common.{ℕ}
-use Rattle.tplg_graph.specs.declared.planned.Plan.{Plan}
+use Rattle.tplg_plan.specs.declared.plans.Plan.{Plan}
 use Rattle.host_widgets.specs.declared.kept.Record.{Record}
 use Rattle.host_widgets.specs.Controls.{IsLoadable}
 use Rattle.host_widgets.proofs.ManyEffects.{Brings}

@@ -9,11 +9,11 @@ use Rattle.std.proofs.lemmas.List.Sums.{sum_by-cons}
 use Rattle.stream_law.specs.declared.graph.Edge.{Edge}
 use Rattle.stream_law.specs.declared.graph.Join.{Join}
 use Rattle.stream_law.specs.declared.graph.Graph.{Graph}
-use Rattle.tplg_graph.specs.declared.planned.Plan.{Plan}
-use Rattle.tplg_graph.specs.declared.planned.ControlPlan.{ControlPlan}
-use Rattle.tplg_graph.specs.declared.planned.ControlKind.{ControlKind}
-use Rattle.tplg_graph.specs.declared.planned.ControlKind.TheVariants.{Volume, Choice, Blob}
-use Rattle.tplg_graph.specs.Sound.{IsSound, IsSideOf, IsPassed}
+use Rattle.tplg_plan.specs.declared.plans.Plan.{Plan}
+use Rattle.tplg_plan.specs.declared.plans.ControlPlan.{ControlPlan}
+use Rattle.tplg_plan.specs.declared.plans.ControlKind.{ControlKind}
+use Rattle.tplg_plan.specs.declared.plans.ControlKind.TheVariants.{Volume, Choice, Blob}
+use Rattle.tplg_plan.specs.Sound.{IsSound, IsSideOf, IsPassed}
 use Rattle.host_widgets.specs.Controls.{IsLoadable}
 use Rattle.host_widgets.specs.Acts.{Act, Make, Join as Joins, Finish, ids_of, put_by, put_acts, bring_up_acts}
 use Rattle.host_widgets.proofs.LookedUp.{any-found}

@@ -12,8 +12,8 @@ use Rattle.stream_law.proofs.Waits.{eqb_turned}
 use Rattle.ipc3_codec.specs.declared.message.Message.TheVariants.{PipeComplete}
 use Rattle.ipc3_codec.specs.Messages.{IsMessage}
 use Rattle.mbox_link.specs.Step.{row, is_used, has_comp, has_edge, has_pipe, completed, complete_pipe, with_pipes, no_device, busy, invalid}
-use Rattle.tplg_graph.specs.declared.planned.Plan.{Plan}
-use Rattle.tplg_graph.specs.Sound.{pipe_at, IsPipelineOf, IsSound}
+use Rattle.tplg_plan.specs.declared.plans.Plan.{Plan}
+use Rattle.tplg_plan.specs.Sound.{pipe_at, IsPipelineOf, IsSound}
 use Rattle.host_widgets.specs.declared.kept.Record.{Record}
 use Rattle.host_widgets.specs.Controls.{set_comp, set_graph}
 use Rattle.host_widgets.specs.Acts.{Act, Finish, no_words}

@@ -1,11 +1,11 @@
 -- What first values set.
 use Rattle.std.proofs.Common.{◌≡◌, refl, sym, ap, ◌∙◌, ℕ, zero, suc, List, [], ◌∷◌, map, length, replicate, Some}
 use Rattle.std.proofs.lemmas.List.{length-replicate}
-use Rattle.tplg_graph.specs.declared.planned.Plan.{Plan}
-use Rattle.tplg_graph.specs.declared.planned.ControlPlan.{ControlPlan}
-use Rattle.tplg_graph.specs.declared.planned.ControlKind.{ControlKind}
-use Rattle.tplg_graph.specs.declared.planned.ControlKind.TheVariants.{Volume, Choice, Blob}
-use Rattle.tplg_graph.specs.GainOf.{control_gain}
+use Rattle.tplg_plan.specs.declared.plans.Plan.{Plan}
+use Rattle.tplg_plan.specs.declared.plans.ControlPlan.{ControlPlan}
+use Rattle.tplg_plan.specs.declared.plans.ControlKind.{ControlKind}
+use Rattle.tplg_plan.specs.declared.plans.ControlKind.TheVariants.{Volume, Choice, Blob}
+use Rattle.tplg_plan.specs.GainOf.{control_gain}
 use Rattle.host_widgets.specs.Controls.{control_of, first_value, first_values, first_gains}
 use Rattle.host_widgets.specs.Acts.{Put, put_acts, put_by, put_message, set_message, message_of}
 

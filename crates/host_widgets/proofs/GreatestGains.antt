@@ -9,10 +9,10 @@ use Rattle.stream_law.specs.Gain.{gain_below, gain_at, gain_of, half_decibels}
 use Rattle.ipc3_codec.specs.declared.message.Message.TheVariants.{SetValue}
 use Rattle.ipc3_codec.specs.ControlWords.{value_slots}
 use Rattle.ipc3_codec.specs.Messages.{IsMessage}
-use Rattle.tplg_graph.specs.declared.planned.ControlKind.{ControlKind}
-use Rattle.tplg_graph.specs.declared.planned.ControlKind.TheVariants.{Volume, Choice, Blob}
-use Rattle.tplg_graph.specs.GainOf.{control_gain}
-use Rattle.tplg_graph.proofs.Gains.{above-most, below-zero, below-suc}
+use Rattle.tplg_plan.specs.declared.plans.ControlKind.{ControlKind}
+use Rattle.tplg_plan.specs.declared.plans.ControlKind.TheVariants.{Volume, Choice, Blob}
+use Rattle.tplg_plan.specs.GainOf.{control_gain}
+use Rattle.tplg_plan.proofs.Gains.{above-most, below-zero, below-suc}
 
 -- ---- a gain
 

@@ -14,8 +14,8 @@ use Rattle.stream_law.specs.State.{FwState}
 use Rattle.stream_law.specs.Ways.{comp_of, edge_of, source_of, sink_of, is_end, leads, buffers}
 use Rattle.stream_law.specs.Joins.{kind_ins, kind_outs, fits_kind, with_join, would_cycle, would_reach, would_grow}
 use Rattle.mbox_link.specs.Step.{has_comp, has_edge, has_pipe, is_used, is_joined, takes_join, connect, no_device, busy, invalid}
-use Rattle.tplg_graph.specs.declared.planned.Plan.{Plan}
-use Rattle.tplg_graph.specs.Sound.{IsSideOf, IsSound}
+use Rattle.tplg_plan.specs.declared.plans.Plan.{Plan}
+use Rattle.tplg_plan.specs.Sound.{IsSideOf, IsSound}
 use Rattle.host_widgets.proofs.Stages.{made_comp}
 use Rattle.host_widgets.proofs.LookedUp.{found-is, any-found, any-lost, lost-map, found-map, find-map, map-twice, all-of}
 use Rattle.host_widgets.proofs.NamedIds.{buffer-found, component-found}

@@ -12,8 +12,8 @@ use Rattle.stream_law.specs.State.{FwState}
 use Rattle.stream_law.specs.Ways.{comp_of, edge_of}
 use Rattle.stream_law.specs.Joins.{joined, with_join}
 use Rattle.stream_law.proofs.Waits.{eqb_turned}
-use Rattle.tplg_graph.specs.declared.planned.Plan.{Plan}
-use Rattle.tplg_graph.specs.Sound.{IsSideOf, IsPassed, IsSound}
+use Rattle.tplg_plan.specs.declared.plans.Plan.{Plan}
+use Rattle.tplg_plan.specs.Sound.{IsSideOf, IsPassed, IsSound}
 use Rattle.host_widgets.proofs.Stages.{made_comp, begun, made_state}
 use Rattle.host_widgets.proofs.LookedUp.{all-found, found-passes, map-twice, alone, some-counted}
 use Rattle.host_widgets.proofs.NamedIds.{buffer-found, each-edge}

@@ -15,8 +15,8 @@ use Rattle.stream_law.specs.Joins.{kind_ins, kind_outs, fits_kind, with_join, wo
 use Rattle.ipc3_codec.specs.declared.message.Message.TheVariants.{Connect}
 use Rattle.ipc3_codec.specs.Messages.{IsMessage}
 use Rattle.mbox_link.specs.Step.{row, has_comp, has_edge, is_used, is_joined, takes_join, has_free_in, has_free_out, leads_in, leads_out, kind_at}
-use Rattle.tplg_graph.specs.declared.planned.Plan.{Plan}
-use Rattle.tplg_graph.specs.Sound.{IsSideOf, IsPassed, IsSound}
+use Rattle.tplg_plan.specs.declared.plans.Plan.{Plan}
+use Rattle.tplg_plan.specs.Sound.{IsSideOf, IsPassed, IsSound}
 use Rattle.host_widgets.specs.declared.kept.Record.{Record}
 use Rattle.host_widgets.specs.Acts.{Act, message_of}
 use Rattle.host_widgets.specs.Acts as acts

@@ -11,14 +11,14 @@ use Rattle.stream_law.specs.Ways.{comp_of}
 use Rattle.ipc3_codec.specs.declared.message.Message.TheVariants as messages
 use Rattle.ipc3_codec.specs.Allowed as allowed
 use Rattle.ipc3_codec.specs.Messages.{IsMessage}
-use Rattle.tplg_graph.specs.declared.planned.Plan.{Plan}
-use Rattle.tplg_graph.specs.declared.planned.WidgetPlan.{WidgetPlan}
-use Rattle.tplg_graph.specs.declared.planned.ControlPlan.{ControlPlan}
-use Rattle.tplg_graph.specs.declared.planned.ControlKind.{ControlKind}
-use Rattle.tplg_graph.specs.declared.planned.ControlKind.TheVariants.{Volume, Choice, Blob}
-use Rattle.tplg_graph.specs.ThinPlan.{FitsWords}
-use Rattle.tplg_graph.specs.Table as table
-use Rattle.tplg_graph.specs.Sound.{IsSound, IsLive, IsControlOf, NamesComponent, NamesBuffer, NamesPipeline}
+use Rattle.tplg_plan.specs.declared.plans.Plan.{Plan}
+use Rattle.tplg_plan.specs.declared.plans.WidgetPlan.{WidgetPlan}
+use Rattle.tplg_plan.specs.declared.plans.ControlPlan.{ControlPlan}
+use Rattle.tplg_plan.specs.declared.plans.ControlKind.{ControlKind}
+use Rattle.tplg_plan.specs.declared.plans.ControlKind.TheVariants.{Volume, Choice, Blob}
+use Rattle.tplg_plan.specs.WidgetWords.{FitsWords}
+use Rattle.tplg_plan.specs.Ranges as plan_ranges
+use Rattle.tplg_plan.specs.Sound.{IsSound, IsLive, IsControlOf, NamesComponent, NamesBuffer, NamesPipeline}
 use Rattle.host_widgets.specs.Controls.{control_of, first_values, first_value, greatest_value}
 use Rattle.host_widgets.specs.Acts.{kind_words, volume_words, words_of, no_words, comp_message, buffer_message, pipe_message}
 use Rattle.host_widgets.proofs.LookedUp.{found-is, all-found}
@@ -117,7 +117,7 @@ module _ (plan : Plan) (s : IsSound plan) (n : ℕ) (within : n < length plan.wi
       let id : x.is.sched.id ≡ x.pipe.sched = found-is (λ (c : Comp). c.id) plan.graph.comps x.pipe.sched x.is.sched x.is.scheduled in
       omega arith
 
-  period-known : (p : ℕ) → table.is_period (Some p) ≡ true → allowed.is_period p ≡ true
+  period-known : (p : ℕ) → plan_ranges.is_period (Some p) ≡ true → allowed.is_period p ≡ true
   period-known p is =
       let last = and_parts (p % 1000 == 0 && nat_le 1000 p) (nat_le p 10000) is in
       let first = and_parts (p % 1000 == 0) (nat_le 1000 p) last.0 in

@@ -11,9 +11,9 @@ use Rattle.stream_law.specs.State.{FwState}
 use Rattle.stream_law.specs.Placed.{Ascends, HasDistinct}
 use Rattle.ipc3_codec.specs.declared.message.Message.{Message}
 use Rattle.mbox_link.specs.Step.{row, busy, no_memory, kind_of, first_setting, with_comp, with_buffer, with_pipe, is_used, is_complete, has_index, has_comp, has_edge, has_pipe, has_hole, comp_bytes, buffer_bytes, pipe_bytes}
-use Rattle.tplg_graph.specs.declared.planned.Plan.{Plan}
-use Rattle.tplg_graph.specs.declared.planned.WidgetPlan.{WidgetPlan}
-use Rattle.tplg_graph.specs.Sound.{IsSound, NamesComponent, NamesBuffer, NamesPipeline}
+use Rattle.tplg_plan.specs.declared.plans.Plan.{Plan}
+use Rattle.tplg_plan.specs.declared.plans.WidgetPlan.{WidgetPlan}
+use Rattle.tplg_plan.specs.Sound.{IsSound, NamesComponent, NamesBuffer, NamesPipeline}
 use Rattle.host_widgets.specs.Controls.{control_of}
 use Rattle.host_widgets.specs.Acts.{Make, message_of, kind_words, words_of, comp_message, buffer_message, pipe_message}
 use Rattle.host_widgets.specs.Expected.{stated_bytes}

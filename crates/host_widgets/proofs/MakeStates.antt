@@ -18,12 +18,12 @@ use Rattle.stream_law.specs.State.{FwState, HeapView, RingView}
 use Rattle.stream_law.specs.Placed.{placed}
 use Rattle.stream_law.specs.Ways.{edge_of}
 use Rattle.mbox_link.specs.Step.{format_of, kind_of, first_setting, with_stream, with_piece, with_comp, with_buffer, with_pipe, comp_bytes, buffer_bytes, pipe_bytes, fresh}
-use Rattle.tplg_graph.specs.declared.planned.Plan.{Plan}
-use Rattle.tplg_graph.specs.declared.planned.WidgetPlan.{WidgetPlan}
-use Rattle.tplg_graph.specs.declared.planned.ControlPlan.{ControlPlan}
-use Rattle.tplg_graph.specs.declared.planned.StreamPlan.{StreamPlan}
-use Rattle.tplg_graph.specs.Tokens.{format_number}
-use Rattle.tplg_graph.specs.Sound.{IsSound, Names, NamesComponent, NamesBuffer, NamesPipeline, has_number, host_by, host_of}
+use Rattle.tplg_plan.specs.declared.plans.Plan.{Plan}
+use Rattle.tplg_plan.specs.declared.plans.WidgetPlan.{WidgetPlan}
+use Rattle.tplg_plan.specs.declared.plans.ControlPlan.{ControlPlan}
+use Rattle.tplg_plan.specs.declared.plans.StreamPlan.{StreamPlan}
+use Rattle.tplg_plan.specs.WidgetWords.{format_number}
+use Rattle.tplg_plan.specs.Sound.{IsSound, Names, NamesComponent, NamesBuffer, NamesPipeline, has_number, host_by, host_of}
 use Rattle.host_widgets.specs.HostRecord.{closed}
 use Rattle.host_widgets.specs.Controls.{control_of}
 use Rattle.host_widgets.specs.Acts.{Make, message_of, kind_words, words_of, no_words, comp_message, buffer_message, pipe_message, made_buffer, made_pipe}

@@ -12,8 +12,8 @@ use Rattle.stream_law.specs.State.{FwState, HeapView, RingView}
 use Rattle.stream_law.specs.Ways.{comp_of, edge_of, is_live_phase}
 use Rattle.ipc3_codec.specs.Messages.{IsMessage}
 use Rattle.mbox_link.specs.Step.{fresh, comp_bytes}
-use Rattle.tplg_graph.specs.declared.planned.Plan.{Plan}
-use Rattle.tplg_graph.specs.Sound.{IsSound, host_of}
+use Rattle.tplg_plan.specs.declared.plans.Plan.{Plan}
+use Rattle.tplg_plan.specs.Sound.{IsSound, host_of}
 use Rattle.host_widgets.specs.declared.kept.Record.{Record}
 use Rattle.host_widgets.specs.Acts.{Act, Make, message_of, ids_of, bring_up_acts}
 use Rattle.host_widgets.specs.Expected.{bytes_by, stated_bytes, needed_by, loaded_state}

@@ -7,7 +7,7 @@ use Rattle.sof_base.specs.Holes.{usable_of, fits, carved}
 use Rattle.stream_law.specs.State.{FwState}
 use Rattle.ipc3_codec.specs.Messages.{IsMessage}
 use Rattle.mbox_link.specs.Step.{row, no_memory}
-use Rattle.tplg_graph.specs.declared.planned.Plan.{Plan}
+use Rattle.tplg_plan.specs.declared.plans.Plan.{Plan}
 use Rattle.host_widgets.specs.declared.kept.Record.{Record}
 use Rattle.host_widgets.specs.Acts.{Act, message_of}
 use Rattle.host_widgets.specs.Expected.{needed_by}

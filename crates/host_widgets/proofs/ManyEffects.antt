@@ -8,7 +8,7 @@ use Rattle.mbox_link.specs.Step.{fresh}
 use Rattle.mbox_link.specs.Calls.{World, Meaning, Led, Steady}
 use Rattle.mbox_link.proofs.Led.{Steady-by}
 use Rattle.mbox_link.proofs.Steps.{NoneFell-same, Rose-within}
-use Rattle.tplg_graph.specs.declared.planned.Plan.{Plan}
+use Rattle.tplg_plan.specs.declared.plans.Plan.{Plan}
 use Rattle.host_widgets.specs.declared.answers.HostFault.{HostFault}
 use Rattle.host_widgets.specs.declared.answers.HostFault.TheVariants.{NotLoaded, Loaded, NoSuch, State, Off, Range, Refused, LinkDown, Blob}
 use Rattle.host_widgets.specs.declared.kept.Record.{Record}

@@ -9,8 +9,8 @@ use Rattle.stream_law.specs.declared.graph.Comp.{Comp}
 use Rattle.stream_law.specs.declared.graph.Edge.{Edge}
 use Rattle.stream_law.specs.declared.graph.Pipe.{Pipe}
 use Rattle.stream_law.specs.Ways.{comp_of, edge_of, components, buffers}
-use Rattle.tplg_graph.specs.declared.planned.Plan.{Plan}
-use Rattle.tplg_graph.specs.Sound.{pipe_at, Names, IsComponentOf, IsBufferOf, IsPipelineOf, IsSound}
+use Rattle.tplg_plan.specs.declared.plans.Plan.{Plan}
+use Rattle.tplg_plan.specs.Sound.{pipe_at, Names, IsComponentOf, IsBufferOf, IsPipelineOf, IsSound}
 use Rattle.host_widgets.specs.Acts.{no_words}
 use Rattle.host_widgets.proofs.LookedUp.{found-is, all-found, any-found, each-found, all-below}
 

@@ -1,7 +1,7 @@
 -- Lists of acts that a firmware takes one after the other, in parts.
 use Rattle.std.proofs.Common.{◌≡◌, refl, sym, subst, ◌∙◌, ℕ, List, [], ◌∷◌, ◌++◌}
 use Rattle.stream_law.specs.State.{FwState}
-use Rattle.tplg_graph.specs.declared.planned.Plan.{Plan}
+use Rattle.tplg_plan.specs.declared.plans.Plan.{Plan}
 use Rattle.host_widgets.specs.declared.kept.Record.{Record}
 use Rattle.host_widgets.specs.Acts.{Act, message_of}
 use Rattle.host_widgets.proofs.Effects.{effect, effects, Follows, FollowAll}

@@ -3,9 +3,9 @@ use Rattle.std.proofs.Common.{◌≡◌, sym, subst, refl, ℕ, true, List, [], 
 use Rattle.std.specs.List.{flat_map}
 use Rattle.stream_law.specs.State.{FwState}
 use Rattle.stream_law.specs.declared.graph.Graph.{Graph}
-use Rattle.tplg_graph.specs.declared.planned.Plan.{Plan}
-use Rattle.tplg_graph.specs.declared.planned.ControlPlan.{ControlPlan}
-use Rattle.tplg_graph.specs.Sound.{IsSound}
+use Rattle.tplg_plan.specs.declared.plans.Plan.{Plan}
+use Rattle.tplg_plan.specs.declared.plans.ControlPlan.{ControlPlan}
+use Rattle.tplg_plan.specs.Sound.{IsSound}
 use Rattle.host_widgets.specs.declared.kept.Record.{Record}
 use Rattle.host_widgets.specs.Controls.{has_no_blobs}
 use Rattle.host_widgets.specs.Acts.{Act, Make, ids_of, put_acts, bring_up_acts}

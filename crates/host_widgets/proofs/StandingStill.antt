@@ -8,9 +8,9 @@ use Rattle.stream_law.specs.State.{RingView}
 use Rattle.stream_law.specs.Placed.{HasDistinct}
 use Rattle.stream_law.specs.Ways.{is_live_phase}
 use Rattle.stream_law.proofs.Placing.{Ascends-distinct}
-use Rattle.tplg_graph.specs.declared.planned.Plan.{Plan}
-use Rattle.tplg_graph.specs.declared.planned.StreamPlan.{StreamPlan}
-use Rattle.tplg_graph.specs.Sound.{IsSound}
+use Rattle.tplg_plan.specs.declared.plans.Plan.{Plan}
+use Rattle.tplg_plan.specs.declared.plans.StreamPlan.{StreamPlan}
+use Rattle.tplg_plan.specs.Sound.{IsSound}
 use Rattle.host_widgets.specs.HostRecord.{closed}
 use Rattle.host_widgets.specs.Expected.{stream_view, empty_rings}
 use Rattle.host_widgets.proofs.SilentTicks.{IsStill}

@@ -12,7 +12,7 @@ use Rattle.ipc3_codec.specs.Messages.{message_spelling}
 use Rattle.mbox_link.specs.Calls.{World, Meaning, Call, Exchange, Led}
 use Rattle.mbox_link.proofs.Led.{Led-append}
 use Rattle.mbox_link.proofs.Rooms.{HasRoom-now}
-use Rattle.tplg_graph.specs.declared.planned.Plan.{Plan}
+use Rattle.tplg_plan.specs.declared.plans.Plan.{Plan}
 use Rattle.host_widgets.specs.declared.answers.HostFault.{HostFault}
 use Rattle.host_widgets.specs.Acts.{Act, message_of}
 use Rattle.host_widgets.specs.Host.{Outcome, Sent, verdict, exchanges, Walk, Walked}

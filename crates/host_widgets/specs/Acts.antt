@@ -13,12 +13,12 @@ use Rattle.ipc3_codec.specs.declared.message.Message.{Message}
 use Rattle.ipc3_codec.specs.declared.message.Message.TheVariants.{CompNew, BufferNew, PipeNew, Connect, SetValue, PipeComplete, PcmParams, PcmFree, TrigStart, TrigStop, TrigPause, TrigRelease}
 use Rattle.ipc3_codec.specs.declared.message.CompWords.{CompWords}
 use Rattle.ipc3_codec.specs.declared.message.CompWords.TheVariants as words
-use Rattle.tplg_graph.specs.declared.planned.Plan.{Plan}
-use Rattle.tplg_graph.specs.declared.planned.WidgetPlan.{WidgetPlan}
-use Rattle.tplg_graph.specs.declared.planned.ControlPlan.{ControlPlan}
-use Rattle.tplg_graph.specs.declared.planned.ControlKind.{ControlKind}
-use Rattle.tplg_graph.specs.declared.planned.ControlKind.TheVariants.{Choice, Blob}
-use Rattle.tplg_graph.specs.GainOf.{control_gain}
+use Rattle.tplg_plan.specs.declared.plans.Plan.{Plan}
+use Rattle.tplg_plan.specs.declared.plans.WidgetPlan.{WidgetPlan}
+use Rattle.tplg_plan.specs.declared.plans.ControlPlan.{ControlPlan}
+use Rattle.tplg_plan.specs.declared.plans.ControlKind.{ControlKind}
+use Rattle.tplg_plan.specs.declared.plans.ControlKind.TheVariants.{Choice, Blob}
+use Rattle.tplg_plan.specs.GainOf.{control_gain}
 use Rattle.host_widgets.specs.Controls.{control_of, first_values, first_gains, greatest_value}
 use Rattle.host_widgets.specs.declared.trigger.Trigger.{Trigger}
 use Rattle.host_widgets.specs.declared.trigger.Trigger.TheVariants.{Start, Stop, Pause, Release}

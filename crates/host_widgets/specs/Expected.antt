@@ -11,8 +11,8 @@ use Rattle.stream_law.specs.declared.stream.StreamView.{StreamView}
 use Rattle.stream_law.specs.State.{FwState, View, HeapView, RingView}
 use Rattle.stream_law.specs.Ways.{comp_of, edge_of}
 use Rattle.mbox_link.specs.Step.{comp_bytes, buffer_bytes, pipe_bytes, with_piece, fresh}
-use Rattle.tplg_graph.specs.declared.planned.Plan.{Plan}
-use Rattle.tplg_graph.specs.declared.planned.StreamPlan.{StreamPlan}
+use Rattle.tplg_plan.specs.declared.plans.Plan.{Plan}
+use Rattle.tplg_plan.specs.declared.plans.StreamPlan.{StreamPlan}
 use Rattle.host_widgets.specs.declared.kept.Found.{Found}
 use Rattle.host_widgets.specs.declared.kept.Found.TheVariants.{Prepared, Running, Paused}
 use Rattle.host_widgets.specs.declared.kept.Power.TheVariants.{On}

@@ -16,8 +16,8 @@ use Rattle.ipc3_codec.specs.Replies.{decoded_reply}
 use Rattle.mbox_link.specs.Step.{no_memory, invalid, body_of}
 use Rattle.mbox_link.specs.Exchange.{Rose}
 use Rattle.mbox_link.specs.Calls.{World, Meaning, Call, Boot, Cut, Exchange, Led}
-use Rattle.tplg_graph.specs.declared.planned.Plan.{Plan}
-use Rattle.tplg_graph.specs.declared.planned.StreamPlan.{StreamPlan}
+use Rattle.tplg_plan.specs.declared.plans.Plan.{Plan}
+use Rattle.tplg_plan.specs.declared.plans.StreamPlan.{StreamPlan}
 use Rattle.host_widgets.specs.declared.answers.HostFault.{HostFault}
 use Rattle.host_widgets.specs.declared.answers.HostFault.TheVariants.{NotLoaded, Loaded, Refused, LinkDown}
 use Rattle.host_widgets.specs.declared.kept.Power.{Power}

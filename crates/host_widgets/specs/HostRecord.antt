@@ -3,8 +3,8 @@ use Rattle.std.specs.Prelude.{map, [], Bool, true, false, ◌&&◌, nat_le, Opti
 use Rattle.sof_base.specs.declared.format.Params.{Params}
 use Rattle.mbox_link.specs.Step.{is_rate}
 use Rattle.tplg_model.specs.declared.pcm.Caps.{Caps}
-use Rattle.tplg_graph.specs.declared.planned.Plan.{Plan}
-use Rattle.tplg_graph.specs.declared.planned.StreamPlan.{StreamPlan}
+use Rattle.tplg_plan.specs.declared.plans.Plan.{Plan}
+use Rattle.tplg_plan.specs.declared.plans.StreamPlan.{StreamPlan}
 use Rattle.host_widgets.specs.declared.kept.Found.{Found}
 use Rattle.host_widgets.specs.declared.kept.Found.TheVariants.{Closed, Open, Prepared, Running, Paused}
 use Rattle.host_widgets.specs.declared.kept.Power.{Power}

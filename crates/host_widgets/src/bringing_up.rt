@@ -17,7 +17,7 @@ use crate::sending::send;
 use ipc3_codec::Message;
 use mbox_link::Dsp;
 use sof_io::{Inputs, Outputs};
-use tplg_graph::{ControlKind, ControlPlan, Plan};
+use tplg_plan::{ControlKind, ControlPlan, Plan};
 
 // Makes each widget, by id.
 fn make_widgets<P: Dsp>(

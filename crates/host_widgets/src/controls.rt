@@ -6,7 +6,7 @@ ghost use Rattle.host_widgets.specs.Acts as acts;
 
 use ipc3_codec::{CompWords, Message};
 use sof_base::Bounded;
-use tplg_graph::{ControlKind, ControlPlan, Plan, gain, half_decibels};
+use tplg_plan::{ControlKind, ControlPlan, Plan, gain, half_decibels};
 
 /// The live control of a component, where it has one.
 pub fn control_of(plan: &Plan, comp: u32) -> Option<&ControlPlan>

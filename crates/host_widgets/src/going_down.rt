@@ -8,7 +8,7 @@ use crate::kept::{Found, Power, Record, StreamRec};
 use mbox_link::Dsp;
 use sof_base::Items;
 use sof_io::{Inputs, Outputs};
-use tplg_graph::Plan;
+use tplg_plan::Plan;
 
 // A stream that was running or paused is prepared.
 fn halted_found(found: Found) -> Found

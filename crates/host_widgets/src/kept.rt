@@ -4,7 +4,7 @@ ghost use Rattle.host_widgets.specs.HostRecord.{first_record};
 
 use sof_base::{Items, NoMemory, Params};
 use std::alloc::Global;
-use tplg_graph::Plan;
+use tplg_plan::Plan;
 
 /// Whether a topology is loaded, and if so, whether the device is on.
 #[derive(Clone, Copy, Debug, PartialEq, Eq)]

@@ -12,7 +12,7 @@ use crate::bringing_up::bring_up;
 use crate::kept::{Power, Record};
 use mbox_link::Dsp;
 use sof_io::{Inputs, Outputs};
-use tplg_graph::Plan;
+use tplg_plan::Plan;
 
 // Boots the device and brings it up. A failure cuts it; the record changes only once all has passed.
 fn power_up<P: Dsp>(

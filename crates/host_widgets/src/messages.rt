@@ -7,7 +7,7 @@ ghost use Rattle.host_widgets.specs.Acts as acts;
 use crate::controls::volume_words;
 use ipc3_codec::{CompWords, Message};
 use stream_law::{Comp, Edge, Kind};
-use tplg_graph::{Plan, WidgetPlan};
+use tplg_plan::{Plan, WidgetPlan};
 
 // The words of a component's kind: 0 is playback and 1 is capture.
 fn kind_words(plan: &Plan, id: u32, kind: Kind, words: &WidgetPlan) -> CompWords

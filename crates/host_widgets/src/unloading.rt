@@ -10,7 +10,7 @@ use crate::kept::{Found, Power, Record, StreamRec};
 use mbox_link::Dsp;
 use sof_base::Items;
 use sof_io::{Inputs, Outputs};
-use tplg_graph::Plan;
+use tplg_plan::Plan;
 
 // Every stream is closed.
 fn close_all(streams: &mut Items<StreamRec>)

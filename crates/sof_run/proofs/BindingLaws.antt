@@ -5,7 +5,7 @@ use Rattle.std.specs.List.{list_any}
 use Rattle.std.specs.Option.{option_map_or}
 use Rattle.stream_law.specs.declared.graph.Comp.{Comp}
 use Rattle.std.specs.Str.{bytes_eq}
-use Rattle.tplg_graph.specs.declared.planned.Plan.{Plan}
+use Rattle.tplg_plan.specs.declared.plans.Plan.{Plan}
 use Rattle.sof_script.specs.declared.script.Binding.{Binding}
 use Rattle.sof_script.specs.Commands.{Bound, bound_of, bounds_of}
 use Rattle.sof_run.specs.Bindings.{is_sought, is_bound, is_right, wrong_behind}

@@ -3,7 +3,7 @@ use Rattle.std.proofs.Common.{◌≡◌, ℕ, ◌+◌, ◌<◌, Bool, true, fals
 use Rattle.sof_base.specs.Ports.{OutputView}
 use Rattle.sof_io.specs.Bound.{output_slots, has_slot}
 use Rattle.sof_io.specs.Puts.{with_slot}
-use Rattle.tplg_graph.specs.declared.planned.Plan.{Plan}
+use Rattle.tplg_plan.specs.declared.plans.Plan.{Plan}
 use Rattle.sof_script.specs.declared.script.Binding.{Binding}
 use Rattle.sof_script.specs.Commands.{Bound, bound_of, bounds_of}
 use Rattle.sof_run.specs.Bindings.{has_endpoint, is_bound, wrong_behind, slot_of}

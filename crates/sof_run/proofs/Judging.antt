@@ -11,7 +11,7 @@ use Rattle.tplg_graph.specs.WellFormed.{IsWellFormed}
 use Rattle.tplg_graph.specs.RuleTest.{ruling_of}
 use Rattle.tplg_graph.specs.ThinTest.{thin_test}
 use Rattle.tplg_graph.specs.PlanOf.{plan_of}
-use Rattle.tplg_graph.specs.declared.planned.Plan.{Plan}
+use Rattle.tplg_plan.specs.declared.plans.Plan.{Plan}
 use Rattle.tplg_graph.proofs.RuleTests.{none_whole, some_breaks}
 use Rattle.sof_script.specs.declared.reading.ScriptFault.{ScriptFault}
 use Rattle.sof_script.specs.declared.reading.ScriptFault.TheVariants.{Line}

@@ -6,7 +6,7 @@ use Rattle.sof_io.specs.Bound.{input_slots, output_slots}
 use Rattle.sof_io.specs.Puts.{with_slot}
 use Rattle.sof_io.specs.Takes.{new_input}
 use Rattle.sof_desk.specs.Desk.{DeskMeaning, Create, Loaded, Acted}
-use Rattle.tplg_graph.specs.declared.planned.Plan.{Plan}
+use Rattle.tplg_plan.specs.declared.plans.Plan.{Plan}
 use Rattle.sof_script.specs.declared.script.Binding.{Binding}
 use Rattle.sof_script.specs.Commands.{Bound, bound_of, bounds_of}
 use Rattle.sof_session.specs.Turns.{Turn}

@@ -3,7 +3,7 @@ use Rattle.std.proofs.Common.{◌≡◌, ℕ, Bool, true, false, List, [], None,
 use Rattle.sof_desk.specs.Desk.{DeskMeaning, Loaded}
 use Rattle.host_widgets.specs.declared.answers.Answer.TheVariants as answers
 use Rattle.mbox_link.specs.Calls.{Meaning}
-use Rattle.tplg_graph.specs.declared.planned.Plan.{Plan}
+use Rattle.tplg_plan.specs.declared.plans.Plan.{Plan}
 use Rattle.sof_script.specs.declared.script.Numbered.{Numbered}
 use Rattle.sof_script.specs.Commands.{Read}
 use Rattle.sof_base.specs.Ports.{InputView, OutputView}

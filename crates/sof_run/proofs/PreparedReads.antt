@@ -3,7 +3,7 @@ use Rattle.std.proofs.Common.{◌≡◌, ap, ℕ, Bool, true, false, List, Optio
 use Rattle.tplg_model.specs.declared.fault.TplgFault.{TplgFault}
 use Rattle.tplg_model.specs.declared.block.Topology.{Topology}
 use Rattle.tplg_model.specs.Reading.{topology_of}
-use Rattle.tplg_graph.specs.declared.planned.Plan.{Plan}
+use Rattle.tplg_plan.specs.declared.plans.Plan.{Plan}
 use Rattle.tplg_graph.specs.ThinTest.{thin_test}
 use Rattle.tplg_graph.specs.RuleTest.{ruling_of}
 use Rattle.tplg_graph.specs.PlanOf.{plan_of}

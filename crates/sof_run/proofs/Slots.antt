@@ -12,7 +12,7 @@ use Rattle.sof_io.specs.Bound.{output_slots, has_slot}
 use Rattle.sof_io.specs.Puts.{with_slot}
 use Rattle.sof_io.proofs.OutputLaws.{has_slot-with_slot}
 use Rattle.stream_law.specs.declared.graph.Comp.{Comp}
-use Rattle.tplg_graph.specs.declared.planned.Plan.{Plan}
+use Rattle.tplg_plan.specs.declared.plans.Plan.{Plan}
 use Rattle.sof_script.specs.Commands.{Bound}
 use Rattle.sof_run.specs.Bindings.{is_endpoint, is_named, is_sought, has_endpoint, is_bound, is_right, wrong_behind, slot_of, bound_outputs, bound_slots}
 

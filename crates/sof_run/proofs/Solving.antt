@@ -9,7 +9,7 @@ use Rattle.sof_desk.specs.Desk.{Place, Slot, same_place}
 use Rattle.stream_law.specs.Table.{list_of}
 use Rattle.stream_law.specs.Past.{Moment, Past, start}
 use Rattle.stream_law.specs.Stands.{Stands, HasRead, position_of, left_of}
-use Rattle.tplg_graph.specs.declared.planned.Plan.{Plan}
+use Rattle.tplg_plan.specs.declared.plans.Plan.{Plan}
 use Rattle.host_widgets.specs.Controls.{IsLoadable}
 use Rattle.sof_script.specs.Commands.{Bound}
 use Rattle.sof_script.specs.declared.script.Numbered.{Numbered}

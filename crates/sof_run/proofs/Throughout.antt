@@ -7,7 +7,7 @@ use Rattle.sof_desk.specs.Desk.{Call}
 use Rattle.tplg_model.specs.declared.fault.TplgFault.{TplgFault}
 use Rattle.tplg_model.specs.declared.block.Topology.{Topology}
 use Rattle.tplg_model.specs.Reading.{topology_of}
-use Rattle.tplg_graph.specs.declared.planned.Plan.{Plan}
+use Rattle.tplg_plan.specs.declared.plans.Plan.{Plan}
 use Rattle.tplg_graph.specs.RuleTest.{ruling_of}
 use Rattle.sof_session.specs.Turns.{Turn}
 use Rattle.sof_script.specs.Commands.{Bound}

@@ -6,7 +6,7 @@ use Rattle.sof_base.specs.Ports.{InputView, OutputView}
 use Rattle.sof_io.specs.Puts.{with_slot}
 use Rattle.sof_io.specs.Takes.{new_input}
 use Rattle.sof_desk.specs.Desk.{Put, Slot, Spoken, Load, Did}
-use Rattle.tplg_graph.specs.declared.planned.Plan.{Plan}
+use Rattle.tplg_plan.specs.declared.plans.Plan.{Plan}
 use Rattle.sof_script.specs.Commands.{Bound, Read}
 use Rattle.sof_session.specs.Walks.{Stand, Written, Carry, next}
 use Rattle.sof_run.specs.Words.{Form}

@@ -5,7 +5,7 @@ use Rattle.sof_io.specs.Bound.{output_slots}
 use Rattle.sof_io.specs.Puts.{with_slot}
 use Rattle.sof_io.proofs.OutputLaws.{has_slot-with_slot}
 use Rattle.sof_desk.specs.Desk.{DeskMeaning, Place, Slot, Spoken, Create, Call, Load, Did, Led, Acted, same_place, with_more, emptied}
-use Rattle.tplg_graph.specs.declared.planned.Plan.{Plan}
+use Rattle.tplg_plan.specs.declared.plans.Plan.{Plan}
 use Rattle.sof_script.specs.Commands.{Bound}
 use Rattle.sof_session.specs.Moments.{is_slot}
 use Rattle.sof_session.specs.Walks.{Stand}

@@ -7,7 +7,7 @@ use Rattle.sof_base.specs.Ports.{InputView, OutputView}
 use Rattle.stream_law.specs.declared.graph.Comp.{Comp}
 use Rattle.stream_law.specs.declared.graph.Kind.{Kind}
 use Rattle.stream_law.specs.declared.graph.Kind.TheVariants.{HostPlay, HostCapture, DaiPlay, DaiCapture}
-use Rattle.tplg_graph.specs.declared.planned.Plan.{Plan}
+use Rattle.tplg_plan.specs.declared.plans.Plan.{Plan}
 use Rattle.sof_io.specs.Bound.{output_slots}
 use Rattle.sof_io.specs.Puts.{with_slot}
 use Rattle.sof_io.specs.Takes.{new_input}

@@ -4,7 +4,7 @@ use Rattle.std.specs.Option.{option_map_or}
 use Rattle.sof_base.specs.Ports.{InputView}
 use Rattle.sof_desk.specs.Desk.{DeskMeaning, Place, Put, Slot, Spoken, Did, same_place, with_more, emptied}
 use Rattle.stream_law.specs.Past.{Moment}
-use Rattle.tplg_graph.specs.declared.planned.Plan.{Plan}
+use Rattle.tplg_plan.specs.declared.plans.Plan.{Plan}
 use Rattle.sof_script.specs.declared.script.Command.{Command}
 use Rattle.sof_script.specs.declared.script.Numbered.{Numbered}
 use Rattle.sof_session.specs.Moments.{command_moments, is_slot}

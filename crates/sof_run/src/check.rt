@@ -1,7 +1,7 @@
 // All of `check`.
 ghost use Rattle.std.specs.Prelude.{◌≡◌, ◌≤◌, ◌++◌, [], ◌∷◌, length, decimal, is_ok, Ok, MatchResult};
 ghost use Rattle.tplg_model.specs.declared.block.Topology.{Topology};
-ghost use Rattle.tplg_graph.specs.Needed.{IsSmall, need_on};
+ghost use Rattle.tplg_plan.specs.HeapNeed.{IsSmall, need_on};
 ghost use Rattle.sof_run.specs.Todo.{DeskPhase, Played};
 ghost use Rattle.sof_run.specs.Play.{lines_todo, with_newline};
 ghost use Rattle.sof_run.specs.Halts.{HaltsAtCheck};

@@ -3,7 +3,8 @@ ghost use Rattle.std.specs.Prelude.{◌≡◌, ◌<◌, ◌-◌, ◌^◌, ◌==�
 ghost use Rattle.tplg_model.specs.Reading.{topology_of};
 ghost use Rattle.tplg_graph.specs.RuleTest.{ruling_of};
 ghost use Rattle.tplg_graph.specs.ThinTest.{thin_test};
-ghost use Rattle.tplg_graph.specs.Needed.{IsSmall, need_on, need_of};
+ghost use Rattle.tplg_plan.specs.HeapNeed.{IsSmall, need_on};
+ghost use Rattle.tplg_graph.specs.Needed.{need_of};
 ghost use Rattle.tplg_graph.specs.PlanOf.{plan_of};
 ghost use Rattle.host_widgets.specs.Controls.{first_blob, has_no_blobs};
 ghost use Rattle.sof_script.specs.Commands.{told};

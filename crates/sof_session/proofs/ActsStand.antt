@@ -16,8 +16,8 @@ use Rattle.stream_law.specs.Stays.{HasParams, KeepsParams, KeepsShape}
 use Rattle.stream_law.proofs.SeenLaws.{seen-sees}
 use Rattle.stream_law.proofs.Shapes.{live-stays}
 use Rattle.stream_law.proofs.Standing.{Stands-now}
-use Rattle.tplg_graph.specs.declared.planned.Plan.{Plan}
-use Rattle.tplg_graph.specs.ThinPlan.{IsThinPlan, thin_graph}
+use Rattle.tplg_plan.specs.declared.plans.Plan.{Plan}
+use Rattle.tplg_plan.specs.ThinPlan.{IsThinPlan, thin_graph}
 use Rattle.host_widgets.specs.declared.kept.Found.{Found}
 use Rattle.host_widgets.specs.declared.kept.Found.TheVariants.{Closed, Open, Prepared, Running, Paused, On as Found_On}
 use Rattle.host_widgets.specs.declared.kept.Power.{Power}

@@ -7,7 +7,7 @@ use Rattle.mbox_link.specs.Calls.{World, Meaning, Call, Led, Steady}
 use Rattle.mbox_link.specs.Wire.{Wire}
 use Rattle.mbox_link.specs.Link.{link}
 use Rattle.mbox_link.proofs.Led.{Led-steady}
-use Rattle.tplg_graph.specs.declared.planned.Plan.{Plan}
+use Rattle.tplg_plan.specs.declared.plans.Plan.{Plan}
 use Rattle.host_widgets.specs.Controls.{IsLoadable}
 use Rattle.host_widgets.specs.declared.answers.HostFault.TheVariants.{NotLoaded, Loaded, NoSuch, State, Off, Range, Refused, LinkDown, Blob}
 use Rattle.host_widgets.specs.declared.kept.Power.{Power}

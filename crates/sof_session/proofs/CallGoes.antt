@@ -8,8 +8,8 @@ use Rattle.stream_law.specs.State.{FwState}
 use Rattle.stream_law.specs.Past.{Moment, Cut}
 use Rattle.stream_law.specs.Stands.{Stands}
 use Rattle.mbox_link.specs.declared.fates.Entry.{Entry}
-use Rattle.tplg_graph.specs.declared.planned.Plan.{Plan}
-use Rattle.tplg_graph.specs.ThinPlan.{IsThinPlan}
+use Rattle.tplg_plan.specs.declared.plans.Plan.{Plan}
+use Rattle.tplg_plan.specs.ThinPlan.{IsThinPlan}
 use Rattle.host_widgets.specs.declared.answers.HostFault.{HostFault}
 use Rattle.host_widgets.specs.declared.answers.HostFault.TheVariants.{LinkDown, NoSuch}
 use Rattle.host_widgets.specs.declared.answers.Answer.TheVariants.{Fault}

@@ -1,6 +1,6 @@
 -- How many acts a command has at most.
 use Rattle.std.proofs.Common.{ℕ, ◌≤◌, List, length, arith}
-use Rattle.tplg_graph.specs.declared.planned.Plan.{Plan}
+use Rattle.tplg_plan.specs.declared.plans.Plan.{Plan}
 use Rattle.host_widgets.specs.declared.kept.Found.{Found}
 use Rattle.host_widgets.specs.declared.kept.Found.TheVariants as founds
 use Rattle.host_widgets.specs.declared.kept.Power.{Power}

@@ -9,8 +9,8 @@ use Rattle.stream_law.specs.Table.{list_of}
 use Rattle.stream_law.specs.Ways.{live, components, buffers}
 use Rattle.stream_law.specs.Seen.{seen, ring_seen, equalises, history_seen}
 use Rattle.stream_law.specs.Move.{Audio, state_after}
-use Rattle.tplg_graph.specs.declared.planned.Plan.{Plan}
-use Rattle.tplg_graph.specs.ThinPlan.{IsThinPlan, thin_graph}
+use Rattle.tplg_plan.specs.declared.plans.Plan.{Plan}
+use Rattle.tplg_plan.specs.ThinPlan.{IsThinPlan, thin_graph}
 use Rattle.mbox_link.specs.Step.{with_comps}
 use Rattle.host_widgets.specs.Controls.{set_comp, set_graph}
 use Rattle.host_widgets.specs.declared.kept.Power.TheVariants.{On}

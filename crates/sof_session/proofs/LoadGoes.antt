@@ -5,7 +5,7 @@ use Rattle.stream_law.specs.Past.{Moment, Boot, Now}
 use Rattle.stream_law.specs.Stands.{Stands}
 use Rattle.mbox_link.specs.declared.fates.Entry.{Entry}
 use Rattle.mbox_link.specs.Exchange.{more}
-use Rattle.tplg_graph.specs.declared.planned.Plan.{Plan}
+use Rattle.tplg_plan.specs.declared.plans.Plan.{Plan}
 use Rattle.host_widgets.specs.declared.answers.HostFault.{HostFault}
 use Rattle.host_widgets.specs.declared.answers.HostFault.TheVariants.{Refused, LinkDown, Loaded}
 use Rattle.host_widgets.specs.declared.answers.Answer.TheVariants.{Fault}

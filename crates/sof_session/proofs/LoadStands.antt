@@ -12,7 +12,7 @@ use Rattle.stream_law.specs.Stands.{Stands, StandsBuilding, Reads, SeesSilent, S
 use Rattle.stream_law.proofs.Standing.{Stands-boot, Stands-cut, Stands-reads}
 use Rattle.stream_law.proofs.Building.{Stands-building, Stands-now_building, Stands-built}
 use Rattle.mbox_link.specs.Step.{fresh}
-use Rattle.tplg_graph.specs.declared.planned.Plan.{Plan}
+use Rattle.tplg_plan.specs.declared.plans.Plan.{Plan}
 use Rattle.host_widgets.specs.declared.kept.Power.TheVariants.{Unloaded}
 use Rattle.host_widgets.specs.HostRecord.{first_record}
 use Rattle.host_widgets.specs.Expected.{expected_view, loaded_state}

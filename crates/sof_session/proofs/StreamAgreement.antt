@@ -7,7 +7,7 @@ use Rattle.mbox_link.specs.Calls.{World, Meaning}
 use Rattle.mbox_link.specs.Wire.{Wire}
 use Rattle.mbox_link.specs.Link.{link}
 use Rattle.mbox_link.proofs.Led.{Led-steady}
-use Rattle.tplg_graph.specs.ThinPlan.{IsThinPlan}
+use Rattle.tplg_plan.specs.ThinPlan.{IsThinPlan}
 use Rattle.host_widgets.specs.declared.kept.Power.{Power}
 use Rattle.host_widgets.specs.declared.kept.Power.TheVariants.{Unloaded, On, Off}
 use Rattle.host_widgets.specs.declared.kept.Record.{Record}

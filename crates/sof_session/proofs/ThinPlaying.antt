@@ -12,8 +12,8 @@ use Rattle.stream_law.specs.Joins.{fits_kind}
 use Rattle.stream_law.specs.Order.{is_among, order}
 use Rattle.stream_law.specs.Walks.{HasAll, HasEnds}
 use Rattle.stream_law.specs.Stands.{IsPlayable}
-use Rattle.tplg_graph.specs.declared.planned.Plan.{Plan}
-use Rattle.tplg_graph.specs.ThinPlan.{IsThinPlan, thin_graph}
+use Rattle.tplg_plan.specs.declared.plans.Plan.{Plan}
+use Rattle.tplg_plan.specs.ThinPlan.{IsThinPlan, thin_graph}
 use Rattle.mbox_link.specs.Step.{with_comps}
 use Rattle.host_widgets.specs.Controls.{set_comp, set_graph}
 

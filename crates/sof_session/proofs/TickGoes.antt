@@ -8,7 +8,7 @@ use Rattle.stream_law.specs.Past.{Moment, Tick}
 use Rattle.stream_law.specs.Move.{Move, audio_after, state_after, io_after}
 use Rattle.stream_law.specs.Stands.{Stands, IsPlayable}
 use Rattle.stream_law.proofs.TickLaw.{Stands-tick, bytes-tick}
-use Rattle.tplg_graph.specs.ThinPlan.{IsThinPlan}
+use Rattle.tplg_plan.specs.ThinPlan.{IsThinPlan}
 use Rattle.host_widgets.specs.declared.kept.Power.{Power}
 use Rattle.host_widgets.specs.declared.kept.Power.TheVariants.{Unloaded, On, Off}
 use Rattle.host_widgets.specs.declared.answers.Answer.TheVariants.{Done}

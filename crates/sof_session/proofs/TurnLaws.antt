@@ -5,7 +5,7 @@ use Rattle.stream_law.specs.State.{FwState}
 use Rattle.mbox_link.specs.Exchange.{NoneFell}
 use Rattle.mbox_link.specs.Calls.{Meaning}
 use Rattle.mbox_link.proofs.Steps.{NoneFell-same, NoneFell-by, Rose-within}
-use Rattle.tplg_graph.specs.declared.planned.Plan.{Plan}
+use Rattle.tplg_plan.specs.declared.plans.Plan.{Plan}
 use Rattle.host_widgets.specs.declared.answers.Answer.TheVariants.{Done}
 use Rattle.sof_session.specs.Seat.{new_seat}
 use Rattle.sof_session.specs.Walks.{Begin, first_host, stand, silent}

@@ -8,7 +8,7 @@ use Rattle.mbox_link.specs.Calls.{World, Meaning}
 use Rattle.mbox_link.proofs.Steps.{NoneFell-same}
 use Rattle.mbox_link.specs.Wire.{Wire}
 use Rattle.mbox_link.specs.Link.{link}
-use Rattle.tplg_graph.specs.declared.planned.Plan.{Plan}
+use Rattle.tplg_plan.specs.declared.plans.Plan.{Plan}
 use Rattle.host_widgets.specs.declared.answers.Answer.{Answer}
 use Rattle.host_widgets.specs.declared.answers.Answer.TheVariants.{Fault, Show}
 use Rattle.host_widgets.specs.declared.answers.HostFault.TheVariants.{Loaded}

@@ -3,7 +3,7 @@ use Rattle.std.proofs.Common.{◌≡◌, refl, ap, ℕ, suc, List, [], ◌∷◌
 use Rattle.mbox_link.specs.declared.fates.Entry.{Entry}
 use Rattle.mbox_link.specs.Fates.{planned, without}
 use Rattle.mbox_link.specs.Exchange.{more}
-use Rattle.tplg_graph.specs.declared.planned.Plan.{Plan}
+use Rattle.tplg_plan.specs.declared.plans.Plan.{Plan}
 use Rattle.host_widgets.specs.declared.kept.Record.{Record}
 use Rattle.host_widgets.specs.Acts.{Act}
 use Rattle.host_widgets.specs.Host.{Outcome, own}

@@ -5,7 +5,7 @@ use Rattle.stream_law.specs.State.{FwState}
 use Rattle.stream_law.specs.Table.{list_of}
 use Rattle.stream_law.specs.Past.{Moment, Boot, Cut, Now, Tick}
 use Rattle.stream_law.specs.Stands.{Stands}
-use Rattle.tplg_graph.specs.declared.planned.Plan.{Plan}
+use Rattle.tplg_plan.specs.declared.plans.Plan.{Plan}
 use Rattle.host_widgets.specs.declared.answers.HostFault.{HostFault}
 use Rattle.host_widgets.specs.declared.answers.HostFault.TheVariants.{LinkDown}
 use Rattle.host_widgets.specs.declared.kept.Power.{Power}

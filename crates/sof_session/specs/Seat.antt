@@ -1,7 +1,7 @@
 -- A session as a value.
 use Rattle.std.specs.Prelude.{ℕ}
 use Rattle.mbox_link.specs.Wire.{Wire, new_link}
-use Rattle.tplg_graph.specs.declared.planned.Plan.{Plan}
+use Rattle.tplg_plan.specs.declared.plans.Plan.{Plan}
 use Rattle.host_widgets.specs.declared.kept.Record.{Record}
 use Rattle.host_widgets.specs.HostRecord.{first_record}
 

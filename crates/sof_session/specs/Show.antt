@@ -10,8 +10,8 @@ use Rattle.stream_law.specs.declared.graph.Comp.{Comp}
 use Rattle.stream_law.specs.declared.graph.Edge.{Edge}
 use Rattle.stream_law.specs.declared.graph.Pipe.{Pipe}
 use Rattle.stream_law.specs.Ways.{comp_of, edge_of}
-use Rattle.tplg_graph.specs.declared.planned.Plan.{Plan}
-use Rattle.tplg_graph.specs.declared.planned.StreamPlan.{StreamPlan}
+use Rattle.tplg_plan.specs.declared.plans.Plan.{Plan}
+use Rattle.tplg_plan.specs.declared.plans.StreamPlan.{StreamPlan}
 use Rattle.host_widgets.specs.declared.kept.Power.{Power}
 use Rattle.host_widgets.specs.declared.kept.Power.TheVariants.{Unloaded, On, Off}
 use Rattle.host_widgets.specs.declared.kept.Found.{Found}
@@ -19,9 +19,9 @@ use Rattle.host_widgets.specs.declared.kept.Found.TheVariants.{Closed, Open, Pre
 use Rattle.host_widgets.specs.declared.kept.Found.TheVariants as founds
 use Rattle.host_widgets.specs.declared.kept.StreamRec.{StreamRec}
 use Rattle.host_widgets.specs.declared.kept.Record.{Record}
-use Rattle.tplg_graph.specs.declared.planned.ControlPlan.{ControlPlan}
-use Rattle.tplg_graph.specs.declared.planned.ControlKind.{ControlKind}
-use Rattle.tplg_graph.specs.declared.planned.ControlKind.TheVariants.{Blob}
+use Rattle.tplg_plan.specs.declared.plans.ControlPlan.{ControlPlan}
+use Rattle.tplg_plan.specs.declared.plans.ControlKind.{ControlKind}
+use Rattle.tplg_plan.specs.declared.plans.ControlKind.TheVariants.{Blob}
 use Rattle.host_widgets.specs.Controls.{first_values}
 use Rattle.host_widgets.specs.Acts.{ids_of, pipe_by_id}
 use Rattle.sof_script.specs.Text.{values_words, bytes_word}

@@ -11,7 +11,7 @@ use Rattle.mbox_link.specs.declared.fates.Fate.TheVariants as fates
 use Rattle.mbox_link.specs.declared.fates.PlanFull.{PlanFull}
 use Rattle.mbox_link.specs.Fates.{AllMeant}
 use Rattle.mbox_link.specs.Link.{link, Planned}
-use Rattle.tplg_graph.specs.declared.planned.Plan.{Plan}
+use Rattle.tplg_plan.specs.declared.plans.Plan.{Plan}
 use Rattle.host_widgets.specs.declared.answers.Answer.{Answer}
 use Rattle.host_widgets.specs.declared.answers.Answer.TheVariants as answers
 use Rattle.host_widgets.specs.declared.kept.Power.{Power}

@@ -2,7 +2,7 @@
 ghost use Rattle.std.specs.Prelude.{◌≡◌, ◌+◌, ◌<◌, ◌≤◌, ◌^◌, [], true, false, length, MatchResult};
 ghost use Rattle.sof_base.specs.Ports.{Io, HasRoom, drained};
 ghost use Rattle.mbox_link.specs.Fates.{IsMeant};
-ghost use Rattle.tplg_graph.specs.ThinPlan.{IsThinPlan};
+ghost use Rattle.tplg_plan.specs.ThinPlan.{IsThinPlan};
 ghost use Rattle.host_widgets.specs.Controls.{IsLoadable};
 ghost use Rattle.sof_session.specs.Seat.{new_seat};
 ghost use Rattle.sof_session.specs.Show.{show_lines, IsLineAt};
@@ -20,7 +20,7 @@ use sof_io::{Inputs, Outputs};
 use sof_script::{Command, Line};
 use std::alloc::Global;
 use std::marker::Model;
-use tplg_graph::Plan;
+use tplg_plan::Plan;
 
 // What a call answers that answers nothing else once it is done.
 fn answer_of(done: Result<(), HostFault>) -> Answer

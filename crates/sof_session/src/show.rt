@@ -10,7 +10,7 @@ use crate::words::{say_end, say_format, say_found, say_kind, say_params, write_p
 use host_widgets::{Power, Record, StreamRec, first_values};
 use sof_script::{Line, say_values};
 use stream_law::{Comp, Edge, Pipe};
-use tplg_graph::{ControlKind, ControlPlan, Plan, StreamPlan};
+use tplg_plan::{ControlKind, ControlPlan, Plan, StreamPlan};
 
 // The name of a widget; empty where there is none of this id.
 fn name_of(plan: &Plan, id: u32) -> &[u8]

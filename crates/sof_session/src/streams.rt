@@ -2,7 +2,7 @@
 ghost use Rattle.std.specs.Prelude.{◌≤◌, ◌*◌};
 ghost use Rattle.sof_base.specs.Ports.{HasRoom};
 ghost use Rattle.mbox_link.specs.Calls.{world};
-ghost use Rattle.tplg_graph.specs.ThinPlan.{IsThinPlan};
+ghost use Rattle.tplg_plan.specs.ThinPlan.{IsThinPlan};
 ghost use Rattle.host_widgets.specs.Host.{Agrees};
 ghost use Rattle.host_pcm.specs.Carried.{Asked};
 
@@ -11,7 +11,7 @@ use host_widgets::{HostFault, Record, Trigger};
 use mbox_link::Dsp;
 use sof_base::Name44;
 use sof_io::{Inputs, Outputs};
-use tplg_graph::Plan;
+use tplg_plan::Plan;
 
 /// Makes the host's call for what is asked of the stream of this name. Its answers are those of that call.
 pub fn ask_stream<P: Dsp>(

@@ -20,7 +20,8 @@ use Rattle.tplg_graph.specs.declared.tokens.FormatToken.{FormatToken}
 use Rattle.tplg_graph.specs.Entries.{is_interpreted, is_buffer, is_buffer_role, is_scheduler, is_scheduler_role, interpreted}
 use Rattle.tplg_graph.specs.Ends.{end_of}
 use Rattle.tplg_graph.specs.Lists.{kind_of, component_of, edge_of, pipe_of, component_end, is_sink, route_in, route_out}
-use Rattle.tplg_graph.specs.Needed.{stated_size, needed_by, component_size, components_need, edges_need, need_on}
+use Rattle.tplg_plan.specs.HeapNeed.{component_size, components_need, edges_need, need_on}
+use Rattle.tplg_graph.specs.Needed.{stated_size, needed_by}
 use Rattle.tplg_graph.specs.PlanOf.{graph_on}
 use Rattle.tplg_graph.specs.Rules.{HoldsAll}
 use Rattle.tplg_graph.specs.Table.{is_component_end, scheds_rule}

@@ -14,7 +14,7 @@ use Rattle.tplg_graph.specs.Lists.{kind_of, component_of, edge_of, pipe_of, comp
 use Rattle.tplg_graph.specs.Rules.{HoldsAll, AllHold}
 use Rattle.tplg_graph.specs.Table.{counts_rule}
 use Rattle.tplg_graph.specs.PlanOf.{graph_on}
-use Rattle.tplg_graph.specs.Needed.{IsSmall}
+use Rattle.tplg_plan.specs.HeapNeed.{IsSmall}
 use Rattle.tplg_graph.proofs.Indexed.{by-index, length-indexed}
 
 pub cond-none : {Y : Type 0} (b : Bool) (o : Option Y) → b ≡ false → cond b o None ≡ None

@@ -10,14 +10,14 @@ use Rattle.tplg_graph.specs.declared.entry.Role.{Role}
 use Rattle.tplg_graph.specs.declared.entry.Role.TheVariants.{HostPlay, HostCapture, Dai, Volume, Mixer, Mux, Eq, Buffer, Scheduler}
 use Rattle.tplg_graph.specs.declared.entry.Entry.{Entry}
 use Rattle.tplg_graph.specs.declared.pcm_caps.PcmCaps.{PcmCaps}
-use Rattle.tplg_graph.specs.declared.planned.StreamPlan.{StreamPlan}
+use Rattle.tplg_plan.specs.declared.plans.StreamPlan.{StreamPlan}
 use Rattle.tplg_graph.specs.declared.tokens.FormatToken.{FormatToken}
 use Rattle.tplg_graph.specs.Entries.{is_host_play_role, is_host_capture_role, interpreted}
 use Rattle.tplg_graph.specs.PcmList.{is_side_of, side}
 use Rattle.tplg_graph.specs.Lists.{kind_of, is_sink, component_of, component_at, components_on, stream_of, stream_at, streams_on}
 use Rattle.tplg_graph.specs.Rules.{HoldsAll}
 use Rattle.tplg_graph.specs.Table.{is_host, has_pcm, hosts_rule}
-use Rattle.tplg_graph.specs.Sound.{host_of}
+use Rattle.tplg_plan.specs.Sound.{host_of}
 use Rattle.tplg_graph.proofs.Interpreted.{of-interpreted, weaker, or-front}
 use Rattle.tplg_graph.proofs.KeyedLists.{passes-at}
 use Rattle.tplg_graph.proofs.ThinLaw.{caps-found}

@@ -19,7 +19,6 @@ pub mod JoinedWalks
 pub mod PlanLaws
 pub mod Leading
 pub mod RuleTests
-pub mod Gains
 pub mod Known
 pub mod KeyedLists
 pub mod ByIds
@@ -29,4 +28,5 @@ pub mod FittingKinds
 pub mod DistinctIndices
 pub mod HostStreams
 pub mod LiveKinds
+pub mod Pipelines
 pub mod Soundness

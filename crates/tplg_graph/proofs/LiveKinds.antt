@@ -18,9 +18,9 @@ use Rattle.tplg_graph.specs.declared.entry.Entry.{Entry}
 use Rattle.tplg_graph.specs.declared.live_control.LiveControl.{LiveControl}
 use Rattle.tplg_graph.specs.declared.live_control.LiveControl.TheVariants as live
 use Rattle.tplg_graph.specs.declared.pcm_caps.PcmCaps.{PcmCaps}
-use Rattle.tplg_graph.specs.declared.planned.ControlPlan.{ControlPlan}
-use Rattle.tplg_graph.specs.declared.planned.ControlKind.{ControlKind}
-use Rattle.tplg_graph.specs.declared.planned.ControlKind.TheVariants as control_is
+use Rattle.tplg_plan.specs.declared.plans.ControlPlan.{ControlPlan}
+use Rattle.tplg_plan.specs.declared.plans.ControlKind.{ControlKind}
+use Rattle.tplg_plan.specs.declared.plans.ControlKind.TheVariants as control_is
 use Rattle.tplg_graph.specs.declared.tokens.FormatToken.{FormatToken}
 use Rattle.tplg_graph.specs.Entries.{is_interpreted, is_equaliser, is_component_role, has_control, role_of, entry_of, entries_in, entries_of, widgets_in, interpreted}
 use Rattle.tplg_graph.specs.LiveControls.{live_of}
@@ -28,7 +28,7 @@ use Rattle.tplg_graph.specs.ControlRanges.{is_control, in_range}
 use Rattle.tplg_graph.specs.Lists.{kind_of, is_sink, kind_in, control_of, control_at, controls_on}
 use Rattle.tplg_graph.specs.Rules.{HoldsAll}
 use Rattle.tplg_graph.specs.Table.{is_known_process, controls_rule, counts_rule}
-use Rattle.tplg_graph.specs.Sound.{IsControlOf, IsLive}
+use Rattle.tplg_plan.specs.Sound.{IsControlOf, IsLive}
 use Rattle.tplg_graph.proofs.Indexed.{by-index, length-indexed}
 use Rattle.tplg_graph.proofs.Interpreted.{all-filter}
 use Rattle.tplg_graph.proofs.KeyedLists.{IsKeyed, all-made, passes-at}

@@ -14,18 +14,20 @@ use Rattle.stream_law.specs.Ways.{comp_of, edge_of}
 use Rattle.tplg_graph.specs.declared.entry.Role.{Role}
 use Rattle.tplg_graph.specs.declared.entry.Role.TheVariants.{HostPlay, HostCapture, Dai, Volume, Mixer, Mux, Eq, Buffer, Scheduler}
 use Rattle.tplg_graph.specs.declared.entry.Entry.{Entry}
-use Rattle.tplg_graph.specs.declared.planned.WidgetPlan.{WidgetPlan}
+use Rattle.tplg_plan.specs.declared.plans.WidgetPlan.{WidgetPlan}
 use Rattle.tplg_graph.specs.declared.tokens.FormatToken.{FormatToken}
 use Rattle.tplg_graph.specs.Entries.{is_interpreted, is_buffer, is_scheduler, is_component, is_buffer_role, is_scheduler_role, is_component_role, interpreted}
 use Rattle.tplg_graph.specs.Ends.{end_of}
 use Rattle.tplg_graph.specs.Lists.{kind_of, is_sink, component_of, component_at, route_in, route_out, edge_at, component_end, pipe_of, pipe_at, widget_plan, widgets_on}
 use Rattle.tplg_graph.specs.Lists as made
-use Rattle.tplg_graph.specs.Tokens.{format_of, format_number}
+use Rattle.tplg_graph.specs.Tokens.{format_of}
+use Rattle.tplg_plan.specs.WidgetWords.{format_number}
 use Rattle.tplg_graph.specs.Rules.{HoldsAll}
-use Rattle.tplg_graph.specs.Table.{is_passed, ins_of, outs_of, is_period, is_component_end, is_size, buffers_rule, scheds_rule, periods_rule, sizes_rule}
+use Rattle.tplg_graph.specs.Table.{is_passed, ins_of, outs_of, is_component_end, is_size, buffers_rule, scheds_rule, periods_rule, sizes_rule}
+use Rattle.tplg_plan.specs.Ranges.{is_period}
 use Rattle.tplg_graph.specs.PlanOf.{graph_on}
-use Rattle.tplg_graph.specs.Sound as sound
-use Rattle.tplg_graph.specs.Sound.{has_number, IsComponentOf, IsBufferOf, IsPipelineOf, Names}
+use Rattle.tplg_plan.specs.Sound as sound
+use Rattle.tplg_plan.specs.Sound.{has_number, IsComponentOf, IsBufferOf, IsPipelineOf, Names}
 use Rattle.tplg_graph.proofs.KeyedLists.{by-key, passes-at, some-first}
 use Rattle.tplg_graph.proofs.ByIds.{of-component, made_edge, keyed-components, keyed-edges, keyed-pipes, nothing-past, at-id, implied}
 use Rattle.tplg_graph.proofs.GraphSize.{cond-none, no-kind}

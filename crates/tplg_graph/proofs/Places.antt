@@ -10,7 +10,7 @@ use Rattle.std.proofs.lemmas.Option.{slice_get_cases}
 use Rattle.tplg_graph.specs.declared.entry.Entry.{Entry}
 use Rattle.tplg_graph.specs.Entries.{is_interpreted}
 use Rattle.tplg_graph.specs.Names.{is_named}
-use Rattle.tplg_graph.specs.Printable.{is_widget_name}
+use Rattle.tplg_plan.specs.Printable.{is_widget_name}
 use Rattle.tplg_graph.specs.Table.{is_number, at, name_at, name_holds}
 
 -- a place that passes is the first where none before it passes

@@ -1,7 +1,7 @@
 -- What a plan and a fault say of a topology.
 use Rattle.std.proofs.Common.{◌≡◌, refl, sym, subst, ℕ, suc, List, All, Result, Ok, Err, OnOk, IfOk, IfErr, inl, inr}
 use Rattle.tplg_model.specs.declared.block.Topology.{Topology}
-use Rattle.tplg_graph.specs.declared.planned.Plan.{Plan}
+use Rattle.tplg_plan.specs.declared.plans.Plan.{Plan}
 use Rattle.tplg_graph.specs.declared.plan_fault.PlanFault.{PlanFault}
 use Rattle.tplg_graph.specs.declared.plan_fault.PlanFault.TheVariants as fault
 use Rattle.stream_law.specs.Ways.{components}
@@ -12,10 +12,12 @@ use Rattle.tplg_graph.specs.Lists.{joins_of}
 use Rattle.tplg_graph.specs.Rules.{AllHold, BreaksOf}
 use Rattle.tplg_graph.specs.Rules.{Rule as A_rule}
 use Rattle.tplg_graph.specs.PlanOf.{plan_of}
-use Rattle.tplg_graph.specs.Needed.{IsSmall, need_on, need_of}
+use Rattle.tplg_plan.specs.HeapNeed.{IsSmall, need_on}
+use Rattle.tplg_graph.specs.Needed.{need_of}
 use Rattle.tplg_graph.specs.Cycles.{Reaches, IsOrderable, IsAcyclic}
 use Rattle.tplg_graph.specs.Thin.{IsThin}
-use Rattle.tplg_graph.specs.ThinPlan.{IsThinPlan, FitsWords}
+use Rattle.tplg_plan.specs.ThinPlan.{IsThinPlan}
+use Rattle.tplg_plan.specs.WidgetWords.{FitsWords}
 use Rattle.tplg_graph.specs.WellFormed.{IsWellFormed, IsFaultOf, Tells}
 use Rattle.tplg_graph.proofs.RuleLaws.{none_breaks, one_breaks}
 use Rattle.tplg_graph.proofs.GraphSize.{small}

@@ -5,15 +5,15 @@ use Rattle.std.proofs.lemmas.Bool.{and_parts, and_from}
 use Rattle.std.proofs.lemmas.Option.{slice_get_within, get_or_from_slice_get}
 use Rattle.tplg_model.specs.declared.block.Topology.{Topology}
 use Rattle.tplg_graph.specs.declared.entry.Entry.{Entry}
-use Rattle.tplg_graph.specs.declared.planned.Plan.{Plan}
+use Rattle.tplg_plan.specs.declared.plans.Plan.{Plan}
 use Rattle.tplg_graph.specs.declared.plan_fault.PlanFault.{PlanFault}
 use Rattle.tplg_graph.specs.Entries.{is_interpreted, entries_of, interpreted}
 use Rattle.tplg_graph.specs.Lists.{joins_of, components_on, edges_on, pipes_on, component_at, edge_at, pipe_at, control_at, names_on, widgets_on}
 use Rattle.tplg_graph.specs.PcmList.{pcms_of}
 use Rattle.tplg_graph.specs.PlanOf.{plan_of}
-use Rattle.tplg_graph.specs.Printable.{is_widget_name}
-use Rattle.tplg_graph.specs.Sound.{IsSound}
-use Rattle.tplg_graph.specs.ThinPlan.{FitsWords}
+use Rattle.tplg_plan.specs.Printable.{is_widget_name}
+use Rattle.tplg_plan.specs.Sound.{IsSound}
+use Rattle.tplg_plan.specs.WidgetWords.{FitsWords}
 use Rattle.tplg_graph.specs.WellFormed.{IsWellFormed}
 use Rattle.tplg_graph.proofs.ByIds.{implied, keyed-components, keyed-edges, keyed-pipes}
 use Rattle.tplg_graph.proofs.DistinctIndices.{distinct-indices}
@@ -25,6 +25,7 @@ use Rattle.tplg_graph.proofs.KeyedLists.{all-at, all-below, ascends}
 use Rattle.tplg_graph.proofs.LiveKinds.{entries-matched, few-controls, keyed-controls, live-controls}
 use Rattle.tplg_graph.proofs.NamedIds.{named-ids}
 use Rattle.tplg_graph.proofs.OrderableEnds.{Good, good-blocks}
+use Rattle.tplg_graph.proofs.Pipelines.{comps-piped, edges-piped}
 use Rattle.tplg_graph.proofs.ThinLaw.{named}
 use Rattle.tplg_graph.proofs.WalkedJoins.{are-sides, are-passed, are-apart}
 
@@ -77,6 +78,8 @@ is-sound t (counts, (names, (ends, (routes, (buffers, (components, (indices, (sc
       edges_below = below ps (λ e. e.buffer) (edges_on ps js) (all-below (λ e. e.buffer) (edge_at ps js) (keyed-edges ps js) (length ps));
       pipes_below = below ps (λ p. p.id) (pipes_on es ps) (all-below (λ p. p.id) (pipe_at es ps) (keyed-pipes es ps) (length ps));
       indices = distinct-indices es indices;
+      comps_piped = comps-piped es js indices scheds;
+      edges_piped = edges-piped es js indices scheds;
       joins = are-sides es js good buffers cycles;
       passed = are-passed es js good buffers;
       fits = kinds-fit es js good buffers components;

@@ -18,7 +18,7 @@ use Rattle.tplg_graph.specs.Tokens.{format_of}
 use Rattle.tplg_graph.proofs.Interpreted.{of-interpreted, all-filter, weaker, or-front}
 use Rattle.tplg_graph.specs.Rules.{HoldsAll, AllHold}
 use Rattle.tplg_graph.specs.Table.{is_size, is_component_end, names_rule, hosts_rule, is_host, has_pcm}
-use Rattle.tplg_graph.specs.Printable.{is_widget_name}
+use Rattle.tplg_plan.specs.Printable.{is_widget_name}
 use Rattle.tplg_graph.specs.Lists.{component_end, control_of, pipes_on, widget_plan, widgets_on, names_on}
 use Rattle.tplg_graph.specs.declared.pcm_caps.PcmCaps.{PcmCaps}
 use Rattle.tplg_graph.specs.declared.live_control.LiveControl.{LiveControl}
@@ -31,7 +31,8 @@ use Rattle.tplg_model.specs.declared.block.Block.{Block}
 use Rattle.tplg_model.specs.declared.block.Topology.{Topology}
 use Rattle.tplg_graph.specs.PlanOf.{plan_on}
 use Rattle.tplg_graph.specs.Thin.{AreThinOver, thin_ends, thin_rules}
-use Rattle.tplg_graph.specs.ThinPlan.{IsThinPlan, FitsWords, thin_graph}
+use Rattle.tplg_plan.specs.ThinPlan.{IsThinPlan, thin_graph}
+use Rattle.tplg_plan.specs.WidgetWords.{FitsWords}
 
 -- each interpreted widget has a name that can be printed
 pub named : (es ps : List Entry) → ps ≡ interpreted es → HoldsAll (names_rule es) → list_all (λ e. not (is_interpreted e) || is_widget_name e.name) ps ≡ true

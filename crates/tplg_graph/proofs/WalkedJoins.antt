@@ -20,7 +20,7 @@ use Rattle.tplg_graph.specs.Lists.{component_at, components_on, edge_at, edges_o
 use Rattle.tplg_graph.specs.Rules.{HoldsAll}
 use Rattle.tplg_graph.specs.Table.{ins_of, outs_of, buffers_rule}
 use Rattle.tplg_graph.specs.Cycles.{joined, Walk, Reaches, is_play, is_capture, cycles_rule, ways_rule}
-use Rattle.tplg_graph.specs.Sound.{IsSideOf, IsPassed}
+use Rattle.tplg_plan.specs.Sound.{IsSideOf, IsPassed}
 use Rattle.tplg_graph.proofs.KeyedLists.{all-made, all-at, at-all, only-one}
 use Rattle.tplg_graph.proofs.ByIds.{made_edge, of-component, of-edge}
 use Rattle.tplg_graph.proofs.GraphSize.{no-kind}

@@ -1,6 +1,6 @@
 -- What a live control may say.
 use Rattle.std.specs.Prelude.{ℕ, List, [], ◌∷◌, Bool, true, ◌&&◌, nat_le, ℤ, pos, int_le, Option, Some, None}
-use Rattle.sof_base.specs.BlobFaults.{is_blob}
+use Rattle.tplg_plan.specs.Ranges.{is_initial}
 use Rattle.tplg_graph.specs.declared.live_control.LiveControl.{LiveControl}
 use Rattle.tplg_graph.specs.declared.live_control.LiveControl.TheVariants.{Volume, Choice, Blob}
 
@@ -11,11 +11,6 @@ is_volume min max channels = int_le (pos 0) min && int_le min max && int_le max 
 -- 1 to 16 items
 abbrev pub is_choice : ℕ → Bool
 is_choice items = nat_le 1 items && nat_le items 16
-
--- no bytes, or a blob
-abbrev pub is_initial : List ℕ → Bool
-is_initial [] = true
-is_initial (b ∷ bs) = is_blob (b ∷ bs)
 
 abbrev pub is_control : LiveControl → Bool
 is_control (Volume min max channels scale) = is_volume min max channels

@@ -8,15 +8,11 @@ pub mod Ends
 pub mod Lists
 pub mod Needed
 pub mod Rules
-pub mod Printable
 pub mod Table
 pub mod Cycles
 pub mod Reach
 pub mod PlanOf
 pub mod WellFormed
 pub mod Thin
-pub mod ThinPlan
-pub mod Sound
 pub mod ThinTest
 pub mod RuleTest
-pub mod GainOf

@@ -17,11 +17,11 @@ use Rattle.tplg_graph.specs.declared.entry.Role.TheVariants as role_is
 use Rattle.tplg_graph.specs.declared.entry.Entry.{Entry}
 use Rattle.tplg_graph.specs.declared.route_end.End.{End}
 use Rattle.tplg_graph.specs.declared.route_end.End.TheVariants as an_end
-use Rattle.tplg_graph.specs.declared.planned.StreamPlan.{StreamPlan}
-use Rattle.tplg_graph.specs.declared.planned.WidgetPlan.{WidgetPlan}
-use Rattle.tplg_graph.specs.declared.planned.ControlPlan.{ControlPlan}
-use Rattle.tplg_graph.specs.declared.planned.ControlKind.{ControlKind}
-use Rattle.tplg_graph.specs.declared.planned.ControlKind.TheVariants.{Volume, Choice, Blob}
+use Rattle.tplg_plan.specs.declared.plans.StreamPlan.{StreamPlan}
+use Rattle.tplg_plan.specs.declared.plans.WidgetPlan.{WidgetPlan}
+use Rattle.tplg_plan.specs.declared.plans.ControlPlan.{ControlPlan}
+use Rattle.tplg_plan.specs.declared.plans.ControlKind.{ControlKind}
+use Rattle.tplg_plan.specs.declared.plans.ControlKind.TheVariants.{Volume, Choice, Blob}
 use Rattle.tplg_graph.specs.declared.live_control.Scale.{Scale}
 use Rattle.tplg_graph.specs.declared.live_control.LiveControl.{LiveControl}
 use Rattle.tplg_graph.specs.declared.live_control.LiveControl.TheVariants as live
@@ -29,7 +29,8 @@ use Rattle.tplg_graph.specs.declared.pcm_caps.PcmCaps.{PcmCaps}
 use Rattle.tplg_graph.specs.PcmList.{caps_of}
 use Rattle.tplg_graph.specs.ControlRanges.{is_volume}
 use Rattle.tplg_graph.specs.declared.tokens.FormatToken.{FormatToken}
-use Rattle.tplg_graph.specs.Tokens.{format_of, format_number}
+use Rattle.tplg_graph.specs.Tokens.{format_of}
+use Rattle.tplg_plan.specs.WidgetWords.{format_number}
 use Rattle.tplg_graph.specs.Entries.{is_buffer, is_scheduler}
 use Rattle.tplg_graph.specs.Ends.{end_of, ends_in, real_of}
 

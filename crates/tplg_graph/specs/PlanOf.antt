@@ -7,9 +7,9 @@ use Rattle.stream_law.specs.declared.graph.Join.{Join}
 use Rattle.stream_law.specs.declared.graph.Graph.{Graph}
 use Rattle.tplg_model.specs.declared.block.Topology.{Topology}
 use Rattle.tplg_graph.specs.declared.entry.Entry.{Entry}
-use Rattle.tplg_graph.specs.declared.planned.Plan.{Plan}
-use Rattle.tplg_graph.specs.declared.planned.StreamPlan.{StreamPlan}
-use Rattle.tplg_graph.specs.declared.planned.ControlPlan.{ControlPlan}
+use Rattle.tplg_plan.specs.declared.plans.Plan.{Plan}
+use Rattle.tplg_plan.specs.declared.plans.StreamPlan.{StreamPlan}
+use Rattle.tplg_plan.specs.declared.plans.ControlPlan.{ControlPlan}
 use Rattle.tplg_graph.specs.declared.pcm_caps.PcmCaps.{PcmCaps}
 use Rattle.tplg_graph.specs.Entries.{entries_of, interpreted}
 use Rattle.std.specs.List.{filter_map}

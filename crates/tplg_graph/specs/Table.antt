@@ -15,13 +15,14 @@ use Rattle.tplg_graph.specs.declared.tokens.Process.{Process}
 use Rattle.tplg_graph.specs.declared.tokens.Process.TheVariants.{Equaliser, Other}
 use Rattle.tplg_graph.specs.declared.tokens.FormatToken.{FormatToken}
 use Rattle.tplg_graph.specs.declared.tokens.FormatToken.TheVariants.{Unknown}
+use Rattle.tplg_plan.specs.Ranges.{is_period}
 use Rattle.tplg_graph.specs.Entries.{is_interpreted, is_buffer, is_component, is_scheduler, is_dai, is_host_play, is_host_capture, is_equaliser, has_control, id_of}
 use Rattle.tplg_graph.specs.PcmList.{is_side_of}
 use Rattle.tplg_graph.specs.ControlRanges.{in_range}
 use Rattle.tplg_graph.specs.Names.{is_named}
 use Rattle.tplg_graph.specs.Ends.{end_of}
 use Rattle.tplg_graph.specs.Lists.{is_sink}
-use Rattle.tplg_graph.specs.Printable.{is_widget_name}
+use Rattle.tplg_plan.specs.Printable.{is_widget_name}
 use Rattle.tplg_graph.specs.Rules.{Rule, tested}
 
 -- at the item of this number, where there is one
@@ -154,10 +155,6 @@ abbrev pub scheds_rule : List Entry → Rule
 scheds_rule es = tested 8 (length es) (sched_holds es)
 
 -- ---- 9: each scheduler has token 200, a multiple of 1000 from 1000 to 10000
-
-abbrev pub is_period : Option ℕ → Bool
-is_period None = false
-is_period (Some p) = p % 1000 == 0 && nat_le 1000 p && nat_le p 10000
 
 abbrev pub period_holds : List Entry → ℕ → Bool
 period_holds es k = at es k (λ e. not (is_scheduler e) || is_period e.tokens.period)

@@ -69,9 +69,3 @@ abbrev pub format_of : FormatToken → Format
 format_of (Known format) = format
 format_of Absent = S32
 format_of Unknown = S32
-
--- a format as messages number it
-abbrev pub format_number : Format → ℕ
-format_number S16 = 0
-format_number S24 = 1
-format_number S32 = 2

@@ -7,7 +7,7 @@ use Rattle.tplg_model.specs.declared.block.Topology.{Topology}
 use Rattle.tplg_graph.specs.declared.entry.Entry.{Entry}
 use Rattle.tplg_graph.specs.declared.pcm_caps.PcmCaps.{PcmCaps}
 use Rattle.tplg_graph.specs.declared.route_end.Ends.{Ends}
-use Rattle.tplg_graph.specs.declared.planned.Plan.{Plan}
+use Rattle.tplg_plan.specs.declared.plans.Plan.{Plan}
 use Rattle.tplg_graph.specs.declared.plan_fault.PlanFault.{PlanFault}
 use Rattle.tplg_graph.specs.declared.plan_fault.PlanFault.TheVariants as fault
 use Rattle.tplg_graph.specs.Entries.{entries_of, interpreted}

@@ -2,12 +2,13 @@
 ghost use Rattle.std.specs.Prelude.{◌≡◌, ◌<◌, ◌^◌, ◌++◌, length, IfOk, OnOk};
 ghost use Rattle.std.specs.Option.{option_to_list};
 ghost use Rattle.sof_base.specs.BlobFaults.{is_blob};
+ghost use Rattle.tplg_plan.specs.Ranges.{is_initial};
 ghost use Rattle.tplg_graph.specs.ControlRanges as ranges;
 ghost use Rattle.tplg_graph.specs.Lists as law;
 
 use crate::entry::Entry;
 use crate::live_control::{LiveControl, Scale, bytes_again};
-use crate::planned::{ControlKind, ControlPlan};
+use tplg_plan::{ControlKind, ControlPlan};
 use eq_biquad::check;
 use std::alloc::{AllocError, Global};
 
@@ -31,7 +32,7 @@ fn is_blob(bytes: &[u8]) -> bool
 }
 
 fn is_initial(bytes: &[u8]) -> bool
-    ensures { result ≡ ranges.is_initial bytes.now }
+    ensures { result ≡ is_initial bytes.now }
 {
     bytes.is_empty() || is_blob(bytes)
 }

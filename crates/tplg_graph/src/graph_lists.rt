@@ -7,11 +7,11 @@ ghost use Rattle.std.specs.HashMap as hash;
 ghost use Rattle.tplg_graph.specs.Entries.{interpreted};
 ghost use Rattle.tplg_graph.specs.Names.{has_name};
 ghost use Rattle.tplg_graph.specs.Lists as law;
-ghost use Rattle.tplg_graph.specs.ThinPlan.{FitsWords};
+ghost use Rattle.tplg_plan.specs.WidgetWords.{FitsWords};
 
 use crate::entry::{Entry, Role, is_buffer, is_scheduler};
 use crate::pcm_caps::{PcmCaps, caps_of};
-use crate::planned::{StreamPlan, WidgetPlan};
+use tplg_plan::{StreamPlan, WidgetPlan};
 use crate::route_end::{End, end_of};
 use crate::tokens::{FormatToken, format_number, format_of};
 use sof_base::Name44;

@@ -6,7 +6,8 @@ ghost use Rattle.std.specs.HashMap as hash;
 ghost use Rattle.tplg_graph.specs.Entries.{interpreted, is_interpreted, id_of};
 ghost use Rattle.tplg_graph.specs.Lists.{is_sink};
 ghost use Rattle.tplg_graph.specs.Names.{is_named, has_name};
-ghost use Rattle.tplg_graph.specs.Printable as printable;
+ghost use Rattle.tplg_plan.specs.Printable as printable;
+ghost use Rattle.tplg_plan.specs.Ranges.{is_period};
 ghost use Rattle.tplg_graph.specs.Rules.{HoldsAll};
 ghost use Rattle.tplg_graph.specs.Table as law;
 
@@ -136,7 +137,7 @@ pub fn keeps_scheds(
 }
 
 fn is_period(period: Option<u32>) -> bool
-    ensures { result ≡ law.is_period period }
+    ensures { result ≡ is_period period }
 {
     match period {
         None => false,

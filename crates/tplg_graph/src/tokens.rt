@@ -2,6 +2,7 @@
 ghost use Rattle.std.specs.Prelude.{◌≡◌, ◌≤◌, option_copied};
 ghost use Rattle.sof_base.specs.Slots.{until_zero};
 ghost use Rattle.tplg_model.specs.TokenValues as values;
+ghost use Rattle.tplg_plan.specs.WidgetWords.{format_number};
 ghost use Rattle.tplg_graph.specs.Tokens as law;
 
 use sof_base::Format;
@@ -195,7 +196,7 @@ pub fn format_of(token: FormatToken) -> Format
 
 /// A format as messages number it.
 pub fn format_number(format: Format) -> u32
-    ensures value { result ≡ law.format_number format }
+    ensures value { result ≡ format_number format }
     ensures three { result ≤ 2 }
 {
     match format {

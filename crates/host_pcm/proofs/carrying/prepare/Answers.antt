@@ -1,6 +1,6 @@
 use Rattle.std.proofs.Common.{cond, ◌∙◌, refl, ap, subst, sym}
 use Rattle.mbox_link.specs.Calls.{world}
-use Rattle.tplg_graph.specs.declared.planned.StreamPlan.{StreamPlan}
+use Rattle.tplg_plan.specs.declared.plans.StreamPlan.{StreamPlan}
 use Rattle.host_widgets.specs.Host.{Outcome}
 use Rattle.host_widgets.proofs.Walks.{handed_on}
 use Rattle.host_pcm.specs.declared.asking.Ask.TheVariants.{Preparing}

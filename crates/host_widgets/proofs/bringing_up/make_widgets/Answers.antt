@@ -2,8 +2,8 @@ use Rattle.std.proofs.Common.{◌≡◌, ◌<◌, ℕ, List, length, get_or, map
 use Rattle.std.proofs.lemmas.List.{length-map, take_all}
 use Rattle.std.proofs.lemmas.List.FromFn.{length-range_with_len, get_or-range_with_len}
 use Rattle.mbox_link.specs.Calls.{world}
-use Rattle.tplg_graph.specs.declared.planned.WidgetPlan.{WidgetPlan}
-use Rattle.tplg_graph.specs.declared.planned.Plan.{Plan}
+use Rattle.tplg_plan.specs.declared.plans.WidgetPlan.{WidgetPlan}
+use Rattle.tplg_plan.specs.declared.plans.Plan.{Plan}
 use Rattle.ipc3_codec.specs.declared.message.Message.{Message}
 use Rattle.ipc3_codec.specs.Messages.{message_spelling}
 use Rattle.host_widgets.specs.Host.{Sent, Walked}

@@ -1,6 +1,6 @@
 use Rattle.std.proofs.Common.{◌≡◌, Some, subst, sym}
 use Rattle.mbox_link.specs.Calls.{world}
-use Rattle.tplg_graph.specs.declared.planned.ControlPlan.{ControlPlan}
+use Rattle.tplg_plan.specs.declared.plans.ControlPlan.{ControlPlan}
 use Rattle.host_widgets.specs.Controls.{HasFew, control_of}
 use Rattle.host_widgets.specs.Acts.{put_acts}
 use Rattle.host_widgets.specs.Host.{Walked}

@@ -1,7 +1,7 @@
 use Rattle.std.proofs.Common.{List, ◌++◌, map, subst, sym}
 use Rattle.std.specs.List.{flat_map}
 use Rattle.mbox_link.specs.Calls.{world}
-use Rattle.tplg_graph.specs.declared.planned.Plan.{Plan}
+use Rattle.tplg_plan.specs.declared.plans.Plan.{Plan}
 use Rattle.host_widgets.specs.Acts.{Act, Make, Join, Finish, ids_of, put_acts}
 use Rattle.host_widgets.specs.Host.{Outcome, Walked}
 use Rattle.host_widgets.proofs.Walks.{failing, Walked-on, Walked-room, Walked-then, Walked-ended, handed_on}

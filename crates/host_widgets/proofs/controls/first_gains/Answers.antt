@@ -1,7 +1,7 @@
 use Rattle.std.proofs.Common.{ℕ, length, replicate, ap, ◌∙◌}
 use Rattle.host_widgets.proofs.FirstSettings.{gains-are}
 use Rattle.host_widgets.specs.Controls as law
-use Rattle.tplg_graph.specs.GainOf.{control_gain}
+use Rattle.tplg_plan.specs.GainOf.{control_gain}
 use Rattle.host_widgets.proofs.controls.first_gains.Goals as goal
 
 pub returns : goal.returns

@@ -1,5 +1,5 @@
 use Rattle.std.proofs.Common.{◌∙◌, subst, sym, arith}
-use Rattle.tplg_graph.specs.declared.planned.Plan.{Plan}
+use Rattle.tplg_plan.specs.declared.plans.Plan.{Plan}
 use Rattle.host_widgets.specs.Controls.{IsLoadable}
 use Rattle.sof_session.specs.Walks.{IsBuilt}
 use Rattle.sof_session.specs.Turns.{life}

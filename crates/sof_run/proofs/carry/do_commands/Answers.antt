@@ -1,7 +1,7 @@
 use Rattle.std.proofs.Common.{◌≤◌, length, sym, subst, ◌∙◌, arith}
 use Rattle.std.proofs.lemmas.List.{drop_all}
 use Rattle.sof_io.specs.Bound.{output_slots}
-use Rattle.tplg_graph.specs.declared.planned.Plan.{Plan}
+use Rattle.tplg_plan.specs.declared.plans.Plan.{Plan}
 use Rattle.host_widgets.specs.Controls.{IsLoadable}
 use Rattle.sof_script.specs.declared.script.Numbered.{Numbered}
 use Rattle.sof_session.specs.Walks.{IsBuilt}

@@ -1,5 +1,5 @@
 use Rattle.std.proofs.Common.{is_ok}
-use Rattle.tplg_graph.specs.Needed.{need_on}
+use Rattle.tplg_plan.specs.HeapNeed.{need_on}
 use Rattle.sof_run.specs.Checking.{counts_on}
 use Rattle.sof_run.proofs.CheckPhases.{counted, halted}
 use Rattle.sof_run.proofs.check.do_check.Goals as goal

@@ -1,5 +1,5 @@
 use Rattle.std.proofs.Common.{true, false, [], ◌∷◌, length, codes, is_ok}
-use Rattle.tplg_graph.specs.Needed.{need_on}
+use Rattle.tplg_plan.specs.HeapNeed.{need_on}
 use Rattle.sof_run.specs.Todo.{DeskPhase}
 use Rattle.sof_run.specs.Play.{lines_todo}
 use Rattle.sof_run.specs.Checking.{count_line}

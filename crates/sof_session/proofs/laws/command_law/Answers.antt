@@ -2,7 +2,7 @@ use Rattle.std.proofs.Common.{ℕ, List, [], Option, Some, None, ◌≡◌, true
 use Rattle.std.specs.List.Sorted.{IsStrictlyIncreasing}
 use Rattle.stream_law.specs.Past.{Moment}
 use Rattle.stream_law.specs.Stands.{Stands}
-use Rattle.tplg_graph.specs.ThinPlan.{IsThinPlan}
+use Rattle.tplg_plan.specs.ThinPlan.{IsThinPlan}
 use Rattle.mbox_link.specs.declared.fates.Fate.{Fate}
 use Rattle.mbox_link.specs.declared.fates.Fate.TheVariants.{Refuse, Drop, Lose}
 use Rattle.host_widgets.specs.declared.answers.Answer.TheVariants.{Done, Show}

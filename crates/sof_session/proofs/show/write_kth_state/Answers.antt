@@ -2,7 +2,7 @@ use Rattle.std.proofs.Common.{◌≡◌, min, length, sym, ◌∙◌, arith}
 use Rattle.std.specs.List.{zip}
 use Rattle.std.proofs.lemmas.List.{length-map}
 use Rattle.std.proofs.lemmas.Slice.Zip.{length-zip}
-use Rattle.tplg_graph.specs.declared.planned.Plan.{Plan}
+use Rattle.tplg_plan.specs.declared.plans.Plan.{Plan}
 use Rattle.host_widgets.specs.declared.kept.Record.{Record}
 use Rattle.sof_session.specs.Show as show
 use Rattle.sof_session.proofs.LinesAt.{IsLineAt-first, IsLineAt-behind}

@@ -1,7 +1,7 @@
 use Rattle.std.proofs.Common.{◌≡◌, take}
 use Rattle.std.specs.Prelude.{All}
 use Rattle.tplg_graph.specs.Lists.{widgets_on}
-use Rattle.tplg_graph.specs.ThinPlan.{FitsWords}
+use Rattle.tplg_plan.specs.WidgetWords.{FitsWords}
 use Rattle.tplg_graph.proofs.graph_lists.widgets.Given as goal
 
 abbrev pub invariant-loop-part : goal.invariant-loop-part

@@ -1,6 +1,7 @@
 use Rattle.std.proofs.Common.{◌≡◌}
 use Rattle.tplg_graph.specs.WellFormed.{rules_of}
-use Rattle.tplg_graph.specs.Needed.{IsSmall, need_on, need_of}
+use Rattle.tplg_plan.specs.HeapNeed.{IsSmall, need_on}
+use Rattle.tplg_graph.specs.Needed.{need_of}
 use Rattle.tplg_graph.specs.Cycles.{IsOrderable, IsAcyclic}
 use Rattle.tplg_graph.proofs.PlanLaws.{kept, broken, on-plan, is-small, is-need, is-orderable, is-acyclic, is-thin-plan}
 use Rattle.tplg_graph.proofs.Soundness.{is-sound-plan}

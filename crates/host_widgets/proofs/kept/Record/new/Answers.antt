@@ -1,6 +1,6 @@
 use Rattle.std.proofs.Common.{◌∙◌, sym, ap, map, take, ◌++◌, ◌∷◌, [], get_or, List, length, ◌<◌, arith}
 use Rattle.std.proofs.lemmas.List.{take_more, map-append}
-use Rattle.tplg_graph.specs.declared.planned.StreamPlan.{StreamPlan}
+use Rattle.tplg_plan.specs.declared.plans.StreamPlan.{StreamPlan}
 use Rattle.host_widgets.specs.declared.kept.StreamRec.{StreamRec}
 use Rattle.host_widgets.specs.HostRecord.{closed, no_stream}
 use Rattle.host_widgets.proofs.kept.Record.new.Goals as goal

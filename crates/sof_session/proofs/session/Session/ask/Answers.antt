@@ -1,7 +1,7 @@
 use Rattle.std.proofs.Common.{ap, subst, sym}
 use Rattle.sof_base.specs.Ports.{Io}
 use Rattle.mbox_link.specs.Calls.{world}
-use Rattle.tplg_graph.specs.ThinPlan.{IsThinPlan}
+use Rattle.tplg_plan.specs.ThinPlan.{IsThinPlan}
 use Rattle.mbox_link.specs.Link.{link}
 use Rattle.sof_session.specs.Turns.{ports}
 use Rattle.sof_session.proofs.StreamAgreement.{AreAgreed-asked}

@@ -13,8 +13,8 @@ use Rattle.host_widgets.proofs.ReplyErrors.{negative-fits}
 use Rattle.host_widgets.specs.declared.answers.Answer.TheVariants.{Show}
 use Rattle.host_widgets.specs.declared.trigger.Trigger.TheVariants as triggers
 use Rattle.host_pcm.specs.declared.asking.Ask.TheVariants.{Opening, Preparing, Triggering, Closing}
-use Rattle.tplg_graph.specs.declared.planned.Plan.{Plan}
-use Rattle.tplg_graph.specs.ThinPlan.{IsThinPlan}
+use Rattle.tplg_plan.specs.declared.plans.Plan.{Plan}
+use Rattle.tplg_plan.specs.ThinPlan.{IsThinPlan}
 use Rattle.sof_script.specs.declared.script.Command.{Command}
 use Rattle.sof_script.specs.declared.script.Command.TheVariants as commands
 use Rattle.sof_session.specs.Walks.{Carry, is_built, is_plain, IsBuilt, is_ahead, is_refusal, is_in_range, most_sent, command_next, written_in}

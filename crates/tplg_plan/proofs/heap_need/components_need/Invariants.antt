@@ -1,6 +1,6 @@
 use Rattle.std.proofs.Common.{◌≡◌, ◌≤◌, ◌*◌, take}
-use Rattle.tplg_graph.specs.Needed.{components_need}
-use Rattle.tplg_graph.proofs.heap_need.components_need.Given as goal
+use Rattle.tplg_plan.specs.HeapNeed.{components_need}
+use Rattle.tplg_plan.proofs.heap_need.components_need.Given as goal
 
 abbrev pub invariant-loop-comp : goal.invariant-loop-comp
 invariant-loop-comp l = record {

@@ -5,11 +5,11 @@ use Rattle.sof_base.specs.declared.format.Format.{Format}
 use Rattle.stream_law.specs.declared.graph.Graph.{Graph}
 use Rattle.stream_law.specs.declared.graph.Kind.TheVariants.{HostPlay, DaiPlay}
 use Rattle.stream_law.specs.declared.graph.Setting.TheVariants.{Nothing}
-pub use Rattle.tplg_graph.specs.Tokens.{format_number}
-use Rattle.tplg_graph.specs.Printable.{is_widget_name}
+use Rattle.tplg_plan.specs.WidgetWords.{format_number, FitsWords}
+use Rattle.tplg_plan.specs.Printable.{is_widget_name}
 use Rattle.tplg_model.specs.declared.pcm.Caps.{Caps}
-use Rattle.tplg_graph.specs.declared.planned.Plan.{Plan}
-use Rattle.tplg_graph.specs.declared.planned.WidgetPlan.{WidgetPlan}
+use Rattle.tplg_plan.specs.declared.plans.Plan.{Plan}
+use Rattle.tplg_plan.specs.declared.plans.WidgetPlan.{WidgetPlan}
 
 -- the graph: host 0, buffer 1, DAI 2 and pipeline 3
 abbrev pub thin_graph : ℕ → ℕ → Format → ℕ → Graph
@@ -23,20 +23,7 @@ thin_graph pipe size format sched = record {
   joins = record { source = 0; sink = 1 } ∷ record { source = 1; sink = 2 } ∷ [];
 }
 
--- what the host writes of a widget: words, and a format's number
-pub record FitsWords (widget : WidgetPlan) : Type 0 where
-  pub pipe : widget.pipe < 2 ^ 32
-  pub frame_fmt : widget.frame_fmt ≤ 2
-  pub periods_sink : widget.periods_sink < 2 ^ 32
-  pub periods_source : widget.periods_source < 2 ^ 32
-  pub dai_index : widget.dai_index < 2 ^ 32
-  pub caps : widget.caps < 2 ^ 32
-  pub priority : widget.priority < 2 ^ 32
-  pub mips : widget.mips < 2 ^ 32
-  pub frames : widget.frames < 2 ^ 32
-  pub time_domain : widget.time_domain < 2 ^ 32
-
--- the same, of a widget of this pipeline
+-- words that fit, of a widget of this pipeline
 pub record IsWidgetPlan (pipe : ℕ) (widget : WidgetPlan) : Type 0 where
   pub pipe_is : widget.pipe ≡ pipe
   pub fits : FitsWords widget

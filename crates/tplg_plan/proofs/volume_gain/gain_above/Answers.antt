@@ -1,7 +1,7 @@
 use Rattle.std.proofs.Common.{◌≡◌, sym, ap, ◌∙◌, ◌+◌, ◌*◌, ◌/◌, arith}
 use Rattle.stream_law.specs.Gain.{gain_above}
-use Rattle.tplg_graph.proofs.Gains.{above-zero, above-suc, above-most}
-use Rattle.tplg_graph.proofs.volume_gain.gain_above.Goals as goal
+use Rattle.tplg_plan.proofs.Gains.{above-zero, above-suc, above-most}
+use Rattle.tplg_plan.proofs.volume_gain.gain_above.Goals as goal
 
 pub loop-init : goal.loop-init
 loop-init c = above-zero

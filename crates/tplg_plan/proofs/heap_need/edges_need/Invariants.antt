@@ -1,6 +1,6 @@
 use Rattle.std.proofs.Common.{◌≡◌, ◌≤◌, ◌*◌, take}
-use Rattle.tplg_graph.specs.Needed.{edges_need}
-use Rattle.tplg_graph.proofs.heap_need.edges_need.Given as goal
+use Rattle.tplg_plan.specs.HeapNeed.{edges_need}
+use Rattle.tplg_plan.proofs.heap_need.edges_need.Given as goal
 
 abbrev pub invariant-loop-edge : goal.invariant-loop-edge
 invariant-loop-edge l = record {

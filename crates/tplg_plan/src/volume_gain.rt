@@ -2,9 +2,9 @@
 ghost use Rattle.std.specs.Prelude.{◌≡◌, ◌≤◌, ◌*◌, ◌+ℤ◌, pos, negsuc, ◌≤ℤ◌};
 ghost use Rattle.std.specs.Int.{int_min, int_max, int_div_euclid};
 ghost use Rattle.stream_law.specs.Gain as law;
-ghost use Rattle.tplg_graph.specs.GainOf.{control_gain};
+ghost use Rattle.tplg_plan.specs.GainOf.{control_gain};
 
-use crate::planned::ControlKind;
+use crate::plans::ControlKind;
 
 /// The gain so many half decibels above 1.
 fn gain_above(half_decibels: u32) -> u32

@@ -1,4 +1,4 @@
-// What the host and the program know of a topology.
+// A plan and its parts.
 use sof_base::{Items, Name44};
 use stream_law::Graph;
 use tplg_model::Caps;

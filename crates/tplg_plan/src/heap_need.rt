@@ -1,9 +1,9 @@
 // How many bytes of heap a plan needs.
 ghost use Rattle.std.specs.Prelude.{◌≡◌, ◌≤◌, ◌*◌, ◌+◌, length};
 ghost use Rattle.sof_base.specs.Holes.{rounded};
-ghost use Rattle.tplg_graph.specs.Needed as law;
+ghost use Rattle.tplg_plan.specs.HeapNeed as law;
 
-use crate::planned::Plan;
+use crate::plans::Plan;
 use stream_law::{Comp, Edge, Kind};
 
 /// The size in bytes of a component.

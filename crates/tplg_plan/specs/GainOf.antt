@@ -1,8 +1,8 @@
 -- The gain of a live control's value, of which 65536 is 1.
 use Rattle.std.specs.Prelude.{ℕ}
 use Rattle.stream_law.specs.Gain.{gain_of}
-use Rattle.tplg_graph.specs.declared.planned.ControlKind.{ControlKind}
-use Rattle.tplg_graph.specs.declared.planned.ControlKind.TheVariants.{Volume, Choice, Blob}
+use Rattle.tplg_plan.specs.declared.plans.ControlKind.{ControlKind}
+use Rattle.tplg_plan.specs.declared.plans.ControlKind.TheVariants.{Volume, Choice, Blob}
 
 -- of a control that is a volume
 abbrev pub control_gain : ControlKind → ℕ → ℕ

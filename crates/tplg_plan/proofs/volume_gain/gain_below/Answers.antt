@@ -1,6 +1,6 @@
 use Rattle.std.proofs.Common.{sym, ap, ◌∙◌, ◌*◌, ◌/◌, arith}
-use Rattle.tplg_graph.proofs.Gains.{below-zero, below-suc}
-use Rattle.tplg_graph.proofs.volume_gain.gain_below.Goals as goal
+use Rattle.tplg_plan.proofs.Gains.{below-zero, below-suc}
+use Rattle.tplg_plan.proofs.volume_gain.gain_below.Goals as goal
 
 pub loop-init : goal.loop-init
 loop-init c = record { value = below-zero; most = omega arith }

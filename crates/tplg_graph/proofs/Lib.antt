@@ -3,7 +3,7 @@ pub mod FirstValues
 pub mod Positions
 pub mod RuleLaws
 pub mod Places
-pub mod Thinness
+pub mod FoundEnds
 pub mod ThinTests
 pub mod Among
 pub mod Reached

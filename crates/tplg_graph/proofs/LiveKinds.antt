@@ -1,5 +1,6 @@
 -- The live controls of a well-formed topology belong to components of their kinds, and are in range.
 use Rattle.std.proofs.Common.{◌≡◌, refl, sym, ap, subst, ◌∙◌, ℕ, ℤ, pos, negsuc, nat_abs, int_le, nat_le, ◌≤◌, List, [], ◌∷◌, ◌++◌, length, map, count_by, Bool, true, false, cond, not, ◌&&◌, ◌||◌, is_some, Option, Some, None, slice_get, unwrap_or, option_and_then, arith, lit<}
+use Rattle.std.specs.Int.{w32, cast_signed}
 use Rattle.std.specs.Option.{option_map, option_map_or}
 use Rattle.std.specs.List.{list_all, flat_map, AllByRecursion}
 use Rattle.std.proofs.lemmas.Bool.{false≢true, and_parts, and_from, leb-true}
@@ -15,15 +16,13 @@ use Rattle.tplg_model.specs.declared.widget.Widget.{Widget}
 use Rattle.tplg_graph.specs.declared.entry.Role.{Role}
 use Rattle.tplg_graph.specs.declared.entry.Role.TheVariants as role_is
 use Rattle.tplg_graph.specs.declared.entry.Entry.{Entry}
-use Rattle.tplg_graph.specs.declared.live_control.LiveControl.{LiveControl}
-use Rattle.tplg_graph.specs.declared.live_control.LiveControl.TheVariants as live
 use Rattle.tplg_graph.specs.declared.pcm_caps.PcmCaps.{PcmCaps}
 use Rattle.tplg_plan.specs.declared.plans.ControlPlan.{ControlPlan}
 use Rattle.tplg_plan.specs.declared.plans.ControlKind.{ControlKind}
 use Rattle.tplg_plan.specs.declared.plans.ControlKind.TheVariants as control_is
 use Rattle.tplg_graph.specs.declared.tokens.FormatToken.{FormatToken}
 use Rattle.tplg_graph.specs.Entries.{is_interpreted, is_equaliser, is_component_role, has_control, role_of, entry_of, entries_in, entries_of, widgets_in, interpreted}
-use Rattle.tplg_graph.specs.LiveControls.{live_of}
+use Rattle.tplg_graph.specs.LiveControls.{is_live, live_of, scale_word}
 use Rattle.tplg_graph.specs.ControlRanges.{is_control, in_range}
 use Rattle.tplg_graph.specs.Lists.{kind_of, is_sink, kind_in, control_of, control_at, controls_on}
 use Rattle.tplg_graph.specs.Rules.{HoldsAll}
@@ -37,17 +36,11 @@ use Rattle.tplg_graph.proofs.NamedIds.{graph_of, known}
 
 -- ---- a widget's live control is that of its role
 
-abbrev pub has_own : Option Role → LiveControl → Bool
-has_own (Some role_is.Volume) (live.Volume min max channels scale) = true
-has_own (Some role_is.Mux) (live.Choice items) = true
-has_own (Some role_is.Eq) (live.Blob max initial) = true
-has_own _ _ = false
-
 -- of the control that is there
 abbrev pub is_matched : Entry → Bool
-is_matched e = option_map_or (has_own e.role) e.control true
+is_matched e = option_map_or (is_live e.role) e.control true
 
-own-controls : (r : Option Role) (cs : List Control) → option_map_or (has_own r) (live_of r cs) true ≡ true
+own-controls : (r : Option Role) (cs : List Control) → option_map_or (is_live r) (live_of r cs) true ≡ true
 own-controls r [] = refl
 own-controls None (c ∷ cs) = own-controls None cs
 own-controls (Some role_is.HostPlay) (c ∷ cs) = own-controls (Some role_is.HostPlay) cs
@@ -88,26 +81,26 @@ ordered (pos m) (pos n) l o h = record { ordered = leb-true m n o; most = leb-tr
 ordered (pos m) (negsuc n) l o h = absurd (false≢true o)
 ordered (negsuc m) n l o h = absurd (false≢true l)
 
-in-kind : (r : Option Role) (c : LiveControl) (f : FormatToken) (b : Bool) (kind : ControlKind) (k : Kind) → has_own r c ≡ true → is_control c ≡ true → kind_in c ≡ Some kind → kind_of r f b ≡ Some k → IsControlOf kind k
-in-kind (Some role_is.Volume) (live.Volume min max channels scale) f b kind k own range is of =
+in-kind : (r : Option Role) (c : Control) (f : FormatToken) (b : Bool) (kind : ControlKind) (k : Kind) → is_live r c ≡ true → is_control c ≡ true → kind_in c ≡ Some kind → kind_of r f b ≡ Some k → IsControlOf kind k
+in-kind (Some role_is.Volume) (Mixer head min max platform_max invert channels values private) f b kind k own range is of =
     let first = and_parts (int_le (pos 0) min && int_le min max && int_le max (pos 65535) && nat_le 1 channels) (nat_le channels 8) range in
     let second = and_parts (int_le (pos 0) min && int_le min max && int_le max (pos 65535)) (nat_le 1 channels) first.0 in
     let third = and_parts (int_le (pos 0) min && int_le min max) (int_le max (pos 65535)) second.0 in
     let fourth = and_parts (int_le (pos 0) min) (int_le min max) third.0 in
     let o = ordered min max fourth.0 fourth.1 third.1 in
-    let made : ControlKind = control_is.Volume (nat_abs min) (nat_abs max) channels scale.min scale.step scale.mute in
+    let made : ControlKind = control_is.Volume (nat_abs min) (nat_abs max) channels (cast_signed w32 (scale_word head 0)) (scale_word head 1) (scale_word head 2) in
     let same : made ≡ kind = same_Some made kind (ap (λ t. cond t (Some made) None) (sym range) ∙ is) in
     subst (λ x. IsControlOf x k) same (sym (same_Some _ k of), o.ordered, o.most, leb-true 1 channels second.1, leb-true channels 8 first.1)
-in-kind (Some role_is.Mux) (live.Choice items) f b kind k own range is of =
+in-kind (Some role_is.Mux) (Enum head num_channels channels items mask count texts values private) f b kind k own range is of =
     let parts = and_parts (nat_le 1 items) (nat_le items 16) range in
     subst (λ x. IsControlOf x k) (same_Some (control_is.Choice items) kind is) (sym (same_Some _ k of), leb-true 1 items parts.0, leb-true items 16 parts.1)
-in-kind (Some role_is.Eq) (live.Blob most initial) f b kind k own range is of =
+in-kind (Some role_is.Eq) (Bytes head most mask base num_regs ext_ops initial) f b kind k own range is of =
     subst (λ x. IsControlOf x k) (same_Some (control_is.Blob most initial) kind is) (sym (same_Some _ k of), range)
 in-kind _ _ f b kind k own range is of = absurd (false≢true own)
 
 -- ---- controls by id
 
-own-component : (r : Option Role) (c : LiveControl) → has_own r c ≡ true → is_component_role r ≡ true
+own-component : (r : Option Role) (c : Control) → is_live r c ≡ true → is_component_role r ≡ true
 own-component (Some role_is.Volume) c h = refl
 own-component (Some role_is.Mux) c h = refl
 own-component (Some role_is.Eq) c h = refl
@@ -116,7 +109,7 @@ own-component _ c h = absurd (false≢true h)
 pub record OfControl (ps : List Entry) (i : ℕ) (k : ControlPlan) : Type 0 where
   pub entry : Entry
   pub there : slice_get ps i ≡ Some entry
-  pub control : LiveControl
+  pub control : Control
   pub is : entry.control ≡ Some control
   pub kind : kind_in control ≡ Some k.kind
   pub comp : k.comp ≡ i
@@ -124,14 +117,14 @@ pub record OfControl (ps : List Entry) (i : ℕ) (k : ControlPlan) : Type 0 wher
 of-control : (ps : List Entry) (i : ℕ) (k : ControlPlan) → control_at ps i ≡ Some k → OfControl ps i k
 of-control ps i k h = by_entry (slice_get ps i) refl h
   where
-    by_kind : (e : Entry) → slice_get ps i ≡ Some e → (c : LiveControl) → e.control ≡ Some c → (o : Option ControlKind) → kind_in c ≡ o → option_map (λ kind. record { comp = i; kind = kind }) o ≡ Some k → OfControl ps i k
+    by_kind : (e : Entry) → slice_get ps i ≡ Some e → (c : Control) → e.control ≡ Some c → (o : Option ControlKind) → kind_in c ≡ o → option_map (λ kind. record { comp = i; kind = kind }) o ≡ Some k → OfControl ps i k
     by_kind e f c g None s h = cc
     by_kind e f c g (Some kind) s h =
         let made : ControlPlan = record { comp = i; kind = kind } in
         let same : k ≡ made = ap (λ o. unwrap_or o made) (sym h) in
         record { entry = e; there = f; control = c; is = g; kind = s ∙ ap (λ (x : ControlPlan). Some x.kind) (sym same); comp = ap (λ (x : ControlPlan). x.comp) same }
 
-    by_control : (e : Entry) → slice_get ps i ≡ Some e → (o : Option LiveControl) → e.control ≡ o → control_of i o ≡ Some k → OfControl ps i k
+    by_control : (e : Entry) → slice_get ps i ≡ Some e → (o : Option Control) → e.control ≡ o → control_of i o ≡ Some k → OfControl ps i k
     by_control e f None g h = cc
     by_control e f (Some c) g h = by_kind e f c g (kind_in c) refl h
 
@@ -142,7 +135,7 @@ of-control ps i k h = by_entry (slice_get ps i) refl h
 pub keyed-controls : (ps : List Entry) → IsKeyed (λ k. k.comp) (control_at ps)
 keyed-controls ps i k h = (of-control ps i k h).comp
 
-no-control : (o : Option LiveControl) (i : ℕ) → is_some o ≡ false → control_of i o ≡ None
+no-control : (o : Option Control) (i : ℕ) → is_some o ≡ false → control_of i o ≡ None
 no-control None i h = refl
 no-control (Some c) i h = absurd (false≢true (sym h))
 
@@ -157,7 +150,7 @@ live-controls es js matched rule = all-made (IsLive (graph_of es js)) (control_a
   where
     each : (i : ℕ) (k : ControlPlan) → OfControl (interpreted es) i k → IsLive (graph_of es js) k
     each i k o =
-        let own : has_own o.entry.role o.control ≡ true = ap (λ c. option_map_or (has_own o.entry.role) c true) (sym o.is) ∙ passes-at is_matched (interpreted es) (all-filter es is_matched is_interpreted matched) i o.entry o.there in
+        let own : is_live o.entry.role o.control ≡ true = ap (λ c. option_map_or (is_live o.entry.role) c true) (sym o.is) ∙ passes-at is_matched (interpreted es) (all-filter es is_matched is_interpreted matched) i o.entry o.there in
         let range : is_control o.control ≡ true = ap in_range (sym o.is) ∙ (and_parts (not (is_equaliser o.entry) || is_known_process o.entry.tokens.process) (in_range o.entry.control) (at-id es (λ i e. (not (is_equaliser e) || is_known_process e.tokens.process) && in_range e.control) rule i o.entry o.there)).1 in
         let c = known es js i (record { entry = o.entry; there = o.there; sort = own-component o.entry.role o.control own }) in
         let m = of-component (interpreted es) js i c.comp c.there in

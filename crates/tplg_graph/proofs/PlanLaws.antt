@@ -71,7 +71,7 @@ is-acyclic t w (c, n, walk) =
 
 -- rule 11 is the eleventh
 thin-of : (t : Topology) → IsWellFormed t → IsThin t → All FitsWords (plan_of t).widgets → IsThinPlan (plan_of t)
-thin-of t w thin fit = thin-plan (entries_of t) (ends_in t) (pcms_of t) thin w.1.1.1.1.1.1.1.1.1.1.0 (entries-quiet t) fit
+thin-of t w thin fit = thin-plan (entries_of t) (ends_in t) (pcms_of t) (record { widgets = thin.widgets; form = thin.form }) w.1.1.1.1.1.1.1.1.1.1.0 (entries-quiet t) fit
 
 pub is-thin-plan : (t : Topology) (r : Result Plan PlanFault) → OnOk r (IsWellFormed t) → IfOk r (λ p. p ≡ plan_of t) → IfOk r (λ p. All FitsWords p.widgets) → IfOk r (λ p. IsThin t → IsThinPlan p)
 is-thin-plan t (Ok p) w e fit = λ thin. subst IsThinPlan (sym e) (thin-of t w thin (subst (λ q. All FitsWords q.widgets) e fit))

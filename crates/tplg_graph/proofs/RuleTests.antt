@@ -3,15 +3,12 @@ use Rattle.std.proofs.Common.{◌≡◌, refl, sym, ap, subst, ◌∙◌, ℕ, �
 use Rattle.std.proofs.lemmas.Bool.{false≢true, and_parts, and_from, cases_Bool}
 use Rattle.stream_law.specs.declared.graph.Comp.{Comp}
 use Rattle.stream_law.specs.declared.graph.Edge.{Edge}
-use Rattle.stream_law.specs.declared.graph.Join.{Join}
 use Rattle.tplg_model.specs.declared.block.Topology.{Topology}
-use Rattle.tplg_graph.specs.declared.entry.Entry.{Entry}
-use Rattle.tplg_graph.specs.declared.pcm_caps.PcmCaps.{PcmCaps}
-use Rattle.tplg_graph.specs.declared.route_end.Ends.{Ends}
 use Rattle.tplg_graph.specs.Entries.{entries_of, interpreted}
 use Rattle.tplg_graph.specs.Ends.{ends_in}
 use Rattle.tplg_graph.specs.PcmList.{pcms_of}
-use Rattle.tplg_graph.specs.Lists.{joins_of, components_on, edges_on}
+use Rattle.tplg_graph.specs.Lists.{joins_of}
+use Rattle.tplg_graph.specs.WiringValue.{WiringValue, wiring_of}
 use Rattle.tplg_graph.specs.Rules.{Rule, tested, AllHold, BreaksOf, IsFirstFailing}
 use Rattle.tplg_graph.specs.Cycles.{Reaches, ReachesCapture, plays, cycles_rule, ways_rule}
 use Rattle.tplg_graph.specs.WellFormed.{IsWellFormed, Breaks, rules_on}
@@ -80,13 +77,13 @@ way-same ids comps edges = record { number = refl; items = refl; holds = λ i h 
 
 -- ---- all rules of a topology
 
-all-same : (es ps : List Entry) (pcms : List PcmCaps) (rs : List Ends) (js : List Join) → AllSame (rules_on es ps pcms rs js) (tests_on es ps pcms rs js)
-all-same es ps pcms rs js =
-    (same _ _ _, (same _ _ _, (same _ _ _, (same _ _ _, (same _ _ _, (same _ _ _, (same _ _ _, (same _ _ _, (same _ _ _, (same _ _ _, (same _ _ _, (same _ _ _, (same _ _ _, (cycle-same (length ps) (edges_on ps js), (way-same (length ps) (components_on ps js) (edges_on ps js), tt)))))))))))))))
+all-same : (w : WiringValue) → AllSame (rules_on w.widgets (interpreted w.widgets) w.pcms w.ends w.joins) (tests_on w)
+all-same w =
+    (same _ _ _, (same _ _ _, (same _ _ _, (same _ _ _, (same _ _ _, (same _ _ _, (same _ _ _, (same _ _ _, (same _ _ _, (same _ _ _, (same _ _ _, (same _ _ _, (same _ _ _, (cycle-same _ _, (way-same _ _ _, tt)))))))))))))))
 
 told : (t : Topology) (o : Option (ℕ × ℕ)) → ruling_of t ≡ o → (IsWellFormed t × (o ≡ None)) ⊎ ((rule : ℕ) × (item : ℕ) × Breaks t rule item × (o ≡ Some (rule, item)))
 unfolding ruling_of
-told t o is = by_told (ruling_of t) (all-told (rules_on (entries_of t) (interpreted (entries_of t)) (pcms_of t) (ends_in t) (joins_of t)) (tests_on (entries_of t) (interpreted (entries_of t)) (pcms_of t) (ends_in t) (joins_of t)) (all-same (entries_of t) (interpreted (entries_of t)) (pcms_of t) (ends_in t) (joins_of t))) is
+told t o is = by_told (ruling_of t) (all-told (rules_on (entries_of t) (interpreted (entries_of t)) (pcms_of t) (ends_in t) (joins_of t)) (tests_on (wiring_of t)) (all-same (wiring_of t))) is
   where
     by_told : (r : Option (ℕ × ℕ)) → Told (rules_on (entries_of t) (interpreted (entries_of t)) (pcms_of t) (ends_in t) (joins_of t)) r → r ≡ o → (IsWellFormed t × (o ≡ None)) ⊎ ((rule : ℕ) × (item : ℕ) × Breaks t rule item × (o ≡ Some (rule, item)))
     by_told None w e = inl (w, sym e)

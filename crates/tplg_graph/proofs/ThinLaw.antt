@@ -21,7 +21,6 @@ use Rattle.tplg_graph.specs.Table.{is_size, is_component_end, names_rule, hosts_
 use Rattle.tplg_plan.specs.Printable.{is_widget_name}
 use Rattle.tplg_graph.specs.Lists.{component_end, control_of, pipes_on, widget_plan, widgets_on, names_on}
 use Rattle.tplg_graph.specs.declared.pcm_caps.PcmCaps.{PcmCaps}
-use Rattle.tplg_graph.specs.declared.live_control.LiveControl.{LiveControl}
 use Rattle.tplg_graph.specs.PcmList.{caps_of, is_side_of, side}
 use Rattle.tplg_graph.specs.LiveControls.{live_of}
 use Rattle.tplg_model.specs.declared.pcm.Caps.{Caps}
@@ -30,7 +29,7 @@ use Rattle.tplg_model.specs.declared.widget.Widget.{Widget}
 use Rattle.tplg_model.specs.declared.block.Block.{Block}
 use Rattle.tplg_model.specs.declared.block.Topology.{Topology}
 use Rattle.tplg_graph.specs.PlanOf.{plan_on}
-use Rattle.tplg_graph.specs.Thin.{AreThinOver, thin_ends, thin_rules}
+use Rattle.tplg_graph.specs.Thin.{AreThin, KeepsForm, thin_ends, thin_rules}
 use Rattle.tplg_plan.specs.ThinPlan.{IsThinPlan, thin_graph}
 use Rattle.tplg_plan.specs.WidgetWords.{FitsWords}
 
@@ -212,6 +211,11 @@ plan-of-four es index h b d s pcms k q fit =
 
 -- ---- a thin topology's lists are those of four widgets
 
+-- over the widgets, the interpreted ones and the ends of the routes
+pub record AreThinOver (es : List Entry) (ps : List Entry) (rs : List Ends) : Type 0 where
+  pub widgets : AreThin ps
+  pub form : KeepsForm es rs (filter_map real_of rs)
+
 pub record IsFour (es ps : List Entry) (rs : List Ends) : Type 0 where
   pub index : ℕ
   pub host : Entry
@@ -254,7 +258,7 @@ has_live_role _ = false
 abbrev pub is_quiet : Entry → Bool
 is_quiet e = has_live_role e.role || not (is_some e.control)
 
-none-of : (o : Option LiveControl) → not (is_some o) ≡ true → o ≡ None
+none-of : (o : Option Control) → not (is_some o) ≡ true → o ≡ None
 none-of None h = refl
 none-of (Some c) h = absurd (false≢true h)
 

@@ -1,6 +1,5 @@
 -- The test for a thin topology says that it is thin.
 use Rattle.std.proofs.Common.{◌≡◌, ℕ, zero, suc, ◌<◌, ◌≤◌, List, [], ◌∷◌, Bool, true, false, ◌&&◌, eq-eqb, Option, Some, None, Result, Ok, Err, IfOk, ◌↔◌, ◌⊎◌, inl, inr, refl, ap, arith}
-use Rattle.std.specs.List.{filter_map}
 use Rattle.std.proofs.lemmas.Bool.{and_parts, and_from, eqb-true, cases_lt}
 use Rattle.sof_base.specs.declared.memory.NoMemory.{NoMemory}
 use Rattle.stream_law.specs.declared.graph.Join.{Join}
@@ -10,10 +9,11 @@ use Rattle.tplg_graph.specs.declared.route_end.End.{End}
 use Rattle.tplg_graph.specs.declared.route_end.End.TheVariants.{Buffer, Component, Other, Missing}
 use Rattle.tplg_graph.specs.declared.route_end.Ends.{Ends}
 use Rattle.tplg_graph.specs.Entries.{entries_of, interpreted}
-use Rattle.tplg_graph.specs.Ends.{ends_in, real_of}
+use Rattle.tplg_graph.specs.Ends.{ends_in}
+use Rattle.tplg_graph.specs.Lists.{joins_of}
 use Rattle.tplg_graph.specs.Rules.{AllHold}
 use Rattle.tplg_graph.specs.Table.{is_number}
-use Rattle.tplg_graph.specs.Thin.{AreInOrder, AreThin, AreThinOver, IsThin, thin_ends, thin_rules}
+use Rattle.tplg_graph.specs.Thin.{AreInOrder, AreThin, IsThin, thin_ends, thin_rules}
 use Rattle.tplg_graph.specs.ThinTest.{in_order, are_four, is_component, is_buffer_of, are_two, below, rules_hold, thin_over, thin_test}
 
 both : (a b : Bool) → (a && b) ≡ true → (a ≡ true) × (b ≡ true)
@@ -125,19 +125,19 @@ rules-test : (es : List Entry) (js : List Join) → AllHold (thin_rules es js) �
 rules-test es js h =
     and_from _ _ (all-below _ _ h.0) (and_from _ _ (all-below _ _ h.1.0) (and_from _ _ (all-below _ _ h.1.1.0) (and_from _ _ (all-below _ _ h.1.1.1.0) (all-below _ _ h.1.1.1.1.0))))
 
-over-is : (es ps : List Entry) (rs : List Ends) → thin_over es ps rs ≡ true → AreThinOver es ps rs
-over-is es ps rs t =
-    let a = both _ _ t in
+test-is : (t : Topology) → thin_over (entries_of t) (interpreted (entries_of t)) (ends_in t) ≡ true → IsThin t
+test-is t h =
+    let a = both _ _ h in
     let b = both _ _ a.1 in
-    record { widgets = four-is ps a.0; form = record { routes = two-is rs b.0; rules = rules-are es (filter_map real_of rs) b.1 } }
+    record { widgets = four-is (interpreted (entries_of t)) a.0; form = record { routes = two-is (ends_in t) b.0; rules = rules-are (entries_of t) (joins_of t) b.1 } }
 
-over-test : (es ps : List Entry) (rs : List Ends) → AreThinOver es ps rs → thin_over es ps rs ≡ true
-over-test es ps rs o =
-    and_from _ _ (four-test ps o.widgets) (and_from _ _ (two-test rs o.form.routes) (rules-test es (filter_map real_of rs) o.form.rules))
+is-test : (t : Topology) → IsThin t → thin_over (entries_of t) (interpreted (entries_of t)) (ends_in t) ≡ true
+is-test t o =
+    and_from _ _ (four-test (interpreted (entries_of t)) o.widgets) (and_from _ _ (two-test (ends_in t) o.form.routes) (rules-test (entries_of t) (joins_of t) o.form.rules))
 
 pub thin-test : (t : Topology) → (thin_test t ≡ true) ↔ IsThin t
 unfolding thin_test
-thin-test t = (λ h. over-is (entries_of t) (interpreted (entries_of t)) (ends_in t) h, λ h. over-test (entries_of t) (interpreted (entries_of t)) (ends_in t) h)
+thin-test t = (test-is t, is-test t)
 
 -- what decides it is the test
 pub decides-test : (b : Bool) (t : Topology) → (b ≡ true) ↔ IsThin t → b ≡ thin_test t

@@ -1,9 +1,11 @@
 pub mod Tokens
 pub mod LiveControls
+pub mod EntryValue
 pub mod Entries
 pub mod PcmList
 pub mod ControlRanges
 pub mod Names
+pub mod Lookups
 pub mod Ends
 pub mod Lists
 pub mod Needed
@@ -11,6 +13,7 @@ pub mod Rules
 pub mod Table
 pub mod Cycles
 pub mod Reach
+pub mod WiringValue
 pub mod PlanOf
 pub mod WellFormed
 pub mod Thin

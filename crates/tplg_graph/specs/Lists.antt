@@ -2,6 +2,7 @@
 -- read off the widgets that are interpreted, the real routes, and what names name.
 use Rattle.std.specs.Prelude.{ℕ, ℤ, nat_abs, List, length, map, find, Bool, true, false, Option, Some, None, option_and_then, unwrap_or, slice_get, if◌then◌else◌, ◌==◌}
 use Rattle.std.specs.Option.{option_map}
+use Rattle.std.specs.Int.{w32, cast_signed}
 use Rattle.std.specs.List.{list_any, filter_map, range_with_len}
 use Rattle.stream_law.specs.declared.graph.Kind.{Kind}
 use Rattle.stream_law.specs.declared.graph.Kind.TheVariants as kind
@@ -10,6 +11,9 @@ use Rattle.stream_law.specs.declared.graph.Comp.{Comp}
 use Rattle.stream_law.specs.declared.graph.Edge.{Edge}
 use Rattle.stream_law.specs.declared.graph.Pipe.{Pipe}
 use Rattle.stream_law.specs.declared.graph.Join.{Join}
+use Rattle.tplg_model.specs.declared.control.ControlHead.{ControlHead}
+use Rattle.tplg_model.specs.declared.control.Control.{Control}
+use Rattle.tplg_model.specs.declared.control.Control.TheVariants as recorded
 use Rattle.tplg_model.specs.declared.block.Topology.{Topology}
 use Rattle.tplg_graph.specs.declared.entry.Role.{Role}
 use Rattle.tplg_graph.specs.declared.entry.Role.TheVariants.{HostPlay, HostCapture, Dai, Mixer, Mux, Eq}
@@ -22,9 +26,7 @@ use Rattle.tplg_plan.specs.declared.plans.WidgetPlan.{WidgetPlan}
 use Rattle.tplg_plan.specs.declared.plans.ControlPlan.{ControlPlan}
 use Rattle.tplg_plan.specs.declared.plans.ControlKind.{ControlKind}
 use Rattle.tplg_plan.specs.declared.plans.ControlKind.TheVariants.{Volume, Choice, Blob}
-use Rattle.tplg_graph.specs.declared.live_control.Scale.{Scale}
-use Rattle.tplg_graph.specs.declared.live_control.LiveControl.{LiveControl}
-use Rattle.tplg_graph.specs.declared.live_control.LiveControl.TheVariants as live
+use Rattle.tplg_graph.specs.LiveControls.{scale_word}
 use Rattle.tplg_graph.specs.declared.pcm_caps.PcmCaps.{PcmCaps}
 use Rattle.tplg_graph.specs.PcmList.{caps_of}
 use Rattle.tplg_graph.specs.ControlRanges.{is_volume}
@@ -142,18 +144,18 @@ streams_on ps pcms = filter_map (stream_at ps pcms) (range_with_len 0 (length ps
 -- ---- controls
 
 -- what a volume takes, where its values and channels are in range
-abbrev pub volume_kind : ℤ → ℤ → ℕ → Scale → Option ControlKind
-volume_kind min max channels scale =
-    if is_volume min max channels then Some (Volume (nat_abs min) (nat_abs max) channels scale.min scale.step scale.mute) else None
+abbrev pub volume_kind : ControlHead → ℤ → ℤ → ℕ → Option ControlKind
+volume_kind head min max channels =
+    if is_volume min max channels then Some (Volume (nat_abs min) (nat_abs max) channels (cast_signed w32 (scale_word head 0)) (scale_word head 1) (scale_word head 2)) else None
 
 -- what a live control takes
-abbrev pub kind_in : LiveControl → Option ControlKind
-kind_in (live.Volume min max channels scale) = volume_kind min max channels scale
-kind_in (live.Choice items) = Some (Choice items)
-kind_in (live.Blob max initial) = Some (Blob max initial)
+abbrev pub kind_in : Control → Option ControlKind
+kind_in (recorded.Mixer head min max platform_max invert num_channels channels private) = volume_kind head min max num_channels
+kind_in (recorded.Enum head num_channels channels items mask count texts values private) = Some (Choice items)
+kind_in (recorded.Bytes head max mask base num_regs ext_ops private) = Some (Blob max private)
 
 -- the live control of this id, where there is one
-abbrev pub control_of : ℕ → Option LiveControl → Option ControlPlan
+abbrev pub control_of : ℕ → Option Control → Option ControlPlan
 control_of id control = option_map (λ kind. record { comp = id; kind = kind }) (option_and_then kind_in control)
 
 abbrev pub control_at : List Entry → ℕ → Option ControlPlan

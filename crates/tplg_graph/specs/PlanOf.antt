@@ -12,8 +12,7 @@ use Rattle.tplg_plan.specs.declared.plans.StreamPlan.{StreamPlan}
 use Rattle.tplg_plan.specs.declared.plans.ControlPlan.{ControlPlan}
 use Rattle.tplg_graph.specs.declared.pcm_caps.PcmCaps.{PcmCaps}
 use Rattle.tplg_graph.specs.Entries.{entries_of, interpreted}
-use Rattle.std.specs.List.{filter_map}
-use Rattle.tplg_graph.specs.Ends.{all_ends, real_of}
+use Rattle.tplg_graph.specs.WiringValue.{WiringValue, wiring_of}
 use Rattle.tplg_graph.specs.PcmList.{pcms_of}
 use Rattle.tplg_graph.specs.Lists.{joins_of, components_on, edges_on, pipes_on, streams_on, controls_on, names_on, widgets_on}
 
@@ -53,10 +52,10 @@ plan_with ps pcms graph = record {
 abbrev pub plan_on : List Entry → List Entry → List PcmCaps → List Join → Plan
 plan_on es ps pcms js = plan_with ps pcms (graph_on es ps js)
 
--- over the routes of a topology
-abbrev pub plan_over : List Entry → List Entry → List PcmCaps → Topology → Plan
-plan_over es ps pcms t = plan_on es ps pcms (filter_map real_of (all_ends es t))
+-- over what is read of a topology
+abbrev pub plan_by : WiringValue → Plan
+plan_by w = plan_on w.widgets (interpreted w.widgets) w.pcms w.joins
 
 -- a topology's plan has the lists of its graph
 abbrev pub plan_of : Topology → Plan
-plan_of t = plan_on (entries_of t) (ids t) (pcms_of t) (joins_of t)
+plan_of t = plan_by (wiring_of t)

@@ -1,19 +1,17 @@
 -- The rules as tests: the first rule that fails, with its least item.
-use Rattle.std.specs.Prelude.{ℕ, List, [], ◌∷◌, length, Bool, false, not, ◌&&◌, ◌||◌, ◌==◌, Option, Some, None, find}
+use Rattle.std.specs.Prelude.{ℕ, List, [], ◌∷◌, ◌++◌, length, map, Bool, false, not, ◌&&◌, ◌||◌, ◌==◌, Option, Some, None, find}
 use Rattle.std.specs.Option.{option_map_or}
 use Rattle.std.specs.List.{list_any, range_with_len}
 use Rattle.stream_law.specs.declared.graph.Comp.{Comp}
 use Rattle.stream_law.specs.declared.graph.Edge.{Edge}
-use Rattle.stream_law.specs.declared.graph.Join.{Join}
 use Rattle.stream_law.specs.Ways.{is_end}
 use Rattle.tplg_model.specs.declared.block.Topology.{Topology}
-use Rattle.tplg_graph.specs.declared.entry.Entry.{Entry}
-use Rattle.tplg_graph.specs.declared.pcm_caps.PcmCaps.{PcmCaps}
-use Rattle.tplg_graph.specs.declared.route_end.Ends.{Ends}
-use Rattle.tplg_graph.specs.Entries.{entries_of, interpreted}
-use Rattle.tplg_graph.specs.Ends.{ends_in}
-use Rattle.tplg_graph.specs.PcmList.{pcms_of}
-use Rattle.tplg_graph.specs.Lists.{joins_of, components_on, edges_on}
+use Rattle.tplg_graph.specs.declared.rule_name.RuleName.{RuleName}
+use Rattle.tplg_graph.specs.declared.rule_name.RuleName.TheVariants as rule
+use Rattle.tplg_graph.specs.Entries.{interpreted}
+use Rattle.tplg_graph.specs.WiringValue.{WiringValue, wiring_of}
+use Rattle.tplg_graph.specs.Lists.{components_on, edges_on}
+use Rattle.tplg_graph.specs.Rules.{Rule, tested}
 use Rattle.tplg_graph.specs.Table.{count_holds, name_holds, ends_hold, route_holds, buffer_holds, component_holds, index_holds, sched_holds, period_holds, dai_holds, host_holds, size_holds, control_holds}
 use Rattle.tplg_graph.specs.Cycles.{is_capture, plays}
 
@@ -54,6 +52,59 @@ abbrev pub ruling : List Test → Option (ℕ × ℕ)
 ruling [] = None
 ruling (test ∷ tests) = ruled test.number (first_failing test) (ruling tests)
 
+-- ---- rules 1 to 13: the number of each, how many items it has, and its test of an item
+
+abbrev pub number_of : RuleName → ℕ
+number_of rule.Counts = 1
+number_of rule.Names = 2
+number_of rule.RouteEnds = 3
+number_of rule.Routes = 4
+number_of rule.Buffers = 5
+number_of rule.Components = 6
+number_of rule.Indices = 7
+number_of rule.Schedulers = 8
+number_of rule.Periods = 9
+number_of rule.Dais = 10
+number_of rule.Hosts = 11
+number_of rule.Sizes = 12
+number_of rule.Controls = 13
+
+-- counts, routes or widgets
+abbrev pub items_of : RuleName → WiringValue → ℕ
+items_of rule.Counts w = 5
+items_of rule.RouteEnds w = length w.ends
+items_of rule.Routes w = length w.ends
+items_of _ w = length w.widgets
+
+abbrev pub holds_at : RuleName → WiringValue → ℕ → Bool
+holds_at rule.Counts w k = count_holds (interpreted w.widgets) w.pcms k
+holds_at rule.Names w k = name_holds w.widgets k
+holds_at rule.RouteEnds w k = ends_hold w.ends k
+holds_at rule.Routes w k = route_holds w.ends k
+holds_at rule.Buffers w k = buffer_holds w.widgets w.joins k
+holds_at rule.Components w k = component_holds w.widgets w.joins k
+holds_at rule.Indices w k = index_holds w.widgets (interpreted w.widgets) k
+holds_at rule.Schedulers w k = sched_holds w.widgets k
+holds_at rule.Periods w k = period_holds w.widgets k
+holds_at rule.Dais w k = dai_holds w.widgets w.joins k
+holds_at rule.Hosts w k = host_holds w.widgets w.pcms k
+holds_at rule.Sizes w k = size_holds w.widgets k
+holds_at rule.Controls w k = control_holds w.widgets k
+
+abbrev pub test_by : RuleName → WiringValue → Test
+test_by name w = record { number = number_of name; items = items_of name w; holds = holds_at name w }
+
+-- the same as a rule
+abbrev pub rule_by : RuleName → WiringValue → Rule
+rule_by name w = tested (number_of name) (items_of name w) (holds_at name w)
+
+abbrev pub rule_names : List RuleName
+rule_names =
+    rule.Counts ∷ rule.Names ∷ rule.RouteEnds ∷ rule.Routes ∷ rule.Buffers ∷ rule.Components ∷ rule.Indices ∷ rule.Schedulers ∷ rule.Periods
+    ∷ rule.Dais ∷ rule.Hosts ∷ rule.Sizes ∷ rule.Controls ∷ []
+
+-- ---- all rules
+
 -- both parts of rule 14, over the components and the edges
 abbrev pub walk_tests : ℕ → List Comp → List Edge → List Test
 walk_tests ids comps edges =
@@ -62,23 +113,11 @@ walk_tests ids comps edges =
     ∷ []
 
 -- all, in number order
-abbrev pub tests_on : List Entry → List Entry → List PcmCaps → List Ends → List Join → List Test
-tests_on es ps pcms rs js =
-    record { number = 1; items = 5; holds = count_holds ps pcms }
-    ∷ record { number = 2; items = length es; holds = name_holds es }
-    ∷ record { number = 3; items = length rs; holds = ends_hold rs }
-    ∷ record { number = 4; items = length rs; holds = route_holds rs }
-    ∷ record { number = 5; items = length es; holds = buffer_holds es js }
-    ∷ record { number = 6; items = length es; holds = component_holds es js }
-    ∷ record { number = 7; items = length es; holds = index_holds es ps }
-    ∷ record { number = 8; items = length es; holds = sched_holds es }
-    ∷ record { number = 9; items = length es; holds = period_holds es }
-    ∷ record { number = 10; items = length es; holds = dai_holds es js }
-    ∷ record { number = 11; items = length es; holds = host_holds es pcms }
-    ∷ record { number = 12; items = length es; holds = size_holds es }
-    ∷ record { number = 13; items = length es; holds = control_holds es }
-    ∷ walk_tests (length ps) (components_on ps js) (edges_on ps js)
+abbrev pub tests_on : WiringValue → List Test
+tests_on w =
+    map (λ name. test_by name w) rule_names
+    ++ walk_tests (length (interpreted w.widgets)) (components_on (interpreted w.widgets) w.joins) (edges_on (interpreted w.widgets) w.joins)
 
 -- the first rule that a topology breaks, and its least item; none where it is well-formed
 unfoldable pub ruling_of : Topology → Option (ℕ × ℕ)
-ruling_of t = ruling (tests_on (entries_of t) (interpreted (entries_of t)) (pcms_of t) (ends_in t) (joins_of t))
+ruling_of t = ruling (tests_on (wiring_of t))

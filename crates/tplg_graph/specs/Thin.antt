@@ -1,13 +1,12 @@
 -- A thin topology: a host that plays through one buffer to one DAI, in one pipeline of 1000 µs.
 use Rattle.std.specs.Prelude.{◌≡◌, [], ◌∷◌, List, true, Some}
-use Rattle.std.specs.List.{filter_map}
 use Rattle.stream_law.specs.declared.graph.Join.{Join}
 use Rattle.tplg_model.specs.declared.block.Topology.{Topology}
 use Rattle.tplg_graph.specs.declared.entry.Entry.{Entry}
 use Rattle.tplg_graph.specs.declared.route_end.End.TheVariants.{Buffer, Component}
 use Rattle.tplg_graph.specs.declared.route_end.Ends.{Ends}
-use Rattle.tplg_graph.specs.Entries.{entries_of, interpreted, is_host_play, is_buffer, is_dai, is_scheduler}
-use Rattle.tplg_graph.specs.Ends.{ends_in, real_of}
+use Rattle.tplg_graph.specs.WiringValue.{WiringValue, wiring_of}
+use Rattle.tplg_graph.specs.Entries.{interpreted, is_host_play, is_buffer, is_dai, is_scheduler}
 use Rattle.tplg_graph.specs.Rules.{Rule, AllHold}
 use Rattle.tplg_graph.specs.Table.{names_rule, scheds_rule, periods_rule, dais_rule, sizes_rule}
 
@@ -47,10 +46,10 @@ pub record KeepsForm (es : List Entry) (rs : List Ends) (js : List Join) : Type 
   pub routes : rs ≡ thin_ends
   pub rules : AllHold (thin_rules es js)
 
--- over the widgets, the interpreted ones and the ends of the routes
-pub record AreThinOver (es : List Entry) (ps : List Entry) (rs : List Ends) : Type 0 where
-  pub widgets : AreThin ps
-  pub form : KeepsForm es rs (filter_map real_of rs)
+-- over what is read of a topology
+pub record IsThinBy (w : WiringValue) : Type 0 where
+  pub widgets : AreThin (interpreted w.widgets)
+  pub form : KeepsForm w.widgets w.ends w.joins
 
 abbrev pub IsThin : Topology → Type 0
-IsThin t = AreThinOver (entries_of t) (interpreted (entries_of t)) (ends_in t)
+IsThin t = IsThinBy (wiring_of t)

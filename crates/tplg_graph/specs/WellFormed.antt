@@ -20,6 +20,7 @@ use Rattle.tplg_graph.specs.Rules.{Rule as A_rule}
 use Rattle.tplg_graph.specs.Table.{counts_rule, names_rule, ends_rule, routes_rule, buffers_rule, components_rule, indices_rule, scheds_rule, periods_rule, dais_rule, hosts_rule, sizes_rule, controls_rule}
 use Rattle.tplg_graph.specs.Cycles.{cycles_rule, ways_rule}
 use Rattle.tplg_graph.specs.Needed.{need_of}
+use Rattle.tplg_graph.specs.WiringValue.{WiringValue, wiring_of}
 
 -- rules 2 to 4, over the widgets and the ends of routes
 abbrev pub front_rules : List Entry → List Ends → List A_rule
@@ -53,20 +54,23 @@ middle_rules es ps pcms rs js = front_rules es rs ++ (join_rules es ps js ++ (to
 abbrev pub later_rules : List Entry → List Entry → List PcmCaps → List Ends → List Join → List A_rule
 later_rules es ps pcms rs js = middle_rules es ps pcms rs js ++ way_rules ps js
 
--- the same over the routes of a topology
-abbrev pub later_over : List Entry → List Entry → List PcmCaps → Topology → List A_rule
-later_over es ps pcms t = later_rules es ps pcms (all_ends es t) (filter_map real_of (all_ends es t))
-
-abbrev pub rules_over : List Entry → List Entry → List PcmCaps → Topology → List A_rule
-rules_over es ps pcms t = counts_rule ps pcms ∷ later_over es ps pcms t
-
 -- all, in number order
 abbrev pub rules_on : List Entry → List Entry → List PcmCaps → List Ends → List Join → List A_rule
 rules_on es ps pcms rs js = counts_rule ps pcms ∷ later_rules es ps pcms rs js
 
+-- over what is read of a topology
+abbrev pub middle_by : WiringValue → List A_rule
+middle_by w = middle_rules w.widgets (interpreted w.widgets) w.pcms w.ends w.joins
+
+abbrev pub ways_by : WiringValue → List A_rule
+ways_by w = way_rules (interpreted w.widgets) w.joins
+
+abbrev pub rules_by : WiringValue → List A_rule
+rules_by w = rules_on w.widgets (interpreted w.widgets) w.pcms w.ends w.joins
+
 -- the rules of a topology in number order
 abbrev pub rules_of : Topology → List A_rule
-rules_of t = rules_on (entries_of t) (interpreted (entries_of t)) (pcms_of t) (ends_in t) (joins_of t)
+rules_of t = rules_by (wiring_of t)
 
 abbrev pub IsWellFormed : Topology → Type 0
 IsWellFormed t = AllHold (rules_of t)

@@ -1,16 +1,18 @@
 // The live controls of a topology, by id.
 ghost use Rattle.std.specs.Prelude.{◌≡◌, ◌<◌, ◌^◌, ◌++◌, length, IfOk, OnOk};
-ghost use Rattle.std.specs.Option.{option_to_list};
+ghost use Rattle.std.specs.Option.{option_copied, option_to_list};
 ghost use Rattle.sof_base.specs.BlobFaults.{is_blob};
 ghost use Rattle.tplg_plan.specs.Ranges.{is_initial};
 ghost use Rattle.tplg_graph.specs.ControlRanges as ranges;
 ghost use Rattle.tplg_graph.specs.Lists as law;
 
 use crate::entry::Entry;
-use crate::live_control::{LiveControl, Scale, bytes_again};
+use crate::live_control::scale_word;
 use tplg_plan::{ControlKind, ControlPlan};
 use eq_biquad::check;
+use sof_base::Items;
 use std::alloc::{AllocError, Global};
+use tplg_model::{Control, ControlHead};
 
 /// Whether a volume's least and greatest value and its number of channels are in range.
 fn is_volume(min: i32, max: i32, channels: u32) -> bool
@@ -37,24 +39,24 @@ fn is_initial(bytes: &[u8]) -> bool
     bytes.is_empty() || is_blob(bytes)
 }
 
-fn is_control(control: &LiveControl) -> bool
+fn is_control(control: &Control) -> bool
     ensures { result ≡ ranges.is_control control.now }
 {
     match control {
-        LiveControl::Volume {
+        Control::Mixer {
             min,
             max,
-            channels,
+            num_channels,
             ..
-        } => is_volume(*min, *max, *channels),
-        LiveControl::Choice { items } => is_choice(*items),
-        LiveControl::Blob { initial, .. } => is_initial(initial.items()),
+        } => is_volume(*min, *max, *num_channels),
+        Control::Enum { items, .. } => is_choice(*items),
+        Control::Bytes { private, .. } => is_initial(private.items()),
     }
 }
 
 /// Whether a live control, where there is one, is in range.
-pub fn in_range(control: &Option<LiveControl>) -> bool
-    ensures { result ≡ ranges.in_range control.now }
+pub fn in_range(control: Option<&Control>) -> bool
+    ensures { result ≡ ranges.in_range (option_copied control.entry) }
 {
     match control {
         None => true,
@@ -62,8 +64,8 @@ pub fn in_range(control: &Option<LiveControl>) -> bool
     }
 }
 
-fn volume_kind(min: i32, max: i32, channels: u32, scale: Scale) -> Option<ControlKind>
-    ensures { result ≡ law.volume_kind min max channels scale }
+fn volume_kind(head: &ControlHead, min: i32, max: i32, channels: u32) -> Option<ControlKind>
+    ensures { result ≡ law.volume_kind head.now min max channels }
 {
     if !is_volume(min, max, channels) {
         return None;
@@ -72,25 +74,34 @@ fn volume_kind(min: i32, max: i32, channels: u32, scale: Scale) -> Option<Contro
         min: min.unsigned_abs(),
         max: max.unsigned_abs(),
         channels: channels as u8,
-        tlv_min: scale.min,
-        tlv_step: scale.step,
-        tlv_mute: scale.mute,
+        tlv_min: scale_word(head, 0).cast_signed(),
+        tlv_step: scale_word(head, 1),
+        tlv_mute: scale_word(head, 2),
     })
 }
 
-fn kind_in(alloc: Global, control: &LiveControl) -> Result<Option<ControlKind>, AllocError>
+/// The same bytes again.
+fn bytes_again(alloc: Global, bytes: &[u8]) -> Result<Items<u8>, AllocError>
+    ensures { IfOk result (λ copy. copy ≡ bytes.now) }
+{
+    let copy = Vec::from_slice(alloc, bytes)?;
+    Ok(Items::from_vec(copy))
+}
+
+fn kind_in(alloc: Global, control: &Control) -> Result<Option<ControlKind>, AllocError>
     ensures { IfOk result (λ o. o ≡ law.kind_in control.now) }
 {
     match control {
-        LiveControl::Volume {
+        Control::Mixer {
+            head,
             min,
             max,
-            channels,
-            scale,
-        } => Ok(volume_kind(*min, *max, *channels, *scale)),
-        LiveControl::Choice { items } => Ok(Some(ControlKind::Choice { items: *items })),
-        LiveControl::Blob { max, initial } => {
-            let initial = bytes_again(alloc, initial.items())?;
+            num_channels,
+            ..
+        } => Ok(volume_kind(head, *min, *max, *num_channels)),
+        Control::Enum { items, .. } => Ok(Some(ControlKind::Choice { items: *items })),
+        Control::Bytes { max, private, .. } => {
+            let initial = bytes_again(alloc, private.items())?;
             Ok(Some(ControlKind::Blob { max: *max, initial }))
         }
     }
@@ -99,9 +110,9 @@ fn kind_in(alloc: Global, control: &LiveControl) -> Result<Option<ControlKind>, 
 fn control_of(
     alloc: Global,
     id: u32,
-    control: &Option<LiveControl>,
+    control: Option<&Control>,
 ) -> Result<Option<ControlPlan>, AllocError>
-    ensures { IfOk result (λ o. o ≡ law.control_of id control.now) }
+    ensures { IfOk result (λ o. o ≡ law.control_of id (option_copied control.entry)) }
 {
     match control {
         None => Ok(None),
@@ -117,7 +128,7 @@ fn control_at(alloc: Global, parts: &[Entry], id: u32) -> Result<Option<ControlP
 {
     match parts.get(id as usize) {
         None => Ok(None),
-        Some(entry) => control_of(alloc, id, &entry.control),
+        Some(entry) => control_of(alloc, id, entry.control()),
     }
 }
 

@@ -1,22 +1,17 @@
 // The lists of a topology's graph, by id.
-ghost use Rattle.std.specs.Prelude.{◌≡◌, ◌<◌, ◌^◌, ◌==◌, ℕ, List, All, length, map, find, position, Some, None, IfOk};
+ghost use Rattle.std.specs.Prelude.{◌≡◌, ◌<◌, ◌^◌, All, length, IfOk};
 ghost use Rattle.std.specs.Option.{option_map};
-ghost use Rattle.std.specs.List.{list_any};
-ghost use Rattle.std.specs.Str.{bytes_eq};
-ghost use Rattle.std.specs.HashMap as hash;
-ghost use Rattle.tplg_graph.specs.Entries.{interpreted};
-ghost use Rattle.tplg_graph.specs.Names.{has_name};
 ghost use Rattle.tplg_graph.specs.Lists as law;
 ghost use Rattle.tplg_plan.specs.WidgetWords.{FitsWords};
 
 use crate::entry::{Entry, Role, is_buffer, is_scheduler};
 use crate::pcm_caps::{PcmCaps, caps_of};
 use tplg_plan::{StreamPlan, WidgetPlan};
-use crate::route_end::{End, end_of};
+use crate::route_end::End;
+use crate::widgets::Widgets;
 use crate::tokens::{FormatToken, format_number, format_of};
 use sof_base::Name44;
 use std::alloc::{AllocError, Global};
-use std::collections::HashMap;
 use stream_law::{Comp, Edge, Join, Kind, Pipe, Setting};
 
 /// Whether a real route ends at this id.
@@ -49,11 +44,11 @@ fn component_at(parts: &[Entry], joins: &[Join], id: u32) -> Option<Comp>
     ensures { result ≡ law.component_at parts.now joins.now id }
 {
     let entry = parts.get(id as usize)?;
-    let kind = kind_of(entry.role, entry.tokens.format, is_sink(joins, id))?;
+    let kind = kind_of(entry.role(), entry.tokens().format, is_sink(joins, id))?;
     Some(Comp {
         id,
         kind,
-        pipe: entry.index,
+        pipe: entry.index(),
         setting: Setting::Nothing,
     })
 }
@@ -105,8 +100,8 @@ fn edge_at(parts: &[Entry], joins: &[Join], id: u32) -> Option<Edge>
     }
     Some(Edge {
         buffer: id,
-        pipe: entry.index,
-        size: entry.tokens.size.unwrap_or(0),
+        pipe: entry.index(),
+        size: entry.tokens().size.unwrap_or(0),
         source: source_of(joins, id),
         sink: sink_of(joins, id),
     })
@@ -131,49 +126,30 @@ fn component_end(end: End) -> Option<u32>
     }
 }
 
-fn pipe_at(
-    entries: &[Entry],
-    parts: &[Entry],
-    ids: &HashMap<&[u8], usize>,
-    all: &HashMap<&[u8], usize>,
-    id: u32,
-) -> Option<Pipe>
-    requires few { length parts.now < 2 ^ 32 }
-    requires parts { parts.now ≡ interpreted entries.now }
-    requires ids { (q : List ℕ) → hash.get_by (λ k. bytes_eq q k.now) ids.now ≡ position (has_name q) parts.now }
-    requires all { (q : List ℕ) → hash.get_by (λ k. bytes_eq q k.now) all.now ≡ position (has_name q) entries.now }
-    ensures { result ≡ law.pipe_at entries.now parts.now id }
+fn pipe_at(widgets: &Widgets, parts: &[Entry], id: u32) -> Option<Pipe>
+    ensures { result ≡ law.pipe_at widgets.now parts.now id }
 {
     let entry = parts.get(id as usize)?;
     if !is_scheduler(entry) {
         return None;
     }
-    let sched = component_end(end_of(entries, parts, ids, all, entry.sname.as_bytes()))?;
+    let sched = component_end(widgets.end_of(entry.sname().as_bytes()))?;
     Some(Pipe {
         id,
-        index: entry.index,
+        index: entry.index(),
         sched,
-        period: entry.tokens.period.unwrap_or(0),
+        period: entry.tokens().period.unwrap_or(0),
         complete: true,
     })
 }
 
 /// The pipelines by id.
-pub fn pipes(
-    alloc: Global,
-    entries: &[Entry],
-    parts: &[Entry],
-    ids: &HashMap<&[u8], usize>,
-    all: &HashMap<&[u8], usize>,
-) -> Result<Vec<Pipe>, AllocError>
-    requires few { length parts.now < 2 ^ 32 }
-    requires parts { parts.now ≡ interpreted entries.now }
-    requires ids { (q : List ℕ) → hash.get_by (λ k. bytes_eq q k.now) ids.now ≡ position (has_name q) parts.now }
-    requires all { (q : List ℕ) → hash.get_by (λ k. bytes_eq q k.now) all.now ≡ position (has_name q) entries.now }
-    ensures { IfOk result (λ xs. xs.items ≡ law.pipes_on entries.now parts.now) }
+pub fn pipes(alloc: Global, widgets: &Widgets, parts: &[Entry]) -> Result<Vec<Pipe>, AllocError>
+    requires { length parts.now < 2 ^ 32 }
+    ensures { IfOk result (λ xs. xs.items ≡ law.pipes_on widgets.now parts.now) }
 {
     (0..parts.len() as u32)
-        .filter_map(|id| pipe_at(entries, parts, ids, all, id))
+        .filter_map(|id| pipe_at(widgets, parts, id))
         .collect(alloc)
 }
 
@@ -203,7 +179,7 @@ fn stream_at(parts: &[Entry], pcms: &[PcmCaps], id: u32) -> Option<StreamPlan>
     ensures { result ≡ law.stream_at parts.now pcms.now id }
 {
     let entry = parts.get(id as usize)?;
-    stream_of(pcms, id, entry.role, entry.sname.as_bytes())
+    stream_of(pcms, id, entry.role(), entry.sname().as_bytes())
 }
 
 /// The streams by the ids of their hosts.
@@ -220,27 +196,26 @@ pub fn streams(
         .collect(alloc)
 }
 
+fn name_of(entry: &Entry) -> Name44
+    ensures { result ≡ entry.now.name }
+{
+    entry.name().copied()
+}
+
 /// The names by id.
 pub fn names(alloc: Global, parts: &[Entry]) -> Result<Vec<Name44>, AllocError>
     ensures { IfOk result (λ xs. xs.items ≡ law.names_on parts.now) }
 {
-    parts.iter().map(|e| e.name.copied()).collect(alloc)
-}
-
-/// The index of a widget's pipeline.
-fn pipe_of(entry: &Entry) -> u32
-    ensures { result ≡ entry.now.index }
-{
-    entry.index
+    parts.iter().map(|e| name_of(e)).collect(alloc)
 }
 
 fn widget_plan(entry: &Entry) -> WidgetPlan
     ensures value { result ≡ law.widget_plan entry.now }
     ensures fits { FitsWords result }
 {
-    let tokens = entry.tokens;
+    let tokens = entry.tokens();
     WidgetPlan {
-        pipe: pipe_of(entry),
+        pipe: entry.index(),
         periods_sink: tokens.periods_sink.unwrap_or(0),
         periods_source: tokens.periods_source.unwrap_or(0),
         frame_fmt: format_number(format_of(tokens.format)),

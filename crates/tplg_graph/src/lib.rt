@@ -2,26 +2,28 @@
 //! the rules that a topology keeps, and the plan that the host and the program follow.
 #![tactic(auto)]
 
-mod by_name;
 mod control_lists;
 mod entry;
 mod graph_lists;
 mod live_control;
-mod making;
+mod first_names;
 mod pcm_caps;
 mod plan_fault;
+mod planning;
 mod record_rules;
 mod route_end;
 mod route_rules;
-mod rule_checks;
-mod rule_faults;
-mod rule_groups;
+mod rule_name;
+mod rule_table;
 mod thin_form;
 mod tokens;
 mod walk_rules;
 mod walks;
+mod widget_rules;
+mod widgets;
+mod wiring;
 
-pub use making::plan;
+pub use planning::plan;
 pub use plan_fault::PlanFault;
 pub use thin_form::is_thin;
 pub use tplg_plan::{ControlKind, ControlPlan, Plan, StreamPlan, WidgetPlan, gain, need};

@@ -1,6 +1,6 @@
-// Which items break the rules on counts, on PCMs and on controls.
-ghost use Rattle.std.specs.Prelude.{◌≡◌, not, length, find, count_by, take};
-ghost use Rattle.std.specs.List.{list_any, range_with_len};
+// What rules 1, 11 and 13 say of a count or a widget.
+ghost use Rattle.std.specs.Prelude.{◌≡◌, count_by, take};
+ghost use Rattle.std.specs.List.{list_any};
 ghost use Rattle.tplg_graph.specs.Entries as entries;
 ghost use Rattle.tplg_graph.specs.Table as law;
 
@@ -36,7 +36,8 @@ fn count_controls(parts: &[Entry]) -> usize
     parts.iter().filter(|p| has_control(*p)).count()
 }
 
-fn count_holds(parts: &[Entry], pcms: &[PcmCaps], k: usize) -> bool
+/// Rule 1 at a count.
+pub fn count_holds(parts: &[Entry], pcms: &[PcmCaps], k: usize) -> bool
     ensures { result ≡ law.count_holds parts.now pcms.now k }
 {
     if k == 0 {
@@ -52,13 +53,6 @@ fn count_holds(parts: &[Entry], pcms: &[PcmCaps], k: usize) -> bool
     }
 }
 
-/// The first of the five counts that breaks rule 1.
-pub fn failing_count(parts: &[Entry], pcms: &[PcmCaps]) -> Option<usize>
-    ensures { result ≡ find (λ k. not (law.count_holds parts.now pcms.now k)) (range_with_len 0 5) }
-{
-    (0..5).find(|k| !count_holds(parts, pcms, *k))
-}
-
 fn is_host(entry: &Entry) -> bool
     ensures { result ≡ law.is_host entry.now }
 {
@@ -68,7 +62,7 @@ fn is_host(entry: &Entry) -> bool
 fn is_same_stream(entry: &Entry, other: &Entry) -> bool
     ensures { result ≡ law.is_same_stream entry.now other.now }
 {
-    entry.sname.as_bytes() == other.sname.as_bytes()
+    entry.sname().as_bytes() == other.sname().as_bytes()
         && ((is_host_play(entry) && is_host_play(other))
             || (is_host_capture(entry) && is_host_capture(other)))
 }
@@ -76,7 +70,7 @@ fn is_same_stream(entry: &Entry, other: &Entry) -> bool
 fn has_pcm(pcms: &[PcmCaps], entry: &Entry) -> bool
     ensures { result ≡ law.has_pcm pcms.now entry.now }
 {
-    let sname = entry.sname.as_bytes();
+    let sname = entry.sname().as_bytes();
     !sname.is_empty() && has_caps(pcms, is_host_capture(entry), sname)
 }
 
@@ -97,7 +91,8 @@ fn is_earlier_stream(entries: &[Entry], k: usize, entry: &Entry) -> bool
     }
 }
 
-fn host_holds(entries: &[Entry], pcms: &[PcmCaps], k: usize) -> bool
+/// Rule 11 at a widget.
+pub fn host_holds(entries: &[Entry], pcms: &[PcmCaps], k: usize) -> bool
     ensures { result ≡ law.host_holds entries.now pcms.now k }
 {
     match entries.get(k) {
@@ -108,34 +103,22 @@ fn host_holds(entries: &[Entry], pcms: &[PcmCaps], k: usize) -> bool
     }
 }
 
-/// The first host that breaks rule 11.
-pub fn failing_host(entries: &[Entry], pcms: &[PcmCaps]) -> Option<usize>
-    ensures { result ≡ find (λ k. not (law.host_holds entries.now pcms.now k)) (range_with_len 0 (length entries.now)) }
-{
-    (0..entries.len()).find(|k| !host_holds(entries, pcms, *k))
-}
-
 fn is_known_process(process: Process) -> bool
     ensures { result ≡ law.is_known_process process }
 {
     matches!(process, Process::Equaliser)
 }
 
-fn control_holds(entries: &[Entry], k: usize) -> bool
+/// Rule 13 at a widget.
+pub fn control_holds(entries: &[Entry], k: usize) -> bool
     ensures { result ≡ law.control_holds entries.now k }
 {
     match entries.get(k) {
         None => true,
         Some(entry) => {
-            (!is_equaliser(entry) || is_known_process(entry.tokens.process))
-                && in_range(&entry.control)
+            (!is_equaliser(entry) || is_known_process(entry.tokens().process))
+                && in_range(entry.control())
         }
     }
 }
 
-/// The first widget that breaks rule 13.
-pub fn failing_control(entries: &[Entry]) -> Option<usize>
-    ensures { result ≡ find (λ k. not (law.control_holds entries.now k)) (range_with_len 0 (length entries.now)) }
-{
-    (0..entries.len()).find(|k| !control_holds(entries, *k))
-}

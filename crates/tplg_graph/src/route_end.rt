@@ -1,15 +1,10 @@
 // What the ends of routes name.
-ghost use Rattle.std.specs.Prelude.{◌≡◌, ◌<◌, ◌^◌, ◌++◌, ℕ, List, length, map, position, Some, None, IfOk, OnOk};
+ghost use Rattle.std.specs.Prelude.{◌≡◌, ◌++◌, map, IfOk, OnOk};
 ghost use Rattle.std.specs.List.{filter_map};
-ghost use Rattle.std.specs.Str.{bytes_eq};
-ghost use Rattle.std.specs.HashMap as hash;
-ghost use Rattle.tplg_graph.specs.Entries.{interpreted};
-ghost use Rattle.tplg_graph.specs.Names.{has_name};
 ghost use Rattle.tplg_graph.specs.Ends as law;
 
-use crate::entry::{Entry, is_buffer, is_component};
+use crate::widgets::Widgets;
 use std::alloc::{AllocError, Global};
-use std::collections::HashMap;
 use stream_law::Join;
 use tplg_model::{Block, Body, Route, Topology};
 
@@ -29,103 +24,29 @@ pub struct Ends {
     pub sink: End,
 }
 
-fn end_at(entry: &Entry, id: u32) -> End
-    ensures { result ≡ law.end_at entry.now id }
-{
-    if is_buffer(entry) {
-        End::Buffer(id)
-    } else if is_component(entry) {
-        End::Component(id)
-    } else {
-        End::Other
-    }
-}
-
-/// What a name names.
-pub fn end_of(
-    entries: &[Entry],
-    parts: &[Entry],
-    ids: &HashMap<&[u8], usize>,
-    all: &HashMap<&[u8], usize>,
-    name: &[u8],
-) -> End
-    requires few { length parts.now < 2 ^ 32 }
-    requires parts { parts.now ≡ interpreted entries.now }
-    requires ids { (q : List ℕ) → hash.get_by (λ k. bytes_eq q k.now) ids.now ≡ position (has_name q) parts.now }
-    requires all { (q : List ℕ) → hash.get_by (λ k. bytes_eq q k.now) all.now ≡ position (has_name q) entries.now }
-    ensures { result ≡ law.end_of entries.now name.now }
-{
-    let _entries = entries;
-    match ids.get(&name) {
-        Some(id) => match parts.get(*id) {
-            Some(entry) => end_at(entry, *id as u32),
-            None => End::Other,
-        },
-        None => {
-            if all.contains_key(&name) {
-                End::Other
-            } else {
-                End::Missing
-            }
-        }
-    }
-}
-
-fn ends_of(
-    entries: &[Entry],
-    parts: &[Entry],
-    ids: &HashMap<&[u8], usize>,
-    all: &HashMap<&[u8], usize>,
-    route: &Route,
-) -> Ends
-    requires few { length parts.now < 2 ^ 32 }
-    requires parts { parts.now ≡ interpreted entries.now }
-    requires ids { (q : List ℕ) → hash.get_by (λ k. bytes_eq q k.now) ids.now ≡ position (has_name q) parts.now }
-    requires all { (q : List ℕ) → hash.get_by (λ k. bytes_eq q k.now) all.now ≡ position (has_name q) entries.now }
-    ensures { result ≡ law.ends_of entries.now route.now }
+fn ends_of(widgets: &Widgets, route: &Route) -> Ends
+    ensures { result ≡ law.ends_of widgets.now route.now }
 {
     Ends {
-        source: end_of(entries, parts, ids, all, route.source.as_bytes()),
-        sink: end_of(entries, parts, ids, all, route.sink.as_bytes()),
+        source: widgets.end_of(route.source.as_bytes()),
+        sink: widgets.end_of(route.sink.as_bytes()),
     }
 }
 
-fn add_routes(
-    entries: &[Entry],
-    parts: &[Entry],
-    ids: &HashMap<&[u8], usize>,
-    all: &HashMap<&[u8], usize>,
-    routes: &[Route],
-    out: &mut Vec<Ends>,
-) -> Result<(), AllocError>
-    requires few { length parts.now < 2 ^ 32 }
-    requires parts { parts.now ≡ interpreted entries.now }
-    requires ids { (q : List ℕ) → hash.get_by (λ k. bytes_eq q k.now) ids.now ≡ position (has_name q) parts.now }
-    requires all { (q : List ℕ) → hash.get_by (λ k. bytes_eq q k.now) all.now ≡ position (has_name q) entries.now }
-    ensures { OnOk result (out.new.items ≡ out.old.items ++ map (law.ends_of entries.now) routes.now) }
+fn add_routes(widgets: &Widgets, routes: &[Route], out: &mut Vec<Ends>) -> Result<(), AllocError>
+    ensures { OnOk result (out.new.items ≡ out.old.items ++ map (law.ends_of widgets.now) routes.now) }
 {
     for route in routes {
-        out.push(ends_of(entries, parts, ids, all, route))?;
+        out.push(ends_of(widgets, route))?;
     }
     Ok(())
 }
 
-fn add_block(
-    entries: &[Entry],
-    parts: &[Entry],
-    ids: &HashMap<&[u8], usize>,
-    all: &HashMap<&[u8], usize>,
-    block: &Block,
-    out: &mut Vec<Ends>,
-) -> Result<(), AllocError>
-    requires few { length parts.now < 2 ^ 32 }
-    requires parts { parts.now ≡ interpreted entries.now }
-    requires ids { (q : List ℕ) → hash.get_by (λ k. bytes_eq q k.now) ids.now ≡ position (has_name q) parts.now }
-    requires all { (q : List ℕ) → hash.get_by (λ k. bytes_eq q k.now) all.now ≡ position (has_name q) entries.now }
-    ensures { OnOk result (out.new.items ≡ out.old.items ++ law.block_ends entries.now block.now) }
+fn add_block(widgets: &Widgets, block: &Block, out: &mut Vec<Ends>) -> Result<(), AllocError>
+    ensures { OnOk result (out.new.items ≡ out.old.items ++ law.block_ends widgets.now block.now) }
 {
     match &block.body {
-        Body::Routes(routes) => add_routes(entries, parts, ids, all, routes.items(), out),
+        Body::Routes(routes) => add_routes(widgets, routes.items(), out),
         _ => Ok(()),
     }
 }
@@ -134,20 +55,13 @@ fn add_block(
 pub fn all_ends(
     alloc: Global,
     topology: &Topology,
-    entries: &[Entry],
-    parts: &[Entry],
-    ids: &HashMap<&[u8], usize>,
-    all: &HashMap<&[u8], usize>,
+    widgets: &Widgets,
 ) -> Result<Vec<Ends>, AllocError>
-    requires few { length parts.now < 2 ^ 32 }
-    requires parts { parts.now ≡ interpreted entries.now }
-    requires ids { (q : List ℕ) → hash.get_by (λ k. bytes_eq q k.now) ids.now ≡ position (has_name q) parts.now }
-    requires all { (q : List ℕ) → hash.get_by (λ k. bytes_eq q k.now) all.now ≡ position (has_name q) entries.now }
-    ensures { IfOk result (λ rs. rs.items ≡ law.all_ends entries.now topology.now) }
+    ensures { IfOk result (λ rs. rs.items ≡ law.all_ends widgets.now topology.now) }
 {
     let mut out = Vec::new(alloc);
     for block in topology.blocks.items() {
-        add_block(entries, parts, ids, all, block, &mut out)?;
+        add_block(widgets, block, &mut out)?;
     }
     Ok(out)
 }

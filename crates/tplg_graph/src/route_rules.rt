@@ -1,6 +1,6 @@
-// Which items break the rules on routes and indices.
-ghost use Rattle.std.specs.Prelude.{◌≡◌, ◌<◌, ◌^◌, ◌==◌, not, length, find, count_by, take};
-ghost use Rattle.std.specs.List.{list_any, range_with_len};
+// What rules 3 to 7 say of a route or a widget.
+ghost use Rattle.std.specs.Prelude.{◌≡◌, count_by};
+ghost use Rattle.std.specs.List.{list_any};
 ghost use Rattle.tplg_graph.specs.Entries.{is_interpreted, id_of};
 ghost use Rattle.tplg_graph.specs.Table as law;
 
@@ -14,7 +14,8 @@ fn is_there(end: End) -> bool
     !matches!(end, End::Missing)
 }
 
-fn ends_hold(routes: &[Ends], k: usize) -> bool
+/// Rule 3 at a route.
+pub fn ends_hold(routes: &[Ends], k: usize) -> bool
     ensures { result ≡ law.ends_hold routes.now k }
 {
     match routes.get(k) {
@@ -23,33 +24,20 @@ fn ends_hold(routes: &[Ends], k: usize) -> bool
     }
 }
 
-/// The first route that breaks rule 3.
-pub fn failing_ends(routes: &[Ends]) -> Option<usize>
-    ensures { result ≡ find (λ k. not (law.ends_hold routes.now k)) (range_with_len 0 (length routes.now)) }
-{
-    (0..routes.len()).find(|k| !ends_hold(routes, *k))
-}
-
 fn is_buffer_end(end: End) -> bool
     ensures { result ≡ law.is_buffer_end end }
 {
     matches!(end, End::Buffer(_))
 }
 
-fn route_holds(routes: &[Ends], k: usize) -> bool
+/// Rule 4 at a route.
+pub fn route_holds(routes: &[Ends], k: usize) -> bool
     ensures { result ≡ law.route_holds routes.now k }
 {
     match routes.get(k) {
         None => true,
         Some(route) => !(is_buffer_end(route.source) && is_buffer_end(route.sink)),
     }
-}
-
-/// The first route that breaks rule 4.
-pub fn failing_route(routes: &[Ends]) -> Option<usize>
-    ensures { result ≡ find (λ k. not (law.route_holds routes.now k)) (range_with_len 0 (length routes.now)) }
-{
-    (0..routes.len()).find(|k| !route_holds(routes, *k))
 }
 
 fn count_interpreted(entries: &[Entry]) -> usize
@@ -96,20 +84,14 @@ fn is_passed_at(entries: &[Entry], joins: &[Join], k: usize) -> bool
     is_passed(joins, id_at(entries, k))
 }
 
-fn buffer_holds(entries: &[Entry], joins: &[Join], k: usize) -> bool
+/// Rule 5 at a widget.
+pub fn buffer_holds(entries: &[Entry], joins: &[Join], k: usize) -> bool
     ensures { result ≡ law.buffer_holds entries.now joins.now k }
 {
     match entries.get(k) {
         None => true,
         Some(entry) => !is_buffer(entry) || is_passed_at(entries, joins, k),
     }
-}
-
-/// The first buffer that breaks rule 5.
-pub fn failing_buffer(entries: &[Entry], joins: &[Join]) -> Option<usize>
-    ensures { result ≡ find (λ k. not (law.buffer_holds entries.now joins.now k)) (range_with_len 0 (length entries.now)) }
-{
-    (0..entries.len()).find(|k| !buffer_holds(entries, joins, *k))
 }
 
 fn are_routes(role: Option<Role>, ins: usize, outs: usize) -> bool
@@ -140,26 +122,20 @@ fn are_routes_at(entries: &[Entry], joins: &[Join], role: Option<Role>, k: usize
     are_routes_of(role, joins, id_at(entries, k))
 }
 
-fn component_holds(entries: &[Entry], joins: &[Join], k: usize) -> bool
+/// Rule 6 at a widget.
+pub fn component_holds(entries: &[Entry], joins: &[Join], k: usize) -> bool
     ensures { result ≡ law.component_holds entries.now joins.now k }
 {
     match entries.get(k) {
         None => true,
-        Some(entry) => !is_component(entry) || are_routes_at(entries, joins, entry.role, k),
+        Some(entry) => !is_component(entry) || are_routes_at(entries, joins, entry.role(), k),
     }
-}
-
-/// The first component that breaks rule 6.
-pub fn failing_component(entries: &[Entry], joins: &[Join]) -> Option<usize>
-    ensures { result ≡ find (λ k. not (law.component_holds entries.now joins.now k)) (range_with_len 0 (length entries.now)) }
-{
-    (0..entries.len()).find(|k| !component_holds(entries, joins, *k))
 }
 
 fn has_index(entry: &Entry, index: u32) -> bool
     ensures { result ≡ law.has_index index entry.now }
 {
-    entry.index == index
+    entry.index() == index
 }
 
 fn schedules(entry: &Entry, index: u32) -> bool
@@ -186,18 +162,20 @@ fn is_scheduled(parts: &[Entry], index: u32) -> bool
     !is_used(parts, index) || schedulers_of(parts, index) == 1
 }
 
-fn index_holds(entries: &[Entry], parts: &[Entry], k: usize) -> bool
+/// Whether the index of a widget has exactly one scheduler.
+fn is_scheduled_at(parts: &[Entry], entry: &Entry) -> bool
+    ensures { result ≡ law.is_scheduled parts.now entry.now.index }
+{
+    is_scheduled(parts, entry.index())
+}
+
+/// Rule 7 at a widget.
+pub fn index_holds(entries: &[Entry], parts: &[Entry], k: usize) -> bool
     ensures { result ≡ law.index_holds entries.now parts.now k }
 {
     match entries.get(k) {
         None => true,
-        Some(entry) => is_scheduled(parts, entry.index),
+        Some(entry) => is_scheduled_at(parts, entry),
     }
 }
 
-/// The first widget of an index that breaks rule 7.
-pub fn failing_index(entries: &[Entry], parts: &[Entry]) -> Option<usize>
-    ensures { result ≡ find (λ k. not (law.index_holds entries.now parts.now k)) (range_with_len 0 (length entries.now)) }
-{
-    (0..entries.len()).find(|k| !index_holds(entries, parts, *k))
-}

@@ -1,20 +1,23 @@
-// Which components break the rule on cycles and ways.
-ghost use Rattle.std.specs.Prelude.{◌≡◌, ◌<◌, ◌≤◌, ◌^◌, ◌↔◌, ℕ, true, length};
+// Rule 14: cycles, and ways from hosts that play to hosts that capture.
+ghost use Rattle.std.specs.Prelude.{◌≡◌, ◌<◌, ◌≤◌, ◌^◌, ◌↔◌, ℕ, [], ◌∷◌, true, length, OnOk, IfErr};
 ghost use Rattle.std.specs.List.{list_any};
-ghost use Rattle.tplg_graph.specs.Rules.{IsFirstFailing};
+ghost use Rattle.tplg_graph.specs.Rules.{AllHold, IsFirstFailing};
 ghost use Rattle.tplg_graph.specs.Cycles as law;
+ghost use Rattle.tplg_graph.specs.WellFormed as groups;
+ghost use Rattle.tplg_graph.specs.WellFormed.{IsFaultOf};
 
+use crate::entry::Entry;
+use crate::plan_fault::{PlanFault, fault_at};
 use crate::walks::{reached, reaches};
 use stream_law::{Comp, Edge, Kind};
 
 /// The first id on a cycle, below a number of ids.
-pub fn failing_cycle(ids: usize, edges: &[Edge]) -> Option<usize>
-    requires ids { ids < 2 ^ 32 }
+fn failing_cycle(ids: u32, edges: &[Edge]) -> Option<u32>
     requires few { length edges.now ≤ 128 }
     ensures { IsFirstFailing (law.cycles_rule ids edges.now) result }
 {
     for id in 0..ids {
-        if reaches(edges, id as u32, id as u32) {
+        if reaches(edges, id, id) {
             return Some(id);
         }
     }
@@ -61,15 +64,46 @@ fn reaches_capture(comps: &[Comp], edges: &[Edge], id: u32) -> bool
 }
 
 /// The first host that plays and reaches one that captures, below a number of ids.
-pub fn failing_way(ids: usize, comps: &[Comp], edges: &[Edge]) -> Option<usize>
-    requires ids { ids < 2 ^ 32 }
+fn failing_way(ids: u32, comps: &[Comp], edges: &[Edge]) -> Option<u32>
     requires few { length edges.now ≤ 128 }
     ensures { IsFirstFailing (law.ways_rule ids comps.now edges.now) result }
 {
     for id in 0..ids {
-        if plays(comps, id as u32) && reaches_capture(comps, edges, id as u32) {
+        if plays(comps, id) && reaches_capture(comps, edges, id) {
             return Some(id);
         }
     }
     None
+}
+
+fn check_cycle(ids: u32, edges: &[Edge]) -> Result<(), PlanFault>
+    requires few { length edges.now ≤ 128 }
+    ensures ok { OnOk result (AllHold (law.cycles_rule ids edges.now ∷ [])) }
+    ensures err { IfErr result (IsFaultOf (law.cycles_rule ids edges.now ∷ [])) }
+{
+    fault_at(14, failing_cycle(ids, edges))
+}
+
+fn check_way(ids: u32, comps: &[Comp], edges: &[Edge]) -> Result<(), PlanFault>
+    requires few { length edges.now ≤ 128 }
+    ensures ok { OnOk result (AllHold (law.ways_rule ids comps.now edges.now ∷ [])) }
+    ensures err { IfErr result (IsFaultOf (law.ways_rule ids comps.now edges.now ∷ [])) }
+{
+    fault_at(14, failing_way(ids, comps, edges))
+}
+
+/// Both parts of rule 14, over the interpreted widgets, the components and the edges.
+pub fn check_walks(
+    interpreted: &[Entry],
+    comps: &[Comp],
+    edges: &[Edge],
+) -> Result<(), PlanFault>
+    requires ids { length interpreted.now < 2 ^ 32 }
+    requires few { length edges.now ≤ 128 }
+    ensures ok { OnOk result (AllHold (groups.walk_rules interpreted.now comps.now edges.now)) }
+    ensures err { IfErr result (IsFaultOf (groups.walk_rules interpreted.now comps.now edges.now)) }
+{
+    check_cycle(interpreted.len() as u32, edges)?;
+    check_way(interpreted.len() as u32, comps, edges)?;
+    Ok(())
 }

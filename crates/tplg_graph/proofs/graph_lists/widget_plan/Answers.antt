@@ -2,7 +2,7 @@ use Rattle.tplg_graph.proofs.graph_lists.widget_plan.Goals as goal
 
 pub returns-clause-fits : goal.returns-clause-fits
 returns-clause-fits c = record {
-  pipe = c.pipe_of.type_inv;
+  pipe = c.index.type_inv;
   frame_fmt = c.format_number.ensures.three;
   periods_sink = c.unwrap_or.type_inv;
   periods_source = c.unwrap_or-2.type_inv;

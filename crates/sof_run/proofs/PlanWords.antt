@@ -17,10 +17,10 @@ use Rattle.tplg_model.specs.Arrays.{Each, IsNumber, AreArrays}
 use Rattle.tplg_model.specs.Spelling.{IsWidget, IsBody, BlockValue, IsBlock, header_slots}
 use Rattle.tplg_model.specs.File.{IsTopology}
 use Rattle.tplg_model.specs.TokenValues.{numbers_in, first_number, number_of}
-use Rattle.tplg_graph.specs.declared.entry.Entry.{Entry}
-use Rattle.tplg_graph.specs.Tokens.{format_of}
+use Rattle.tplg_widgets.specs.declared.entry.Entry.{Entry}
+use Rattle.tplg_widgets.specs.Tokens.{format_of}
 use Rattle.tplg_plan.specs.WidgetWords.{format_number}
-use Rattle.tplg_graph.specs.Entries.{entry_of, widgets_in, entries_in, entries_of, is_interpreted, interpreted}
+use Rattle.tplg_widgets.specs.Entries.{entry_of, widgets_in, entries_in, entries_of, is_interpreted, interpreted}
 use Rattle.tplg_graph.specs.Lists.{widget_plan, widgets_on}
 use Rattle.tplg_graph.specs.PlanOf.{plan_of}
 use Rattle.tplg_plan.specs.ThinPlan.{IsThinPlan}

@@ -10,10 +10,10 @@ use Rattle.stream_law.specs.declared.graph.Edge.{Edge}
 use Rattle.stream_law.specs.declared.graph.Pipe.{Pipe}
 use Rattle.stream_law.specs.declared.graph.Join.{Join}
 use Rattle.stream_law.specs.declared.graph.Setting.TheVariants.{Nothing}
-use Rattle.tplg_graph.specs.declared.entry.Entry.{Entry}
-use Rattle.tplg_graph.specs.Entries.{is_interpreted, is_buffer, is_scheduler, interpreted, id_of}
-use Rattle.tplg_graph.specs.Ends.{end_of}
-use Rattle.tplg_graph.specs.Lists.{kind_of, is_sink, component_at, route_in, route_out, edge_at, component_end, pipe_at}
+use Rattle.tplg_widgets.specs.declared.entry.Entry.{Entry}
+use Rattle.tplg_widgets.specs.Entries.{is_interpreted, is_buffer, is_scheduler, interpreted, id_of}
+use Rattle.tplg_widgets.specs.Ends.{end_of}
+use Rattle.tplg_graph.specs.Lists.{component_kind, is_sink, component_at, route_in, route_out, edge_at, component_end, pipe_at}
 use Rattle.tplg_graph.specs.Table.{at}
 use Rattle.tplg_graph.proofs.KeyedLists.{IsKeyed}
 
@@ -53,7 +53,7 @@ implied false b e h = absurd (false≢true e)
 pub record OfComponent (ps : List Entry) (js : List Join) (i : ℕ) (c : Comp) : Type 0 where
   pub entry : Entry
   pub there : slice_get ps i ≡ Some entry
-  pub kind : kind_of entry.role entry.tokens.format (is_sink js i) ≡ Some c.kind
+  pub kind : component_kind entry.role entry.tokens.format (is_sink js i) ≡ Some c.kind
   pub id : c.id ≡ i
   pub pipe : c.pipe ≡ entry.index
   pub setting : c.setting ≡ Nothing
@@ -61,16 +61,16 @@ pub record OfComponent (ps : List Entry) (js : List Join) (i : ℕ) (c : Comp) :
 pub of-component : (ps : List Entry) (js : List Join) (i : ℕ) (c : Comp) → component_at ps js i ≡ Some c → OfComponent ps js i c
 of-component ps js i c h = by_entry (slice_get ps i) refl h
   where
-    by_kind : (e : Entry) → slice_get ps i ≡ Some e → (o : Option Kind) → kind_of e.role e.tokens.format (is_sink js i) ≡ o → option_map (λ k. record { id = i; kind = k; pipe = e.index; setting = Nothing }) o ≡ Some c → OfComponent ps js i c
+    by_kind : (e : Entry) → slice_get ps i ≡ Some e → (o : Option Kind) → component_kind e.role e.tokens.format (is_sink js i) ≡ o → option_map (λ k. record { id = i; kind = k; pipe = e.index; setting = Nothing }) o ≡ Some c → OfComponent ps js i c
     by_kind e f None g h = cc
     by_kind e f (Some k) g h =
         let made : Comp = record { id = i; kind = k; pipe = e.index; setting = Nothing } in
         let same : c ≡ made = ap (λ o. unwrap_or o made) (sym h) in
         record { entry = e; there = f; kind = g ∙ ap (λ (x : Comp). Some x.kind) (sym same); id = ap (λ (x : Comp). x.id) same; pipe = ap (λ (x : Comp). x.pipe) same; setting = ap (λ (x : Comp). x.setting) same }
 
-    by_entry : (o : Option Entry) → slice_get ps i ≡ o → option_and_then (λ e. option_map (λ k. record { id = i; kind = k; pipe = e.index; setting = Nothing }) (kind_of e.role e.tokens.format (is_sink js i))) o ≡ Some c → OfComponent ps js i c
+    by_entry : (o : Option Entry) → slice_get ps i ≡ o → option_and_then (λ e. option_map (λ k. record { id = i; kind = k; pipe = e.index; setting = Nothing }) (component_kind e.role e.tokens.format (is_sink js i))) o ≡ Some c → OfComponent ps js i c
     by_entry None f h = cc
-    by_entry (Some e) f h = by_kind e f (kind_of e.role e.tokens.format (is_sink js i)) refl h
+    by_entry (Some e) f h = by_kind e f (component_kind e.role e.tokens.format (is_sink js i)) refl h
 
 pub record OfEdge (ps : List Entry) (js : List Join) (i : ℕ) (e : Edge) : Type 0 where
   pub entry : Entry

@@ -6,22 +6,22 @@ use Rattle.std.proofs.lemmas.Bool.{and_from, or_parts, eqb-true, eq-eqb, ne_eqb}
 use Rattle.std.proofs.lemmas.List.Sums.{sum_by-cons}
 use Rattle.stream_law.specs.declared.graph.Pipe.{Pipe}
 use Rattle.stream_law.specs.Placed.{HasDistinct}
-use Rattle.tplg_graph.specs.declared.entry.Entry.{Entry}
-use Rattle.tplg_graph.specs.Entries.{is_scheduler, interpreted}
-use Rattle.tplg_graph.specs.Ends.{end_of}
+use Rattle.tplg_widgets.specs.declared.entry.Entry.{Entry}
+use Rattle.tplg_widgets.specs.Entries.{is_scheduler, interpreted}
+use Rattle.tplg_widgets.specs.Ends.{end_of}
 use Rattle.tplg_graph.specs.Lists.{component_end, pipe_of, pipes_on}
 use Rattle.tplg_graph.specs.Rules.{HoldsAll}
-use Rattle.tplg_graph.specs.Table.{has_index, schedules, is_scheduled, indices_rule}
+use Rattle.tplg_graph.specs.Table.{is_of_index, schedules, is_scheduled, indices_rule}
 use Rattle.tplg_graph.proofs.Indexed.{indexed, by-index}
 use Rattle.tplg_graph.proofs.Interpreted.{of-interpreted}
 use Rattle.tplg_graph.proofs.KeyedLists.{passes-at}
 use Rattle.tplg_graph.proofs.WalkedJoins.{any-place}
 
 -- where no widget has an index, none schedules it
-none-schedule : (index : ℕ) (ps : List Entry) → list_any (has_index index) ps ≡ false → count_by (schedules index) ps ≡ 0
+none-schedule : (index : ℕ) (ps : List Entry) → list_any (is_of_index index) ps ≡ false → count_by (schedules index) ps ≡ 0
 none-schedule index [] none = refl
 none-schedule index (p ∷ ps) none =
-    let parts = or_parts (has_index index p) (list_any (has_index index) ps) none in
+    let parts = or_parts (is_of_index index p) (list_any (is_of_index index) ps) none in
     let rest : count_by (schedules index) ps ≡ 0 = none-schedule index ps parts.1 in
     let head : ◌≡◌ {A = ℕ} (cond (schedules index p) 1 0) 0 = ap (λ b. cond (is_scheduler p && b) 1 0) parts.0 ∙ apart (is_scheduler p) in
     omega (arith, rest, head, sum_by-cons (λ e. cond (schedules index e) 1 0) p ps)
@@ -32,15 +32,15 @@ none-schedule index (p ∷ ps) none =
 
 -- one widget at most schedules an index
 pub one-schedules : (es : List Entry) → HoldsAll (indices_rule es (interpreted es)) → (index : ℕ) → count_by (schedules index) (interpreted es) ≤ 1
-one-schedules es rule index = by_any (list_any (has_index index) (interpreted es)) refl
+one-schedules es rule index = by_any (list_any (is_of_index index) (interpreted es)) refl
   where
     all : list_all (λ e. is_scheduled (interpreted es) e.index) (interpreted es) ≡ true
     all = of-interpreted es (interpreted es) (λ e. is_scheduled (interpreted es) e.index) refl rule
 
-    by_any : (b : Bool) → list_any (has_index index) (interpreted es) ≡ b → count_by (schedules index) (interpreted es) ≤ 1
+    by_any : (b : Bool) → list_any (is_of_index index) (interpreted es) ≡ b → count_by (schedules index) (interpreted es) ≤ 1
     by_any false f = let n = none-schedule index (interpreted es) f in omega (arith, n)
     by_any true f =
-        let at = any-place (has_index index) (interpreted es) f in
+        let at = any-place (is_of_index index) (interpreted es) f in
         let same = eqb-true at.item.index index at.passes in
         let here : is_scheduled (interpreted es) index ≡ true = ap (is_scheduled (interpreted es)) (sym same) ∙ passes-at (λ e. is_scheduled (interpreted es) e.index) (interpreted es) all at.place at.item at.there in
         let one = eqb-true (count_by (schedules index) (interpreted es)) 1 (ap (λ b. not b || (count_by (schedules index) (interpreted es) == 1)) (sym f) ∙ here) in

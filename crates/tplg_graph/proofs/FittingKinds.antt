@@ -12,12 +12,12 @@ use Rattle.stream_law.specs.declared.graph.Join.{Join}
 use Rattle.stream_law.specs.Ways.{source_of, sink_of, is_end, ins, outs}
 use Rattle.stream_law.specs.Joins.{fits_kind}
 use Rattle.stream_law.proofs.Waits.{count-any}
-use Rattle.tplg_graph.specs.declared.entry.Role.{Role}
-use Rattle.tplg_graph.specs.declared.entry.Role.TheVariants.{HostPlay, HostCapture, Dai, Volume, Mixer, Mux, Eq, Buffer, Scheduler}
-use Rattle.tplg_graph.specs.declared.entry.Entry.{Entry}
-use Rattle.tplg_graph.specs.declared.tokens.FormatToken.{FormatToken}
-use Rattle.tplg_graph.specs.Entries.{is_component, interpreted}
-use Rattle.tplg_graph.specs.Lists.{kind_of, is_sink, component_at, components_on, edge_at, edges_on}
+use Rattle.tplg_widgets.specs.declared.entry.Role.{Role}
+use Rattle.tplg_widgets.specs.declared.entry.Role.TheVariants.{HostPlay, HostCapture, Dai, Volume, Mixer, Mux, Eq, Buffer, Scheduler}
+use Rattle.tplg_widgets.specs.declared.entry.Entry.{Entry}
+use Rattle.tplg_widgets.specs.declared.tokens.FormatToken.{FormatToken}
+use Rattle.tplg_widgets.specs.Entries.{is_component, interpreted}
+use Rattle.tplg_graph.specs.Lists.{component_kind, is_sink, component_at, components_on, edge_at, edges_on}
 use Rattle.tplg_graph.specs.Rules.{HoldsAll}
 use Rattle.tplg_graph.specs.Table.{ins_of, outs_of, are_routes, are_routes_of, buffers_rule, components_rule}
 use Rattle.tplg_graph.proofs.KeyedLists.{IsKeyed, all-made, all-at, at-all}
@@ -203,13 +203,13 @@ module _ (es : List Entry) (js : List Join) (good : AllByRecursion (Good (interp
 
 -- ---- kinds
 
-dai-fits : (f : FormatToken) (ends : Bool) (m n : ℕ) (k : Kind) → kind_of (Some Dai) f ends ≡ Some k → ends ≡ not (m == 0) → ((m == 0 && n == 1) ≡ true) ⊎ ((m == 1 && n == 0) ≡ true) → fits_kind k m n ≡ true
+dai-fits : (f : FormatToken) (ends : Bool) (m n : ℕ) (k : Kind) → component_kind (Some Dai) f ends ≡ Some k → ends ≡ not (m == 0) → ((m == 0 && n == 1) ≡ true) ⊎ ((m == 1 && n == 0) ≡ true) → fits_kind k m n ≡ true
 dai-fits f true m n k h e (inl r) = absurd (true≢false (e ∙ ap not (and_parts (m == 0) (n == 1) r).0))
 dai-fits f true m n k h e (inr r) = subst (λ x. fits_kind x m n ≡ true) (same_Some _ k h) r
 dai-fits f false m n k h e (inl r) = subst (λ x. fits_kind x m n ≡ true) (same_Some _ k h) r
 dai-fits f false m n k h e (inr r) = absurd (false≢true (e ∙ ap (λ x. not (x == 0)) (eqb-true m 1 (and_parts (m == 1) (n == 0) r).0)))
 
-role-fits : (r : Option Role) (f : FormatToken) (ends : Bool) (m n : ℕ) (k : Kind) → kind_of r f ends ≡ Some k → ends ≡ not (m == 0) → are_routes r m n ≡ true → fits_kind k m n ≡ true
+role-fits : (r : Option Role) (f : FormatToken) (ends : Bool) (m n : ℕ) (k : Kind) → component_kind r f ends ≡ Some k → ends ≡ not (m == 0) → are_routes r m n ≡ true → fits_kind k m n ≡ true
 role-fits None f ends m n k h e r = cc
 role-fits (Some Buffer) f ends m n k h e r = cc
 role-fits (Some Scheduler) f ends m n k h e r = cc

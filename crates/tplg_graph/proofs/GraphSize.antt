@@ -4,13 +4,13 @@ use Rattle.std.specs.Option.{option_map}
 use Rattle.std.proofs.lemmas.Bool.{leb-true, false≢true}
 use Rattle.stream_law.specs.declared.graph.Setting.TheVariants.{Nothing}
 use Rattle.stream_law.specs.declared.graph.Join.{Join}
-use Rattle.tplg_graph.specs.declared.entry.Role.{Role}
-use Rattle.tplg_graph.specs.declared.entry.Role.TheVariants.{HostPlay, HostCapture, Dai, Volume, Mixer, Mux, Eq, Buffer, Scheduler}
-use Rattle.tplg_graph.specs.declared.entry.Entry.{Entry}
-use Rattle.tplg_graph.specs.declared.pcm_caps.PcmCaps.{PcmCaps}
-use Rattle.tplg_graph.specs.declared.tokens.FormatToken.{FormatToken}
-use Rattle.tplg_graph.specs.Entries.{is_buffer, is_component, is_component_role, is_scheduler}
-use Rattle.tplg_graph.specs.Lists.{kind_of, component_of, edge_of, pipe_of, components_on, edges_on, pipes_on, is_sink}
+use Rattle.tplg_widgets.specs.declared.entry.Role.{Role}
+use Rattle.tplg_widgets.specs.declared.entry.Role.TheVariants.{HostPlay, HostCapture, Dai, Volume, Mixer, Mux, Eq, Buffer, Scheduler}
+use Rattle.tplg_widgets.specs.declared.entry.Entry.{Entry}
+use Rattle.tplg_widgets.specs.declared.pcm_caps.PcmCaps.{PcmCaps}
+use Rattle.tplg_widgets.specs.declared.tokens.FormatToken.{FormatToken}
+use Rattle.tplg_widgets.specs.Entries.{is_buffer, is_component, is_component_role, is_scheduler}
+use Rattle.tplg_graph.specs.Lists.{component_kind, component_of, edge_of, pipe_of, components_on, edges_on, pipes_on, is_sink}
 use Rattle.tplg_graph.specs.Rules.{HoldsAll, AllHold}
 use Rattle.tplg_graph.specs.Table.{counts_rule}
 use Rattle.tplg_graph.specs.PlanOf.{graph_on}
@@ -21,7 +21,7 @@ pub cond-none : {Y : Type 0} (b : Bool) (o : Option Y) → b ≡ false → cond 
 cond-none true o h = absurd (false≢true (sym h))
 cond-none false o h = refl
 
-pub no-kind : (r : Option Role) (format : FormatToken) (ends : Bool) → is_component_role r ≡ false → kind_of r format ends ≡ None
+pub no-kind : (r : Option Role) (format : FormatToken) (ends : Bool) → is_component_role r ≡ false → component_kind r format ends ≡ None
 no-kind None format ends h = refl
 no-kind (Some Buffer) format ends h = refl
 no-kind (Some Scheduler) format ends h = refl

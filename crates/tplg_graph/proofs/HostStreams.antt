@@ -6,17 +6,17 @@ use Rattle.std.proofs.lemmas.Bool.{and_parts}
 use Rattle.stream_law.specs.declared.graph.Comp.{Comp}
 use Rattle.stream_law.specs.declared.graph.Join.{Join}
 use Rattle.stream_law.specs.declared.graph.Setting.TheVariants.{Nothing}
-use Rattle.tplg_graph.specs.declared.entry.Role.{Role}
-use Rattle.tplg_graph.specs.declared.entry.Role.TheVariants.{HostPlay, HostCapture, Dai, Volume, Mixer, Mux, Eq, Buffer, Scheduler}
-use Rattle.tplg_graph.specs.declared.entry.Entry.{Entry}
-use Rattle.tplg_graph.specs.declared.pcm_caps.PcmCaps.{PcmCaps}
+use Rattle.tplg_widgets.specs.declared.entry.Role.{Role}
+use Rattle.tplg_widgets.specs.declared.entry.Role.TheVariants.{HostPlay, HostCapture, Dai, Volume, Mixer, Mux, Eq, Buffer, Scheduler}
+use Rattle.tplg_widgets.specs.declared.entry.Entry.{Entry}
+use Rattle.tplg_widgets.specs.declared.pcm_caps.PcmCaps.{PcmCaps}
 use Rattle.tplg_plan.specs.declared.plans.StreamPlan.{StreamPlan}
-use Rattle.tplg_graph.specs.declared.tokens.FormatToken.{FormatToken}
-use Rattle.tplg_graph.specs.Entries.{is_host_play_role, is_host_capture_role, interpreted}
-use Rattle.tplg_graph.specs.PcmList.{is_side_of, side}
-use Rattle.tplg_graph.specs.Lists.{kind_of, is_sink, component_of, component_at, components_on, stream_of, stream_at, streams_on}
+use Rattle.tplg_widgets.specs.declared.tokens.FormatToken.{FormatToken}
+use Rattle.tplg_widgets.specs.Entries.{is_host_play_role, is_host_capture_role, interpreted}
+use Rattle.tplg_widgets.specs.PcmList.{is_side_of, caps_of_side}
+use Rattle.tplg_graph.specs.Lists.{component_kind, is_sink, component_of, component_at, components_on, stream_of, stream_at, streams_on}
 use Rattle.tplg_graph.specs.Rules.{HoldsAll}
-use Rattle.tplg_graph.specs.Table.{is_host, has_pcm, hosts_rule}
+use Rattle.tplg_graph.specs.Table.{is_host_widget, has_pcm, hosts_rule}
 use Rattle.tplg_plan.specs.Sound.{host_of}
 use Rattle.tplg_graph.proofs.Interpreted.{of-interpreted, weaker, or-front}
 use Rattle.tplg_graph.proofs.KeyedLists.{passes-at}
@@ -38,16 +38,16 @@ abbrev host_pair : StreamPlan → ℕ × Bool
 host_pair s = (s.host, s.capture)
 
 abbrev made : ℕ → ℕ → Option Role → FormatToken → Bool → Option Comp
-made i index r format ends = option_map (λ k. record { id = i; kind = k; pipe = index; setting = Nothing }) (kind_of r format ends)
+made i index r format ends = option_map (λ k. record { id = i; kind = k; pipe = index; setting = Nothing }) (component_kind r format ends)
 
 host-same : (pcms : List PcmCaps) (i index : ℕ) (r : Option Role) (format : FormatToken) (ends : Bool) (sname : List ℕ) → (not (is_host_play_role r || is_host_capture_role r) || (not (length sname == 0) && list_any (is_side_of (is_host_capture_role r) sname) pcms)) ≡ true → option_map host_pair (stream_of pcms i r sname) ≡ option_and_then host_of (made i index r format ends)
 host-same pcms i index None format ends sname h = refl
 host-same pcms i index (Some HostPlay) format ends sname h =
     let c = caps-found (is_side_of false sname) pcms (and_parts (not (length sname == 0)) (list_any (is_side_of false sname) pcms) h).1 in
-    ap (λ o. option_map host_pair (option_map (λ caps. record { host = i; capture = false; caps = caps }) (option_map (side false) o))) c.1
+    ap (λ o. option_map host_pair (option_map (λ caps. record { host = i; capture = false; caps = caps }) (option_map (caps_of_side false) o))) c.1
 host-same pcms i index (Some HostCapture) format ends sname h =
     let c = caps-found (is_side_of true sname) pcms (and_parts (not (length sname == 0)) (list_any (is_side_of true sname) pcms) h).1 in
-    ap (λ o. option_map host_pair (option_map (λ caps. record { host = i; capture = true; caps = caps }) (option_map (side true) o))) c.1
+    ap (λ o. option_map host_pair (option_map (λ caps. record { host = i; capture = true; caps = caps }) (option_map (caps_of_side true) o))) c.1
 host-same pcms i index (Some Dai) format true sname h = refl
 host-same pcms i index (Some Dai) format false sname h = refl
 host-same pcms i index (Some Volume) format ends sname h = refl
@@ -60,9 +60,9 @@ host-same pcms i index (Some Scheduler) format ends sname h = refl
 pub hosts-are : (es : List Entry) (js : List Join) (pcms : List PcmCaps) → HoldsAll (hosts_rule es pcms) → map (λ s. (s.host, s.capture)) (streams_on (interpreted es) pcms) ≡ filter_map host_of (components_on (interpreted es) js)
 hosts-are es js pcms rule = same-lists host_pair host_of (stream_at (interpreted es) pcms) (component_at (interpreted es) js) (λ i. by_entry i (slice_get (interpreted es) i) refl) (range_with_len 0 (length (interpreted es)))
   where
-    heard : list_all (λ e. not (is_host e) || has_pcm pcms e) (interpreted es) ≡ true
-    heard = of-interpreted es (interpreted es) (λ e. not (is_host e) || has_pcm pcms e) refl (λ k w. weaker (slice_get es k) _ _ (λ e. or-front (not (is_host e)) (has_pcm pcms e) _) (rule k w))
+    heard : list_all (λ e. not (is_host_widget e) || has_pcm pcms e) (interpreted es) ≡ true
+    heard = of-interpreted es (interpreted es) (λ e. not (is_host_widget e) || has_pcm pcms e) refl (λ k w. weaker (slice_get es k) _ _ (λ e. or-front (not (is_host_widget e)) (has_pcm pcms e) _) (rule k w))
 
     by_entry : (i : ℕ) (o : Option Entry) → slice_get (interpreted es) i ≡ o → option_map host_pair (option_and_then (λ e. stream_of pcms i e.role e.sname) o) ≡ option_and_then host_of (option_and_then (component_of js i) o)
     by_entry i None f = refl
-    by_entry i (Some e) f = host-same pcms i e.index e.role e.tokens.format (is_sink js i) e.sname (passes-at (λ x. not (is_host x) || has_pcm pcms x) (interpreted es) heard i e f)
+    by_entry i (Some e) f = host-same pcms i e.index e.role e.tokens.format (is_sink js i) e.sname (passes-at (λ x. not (is_host_widget x) || has_pcm pcms x) (interpreted es) heard i e f)

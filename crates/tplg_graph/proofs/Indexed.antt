@@ -3,7 +3,7 @@ use Rattle.std.proofs.Common.{◌≡◌, refl, sym, ap, ◌∙◌, ℕ, zero, su
 use Rattle.std.specs.Option.{option_to_list}
 use Rattle.std.specs.List.{filter_map, cons_option, range_with_len}
 use Rattle.std.proofs.lemmas.List.Sums.{sum_by-cons}
-use Rattle.tplg_graph.specs.declared.entry.Entry.{Entry}
+use Rattle.tplg_widgets.specs.declared.entry.Entry.{Entry}
 
 -- what f gives of each, by ids from i on
 abbrev pub indexed : {Y : Type 0} → (ℕ → Entry → Option Y) → ℕ → List Entry → List Y

@@ -1,13 +1,9 @@
-pub mod Texts
-pub mod FirstValues
-pub mod Positions
 pub mod RuleLaws
 pub mod Places
-pub mod FoundEnds
 pub mod ThinTests
 pub mod Among
 pub mod Reached
-pub mod Told
+pub mod RuleFaults
 pub mod Indexed
 pub mod GraphSize
 pub mod Interpreted

@@ -13,18 +13,18 @@ use Rattle.tplg_model.specs.declared.block.Topology.{Topology}
 use Rattle.tplg_model.specs.declared.control.Control.{Control}
 use Rattle.tplg_model.specs.declared.control.Control.TheVariants.{Mixer, Enum, Bytes}
 use Rattle.tplg_model.specs.declared.widget.Widget.{Widget}
-use Rattle.tplg_graph.specs.declared.entry.Role.{Role}
-use Rattle.tplg_graph.specs.declared.entry.Role.TheVariants as role_is
-use Rattle.tplg_graph.specs.declared.entry.Entry.{Entry}
-use Rattle.tplg_graph.specs.declared.pcm_caps.PcmCaps.{PcmCaps}
+use Rattle.tplg_widgets.specs.declared.entry.Role.{Role}
+use Rattle.tplg_widgets.specs.declared.entry.Role.TheVariants as role_is
+use Rattle.tplg_widgets.specs.declared.entry.Entry.{Entry}
+use Rattle.tplg_widgets.specs.declared.pcm_caps.PcmCaps.{PcmCaps}
 use Rattle.tplg_plan.specs.declared.plans.ControlPlan.{ControlPlan}
 use Rattle.tplg_plan.specs.declared.plans.ControlKind.{ControlKind}
 use Rattle.tplg_plan.specs.declared.plans.ControlKind.TheVariants as control_is
-use Rattle.tplg_graph.specs.declared.tokens.FormatToken.{FormatToken}
-use Rattle.tplg_graph.specs.Entries.{is_interpreted, is_equaliser, is_component_role, has_control, role_of, entry_of, entries_in, entries_of, widgets_in, interpreted}
-use Rattle.tplg_graph.specs.LiveControls.{is_live, live_of, scale_word}
-use Rattle.tplg_graph.specs.ControlRanges.{is_control, in_range}
-use Rattle.tplg_graph.specs.Lists.{kind_of, is_sink, kind_in, control_of, control_at, controls_on}
+use Rattle.tplg_widgets.specs.declared.tokens.FormatToken.{FormatToken}
+use Rattle.tplg_widgets.specs.Entries.{is_interpreted, is_equaliser, is_component_role, has_control, role_of, entry_of, entries_in, entries_of, widgets_in, interpreted}
+use Rattle.tplg_widgets.specs.LiveControls.{is_live, live_of, scale_word}
+use Rattle.tplg_graph.specs.ControlRanges.{is_control, is_live_in_range}
+use Rattle.tplg_graph.specs.Lists.{component_kind, is_sink, kind_in, control_plan, control_at, controls_on}
 use Rattle.tplg_graph.specs.Rules.{HoldsAll}
 use Rattle.tplg_graph.specs.Table.{is_known_process, controls_rule, counts_rule}
 use Rattle.tplg_plan.specs.Sound.{IsControlOf, IsLive}
@@ -81,7 +81,7 @@ ordered (pos m) (pos n) l o h = record { ordered = leb-true m n o; most = leb-tr
 ordered (pos m) (negsuc n) l o h = absurd (false≢true o)
 ordered (negsuc m) n l o h = absurd (false≢true l)
 
-in-kind : (r : Option Role) (c : Control) (f : FormatToken) (b : Bool) (kind : ControlKind) (k : Kind) → is_live r c ≡ true → is_control c ≡ true → kind_in c ≡ Some kind → kind_of r f b ≡ Some k → IsControlOf kind k
+in-kind : (r : Option Role) (c : Control) (f : FormatToken) (b : Bool) (kind : ControlKind) (k : Kind) → is_live r c ≡ true → is_control c ≡ true → kind_in c ≡ Some kind → component_kind r f b ≡ Some k → IsControlOf kind k
 in-kind (Some role_is.Volume) (Mixer head min max platform_max invert channels values private) f b kind k own range is of =
     let first = and_parts (int_le (pos 0) min && int_le min max && int_le max (pos 65535) && nat_le 1 channels) (nat_le channels 8) range in
     let second = and_parts (int_le (pos 0) min && int_le min max && int_le max (pos 65535)) (nat_le 1 channels) first.0 in
@@ -124,26 +124,26 @@ of-control ps i k h = by_entry (slice_get ps i) refl h
         let same : k ≡ made = ap (λ o. unwrap_or o made) (sym h) in
         record { entry = e; there = f; control = c; is = g; kind = s ∙ ap (λ (x : ControlPlan). Some x.kind) (sym same); comp = ap (λ (x : ControlPlan). x.comp) same }
 
-    by_control : (e : Entry) → slice_get ps i ≡ Some e → (o : Option Control) → e.control ≡ o → control_of i o ≡ Some k → OfControl ps i k
+    by_control : (e : Entry) → slice_get ps i ≡ Some e → (o : Option Control) → e.control ≡ o → control_plan i o ≡ Some k → OfControl ps i k
     by_control e f None g h = cc
     by_control e f (Some c) g h = by_kind e f c g (kind_in c) refl h
 
-    by_entry : (o : Option Entry) → slice_get ps i ≡ o → option_and_then (λ e. control_of i e.control) o ≡ Some k → OfControl ps i k
+    by_entry : (o : Option Entry) → slice_get ps i ≡ o → option_and_then (λ e. control_plan i e.control) o ≡ Some k → OfControl ps i k
     by_entry None f h = cc
     by_entry (Some e) f h = by_control e f e.control refl h
 
 pub keyed-controls : (ps : List Entry) → IsKeyed (λ k. k.comp) (control_at ps)
 keyed-controls ps i k h = (of-control ps i k h).comp
 
-no-control : (o : Option Control) (i : ℕ) → is_some o ≡ false → control_of i o ≡ None
+no-control : (o : Option Control) (i : ℕ) → is_some o ≡ false → control_plan i o ≡ None
 no-control None i h = refl
 no-control (Some c) i h = absurd (false≢true (sym h))
 
 pub few-controls : (ps : List Entry) (pcms : List PcmCaps) → HoldsAll (counts_rule ps pcms) → length (controls_on ps) ≤ 64
 few-controls ps pcms counts =
-    let n = ap length (by-index (λ i e. control_of i e.control) ps) in
+    let n = ap length (by-index (λ i e. control_plan i e.control) ps) in
     let c = leb-true (count_by has_control ps) 64 (counts 4 (lit< tt)) in
-    omega (arith, n, c, length-indexed (λ i e. control_of i e.control) has_control (λ i p h. no-control p.control i h) 0 ps)
+    omega (arith, n, c, length-indexed (λ i e. control_plan i e.control) has_control (λ i p h. no-control p.control i h) 0 ps)
 
 pub live-controls : (es : List Entry) (js : List Join) → list_all is_matched es ≡ true → HoldsAll (controls_rule es) → AllByRecursion (IsLive (graph_of es js)) (controls_on (interpreted es))
 live-controls es js matched rule = all-made (IsLive (graph_of es js)) (control_at (interpreted es)) 0 (length (interpreted es)) (λ i k high h. each i k (of-control (interpreted es) i k h))
@@ -151,12 +151,12 @@ live-controls es js matched rule = all-made (IsLive (graph_of es js)) (control_a
     each : (i : ℕ) (k : ControlPlan) → OfControl (interpreted es) i k → IsLive (graph_of es js) k
     each i k o =
         let own : is_live o.entry.role o.control ≡ true = ap (λ c. option_map_or (is_live o.entry.role) c true) (sym o.is) ∙ passes-at is_matched (interpreted es) (all-filter es is_matched is_interpreted matched) i o.entry o.there in
-        let range : is_control o.control ≡ true = ap in_range (sym o.is) ∙ (and_parts (not (is_equaliser o.entry) || is_known_process o.entry.tokens.process) (in_range o.entry.control) (at-id es (λ i e. (not (is_equaliser e) || is_known_process e.tokens.process) && in_range e.control) rule i o.entry o.there)).1 in
+        let range : is_control o.control ≡ true = ap is_live_in_range (sym o.is) ∙ (and_parts (not (is_equaliser o.entry) || is_known_process o.entry.tokens.process) (is_live_in_range o.entry.control) (at-id es (λ i e. (not (is_equaliser e) || is_known_process e.tokens.process) && is_live_in_range e.control) rule i o.entry o.there)).1 in
         let c = known es js i (record { entry = o.entry; there = o.there; sort = own-component o.entry.role o.control own }) in
         let m = of-component (interpreted es) js i c.comp c.there in
         let same : m.entry ≡ o.entry = same_Some m.entry o.entry (sym m.there ∙ o.there) in
         record {
           comp = c.comp;
           there = ap (comp_of (graph_of es js)) o.comp ∙ c.found;
-          kind = in-kind o.entry.role o.control o.entry.tokens.format (is_sink js i) k.kind c.comp.kind own range o.kind (ap (λ (x : Entry). kind_of x.role x.tokens.format (is_sink js i)) (sym same) ∙ m.kind);
+          kind = in-kind o.entry.role o.control o.entry.tokens.format (is_sink js i) k.kind c.comp.kind own range o.kind (ap (λ (x : Entry). component_kind x.role x.tokens.format (is_sink js i)) (sym same) ∙ m.kind);
         }

@@ -11,19 +11,19 @@ use Rattle.stream_law.specs.declared.graph.Join.{Join}
 use Rattle.stream_law.specs.declared.graph.Graph.{Graph}
 use Rattle.stream_law.specs.declared.graph.Setting.TheVariants.{Nothing}
 use Rattle.stream_law.specs.Ways.{comp_of, edge_of}
-use Rattle.tplg_graph.specs.declared.entry.Role.{Role}
-use Rattle.tplg_graph.specs.declared.entry.Role.TheVariants.{HostPlay, HostCapture, Dai, Volume, Mixer, Mux, Eq, Buffer, Scheduler}
-use Rattle.tplg_graph.specs.declared.entry.Entry.{Entry}
+use Rattle.tplg_widgets.specs.declared.entry.Role.{Role}
+use Rattle.tplg_widgets.specs.declared.entry.Role.TheVariants.{HostPlay, HostCapture, Dai, Volume, Mixer, Mux, Eq, Buffer, Scheduler}
+use Rattle.tplg_widgets.specs.declared.entry.Entry.{Entry}
 use Rattle.tplg_plan.specs.declared.plans.WidgetPlan.{WidgetPlan}
-use Rattle.tplg_graph.specs.declared.tokens.FormatToken.{FormatToken}
-use Rattle.tplg_graph.specs.Entries.{is_interpreted, is_buffer, is_scheduler, is_component, is_buffer_role, is_scheduler_role, is_component_role, interpreted}
-use Rattle.tplg_graph.specs.Ends.{end_of}
-use Rattle.tplg_graph.specs.Lists.{kind_of, is_sink, component_of, component_at, route_in, route_out, edge_at, component_end, pipe_of, pipe_at, widget_plan, widgets_on}
+use Rattle.tplg_widgets.specs.declared.tokens.FormatToken.{FormatToken}
+use Rattle.tplg_widgets.specs.Entries.{is_interpreted, is_buffer, is_scheduler, is_component, is_buffer_role, is_scheduler_role, is_component_role, interpreted}
+use Rattle.tplg_widgets.specs.Ends.{end_of}
+use Rattle.tplg_graph.specs.Lists.{component_kind, is_sink, component_of, component_at, route_in, route_out, edge_at, component_end, pipe_of, pipe_at, widget_plan, widgets_on}
 use Rattle.tplg_graph.specs.Lists as made
-use Rattle.tplg_graph.specs.Tokens.{format_of}
+use Rattle.tplg_widgets.specs.Tokens.{format_of}
 use Rattle.tplg_plan.specs.WidgetWords.{format_number}
 use Rattle.tplg_graph.specs.Rules.{HoldsAll}
-use Rattle.tplg_graph.specs.Table.{is_passed, ins_of, outs_of, is_component_end, is_size, buffers_rule, scheds_rule, periods_rule, sizes_rule}
+use Rattle.tplg_graph.specs.Table.{is_joined_through, ins_of, outs_of, is_component_end, is_size, buffers_rule, scheds_rule, periods_rule, sizes_rule}
 use Rattle.tplg_plan.specs.Ranges.{is_period}
 use Rattle.tplg_graph.specs.PlanOf.{graph_on}
 use Rattle.tplg_plan.specs.Sound as sound
@@ -129,7 +129,7 @@ of-scheduler-role (Some Scheduler) h = (refl, refl)
 
 -- ---- a component
 
-number-of : (r : Option Role) (f : FormatToken) (b : Bool) (k : Kind) → kind_of r f b ≡ Some k → has_number k (format_number (format_of f)) ≡ true
+number-of : (r : Option Role) (f : FormatToken) (b : Bool) (k : Kind) → component_kind r f b ≡ Some k → has_number k (format_number (format_of f)) ≡ true
 number-of None f b k h = cc
 number-of (Some Buffer) f b k h = cc
 number-of (Some Scheduler) f b k h = cc
@@ -155,7 +155,7 @@ names-component es js id e there sort =
       no_pipe = pipe-by-id es js id ∙ no-pipe es (interpreted es) id e there apart.1;
       is = record {
         pipe = sym (o.pipe ∙ ap (λ (x : Entry). x.index) same);
-        format = number-of e.role e.tokens.format (is_sink js id) k.comp.kind (ap (λ (x : Entry). kind_of x.role x.tokens.format (is_sink js id)) (sym same) ∙ o.kind);
+        format = number-of e.role e.tokens.format (is_sink js id) k.comp.kind (ap (λ (x : Entry). component_kind x.role x.tokens.format (is_sink js id)) (sym same) ∙ o.kind);
         setting = o.setting;
       };
     })
@@ -188,7 +188,7 @@ sides es js good id b ins outs =
 -- rule 5 at an id
 pub passed : (es : List Entry) (js : List Join) → HoldsAll (buffers_rule es js) → (id : ℕ) → IsBuf (interpreted es) id → (ins_of js id ≡ 1) × (outs_of js id ≡ 1)
 passed es js rule id b =
-    let h = implied (is_buffer b.entry) (is_passed js id) b.sort (at-id es (λ i e. not (is_buffer e) || is_passed js i) rule id b.entry b.there) in
+    let h = implied (is_buffer b.entry) (is_joined_through js id) b.sort (at-id es (λ i e. not (is_buffer e) || is_joined_through js i) rule id b.entry b.there) in
     let parts = and_parts (ins_of js id == 1) (outs_of js id == 1) h in
     (eqb-true (ins_of js id) 1 parts.0, eqb-true (outs_of js id) 1 parts.1)
 

@@ -14,21 +14,22 @@ use Rattle.tplg_graph.proofs.Known.{ids_of, is_known}
 use Rattle.tplg_model.specs.declared.block.Block.{Block}
 use Rattle.tplg_model.specs.declared.block.Route.{Route}
 use Rattle.tplg_model.specs.declared.block.Topology.{Topology}
-use Rattle.tplg_graph.specs.declared.entry.Role.{Role}
-use Rattle.tplg_graph.specs.declared.entry.Role.TheVariants.{HostPlay, HostCapture, Dai, Volume, Mixer, Mux, Eq, Scheduler}
-use Rattle.tplg_graph.specs.declared.entry.Role.TheVariants as role_is
-use Rattle.tplg_graph.specs.declared.entry.Entry.{Entry}
-use Rattle.tplg_graph.specs.declared.route_end.End.{End}
-use Rattle.tplg_graph.specs.declared.route_end.End.TheVariants.{Buffer, Component, Other, Missing}
-use Rattle.tplg_graph.specs.Entries.{is_buffer, is_component, is_buffer_role, is_component_role, routes_in, entries_of, interpreted}
-use Rattle.tplg_graph.specs.Names.{has_name}
-use Rattle.tplg_graph.specs.Ends.{end_at, end_of, ends_of, join_of, real_of, block_ends}
-use Rattle.tplg_graph.specs.declared.tokens.FormatToken.{FormatToken}
-use Rattle.tplg_graph.specs.Lists.{joins_of, kind_of, is_sink, component_of, component_at, components_on, route_in, route_out, edge_of, edge_at, edges_on}
+use Rattle.tplg_widgets.specs.declared.entry.Role.{Role}
+use Rattle.tplg_widgets.specs.declared.entry.Role.TheVariants.{HostPlay, HostCapture, Dai, Volume, Mixer, Mux, Eq, Scheduler}
+use Rattle.tplg_widgets.specs.declared.entry.Role.TheVariants as role_is
+use Rattle.tplg_widgets.specs.declared.entry.Entry.{Entry}
+use Rattle.tplg_widgets.specs.declared.route_end.End.{End}
+use Rattle.tplg_widgets.specs.declared.route_end.End.TheVariants.{Buffer, Component, Other, Missing}
+use Rattle.tplg_widgets.specs.Entries.{is_buffer, is_component, is_buffer_role, is_component_role, routes_in, entries_of, interpreted}
+use Rattle.tplg_widgets.specs.Names.{has_name}
+use Rattle.tplg_widgets.specs.Ends.{end_at, end_of, ends_of, join_of, real_of, block_ends}
+use Rattle.tplg_widgets.specs.declared.tokens.FormatToken.{FormatToken}
+use Rattle.tplg_graph.specs.Lists.{component_kind, is_sink, component_of, component_at, components_on, route_in, route_out, edge_of, edge_at, edges_on}
+use Rattle.tplg_widgets.specs.Ends.{joins_of}
 
 -- ---- a component's id is among those of the components
 
-pub component-kind : (p : Option Role) (f : FormatToken) (b : Bool) → is_component_role p ≡ true → (k : Kind) × (kind_of p f b ≡ Some k)
+pub component-kind : (p : Option Role) (f : FormatToken) (b : Bool) → is_component_role p ≡ true → (k : Kind) × (component_kind p f b ≡ Some k)
 component-kind None f b h = absurd (false≢true h)
 component-kind (Some role_is.Buffer) f b h = absurd (false≢true h)
 component-kind (Some Scheduler) f b h = absurd (false≢true h)

@@ -7,10 +7,10 @@ use Rattle.stream_law.specs.declared.graph.Kind.{Kind}
 use Rattle.stream_law.specs.declared.graph.Setting.TheVariants.{Nothing}
 use Rattle.stream_law.specs.declared.graph.Comp.{Comp}
 use Rattle.stream_law.specs.declared.graph.Join.{Join}
-use Rattle.tplg_graph.specs.declared.entry.Entry.{Entry}
+use Rattle.tplg_widgets.specs.declared.entry.Entry.{Entry}
 use Rattle.stream_law.specs.Order.{is_among}
 use Rattle.tplg_graph.proofs.Known.{ids_of}
-use Rattle.tplg_graph.specs.Lists.{kind_of, is_sink, component_of, components_on}
+use Rattle.tplg_graph.specs.Lists.{component_kind, is_sink, component_of, components_on}
 use Rattle.tplg_graph.proofs.Indexed.{indexed, by-index}
 
 -- a number below all of a list differs from each
@@ -24,7 +24,7 @@ made id pipe o = option_map (λ k. record { id = id; kind = k; pipe = pipe; sett
 
 low : (js : List Join) (i : ℕ) (ps : List Entry) (x : ℕ) → is_among (ids_of (indexed (component_of js) i ps)) x ≡ true → i ≤ x
 low js i [] x h = absurd (false≢true h)
-low js i (p ∷ ps) x h = by_kind (kind_of p.role p.tokens.format (is_sink js i)) h (low js (i + 1) ps x)
+low js i (p ∷ ps) x h = by_kind (component_kind p.role p.tokens.format (is_sink js i)) h (low js (i + 1) ps x)
   where
     by_kind : (o : Option Kind) → is_among (ids_of (cons_option (made i p.index o) (indexed (component_of js) (i + 1) ps))) x ≡ true → (is_among (ids_of (indexed (component_of js) (i + 1) ps)) x ≡ true → i + 1 ≤ x) → i ≤ x
     by_kind None h rest = let l = rest h in omega (arith, l)
@@ -37,7 +37,7 @@ low js i (p ∷ ps) x h = by_kind (kind_of p.role p.tokens.format (is_sink js i)
 distinct-from : (js : List Join) (i : ℕ) (ps : List Entry) → IsDistinct nat_eq (ids_of (indexed (component_of js) i ps))
 unfolding IsDistinct
 distinct-from js i [] = tt
-distinct-from js i (p ∷ ps) = by_kind (kind_of p.role p.tokens.format (is_sink js i)) (distinct-from js (i + 1) ps)
+distinct-from js i (p ∷ ps) = by_kind (component_kind p.role p.tokens.format (is_sink js i)) (distinct-from js (i + 1) ps)
   where
     by_kind : (o : Option Kind) → IsDistinct nat_eq (ids_of (indexed (component_of js) (i + 1) ps)) → IsDistinct nat_eq (ids_of (cons_option (made i p.index o) (indexed (component_of js) (i + 1) ps)))
     by_kind None rest = rest
@@ -49,7 +49,7 @@ comps-distinct ps js = subst (λ cs. IsDistinct nat_eq (ids_of cs)) (sym (by-ind
 -- and are below the number of widgets
 high : (js : List Join) (i : ℕ) (ps : List Entry) (x : ℕ) → is_among (ids_of (indexed (component_of js) i ps)) x ≡ true → x < i + length ps
 high js i [] x h = absurd (false≢true h)
-high js i (p ∷ ps) x h = by_kind (kind_of p.role p.tokens.format (is_sink js i)) h (high js (i + 1) ps x)
+high js i (p ∷ ps) x h = by_kind (component_kind p.role p.tokens.format (is_sink js i)) h (high js (i + 1) ps x)
   where
     by_kind : (o : Option Kind) → is_among (ids_of (cons_option (made i p.index o) (indexed (component_of js) (i + 1) ps))) x ≡ true → (is_among (ids_of (indexed (component_of js) (i + 1) ps)) x ≡ true → x < i + 1 + length ps) → x < i + suc (length ps)
     by_kind None h rest = let l = rest h in omega (arith, l)

@@ -8,16 +8,16 @@ use Rattle.stream_law.specs.declared.graph.Comp.{Comp}
 use Rattle.stream_law.specs.declared.graph.Edge.{Edge}
 use Rattle.stream_law.specs.declared.graph.Pipe.{Pipe}
 use Rattle.stream_law.specs.declared.graph.Join.{Join}
-use Rattle.tplg_graph.specs.declared.entry.Entry.{Entry}
-use Rattle.tplg_graph.specs.declared.route_end.End.{End}
-use Rattle.tplg_graph.specs.declared.route_end.End.TheVariants.{Buffer, Component, Other, Missing}
-use Rattle.tplg_graph.specs.Entries.{is_scheduler, interpreted}
-use Rattle.tplg_graph.specs.Ends.{end_of}
+use Rattle.tplg_widgets.specs.declared.entry.Entry.{Entry}
+use Rattle.tplg_widgets.specs.declared.route_end.End.{End}
+use Rattle.tplg_widgets.specs.declared.route_end.End.TheVariants.{Buffer, Component, Other, Missing}
+use Rattle.tplg_widgets.specs.Entries.{is_scheduler, interpreted}
+use Rattle.tplg_widgets.specs.Ends.{end_of}
 use Rattle.tplg_graph.specs.Lists.{component_end, component_at, components_on, edge_at, edges_on, pipe_of}
 use Rattle.tplg_graph.specs.PlanOf.{graph_on}
 use Rattle.tplg_graph.specs.Rules.{HoldsAll}
 use Rattle.tplg_plan.specs.Sound.{has_pipeline}
-use Rattle.tplg_graph.specs.Table.{has_index, schedules, is_scheduled, is_component_end, indices_rule, scheds_rule}
+use Rattle.tplg_graph.specs.Table.{is_of_index, schedules, is_scheduled, is_component_end, indices_rule, scheds_rule}
 use Rattle.tplg_graph.proofs.ByIds.{of-component, of-edge, implied}
 use Rattle.tplg_graph.proofs.Indexed.{indexed, by-index}
 use Rattle.tplg_graph.proofs.Interpreted.{of-interpreted}
@@ -82,8 +82,8 @@ module _ (es : List Entry) (js : List Join) (indices : HoldsAll (indices_rule es
   there k e at =
       let all : list_all (λ x. is_scheduled ps x.index) ps ≡ true = of-interpreted es ps (λ x. is_scheduled ps x.index) refl indices in
       let named : list_all (is_named es) ps ≡ true = of-interpreted es ps (is_named es) refl scheds in
-      let some : list_any (has_index e.index) ps ≡ true = any-from (has_index e.index) ps k e at (eq-eqb e.index e.index refl) in
-      let one = implied (list_any (has_index e.index) ps) (count_by (schedules e.index) ps == 1) some (passes-at (λ x. is_scheduled ps x.index) ps all k e at) in
+      let some : list_any (is_of_index e.index) ps ≡ true = any-from (is_of_index e.index) ps k e at (eq-eqb e.index e.index refl) in
+      let one = implied (list_any (is_of_index e.index) ps) (count_by (schedules e.index) ps == 1) some (passes-at (λ x. is_scheduled ps x.index) ps all k e at) in
       ap (list_any (is_pipeline e.index)) (by-index (pipe_of es) ps)
       ∙ made-there es e.index 0 ps named (some-passes (schedules e.index) ps (eqb-true (count_by (schedules e.index) ps) 1 one))
 

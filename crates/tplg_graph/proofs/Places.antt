@@ -7,11 +7,12 @@ use Rattle.std.proofs.lemmas.Bool.Decides.{nat_tests}
 use Rattle.std.specs.Str.{bytes_eq}
 use Rattle.std.proofs.lemmas.Slice.Eq.{bytes_eq-Decides}
 use Rattle.std.proofs.lemmas.Option.{slice_get_cases}
-use Rattle.tplg_graph.specs.declared.entry.Entry.{Entry}
-use Rattle.tplg_graph.specs.Entries.{is_interpreted}
-use Rattle.tplg_graph.specs.Names.{is_named}
+use Rattle.tplg_widgets.specs.declared.entry.Entry.{Entry}
+use Rattle.tplg_widgets.specs.Entries.{is_interpreted}
+use Rattle.tplg_widgets.specs.Names.{is_interpreted_named}
 use Rattle.tplg_plan.specs.Printable.{is_widget_name}
-use Rattle.tplg_graph.specs.Table.{is_number, at, name_at, name_holds}
+use Rattle.tplg_graph.specs.Table.{at, name_at, name_holds}
+use Rattle.tplg_widgets.specs.Names.{is_number}
 
 -- a place that passes is the first where none before it passes
 pub first-place : {X : Type 0} (p : X → Bool) (xs : List X) (k : ℕ) (d : X) → k < length xs → p (get_or xs k d) ≡ true → is_number (position p xs) k ≡ not (list_any p (take k xs))
@@ -53,9 +54,9 @@ at-agree {X} xs k f g same = by_place (slice_get_cases xs k).1
 pub names-agree : (es : List Entry) (k : ℕ) → name_at es k ≡ name_holds es k
 names-agree es k = at-agree es k _ _ (λ e within here. by_test e within here (is_interpreted e) refl)
   where
-    by_test : (e : Entry) → k < length es → get_or es k e ≡ e → (b : Bool) → is_interpreted e ≡ b → (not (is_interpreted e) || (is_widget_name e.name && is_number (position (is_named e.name) es) k)) ≡ (not (is_interpreted e) || (is_widget_name e.name && not (list_any (is_named e.name) (take k es))))
-    by_test e within here false i = ap (λ b. not b || (is_widget_name e.name && is_number (position (is_named e.name) es) k)) i ∙ sym (ap (λ b. not b || (is_widget_name e.name && not (list_any (is_named e.name) (take k es)))) i)
-    by_test e within here true i = ap (λ t. not (is_interpreted e) || (is_widget_name e.name && t)) (first-place (is_named e.name) es k e within (ap (is_named e.name) here ∙ ap (λ b. b && bytes_eq e.name e.name) i ∙ (bytes_eq-Decides e.name e.name).1 refl))
+    by_test : (e : Entry) → k < length es → get_or es k e ≡ e → (b : Bool) → is_interpreted e ≡ b → (not (is_interpreted e) || (is_widget_name e.name && is_number (position (is_interpreted_named e.name) es) k)) ≡ (not (is_interpreted e) || (is_widget_name e.name && not (list_any (is_interpreted_named e.name) (take k es))))
+    by_test e within here false i = ap (λ b. not b || (is_widget_name e.name && is_number (position (is_interpreted_named e.name) es) k)) i ∙ sym (ap (λ b. not b || (is_widget_name e.name && not (list_any (is_interpreted_named e.name) (take k es)))) i)
+    by_test e within here true i = ap (λ t. not (is_interpreted e) || (is_widget_name e.name && t)) (first-place (is_interpreted_named e.name) es k e within (ap (is_interpreted_named e.name) here ∙ ap (λ b. b && bytes_eq e.name e.name) i ∙ (bytes_eq-Decides e.name e.name).1 refl))
 
 -- a search by one test is a search by another that agrees
 pub same-search : (f g : ℕ → Bool) (n : ℕ) → ((k : ℕ) → f k ≡ g k) → find (λ k. not (f k)) (range_with_len 0 n) ≡ find (λ k. not (g k)) (range_with_len 0 n)

@@ -5,10 +5,10 @@ use Rattle.tplg_plan.specs.declared.plans.Plan.{Plan}
 use Rattle.tplg_graph.specs.declared.plan_fault.PlanFault.{PlanFault}
 use Rattle.tplg_graph.specs.declared.plan_fault.PlanFault.TheVariants as fault
 use Rattle.stream_law.specs.Ways.{components}
-use Rattle.tplg_graph.specs.Entries.{entries_of, interpreted}
-use Rattle.tplg_graph.specs.Ends.{ends_in}
-use Rattle.tplg_graph.specs.PcmList.{pcms_of}
-use Rattle.tplg_graph.specs.Lists.{joins_of}
+use Rattle.tplg_widgets.specs.Entries.{entries_of, interpreted}
+use Rattle.tplg_widgets.specs.Ends.{ends_in}
+use Rattle.tplg_widgets.specs.PcmList.{pcms_of}
+use Rattle.tplg_widgets.specs.Ends.{joins_of}
 use Rattle.tplg_graph.specs.Rules.{AllHold, BreaksOf}
 use Rattle.tplg_graph.specs.Rules.{Rule as A_rule}
 use Rattle.tplg_graph.specs.PlanOf.{plan_of}

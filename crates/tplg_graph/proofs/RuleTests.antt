@@ -4,11 +4,11 @@ use Rattle.std.proofs.lemmas.Bool.{false≢true, and_parts, and_from, cases_Bool
 use Rattle.stream_law.specs.declared.graph.Comp.{Comp}
 use Rattle.stream_law.specs.declared.graph.Edge.{Edge}
 use Rattle.tplg_model.specs.declared.block.Topology.{Topology}
-use Rattle.tplg_graph.specs.Entries.{entries_of, interpreted}
-use Rattle.tplg_graph.specs.Ends.{ends_in}
-use Rattle.tplg_graph.specs.PcmList.{pcms_of}
-use Rattle.tplg_graph.specs.Lists.{joins_of}
-use Rattle.tplg_graph.specs.WiringValue.{WiringValue, wiring_of}
+use Rattle.tplg_widgets.specs.Entries.{entries_of, interpreted}
+use Rattle.tplg_widgets.specs.Ends.{ends_in}
+use Rattle.tplg_widgets.specs.PcmList.{pcms_of}
+use Rattle.tplg_widgets.specs.Ends.{joins_of}
+use Rattle.tplg_widgets.specs.WiringValue.{WiringValue, wiring_of}
 use Rattle.tplg_graph.specs.Rules.{Rule, tested, AllHold, BreaksOf, IsFirstFailing}
 use Rattle.tplg_graph.specs.Cycles.{Reaches, ReachesCapture, plays, cycles_rule, ways_rule}
 use Rattle.tplg_graph.specs.WellFormed.{IsWellFormed, Breaks, rules_on}

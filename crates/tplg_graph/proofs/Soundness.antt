@@ -4,12 +4,13 @@ use Rattle.std.specs.List.{list_all, AllByRecursion}
 use Rattle.std.proofs.lemmas.Bool.{and_parts, and_from}
 use Rattle.std.proofs.lemmas.Option.{slice_get_within, get_or_from_slice_get}
 use Rattle.tplg_model.specs.declared.block.Topology.{Topology}
-use Rattle.tplg_graph.specs.declared.entry.Entry.{Entry}
+use Rattle.tplg_widgets.specs.declared.entry.Entry.{Entry}
 use Rattle.tplg_plan.specs.declared.plans.Plan.{Plan}
 use Rattle.tplg_graph.specs.declared.plan_fault.PlanFault.{PlanFault}
-use Rattle.tplg_graph.specs.Entries.{is_interpreted, entries_of, interpreted}
-use Rattle.tplg_graph.specs.Lists.{joins_of, components_on, edges_on, pipes_on, component_at, edge_at, pipe_at, control_at, names_on, widgets_on}
-use Rattle.tplg_graph.specs.PcmList.{pcms_of}
+use Rattle.tplg_widgets.specs.Entries.{is_interpreted, entries_of, interpreted}
+use Rattle.tplg_graph.specs.Lists.{components_on, edges_on, pipes_on, component_at, edge_at, pipe_at, control_at, names_on, widgets_on}
+use Rattle.tplg_widgets.specs.Ends.{joins_of}
+use Rattle.tplg_widgets.specs.PcmList.{pcms_of}
 use Rattle.tplg_graph.specs.PlanOf.{plan_of}
 use Rattle.tplg_plan.specs.Printable.{is_widget_name}
 use Rattle.tplg_plan.specs.Sound.{IsSound}

@@ -5,24 +5,24 @@ use Rattle.std.specs.List.{list_all, list_any, find, flat_map, filter_map, cons_
 use Rattle.std.proofs.lemmas.Bool.{false≢true, and_from, and_parts, leb-true}
 use Rattle.stream_law.specs.declared.graph.Graph.{Graph}
 use Rattle.stream_law.specs.declared.graph.Join.{Join}
-use Rattle.tplg_graph.specs.declared.entry.Entry.{Entry}
-use Rattle.tplg_graph.specs.declared.entry.Role.{Role}
-use Rattle.tplg_graph.specs.declared.entry.Role.TheVariants.{HostPlay, HostCapture, Dai, Volume, Mixer, Mux, Eq, Buffer, Scheduler}
-use Rattle.tplg_graph.specs.declared.route_end.End.{End}
-use Rattle.tplg_graph.specs.declared.route_end.End.TheVariants as an_end
-use Rattle.tplg_graph.specs.declared.route_end.Ends.{Ends}
-use Rattle.tplg_graph.specs.Entries.{is_interpreted, is_buffer, is_buffer_role, is_scheduler, is_scheduler_role, is_dai_role, is_host_play_role, interpreted, role_of, entry_of, entries_in, widgets_in, entries_of}
-use Rattle.tplg_graph.specs.Names.{has_name}
-use Rattle.tplg_graph.specs.Ends.{end_of, end_at, real_of}
-use Rattle.tplg_graph.specs.Tokens.{format_of}
+use Rattle.tplg_widgets.specs.declared.entry.Entry.{Entry}
+use Rattle.tplg_widgets.specs.declared.entry.Role.{Role}
+use Rattle.tplg_widgets.specs.declared.entry.Role.TheVariants.{HostPlay, HostCapture, Dai, Volume, Mixer, Mux, Eq, Buffer, Scheduler}
+use Rattle.tplg_widgets.specs.declared.route_end.End.{End}
+use Rattle.tplg_widgets.specs.declared.route_end.End.TheVariants as an_end
+use Rattle.tplg_widgets.specs.declared.route_end.Ends.{Ends}
+use Rattle.tplg_widgets.specs.Entries.{is_interpreted, is_buffer, is_buffer_role, is_scheduler, is_scheduler_role, is_dai_role, is_host_play_role, interpreted, role_of, entry_of, entries_in, widgets_in, entries_of}
+use Rattle.tplg_widgets.specs.Names.{has_name}
+use Rattle.tplg_widgets.specs.Ends.{end_of, end_at, real_of}
+use Rattle.tplg_widgets.specs.Tokens.{format_of}
 use Rattle.tplg_graph.proofs.Interpreted.{of-interpreted, all-filter, weaker, or-front}
 use Rattle.tplg_graph.specs.Rules.{HoldsAll, AllHold}
-use Rattle.tplg_graph.specs.Table.{is_size, is_component_end, names_rule, hosts_rule, is_host, has_pcm}
+use Rattle.tplg_graph.specs.Table.{is_size, is_component_end, names_rule, hosts_rule, is_host_widget, has_pcm}
 use Rattle.tplg_plan.specs.Printable.{is_widget_name}
-use Rattle.tplg_graph.specs.Lists.{component_end, control_of, pipes_on, widget_plan, widgets_on, names_on}
-use Rattle.tplg_graph.specs.declared.pcm_caps.PcmCaps.{PcmCaps}
-use Rattle.tplg_graph.specs.PcmList.{caps_of, is_side_of, side}
-use Rattle.tplg_graph.specs.LiveControls.{live_of}
+use Rattle.tplg_graph.specs.Lists.{component_end, control_plan, pipes_on, widget_plan, widgets_on, names_on}
+use Rattle.tplg_widgets.specs.declared.pcm_caps.PcmCaps.{PcmCaps}
+use Rattle.tplg_widgets.specs.PcmList.{caps_of, is_side_of, caps_of_side}
+use Rattle.tplg_widgets.specs.LiveControls.{live_of}
 use Rattle.tplg_model.specs.declared.pcm.Caps.{Caps}
 use Rattle.tplg_model.specs.declared.control.Control.{Control}
 use Rattle.tplg_model.specs.declared.widget.Widget.{Widget}
@@ -194,7 +194,7 @@ plan-of-four es index h b d s pcms k q fit =
       scheduler = widget_plan (widget index Scheduler s);
       graph = λ i. record { comps = graph.comps; edges = graph.edges; pipes = pipes-of es index h b d s k i; joins = graph.joins };
       streams = λ i. cons_option (option_map (λ caps. record { host = 0; capture = false; caps = caps }) (q.found i)) [];
-      controls = λ i. cons_option (control_of 0 (q.host i)) (cons_option (control_of 1 (q.buffer i)) (cons_option (control_of 2 (q.dai i)) (cons_option (control_of 3 (q.scheduler i)) [])));
+      controls = λ i. cons_option (control_plan 0 (q.host i)) (cons_option (control_plan 1 (q.buffer i)) (cons_option (control_plan 2 (q.dai i)) (cons_option (control_plan 3 (q.scheduler i)) [])));
       names = refl;
       widgets = refl;
       pipe_fits = f0.pipe;
@@ -280,12 +280,12 @@ quiet-of es pcms index h b d s same hosts quiet =
     let qb = and_parts (is_quiet (widget index Buffer b)) _ qh.1 in
     let qd = and_parts (is_quiet (widget index Dai d)) _ qb.1 in
     let qs = and_parts (is_quiet (widget index Scheduler s)) true qd.1 in
-    let pcm = of-interpreted es (four index h b d s) (λ e. not (is_host e) || has_pcm pcms e) same (λ k w. weaker (slice_get es k) _ _ (λ e. or-front (not (is_host e)) (has_pcm pcms e) _) (hosts k w)) in
+    let pcm = of-interpreted es (four index h b d s) (λ e. not (is_host_widget e) || has_pcm pcms e) same (λ k w. weaker (slice_get es k) _ _ (λ e. or-front (not (is_host_widget e)) (has_pcm pcms e) _) (hosts k w)) in
     let heard : has_pcm pcms (widget index HostPlay h) ≡ true = (and_parts (has_pcm pcms (widget index HostPlay h)) _ pcm).0 in
     let found = caps-found (is_side_of false h.sname) pcms (and_parts (not (length h.sname == 0)) (list_any (is_side_of false h.sname) pcms) heard).1 in
     record {
       caps = found.0.play;
-      found = ap (option_map (side false)) found.1;
+      found = ap (option_map (caps_of_side false)) found.1;
       host = none-of h.control qh.0;
       buffer = none-of b.control qb.0;
       dai = none-of d.control qd.0;

@@ -4,15 +4,15 @@ use Rattle.std.proofs.lemmas.Bool.{and_parts, and_from, eqb-true, cases_lt}
 use Rattle.sof_base.specs.declared.memory.NoMemory.{NoMemory}
 use Rattle.stream_law.specs.declared.graph.Join.{Join}
 use Rattle.tplg_model.specs.declared.block.Topology.{Topology}
-use Rattle.tplg_graph.specs.declared.entry.Entry.{Entry}
-use Rattle.tplg_graph.specs.declared.route_end.End.{End}
-use Rattle.tplg_graph.specs.declared.route_end.End.TheVariants.{Buffer, Component, Other, Missing}
-use Rattle.tplg_graph.specs.declared.route_end.Ends.{Ends}
-use Rattle.tplg_graph.specs.Entries.{entries_of, interpreted}
-use Rattle.tplg_graph.specs.Ends.{ends_in}
-use Rattle.tplg_graph.specs.Lists.{joins_of}
+use Rattle.tplg_widgets.specs.declared.entry.Entry.{Entry}
+use Rattle.tplg_widgets.specs.declared.route_end.End.{End}
+use Rattle.tplg_widgets.specs.declared.route_end.End.TheVariants.{Buffer, Component, Other, Missing}
+use Rattle.tplg_widgets.specs.declared.route_end.Ends.{Ends}
+use Rattle.tplg_widgets.specs.Entries.{entries_of, interpreted}
+use Rattle.tplg_widgets.specs.Ends.{ends_in}
+use Rattle.tplg_widgets.specs.Ends.{joins_of}
 use Rattle.tplg_graph.specs.Rules.{AllHold}
-use Rattle.tplg_graph.specs.Table.{is_number}
+use Rattle.tplg_widgets.specs.Names.{is_number}
 use Rattle.tplg_graph.specs.Thin.{AreInOrder, AreThin, IsThin, thin_ends, thin_rules}
 use Rattle.tplg_graph.specs.ThinTest.{in_order, are_four, is_component, is_buffer_of, are_two, below, rules_hold, thin_over, thin_test}
 

@@ -12,11 +12,11 @@ use Rattle.stream_law.specs.Ways.{comp_of, edge_of, leads, reaches}
 use Rattle.stream_law.specs.Ways as way
 use Rattle.stream_law.specs.Joins.{crosses}
 use Rattle.stream_law.specs.Joins as join_law
-use Rattle.tplg_graph.specs.declared.entry.Role.{Role}
-use Rattle.tplg_graph.specs.declared.entry.Entry.{Entry}
-use Rattle.tplg_graph.specs.declared.tokens.FormatToken.{FormatToken}
-use Rattle.tplg_graph.specs.Entries.{is_component_role, interpreted}
-use Rattle.tplg_graph.specs.Lists.{component_at, components_on, edge_at, edges_on, route_in, route_out, kind_of, is_sink}
+use Rattle.tplg_widgets.specs.declared.entry.Role.{Role}
+use Rattle.tplg_widgets.specs.declared.entry.Entry.{Entry}
+use Rattle.tplg_widgets.specs.declared.tokens.FormatToken.{FormatToken}
+use Rattle.tplg_widgets.specs.Entries.{is_component_role, interpreted}
+use Rattle.tplg_graph.specs.Lists.{component_at, components_on, edge_at, edges_on, route_in, route_out, component_kind, is_sink}
 use Rattle.tplg_graph.specs.Rules.{HoldsAll}
 use Rattle.tplg_graph.specs.Table.{ins_of, outs_of, buffers_rule}
 use Rattle.tplg_graph.specs.Cycles.{joined, Walk, Reaches, is_play, is_capture, cycles_rule, ways_rule}
@@ -133,7 +133,7 @@ one-way Mux play capture = false≢true play
 one-way Eq play capture = false≢true play
 
 -- what has a kind is a component
-pub component-sort : (r : Option Role) (f : FormatToken) (b : Bool) (k : Kind) → kind_of r f b ≡ Some k → is_component_role r ≡ true
+pub component-sort : (r : Option Role) (f : FormatToken) (b : Bool) (k : Kind) → component_kind r f b ≡ Some k → is_component_role r ≡ true
 component-sort r f b k h = true_from_ne_false (is_component_role r) (λ n. some-none (sym h ∙ no-kind r f b n))
 
 -- ---- over real routes

@@ -18,6 +18,6 @@ is_control (Enum head num_channels channels items mask count texts values privat
 is_control (Bytes head max mask base num_regs ext_ops private) = is_initial private
 
 -- of the control that is there
-abbrev pub in_range : Option Control → Bool
-in_range None = true
-in_range (Some control) = is_control control
+abbrev pub is_live_in_range : Option Control → Bool
+is_live_in_range None = true
+is_live_in_range (Some control) = is_control control

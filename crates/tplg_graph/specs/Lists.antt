@@ -15,30 +15,26 @@ use Rattle.tplg_model.specs.declared.control.ControlHead.{ControlHead}
 use Rattle.tplg_model.specs.declared.control.Control.{Control}
 use Rattle.tplg_model.specs.declared.control.Control.TheVariants as recorded
 use Rattle.tplg_model.specs.declared.block.Topology.{Topology}
-use Rattle.tplg_graph.specs.declared.entry.Role.{Role}
-use Rattle.tplg_graph.specs.declared.entry.Role.TheVariants.{HostPlay, HostCapture, Dai, Mixer, Mux, Eq}
-use Rattle.tplg_graph.specs.declared.entry.Role.TheVariants as role_is
-use Rattle.tplg_graph.specs.declared.entry.Entry.{Entry}
-use Rattle.tplg_graph.specs.declared.route_end.End.{End}
-use Rattle.tplg_graph.specs.declared.route_end.End.TheVariants as an_end
+use Rattle.tplg_widgets.specs.declared.entry.Role.{Role}
+use Rattle.tplg_widgets.specs.declared.entry.Role.TheVariants.{HostPlay, HostCapture, Dai, Mixer, Mux, Eq}
+use Rattle.tplg_widgets.specs.declared.entry.Role.TheVariants as role_is
+use Rattle.tplg_widgets.specs.declared.entry.Entry.{Entry}
+use Rattle.tplg_widgets.specs.declared.route_end.End.{End}
+use Rattle.tplg_widgets.specs.declared.route_end.End.TheVariants as an_end
 use Rattle.tplg_plan.specs.declared.plans.StreamPlan.{StreamPlan}
 use Rattle.tplg_plan.specs.declared.plans.WidgetPlan.{WidgetPlan}
 use Rattle.tplg_plan.specs.declared.plans.ControlPlan.{ControlPlan}
 use Rattle.tplg_plan.specs.declared.plans.ControlKind.{ControlKind}
 use Rattle.tplg_plan.specs.declared.plans.ControlKind.TheVariants.{Volume, Choice, Blob}
-use Rattle.tplg_graph.specs.LiveControls.{scale_word}
-use Rattle.tplg_graph.specs.declared.pcm_caps.PcmCaps.{PcmCaps}
-use Rattle.tplg_graph.specs.PcmList.{caps_of}
+use Rattle.tplg_widgets.specs.LiveControls.{scale_word}
+use Rattle.tplg_widgets.specs.declared.pcm_caps.PcmCaps.{PcmCaps}
+use Rattle.tplg_widgets.specs.PcmList.{caps_of}
 use Rattle.tplg_graph.specs.ControlRanges.{is_volume}
-use Rattle.tplg_graph.specs.declared.tokens.FormatToken.{FormatToken}
-use Rattle.tplg_graph.specs.Tokens.{format_of}
+use Rattle.tplg_widgets.specs.declared.tokens.FormatToken.{FormatToken}
+use Rattle.tplg_widgets.specs.Tokens.{format_of}
 use Rattle.tplg_plan.specs.WidgetWords.{format_number}
-use Rattle.tplg_graph.specs.Entries.{is_buffer, is_scheduler}
-use Rattle.tplg_graph.specs.Ends.{end_of, ends_in, real_of}
-
--- the real routes in file order, by ids
-abbrev pub joins_of : Topology → List Join
-joins_of t = filter_map real_of (ends_in t)
+use Rattle.tplg_widgets.specs.Entries.{is_buffer, is_scheduler}
+use Rattle.tplg_widgets.specs.Ends.{end_of, ends_in, real_of}
 
 -- the first real route into what has this id, and the first out of it
 abbrev pub route_in : List Join → ℕ → Option Join
@@ -54,21 +50,21 @@ is_sink js id = list_any (λ j. j.sink == id) js
 -- ---- components
 
 -- a DAI plays where a real route ends at it
-abbrev pub kind_of : Option Role → FormatToken → Bool → Option Kind
-kind_of (Some HostPlay) format ends = Some kind.HostPlay
-kind_of (Some HostCapture) format ends = Some kind.HostCapture
-kind_of (Some Dai) format ends = Some (if ends then kind.DaiPlay (format_of format) else kind.DaiCapture (format_of format))
-kind_of (Some role_is.Volume) format ends = Some kind.Volume
-kind_of (Some Mixer) format ends = Some kind.Mixer
-kind_of (Some Mux) format ends = Some kind.Mux
-kind_of (Some Eq) format ends = Some kind.Eq
-kind_of _ format ends = None
+abbrev pub component_kind : Option Role → FormatToken → Bool → Option Kind
+component_kind (Some HostPlay) format ends = Some kind.HostPlay
+component_kind (Some HostCapture) format ends = Some kind.HostCapture
+component_kind (Some Dai) format ends = Some (if ends then kind.DaiPlay (format_of format) else kind.DaiCapture (format_of format))
+component_kind (Some role_is.Volume) format ends = Some kind.Volume
+component_kind (Some Mixer) format ends = Some kind.Mixer
+component_kind (Some Mux) format ends = Some kind.Mux
+component_kind (Some Eq) format ends = Some kind.Eq
+component_kind _ format ends = None
 
 -- a component has no setting here: the host's record has them
 abbrev pub component_of : List Join → ℕ → Entry → Option Comp
 component_of js id e =
     option_map (λ k. record { id = id; kind = k; pipe = e.index; setting = Nothing })
-    (kind_of e.role e.tokens.format (is_sink js id))
+    (component_kind e.role e.tokens.format (is_sink js id))
 
 -- the component of this id, where it is one
 abbrev pub component_at : List Entry → List Join → ℕ → Option Comp
@@ -155,11 +151,11 @@ kind_in (recorded.Enum head num_channels channels items mask count texts values 
 kind_in (recorded.Bytes head max mask base num_regs ext_ops private) = Some (Blob max private)
 
 -- the live control of this id, where there is one
-abbrev pub control_of : ℕ → Option Control → Option ControlPlan
-control_of id control = option_map (λ kind. record { comp = id; kind = kind }) (option_and_then kind_in control)
+abbrev pub control_plan : ℕ → Option Control → Option ControlPlan
+control_plan id control = option_map (λ kind. record { comp = id; kind = kind }) (option_and_then kind_in control)
 
 abbrev pub control_at : List Entry → ℕ → Option ControlPlan
-control_at ps id = option_and_then (λ e. control_of id e.control) (slice_get ps id)
+control_at ps id = option_and_then (λ e. control_plan id e.control) (slice_get ps id)
 
 abbrev pub controls_on : List Entry → List ControlPlan
 controls_on ps = filter_map (control_at ps) (range_with_len 0 (length ps))

@@ -6,15 +6,16 @@ use Rattle.stream_law.specs.declared.graph.Pipe.{Pipe}
 use Rattle.stream_law.specs.declared.graph.Join.{Join}
 use Rattle.stream_law.specs.declared.graph.Graph.{Graph}
 use Rattle.tplg_model.specs.declared.block.Topology.{Topology}
-use Rattle.tplg_graph.specs.declared.entry.Entry.{Entry}
+use Rattle.tplg_widgets.specs.declared.entry.Entry.{Entry}
 use Rattle.tplg_plan.specs.declared.plans.Plan.{Plan}
 use Rattle.tplg_plan.specs.declared.plans.StreamPlan.{StreamPlan}
 use Rattle.tplg_plan.specs.declared.plans.ControlPlan.{ControlPlan}
-use Rattle.tplg_graph.specs.declared.pcm_caps.PcmCaps.{PcmCaps}
-use Rattle.tplg_graph.specs.Entries.{entries_of, interpreted}
-use Rattle.tplg_graph.specs.WiringValue.{WiringValue, wiring_of}
-use Rattle.tplg_graph.specs.PcmList.{pcms_of}
-use Rattle.tplg_graph.specs.Lists.{joins_of, components_on, edges_on, pipes_on, streams_on, controls_on, names_on, widgets_on}
+use Rattle.tplg_widgets.specs.declared.pcm_caps.PcmCaps.{PcmCaps}
+use Rattle.tplg_widgets.specs.Entries.{entries_of, interpreted}
+use Rattle.tplg_widgets.specs.WiringValue.{WiringValue, wiring_of}
+use Rattle.tplg_widgets.specs.PcmList.{pcms_of}
+use Rattle.tplg_graph.specs.Lists.{components_on, edges_on, pipes_on, streams_on, controls_on, names_on, widgets_on}
+use Rattle.tplg_widgets.specs.Ends.{joins_of}
 
 -- the interpreted widgets: an id is a place in this list
 abbrev pub ids : Topology → List Entry
@@ -32,8 +33,8 @@ pipelines_of t = pipes_on (entries_of t) (ids t)
 abbrev pub streams_of : Topology → List StreamPlan
 streams_of t = streams_on (ids t) (pcms_of t)
 
-abbrev pub controls_of : Topology → List ControlPlan
-controls_of t = controls_on (ids t)
+abbrev pub live_controls_of : Topology → List ControlPlan
+live_controls_of t = controls_on (ids t)
 
 -- over the widgets, the interpreted ones and the real routes: the graph
 abbrev pub graph_on : List Entry → List Entry → List Join → Graph

@@ -8,8 +8,8 @@ use Rattle.stream_law.specs.Ways.{is_end}
 use Rattle.tplg_model.specs.declared.block.Topology.{Topology}
 use Rattle.tplg_graph.specs.declared.rule_name.RuleName.{RuleName}
 use Rattle.tplg_graph.specs.declared.rule_name.RuleName.TheVariants as rule
-use Rattle.tplg_graph.specs.Entries.{interpreted}
-use Rattle.tplg_graph.specs.WiringValue.{WiringValue, wiring_of}
+use Rattle.tplg_widgets.specs.Entries.{interpreted}
+use Rattle.tplg_widgets.specs.WiringValue.{WiringValue, wiring_of}
 use Rattle.tplg_graph.specs.Lists.{components_on, edges_on}
 use Rattle.tplg_graph.specs.Rules.{Rule, tested}
 use Rattle.tplg_graph.specs.Table.{count_holds, name_holds, ends_hold, route_holds, buffer_holds, component_holds, index_holds, sched_holds, period_holds, dai_holds, host_holds, size_holds, control_holds}
@@ -54,20 +54,20 @@ ruling (test ∷ tests) = ruled test.number (first_failing test) (ruling tests)
 
 -- ---- rules 1 to 13: the number of each, how many items it has, and its test of an item
 
-abbrev pub number_of : RuleName → ℕ
-number_of rule.Counts = 1
-number_of rule.Names = 2
-number_of rule.RouteEnds = 3
-number_of rule.Routes = 4
-number_of rule.Buffers = 5
-number_of rule.Components = 6
-number_of rule.Indices = 7
-number_of rule.Schedulers = 8
-number_of rule.Periods = 9
-number_of rule.Dais = 10
-number_of rule.Hosts = 11
-number_of rule.Sizes = 12
-number_of rule.Controls = 13
+abbrev pub rule_number : RuleName → ℕ
+rule_number rule.Counts = 1
+rule_number rule.Names = 2
+rule_number rule.RouteEnds = 3
+rule_number rule.Routes = 4
+rule_number rule.Buffers = 5
+rule_number rule.Components = 6
+rule_number rule.Indices = 7
+rule_number rule.Schedulers = 8
+rule_number rule.Periods = 9
+rule_number rule.Dais = 10
+rule_number rule.Hosts = 11
+rule_number rule.Sizes = 12
+rule_number rule.Controls = 13
 
 -- counts, routes or widgets
 abbrev pub items_of : RuleName → WiringValue → ℕ
@@ -92,11 +92,11 @@ holds_at rule.Sizes w k = size_holds w.widgets k
 holds_at rule.Controls w k = control_holds w.widgets k
 
 abbrev pub test_by : RuleName → WiringValue → Test
-test_by name w = record { number = number_of name; items = items_of name w; holds = holds_at name w }
+test_by name w = record { number = rule_number name; items = items_of name w; holds = holds_at name w }
 
 -- the same as a rule
 abbrev pub rule_by : RuleName → WiringValue → Rule
-rule_by name w = tested (number_of name) (items_of name w) (holds_at name w)
+rule_by name w = tested (rule_number name) (items_of name w) (holds_at name w)
 
 abbrev pub rule_names : List RuleName
 rule_names =

@@ -4,23 +4,23 @@ use Rattle.std.specs.Option.{option_map_or}
 use Rattle.std.specs.List.{list_any}
 use Rattle.std.specs.Str.{bytes_eq}
 use Rattle.stream_law.specs.declared.graph.Join.{Join}
-use Rattle.tplg_graph.specs.declared.entry.Entry.{Entry}
-use Rattle.tplg_graph.specs.declared.route_end.End.{End}
-use Rattle.tplg_graph.specs.declared.route_end.End.TheVariants.{Buffer, Component, Missing}
-use Rattle.tplg_graph.specs.declared.route_end.Ends.{Ends}
-use Rattle.tplg_graph.specs.declared.entry.Role.{Role}
-use Rattle.tplg_graph.specs.declared.entry.Role.TheVariants as role_is
-use Rattle.tplg_graph.specs.declared.pcm_caps.PcmCaps.{PcmCaps}
-use Rattle.tplg_graph.specs.declared.tokens.Process.{Process}
-use Rattle.tplg_graph.specs.declared.tokens.Process.TheVariants.{Equaliser, Other}
-use Rattle.tplg_graph.specs.declared.tokens.FormatToken.{FormatToken}
-use Rattle.tplg_graph.specs.declared.tokens.FormatToken.TheVariants.{Unknown}
+use Rattle.tplg_widgets.specs.declared.entry.Entry.{Entry}
+use Rattle.tplg_widgets.specs.declared.route_end.End.{End}
+use Rattle.tplg_widgets.specs.declared.route_end.End.TheVariants.{Buffer, Component, Missing}
+use Rattle.tplg_widgets.specs.declared.route_end.Ends.{Ends}
+use Rattle.tplg_widgets.specs.declared.entry.Role.{Role}
+use Rattle.tplg_widgets.specs.declared.entry.Role.TheVariants as role_is
+use Rattle.tplg_widgets.specs.declared.pcm_caps.PcmCaps.{PcmCaps}
+use Rattle.tplg_widgets.specs.declared.tokens.Process.{Process}
+use Rattle.tplg_widgets.specs.declared.tokens.Process.TheVariants.{Equaliser, Other}
+use Rattle.tplg_widgets.specs.declared.tokens.FormatToken.{FormatToken}
+use Rattle.tplg_widgets.specs.declared.tokens.FormatToken.TheVariants.{Unknown}
 use Rattle.tplg_plan.specs.Ranges.{is_period}
-use Rattle.tplg_graph.specs.Entries.{is_interpreted, is_buffer, is_component, is_scheduler, is_dai, is_host_play, is_host_capture, is_equaliser, has_control, id_of}
-use Rattle.tplg_graph.specs.PcmList.{is_side_of}
-use Rattle.tplg_graph.specs.ControlRanges.{in_range}
-use Rattle.tplg_graph.specs.Names.{is_named}
-use Rattle.tplg_graph.specs.Ends.{end_of}
+use Rattle.tplg_widgets.specs.Entries.{is_interpreted, is_buffer, is_component, is_scheduler, is_dai, is_host_play, is_host_capture, is_equaliser, has_control, id_of}
+use Rattle.tplg_widgets.specs.PcmList.{is_side_of}
+use Rattle.tplg_graph.specs.ControlRanges.{is_live_in_range}
+use Rattle.tplg_widgets.specs.Names.{is_interpreted_named, is_number}
+use Rattle.tplg_widgets.specs.Ends.{end_of}
 use Rattle.tplg_graph.specs.Lists.{is_sink}
 use Rattle.tplg_plan.specs.Printable.{is_widget_name}
 use Rattle.tplg_graph.specs.Rules.{Rule, tested}
@@ -46,19 +46,14 @@ counts_rule ps pcms = tested 1 5 (count_holds ps pcms)
 
 -- each interpreted widget's name can be printed, and differs from those of all earlier interpreted widgets
 abbrev pub name_holds : List Entry → ℕ → Bool
-name_holds es k = at es k (λ e. not (is_interpreted e) || (is_widget_name e.name && not (list_any (is_named e.name) (take k es))))
+name_holds es k = at es k (λ e. not (is_interpreted e) || (is_widget_name e.name && not (list_any (is_interpreted_named e.name) (take k es))))
 
 abbrev pub names_rule : List Entry → Rule
 names_rule es = tested 2 (length es) (name_holds es)
 
--- whether a number is there, and this one
-abbrev pub is_number : Option ℕ → ℕ → Bool
-is_number None k = false
-is_number (Some n) k = n == k
-
 -- the same by places: it is the first of its name
 abbrev pub name_at : List Entry → ℕ → Bool
-name_at es k = at es k (λ e. not (is_interpreted e) || (is_widget_name e.name && is_number (position (is_named e.name) es) k))
+name_at es k = at es k (λ e. not (is_interpreted e) || (is_widget_name e.name && is_number (position (is_interpreted_named e.name) es) k))
 
 -- ---- 3: both ends of each route name a widget
 
@@ -93,11 +88,11 @@ ins_of js id = count_by (λ j. j.sink == id) js
 abbrev pub outs_of : List Join → ℕ → ℕ
 outs_of js id = count_by (λ j. j.source == id) js
 
-abbrev pub is_passed : List Join → ℕ → Bool
-is_passed js id = ins_of js id == 1 && outs_of js id == 1
+abbrev pub is_joined_through : List Join → ℕ → Bool
+is_joined_through js id = ins_of js id == 1 && outs_of js id == 1
 
 abbrev pub buffer_holds : List Entry → List Join → ℕ → Bool
-buffer_holds es js k = at es k (λ e. not (is_buffer e) || is_passed js (id_of es k))
+buffer_holds es js k = at es k (λ e. not (is_buffer e) || is_joined_through js (id_of es k))
 
 abbrev pub buffers_rule : List Entry → List Join → Rule
 buffers_rule es js = tested 5 (length es) (buffer_holds es js)
@@ -125,15 +120,15 @@ components_rule es js = tested 6 (length es) (component_holds es js)
 
 -- ---- 7: each index that has an interpreted widget has exactly one scheduler
 
-abbrev pub has_index : ℕ → Entry → Bool
-has_index index e = e.index == index
+abbrev pub is_of_index : ℕ → Entry → Bool
+is_of_index index e = e.index == index
 
 abbrev pub schedules : ℕ → Entry → Bool
-schedules index e = is_scheduler e && has_index index e
+schedules index e = is_scheduler e && is_of_index index e
 
 -- of an index, over the interpreted widgets
 abbrev pub is_scheduled : List Entry → ℕ → Bool
-is_scheduled ps index = not (list_any (has_index index) ps) || count_by (schedules index) ps == 1
+is_scheduled ps index = not (list_any (is_of_index index) ps) || count_by (schedules index) ps == 1
 
 -- at each widget: the first that fails is the least widget of its index
 abbrev pub index_holds : List Entry → List Entry → ℕ → Bool
@@ -165,24 +160,24 @@ periods_rule es = tested 9 (length es) (period_holds es)
 -- ---- 10: a DAI's direction, where it says one, is its own; its format, where it says one, is known
 
 -- 0 is playback, 1 is capture
-abbrev pub is_direction : Option ℕ → Bool → Bool
-is_direction None plays = true
-is_direction (Some d) plays = d == (if plays then 0 else 1)
+abbrev pub is_own_direction : Option ℕ → Bool → Bool
+is_own_direction None plays = true
+is_own_direction (Some d) plays = d == (if plays then 0 else 1)
 
 abbrev pub is_format : FormatToken → Bool
 is_format Unknown = false
 is_format _ = true
 
 abbrev pub dai_holds : List Entry → List Join → ℕ → Bool
-dai_holds es js k = at es k (λ e. not (is_dai e) || (is_direction e.tokens.dai_direction (is_sink js (id_of es k)) && is_format e.tokens.format))
+dai_holds es js k = at es k (λ e. not (is_dai e) || (is_own_direction e.tokens.dai_direction (is_sink js (id_of es k)) && is_format e.tokens.format))
 
 abbrev pub dais_rule : List Entry → List Join → Rule
 dais_rule es js = tested 10 (length es) (dai_holds es js)
 
 -- ---- 11: each host's stream name is not empty, is that of some PCM's caps of its direction, and of no earlier host of its kind
 
-abbrev pub is_host : Entry → Bool
-is_host e = is_host_play e || is_host_capture e
+abbrev pub is_host_widget : Entry → Bool
+is_host_widget e = is_host_play e || is_host_capture e
 
 -- a host of the same kind with the same stream name
 abbrev pub is_same_stream : Entry → Entry → Bool
@@ -193,7 +188,7 @@ abbrev pub has_pcm : List PcmCaps → Entry → Bool
 has_pcm pcms e = not (length e.sname == 0) && list_any (is_side_of (is_host_capture e) e.sname) pcms
 
 abbrev pub host_holds : List Entry → List PcmCaps → ℕ → Bool
-host_holds es pcms k = at es k (λ e. not (is_host e) || (has_pcm pcms e && not (list_any (is_same_stream e) (take k es))))
+host_holds es pcms k = at es k (λ e. not (is_host_widget e) || (has_pcm pcms e && not (list_any (is_same_stream e) (take k es))))
 
 abbrev pub hosts_rule : List Entry → List PcmCaps → Rule
 hosts_rule es pcms = tested 11 (length es) (host_holds es pcms)
@@ -217,7 +212,7 @@ is_known_process Equaliser = true
 is_known_process Other = false
 
 abbrev pub control_holds : List Entry → ℕ → Bool
-control_holds es k = at es k (λ e. (not (is_equaliser e) || is_known_process e.tokens.process) && in_range e.control)
+control_holds es k = at es k (λ e. (not (is_equaliser e) || is_known_process e.tokens.process) && is_live_in_range e.control)
 
 abbrev pub controls_rule : List Entry → Rule
 controls_rule es = tested 13 (length es) (control_holds es)

@@ -2,11 +2,11 @@
 use Rattle.std.specs.Prelude.{◌≡◌, [], ◌∷◌, List, true, Some}
 use Rattle.stream_law.specs.declared.graph.Join.{Join}
 use Rattle.tplg_model.specs.declared.block.Topology.{Topology}
-use Rattle.tplg_graph.specs.declared.entry.Entry.{Entry}
-use Rattle.tplg_graph.specs.declared.route_end.End.TheVariants.{Buffer, Component}
-use Rattle.tplg_graph.specs.declared.route_end.Ends.{Ends}
-use Rattle.tplg_graph.specs.WiringValue.{WiringValue, wiring_of}
-use Rattle.tplg_graph.specs.Entries.{interpreted, is_host_play, is_buffer, is_dai, is_scheduler}
+use Rattle.tplg_widgets.specs.declared.entry.Entry.{Entry}
+use Rattle.tplg_widgets.specs.declared.route_end.End.TheVariants.{Buffer, Component}
+use Rattle.tplg_widgets.specs.declared.route_end.Ends.{Ends}
+use Rattle.tplg_widgets.specs.WiringValue.{WiringValue, wiring_of}
+use Rattle.tplg_widgets.specs.Entries.{interpreted, is_host_play, is_buffer, is_dai, is_scheduler}
 use Rattle.tplg_graph.specs.Rules.{Rule, AllHold}
 use Rattle.tplg_graph.specs.Table.{names_rule, scheds_rule, periods_rule, dais_rule, sizes_rule}
 

@@ -3,13 +3,14 @@ use Rattle.std.specs.Prelude.{ℕ, zero, suc, List, [], ◌∷◌, length, Bool,
 use Rattle.std.specs.List.{filter_map}
 use Rattle.stream_law.specs.declared.graph.Join.{Join}
 use Rattle.tplg_model.specs.declared.block.Topology.{Topology}
-use Rattle.tplg_graph.specs.declared.entry.Entry.{Entry}
-use Rattle.tplg_graph.specs.declared.route_end.End.{End}
-use Rattle.tplg_graph.specs.declared.route_end.End.TheVariants.{Buffer, Component}
-use Rattle.tplg_graph.specs.declared.route_end.Ends.{Ends}
-use Rattle.tplg_graph.specs.Entries.{entries_of, interpreted, is_host_play, is_buffer, is_dai, is_scheduler}
-use Rattle.tplg_graph.specs.Ends.{ends_in, real_of}
-use Rattle.tplg_graph.specs.Table.{is_number, name_holds, sched_holds, period_holds, dai_holds, size_holds}
+use Rattle.tplg_widgets.specs.declared.entry.Entry.{Entry}
+use Rattle.tplg_widgets.specs.declared.route_end.End.{End}
+use Rattle.tplg_widgets.specs.declared.route_end.End.TheVariants.{Buffer, Component}
+use Rattle.tplg_widgets.specs.declared.route_end.Ends.{Ends}
+use Rattle.tplg_widgets.specs.Entries.{entries_of, interpreted, is_host_play, is_buffer, is_dai, is_scheduler}
+use Rattle.tplg_widgets.specs.Ends.{ends_in, real_of}
+use Rattle.tplg_graph.specs.Table.{name_holds, sched_holds, period_holds, dai_holds, size_holds}
+use Rattle.tplg_widgets.specs.Names.{is_number}
 
 abbrev pub in_order : Entry → Entry → Entry → Entry → Bool
 in_order host buffer dai scheduler =

@@ -4,23 +4,24 @@ use Rattle.stream_law.specs.declared.graph.Comp.{Comp}
 use Rattle.stream_law.specs.declared.graph.Edge.{Edge}
 use Rattle.stream_law.specs.declared.graph.Join.{Join}
 use Rattle.tplg_model.specs.declared.block.Topology.{Topology}
-use Rattle.tplg_graph.specs.declared.entry.Entry.{Entry}
-use Rattle.tplg_graph.specs.declared.pcm_caps.PcmCaps.{PcmCaps}
-use Rattle.tplg_graph.specs.declared.route_end.Ends.{Ends}
+use Rattle.tplg_widgets.specs.declared.entry.Entry.{Entry}
+use Rattle.tplg_widgets.specs.declared.pcm_caps.PcmCaps.{PcmCaps}
+use Rattle.tplg_widgets.specs.declared.route_end.Ends.{Ends}
 use Rattle.tplg_plan.specs.declared.plans.Plan.{Plan}
 use Rattle.tplg_graph.specs.declared.plan_fault.PlanFault.{PlanFault}
 use Rattle.tplg_graph.specs.declared.plan_fault.PlanFault.TheVariants as fault
-use Rattle.tplg_graph.specs.Entries.{entries_of, interpreted}
+use Rattle.tplg_widgets.specs.Entries.{entries_of, interpreted}
 use Rattle.std.specs.List.{filter_map}
-use Rattle.tplg_graph.specs.Ends.{all_ends, real_of, ends_in}
-use Rattle.tplg_graph.specs.PcmList.{pcms_of}
-use Rattle.tplg_graph.specs.Lists.{joins_of, components_on, edges_on}
+use Rattle.tplg_widgets.specs.Ends.{all_ends, real_of, ends_in}
+use Rattle.tplg_widgets.specs.PcmList.{pcms_of}
+use Rattle.tplg_graph.specs.Lists.{components_on, edges_on}
+use Rattle.tplg_widgets.specs.Ends.{joins_of}
 use Rattle.tplg_graph.specs.Rules.{AllHold, BreaksOf}
 use Rattle.tplg_graph.specs.Rules.{Rule as A_rule}
 use Rattle.tplg_graph.specs.Table.{counts_rule, names_rule, ends_rule, routes_rule, buffers_rule, components_rule, indices_rule, scheds_rule, periods_rule, dais_rule, hosts_rule, sizes_rule, controls_rule}
 use Rattle.tplg_graph.specs.Cycles.{cycles_rule, ways_rule}
 use Rattle.tplg_graph.specs.Needed.{need_of}
-use Rattle.tplg_graph.specs.WiringValue.{WiringValue, wiring_of}
+use Rattle.tplg_widgets.specs.WiringValue.{WiringValue, wiring_of}
 
 -- rules 2 to 4, over the widgets and the ends of routes
 abbrev pub front_rules : List Entry → List Ends → List A_rule

@@ -6,8 +6,8 @@ ghost use Rattle.tplg_plan.specs.Ranges.{is_initial};
 ghost use Rattle.tplg_graph.specs.ControlRanges as ranges;
 ghost use Rattle.tplg_graph.specs.Lists as law;
 
-use crate::entry::Entry;
-use crate::live_control::scale_word;
+use tplg_widgets::Entry;
+use tplg_widgets::scale_word;
 use tplg_plan::{ControlKind, ControlPlan};
 use eq_biquad::check;
 use sof_base::Items;
@@ -55,8 +55,8 @@ fn is_control(control: &Control) -> bool
 }
 
 /// Whether a live control, where there is one, is in range.
-pub fn in_range(control: Option<&Control>) -> bool
-    ensures { result ≡ ranges.in_range (option_copied control.entry) }
+pub fn is_live_in_range(control: Option<&Control>) -> bool
+    ensures { result ≡ ranges.is_live_in_range (option_copied control.entry) }
 {
     match control {
         None => true,
@@ -107,12 +107,12 @@ fn kind_in(alloc: Global, control: &Control) -> Result<Option<ControlKind>, Allo
     }
 }
 
-fn control_of(
+fn control_plan(
     alloc: Global,
     id: u32,
     control: Option<&Control>,
 ) -> Result<Option<ControlPlan>, AllocError>
-    ensures { IfOk result (λ o. o ≡ law.control_of id (option_copied control.entry)) }
+    ensures { IfOk result (λ o. o ≡ law.control_plan id (option_copied control.entry)) }
 {
     match control {
         None => Ok(None),
@@ -128,7 +128,7 @@ fn control_at(alloc: Global, parts: &[Entry], id: u32) -> Result<Option<ControlP
 {
     match parts.get(id as usize) {
         None => Ok(None),
-        Some(entry) => control_of(alloc, id, entry.control()),
+        Some(entry) => control_plan(alloc, id, entry.control()),
     }
 }
 

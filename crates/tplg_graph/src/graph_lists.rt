@@ -4,12 +4,12 @@ ghost use Rattle.std.specs.Option.{option_map};
 ghost use Rattle.tplg_graph.specs.Lists as law;
 ghost use Rattle.tplg_plan.specs.WidgetWords.{FitsWords};
 
-use crate::entry::{Entry, Role, is_buffer, is_scheduler};
-use crate::pcm_caps::{PcmCaps, caps_of};
+use tplg_widgets::{Entry, Role, is_buffer, is_scheduler};
+use tplg_widgets::{PcmCaps, caps_of};
 use tplg_plan::{StreamPlan, WidgetPlan};
-use crate::route_end::End;
-use crate::widgets::Widgets;
-use crate::tokens::{FormatToken, format_number, format_of};
+use tplg_widgets::End;
+use tplg_widgets::Widgets;
+use tplg_widgets::{FormatToken, format_number, format_of};
 use sof_base::Name44;
 use std::alloc::{AllocError, Global};
 use stream_law::{Comp, Edge, Join, Kind, Pipe, Setting};
@@ -21,8 +21,8 @@ fn is_sink(joins: &[Join], id: u32) -> bool
     joins.iter().any(|j| j.sink == id)
 }
 
-fn kind_of(role: Option<Role>, format: FormatToken, ends: bool) -> Option<Kind>
-    ensures { result ≡ law.kind_of role format ends }
+fn component_kind(role: Option<Role>, format: FormatToken, ends: bool) -> Option<Kind>
+    ensures { result ≡ law.component_kind role format ends }
 {
     match role {
         Some(Role::HostPlay) => Some(Kind::HostPlay),
@@ -44,7 +44,7 @@ fn component_at(parts: &[Entry], joins: &[Join], id: u32) -> Option<Comp>
     ensures { result ≡ law.component_at parts.now joins.now id }
 {
     let entry = parts.get(id as usize)?;
-    let kind = kind_of(entry.role(), entry.tokens().format, is_sink(joins, id))?;
+    let kind = component_kind(entry.role(), entry.tokens().format, is_sink(joins, id))?;
     Some(Comp {
         id,
         kind,

@@ -1,27 +1,19 @@
-//! A topology read as a graph: what the rules see of its records, the lists of components, buffers, pipelines and joins,
-//! the rules that a topology keeps, and the plan that the host and the program follow.
+//! A topology read as a graph: the lists of components, buffers, pipelines and joins, the rules that a topology keeps, and the
+//! plan that the host and the program follow.
 #![tactic(auto)]
 
 mod control_lists;
-mod entry;
 mod graph_lists;
-mod live_control;
-mod first_names;
-mod pcm_caps;
 mod plan_fault;
 mod planning;
 mod record_rules;
-mod route_end;
 mod route_rules;
 mod rule_name;
 mod rule_table;
 mod thin_form;
-mod tokens;
 mod walk_rules;
 mod walks;
 mod widget_rules;
-mod widgets;
-mod wiring;
 
 pub use planning::plan;
 pub use plan_fault::PlanFault;

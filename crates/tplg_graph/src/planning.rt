@@ -1,6 +1,6 @@
 // A topology's plan.
 ghost use Rattle.std.specs.Prelude.{◌≡◌, ◌<◌, ◌^◌, ℕ, [], ◌∷◌, All, length, IfOk, IfErr, OnOk};
-ghost use Rattle.tplg_graph.specs.Entries.{interpreted};
+ghost use Rattle.tplg_widgets.specs.Entries.{interpreted};
 ghost use Rattle.tplg_plan.specs.HeapNeed.{IsSmall, need_on};
 ghost use Rattle.tplg_graph.specs.Needed.{need_of};
 ghost use Rattle.tplg_graph.specs.Lists.{components_on, edges_on};
@@ -15,14 +15,14 @@ ghost use Rattle.tplg_plan.specs.WidgetWords.{FitsWords};
 ghost use Rattle.tplg_plan.specs.Sound.{IsSound};
 
 use crate::control_lists::controls;
-use crate::entry::Entry;
+use tplg_widgets::Entry;
 use crate::graph_lists::{components, edges, names, pipes, streams, widgets};
-use crate::pcm_caps::PcmCaps;
+use tplg_widgets::PcmCaps;
 use crate::plan_fault::PlanFault;
 use crate::rule_table::{check_counts, check_middle};
 use crate::walk_rules::check_walks;
-use crate::widgets::Widgets;
-use crate::wiring::Wiring;
+use tplg_widgets::Widgets;
+use tplg_widgets::Wiring;
 use sof_base::Items;
 use std::alloc::{AllocError, Global};
 use stream_law::{Comp, Edge, Graph, Join};

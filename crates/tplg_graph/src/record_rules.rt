@@ -1,16 +1,16 @@
 // What rules 1, 11 and 13 say of a count or a widget.
 ghost use Rattle.std.specs.Prelude.{◌≡◌, count_by, take};
 ghost use Rattle.std.specs.List.{list_any};
-ghost use Rattle.tplg_graph.specs.Entries as entries;
+ghost use Rattle.tplg_widgets.specs.Entries as entries;
 ghost use Rattle.tplg_graph.specs.Table as law;
 
-use crate::control_lists::in_range;
-use crate::entry::{
+use crate::control_lists::is_live_in_range;
+use tplg_widgets::{
     Entry, has_control, is_buffer, is_component, is_equaliser, is_host_capture, is_host_play,
     is_scheduler,
 };
-use crate::pcm_caps::{PcmCaps, has_caps};
-use crate::tokens::Process;
+use tplg_widgets::{PcmCaps, has_caps};
+use tplg_widgets::Process;
 
 fn count_schedulers(parts: &[Entry]) -> usize
     ensures { result ≡ count_by entries.is_scheduler parts.now }
@@ -53,8 +53,8 @@ pub fn count_holds(parts: &[Entry], pcms: &[PcmCaps], k: usize) -> bool
     }
 }
 
-fn is_host(entry: &Entry) -> bool
-    ensures { result ≡ law.is_host entry.now }
+fn is_host_widget(entry: &Entry) -> bool
+    ensures { result ≡ law.is_host_widget entry.now }
 {
     is_host_play(entry) || is_host_capture(entry)
 }
@@ -98,7 +98,7 @@ pub fn host_holds(entries: &[Entry], pcms: &[PcmCaps], k: usize) -> bool
     match entries.get(k) {
         None => true,
         Some(entry) => {
-            !is_host(entry) || (has_pcm(pcms, entry) && !is_earlier_stream(entries, k, entry))
+            !is_host_widget(entry) || (has_pcm(pcms, entry) && !is_earlier_stream(entries, k, entry))
         }
     }
 }
@@ -117,7 +117,7 @@ pub fn control_holds(entries: &[Entry], k: usize) -> bool
         None => true,
         Some(entry) => {
             (!is_equaliser(entry) || is_known_process(entry.tokens().process))
-                && in_range(entry.control())
+                && is_live_in_range(entry.control())
         }
     }
 }

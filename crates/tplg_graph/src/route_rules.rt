@@ -1,11 +1,11 @@
 // What rules 3 to 7 say of a route or a widget.
 ghost use Rattle.std.specs.Prelude.{◌≡◌, count_by};
 ghost use Rattle.std.specs.List.{list_any};
-ghost use Rattle.tplg_graph.specs.Entries.{is_interpreted, id_of};
+ghost use Rattle.tplg_widgets.specs.Entries.{is_interpreted, id_of};
 ghost use Rattle.tplg_graph.specs.Table as law;
 
-use crate::entry::{Entry, Role, is_buffer, is_component, is_interpreted, is_scheduler};
-use crate::route_end::{End, Ends};
+use tplg_widgets::{Entry, Role, is_buffer, is_component, is_interpreted, is_scheduler};
+use tplg_widgets::{End, Ends};
 use stream_law::Join;
 
 fn is_there(end: End) -> bool
@@ -71,17 +71,17 @@ fn outs_of(joins: &[Join], id: usize) -> usize
     joins.iter().filter(|j| j.source as usize == id).count()
 }
 
-fn is_passed(joins: &[Join], id: usize) -> bool
-    ensures { result ≡ law.is_passed joins.now id }
+fn is_joined_through(joins: &[Join], id: usize) -> bool
+    ensures { result ≡ law.is_joined_through joins.now id }
 {
     ins_of(joins, id) == 1 && outs_of(joins, id) == 1
 }
 
 /// Whether one real route leads to the interpreted widget of this number, and one from it.
 fn is_passed_at(entries: &[Entry], joins: &[Join], k: usize) -> bool
-    ensures { result ≡ law.is_passed joins.now (id_of entries.now k) }
+    ensures { result ≡ law.is_joined_through joins.now (id_of entries.now k) }
 {
-    is_passed(joins, id_at(entries, k))
+    is_joined_through(joins, id_at(entries, k))
 }
 
 /// Rule 5 at a widget.
@@ -132,8 +132,8 @@ pub fn component_holds(entries: &[Entry], joins: &[Join], k: usize) -> bool
     }
 }
 
-fn has_index(entry: &Entry, index: u32) -> bool
-    ensures { result ≡ law.has_index index entry.now }
+fn is_of_index(entry: &Entry, index: u32) -> bool
+    ensures { result ≡ law.is_of_index index entry.now }
 {
     entry.index() == index
 }
@@ -141,13 +141,13 @@ fn has_index(entry: &Entry, index: u32) -> bool
 fn schedules(entry: &Entry, index: u32) -> bool
     ensures { result ≡ law.schedules index entry.now }
 {
-    is_scheduler(entry) && has_index(entry, index)
+    is_scheduler(entry) && is_of_index(entry, index)
 }
 
 fn is_used(parts: &[Entry], index: u32) -> bool
-    ensures { result ≡ list_any (law.has_index index) parts.now }
+    ensures { result ≡ list_any (law.is_of_index index) parts.now }
 {
-    parts.iter().any(|p| has_index(p, index))
+    parts.iter().any(|p| is_of_index(p, index))
 }
 
 fn schedulers_of(parts: &[Entry], index: u32) -> usize

@@ -1,7 +1,7 @@
 // The table of rules 1 to 13, and the first item at which one fails.
 ghost use Rattle.std.specs.Prelude.{◌≡◌, ◌↔◌, [], ◌∷◌, not, true, find, OnOk, IfErr};
 ghost use Rattle.std.specs.List.{range_with_len};
-ghost use Rattle.tplg_graph.specs.Entries.{interpreted};
+ghost use Rattle.tplg_widgets.specs.Entries.{interpreted};
 ghost use Rattle.tplg_graph.specs.Rules.{AllHold, HoldsAll};
 ghost use Rattle.tplg_graph.specs.RuleTest as law;
 ghost use Rattle.tplg_graph.specs.Table.{counts_rule};
@@ -13,10 +13,10 @@ use crate::record_rules::{control_holds, count_holds, host_holds};
 use crate::route_rules::{buffer_holds, component_holds, ends_hold, index_holds, route_holds};
 use crate::rule_name::RuleName;
 use crate::widget_rules::{dai_holds, name_holds, period_holds, sched_holds, size_holds};
-use crate::wiring::Wiring;
+use tplg_widgets::Wiring;
 
 fn number(rule: RuleName) -> u8
-    ensures { result ≡ law.number_of rule }
+    ensures { result ≡ law.rule_number rule }
 {
     match rule {
         RuleName::Counts => 1,

@@ -4,11 +4,11 @@ ghost use Rattle.tplg_graph.specs.Rules.{AllHold};
 ghost use Rattle.tplg_graph.specs.Thin as law;
 ghost use Rattle.tplg_graph.specs.ThinTest.{thin_test};
 
-use crate::entry::{Entry, is_buffer, is_dai, is_host_play, is_scheduler};
-use crate::route_end::{End, Ends};
+use tplg_widgets::{Entry, is_buffer, is_dai, is_host_play, is_scheduler};
+use tplg_widgets::{End, Ends};
 use crate::rule_name::RuleName;
 use crate::rule_table::keeps;
-use crate::wiring::Wiring;
+use tplg_widgets::Wiring;
 use sof_base::NoMemory;
 use std::alloc::Global;
 use tplg_model::Topology;

@@ -6,7 +6,7 @@ ghost use Rattle.tplg_graph.specs.Cycles as law;
 ghost use Rattle.tplg_graph.specs.WellFormed as groups;
 ghost use Rattle.tplg_graph.specs.WellFormed.{IsFaultOf};
 
-use crate::entry::Entry;
+use tplg_widgets::Entry;
 use crate::plan_fault::{PlanFault, fault_at};
 use crate::walks::{reached, reaches};
 use stream_law::{Comp, Edge, Kind};

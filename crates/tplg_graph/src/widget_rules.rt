@@ -3,15 +3,15 @@ ghost use Rattle.std.specs.Prelude.{◌≡◌};
 ghost use Rattle.std.specs.List.{list_all};
 ghost use Rattle.tplg_plan.specs.Printable as printable;
 ghost use Rattle.tplg_plan.specs.Ranges.{is_period};
-ghost use Rattle.tplg_graph.specs.Entries.{id_of};
+ghost use Rattle.tplg_widgets.specs.Entries.{id_of};
 ghost use Rattle.tplg_graph.specs.Lists.{is_sink};
 ghost use Rattle.tplg_graph.specs.Table as law;
 
-use crate::entry::{Entry, is_buffer, is_dai, is_interpreted, is_scheduler};
-use crate::route_end::End;
+use tplg_widgets::{Entry, is_buffer, is_dai, is_interpreted, is_scheduler};
+use tplg_widgets::End;
 use crate::route_rules::id_at;
-use crate::tokens::FormatToken;
-use crate::widgets::Widgets;
+use tplg_widgets::FormatToken;
+use tplg_widgets::Widgets;
 use stream_law::Join;
 
 fn is_printable(byte: u8) -> bool
@@ -89,8 +89,8 @@ pub fn period_holds(entries: &[Entry], k: usize) -> bool
     }
 }
 
-fn is_direction(direction: Option<u32>, plays: bool) -> bool
-    ensures { result ≡ law.is_direction direction plays }
+fn is_own_direction(direction: Option<u32>, plays: bool) -> bool
+    ensures { result ≡ law.is_own_direction direction plays }
 {
     match direction {
         None => true,
@@ -120,7 +120,7 @@ pub fn dai_holds(entries: &[Entry], joins: &[Join], k: usize) -> bool
         None => true,
         Some(entry) => {
             !is_dai(entry)
-                || (is_direction(entry.tokens().dai_direction, is_played(entries, joins, k))
+                || (is_own_direction(entry.tokens().dai_direction, is_played(entries, joins, k))
                     && is_format(entry.tokens().format))
         }
     }

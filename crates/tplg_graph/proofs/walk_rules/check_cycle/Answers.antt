@@ -1,5 +1,5 @@
 use Rattle.tplg_graph.specs.Cycles.{cycles_rule}
-use Rattle.tplg_graph.proofs.Told.{told-ok, told-err}
+use Rattle.tplg_graph.proofs.RuleFaults.{told-ok, told-err}
 use Rattle.tplg_graph.proofs.walk_rules.check_cycle.Goals as goal
 
 pub returns-clause-ok : goal.returns-clause-ok

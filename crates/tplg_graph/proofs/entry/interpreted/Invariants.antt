@@ -1,6 +1,0 @@
-use Rattle.std.proofs.Common.{◌≡◌, take}
-use Rattle.tplg_graph.specs.Entries.{interpreted}
-use Rattle.tplg_graph.proofs.entry.interpreted.Given as goal
-
-abbrev pub invariant-loop-entry : goal.invariant-loop-entry
-invariant-loop-entry l = l.out.items ≡ interpreted (take l.entry-index l.entries)

@@ -1,6 +1,0 @@
-use Rattle.std.proofs.Common.{◌≡◌, ◌++◌, map, take}
-use Rattle.tplg_graph.specs.Ends.{ends_of}
-use Rattle.tplg_graph.proofs.route_end.add_routes.Given as goal
-
-abbrev pub invariant-loop-route : goal.invariant-loop-route
-invariant-loop-route l = l.out.items ≡ l.initial.out.items ++ map (ends_of l.widgets) (take l.route-index l.routes)

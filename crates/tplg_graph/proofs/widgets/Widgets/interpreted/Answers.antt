@@ -1,6 +1,0 @@
-use Rattle.std.proofs.Common.{◌<◌, ◌^◌, length, subst, List, ap, sym, ◌∙◌, arith}
-use Rattle.tplg_graph.specs.Entries.{interpreted}
-use Rattle.tplg_graph.proofs.widgets.Widgets.interpreted.Goals as goal
-
-pub returns-clause-few : goal.returns-clause-few
-returns-clause-few c = let n = ap length (c.self.invariant.parts ∙ ap interpreted c.self.view_is) in omega (arith, n, c.self.invariant.parts_few)

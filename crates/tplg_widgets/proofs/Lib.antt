@@ -1,0 +1,4 @@
+pub mod FirstValues
+pub mod Texts
+pub mod Positions
+pub mod FoundEnds

@@ -1,0 +1,9 @@
+pub mod Tokens
+pub mod LiveControls
+pub mod EntryValue
+pub mod Entries
+pub mod PcmList
+pub mod Names
+pub mod Lookups
+pub mod Ends
+pub mod WiringValue

@@ -1,0 +1,71 @@
+-- What a widget's tokens say.
+use Rattle.std.specs.Prelude.{ℕ, List, [], ◌∷◌, Option, Some, None, if◌then◌else◌}
+use Rattle.std.specs.Str.{bytes_eq}
+use Rattle.sof_base.specs.declared.format.Format.{Format}
+use Rattle.sof_base.specs.declared.format.Format.TheVariants.{S16, S24, S32}
+use Rattle.tplg_model.specs.TokenValues.{number_of, text_of}
+use Rattle.tplg_model.specs.declared.tokens.TokenArray.{TokenArray}
+use Rattle.tplg_widgets.specs.declared.tokens.FormatToken.{FormatToken}
+use Rattle.tplg_widgets.specs.declared.tokens.FormatToken.TheVariants.{Absent, Known, Unknown}
+use Rattle.tplg_widgets.specs.declared.tokens.Process.{Process}
+use Rattle.tplg_widgets.specs.declared.tokens.Process.TheVariants.{Equaliser, Other}
+use Rattle.tplg_widgets.specs.declared.tokens.WidgetTokens.{WidgetTokens}
+
+-- the texts `s16le`, `s24le` and `s32le`
+abbrev pub s16le : List ℕ
+s16le = 115 ∷ 49 ∷ 54 ∷ 108 ∷ 101 ∷ []
+
+abbrev pub s24le : List ℕ
+s24le = 115 ∷ 50 ∷ 52 ∷ 108 ∷ 101 ∷ []
+
+abbrev pub s32le : List ℕ
+s32le = 115 ∷ 51 ∷ 50 ∷ 108 ∷ 101 ∷ []
+
+-- a format's text names one of three formats
+abbrev pub named_format : List ℕ → FormatToken
+named_format text =
+    if bytes_eq text s16le then Known S16
+    else if bytes_eq text s24le then Known S24
+    else if bytes_eq text s32le then Known S32
+    else Unknown
+
+-- what a widget says of its format, where it has such a token
+abbrev pub format_token : Option (List ℕ) → FormatToken
+format_token None = Absent
+format_token (Some text) = named_format text
+
+-- the text `EQIIR`
+abbrev pub eqiir : List ℕ
+eqiir = 69 ∷ 81 ∷ 73 ∷ 73 ∷ 82 ∷ []
+
+abbrev pub named_process : List ℕ → Process
+named_process text = if bytes_eq text eqiir then Equaliser else Other
+
+-- what a widget says of what it does, where it has such a token
+abbrev pub process_token : Option (List ℕ) → Process
+process_token None = Other
+process_token (Some text) = named_process text
+
+-- a widget's tokens by their numbers
+abbrev pub widget_tokens : List TokenArray → WidgetTokens
+widget_tokens arrays = record {
+  size = number_of arrays 100;
+  caps = number_of arrays 101;
+  dai_index = number_of arrays 155;
+  dai_direction = number_of arrays 156;
+  period = number_of arrays 200;
+  priority = number_of arrays 201;
+  mips = number_of arrays 202;
+  frames = number_of arrays 204;
+  time_domain = number_of arrays 205;
+  periods_sink = number_of arrays 400;
+  periods_source = number_of arrays 401;
+  format = format_token (text_of arrays 402);
+  process = process_token (text_of arrays 900);
+}
+
+-- the format of a DAI's samples; S32 where it says none
+abbrev pub format_of : FormatToken → Format
+format_of (Known format) = format
+format_of Absent = S32
+format_of Unknown = S32

@@ -1,6 +1,7 @@
 -- The widgets of a topology in file order, what the rules see of each, and the interpreted ones, which have ids.
 use Rattle.std.specs.Prelude.{ℕ, List, [], map, filter, take, count_by, Bool, true, false, Option, Some, None, is_some, if◌then◌else◌, ◌==◌}
 use Rattle.std.specs.List.{flat_map}
+use Rattle.tplg_model.specs.declared.widget_kind.TheConstants.{MUX, MIXER, PGA, AIF_IN, AIF_OUT, DAI_IN, DAI_OUT, BUFFER, SCHEDULER, EFFECT}
 use Rattle.tplg_model.specs.declared.widget.Widget.{Widget}
 use Rattle.tplg_model.specs.declared.block.Route.{Route}
 use Rattle.tplg_model.specs.declared.block.Block.{Block}
@@ -16,16 +17,16 @@ use Rattle.tplg_widgets.specs.LiveControls.{live_of}
 -- what a widget with this id of the standard is; any other is not interpreted
 abbrev pub role_of : ℕ → Option Role
 role_of id =
-    if id == 2 then Some Mux
-    else if id == 3 then Some Mixer
-    else if id == 4 then Some Volume
-    else if id == 11 then Some HostPlay
-    else if id == 12 then Some HostCapture
-    else if id == 13 then Some Dai
-    else if id == 14 then Some Dai
-    else if id == 16 then Some Buffer
-    else if id == 17 then Some Scheduler
-    else if id == 18 then Some Eq
+    if id == MUX then Some Mux
+    else if id == MIXER then Some Mixer
+    else if id == PGA then Some Volume
+    else if id == AIF_IN then Some HostPlay
+    else if id == AIF_OUT then Some HostCapture
+    else if id == DAI_IN then Some Dai
+    else if id == DAI_OUT then Some Dai
+    else if id == BUFFER then Some Buffer
+    else if id == SCHEDULER then Some Scheduler
+    else if id == EFFECT then Some Eq
     else None
 
 -- what the rules see of a widget in a block of this index

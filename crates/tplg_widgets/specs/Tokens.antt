@@ -3,6 +3,7 @@ use Rattle.std.specs.Prelude.{ℕ, List, [], ◌∷◌, Option, Some, None, if�
 use Rattle.std.specs.Str.{bytes_eq}
 use Rattle.sof_base.specs.declared.format.Format.{Format}
 use Rattle.sof_base.specs.declared.format.Format.TheVariants.{S16, S24, S32}
+use Rattle.tplg_model.specs.declared.token_number.TheConstants.{BUFFER_SIZE, BUFFER_CAPS, DAI_INDEX, DAI_DIRECTION, SCHED_PERIOD, SCHED_PRIORITY, SCHED_MIPS, SCHED_FRAMES, SCHED_TIME_DOMAIN, PERIOD_SINK_COUNT, PERIOD_SOURCE_COUNT, COMP_FORMAT, PROCESS_TYPE}
 use Rattle.tplg_model.specs.TokenValues.{number_of, text_of}
 use Rattle.tplg_model.specs.declared.tokens.TokenArray.{TokenArray}
 use Rattle.tplg_widgets.specs.declared.tokens.FormatToken.{FormatToken}
@@ -49,19 +50,19 @@ process_token (Some text) = named_process text
 -- a widget's tokens by their numbers
 abbrev pub widget_tokens : List TokenArray → WidgetTokens
 widget_tokens arrays = record {
-  size = number_of arrays 100;
-  caps = number_of arrays 101;
-  dai_index = number_of arrays 155;
-  dai_direction = number_of arrays 156;
-  period = number_of arrays 200;
-  priority = number_of arrays 201;
-  mips = number_of arrays 202;
-  frames = number_of arrays 204;
-  time_domain = number_of arrays 205;
-  periods_sink = number_of arrays 400;
-  periods_source = number_of arrays 401;
-  format = format_token (text_of arrays 402);
-  process = process_token (text_of arrays 900);
+  size = number_of arrays BUFFER_SIZE;
+  caps = number_of arrays BUFFER_CAPS;
+  dai_index = number_of arrays DAI_INDEX;
+  dai_direction = number_of arrays DAI_DIRECTION;
+  period = number_of arrays SCHED_PERIOD;
+  priority = number_of arrays SCHED_PRIORITY;
+  mips = number_of arrays SCHED_MIPS;
+  frames = number_of arrays SCHED_FRAMES;
+  time_domain = number_of arrays SCHED_TIME_DOMAIN;
+  periods_sink = number_of arrays PERIOD_SINK_COUNT;
+  periods_source = number_of arrays PERIOD_SOURCE_COUNT;
+  format = format_token (text_of arrays COMP_FORMAT);
+  process = process_token (text_of arrays PROCESS_TYPE);
 }
 
 -- the format of a DAI's samples; S32 where it says none

@@ -8,7 +8,7 @@ use crate::tokens::{WidgetTokens, widget_tokens};
 use sof_base::Name44;
 use std::alloc::{AllocError, Global};
 use std::marker::Model;
-use tplg_model::{Block, Body, Control, Topology, Widget};
+use tplg_model::{Block, Body, Control, Topology, Widget, widget_kind};
 
 /// What an interpreted widget is.
 #[derive(Clone, Copy, Debug, PartialEq, Eq)]
@@ -111,16 +111,16 @@ fn role_of(id: u32) -> Option<Role>
     ensures { result ≡ law.role_of id }
 {
     match id {
-        2 => Some(Role::Mux),
-        3 => Some(Role::Mixer),
-        4 => Some(Role::Volume),
-        11 => Some(Role::HostPlay),
-        12 => Some(Role::HostCapture),
-        13 => Some(Role::Dai),
-        14 => Some(Role::Dai),
-        16 => Some(Role::Buffer),
-        17 => Some(Role::Scheduler),
-        18 => Some(Role::Eq),
+        widget_kind::MUX => Some(Role::Mux),
+        widget_kind::MIXER => Some(Role::Mixer),
+        widget_kind::PGA => Some(Role::Volume),
+        widget_kind::AIF_IN => Some(Role::HostPlay),
+        widget_kind::AIF_OUT => Some(Role::HostCapture),
+        widget_kind::DAI_IN => Some(Role::Dai),
+        widget_kind::DAI_OUT => Some(Role::Dai),
+        widget_kind::BUFFER => Some(Role::Buffer),
+        widget_kind::SCHEDULER => Some(Role::Scheduler),
+        widget_kind::EFFECT => Some(Role::Eq),
         _ => None,
     }
 }

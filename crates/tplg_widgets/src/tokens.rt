@@ -2,11 +2,12 @@
 ghost use Rattle.std.specs.Prelude.{◌≡◌, ◌≤◌, option_copied};
 ghost use Rattle.sof_base.specs.Slots.{until_zero};
 ghost use Rattle.tplg_model.specs.TokenValues as values;
+ghost use Rattle.tplg_model.specs.declared.token_number.TheConstants.{COMP_FORMAT, PROCESS_TYPE};
 ghost use Rattle.tplg_plan.specs.WidgetWords.{format_number};
 ghost use Rattle.tplg_widgets.specs.Tokens as law;
 
 use sof_base::Format;
-use tplg_model::{NumberTuple, TextTuple, TokenArray};
+use tplg_model::{NumberTuple, TextTuple, TokenArray, token_number};
 
 /// What a widget says of its format.
 #[derive(Clone, Copy, Debug, PartialEq, Eq)]
@@ -136,9 +137,9 @@ fn named_format(text: &[u8]) -> FormatToken
 }
 
 fn format_token(arrays: &[TokenArray]) -> FormatToken
-    ensures { result ≡ law.format_token (values.text_of arrays.now 402) }
+    ensures { result ≡ law.format_token (values.text_of arrays.now COMP_FORMAT) }
 {
-    match text_of(arrays, 402) {
+    match text_of(arrays, token_number::COMP_FORMAT) {
         None => FormatToken::Absent,
         Some(text) => named_format(text),
     }
@@ -155,9 +156,9 @@ fn named_process(text: &[u8]) -> Process
 }
 
 fn process_token(arrays: &[TokenArray]) -> Process
-    ensures { result ≡ law.process_token (values.text_of arrays.now 900) }
+    ensures { result ≡ law.process_token (values.text_of arrays.now PROCESS_TYPE) }
 {
-    match text_of(arrays, 900) {
+    match text_of(arrays, token_number::PROCESS_TYPE) {
         None => Process::Other,
         Some(text) => named_process(text),
     }
@@ -168,17 +169,17 @@ pub fn widget_tokens(arrays: &[TokenArray]) -> WidgetTokens
     ensures { result ≡ law.widget_tokens arrays.now }
 {
     WidgetTokens {
-        size: number_of(arrays, 100),
-        caps: number_of(arrays, 101),
-        dai_index: number_of(arrays, 155),
-        dai_direction: number_of(arrays, 156),
-        period: number_of(arrays, 200),
-        priority: number_of(arrays, 201),
-        mips: number_of(arrays, 202),
-        frames: number_of(arrays, 204),
-        time_domain: number_of(arrays, 205),
-        periods_sink: number_of(arrays, 400),
-        periods_source: number_of(arrays, 401),
+        size: number_of(arrays, token_number::BUFFER_SIZE),
+        caps: number_of(arrays, token_number::BUFFER_CAPS),
+        dai_index: number_of(arrays, token_number::DAI_INDEX),
+        dai_direction: number_of(arrays, token_number::DAI_DIRECTION),
+        period: number_of(arrays, token_number::SCHED_PERIOD),
+        priority: number_of(arrays, token_number::SCHED_PRIORITY),
+        mips: number_of(arrays, token_number::SCHED_MIPS),
+        frames: number_of(arrays, token_number::SCHED_FRAMES),
+        time_domain: number_of(arrays, token_number::SCHED_TIME_DOMAIN),
+        periods_sink: number_of(arrays, token_number::PERIOD_SINK_COUNT),
+        periods_source: number_of(arrays, token_number::PERIOD_SOURCE_COUNT),
         format: format_token(arrays),
         process: process_token(arrays),
     }

@@ -6,8 +6,8 @@ use Rattle.std.proofs.Math.Nat.{mul-le-mul_right}
 use Rattle.sof_base.specs.Samples.{Frame}
 use Rattle.stream_law.specs.State.{RingView}
 use Rattle.stream_law.specs.Moves.{least, is_empty}
-use Rattle.fw_ring.specs.RingLists.{RingLists, ring_at, capacity_of, changed, pushed, AreRings}
-use Rattle.fw_ring.specs.RingWords.{slots}
+use Rattle.fw_ring_lists.specs.RingLists.{RingLists, ring_at, capacity_of, changed, pushed, AreRings}
+use Rattle.fw_ring_lists.specs.RingWords.{slots}
 use Rattle.fw_components.specs.declared.kernel.Kernel.{Kernel}
 use Rattle.fw_components.specs.Places.{frames_at, with_frames, rings_seen, emptied}
 use Rattle.fw_components.specs.Kernels.{looked, frames_moved, slices, made_by, drained, after_kernel, IsInletAt, IsKernelAt}

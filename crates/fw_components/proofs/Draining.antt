@@ -6,7 +6,7 @@ use Rattle.std.proofs.lemmas.Bool.{eqb-false}
 use Rattle.std.proofs.lemmas.List.{get_or-set_other}
 use Rattle.sof_base.specs.Samples.{Frame}
 use Rattle.stream_law.specs.State.{RingView}
-use Rattle.fw_ring.specs.RingLists.{RingLists, fresh_ring, ring_at, changed, pulled}
+use Rattle.fw_ring_lists.specs.RingLists.{RingLists, fresh_ring, ring_at, changed, pulled}
 use Rattle.fw_components.specs.Places.{no_ring, frames_at, with_frames, rings_seen, emptied}
 use Rattle.fw_components.specs.Kernels.{drained}
 use Rattle.fw_components.specs.Taken.{IsTakenAt}

@@ -11,10 +11,10 @@ use Rattle.stream_law.specs.Table.{table}
 use Rattle.stream_law.specs.Made.{frames_at as frames_of_each}
 use Rattle.fw_gain.specs.Kernels.{all_amplified, summed, held}
 use Rattle.fw_gain.proofs.KernelLaws.{amplified-append, amplified-frame, length-summed, length-held, silence-replicate}
-use Rattle.fw_ring.specs.RingLists.{samples_of}
-use Rattle.fw_ring.specs.RingWords.{slots}
-use Rattle.fw_ring.proofs.SlotLaws.{length-slots, get-slots, whole-take}
-use Rattle.fw_ring.proofs.Flat.{slots-samples, length-samples}
+use Rattle.fw_ring_lists.specs.RingLists.{samples_of}
+use Rattle.fw_ring_lists.specs.RingWords.{slots}
+use Rattle.fw_ring_lists.proofs.SlotLaws.{length-slots, get-slots, whole-take}
+use Rattle.fw_ring_lists.proofs.Flat.{slots-samples, length-samples}
 use Rattle.fw_components.specs.Kernels.{passed}
 use Rattle.fw_components.specs.Taken.{all_summed}
 

@@ -3,7 +3,7 @@ use Rattle.std.proofs.Common.{◌≡◌, sym, ap, ◌∙◌, ℕ, List, [], ◌�
 use Rattle.std.specs.List.{AllByRecursion}
 use Rattle.std.proofs.lemmas.List.{length-map}
 use Rattle.std.proofs.Math.ListN.{get_or-map}
-use Rattle.fw_ring.specs.RingLists.{RingLists, fresh_ring, ring_at}
+use Rattle.fw_ring_lists.specs.RingLists.{RingLists, fresh_ring, ring_at}
 use Rattle.fw_components.specs.declared.kernel.Kernel.{Kernel}
 use Rattle.fw_components.specs.Places.{ring_emptied, emptied}
 use Rattle.fw_components.specs.Kernels.{IsInletAt, IsKernelAt}

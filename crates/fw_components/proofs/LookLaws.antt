@@ -4,7 +4,7 @@ use Rattle.std.specs.Prelude.{filter, nat_eq}
 use Rattle.std.specs.List.{AllByRecursion, IsDistinct}
 use Rattle.sof_base.specs.Samples.{AreFrames}
 use Rattle.stream_law.specs.Moves.{least}
-use Rattle.fw_ring.specs.RingLists.{RingLists, fresh_ring, ring_at, IsRing}
+use Rattle.fw_ring_lists.specs.RingLists.{RingLists, fresh_ring, ring_at, IsRing}
 use Rattle.fw_components.specs.Places.{frames_at, rings_seen}
 use Rattle.fw_components.specs.Kernels.{IsInletAt}
 use Rattle.fw_components.specs.Taken.{IsTakenAt, IsSourceAt}

@@ -10,9 +10,9 @@ use Rattle.sof_base.specs.Equations.{volume_of}
 use Rattle.stream_law.specs.Table.{table}
 use Rattle.stream_law.specs.Made.{chosen_slice}
 use Rattle.fw_gain.specs.Kernels.{all_amplified, held}
-use Rattle.fw_ring.specs.RingLists.{RingLists, ring_at, samples_of}
-use Rattle.fw_ring.specs.RingWords.{slots}
-use Rattle.fw_ring.proofs.SlotLaws.{whole-take}
+use Rattle.fw_ring_lists.specs.RingLists.{RingLists, ring_at, samples_of}
+use Rattle.fw_ring_lists.specs.RingWords.{slots}
+use Rattle.fw_ring_lists.proofs.SlotLaws.{whole-take}
 use Rattle.fw_components.specs.declared.kernel.Effect.{Effect}
 use Rattle.fw_components.specs.declared.kernel.Effect.TheVariants.{Pass, Amplify, Mix, Choose}
 use Rattle.fw_components.specs.Places.{frames_at, rings_seen}

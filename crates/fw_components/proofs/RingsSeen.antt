@@ -1,7 +1,7 @@
 -- What a change of one ring is to all rings.
 use Rattle.std.proofs.Common.{◌≡◌, refl, ap, ℕ, zero, suc, List, [], ◌∷◌, map, get_or, set}
 use Rattle.sof_base.specs.Samples.{Frame}
-use Rattle.fw_ring.specs.RingLists.{Ring, RingLists, fresh_ring, ring_at, changed}
+use Rattle.fw_ring_lists.specs.RingLists.{Ring, RingLists, fresh_ring, ring_at, changed}
 use Rattle.fw_components.specs.Places.{frames_at, with_frames, ring_seen, ring_emptied, emptied}
 
 frames-seen-in : (place : ℕ) (xs : List Ring) → frames_at place (map ring_seen xs) ≡ (get_or xs place (fresh_ring 0 0 0)).frames

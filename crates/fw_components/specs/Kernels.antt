@@ -7,7 +7,7 @@ use Rattle.stream_law.specs.Table.{table}
 use Rattle.stream_law.specs.State.{RingView}
 use Rattle.stream_law.specs.Moves.{least, is_empty}
 use Rattle.stream_law.specs.Made.{only_slice, chosen_slice, frames_at as frames_of_each}
-use Rattle.fw_ring.specs.RingLists.{RingLists, capacity_of, ring_at}
+use Rattle.fw_ring_lists.specs.RingLists.{RingLists, capacity_of, ring_at}
 use Rattle.fw_components.specs.declared.kernel.Effect.{Effect}
 use Rattle.fw_components.specs.declared.kernel.Effect.TheVariants.{Pass, Amplify, Mix, Choose}
 use Rattle.fw_components.specs.declared.kernel.Kernel.{Kernel}

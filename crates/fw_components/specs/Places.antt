@@ -2,7 +2,7 @@
 use Rattle.std.specs.Prelude.{ℕ, List, [], map, set, get_or}
 use Rattle.sof_base.specs.Samples.{Frame}
 use Rattle.stream_law.specs.State.{RingView}
-use Rattle.fw_ring.specs.RingLists.{Ring, RingLists}
+use Rattle.fw_ring_lists.specs.RingLists.{Ring, RingLists}
 
 -- a place where there is no ring
 abbrev pub no_ring : RingView

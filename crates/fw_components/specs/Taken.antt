@@ -2,7 +2,7 @@
 use Rattle.std.specs.Prelude.{◌≡◌, ℕ, ◌<◌, ◌≤◌, List, [], ◌∷◌, length, take, ℤ}
 use Rattle.sof_base.specs.Samples.{AreFrames}
 use Rattle.fw_gain.specs.Kernels.{summed}
-use Rattle.fw_ring.specs.RingLists.{RingLists, ring_at, samples_of}
+use Rattle.fw_ring_lists.specs.RingLists.{RingLists, ring_at, samples_of}
 
 -- the samples of the first n frames of the ring at a place
 abbrev pub samples_at : RingLists → (n inlet : ℕ) → List ℤ

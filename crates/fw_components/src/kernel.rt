@@ -5,7 +5,7 @@ ghost use Rattle.fw_components.specs.Kernels.{after_kernel, IsKernelAt};
 
 use crate::looking::{least_held, looked};
 use crate::workspace::Workspace;
-use fw_ring::Rings;
+use fw_ring_lists::Rings;
 use sof_base::Bounded;
 
 /// What a component makes of the frames that it takes.

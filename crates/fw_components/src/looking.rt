@@ -7,7 +7,7 @@ ghost use Rattle.fw_components.specs.Kernels.{looked as looked_at};
 
 use crate::kernel::Kernel;
 use arrayvec::ArrayVec;
-use fw_ring::Rings;
+use fw_ring_lists::Rings;
 
 /// The inlets whose rings hold a frame.
 pub fn looked(kernel: &Kernel, rings: &Rings) -> ArrayVec<usize, 8>

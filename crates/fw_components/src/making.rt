@@ -1,8 +1,8 @@
 // What a kernel makes of the frames that it takes.
 ghost use Rattle.std.specs.Prelude.{◌≡◌, ◌+◌, ◌*◌, ◌<◌, ◌≤◌, ◌++◌, ◌==◌, false, length, nat_eq};
 ghost use Rattle.std.specs.List.{AllByRecursion, IsDistinct};
-ghost use Rattle.fw_ring.specs.RingLists.{ring_at, capacity_of};
-ghost use Rattle.fw_ring.specs.RingWords.{slots};
+ghost use Rattle.fw_ring_lists.specs.RingLists.{ring_at, capacity_of};
+ghost use Rattle.fw_ring_lists.specs.RingWords.{slots};
 ghost use Rattle.fw_components.specs.Places.{frames_at, with_frames, rings_seen, emptied};
 ghost use Rattle.fw_components.specs.Kernels.{slices, made_by, drained};
 ghost use Rattle.fw_components.specs.declared.kernel.Effect.TheVariants.{Choose};
@@ -11,7 +11,7 @@ ghost use Rattle.fw_components.specs.Taken.{IsSourceAt};
 use crate::kernel::Effect;
 use crate::taking::{amplify, copy, drain, mix};
 use fw_gain::select;
-use fw_ring::Rings;
+use fw_ring_lists::Rings;
 use sof_base::Sample;
 
 impl Effect {

@@ -2,13 +2,13 @@
 ghost use Rattle.std.specs.Prelude.{◌≡◌, ◌*◌, ◌≤◌, ◌^◌, length, map, replicate, pos, nat_abs, nat_eq};
 ghost use Rattle.std.specs.List.{AllByRecursion, IsDistinct};
 ghost use Rattle.fw_gain.specs.Kernels.{all_amplified, summed, held};
-ghost use Rattle.fw_ring.specs.RingLists.{ring_at};
+ghost use Rattle.fw_ring_lists.specs.RingLists.{ring_at};
 ghost use Rattle.fw_components.specs.Places.{rings_seen, emptied};
 ghost use Rattle.fw_components.specs.Kernels.{drained};
 ghost use Rattle.fw_components.specs.Taken.{samples_at, all_summed, IsTakenAt};
 
 use fw_gain::{mix_add, mix_begin, mix_end, select, volume};
-use fw_ring::Rings;
+use fw_ring_lists::Rings;
 use sof_base::Sample;
 
 /// Writes the samples of the first `count` frames of a ring.

@@ -13,7 +13,7 @@ use Rattle.stream_law.specs.Ways.{components, buffers}
 use Rattle.stream_law.specs.Order.{is_among}
 use Rattle.mbox_link.specs.Step.{has_comp, has_edge, has_pipe, is_used, without_piece}
 use Rattle.fw_core.specs.Kept.{ArePieces, LiesIn, has_piece}
-use Rattle.fw_ring.specs.RingLists.{Ring}
+use Rattle.fw_ring_lists.specs.RingLists.{Ring}
 use Rattle.fw_core.proofs.Growing.{all-by}
 use Rattle.fw_core.proofs.Joined.{among-map}
 use Rattle.fw_core.proofs.Fewer.{all-kept, among-append, distinct-filter, distinct-most, not-true, other-any, other-find}

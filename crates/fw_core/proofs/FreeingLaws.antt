@@ -16,7 +16,7 @@ use Rattle.stream_law.specs.Ways.{live, channels_of}
 use Rattle.stream_law.specs.Made.{blob}
 use Rattle.stream_law.specs.Seen.{flows, ring_seen}
 use Rattle.mbox_link.specs.Step.{no_device, busy, invalid, buffer_free, without_comp, without_buffer, has_complete_pipe, with_comps, with_setting, has_kind, is_host, kind_at, without_piece, touches, has_comp, has_edge, is_held, is_index_held, is_used}
-use Rattle.fw_ring.specs.RingLists.{Ring, RingLists, without_ring}
+use Rattle.fw_ring_lists.specs.RingLists.{Ring, RingLists, without_ring}
 use Rattle.fw_core.specs.Kept.{IsKept, AreRings, IsPlayable, LiesIn, state_of, shown, is_node, has_piece}
 use Rattle.fw_core.proofs.Fewer.{all-kept, all-filter, all-both, all-any, filter-every, length-filter, none-each, keys-left, not-true}
 use Rattle.fw_core.proofs.SameWays.{played-same, live-same, channels-same, flows-same}

@@ -11,7 +11,7 @@ use Rattle.stream_law.specs.Placed.{HasDistinct}
 use Rattle.stream_law.specs.State.{View}
 use Rattle.stream_law.specs.Ways.{comp_of, source_of, sink_of, is_end, ins, active_end}
 use Rattle.stream_law.specs.Moves.{is_choosy, chooses}
-use Rattle.fw_ring.proofs.ApartLaws.{filter-within}
+use Rattle.fw_ring_lists.proofs.ApartLaws.{filter-within}
 use Rattle.fw_schedule.specs.Turns.{place_of, inlets_of}
 use Rattle.fw_core.proofs.Found.{found-each}
 

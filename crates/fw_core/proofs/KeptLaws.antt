@@ -23,7 +23,7 @@ use Rattle.stream_law.proofs.Placing.{length-placed, map-placed, HasDistinct-pla
 use Rattle.ipc3_codec.specs.Allowed.{is_period}
 use Rattle.mbox_link.specs.Step.{comp_bytes, with_piece, with_comp, with_buffer, with_pipes, with_stream, completed, is_used, has_comp, has_edge, has_pipe}
 use Rattle.fw_core.specs.Pieces.{IsTiled, fresh_heap}
-use Rattle.fw_ring.specs.RingLists.{Ring, RingLists, AreFree, no_rings, with_ring, fresh_ring}
+use Rattle.fw_ring_lists.specs.RingLists.{Ring, RingLists, AreFree, no_rings, with_ring, fresh_ring}
 use Rattle.fw_core.specs.Kept.{IsKept, AreRings, ArePieces, LiesIn, state_of, shown, sides, is_node}
 use Rattle.fw_core.proofs.Pieced.{no-piece, pieces-comp, pieces-edge, pieces-pipe, pieces-joined, pieces-completed, ids-completed, each-completed, all-lie, lies-new, ring-free, first_word}
 use Rattle.fw_core.proofs.Sides.{sides-placed}

@@ -17,7 +17,7 @@ use Rattle.stream_law.specs.Moves.{period, is_choosy, chooses, fed, fed_by}
 use Rattle.stream_law.specs.Order.{order}
 use Rattle.stream_law.specs.Seen.{flows}
 use Rattle.ipc3_codec.specs.Allowed.{is_period}
-use Rattle.fw_ring.specs.RingLists.{Ring, RingLists, fresh_ring}
+use Rattle.fw_ring_lists.specs.RingLists.{Ring, RingLists, fresh_ring}
 use Rattle.fw_schedule.specs.declared.turn.Turn.{Turn}
 use Rattle.fw_schedule.specs.declared.turn.Action.{Action}
 use Rattle.fw_schedule.specs.declared.turn.Action.TheVariants.{Feed, Drain, Fill, Make}

@@ -14,7 +14,7 @@ use Rattle.stream_law.specs.State.{HeapView, PieceView}
 use Rattle.stream_law.specs.Joins.{joined, with_join}
 use Rattle.stream_law.proofs.Placing.{list_any-placed, find-placed_apart, find-placed_there, length-placed}
 use Rattle.mbox_link.specs.Step.{with_piece, completed, has_comp, has_edge, has_pipe, is_used}
-use Rattle.fw_ring.specs.RingLists.{Ring, RingLists, IsOutside, AreFree, fresh_ring}
+use Rattle.fw_ring_lists.specs.RingLists.{Ring, RingLists, IsOutside, AreFree, fresh_ring}
 use Rattle.fw_core.specs.Pieces.{Apart, IsPiece, IsTiled}
 use Rattle.fw_core.specs.Kept.{ArePieces, LiesIn, has_piece}
 use Rattle.fw_core.proofs.Growing.{all-placed, all-by}

@@ -14,7 +14,7 @@ use Rattle.stream_law.specs.State.{HeapView, View, RingView, History}
 use Rattle.stream_law.specs.Ways.{components, buffers, source_of, sink_of, live, live_end, channels_of}
 use Rattle.stream_law.specs.Seen.{flows, ring_seen}
 use Rattle.stream_law.specs.Order.{is_among}
-use Rattle.fw_ring.specs.RingLists.{Ring, RingLists, begun}
+use Rattle.fw_ring_lists.specs.RingLists.{Ring, RingLists, begun}
 use Rattle.fw_core.specs.Settled.{is_filled, settled, all_settled}
 use Rattle.fw_core.specs.Kept.{IsKept, IsPlayable, KeepsLive, LiesIn, AreRings, state_of, shown}
 use Rattle.fw_core.specs.Answers.{with_streams}

@@ -7,7 +7,7 @@ use Rattle.stream_law.specs.State.{View, RingView}
 use Rattle.stream_law.specs.Ways.{channels_of}
 use Rattle.stream_law.specs.Seen.{flows, ring_seen}
 use Rattle.stream_law.specs.declared.graph.Edge.{Edge}
-use Rattle.fw_ring.specs.RingLists.{Ring, RingLists, ring_at, changed, begun, fresh_ring}
+use Rattle.fw_ring_lists.specs.RingLists.{Ring, RingLists, ring_at, changed, begun, fresh_ring}
 use Rattle.fw_core.specs.Settled.{is_filled, settled, all_settled}
 use Rattle.fw_core.proofs.InTurn as turn
 use Rattle.fw_core.specs.Kept.{shown}

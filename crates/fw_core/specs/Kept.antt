@@ -18,7 +18,7 @@ use Rattle.stream_law.specs.Seen.{flows, ring_seen, equalises}
 use Rattle.ipc3_codec.specs.Allowed.{is_period}
 use Rattle.mbox_link.specs.Step.{has_comp, has_edge, is_used, has_kind, kind_at, is_host, is_rate, is_way_ready}
 use Rattle.fw_core.specs.Pieces.{IsTiled}
-use Rattle.fw_ring.specs.RingLists.{Ring, RingLists}
+use Rattle.fw_ring_lists.specs.RingLists.{Ring, RingLists}
 
 -- a ring as its frames alone
 abbrev pub shown : Ring → RingView

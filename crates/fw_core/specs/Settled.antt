@@ -4,7 +4,7 @@ use Rattle.sof_base.specs.Samples.{Frame}
 use Rattle.stream_law.specs.State.{View}
 use Rattle.stream_law.specs.Ways.{channels_of}
 use Rattle.stream_law.specs.Seen.{flows}
-use Rattle.fw_ring.specs.RingLists.{Ring, RingLists, begun}
+use Rattle.fw_ring_lists.specs.RingLists.{Ring, RingLists, begun}
 
 -- there is a frame
 abbrev pub is_filled : List Frame → Bool

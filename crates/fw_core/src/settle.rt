@@ -2,13 +2,13 @@
 ghost use Rattle.std.specs.Prelude.{◌≡◌, ℕ, ◌<◌, ◌≤◌, map, length};
 ghost use Rattle.stream_law.specs.Placed.{HasDistinct};
 ghost use Rattle.stream_law.specs.Ways.{channels_of};
-ghost use Rattle.fw_ring.specs.RingLists.{changed, ring_at};
+ghost use Rattle.fw_ring_lists.specs.RingLists.{changed, ring_at};
 ghost use Rattle.fw_core.specs.Marked.{scene_of};
 ghost use Rattle.fw_core.specs.Settled.{settled, all_settled};
 
 use crate::marks::Marks;
 use crate::scene::Scene;
-use fw_ring::Rings;
+use fw_ring_lists::Rings;
 use stream_law::{Comp, Edge, Join, Pipe, StreamView};
 
 // Empties each ring in which no frame may lie. A ring that is empty gets the channels of what is Live there.

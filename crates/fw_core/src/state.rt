@@ -16,7 +16,7 @@ use crate::heap::Heap;
 use crate::marks::Marks;
 use crate::scene::Scene;
 use crate::table::Table;
-use fw_ring::Rings;
+use fw_ring_lists::Rings;
 use sof_base::NoMemory;
 use std::alloc::Global;
 use std::marker::Model;

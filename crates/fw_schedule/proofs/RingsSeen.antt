@@ -1,6 +1,6 @@
 -- What a turn needs of the rings.
 use Rattle.std.proofs.Common.{◌≡◌, sym, ap, ◌∙◌, ◌/◌, arith}
-use Rattle.fw_ring.specs.RingLists.{RingLists}
+use Rattle.fw_ring_lists.specs.RingLists.{RingLists}
 use Rattle.fw_components.specs.Places.{emptied}
 use Rattle.fw_components.proofs.KernelKept.{count-kept, ring-kept, kernel-kept}
 use Rattle.fw_schedule.specs.declared.turn.Action.{Action}

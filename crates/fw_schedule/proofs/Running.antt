@@ -6,7 +6,7 @@ use Rattle.sof_base.specs.Ports.{InputView, OutputView, Io}
 use Rattle.sof_io.specs.Takes.{given, taken}
 use Rattle.sof_io.specs.Puts.{with_piece}
 use Rattle.stream_law.specs.State.{RingView}
-use Rattle.fw_ring.specs.RingLists.{RingLists, ring_at, changed, pushed, pulled}
+use Rattle.fw_ring_lists.specs.RingLists.{RingLists, ring_at, changed, pushed, pulled}
 use Rattle.fw_components.specs.declared.kernel.Kernel.{Kernel}
 use Rattle.fw_components.specs.Places.{frames_at, with_frames, ring_seen, rings_seen, emptied}
 use Rattle.fw_components.specs.Kernels.{after_kernel}

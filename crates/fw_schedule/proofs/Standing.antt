@@ -18,7 +18,7 @@ use Rattle.stream_law.specs.Ways.{comp_of, edge_of, components, buffers, source_
 use Rattle.stream_law.specs.Moves.{capacity, period, quota, is_choosy, chooses, fed, fed_by}
 use Rattle.stream_law.specs.Order.{is_among, order}
 use Rattle.stream_law.proofs.Keyed.{all-from}
-use Rattle.fw_ring.specs.RingLists.{Ring, RingLists, fresh_ring, capacity_of, ring_at}
+use Rattle.fw_ring_lists.specs.RingLists.{Ring, RingLists, fresh_ring, capacity_of, ring_at}
 use Rattle.fw_components.specs.Kernels.{IsInletAt, IsKernelAt}
 use Rattle.fw_schedule.specs.declared.turn.Action.{Action}
 use Rattle.fw_schedule.specs.declared.turn.Action.TheVariants.{Feed, Drain, Fill, Make}

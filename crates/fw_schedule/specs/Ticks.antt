@@ -5,7 +5,7 @@ use Rattle.sof_base.specs.Samples.{Frame, width}
 use Rattle.sof_base.specs.Ports.{Io, InputView, OutputView}
 use Rattle.stream_law.specs.State.{RingView}
 use Rattle.stream_law.specs.Order.{is_among}
-use Rattle.fw_ring.specs.RingLists.{RingLists, capacity_of, ring_at}
+use Rattle.fw_ring_lists.specs.RingLists.{RingLists, capacity_of, ring_at}
 use Rattle.fw_components.specs.Places.{rings_seen}
 use Rattle.fw_components.specs.Kernels.{IsKernelAt}
 use Rattle.fw_schedule.specs.declared.turn.Action.{Action}

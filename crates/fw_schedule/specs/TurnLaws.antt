@@ -13,7 +13,7 @@ use Rattle.stream_law.specs.Made.{blob}
 use Rattle.stream_law.specs.Joins.{fits_kind}
 use Rattle.stream_law.specs.Move.{Move, next_clock}
 use Rattle.stream_law.specs.TickLaws.{HasOneOfEach}
-use Rattle.fw_ring.specs.RingLists.{RingLists, ring_at}
+use Rattle.fw_ring_lists.specs.RingLists.{RingLists, ring_at}
 use Rattle.fw_schedule.specs.Turns.{place_of, inlets_of, turns_of, after_turns}
 use Rattle.fw_schedule.specs.Ticks.{AreTurnsAt}
 

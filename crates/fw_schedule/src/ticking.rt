@@ -4,14 +4,14 @@ ghost use Rattle.sof_base.specs.Samples.{width};
 ghost use Rattle.sof_base.specs.Ports.{HasRoom};
 ghost use Rattle.sof_io.specs.Takes.{taken};
 ghost use Rattle.sof_io.specs.Puts.{room_at, with_piece};
-ghost use Rattle.fw_ring.specs.RingLists.{changed, pushed, pulled};
+ghost use Rattle.fw_ring_lists.specs.RingLists.{changed, pushed, pulled};
 ghost use Rattle.fw_components.specs.Places.{emptied};
 ghost use Rattle.fw_schedule.specs.Turns.{turn_bytes, after_turn_at, after_turns};
 ghost use Rattle.fw_schedule.specs.Ticks.{IsTurnAt, AreTurnsAt, Grew, fed_now, drained_now, frames_fed, bytes_drained, seen_at};
 
 use crate::turn::{Action, Turn};
 use fw_components::Workspace;
-use fw_ring::Rings;
+use fw_ring_lists::Rings;
 use sof_io::{Inputs, Outputs};
 
 /// The most bytes that a turn moves: ten periods of 192 frames of 8 samples of 4 bytes.

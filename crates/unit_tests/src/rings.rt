@@ -1,5 +1,5 @@
 // Rings as lists of frames.
-use fw_ring::Rings;
+use fw_ring_lists::Rings;
 use sof_base::{Format, NoMemory};
 use std::alloc::Global;
 
@@ -36,7 +36,7 @@ fn frames_round_the_end(rt: HostRuntime) {
 
 // The same frames by their samples: each look gives the words up to the end, and then those from the beginning.
 #[test]
-#[tactic(auto, unfolding(fw_ring::specs::RingWords::slots))]
+#[tactic(auto, unfolding(fw_ring_lists::specs::RingWords::slots))]
 fn spans_round_the_end(rt: HostRuntime) {
     let mut rings = Rings::new(rt.alloc(), 64).expect(&rt, "memory");
     rings.place(4, 0, 32);

@@ -1,6 +1,6 @@
 // Turns of a tick.
 use fw_components::{Effect, Kernel, Workspace};
-use fw_ring::Rings;
+use fw_ring_lists::Rings;
 use fw_schedule::{Action, Turn, tick};
 use sof_base::{Bounded, Format};
 use sof_io::{Inputs, Outputs};

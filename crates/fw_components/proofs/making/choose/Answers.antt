@@ -1,6 +1,6 @@
 use Rattle.std.proofs.Common.{◌≡◌, sym, ap, ◌∙◌, ℕ, ◌==◌, true, false, replicate, pos, Option}
 use Rattle.std.specs.List.{list_any}
-use Rattle.fw_ring.specs.RingWords.{slots}
+use Rattle.fw_ring_lists.specs.RingWords.{slots}
 use Rattle.fw_components.specs.declared.kernel.Effect.TheVariants.{Choose}
 use Rattle.fw_components.specs.Places.{rings_seen}
 use Rattle.fw_components.specs.Kernels.{slices, made_by}

@@ -1,7 +1,7 @@
 use Rattle.std.proofs.Common.{◌≡◌, sym, ap, ◌∙◌, ◌%◌, ◌++◌, length, arith}
 use Rattle.fw_gain.specs.Kernels.{all_amplified}
 use Rattle.fw_gain.proofs.KernelLaws.{amplified-append}
-use Rattle.fw_ring.specs.RingLists.{fresh_ring, IsRing}
+use Rattle.fw_ring_lists.specs.RingLists.{fresh_ring, IsRing}
 use Rattle.fw_components.proofs.LookLaws.{all-at}
 use Rattle.fw_components.proofs.taking.amplify.Goals as goal
 

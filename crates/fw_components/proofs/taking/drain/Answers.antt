@@ -1,6 +1,6 @@
 use Rattle.std.proofs.Common.{◌≡◌, sym, ap, ◌∙◌, subst, ℕ, suc, ◌+◌, ◌<◌, List, ◌∷◌, length, drop, get_or, drop-cons, arith}
 use Rattle.std.specs.List.{AllByRecursion}
-use Rattle.fw_ring.specs.RingLists.{RingLists, changed, pulled}
+use Rattle.fw_ring_lists.specs.RingLists.{RingLists, changed, pulled}
 use Rattle.fw_components.specs.Places.{rings_seen, emptied}
 use Rattle.fw_components.specs.Kernels.{drained}
 use Rattle.fw_components.specs.Taken.{IsTakenAt}

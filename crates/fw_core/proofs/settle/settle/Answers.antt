@@ -1,7 +1,7 @@
 use Rattle.std.proofs.Common.{◌≡◌, ◌∙◌, sym, ap, map}
 use Rattle.stream_law.specs.declared.graph.Edge.{Edge}
 use Rattle.stream_law.specs.State.{View}
-use Rattle.fw_ring.specs.RingLists.{Ring}
+use Rattle.fw_ring_lists.specs.RingLists.{Ring}
 use Rattle.fw_core.proofs.Settling.{turn-place, turn-key, turn-more, turn-all}
 use Rattle.fw_core.proofs.settle.settle.Goals as goal
 

@@ -1,8 +1,8 @@
 use Rattle.std.proofs.Common.{◌≡◌, refl, sym, ap, ◌∙◌, subst, ℕ, ◌<◌, List, [], ◌∷◌, length, arith}
 use Rattle.std.specs.List.{IsDistinct}
 use Rattle.sof_base.specs.Samples.{Frame}
-use Rattle.fw_ring.specs.RingLists.{RingLists, ring_at, no_rings, with_ring, changed, pushed}
-use Rattle.fw_ring.specs.RingWords.{slots}
+use Rattle.fw_ring_lists.specs.RingLists.{RingLists, ring_at, no_rings, with_ring, changed, pushed}
+use Rattle.fw_ring_lists.specs.RingWords.{slots}
 use Rattle.fw_components.specs.declared.kernel.Effect.{Effect}
 use Rattle.fw_components.specs.declared.kernel.Kernel.{Kernel}
 use Rattle.fw_components.specs.Places.{emptied}

@@ -1,7 +1,7 @@
 use Rattle.std.proofs.Common.{refl, sym, ap, ◌∙◌, subst, List, [], ◌∷◌, arith}
 use Rattle.std.specs.List.{IsDistinct}
 use Rattle.sof_base.specs.declared.format.Format.TheVariants.{S16, S32}
-use Rattle.fw_ring.specs.RingLists.{no_rings, with_ring, changed, begun}
+use Rattle.fw_ring_lists.specs.RingLists.{no_rings, with_ring, changed, begun}
 use Rattle.fw_schedule.specs.declared.turn.Action.TheVariants.{Feed, Fill}
 use Rattle.fw_schedule.specs.declared.turn.Turn.{Turn}
 use Rattle.fw_schedule.specs.Ticks.{AreTurnsAt}

@@ -1,7 +1,7 @@
 use Rattle.std.proofs.Common.{◌≡◌, sym, ap, ◌∙◌, subst, ℕ, List, length, map, replicate, get_or, pos}
 use Rattle.std.specs.List.{AllByRecursion}
 use Rattle.fw_gain.specs.Kernels.{held}
-use Rattle.fw_ring.specs.RingWords.{slots}
+use Rattle.fw_ring_lists.specs.RingWords.{slots}
 use Rattle.fw_components.specs.declared.kernel.Effect.{Effect}
 use Rattle.fw_components.specs.declared.kernel.Effect.TheVariants.{Amplify}
 use Rattle.fw_components.specs.Places.{rings_seen}

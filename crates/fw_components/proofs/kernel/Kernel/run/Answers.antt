@@ -1,7 +1,7 @@
 use Rattle.std.proofs.Common.{◌≡◌, sym, ap, ◌∙◌, ℕ, ◌<◌, List, map, length, ◌==◌, false, arith}
 use Rattle.std.proofs.lemmas.Bool.{eqb-false, eqb-true}
 use Rattle.stream_law.specs.Moves.{least}
-use Rattle.fw_ring.specs.RingLists.{RingLists}
+use Rattle.fw_ring_lists.specs.RingLists.{RingLists}
 use Rattle.fw_components.specs.Places.{frames_at, rings_seen}
 use Rattle.fw_components.proofs.CarryLaws.{inlets-there, inlets-apart, inlets-single, count-within, inlets-sources, size-within, kernel-moved, kernel-still}
 use Rattle.fw_components.proofs.kernel.Kernel.run.Goals as goal

@@ -4,7 +4,7 @@ use Rattle.std.specs.Prelude.{nat_le}
 use Rattle.sof_base.specs.Holes.{rounded, fits, first_fit}
 use Rattle.stream_law.specs.State.{FwState}
 use Rattle.mbox_link.specs.Step.{is_used, is_complete, has_hole, buffer_bytes, with_piece, with_buffer}
-use Rattle.fw_ring.specs.RingLists.{AreFree}
+use Rattle.fw_ring_lists.specs.RingLists.{AreFree}
 use Rattle.fw_core.specs.Kept.{Held, state_of, shown}
 use Rattle.fw_core.specs.Pieces.{HeapHeld}
 use Rattle.fw_core.proofs.KeptLaws.{kept-buffer, held-buffer, buffer-is, free-words}

@@ -1,7 +1,7 @@
 use Rattle.std.proofs.Common.{◌∙◌, ap, arith}
 use Rattle.fw_core.specs.Kept.{Held}
 use Rattle.fw_core.specs.Pieces.{HeapHeld}
-use Rattle.fw_ring.specs.RingLists.{no_rings}
+use Rattle.fw_ring_lists.specs.RingLists.{no_rings}
 use Rattle.fw_core.proofs.KeptLaws.{kept-empty, held-empty}
 use Rattle.fw_core.proofs.state.State.reset.Goals as goal
 

@@ -2,7 +2,7 @@ use Rattle.std.proofs.Common.{◌≡◌, sym, ap, ◌∙◌, subst, ℕ, ◌-◌
 use Rattle.std.proofs.Math.Nat.{min_comm}
 use Rattle.sof_base.specs.Samples.{frames_out}
 use Rattle.sof_io.specs.Puts.{with_piece}
-use Rattle.fw_ring.specs.RingLists.{ring_at, changed, pulled}
+use Rattle.fw_ring_lists.specs.RingLists.{ring_at, changed, pulled}
 use Rattle.fw_schedule.specs.Ticks.{Grew}
 use Rattle.fw_schedule.proofs.Growing.{grew-piece}
 use Rattle.fw_schedule.proofs.Pieces.{fits-scratch, length-rest}

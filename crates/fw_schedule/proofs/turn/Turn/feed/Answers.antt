@@ -2,7 +2,7 @@ use Rattle.std.proofs.Common.{◌≡◌, sym, ap, ◌∙◌, ℕ, ◌-◌, ◌*�
 use Rattle.std.proofs.Math.Nat.{min_comm}
 use Rattle.sof_base.specs.Samples.{width, frames_in}
 use Rattle.sof_io.specs.Takes.{given}
-use Rattle.fw_ring.specs.RingLists.{ring_at, changed, pushed}
+use Rattle.fw_ring_lists.specs.RingLists.{ring_at, changed, pushed}
 use Rattle.fw_schedule.proofs.Pieces.{fits-scratch, length-front}
 use Rattle.fw_schedule.proofs.turn.Turn.feed.Goals as goal
 

@@ -1,5 +1,6 @@
-// A region and its pieces.
+// A region, its pieces, and a ring over one of them.
 use fw_heap::Region;
+use fw_ring::Ring;
 use sof_base::NoMemory;
 use std::alloc::Global;
 
@@ -60,6 +61,27 @@ fn pieces_of_64_bytes(alloc: Global) -> Result<bool, NoMemory> {
     Ok(right)
 }
 
+// A ring of four frames over 64 bytes. Six samples are pushed, four taken and four pushed: the last frames lie round the end.
+fn round_the_end(alloc: Global) -> Result<bool, NoMemory> {
+    let mut region = Region::new(alloc, 64)?;
+    region.limit(64);
+    let mut right = false;
+    if let Ok(piece) = region.carve(64) {
+        let mut ring = Ring::over(piece, 8, 2);
+        ring.push_frames(&[1, 2, 3, 4, 5, 6]);
+        ring.take(2);
+        ring.push_frames(&[7, 8, 9, 10]);
+        right = ring.start() == 4 && ring.len() == 3 && ring.free() == 1;
+        let (front, back) = ring.spans(3);
+        right = right && matches!(front, [5, 6, 7, 8]) && matches!(back, [9, 10]);
+        let words = ring.piece().words();
+        right = right && matches!(words, [_, _, _, _, _, _, _, _, 9, 10, _, _, 5, 6, 7, 8]);
+        region.give(ring.into_piece());
+    }
+    region.close();
+    Ok(right)
+}
+
 #[test]
 fn no_piece_without_a_byte(rt: HostRuntime) {
     let full = without_a_byte(rt.alloc());
@@ -69,5 +91,11 @@ fn no_piece_without_a_byte(rt: HostRuntime) {
 #[test]
 fn pieces_are_rounded_and_come_back(rt: HostRuntime) {
     let right = pieces_of_64_bytes(rt.alloc());
+    assert!(rt; matches!(right, Ok(true)));
+}
+
+#[test]
+fn frames_lie_round_the_end_of_a_piece(rt: HostRuntime) {
+    let right = round_the_end(rt.alloc());
     assert!(rt; matches!(right, Ok(true)));
 }

@@ -1,0 +1,19 @@
+use Rattle.std.proofs.Common.{◌≡◌, ap, ◌∙◌, ℕ, ℤ, List, ◌+◌, ◌-◌, ◌/◌, ◌++◌, length, drop, arith, length-take, length-drop}
+use borrow.Rule.Slice.PartMut.{put_mid}
+use Rattle.fw_ring.specs.declared.window.Window.{Window}
+use Rattle.sof_base.specs.Samples.{frames_of}
+use Rattle.fw_ring.specs.RingWords.{window_frames}
+use Rattle.fw_ring.specs.RingLaid.{own_words}
+use Rattle.fw_ring.proofs.RingLaws.{own-put, own-slice}
+use Rattle.fw_ring.proofs.ring.extend.Goals as goal
+
+pub returns-clause-frames : goal.returns-clause-frames
+returns-clause-frames c =
+    let w = c.args.window in let ws = c.args.words.now in let new = c.extended.new.words in let n : ℕ = w.words in
+    let e : 8 + n - 8 ≡ n = omega arith in
+    let long : length new ≡ n = omega (arith, c.extended.auto.words, length-take (8 + n - 8) (drop 8 ws), length-drop 8 ws, c.requires.words) in
+    let same : c.extended.result.words ≡ n = ap (λ (x : Window). x.words) c.extended.ensures.window in
+    (λ i. window_frames c.extended.result (own_words (same i) (put_mid 8 (e i) ws new)))
+    ∙ ap (window_frames c.extended.result) (own-put n ws new c.requires.words long)
+    ∙ c.extended.ensures.frames
+    ∙ ap (λ (l : List ℤ). window_frames w l ++ frames_of w.channels (length c.args.samples.now / w.channels) c.args.samples.now) (own-slice n ws)

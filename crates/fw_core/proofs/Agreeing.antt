@@ -3,7 +3,6 @@ use Rattle.std.proofs.Common.{◌≡◌, refl, sym, ap, ◌∙◌, ℕ, ◌+◌,
 use Rattle.std.specs.List.{list_all, list_any}
 use Rattle.std.proofs.lemmas.Bool.{true≢false, false≢true, and_parts, and_from, or_right, eqb-true, eq-eqb}
 use Rattle.std.proofs.lemmas.List.{drop_more}
-use Rattle.std.proofs.lemmas.List.Folds.{list_all-map}
 use Rattle.sof_base.specs.declared.format.Params.{Params}
 use Rattle.stream_law.specs.declared.graph.Graph.{Graph}
 use Rattle.stream_law.specs.declared.stream.Phase.{Phase}
@@ -13,7 +12,8 @@ use Rattle.stream_law.specs.State.{View}
 use Rattle.stream_law.specs.Ways.{components, buffers, on_way, touch, same_shape, agree}
 use Rattle.mbox_link.specs.Step.{set_stream}
 use Rattle.fw_core.specs.Marked.{is_misfit}
-use Rattle.fw_core.proofs.Members.{IsIn, any-in, in-any, in-filter, filter-any}
+use Rattle.stream_law.proofs.Members.{IsIn, any-in, in-any, in-filter, filter-any}
+use Rattle.row_laws.proofs.StreamLaws.{host-set_stream, agree-changed}
 use Rattle.fw_core.proofs.Seeking.{turned-equal, any-alike}
 
 -- ---- tests of members
@@ -48,31 +48,6 @@ any-here p xs i d below is = ap (list_any p) (drop_more xs i d below) ∙ ap (λ
 pub not-true : (b : Bool) → not b ≡ true → b ≡ false
 not-true true is = absurd (false≢true is)
 not-true false is = refl
-
--- ---- streams that are changed
-
-pub host-set_stream : (host : ℕ) (phase : Phase) (params : Option Params) (s : StreamView) → (set_stream host phase params s).host ≡ s.host
-host-set_stream host phase params s = by (s.host == host)
-  where
-    by : (h : Bool) → (cond h (record { host = s.host; phase = phase; params = params }) s).host ≡ s.host
-    by true = refl
-    by false = refl
-
--- the tests over the streams that were, by the parameters that they have then
-pub agree-changed : (g : Graph) (to : StreamView → StreamView) (pick : StreamView → Option Params) (streams : List StreamView) → ((s : StreamView) → (to s).host ≡ s.host) → ((s : StreamView) → (to s).params ≡ pick s) → agree (record { graph = g; streams = map to streams }) ≡ list_all (λ s. list_all (λ t. not (touch g s t) || same_shape (pick s) (pick t)) streams) streams
-unfolding agree
-agree-changed g to pick streams same has =
-    list_all-map (λ s. list_all (λ t. not (touch g s t) || same_shape s.params t.params) (map to streams)) to streams
-    ∙ each streams
-  where
-    row : (s : StreamView) (ts : List StreamView) → list_all (λ t. not (touch g (to s) t) || same_shape (to s).params t.params) (map to ts) ≡ list_all (λ t. not (touch g s t) || same_shape (pick s) (pick t)) ts
-    row s [] = refl
-    row s (t ∷ ts) =
-        ap (λ (p : ℕ × ℕ × Option Params × Option Params × Bool). (not (touch g (record { host = p.0; phase = s.phase; params = s.params }) (record { host = p.1; phase = t.phase; params = t.params })) || same_shape p.2 p.3) && p.4) (λ i. (same s i, same t i, has s i, has t i, row s ts i))
-
-    each : (ss : List StreamView) → list_all (λ s. list_all (λ t. not (touch g (to s) t) || same_shape (to s).params t.params) (map to streams)) ss ≡ list_all (λ s. list_all (λ t. not (touch g s t) || same_shape (pick s) (pick t)) streams) ss
-    each [] = refl
-    each (s ∷ ss) = ap (λ (p : Bool × Bool). p.0 && p.1) (λ i. (row s streams i, each ss i))
 
 -- ---- two streams
 

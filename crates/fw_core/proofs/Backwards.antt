@@ -4,8 +4,8 @@ use Rattle.std.proofs.lemmas.Bool.{true≢false, or_left, or_right, or_cases, eq
 use Rattle.std.specs.List.{list_any}
 use Rattle.stream_law.specs.declared.graph.Join.{Join}
 use Rattle.stream_law.specs.Ways.{leads}
-use Rattle.fw_core.proofs.Members.{IsIn, any-in, in-any, in-filter, filter-any}
-use Rattle.fw_core.proofs.Walking.{leads-same}
+use Rattle.stream_law.proofs.Members.{IsIn, any-in, in-any, in-filter, filter-any}
+use Rattle.stream_law.proofs.Walking.{leads-same}
 
 -- a walk and one join more
 walk-more : (joins : List Join) (n a b : ℕ) (j : Join) → IsIn j joins → j.sink ≡ b → leads joins n a j.source ≡ true → leads joins (suc n) a b ≡ true

@@ -18,7 +18,7 @@ use Rattle.stream_law.specs.Ways.{components, comp_of, pipe_of, ins, source_of, 
 use Rattle.stream_law.specs.Moves.{period, fed, fed_by}
 use Rattle.stream_law.specs.Order.{order}
 use Rattle.fw_schedule.specs.TurnLaws.{HasBounds}
-use Rattle.fw_core.proofs.Found.{found-each}
+use Rattle.row_laws.proofs.Found.{found-each}
 
 -- ---- the first edge of a component
 

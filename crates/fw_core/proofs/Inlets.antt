@@ -13,7 +13,7 @@ use Rattle.stream_law.specs.Ways.{comp_of, source_of, sink_of, is_end, ins, acti
 use Rattle.stream_law.specs.Moves.{is_choosy, chooses}
 use Rattle.fw_ring_lists.proofs.ApartLaws.{filter-within}
 use Rattle.fw_schedule.specs.Turns.{place_of, inlets_of}
-use Rattle.fw_core.proofs.Found.{found-each}
+use Rattle.row_laws.proofs.Found.{found-each}
 
 -- whether an edge goes into a component, which may take frames from it
 abbrev pub is_inlet : View → Comp → Edge → Bool

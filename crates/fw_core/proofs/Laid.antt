@@ -23,11 +23,12 @@ use Rattle.fw_schedule.specs.declared.turn.Action.{Action}
 use Rattle.fw_schedule.specs.declared.turn.Action.TheVariants.{Feed, Drain, Fill, Make}
 use Rattle.fw_schedule.specs.Turns.{place_of, inlets_of, kernel_by, turn_at, turn_by, turn_of, turns_of}
 use Rattle.fw_schedule.specs.TurnLaws.{fits_if_active, IsFit, HasBounds, HasChannels, IsLaidOut, edges_at}
-use Rattle.fw_core.specs.Kept.{IsWired, IsLinked, IsPlayable, IsSet, IsSetBy, is_idle}
-use Rattle.fw_core.proofs.Growing.{all-by}
-use Rattle.fw_core.proofs.Members.{IsIn, in-each, find-in}
-use Rattle.fw_core.proofs.Near.{at-buffer, fits-comp, no-loop}
-use Rattle.fw_core.proofs.Playing.{IsAlong, along-out, along-in, chooses-kind, active-period, active-ready}
+use Rattle.row_laws.specs.Wired.{IsWired, IsLinked}
+use Rattle.row_laws.specs.Played.{IsPlayable, IsSet, IsSetBy, is_idle}
+use Rattle.row_laws.proofs.Growing.{all-by}
+use Rattle.stream_law.proofs.Members.{IsIn, in-each, find-in}
+use Rattle.row_laws.proofs.Near.{at-buffer, fits-comp, no-loop}
+use Rattle.row_laws.proofs.Playing.{IsAlong, along-out, along-in, chooses-kind, active-period, active-ready}
 
 -- ---- lists
 
@@ -73,19 +74,6 @@ place-of {X} key P (r ∷ rs) (y ∷ es) d e keys all here = by (y.buffer == e.b
         let next : suc (position_or_len (λ y. y.buffer == e.buffer) es) ≡ 1 + position_or_len (λ y. y.buffer == e.buffer) es = omega arith in
         let found = rest more in
         (subst (λ n. P (get_or (r ∷ rs) n d)) next found.0, subst (λ n. key (get_or (r ∷ rs) n d) ≡ e.buffer) next found.1, omega (arith, found.2))
-
--- a place is that of a buffer in which frames flow
-abbrev pub IsFlowing : View → ℕ → Type 0
-IsFlowing v place = (e : Edge) × IsIn e v.graph.edges × (place ≡ place_of v.graph e.buffer) × (flows v e.buffer ≡ true)
-
--- a kernel takes from such places
-abbrev pub TakesFlowing : View → Action → Type 0
-TakesFlowing v (Make kernel) = AllByRecursion (IsFlowing v) kernel.inlets
-TakesFlowing v action = Unit {0}
-
--- a turn is at such a place, and takes from such places
-abbrev pub TurnsFlowing : View → Turn → Type 0
-TurnsFlowing v t = IsFlowing v t.place × TakesFlowing v t.action
 
 -- ---- bounds
 
@@ -156,71 +144,3 @@ module _ (v : View) (wired : IsWired v.graph) (linked : IsLinked v.graph) (playe
           (all-by (Along c.id) (HasChannels v s c.id) (ring-has c.id) (inlets_of v c.id) (inlets-along c there now))
           (all-by (Along c.id) (HasChannels v s c.id) (ring-has c.id) (outs v.graph c.id) (outs-along c there now)));
     }
-
-  -- ---- turns
-
-  head-of : (P : ℕ → Type 0) (ids : List ℕ) (b : ℕ) → AllByRecursion P ids → slice_get ids 0 ≡ Some b → P b
-  head-of P [] b all is = absurd (cc is)
-  head-of P (i ∷ ids) b all is = let same : i ≡ b = cc is in subst P same all.0
-
-  place-flows : (c b : ℕ) → Along c b → IsFlowing v (place_of v.graph b)
-  place-flows c b a = (a.edge, a.among, ap (place_of v.graph) a.is, a.flow)
-
-  places-flow : (c : ℕ) (ids : List ℕ) → AllByRecursion (Along c) ids → AllByRecursion (IsFlowing v) (map (place_of v.graph) ids)
-  places-flow c [] all = tt
-  places-flow c (b ∷ ids) all = (place-flows c b all.0, places-flow c ids all.1)
-
-  turn-flow : (c : ℕ) (action : Action) → TakesFlowing v action → (ids : List ℕ) (t : Turn) → AllByRecursion (Along c) ids → option_map (turn_at v c action) (slice_get ids 0) ≡ Some t → TurnsFlowing v t
-  turn-flow c action takes ids t all is = by (slice_get ids 0) refl is
-    where
-      by : (o : Option ℕ) → slice_get ids 0 ≡ o → option_map (turn_at v c action) o ≡ Some t → TurnsFlowing v t
-      by None e is = absurd (cc is)
-      by (Some b) e is =
-          let same : turn_at v c action b ≡ t = cc is in
-          subst (TurnsFlowing v) same (place-flows c b (head-of (Along c) ids b all e), takes)
-
-  kind-flow : (x : Comp) → IsIn x v.graph.comps → active v x.id ≡ true → (t : Turn) → turn_by x.kind x.setting v x.id ≡ Some t → TurnsFlowing v t
-  kind-flow x there now t is = by x.kind refl is
-    where
-      fed-along : AllByRecursion (Along x.id) (fed_by v x.id)
-      fed-along = all-filter (Along x.id) (Along x.id) (fed v) (outs v.graph x.id) (outs-along x there now) (λ b a is. a)
-
-      -- a sink takes frames from all edges into it
-      ins-along : is_choosy x.kind ≡ false → AllByRecursion (Along x.id) (ins v.graph x.id)
-      ins-along plain = ids-pass (Along x.id) (λ b. is_end (sink_of v.graph b) x.id) v.graph.edges (λ e at is. along-in v wired linked played x there now e at (sym (ap (λ (o : Option Edge). is_end (option_and_then (λ e. e.sink) o) x.id) (at-buffer v.graph wired linked e at)) ∙ is) (ap (λ h. not h || active_end v (source_of v.graph e.buffer)) (chooses-kind v wired linked played x there ∙ plain)))
-
-      make : (k : Kind) → option_map (turn_at v x.id (Make (kernel_by k x.setting v x.id))) (slice_get (fed_by v x.id) 0) ≡ Some t → TurnsFlowing v t
-      make k is = turn-flow x.id (Make (kernel_by k x.setting v x.id)) (places-flow x.id (inlets_of v x.id) (inlets-along x there now)) (fed_by v x.id) t fed-along is
-
-      by : (k : Kind) → x.kind ≡ k → turn_by k x.setting v x.id ≡ Some t → TurnsFlowing v t
-      by HostPlay same is = turn-flow x.id Feed tt (fed_by v x.id) t fed-along is
-      by (DaiCapture format) same is = turn-flow x.id Feed tt (fed_by v x.id) t fed-along is
-      by HostCapture same is = turn-flow x.id Drain tt (ins v.graph x.id) t (ins-along (ap is_choosy same)) is
-      by (DaiPlay format) same is = turn-flow x.id Fill tt (ins v.graph x.id) t (ins-along (ap is_choosy same)) is
-      by Volume same is = make Volume is
-      by Mixer same is = make Mixer is
-      by Mux same is = make Mux is
-      by Eq same is = make Eq is
-
-  one-flow : (c : ℕ) (t : Turn) → turn_of v c ≡ Some t → TurnsFlowing v t
-  unfolding turn_of
-  one-flow c t is = by (active v c) refl (comp_of v.graph c) refl is
-    where
-      by : (h : Bool) → active v c ≡ h → (o : Option Comp) → comp_of v.graph c ≡ o → cond h (option_map_or (λ x. turn_by x.kind x.setting v c) o None) None ≡ Some t → TurnsFlowing v t
-      by false now o found is = absurd (cc is)
-      by true now None found is = absurd (cc is)
-      by true now (Some x) found is =
-          let at = find-in (λ y. y.id == c) v.graph.comps x found in
-          let same : x.id ≡ c = eqb-true x.id c at.1 in
-          kind-flow x at.0 (ap (active v) same ∙ now) t (ap (λ n. turn_by x.kind x.setting v n) same ∙ is)
-
-  pub all-flowing : AllByRecursion (TurnsFlowing v) (turns_of v)
-  all-flowing = each (order v.graph)
-    where
-      each : (ids : List ℕ) → AllByRecursion (TurnsFlowing v) (filter_map (turn_of v) ids)
-      each [] = tt
-      each (c ∷ ids) = by (turn_of v c) refl (each ids)
-        where
-          by : (o : Option Turn) → turn_of v c ≡ o → AllByRecursion (TurnsFlowing v) (filter_map (turn_of v) ids) → AllByRecursion (TurnsFlowing v) (filter_map (turn_of v) (c ∷ ids))
-          by None e rest = subst (λ o. AllByRecursion (TurnsFlowing v) (Rattle.std.specs.List.cons_option o (filter_map (turn_of v) ids))) (sym e) rest
-          by (Some t) e rest = subst (λ o. AllByRecursion (TurnsFlowing v) (Rattle.std.specs.List.cons_option o (filter_map (turn_of v) ids))) (sym e) (one-flow c t e, rest)

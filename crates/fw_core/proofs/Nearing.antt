@@ -12,10 +12,10 @@ use Rattle.stream_law.specs.Joins.{has_grown}
 use Rattle.fw_core.specs.declared.marks.holding.Side.TheVariants.{Playback, Capture}
 use Rattle.fw_core.specs.Marked.{captures, near_end, is_set_on}
 use Rattle.fw_core.proofs.Agreeing.{none-at, not-true}
-use Rattle.fw_core.proofs.Members.{IsIn, any-in}
+use Rattle.stream_law.proofs.Members.{IsIn, any-in}
 use Rattle.fw_core.proofs.Passing.{play-way}
 use Rattle.fw_core.proofs.Seeking.{any-alike, any-or}
-use Rattle.fw_core.proofs.Walking.{Walks, path-of, through, walks-lead}
+use Rattle.stream_law.proofs.Walking.{Walks, path-of, through, walks-lead}
 
 all-none : {X : Type 0} (p : X → Bool) (xs : List X) → ((x : X) → IsIn x xs → p x ≡ true → ⊥) → list_any p xs ≡ false
 all-none p xs none = by (list_any p xs) refl

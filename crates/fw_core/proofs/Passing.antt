@@ -14,9 +14,9 @@ use Rattle.fw_core.specs.declared.marks.Mark.{Mark}
 use Rattle.fw_core.specs.Marked.{bare, marked, or_this, captures, is_passed, IsAhead}
 use Rattle.fw_core.proofs.Agreeing.{not-true}
 use Rattle.fw_core.proofs.Marking.{first-of, any-found}
-use Rattle.fw_core.proofs.Members.{in-all, in-any, find-in}
+use Rattle.stream_law.proofs.Members.{in-all, in-any, find-in}
 use Rattle.fw_core.proofs.OneWay.{passing}
-use Rattle.fw_core.proofs.Walking.{path-of, walk-on, walks-lead}
+use Rattle.stream_law.proofs.Walking.{path-of, walk-on, walks-lead}
 
 -- walks one after another
 leads-on : (joins : List Join) (n m a b c : ℕ) → leads joins n a b ≡ true → leads joins m b c ≡ true → leads joins (length joins) a c ≡ true

@@ -14,8 +14,8 @@ use Rattle.stream_law.specs.declared.stream.StreamView.{StreamView}
 use Rattle.stream_law.specs.State.{FwState}
 use Rattle.stream_law.specs.Joins.{crosses, has_grown, would_cycle, would_reach, would_grow, with_join}
 use Rattle.mbox_link.specs.Step.{invalid, busy, no_device, no_memory, has_comp, is_used, has_index, is_complete, has_hole, comp_bytes, with_comp, comp_new, buffer_bytes, with_buffer, buffer_new, pipe_bytes, with_pipes, with_pipe, pipe_new, is_joined, takes_join, connect, completed, complete_pipe, pipe_complete, has_complete_pipe, touches, without_comp, comp_free, is_index_held, without_pipe, free_pipe, pipe_free, new_setting, with_comps, with_setting, value_set, set_value}
-use Rattle.fw_core.proofs.Growing.{any-same}
-use Rattle.fw_core.proofs.Joined.{buffers-joined}
+use Rattle.row_laws.proofs.Growing.{any-same}
+use Rattle.row_laws.proofs.Joined.{buffers-joined}
 
 -- rows whose tests pass
 pub comp_new-row : (f : FwState) (id pipe : ℕ) (kind : Kind) (setting : Setting) → is_used f.graph id ≡ false → is_complete f.graph pipe ≡ false → nat_le 128 (length f.graph.comps) ≡ false → has_hole f (comp_bytes kind) ≡ true → comp_new f id pipe kind setting ≡ Ok (with_comp id pipe kind setting f)

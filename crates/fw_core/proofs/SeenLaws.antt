@@ -16,11 +16,15 @@ use Rattle.stream_law.specs.Seen.{flows, ring_seen}
 use Rattle.stream_law.specs.Order.{is_among}
 use Rattle.fw_ring_lists.specs.RingLists.{Ring, RingLists, begun}
 use Rattle.fw_core.specs.Settled.{is_filled, settled, all_settled}
-use Rattle.fw_core.specs.Kept.{IsKept, IsPlayable, KeepsLive, LiesIn, AreRings, state_of, shown}
+use Rattle.row_laws.specs.Kept.{IsKept}
+use Rattle.row_laws.specs.Played.{IsPlayable, KeepsLive}
+use Rattle.fw_core.specs.Kept.{IsUnset, LiesIn, AreRings, state_of, shown}
 use Rattle.fw_core.specs.Answers.{with_streams}
-use Rattle.fw_core.proofs.Settling.{all-shown, settled-buffer, settled-words, seen-again}
-use Rattle.fw_core.proofs.Histories.{seen-bare}
-use Rattle.fw_core.proofs.Stays.{heard, channels-most, channels-stay}
+use Rattle.fw_core.proofs.RingLaws.{keys-shown}
+use Rattle.fw_core.proofs.Settling.{all-shown, settled-buffer, settled-words}
+use Rattle.row_laws.proofs.StreamsKept.{kept-streams}
+use Rattle.fw_core.proofs.Bare.{seen-bare}
+use Rattle.row_laws.proofs.Stays.{heard, channels-most, channels-stay}
 
 -- ---- rings of a list of buffers
 
@@ -34,14 +38,6 @@ all-among ids (r ∷ rs) = (
   among-end ids r.buffer (map (λ (r : Ring). r.buffer) rs),
   subst (λ (all : List ℕ). AllByRecursion (λ (x : Ring). is_among all x.buffer ≡ true) rs) (append_assoc ids (r.buffer ∷ []) (map (λ (r : Ring). r.buffer) rs)) (all-among (ids ++ r.buffer ∷ []) rs),
 )
-
-pub keys-shown : (rs : List Ring) → map (λ (r : RingView). r.buffer) (map shown rs) ≡ map (λ (r : Ring). r.buffer) rs
-keys-shown [] = refl
-keys-shown (r ∷ rs) = ap (λ (ns : List ℕ). r.buffer ∷ ns) (keys-shown rs)
-
-keys-settled : (v : View) (rs : List Ring) → map (λ (r : Ring). r.buffer) (map (settled v) rs) ≡ map (λ (r : Ring). r.buffer) rs
-keys-settled v [] = refl
-keys-settled v (r ∷ rs) = ap (λ (p : ℕ × List ℕ). p.0 ∷ p.1) (λ i. (settled-buffer v r i, keys-settled v rs i))
 
 words-settled : (v : View) (rs : List Ring) → map (λ (r : Ring). r.words) (map (settled v) rs) ≡ map (λ (r : Ring). r.words) rs
 words-settled v [] = refl
@@ -90,7 +86,7 @@ module _ (g : Graph) (streams : List StreamView) (to : StreamView → StreamView
   all-channels [] had same there = tt
   all-channels (r ∷ rs) had same there = (ring-channels r had.0 (cc same) there.0, all-channels rs had.1 (cc same) there.1)
 
-module _ (heap : HeapView) (clock : ℕ) (comps : List Comp) (edges : List Edge) (pipes : List Pipe) (joins : List Join) (streams : List StreamView) (rings : RingLists) (room : ℕ) (kept : IsKept (state_of heap clock comps edges pipes joins streams (map shown rings.rings))) (held : AreRings rings room (state_of heap clock comps edges pipes joins streams (map shown rings.rings))) where
+module _ (heap : HeapView) (clock : ℕ) (comps : List Comp) (edges : List Edge) (pipes : List Pipe) (joins : List Join) (streams : List StreamView) (rings : RingLists) (room : ℕ) (kept : IsKept (state_of heap clock comps edges pipes joins streams (map shown rings.rings))) (held : AreRings rings room (state_of heap clock comps edges pipes joins streams (map shown rings.rings))) (unset : IsUnset (state_of heap clock comps edges pipes joins streams (map shown rings.rings))) where
   abbrev graph : Graph
   graph = record { comps = comps; edges = edges; pipes = pipes; joins = joins }
 
@@ -101,38 +97,22 @@ module _ (heap : HeapView) (clock : ℕ) (comps : List Comp) (edges : List Edge)
     abbrev view : View
     view = record { graph = graph; streams = map to streams }
 
+    pub seen-is : state_of heap clock comps edges pipes joins (map to streams) (map shown (map (settled view) rings.rings)) ≡ with_streams to (state_of heap clock comps edges pipes joins streams (map shown rings.rings))
+    seen-is =
+        ap (λ (rs : List RingView). state_of heap clock comps edges pipes joins (map to streams) rs) (all-shown view rings.rings)
+        ∙ ap (λ (hs : List History). record (with_streams to (state_of heap clock comps edges pipes joins streams (map shown rings.rings))) { histories = hs }) (sym (seen-bare (state_of heap clock comps edges pipes joins streams (map shown rings.rings)) view None (record { graph = graph; streams = streams }) refl unset))
+
     pub kept-seen : IsKept (state_of heap clock comps edges pipes joins (map to streams) (map shown (map (settled view) rings.rings)))
-    kept-seen = record {
-      comps = kept.comps;
-      edges = kept.edges;
-      pipes = kept.pipes;
-      joins = kept.joins;
-      streams = omega (arith, kept.streams, length-map streams to);
-      pieces = kept.pieces;
-      wired = kept.wired;
-      linked = kept.linked;
-      played = played;
-      rings = keys-shown (map (settled view) rings.rings) ∙ keys-settled view rings.rings ∙ ring-keys;
-      seen = ap (map (ring_seen view)) (all-shown view rings.rings) ∙ seen-again view (map shown rings.rings) ∙ sym (all-shown view rings.rings);
-      unset = kept.unset;
-      histories = refl;
-    }
+    kept-seen = subst IsKept (sym seen-is) (kept-streams (state_of heap clock comps edges pipes joins streams (map shown rings.rings)) kept to keeps played)
 
     pub held-seen : AreRings (all_settled view rings) room (state_of heap clock comps edges pipes joins (map to streams) (map shown (map (settled view) rings.rings)))
     held-seen = record {
       words = words-settled view rings.rings ∙ held.words;
       channels = all-channels graph streams to keeps kept.played played rings.rings held.channels kept.seen (subst (λ (ids : List ℕ). AllByRecursion (λ (r : Ring). is_among (components graph ++ ids) r.buffer ≡ true) rings.rings) ring-keys (all-among (components graph) rings.rings));
       lie = lie-settled heap view rings.rings held.lie;
-      usable = held.usable;
-      tiled = held.tiled;
       within = held.within;
       most = held.most;
     }
-
-    pub seen-is : state_of heap clock comps edges pipes joins (map to streams) (map shown (map (settled view) rings.rings)) ≡ with_streams to (state_of heap clock comps edges pipes joins streams (map shown rings.rings))
-    seen-is =
-        ap (λ (rs : List RingView). state_of heap clock comps edges pipes joins (map to streams) rs) (all-shown view rings.rings)
-        ∙ ap (λ (hs : List History). record (with_streams to (state_of heap clock comps edges pipes joins streams (map shown rings.rings))) { histories = hs }) (sym (seen-bare (state_of heap clock comps edges pipes joins streams (map shown rings.rings)) view None (record { graph = graph; streams = streams }) refl kept.unset))
 
     -- the same where the view is told by its parts
     module _ (cs : List Comp) (es : List Edge) (ps : List Pipe) (js : List Join) (ss streams' : List StreamView) (c-is : cs ≡ comps) (e-is : es ≡ edges) (p-is : ps ≡ pipes) (j-is : js ≡ joins) (s-is : ss ≡ streams') (new-is : streams' ≡ map to streams) where

@@ -68,15 +68,6 @@ settled-words v r = by (flows v r.buffer && is_filled r.frames)
     by true = refl
     by false = refl
 
--- seen twice is seen once
-pub seen-again : (v : View) (rs : List RingView) → map (ring_seen v) (map (ring_seen v) rs) ≡ map (ring_seen v) rs
-seen-again v [] = refl
-seen-again v (r ∷ rs) = ap (λ (p : List Frame × List RingView). record { buffer = r.buffer; frames = p.0 } ∷ p.1) (λ i. (by (flows v r.buffer) i, seen-again v rs i))
-  where
-    by : (h : Bool) → cond h (cond h r.frames []) [] ≡ cond h r.frames []
-    by true = refl
-    by false = refl
-
 -- lists of the same keys have the same key at a place, and are as long
 pub same-key : {X Y : Type 0} (f : X → ℕ) (g : Y → ℕ) (xs : List X) (ys : List Y) (i : ℕ) (d : X) (e : Y) → map f xs ≡ map g ys → i < length ys → f (get_or xs i d) ≡ g (get_or ys i e)
 same-key f g xs [] i d e same lt = absurd (omega (arith, lt))

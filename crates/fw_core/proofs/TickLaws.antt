@@ -28,87 +28,17 @@ use Rattle.fw_schedule.specs.declared.turn.Action.TheVariants.{Feed, Drain, Fill
 use Rattle.fw_schedule.specs.Turns.{turns_of, after_action, after_turn, after_turn_at, after_turns}
 use Rattle.fw_schedule.specs.Ticks.{seen_at, AreTurnsAt}
 use Rattle.fw_schedule.specs.TurnLaws.{CanTurn, TicksAreTurns, TurnsStand, turned}
-use Rattle.fw_core.specs.Kept.{IsKept, AreRings, LiesIn, state_of, shown}
-use Rattle.fw_core.proofs.Histories.{bare-numbers, bare-distinct}
+use Rattle.row_laws.specs.Kept.{IsKept}
+use Rattle.fw_core.specs.Kept.{AreRings, IsUnset, LiesIn, state_of, shown}
+use Rattle.row_laws.proofs.TickKept.{tick-kept}
+use Rattle.fw_core.proofs.Bare.{bare-numbers, bare-distinct}
 use Rattle.fw_core.proofs.KeptLaws.{ring-keys}
-use Rattle.fw_core.proofs.SeenLaws.{keys-shown}
-use Rattle.fw_core.proofs.Laid.{place-of, all-filter, IsFlowing, TakesFlowing, TurnsFlowing, all-flowing, bounds, fit, laid-out}
+use Rattle.fw_core.proofs.Laid.{bounds, fit, laid-out}
 
 -- a fresh state has no turns
 pub no-turns : (heap : ℕ) → turns_of (view_of (fresh heap)) ≡ []
 unfolding order
 no-turns heap = refl
-
--- ---- lists with another record at a place
-
-all-set : {X : Type 0} (P : X → Type 0) (xs : List X) (i : ℕ) (y : X) → AllByRecursion P xs → P y → AllByRecursion P (set xs i y)
-all-set P [] i y all one = tt
-all-set P (x ∷ xs) zero y all one = (one, all.1)
-all-set P (x ∷ xs) (suc i) y all one = (all.0, all-set P xs i y all.1 one)
-
-set-key : {X : Type 0} (key : X → ℕ) (xs : List X) (i : ℕ) (d y : X) → key y ≡ key (get_or xs i d) → map key (set xs i y) ≡ map key xs
-set-key key [] i d y same = refl
-set-key key (x ∷ xs) zero d y same = ap (λ (n : ℕ). n ∷ map key xs) same
-set-key key (x ∷ xs) (suc i) d y same = ap (λ (ns : List ℕ). key x ∷ ns) (set-key key xs i d y same)
-
-every-one : {X : Type 0} (xs : List X) → AllByRecursion (λ x. Unit {0}) xs
-every-one [] = tt
-every-one (x ∷ xs) = (tt, every-one xs)
-
--- ---- rings in which no frame may lie stay empty
-
-module _ (v : View) where
-  abbrev Stays : RingView → Type 0
-  Stays r = ring_seen v r ≡ r
-
-  abbrev Kept : List RingView → Type 0
-  Kept rs = AllByRecursion Stays rs × (map (λ (r : RingView). r.buffer) rs ≡ map (λ (e : Edge). e.buffer) v.graph.edges)
-
-  -- frames at a place where frames flow
-  frames-stay : (place : ℕ) → IsFlowing v place → (frames : List Frame) (rs : List RingView) → Kept rs → Kept (with_frames place frames rs)
-  frames-stay place flow frames rs (all, keys) =
-      let e : Edge = flow.0 in
-      let found = place-of (λ (r : RingView). r.buffer) (λ r. Unit {0}) rs v.graph.edges no_ring e keys (every-one rs) flow.1 in
-      let here : (get_or rs place no_ring).buffer ≡ e.buffer = ap (λ n. (get_or rs n no_ring).buffer) flow.2 ∙ found.1 in
-      let flows_there : flows v (get_or rs place no_ring).buffer ≡ true = ap (flows v) here ∙ flow.3 in (
-        all-set Stays rs place (record { buffer = (get_or rs place no_ring).buffer; frames = frames }) all (ap (λ h. record { buffer = (get_or rs place no_ring).buffer; frames = cond h frames [] }) flows_there),
-        set-key (λ (r : RingView). r.buffer) rs place no_ring (record { buffer = (get_or rs place no_ring).buffer; frames = frames }) refl ∙ keys,
-      )
-
-  -- and at the places that a kernel takes from
-  drained-stay : (n : ℕ) (inlets : List ℕ) → AllByRecursion (IsFlowing v) inlets → (rs : List RingView) → Kept rs → Kept (drained n inlets rs)
-  drained-stay n [] flow rs kept = kept
-  drained-stay n (inlet ∷ inlets) flow rs kept = drained-stay n inlets flow.1 (with_frames inlet (drop n (frames_at inlet rs)) rs) (frames-stay inlet flow.0 (drop n (frames_at inlet rs)) rs kept)
-
-  kernel-stay : (kernel : Kernel) → AllByRecursion (IsFlowing v) kernel.inlets → (place : ℕ) → IsFlowing v place → (n channels : ℕ) (rs : List RingView) → Kept rs → Kept (moved kernel n channels place rs)
-  kernel-stay kernel takes place flow n channels rs kept =
-      frames-stay place flow _ (drained n (looked kernel rs) rs) (drained-stay n (looked kernel rs) (all-filter (IsFlowing v) (IsFlowing v) (λ inlet. nat_le 1 (length (frames_at inlet rs))) kernel.inlets takes (λ inlet f is. f)) rs kept)
-
-  turn-stay : (t : Turn) → TurnsFlowing v t → (p : List RingView × Io) → Kept p.0 → Kept (after_turn t p).0
-  unfolding after_turn
-  turn-stay t flow p kept = by t.action flow.1
-    where
-      by : (a : Action) → TakesFlowing v a → Kept (after_action a t p).0
-      by Feed takes = frames-stay t.place flow.0 _ p.0 kept
-      by Drain takes = frames-stay t.place flow.0 _ p.0 kept
-      by Fill takes = frames-stay t.place flow.0 _ p.0 kept
-      by (Make kernel) takes = kernel-stay kernel takes t.place flow.0 (frames_moved kernel t.quota t.capacity t.place p.0) t.channels p.0 kept
-
-  turns-stay : (clock : ℕ) (ts : List Turn) → AllByRecursion (TurnsFlowing v) ts → (p : List RingView × Io) → Kept p.0 → Kept (after_turns clock ts p).0
-  turns-stay clock [] flow p kept = kept
-  turns-stay clock (t ∷ ts) flow p kept = turns-stay clock ts flow.1 (after_turn_at clock t p) (by (clock % t.period == 0))
-    where
-      by : (h : Bool) → Kept (cond h (after_turn t p) p).0
-      by true = turn-stay t flow.0 p kept
-      by false = kept
-
-stay-all : (v : View) (rs : List RingView) → AllByRecursion (λ r. ring_seen v r ≡ r) rs → map (ring_seen v) rs ≡ rs
-stay-all v [] all = refl
-stay-all v (r ∷ rs) all = ap (λ (p : RingView × List RingView). p.0 ∷ p.1) (λ i. (all.0 i, stay-all v rs all.1 i))
-
-stay-each : (v : View) (rs : List RingView) → map (ring_seen v) rs ≡ rs → AllByRecursion (λ r. ring_seen v r ≡ r) rs
-stay-each v [] same = tt
-stay-each v (r ∷ rs) same = (cc same, stay-each v rs (cc same))
 
 -- ---- what rings keep
 
@@ -135,7 +65,7 @@ lie-filled heap (r ∷ rs) lie = (record { piece = lie.0.piece; there = lie.0.th
 
 -- ---- a whole tick
 
-module _ (heap : HeapView) (clock : ℕ) (comps : List Comp) (edges : List Edge) (pipes : List Pipe) (joins : List Join) (streams : List StreamView) (rings : RingLists) (room : ℕ) (kept : IsKept (state_of heap clock comps edges pipes joins streams (map shown rings.rings))) (held : AreRings rings room (state_of heap clock comps edges pipes joins streams (map shown rings.rings))) where
+module _ (heap : HeapView) (clock : ℕ) (comps : List Comp) (edges : List Edge) (pipes : List Pipe) (joins : List Join) (streams : List StreamView) (rings : RingLists) (room : ℕ) (kept : IsKept (state_of heap clock comps edges pipes joins streams (map shown rings.rings))) (held : AreRings rings room (state_of heap clock comps edges pipes joins streams (map shown rings.rings))) (unset : IsUnset (state_of heap clock comps edges pipes joins streams (map shown rings.rings))) where
   abbrev state : FwState
   state = state_of heap clock comps edges pipes joins streams (map shown rings.rings)
 
@@ -143,7 +73,7 @@ module _ (heap : HeapView) (clock : ℕ) (comps : List Comp) (edges : List Edge)
   view = record { graph = record { comps = comps; edges = edges; pipes = pipes; joins = joins }; streams = streams }
 
   keys : map (λ (r : Ring). r.buffer) rings.rings ≡ map (λ (e : Edge). e.buffer) edges
-  keys = ring-keys heap clock comps edges pipes joins streams rings room kept held
+  keys = ring-keys heap clock comps edges pipes joins streams rings room kept held unset
 
   -- the turns can be run
   pub turns-run : TurnsStand → (turns : List Turn) → turns ≡ turns_of view → AreTurnsAt rings turns
@@ -156,7 +86,7 @@ module _ (heap : HeapView) (clock : ℕ) (comps : List Comp) (edges : List Edge)
     can-turn = record {
       fits = fit view kept.wired kept.linked kept.played;
       rings = kept.rings;
-      unset = kept.unset;
+      unset = unset;
       numbers = bare-numbers view;
       single = record {
         rings = subst (λ (ns : List ℕ). IsDistinct (λ m n. m == n) ns) (sym kept.rings) kept.wired.buffers;
@@ -189,35 +119,14 @@ module _ (heap : HeapView) (clock : ℕ) (comps : List Comp) (edges : List Edge)
       same-words : map (λ (r : Ring). r.words) rings'.rings ≡ map (λ (r : Ring). r.words) rings.rings
       same-words = sym (kept-by (λ (r : Ring). r.words) (λ r. refl) rings'.rings) ∙ ap (map (λ (r : Ring). r.words)) same-rings ∙ kept-by (λ (r : Ring). r.words) (λ r. refl) rings.rings
 
-      stays : map (ring_seen view) (map shown rings'.rings) ≡ map shown rings'.rings
-      stays =
-          let all = (turns-stay view (next_clock clock) (turns_of view) (all-flowing view kept.wired kept.linked kept.played) (seen_at rings io.inputs io.outputs) (stay-each view (map shown rings.rings) kept.seen, kept.rings)).0 in
-          subst (λ (rs : List RingView). map (ring_seen view) rs ≡ rs) (sym (ap (λ (p : List RingView × Io). p.0) as-turned)) (stay-all view _ all)
-
       pub kept-ticked : IsKept (state_of heap clock' comps edges pipes joins streams (map shown rings'.rings))
-      kept-ticked = record {
-        comps = kept.comps;
-        edges = kept.edges;
-        pipes = kept.pipes;
-        joins = kept.joins;
-        streams = kept.streams;
-        pieces = kept.pieces;
-        wired = kept.wired;
-        linked = kept.linked;
-        played = kept.played;
-        rings = keys-shown rings'.rings ∙ same-keys ∙ keys;
-        seen = stays;
-        unset = kept.unset;
-        histories = refl;
-      }
+      kept-ticked = subst IsKept (sym state-ticked) (tick-kept state io kept)
 
       pub held-ticked : AreRings rings' room (state_of heap clock' comps edges pipes joins streams (map shown rings'.rings))
       held-ticked = record {
         words = same-words ∙ held.words;
         channels = all-filled (λ b n. flows view b ≡ true → n ≡ channels_of view b) rings'.rings (subst (AllByRecursion (λ (r : Ring). flows view r.buffer ≡ true → r.channels ≡ channels_of view r.buffer)) (sym same-rings) (all-emptied (λ b n. flows view b ≡ true → n ≡ channels_of view b) rings.rings held.channels));
         lie = lie-filled heap rings'.rings (subst (AllByRecursion (LiesIn heap)) (sym same-rings) (lie-emptied heap rings.rings held.lie));
-        usable = held.usable;
-        tiled = held.tiled;
         within = held.within;
         most = ap (λ (s : RingLists). s.most) empty ∙ held.most;
       }

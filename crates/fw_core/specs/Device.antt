@@ -5,7 +5,7 @@ use Rattle.stream_law.specs.State.{FwState}
 use Rattle.mbox_link.specs.Step.{step, fresh}
 use Rattle.mbox_link.specs.Exchange.{ticked, more}
 use Rattle.mbox_link.specs.Calls.{World, Meaning}
-use Rattle.fw_core.specs.Pieces.{carved_bytes}
+use Rattle.row_laws.specs.Tiled.{carved_bytes}
 
 -- a firmware: off, or on with a state; how often it was booted; and the greatest heap in bytes
 pub record Chip : Type 0 where

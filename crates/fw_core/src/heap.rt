@@ -3,7 +3,7 @@ ghost use Rattle.std.specs.Prelude.{◌≡◌, ◌<◌, ◌≤◌, ◌^◌, ◌=
 ghost use Rattle.std.specs.List.{list_any};
 ghost use Rattle.sof_base.specs.Holes.{rounded, fits, first_fit};
 ghost use Rattle.mbox_link.specs.Step.{with_piece, without_piece};
-ghost use Rattle.fw_core.specs.Pieces.{fresh_heap, carved_bytes, bytes_of};
+ghost use Rattle.row_laws.specs.Tiled.{fresh_heap, carved_bytes, bytes_of};
 
 mod holes;
 
@@ -47,7 +47,8 @@ pub struct Heap {
 
 impl Model for Heap {
     ghost use Rattle.std.specs.Prelude.{◌+◌, ◌*◌, ◌<◌, ◌≤◌, ◌^◌, vec_capacity};
-    ghost use Rattle.fw_core.specs.Pieces.{HeapHeld, IsTiled};
+    ghost use Rattle.fw_core.specs.Pieces.{HeapHeld};
+    ghost use Rattle.row_laws.specs.Tiled.{IsTiled};
 
     ghost Value = { HeapHeld };
 

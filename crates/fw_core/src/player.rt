@@ -4,7 +4,7 @@ ghost use Rattle.sof_base.specs.Ports.{HasRoom};
 ghost use Rattle.ipc3_codec.specs.Messages.{decoded};
 ghost use Rattle.mbox_link.specs.Step.{fresh, row_of, body_of};
 ghost use Rattle.mbox_link.specs.Exchange.{ticked};
-ghost use Rattle.fw_core.specs.Pieces.{carved_bytes};
+ghost use Rattle.row_laws.specs.Tiled.{carved_bytes};
 ghost use Rattle.fw_core.specs.Answers.{answer_of};
 ghost use Rattle.fw_core.specs.Device.{io_of};
 

@@ -3,7 +3,7 @@ ghost use Rattle.std.specs.Prelude.{◌≡◌, ◌<◌, ◌≤◌, ◌+◌, ◌+
 ghost use Rattle.stream_law.specs.Ways.{components};
 ghost use Rattle.fw_schedule.specs.Turns.{turn_of, turns_of};
 ghost use Rattle.fw_schedule.specs.TurnLaws.{HasBounds, IsFit};
-ghost use Rattle.fw_core.specs.Kept.{IsLinked, IsWired};
+ghost use Rattle.row_laws.specs.Wired.{IsLinked, IsWired};
 
 use crate::order::order;
 use crate::scene::Scene;

@@ -2,8 +2,8 @@
 ghost use Rattle.std.specs.Prelude.{◌≡◌, ◌≤◌, ◌/◌, IfOk};
 ghost use Rattle.stream_law.specs.State.{view_of};
 ghost use Rattle.mbox_link.specs.Step.{fresh};
-ghost use Rattle.fw_core.specs.Kept.{IsKept};
-ghost use Rattle.fw_core.specs.Pieces.{carved_bytes};
+ghost use Rattle.row_laws.specs.Kept.{IsKept};
+ghost use Rattle.row_laws.specs.Tiled.{carved_bytes};
 
 mod controls;
 mod freeing;
@@ -41,13 +41,14 @@ pub struct State {
 
 impl Model for State {
     ghost use Rattle.std.specs.Prelude.{◌≡◌, ◌≤◌, map, vec_capacity};
-    ghost use Rattle.fw_core.specs.Kept.{Held, state_of, shown, IsKept, AreRings};
+    ghost use Rattle.fw_core.specs.Kept.{Held, state_of, shown, AreRings, IsUnset};
+    ghost use Rattle.row_laws.specs.Kept.{IsKept};
 
     ghost Value = { Held };
 
     ghost view = { λ s. record { state = state_of s.heap.view s.clock s.comps s.edges s.pipes s.joins.items s.streams (map shown s.rings.rings); room = s.room } };
 
-    ghost invariant = { λ s. IsKept (state_of s.heap.view s.clock s.comps s.edges s.pipes s.joins.items s.streams (map shown s.rings.rings)) × AreRings s.rings s.room (state_of s.heap.view s.clock s.comps s.edges s.pipes s.joins.items s.streams (map shown s.rings.rings)) × (256 ≤ vec_capacity s.joins) × (s.heap.room ≡ s.room) };
+    ghost invariant = { λ s. IsKept (state_of s.heap.view s.clock s.comps s.edges s.pipes s.joins.items s.streams (map shown s.rings.rings)) × AreRings s.rings s.room (state_of s.heap.view s.clock s.comps s.edges s.pipes s.joins.items s.streams (map shown s.rings.rings)) × (256 ≤ vec_capacity s.joins) × (s.heap.room ≡ s.room) × IsUnset (state_of s.heap.view s.clock s.comps s.edges s.pipes s.joins.items s.streams (map shown s.rings.rings)) };
 }
 
 impl State {

@@ -3,7 +3,7 @@ ghost use Rattle.std.specs.Prelude.{◌≡◌, ◌==◌, find, length};
 ghost use Rattle.stream_law.specs.Ways.{source_of as named_source, sink_of as named_sink, ins, outs};
 ghost use Rattle.stream_law.specs.Joins.{would_cycle as is_cycle};
 ghost use Rattle.mbox_link.specs.Step.{is_used as names, is_complete as is_whole, has_index as has_pipe_index, kind_at, phase_at, has_kind, is_host as is_of_host, goes as has_direction, is_joined as has_join, takes_join as takes_one_more, leads_in as goes_in, leads_out as goes_out, has_free_out as takes_out, has_free_in as takes_in};
-ghost use Rattle.fw_core.specs.Kept.{IsKept};
+ghost use Rattle.row_laws.specs.Kept.{IsKept};
 
 use super::State;
 use crate::{joins, kinds};

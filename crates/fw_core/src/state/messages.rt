@@ -3,9 +3,10 @@ ghost use Rattle.std.specs.Prelude.{◌≡◌, ◌+◌, ◌<◌, ◌≤◌, ◌|
 ghost use Rattle.stream_law.specs.Joins.{joined, would_cycle, would_reach, would_grow, with_join};
 ghost use Rattle.stream_law.specs.Made.{blob};
 ghost use Rattle.mbox_link.specs.Step.{invalid, with_stream, comp_new as comp_new_row, buffer_new as buffer_new_row, pipe_new as pipe_new_row, connect as connect_row, pipe_complete as pipe_complete_row, data_part as data_row, is_joined, takes_join, row, row_of, body, body_of};
-ghost use Rattle.ipc3_codec.specs.Allowed.{is_period};
+ghost use Rattle.ipc3_codec.specs.Allowed.{is_buffer_size, is_period};
 ghost use Rattle.ipc3_codec.specs.Messages.{decoded, IsAllowed};
-ghost use Rattle.fw_core.specs.Kept.{sides};
+ghost use Rattle.row_laws.specs.Wired.{sides};
+ghost use Rattle.row_laws.specs.Kept.{IsSettingOf};
 ghost use Rattle.fw_core.specs.Answers.{answer_of};
 
 use super::State;
@@ -118,7 +119,8 @@ impl State {
 
     /// A component of this kind, in the pipeline of this index, with no blob in force. A host brings a stream without parameters.
     fn comp_new(&mut self, id: u32, pipe: u32, kind: Kind, setting: Setting) -> Result<(), Errno>
-        requires { blob setting ≡ [] }
+        requires plain { blob setting ≡ [] }
+        requires fits { IsSettingOf kind setting }
         ensures answer { answer_of self.new.state result ≡ comp_new_row self.old.state id pipe kind setting }
         ensures kept { OnErr result (self.new ≡ self.old) }
         ensures room { self.new.room ≡ self.old.room }
@@ -144,6 +146,7 @@ impl State {
     /// A buffer of so many bytes, in the pipeline of this index, joined to nothing. Its ring lies behind the first 32 bytes of its
     /// piece.
     fn buffer_new(&mut self, id: u32, pipe: u32, size: u32) -> Result<(), Errno>
+        requires { is_buffer_size size ≡ true }
         ensures answer { answer_of self.new.state result ≡ buffer_new_row self.old.state id pipe size }
         ensures kept { OnErr result (self.new ≡ self.old) }
         ensures room { self.new.room ≡ self.old.room }

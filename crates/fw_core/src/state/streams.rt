@@ -3,7 +3,8 @@ ghost use Rattle.std.specs.Prelude.{◌≡◌, ◌≤◌, ◌||◌, OnErr, not, 
 ghost use Rattle.stream_law.specs.declared.stream.Phase.TheVariants as phases;
 ghost use Rattle.stream_law.specs.Ways.{agree};
 ghost use Rattle.mbox_link.specs.Step.{pcm_params as pcm_params_row, pcm_free as pcm_free_row, trigger as trigger_row, is_prepared, is_running, is_paused, is_moving, has_kind, goes, kind_at, has_phase, phase_at, is_rate, is_way_ready, with_params, set_stream as with_stream, set_phase as with_phase};
-ghost use Rattle.fw_core.specs.Kept.{IsKept, IsPlayable, KeepsLive, is_idle};
+ghost use Rattle.row_laws.specs.Kept.{IsKept};
+ghost use Rattle.row_laws.specs.Played.{IsPlayable, KeepsLive, is_idle};
 ghost use Rattle.fw_core.specs.Answers.{answer_of, changed_if, with_streams};
 
 use super::State;

@@ -1,5 +1,5 @@
 use Rattle.std.proofs.Common.{◌∙◌, sym}
-use Rattle.fw_core.proofs.Settings.{set-at, set-nowhere}
+use Rattle.row_laws.proofs.Settings.{set-at, set-nowhere}
 use Rattle.fw_core.proofs.changes.set_setting.Goals as goal
 
 pub returns-in-Some : goal.returns-in-Some

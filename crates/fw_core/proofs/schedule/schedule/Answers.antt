@@ -7,7 +7,7 @@ use Rattle.stream_law.specs.Ways.{components}
 use Rattle.stream_law.specs.Order.{order, bare}
 use Rattle.stream_law.specs.Walks.{HasCycle, HasEnds}
 use Rattle.fw_schedule.specs.Turns.{turn_of}
-use Rattle.fw_core.proofs.Acyclic as acyclic
+use Rattle.row_laws.proofs.Acyclic as acyclic
 use Rattle.fw_core.proofs.Heads.{turns-more, turns-all, order-by}
 use Rattle.fw_core.proofs.Silent.{silent-turns}
 use Rattle.fw_core.proofs.schedule.schedule.Goals as goal

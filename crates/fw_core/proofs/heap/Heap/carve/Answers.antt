@@ -4,9 +4,10 @@ use Rattle.sof_base.specs.Holes.{rounded, fits, first_fit, carved}
 use Rattle.stream_law.specs.State.{PieceView, HeapView}
 use Rattle.stream_law.specs.Placed.{placed}
 use Rattle.mbox_link.specs.Step.{with_piece}
-use Rattle.fw_core.specs.Pieces.{HeapHeld, IsTiled}
-use Rattle.fw_core.proofs.HoleLists.{spaced-below, fits-most}
-use Rattle.fw_core.proofs.Tiling.{carve-tiled}
+use Rattle.fw_core.specs.Pieces.{HeapHeld}
+use Rattle.row_laws.specs.Tiled.{IsTiled}
+use Rattle.row_laws.proofs.HoleLists.{spaced-below, fits-most}
+use Rattle.row_laws.proofs.Tiling.{carve-tiled}
 use Rattle.fw_core.proofs.heap.Heap.carve.Goals as goal
 
 pub overflow_cast-size : goal.overflow_cast-size

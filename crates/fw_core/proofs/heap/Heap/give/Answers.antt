@@ -4,9 +4,10 @@ use Rattle.sof_base.specs.declared.hole.Hole.{Hole}
 use Rattle.sof_base.specs.Holes.{given}
 use Rattle.stream_law.specs.State.{HeapView}
 use Rattle.mbox_link.specs.Step.{without_piece, freed}
-use Rattle.fw_core.specs.Pieces.{HeapHeld, IsPiece, IsTiled, bytes_of}
-use Rattle.fw_core.proofs.HoleLists.{spaced-below, spaced-count}
-use Rattle.fw_core.proofs.Tiling.{found, none-found, found-as, give-spaced, give-tiled, filter-none}
+use Rattle.fw_core.specs.Pieces.{HeapHeld}
+use Rattle.row_laws.specs.Tiled.{IsPiece, IsTiled, bytes_of}
+use Rattle.row_laws.proofs.HoleLists.{spaced-below, spaced-count}
+use Rattle.row_laws.proofs.Tiling.{found, none-found, found-as, give-spaced, give-tiled, filter-none}
 use Rattle.fw_core.proofs.heap.Heap.give.Goals as goal
 
 pub give-requires-clause-ends : goal.give-requires-clause-ends

@@ -1,6 +1,6 @@
 use Rattle.std.proofs.Common.{sym, subst, arith}
-use Rattle.fw_core.specs.Pieces.{IsTiled}
-use Rattle.fw_core.proofs.Tiling.{fresh-tiled}
+use Rattle.row_laws.specs.Tiled.{IsTiled}
+use Rattle.row_laws.proofs.Tiling.{fresh-tiled}
 use Rattle.fw_core.proofs.heap.Heap.new.Goals as goal
 
 pub invariant_of-result : goal.invariant_of-result

@@ -1,7 +1,8 @@
 use Rattle.std.proofs.Common.{sym, ap, subst, arith}
 use Rattle.sof_base.specs.Holes.{usable_of}
-use Rattle.fw_core.specs.Pieces.{HeapHeld, IsTiled}
-use Rattle.fw_core.proofs.Tiling.{fresh-tiled}
+use Rattle.fw_core.specs.Pieces.{HeapHeld}
+use Rattle.row_laws.specs.Tiled.{IsTiled}
+use Rattle.row_laws.proofs.Tiling.{fresh-tiled}
 use Rattle.fw_core.proofs.heap.Heap.reset.Goals as goal
 
 pub invariant_of-self : goal.invariant_of-self

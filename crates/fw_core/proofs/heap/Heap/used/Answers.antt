@@ -1,6 +1,7 @@
 use Rattle.std.proofs.Common.{ap, arith}
 use Rattle.sof_base.specs.Holes.{total}
-use Rattle.fw_core.specs.Pieces.{HeapHeld, carved_bytes}
+use Rattle.fw_core.specs.Pieces.{HeapHeld}
+use Rattle.row_laws.specs.Tiled.{carved_bytes}
 use Rattle.fw_core.proofs.heap.Heap.used.Goals as goal
 
 pub total-requires : goal.total-requires

@@ -3,7 +3,7 @@ use Rattle.stream_law.specs.declared.graph.Edge.{Edge}
 use Rattle.stream_law.specs.State.{View}
 use Rattle.stream_law.specs.Ways.{ins, outs}
 use Rattle.stream_law.specs.Joins.{fits_kind}
-use Rattle.fw_core.proofs.Found.{ends-agree}
+use Rattle.row_laws.proofs.Found.{ends-agree}
 use Rattle.fw_core.proofs.scene.Scene.is_ready_comp.Goals as goal
 
 pub returns-then-is_complete : goal.returns-then-is_complete

@@ -8,7 +8,8 @@ use Rattle.fw_ring_lists.specs.RingLists.{AreFree}
 use Rattle.fw_core.specs.Kept.{Held, state_of, shown}
 use Rattle.fw_core.specs.Pieces.{HeapHeld}
 use Rattle.fw_core.proofs.KeptLaws.{kept-buffer, held-buffer, buffer-is, free-words}
-use Rattle.fw_core.proofs.Pieced.{no-piece, first_word}
+use Rattle.row_laws.proofs.Pieced.{no-piece}
+use Rattle.fw_core.proofs.Lying.{first_word}
 use Rattle.fw_core.proofs.Rows.{buffer_new-row}
 use Rattle.fw_core.proofs.state.State.buffer_new.Goals as goal
 
@@ -29,7 +30,7 @@ place-requires-2-clause-free c =
     let bytes : 32 + c.from-bytes.result ≡ 32 + c.args.size = ap (λ n. 32 + n) c.from-bytes.ensures in
     let there : fits (rounded (32 + c.args.size)) s.heap.view.holes ≡ true = ap (λ n. fits (rounded n) s.heap.view.holes) (sym bytes) ∙ sym c.holds.ensures ∙ c.if-not-holds.false in
     let at : (c.carve-place.result + 32) / 4 ≡ first_word c.args.size s.heap.view = ap (λ n. (n + 32) / 4) (c.carve-place.ensures.place ∙ ap (λ n. first_fit (rounded n) s.heap.view.holes) bytes) in
-    subst (λ n. AreFree s.rings n (c.args.size / 4)) (sym at) (free-words s.heap.view s.clock s.comps s.edges s.pipes s.joins.items s.streams s.rings s.room c.self.invariant.0 c.self.invariant.1 c.args.id c.args.size there)
+    subst (λ n. AreFree s.rings n (c.args.size / 4)) (sym at) (free-words s.heap.view s.clock s.comps s.edges s.pipes s.joins.items s.streams s.rings s.room c.self.invariant.0 c.self.invariant.1 c.self.invariant.4 c.args.id c.args.size there)
 
 pub invariant_of-self : goal.invariant_of-self
 invariant_of-self c =
@@ -39,10 +40,11 @@ invariant_of-self c =
     let there : fits (rounded (32 + c.args.size)) s.heap.view.holes ≡ true = ap (λ n. fits (rounded n) s.heap.view.holes) (sym bytes) ∙ sym c.holds.ensures ∙ c.if-not-holds.false in
     let at : (c.carve-place.result + 32) / 4 ≡ first_word c.args.size s.heap.view = ap (λ n. (n + 32) / 4) (c.carve-place.ensures.place ∙ ap (λ n. first_fit (rounded n) s.heap.view.holes) bytes) in
     let carved : c.carve-place.new.self.view ≡ with_piece c.args.id (32 + c.args.size) s.heap.view = ap (λ (h : HeapHeld). h.view) c.carve-place.ensures.heap ∙ ap (λ n. with_piece c.args.id n s.heap.view) bytes in (
-      kept-buffer s.heap.view s.clock s.comps s.edges s.pipes s.joins.items s.streams s.rings s.room c.self.invariant.0 c.self.invariant.1 c.args.id c.args.pipe c.args.size ((c.carve-place.result + 32) / 4) c.carve-place.new.self.view c.place.new.self c.place-2.new.self (omega (arith, c.len.ensures)) unused carved at c.place.ensures c.place-2.ensures,
-      held-buffer s.heap.view s.clock s.comps s.edges s.pipes s.joins.items s.streams s.rings s.room c.self.invariant.0 c.self.invariant.1 c.args.id c.args.pipe c.args.size ((c.carve-place.result + 32) / 4) c.carve-place.new.self.view c.place.new.self c.place-2.new.self (omega (arith, c.len.ensures)) unused carved at c.place.ensures c.place-2.ensures there,
+      kept-buffer s.heap.view s.clock s.comps s.edges s.pipes s.joins.items s.streams s.rings s.room c.self.invariant.0 c.self.invariant.1 c.self.invariant.4 c.args.id c.args.pipe c.args.size ((c.carve-place.result + 32) / 4) c.carve-place.new.self.view c.place.new.self c.place-2.new.self (omega (arith, c.len.ensures)) unused carved at c.place.ensures c.place-2.ensures there c.requires,
+      held-buffer s.heap.view s.clock s.comps s.edges s.pipes s.joins.items s.streams s.rings s.room c.self.invariant.0 c.self.invariant.1 c.self.invariant.4 c.args.id c.args.pipe c.args.size ((c.carve-place.result + 32) / 4) c.carve-place.new.self.view c.place.new.self c.place-2.new.self (omega (arith, c.len.ensures)) unused carved at c.place.ensures c.place-2.ensures there c.requires,
       c.self.invariant.2,
       ap (λ (h : HeapHeld). h.room) c.carve-place.ensures.heap ∙ c.self.invariant.3,
+      c.self.invariant.4,
     )
 
 pub returns-clause-answer : goal.returns-clause-answer
@@ -57,6 +59,6 @@ returns-clause-answer c =
     let carved : c.carve-place.new.self.view ≡ with_piece c.args.id (buffer_bytes c.args.size) s.heap.view = ap (λ (h : HeapHeld). h.view) c.carve-place.ensures.heap ∙ ap (λ n. with_piece c.args.id n s.heap.view) bytes in
     let fits : has_hole old (buffer_bytes c.args.size) ≡ true = ap (λ n. has_hole old n) (sym bytes) ∙ sym c.holds.ensures ∙ c.if-not-holds.false in
     let at : (c.carve-place.result + 32) / 4 ≡ first_word c.args.size s.heap.view = ap (λ n. (n + 32) / 4) (c.carve-place.ensures.place ∙ ap (λ n. first_fit (rounded n) s.heap.view.holes) bytes) in
-    ap Ok (buffer-is s.heap.view s.clock s.comps s.edges s.pipes s.joins.items s.streams s.rings s.room c.self.invariant.0 c.self.invariant.1 c.args.id c.args.pipe c.args.size ((c.carve-place.result + 32) / 4) c.carve-place.new.self.view c.place.new.self c.place-2.new.self (omega (arith, c.len.ensures)) (ap (λ (h : Held). is_used h.state.graph c.args.id) c.self.view_is ∙ unused) carved at c.place.ensures c.place-2.ensures)
+    ap Ok (buffer-is s.heap.view s.clock s.comps s.edges s.pipes s.joins.items s.streams s.rings s.room c.self.invariant.0 c.self.invariant.1 c.self.invariant.4 c.args.id c.args.pipe c.args.size ((c.carve-place.result + 32) / 4) c.carve-place.new.self.view c.place.new.self c.place-2.new.self (omega (arith, c.len.ensures)) (ap (λ (h : Held). is_used h.state.graph c.args.id) c.self.view_is ∙ unused) carved at c.place.ensures c.place-2.ensures fits c.requires)
     ∙ ap (λ (h : Held). Ok (with_buffer c.args.id c.args.pipe c.args.size h.state)) c.self.view_is
     ∙ sym (buffer_new-row f c.args.id c.args.pipe c.args.size unused open_still (ap (λ (h : Held). nat_le 128 (length h.state.graph.edges)) (sym c.self.view_is) ∙ few) (ap (λ (h : Held). has_hole h.state (buffer_bytes c.args.size)) (sym c.self.view_is) ∙ fits))

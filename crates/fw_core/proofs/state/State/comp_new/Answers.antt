@@ -6,8 +6,8 @@ use Rattle.stream_law.specs.declared.graph.Comp.{Comp}
 use Rattle.mbox_link.specs.Step.{comp_bytes, is_used, is_complete, has_hole, with_comp}
 use Rattle.fw_core.specs.Kept.{Held}
 use Rattle.fw_core.specs.Pieces.{HeapHeld}
-use Rattle.fw_core.proofs.KeptLaws.{kept-comp, held-comp, comp-is}
-use Rattle.fw_core.proofs.Pieced.{no-piece}
+use Rattle.fw_core.proofs.KeptLaws.{kept-comp, held-comp, unset-comp, comp-is}
+use Rattle.row_laws.proofs.Pieced.{no-piece}
 use Rattle.fw_core.proofs.Rows.{comp_new-row}
 use Rattle.fw_core.proofs.state.State.comp_new.Goals as goal
 
@@ -29,10 +29,11 @@ invariant_of-self c =
     let unused = ap (λ (h : Held). is_used h.state.graph c.args.id) c.self.view_is ∙ sym c.is_used.ensures ∙ c.if-is_used.false in
     let carved = ap (λ (h : HeapHeld). h.view) c.carve.ensures.heap in
     let there : fits (rounded c.bytes_of-bytes.result) s.heap.view.holes ≡ true = sym c.holds.ensures ∙ c.if-not-holds.false in (
-      kept-comp s.heap.view s.clock s.comps s.edges s.pipes s.joins.items s.streams s.rings s.room c.self.invariant.0 c.self.invariant.1 c.bytes_of-bytes.result x c.carve.new.self.view c.place.new.self c.place_stream.new.streams (omega (arith, c.len.ensures)) unused carved c.place.ensures c.place_stream.ensures c.requires,
-      held-comp s.heap.view s.clock s.comps s.edges s.pipes s.joins.items s.streams s.rings s.room c.self.invariant.0 c.self.invariant.1 c.bytes_of-bytes.result x c.carve.new.self.view c.place.new.self c.place_stream.new.streams (omega (arith, c.len.ensures)) unused carved c.place.ensures c.place_stream.ensures c.requires c.bytes_of-bytes.ensures.some there,
+      kept-comp s.heap.view s.clock s.comps s.edges s.pipes s.joins.items s.streams s.rings s.room c.self.invariant.0 c.self.invariant.1 c.self.invariant.4 c.bytes_of-bytes.result x c.carve.new.self.view c.place.new.self c.place_stream.new.streams (omega (arith, c.len.ensures)) unused carved c.place.ensures c.place_stream.ensures c.requires.plain c.bytes_of-bytes.ensures.size there c.requires.fits,
+      held-comp s.heap.view s.clock s.comps s.edges s.pipes s.joins.items s.streams s.rings s.room c.self.invariant.0 c.self.invariant.1 c.self.invariant.4 c.bytes_of-bytes.result x c.carve.new.self.view c.place.new.self c.place_stream.new.streams (omega (arith, c.len.ensures)) unused carved c.place.ensures c.place_stream.ensures c.requires.plain c.bytes_of-bytes.ensures.size there c.requires.fits,
       c.self.invariant.2,
       ap (λ (h : HeapHeld). h.room) c.carve.ensures.heap ∙ c.self.invariant.3,
+      unset-comp s.heap.view s.clock s.comps s.edges s.pipes s.joins.items s.streams s.rings s.room c.self.invariant.0 c.self.invariant.1 c.self.invariant.4 c.bytes_of-bytes.result x c.carve.new.self.view c.place.new.self c.place_stream.new.streams (omega (arith, c.len.ensures)) unused carved c.place.ensures c.place_stream.ensures c.requires.plain c.bytes_of-bytes.ensures.size there c.requires.fits,
     )
 
 pub returns-clause-answer : goal.returns-clause-answer
@@ -44,6 +45,6 @@ returns-clause-answer c =
     let open_still : is_complete f.graph c.args.pipe ≡ false = sym c.is_complete.ensures ∙ c.if-is_complete.false in
     let few : nat_le 128 (length s.comps) ≡ false = lt-leb 128 (length s.comps) (omega (arith, c.len.ensures)) in
     let there : fits (rounded (comp_bytes c.args.kind)) s.heap.view.holes ≡ true = ap (λ n. fits (rounded n) s.heap.view.holes) (sym c.bytes_of-bytes.ensures.size) ∙ sym c.holds.ensures ∙ c.if-not-holds.false in
-    ap Ok (comp-is s.heap.view s.clock s.comps s.edges s.pipes s.joins.items s.streams s.rings s.room c.self.invariant.0 c.self.invariant.1 c.bytes_of-bytes.result x c.carve.new.self.view c.place.new.self c.place_stream.new.streams (omega (arith, c.len.ensures)) (ap (λ (h : Held). is_used h.state.graph c.args.id) c.self.view_is ∙ unused) (ap (λ (h : HeapHeld). h.view) c.carve.ensures.heap) c.place.ensures c.place_stream.ensures c.requires c.bytes_of-bytes.ensures.size)
+    ap Ok (comp-is s.heap.view s.clock s.comps s.edges s.pipes s.joins.items s.streams s.rings s.room c.self.invariant.0 c.self.invariant.1 c.self.invariant.4 c.bytes_of-bytes.result x c.carve.new.self.view c.place.new.self c.place_stream.new.streams (omega (arith, c.len.ensures)) (ap (λ (h : Held). is_used h.state.graph c.args.id) c.self.view_is ∙ unused) (ap (λ (h : HeapHeld). h.view) c.carve.ensures.heap) c.place.ensures c.place_stream.ensures c.requires.plain c.bytes_of-bytes.ensures.size (sym c.holds.ensures ∙ c.if-not-holds.false) c.requires.fits)
     ∙ ap (λ (h : Held). Ok (with_comp c.args.id c.args.pipe c.args.kind c.args.setting h.state)) c.self.view_is
     ∙ sym (comp_new-row f c.args.id c.args.pipe c.args.kind c.args.setting unused open_still (ap (λ (h : Held). nat_le 128 (length h.state.graph.comps)) (sym c.self.view_is) ∙ few) (ap (λ (h : Held). has_hole h.state (comp_bytes c.args.kind)) (sym c.self.view_is) ∙ there))

@@ -2,7 +2,7 @@ use Rattle.std.proofs.Common.{◌≡◌, ◌∙◌, sym, false, true, arith}
 use Rattle.stream_law.specs.declared.graph.Join.{Join}
 use Rattle.stream_law.specs.Joins.{would_cycle}
 use Rattle.mbox_link.specs.Step.{is_used, is_joined, takes_join}
-use Rattle.fw_core.proofs.Sides.{side-of_its_own}
+use Rattle.row_laws.proofs.Sides.{side-of_its_own}
 use Rattle.fw_core.proofs.Rows.{connect-row}
 use Rattle.fw_core.proofs.state.State.connect.Goals as goal
 

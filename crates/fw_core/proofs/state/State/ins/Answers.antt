@@ -2,7 +2,7 @@ use Rattle.std.proofs.Common.{◌∙◌, sym, ap, List, length, filter}
 use Rattle.stream_law.specs.declared.graph.Edge.{Edge}
 use Rattle.stream_law.specs.Ways.{is_end, ins}
 use Rattle.fw_core.specs.Kept.{Held}
-use Rattle.fw_core.proofs.Found.{ends-agree}
+use Rattle.row_laws.proofs.Found.{ends-agree}
 use Rattle.fw_core.proofs.state.State.ins.Goals as goal
 
 pub returns : goal.returns

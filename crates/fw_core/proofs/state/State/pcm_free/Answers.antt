@@ -1,5 +1,5 @@
 use Rattle.std.proofs.Common.{◌∙◌, sym}
-use Rattle.fw_core.proofs.StreamLaws.{played-free, keeps-free}
+use Rattle.row_laws.proofs.StreamLaws.{played-free, keeps-free}
 use Rattle.fw_core.proofs.state.State.pcm_free.Goals as goal
 
 pub set_stream-requires-clause-played : goal.set_stream-requires-clause-played

@@ -1,8 +1,9 @@
 use Rattle.std.proofs.Common.{◌∙◌, sym, subst, map, Some}
 use Rattle.stream_law.specs.declared.stream.Phase.TheVariants.{Prepared}
 use Rattle.mbox_link.specs.Step.{has_kind, goes, kind_at, has_phase, is_moving, phase_at, set_stream}
-use Rattle.fw_core.specs.Kept.{Held, IsPlayable, KeepsLive}
-use Rattle.fw_core.proofs.StreamLaws.{played-params, keeps-params, params-pass}
+use Rattle.fw_core.specs.Kept.{Held}
+use Rattle.row_laws.specs.Played.{IsPlayable, KeepsLive}
+use Rattle.row_laws.proofs.StreamLaws.{played-params, keeps-params, params-pass}
 use Rattle.fw_core.proofs.state.State.pcm_params.Goals as goal
 
 pub set_stream-requires-clause-played : goal.set_stream-requires-clause-played

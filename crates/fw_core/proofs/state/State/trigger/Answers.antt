@@ -1,4 +1,4 @@
-use Rattle.fw_core.proofs.StreamLaws.{played-phase, keeps-phase}
+use Rattle.row_laws.proofs.StreamLaws.{played-phase, keeps-phase}
 use Rattle.fw_core.proofs.state.State.trigger.Goals as goal
 
 pub set_phase-requires-clause-played : goal.set_phase-requires-clause-played

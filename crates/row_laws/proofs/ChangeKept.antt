@@ -1,0 +1,137 @@
+-- A join more, or another setting of a component.
+use Rattle.std.proofs.Common.{◌≡◌, refl, sym, ap, ◌∙◌, subst, ℕ, ◌+◌, ◌≤◌, List, [], ◌∷◌, ◌++◌, length, map, filter, Option, Some, None, Bool, true, false, cond, ◌==◌, ◌&&◌, arith, length-append}
+use Rattle.std.proofs.lemmas.Bool.{true≢false, and_parts, eqb-true}
+use Rattle.std.proofs.lemmas.List.{length-map}
+use Rattle.std.specs.Option.{option_map_or}
+use Rattle.std.specs.List.{AllByRecursion}
+use Rattle.stream_law.specs.declared.graph.Setting.{Setting}
+use Rattle.stream_law.specs.declared.graph.Comp.{Comp}
+use Rattle.stream_law.specs.declared.graph.Edge.{Edge}
+use Rattle.stream_law.specs.declared.graph.Join.{Join}
+use Rattle.stream_law.specs.declared.graph.Graph.{Graph}
+use Rattle.stream_law.specs.declared.stream.StreamView.{StreamView}
+use Rattle.stream_law.specs.State.{FwState, View, RingView, view_of}
+use Rattle.stream_law.specs.Ways.{comp_of, components, buffers, live, channels_of}
+use Rattle.stream_law.specs.Joins.{joined, with_join, would_cycle, would_grow}
+use Rattle.stream_law.specs.Made.{blob}
+use Rattle.stream_law.specs.Seen.{flows, is_equaliser, equalises, blob_in}
+use Rattle.ipc3_codec.specs.Allowed.{is_buffer_size}
+use Rattle.mbox_link.specs.Step.{is_joined, takes_join, with_comps, with_setting}
+use Rattle.row_laws.specs.Wired.{sides}
+use Rattle.row_laws.specs.Played.{IsPlayable}
+use Rattle.row_laws.specs.Kept.{IsKept, IsSettingOf, numbers_held}
+use Rattle.row_laws.proofs.Ascending.{ascends-keys}
+use Rattle.row_laws.proofs.Fewer.{all-any, filter-every}
+use Rattle.row_laws.proofs.Histories.{equalisers-same, equalisers-set, held-same, histories-by}
+use Rattle.row_laws.proofs.Fitting.{all-set}
+use Rattle.row_laws.proofs.Joined.{buffers-joined, joined-size, among-left}
+use Rattle.row_laws.proofs.Joining.{played-joined, wired-joined, live-joined, channels-joined, flows-joined}
+use Rattle.row_laws.proofs.Linking.{linked-joined}
+use Rattle.stream_law.proofs.Members.{IsIn, in-each, kept-in, in-any}
+use Rattle.row_laws.proofs.Near.{in-comps}
+use Rattle.row_laws.proofs.Pieced.{pieces-joined}
+use Rattle.row_laws.proofs.RingViews.{each-key, by-keys, seen-same}
+use Rattle.row_laws.proofs.SameWays.{played-same, live-same, channels-same, flows-same}
+use Rattle.row_laws.proofs.Settings.{ids-set, find-apart, kind-set, ways-set, bare-set, readies-set, owned-set, nodes-set, linked-set, wired-set, pieces-set}
+use Rattle.row_laws.proofs.Sides.{side-of_its_own}
+use Rattle.row_laws.proofs.Stagings.{staged-all}
+use Rattle.row_laws.proofs.StreamsKept.{in-among}
+
+module _ (f : FwState) (kept : IsKept f) where
+  abbrev view : View
+  view = view_of f
+
+  -- ---- a join
+
+  module _ (j : Join) (free : is_joined f.graph j.source j.sink ≡ false) (takes : takes_join f.graph j.source j.sink ≡ true) (no_cycle : would_cycle f.graph j.source j.sink ≡ false) (grow : would_grow f.graph f.streams j.source j.sink ≡ false) where
+    abbrev joined_view : View
+    joined_view = record { graph = with_join f.graph j; streams = f.streams }
+
+    -- a component is as it was
+    joined-live : (x : Comp) → IsIn x f.graph.comps → live joined_view x.id ≡ live view x.id
+    joined-live x there = live-joined f.graph j kept.wired free takes f.streams kept.played grow x.id (among-left (components f.graph) (buffers f.graph) x.id (in-comps f.graph.comps x there))
+
+    joined-held : (n : ℕ) → IsIn n (filter (equalises view) (components f.graph)) → numbers_held joined_view n ≡ numbers_held view n
+    joined-held n there = held-same view joined_view n refl (channels-joined f.graph j kept.wired free takes f.streams kept.played grow n (among-left (components f.graph) (buffers f.graph) n (in-among (components f.graph) n (kept-in (equalises view) (components f.graph) n there).0)))
+
+    joined-sizes : (es : List Edge) → AllByRecursion (λ e. is_buffer_size e.size ≡ true) es → AllByRecursion (λ e. is_buffer_size e.size ≡ true) (map (joined j) es)
+    joined-sizes [] all = tt
+    joined-sizes (e ∷ es) all = (ap is_buffer_size (joined-size j e) ∙ all.0, joined-sizes es all.1)
+
+    pub kept-join : IsKept (record f { graph = with_join f.graph j })
+    kept-join = record {
+      comps = kept.comps;
+      edges = omega (arith, kept.edges, length-map f.graph.edges (joined j));
+      pipes = kept.pipes;
+      joins = omega (arith, kept.joins, side-of_its_own f.graph j free takes no_cycle, length-append f.graph.joins (j ∷ []));
+      streams = kept.streams;
+      ascending = record { comps = kept.ascending.comps; edges = ascends-keys (λ (e : Edge). e.buffer) (λ (e : Edge). e.buffer) f.graph.edges (map (joined j) f.graph.edges) (sym (buffers-joined j f.graph.edges)) kept.ascending.edges; pipes = kept.ascending.pipes; streams = kept.ascending.streams; pieces = kept.ascending.pieces; staging = kept.ascending.staging };
+      indices = kept.indices;
+      sizes = joined-sizes f.graph.edges kept.sizes;
+      settings = kept.settings;
+      pieces = pieces-joined f.graph f.heap j kept.pieces;
+      tiled = kept.tiled;
+      wired = wired-joined f.graph j kept.wired free takes f.streams kept.played grow;
+      linked = linked-joined f.graph j kept.wired free takes f.streams kept.played grow kept.linked no_cycle;
+      played = played-joined f.graph j kept.wired free takes f.streams kept.played grow;
+      rings = kept.rings ∙ sym (buffers-joined j f.graph.edges);
+      seen = seen-same view joined_view f.rings (by-keys (λ b. flows joined_view b ≡ flows view b) (λ (r : RingView). r.buffer) (λ (e : Edge). e.buffer) f.rings f.graph.edges kept.rings (flows-joined f.graph j kept.wired free takes f.streams kept.played grow)) kept.seen;
+      histories = histories-by view joined_view f.histories (equalisers-same view joined_view refl (in-each (λ x. live joined_view x.id ≡ live view x.id) f.graph.comps joined-live))
+          (in-each (λ n. numbers_held joined_view n ≡ numbers_held view n) (filter (equalises view) (components f.graph)) joined-held) kept.histories;
+      staging = staged-all f.graph joined_view.graph f.staging (λ n. refl) kept.staging;
+    }
+
+  -- ---- a setting of what is no equaliser
+
+  module _ (id : ℕ) (setting : Setting) (other : option_map_or (λ x. is_equaliser x.kind) (comp_of f.graph id) false ≡ false) (fits : (c : Comp) → comp_of f.graph id ≡ Some c → IsSettingOf c.kind setting) where
+    abbrev set_view : View
+    set_view = record { graph = with_comps (map (with_setting id setting) f.graph.comps) f.graph; streams = f.streams }
+
+    same-streams : (P : List StreamView → Type 0) → P (filter (λ s. true) f.streams) → P f.streams
+    same-streams P q = subst P (filter-every f.streams) q
+
+    pub set-flows : (b : ℕ) → flows set_view b ≡ flows view b
+    set-flows b = same-streams (λ ss. flows (record { graph = set_view.graph; streams = ss }) b ≡ flows view b) (flows-same f.graph set_view.graph (λ s. true) f.streams kept.played (bare-set id setting f.graph f.streams) (ways-set id setting f.graph f.streams) b refl refl)
+
+    set-live : (x : ℕ) → live set_view x ≡ live view x
+    set-live x = same-streams (λ ss. live (record { graph = set_view.graph; streams = ss }) x ≡ live view x) (live-same f.graph set_view.graph (λ s. true) f.streams kept.played (bare-set id setting f.graph f.streams) (ways-set id setting f.graph f.streams) x)
+
+    pub set-channels : (x : ℕ) → channels_of set_view x ≡ channels_of view x
+    set-channels x = same-streams (λ ss. channels_of (record { graph = set_view.graph; streams = ss }) x ≡ channels_of view x) (channels-same f.graph set_view.graph (λ s. true) f.streams kept.played (bare-set id setting f.graph f.streams) (ways-set id setting f.graph f.streams) x)
+
+    set-played : IsPlayable set_view
+    set-played = same-streams (λ ss. IsPlayable (record { graph = set_view.graph; streams = ss })) (played-same f.graph set_view.graph (λ s. true) f.streams kept.played (bare-set id setting f.graph f.streams) (ways-set id setting f.graph f.streams) (nodes-set id setting f.graph) (owned-set id setting f.graph f.streams kept.played.owned) (readies-set id setting f.graph f.streams kept.played.each))
+
+    -- an equaliser keeps its blob
+    set-held : (n : ℕ) → IsIn n (filter (equalises view) (components f.graph)) → numbers_held set_view n ≡ numbers_held view n
+    set-held n there = held-same view set_view n (ap (λ o. option_map_or (λ x. blob x.setting) o []) (by (n == id) refl)) (set-channels n)
+      where
+        is : option_map_or (λ x. is_equaliser x.kind) (comp_of f.graph n) false ≡ true
+        is = (and_parts (live view n) (option_map_or (λ x. is_equaliser x.kind) (comp_of f.graph n) false) (kept-in (equalises view) (components f.graph) n there).1).1
+
+        by : (h : Bool) → (n == id) ≡ h → comp_of set_view.graph n ≡ comp_of f.graph n
+        by true e = absurd (true≢false (sym is ∙ ap (λ m. option_map_or (λ x. is_equaliser x.kind) (comp_of f.graph m) false) (eqb-true n id e) ∙ other))
+        by false e = find-apart id setting n e f.graph.comps
+
+    pub kept-setting : IsKept (record f { graph = with_comps (map (with_setting id setting) f.graph.comps) f.graph })
+    kept-setting = record {
+      comps = omega (arith, kept.comps, length-map f.graph.comps (with_setting id setting));
+      edges = kept.edges;
+      pipes = kept.pipes;
+      joins = kept.joins;
+      streams = omega (arith, kept.streams, length-map f.graph.comps (with_setting id setting));
+      ascending = record { comps = ascends-keys (λ (c : Comp). c.id) (λ (c : Comp). c.id) f.graph.comps (map (with_setting id setting) f.graph.comps) (sym (ids-set id setting f.graph.comps)) kept.ascending.comps; edges = kept.ascending.edges; pipes = kept.ascending.pipes; streams = kept.ascending.streams; pieces = kept.ascending.pieces; staging = kept.ascending.staging };
+      indices = kept.indices;
+      sizes = kept.sizes;
+      settings = all-set id setting f.graph.comps kept.wired.ids fits kept.settings;
+      pieces = pieces-set id setting f.graph f.heap (length-map f.graph.comps (with_setting id setting)) kept.pieces;
+      tiled = kept.tiled;
+      wired = wired-set id setting f.graph kept.wired;
+      linked = linked-set id setting f.graph kept.linked;
+      played = set-played;
+      rings = kept.rings;
+      seen = seen-same view set_view f.rings (each-key (λ (r : RingView). r.buffer) set-flows f.rings) kept.seen;
+      histories = histories-by view set_view f.histories (equalisers-set id setting view set_view refl set-live)
+          (in-each (λ n. numbers_held set_view n ≡ numbers_held view n) (filter (equalises view) (components f.graph)) set-held) kept.histories;
+      staging = staged-all f.graph set_view.graph f.staging (kind-set id setting f.graph) kept.staging;
+    }

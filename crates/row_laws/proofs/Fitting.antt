@@ -1,0 +1,101 @@
+-- What is set at components is what may be set at their kinds.
+use Rattle.std.proofs.Common.{◌≡◌, refl, sym, ap, ◌∙◌, subst, ℕ, zero, suc, ◌≤◌, List, [], ◌∷◌, map, length, replicate, Option, Some, None, Bool, true, false, cond, ◌==◌, ◌&&◌, inl, arith}
+use Rattle.std.proofs.lemmas.Bool.{and_parts, eqb-true, leb-true}
+use Rattle.std.proofs.lemmas.List.{length-replicate}
+use Rattle.std.specs.Prelude.{find, nat_le, option_and_then}
+use Rattle.std.specs.List.{list_all, AllByRecursion}
+use Rattle.stream_law.specs.declared.graph.Kind.{Kind}
+use Rattle.stream_law.specs.declared.graph.Kind.TheVariants.{HostPlay, HostCapture, DaiPlay, DaiCapture, Volume, Mixer, Mux, Eq}
+use Rattle.stream_law.specs.declared.graph.Setting.{Setting}
+use Rattle.stream_law.specs.declared.graph.Setting.TheVariants.{Nothing, Gains, Choice, Blob}
+use Rattle.stream_law.specs.declared.graph.Comp.{Comp}
+use Rattle.stream_law.specs.declared.graph.Graph.{Graph}
+use Rattle.stream_law.specs.Placed.{HasDistinct}
+use Rattle.stream_law.specs.Ways.{comp_of}
+use Rattle.ipc3_codec.specs.declared.message.CompWords.{CompWords}
+use Rattle.ipc3_codec.specs.declared.message.CompWords.TheVariants as words
+use Rattle.ipc3_codec.specs.Messages.{IsKind}
+use Rattle.mbox_link.specs.Step.{format_of, kind_of, first_setting, new_setting, with_setting}
+use Rattle.row_laws.specs.Kept.{IsSettingOf}
+use Rattle.row_laws.proofs.Found.{found-each}
+use Rattle.stream_law.proofs.Members.{in-all, find-in}
+
+-- ---- at a new component
+
+same-gains : (n : ℕ) → AllByRecursion (λ m. m ≤ 16777216) (replicate n 65536)
+same-gains zero = tt
+same-gains (suc n) = (omega arith, same-gains n)
+
+pub first-fits : (kind : CompWords) (frame_fmt : ℕ) → IsKind kind frame_fmt → IsSettingOf (kind_of kind frame_fmt) (first_setting kind)
+first-fits (words.Host direction) frame_fmt allowed = by (direction == 0)
+  where
+    by : (h : Bool) → IsSettingOf (cond h HostPlay HostCapture) Nothing
+    by true = tt
+    by false = tt
+first-fits (words.Dai direction index) frame_fmt allowed = by (direction == 0)
+  where
+    by : (h : Bool) → IsSettingOf (cond h (DaiPlay (format_of frame_fmt)) (DaiCapture (format_of frame_fmt))) Nothing
+    by true = tt
+    by false = tt
+first-fits (words.Volume channels min_value max_value) frame_fmt allowed =
+    let bounds = and_parts (nat_le 1 channels) (nat_le channels 8) allowed in
+    let low : 1 ≤ channels = leb-true 1 channels bounds.0 in
+    let high : channels ≤ 8 = leb-true channels 8 bounds.1 in
+    let gain : ℕ = 65536 in
+    let long : length (replicate channels gain) ≡ channels = length-replicate channels gain in
+    ((omega (arith, low, long), omega (arith, high, long)), same-gains channels)
+first-fits words.Mixer frame_fmt allowed = tt
+first-fits words.Mux frame_fmt allowed = tt
+first-fits words.Eq frame_fmt allowed = inl refl
+
+-- ---- by values
+
+all-low : (ns : List ℕ) → list_all (λ v. nat_le v 16777216) ns ≡ true → AllByRecursion (λ n. n ≤ 16777216) ns
+all-low [] all = tt
+all-low (n ∷ ns) all = let parts = and_parts (nat_le n 16777216) (list_all (λ v. nat_le v 16777216) ns) all in (leb-true n 16777216 parts.0, all-low ns parts.1)
+
+new-gains : (h : Bool) (command : ℕ) (gains values : List ℕ) (setting : Setting) → (command == 0 && (length values == length gains && list_all (λ v. nat_le v 16777216) values)) ≡ h → cond h (Some (Gains values)) None ≡ Some setting → IsSettingOf Volume (Gains gains) → IsSettingOf Volume setting
+new-gains false command gains values setting test is fits = absurd (cc is)
+new-gains true command gains values setting test is fits =
+    let same : Gains values ≡ setting = cc is in
+    let parts = and_parts (length values == length gains) (list_all (λ v. nat_le v 16777216) values) (and_parts (command == 0) _ test).1 in
+    let long : length values ≡ length gains = eqb-true (length values) (length gains) parts.0 in
+    subst (IsSettingOf Volume) same ((omega (arith, long, fits.0.0), omega (arith, long, fits.0.1)), all-low values parts.1)
+
+new-choice : (h : Bool) (k : ℕ) (setting : Setting) → cond h (Some (Choice k)) None ≡ Some setting → IsSettingOf Mux setting
+new-choice true k setting is = let same : Choice k ≡ setting = cc is in subst (IsSettingOf Mux) same tt
+new-choice false k setting is = absurd (cc is)
+
+new-fits : (kind : Kind) (old : Setting) (command : ℕ) (values : List ℕ) (setting : Setting) → IsSettingOf kind old → new_setting kind old command values ≡ Some setting → IsSettingOf kind setting
+new-fits Volume (Gains gains) command values setting fits is = new-gains (command == 0 && (length values == length gains && list_all (λ v. nat_le v 16777216) values)) command gains values setting refl is fits
+new-fits Volume Nothing command values setting fits is = absurd fits
+new-fits Volume (Choice k) command values setting fits is = absurd fits
+new-fits Volume (Blob bytes) command values setting fits is = absurd fits
+new-fits Mux old command [] setting fits is = absurd (cc is)
+new-fits Mux old command (v ∷ []) setting fits is = new-choice (command == 1) v setting is
+new-fits Mux old command (v ∷ w ∷ values) setting fits is = absurd (cc is)
+new-fits HostPlay old command values setting fits is = absurd (cc is)
+new-fits HostCapture old command values setting fits is = absurd (cc is)
+new-fits (DaiPlay format) old command values setting fits is = absurd (cc is)
+new-fits (DaiCapture format) old command values setting fits is = absurd (cc is)
+new-fits Mixer old command values setting fits is = absurd (cc is)
+new-fits Eq old command values setting fits is = absurd (cc is)
+
+-- values fit what is found
+pub values-fit : (g : Graph) (id command : ℕ) (values : List ℕ) (setting : Setting) → AllByRecursion (λ c. IsSettingOf c.kind c.setting) g.comps → option_and_then (λ (c : Comp). new_setting c.kind c.setting command values) (comp_of g id) ≡ Some setting → (c : Comp) → comp_of g id ≡ Some c → IsSettingOf c.kind setting
+values-fit g id command values setting fits named c found =
+    new-fits c.kind c.setting command values setting
+    (in-all (λ (x : Comp). IsSettingOf x.kind x.setting) g.comps c fits (find-in (λ x. x.id == id) g.comps c found).0)
+    (sym (ap (λ (o : Option Comp). option_and_then (λ (x : Comp). new_setting x.kind x.setting command values) o) found) ∙ named)
+
+-- and so they do everywhere, where no two components have one id
+pub all-set : (id : ℕ) (setting : Setting) (comps : List Comp) → HasDistinct (λ c. c.id) comps → ((c : Comp) → find (λ x. x.id == id) comps ≡ Some c → IsSettingOf c.kind setting) → AllByRecursion (λ c. IsSettingOf c.kind c.setting) comps → AllByRecursion (λ c. IsSettingOf c.kind c.setting) (map (with_setting id setting) comps)
+all-set id setting comps distinct right fits = each comps (found-each (λ (c : Comp). c.id) comps distinct) fits
+  where
+    one : (c : Comp) (h : Bool) → (c.id == id) ≡ h → find (λ x. x.id == c.id) comps ≡ Some c → IsSettingOf c.kind c.setting → IsSettingOf (cond h (record c { setting = setting }) c).kind (cond h (record c { setting = setting }) c).setting
+    one c true same found was = right c (ap (λ n. find (λ x. x.id == n) comps) (sym (eqb-true c.id id same)) ∙ found)
+    one c false same found was = was
+
+    each : (cs : List Comp) → AllByRecursion (λ c. find (λ x. x.id == c.id) comps ≡ Some c) cs → AllByRecursion (λ c. IsSettingOf c.kind c.setting) cs → AllByRecursion (λ c. IsSettingOf c.kind c.setting) (map (with_setting id setting) cs)
+    each [] found was = tt
+    each (c ∷ cs) found was = (one c (c.id == id) refl found.0 was.0, each cs found.1 was.1)

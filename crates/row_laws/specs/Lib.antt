@@ -1,0 +1,5 @@
+pub mod Tiled
+pub mod Wired
+pub mod Played
+pub mod Kept
+pub mod RowLaws

@@ -1,0 +1,92 @@
+-- The laws of the rows that public calls state.
+use Rattle.std.specs.Prelude.{◌≡◌, ℕ, ◌<◌, List, true, Result, Ok, ℤ, slice_index}
+use Rattle.sof_base.specs.declared.format.Params.{Params}
+use Rattle.sof_base.specs.Ports.{Io}
+use Rattle.stream_law.specs.declared.graph.Kind.{Kind}
+use Rattle.stream_law.specs.declared.graph.Setting.{Setting}
+use Rattle.stream_law.specs.declared.stream.Phase.TheVariants.{Prepared, Running, Paused}
+use Rattle.stream_law.specs.State.{FwState}
+use Rattle.ipc3_codec.specs.declared.message.Message.{Message}
+use Rattle.ipc3_codec.specs.Allowed.{is_buffer_size, is_period, is_channels}
+use Rattle.ipc3_codec.specs.Messages.{IsAllowed}
+use Rattle.mbox_link.specs.Step.{comp_new, comp_free, buffer_new, buffer_free, pipe_new, pipe_free, connect, pipe_complete, set_value, get_value, data_part, pcm_params, pcm_free, trigger, is_prepared, is_moving, is_running, is_paused, row, step, fresh}
+use Rattle.mbox_link.specs.Exchange.{ticked}
+use Rattle.row_laws.specs.Kept.{IsKept, IsSettingOf}
+
+-- A row that is done keeps what every state keeps. Where it is refused, the state stays as it was.
+abbrev pub Keeps : (FwState → Result FwState ℤ) → Type 0
+Keeps row = (f g : FwState) → IsKept f → row f ≡ Ok g → IsKept g
+
+-- ---- one row each
+
+abbrev pub CompNewKeeps : Type 0
+CompNewKeeps = (id pipe : ℕ) (kind : Kind) (setting : Setting) → IsSettingOf kind setting → Keeps (λ f. comp_new f id pipe kind setting)
+
+abbrev pub CompFreeKeeps : Type 0
+CompFreeKeeps = (id : ℕ) → Keeps (λ f. comp_free f id)
+
+abbrev pub BufferNewKeeps : Type 0
+BufferNewKeeps = (id pipe size : ℕ) → is_buffer_size size ≡ true → Keeps (λ f. buffer_new f id pipe size)
+
+abbrev pub BufferFreeKeeps : Type 0
+BufferFreeKeeps = (id : ℕ) → Keeps (λ f. buffer_free f id)
+
+abbrev pub PipeNewKeeps : Type 0
+PipeNewKeeps = (id index sched period : ℕ) → is_period period ≡ true → Keeps (λ f. pipe_new f id index sched period)
+
+abbrev pub PipeFreeKeeps : Type 0
+PipeFreeKeeps = (id : ℕ) → Keeps (λ f. pipe_free f id)
+
+abbrev pub ConnectKeeps : Type 0
+ConnectKeeps = (source sink : ℕ) → Keeps (λ f. connect f source sink)
+
+abbrev pub PipeCompleteKeeps : Type 0
+PipeCompleteKeeps = (id : ℕ) → Keeps (λ f. pipe_complete f id)
+
+abbrev pub SetValueKeeps : Type 0
+SetValueKeeps = (id command : ℕ) (values : List ℕ) → Keeps (λ f. set_value f id command values)
+
+abbrev pub GetValueKeeps : Type 0
+GetValueKeeps = (id command : ℕ) → Keeps (λ f. get_value f id command)
+
+abbrev pub DataKeeps : Type 0
+DataKeeps = (id : ℕ) → Keeps (λ f. data_part f id)
+
+abbrev pub PcmParamsKeeps : Type 0
+PcmParamsKeeps = (host direction : ℕ) (params : Params) → is_channels params.channels ≡ true → Keeps (λ f. pcm_params f host direction params)
+
+abbrev pub PcmFreeKeeps : Type 0
+PcmFreeKeeps = (host : ℕ) → Keeps (λ f. pcm_free f host)
+
+abbrev pub TrigStartKeeps : Type 0
+TrigStartKeeps = (host : ℕ) → Keeps (λ f. trigger f host is_prepared Running)
+
+abbrev pub TrigStopKeeps : Type 0
+TrigStopKeeps = (host : ℕ) → Keeps (λ f. trigger f host is_moving Prepared)
+
+abbrev pub TrigPauseKeeps : Type 0
+TrigPauseKeeps = (host : ℕ) → Keeps (λ f. trigger f host is_running Paused)
+
+abbrev pub TrigReleaseKeeps : Type 0
+TrigReleaseKeeps = (host : ℕ) → Keeps (λ f. trigger f host is_paused Running)
+
+abbrev pub CtxSaveKeeps : Type 0
+CtxSaveKeeps = Keeps (λ f. Ok f)
+
+-- ---- all rows, and what else changes a state
+
+-- the row of a message none of whose words is refused
+abbrev pub RowKeeps : Type 0
+RowKeeps = (m : Message) → IsAllowed m → Keeps (λ f. row f m)
+
+-- the step of any bytes
+abbrev pub StepKeeps : Type 0
+StepKeeps = (f : FwState) (request : List ℕ) → ((i : ℕ) → slice_index request i < 256) → IsKept f → IsKept (step f request).0
+
+-- a boot makes a state that is kept, whatever was before it
+abbrev pub BootKeeps : Type 0
+BootKeeps = (heap : ℕ) → IsKept (fresh heap)
+
+-- a tick, whatever its inputs give
+abbrev pub TickKeeps : Type 0
+TickKeeps = (f : FwState) (io : Io) → IsKept f → IsKept (ticked (f, io)).0

@@ -1,18 +1,10 @@
 // The parameters that a stream may have, by what its PCM can do.
 ghost use Rattle.std.specs.Prelude.{◌≡◌};
-ghost use Rattle.mbox_link.specs.Step.{is_rate};
 ghost use Rattle.host_pcm.specs.StreamRanges as ranges;
 
 use host_widgets::HostFault;
-use sof_base::{Format, Params};
+use sof_base::{Format, Params, is_rate};
 use tplg_model::Caps;
-
-// Frames a second that some stream may have.
-fn is_rate(rate: u32) -> bool
-    ensures { result ≡ is_rate rate }
-{
-    8000 <= rate && rate <= 192_000 && rate % 1000 == 0
-}
 
 // Frames a second that the PCM can do.
 fn has_rate(caps: &Caps, rate: u32) -> bool

@@ -6,8 +6,8 @@ ghost use Rattle.host_pcm.specs.Asks.{early_fault, stream_place};
 use crate::ranges::params_fault;
 use host_widgets::{Found, HostFault, Power, Record, Trigger};
 use sof_base::{Name44, Params};
-use tplg_plan::Plan;
 use tplg_model::Caps;
+use tplg_plan::Plan;
 
 /// What is asked of a stream.
 #[derive(Clone, Copy, Debug, PartialEq, Eq)]

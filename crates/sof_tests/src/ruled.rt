@@ -212,7 +212,13 @@ fn a_fault_names_its_item(rt: HostRuntime) -> Result<(), Fail> {
     let components = format!(in alloc; "{component}")?;
     assert_eq!(rt; counts.as_str(), "rule 1, count 2: there are too many");
     assert_eq!(rt; routes.as_str(), "rule 4, route 0: it joins two buffers");
-    assert_eq!(rt; widgets.as_str(), "rule 6, widget 3: its kind needs another number of routes");
-    assert_eq!(rt; components.as_str(), "rule 14, component 5: it is on a cycle, or plays into a capture");
+    assert_eq!(rt;
+        widgets.as_str(),
+        "rule 6, widget 3: its kind needs another number of routes"
+    );
+    assert_eq!(rt;
+        components.as_str(),
+        "rule 14, component 5: it is on a cycle, or plays into a capture"
+    );
     Ok(())
 }

@@ -6,13 +6,12 @@ ghost use Rattle.tplg_plan.specs.Ranges.{is_initial};
 ghost use Rattle.tplg_graph.specs.ControlRanges as ranges;
 ghost use Rattle.tplg_graph.specs.Lists as law;
 
-use tplg_widgets::Entry;
-use tplg_widgets::scale_word;
-use tplg_plan::{ControlKind, ControlPlan};
 use eq_biquad::check;
 use sof_base::Items;
 use std::alloc::{AllocError, Global};
 use tplg_model::{Control, ControlHead};
+use tplg_plan::{ControlKind, ControlPlan};
+use tplg_widgets::{Entry, scale_word};
 
 /// Whether a volume's least and greatest value and its number of channels are in range.
 fn is_volume(min: i32, max: i32, channels: u32) -> bool

@@ -4,15 +4,14 @@ ghost use Rattle.std.specs.Option.{option_map};
 ghost use Rattle.tplg_graph.specs.Lists as law;
 ghost use Rattle.tplg_plan.specs.WidgetWords.{FitsWords};
 
-use tplg_widgets::{Entry, Role, is_buffer, is_scheduler};
-use tplg_widgets::{PcmCaps, caps_of};
-use tplg_plan::{StreamPlan, WidgetPlan};
-use tplg_widgets::End;
-use tplg_widgets::Widgets;
-use tplg_widgets::{FormatToken, format_number, format_of};
 use sof_base::Name44;
 use std::alloc::{AllocError, Global};
 use stream_law::{Comp, Edge, Join, Kind, Pipe, Setting};
+use tplg_plan::{StreamPlan, WidgetPlan};
+use tplg_widgets::{
+    End, Entry, FormatToken, PcmCaps, Role, Widgets, caps_of, format_number, format_of, is_buffer,
+    is_scheduler,
+};
 
 /// Whether a real route ends at this id.
 fn is_sink(joins: &[Join], id: u32) -> bool

@@ -15,7 +15,7 @@ mod walk_rules;
 mod walks;
 mod widget_rules;
 
-pub use planning::plan;
 pub use plan_fault::PlanFault;
+pub use planning::plan;
 pub use thin_form::is_thin;
 pub use tplg_plan::{ControlKind, ControlPlan, Plan, StreamPlan, WidgetPlan, gain, need};

@@ -15,19 +15,16 @@ ghost use Rattle.tplg_plan.specs.WidgetWords.{FitsWords};
 ghost use Rattle.tplg_plan.specs.Sound.{IsSound};
 
 use crate::control_lists::controls;
-use tplg_widgets::Entry;
 use crate::graph_lists::{components, edges, names, pipes, streams, widgets};
-use tplg_widgets::PcmCaps;
 use crate::plan_fault::PlanFault;
 use crate::rule_table::{check_counts, check_middle};
 use crate::walk_rules::check_walks;
-use tplg_widgets::Widgets;
-use tplg_widgets::Wiring;
 use sof_base::Items;
 use std::alloc::{AllocError, Global};
 use stream_law::{Comp, Edge, Graph, Join};
 use tplg_model::Topology;
 use tplg_plan::Plan;
+use tplg_widgets::{Entry, PcmCaps, Widgets, Wiring};
 
 /// Both parts of rule 14, over the components and the edges of the widgets.
 fn check_graph(

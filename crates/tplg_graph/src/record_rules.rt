@@ -6,11 +6,9 @@ ghost use Rattle.tplg_graph.specs.Table as law;
 
 use crate::control_lists::is_live_in_range;
 use tplg_widgets::{
-    Entry, has_control, is_buffer, is_component, is_equaliser, is_host_capture, is_host_play,
-    is_scheduler,
+    Entry, PcmCaps, Process, has_caps, has_control, is_buffer, is_component, is_equaliser,
+    is_host_capture, is_host_play, is_scheduler,
 };
-use tplg_widgets::{PcmCaps, has_caps};
-use tplg_widgets::Process;
 
 fn count_schedulers(parts: &[Entry]) -> usize
     ensures { result ≡ count_by entries.is_scheduler parts.now }
@@ -98,7 +96,8 @@ pub fn host_holds(entries: &[Entry], pcms: &[PcmCaps], k: usize) -> bool
     match entries.get(k) {
         None => true,
         Some(entry) => {
-            !is_host_widget(entry) || (has_pcm(pcms, entry) && !is_earlier_stream(entries, k, entry))
+            !is_host_widget(entry)
+                || (has_pcm(pcms, entry) && !is_earlier_stream(entries, k, entry))
         }
     }
 }
@@ -121,4 +120,3 @@ pub fn control_holds(entries: &[Entry], k: usize) -> bool
         }
     }
 }
-

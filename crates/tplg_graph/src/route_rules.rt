@@ -4,9 +4,8 @@ ghost use Rattle.std.specs.List.{list_any};
 ghost use Rattle.tplg_widgets.specs.Entries.{is_interpreted, id_of};
 ghost use Rattle.tplg_graph.specs.Table as law;
 
-use tplg_widgets::{Entry, Role, is_buffer, is_component, is_interpreted, is_scheduler};
-use tplg_widgets::{End, Ends};
 use stream_law::Join;
+use tplg_widgets::{End, Ends, Entry, Role, is_buffer, is_component, is_interpreted, is_scheduler};
 
 fn is_there(end: End) -> bool
     ensures { result ≡ law.is_there end }
@@ -178,4 +177,3 @@ pub fn index_holds(entries: &[Entry], parts: &[Entry], k: usize) -> bool
         Some(entry) => is_scheduled_at(parts, entry),
     }
 }
-

@@ -4,14 +4,12 @@ ghost use Rattle.tplg_graph.specs.Rules.{AllHold};
 ghost use Rattle.tplg_graph.specs.Thin as law;
 ghost use Rattle.tplg_graph.specs.ThinTest.{thin_test};
 
-use tplg_widgets::{Entry, is_buffer, is_dai, is_host_play, is_scheduler};
-use tplg_widgets::{End, Ends};
 use crate::rule_name::RuleName;
 use crate::rule_table::keeps;
-use tplg_widgets::Wiring;
 use sof_base::NoMemory;
 use std::alloc::Global;
 use tplg_model::Topology;
+use tplg_widgets::{End, Ends, Entry, Wiring, is_buffer, is_dai, is_host_play, is_scheduler};
 
 fn are_in_order(host: &Entry, buffer: &Entry, dai: &Entry, scheduler: &Entry) -> bool
     ensures { (result ≡ true) ↔ law.AreInOrder host.now buffer.now dai.now scheduler.now }

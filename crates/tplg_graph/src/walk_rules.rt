@@ -6,10 +6,10 @@ ghost use Rattle.tplg_graph.specs.Cycles as law;
 ghost use Rattle.tplg_graph.specs.WellFormed as groups;
 ghost use Rattle.tplg_graph.specs.WellFormed.{IsFaultOf};
 
-use tplg_widgets::Entry;
 use crate::plan_fault::{PlanFault, fault_at};
 use crate::walks::{reached, reaches};
 use stream_law::{Comp, Edge, Kind};
+use tplg_widgets::Entry;
 
 /// The first id on a cycle, below a number of ids.
 fn failing_cycle(ids: u32, edges: &[Edge]) -> Option<u32>
@@ -93,11 +93,7 @@ fn check_way(ids: u32, comps: &[Comp], edges: &[Edge]) -> Result<(), PlanFault>
 }
 
 /// Both parts of rule 14, over the interpreted widgets, the components and the edges.
-pub fn check_walks(
-    interpreted: &[Entry],
-    comps: &[Comp],
-    edges: &[Edge],
-) -> Result<(), PlanFault>
+pub fn check_walks(interpreted: &[Entry], comps: &[Comp], edges: &[Edge]) -> Result<(), PlanFault>
     requires ids { length interpreted.now < 2 ^ 32 }
     requires few { length edges.now ≤ 128 }
     ensures ok { OnOk result (AllHold (groups.walk_rules interpreted.now comps.now edges.now)) }

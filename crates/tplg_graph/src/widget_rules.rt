@@ -7,12 +7,11 @@ ghost use Rattle.tplg_widgets.specs.Entries.{id_of};
 ghost use Rattle.tplg_graph.specs.Lists.{is_sink};
 ghost use Rattle.tplg_graph.specs.Table as law;
 
-use tplg_widgets::{Entry, is_buffer, is_dai, is_interpreted, is_scheduler};
-use tplg_widgets::End;
 use crate::route_rules::id_at;
-use tplg_widgets::FormatToken;
-use tplg_widgets::Widgets;
 use stream_law::Join;
+use tplg_widgets::{
+    End, Entry, FormatToken, Widgets, is_buffer, is_dai, is_interpreted, is_scheduler,
+};
 
 fn is_printable(byte: u8) -> bool
     ensures { result ≡ printable.is_printable byte }
@@ -144,4 +143,3 @@ pub fn size_holds(entries: &[Entry], k: usize) -> bool
         Some(entry) => !is_buffer(entry) || is_size(entry.tokens().size),
     }
 }
-

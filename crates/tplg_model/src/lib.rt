@@ -20,5 +20,7 @@ pub use block_header::{ABI, HEADER_BYTES, MAGIC};
 pub use control::{Control, ControlHead};
 pub use fault::TplgFault;
 pub use pcm::{Caps, Pcm, StreamRecord, Streams};
-pub use tokens::{NumberArray, NumberTuple, TextArray, TextTuple, TokenArray, UuidArray, UuidTuple};
+pub use tokens::{
+    NumberArray, NumberTuple, TextArray, TextTuple, TokenArray, UuidArray, UuidTuple,
+};
 pub use widget::Widget;

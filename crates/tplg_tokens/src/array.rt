@@ -10,7 +10,9 @@ use crate::fault::TokenFault;
 use sof_base::{NoMemory, word};
 use std::alloc::{AllocError, Global};
 use tplg_model::array_type::{SHORT, STRING, UUID};
-use tplg_model::{NumberArray, NumberTuple, TextArray, TextTuple, TokenArray, UuidArray, UuidTuple};
+use tplg_model::{
+    NumberArray, NumberTuple, TextArray, TextTuple, TokenArray, UuidArray, UuidTuple,
+};
 
 /// The bytes of an element by its array's type.
 fn element_bytes(kind: u32) -> usize

@@ -31,7 +31,9 @@ fn halves_and_feeds_back(eq: &mut Eq) -> bool
     eq.run(&mut rest, 1);
     let mut right = first == [500] && rest == [250, 125];
     let words = eq.piece().words();
-    right = right && i64::from(words[529]) * 4294967296 + i64::from(words[528].cast_unsigned()) == 67108864000;
+    right = right
+        && i64::from(words[529]) * 4294967296 + i64::from(words[528].cast_unsigned())
+            == 67108864000;
     right = right && words[530..536] == [0; 6];
     eq.clear();
     right && eq.piece().words()[528] == 0

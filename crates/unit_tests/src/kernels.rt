@@ -32,7 +32,10 @@ fn sums_are_held_on_both_sides(rt: HostRuntime) {
     let least = -2147483648;
     let mut mixed = [0; 10];
     mix_end(&sums, &mut mixed);
-    assert_eq!(rt; mixed, [most, least, 5, -5, most, least, most, least, most, least]);
+    assert_eq!(rt;
+        mixed,
+        [most, least, 5, -5, most, least, most, least, most, least]
+    );
 }
 
 #[test]
@@ -46,10 +49,23 @@ fn a_gain_is_rounded(rt: HostRuntime) {
 
 #[test]
 fn each_channel_has_its_gain(rt: HostRuntime) {
-    let samples = [32767 * 65536, -5, 32767 * 65536, 0, 1, -1, 7, -2147483648, 0];
+    let samples = [
+        32767 * 65536,
+        -5,
+        32767 * 65536,
+        0,
+        1,
+        -1,
+        7,
+        -2147483648,
+        0,
+    ];
     let mut scaled = [9; 9];
     volume(&samples, &mut scaled, 2, &[52056, 65536]);
-    assert_eq!(rt; scaled, [1705718952, -5, 1705718952, 0, 1, -1, 6, -2147483648, 0]);
+    assert_eq!(rt;
+        scaled,
+        [1705718952, -5, 1705718952, 0, 1, -1, 6, -2147483648, 0]
+    );
 }
 
 #[test]

@@ -231,7 +231,10 @@ fn faults_are_named_at_their_place(rt: HostRuntime) {
 fn faults_are_told_by_number_and_place(rt: HostRuntime) -> Result<(), Fail> {
     let command = CodecFault::Command(0x30FF_0000);
     let field = CodecFault::Field(12);
-    assert_eq!(rt; (CodecFault::Short.number(), CodecFault::SizeWord.number()), (1, 2));
+    assert_eq!(rt;
+        (CodecFault::Short.number(), CodecFault::SizeWord.number()),
+        (1, 2)
+    );
     assert_eq!(rt; (command.number(), field.number()), (3, 4));
     let text = format!(in rt.alloc(); "{command}, {field}")?;
     assert_eq!(rt;

@@ -13,9 +13,10 @@ pub loop-element-preserved : goal.loop-element-preserved
 loop-element-preserved g c =
     let xs = c.args.elements.now in
     let i = c.loop-element.element-index in
-    let x = c.element-item.result in
-    (rw (c.in_ok-write.ensures.ok, c.loop-element.invariant.0) (Write-more g.E.Element.spelling c.args.out.now.items xs i x c.loop-element-test.true c.element-item.is),
-    each_more g.E.Element.is xs i x c.loop-element-test.true c.element-item.is c.loop-element.invariant.1 c.in_ok-write.ensures.is)
+    let x = c.element-item.result in (
+      rw (c.in_ok-write.ensures.ok, c.loop-element.invariant.0) (Write-more g.E.Element.spelling c.args.out.now.items xs i x c.loop-element-test.true c.element-item.is),
+      each_more g.E.Element.is xs i x c.loop-element-test.true c.element-item.is c.loop-element.invariant.1 c.in_ok-write.ensures.is,
+    )
 
 pub returns-in_err-write-clause-kept : goal.returns-in_err-write-clause-kept
 returns-in_err-write-clause-kept g c = kept_along c.args.out.now.items (flat_map g.E.Element.spelling (take c.loop-element.element-index c.args.elements.now)) c.loop-element.out.items c.write.new.out.items c.loop-element.invariant.0 c.write.ensures.kept

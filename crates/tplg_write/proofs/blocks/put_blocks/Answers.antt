@@ -13,7 +13,8 @@ pub loop-block-preserved : goal.loop-block-preserved
 loop-block-preserved c =
     let xs = c.args.blocks.now in
     let i = c.loop-block.block-index in
-    let x = c.block-item.result in
-    (rw (c.in_ok-put_block.ensures.ok, c.loop-block.invariant.0) (ap (λ (a : List ℕ). record { front = c.args.sink.now.front; added = a })
-    (items_more block_cells c.args.sink.now.added xs i x c.loop-block-test.true c.block-item.is)),
-    each_more IsBlock xs i x c.loop-block-test.true c.block-item.is c.loop-block.invariant.1 c.in_ok-put_block.ensures.is)
+    let x = c.block-item.result in (
+      rw (c.in_ok-put_block.ensures.ok, c.loop-block.invariant.0) (ap (λ (a : List ℕ). record { front = c.args.sink.now.front; added = a })
+          (items_more block_cells c.args.sink.now.added xs i x c.loop-block-test.true c.block-item.is)),
+      each_more IsBlock xs i x c.loop-block-test.true c.block-item.is c.loop-block.invariant.1 c.in_ok-put_block.ensures.is,
+    )

@@ -43,22 +43,28 @@ returns-in_ok-raw-in-Mixer-clause-is c =
     let most : c.cast_unsigned-in-Mixer-2.result ≡ of_z w32 m.platform_max = c.cast_unsigned-in-Mixer-2.ensures ∙ ap (of_z w32) (to_z-of_z w32 m.platform_max (search rules)) in
     let private : length m.private < 2 ^ 32 = omega (arith, c.word-in-Mixer-5.ensures.fits, ap length c.items.ensures) in
     let fits : (ℕ → Type 0) = λ n. n < 2 ^ 32 in
-    rw (m.is) (mixer_slots (control_head_slots 1 m.head) m.min m.max m.platform_max m.invert m.num_channels m.channels m.private c.in_ok-put_control_head-in-Mixer.ensures.is
-    (subst fits min c.word.ensures.fits) (subst fits max c.word-in-Mixer.ensures.fits) (subst fits most c.word-in-Mixer-2.ensures.fits) c.word-in-Mixer-3.ensures.fits c.word-in-Mixer-4.ensures.fits c.words.ensures.fit private,
-    (c.in_ok-put_control_head-in-Mixer.ensures.tlv, (search rules, (search rules, (search rules, search rules)))))
+    rw (m.is) (
+      mixer_slots (control_head_slots 1 m.head) m.min m.max m.platform_max m.invert m.num_channels m.channels m.private c.in_ok-put_control_head-in-Mixer.ensures.is
+          (subst fits min c.word.ensures.fits) (subst fits max c.word-in-Mixer.ensures.fits) (subst fits most c.word-in-Mixer-2.ensures.fits) c.word-in-Mixer-3.ensures.fits c.word-in-Mixer-4.ensures.fits c.words.ensures.fit private,
+      (c.in_ok-put_control_head-in-Mixer.ensures.tlv, (search rules, (search rules, (search rules, search rules)))),
+    )
 
 pub returns-in_ok-raw-in-Enum-2-clause-is : goal.returns-in_ok-raw-in-Enum-2-clause-is
 returns-in_ok-raw-in-Enum-2-clause-is c =
     let e = c.in-Enum in
     let private : length e.private < 2 ^ 32 = omega (arith, c.word-in-Enum-5.ensures.fits, ap length c.items-in-Enum.ensures) in
-    rw (e.is) (enum_slots (control_head_slots 4 e.head) e.num_channels e.channels e.items e.mask e.count e.texts e.values e.private c.in_ok-put_control_head-in-Enum.ensures.is
-    c.word-in-Enum.ensures.fits c.words-in-Enum.ensures.fit c.word-in-Enum-2.ensures.fits c.word-in-Enum-3.ensures.fits c.word-in-Enum-4.ensures.fits c.words-in-Enum-2.ensures.fit private,
-    (c.in_ok-put_control_head-in-Enum.ensures.tlv, (search rules, (search rules, search rules))))
+    rw (e.is) (
+      enum_slots (control_head_slots 4 e.head) e.num_channels e.channels e.items e.mask e.count e.texts e.values e.private c.in_ok-put_control_head-in-Enum.ensures.is
+          c.word-in-Enum.ensures.fits c.words-in-Enum.ensures.fit c.word-in-Enum-2.ensures.fits c.word-in-Enum-3.ensures.fits c.word-in-Enum-4.ensures.fits c.words-in-Enum-2.ensures.fit private,
+      (c.in_ok-put_control_head-in-Enum.ensures.tlv, (search rules, (search rules, search rules))),
+    )
 
 pub returns-in_ok-raw-in-Bytes-clause-is : goal.returns-in_ok-raw-in-Bytes-clause-is
 returns-in_ok-raw-in-Bytes-clause-is c =
     let b = c.in-Bytes in
     let private : length b.private < 2 ^ 32 = omega (arith, c.word-in-Bytes-5.ensures.fits, ap length c.items-in-Bytes.ensures) in
-    rw (b.is) (bytes_slots (control_head_slots 5 b.head) b.max b.mask b.base b.num_regs b.ext_ops b.private c.in_ok-put_control_head-in-Bytes.ensures.is
-    c.word-in-Bytes.ensures.fits c.word-in-Bytes-2.ensures.fits c.word-in-Bytes-3.ensures.fits c.word-in-Bytes-4.ensures.fits c.words-in-Bytes.ensures.fit private,
-    (c.in_ok-put_control_head-in-Bytes.ensures.tlv, search rules))
+    rw (b.is) (
+      bytes_slots (control_head_slots 5 b.head) b.max b.mask b.base b.num_regs b.ext_ops b.private c.in_ok-put_control_head-in-Bytes.ensures.is
+          c.word-in-Bytes.ensures.fits c.word-in-Bytes-2.ensures.fits c.word-in-Bytes-3.ensures.fits c.word-in-Bytes-4.ensures.fits c.words-in-Bytes.ensures.fit private,
+      (c.in_ok-put_control_head-in-Bytes.ensures.tlv, search rules),
+    )

@@ -1,6 +1,6 @@
 // The lists of a topology's graph, by id.
-ghost use Rattle.std.specs.Prelude.{◌≡◌, ◌<◌, ◌^◌, All, length, IfOk};
-ghost use Rattle.std.specs.Option.{option_map};
+ghost use Rattle.std.specs.Prelude.{◌≡◌, ◌<◌, ◌^◌, ◌++◌, All, length, IfOk, OnOk};
+ghost use Rattle.std.specs.Option.{option_map, option_to_list};
 ghost use Rattle.tplg_graph.specs.Lists as law;
 ghost use Rattle.tplg_plan.specs.WidgetWords.{FitsWords};
 
@@ -142,14 +142,29 @@ fn pipe_at(widgets: &Widgets, parts: &[Entry], id: u32) -> Option<Pipe>
     })
 }
 
+/// One more pipeline, where it is there.
+fn add_pipe(pipe: Option<Pipe>, out: &mut Vec<Pipe>) -> Result<(), AllocError>
+    ensures { OnOk result (out.new.items ≡ out.old.items ++ option_to_list pipe) }
+{
+    match pipe {
+        None => Ok(()),
+        Some(pipe) => {
+            out.push(pipe)?;
+            Ok(())
+        }
+    }
+}
+
 /// The pipelines by id.
 pub fn pipes(alloc: Global, widgets: &Widgets, parts: &[Entry]) -> Result<Vec<Pipe>, AllocError>
     requires { length parts.now < 2 ^ 32 }
     ensures { IfOk result (λ xs. xs.items ≡ law.pipes_on widgets.now parts.now) }
 {
-    (0..parts.len() as u32)
-        .filter_map(|id| pipe_at(widgets, parts, id))
-        .collect(alloc)
+    let mut out = Vec::new(alloc);
+    for id in 0..parts.len() as u32 {
+        add_pipe(pipe_at(widgets, parts, id), &mut out)?;
+    }
+    Ok(out)
 }
 
 /// The stream of a host with a stream name, where a PCM has caps of that name.
@@ -205,7 +220,11 @@ fn name_of(entry: &Entry) -> Name44
 pub fn names(alloc: Global, parts: &[Entry]) -> Result<Vec<Name44>, AllocError>
     ensures { IfOk result (λ xs. xs.items ≡ law.names_on parts.now) }
 {
-    parts.iter().map(|e| name_of(e)).collect(alloc)
+    let mut out = Vec::new(alloc);
+    for part in parts {
+        out.push(name_of(part))?;
+    }
+    Ok(out)
 }
 
 fn widget_plan(entry: &Entry) -> WidgetPlan

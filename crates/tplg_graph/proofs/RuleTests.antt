@@ -7,6 +7,7 @@ use Rattle.tplg_model.specs.declared.block.Topology.{Topology}
 use Rattle.tplg_widgets.specs.Entries.{entries_of, interpreted}
 use Rattle.tplg_widgets.specs.Ends.{ends_in}
 use Rattle.tplg_widgets.specs.PcmList.{pcms_of}
+use Rattle.tplg_graph.specs.Lists.{components_on, edges_on}
 use Rattle.tplg_widgets.specs.Ends.{joins_of}
 use Rattle.tplg_widgets.specs.WiringValue.{WiringValue, wiring_of}
 use Rattle.tplg_graph.specs.Rules.{Rule, tested, AllHold, BreaksOf, IsFirstFailing}
@@ -79,7 +80,7 @@ way-same ids comps edges = record { number = refl; items = refl; holds = λ i h 
 
 all-same : (w : WiringValue) → AllSame (rules_on w.widgets (interpreted w.widgets) w.pcms w.ends w.joins) (tests_on w)
 all-same w =
-    (same _ _ _, (same _ _ _, (same _ _ _, (same _ _ _, (same _ _ _, (same _ _ _, (same _ _ _, (same _ _ _, (same _ _ _, (same _ _ _, (same _ _ _, (same _ _ _, (same _ _ _, (cycle-same _ _, (way-same _ _ _, tt)))))))))))))))
+    (same _ _ _, (same _ _ _, (same _ _ _, (same _ _ _, (same _ _ _, (same _ _ _, (same _ _ _, (same _ _ _, (same _ _ _, (same _ _ _, (same _ _ _, (same _ _ _, (same _ _ _, (cycle-same (length (interpreted w.widgets)) (edges_on (interpreted w.widgets) w.joins), (way-same (length (interpreted w.widgets)) (components_on (interpreted w.widgets) w.joins) (edges_on (interpreted w.widgets) w.joins), tt)))))))))))))))
 
 told : (t : Topology) (o : Option (ℕ × ℕ)) → ruling_of t ≡ o → (IsWellFormed t × (o ≡ None)) ⊎ ((rule : ℕ) × (item : ℕ) × Breaks t rule item × (o ≡ Some (rule, item)))
 unfolding ruling_of

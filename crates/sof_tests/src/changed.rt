@@ -115,7 +115,8 @@ fn each_changed_byte_is_told(rt: HostRuntime) -> Result<(), Fail> {
         let byte = bytes.get_mut(changed.at).ok_or("past the end")?;
         let before = *byte;
         *byte = changed.byte;
-        assert_eq!(rt; fault_of(alloc, &bytes), changed.fault);
+        let at = changed.at;
+        assert_eq!(rt; fault_of(alloc, &bytes), changed.fault, "at {at}");
         let byte = bytes.get_mut(changed.at).ok_or("past the end")?;
         *byte = before;
     }

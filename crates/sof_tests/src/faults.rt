@@ -1,37 +1,67 @@
 // Each fault at each kind of record: what the reader says of a file that has one of each, with some bytes changed.
-use crate::records::{
-    put_bytes, put_enum, put_header, put_mixer, put_number, put_pcm, put_route, put_widget,
-    put_words, put_zeros,
-};
-use std::alloc::{AllocError, Global};
+use crate::stated::{host_limits, named, put_header, route, widget, written};
+use sof_base::Items;
+use std::alloc::Global;
 use std::test::Fail;
+use tplg_build::{Choices, SourceControl, SourcePcm, TopologySource, WidgetKind};
+use tplg_model::token_number::BUFFER_SIZE;
+use tplg_model::{Block, Body, Control, Widget, block_type};
 use tplg_read::{TplgFault, read};
 
-// A manifest, widgets with a mixer, an enum and a bytes control, a widget with an array, a route and a PCM, each in a block
-// of its own.
-fn one_of_each(alloc: Global) -> Result<Vec<u8>, AllocError> {
-    let mut out = Vec::new(alloc);
-    put_header(&mut out, 8, 116, 0, 1)?;
-    put_words(&mut out, &[112])?;
-    put_zeros(&mut out, 104)?;
-    put_words(&mut out, &[4, 7])?;
-    put_header(&mut out, 5, 492, 1, 1)?;
-    put_widget(&mut out, 4, b"VOL0", b"", 1, 0)?;
-    put_mixer(&mut out, b"Master")?;
-    put_header(&mut out, 5, 1896, 1, 1)?;
-    put_widget(&mut out, 2, b"MUX0", b"", 1, 0)?;
-    put_enum(&mut out, b"Source")?;
-    put_header(&mut out, 5, 372, 1, 1)?;
-    put_widget(&mut out, 18, b"EQ0", b"", 1, 0)?;
-    put_bytes(&mut out, b"Filter")?;
-    put_header(&mut out, 5, 152, 1, 1)?;
-    put_widget(&mut out, 16, b"B0", b"", 0, 20)?;
-    put_number(&mut out, 100, 768)?;
-    put_header(&mut out, 4, 132, 0, 1)?;
-    put_route(&mut out, b"B0", b"VOL0")?;
-    put_header(&mut out, 7, 912, 0, 1)?;
-    put_pcm(&mut out, b"Main", b"P0")?;
-    Ok(out)
+// A volume with a mixer control, a mux with an enum, an effect with a bytes control, a buffer with an array, a route and a
+// PCM.
+fn one_of_most(alloc: Global) -> Result<TopologySource, Fail> {
+    let mut source = TopologySource::new(alloc);
+    let volume = SourceControl::Volume {
+        name: named(b"Master")?,
+        channels: 2,
+        min: 0,
+        max: 32,
+        tlv_min: -6400,
+        tlv_step: 200,
+        tlv_mute: 1,
+    };
+    let pga = widget(alloc, WidgetKind::Pga, b"VOL0", b"")?;
+    source.widgets.push(pga.with_control(volume)?)?;
+    let mux = widget(alloc, WidgetKind::Mux, b"MUX0", b"")?;
+    source.widgets.push(mux.with_control(choice(alloc)?)?)?;
+    let blob = SourceControl::Blob {
+        name: named(b"Filter")?,
+        max: 0,
+        blob: Items::new(alloc),
+    };
+    let effect = widget(alloc, WidgetKind::Effect, b"EQ0", b"")?;
+    source.widgets.push(effect.with_control(blob)?)?;
+    let buffer = widget(alloc, WidgetKind::Buffer, b"B0", b"")?;
+    source.widgets.push(buffer.with_number(BUFFER_SIZE, 768)?)?;
+    source.routes.push(route(b"VOL0", b"B0")?)?;
+    source.pcms.push(SourcePcm {
+        name: named(b"Main")?,
+        id: 0,
+        limits: host_limits(),
+        playback: Some(named(b"P0")?),
+        capture: None,
+    })?;
+    Ok(source)
+}
+
+fn choice(alloc: Global) -> Result<SourceControl, Fail> {
+    let mut items = Items::new(alloc);
+    items.push(named(b"First")?)?;
+    Ok(SourceControl::Choice {
+        name: named(b"Source")?,
+        items: Choices::of(items),
+    })
+}
+
+// A manifest of 4 bytes, and the rest behind it, each in a block of its own.
+fn one_of_each(alloc: Global) -> Result<Vec<u8>, Fail> {
+    let mut manifest = Vec::new(alloc);
+    put_header(&mut manifest, block_type::MANIFEST, 116)?;
+    manifest.extend_from_slice(&112u32.to_le_bytes())?;
+    manifest.extend_from_slice(&[0; 104])?;
+    manifest.extend_from_slice(&[4, 0, 0, 0, 7, 7, 7, 7])?;
+    written(alloc, &one_of_most(alloc)?, manifest)
 }
 
 // Where bytes are changed, how many, to what, and the fault.
@@ -131,6 +161,58 @@ fn changed(alloc: Global, at: usize, count: usize, byte: u8) -> Result<Vec<u8>, 
     Ok(file)
 }
 
+// What the only widget has: a control of which kind.
+fn control_of(widgets: &[Widget]) -> &'static str {
+    let [widget] = widgets else {
+        return "not one widget";
+    };
+    match widget.controls.items() {
+        [] => "none",
+        [Control::Mixer { .. }] => "mixer",
+        [Control::Enum { .. }] => "enum",
+        [Control::Bytes { .. }] => "bytes",
+        _ => "several",
+    }
+}
+
+// Which records a block has; of a widget, its control.
+fn records_of(block: &Block) -> &'static str {
+    match &block.body {
+        Body::Manifests(_) => "manifests",
+        Body::Widgets(widgets) => control_of(widgets.items()),
+        Body::Routes(_) => "routes",
+        Body::Pcms(_) => "PCMs",
+        Body::Other { .. } => "kept bytes",
+    }
+}
+
+#[test]
+fn a_file_with_one_of_each_is_read(rt: HostRuntime) -> Result<(), Fail> {
+    let alloc = rt.alloc();
+    let Ok(topology) = read(alloc, &one_of_each(alloc)?) else {
+        return Err("a fault")?;
+    };
+    let blocks = topology.blocks.items();
+    assert_eq!(rt; blocks.len(), 7);
+    let records = [
+        "manifests",
+        "mixer",
+        "enum",
+        "bytes",
+        "none",
+        "routes",
+        "PCMs",
+    ];
+    for place in 0..7usize {
+        assert_eq!(rt;
+            blocks.get(place).map(|block| records_of(block)),
+            records.get(place).copied(),
+            "block {place}"
+        );
+    }
+    Ok(())
+}
+
 fn fault_of(alloc: Global, bytes: &[u8]) -> Option<TplgFault> {
     match read(alloc, bytes) {
         Ok(_topology) => None,
@@ -146,7 +228,7 @@ fn each_fault_of_each_record_is_told(rt: HostRuntime) -> Result<(), Fail> {
     assert_eq!(rt; fault_of(alloc, &file), None);
     for &(at, count, byte, fault) in &CHANGES {
         let file = changed(alloc, at, count, byte)?;
-        assert_eq!(rt; fault_of(alloc, &file), Some(fault));
+        assert_eq!(rt; fault_of(alloc, &file), Some(fault), "at {at}");
     }
     Ok(())
 }

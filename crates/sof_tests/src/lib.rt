@@ -1,47 +1,27 @@
-//! Tests that cross crates: whole runs of the top call over a desk in memory and the firmware, and worked rows of the
-//! written run.
+//! Tests that cross crates: runs of the top call over a desk that fails, calls that read, plan and write topologies, and
+//! worked rows of the written run. Whole runs over real files are the cases of tests/, at the top.
 #![tactic(auto)]
 
 #[cfg(test)]
-mod alone;
-#[cfg(test)]
 mod changed;
-#[cfg(test)]
-mod checks;
 mod counted;
 #[cfg(test)]
-mod ends;
+mod cut;
 #[cfg(test)]
-mod fated;
+mod failing;
 #[cfg(test)]
 mod faults;
-#[cfg(test)]
-mod graphs;
-#[cfg(test)]
-mod loads;
 #[cfg(test)]
 mod plans;
 #[cfg(test)]
 mod played;
-#[cfg(test)]
-mod records;
 mod rows;
-#[cfg(test)]
-mod ruled;
-#[cfg(test)]
-mod rules;
-#[cfg(test)]
-mod runs;
-#[cfg(test)]
-mod scripts;
 #[cfg(test)]
 mod sounds;
 #[cfg(test)]
-mod streams;
+mod stated;
 #[cfg(test)]
 mod thin;
-#[cfg(test)]
-mod volume;
 #[cfg(test)]
 mod written;
 

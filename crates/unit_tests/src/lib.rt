@@ -22,8 +22,6 @@ mod messages;
 #[cfg(test)]
 mod moves;
 #[cfg(test)]
-mod reading;
-#[cfg(test)]
 mod rings;
 #[cfg(test)]
 mod tokens;

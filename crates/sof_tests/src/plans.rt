@@ -4,7 +4,7 @@ use sof_base::Format;
 use std::alloc::Global;
 use std::test::Fail;
 use stream_law::{Edge, Join, Kind, Pipe};
-use tplg_graph::{ControlKind, Plan, gain, is_thin, need, plan};
+use tplg_graph::{ControlKind, Plan, PlanFault, gain, is_thin, need, plan};
 use tplg_model::Topology;
 use tplg_read::read;
 
@@ -112,6 +112,22 @@ fn a_value_of_a_volume_has_its_gain(rt: HostRuntime) -> Result<(), Fail> {
     assert_eq!(rt;
         (gain(&volume, 31), gain(&volume, 32), gain(&volume, 0)),
         (52056, 65536, 0)
+    );
+    Ok(())
+}
+
+// What an item is depends on its rule.
+#[test]
+fn a_fault_names_its_item(rt: HostRuntime) -> Result<(), Fail> {
+    let alloc = rt.alloc();
+    let route = PlanFault::Rule { rule: 4, item: 0 };
+    let widget = PlanFault::Rule { rule: 6, item: 3 };
+    let routes = format!(in alloc; "{route}")?;
+    let widgets = format!(in alloc; "{widget}")?;
+    assert_eq!(rt; routes.as_str(), "rule 4, route 0: it joins two buffers");
+    assert_eq!(rt;
+        widgets.as_str(),
+        "rule 6, widget 3: its kind needs another number of routes"
     );
     Ok(())
 }

@@ -12,7 +12,7 @@ use std::process::ExitCode;
 /// The greatest heap of the firmware, in bytes.
 const ROOM: u32 = 16777216;
 
-const HELP: &str = "sof play HEAP TOPOLOGY SCRIPT\nsof check TOPOLOGY\n";
+const HELP: &str = "sof play HEAP TOPOLOGY SCRIPT\nsof check TOPOLOGY\nsof compile SOURCE OUT\n";
 
 const VERSION: &str = "sof 0.1.0\n";
 

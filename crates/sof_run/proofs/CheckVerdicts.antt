@@ -1,9 +1,9 @@
 -- What `check` ensures, from what it did.
-use Rattle.std.proofs.Common.{◌≡◌, ◌⊎◌, inl, inr, ℕ, ◌≤◌, ◌<◌, Bool, true, false, List, [], ◌∷◌, ◌++◌, length, map, Option, Some, None, Result, Ok, Err, refl, sym, ◌∙◌, ap, subst, codes, arith, append_assoc, if◌then◌else◌}
+use Rattle.std.proofs.Common.{◌≡◌, ◌⊎◌, inl, inr, ℕ, ◌≤◌, ◌<◌, true, false, List, [], ◌∷◌, ◌++◌, length, map, Option, Some, None, Result, Ok, Err, refl, sym, ◌∙◌, ap, subst, codes, arith}
 use Rattle.std.specs.List.{concat}
 use Rattle.std.proofs.lemmas.List.{append-nil}
 use Rattle.sof_desk.specs.declared.calls.LoadFault.TheVariants.{Failed, TooLong, OutOfMemory}
-use Rattle.sof_desk.specs.Desk.{DeskMeaning, Place, Spoken, Act, Put, Call, Load, Did, Heard, Led, Loaded, Acted, Part, Takes, same_place, with_more, after_act}
+use Rattle.sof_desk.specs.Desk.{DeskMeaning, Call, Load, Did, Heard, Led, Loaded, Acted}
 use Rattle.sof_session.specs.Turns.{LifeMeaning, Turn, Turns}
 use Rattle.tplg_model.specs.declared.fault.TplgFault.{TplgFault}
 use Rattle.tplg_model.specs.declared.block.Topology.{Topology}
@@ -17,11 +17,13 @@ use Rattle.sof_run.specs.Words.{play_of}
 use Rattle.sof_run.specs.Todo.{no_memory, End, Says, Goes}
 use Rattle.sof_run.specs.Play.{with_newline, halt_line, halt_status, lines_todo}
 use Rattle.sof_run.specs.Checking.{check_of, counts_of, checked_rules, checked_file, checked, checked_todo, check}
+use Rattle.sof_run.specs.Compiling.{compile_of}
 use Rattle.sof_run.specs.Forms.{todo_for, todo_of}
 use Rattle.sof_run.specs.TopologyBytes.{AreBytes, IsFile, IsBroken}
 use Rattle.sof_run.specs.Checks.{IsWrong, IsRight, saying, CheckVerdict, Spoke, IsFront, WroteText, Checks}
 use Rattle.sof_run.specs.Run.{Done}
 use Rattle.sof_run.proofs.Settle.{no_turns}
+use Rattle.sof_run.proofs.SaidLines.{said, front_behind, nothing, behind, put, took, Parted, line_failed, line_parted}
 
 -- ---- the words
 
@@ -33,7 +35,7 @@ apart room (verb ∷ topology ∷ []) name is = refl
 apart room (verb ∷ topology ∷ more ∷ words) name is = absurd (cc is)
 
 checks_alone : (room : ℕ) (words : List (List ℕ)) (name : List ℕ) → check_of words ≡ Some name → todo_of room words ≡ check name
-checks_alone room words name is = λ i. todo_for (apart room words name is i) (is i)
+checks_alone room words name is = λ i. todo_for (apart room words name is i) (is i) (compile_of words)
 
 -- ---- the device
 
@@ -58,13 +60,6 @@ no_turn name turns (Load n l (Err OutOfMemory) ∷ calls) status goes = no_turns
 no_turn name turns (Load n l (Err Failed) ∷ calls) status goes = goes.2.0
 
 -- ---- the status
-
--- a line that was said, with its status, or that was not
-said : (line : List ℕ) (n : ℕ) (turns : List Turn) (calls : List Call) (status : ℕ) → Says line n turns calls status → (status ≡ 3) ⊎ ((status ≡ n) × (calls ≡ saying line ∷ []))
-said line n turns [] status says = absurd says
-said line n turns (Load name limit heard ∷ calls) status says = absurd says
-said line n turns (Did act true ∷ calls) status says = inr (says.3, λ i. Did (says.0 i) true ∷ says.2 i)
-said line n turns (Did act false ∷ calls) status says = inl says.3
 
 -- all lines that were said, or not all of them were
 lines_said : (lines : List (List ℕ)) (turns : List Turn) (calls : List Call) (status : ℕ) → Goes (lines_todo lines End) turns calls status → (status ≡ 3) ⊎ ((status ≡ 0) × (calls ≡ map saying (map with_newline lines)))
@@ -143,82 +138,23 @@ module _ (name bytes : List ℕ) where
 
 -- ---- what was written
 
--- bytes behind bytes, at a place
-more_behind : (b : Bool) (o w v : Option (List ℕ)) (first rest : List ℕ) → w ≡ (if b then with_more o first else o) → v ≡ (if b then with_more w rest else w) → v ≡ (if b then with_more o (first ++ rest) else o)
-more_behind true None w v first rest one two = two ∙ ap (λ x. with_more x rest) one
-more_behind true (Some bytes) w v first rest one two = two ∙ ap (λ x. with_more x rest) one ∙ ap Some (append_assoc bytes first rest)
-more_behind false o w v first rest one two = two ∙ one
-
-none_more : (b : Bool) (o v : Option (List ℕ)) → v ≡ o → v ≡ (if b then with_more o [] else o)
-none_more true None v same = same
-none_more true (Some bytes) v same = same ∙ ap Some (sym (append-nil bytes))
-none_more false o v same = same
-
--- a front behind a whole is a front
-front_behind : (first part text : List ℕ) → IsFront part text → IsFront (first ++ part) (first ++ text)
-front_behind first part text front = (front.0, append_assoc first part front.0 ∙ ap (λ xs. first ++ xs) front.1)
-
 module _ {D : Type 0} (means : DeskMeaning D) where
-  nothing : (d e : D) → ((place : Place) → means.wrote e place ≡ means.wrote d place) → Spoke means [] d e
-  nothing d e kept place = none_more (same_place Spoken place) (means.wrote d place) (means.wrote e place) (kept place)
-
-  behind : (first rest : List ℕ) (d m e : D) → Spoke means first d m → Spoke means rest m e → Spoke means (first ++ rest) d e
-  behind first rest d m e one two place = more_behind (same_place Spoken place) (means.wrote d place) (means.wrote m place) (means.wrote e place) first rest (one place) (two place)
-
-  put : (line : List ℕ) (act : Act) (done : Bool) (d e : D) → act ≡ Put Spoken line → (acted : Acted means act done d e) → Spoke means acted.part d e
-  put line act done d e is acted place = acted.wrote place ∙ ap (λ a. after_act a done acted.part place (means.wrote d place)) is
-
-  took : (line : List ℕ) (act : Act) (done : Bool) (part : List ℕ) → act ≡ Put Spoken line → Takes act done part → Part done part line
-  took line act done part is takes = subst (λ a. Takes a done part) is takes
-
-  -- a text was said with a status, or a front of it with 3
-  record Parted (text : List ℕ) (n : ℕ) (d e : D) (status : ℕ) : Type 0 where
-    pub part : List ℕ
-    pub spoke : Spoke means part d e
-    pub is : ((status ≡ n) × (part ≡ text)) ⊎ ((status ≡ 3) × IsFront part text)
-
-  -- nothing comes after a line that failed
-  line_failed : (line text : List ℕ) (n : ℕ) (act : Act) (calls : List Call) (d e : D) (status : ℕ) → act ≡ Put Spoken line → calls ≡ [] → status ≡ 3 → Led means d (Did act false ∷ calls) e → Parted (line ++ text) n d e status
-  line_failed line text n act calls d e status is last three led =
-      let acted : Acted means act false d led.0 = led.1 in
-      let same : e ≡ led.0 = subst (λ cs. Led means led.0 cs e) last led.2 in
-      let front = took line act false acted.part is acted.takes in
-      record {
-        part = acted.part;
-        spoke = λ place. ap (λ x. means.wrote x place) same ∙ put line act false d led.0 is acted place;
-        is = inr (three, (front.0 ++ text, sym (append_assoc acted.part front.0 text) ∙ ap (λ xs. xs ++ text) front.1));
-      }
-
-  line_parted : (line : List ℕ) (n : ℕ) (turns : List Turn) (calls : List Call) (d e : D) (status : ℕ) → Says line n turns calls status → Led means d calls e → Parted line n d e status
-  line_parted line n turns [] d e status says led = absurd says
-  line_parted line n turns (Load name limit heard ∷ calls) d e status says led = absurd says
-  line_parted line n turns (Did act true ∷ calls) d e status says led =
-      let acted : Acted means act true d led.0 = led.1 in
-      let same : e ≡ led.0 = subst (λ cs. Led means led.0 cs e) says.2 led.2 in
-      record {
-        part = acted.part;
-        spoke = λ place. ap (λ x. means.wrote x place) same ∙ put line act true d led.0 says.0 acted place;
-        is = inl (says.3, took line act true acted.part says.0 acted.takes);
-      }
-  line_parted line n turns (Did act false ∷ calls) d e status says led =
-      subst (λ text. Parted text n d e status) (append-nil line) (line_failed line [] n act calls d e status says.0 says.2 says.3 led)
-
-  lines_parted : (lines : List (List ℕ)) (turns : List Turn) (calls : List Call) (d e : D) (status : ℕ) → Goes (lines_todo lines End) turns calls status → Led means d calls e → Parted (concat (map with_newline lines)) 0 d e status
+  lines_parted : (lines : List (List ℕ)) (turns : List Turn) (calls : List Call) (d e : D) (status : ℕ) → Goes (lines_todo lines End) turns calls status → Led means d calls e → Parted means (concat (map with_newline lines)) 0 d e status
   lines_parted [] turns [] d e status goes led =
-      record { part = []; spoke = nothing d e (λ place. ap (λ x. means.wrote x place) led); is = inl (goes.2, refl) }
+      record { part = []; spoke = nothing means d e (λ place. ap (λ x. means.wrote x place) led); is = inl (goes.2, refl) }
   lines_parted [] turns (call ∷ calls) d e status goes led = absurd (cc goes.1)
   lines_parted (line ∷ lines) turns [] d e status goes led = absurd goes
   lines_parted (line ∷ lines) turns (Load name limit heard ∷ calls) d e status goes led = absurd goes
   lines_parted (line ∷ lines) turns (Did act false ∷ calls) d e status goes led =
-      line_failed (with_newline line) (concat (map with_newline lines)) 0 act calls d e status goes.0 goes.1.1 goes.1.2 led
+      line_failed means (with_newline line) (concat (map with_newline lines)) 0 act calls d e status goes.0 goes.1.1 goes.1.2 led
   lines_parted (line ∷ lines) turns (Did act true ∷ calls) d e status goes led =
       let acted : Acted means act true d led.0 = led.1 in
-      let whole : acted.part ≡ with_newline line = took (with_newline line) act true acted.part goes.0 acted.takes in
-      let said : Spoke means (with_newline line) d led.0 = subst (λ part. Spoke means part d led.0) whole (put (with_newline line) act true d led.0 goes.0 acted) in
+      let whole : acted.part ≡ with_newline line = took means (with_newline line) act true acted.part goes.0 acted.takes in
+      let said : Spoke means (with_newline line) d led.0 = subst (λ part. Spoke means part d led.0) whole (put means (with_newline line) act true d led.0 goes.0 acted) in
       let others = lines_parted lines turns calls led.0 e status goes.1 led.2 in
       record {
         part = with_newline line ++ others.part;
-        spoke = behind (with_newline line) others.part d led.0 e said others.spoke;
+        spoke = behind means (with_newline line) others.part d led.0 e said others.spoke;
         is = joined others.part others.is;
       }
     where
@@ -231,11 +167,11 @@ module _ {D : Type 0} (means : DeskMeaning D) where
   loaded_told text name limit heard d m e status loaded told =
       record {
         part = told.part;
-        spoke = behind [] told.part d m e (nothing d m loaded.wrote) told.spoke;
+        spoke = behind means [] told.part d m e (nothing means d m loaded.wrote) told.spoke;
         is = told.is;
       }
 
-  all_told : (text : List ℕ) (d e : D) (status : ℕ) → Parted text 0 d e status → WroteText means text d e status
+  all_told : (text : List ℕ) (d e : D) (status : ℕ) → Parted means text 0 d e status → WroteText means text d e status
   all_told text d e status parted = record { part = parted.part; spoke = parted.spoke; is = by parted.part parted.is }
     where
       by : (part : List ℕ) → ((status ≡ 0) × (part ≡ text)) ⊎ ((status ≡ 3) × IsFront part text) → ((status ≡ 0) × (part ≡ text)) ⊎ (((status ≡ 3) × IsFront part text) ⊎ (((status ≡ 3) ⊎ (status ≡ 7)) × IsFront part no_memory))
@@ -244,7 +180,7 @@ module _ {D : Type 0} (means : DeskMeaning D) where
 
   wanting_told : (text : List ℕ) (turns : List Turn) (calls : List Call) (d e : D) (status : ℕ) → Says no_memory 7 turns calls status → Led means d calls e → WroteText means text d e status
   wanting_told text turns calls d e status says led =
-      let parted = line_parted no_memory 7 turns calls d e status says led in
+      let parted = line_parted means no_memory 7 turns calls d e status says led in
       record { part = parted.part; spoke = parted.spoke; is = by parted.part parted.is }
     where
       by : (part : List ℕ) → ((status ≡ 7) × (part ≡ no_memory)) ⊎ ((status ≡ 3) × IsFront part no_memory) → ((status ≡ 0) × (part ≡ text)) ⊎ (((status ≡ 3) × IsFront part text) ⊎ (((status ≡ 3) ⊎ (status ≡ 7)) × IsFront part no_memory))
@@ -279,7 +215,7 @@ module _ {D : Type 0} (means : DeskMeaning D) where
     check_told turns (Load n l (Err Failed) ∷ calls) d e status told goes led =
         let last : e ≡ led.0 = subst (λ cs. Led means led.0 cs e) goes.2.1 led.2 in
         loaded_told text n l (Err Failed) d led.0 e status led.1
-        record { part = []; spoke = nothing led.0 e (λ place. ap (λ x. means.wrote x place) last); is = inr (inl (goes.2.2, (text, refl))) }
+        record { part = []; spoke = nothing means led.0 e (λ place. ap (λ x. means.wrote x place) last); is = inr (inl (goes.2.2, (text, refl))) }
 
 is_kept : (bytes : List ℕ) (t : Topology) → IsRight bytes t → checked bytes ≡ Ok t
 is_kept bytes t right = ap checked_file (topology_again bytes t right.0.0 right.0.1) ∙ ap (checked_rules t) (whole_none t right.1)

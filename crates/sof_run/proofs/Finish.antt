@@ -22,6 +22,7 @@ use Rattle.sof_run.specs.Bindings.{bound_slot}
 use Rattle.sof_run.specs.Rounds.{Round, rounds_of}
 use Rattle.sof_run.specs.Play.{lines_after, flush_todo, lines_todo, rounds_todo, session_todo, WithPorts, binding_todo, bindings_todo, prepared_todo, Prepared, Ready, ticks_of, prepared, prepared_script, prepared_ticks, prepared_topology, prepared_rules, prepared_bindings, prepared_commands, play}
 use Rattle.sof_run.specs.Checking.{check, check_of}
+use Rattle.sof_run.specs.Compiling.{Names, compile, compile_of}
 use Rattle.sof_run.specs.Forms.{todo_for, todo_of}
 use Rattle.sof_run.specs.Whole.{Planned, Memory, whole, whole_end, Throughout, Told, Made}
 use Rattle.sof_run.specs.Runs.{after_units, marked, puts}
@@ -36,7 +37,7 @@ use Rattle.sof_run.proofs.Solving.{are_whole, solved}
 use Rattle.sof_run.proofs.Written.{bindings_items, play_wrote}
 use Rattle.sof_run.proofs.WholeRuns.{play_whole, play_end}
 use Rattle.sof_run.proofs.Statuses.{IsLate, TurnsLast, ends, none_turned, none_asked, three_last}
-use Rattle.sof_run.proofs.Throughout.{play_all, check_all}
+use Rattle.sof_run.proofs.Throughout.{play_all, check_all, compile_all}
 
 not_late : (status : ℕ) → IsEarly status → IsLate status → ⊥
 not_late status (inl is) (inl late) = cc (sym is ∙ late)
@@ -70,32 +71,36 @@ module _ {D P : Type 0} (means : DeskMeaning D) (dsp : LifeMeaning P) (todo : To
         made = λ calm told. settle means dsp (means.holds old) todo old new p q ran.turns ran.played.calls status (λ name. refl) calm told ran.played.goes ran.played.led ran.turned;
       }
 
-pub words_other : (o : Option Form) (c : Option (List ℕ)) → Throughout (λ n. n ≡ 3 → ⊥) (λ name. Unit {0}) (todo_for o c)
-words_other None None = λ e. cc e
-words_other None (Some name) = check_all (λ n. n ≡ 3 → ⊥) (λ name. Unit {0}) name (λ e. cc e) (λ e. cc e) (λ e. cc e) (λ e. cc e) tt
-words_other (Some form) c = play_all (λ n. n ≡ 3 → ⊥) (λ name. Unit {0}) form (λ e. cc e) (λ e. cc e) (λ e. cc e) (λ e. cc e) (λ e. cc e) (λ e. cc e) (λ e. cc e) (λ name. tt)
+pub words_other : (o : Option Form) (c : Option (List ℕ)) (s : Option Names) → Throughout (λ n. n ≡ 3 → ⊥) (λ name. Unit {0}) (todo_for o c s)
+words_other None None None = λ e. cc e
+words_other None None (Some names) = compile_all (λ n. n ≡ 3 → ⊥) (λ name. Unit {0}) names (λ e. cc e) (λ e. cc e) (λ e. cc e) (λ e. cc e) tt
+words_other None (Some name) s = check_all (λ n. n ≡ 3 → ⊥) (λ name. Unit {0}) name (λ e. cc e) (λ e. cc e) (λ e. cc e) (λ e. cc e) tt
+words_other (Some form) c s = play_all (λ n. n ≡ 3 → ⊥) (λ name. Unit {0}) form (λ e. cc e) (λ e. cc e) (λ e. cc e) (λ e. cc e) (λ e. cc e) (λ e. cc e) (λ e. cc e) (λ name. tt)
 
 -- status 1 is that of words without a form
-one_only : (o : Option Form) (c : Option (List ℕ)) (turns : List Turn) (calls : List Call) (status : ℕ) → Goes (todo_for o c) turns calls status → status ≡ 1 → (o ≡ None) × (c ≡ None)
-one_only None None turns calls status goes one = (refl, refl)
-one_only None (Some name) turns calls status goes one =
+one_only : (o : Option Form) (c : Option (List ℕ)) (s : Option Names) (turns : List Turn) (calls : List Call) (status : ℕ) → Goes (todo_for o c s) turns calls status → status ≡ 1 → (o ≡ None) × (c ≡ None) × (s ≡ None)
+one_only None None None turns calls status goes one = (refl, refl, refl)
+one_only None None (Some names) turns calls status goes one =
+    absurd (ends (λ n. n ≡ 1 → ⊥) (λ name. Unit {0}) (compile names) turns calls status goes (compile_all (λ n. n ≡ 1 → ⊥) (λ name. Unit {0}) names (λ e. cc e) (λ e. cc e) (λ e. cc e) (λ e. cc e) tt) (λ e. cc e) one)
+one_only None (Some name) s turns calls status goes one =
     absurd (ends (λ n. n ≡ 1 → ⊥) (λ name. Unit {0}) (check name) turns calls status goes (check_all (λ n. n ≡ 1 → ⊥) (λ name. Unit {0}) name (λ e. cc e) (λ e. cc e) (λ e. cc e) (λ e. cc e) tt) (λ e. cc e) one)
-one_only (Some form) c turns calls status goes one =
+one_only (Some form) c s turns calls status goes one =
     absurd (ends (λ n. n ≡ 1 → ⊥) (λ name. Unit {0}) (play form) turns calls status goes (play_all (λ n. n ≡ 1 → ⊥) (λ name. Unit {0}) form (λ e. cc e) (λ e. cc e) (λ e. cc e) (λ e. cc e) (λ e. cc e) (λ e. cc e) (λ e. cc e) (λ name. tt)) (λ e. cc e) one)
 
-one_each : (o : Option Form) (c : Option (List ℕ)) (turns : List Turn) (calls : List Call) (status : ℕ) → Goes (todo_for o c) turns calls status → o ≡ None → c ≡ None → (status ≡ 1) ⊎ (status ≡ 3)
-one_each None None turns [] status goes no_play no_check = absurd goes
-one_each None None turns (Load name limit heard ∷ calls) status goes no_play no_check = absurd goes
-one_each None None turns (Did act true ∷ calls) status goes no_play no_check = inl goes.3
-one_each None None turns (Did act false ∷ calls) status goes no_play no_check = inr goes.3
-one_each None (Some name) turns calls status goes no_play no_check = absurd (cc no_check)
-one_each (Some form) c turns calls status goes no_play no_check = absurd (cc no_play)
+one_each : (o : Option Form) (c : Option (List ℕ)) (s : Option Names) (turns : List Turn) (calls : List Call) (status : ℕ) → Goes (todo_for o c s) turns calls status → o ≡ None → c ≡ None → s ≡ None → (status ≡ 1) ⊎ (status ≡ 3)
+one_each None None None turns [] status goes no_play no_check no_compile = absurd goes
+one_each None None None turns (Load name limit heard ∷ calls) status goes no_play no_check no_compile = absurd goes
+one_each None None None turns (Did act true ∷ calls) status goes no_play no_check no_compile = inl goes.3
+one_each None None None turns (Did act false ∷ calls) status goes no_play no_check no_compile = inr goes.3
+one_each None None (Some names) turns calls status goes no_play no_check no_compile = absurd (cc no_compile)
+one_each None (Some name) s turns calls status goes no_play no_check no_compile = absurd (cc no_check)
+one_each (Some form) c s turns calls status goes no_play no_check no_compile = absurd (cc no_play)
 
 pub worded : (room : ℕ) (words : List (List ℕ)) (turns : List Turn) (calls : List Call) (status : ℕ) → Goes (todo_of room words) turns calls status → Worded room words status
 worded room words turns calls status goes =
     record {
-      only = one_only (play_of room words) (check_of words) turns calls status goes;
-      each = one_each (play_of room words) (check_of words) turns calls status goes;
+      only = one_only (play_of room words) (check_of words) (compile_of words) turns calls status goes;
+      each = one_each (play_of room words) (check_of words) (compile_of words) turns calls status goes;
     }
 
 -- ---- the files
@@ -144,7 +149,7 @@ module _ {D P : Type 0} (means : DeskMeaning D) (dsp : LifeMeaning P) (words : L
   pub judged : Judged means (dsp.most p) words old done.ran.played.calls status
   judged form topology script is_form is_topology is_script bytes =
       judge (means.holds old) topology script means form done.ran.turns done.ran.played.calls status old new (λ name. refl) is_topology is_script bytes
-      (subst (λ o. Goes (todo_for o (check_of words)) done.ran.turns done.ran.played.calls status) is_form done.ran.played.goes) done.ran.played.led
+      (subst (λ o. Goes (todo_for o (check_of words) (compile_of words)) done.ran.turns done.ran.played.calls status) is_form done.ran.played.goes) done.ran.played.led
 
   pub plays : Plays means dsp words old p status new q
   plays calm run =
@@ -153,7 +158,7 @@ module _ {D P : Type 0} (means : DeskMeaning D) (dsp : LifeMeaning P) (words : L
       let plan = plan_of run.t in
       let marks = marked (units_in run s) in
       let end : ℕ × Stand = (0, after_units (start_in run s) (units_in run s)) in
-      let same : todo_of (dsp.most p) words ≡ play run.form = ap (λ o. todo_for o (check_of words)) run.is_form in
+      let same : todo_of (dsp.most p) words ≡ play run.form = ap (λ o. todo_for o (check_of words) (compile_of words)) run.is_form in
       let ready = files_ready run.topology run.script run.t run.read run.is_run in
       let told : Told holds (play run.form) = (run.topology, run.is_topology, (run.script, run.is_script, told_ready holds run.form.heap plan run.read (prepared run.topology run.script) ready run.given)) in
       let made : Made (whole holds s (play run.form)) (whole_end holds s (play run.form)) done.ran.played.calls status (dsp.stand q) =

@@ -12,8 +12,11 @@ pub mod Carried
 pub mod Finish
 pub mod ScriptReads
 pub mod BindingLaws
+pub mod SaidLines
 pub mod CheckPhases
 pub mod CheckVerdicts
+pub mod CompilePhases
+pub mod CompileVerdicts
 pub mod Slots
 pub mod Openings
 pub mod Flushing

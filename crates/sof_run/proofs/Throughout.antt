@@ -9,6 +9,9 @@ use Rattle.tplg_model.specs.declared.block.Topology.{Topology}
 use Rattle.tplg_model.specs.Reading.{topology_of}
 use Rattle.tplg_plan.specs.declared.plans.Plan.{Plan}
 use Rattle.tplg_graph.specs.RuleTest.{ruling_of}
+use Rattle.tplg_compile.specs.declared.source_fault.SourceFault.{SourceFault}
+use Rattle.tplg_compile.specs.declared.source_fault.SourceFault.TheVariants as source
+use Rattle.tplg_compile.specs.InOrder.{compiled_of}
 use Rattle.sof_session.specs.Turns.{Turn}
 use Rattle.sof_script.specs.Commands.{Bound}
 use Rattle.sof_script.specs.declared.script.Numbered.{Numbered}
@@ -22,6 +25,7 @@ use Rattle.sof_run.specs.Rounds.{Round, rounds_of}
 use Rattle.sof_run.specs.Todo.{Todo, End, Free, Goes}
 use Rattle.sof_run.specs.Play.{Prepared, Ready, Halted, prepared, prepared_todo, lines_after, flush_todo, lines_todo, rounds_todo, session_todo, WithPorts, binding_todo, bindings_todo, play, halt_status}
 use Rattle.sof_run.specs.Checking.{counts_of, checked_rules, checked_file, checked, checked_todo, check}
+use Rattle.sof_run.specs.Compiling.{Names, source_status, compiled_todo, compile}
 use Rattle.sof_run.specs.Forms.{todo_for}
 use Rattle.sof_run.specs.Whole.{Throughout}
 use Rattle.sof_run.proofs.Statuses.{IsLate, CreatesNone, TurnsLast, ends}
@@ -80,6 +84,19 @@ module _ (P : ℕ → Type 0) (A : List ℕ → Type 0) where
   pub check_all : (name : List ℕ) → P 0 → P 2 → P 5 → P 7 → A name → Throughout P A (check name)
   check_all name done two five seven named = (named, five, seven, λ bytes. (seven, file_all (topology_of bytes) done two))
 
+  source_all : (f : SourceFault) → P 4 → P 7 → P (source_status f)
+  source_all source.Syntax four seven = four
+  source_all (source.Shape list entry) four seven = four
+  source_all (source.Rule rule item) four seven = four
+  source_all source.OutOfMemory four seven = seven
+
+  compiled_all : (out : List ℕ) (r : Result Topology SourceFault) → P 0 → P 4 → P 7 → Throughout P A (compiled_todo out r)
+  compiled_all out (Ok t) done four seven = done
+  compiled_all out (Err f) done four seven = source_all f four seven
+
+  pub compile_all : (names : Names) → P 0 → P 4 → P 5 → P 7 → A names.source → Throughout P A (compile names)
+  compile_all names done four five seven named = (named, five, seven, λ text. (seven, compiled_all names.out (compiled_of text) done four seven))
+
 -- ---- turns come last
 
 flush_puts : (written : List Written) (rest : Todo) → CreatesNone rest → CreatesNone (flush_todo written rest)
@@ -118,10 +135,15 @@ checked_last : (r : Result Topology Halt) → TurnsLast (checked_todo r)
 checked_last (Ok t) = lines_last (counts_of t)
 checked_last (Err why) = tt
 
-pub words_last : (o : Option Form) (c : Option (List ℕ)) → TurnsLast (todo_for o c)
-words_last None None = tt
-words_last None (Some name) = λ bytes. checked_last (checked bytes)
-words_last (Some form) c = λ topology script. prepared_last form.heap (prepared topology script)
+compiled_last : (out : List ℕ) (r : Result Topology SourceFault) → TurnsLast (compiled_todo out r)
+compiled_last out (Ok t) = tt
+compiled_last out (Err f) = tt
+
+pub words_last : (o : Option Form) (c : Option (List ℕ)) (s : Option Names) → TurnsLast (todo_for o c s)
+words_last None None None = tt
+words_last None None (Some names) = λ text. compiled_last names.out (compiled_of text)
+words_last None (Some name) s = λ bytes. checked_last (checked bytes)
+words_last (Some form) c s = λ topology script. prepared_last form.heap (prepared topology script)
 
 -- a session ends with 0 or 3
 pub session_ends : (heap : ℕ) (plan : Plan) (commands : List Numbered) (inputs : List InputView) (outputs : List OutputView) (turns : List Turn) (calls : List Call) (status : ℕ) → Goes (session_todo heap plan commands inputs outputs) turns calls status → IsLate status

@@ -4,6 +4,7 @@ pub mod Bindings
 pub mod Rounds
 pub mod Play
 pub mod Checking
+pub mod Compiling
 pub mod Forms
 pub mod Opening
 pub mod Halts
@@ -12,4 +13,5 @@ pub mod Runs
 pub mod Solved
 pub mod TopologyBytes
 pub mod Checks
+pub mod Compiles
 pub mod Run

@@ -17,8 +17,10 @@ use Rattle.sof_session.specs.Walks.{Stand}
 pub use Rattle.sof_run.specs.TopologyBytes.{AreBytes, IsLong, IsFile, IsBroken}
 use Rattle.sof_run.specs.Words.{Form, play_of}
 use Rattle.sof_run.specs.Checking.{check_of}
+use Rattle.sof_run.specs.Compiling.{compile_of}
 use Rattle.sof_run.specs.Forms.{todo_of}
 use Rattle.sof_run.specs.Checks.{Checks}
+use Rattle.sof_run.specs.Compiles.{Compiles}
 use Rattle.sof_run.specs.Todo.{Todo, Ran}
 use Rattle.sof_run.specs.declared.prepare.Halt.{Halt}
 use Rattle.sof_run.specs.declared.prepare.Halt.TheVariants as halts
@@ -75,8 +77,8 @@ pub record Done {D P : Type 0} (means : DeskMeaning D) (dsp : LifeMeaning P) (to
 
 -- status 1 comes exactly where the words have none of the forms, but for a failure of the desk
 pub record Worded (room : ℕ) (words : List (List ℕ)) (status : ℕ) : Type 0 where
-  pub only : status ≡ 1 → (play_of room words ≡ None) × (check_of words ≡ None)
-  pub each : play_of room words ≡ None → check_of words ≡ None → (status ≡ 1) ⊎ (status ≡ 3)
+  pub only : status ≡ 1 → (play_of room words ≡ None) × (check_of words ≡ None) × (compile_of words ≡ None)
+  pub each : play_of room words ≡ None → check_of words ≡ None → compile_of words ≡ None → (status ≡ 1) ⊎ (status ≡ 3)
 
 -- ---- the files
 
@@ -231,3 +233,4 @@ pub record Whole {D P : Type 0} (means : DeskMeaning D) (dsp : Meaning P) (words
   pub plays : Plays means (life dsp) words old (Bare p) status new last
   pub solves : Solves means (life dsp) words old (Bare p)
   pub checks : Checks means words old (Bare p) done.ran.played.calls status new last
+  pub compiles : Compiles means words old (Bare p) done.ran.played.calls status new last

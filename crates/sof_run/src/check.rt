@@ -38,8 +38,8 @@ fn write_count(word: &[u8], count: u64, line: &mut Line)
     line.say(b"\n");
 }
 
-// Says how many there are.
-fn say_count<D: Desk>(desk: &mut D, word: &[u8], count: u64) -> Result<(), DeskFailed>
+/// Says how many there are.
+pub fn say_count<D: Desk>(desk: &mut D, word: &[u8], count: u64) -> Result<(), DeskFailed>
     requires { length word.now ≤ 20 }
     ensures { DeskPhase D.means (lines_todo (count_line word.now count ∷ [])) (is_ok result) desk.old desk.new }
 {

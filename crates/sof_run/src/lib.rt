@@ -5,6 +5,7 @@
 mod bindings;
 mod carry;
 mod check;
+mod compile;
 mod files;
 mod lines;
 mod opening;

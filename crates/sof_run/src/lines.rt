@@ -1,10 +1,12 @@
-// The lines that are said where files make no run.
+// The lines that are said where files make no run, and where a source is refused.
 ghost use Rattle.std.specs.Prelude.{◌≡◌, ◌+◌, ◌≤◌, ◌++◌, [], ◌∷◌, length, decimal};
+ghost use Rattle.sof_run.specs.Compiling.{list_word as word_of, source_line};
 ghost use Rattle.sof_run.specs.Play.{fault_words, fault_line, cause_words, script_line, halt_line, halt_status};
 
 use crate::prepare::Halt;
 use itoa::Buffer;
 use sof_script::Line;
+use tplg_compile::{List, SourceFault};
 use tplg_read::TplgFault;
 
 // A place in bytes, behind the bytes of the line.
@@ -136,6 +138,61 @@ pub fn write_halt(halt: Halt, line: &mut Line)
             line.say(b"not yet\n");
         }
         Halt::OutOfMemory => {
+            line.clear();
+            line.say(b"no memory\n");
+        }
+    }
+}
+
+// The word of a list of a source.
+fn list_word(list: List) -> &'static [u8]
+    ensures word { result.now ≡ word_of list }
+    ensures short { length result.now ≤ 6 }
+{
+    match list {
+        List::Top => b"top",
+        List::Widget => b"widget",
+        List::Route => b"route",
+        List::Pcm => b"pcm",
+    }
+}
+
+// The line of an entry of a source that is at fault, with its newline.
+fn write_shape(list: List, entry: u32, line: &mut Line)
+    ensures { line.new ≡ source_line (SourceFault.Shape list entry) }
+{
+    line.clear();
+    line.say(b"source shape ");
+    line.say(list_word(list));
+    line.say(b" ");
+    line.say_number(entry);
+    line.say(b"\n");
+}
+
+// The line of a rule that the topology of a source breaks, with its newline.
+fn write_source_rule(rule: u8, item: u32, line: &mut Line)
+    ensures { line.new ≡ source_line (SourceFault.Rule rule item) }
+{
+    line.clear();
+    line.say(b"source rule ");
+    line.say_number(rule as u32);
+    line.say(b" ");
+    line.say_number(item);
+    line.say(b"\n");
+}
+
+/// Writes the line for a source that is refused, with its newline.
+pub fn write_source(fault: SourceFault, line: &mut Line)
+    ensures { line.new ≡ source_line fault }
+{
+    match fault {
+        SourceFault::Syntax => {
+            line.clear();
+            line.say(b"source syntax\n");
+        }
+        SourceFault::Shape { list, entry } => write_shape(list, entry, line),
+        SourceFault::Rule { rule, item } => write_source_rule(rule, item, line),
+        SourceFault::OutOfMemory => {
             line.clear();
             line.say(b"no memory\n");
         }

@@ -6,15 +6,18 @@ ghost use Rattle.sof_script.specs.Commands.{told};
 ghost use Rattle.sof_run.specs.Halts.{IsCarriable, IsInRange};
 ghost use Rattle.sof_run.specs.Play.{play, ready_todo};
 ghost use Rattle.sof_run.specs.Checking.{check_of};
+ghost use Rattle.sof_run.specs.Compiling.{compile_of};
+ghost use Rattle.sof_run.specs.Compiles.{MakesTopology};
 ghost use Rattle.sof_run.specs.Forms.{todo_for, todo_of};
 ghost use Rattle.sof_run.specs.Run.{Gave, Whole};
 
 use crate::carry::do_commands;
 use crate::check::do_check;
+use crate::compile::do_compile;
 use crate::files::{LIMIT, fetch, status_of, stop, stop_for};
 use crate::opening::open_all;
 use crate::prepare::{Halt, Ready, prepare};
-use crate::words::{Form, read_check, read_play};
+use crate::words::{Form, read_check, read_compile, read_play};
 use mbox_link::Dsp;
 use sof_desk::Desk;
 use sof_io::{Inputs, Outputs};
@@ -106,13 +109,25 @@ fn do_play<D: Desk, P: Dsp>(alloc: Global, form: Form<'_>, desk: &mut D, dsp: P)
     }
 }
 
-// All that words that are not those of `play` ask for: the device is left alone.
+// All that words ask for that are neither those of `play` nor those of `check`.
+fn do_source<D: Desk>(alloc: Global, words: &[String], desk: &mut D) -> u8
+    ensures played { Played D.means (todo_for None None (compile_of (map string_bytes words.now))) desk.old [] result desk.new }
+    ensures sound { MakesTopology D.means (map string_bytes words.now) desk.old result }
+{
+    match read_compile(words) {
+        Some(names) => do_compile(alloc, names, desk),
+        None => stop(desk, b"words\n", 1),
+    }
+}
+
+// All that words ask for that are not those of `play`: the device is left alone.
 fn do_alone<D: Desk>(alloc: Global, words: &[String], desk: &mut D) -> u8
-    ensures { Played D.means (todo_for None (check_of (map string_bytes words.now))) desk.old [] result desk.new }
+    ensures played { Played D.means (todo_for None (check_of (map string_bytes words.now)) (compile_of (map string_bytes words.now))) desk.old [] result desk.new }
+    ensures sound { MakesTopology D.means (map string_bytes words.now) desk.old result }
 {
     match read_check(words) {
         Some(name) => do_check(alloc, name, desk),
-        None => stop(desk, b"words\n", 1),
+        None => do_source(alloc, words, desk),
     }
 }
 
@@ -120,7 +135,8 @@ fn do_alone<D: Desk>(alloc: Global, words: &[String], desk: &mut D) -> u8
 fn do_words<D: Desk, P: Dsp>(alloc: Global, words: &[String], desk: &mut D, dsp: P) -> Ended<P>
     requires off { P.means.on dsp ≡ None }
     requires pending { P.means.pending dsp ≡ 0 }
-    ensures { Gave D.means P.means (todo_of (P.means.most dsp) (map string_bytes words.now)) desk.old dsp result.status desk.new result.dsp }
+    ensures gave { Gave D.means P.means (todo_of (P.means.most dsp) (map string_bytes words.now)) desk.old dsp result.status desk.new result.dsp }
+    ensures sound { MakesTopology D.means (map string_bytes words.now) desk.old result.status }
 {
     match read_play(words, dsp.room()) {
         Some(form) => do_play(alloc, form, desk, dsp),
@@ -133,14 +149,15 @@ fn do_words<D: Desk, P: Dsp>(alloc: Global, words: &[String], desk: &mut D, dsp:
 
 /// Does what the words ask for over a desk and a device, and hands the device back.
 ///
-/// The words are `play HEAP TOPOLOGY SCRIPT` or `check TOPOLOGY`: HEAP is a decimal number of bytes without a needless
-/// leading zero, at most the device's room, and each name has 1 to 255 bytes. A topology and a script have at most 1048576
-/// bytes. The script's inputs are loaded, each of at most 4194304 bytes, and its outputs created in the order of its lines,
-/// before the commands. After each tick, and after each other command, the bytes of the outputs are appended, and then the
-/// command's lines are said. The statuses: 0 all commands were carried out, or the topology is right; 1 the words are of no
-/// form; 2 the topology file is broken, or the topology breaks a rule; 3 the desk failed; 4 a line of the script is at fault,
-/// or binds what it may not; 5 a file is too long; 7 memory was wanting; 8 the script has more than 60000 ticks; 9 the
-/// topology or something that the script asks for is not built yet.
+/// The words are `play HEAP TOPOLOGY SCRIPT`, `check TOPOLOGY` or `compile SOURCE OUT`: HEAP is a decimal number of bytes
+/// without a needless leading zero, at most the device's room, and each name has 1 to 255 bytes. A topology, a script and a
+/// source have at most 1048576 bytes. The script's inputs are loaded, each of at most 4194304 bytes, and its outputs created
+/// in the order of its lines, before the commands. After each tick, and after each other command, the bytes of the outputs are
+/// appended, and then the command's lines are said. The statuses: 0 all commands were carried out, the topology is right, or
+/// the source's file was made; 1 the words are of no form; 2 the topology file is broken, or the topology breaks a rule; 3 the
+/// desk failed; 4 a line of the script is at fault, or binds what it may not, or the source is refused; 5 a file is too long;
+/// 7 memory was wanting; 8 the script has more than 60000 ticks; 9 the topology or something that the script asks for is not
+/// built yet.
 pub fn run<D: Desk, P: Dsp>(alloc: Global, words: &[String], desk: &mut D, dsp: P) -> Ended<P>
     requires off { P.means.on dsp ≡ None }
     requires pending { P.means.pending dsp ≡ 0 }

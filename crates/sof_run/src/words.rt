@@ -3,6 +3,7 @@ ghost use Rattle.std.specs.Prelude.{◌≡◌, map, MatchOption, codes, string_b
 ghost use Rattle.std.specs.Str.{bytes_eq};
 ghost use Rattle.sof_run.specs.Words.{play_of, form, number_of, at_most, is_name};
 ghost use Rattle.sof_run.specs.Checking.{check_of};
+ghost use Rattle.sof_run.specs.Compiling.{compile_of, names};
 
 /// What `play` is given: the heap in bytes, and the names of its two files.
 #[derive(Clone, Copy, Debug)]
@@ -100,4 +101,40 @@ pub fn read_check(words: &[String]) -> Option<&str>
         return None;
     }
     Some(topology)
+}
+
+/// What `compile` is given: the names of a source and of the file that is made.
+#[derive(Clone, Copy, Debug)]
+pub struct Names<'a> {
+    pub source: &'a str,
+    pub out: &'a str,
+}
+
+fn is_compile(word: &str) -> bool
+    ensures { result ≡ bytes_eq word.now (codes "compile") }
+{
+    word == "compile"
+}
+
+/// `compile SOURCE OUT`: the names of its files.
+pub fn read_compile(words: &[String]) -> Option<Names<'_>>
+    ensures { MatchOption result
+        (compile_of (map string_bytes words.now) ≡ None)
+        (λ n. compile_of (map string_bytes words.now) ≡ Some (names n.source.now n.out.now)) }
+{
+    if words.len() != 3 {
+        return None;
+    }
+    let source = words[1].as_str();
+    let out = words[2].as_str();
+    if !is_compile(words[0].as_str()) {
+        return None;
+    }
+    if !is_file_name(source) {
+        return None;
+    }
+    if !is_file_name(out) {
+        return None;
+    }
+    Some(Names { source, out })
 }

@@ -1,0 +1,75 @@
+-- What `compile` has to do, by the bytes of the source that its words name.
+use Rattle.std.specs.Prelude.{ℕ, ◌&&◌, List, [], ◌∷◌, ◌++◌, length, Option, Some, None, Result, Ok, Err, codes, decimal, if◌then◌else◌}
+use Rattle.std.specs.Str.{bytes_eq}
+use Rattle.sof_desk.specs.Desk.{Create, Put, Slot}
+use Rattle.tplg_model.specs.declared.block.Topology.{Topology}
+use Rattle.tplg_model.specs.File.{spelling}
+use Rattle.tplg_compile.specs.declared.source_fault.List.{List as SourceList}
+use Rattle.tplg_compile.specs.declared.source_fault.List.TheVariants.{Top, Widget, Route, Pcm}
+use Rattle.tplg_compile.specs.declared.source_fault.SourceFault.{SourceFault}
+use Rattle.tplg_compile.specs.declared.source_fault.SourceFault.TheVariants.{Syntax, Shape, Rule, OutOfMemory}
+use Rattle.tplg_compile.specs.InOrder.{compiled_of}
+use Rattle.sof_run.specs.Words.{is_name}
+use Rattle.sof_run.specs.Todo.{Todo, End, Stop, Ask, Do, Free, no_memory}
+use Rattle.sof_run.specs.Play.{with_newline, lines_todo}
+use Rattle.sof_run.specs.Checking.{count_line}
+
+-- ---- the words
+
+-- what `compile` is given: the names of a source and of the file that is made
+pub record Names : Type 0 where
+  pub source : List ℕ
+  pub out : List ℕ
+
+-- these names
+abbrev pub names : List ℕ → List ℕ → Names
+names source out = record { source = source; out = out }
+
+-- `compile SOURCE OUT`
+abbrev pub compile_of : List (List ℕ) → Option Names
+compile_of (verb ∷ source ∷ out ∷ []) =
+    if bytes_eq verb (codes "compile") && (is_name source && is_name out) then Some (names source out) else None
+compile_of [] = None
+compile_of (verb ∷ []) = None
+compile_of (verb ∷ source ∷ []) = None
+compile_of (verb ∷ source ∷ out ∷ more ∷ words) = None
+
+-- ---- what is said
+
+-- the word of a list of a source
+abbrev pub list_word : SourceList → List ℕ
+list_word Top = codes "top"
+list_word Widget = codes "widget"
+list_word Route = codes "route"
+list_word Pcm = codes "pcm"
+
+-- the line of a source that is refused
+abbrev pub source_line : SourceFault → List ℕ
+source_line Syntax = codes "source syntax\n"
+source_line (Shape list entry) = with_newline (codes "source shape " ++ list_word list ++ codes " " ++ decimal entry)
+source_line (Rule rule item) = with_newline (codes "source rule " ++ decimal rule ++ codes " " ++ decimal item)
+source_line OutOfMemory = no_memory
+
+-- and the status
+abbrev pub source_status : SourceFault → ℕ
+source_status OutOfMemory = 7
+source_status fault = 4
+
+-- how many bytes the file has
+abbrev pub wrote_line : List ℕ → List ℕ
+wrote_line bytes = count_line (codes "wrote ") (length bytes)
+
+-- ---- the file
+
+-- the file is created in slot 0, all its bytes are appended at once, and their number is said
+abbrev pub file_todo : List ℕ → List ℕ → Todo → Todo
+file_todo out bytes rest = Do (Create 0 out) (Do (Put (Slot 0) bytes) (lines_todo (wrote_line bytes ∷ []) rest))
+
+-- what is to do with the topology that a source comes to, or with its fault
+abbrev pub compiled_todo : List ℕ → Result Topology SourceFault → Todo
+compiled_todo out (Ok t) = file_todo out (spelling t) End
+compiled_todo out (Err fault) = Stop (source_line fault) (source_status fault)
+
+-- the source is loaded and compiled
+abbrev pub compile : Names → Todo
+compile names = Ask names.source 1048576 (codes "too long source\n") (λ text. Free (compiled_todo names.out (compiled_of text)))

@@ -1,7 +1,7 @@
 // The lines that are said where files make no run, and where a source is refused.
 ghost use Rattle.std.specs.Prelude.{◌≡◌, ◌+◌, ◌≤◌, ◌++◌, [], ◌∷◌, length, decimal};
 ghost use Rattle.sof_run.specs.Compiling.{list_word as word_of, source_line};
-ghost use Rattle.sof_run.specs.Play.{fault_words, fault_line, cause_words, script_line, halt_line, halt_status};
+ghost use Rattle.sof_run.specs.Play.{fault_words, fault_line, cause_words, script_line, halt_line, halt_status, with_newline};
 
 use crate::prepare::Halt;
 use itoa::Buffer;
@@ -108,12 +108,13 @@ fn write_ticks(sum: u64, line: &mut Line)
     line.say(b"\n");
 }
 
-// The line of a rule of a topology that fails, with its newline.
-fn write_rule(rule: u8, item: u32, line: &mut Line)
-    ensures { line.new ≡ halt_line (Halt.Rule rule item) }
+// The line of a rule of a topology that fails, behind a word, with its newline.
+fn write_rule(word: &[u8], rule: u8, item: u32, line: &mut Line)
+    requires { length word.now ≤ 20 }
+    ensures { line.new ≡ with_newline (word.now ++ decimal rule ++ (32 ∷ []) ++ decimal item) }
 {
     line.clear();
-    line.say(b"topology rule ");
+    line.say(word);
     line.say_number(rule as u32);
     line.say(b" ");
     line.say_number(item);
@@ -131,7 +132,7 @@ pub fn write_halt(halt: Halt, line: &mut Line)
         } => write_script(number, cause_word(cause), line),
         Halt::Ticks(sum) => write_ticks(sum, line),
         Halt::Broken(fault) => write_fault(fault, line),
-        Halt::Rule { rule, item } => write_rule(rule, item, line),
+        Halt::Rule { rule, item } => write_rule(b"topology rule ", rule, item, line),
         Halt::Binding { line: number } => write_script(number, b"binding", line),
         Halt::NotYet => {
             line.clear();
@@ -169,18 +170,6 @@ fn write_shape(list: List, entry: u32, line: &mut Line)
     line.say(b"\n");
 }
 
-// The line of a rule that the topology of a source breaks, with its newline.
-fn write_source_rule(rule: u8, item: u32, line: &mut Line)
-    ensures { line.new ≡ source_line (SourceFault.Rule rule item) }
-{
-    line.clear();
-    line.say(b"source rule ");
-    line.say_number(rule as u32);
-    line.say(b" ");
-    line.say_number(item);
-    line.say(b"\n");
-}
-
 /// Writes the line for a source that is refused, with its newline.
 pub fn write_source(fault: SourceFault, line: &mut Line)
     ensures { line.new ≡ source_line fault }
@@ -191,7 +180,7 @@ pub fn write_source(fault: SourceFault, line: &mut Line)
             line.say(b"source syntax\n");
         }
         SourceFault::Shape { list, entry } => write_shape(list, entry, line),
-        SourceFault::Rule { rule, item } => write_source_rule(rule, item, line),
+        SourceFault::Rule { rule, item } => write_rule(b"source rule ", rule, item, line),
         SourceFault::OutOfMemory => {
             line.clear();
             line.say(b"no memory\n");

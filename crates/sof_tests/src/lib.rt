@@ -4,6 +4,8 @@
 
 #[cfg(test)]
 mod changed;
+#[cfg(test)]
+mod compiled;
 mod counted;
 #[cfg(test)]
 mod cut;

@@ -1,0 +1,89 @@
+// Compiles over a desk that fails: a front of the file and of its line is left, and the status is 3.
+use fw_core::Firmware;
+use mbox_link::Dsp;
+use sof_desk::MemDesk;
+use sof_run::run;
+use std::alloc::Global;
+use std::test::Fail;
+
+/// The greatest heap of the firmware, in bytes.
+const ROOM: u32 = 16777216;
+
+/// The source of a topology of one widget. Its file has 168 bytes.
+const SOURCE: &[u8] = b"[[widget]]
+kind = \"input\"
+name = \"T\"
+index = 7
+";
+
+// What a compile left: its status, whether the device is on, what was said and the bytes of the file.
+#[derive(Debug, Drop)]
+struct Left {
+    status: u8,
+    on: bool,
+    said: Vec<u8>,
+    out: Vec<u8>,
+}
+
+// A compile of the source into a file of at most `room` bytes, over a desk whose call of a number fails and still writes some
+// bytes.
+fn compiled(alloc: Global, room: usize, call: u32, passes: u32) -> Result<Left, Fail> {
+    let mut words = Vec::new(alloc);
+    for word in ["compile", "a.toml", "a.tplg"] {
+        words.push(String::from_str(alloc, word)?)?;
+    }
+    let mut desk = MemDesk::new(alloc, 4096)?;
+    desk.put_file("a.toml", SOURCE)?;
+    desk.put_out("a.tplg", room)?;
+    desk.fail_call(call, passes)?;
+    let dsp = Firmware::new(alloc, ROOM)?;
+    let ended = run(alloc, &words, &mut desk, dsp);
+    let mut said = Vec::new(alloc);
+    said.extend_from_slice(desk.said())?;
+    let mut out = Vec::new(alloc);
+    out.extend_from_slice(desk.file("a.tplg").ok_or("no file")?)?;
+    Ok(Left {
+        status: ended.status,
+        on: ended.dsp.on(),
+        said,
+        out,
+    })
+}
+
+// The calls are the load, the file's creation, its bytes, and the line. The fifth never comes.
+#[test]
+fn a_compile_that_fails_leaves_a_front_of_its_file_and_line(rt: HostRuntime) -> Result<(), Fail> {
+    let whole = compiled(rt.alloc(), 168, 5, 0)?;
+    assert_eq!(rt; whole.status, 0);
+    assert_eq!(rt; whole.said.as_slice(), b"wrote 168\n".as_slice());
+    assert_eq!(rt; whole.out.len(), 168);
+    assert_eq!(rt; whole.out.get(..4), Some(b"CoSA".as_slice()));
+    for (call, passes, bytes, said) in [
+        (1u32, 0u32, 0usize, b"".as_slice()),
+        (2, 0, 0, b""),
+        (3, 36, 36, b""),
+        (4, 3, 168, b"wro"),
+    ] {
+        let left = compiled(rt.alloc(), 168, call, passes)?;
+        assert_eq!(rt; left.status, 3, "call {call}");
+        assert!(rt; !left.on, "call {call}");
+        assert_eq!(rt; left.said.as_slice(), said, "call {call}");
+        assert_eq!(rt;
+            Some(left.out.as_slice()),
+            whole.out.get(..bytes),
+            "call {call}"
+        );
+    }
+    Ok(())
+}
+
+// The file has room for one byte less than the topology has.
+#[test]
+fn a_file_without_room_leaves_a_front_of_its_bytes(rt: HostRuntime) -> Result<(), Fail> {
+    let whole = compiled(rt.alloc(), 168, 5, 0)?;
+    let left = compiled(rt.alloc(), 167, 5, 0)?;
+    assert_eq!(rt; left.status, 3);
+    assert!(rt; left.said.is_empty());
+    assert_eq!(rt; Some(left.out.as_slice()), whole.out.get(..167));
+    Ok(())
+}

@@ -12,7 +12,13 @@ A line that begins with '#' is a remark. Several lines of one FILE are joined.
   front COUNT FILE       the first COUNT bytes of FILE
   graph NAME             tests/graphs/NAME.tplg
   example NAME           examples/NAME
-  limits MORE            a topology at every limit but for one buffer, with one more of MORE where it is given (topology.py)
+Of topology.py:
+  limits MORE            a topology at every limit but for one buffer, with one more of MORE where it is given
+  pairs COUNT            a topology of so many DAIs that capture, each through a buffer to one that plays
+  widget KIND INDEX NAME STREAM TOKEN=NUMBER ..
+                         a widget in a block of its own; KIND as in a source, '-' for no STREAM
+  route SOURCE SINK      a route in a block of its own
+  pcm NAME NUMBER STREAM a PCM that plays, in a block of its own
 """
 import os
 import struct
@@ -64,8 +70,8 @@ def bytes_of(recipe, rest, files):
         return kept("graphs", rest + ".tplg")
     if recipe == "example":
         return kept("..", "examples", rest)
-    if recipe == "limits":
-        return topology.at_the_limits(rest)
+    if recipe in topology.RECIPES:
+        return topology.RECIPES[recipe](*rest.split())
     raise ValueError(f"no recipe {recipe!r}")
 
 

@@ -1,6 +1,7 @@
-"""Spells a topology file, as docs/FORMATS.md says, apart from the program: a graph that stands at the limits of a topology."""
+"""Spells topology files, as docs/FORMATS.md says, apart from the program: single blocks, and graphs at the limits of a topology."""
 import struct
 
+KINDS = {"output": 1, "pga": 4, "aif_in": 11, "dai_in": 13, "dai_out": 14, "buffer": 16, "scheduler": 17}
 MIXER, VOLUME, HOST, DAI, BUFFER, SCHEDULER = 3, 4, 11, 14, 16, 17
 SIZE, PERIOD, FORMAT = 100, 200, 402
 FORMATS = 4 | 64 | 1024  # s16, s24 and s32
@@ -54,6 +55,22 @@ def pcm(text, number, stream):
     return block(7, 0, [record + words(0, 0, 0)])
 
 
+def spelled_widget(kind, index, text, stream, *tokens):
+    numbers_of = dict([int(word) for word in token.split("=")] for token in tokens)
+    return widget(KINDS[kind], int(index), text, "" if stream == "-" else stream, numbers_of)
+
+
+def dai_pairs(count):
+    """So many DAIs that capture, each through a buffer to a DAI that plays, in one pipeline."""
+    widgets, edges = [], []
+    for k in range(int(count)):
+        parts = (KINDS["dai_in"], f"FROM{k}", {}), (BUFFER, f"B{k}", {SIZE: 64}), (DAI, f"TO{k}", {})
+        widgets += [widget(kind, 1, text, tokens=tokens) for kind, text, tokens in parts]
+        edges += [(f"FROM{k}", f"B{k}"), (f"B{k}", f"TO{k}")]
+    widgets.append(widget(SCHEDULER, 1, "PIPE1", "FROM0", {PERIOD: 1000}))
+    return b"".join(widgets) + routes(edges)
+
+
 def at_the_limits(more=""):
     """16 hosts, each through four volumes and two mixers, and a row of mixers from chain to chain to one DAI.
 
@@ -104,3 +121,12 @@ def at_the_limits(more=""):
     pairs = [pair for source, buffer, sink in edges for pair in ((source, buffer), (buffer, sink))]
     pcms = [pcm(f"Main {k}", k, f"P{k}") for k in range(17 if more == "pcm" else 16)]
     return b"".join(widgets) + routes(pairs) + b"".join(pcms)
+
+
+RECIPES = {
+    "limits": at_the_limits,
+    "pairs": dai_pairs,
+    "widget": spelled_widget,
+    "route": lambda source, sink: routes([(source, sink)]),
+    "pcm": lambda text, number, stream: pcm(text, int(number), stream),
+}

@@ -120,14 +120,23 @@ fn a_value_of_a_volume_has_its_gain(rt: HostRuntime) -> Result<(), Fail> {
 #[test]
 fn a_fault_names_its_item(rt: HostRuntime) -> Result<(), Fail> {
     let alloc = rt.alloc();
+    let count = PlanFault::Rule { rule: 1, item: 2 };
     let route = PlanFault::Rule { rule: 4, item: 0 };
     let widget = PlanFault::Rule { rule: 6, item: 3 };
+    let component = PlanFault::Rule { rule: 14, item: 5 };
+    let counts = format!(in alloc; "{count}")?;
     let routes = format!(in alloc; "{route}")?;
     let widgets = format!(in alloc; "{widget}")?;
+    let components = format!(in alloc; "{component}")?;
+    assert_eq!(rt; counts.as_str(), "rule 1, count 2: there are too many");
     assert_eq!(rt; routes.as_str(), "rule 4, route 0: it joins two buffers");
     assert_eq!(rt;
         widgets.as_str(),
         "rule 6, widget 3: its kind needs another number of routes"
+    );
+    assert_eq!(rt;
+        components.as_str(),
+        "rule 14, component 5: it is on a cycle, or plays into a capture"
     );
     Ok(())
 }

@@ -1,37 +1,50 @@
--- The bytes of a widget's vendor arrays.
-use Rattle.std.proofs.Common.{◌≡◌, ℕ, suc, ◌+◌, ◌*◌, ◌≤◌, List, [], ◌∷◌, ◌++◌, length, refl, ap, arith, length-append}
+-- The vendor arrays that are built are those of the program, and fit a widget.
+use Rattle.std.proofs.Common.{ℕ, ◌≤◌, List, [], ◌∷◌, ◌++◌, length, ap, arith, length-append}
 use Rattle.std.proofs.lemmas.Grind.{flat_map-append}
-use Rattle.std.specs.List.{flat_map}
-use Rattle.std.specs.Int.{w32, to_le_bytes}
 use Rattle.tplg_model.specs.declared.tokens.NumberTuple.{NumberTuple}
 use Rattle.tplg_model.specs.declared.tokens.TextTuple.{TextTuple}
-use Rattle.tplg_model.specs.Arrays.{Each, number_spelling, text_spelling, array_spelling, arrays_spelling}
+use Rattle.tplg_model.specs.declared.tokens.TokenArray.{TokenArray}
+use Rattle.tplg_model.specs.Arrays.{Each, IsNumber, IsText, IsArray, AreArrays, array_size, array_spelling, arrays_spelling}
+use Rattle.tplg_model.proofs.ArrayLaws.{length-spelling}
 use Rattle.tplg_build.specs.WidgetForm.{number_array, text_array}
 
-elements_size : {A : Type 0} (spelling : A → List ℕ) (n : ℕ) (Is : A → Type 0) → ((x : A) → Is x → length (spelling x) ≡ n) → (xs : List A) → Each Is xs → length (flat_map spelling xs) ≡ length xs * n
+-- arrays of the program, and at most so many bytes
+record FewArrays (arrays : List TokenArray) (most : ℕ) : Type 0 where
+  are : AreArrays arrays
+  few : length (arrays_spelling arrays) ≤ most
+
+none : (most : ℕ) → FewArrays [] most
 unfolding Each
-elements_size spelling n Is one [] are = omega arith
-elements_size spelling n Is one (x ∷ xs) are =
-    let k : suc (length xs) * n ≡ n + length xs * n = omega arith in
-    omega (arith, k, length-append (spelling x) (flat_map spelling xs), one x are.0, elements_size spelling n Is one xs are.1)
+none most = record { are = tt; few = omega arith }
 
-numbers_size : (ts : List NumberTuple) → Each (λ _. Unit {0}) ts → length ts ≤ 1000000 → length (arrays_spelling (number_array ts)) ≤ 8000012
-unfolding array_spelling
-numbers_size [] are few = omega arith
-numbers_size (t ∷ ts) are few =
-    let elements = elements_size number_spelling 8 (λ _. Unit {0}) (λ x _. refl) (t ∷ ts) are in
-    omega (arith, few, elements, length-append (flat_map number_spelling (t ∷ ts)) [])
+one : (a : TokenArray) (most : ℕ) → IsArray a → array_size a ≤ most → FewArrays (a ∷ []) most
+unfolding Each
+one a most is few = record {
+  are = (is, tt);
+  few = omega (arith, length-append (array_spelling a) [], length-spelling a is, few);
+}
 
-text_size : (t : TextTuple) → length t.bytes ≡ 44 → length (text_spelling t) ≡ 48
-text_size t is = omega (arith, length-append (to_le_bytes w32 t.token) t.bytes, is)
+numbers_few : (ts : List NumberTuple) → Each IsNumber ts → length ts ≤ 1000000 → FewArrays (number_array ts) 8000012
+numbers_few [] all few = none 8000012
+numbers_few (t ∷ ts) all few = one _ 8000012 (record { size = omega (arith, few); elements = (omega arith, omega arith, all) }) (omega (arith, few))
 
-texts_size : (ts : List TextTuple) → Each (λ t. length t.bytes ≡ 44) ts → length ts ≤ 1000000 → length (arrays_spelling (text_array ts)) ≤ 48000012
-unfolding array_spelling
-texts_size [] are few = omega arith
-texts_size (t ∷ ts) are few =
-    let elements = elements_size text_spelling 48 (λ t. length t.bytes ≡ 44) text_size (t ∷ ts) are in
-    omega (arith, few, elements, length-append (flat_map text_spelling (t ∷ ts)) [])
+texts_few : (ts : List TextTuple) → Each IsText ts → length ts ≤ 1000000 → FewArrays (text_array ts) 48000012
+texts_few [] all few = none 48000012
+texts_few (t ∷ ts) all few = one _ 48000012 (record { size = omega (arith, few); elements = all }) (omega (arith, few))
 
-pub arrays_size : (numbers : List NumberTuple) (texts : List TextTuple) → Each (λ _. Unit {0}) numbers → Each (λ t. length t.bytes ≡ 44) texts → length numbers ≤ 1000000 → length texts ≤ 1000000 → length (arrays_spelling (number_array numbers ++ text_array texts)) ≤ 56000024
-arrays_size numbers texts are_numbers are_texts few_numbers few_texts =
-    omega (arith, ap length (flat_map-append array_spelling (number_array numbers) (text_array texts)), length-append (arrays_spelling (number_array numbers)) (arrays_spelling (text_array texts)), numbers_size numbers are_numbers few_numbers, texts_size texts are_texts few_texts)
+pub each_append : {A : Type 0} (Is : A → Type 0) (xs ys : List A) → Each Is xs → Each Is ys → Each Is (xs ++ ys)
+unfolding Each
+each_append Is [] ys a b = b
+each_append Is (x ∷ xs) ys a b = (a.0, each_append Is xs ys a.1 b)
+
+pub each_one : {A : Type 0} (Is : A → Type 0) (x : A) → Is x → Each Is (x ∷ [])
+unfolding Each
+each_one Is x is = (is, tt)
+
+module _ (numbers : List NumberTuple) (texts : List TextTuple) (are_numbers : Each IsNumber numbers) (are_texts : Each IsText texts) (few_numbers : length numbers ≤ 1000000) (few_texts : length texts ≤ 1000000) where
+  pub arrays_are : AreArrays (number_array numbers ++ text_array texts)
+  arrays_are = each_append IsArray (number_array numbers) (text_array texts) (numbers_few numbers are_numbers few_numbers).are (texts_few texts are_texts few_texts).are
+
+  pub arrays_size : length (arrays_spelling (number_array numbers ++ text_array texts)) ≤ 56000024
+  arrays_size =
+      omega (arith, ap length (flat_map-append array_spelling (number_array numbers) (text_array texts)), length-append (arrays_spelling (number_array numbers)) (arrays_spelling (text_array texts)), (numbers_few numbers are_numbers few_numbers).few, (texts_few texts are_texts few_texts).few)

@@ -1,9 +1,9 @@
 -- The topology that a source states: the blocks of its widgets, of its routes and of its PCMs, in this order.
-use Rattle.std.specs.Prelude.{ℕ, List, [], ◌∷◌, ◌++◌, map}
+use Rattle.std.specs.Prelude.{ℕ, ◌<◌, ◌^◌, List, [], ◌∷◌, ◌++◌, map}
 use Rattle.tplg_model.specs.declared.block.Body.{Body}
 use Rattle.tplg_model.specs.declared.block.Body.TheVariants.{Widgets, Routes, Pcms}
 use Rattle.tplg_model.specs.declared.block.Topology.{Topology}
-use Rattle.tplg_model.specs.Spelling.{BlockValue}
+use Rattle.tplg_model.specs.Spelling.{BlockValue, IsSound, IsBody, kind_of, count_of}
 use Rattle.tplg_build.specs.declared.source.TopologySource.{TopologySource}
 use Rattle.tplg_build.specs.declared.source.SourceWidget.{SourceWidget}
 use Rattle.tplg_build.specs.declared.source.SourceRoute.{SourceRoute}
@@ -30,3 +30,12 @@ pcm_block p = block_of 0 (Pcms (pcm_of p ∷ []))
 
 abbrev pub topology_stated : TopologySource → Topology
 topology_stated s = record { blocks = map widget_block s.widgets ++ (route_blocks s.routes ++ map pcm_block s.pcms) }
+
+-- ---- for the code in between
+
+-- records of the program, whose type, number and bytes fit the words of a header
+pub record IsPayload (body : Body) : Type 0 where
+  pub records : IsBody body
+  pub sound : IsSound body
+  pub kind : kind_of body < 2 ^ 32
+  pub count : count_of body < 2 ^ 32

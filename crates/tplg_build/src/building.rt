@@ -1,5 +1,8 @@
 // A whole topology.
 ghost use Rattle.std.specs.Prelude.{◌≡◌, ◌++◌, map, IfOk, OnOk};
+ghost use Rattle.tplg_model.specs.Arrays.{Each};
+ghost use Rattle.tplg_model.specs.Spelling.{IsBlock};
+ghost use Rattle.tplg_model.specs.File.{IsTopology};
 ghost use Rattle.tplg_build.specs.TopologyForm as form;
 
 use crate::pcms::pcm_block;
@@ -15,7 +18,8 @@ fn put_widgets(
     widgets: &[SourceWidget],
     blocks: &mut Items<Block>,
 ) -> Result<(), NoMemory>
-    ensures { OnOk result (blocks.new ≡ blocks.old ++ map form.widget_block widgets.now) }
+    ensures value { OnOk result (blocks.new ≡ blocks.old ++ map form.widget_block widgets.now) }
+    ensures are { OnOk result (Each IsBlock blocks.old → Each IsBlock blocks.new) }
 {
     for widget in widgets {
         blocks.push(widget_block(alloc, widget)?)?;
@@ -28,16 +32,19 @@ fn put_routes(
     routes: &[SourceRoute],
     blocks: &mut Items<Block>,
 ) -> Result<(), NoMemory>
-    ensures { OnOk result (blocks.new ≡ blocks.old ++ form.route_blocks routes.now) }
+    ensures value { OnOk result (blocks.new ≡ blocks.old ++ form.route_blocks routes.now) }
+    ensures are { OnOk result (Each IsBlock blocks.old → Each IsBlock blocks.new) }
 {
     if routes.is_empty() {
         return Ok(());
     }
-    blocks.push(route_block(alloc, routes)?)
+    blocks.push(route_block(alloc, routes)?)?;
+    Ok(())
 }
 
 fn put_pcms(alloc: Global, pcms: &[SourcePcm], blocks: &mut Items<Block>) -> Result<(), NoMemory>
-    ensures { OnOk result (blocks.new ≡ blocks.old ++ map form.pcm_block pcms.now) }
+    ensures value { OnOk result (blocks.new ≡ blocks.old ++ map form.pcm_block pcms.now) }
+    ensures are { OnOk result (Each IsBlock blocks.old → Each IsBlock blocks.new) }
 {
     for pcm in pcms {
         blocks.push(pcm_block(alloc, pcm)?)?;
@@ -47,7 +54,9 @@ fn put_pcms(alloc: Global, pcms: &[SourcePcm], blocks: &mut Items<Block>) -> Res
 
 /// The topology that a source states: a block for each widget, one for all routes where there are any, and one for each PCM.
 pub fn build(alloc: Global, source: &TopologySource) -> Result<Topology, NoMemory>
-    ensures { IfOk result (λ t. t ≡ form.topology_stated source.now) }
+    ensures value { IfOk result (λ t. t ≡ form.topology_stated source.now) }
+    // It can be written, and what is written is its file.
+    ensures is { IfOk result IsTopology }
 {
     let mut blocks = Items::new(alloc);
     put_widgets(alloc, source.widgets.items(), &mut blocks)?;

@@ -2,7 +2,8 @@
 ghost use Rattle.std.specs.Prelude.{◌≡◌, ◌≤◌, ◌*◌, length, map, IfOk};
 ghost use Rattle.std.specs.List.{flat_map};
 ghost use Rattle.std.specs.Int.{w32, cast_unsigned};
-ghost use Rattle.tplg_model.specs.Spelling.{items_cells, control_cells};
+ghost use Rattle.tplg_model.specs.Arrays.{Each};
+ghost use Rattle.tplg_model.specs.Spelling.{IsControl, items_cells, control_cells};
 ghost use Rattle.tplg_build.specs.WidgetForm as form;
 
 use crate::choices::Choices;
@@ -75,6 +76,7 @@ fn fields(alloc: Global, texts: &[Name44]) -> Result<Vec<u8>, NoMemory>
 // An enum control of these texts.
 fn choice(alloc: Global, name: &Name44, items: &Choices) -> Result<Control, NoMemory>
     ensures value { IfOk result (λ x. x ≡ form.control_of (SourceControl.Choice name.now items.now)) }
+    ensures is { IfOk result IsControl }
     ensures short { IfOk result (λ x. length (control_cells x) ≤ 1764) }
 {
     let items = items.items();
@@ -96,7 +98,8 @@ fn choice(alloc: Global, name: &Name44, items: &Choices) -> Result<Control, NoMe
 // A bytes control with this blob, which is at most 4 million bytes.
 fn data(alloc: Global, name: &Name44, max: u32, blob: &[u8]) -> Result<Control, NoMemory>
     ensures value { IfOk result (λ x. x ≡ form.control_of (SourceControl.Blob name.now max blob.now)) }
-    ensures short { IfOk result (λ x. length (control_cells x) ≤ 4000240) }
+    ensures is { IfOk result IsControl }
+    ensures short { IfOk result (λ x. length (control_cells x) ≤ 4001764) }
 {
     if blob.len() > MOST_BYTES {
         return Err(NoMemory);
@@ -115,7 +118,8 @@ fn data(alloc: Global, name: &Name44, max: u32, blob: &[u8]) -> Result<Control, 
 // The control that a source states.
 fn control(alloc: Global, control: &SourceControl) -> Result<Control, NoMemory>
     ensures value { IfOk result (λ x. x ≡ form.control_of control.now) }
-    ensures short { IfOk result (λ x. length (control_cells x) ≤ 4000240) }
+    ensures is { IfOk result IsControl }
+    ensures short { IfOk result (λ x. length (control_cells x) ≤ 4001764) }
 {
     match control {
         SourceControl::Volume {
@@ -144,7 +148,9 @@ fn control(alloc: Global, control: &SourceControl) -> Result<Control, NoMemory>
 /// The controls that a source states, at most 1000, in their order.
 pub fn controls(alloc: Global, stated: &[SourceControl]) -> Result<Items<Control>, NoMemory>
     ensures value { IfOk result (λ x. x ≡ map form.control_of stated.now) }
-    ensures short { IfOk result (λ x. length (items_cells control_cells x) ≤ 4000240000) }
+    ensures are { IfOk result (Each IsControl) }
+    ensures few { IfOk result (λ x. length x ≤ 1000) }
+    ensures short { IfOk result (λ x. length (items_cells control_cells x) ≤ 4001764000) }
 {
     if stated.len() > MOST_CONTROLS {
         return Err(NoMemory);

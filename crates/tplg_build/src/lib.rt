@@ -2,6 +2,7 @@
 //! What a source does not state is filled in.
 #![tactic(auto)]
 
+mod blocks;
 mod building;
 mod choices;
 mod controls;
@@ -14,6 +15,8 @@ mod widgets;
 
 pub use building::build;
 pub use choices::Choices;
+pub use names::empty_name;
 pub use source::{
     PcmLimits, SourceControl, SourcePcm, SourceRoute, SourceWidget, TopologySource, WidgetKind,
 };
+pub use tokens::text_tuple;

@@ -1,5 +1,6 @@
 // Names of records.
-ghost use Rattle.std.specs.Prelude.{◌≡◌, ◌<◌, [], length};
+ghost use Rattle.std.specs.Prelude.{◌≡◌, []};
+ghost use Rattle.sof_base.specs.Slots.{IsName};
 
 use sof_base::Name44;
 
@@ -13,10 +14,10 @@ pub fn empty_name() -> Name44
     }
 }
 
-/// A name again, which has at most 43 bytes.
+/// A name again.
 pub fn copied(name: &Name44) -> Name44
     ensures value { result ≡ name.now }
-    ensures short { length name.now < 44 }
+    ensures is_name { IsName name.now }
 {
     let _bytes = name.as_bytes();
     name.copied()

@@ -1,9 +1,11 @@
 // PCMs: a block each.
-ghost use Rattle.std.specs.Prelude.{◌≡◌, ◌<◌, length, IfOk};
-ghost use Rattle.tplg_model.specs.Spelling.{caps_cells, pcm_cells};
+ghost use Rattle.std.specs.Prelude.{◌≡◌, IfOk};
+ghost use Rattle.sof_base.specs.Slots.{AreSlots};
+ghost use Rattle.tplg_model.specs.Spelling.{caps_slots, IsPcm, IsBlock};
 ghost use Rattle.tplg_build.specs.PcmForm as form;
 ghost use Rattle.tplg_build.specs.TopologyForm as topology;
 
+use crate::blocks::block;
 use crate::names::{copied, empty_name};
 use crate::source::{PcmLimits, SourcePcm};
 use sof_base::{Items, Name44, NoMemory};
@@ -11,11 +13,12 @@ use std::alloc::Global;
 use tplg_model::{Block, Body, Caps, Pcm, StreamRecord, Streams};
 
 // Caps of a name, with these limits.
-fn caps_with(name: Name44, limits: PcmLimits) -> Caps
-    ensures { result ≡ form.caps_with name limits }
+fn caps_with(name: &Name44, limits: PcmLimits) -> Caps
+    ensures value { result ≡ form.caps_with name.now limits }
+    ensures is { AreSlots (caps_slots result) }
 {
     Caps {
-        name,
+        name: copied(name),
         formats: limits.formats,
         rates: 0,
         rate_min: limits.rate_min,
@@ -36,10 +39,10 @@ fn caps_with(name: Name44, limits: PcmLimits) -> Caps
 fn direction(name: &Option<Name44>, limits: PcmLimits) -> (u32, Caps)
     ensures flag { result.0 ≡ form.flag_of name.now }
     ensures caps { result.1 ≡ form.caps_of limits name.now }
-    ensures short { length result.1.name < 44 }
+    ensures is { AreSlots (caps_slots result.1) }
 {
     match name {
-        Some(name) => (1, caps_with(copied(name), limits)),
+        Some(name) => (1, caps_with(name, limits)),
         None => {
             let nothing = PcmLimits {
                 formats: 0,
@@ -48,7 +51,7 @@ fn direction(name: &Option<Name44>, limits: PcmLimits) -> (u32, Caps)
                 channels_min: 0,
                 channels_max: 0,
             };
-            (0, caps_with(empty_name(), nothing))
+            (0, caps_with(&empty_name(), nothing))
         }
     }
 }
@@ -81,15 +84,16 @@ fn streams(alloc: Global) -> Result<Streams, NoMemory>
 // The PCM that a source states.
 fn pcm(alloc: Global, stated: &SourcePcm) -> Result<Pcm, NoMemory>
     ensures value { IfOk result (λ x. x ≡ form.pcm_of stated.now) }
-    ensures size { IfOk result (λ x. length (pcm_cells x) ≡ 912) }
+    ensures is { IfOk result IsPcm }
 {
+    let SourcePcm { id, .. } = stated;
     let (playback, play) = direction(&stated.playback, stated.limits);
     let (capture, cap) = direction(&stated.capture, stated.limits);
     Ok(Pcm {
         name: copied(&stated.name),
         dai_name: copied(&stated.name),
-        pcm_id: stated.id,
-        dai_id: stated.id,
+        pcm_id: *id,
+        dai_id: *id,
         playback,
         capture,
         compress: 0,
@@ -105,14 +109,10 @@ fn pcm(alloc: Global, stated: &SourcePcm) -> Result<Pcm, NoMemory>
 
 /// The block of a PCM.
 pub fn pcm_block(alloc: Global, stated: &SourcePcm) -> Result<Block, NoMemory>
-    ensures { IfOk result (λ x. x ≡ topology.pcm_block stated.now) }
+    ensures value { IfOk result (λ x. x ≡ topology.pcm_block stated.now) }
+    ensures is { IfOk result IsBlock }
 {
     let mut pcms = Items::new(alloc);
     pcms.push(pcm(alloc, stated)?)?;
-    Ok(Block {
-        version: 0,
-        vendor_type: 0,
-        index: 0,
-        body: Body::Pcms(pcms),
-    })
+    Ok(block(0, Body::Pcms(pcms)))
 }

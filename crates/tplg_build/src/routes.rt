@@ -1,10 +1,12 @@
 // Routes: one block of all.
-ghost use Rattle.std.specs.Prelude.{◌≡◌, ◌*◌, ◌<◌, length, map, IfOk};
-ghost use Rattle.tplg_model.specs.Spelling.{items_cells, route_cells};
+ghost use Rattle.std.specs.Prelude.{◌≡◌, map, IfOk};
+ghost use Rattle.tplg_model.specs.Arrays.{Each};
+ghost use Rattle.tplg_model.specs.Spelling.{IsRoute, IsBlock};
 ghost use Rattle.tplg_model.specs.declared.block.Body.TheVariants.{Routes};
 ghost use Rattle.tplg_build.specs.PcmForm.{route_of};
 ghost use Rattle.tplg_build.specs.TopologyForm.{block_of};
 
+use crate::blocks::block;
 use crate::names::{copied, empty_name};
 use crate::source::SourceRoute;
 use sof_base::{Items, NoMemory};
@@ -17,7 +19,7 @@ const MOST: usize = 32_000_000;
 // The route that a source states.
 fn route(stated: &SourceRoute) -> Route
     ensures value { result ≡ route_of stated.now }
-    ensures size { length (route_cells result) ≡ 132 }
+    ensures is { IsRoute result }
 {
     Route {
         sink: copied(&stated.sink),
@@ -29,7 +31,7 @@ fn route(stated: &SourceRoute) -> Route
 // The routes that a source states, in their order.
 fn routes(alloc: Global, stated: &[SourceRoute]) -> Result<Items<Route>, NoMemory>
     ensures value { IfOk result (λ x. x ≡ map route_of stated.now) }
-    ensures size { IfOk result (λ x. length (items_cells route_cells x) ≡ 132 * length stated.now) }
+    ensures are { IfOk result (Each IsRoute) }
 {
     let mut routes = Items::new(alloc);
     for one in stated {
@@ -40,15 +42,11 @@ fn routes(alloc: Global, stated: &[SourceRoute]) -> Result<Items<Route>, NoMemor
 
 /// The block of all routes.
 pub fn route_block(alloc: Global, stated: &[SourceRoute]) -> Result<Block, NoMemory>
-    ensures { IfOk result (λ x. x ≡ block_of 0 (Routes (map route_of stated.now))) }
+    ensures value { IfOk result (λ x. x ≡ block_of 0 (Routes (map route_of stated.now))) }
+    ensures is { IfOk result IsBlock }
 {
     if stated.len() > MOST {
         return Err(NoMemory);
     }
-    Ok(Block {
-        version: 0,
-        vendor_type: 0,
-        index: 0,
-        body: Body::Routes(routes(alloc, stated)?),
-    })
+    Ok(block(0, Body::Routes(routes(alloc, stated)?)))
 }

@@ -1,9 +1,9 @@
 // What a source states of a topology.
 ghost use Rattle.std.specs.Prelude.{◌≡◌, ◌∷◌, ◌++◌, [], IfOk};
-ghost use Rattle.tplg_build.specs.WidgetForm.{kind_number, text_tuple};
+ghost use Rattle.tplg_build.specs.WidgetForm as form;
 
 use crate::choices::Choices;
-use crate::tokens::text_bytes;
+use crate::tokens::text_tuple;
 use sof_base::{Items, Name44, NoMemory};
 use std::alloc::Global;
 use tplg_model::{NumberTuple, TextTuple, widget_kind as kind};
@@ -99,7 +99,7 @@ pub struct SourcePcm {
 impl WidgetKind {
     /// Its number in a topology file.
     pub fn number(self) -> u32
-        ensures { result ≡ kind_number self }
+        ensures { result ≡ form.kind_number self }
     {
         match self {
             WidgetKind::Input => kind::INPUT,
@@ -164,11 +164,10 @@ impl SourceWidget {
 
     /// The widget with a token's text too.
     pub fn with_text(self, token: u32, text: &Name44) -> Result<SourceWidget, NoMemory>
-        ensures { IfOk result (λ w. w ≡ record { kind = self.kind; name = self.name; sname = self.sname; index = self.index; numbers = self.numbers; texts = self.texts ++ text_tuple token text.now ∷ []; controls = self.controls }) }
+        ensures { IfOk result (λ w. w ≡ record { kind = self.kind; name = self.name; sname = self.sname; index = self.index; numbers = self.numbers; texts = self.texts ++ form.text_tuple token text.now ∷ []; controls = self.controls }) }
     {
         let mut widget = self;
-        let bytes = text_bytes(text);
-        widget.texts.push(TextTuple { token, bytes })?;
+        widget.texts.push(text_tuple(token, text))?;
         Ok(widget)
     }
 

@@ -1,9 +1,10 @@
 // Widgets: a block each.
 ghost use Rattle.std.specs.Prelude.{◌≡◌, ◌≤◌, length, IfOk};
-ghost use Rattle.tplg_model.specs.Spelling.{widget_cells};
+ghost use Rattle.tplg_model.specs.Spelling.{IsWidget, widget_cells, IsBlock};
 ghost use Rattle.tplg_build.specs.WidgetForm.{widget_of};
 ghost use Rattle.tplg_build.specs.TopologyForm as form;
 
+use crate::blocks::block;
 use crate::controls::controls;
 use crate::names::copied;
 use crate::source::SourceWidget;
@@ -15,6 +16,7 @@ use tplg_model::{Block, Body, Widget};
 // The widget that a source states.
 fn widget(alloc: Global, stated: &SourceWidget) -> Result<Widget, NoMemory>
     ensures value { IfOk result (λ x. x ≡ widget_of stated.now) }
+    ensures is { IfOk result IsWidget }
     ensures short { IfOk result (λ x. length (widget_cells x) ≤ 4100000000) }
 {
     let name = copied(&stated.name);
@@ -35,15 +37,11 @@ fn widget(alloc: Global, stated: &SourceWidget) -> Result<Widget, NoMemory>
 
 /// The block of a widget.
 pub fn widget_block(alloc: Global, stated: &SourceWidget) -> Result<Block, NoMemory>
-    ensures { IfOk result (λ x. x ≡ form.widget_block stated.now) }
+    ensures value { IfOk result (λ x. x ≡ form.widget_block stated.now) }
+    ensures is { IfOk result IsBlock }
 {
     let widget = widget(alloc, stated)?;
     let mut widgets = Items::new(alloc);
     widgets.push(widget)?;
-    Ok(Block {
-        version: 0,
-        vendor_type: 0,
-        index: stated.index,
-        body: Body::Widgets(widgets),
-    })
+    Ok(block(stated.index, Body::Widgets(widgets)))
 }

@@ -5,6 +5,8 @@ use Rattle.std.specs.Str.{is_utf8}
 use Rattle.toml.specs.Data.{Members}
 use Rattle.toml.specs.Parse.{parse_document}
 use Rattle.tplg_model.specs.declared.block.Topology.{Topology}
+use Rattle.tplg_build.specs.declared.source.TopologySource.{TopologySource}
+use Rattle.tplg_build.specs.TopologyForm.{topology_stated}
 use Rattle.tplg_graph.specs.WellFormed.{rules_of, IsFaultOf, IsWellFormed}
 use Rattle.tplg_graph.specs.declared.plan_fault.PlanFault.{PlanFault}
 use Rattle.tplg_graph.specs.declared.plan_fault.PlanFault.TheVariants as plan
@@ -12,7 +14,8 @@ use Rattle.tplg_graph.specs.RuleTest.{ruling_of}
 use Rattle.tplg_graph.proofs.RuleTests.{whole_none, breaks_some, none_whole, some_breaks}
 use Rattle.tplg_compile.specs.declared.source_fault.SourceFault.{SourceFault}
 use Rattle.tplg_compile.specs.declared.source_fault.SourceFault.TheVariants.{Syntax, Shape, Rule, OutOfMemory}
-use Rattle.tplg_compile.specs.Results.{Fails, Gives, ◌>>=◌, or_fault}
+use Rattle.tplg_compile.specs.Results.{Fails, Gives, or_fault}
+use Rattle.tplg_compile.specs.Source.{IsSourceOf}
 use Rattle.tplg_compile.specs.InOrder.{source_of, table_of, ruled, compiled_of}
 use Rattle.tplg_compile.specs.Compiled.{IsDocument, IsCompiled, IsCompileFault, KeepsRules, BreaksRule, IsRuleFault, rule_told}
 use Rattle.tplg_compile.proofs.SourceLaws.{bind_ok, bind_err, or_some, or_none, source_is, source_again, fault_is, fault_again}
@@ -35,12 +38,15 @@ module _ (text : List ℕ) (table : Members) (document : IsDocument text table) 
   shape-fault (Rule rule item) first = absurd (fault_is table (Rule rule item) first)
   shape-fault OutOfMemory first = inl refl
 
-  module _ (topology : Topology) (source : source_of table ≡ Ok topology) where
+  module _ (source : TopologySource) (stated : source_of table ≡ Ok source) (topology : Topology) (built : topology ≡ topology_stated source) where
+    is_source : IsSourceOf table topology
+    is_source = subst (IsSourceOf table) (sym built) (source_is table source stated)
+
     rule_fault : (f : SourceFault) → IsRuleFault topology f → IsCompileFault text f
     unfolding BreaksRule
     rule_fault Syntax is = absurd is
     rule_fault (Shape list entry) is = absurd is
-    rule_fault (Rule rule item) is = record { table = table; topology = topology; document = document; source = source_is table topology source; breaks = is }
+    rule_fault (Rule rule item) is = record { table = table; topology = topology; document = document; source = is_source; breaks = is }
     rule_fault OutOfMemory is = absurd is
 
     pub rule-fault : (f : SourceFault) → (f ≡ OutOfMemory) ⊎ IsRuleFault topology f → (f ≡ OutOfMemory) ⊎ IsCompileFault text f
@@ -49,7 +55,7 @@ module _ (text : List ℕ) (table : Members) (document : IsDocument text table) 
 
     pub kept-found : KeepsRules topology → IsCompiled text topology
     unfolding KeepsRules
-    kept-found well = record { table = table; document = document; source = source_is table topology source; rules = well }
+    kept-found well = record { table = table; document = document; source = is_source; rules = well }
 
 -- ---- as a function of the text
 
@@ -63,7 +69,9 @@ no_table true (Some m) nothing = absurd (nothing m refl refl)
 
 pub compiled_again : (text : List ℕ) (t : Topology) → IsCompiled text t → compiled_of text ≡ Ok t
 unfolding compiled_of
-compiled_again text t is = rw (table_is text is.table is.document, source_again is.table t is.source, whole_none t is.rules) refl
+compiled_again text t is =
+    let kept : ruling_of (topology_stated is.source.source) ≡ None = subst (λ (u : Topology). ruling_of u ≡ None) is.source.built (whole_none t is.rules) in
+    rw (table_is text is.table is.document, source_again is.table t is.source, kept) (ap Ok (sym is.source.built))
 
 pub text_fault_again : (text : List ℕ) (f : SourceFault) → IsCompileFault text f → compiled_of text ≡ Err f
 unfolding compiled_of
@@ -71,7 +79,9 @@ text_fault_again text Syntax is =
     let none : table_of text ≡ None = no_table (is_utf8 text) (parse_document text) (λ m u p. is m (record { utf8 = IsUtf8-from_is_utf8 text u; parsed = p })) in
     rw none refl
 text_fault_again text (Shape list entry) is = rw (table_is text is.table is.document, fault_again is.table list entry is.first) refl
-text_fault_again text (Rule rule item) is = rw (table_is text is.table is.document, source_again is.table is.topology is.source, breaks_some is.topology rule item is.breaks) refl
+text_fault_again text (Rule rule item) is =
+    let broken : ruling_of (topology_stated is.source.source) ≡ Some (rule, item) = subst (λ (u : Topology). ruling_of u ≡ Some (rule, item)) is.source.built (breaks_some is.topology rule item is.breaks) in
+    rw (table_is text is.table is.document, source_again is.table is.topology is.source, broken) refl
 text_fault_again text OutOfMemory is = absurd is
 
 -- the other way round: what the function of the text gives is so
@@ -96,14 +106,14 @@ pub compiled_take : (text : List ℕ) (t : Topology) → compiled_of text ≡ Ok
 unfolding compiled_of
 compiled_take text t e =
     let table = bind_ok (or_fault Syntax (table_of text)) _ t e in
-    let top = bind_ok (source_of table.0) _ t table.1.1 in
-    let kept = ruled_ok top.0 t (ruling_of top.0) top.1.1 in
-    let source : source_of table.0 ≡ Ok t = top.1.0 ∙ ap Ok kept.1 in
+    let source = bind_ok (source_of table.0) _ t table.1.1 in
+    let top = topology_stated source.0 in
+    let kept = ruled_ok top t (ruling_of top) source.1.1 in
     record {
       table = table.0;
       document = is_document text table.0 (or_some Syntax (table_of text) table.0 table.1.0);
-      source = source_is table.0 t source;
-      rules = subst IsWellFormed kept.1 (none_whole top.0 kept.0);
+      source = subst (IsSourceOf table.0) kept.1 (source_is table.0 source.0 source.1.0);
+      rules = subst IsWellFormed kept.1 (none_whole top kept.0);
     }
 
 no_document : (text : List ℕ) → table_of text ≡ None → IsCompileFault text Syntax
@@ -126,9 +136,10 @@ text_fault_take text f e =
           let document = is_document text table.0 (or_some Syntax (table_of text) table.0 table.1.0) in
           elim (bind_err (source_of table.0) _ f table.1.1) [
             | inl shape ↦ shape_is text table.0 f document shape
-            | inr top ↦
-                let broken = ruled_err top.0 f (ruling_of top.0) top.1.1 in
-                let is : IsCompileFault text (Rule broken.0 broken.1) = record { table = table.0; topology = top.0; document = document; source = source_is table.0 top.0 top.1.0; breaks = some_breaks top.0 broken.0 broken.1 broken.2 } in
+            | inr source ↦
+                let top = topology_stated source.0 in
+                let broken = ruled_err top f (ruling_of top) source.1.1 in
+                let is : IsCompileFault text (Rule broken.0 broken.1) = record { table = table.0; topology = top; document = document; source = source_is table.0 source.0 source.1.0; breaks = some_breaks top broken.0 broken.1 broken.2 } in
                 subst (IsCompileFault text) broken.3 is
           ]
     ]

@@ -14,8 +14,7 @@ use Rattle.tplg_compile.specs.DocumentLists.{are_tables}
 use Rattle.tplg_compile.specs.Results as told
 use Rattle.tplg_compile.specs.ValueForm.{each, perhaps}
 use Rattle.tplg_compile.specs.KeyTables.{Keyed}
-use Rattle.tplg_compile.specs.WidgetForm.{tuples_at}
-use Rattle.tplg_compile.specs.PcmForm.{bit_of, bits_with}
+use Rattle.tplg_compile.specs.Entries.{tuples_at, bit_of, bits_with}
 use Rattle.tplg_compile.specs.InOrder.{entries_read, told as told_of}
 
 -- ---- of an entry

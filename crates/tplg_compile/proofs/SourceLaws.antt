@@ -1,21 +1,26 @@
--- Reading from the first entry to the last gives the topology that a table is the source of, and else the first entry at fault.
+-- Reading from the first entry to the last gives what a table states, and else the first entry at fault.
 use Rattle.std.proofs.Common.{◌≡◌, ◌⊎◌, inl, inr, ℕ, suc, ◌+◌, List, [], ◌∷◌, ◌++◌, length, Option, Some, None, IsSome, Result, Ok, Err, refl, sym, ap, ◌∙◌, subst, arith}
 use Rattle.toml.specs.Data.{Data, Members}
 use Rattle.tplg_model.specs.declared.block.Topology.{Topology}
+use Rattle.tplg_build.specs.declared.source.TopologySource.{TopologySource}
+use Rattle.tplg_build.specs.TopologyForm.{topology_stated}
 use Rattle.tplg_compile.specs.declared.source_fault.List.{List as SourceList}
 use Rattle.tplg_compile.specs.declared.source_fault.List.TheVariants.{Top, Widget, Route, Pcm}
 use Rattle.tplg_compile.specs.declared.source_fault.SourceFault.{SourceFault}
 use Rattle.tplg_compile.specs.declared.source_fault.SourceFault.TheVariants.{Shape}
+use Rattle.tplg_compile.specs.Outcomes as found
 use Rattle.tplg_compile.specs.Results.{◌>>=◌, or_fault}
 use Rattle.tplg_compile.specs.ValueForm.{in_table, each}
 use Rattle.tplg_compile.specs.DocumentLists.{lists_of}
-use Rattle.tplg_compile.specs.WidgetForm.{widget_of}
-use Rattle.tplg_compile.specs.PcmForm.{route_of, pcm_of}
-use Rattle.tplg_compile.specs.Source.{IsSourceOf, IsFirstMisfit, IsShapeFault, route_block}
+use Rattle.tplg_compile.specs.Entries.{stated_widget, stated_route, stated_pcm}
+use Rattle.tplg_compile.specs.Source.{IsSourceOf, IsFirstMisfit, IsShapeFault}
 use Rattle.tplg_compile.specs.InOrder.{entries_read, source_of}
-use Rattle.tplg_compile.proofs.Taken.{bind_some}
 
 -- ---- steps, taken apart
+
+bind_some : {A B : Type 0} (o : Option A) (f : A → Option B) (y : B) → found.◌>>=◌ o f ≡ Some y → (x : A) × ((o ≡ Some x) × (f x ≡ Some y))
+bind_some None f y e = absurd (cc e)
+bind_some (Some x) f y e = (x, (refl, e))
 
 pub bind_ok : {A B : Type 0} (r : Result A SourceFault) (f : A → Result B SourceFault) (y : B) → (r >>= f) ≡ Ok y → (x : A) × ((r ≡ Ok x) × (f x ≡ Ok y))
 bind_ok (Err fault) f y e = absurd (cc e)
@@ -110,33 +115,30 @@ module _ {A : Type 0} (list : SourceList) (read : Data → Option A) where
 
 -- ---- a document
 
-pub source_is : (table : Members) (t : Topology) → source_of table ≡ Ok t → IsSourceOf table t
+pub source_is : (table : Members) (source : TopologySource) → source_of table ≡ Ok source → IsSourceOf table (topology_stated source)
 unfolding source_of
-source_is table t e =
-    let lists = bind_ok (or_fault (Shape Top 0) (lists_of table)) _ t e in
-    let widgets = bind_ok (entries_read Widget (in_table widget_of) 0 lists.0.widgets) _ t lists.1.1 in
-    let routes = bind_ok (entries_read Route (in_table route_of) 0 lists.0.routes) _ t widgets.1.1 in
-    let pcms = bind_ok (entries_read Pcm (in_table pcm_of) 0 lists.0.pcms) _ t routes.1.1 in
-    let made : Topology = record { blocks = widgets.0 ++ (route_block routes.0 ++ pcms.0) } in
-    let same : made ≡ t = cc pcms.1.1 in
+source_is table source e =
+    let lists = bind_ok (or_fault (Shape Top 0) (lists_of table)) _ source e in
+    let widgets = bind_ok (entries_read Widget (in_table stated_widget) 0 lists.0.widgets) _ source lists.1.1 in
+    let routes = bind_ok (entries_read Route (in_table stated_route) 0 lists.0.routes) _ source widgets.1.1 in
+    let pcms = bind_ok (entries_read Pcm (in_table stated_pcm) 0 lists.0.pcms) _ source routes.1.1 in
+    let made : TopologySource = record { widgets = widgets.0; routes = routes.0; pcms = pcms.0 } in
+    let same : made ≡ source = cc pcms.1.1 in
     record {
       lists = lists.0;
-      widgets = widgets.0;
-      routes = routes.0;
-      pcms = pcms.0;
+      source = made;
       has_lists = or_some (Shape Top 0) (lists_of table) lists.0 lists.1.0;
-      are_widgets = told_all Widget (in_table widget_of) 0 lists.0.widgets widgets.0 widgets.1.0;
-      are_routes = told_all Route (in_table route_of) 0 lists.0.routes routes.0 routes.1.0;
-      are_pcms = told_all Pcm (in_table pcm_of) 0 lists.0.pcms pcms.0 pcms.1.0;
-      blocks = ap (λ (u : Topology). u.blocks) (sym same);
+      widgets = told_all Widget (in_table stated_widget) 0 lists.0.widgets widgets.0 widgets.1.0;
+      routes = told_all Route (in_table stated_route) 0 lists.0.routes routes.0 routes.1.0;
+      pcms = told_all Pcm (in_table stated_pcm) 0 lists.0.pcms pcms.0 pcms.1.0;
+      built = ap topology_stated (sym same);
     }
 
-pub source_again : (table : Members) (t : Topology) → IsSourceOf table t → source_of table ≡ Ok t
+pub source_again : (table : Members) (t : Topology) (is : IsSourceOf table t) → source_of table ≡ Ok is.source
 unfolding source_of
 source_again table t is =
     let lists = is.lists in
-    rw (is.has_lists, all_told Widget (in_table widget_of) 0 lists.widgets is.widgets is.are_widgets, all_told Route (in_table route_of) 0 lists.routes is.routes is.are_routes, all_told Pcm (in_table pcm_of) 0 lists.pcms is.pcms is.are_pcms)
-    (ap (λ bs. Ok (record { blocks = bs })) (sym is.blocks))
+    rw (is.has_lists, all_told Widget (in_table stated_widget) 0 lists.widgets is.source.widgets is.widgets, all_told Route (in_table stated_route) 0 lists.routes is.source.routes is.routes, all_told Pcm (in_table stated_pcm) 0 lists.pcms is.source.pcms is.pcms) refl
 
 zero_on : (list : SourceList) (n : ℕ) → Shape list (0 + n) ≡ Shape list n
 zero_on list n = ap (Shape list) (let same : 0 + n ≡ n = omega arith in same)
@@ -155,21 +157,21 @@ fault_is table e is =
           subst (IsFault table) none.1 (none.0, refl)
       | inr lists ↦
           let has = or_some (Shape Top 0) (lists_of table) lists.0 lists.1.0 in
-          elim (bind_err (entries_read Widget (in_table widget_of) 0 lists.0.widgets) _ e lists.1.1) [
+          elim (bind_err (entries_read Widget (in_table stated_widget) 0 lists.0.widgets) _ e lists.1.1) [
             | inl widget ↦
-                let r = told_first Widget (in_table widget_of) 0 lists.0.widgets e widget in
+                let r = told_first Widget (in_table stated_widget) 0 lists.0.widgets e widget in
                 subst (IsFault table) (sym (r.1.0 ∙ zero_on Widget r.0)) (lists.0, (has, r.1.1))
             | inr widgets ↦
-                let fit = is_there (each (in_table widget_of) lists.0.widgets) widgets.0 (told_all Widget (in_table widget_of) 0 lists.0.widgets widgets.0 widgets.1.0) in
-                elim (bind_err (entries_read Route (in_table route_of) 0 lists.0.routes) _ e widgets.1.1) [
+                let fit = is_there (each (in_table stated_widget) lists.0.widgets) widgets.0 (told_all Widget (in_table stated_widget) 0 lists.0.widgets widgets.0 widgets.1.0) in
+                elim (bind_err (entries_read Route (in_table stated_route) 0 lists.0.routes) _ e widgets.1.1) [
                   | inl route ↦
-                      let r = told_first Route (in_table route_of) 0 lists.0.routes e route in
+                      let r = told_first Route (in_table stated_route) 0 lists.0.routes e route in
                       subst (IsFault table) (sym (r.1.0 ∙ zero_on Route r.0)) (lists.0, (has, (fit, r.1.1)))
                   | inr routes ↦
-                      let fit_too = is_there (each (in_table route_of) lists.0.routes) routes.0 (told_all Route (in_table route_of) 0 lists.0.routes routes.0 routes.1.0) in
-                      elim (bind_err (entries_read Pcm (in_table pcm_of) 0 lists.0.pcms) _ e routes.1.1) [
+                      let fit_too = is_there (each (in_table stated_route) lists.0.routes) routes.0 (told_all Route (in_table stated_route) 0 lists.0.routes routes.0 routes.1.0) in
+                      elim (bind_err (entries_read Pcm (in_table stated_pcm) 0 lists.0.pcms) _ e routes.1.1) [
                         | inl pcm ↦
-                            let r = told_first Pcm (in_table pcm_of) 0 lists.0.pcms e pcm in
+                            let r = told_first Pcm (in_table stated_pcm) 0 lists.0.pcms e pcm in
                             subst (IsFault table) (sym (r.1.0 ∙ zero_on Pcm r.0)) (lists.0, (has, (fit, (fit_too, r.1.1))))
                         | inr none ↦ absurd (cc none.1.1)
                       ]
@@ -180,11 +182,11 @@ fault_is table e is =
 pub fault_again : (table : Members) (list : SourceList) (entry : ℕ) → IsShapeFault table list entry → source_of table ≡ Err (Shape list entry)
 unfolding source_of
 fault_again table Top entry is = rw (is.0, is.1) refl
-fault_again table Widget entry is = rw (is.1.0, misfit_told Widget (in_table widget_of) is.0.widgets entry is.1.1) refl
+fault_again table Widget entry is = rw (is.1.0, misfit_told Widget (in_table stated_widget) is.0.widgets entry is.1.1) refl
 fault_again table Route entry is =
-    let widgets = what_there (each (in_table widget_of) is.0.widgets) is.1.1.0 in
-    rw (is.1.0, all_told Widget (in_table widget_of) 0 is.0.widgets widgets.0 widgets.1, misfit_told Route (in_table route_of) is.0.routes entry is.1.1.1) refl
+    let widgets = what_there (each (in_table stated_widget) is.0.widgets) is.1.1.0 in
+    rw (is.1.0, all_told Widget (in_table stated_widget) 0 is.0.widgets widgets.0 widgets.1, misfit_told Route (in_table stated_route) is.0.routes entry is.1.1.1) refl
 fault_again table Pcm entry is =
-    let widgets = what_there (each (in_table widget_of) is.0.widgets) is.1.1.0 in
-    let routes = what_there (each (in_table route_of) is.0.routes) is.1.1.1.0 in
-    rw (is.1.0, all_told Widget (in_table widget_of) 0 is.0.widgets widgets.0 widgets.1, all_told Route (in_table route_of) 0 is.0.routes routes.0 routes.1, misfit_told Pcm (in_table pcm_of) is.0.pcms entry is.1.1.1.1) refl
+    let widgets = what_there (each (in_table stated_widget) is.0.widgets) is.1.1.0 in
+    let routes = what_there (each (in_table stated_route) is.0.routes) is.1.1.1.0 in
+    rw (is.1.0, all_told Widget (in_table stated_widget) 0 is.0.widgets widgets.0 widgets.1, all_told Route (in_table stated_route) 0 is.0.routes routes.0 routes.1, misfit_told Pcm (in_table stated_pcm) is.0.pcms entry is.1.1.1.1) refl

@@ -1,9 +1,11 @@
 -- Reading a table from its first entry to its last, with the first fault that is met.
-use Rattle.std.specs.Prelude.{ℕ, ◌+◌, List, [], ◌∷◌, ◌++◌, if◌then◌else◌, Option, Some, None, Result, Ok, Err}
+use Rattle.std.specs.Prelude.{ℕ, ◌+◌, List, [], ◌∷◌, if◌then◌else◌, Option, Some, None, Result, Ok, Err}
 use Rattle.std.specs.Str.{is_utf8}
 use Rattle.toml.specs.Data.{Data, Members}
 use Rattle.toml.specs.Parse.{parse_document}
 use Rattle.tplg_model.specs.declared.block.Topology.{Topology}
+use Rattle.tplg_build.specs.declared.source.TopologySource.{TopologySource}
+use Rattle.tplg_build.specs.TopologyForm.{topology_stated}
 use Rattle.tplg_graph.specs.RuleTest.{ruling_of}
 use Rattle.tplg_compile.specs.declared.source_fault.List.{List as SourceList}
 use Rattle.tplg_compile.specs.declared.source_fault.List.TheVariants.{Top, Widget, Route, Pcm}
@@ -14,9 +16,7 @@ use Rattle.tplg_compile.specs.declared.entry_fault.EntryFault.TheVariants.{Misfi
 use Rattle.tplg_compile.specs.Results.{◌>>=◌, or_fault}
 use Rattle.tplg_compile.specs.ValueForm.{in_table}
 use Rattle.tplg_compile.specs.DocumentLists.{lists_of}
-use Rattle.tplg_compile.specs.WidgetForm.{widget_of}
-use Rattle.tplg_compile.specs.PcmForm.{route_of, pcm_of}
-use Rattle.tplg_compile.specs.Source.{route_block}
+use Rattle.tplg_compile.specs.Entries.{stated_widget, stated_route, stated_pcm}
 
 -- the fault of an entry at a place of a list; want of memory stays what it is
 abbrev pub told : EntryFault → SourceList → ℕ → SourceFault
@@ -31,14 +31,14 @@ entries_read list read place (d ∷ ds) = do
   more ← entries_read list read (place + 1) ds
   Ok (first ∷ more)
 
--- the blocks of the widgets, of the routes and of the PCMs, or the first fault in this order
-unfoldable pub source_of : Members → Result Topology SourceFault
+-- what a table states, or its first fault in the order of widgets, routes and PCMs
+unfoldable pub source_of : Members → Result TopologySource SourceFault
 source_of table = do
   lists ← or_fault (Shape Top 0) (lists_of table)
-  widgets ← entries_read Widget (in_table widget_of) 0 lists.widgets
-  routes ← entries_read Route (in_table route_of) 0 lists.routes
-  pcms ← entries_read Pcm (in_table pcm_of) 0 lists.pcms
-  Ok (record { blocks = widgets ++ (route_block routes ++ pcms) })
+  widgets ← entries_read Widget (in_table stated_widget) 0 lists.widgets
+  routes ← entries_read Route (in_table stated_route) 0 lists.routes
+  pcms ← entries_read Pcm (in_table stated_pcm) 0 lists.pcms
+  Ok (record { widgets = widgets; routes = routes; pcms = pcms })
 
 -- ---- of bytes
 
@@ -55,5 +55,5 @@ ruled t (Some (rule, item)) = Err (Rule rule item)
 unfoldable pub compiled_of : List ℕ → Result Topology SourceFault
 compiled_of text = do
   table ← or_fault Syntax (table_of text)
-  t ← source_of table
-  ruled t (ruling_of t)
+  source ← source_of table
+  ruled (topology_stated source) (ruling_of (topology_stated source))

@@ -2,9 +2,7 @@ pub mod Outcomes
 pub mod Results
 pub mod ValueForm
 pub mod KeyTables
-pub mod BlockForm
-pub mod WidgetForm
-pub mod PcmForm
+pub mod Entries
 pub mod DocumentLists
 pub mod Source
 pub mod InOrder

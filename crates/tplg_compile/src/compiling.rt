@@ -8,10 +8,11 @@ ghost use Rattle.tplg_compile.specs.Results.{Gives};
 ghost use Rattle.tplg_compile.specs.InOrder.{compiled_of};
 ghost use Rattle.tplg_compile.specs.Compiled.{IsDocument, IsCompiled, IsCompileFault, KeepsRules, IsRuleFault, rule_told};
 
-use crate::document::topology;
+use crate::document::stated;
 use crate::source_fault::SourceFault;
 use std::alloc::Global;
 use toml::Table;
+use tplg_build::build;
 use tplg_graph::{PlanFault, plan};
 use tplg_model::Topology;
 
@@ -59,7 +60,8 @@ fn compiled(alloc: Global, text: &[u8]) -> Result<Topology, SourceFault>
     ensures fault { IfErr result (λ f. (f ≡ SourceFault.OutOfMemory) ⊎ IsCompileFault text.now f) }
 {
     let table = parsed(alloc, text)?;
-    let topology = topology(alloc, &table)?;
+    let source = stated(alloc, &table)?;
+    let topology = build(alloc, &source)?;
     check_rules(alloc, &topology)?;
     Ok(topology)
 }

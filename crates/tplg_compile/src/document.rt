@@ -1,17 +1,13 @@
-// A document: its lists, and the records of their entries.
-ghost use Rattle.std.specs.Prelude.{◌≡◌, Option, IfOk};
+// A document: its lists, and what their entries state.
+ghost use Rattle.std.specs.Prelude.{◌≡◌, Option};
 ghost use Rattle.toml.specs.Data.{Members};
 ghost use Rattle.tplg_compile.specs.declared.source_fault.List.{List as ListName};
 ghost use Rattle.tplg_compile.specs.declared.source_fault.List.TheVariants as list_name;
 ghost use Rattle.toml.specs.View.{view, table_view};
-ghost use Rattle.tplg_model.specs.Arrays.{Each};
-ghost use Rattle.tplg_model.specs.Spelling.{IsBlock, IsRoute};
-ghost use Rattle.tplg_model.specs.File.{IsTopology};
 ghost use Rattle.tplg_compile.specs.Outcomes.{Finds};
 ghost use Rattle.tplg_compile.specs.Results.{Gives};
 ghost use Rattle.tplg_compile.specs.ValueForm.{in_table, seen};
-ghost use Rattle.tplg_compile.specs.WidgetForm.{widget_of};
-ghost use Rattle.tplg_compile.specs.PcmForm.{route_of, pcm_of};
+ghost use Rattle.tplg_compile.specs.Entries.{stated_widget, stated_route, stated_pcm};
 ghost use Rattle.tplg_compile.specs.DocumentLists as lists;
 ghost use Rattle.tplg_compile.specs.InOrder as source;
 
@@ -19,13 +15,13 @@ use crate::entry::{only, value_at};
 use crate::entry_fault::EntryFault;
 use crate::keys::DOCUMENT_KEYS;
 use crate::pcms::pcm;
-use crate::routes::{route, route_block};
+use crate::routes::route;
 use crate::source_fault::{List, SourceFault};
 use crate::widgets::widget;
 use sof_base::Items;
 use std::alloc::Global;
 use toml::{Table, Value};
-use tplg_model::{Block, Route, Topology};
+use tplg_build::{SourcePcm, SourceRoute, SourceWidget, TopologySource};
 
 // The entries of the lists of a document.
 #[derive(Clone, Copy)]
@@ -88,7 +84,7 @@ fn entries_of(table: &Table) -> Result<Entries<'_>, EntryFault>
     })
 }
 
-// What the entries of a list become.
+// What the entries of a list state.
 trait EntryList {
     type Record: Drop;
 
@@ -96,32 +92,27 @@ trait EntryList {
 
     ghost read: { Members → Option Self.Record };
 
-    ghost valid: { Self.Record → Type 0 };
-
     fn list() -> List
         ensures { result ≡ Self.list };
 
     fn record(alloc: Global, entry: &Table) -> Result<Self::Record, EntryFault>
-        ensures found { Finds (λ x. x) result (Self.read (table_view entry.now)) }
-        ensures sound { IfOk result Self.valid };
+        ensures { Finds (λ x. x) result (Self.read (table_view entry.now)) };
 }
 
 struct Widgets;
 
 impl EntryList for Widgets {
-    type Record = Block;
+    type Record = SourceWidget;
 
     ghost list = { list_name.Widget };
 
-    ghost read = { widget_of };
-
-    ghost valid = { IsBlock };
+    ghost read = { stated_widget };
 
     fn list() -> List {
         List::Widget
     }
 
-    fn record(alloc: Global, entry: &Table) -> Result<Block, EntryFault> {
+    fn record(alloc: Global, entry: &Table) -> Result<SourceWidget, EntryFault> {
         widget(alloc, entry)
     }
 }
@@ -129,19 +120,17 @@ impl EntryList for Widgets {
 struct Routes;
 
 impl EntryList for Routes {
-    type Record = Route;
+    type Record = SourceRoute;
 
     ghost list = { list_name.Route };
 
-    ghost read = { route_of };
-
-    ghost valid = { IsRoute };
+    ghost read = { stated_route };
 
     fn list() -> List {
         List::Route
     }
 
-    fn record(_alloc: Global, entry: &Table) -> Result<Route, EntryFault> {
+    fn record(_alloc: Global, entry: &Table) -> Result<SourceRoute, EntryFault> {
         route(entry)
     }
 }
@@ -149,28 +138,25 @@ impl EntryList for Routes {
 struct Pcms;
 
 impl EntryList for Pcms {
-    type Record = Block;
+    type Record = SourcePcm;
 
     ghost list = { list_name.Pcm };
 
-    ghost read = { pcm_of };
-
-    ghost valid = { IsBlock };
+    ghost read = { stated_pcm };
 
     fn list() -> List {
         List::Pcm
     }
 
-    fn record(alloc: Global, entry: &Table) -> Result<Block, EntryFault> {
-        pcm(alloc, entry)
+    fn record(_alloc: Global, entry: &Table) -> Result<SourcePcm, EntryFault> {
+        pcm(entry)
     }
 }
 
-// The record of an entry.
+// What an entry states.
 #[tactic(auto, unfolding(crate::specs::ValueForm::in_table))]
 fn record<L: EntryList>(alloc: Global, entry: &Value) -> Result<L::Record, EntryFault>
-    ensures found { Finds (λ x. x) result (in_table L.read (view entry.now)) }
-    ensures sound { IfOk result L.valid }
+    ensures { Finds (λ x. x) result (in_table L.read (view entry.now)) }
 {
     let Some(entry) = entry.as_table() else {
         return Err(EntryFault::Misfit);
@@ -191,10 +177,9 @@ fn told(fault: EntryFault, list: List, entry: u32) -> SourceFault
 // The most entries of a list. More do not come of a source's text.
 const MOST: usize = 0xffff_ffff;
 
-// The records of the entries of a list, up to the first at fault.
+// What the entries of a list state, up to the first at fault.
 fn records<L: EntryList>(alloc: Global, entries: &[Value]) -> Result<Vec<L::Record>, SourceFault>
-    ensures gives { Gives (λ x. x.items) result (source.entries_read L.list (in_table L.read) 0 (seen entries.now)) }
-    ensures sound { IfOk result (λ x. Each L.valid x.items) }
+    ensures { Gives (λ x. x.items) result (source.entries_read L.list (in_table L.read) 0 (seen entries.now)) }
 {
     if entries.len() > MOST {
         return Err(SourceFault::OutOfMemory);
@@ -209,24 +194,21 @@ fn records<L: EntryList>(alloc: Global, entries: &[Value]) -> Result<Vec<L::Reco
     Ok(records)
 }
 
-/// The topology of a document, or its first fault.
+/// What a document states, or its first fault.
 #[tactic(auto, unfolding(crate::specs::InOrder::source_of))]
-pub fn topology(alloc: Global, table: &Table) -> Result<Topology, SourceFault>
-    ensures gives { Gives (λ x. x) result (source.source_of (table_view table.now)) }
-    ensures sound { IfOk result IsTopology }
+pub fn stated(alloc: Global, table: &Table) -> Result<TopologySource, SourceFault>
+    ensures { Gives (λ x. x) result (source.source_of (table_view table.now)) }
 {
     let entries = match entries_of(table) {
         Ok(entries) => entries,
         Err(fault) => return Err(told(fault, List::Top, 0)),
     };
-    let mut blocks = records::<Widgets>(alloc, entries.widgets)?;
+    let widgets = records::<Widgets>(alloc, entries.widgets)?;
     let routes = records::<Routes>(alloc, entries.routes)?;
-    let mut pcms = records::<Pcms>(alloc, entries.pcms)?;
-    if !routes.is_empty() {
-        blocks.push(route_block(routes)?)?;
-    }
-    blocks.append(&mut pcms)?;
-    Ok(Topology {
-        blocks: Items::from_vec(blocks),
+    let pcms = records::<Pcms>(alloc, entries.pcms)?;
+    Ok(TopologySource {
+        widgets: Items::from_vec(widgets),
+        routes: Items::from_vec(routes),
+        pcms: Items::from_vec(pcms),
     })
 }

@@ -1,36 +1,36 @@
 // The tokens of a widget.
-ghost use Rattle.std.specs.Prelude.{◌≡◌, ◌≤◌, ◌++◌, ℕ, Option, length, IfOk, OnOk};
+ghost use Rattle.std.specs.Prelude.{ℕ, Option};
 ghost use Rattle.toml.specs.Data.{Data, get_member};
 ghost use Rattle.toml.specs.View.{view, table_view};
 ghost use Rattle.tplg_compile.specs.Outcomes.{Finds};
 ghost use Rattle.tplg_compile.specs.ValueForm.{perhaps};
 ghost use Rattle.tplg_compile.specs.KeyTables.{told, number_tokens, text_tokens};
-ghost use Rattle.tplg_compile.specs.WidgetForm as form;
+ghost use Rattle.tplg_compile.specs.Entries as entries;
 
-use crate::bytes::field;
 use crate::entry::value_at;
 use crate::entry_fault::EntryFault;
 use crate::keys::{NUMBER_TOKENS, TEXT_TOKENS, TokenKey};
 use crate::optional::keep;
 use crate::values::{name, number};
-use sof_base::{Items, NoMemory};
+use sof_base::Items;
 use std::alloc::Global;
 use toml::{Table, Value};
-use tplg_model::{NumberArray, NumberTuple, TextArray, TextTuple, TokenArray};
+use tplg_build::text_tuple;
+use tplg_model::{NumberTuple, TextTuple};
 
 /// An element of a vendor array.
 trait Tuple: Sized {
-    ghost tuple: { ℕ → Data → Option Self };
+    ghost read: { ℕ → Data → Option Self };
 
     /// The element of a token with a value.
     fn of(token: u32, value: &Value) -> Result<Self, EntryFault>
-        ensures { Finds (λ x. x) result (Self.tuple token (view value.now)) };
+        ensures { Finds (λ x. x) result (Self.read token (view value.now)) };
 }
 
 impl Tuple for NumberTuple {
-    ghost tuple = { form.number_tuple };
+    ghost read = { entries.stated_number };
 
-    #[tactic(auto, unfolding(crate::specs::WidgetForm::number_tuple))]
+    #[tactic(auto, unfolding(crate::specs::Entries::stated_number))]
     fn of(token: u32, value: &Value) -> Result<Self, EntryFault> {
         let value = number(value)?;
         Ok(NumberTuple { token, value })
@@ -38,21 +38,18 @@ impl Tuple for NumberTuple {
 }
 
 impl Tuple for TextTuple {
-    ghost tuple = { form.text_tuple };
+    ghost read = { entries.stated_text };
 
-    #[tactic(auto, unfolding(crate::specs::WidgetForm::text_tuple))]
+    #[tactic(auto, unfolding(crate::specs::Entries::stated_text))]
     fn of(token: u32, value: &Value) -> Result<Self, EntryFault> {
         let text = name(value)?;
-        Ok(TextTuple {
-            token,
-            bytes: field(text.as_bytes()),
-        })
+        Ok(text_tuple(token, &text))
     }
 }
 
 // The element of a key, where it stands in an entry.
 fn tuple_at<T: Tuple>(entry: &Table, key: &TokenKey) -> Result<Option<T>, EntryFault>
-    ensures { Finds (λ x. x) result (perhaps (T.tuple key.now.token) (get_member key.now.key.now (table_view entry.now))) }
+    ensures { Finds (λ x. x) result (perhaps (T.read key.now.token) (get_member key.now.key.now (table_view entry.now))) }
 {
     match value_at(entry, key.key) {
         Some(value) => Ok(Some(T::of(key.token, value)?)),
@@ -66,7 +63,7 @@ fn tuples<T: Tuple + Drop>(
     entry: &Table,
     keys: &[TokenKey],
 ) -> Result<Items<T>, EntryFault>
-    ensures { Finds (λ x. x) result (form.tuples_at T.tuple (told keys.now) (table_view entry.now)) }
+    ensures { Finds (λ x. x) result (entries.tuples_at T.read (told keys.now) (table_view entry.now)) }
 {
     let mut tuples = Items::new(alloc);
     for key in keys {
@@ -76,52 +73,16 @@ fn tuples<T: Tuple + Drop>(
     Ok(tuples)
 }
 
-// The elements of numbers, and of texts.
-fn numbers(alloc: Global, entry: &Table) -> Result<Items<NumberTuple>, EntryFault>
-    ensures found { Finds (λ x. x) result (form.tuples_at form.number_tuple number_tokens (table_view entry.now)) }
-    ensures few { IfOk result (λ x. length x ≤ 14) }
+/// The tokens of an entry with numbers.
+pub fn numbers(alloc: Global, entry: &Table) -> Result<Items<NumberTuple>, EntryFault>
+    ensures { Finds (λ x. x) result (entries.tuples_at entries.stated_number number_tokens (table_view entry.now)) }
 {
     tuples(alloc, entry, &NUMBER_TOKENS)
 }
 
-fn texts(alloc: Global, entry: &Table) -> Result<Items<TextTuple>, EntryFault>
-    ensures found { Finds (λ x. x) result (form.tuples_at form.text_tuple text_tokens (table_view entry.now)) }
-    ensures few { IfOk result (λ x. length x ≤ 3) }
+/// Those with texts.
+pub fn texts(alloc: Global, entry: &Table) -> Result<Items<TextTuple>, EntryFault>
+    ensures { Finds (λ x. x) result (entries.tuples_at entries.stated_text text_tokens (table_view entry.now)) }
 {
     tuples(alloc, entry, &TEXT_TOKENS)
-}
-
-// The array of numbers, which are words, where it is not empty.
-fn put_numbers(arrays: &mut Items<TokenArray>, items: Items<NumberTuple>) -> Result<(), NoMemory>
-    requires { length items ≤ 14 }
-    ensures { OnOk result (arrays.new ≡ arrays.old ++ form.number_array items) }
-{
-    if items.items().is_empty() {
-        return Ok(());
-    }
-    arrays.push(TokenArray::Number(NumberArray::of(4, items)))
-}
-
-// And that of texts.
-fn put_texts(arrays: &mut Items<TokenArray>, items: Items<TextTuple>) -> Result<(), NoMemory>
-    requires { length items ≤ 3 }
-    ensures { OnOk result (arrays.new ≡ arrays.old ++ form.text_array items) }
-{
-    if items.items().is_empty() {
-        return Ok(());
-    }
-    arrays.push(TokenArray::Text(TextArray::of(items)))
-}
-
-/// The vendor arrays of a widget entry: one of words and one of texts, each where it is not empty.
-#[tactic(auto, unfolding(crate::specs::WidgetForm::tokens_of))]
-pub fn tokens(alloc: Global, entry: &Table) -> Result<Items<TokenArray>, EntryFault>
-    ensures { Finds (λ x. x) result (form.tokens_of (table_view entry.now)) }
-{
-    let numbers = numbers(alloc, entry)?;
-    let texts = texts(alloc, entry)?;
-    let mut arrays = Items::new(alloc);
-    put_numbers(&mut arrays, numbers)?;
-    put_texts(&mut arrays, texts)?;
-    Ok(arrays)
 }

@@ -1,5 +1,4 @@
 // How a value is read: as a number, a text, or bytes in hex.
-ghost use Rattle.std.specs.Prelude.{◌≡◌, ◌≤◌, length, IfOk};
 ghost use Rattle.tplg_compile.specs.Outcomes.{Finds};
 ghost use Rattle.tplg_compile.specs.ValueForm as reading;
 ghost use Rattle.toml.specs.View.{view};
@@ -76,25 +75,16 @@ pub fn filled(value: &Value) -> Result<Name44, EntryFault>
     Ok(name)
 }
 
-/// The most bytes of a blob. More do not come of a source's text.
-const MOST: usize = 4_000_000_000;
-
 /// The bytes of an even number of hex digits.
 #[tactic(auto, unfolding(crate::specs::ValueForm::blob_of))]
 pub fn blob(alloc: Global, value: &Value) -> Result<Items<u8>, EntryFault>
-    ensures value { Finds (λ x. x) result (reading.blob_of (view value.now)) }
-    ensures few { IfOk result (λ bytes. length bytes ≤ 4000000000) }
+    ensures { Finds (λ x. x) result (reading.blob_of (view value.now)) }
 {
     let Some(text) = value.as_str() else {
         return Err(EntryFault::Misfit);
     };
     match hex::decode(alloc, text) {
-        Ok(bytes) => {
-            if bytes.len() > MOST {
-                return Err(EntryFault::OutOfMemory);
-            }
-            Ok(Items::from_vec(bytes))
-        }
+        Ok(bytes) => Ok(Items::from_vec(bytes)),
         Err(FromHexError::OutOfMemory) => Err(EntryFault::OutOfMemory),
         Err(_) => Err(EntryFault::Misfit),
     }

@@ -1,33 +1,30 @@
-// Widgets: a block each.
-ghost use Rattle.std.specs.Prelude.{◌≡◌, IfOk};
+// Widgets.
+ghost use Rattle.std.specs.Prelude.{◌≡◌};
 ghost use Rattle.toml.specs.View.{view, table_view};
-ghost use Rattle.tplg_model.specs.Spelling.{IsBlock};
 ghost use Rattle.tplg_compile.specs.Outcomes.{Finds};
 ghost use Rattle.tplg_compile.specs.ValueForm as reading;
-ghost use Rattle.tplg_compile.specs.WidgetForm as form;
+ghost use Rattle.tplg_compile.specs.Entries as entries;
 
-use crate::blocks::block;
 use crate::controls::optional_control_at;
 use crate::entry::{filled_at, needed, only_with, optional_name_at};
 use crate::entry_fault::EntryFault;
 use crate::keys::{NUMBER_TOKENS, TEXT_TOKENS, WIDGET_KEYS};
-use crate::kind::Kind;
+use crate::kind::kind_named;
 use crate::optional::keep;
-use crate::routes::empty_name;
-use crate::tokens::tokens;
+use crate::tokens::{numbers, texts};
 use crate::values::{filled, index};
 use sof_base::{Items, Name44};
 use std::alloc::Global;
 use toml::{Table, Value};
-use tplg_model::{Block, Body, Widget};
+use tplg_build::{SourceWidget, WidgetKind, empty_name};
 
 // The kind that a value names.
-#[tactic(auto, unfolding(crate::specs::WidgetForm::kind_of))]
-fn kind(value: &Value) -> Result<Kind, EntryFault>
-    ensures { Finds (λ x. x) result (form.kind_of (view value.now)) }
+#[tactic(auto, unfolding(crate::specs::Entries::kind_of))]
+fn kind(value: &Value) -> Result<WidgetKind, EntryFault>
+    ensures { Finds (λ x. x) result (entries.kind_of (view value.now)) }
 {
     let text = filled(value)?;
-    match Kind::named(text.as_bytes()) {
+    match kind_named(text.as_bytes()) {
         Some(kind) => Ok(kind),
         None => Err(EntryFault::Misfit),
     }
@@ -35,8 +32,8 @@ fn kind(value: &Value) -> Result<Kind, EntryFault>
 
 // The kind at a key.
 #[tactic(auto, unfolding(crate::specs::ValueForm::required_at))]
-fn kind_at(entry: &Table, key: &str) -> Result<Kind, EntryFault>
-    ensures { Finds (λ x. x) result (reading.required_at form.kind_of key.now (table_view entry.now)) }
+fn kind_at(entry: &Table, key: &str) -> Result<WidgetKind, EntryFault>
+    ensures { Finds (λ x. x) result (reading.required_at entries.kind_of key.now (table_view entry.now)) }
 {
     kind(needed(entry, key)?)
 }
@@ -51,7 +48,7 @@ fn index_at(entry: &Table, key: &str) -> Result<u32, EntryFault>
 
 // The text, or the empty one.
 fn or_empty(text: Option<Name44>) -> Name44
-    ensures { result ≡ form.or_empty text }
+    ensures { result ≡ entries.or_empty text }
 {
     match text {
         Some(text) => text,
@@ -59,31 +56,28 @@ fn or_empty(text: Option<Name44>) -> Name44
     }
 }
 
-/// The block of a widget entry.
-#[tactic(auto, unfolding(crate::specs::WidgetForm::widget_of))]
-pub fn widget(alloc: Global, entry: &Table) -> Result<Block, EntryFault>
-    ensures found { Finds (λ x. x) result (form.widget_of (table_view entry.now)) }
-    ensures sound { IfOk result IsBlock }
+/// The widget that an entry states.
+#[tactic(auto, unfolding(crate::specs::Entries::stated_widget))]
+pub fn widget(alloc: Global, entry: &Table) -> Result<SourceWidget, EntryFault>
+    ensures { Finds (λ x. x) result (entries.stated_widget (table_view entry.now)) }
 {
     only_with(entry, &WIDGET_KEYS, &NUMBER_TOKENS, &TEXT_TOKENS)?;
     let kind = kind_at(entry, "kind")?;
     let name = filled_at(entry, "name")?;
     let index = index_at(entry, "index")?;
     let sname = optional_name_at(entry, "sname")?;
-    let tokens = tokens(alloc, entry)?;
+    let numbers = numbers(alloc, entry)?;
+    let texts = texts(alloc, entry)?;
     let control = optional_control_at(alloc, kind, entry, "control")?;
     let mut controls = Items::new(alloc);
     keep(&mut controls, control)?;
-    let mut widgets = Items::new(alloc);
-    widgets.push(Widget {
-        id: kind.number(),
+    Ok(SourceWidget {
+        kind,
         name,
         sname: or_empty(sname),
-        words: [0; 6],
-        event_flags: 0,
-        event_type: 0,
-        tokens,
+        index,
+        numbers,
+        texts,
         controls,
-    })?;
-    Ok(block(index, Body::Widgets(widgets)))
+    })
 }

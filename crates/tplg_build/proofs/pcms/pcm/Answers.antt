@@ -1,25 +1,23 @@
-use Rattle.std.proofs.Common.{sym, subst}
-use Rattle.tplg_model.specs.declared.pcm.Pcm.{Pcm}
-use Rattle.tplg_build.proofs.FieldSizes.{IsShort}
-use Rattle.tplg_build.proofs.RecordSizes.{pcm_size}
+use Rattle.std.proofs.Common.{◌<◌, ◌^◌, Option, Some, None, List, ℕ, refl, lit<, rules}
+use Rattle.sof_base.specs.Slots.{IsSlot, AreSlots}
+use Rattle.tplg_build.specs.PcmForm.{flag_of}
+use Rattle.tplg_build.proofs.OfProgram.{streams_are}
 use Rattle.tplg_build.proofs.pcms.pcm.Goals as goal
 
-pub returns-clause-size : goal.returns-clause-size
-returns-clause-size c =
-    let p : Pcm = record {
-      name = c.copied.result;
-      dai_name = c.copied-2.result;
-      pcm_id = c.args.stated.now.id;
-      dai_id = c.args.stated.now.id;
-      playback = c.direction-playback.result.0;
-      capture = c.direction-capture.result.0;
-      compress = 0;
-      streams = c.in_ok-streams.field-0;
-      num_streams = 0;
-      play = c.direction-playback.result.1;
-      cap = c.direction-capture.result.1;
-      flag_mask = 0;
-      flags = 0;
-      private = c.new.result;
-    } in
-    pcm_size p (subst IsShort (sym c.copied.ensures.value) c.copied.ensures.short) (subst IsShort (sym c.copied-2.ensures.value) c.copied-2.ensures.short) c.in_ok-streams.ensures c.direction-playback.ensures.short c.direction-capture.ensures.short c.new.ensures
+flag_small : (o : Option (List ℕ)) → flag_of o < 2 ^ 32
+flag_small None = lit< tt
+flag_small (Some name) = lit< tt
+
+pub returns-clause-is : goal.returns-clause-is
+unfolding AreSlots IsSlot
+returns-clause-is c =
+    let p = c.args.stated.now in
+    rw (c.copied.ensures.value, c.copied-2.ensures.value, c.direction-playback.ensures.flag, c.direction-capture.ensures.flag, c.in_ok-streams.ensures, c.new.ensures) (record {
+      head = (tt, (c.copied.ensures.is_name, (c.copied.ensures.is_name, (search rules, (search rules, (flag_small p.playback, (flag_small p.capture, (lit< tt, tt))))))));
+      streams = streams_are;
+      eight = refl;
+      num_streams = (lit< tt, tt);
+      play = c.direction-playback.ensures.is;
+      cap = c.direction-capture.ensures.is;
+      tail = (lit< tt, (lit< tt, (lit< tt, tt)));
+    })

@@ -1,12 +1,9 @@
 use Rattle.std.proofs.Common.{◌≡◌, drop}
-use Rattle.tplg_model.specs.Arrays.{Each}
 use Rattle.tplg_compile.specs.ValueForm.{seen, in_table}
 use Rattle.tplg_compile.specs.InOrder.{entries_read}
 use Rattle.tplg_compile.proofs.LoopLaws.{after}
 use Rattle.tplg_compile.proofs.document.records.Given as goal
 
 abbrev pub invariant-loop-place : goal.invariant-loop-place
-invariant-loop-place g l = record {
-  so_far : after l.records.items (entries_read g.L.EntryList.list (in_table g.L.EntryList.read) l.place (seen (drop l.place l.entries))) ≡ entries_read g.L.EntryList.list (in_table g.L.EntryList.read) 0 (seen l.entries);
-  sound : Each g.L.EntryList.valid l.records.items;
-}
+invariant-loop-place g l =
+    after l.records.items (entries_read g.L.EntryList.list (in_table g.L.EntryList.read) l.place (seen (drop l.place l.entries))) ≡ entries_read g.L.EntryList.list (in_table g.L.EntryList.read) 0 (seen l.entries)

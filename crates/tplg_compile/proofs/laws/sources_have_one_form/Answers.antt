@@ -1,6 +1,8 @@
-use Rattle.std.proofs.Common.{◌≡◌, ◌⊎◌, inl, inr, ℕ, Result, Ok, Err, refl, sym, ◌∙◌}
+use Rattle.std.proofs.Common.{◌≡◌, ◌⊎◌, inl, inr, ℕ, Result, Ok, Err, refl, sym, ap, ◌∙◌}
 use Rattle.toml.specs.Data.{Members}
 use Rattle.tplg_model.specs.declared.block.Topology.{Topology}
+use Rattle.tplg_build.specs.declared.source.TopologySource.{TopologySource}
+use Rattle.tplg_build.specs.TopologyForm.{topology_stated}
 use Rattle.tplg_compile.specs.declared.source_fault.List.{List as SourceList}
 use Rattle.tplg_compile.specs.declared.source_fault.SourceFault.{SourceFault}
 use Rattle.tplg_compile.specs.declared.source_fault.SourceFault.TheVariants.{Syntax, Shape, Rule, OutOfMemory}
@@ -11,7 +13,9 @@ use Rattle.tplg_compile.proofs.CompileLaws.{compiled_take, compiled_again, text_
 use Rattle.tplg_compile.proofs.laws.sources_have_one_form.Goals as goal
 
 one : (table : Members) (t u : Topology) → IsSourceOf table t → IsSourceOf table u → t ≡ u
-one table t u a b = cc (sym (source_again table t a) ∙ source_again table u b)
+one table t u a b =
+    let same : a.source ≡ b.source = cc (sym (source_again table t a) ∙ source_again table u b) in
+    a.built ∙ ap topology_stated same ∙ sym b.built
 
 first : (table : Members) (k l : SourceList) (m n : ℕ) → IsShapeFault table k m → IsShapeFault table l n → (k ≡ l) × (m ≡ n)
 first table k l m n a b =
@@ -28,8 +32,8 @@ faulty table (Shape l n) is = (l, (n, is))
 faulty table (Rule rule item) is = absurd is
 faulty table OutOfMemory is = absurd is
 
-told : (table : Members) (r : Result Topology SourceFault) → source_of table ≡ r → ((t : Topology) × IsSourceOf table t) ⊎ ((l : SourceList) × ((n : ℕ) × IsShapeFault table l n))
-told table (Ok t) is = inl (t, source_is table t is)
+told : (table : Members) (r : Result TopologySource SourceFault) → source_of table ≡ r → ((t : Topology) × IsSourceOf table t) ⊎ ((l : SourceList) × ((n : ℕ) × IsShapeFault table l n))
+told table (Ok source) is = inl (topology_stated source, source_is table source is)
 told table (Err e) is = inr (faulty table e (fault_is table e is))
 
 pub returns-clause-one : goal.returns-clause-one

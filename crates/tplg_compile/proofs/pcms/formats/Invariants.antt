@@ -1,6 +1,6 @@
 use Rattle.std.proofs.Common.{◌≡◌, drop}
 use Rattle.tplg_compile.specs.ValueForm.{seen}
-use Rattle.tplg_compile.specs.PcmForm.{bits_with}
+use Rattle.tplg_compile.specs.Entries.{bits_with}
 use Rattle.tplg_compile.proofs.pcms.formats.Given as goal
 
 abbrev pub invariant-loop-value : goal.invariant-loop-value

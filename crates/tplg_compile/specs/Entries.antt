@@ -1,0 +1,170 @@
+-- Which widget, route or PCM an entry states.
+use Rattle.std.specs.Prelude.{ℕ, ◌&&◌, nat_le, if◌then◌else◌, List, [], ◌∷◌, ◌++◌, length, codes, bit_or, Option, Some, None}
+use Rattle.std.specs.Option.{option_to_list}
+use Rattle.std.specs.Str.{bytes_eq}
+use Rattle.toml.specs.Data.{Data, Members, get_member, as_str, as_array}
+use Rattle.tplg_model.specs.declared.tokens.NumberTuple.{NumberTuple}
+use Rattle.tplg_model.specs.declared.tokens.TextTuple.{TextTuple}
+use Rattle.tplg_build.specs.declared.source.WidgetKind.{WidgetKind}
+use Rattle.tplg_build.specs.declared.source.WidgetKind.TheVariants as widget
+use Rattle.tplg_build.specs.declared.source.SourceControl.{SourceControl}
+use Rattle.tplg_build.specs.declared.source.SourceControl.TheVariants.{Volume, Choice, Blob}
+use Rattle.tplg_build.specs.declared.source.SourceWidget.{SourceWidget}
+use Rattle.tplg_build.specs.declared.source.SourceRoute.{SourceRoute}
+use Rattle.tplg_build.specs.declared.source.PcmLimits.{PcmLimits}
+use Rattle.tplg_build.specs.declared.source.SourcePcm.{SourcePcm}
+use Rattle.tplg_build.specs.WidgetForm.{text_tuple}
+use Rattle.tplg_compile.specs.Outcomes.{◌>>=◌}
+use Rattle.tplg_compile.specs.ValueForm.{number_of, index_of, signed_of, name_of, filled_of, blob_of, list_of, each, required_at, perhaps, optional_at, in_table, only}
+use Rattle.tplg_compile.specs.KeyTables.{Keyed, kind_named, number_tokens, text_tokens, widget_keys, pga_keys, mux_keys, effect_keys, route_keys, pcm_keys}
+
+-- ---- tokens
+
+-- what stands at each of the keys that an entry has, in the keys' order
+unfoldable pub tuples_at : {A : Type 0} → (ℕ → Data → Option A) → List Keyed → Members → Option (List A)
+tuples_at read [] entry = Some []
+tuples_at read (k ∷ ks) entry = do
+  first ← perhaps (read k.token) (get_member k.key entry)
+  more ← tuples_at read ks entry
+  Some (option_to_list first ++ more)
+
+-- a token with a number, and with a text
+unfoldable pub stated_number : ℕ → Data → Option NumberTuple
+stated_number token d = do
+  n ← number_of d
+  Some (record { token = token; value = n })
+
+unfoldable pub stated_text : ℕ → Data → Option TextTuple
+stated_text token d = do
+  text ← name_of d
+  Some (text_tuple token text)
+
+-- ---- controls
+
+-- the volume of a pga
+unfoldable pub stated_volume : Members → Option SourceControl
+stated_volume entry = do
+  known ← only pga_keys entry
+  name ← required_at filled_of (codes "name") entry
+  channels ← required_at number_of (codes "channels") entry
+  min ← required_at signed_of (codes "min") entry
+  max ← required_at signed_of (codes "max") entry
+  tlv_min ← required_at signed_of (codes "tlv_min") entry
+  tlv_step ← required_at number_of (codes "tlv_step") entry
+  tlv_mute ← required_at number_of (codes "tlv_mute") entry
+  Some (Volume name channels min max tlv_min tlv_step tlv_mute)
+
+-- texts
+unfoldable pub names_of : Data → Option (List (List ℕ))
+names_of d = do
+  ds ← as_array d
+  each name_of (list_of ds)
+
+-- 1 to 16 of them
+unfoldable pub items_of : Data → Option (List (List ℕ))
+items_of d = do
+  texts ← names_of d
+  if nat_le 1 (length texts) && nat_le (length texts) 16 then Some texts else None
+
+-- the choice of a mux
+unfoldable pub stated_choice : Members → Option SourceControl
+stated_choice entry = do
+  known ← only mux_keys entry
+  name ← required_at filled_of (codes "name") entry
+  items ← required_at items_of (codes "items") entry
+  Some (Choice name items)
+
+-- the blob of an effect
+unfoldable pub stated_blob : Members → Option SourceControl
+stated_blob entry = do
+  known ← only effect_keys entry
+  name ← required_at filled_of (codes "name") entry
+  max ← required_at number_of (codes "max") entry
+  blob ← required_at blob_of (codes "blob") entry
+  Some (Blob name max blob)
+
+-- the control of a widget of a kind; other kinds have none
+abbrev pub stated_control : WidgetKind → Members → Option SourceControl
+stated_control widget.Pga entry = stated_volume entry
+stated_control widget.Mux entry = stated_choice entry
+stated_control widget.Effect entry = stated_blob entry
+stated_control _ entry = None
+
+-- ---- widgets
+
+unfoldable pub kind_of : Data → Option WidgetKind
+kind_of d = do
+  text ← filled_of d
+  kind_named text
+
+-- a text that may be absent: the empty one then
+abbrev pub or_empty : Option (List ℕ) → List ℕ
+or_empty None = []
+or_empty (Some text) = text
+
+unfoldable pub stated_widget : Members → Option SourceWidget
+stated_widget entry = do
+  known ← only widget_keys entry
+  kind ← required_at kind_of (codes "kind") entry
+  name ← required_at filled_of (codes "name") entry
+  index ← required_at index_of (codes "index") entry
+  sname ← optional_at name_of (codes "sname") entry
+  numbers ← tuples_at stated_number number_tokens entry
+  texts ← tuples_at stated_text text_tokens entry
+  control ← optional_at (in_table (stated_control kind)) (codes "control") entry
+  Some (record { kind = kind; name = name; sname = or_empty sname; index = index; numbers = numbers; texts = texts; controls = option_to_list control })
+
+-- ---- routes
+
+unfoldable pub stated_route : Members → Option SourceRoute
+stated_route entry = do
+  known ← only route_keys entry
+  sink ← required_at filled_of (codes "sink") entry
+  source ← required_at filled_of (codes "source") entry
+  Some (record { source = source; sink = sink })
+
+-- ---- PCMs
+
+-- the bit of a format: bits 2, 6 and 10
+abbrev pub bit_named : List ℕ → Option ℕ
+bit_named text =
+    if bytes_eq text (codes "s16le") then Some 4
+    else if bytes_eq text (codes "s24le") then Some 64
+    else if bytes_eq text (codes "s32le") then Some 1024
+    else None
+
+unfoldable pub bit_of : Data → Option ℕ
+bit_of d = do
+  text ← as_str d
+  bit_named text
+
+-- bits, and those of the formats that values name
+unfoldable pub bits_with : ℕ → List Data → Option ℕ
+bits_with bits [] = Some bits
+bits_with bits (d ∷ ds) = do
+  bit ← bit_of d
+  bits_with (bit_or bits bit) ds
+
+unfoldable pub formats_of : Data → Option ℕ
+formats_of d = do
+  ds ← as_array d
+  bits_with 0 (list_of ds)
+
+unfoldable pub limits_of : Members → Option PcmLimits
+limits_of entry = do
+  formats ← required_at formats_of (codes "formats") entry
+  rate_min ← required_at number_of (codes "rate_min") entry
+  rate_max ← required_at number_of (codes "rate_max") entry
+  channels_min ← required_at number_of (codes "channels_min") entry
+  channels_max ← required_at number_of (codes "channels_max") entry
+  Some (record { formats = formats; rate_min = rate_min; rate_max = rate_max; channels_min = channels_min; channels_max = channels_max })
+
+unfoldable pub stated_pcm : Members → Option SourcePcm
+stated_pcm entry = do
+  known ← only pcm_keys entry
+  name ← required_at filled_of (codes "name") entry
+  id ← required_at number_of (codes "id") entry
+  limits ← limits_of entry
+  playback ← optional_at name_of (codes "playback") entry
+  capture ← optional_at name_of (codes "capture") entry
+  Some (record { name = name; id = id; limits = limits; playback = playback; capture = capture })

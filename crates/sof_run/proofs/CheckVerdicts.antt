@@ -9,8 +9,8 @@ use Rattle.tplg_model.specs.declared.fault.TplgFault.{TplgFault}
 use Rattle.tplg_model.specs.declared.block.Topology.{Topology}
 use Rattle.tplg_model.specs.Reading.{topology_of}
 use Rattle.tplg_model.proofs.FileLaws.{topology_take, topology_again, topology_found}
-use Rattle.tplg_graph.specs.RuleTest.{ruling_of}
-use Rattle.tplg_graph.proofs.RuleTests.{whole_none, none_whole, some_breaks}
+use Rattle.tplg_rules.specs.RuleTest.{ruling_of}
+use Rattle.tplg_rules.proofs.RuleTests.{whole_none, none_whole, some_breaks}
 use Rattle.sof_run.specs.declared.prepare.Halt.{Halt}
 use Rattle.sof_run.specs.declared.prepare.Halt.TheVariants as halts
 use Rattle.sof_run.specs.Words.{play_of}

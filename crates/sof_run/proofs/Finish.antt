@@ -10,7 +10,7 @@ use Rattle.tplg_model.specs.declared.block.Topology.{Topology}
 use Rattle.tplg_model.proofs.FileLaws.{topology_again}
 use Rattle.tplg_graph.specs.ThinTest.{thin_test}
 use Rattle.tplg_graph.specs.PlanOf.{plan_of}
-use Rattle.tplg_graph.proofs.RuleTests.{whole_none}
+use Rattle.tplg_rules.proofs.RuleTests.{whole_none}
 use Rattle.tplg_plan.specs.declared.plans.Plan.{Plan}
 use Rattle.sof_script.specs.Commands.{Bound, Read}
 use Rattle.sof_session.specs.SessionLaws.{FirstIsSettled, FirstStands, CommandsGoOn}

@@ -7,12 +7,12 @@ use Rattle.tplg_model.specs.declared.fault.TplgFault.{TplgFault}
 use Rattle.tplg_model.specs.declared.block.Topology.{Topology}
 use Rattle.tplg_model.specs.Reading.{topology_of}
 use Rattle.tplg_model.proofs.FileLaws.{topology_take, topology_again, topology_found}
-use Rattle.tplg_graph.specs.WellFormed.{IsWellFormed}
-use Rattle.tplg_graph.specs.RuleTest.{ruling_of}
+use Rattle.tplg_rules.specs.WellFormed.{IsWellFormed}
+use Rattle.tplg_rules.specs.RuleTest.{ruling_of}
 use Rattle.tplg_graph.specs.ThinTest.{thin_test}
 use Rattle.tplg_graph.specs.PlanOf.{plan_of}
 use Rattle.tplg_plan.specs.declared.plans.Plan.{Plan}
-use Rattle.tplg_graph.proofs.RuleTests.{none_whole, some_breaks}
+use Rattle.tplg_rules.proofs.RuleTests.{none_whole, some_breaks}
 use Rattle.sof_script.specs.declared.reading.ScriptFault.{ScriptFault}
 use Rattle.sof_script.specs.declared.reading.ScriptFault.TheVariants.{Line}
 use Rattle.sof_script.specs.declared.reading.ScriptFault.TheVariants as wants

@@ -18,15 +18,15 @@ use Rattle.tplg_model.specs.Spelling.{IsWidget, IsBody, BlockValue, IsBlock, hea
 use Rattle.tplg_model.specs.File.{IsTopology}
 use Rattle.tplg_model.specs.TokenValues.{numbers_in, first_number, number_of}
 use Rattle.tplg_widgets.specs.declared.entry.Entry.{Entry}
-use Rattle.tplg_widgets.specs.Tokens.{format_of}
+use Rattle.tplg_widgets.specs.Tokens.{stated_format}
 use Rattle.tplg_plan.specs.WidgetWords.{format_number}
 use Rattle.tplg_widgets.specs.Entries.{entry_of, widgets_in, entries_in, entries_of, is_interpreted, interpreted}
-use Rattle.tplg_graph.specs.Lists.{widget_plan, widgets_on}
+use Rattle.tplg_graph.specs.PlanLists.{widget_plan, widgets_on}
 use Rattle.tplg_graph.specs.PlanOf.{plan_of}
 use Rattle.tplg_plan.specs.ThinPlan.{IsThinPlan}
 use Rattle.tplg_plan.specs.WidgetWords.{FitsWords}
 use Rattle.tplg_graph.specs.ThinTest.{thin_test}
-use Rattle.tplg_graph.specs.WellFormed.{IsWellFormed}
+use Rattle.tplg_rules.specs.WellFormed.{IsWellFormed}
 use Rattle.tplg_graph.proofs.PlanLaws.{is-thin-plan}
 use Rattle.tplg_graph.proofs.Soundness.{is-sound}
 use Rattle.sof_run.specs.Halts.{IsPlanned}
@@ -78,7 +78,7 @@ entry_fits index w fits is =
     let word = λ (token : ℕ). word_or (number_of w.tokens token) (token_word w.tokens token is.head.tokens) in
     record {
       pipe = fits;
-      frame_fmt = format_fits (format_of (entry_of index w).tokens.format);
+      frame_fmt = format_fits (stated_format (entry_of index w).tokens.format);
       periods_sink = word 400;
       periods_source = word 401;
       dai_index = word 155;

@@ -8,7 +8,7 @@ use Rattle.tplg_model.specs.declared.fault.TplgFault.{TplgFault}
 use Rattle.tplg_model.specs.declared.block.Topology.{Topology}
 use Rattle.tplg_model.specs.Reading.{topology_of}
 use Rattle.tplg_plan.specs.declared.plans.Plan.{Plan}
-use Rattle.tplg_graph.specs.RuleTest.{ruling_of}
+use Rattle.tplg_rules.specs.RuleTest.{ruling_of}
 use Rattle.tplg_compile.specs.declared.source_fault.SourceFault.{SourceFault}
 use Rattle.tplg_compile.specs.declared.source_fault.SourceFault.TheVariants as source
 use Rattle.tplg_compile.specs.InOrder.{compiled_of}

@@ -5,9 +5,9 @@ use Rattle.tplg_model.specs.declared.fault.TplgFault.{TplgFault}
 use Rattle.tplg_model.specs.declared.block.Topology.{Topology}
 use Rattle.tplg_model.specs.Reading.{topology_of}
 use Rattle.tplg_plan.specs.declared.plans.Plan.{Plan}
-use Rattle.tplg_graph.specs.Needed.{need_of}
+use Rattle.tplg_graph.specs.TopologyNeed.{need_of}
 use Rattle.tplg_graph.specs.PlanOf.{plan_of}
-use Rattle.tplg_graph.specs.RuleTest.{ruling_of}
+use Rattle.tplg_rules.specs.RuleTest.{ruling_of}
 use Rattle.sof_run.specs.declared.prepare.Halt.{Halt}
 use Rattle.sof_run.specs.declared.prepare.Halt.TheVariants as halts
 use Rattle.sof_run.specs.Words.{is_name}

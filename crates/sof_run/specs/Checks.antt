@@ -5,7 +5,7 @@ use Rattle.sof_desk.specs.declared.calls.LoadFault.TheVariants.{TooLong}
 use Rattle.sof_desk.specs.Desk.{DeskMeaning, Place, Put, Spoken, Call, Load, Did, same_place, with_more}
 use Rattle.tplg_model.specs.declared.block.Topology.{Topology}
 use Rattle.tplg_model.specs.File.{IsFileFault}
-use Rattle.tplg_graph.specs.WellFormed.{IsWellFormed, Breaks}
+use Rattle.tplg_rules.specs.WellFormed.{IsWellFormed, Breaks}
 use Rattle.sof_run.specs.declared.prepare.Halt.{Halt}
 use Rattle.sof_run.specs.declared.prepare.Halt.TheVariants as halts
 use Rattle.sof_run.specs.Todo.{no_memory}

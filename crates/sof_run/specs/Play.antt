@@ -12,7 +12,7 @@ use Rattle.tplg_model.specs.declared.block.Topology.{Topology}
 use Rattle.tplg_model.specs.Reading.{topology_of}
 use Rattle.tplg_plan.specs.declared.plans.Plan.{Plan}
 use Rattle.tplg_graph.specs.ThinTest.{thin_test}
-use Rattle.tplg_graph.specs.RuleTest.{ruling_of}
+use Rattle.tplg_rules.specs.RuleTest.{ruling_of}
 use Rattle.tplg_graph.specs.PlanOf.{plan_of}
 use Rattle.host_widgets.specs.Controls.{has_no_blobs}
 use Rattle.sof_script.specs.declared.script.Command.{Command}

@@ -8,7 +8,7 @@ use Rattle.mbox_link.specs.Calls.{Meaning}
 use Rattle.sof_session.specs.Turns.{AreAgreed, LifeMeaning, Life, Bare, Seated, Calm, life, device_of}
 use Rattle.tplg_model.specs.declared.block.Topology.{Topology}
 use Rattle.tplg_model.specs.File.{IsFileFault}
-use Rattle.tplg_graph.specs.WellFormed.{IsWellFormed, Breaks}
+use Rattle.tplg_rules.specs.WellFormed.{IsWellFormed, Breaks}
 use Rattle.tplg_graph.specs.ThinTest.{thin_test}
 use Rattle.tplg_graph.specs.PlanOf.{plan_of}
 use Rattle.sof_script.specs.declared.reading.ScriptFault.TheVariants.{Line}

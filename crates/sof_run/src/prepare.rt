@@ -1,10 +1,10 @@
 // What the files of a run come to.
 ghost use Rattle.std.specs.Prelude.{◌≡◌, ◌<◌, ◌-◌, ◌^◌, ◌==◌, length, None, Ok, IfOk, MatchResult};
 ghost use Rattle.tplg_model.specs.Reading.{topology_of};
-ghost use Rattle.tplg_graph.specs.RuleTest.{ruling_of};
+ghost use Rattle.tplg_rules.specs.RuleTest.{ruling_of};
 ghost use Rattle.tplg_graph.specs.ThinTest.{thin_test};
 ghost use Rattle.tplg_plan.specs.HeapNeed.{IsSmall, need_on};
-ghost use Rattle.tplg_graph.specs.Needed.{need_of};
+ghost use Rattle.tplg_graph.specs.TopologyNeed.{need_of};
 ghost use Rattle.tplg_graph.specs.PlanOf.{plan_of};
 ghost use Rattle.host_widgets.specs.Controls.{first_blob, has_no_blobs};
 ghost use Rattle.sof_script.specs.Commands.{told};
@@ -72,7 +72,7 @@ pub fn topology_in(alloc: Global, bytes: &[u8]) -> Result<Topology, Halt>
 }
 
 /// The plan of a topology that is well-formed.
-#[tactic(auto, using(tplg_graph::proofs::RuleTests::whole_none, tplg_graph::proofs::RuleTests::breaks_some))]
+#[tactic(auto, using(tplg_rules::proofs::RuleTests::whole_none, tplg_rules::proofs::RuleTests::breaks_some))]
 pub fn ruled_plan(alloc: Global, topology: &Topology) -> Result<Plan, Halt>
     ensures plan { MatchResult result
         (λ p. (ruling_of topology.now ≡ None) × (p ≡ plan_of topology.now))

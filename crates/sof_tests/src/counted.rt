@@ -1,6 +1,6 @@
 // Worked rows of `check`, which its definition gives by computing alone. Nothing runs here.
 ghost use Rattle.std.specs.Prelude.{◌≡◌, Some, codes};
-ghost use Rattle.tplg_graph.specs.RuleTest.{ruling_of};
+ghost use Rattle.tplg_rules.specs.RuleTest.{ruling_of};
 ghost use Rattle.sof_tests.specs.Rows.{thin_topology};
 ghost use Rattle.sof_tests.specs.CheckRows.{empty_topology, cycle_topology, counts_said};
 

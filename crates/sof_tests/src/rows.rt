@@ -1,9 +1,9 @@
 // Worked rows of the written run, which its definition gives by computing alone. Nothing runs here.
 ghost use Rattle.std.specs.Prelude.{◌≡◌, true, None, codes};
 ghost use Rattle.sof_tests.specs.Rows.{thin_topology, load_and_show, said, boots_of};
-ghost use Rattle.tplg_graph.specs.RuleTest.{ruling_of};
+ghost use Rattle.tplg_rules.specs.RuleTest.{ruling_of};
 ghost use Rattle.tplg_graph.specs.ThinTest.{thin_test};
-ghost use Rattle.tplg_graph.specs.Needed.{need_of};
+ghost use Rattle.tplg_graph.specs.TopologyNeed.{need_of};
 
 /// The thin graph with a heap of 992 bytes, which it needs, and of 976.
 pub fn load_and_show_rows()

@@ -7,11 +7,11 @@ use Rattle.toml.specs.Parse.{parse_document}
 use Rattle.tplg_model.specs.declared.block.Topology.{Topology}
 use Rattle.tplg_build.specs.declared.source.TopologySource.{TopologySource}
 use Rattle.tplg_build.specs.TopologyForm.{topology_stated}
-use Rattle.tplg_graph.specs.WellFormed.{rules_of, IsFaultOf, IsWellFormed}
-use Rattle.tplg_graph.specs.declared.plan_fault.PlanFault.{PlanFault}
-use Rattle.tplg_graph.specs.declared.plan_fault.PlanFault.TheVariants as plan
-use Rattle.tplg_graph.specs.RuleTest.{ruling_of}
-use Rattle.tplg_graph.proofs.RuleTests.{whole_none, breaks_some, none_whole, some_breaks}
+use Rattle.tplg_rules.specs.WellFormed.{rules_of, IsFaultOf, IsWellFormed}
+use Rattle.tplg_rules.specs.declared.plan_fault.PlanFault.{PlanFault}
+use Rattle.tplg_rules.specs.declared.plan_fault.PlanFault.TheVariants as plan
+use Rattle.tplg_rules.specs.RuleTest.{ruling_of}
+use Rattle.tplg_rules.proofs.RuleTests.{whole_none, breaks_some, none_whole, some_breaks}
 use Rattle.tplg_compile.specs.declared.source_fault.SourceFault.{SourceFault}
 use Rattle.tplg_compile.specs.declared.source_fault.SourceFault.TheVariants.{Syntax, Shape, Rule, OutOfMemory}
 use Rattle.tplg_compile.specs.Results.{Fails, Gives, or_fault}

@@ -6,7 +6,7 @@ use Rattle.toml.specs.Parse.{parse_document}
 use Rattle.tplg_model.specs.declared.block.Topology.{Topology}
 use Rattle.tplg_build.specs.declared.source.TopologySource.{TopologySource}
 use Rattle.tplg_build.specs.TopologyForm.{topology_stated}
-use Rattle.tplg_graph.specs.RuleTest.{ruling_of}
+use Rattle.tplg_rules.specs.RuleTest.{ruling_of}
 use Rattle.tplg_compile.specs.declared.source_fault.List.{List as SourceList}
 use Rattle.tplg_compile.specs.declared.source_fault.List.TheVariants.{Top, Widget, Route, Pcm}
 use Rattle.tplg_compile.specs.declared.source_fault.SourceFault.{SourceFault}

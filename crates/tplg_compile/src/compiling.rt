@@ -13,8 +13,8 @@ use crate::source_fault::SourceFault;
 use std::alloc::Global;
 use toml::Table;
 use tplg_build::build;
-use tplg_graph::{PlanFault, plan};
 use tplg_model::Topology;
+use tplg_rules::{PlanFault, check_topology};
 
 // The table of a text.
 fn parsed(alloc: Global, text: &[u8]) -> Result<Table, SourceFault>
@@ -48,7 +48,7 @@ fn check_rules(alloc: Global, topology: &Topology) -> Result<(), SourceFault>
     ensures ok { OnOk result (KeepsRules topology.now) }
     ensures err { IfErr result (λ f. (f ≡ SourceFault.OutOfMemory) ⊎ IsRuleFault topology.now f) }
 {
-    match plan(alloc, topology) {
+    match check_topology(alloc, topology) {
         Ok(_) => Ok(()),
         Err(fault) => Err(told(fault)),
     }

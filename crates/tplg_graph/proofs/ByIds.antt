@@ -13,8 +13,9 @@ use Rattle.stream_law.specs.declared.graph.Setting.TheVariants.{Nothing}
 use Rattle.tplg_widgets.specs.declared.entry.Entry.{Entry}
 use Rattle.tplg_widgets.specs.Entries.{is_interpreted, is_buffer, is_scheduler, interpreted, id_of}
 use Rattle.tplg_widgets.specs.Ends.{end_of}
-use Rattle.tplg_graph.specs.Lists.{component_kind, is_sink, component_at, route_in, route_out, edge_at, component_end, pipe_at}
-use Rattle.tplg_graph.specs.Table.{at}
+use Rattle.tplg_widgets.specs.GraphLists.{component_kind, is_sink, component_at, route_in, route_out, edge_at}
+use Rattle.tplg_graph.specs.PlanLists.{component_end, pipeline_at}
+use Rattle.tplg_rules.specs.RuleTable.{at}
 use Rattle.tplg_graph.proofs.KeyedLists.{IsKeyed}
 
 -- ---- the number of an interpreted widget
@@ -108,7 +109,7 @@ pub record OfPipe (es ps : List Entry) (i : ℕ) (p : Pipe) : Type 0 where
   pub period : p.period ≡ unwrap_or entry.tokens.period 0
   pub complete : p.complete ≡ true
 
-pub of-pipe : (es ps : List Entry) (i : ℕ) (p : Pipe) → pipe_at es ps i ≡ Some p → OfPipe es ps i p
+pub of-pipe : (es ps : List Entry) (i : ℕ) (p : Pipe) → pipeline_at es ps i ≡ Some p → OfPipe es ps i p
 of-pipe es ps i p h = by_entry (slice_get ps i) refl h
   where
     by_sched : (e : Entry) → slice_get ps i ≡ Some e → is_scheduler e ≡ true → (o : Option ℕ) → component_end (end_of es e.sname) ≡ o → option_map (λ sched. record { id = i; index = e.index; sched = sched; period = unwrap_or e.tokens.period 0; complete = true }) o ≡ Some p → OfPipe es ps i p
@@ -132,7 +133,7 @@ keyed-components ps js i c h = (of-component ps js i c h).id
 pub keyed-edges : (ps : List Entry) (js : List Join) → IsKeyed (λ e. e.buffer) (edge_at ps js)
 keyed-edges ps js i e h = (of-edge ps js i e h).buffer
 
-pub keyed-pipes : (es ps : List Entry) → IsKeyed (λ p. p.id) (pipe_at es ps)
+pub keyed-pipes : (es ps : List Entry) → IsKeyed (λ p. p.id) (pipeline_at es ps)
 keyed-pipes es ps i p h = (of-pipe es ps i p h).id
 
 -- nothing is made from the number of widgets on

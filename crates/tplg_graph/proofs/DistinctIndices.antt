@@ -9,10 +9,10 @@ use Rattle.stream_law.specs.Placed.{HasDistinct}
 use Rattle.tplg_widgets.specs.declared.entry.Entry.{Entry}
 use Rattle.tplg_widgets.specs.Entries.{is_scheduler, interpreted}
 use Rattle.tplg_widgets.specs.Ends.{end_of}
-use Rattle.tplg_graph.specs.Lists.{component_end, pipe_of, pipes_on}
-use Rattle.tplg_graph.specs.Rules.{HoldsAll}
-use Rattle.tplg_graph.specs.Table.{is_of_index, schedules, is_scheduled, indices_rule}
-use Rattle.tplg_graph.proofs.Indexed.{indexed, by-index}
+use Rattle.tplg_graph.specs.PlanLists.{component_end, pipeline_of, pipes_on}
+use Rattle.tplg_rules.specs.Rules.{HoldsAll}
+use Rattle.tplg_rules.specs.RuleTable.{is_of_index, schedules, is_scheduled, indices_rule}
+use Rattle.tplg_widgets.proofs.Indexed.{indexed, by-index}
 use Rattle.tplg_graph.proofs.Interpreted.{of-interpreted}
 use Rattle.tplg_graph.proofs.KeyedLists.{passes-at}
 use Rattle.tplg_graph.proofs.WalkedJoins.{any-place}
@@ -51,7 +51,7 @@ one-schedules es rule index = by_any (list_any (is_of_index index) (interpreted 
 abbrev made : ℕ → ℕ → ℕ → Option ℕ → Option Pipe
 made id index period o = option_map (λ sched. record { id = id; index = index; sched = sched; period = period; complete = true }) o
 
-none-made : (es : List Entry) (index i : ℕ) (ps : List Entry) → count_by (schedules index) ps ≡ 0 → AllByRecursion (λ n. (index == n) ≡ false) (map (λ p. p.index) (indexed (pipe_of es) i ps))
+none-made : (es : List Entry) (index i : ℕ) (ps : List Entry) → count_by (schedules index) ps ≡ 0 → AllByRecursion (λ n. (index == n) ≡ false) (map (λ p. p.index) (indexed (pipeline_of es) i ps))
 none-made es index i [] none = tt
 none-made es index i (p ∷ ps) none =
     let s : count_by (schedules index) (p ∷ ps) ≡ cond (schedules index p) 1 0 + count_by (schedules index) ps = sum_by-cons (λ e. cond (schedules index e) 1 0) p ps in
@@ -64,15 +64,15 @@ none-made es index i (p ∷ ps) none =
     differs : ◌≡◌ {A = ℕ} (cond (p.index == index) 1 0) 0 → (index == p.index) ≡ false
     differs z = ne_eqb index p.index (λ same. one-zero (sym (ap (λ b. cond b 1 0) (eq-eqb p.index index (sym same))) ∙ z))
 
-    by_sched : ◌≡◌ {A = ℕ} (cond (p.index == index) 1 0) 0 → (o : Option ℕ) → AllByRecursion (λ n. (index == n) ≡ false) (map (λ q. q.index) (indexed (pipe_of es) (i + 1) ps)) → AllByRecursion (λ n. (index == n) ≡ false) (map (λ q. q.index) (cons_option (made i p.index (unwrap_or p.tokens.period 0) o) (indexed (pipe_of es) (i + 1) ps)))
+    by_sched : ◌≡◌ {A = ℕ} (cond (p.index == index) 1 0) 0 → (o : Option ℕ) → AllByRecursion (λ n. (index == n) ≡ false) (map (λ q. q.index) (indexed (pipeline_of es) (i + 1) ps)) → AllByRecursion (λ n. (index == n) ≡ false) (map (λ q. q.index) (cons_option (made i p.index (unwrap_or p.tokens.period 0) o) (indexed (pipeline_of es) (i + 1) ps)))
     by_sched z None rest = rest
     by_sched z (Some sched) rest = (differs z, rest)
 
-    by_sort : (b : Bool) → ◌≡◌ {A = ℕ} (cond (b && (p.index == index)) 1 0) 0 → (o : Option ℕ) → AllByRecursion (λ n. (index == n) ≡ false) (map (λ q. q.index) (indexed (pipe_of es) (i + 1) ps)) → AllByRecursion (λ n. (index == n) ≡ false) (map (λ q. q.index) (cons_option (cond b (made i p.index (unwrap_or p.tokens.period 0) o) None) (indexed (pipe_of es) (i + 1) ps)))
+    by_sort : (b : Bool) → ◌≡◌ {A = ℕ} (cond (b && (p.index == index)) 1 0) 0 → (o : Option ℕ) → AllByRecursion (λ n. (index == n) ≡ false) (map (λ q. q.index) (indexed (pipeline_of es) (i + 1) ps)) → AllByRecursion (λ n. (index == n) ≡ false) (map (λ q. q.index) (cons_option (cond b (made i p.index (unwrap_or p.tokens.period 0) o) None) (indexed (pipeline_of es) (i + 1) ps)))
     by_sort true z o rest = by_sched z o rest
     by_sort false z o rest = rest
 
-distinct : (es : List Entry) (i : ℕ) (ps : List Entry) → ((index : ℕ) → count_by (schedules index) ps ≤ 1) → HasDistinct (λ p. p.index) (indexed (pipe_of es) i ps)
+distinct : (es : List Entry) (i : ℕ) (ps : List Entry) → ((index : ℕ) → count_by (schedules index) ps ≤ 1) → HasDistinct (λ p. p.index) (indexed (pipeline_of es) i ps)
 unfolding IsDistinct
 distinct es i [] one = tt
 distinct es i (p ∷ ps) one = by_sort (is_scheduler p) refl (component_end (end_of es p.sname)) (distinct es (i + 1) ps (λ index. let s = sum_by-cons (λ e. cond (schedules index e) 1 0) p ps in let o = one index in omega (arith, s, o)))
@@ -84,10 +84,10 @@ distinct es i (p ∷ ps) one = by_sort (is_scheduler p) refl (component_end (end
         let o = one p.index in
         omega (arith, s, head, o)
 
-    by_sort : (b : Bool) → is_scheduler p ≡ b → (o : Option ℕ) → HasDistinct (λ q. q.index) (indexed (pipe_of es) (i + 1) ps) → HasDistinct (λ q. q.index) (cons_option (cond b (made i p.index (unwrap_or p.tokens.period 0) o) None) (indexed (pipe_of es) (i + 1) ps))
+    by_sort : (b : Bool) → is_scheduler p ≡ b → (o : Option ℕ) → HasDistinct (λ q. q.index) (indexed (pipeline_of es) (i + 1) ps) → HasDistinct (λ q. q.index) (cons_option (cond b (made i p.index (unwrap_or p.tokens.period 0) o) None) (indexed (pipeline_of es) (i + 1) ps))
     by_sort true f None rest = rest
     by_sort true f (Some sched) rest = (none-made es p.index (i + 1) ps (none f), rest)
     by_sort false f o rest = rest
 
 pub distinct-indices : (es : List Entry) → HoldsAll (indices_rule es (interpreted es)) → HasDistinct (λ p. p.index) (pipes_on es (interpreted es))
-distinct-indices es rule = subst (HasDistinct (λ p. p.index)) (sym (by-index (pipe_of es) (interpreted es))) (distinct es 0 (interpreted es) (one-schedules es rule))
+distinct-indices es rule = subst (HasDistinct (λ p. p.index)) (sym (by-index (pipeline_of es) (interpreted es))) (distinct es 0 (interpreted es) (one-schedules es rule))

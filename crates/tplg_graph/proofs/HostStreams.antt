@@ -14,9 +14,10 @@ use Rattle.tplg_plan.specs.declared.plans.StreamPlan.{StreamPlan}
 use Rattle.tplg_widgets.specs.declared.tokens.FormatToken.{FormatToken}
 use Rattle.tplg_widgets.specs.Entries.{is_host_play_role, is_host_capture_role, interpreted}
 use Rattle.tplg_widgets.specs.PcmList.{is_side_of, caps_of_side}
-use Rattle.tplg_graph.specs.Lists.{component_kind, is_sink, component_of, component_at, components_on, stream_of, stream_at, streams_on}
-use Rattle.tplg_graph.specs.Rules.{HoldsAll}
-use Rattle.tplg_graph.specs.Table.{is_host_widget, has_pcm, hosts_rule}
+use Rattle.tplg_widgets.specs.GraphLists.{component_kind, is_sink, component_of, component_at, components_on}
+use Rattle.tplg_graph.specs.PlanLists.{stream_of, stream_plan_at, streams_on}
+use Rattle.tplg_rules.specs.Rules.{HoldsAll}
+use Rattle.tplg_rules.specs.RuleTable.{is_host_widget, has_pcm, hosts_rule}
 use Rattle.tplg_plan.specs.Sound.{host_of}
 use Rattle.tplg_graph.proofs.Interpreted.{of-interpreted, weaker, or-front}
 use Rattle.tplg_graph.proofs.KeyedLists.{passes-at}
@@ -58,7 +59,7 @@ host-same pcms i index (Some Buffer) format ends sname h = refl
 host-same pcms i index (Some Scheduler) format ends sname h = refl
 
 pub hosts-are : (es : List Entry) (js : List Join) (pcms : List PcmCaps) → HoldsAll (hosts_rule es pcms) → map (λ s. (s.host, s.capture)) (streams_on (interpreted es) pcms) ≡ filter_map host_of (components_on (interpreted es) js)
-hosts-are es js pcms rule = same-lists host_pair host_of (stream_at (interpreted es) pcms) (component_at (interpreted es) js) (λ i. by_entry i (slice_get (interpreted es) i) refl) (range_with_len 0 (length (interpreted es)))
+hosts-are es js pcms rule = same-lists host_pair host_of (stream_plan_at (interpreted es) pcms) (component_at (interpreted es) js) (λ i. by_entry i (slice_get (interpreted es) i) refl) (range_with_len 0 (length (interpreted es)))
   where
     heard : list_all (λ e. not (is_host_widget e) || has_pcm pcms e) (interpreted es) ≡ true
     heard = of-interpreted es (interpreted es) (λ e. not (is_host_widget e) || has_pcm pcms e) refl (λ k w. weaker (slice_get es k) _ _ (λ e. or-front (not (is_host_widget e)) (has_pcm pcms e) _) (rule k w))

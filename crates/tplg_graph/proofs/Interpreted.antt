@@ -5,7 +5,7 @@ use Rattle.std.specs.List.{list_all}
 use Rattle.std.proofs.lemmas.Bool.{false≢true, and_from, and_parts}
 use Rattle.tplg_widgets.specs.declared.entry.Entry.{Entry}
 use Rattle.tplg_widgets.specs.Entries.{is_interpreted, interpreted}
-use Rattle.tplg_graph.specs.Table.{at}
+use Rattle.tplg_rules.specs.RuleTable.{at}
 
 holds-all : {X : Type 0} (xs : List X) (f : X → Bool) → ((k : ℕ) → k < length xs → at xs k f ≡ true) → list_all f xs ≡ true
 holds-all [] f all = refl

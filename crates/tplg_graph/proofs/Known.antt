@@ -8,8 +8,8 @@ use Rattle.stream_law.specs.declared.graph.Edge.{Edge}
 use Rattle.stream_law.specs.declared.graph.Graph.{Graph}
 use Rattle.stream_law.specs.Ways.{is_end, components, source_of, sink_of}
 use Rattle.stream_law.specs.Order.{is_among}
-use Rattle.tplg_graph.specs.Cycles.{joined}
-use Rattle.tplg_graph.proofs.Among.{is_end-some}
+use Rattle.tplg_rules.specs.Cycles.{are_joined}
+use Rattle.tplg_rules.proofs.Among.{is_end-some}
 
 abbrev pub ids_of : List Comp → List ℕ
 ids_of comps = map (λ c. c.id) comps
@@ -45,12 +45,12 @@ known-sink g buffer a all h = by_edge (find (λ e. e.buffer == buffer) g.edges) 
     by_edge (Some x) e f = ap (is_known (components g)) (sym f) ∙ (of-buffer (components g) g.edges buffer x all e).1
 
 -- where an edge leads from a component, it is known
-pub joined-source : (ids : List ℕ) (edges : List Edge) (a c : ℕ) → are_known ids edges ≡ true → joined edges a c ≡ true → is_among ids a ≡ true
+pub joined-source : (ids : List ℕ) (edges : List Edge) (a c : ℕ) → are_known ids edges ≡ true → are_joined edges a c ≡ true → is_among ids a ≡ true
 joined-source ids [] a c all h = absurd (false≢true h)
 joined-source ids (e ∷ es) a c all h =
     let parts = and_parts (is_known ids e.source && is_known ids e.sink) (are_known ids es) all in
-    by_first (or_cases (is_end e.source a && is_end e.sink c) (joined es a c) h) (and_parts (is_known ids e.source) (is_known ids e.sink) parts.0).0 (joined-source ids es a c parts.1)
+    by_first (or_cases (is_end e.source a && is_end e.sink c) (are_joined es a c) h) (and_parts (is_known ids e.source) (is_known ids e.sink) parts.0).0 (joined-source ids es a c parts.1)
   where
-    by_first : ((is_end e.source a && is_end e.sink c) ≡ true) ⊎ (joined es a c ≡ true) → is_known ids e.source ≡ true → (joined es a c ≡ true → is_among ids a ≡ true) → is_among ids a ≡ true
+    by_first : ((is_end e.source a && is_end e.sink c) ≡ true) ⊎ (are_joined es a c ≡ true) → is_known ids e.source ≡ true → (are_joined es a c ≡ true → is_among ids a ≡ true) → is_among ids a ≡ true
     by_first (inr k) known rest = rest k
     by_first (inl k) known rest = ap (is_known ids) (sym (is_end-some e.source a (and_parts (is_end e.source a) (is_end e.sink c) k).0)) ∙ known

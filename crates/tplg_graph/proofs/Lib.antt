@@ -1,10 +1,4 @@
-pub mod RuleLaws
-pub mod Places
 pub mod ThinTests
-pub mod Among
-pub mod Reached
-pub mod RuleFaults
-pub mod Indexed
 pub mod GraphSize
 pub mod Interpreted
 pub mod GraphNeed
@@ -13,8 +7,6 @@ pub mod OrderableIds
 pub mod ThinLaw
 pub mod JoinedWalks
 pub mod PlanLaws
-pub mod Leading
-pub mod RuleTests
 pub mod Known
 pub mod KeyedLists
 pub mod ByIds

@@ -21,14 +21,15 @@ use Rattle.tplg_plan.specs.declared.plans.ControlPlan.{ControlPlan}
 use Rattle.tplg_plan.specs.declared.plans.ControlKind.{ControlKind}
 use Rattle.tplg_plan.specs.declared.plans.ControlKind.TheVariants as control_is
 use Rattle.tplg_widgets.specs.declared.tokens.FormatToken.{FormatToken}
-use Rattle.tplg_widgets.specs.Entries.{is_interpreted, is_equaliser, is_component_role, has_control, role_of, entry_of, entries_in, entries_of, widgets_in, interpreted}
+use Rattle.tplg_widgets.specs.Entries.{is_interpreted, is_effect, is_component_role, has_control, role_of, entry_of, entries_in, entries_of, widgets_in, interpreted}
 use Rattle.tplg_widgets.specs.LiveControls.{is_live, live_of, scale_word}
-use Rattle.tplg_graph.specs.ControlRanges.{is_control, is_live_in_range}
-use Rattle.tplg_graph.specs.Lists.{component_kind, is_sink, kind_in, control_plan, control_at, controls_on}
-use Rattle.tplg_graph.specs.Rules.{HoldsAll}
-use Rattle.tplg_graph.specs.Table.{is_known_process, controls_rule, counts_rule}
+use Rattle.tplg_rules.specs.ControlRanges.{is_control, is_live_in_range}
+use Rattle.tplg_widgets.specs.GraphLists.{component_kind, is_sink}
+use Rattle.tplg_graph.specs.PlanLists.{kind_in, control_plan, control_at, controls_on}
+use Rattle.tplg_rules.specs.Rules.{HoldsAll}
+use Rattle.tplg_rules.specs.RuleTable.{is_known_process, controls_rule, counts_rule}
 use Rattle.tplg_plan.specs.Sound.{IsControlOf, IsLive}
-use Rattle.tplg_graph.proofs.Indexed.{by-index, length-indexed}
+use Rattle.tplg_widgets.proofs.Indexed.{by-index, length-indexed}
 use Rattle.tplg_graph.proofs.Interpreted.{all-filter}
 use Rattle.tplg_graph.proofs.KeyedLists.{IsKeyed, all-made, passes-at}
 use Rattle.tplg_graph.proofs.ByIds.{of-component, at-id}
@@ -151,7 +152,7 @@ live-controls es js matched rule = all-made (IsLive (graph_of es js)) (control_a
     each : (i : ℕ) (k : ControlPlan) → OfControl (interpreted es) i k → IsLive (graph_of es js) k
     each i k o =
         let own : is_live o.entry.role o.control ≡ true = ap (λ c. option_map_or (is_live o.entry.role) c true) (sym o.is) ∙ passes-at is_matched (interpreted es) (all-filter es is_matched is_interpreted matched) i o.entry o.there in
-        let range : is_control o.control ≡ true = ap is_live_in_range (sym o.is) ∙ (and_parts (not (is_equaliser o.entry) || is_known_process o.entry.tokens.process) (is_live_in_range o.entry.control) (at-id es (λ i e. (not (is_equaliser e) || is_known_process e.tokens.process) && is_live_in_range e.control) rule i o.entry o.there)).1 in
+        let range : is_control o.control ≡ true = ap is_live_in_range (sym o.is) ∙ (and_parts (not (is_effect o.entry) || is_known_process o.entry.tokens.process) (is_live_in_range o.entry.control) (at-id es (λ i e. (not (is_effect e) || is_known_process e.tokens.process) && is_live_in_range e.control) rule i o.entry o.there)).1 in
         let c = known es js i (record { entry = o.entry; there = o.there; sort = own-component o.entry.role o.control own }) in
         let m = of-component (interpreted es) js i c.comp c.there in
         let same : m.entry ≡ o.entry = same_Some m.entry o.entry (sym m.there ∙ o.there) in

@@ -18,19 +18,19 @@ use Rattle.tplg_plan.specs.declared.plans.WidgetPlan.{WidgetPlan}
 use Rattle.tplg_widgets.specs.declared.tokens.FormatToken.{FormatToken}
 use Rattle.tplg_widgets.specs.Entries.{is_interpreted, is_buffer, is_scheduler, is_component, is_buffer_role, is_scheduler_role, is_component_role, interpreted}
 use Rattle.tplg_widgets.specs.Ends.{end_of}
-use Rattle.tplg_graph.specs.Lists.{component_kind, is_sink, component_of, component_at, route_in, route_out, edge_at, component_end, pipe_of, pipe_at, widget_plan, widgets_on}
-use Rattle.tplg_graph.specs.Lists as made
-use Rattle.tplg_widgets.specs.Tokens.{format_of}
+use Rattle.tplg_widgets.specs.GraphLists.{component_kind, is_sink, component_of, component_at, route_in, route_out, edge_at, buffer_edge}
+use Rattle.tplg_graph.specs.PlanLists.{component_end, pipeline_of, pipeline_at, widget_plan, widgets_on}
+use Rattle.tplg_widgets.specs.Tokens.{stated_format}
 use Rattle.tplg_plan.specs.WidgetWords.{format_number}
-use Rattle.tplg_graph.specs.Rules.{HoldsAll}
-use Rattle.tplg_graph.specs.Table.{is_joined_through, ins_of, outs_of, is_component_end, is_size, buffers_rule, scheds_rule, periods_rule, sizes_rule}
+use Rattle.tplg_rules.specs.Rules.{HoldsAll}
+use Rattle.tplg_rules.specs.RuleTable.{is_joined_through, ins_of, outs_of, is_component_end, is_size, buffers_rule, scheds_rule, periods_rule, sizes_rule}
 use Rattle.tplg_plan.specs.Ranges.{is_period}
 use Rattle.tplg_graph.specs.PlanOf.{graph_on}
 use Rattle.tplg_plan.specs.Sound as sound
 use Rattle.tplg_plan.specs.Sound.{has_number, IsComponentOf, IsBufferOf, IsPipelineOf, Names}
 use Rattle.tplg_graph.proofs.KeyedLists.{by-key, passes-at, some-first}
 use Rattle.tplg_graph.proofs.ByIds.{of-component, made_edge, keyed-components, keyed-edges, keyed-pipes, nothing-past, at-id, implied}
-use Rattle.tplg_graph.proofs.GraphSize.{cond-none, no-kind}
+use Rattle.tplg_widgets.proofs.ListLengths.{cond-none, no-kind}
 use Rattle.tplg_graph.proofs.Interpreted.{all-interpreted}
 use Rattle.tplg_graph.proofs.OrderableEnds.{component-kind, component-end, IsComp, IsBuf, Good, find-good, apart}
 use Rattle.tplg_graph.proofs.ThinLaw.{size-of, component-of}
@@ -45,10 +45,10 @@ pub comp-by-id : (es : List Entry) (js : List Join) (id : ℕ) → comp_of (grap
 comp-by-id es js id = by-key (λ c. c.id) (component_at (interpreted es) js) (keyed-components (interpreted es) js) (length (interpreted es)) id (nothing-past (component_of js id) (interpreted es) id)
 
 pub edge-by-id : (es : List Entry) (js : List Join) (id : ℕ) → edge_of (graph_of es js) id ≡ edge_at (interpreted es) js id
-edge-by-id es js id = by-key (λ e. e.buffer) (edge_at (interpreted es) js) (keyed-edges (interpreted es) js) (length (interpreted es)) id (nothing-past (made.edge_of js id) (interpreted es) id)
+edge-by-id es js id = by-key (λ e. e.buffer) (edge_at (interpreted es) js) (keyed-edges (interpreted es) js) (length (interpreted es)) id (nothing-past (buffer_edge js id) (interpreted es) id)
 
-pub pipe-by-id : (es : List Entry) (js : List Join) (id : ℕ) → sound.pipe_at (graph_of es js) id ≡ pipe_at es (interpreted es) id
-pipe-by-id es js id = by-key (λ p. p.id) (pipe_at es (interpreted es)) (keyed-pipes es (interpreted es)) (length (interpreted es)) id (nothing-past (pipe_of es id) (interpreted es) id)
+pub pipe-by-id : (es : List Entry) (js : List Join) (id : ℕ) → sound.pipe_at (graph_of es js) id ≡ pipeline_at es (interpreted es) id
+pipe-by-id es js id = by-key (λ p. p.id) (pipeline_at es (interpreted es)) (keyed-pipes es (interpreted es)) (length (interpreted es)) id (nothing-past (pipeline_of es id) (interpreted es) id)
 
 -- ---- what is there, and what is not
 
@@ -56,10 +56,10 @@ no-comp : (ps : List Entry) (js : List Join) (id : ℕ) (e : Entry) → slice_ge
 no-comp ps js id e there h = ap (option_and_then (component_of js id)) there ∙ ap (option_map (λ k. record { id = id; kind = k; pipe = e.index; setting = Nothing })) (no-kind e.role e.tokens.format (is_sink js id) h)
 
 no-edge : (ps : List Entry) (js : List Join) (id : ℕ) (e : Entry) → slice_get ps id ≡ Some e → is_buffer e ≡ false → edge_at ps js id ≡ None
-no-edge ps js id e there h = ap (option_and_then (made.edge_of js id)) there ∙ cond-none (is_buffer e) (Some (made_edge js id e)) h
+no-edge ps js id e there h = ap (option_and_then (buffer_edge js id)) there ∙ cond-none (is_buffer e) (Some (made_edge js id e)) h
 
-no-pipe : (es ps : List Entry) (id : ℕ) (e : Entry) → slice_get ps id ≡ Some e → is_scheduler e ≡ false → pipe_at es ps id ≡ None
-no-pipe es ps id e there h = ap (option_and_then (pipe_of es id)) there ∙ cond-none (is_scheduler e) (option_map (λ sched. record { id = id; index = e.index; sched = sched; period = unwrap_or e.tokens.period 0; complete = true }) (component_end (end_of es e.sname))) h
+no-pipe : (es ps : List Entry) (id : ℕ) (e : Entry) → slice_get ps id ≡ Some e → is_scheduler e ≡ false → pipeline_at es ps id ≡ None
+no-pipe es ps id e there h = ap (option_and_then (pipeline_of es id)) there ∙ cond-none (is_scheduler e) (option_map (λ sched. record { id = id; index = e.index; sched = sched; period = unwrap_or e.tokens.period 0; complete = true }) (component_end (end_of es e.sname))) h
 
 pub record Known (es : List Entry) (js : List Join) (id : ℕ) : Type 0 where
   pub comp : Comp
@@ -75,7 +75,7 @@ known es js id c =
     record { comp = comp; there = there; found = comp-by-id es js id ∙ there; id_is = refl }
 
 pub edge-there : (ps : List Entry) (js : List Join) (id : ℕ) (b : IsBuf ps id) → edge_at ps js id ≡ Some (made_edge js id b.entry)
-edge-there ps js id b = ap (option_and_then (made.edge_of js id)) b.there ∙ ap (λ s. cond s (Some (made_edge js id b.entry)) None) b.sort
+edge-there ps js id b = ap (option_and_then (buffer_edge js id)) b.there ∙ ap (λ s. cond s (Some (made_edge js id b.entry)) None) b.sort
 
 -- ---- sorts
 
@@ -129,18 +129,18 @@ of-scheduler-role (Some Scheduler) h = (refl, refl)
 
 -- ---- a component
 
-number-of : (r : Option Role) (f : FormatToken) (b : Bool) (k : Kind) → component_kind r f b ≡ Some k → has_number k (format_number (format_of f)) ≡ true
+number-of : (r : Option Role) (f : FormatToken) (b : Bool) (k : Kind) → component_kind r f b ≡ Some k → has_number k (format_number (stated_format f)) ≡ true
 number-of None f b k h = cc
 number-of (Some Buffer) f b k h = cc
 number-of (Some Scheduler) f b k h = cc
-number-of (Some HostPlay) f b k h = subst (λ x. has_number x (format_number (format_of f)) ≡ true) (same_Some _ k h) refl
-number-of (Some HostCapture) f b k h = subst (λ x. has_number x (format_number (format_of f)) ≡ true) (same_Some _ k h) refl
-number-of (Some Volume) f b k h = subst (λ x. has_number x (format_number (format_of f)) ≡ true) (same_Some _ k h) refl
-number-of (Some Mixer) f b k h = subst (λ x. has_number x (format_number (format_of f)) ≡ true) (same_Some _ k h) refl
-number-of (Some Mux) f b k h = subst (λ x. has_number x (format_number (format_of f)) ≡ true) (same_Some _ k h) refl
-number-of (Some Eq) f b k h = subst (λ x. has_number x (format_number (format_of f)) ≡ true) (same_Some _ k h) refl
-number-of (Some Dai) f true k h = subst (λ x. has_number x (format_number (format_of f)) ≡ true) (same_Some _ k h) (eq-eqb (format_number (format_of f)) (format_number (format_of f)) refl)
-number-of (Some Dai) f false k h = subst (λ x. has_number x (format_number (format_of f)) ≡ true) (same_Some _ k h) (eq-eqb (format_number (format_of f)) (format_number (format_of f)) refl)
+number-of (Some HostPlay) f b k h = subst (λ x. has_number x (format_number (stated_format f)) ≡ true) (same_Some _ k h) refl
+number-of (Some HostCapture) f b k h = subst (λ x. has_number x (format_number (stated_format f)) ≡ true) (same_Some _ k h) refl
+number-of (Some Volume) f b k h = subst (λ x. has_number x (format_number (stated_format f)) ≡ true) (same_Some _ k h) refl
+number-of (Some Mixer) f b k h = subst (λ x. has_number x (format_number (stated_format f)) ≡ true) (same_Some _ k h) refl
+number-of (Some Mux) f b k h = subst (λ x. has_number x (format_number (stated_format f)) ≡ true) (same_Some _ k h) refl
+number-of (Some Eq) f b k h = subst (λ x. has_number x (format_number (stated_format f)) ≡ true) (same_Some _ k h) refl
+number-of (Some Dai) f true k h = subst (λ x. has_number x (format_number (stated_format f)) ≡ true) (same_Some _ k h) (eq-eqb (format_number (stated_format f)) (format_number (stated_format f)) refl)
+number-of (Some Dai) f false k h = subst (λ x. has_number x (format_number (stated_format f)) ≡ true) (same_Some _ k h) (eq-eqb (format_number (stated_format f)) (format_number (stated_format f)) refl)
 
 names-component : (es : List Entry) (js : List Join) (id : ℕ) (e : Entry) → slice_get (interpreted es) id ≡ Some e → is_component e ≡ true → Names (graph_of es js) id (widget_plan e)
 names-component es js id e there sort =
@@ -234,7 +234,7 @@ names-pipe es js scheds periods id e there sort =
       no_comp = comp-by-id es js id ∙ no-comp (interpreted es) js id e there apart.0;
       no_edge = edge-by-id es js id ∙ no-edge (interpreted es) js id e there apart.1;
       there =
-          pipe-by-id es js id ∙ ap (option_and_then (pipe_of es id)) there
+          pipe-by-id es js id ∙ ap (option_and_then (pipeline_of es id)) there
           ∙ ap (λ b. cond b (option_map (λ sched. record { id = id; index = e.index; sched = sched; period = unwrap_or e.tokens.period 0; complete = true }) (component_end (end_of es e.sname))) None) sort
           ∙ ap (λ x. option_map (λ sched. record { id = id; index = e.index; sched = sched; period = unwrap_or e.tokens.period 0; complete = true }) (component_end x)) c.1;
       is = record {

@@ -24,7 +24,7 @@ use Rattle.tplg_widgets.specs.Entries.{is_buffer, is_component, is_buffer_role, 
 use Rattle.tplg_widgets.specs.Names.{has_name}
 use Rattle.tplg_widgets.specs.Ends.{end_at, end_of, ends_of, join_of, real_of, block_ends}
 use Rattle.tplg_widgets.specs.declared.tokens.FormatToken.{FormatToken}
-use Rattle.tplg_graph.specs.Lists.{component_kind, is_sink, component_of, component_at, components_on, route_in, route_out, edge_of, edge_at, edges_on}
+use Rattle.tplg_widgets.specs.GraphLists.{component_kind, is_sink, component_of, component_at, components_on, route_in, route_out, buffer_edge, edge_at, edges_on}
 use Rattle.tplg_widgets.specs.Ends.{joins_of}
 
 -- ---- a component's id is among those of the components
@@ -210,7 +210,7 @@ edges-known : (es : List Entry) (js : List Join) → AllByRecursion (Good es) js
 edges-known es js good [] = refl
 edges-known es js good (k ∷ ks) = by_entry (slice_get es k) refl (edges-known es js good ks)
   where
-    by_entry : (o : Option Entry) → slice_get es k ≡ o → list_all (λ e. is_known (ids_of (components_on es js)) e.source && is_known (ids_of (components_on es js)) e.sink) (filter_map (edge_at es js) ks) ≡ true → list_all (λ e. is_known (ids_of (components_on es js)) e.source && is_known (ids_of (components_on es js)) e.sink) (cons_option (option_and_then (edge_of js k) o) (filter_map (edge_at es js) ks)) ≡ true
+    by_entry : (o : Option Entry) → slice_get es k ≡ o → list_all (λ e. is_known (ids_of (components_on es js)) e.source && is_known (ids_of (components_on es js)) e.sink) (filter_map (edge_at es js) ks) ≡ true → list_all (λ e. is_known (ids_of (components_on es js)) e.source && is_known (ids_of (components_on es js)) e.sink) (cons_option (option_and_then (buffer_edge js k) o) (filter_map (edge_at es js) ks)) ≡ true
     by_entry None f rest = rest
     by_entry (Some e) f rest = by_buffer (is_buffer e) refl
       where

@@ -10,8 +10,8 @@ use Rattle.stream_law.specs.declared.graph.Join.{Join}
 use Rattle.tplg_widgets.specs.declared.entry.Entry.{Entry}
 use Rattle.stream_law.specs.Order.{is_among}
 use Rattle.tplg_graph.proofs.Known.{ids_of}
-use Rattle.tplg_graph.specs.Lists.{component_kind, is_sink, component_of, components_on}
-use Rattle.tplg_graph.proofs.Indexed.{indexed, by-index}
+use Rattle.tplg_widgets.specs.GraphLists.{component_kind, is_sink, component_of, components_on}
+use Rattle.tplg_widgets.proofs.Indexed.{indexed, by-index}
 
 -- a number below all of a list differs from each
 below_all : (c : ℕ) (xs : List ℕ) → ((x : ℕ) → is_among xs x ≡ true → c < x) → AllByRecursion (λ y. nat_eq c y ≡ false) xs

@@ -13,13 +13,14 @@ use Rattle.tplg_widgets.specs.declared.route_end.End.{End}
 use Rattle.tplg_widgets.specs.declared.route_end.End.TheVariants.{Buffer, Component, Other, Missing}
 use Rattle.tplg_widgets.specs.Entries.{is_scheduler, interpreted}
 use Rattle.tplg_widgets.specs.Ends.{end_of}
-use Rattle.tplg_graph.specs.Lists.{component_end, component_at, components_on, edge_at, edges_on, pipe_of}
+use Rattle.tplg_widgets.specs.GraphLists.{component_at, components_on, edge_at, edges_on}
+use Rattle.tplg_graph.specs.PlanLists.{component_end, pipeline_of}
 use Rattle.tplg_graph.specs.PlanOf.{graph_on}
-use Rattle.tplg_graph.specs.Rules.{HoldsAll}
+use Rattle.tplg_rules.specs.Rules.{HoldsAll}
 use Rattle.tplg_plan.specs.Sound.{has_pipeline}
-use Rattle.tplg_graph.specs.Table.{is_of_index, schedules, is_scheduled, is_component_end, indices_rule, scheds_rule}
+use Rattle.tplg_rules.specs.RuleTable.{is_of_index, schedules, is_scheduled, is_component_end, indices_rule, scheds_rule}
 use Rattle.tplg_graph.proofs.ByIds.{of-component, of-edge, implied}
-use Rattle.tplg_graph.proofs.Indexed.{indexed, by-index}
+use Rattle.tplg_widgets.proofs.Indexed.{indexed, by-index}
 use Rattle.tplg_graph.proofs.Interpreted.{of-interpreted}
 use Rattle.tplg_graph.proofs.KeyedLists.{passes-at, all-made}
 use Rattle.tplg_graph.proofs.WalkedJoins.{any-from}
@@ -50,14 +51,14 @@ and-true : (b : Bool) → b ≡ true → (b && true) ≡ true
 and-true true is = refl
 and-true false is = is
 
-made-there : (es : List Entry) (index i : ℕ) (ps : List Entry) → list_all (is_named es) ps ≡ true → list_any (schedules index) ps ≡ true → list_any (is_pipeline index) (indexed (pipe_of es) i ps) ≡ true
+made-there : (es : List Entry) (index i : ℕ) (ps : List Entry) → list_all (is_named es) ps ≡ true → list_any (schedules index) ps ≡ true → list_any (is_pipeline index) (indexed (pipeline_of es) i ps) ≡ true
 made-there es index i [] named some = absurd (false≢true some)
 made-there es index i (p ∷ ps) named some =
     let parts = and_parts (is_named es p) (list_all (is_named es) ps) named in
     by_sort (is_scheduler p) refl (end_of es p.sname) refl (implied (is_scheduler p) (is_component_end (end_of es p.sname))) parts.0 some (made-there es index (i + 1) ps parts.1)
   where
     behind : List Pipe
-    behind = indexed (pipe_of es) (i + 1) ps
+    behind = indexed (pipeline_of es) (i + 1) ps
 
     by_index : (b : Bool) → (p.index == index) ≡ b → (b || list_any (schedules index) ps) ≡ true → (list_any (schedules index) ps ≡ true → list_any (is_pipeline index) behind ≡ true) → ((p.index == index && true) || list_any (is_pipeline index) behind) ≡ true
     by_index true f some rest = ap (λ b. (b && true) || list_any (is_pipeline index) behind) f
@@ -84,7 +85,7 @@ module _ (es : List Entry) (js : List Join) (indices : HoldsAll (indices_rule es
       let named : list_all (is_named es) ps ≡ true = of-interpreted es ps (is_named es) refl scheds in
       let some : list_any (is_of_index e.index) ps ≡ true = any-from (is_of_index e.index) ps k e at (eq-eqb e.index e.index refl) in
       let one = implied (list_any (is_of_index e.index) ps) (count_by (schedules e.index) ps == 1) some (passes-at (λ x. is_scheduled ps x.index) ps all k e at) in
-      ap (list_any (is_pipeline e.index)) (by-index (pipe_of es) ps)
+      ap (list_any (is_pipeline e.index)) (by-index (pipeline_of es) ps)
       ∙ made-there es e.index 0 ps named (some-passes (schedules e.index) ps (eqb-true (count_by (schedules e.index) ps) 1 one))
 
   pub comps-piped : AllByRecursion (λ (c : Comp). has_pipeline (graph_on es ps js) c.pipe ≡ true) (components_on ps js)

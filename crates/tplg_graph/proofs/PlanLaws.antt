@@ -1,25 +1,22 @@
 -- What a plan and a fault say of a topology.
-use Rattle.std.proofs.Common.{◌≡◌, refl, sym, subst, ℕ, suc, List, All, Result, Ok, Err, OnOk, IfOk, IfErr, inl, inr}
+use Rattle.std.proofs.Common.{◌≡◌, sym, subst, suc, All, Result, Ok, Err, OnOk, IfOk}
 use Rattle.tplg_model.specs.declared.block.Topology.{Topology}
 use Rattle.tplg_plan.specs.declared.plans.Plan.{Plan}
-use Rattle.tplg_graph.specs.declared.plan_fault.PlanFault.{PlanFault}
-use Rattle.tplg_graph.specs.declared.plan_fault.PlanFault.TheVariants as fault
+use Rattle.tplg_rules.specs.declared.plan_fault.PlanFault.{PlanFault}
 use Rattle.stream_law.specs.Ways.{components}
 use Rattle.tplg_widgets.specs.Entries.{entries_of, interpreted}
 use Rattle.tplg_widgets.specs.Ends.{ends_in}
 use Rattle.tplg_widgets.specs.PcmList.{pcms_of}
 use Rattle.tplg_widgets.specs.Ends.{joins_of}
-use Rattle.tplg_graph.specs.Rules.{AllHold, BreaksOf}
-use Rattle.tplg_graph.specs.Rules.{Rule as A_rule}
 use Rattle.tplg_graph.specs.PlanOf.{plan_of}
 use Rattle.tplg_plan.specs.HeapNeed.{IsSmall, need_on}
-use Rattle.tplg_graph.specs.Needed.{need_of}
-use Rattle.tplg_graph.specs.Cycles.{Reaches, IsOrderable, IsAcyclic}
+use Rattle.tplg_graph.specs.TopologyNeed.{need_of}
+use Rattle.tplg_rules.specs.Cycles.{Reaches}
+use Rattle.tplg_graph.specs.Orderable.{IsOrderable, IsAcyclic}
 use Rattle.tplg_graph.specs.Thin.{IsThin}
 use Rattle.tplg_plan.specs.ThinPlan.{IsThinPlan}
 use Rattle.tplg_plan.specs.WidgetWords.{FitsWords}
-use Rattle.tplg_graph.specs.WellFormed.{IsWellFormed, IsFaultOf, Tells}
-use Rattle.tplg_graph.proofs.RuleLaws.{none_breaks, one_breaks}
+use Rattle.tplg_rules.specs.WellFormed.{IsWellFormed}
 use Rattle.tplg_graph.proofs.GraphSize.{small}
 use Rattle.tplg_graph.proofs.GraphNeed.{graph-need}
 use Rattle.tplg_graph.proofs.OrderableEnds.{all-known}
@@ -27,18 +24,6 @@ use Rattle.tplg_graph.proofs.OrderableIds.{comps-distinct, comps-below}
 use Rattle.tplg_graph.proofs.Known.{known-source, known-sink, joined-source}
 use Rattle.tplg_graph.proofs.JoinedWalks.{walk-joined}
 use Rattle.tplg_graph.proofs.ThinLaw.{thin-plan, entries-quiet}
-
--- where all rules hold, want of memory is the one fault
-pub kept : (rs : List A_rule) (r : Result Plan PlanFault) → IfErr r (IsFaultOf rs) → AllHold rs → IfErr r (λ e. e ≡ fault.OutOfMemory)
-kept rs (Ok p) f all = tt
-kept rs (Err (fault.Rule rule item)) f all = absurd (none_breaks rs rule item all f)
-kept rs (Err fault.OutOfMemory) f all = refl
-
--- where a rule is broken, it is told
-pub broken : (rs : List A_rule) (r : Result Plan PlanFault) → OnOk r (AllHold rs) → IfErr r (IsFaultOf rs) → (rule item : ℕ) → BreaksOf rs rule item → Tells rule item r
-broken rs (Ok p) a f rule item b = none_breaks rs rule item a b
-broken rs (Err (fault.Rule s j)) a f rule item b = let same = one_breaks rs s j rule item f b in inl (λ i. fault.Rule (same.0 i) (same.1 i))
-broken rs (Err fault.OutOfMemory) a f rule item b = inr refl
 
 -- a fact on a well-formed topology's plan
 pub on-plan : (t : Topology) (r : Result Plan PlanFault) (P : Plan → Type 0) → OnOk r (IsWellFormed t) → IfOk r (λ p. p ≡ plan_of t) → (IsWellFormed t → P (plan_of t)) → IfOk r P

@@ -6,16 +6,17 @@ use Rattle.std.proofs.lemmas.Option.{slice_get_within, get_or_from_slice_get}
 use Rattle.tplg_model.specs.declared.block.Topology.{Topology}
 use Rattle.tplg_widgets.specs.declared.entry.Entry.{Entry}
 use Rattle.tplg_plan.specs.declared.plans.Plan.{Plan}
-use Rattle.tplg_graph.specs.declared.plan_fault.PlanFault.{PlanFault}
+use Rattle.tplg_rules.specs.declared.plan_fault.PlanFault.{PlanFault}
 use Rattle.tplg_widgets.specs.Entries.{is_interpreted, entries_of, interpreted}
-use Rattle.tplg_graph.specs.Lists.{components_on, edges_on, pipes_on, component_at, edge_at, pipe_at, control_at, names_on, widgets_on}
+use Rattle.tplg_widgets.specs.GraphLists.{components_on, edges_on, component_at, edge_at}
+use Rattle.tplg_graph.specs.PlanLists.{pipes_on, pipeline_at, control_at, names_on, widgets_on}
 use Rattle.tplg_widgets.specs.Ends.{joins_of}
 use Rattle.tplg_widgets.specs.PcmList.{pcms_of}
 use Rattle.tplg_graph.specs.PlanOf.{plan_of}
 use Rattle.tplg_plan.specs.Printable.{is_widget_name}
 use Rattle.tplg_plan.specs.Sound.{IsSound}
 use Rattle.tplg_plan.specs.WidgetWords.{FitsWords}
-use Rattle.tplg_graph.specs.WellFormed.{IsWellFormed}
+use Rattle.tplg_rules.specs.WellFormed.{IsWellFormed}
 use Rattle.tplg_graph.proofs.ByIds.{implied, keyed-components, keyed-edges, keyed-pipes}
 use Rattle.tplg_graph.proofs.DistinctIndices.{distinct-indices}
 use Rattle.tplg_graph.proofs.FittingKinds.{kinds-fit}
@@ -74,10 +75,10 @@ is-sound t (counts, (names, (ends, (routes, (buffers, (components, (indices, (sc
       printable = printable ps (named es ps refl names) (all-interpreted es);
       comps_ascend = ascends (λ c. c.id) (component_at ps js) (keyed-components ps js) 0 (length ps);
       edges_ascend = ascends (λ e. e.buffer) (edge_at ps js) (keyed-edges ps js) 0 (length ps);
-      pipes_ascend = ascends (λ p. p.id) (pipe_at es ps) (keyed-pipes es ps) 0 (length ps);
+      pipes_ascend = ascends (λ p. p.id) (pipeline_at es ps) (keyed-pipes es ps) 0 (length ps);
       comps_below = below ps (λ c. c.id) (components_on ps js) (all-below (λ c. c.id) (component_at ps js) (keyed-components ps js) (length ps));
       edges_below = below ps (λ e. e.buffer) (edges_on ps js) (all-below (λ e. e.buffer) (edge_at ps js) (keyed-edges ps js) (length ps));
-      pipes_below = below ps (λ p. p.id) (pipes_on es ps) (all-below (λ p. p.id) (pipe_at es ps) (keyed-pipes es ps) (length ps));
+      pipes_below = below ps (λ p. p.id) (pipes_on es ps) (all-below (λ p. p.id) (pipeline_at es ps) (keyed-pipes es ps) (length ps));
       indices = distinct-indices es indices;
       comps_piped = comps-piped es js indices scheds;
       edges_piped = edges-piped es js indices scheds;

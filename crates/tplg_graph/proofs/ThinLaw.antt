@@ -14,14 +14,14 @@ use Rattle.tplg_widgets.specs.declared.route_end.Ends.{Ends}
 use Rattle.tplg_widgets.specs.Entries.{is_interpreted, is_buffer, is_buffer_role, is_scheduler, is_scheduler_role, is_dai_role, is_host_play_role, interpreted, role_of, entry_of, entries_in, widgets_in, entries_of}
 use Rattle.tplg_widgets.specs.Names.{has_name}
 use Rattle.tplg_widgets.specs.Ends.{end_of, end_at, real_of}
-use Rattle.tplg_widgets.specs.Tokens.{format_of}
+use Rattle.tplg_widgets.specs.Tokens.{stated_format}
 use Rattle.tplg_graph.proofs.Interpreted.{of-interpreted, all-filter, weaker, or-front}
-use Rattle.tplg_graph.specs.Rules.{HoldsAll, AllHold}
-use Rattle.tplg_graph.specs.Table.{is_size, is_component_end, names_rule, hosts_rule, is_host_widget, has_pcm}
+use Rattle.tplg_rules.specs.Rules.{HoldsAll, AllHold}
+use Rattle.tplg_rules.specs.RuleTable.{is_size, is_component_end, names_rule, hosts_rule, is_host_widget, has_pcm}
 use Rattle.tplg_plan.specs.Printable.{is_widget_name}
-use Rattle.tplg_graph.specs.Lists.{component_end, control_plan, pipes_on, widget_plan, widgets_on, names_on}
+use Rattle.tplg_graph.specs.PlanLists.{component_end, control_plan, pipes_on, widget_plan, widgets_on, names_on}
 use Rattle.tplg_widgets.specs.declared.pcm_caps.PcmCaps.{PcmCaps}
-use Rattle.tplg_widgets.specs.PcmList.{caps_of, is_side_of, caps_of_side}
+use Rattle.tplg_widgets.specs.PcmList.{caps_named, is_side_of, caps_of_side}
 use Rattle.tplg_widgets.specs.LiveControls.{live_of}
 use Rattle.tplg_model.specs.declared.pcm.Caps.{Caps}
 use Rattle.tplg_model.specs.declared.control.Control.{Control}
@@ -163,7 +163,7 @@ pipes-of es index h b d s k = λ i. cons_option (option_map (λ sched. record { 
 -- what the PCMs and the controls say of the four
 pub record Quiet (pcms : List PcmCaps) (h b d s : Entry) : Type 0 where
   pub caps : Caps
-  pub found : caps_of pcms false h.sname ≡ Some caps
+  pub found : caps_named pcms false h.sname ≡ Some caps
   pub host : h.control ≡ None
   pub buffer : b.control ≡ None
   pub dai : d.control ≡ None
@@ -177,11 +177,11 @@ plan-of-four es index h b d s pcms k q fit =
     let f2 = fit 2 host (omega arith) in
     let f3 = fit 3 host (omega arith) in
     let z = size-of b.tokens.size k.size in
-    let graph : Graph = thin_graph index (unwrap_or b.tokens.size 0) (format_of d.tokens.format) k.sched in
+    let graph : Graph = thin_graph index (unwrap_or b.tokens.size 0) (stated_format d.tokens.format) k.sched in
     record {
       pipe = index;
       size = unwrap_or b.tokens.size 0;
-      format = format_of d.tokens.format;
+      format = stated_format d.tokens.format;
       sched = k.sched;
       caps = q.caps;
       host_name = h.name;

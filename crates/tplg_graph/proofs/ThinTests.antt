@@ -11,10 +11,10 @@ use Rattle.tplg_widgets.specs.declared.route_end.Ends.{Ends}
 use Rattle.tplg_widgets.specs.Entries.{entries_of, interpreted}
 use Rattle.tplg_widgets.specs.Ends.{ends_in}
 use Rattle.tplg_widgets.specs.Ends.{joins_of}
-use Rattle.tplg_graph.specs.Rules.{AllHold}
+use Rattle.tplg_rules.specs.Rules.{AllHold}
 use Rattle.tplg_widgets.specs.Names.{is_number}
 use Rattle.tplg_graph.specs.Thin.{AreInOrder, AreThin, IsThin, thin_ends, thin_rules}
-use Rattle.tplg_graph.specs.ThinTest.{in_order, are_four, is_component, is_buffer_of, are_two, below, rules_hold, thin_over, thin_test}
+use Rattle.tplg_graph.specs.ThinTest.{in_order, are_four, is_component_of, is_buffer_of, are_two, below, rules_hold, thin_over, thin_test}
 
 both : (a b : Bool) → (a && b) ≡ true → (a ≡ true) × (b ≡ true)
 both a b h = and_parts a b h
@@ -83,7 +83,7 @@ four-test ps a = rw a.four (order-test a.host a.buffer a.dai a.scheduler a.in_or
 
 -- ---- routes
 
-component-is : (e : End) (id : ℕ) → is_component e id ≡ true → e ≡ Component id
+component-is : (e : End) (id : ℕ) → is_component_of e id ≡ true → e ≡ Component id
 component-is (Component k) id t = ap (λ (m : ℕ). Component m) (eqb-true k id t)
 component-is (Buffer k) id t = absurd cc
 component-is Other id t = absurd cc

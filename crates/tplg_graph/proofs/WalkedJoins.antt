@@ -8,22 +8,20 @@ use Rattle.stream_law.specs.declared.graph.Kind.{Kind}
 use Rattle.stream_law.specs.declared.graph.Kind.TheVariants.{HostPlay, HostCapture, DaiPlay, DaiCapture, Volume, Mixer, Mux, Eq}
 use Rattle.stream_law.specs.declared.graph.Comp.{Comp}
 use Rattle.stream_law.specs.declared.graph.Join.{Join}
-use Rattle.stream_law.specs.Ways.{comp_of, edge_of, leads, reaches}
-use Rattle.stream_law.specs.Ways as way
-use Rattle.stream_law.specs.Joins.{crosses}
-use Rattle.stream_law.specs.Joins as join_law
+use Rattle.stream_law.specs.Ways.{comp_of, leads, reaches, is_capture}
+use Rattle.stream_law.specs.Joins.{crosses, is_play}
 use Rattle.tplg_widgets.specs.declared.entry.Role.{Role}
 use Rattle.tplg_widgets.specs.declared.entry.Entry.{Entry}
 use Rattle.tplg_widgets.specs.declared.tokens.FormatToken.{FormatToken}
 use Rattle.tplg_widgets.specs.Entries.{is_component_role, interpreted}
-use Rattle.tplg_graph.specs.Lists.{component_at, components_on, edge_at, edges_on, route_in, route_out, component_kind, is_sink}
-use Rattle.tplg_graph.specs.Rules.{HoldsAll}
-use Rattle.tplg_graph.specs.Table.{ins_of, outs_of, buffers_rule}
-use Rattle.tplg_graph.specs.Cycles.{joined, Walk, Reaches, is_play, is_capture, cycles_rule, ways_rule}
+use Rattle.tplg_widgets.specs.GraphLists.{component_at, components_on, edge_at, edges_on, route_in, route_out, component_kind, is_sink}
+use Rattle.tplg_rules.specs.Rules.{HoldsAll}
+use Rattle.tplg_rules.specs.RuleTable.{ins_of, outs_of, buffers_rule}
+use Rattle.tplg_rules.specs.Cycles.{are_joined, EdgeWalk, Reaches, cycles_rule, ways_rule}
 use Rattle.tplg_plan.specs.Sound.{IsSideOf, IsPassed}
 use Rattle.tplg_graph.proofs.KeyedLists.{all-made, all-at, at-all, only-one}
 use Rattle.tplg_graph.proofs.ByIds.{made_edge, of-component, of-edge}
-use Rattle.tplg_graph.proofs.GraphSize.{no-kind}
+use Rattle.tplg_widgets.proofs.ListLengths.{no-kind}
 use Rattle.tplg_graph.proofs.JoinedWalks.{edge-joined}
 use Rattle.tplg_graph.proofs.NamedIds.{graph_of, comp-by-id, edge-by-id, edge-there, known, passed}
 use Rattle.tplg_graph.proofs.OrderableEnds.{IsComp, IsBuf, Good, apart}
@@ -102,27 +100,7 @@ joins-end js (suc n) a c b w f = (w.0, w.1, joins-end js n w.0 c b w.2 f)
 some-none : {X : Type 0} {x : X} → Some x ≡ None → ⊥
 some-none e = cc
 
-same-capture : (k : Kind) → way.is_capture k ≡ is_capture k
-same-capture HostPlay = refl
-same-capture HostCapture = refl
-same-capture (DaiPlay f) = refl
-same-capture (DaiCapture f) = refl
-same-capture Volume = refl
-same-capture Mixer = refl
-same-capture Mux = refl
-same-capture Eq = refl
-
-same-play : (k : Kind) → join_law.is_play k ≡ is_play k
-same-play HostPlay = refl
-same-play HostCapture = refl
-same-play (DaiPlay f) = refl
-same-play (DaiCapture f) = refl
-same-play Volume = refl
-same-play Mixer = refl
-same-play Mux = refl
-same-play Eq = refl
-
-one-way : (k : Kind) → is_play k ≡ true → way.is_capture k ≡ true → ⊥
+one-way : (k : Kind) → is_play k ≡ true → is_capture k ≡ true → ⊥
 one-way HostPlay play capture = false≢true capture
 one-way HostCapture play capture = false≢true play
 one-way (DaiPlay f) play capture = false≢true play
@@ -162,7 +140,7 @@ module _ (es : List Entry) (js : List Join) (good : AllByRecursion (Good (interp
       by_case (inr g) = subst (IsComp (interpreted es)) f.sink g.1
 
   -- a join into a buffer and one out of it are an edge
-  through : (a x c : ℕ) → IsBuf (interpreted es) x → Follows js a x → Follows js x c → joined (edges_on (interpreted es) js) a c ≡ true
+  through : (a x c : ℕ) → IsBuf (interpreted es) x → Follows js a x → Follows js x c → are_joined (edges_on (interpreted es) js) a c ≡ true
   through a x c b f g =
       let edge = edge-by-id es js x ∙ edge-there (interpreted es) js x b in
       let into : route_in js x ≡ Some f.join = ap (route_in js) (sym f.sink) ∙ route-in-is f.place f.join f.there (subst (IsBuf (interpreted es)) (sym f.sink) b) in
@@ -172,7 +150,7 @@ module _ (es : List Entry) (js : List Join) (good : AllByRecursion (Good (interp
       (ap (option_and_then (λ e. e.sink)) edge ∙ ap (option_map (λ j. j.sink)) out ∙ ap Some g.sink)
 
   -- a walk of joins between components is one of edges
-  walk-edges : (n a b : ℕ) → IsComp (interpreted es) a → IsComp (interpreted es) b → JoinWalk js n a b → (m : ℕ) × Walk (edges_on (interpreted es) js) m a b
+  walk-edges : (n a b : ℕ) → IsComp (interpreted es) a → IsComp (interpreted es) b → JoinWalk js n a b → (m : ℕ) × EdgeWalk (edges_on (interpreted es) js) m a b
   walk-edges zero a b c d w = (0, w)
   walk-edges (suc zero) a b c d (x, f, e) = absurd (apart (interpreted es) x b (sym e) (to-buffer a x c f) d)
   walk-edges (suc (suc n)) a b c d (x, f, (y, g, w)) =
@@ -238,18 +216,18 @@ module _ (es : List Entry) (js : List Join) (good : AllByRecursion (Good (interp
       })
 
   module _ (ways : HoldsAll (ways_rule (length (interpreted es)) (components_on (interpreted es) js) (edges_on (interpreted es) js))) where
-    no-capture : (a b : Comp) (k l : ℕ) → slice_get (components_on (interpreted es) js) k ≡ Some a → slice_get (components_on (interpreted es) js) l ≡ Some b → is_play a.kind ≡ true → way.is_capture b.kind ≡ true → (n : ℕ) → JoinWalk js n a.id b.id → ⊥
+    no-capture : (a b : Comp) (k l : ℕ) → slice_get (components_on (interpreted es) js) k ≡ Some a → slice_get (components_on (interpreted es) js) l ≡ Some b → is_play a.kind ≡ true → is_capture b.kind ≡ true → (n : ℕ) → JoinWalk js n a.id b.id → ⊥
     no-capture a b k l at_a at_b play capture zero w =
         let oa = at-all IsOwn (components_on (interpreted es) js) own k a at_a in
         let ob = at-all IsOwn (components_on (interpreted es) js) own l b at_b in
         let same : a ≡ b = same_Some a b (sym oa.found ∙ ap (comp_of (graph_of es js)) w ∙ ob.found) in
-        one-way a.kind play (ap (λ (c : Comp). way.is_capture c.kind) same ∙ capture)
+        one-way a.kind play (ap (λ (c : Comp). is_capture c.kind) same ∙ capture)
     no-capture a b k l at_a at_b play capture (suc n) w =
         let oa = at-all IsOwn (components_on (interpreted es) js) own k a at_a in
         let ob = at-all IsOwn (components_on (interpreted es) js) own l b at_b in
         ways a.id (slice_get_within (interpreted es) a.id oa.sort.entry oa.sort.there)
         (any-from (λ c. c.id == a.id && is_play c.kind) (components_on (interpreted es) js) k a at_a (and_from (a.id == a.id) (is_play a.kind) (eq-eqb a.id a.id refl) play))
-        (b.id, any-from (λ c. c.id == b.id && is_capture c.kind) (components_on (interpreted es) js) l b at_b (and_from (b.id == b.id) (is_capture b.kind) (eq-eqb b.id b.id refl) (sym (same-capture b.kind) ∙ capture)), reaches-edges n a.id b.id oa.sort ob.sort w)
+        (b.id, any-from (λ c. c.id == b.id && is_capture c.kind) (components_on (interpreted es) js) l b at_b (and_from (b.id == b.id) (is_capture b.kind) (eq-eqb b.id b.id refl) capture), reaches-edges n a.id b.id oa.sort ob.sort w)
 
     pub are-apart : crosses (graph_of es js) ≡ false
     unfolding reaches
@@ -257,9 +235,9 @@ module _ (es : List Entry) (js : List Join) (good : AllByRecursion (Good (interp
       where
         none : crosses (graph_of es js) ≡ true → ⊥
         none h =
-            let a = any-place (λ a. join_law.is_play a.kind && list_any (λ b. way.is_capture b.kind && reaches (graph_of es js) a.id b.id) (components_on (interpreted es) js)) (components_on (interpreted es) js) h in
-            let first = and_parts (join_law.is_play a.item.kind) (list_any (λ b. way.is_capture b.kind && reaches (graph_of es js) a.item.id b.id) (components_on (interpreted es) js)) a.passes in
-            let b = any-place (λ b. way.is_capture b.kind && reaches (graph_of es js) a.item.id b.id) (components_on (interpreted es) js) first.1 in
-            let second = and_parts (way.is_capture b.item.kind) (reaches (graph_of es js) a.item.id b.item.id) b.passes in
+            let a = any-place (λ a. is_play a.kind && list_any (λ b. is_capture b.kind && reaches (graph_of es js) a.id b.id) (components_on (interpreted es) js)) (components_on (interpreted es) js) h in
+            let first = and_parts (is_play a.item.kind) (list_any (λ b. is_capture b.kind && reaches (graph_of es js) a.item.id b.id) (components_on (interpreted es) js)) a.passes in
+            let b = any-place (λ b. is_capture b.kind && reaches (graph_of es js) a.item.id b.id) (components_on (interpreted es) js) first.1 in
+            let second = and_parts (is_capture b.item.kind) (reaches (graph_of es js) a.item.id b.item.id) b.passes in
             let w = leads-joins js (length js) a.item.id b.item.id second.1 in
-            no-capture a.item b.item a.place b.place a.there b.there (sym (same-play a.item.kind) ∙ first.0) second.0 w.0 w.1
+            no-capture a.item b.item a.place b.place a.there b.there first.0 second.0 w.0 w.1

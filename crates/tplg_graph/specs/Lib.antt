@@ -1,12 +1,6 @@
-pub mod ControlRanges
-pub mod Lists
-pub mod Needed
-pub mod Rules
-pub mod Table
-pub mod Cycles
-pub mod Reach
+pub mod PlanLists
+pub mod TopologyNeed
 pub mod PlanOf
-pub mod WellFormed
+pub mod Orderable
 pub mod Thin
 pub mod ThinTest
-pub mod RuleTest

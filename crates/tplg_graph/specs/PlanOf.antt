@@ -14,7 +14,8 @@ use Rattle.tplg_widgets.specs.declared.pcm_caps.PcmCaps.{PcmCaps}
 use Rattle.tplg_widgets.specs.Entries.{entries_of, interpreted}
 use Rattle.tplg_widgets.specs.WiringValue.{WiringValue, wiring_of}
 use Rattle.tplg_widgets.specs.PcmList.{pcms_of}
-use Rattle.tplg_graph.specs.Lists.{components_on, edges_on, pipes_on, streams_on, controls_on, names_on, widgets_on}
+use Rattle.tplg_widgets.specs.GraphLists.{components_on, edges_on}
+use Rattle.tplg_graph.specs.PlanLists.{pipes_on, streams_on, controls_on, names_on, widgets_on}
 use Rattle.tplg_widgets.specs.Ends.{joins_of}
 
 -- the interpreted widgets: an id is a place in this list

@@ -9,7 +9,7 @@ use Rattle.tplg_widgets.specs.declared.route_end.End.TheVariants.{Buffer, Compon
 use Rattle.tplg_widgets.specs.declared.route_end.Ends.{Ends}
 use Rattle.tplg_widgets.specs.Entries.{entries_of, interpreted, is_host_play, is_buffer, is_dai, is_scheduler}
 use Rattle.tplg_widgets.specs.Ends.{ends_in, real_of}
-use Rattle.tplg_graph.specs.Table.{name_holds, sched_holds, period_holds, dai_holds, size_holds}
+use Rattle.tplg_rules.specs.RuleTable.{name_holds, sched_holds, period_holds, dai_holds, size_holds}
 use Rattle.tplg_widgets.specs.Names.{is_number}
 
 abbrev pub in_order : Entry → Entry → Entry → Entry → Bool
@@ -21,9 +21,9 @@ abbrev pub are_four : List Entry → Bool
 are_four (host ∷ buffer ∷ dai ∷ scheduler ∷ []) = in_order host buffer dai scheduler
 are_four _ = false
 
-abbrev pub is_component : End → ℕ → Bool
-is_component (Component k) id = k == id
-is_component _ id = false
+abbrev pub is_component_of : End → ℕ → Bool
+is_component_of (Component k) id = k == id
+is_component_of _ id = false
 
 abbrev pub is_buffer_of : End → ℕ → Bool
 is_buffer_of (Buffer k) id = k == id
@@ -31,7 +31,7 @@ is_buffer_of _ id = false
 
 abbrev pub are_two : List Ends → Bool
 are_two (first ∷ second ∷ []) =
-    is_component first.source 0 && (is_buffer_of first.sink 1 && (is_buffer_of second.source 1 && is_component second.sink 2))
+    is_component_of first.source 0 && (is_buffer_of first.sink 1 && (is_buffer_of second.source 1 && is_component_of second.sink 2))
 are_two _ = false
 
 -- a test at each number below n

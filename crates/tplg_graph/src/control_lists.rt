@@ -1,67 +1,14 @@
 // The live controls of a topology, by id.
 ghost use Rattle.std.specs.Prelude.{◌≡◌, ◌<◌, ◌^◌, ◌++◌, length, IfOk, OnOk};
 ghost use Rattle.std.specs.Option.{option_copied, option_to_list};
-ghost use Rattle.sof_base.specs.BlobFaults.{is_blob};
-ghost use Rattle.tplg_plan.specs.Ranges.{is_initial};
-ghost use Rattle.tplg_graph.specs.ControlRanges as ranges;
-ghost use Rattle.tplg_graph.specs.Lists as law;
+ghost use Rattle.tplg_graph.specs.PlanLists as law;
 
-use eq_biquad::check;
 use sof_base::Items;
 use std::alloc::{AllocError, Global};
 use tplg_model::{Control, ControlHead};
 use tplg_plan::{ControlKind, ControlPlan};
+use tplg_rules::is_volume;
 use tplg_widgets::{Entry, scale_word};
-
-/// Whether a volume's least and greatest value and its number of channels are in range.
-fn is_volume(min: i32, max: i32, channels: u32) -> bool
-    ensures { result ≡ ranges.is_volume min max channels }
-{
-    0 <= min && min <= max && max <= 65535 && 1 <= channels && channels <= 8
-}
-
-fn is_choice(items: u32) -> bool
-    ensures { result ≡ ranges.is_choice items }
-{
-    1 <= items && items <= 16
-}
-
-fn is_blob(bytes: &[u8]) -> bool
-    ensures { result ≡ is_blob bytes.now }
-{
-    check(bytes).is_ok()
-}
-
-fn is_initial(bytes: &[u8]) -> bool
-    ensures { result ≡ is_initial bytes.now }
-{
-    bytes.is_empty() || is_blob(bytes)
-}
-
-fn is_control(control: &Control) -> bool
-    ensures { result ≡ ranges.is_control control.now }
-{
-    match control {
-        Control::Mixer {
-            min,
-            max,
-            num_channels,
-            ..
-        } => is_volume(*min, *max, *num_channels),
-        Control::Enum { items, .. } => is_choice(*items),
-        Control::Bytes { private, .. } => is_initial(private.items()),
-    }
-}
-
-/// Whether a live control, where there is one, is in range.
-pub fn is_live_in_range(control: Option<&Control>) -> bool
-    ensures { result ≡ ranges.is_live_in_range (option_copied control.entry) }
-{
-    match control {
-        None => true,
-        Some(control) => is_control(control),
-    }
-}
 
 fn volume_kind(head: &ControlHead, min: i32, max: i32, channels: u32) -> Option<ControlKind>
     ensures { result ≡ law.volume_kind head.now min max channels }

@@ -1,14 +1,13 @@
 // Whether a topology is thin.
 ghost use Rattle.std.specs.Prelude.{◌≡◌, ◌↔◌, true, IfOk};
-ghost use Rattle.tplg_graph.specs.Rules.{AllHold};
+ghost use Rattle.tplg_rules.specs.Rules.{AllHold};
 ghost use Rattle.tplg_graph.specs.Thin as law;
 ghost use Rattle.tplg_graph.specs.ThinTest.{thin_test};
 
-use crate::rule_name::RuleName;
-use crate::rule_table::keeps;
 use sof_base::NoMemory;
 use std::alloc::Global;
 use tplg_model::Topology;
+use tplg_rules::{RuleName, keeps};
 use tplg_widgets::{End, Ends, Entry, Wiring, is_buffer, is_dai, is_host_play, is_scheduler};
 
 fn are_in_order(host: &Entry, buffer: &Entry, dai: &Entry, scheduler: &Entry) -> bool

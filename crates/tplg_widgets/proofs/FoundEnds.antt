@@ -1,5 +1,5 @@
 -- What a name names, by the id that is looked up.
-use Rattle.std.proofs.Common.{◌≡◌, sym, ap, ◌∙◌, ℕ, ◌≤◌, List, [], ◌∷◌, length, filter, position, slice_get, Bool, true, false, cond, suc, Option, Some, is_some, arith}
+use Rattle.std.proofs.Common.{◌≡◌, sym, ap, ◌∙◌, ℕ, ◌≤◌, List, [], ◌∷◌, length, filter, position, slice_get, Bool, true, false, cond, suc, Some, is_some, arith}
 use Rattle.std.specs.Option.{option_map_or}
 use Rattle.tplg_widgets.specs.EntryValue.{EntryValue}
 use Rattle.tplg_widgets.specs.declared.route_end.End.TheVariants.{Other, Missing}

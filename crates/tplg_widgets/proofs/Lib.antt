@@ -2,3 +2,5 @@ pub mod FirstValues
 pub mod Texts
 pub mod Positions
 pub mod FoundEnds
+pub mod Indexed
+pub mod ListLengths

@@ -83,9 +83,9 @@ abbrev pub is_host_capture_role : Option Role → Bool
 is_host_capture_role (Some HostCapture) = true
 is_host_capture_role _ = false
 
-abbrev pub is_equaliser_role : Option Role → Bool
-is_equaliser_role (Some Eq) = true
-is_equaliser_role _ = false
+abbrev pub is_effect_role : Option Role → Bool
+is_effect_role (Some Eq) = true
+is_effect_role _ = false
 
 abbrev pub is_component_role : Option Role → Bool
 is_component_role None = false
@@ -108,8 +108,8 @@ is_host_play e = is_host_play_role e.role
 abbrev pub is_host_capture : Entry → Bool
 is_host_capture e = is_host_capture_role e.role
 
-abbrev pub is_equaliser : Entry → Bool
-is_equaliser e = is_equaliser_role e.role
+abbrev pub is_effect : Entry → Bool
+is_effect e = is_effect_role e.role
 
 -- a live control is there
 abbrev pub has_control : Entry → Bool

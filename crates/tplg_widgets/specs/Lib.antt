@@ -7,3 +7,4 @@ pub mod Names
 pub mod Lookups
 pub mod Ends
 pub mod WiringValue
+pub mod GraphLists

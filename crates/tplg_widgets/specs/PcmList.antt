@@ -36,5 +36,5 @@ abbrev pub is_side_of : Bool → List ℕ → PcmCaps → Bool
 is_side_of capture name p = bytes_eq name (caps_of_side capture p).name
 
 -- the caps of the first PCM whose caps of this direction have this name
-abbrev pub caps_of : List PcmCaps → Bool → List ℕ → Option Caps
-caps_of pcms capture name = option_map (caps_of_side capture) (find (is_side_of capture name) pcms)
+abbrev pub caps_named : List PcmCaps → Bool → List ℕ → Option Caps
+caps_named pcms capture name = option_map (caps_of_side capture) (find (is_side_of capture name) pcms)

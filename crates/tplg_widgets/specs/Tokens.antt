@@ -66,7 +66,7 @@ widget_tokens arrays = record {
 }
 
 -- the format of a DAI's samples; S32 where it says none
-abbrev pub format_of : FormatToken → Format
-format_of (Known format) = format
-format_of Absent = S32
-format_of Unknown = S32
+abbrev pub stated_format : FormatToken → Format
+stated_format (Known format) = format
+stated_format Absent = S32
+stated_format Unknown = S32

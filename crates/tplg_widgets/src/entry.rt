@@ -161,8 +161,8 @@ pub fn is_host_capture(entry: &Entry) -> bool
     matches!(entry.role(), Some(Role::HostCapture))
 }
 
-pub fn is_equaliser(entry: &Entry) -> bool
-    ensures { result ≡ law.is_equaliser entry.now }
+pub fn is_effect(entry: &Entry) -> bool
+    ensures { result ≡ law.is_effect entry.now }
 {
     matches!(entry.role(), Some(Role::Eq))
 }

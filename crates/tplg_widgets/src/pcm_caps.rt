@@ -96,8 +96,8 @@ pub fn has_caps(pcms: &[PcmCaps], capture: bool, name: &[u8]) -> bool
 }
 
 /// The caps of the first PCM whose caps of a direction have a name.
-pub fn caps_of(pcms: &[PcmCaps], capture: bool, name: &[u8]) -> Option<Caps>
-    ensures { result ≡ law.caps_of pcms.now capture name.now }
+pub fn caps_named(pcms: &[PcmCaps], capture: bool, name: &[u8]) -> Option<Caps>
+    ensures { result ≡ law.caps_named pcms.now capture name.now }
 {
     let pcm = pcms.iter().find(|p| is_side_of(*p, capture, name))?;
     Some(caps_again(caps_of_side(pcm, capture)))

@@ -186,8 +186,8 @@ pub fn widget_tokens(arrays: &[TokenArray]) -> WidgetTokens
 }
 
 /// The format of a DAI's samples: S32 where it says none.
-pub fn format_of(token: FormatToken) -> Format
-    ensures { result ≡ law.format_of token }
+pub fn stated_format(token: FormatToken) -> Format
+    ensures { result ≡ law.stated_format token }
 {
     match token {
         FormatToken::Known(format) => format,

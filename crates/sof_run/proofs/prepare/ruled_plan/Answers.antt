@@ -1,6 +1,6 @@
 use Rattle.std.proofs.Common.{IfErr, Some, subst, ◌∙◌}
-use Rattle.tplg_graph.specs.WellFormed.{rules_of, IsFaultOf}
-use Rattle.tplg_graph.proofs.RuleTests.{breaks_some}
+use Rattle.tplg_rules.specs.WellFormed.{rules_of, IsFaultOf}
+use Rattle.tplg_rules.proofs.RuleTests.{breaks_some}
 use Rattle.tplg_graph.proofs.ThinTests.{thin-test}
 use Rattle.sof_run.proofs.prepare.ruled_plan.Goals as goal
 

@@ -2,7 +2,7 @@ use Rattle.std.proofs.Common.{refl}
 use Rattle.std.specs.Fmt.{digits}
 use Rattle.sof_base.specs.Slots.{until_zero}
 use Rattle.tplg_model.specs.TokenValues.{number_of, text_of}
-use Rattle.tplg_graph.specs.RuleTest.{ruling_of}
+use Rattle.tplg_rules.specs.RuleTest.{ruling_of}
 use Rattle.tplg_graph.specs.ThinTest.{thin_test}
 use Rattle.sof_tests.proofs.rows.load_and_show_rows.Goals as goal
 

@@ -1,8 +1,8 @@
 use Rattle.std.proofs.Common.{sym, ap, ◌∙◌, ◌++◌}
 use Rattle.std.specs.List.{filter_map, range_with_len}
 use Rattle.std.specs.Option.{option_to_list}
-use Rattle.tplg_graph.specs.Lists.{control_at}
-use Rattle.tplg_graph.proofs.Indexed.{filter_map-next}
+use Rattle.tplg_graph.specs.PlanLists.{control_at}
+use Rattle.tplg_widgets.proofs.Indexed.{filter_map-next}
 use Rattle.tplg_graph.proofs.control_lists.controls.Goals as goal
 
 pub loop-id-preserved : goal.loop-id-preserved

@@ -1,6 +1,6 @@
 use Rattle.std.proofs.Common.{◌≡◌}
 use Rattle.std.specs.List.{filter_map, range_with_len}
-use Rattle.tplg_graph.specs.Lists.{control_at}
+use Rattle.tplg_graph.specs.PlanLists.{control_at}
 use Rattle.tplg_graph.proofs.control_lists.controls.Given as goal
 
 abbrev pub invariant-loop-id : goal.invariant-loop-id

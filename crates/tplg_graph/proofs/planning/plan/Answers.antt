@@ -1,9 +1,10 @@
 use Rattle.std.proofs.Common.{◌≡◌}
-use Rattle.tplg_graph.specs.WellFormed.{rules_of}
+use Rattle.tplg_rules.specs.WellFormed.{rules_of}
 use Rattle.tplg_plan.specs.HeapNeed.{IsSmall, need_on}
-use Rattle.tplg_graph.specs.Needed.{need_of}
-use Rattle.tplg_graph.specs.Cycles.{IsOrderable, IsAcyclic}
-use Rattle.tplg_graph.proofs.PlanLaws.{kept, broken, on-plan, is-small, is-need, is-orderable, is-acyclic, is-thin-plan}
+use Rattle.tplg_graph.specs.TopologyNeed.{need_of}
+use Rattle.tplg_graph.specs.Orderable.{IsOrderable, IsAcyclic}
+use Rattle.tplg_rules.proofs.RuleTellings.{kept, broken}
+use Rattle.tplg_graph.proofs.PlanLaws.{on-plan, is-small, is-need, is-orderable, is-acyclic, is-thin-plan}
 use Rattle.tplg_graph.proofs.Soundness.{is-sound-plan}
 use Rattle.tplg_graph.proofs.planning.plan.Goals as goal
 

@@ -1,4 +1,4 @@
-use Rattle.std.proofs.Common.{◌<◌, ◌^◌, length, subst, List, ap, sym, ◌∙◌, arith}
+use Rattle.std.proofs.Common.{length, ap, ◌∙◌, arith}
 use Rattle.tplg_widgets.specs.Entries.{interpreted}
 use Rattle.tplg_widgets.proofs.widgets.Widgets.interpreted.Goals as goal
 

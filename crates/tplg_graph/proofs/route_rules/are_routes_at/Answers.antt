@@ -1,6 +1,0 @@
-use Rattle.std.proofs.Common.{ap, ◌∙◌}
-use Rattle.tplg_graph.specs.Table.{are_routes_of}
-use Rattle.tplg_graph.proofs.route_rules.are_routes_at.Goals as goal
-
-pub returns : goal.returns
-returns c = c.are_routes_of.ensures ∙ ap (are_routes_of c.args.role c.args.joins.now) c.id_at.ensures

@@ -1,0 +1,11 @@
+use Rattle.std.proofs.Common.{subst, OnOk, IfErr}
+use Rattle.tplg_widgets.specs.WiringValue.{WiringValue}
+use Rattle.tplg_rules.specs.Rules.{AllHold}
+use Rattle.tplg_rules.specs.WellFormed.{IsFaultOf, rules_by}
+use Rattle.tplg_rules.proofs.checking.check_in_form.Goals as goal
+
+pub returns-clause-ok : goal.returns-clause-ok
+returns-clause-ok c = subst (λ (w : WiringValue). OnOk c.check_wiring.result (AllHold (rules_by w))) c.in_ok-wiring.ensures c.check_wiring.ensures.ok
+
+pub returns-clause-err : goal.returns-clause-err
+returns-clause-err c = subst (λ (w : WiringValue). IfErr c.check_wiring.result (IsFaultOf (rules_by w))) c.in_ok-wiring.ensures c.check_wiring.ensures.err

@@ -1,0 +1,59 @@
+// What a live control may say.
+ghost use Rattle.std.specs.Prelude.{◌≡◌};
+ghost use Rattle.std.specs.Option.{option_copied};
+ghost use Rattle.sof_base.specs.BlobFaults.{is_blob};
+ghost use Rattle.tplg_plan.specs.Ranges.{is_initial};
+ghost use Rattle.tplg_rules.specs.ControlRanges as ranges;
+
+use eq_biquad::check;
+use tplg_model::Control;
+
+/// Whether a volume's least and greatest value and its number of channels are in range.
+pub fn is_volume(min: i32, max: i32, channels: u32) -> bool
+    ensures { result ≡ ranges.is_volume min max channels }
+{
+    0 <= min && min <= max && max <= 65535 && 1 <= channels && channels <= 8
+}
+
+fn is_choice(items: u32) -> bool
+    ensures { result ≡ ranges.is_choice items }
+{
+    1 <= items && items <= 16
+}
+
+fn is_blob(bytes: &[u8]) -> bool
+    ensures { result ≡ is_blob bytes.now }
+{
+    check(bytes).is_ok()
+}
+
+fn is_initial(bytes: &[u8]) -> bool
+    ensures { result ≡ is_initial bytes.now }
+{
+    bytes.is_empty() || is_blob(bytes)
+}
+
+fn is_control(control: &Control) -> bool
+    ensures { result ≡ ranges.is_control control.now }
+{
+    match control {
+        Control::Mixer {
+            min,
+            max,
+            num_channels,
+            ..
+        } => is_volume(*min, *max, *num_channels),
+        Control::Enum { items, .. } => is_choice(*items),
+        Control::Bytes { private, .. } => is_initial(private.items()),
+    }
+}
+
+/// Whether a live control, where there is one, is in range.
+pub fn is_live_in_range(control: Option<&Control>) -> bool
+    ensures { result ≡ ranges.is_live_in_range (option_copied control.entry) }
+{
+    match control {
+        None => true,
+        Some(control) => is_control(control),
+    }
+}

@@ -1,0 +1,107 @@
+// Rule 14: cycles, and ways from hosts that play to hosts that capture.
+ghost use Rattle.std.specs.Prelude.{◌≡◌, ◌<◌, ◌≤◌, ◌^◌, ◌↔◌, ℕ, [], ◌∷◌, true, length, OnOk, IfErr};
+ghost use Rattle.std.specs.List.{list_any};
+ghost use Rattle.stream_law.specs.Joins.{is_play};
+ghost use Rattle.stream_law.specs.Ways.{is_capture};
+ghost use Rattle.tplg_rules.specs.Rules.{AllHold, IsFirstFailing};
+ghost use Rattle.tplg_rules.specs.Cycles as law;
+ghost use Rattle.tplg_rules.specs.WellFormed as groups;
+ghost use Rattle.tplg_rules.specs.WellFormed.{IsFaultOf};
+
+use crate::plan_fault::{PlanFault, fault_at};
+use crate::walks::{reached, reaches};
+use stream_law::{Comp, Edge, Kind};
+use tplg_widgets::Entry;
+
+/// The first id on a cycle, below a number of ids.
+fn failing_cycle(ids: u32, edges: &[Edge]) -> Option<u32>
+    requires few { length edges.now ≤ 128 }
+    ensures { IsFirstFailing (law.cycles_rule ids edges.now) result }
+{
+    for id in 0..ids {
+        if reaches(edges, id, id) {
+            return Some(id);
+        }
+    }
+    None
+}
+
+fn is_play(kind: Kind) -> bool
+    ensures { result ≡ is_play kind }
+{
+    matches!(kind, Kind::HostPlay)
+}
+
+fn is_capture(kind: Kind) -> bool
+    ensures { result ≡ is_capture kind }
+{
+    matches!(kind, Kind::HostCapture)
+}
+
+fn plays_at(comps: &[Comp], id: u32) -> bool
+    ensures { result ≡ law.plays_at comps.now id }
+{
+    comps.iter().any(|c| c.id == id && is_play(c.kind))
+}
+
+fn captures_at(comps: &[Comp], id: u32) -> bool
+    ensures { result ≡ law.captures_at comps.now id }
+{
+    comps.iter().any(|c| c.id == id && is_capture(c.kind))
+}
+
+/// Whether one of some ids is a host that captures.
+fn any_captures(comps: &[Comp], ids: &[u32]) -> bool
+    ensures { result ≡ list_any (law.captures_at comps.now) ids.now }
+{
+    ids.iter().any(|id| captures_at(comps, *id))
+}
+
+/// Whether a host that captures is reached from an id.
+fn reaches_capture(comps: &[Comp], edges: &[Edge], id: u32) -> bool
+    requires few { length edges.now ≤ 128 }
+    ensures { (result ≡ true) ↔ law.ReachesCapture comps.now edges.now id }
+{
+    any_captures(comps, reached(edges, id).as_slice())
+}
+
+/// The first host that plays and reaches one that captures, below a number of ids.
+fn failing_way(ids: u32, comps: &[Comp], edges: &[Edge]) -> Option<u32>
+    requires few { length edges.now ≤ 128 }
+    ensures { IsFirstFailing (law.ways_rule ids comps.now edges.now) result }
+{
+    for id in 0..ids {
+        if plays_at(comps, id) && reaches_capture(comps, edges, id) {
+            return Some(id);
+        }
+    }
+    None
+}
+
+fn check_cycle(ids: u32, edges: &[Edge]) -> Result<(), PlanFault>
+    requires few { length edges.now ≤ 128 }
+    ensures ok { OnOk result (AllHold (law.cycles_rule ids edges.now ∷ [])) }
+    ensures err { IfErr result (IsFaultOf (law.cycles_rule ids edges.now ∷ [])) }
+{
+    fault_at(14, failing_cycle(ids, edges))
+}
+
+fn check_way(ids: u32, comps: &[Comp], edges: &[Edge]) -> Result<(), PlanFault>
+    requires few { length edges.now ≤ 128 }
+    ensures ok { OnOk result (AllHold (law.ways_rule ids comps.now edges.now ∷ [])) }
+    ensures err { IfErr result (IsFaultOf (law.ways_rule ids comps.now edges.now ∷ [])) }
+{
+    fault_at(14, failing_way(ids, comps, edges))
+}
+
+/// Both parts of rule 14, over the interpreted widgets, the components and the edges.
+pub fn check_walks(interpreted: &[Entry], comps: &[Comp], edges: &[Edge]) -> Result<(), PlanFault>
+    requires ids { length interpreted.now < 2 ^ 32 }
+    requires few { length edges.now ≤ 128 }
+    ensures ok { OnOk result (AllHold (groups.walk_rules interpreted.now comps.now edges.now)) }
+    ensures err { IfErr result (IsFaultOf (groups.walk_rules interpreted.now comps.now edges.now)) }
+{
+    check_cycle(interpreted.len() as u32, edges)?;
+    check_way(interpreted.len() as u32, comps, edges)?;
+    Ok(())
+}

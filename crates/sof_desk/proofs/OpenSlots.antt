@@ -2,7 +2,7 @@
 use Rattle.std.proofs.Common.{◌≡◌, ◌≤◌, ℕ, zero, suc, Bool, true, false, nat_eq, List, [], ◌∷◌, ◌++◌, length, get_or, set, map, position, Some, None, refl, sym, ◌∙◌, ap, arith}
 use Rattle.std.specs.List.{position_or_len}
 use Rattle.std.proofs.lemmas.List.{map-append}
-use Rattle.sof_desk.specs.RealDesk.{has_slot, slots_with}
+use Rattle.sof_desk.specs.RealDesk.{is_created, slots_with}
 use Rattle.sof_desk.proofs.First.{IsFirst, is_first, later, head_fails, none_passes}
 
 -- whether a file is open under a slot
@@ -12,11 +12,11 @@ under f slot x = nat_eq (f x) slot
 pub same_number : (m n : ℕ) → nat_eq m n ≡ true → m ≡ n
 same_number m n same = grind arith
 
-has_slot-at : {X : Type 0} (f : X → ℕ) (slot : ℕ) (xs : List X) (i : ℕ) (d : X) → IsFirst (under f slot) xs i d → has_slot slot (map f xs) ≡ true
-has_slot-at f slot [] i d first = absurd (omega (arith, first.within))
-has_slot-at f slot (x ∷ xs) zero d first = rw first.passes refl
-has_slot-at f slot (x ∷ xs) (suc i) d first =
-    rw (first.before 0 (omega arith)) (has_slot-at f slot xs i d (later (under f slot) x xs i d first))
+is_created-at : {X : Type 0} (f : X → ℕ) (slot : ℕ) (xs : List X) (i : ℕ) (d : X) → IsFirst (under f slot) xs i d → is_created slot (map f xs) ≡ true
+is_created-at f slot [] i d first = absurd (omega (arith, first.within))
+is_created-at f slot (x ∷ xs) zero d first = rw first.passes refl
+is_created-at f slot (x ∷ xs) (suc i) d first =
+    rw (first.before 0 (omega arith)) (is_created-at f slot xs i d (later (under f slot) x xs i d first))
 
 map-set-under : {X : Type 0} (f : X → ℕ) (slot : ℕ) (xs : List X) (i : ℕ) (d y : X) → IsFirst (under f slot) xs i d → f y ≡ slot → map f (set xs i y) ≡ map f xs
 map-set-under f slot [] i d y first is = absurd (omega (arith, first.within))
@@ -28,17 +28,17 @@ map-set-under f slot (x ∷ xs) (suc i) d y first is =
 pub slots-set : {X : Type 0} (f : X → ℕ) (slot : ℕ) (xs : List X) (i : ℕ) (y : X) → position (under f slot) xs ≡ Some i → f y ≡ slot → map f (set xs i y) ≡ slots_with slot (map f xs)
 slots-set f slot xs i y found is =
     let first = is_first (under f slot) xs i y found in
-    rw (has_slot-at f slot xs i y first) (map-set-under f slot xs i y y first is)
+    rw (is_created-at f slot xs i y first) (map-set-under f slot xs i y y first is)
 
-has_slot-past : {X : Type 0} (f : X → ℕ) (slot : ℕ) (xs : List X) → length xs ≤ position_or_len (under f slot) xs → has_slot slot (map f xs) ≡ false
-has_slot-past f slot [] fails = refl
-has_slot-past f slot (x ∷ xs) fails =
-    let both = head_fails (under f slot) x xs fails in rw both.0 (has_slot-past f slot xs both.1)
+is_created-past : {X : Type 0} (f : X → ℕ) (slot : ℕ) (xs : List X) → length xs ≤ position_or_len (under f slot) xs → is_created slot (map f xs) ≡ false
+is_created-past f slot [] fails = refl
+is_created-past f slot (x ∷ xs) fails =
+    let both = head_fails (under f slot) x xs fails in rw both.0 (is_created-past f slot xs both.1)
 
 -- a file of a new slot
 pub slots-push : {X : Type 0} (f : X → ℕ) (slot : ℕ) (xs : List X) (y : X) → position (under f slot) xs ≡ None → f y ≡ slot → map f (xs ++ y ∷ []) ≡ slots_with slot (map f xs)
 slots-push f slot xs y nowhere is =
-    let none = has_slot-past f slot xs (none_passes (under f slot) xs nowhere) in
+    let none = is_created-past f slot xs (none_passes (under f slot) xs nowhere) in
     rw none (map-append f xs (y ∷ []) ∙ ap (λ n. map f xs ++ n ∷ []) is)
 
 -- an item in the place of one of the same slot

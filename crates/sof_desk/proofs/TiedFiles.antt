@@ -3,7 +3,7 @@ use Rattle.std.proofs.Common.{◌≡◌, ℕ, Bool, true, false, nat_eq, List, [
 use Rattle.std.specs.Option.{option_map}
 use Rattle.sof_desk.specs.declared.file.Role.{Role}
 use Rattle.sof_desk.specs.declared.file.Role.TheVariants.{Input, Output, Tied, Left}
-use Rattle.sof_desk.specs.HeldFiles.{HeldFile, named, is_tied, tied, bytes_in_role, loaded_of, appended_of, is_output, can_create, role_without, without_slot, with_slot, files_with_slot, file_with_piece}
+use Rattle.sof_desk.specs.HeldFiles.{HeldFile, named, is_tied, tied, bytes_in_role, loaded_of, appended_of, is_output, can_create, role_without, without_slot, file_with_slot, files_with_slot, file_with_piece}
 use Rattle.sof_desk.specs.Edits.{changed_first}
 use Rattle.sof_desk.specs.Room.{Room}
 use Rattle.sof_desk.proofs.FoundAfter.{SeenAs, seen_itself, seen_alike, seen_past, find-map-seen, find-map-same, find-changed_first-seen, find-changed_first-same, find-changed_first-new, found_passes}
@@ -90,11 +90,11 @@ loaded_without slot Left bytes = refl
 -- a create changes no file that is loaded
 pub loaded_after_create : (slot : ℕ) (name other : List ℕ) (files : List HeldFile) → can_create (find (named name) files) ≡ true → loaded_of (find (named other) (files_with_slot slot name files)) ≡ loaded_of (find (named other) files)
 loaded_after_create slot name other files can =
-    find-changed_first-seen (named other) (named name) loaded_of (with_slot slot) (map (without_slot slot) files) (λ file found. seen file (output_named slot name files file can found))
+    find-changed_first-seen (named other) (named name) loaded_of (file_with_slot slot) (map (without_slot slot) files) (λ file found. seen file (output_named slot name files file can found))
     ∙ find-map-seen (named other) loaded_of (without_slot slot) (λ file. seen_alike (named other) loaded_of (without_slot slot file) file refl (loaded_without slot file.role file.room.bytes)) files
   where
-    seen : (file : HeldFile) → is_output file.role ≡ true → SeenAs (named other) loaded_of (with_slot slot file) file
-    seen file out = seen_alike (named other) loaded_of (with_slot slot file) file refl (sym (output_not_loaded file.role file.room.bytes out))
+    seen : (file : HeldFile) → is_output file.role ≡ true → SeenAs (named other) loaded_of (file_with_slot slot file) file
+    seen file out = seen_alike (named other) loaded_of (file_with_slot slot file) file refl (sym (output_not_loaded file.role file.room.bytes out))
 
 -- a file that a slot is taken from is the file of no other slot
 left_tied : (slot other n : ℕ) (name : List ℕ) (room : Room) → nat_eq slot other ≡ false → (b : Bool) → nat_eq n slot ≡ b → SeenAs (tied other) (λ found. found) (record { name = name; room = room; role = if nat_eq n slot then Left else Tied n }) (record { name = name; room = room; role = Tied n })
@@ -106,11 +106,11 @@ left_tied slot other n name room differ false differs =
 -- a create changes the file of no other slot
 pub other_after_create : (slot other : ℕ) (name : List ℕ) (files : List HeldFile) → nat_eq slot other ≡ false → can_create (find (named name) files) ≡ true → find (tied other) (files_with_slot slot name files) ≡ find (tied other) files
 other_after_create slot other name files differ can =
-    find-changed_first-seen (tied other) (named name) (λ found. found) (with_slot slot) (map (without_slot slot) files) (λ file found. seen file (output_named slot name files file can found))
+    find-changed_first-seen (tied other) (named name) (λ found. found) (file_with_slot slot) (map (without_slot slot) files) (λ file found. seen file (output_named slot name files file can found))
     ∙ find-map-seen (tied other) (λ found. found) (without_slot slot) (λ file. left file.name file.room file.role) files
   where
-    seen : (file : HeldFile) → is_output file.role ≡ true → SeenAs (tied other) (λ found. found) (with_slot slot file) file
-    seen file out = seen_past (tied other) (λ found. found) (with_slot slot file) file differ (output_not_tied other file.role out)
+    seen : (file : HeldFile) → is_output file.role ≡ true → SeenAs (tied other) (λ found. found) (file_with_slot slot file) file
+    seen file out = seen_past (tied other) (λ found. found) (file_with_slot slot file) file differ (output_not_tied other file.role out)
 
     left : (name' : List ℕ) (room : Room) (role : Role) → SeenAs (tied other) (λ found. found) (record { name = name'; room = room; role = role_without slot role }) (record { name = name'; room = room; role = role })
     left name' room Input = seen_itself (tied other) (λ found. found) (record { name = name'; room = room; role = Input })
@@ -129,10 +129,10 @@ not_tied_without slot (Tied n) = by_test (nat_eq n slot) refl
     by_test false differs = rw differs differs
 
 -- a slot's file after its create is the one of the name, and it is empty
-file_after_create : (slot : ℕ) (name : List ℕ) (files : List HeldFile) → find (tied slot) (files_with_slot slot name files) ≡ option_map (with_slot slot) (option_map (without_slot slot) (find (named name) files))
+file_after_create : (slot : ℕ) (name : List ℕ) (files : List HeldFile) → find (tied slot) (files_with_slot slot name files) ≡ option_map (file_with_slot slot) (option_map (without_slot slot) (find (named name) files))
 file_after_create slot name files =
-    find-changed_first-new (tied slot) (named name) (without_slot slot) (with_slot slot) (λ file. not_tied_without slot file.role) (λ file. itself slot) files
-    ∙ ap (option_map (with_slot slot)) (named_without slot name files)
+    find-changed_first-new (tied slot) (named name) (without_slot slot) (file_with_slot slot) (λ file. not_tied_without slot file.role) (λ file. itself slot) files
+    ∙ ap (option_map (file_with_slot slot)) (named_without slot name files)
   where
     itself : (n : ℕ) → nat_eq n n ≡ true
     itself n = grind arith
@@ -140,13 +140,13 @@ file_after_create slot name files =
 pub bytes_after_create : (slot : ℕ) (name : List ℕ) (files : List HeldFile) → can_create (find (named name) files) ≡ true → appended_of (find (tied slot) (files_with_slot slot name files)) ≡ []
 bytes_after_create slot name files can = ap appended_of (file_after_create slot name files) ∙ empty (find (named name) files) can
   where
-    empty : (found : Option HeldFile) → can_create found ≡ true → appended_of (option_map (with_slot slot) (option_map (without_slot slot) found)) ≡ []
+    empty : (found : Option HeldFile) → can_create found ≡ true → appended_of (option_map (file_with_slot slot) (option_map (without_slot slot) found)) ≡ []
     empty None can' = cc
     empty (Some file) can' = refl
 
 pub tied_after_create : (slot : ℕ) (name : List ℕ) (files : List HeldFile) → can_create (find (named name) files) ≡ true → is_some (find (tied slot) (files_with_slot slot name files)) ≡ true
 tied_after_create slot name files can = ap is_some (file_after_create slot name files) ∙ some (find (named name) files) can
   where
-    some : (found : Option HeldFile) → can_create found ≡ true → is_some (option_map (with_slot slot) (option_map (without_slot slot) found)) ≡ true
+    some : (found : Option HeldFile) → can_create found ≡ true → is_some (option_map (file_with_slot slot) (option_map (without_slot slot) found)) ≡ true
     some None can' = cc
     some (Some file) can' = refl

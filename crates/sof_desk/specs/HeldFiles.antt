@@ -4,7 +4,7 @@ use Rattle.std.specs.Str.{bytes_eq}
 use Rattle.sof_desk.specs.declared.file.Role.{Role}
 use Rattle.sof_desk.specs.declared.file.Role.TheVariants.{Input, Output, Tied, Left}
 use Rattle.sof_desk.specs.Edits.{changed_first}
-use Rattle.sof_desk.specs.Room.{Room, with_piece, takes_whole}
+use Rattle.sof_desk.specs.Room.{Room, room_with_piece, takes_whole}
 
 -- a file: its name, its bytes with their room, and what it is for
 pub record HeldFile : Type 0 where
@@ -76,16 +76,16 @@ abbrev pub without_slot : ℕ → HeldFile → HeldFile
 without_slot slot file = record file { role = role_without slot file.role }
 
 -- a file that a slot was just created for: it is empty
-abbrev pub with_slot : ℕ → HeldFile → HeldFile
-with_slot slot file = record file { room = record { bytes = []; size = file.room.size }; role = Tied slot }
+abbrev pub file_with_slot : ℕ → HeldFile → HeldFile
+file_with_slot slot file = record file { room = record { bytes = []; size = file.room.size }; role = Tied slot }
 
 -- the files after a slot was created for a name
 abbrev pub files_with_slot : ℕ → List ℕ → List HeldFile → List HeldFile
-files_with_slot slot name files = changed_first (named name) (with_slot slot) (map (without_slot slot) files)
+files_with_slot slot name files = changed_first (named name) (file_with_slot slot) (map (without_slot slot) files)
 
 -- a file after a piece
 abbrev pub file_with_piece : Option ℕ → List ℕ → HeldFile → HeldFile
-file_with_piece planned piece file = record file { room = with_piece file.room planned piece }
+file_with_piece planned piece file = record file { room = room_with_piece file.room planned piece }
 
 -- whether a file takes a piece whole
 abbrev pub file_takes_whole : Option ℕ → List ℕ → Option HeldFile → Bool

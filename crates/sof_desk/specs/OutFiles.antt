@@ -2,7 +2,7 @@
 use Rattle.std.specs.Prelude.{◌≡◌, ℕ, Bool, true, false, nat_eq, List, [], map, find, Option, Some, None}
 use Rattle.std.specs.List.{All}
 use Rattle.std.specs.Io.KnownBytes.{Keeps}
-use Rattle.sof_desk.specs.Desk.{Act, Create, Put, Slot, Spoken}
+use Rattle.sof_desk.specs.Desk.{DeskAct, Create, Put, Slot, Spoken}
 use Rattle.sof_desk.specs.Transfers.{Writes}
 
 -- the slot of a file, the bytes that the file was given where its writer tells them, and those of them that are not yet written
@@ -36,7 +36,7 @@ NoneKept files = All (λ f. f.kept ≡ []) files
 
 -- what the files are given by a call: a piece, or a prefix of it, reaches its slot and no other; and once a line is said, no
 -- byte that came before it is kept back
-abbrev pub Gives : Act → Bool → List OutView → List OutView → Type 0
-Gives (Create slot name) done old new = SameBeside slot old new
-Gives (Put (Slot slot) piece) done old new = Writes piece done (given_at slot old) (given_at slot new) × SameBeside slot old new
-Gives (Put Spoken piece) done old new = SameGiven old new × (done ≡ true → NoneKept new)
+abbrev pub GivesFiles : DeskAct → Bool → List OutView → List OutView → Type 0
+GivesFiles (Create slot name) done old new = SameBeside slot old new
+GivesFiles (Put (Slot slot) piece) done old new = Writes piece done (given_at slot old) (given_at slot new) × SameBeside slot old new
+GivesFiles (Put Spoken piece) done old new = SameGiven old new × (done ≡ true → NoneKept new)

@@ -4,8 +4,8 @@ use Rattle.std.specs.List.{list_any}
 use Rattle.sof_desk.specs.declared.calls.LoadFault.TheVariants.{Failed, TooLong, OutOfMemory}
 use Rattle.sof_desk.specs.declared.os.TheConstants.{SLOTS}
 use Rattle.sof_desk.specs.Counts.{one_more}
-use Rattle.sof_desk.specs.Desk.{DeskMeaning, Act, Create, Put, Heard}
-use Rattle.sof_desk.specs.OutFiles.{OutView, slots_of, Gives}
+use Rattle.sof_desk.specs.Desk.{DeskMeaning, DeskAct, Create, Put, Heard}
+use Rattle.sof_desk.specs.OutFiles.{OutView, slots_of, GivesFiles}
 
 -- the files of the slots that were created, and how many calls failed
 pub record RealDesk : Type 0 where
@@ -13,15 +13,15 @@ pub record RealDesk : Type 0 where
   pub faults : ℕ
 
 -- whether a slot was created
-abbrev pub has_slot : ℕ → List ℕ → Bool
-has_slot slot slots = list_any (λ other. nat_eq other slot) slots
+abbrev pub is_created : ℕ → List ℕ → Bool
+is_created slot slots = list_any (λ other. nat_eq other slot) slots
 
 -- the slots after one is created
 abbrev pub slots_with : ℕ → List ℕ → List ℕ
-slots_with slot slots = if has_slot slot slots then slots else slots ++ slot ∷ []
+slots_with slot slots = if is_created slot slots then slots else slots ++ slot ∷ []
 
 -- the slots after a call
-abbrev pub slots_after : Act → Bool → List ℕ → List ℕ
+abbrev pub slots_after : DeskAct → Bool → List ℕ → List ℕ
 slots_after (Create slot name) done slots = if done then slots_with slot slots else slots
 slots_after (Put place piece) done slots = slots
 
@@ -34,10 +34,10 @@ has_failed (Err OutOfMemory) = false
 
 -- a call keeps to its slots, gives its bytes to its own file and counts a failure; no more slots are created than there is
 -- room for
-pub record RealActs (act : Act) (done : Bool) (old new : RealDesk) : Type 0 where
+pub record RealActs (act : DeskAct) (done : Bool) (old new : RealDesk) : Type 0 where
   pub faults : new.faults ≡ (if done then old.faults else one_more old.faults)
   pub slots : slots_of new.files ≡ slots_after act done (slots_of old.files)
-  pub gives : Gives act done old.files new.files
+  pub gives : GivesFiles act done old.files new.files
   pub room : length old.files ≤ SLOTS → length new.files ≤ SLOTS
 
 -- a load keeps the files and counts a failure
@@ -52,7 +52,7 @@ real =
       faults = λ d. d.faults;
       holds = λ d name. None;
       wrote = λ d place. None;
-      created = λ d slot. has_slot slot (slots_of d.files);
+      created = λ d slot. is_created slot (slots_of d.files);
       load = RealLoads;
       act = RealActs;
     }

@@ -11,13 +11,13 @@ abbrev pub room_left : Room → ℕ
 room_left room = room.size - length room.bytes
 
 -- how many bytes of a piece are taken: as many as there is room for, and no more than a call passes that is planned to fail
-abbrev pub taken : Room → Option ℕ → List ℕ → ℕ
-taken room None piece = min (length piece) (room_left room)
-taken room (Some passes) piece = min (min (length piece) (room_left room)) passes
+abbrev pub room_taken : Room → Option ℕ → List ℕ → ℕ
+room_taken room None piece = min (length piece) (room_left room)
+room_taken room (Some passes) piece = min (min (length piece) (room_left room)) passes
 
 -- a room after a piece: its front is appended
-abbrev pub with_piece : Room → Option ℕ → List ℕ → Room
-with_piece room planned piece = record room { bytes = room.bytes ++ take (taken room planned piece) piece }
+abbrev pub room_with_piece : Room → Option ℕ → List ℕ → Room
+room_with_piece room planned piece = record room { bytes = room.bytes ++ take (room_taken room planned piece) piece }
 
 -- whether a piece is taken whole by a call that is not planned to fail
 abbrev pub takes_whole : Room → Option ℕ → List ℕ → Bool

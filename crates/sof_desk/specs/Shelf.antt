@@ -24,8 +24,8 @@ abbrev pub with_file : Shelf → HeldFile → Shelf
 with_file s file = record s { files = put_first (named file.name) file s.files }
 
 -- a desk whose call of a number is planned to fail, in the place of an earlier plan for it where there is one
-abbrev pub with_plan : Shelf → (number passes : ℕ) → Shelf
-with_plan s number passes = record s { plans = put_first (is_for number) (record { number = number; passes = passes }) s.plans }
+abbrev pub with_planned : Shelf → (number passes : ℕ) → Shelf
+with_planned s number passes = record s { plans = put_first (is_for number) (record { number = number; passes = passes }) s.plans }
 
 -- the bytes that a desk holds under a name
 abbrev pub file_bytes : Shelf → List ℕ → Option (List ℕ)

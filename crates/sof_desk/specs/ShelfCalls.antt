@@ -2,9 +2,9 @@
 use Rattle.std.specs.Prelude.{◌≡◌, ◌⊎◌, ℕ, Bool, nat_le, ◌&&◌, find, List, length, Option, Some, None, Ok, Err, is_some, is_none, MatchBool, if◌then◌else◌}
 use Rattle.sof_desk.specs.declared.calls.LoadFault.TheVariants.{Failed, TooLong, OutOfMemory}
 use Rattle.sof_desk.specs.Counts.{one_more}
-use Rattle.sof_desk.specs.Desk.{DeskMeaning, Place, Slot, Spoken, Act, Create, Put, Heard}
+use Rattle.sof_desk.specs.Desk.{DeskMeaning, DeskPlace, Slot, Spoken, DeskAct, Create, Put, Heard}
 use Rattle.sof_desk.specs.Edits.{changed_first}
-use Rattle.sof_desk.specs.Room.{with_piece, takes_whole}
+use Rattle.sof_desk.specs.Room.{room_with_piece, takes_whole}
 use Rattle.sof_desk.specs.Plans.{planned_at}
 use Rattle.sof_desk.specs.HeldFiles.{HeldFile, named, tied, loaded_of, appended_of, can_create, files_with_slot, file_with_piece, file_takes_whole}
 use Rattle.sof_desk.specs.Shelf.{Shelf}
@@ -18,13 +18,13 @@ abbrev pub file_of_slot : Shelf → ℕ → Option HeldFile
 file_of_slot s slot = find (tied slot) s.files
 
 -- what was written at a place
-abbrev pub shelf_wrote : Shelf → Place → Option (List ℕ)
+abbrev pub shelf_wrote : Shelf → DeskPlace → Option (List ℕ)
 shelf_wrote s Spoken = Some s.said.bytes
 shelf_wrote s (Slot slot) = Some (appended_of (file_of_slot s slot))
 
 -- how many bytes the next call passes, where it is planned to fail
-abbrev pub planned_next : Shelf → Option ℕ
-planned_next s = planned_at (one_more s.calls) s.plans
+abbrev pub planned_passes : Shelf → Option ℕ
+planned_passes s = planned_at (one_more s.calls) s.plans
 
 -- a desk after a call that changes no file: it is counted, and so is its failure
 abbrev pub counted : Shelf → (done : Bool) → Shelf
@@ -32,7 +32,7 @@ counted s done = record s { calls = one_more s.calls; faults = if done then s.fa
 
 -- the bytes that the next call could load: none where it is planned to fail or the name gives none
 abbrev pub loadable : Shelf → List ℕ → Option (List ℕ)
-loadable s name = if is_some (planned_next s) then None else shelf_holds s name
+loadable s name = if is_some (planned_passes s) then None else shelf_holds s name
 
 -- what a load of these bytes answers
 abbrev pub Hears : Option (List ℕ) → (limit : ℕ) → Heard → Type 0
@@ -45,19 +45,19 @@ pub record ShelfLoads (name : List ℕ) (limit : ℕ) (heard : Heard) (old new :
   pub after : new ≡ counted old (is_some (loadable old name))
 
 -- whether a call is done
-abbrev pub shelf_does : Shelf → Act → Bool
-shelf_does s (Create slot name) = is_none (planned_next s) && can_create (find (named name) s.files)
-shelf_does s (Put Spoken piece) = takes_whole s.said (planned_next s) piece
-shelf_does s (Put (Slot slot) piece) = file_takes_whole (planned_next s) piece (file_of_slot s slot)
+abbrev pub shelf_does : Shelf → DeskAct → Bool
+shelf_does s (Create slot name) = is_none (planned_passes s) && can_create (find (named name) s.files)
+shelf_does s (Put Spoken piece) = takes_whole s.said (planned_passes s) piece
+shelf_does s (Put (Slot slot) piece) = file_takes_whole (planned_passes s) piece (file_of_slot s slot)
 
 -- a desk with what a call changes, but for the counts: a create that is not done changes nothing
-abbrev pub shelf_with : Shelf → Act → Shelf
+abbrev pub shelf_with : Shelf → DeskAct → Shelf
 shelf_with s (Create slot name) = if shelf_does s (Create slot name) then record s { files = files_with_slot slot name s.files } else s
-shelf_with s (Put Spoken piece) = record s { said = with_piece s.said (planned_next s) piece }
-shelf_with s (Put (Slot slot) piece) = record s { files = changed_first (tied slot) (file_with_piece (planned_next s) piece) s.files }
+shelf_with s (Put Spoken piece) = record s { said = room_with_piece s.said (planned_passes s) piece }
+shelf_with s (Put (Slot slot) piece) = record s { files = changed_first (tied slot) (file_with_piece (planned_passes s) piece) s.files }
 
 -- what another call does: its answer, what it writes, and that a failure is counted
-pub record ShelfActs (act : Act) (done : Bool) (old new : Shelf) : Type 0 where
+pub record ShelfActs (act : DeskAct) (done : Bool) (old new : Shelf) : Type 0 where
   pub answer : done ≡ shelf_does old act
   pub after : new ≡ counted (shelf_with old act) (shelf_does old act)
 

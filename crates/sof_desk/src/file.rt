@@ -1,7 +1,7 @@
 // The files that a desk in memory holds.
 ghost use Rattle.std.specs.Prelude.{◌≡◌, map, find, position, IfOk, OnOk, OnErr, MatchOption, None, if◌then◌else◌};
 ghost use Rattle.sof_desk.specs.Edits.{changed_first, put_first};
-ghost use Rattle.sof_desk.specs.HeldFiles.{input_file, output_file, named, tied, loaded_of, bytes_in_role, is_output, can_create, without_slot, with_slot, files_with_slot, file_with_piece, file_takes_whole};
+ghost use Rattle.sof_desk.specs.HeldFiles.{input_file, output_file, named, tied, loaded_of, bytes_in_role, is_output, can_create, without_slot, file_with_slot, files_with_slot, file_with_piece, file_takes_whole};
 ghost use Rattle.sof_desk.specs.Room.{takes_whole};
 
 use crate::store::Store;
@@ -115,7 +115,7 @@ impl MemFile {
 
     /// Ties a slot to the file, which is empty then.
     pub fn tie(&mut self, slot: u32)
-        ensures { self.new ≡ with_slot slot self.old }
+        ensures { self.new ≡ file_with_slot slot self.old }
     {
         self.store.clear();
         self.role = Role::Tied(slot);

@@ -3,8 +3,8 @@ ghost use Rattle.std.specs.Prelude.{◌≡◌, IfOk, OnOk, OnErr};
 ghost use Rattle.std.specs.Option.{option_copied};
 ghost use Rattle.sof_desk.specs.Counts.{one_more};
 ghost use Rattle.sof_desk.specs.HeldFiles.{input_file, output_file};
-ghost use Rattle.sof_desk.specs.Shelf.{empty_shelf, with_file, with_plan, file_bytes};
-ghost use Rattle.sof_desk.specs.ShelfCalls.{shelf, planned_next};
+ghost use Rattle.sof_desk.specs.Shelf.{empty_shelf, with_file, with_planned, file_bytes};
+ghost use Rattle.sof_desk.specs.ShelfCalls.{shelf, planned_passes};
 
 use crate::calls::{Desk, DeskFailed, LoadFault};
 use crate::faults::Faults;
@@ -79,7 +79,7 @@ impl MemDesk {
     /// Plans that the call of a number from 1 fails; an append or a say first takes the longest prefix of at most `passes`
     /// bytes that fits. It takes the place of an earlier plan for this number.
     pub fn fail_call(&mut self, number: u32, passes: u32) -> Result<(), NoMemory>
-        ensures ok { OnOk result (self.new ≡ with_plan self.old number passes) }
+        ensures ok { OnOk result (self.new ≡ with_planned self.old number passes) }
         ensures err { OnErr result (self.new ≡ self.old) }
     {
         plan::put_in(&mut self.plans, Planned { number, passes })
@@ -105,7 +105,7 @@ impl MemDesk {
 
     /// Counts a call, and tells how many bytes it passes where it is planned to fail.
     fn count_call(&mut self) -> Option<u32>
-        ensures planned { result ≡ planned_next self.old }
+        ensures planned { result ≡ planned_passes self.old }
         ensures after { self.new ≡ record self.old { calls = one_more self.old.calls } }
     {
         self.calls = self.calls.saturating_add(1);

@@ -1,6 +1,6 @@
 // Bytes in a room of a fixed size.
 ghost use Rattle.std.specs.Prelude.{◌≡◌, length, [], IfOk};
-ghost use Rattle.sof_desk.specs.Room.{with_piece, takes_whole};
+ghost use Rattle.sof_desk.specs.Room.{room_with_piece, takes_whole};
 
 use sof_base::NoMemory;
 use std::alloc::Global;
@@ -55,7 +55,7 @@ impl Store {
     /// the piece was taken whole by a call that is not planned to fail.
     pub fn take(&mut self, piece: &[u8], planned: Option<u32>) -> bool
         ensures whole { result ≡ takes_whole self.old planned piece.now }
-        ensures after { self.new ≡ with_piece self.old planned piece.now }
+        ensures after { self.new ≡ room_with_piece self.old planned piece.now }
     {
         let left = self.size - self.bytes.len();
         let fitting = piece.len().min(left);

@@ -8,14 +8,14 @@ use Rattle.std.specs.Str.{bytes_eq}
 use Rattle.tplg_plan.specs.declared.plans.Plan.{Plan}
 use Rattle.sof_script.specs.declared.script.Binding.{Binding}
 use Rattle.sof_script.specs.Commands.{Bound, bound_of, bounds_of}
-use Rattle.sof_run.specs.Bindings.{is_sought, is_bound, is_right, wrong_behind}
+use Rattle.sof_run.specs.Bindings.{is_sought, is_endpoint_bound, is_right, wrong_behind}
 
 bounds-append : (a b : List Binding) → bounds_of (a ++ b) ≡ bounds_of a ++ bounds_of b
 bounds-append [] b = refl
 bounds-append (x ∷ a) b = ap (λ (xs : List Bound). bound_of x ∷ xs) (bounds-append a b)
 
 -- whether one is bound, by the bindings as they are
-pub bound_same : (bs : List Binding) (endpoint : List ℕ) → list_any (λ b. bytes_eq endpoint b.endpoint) bs ≡ is_bound (bounds_of bs) endpoint
+pub bound_same : (bs : List Binding) (endpoint : List ℕ) → list_any (λ b. bytes_eq endpoint b.endpoint) bs ≡ is_endpoint_bound (bounds_of bs) endpoint
 bound_same [] endpoint = refl
 bound_same (b ∷ bs) endpoint = ap (λ (t : Bool). bytes_eq endpoint b.endpoint || t) (bound_same bs endpoint)
 

@@ -6,7 +6,7 @@ use Rattle.sof_io.specs.Puts.{with_slot}
 use Rattle.tplg_plan.specs.declared.plans.Plan.{Plan}
 use Rattle.sof_script.specs.declared.script.Binding.{Binding}
 use Rattle.sof_script.specs.Commands.{Bound, bound_of, bounds_of}
-use Rattle.sof_run.specs.Bindings.{has_endpoint, is_bound, wrong_behind, slot_of}
+use Rattle.sof_run.specs.Bindings.{has_endpoint, is_endpoint_bound, wrong_behind, slot_of}
 use Rattle.sof_run.proofs.BindingLaws.{front, back}
 use Rattle.sof_run.proofs.Slots.{IsFresh, right_first, fresh_other, fresh_input, fresh_output}
 
@@ -21,7 +21,7 @@ module _ (plan : Plan) (bs : List Binding) (i : ℕ) (b : Binding) (within : i <
   after = bounds_of (drop (i + 1) bs)
 
   module _ (right : wrong_behind plan before (bounds_of (drop i bs)) ≡ None) where
-    parts : (has_endpoint plan b.input b.endpoint ≡ true) × (is_bound before b.endpoint ≡ false) × (wrong_behind plan (before ++ bound_of b ∷ []) after ≡ None)
+    parts : (has_endpoint plan b.input b.endpoint ≡ true) × (is_endpoint_bound before b.endpoint ≡ false) × (wrong_behind plan (before ++ bound_of b ∷ []) after ≡ None)
     parts = right_first plan before (bound_of b) after (subst (λ xs. wrong_behind plan before xs ≡ None) (back plan bs i b within at) right)
 
     -- its slot is not there yet

@@ -3,7 +3,7 @@ use Rattle.std.proofs.Common.{◌≡◌, ◌⊎◌, inl, inr, ℕ, ◌≤◌, �
 use Rattle.std.specs.List.{concat}
 use Rattle.std.proofs.lemmas.List.{append-nil}
 use Rattle.sof_desk.specs.declared.calls.LoadFault.TheVariants.{Failed, TooLong, OutOfMemory}
-use Rattle.sof_desk.specs.Desk.{DeskMeaning, Call, Load, Did, Heard, Led, Loaded, Acted}
+use Rattle.sof_desk.specs.Desk.{DeskMeaning, DeskCall, Load, Did, Heard, DeskLed, Loaded, Acted}
 use Rattle.sof_session.specs.Turns.{LifeMeaning, Turn, Turns}
 use Rattle.tplg_model.specs.declared.fault.TplgFault.{TplgFault}
 use Rattle.tplg_model.specs.declared.block.Topology.{Topology}
@@ -14,7 +14,7 @@ use Rattle.tplg_rules.proofs.RuleTests.{whole_none, none_whole, some_breaks}
 use Rattle.sof_run.specs.declared.prepare.Halt.{Halt}
 use Rattle.sof_run.specs.declared.prepare.Halt.TheVariants as halts
 use Rattle.sof_run.specs.Words.{play_of}
-use Rattle.sof_run.specs.Todo.{no_memory, End, Says, Goes}
+use Rattle.sof_run.specs.Todo.{no_memory_line, End, Says, Goes}
 use Rattle.sof_run.specs.Play.{with_newline, halt_line, halt_status, lines_todo}
 use Rattle.sof_run.specs.Checking.{check_of, counts_of, checked_rules, checked_file, checked, checked_todo, check}
 use Rattle.sof_run.specs.Compiling.{compile_of}
@@ -39,30 +39,30 @@ checks_alone room words name is = λ i. todo_for (apart room words name is i) (i
 
 -- ---- the device
 
-lines_alone : (lines : List (List ℕ)) (turns : List Turn) (calls : List Call) (status : ℕ) → Goes (lines_todo lines End) turns calls status → turns ≡ []
+lines_alone : (lines : List (List ℕ)) (turns : List Turn) (calls : List DeskCall) (status : ℕ) → Goes (lines_todo lines End) turns calls status → turns ≡ []
 lines_alone [] turns calls status goes = goes.0
 lines_alone (line ∷ lines) turns [] status goes = absurd goes
 lines_alone (line ∷ lines) turns (Load name limit heard ∷ calls) status goes = absurd goes
 lines_alone (line ∷ lines) turns (Did act true ∷ calls) status goes = lines_alone lines turns calls status goes.1
 lines_alone (line ∷ lines) turns (Did act false ∷ calls) status goes = goes.1.0
 
-checked_alone : (r : Result Topology Halt) (turns : List Turn) (calls : List Call) (status : ℕ) → Goes (checked_todo r) turns calls status ⊎ Says no_memory 7 turns calls status → turns ≡ []
+checked_alone : (r : Result Topology Halt) (turns : List Turn) (calls : List DeskCall) (status : ℕ) → Goes (checked_todo r) turns calls status ⊎ Says no_memory_line 7 turns calls status → turns ≡ []
 checked_alone (Ok t) turns calls status (inl goes) = lines_alone (counts_of t) turns calls status goes
 checked_alone (Err why) turns calls status (inl goes) = no_turns (halt_line why) (halt_status why) turns calls status goes
-checked_alone r turns calls status (inr says) = no_turns no_memory 7 turns calls status says
+checked_alone r turns calls status (inr says) = no_turns no_memory_line 7 turns calls status says
 
-no_turn : (name : List ℕ) (turns : List Turn) (calls : List Call) (status : ℕ) → Goes (check name) turns calls status → turns ≡ []
+no_turn : (name : List ℕ) (turns : List Turn) (calls : List DeskCall) (status : ℕ) → Goes (check name) turns calls status → turns ≡ []
 no_turn name turns [] status goes = absurd goes
 no_turn name turns (Did act done ∷ calls) status goes = absurd goes
 no_turn name turns (Load n l (Ok got) ∷ calls) status goes = checked_alone (checked got) turns calls status goes.2
 no_turn name turns (Load n l (Err TooLong) ∷ calls) status goes = no_turns (codes "too long topology\n") 5 turns calls status goes.2
-no_turn name turns (Load n l (Err OutOfMemory) ∷ calls) status goes = no_turns no_memory 7 turns calls status goes.2
+no_turn name turns (Load n l (Err OutOfMemory) ∷ calls) status goes = no_turns no_memory_line 7 turns calls status goes.2
 no_turn name turns (Load n l (Err Failed) ∷ calls) status goes = goes.2.0
 
 -- ---- the status
 
 -- all lines that were said, or not all of them were
-lines_said : (lines : List (List ℕ)) (turns : List Turn) (calls : List Call) (status : ℕ) → Goes (lines_todo lines End) turns calls status → (status ≡ 3) ⊎ ((status ≡ 0) × (calls ≡ map saying (map with_newline lines)))
+lines_said : (lines : List (List ℕ)) (turns : List Turn) (calls : List DeskCall) (status : ℕ) → Goes (lines_todo lines End) turns calls status → (status ≡ 3) ⊎ ((status ≡ 0) × (calls ≡ map saying (map with_newline lines)))
 lines_said [] turns calls status goes = inr (goes.2, goes.1)
 lines_said (line ∷ lines) turns [] status goes = absurd goes
 lines_said (line ∷ lines) turns (Load name limit heard ∷ calls) status goes = absurd goes
@@ -74,21 +74,21 @@ lines_said (line ∷ lines) turns (Did act true ∷ calls) status goes = one_mor
     one_more (inr done) = inr (done.0, λ i. Did (goes.0 i) true ∷ done.1 i)
 
 module _ (name bytes : List ℕ) where
-  wanting : (turns : List Turn) (calls all : List Call) (status : ℕ) → Says no_memory 7 turns calls status → CheckVerdict name bytes all status
-  wanting turns calls all status says = want (said no_memory 7 turns calls status says)
+  wanting : (turns : List Turn) (calls all : List DeskCall) (status : ℕ) → Says no_memory_line 7 turns calls status → CheckVerdict name bytes all status
+  wanting turns calls all status says = want (said no_memory_line 7 turns calls status says)
     where
-      want : (status ≡ 3) ⊎ ((status ≡ 7) × (calls ≡ saying no_memory ∷ [])) → CheckVerdict name bytes all status
+      want : (status ≡ 3) ⊎ ((status ≡ 7) × (calls ≡ saying no_memory_line ∷ [])) → CheckVerdict name bytes all status
       want (inl three) = inl (inl three)
       want (inr seven) = inl (inr seven.0)
 
-  long : (turns : List Turn) (calls : List Call) (call : Call) (status : ℕ) → call ≡ Load name 1048576 (Err TooLong) → 1048576 < length bytes → Says (codes "too long topology\n") 5 turns calls status → CheckVerdict name bytes (call ∷ calls) status
+  long : (turns : List Turn) (calls : List DeskCall) (call : DeskCall) (status : ℕ) → call ≡ Load name 1048576 (Err TooLong) → 1048576 < length bytes → Says (codes "too long topology\n") 5 turns calls status → CheckVerdict name bytes (call ∷ calls) status
   long turns calls call status is over says = want (said (codes "too long topology\n") 5 turns calls status says)
     where
       want : (status ≡ 3) ⊎ ((status ≡ 5) × (calls ≡ saying (codes "too long topology\n") ∷ [])) → CheckVerdict name bytes (call ∷ calls) status
       want (inl three) = inl (inl three)
       want (inr five) = inr (inl (five.0, over, λ i. is i ∷ five.1 i))
 
-  module _ (are : AreBytes bytes) (short : length bytes ≤ 1048576) (call : Call) (loads : call ≡ Load name 1048576 (Ok bytes)) (turns : List Turn) (calls : List Call) (status : ℕ) where
+  module _ (are : AreBytes bytes) (short : length bytes ≤ 1048576) (call : DeskCall) (loads : call ≡ Load name 1048576 (Ok bytes)) (turns : List Turn) (calls : List DeskCall) (status : ℕ) where
     -- why it is not right is told with status 2
     wrong : (why : Halt) → halt_status why ≡ 2 → IsWrong bytes why → Says (halt_line why) (halt_status why) turns calls status → CheckVerdict name bytes (call ∷ calls) status
     wrong why two is says = want (said (halt_line why) (halt_status why) turns calls status says)
@@ -115,13 +115,13 @@ module _ (name bytes : List ℕ) where
         none t file = cc (sym is ∙ topology_again bytes t file.0 file.1)
     by_file (Ok t) is goes = by_rules t (ruling_of t) (topology_take bytes t are is) refl goes
 
-    free : Goes (checked_todo (checked bytes)) turns calls status ⊎ Says no_memory 7 turns calls status → CheckVerdict name bytes (call ∷ calls) status
+    free : Goes (checked_todo (checked bytes)) turns calls status ⊎ Says no_memory_line 7 turns calls status → CheckVerdict name bytes (call ∷ calls) status
     free (inl goes) = by_file (topology_of bytes) refl goes
     free (inr says) = wanting turns calls (call ∷ calls) status says
 
   module _ {D : Type 0} (means : DeskMeaning D) where
     -- the file is told
-    judge : (turns : List Turn) (calls : List Call) (status : ℕ) (d e : D) → means.holds d name ≡ Some bytes → AreBytes bytes → Goes (check name) turns calls status → Led means d calls e → CheckVerdict name bytes calls status
+    judge : (turns : List Turn) (calls : List DeskCall) (status : ℕ) (d e : D) → means.holds d name ≡ Some bytes → AreBytes bytes → Goes (check name) turns calls status → DeskLed means d calls e → CheckVerdict name bytes calls status
     judge turns [] status d e told are goes led = absurd goes
     judge turns (Did act done ∷ calls) status d e told are goes led = absurd goes
     judge turns (Load n l (Ok got) ∷ calls) status d e told are goes led =
@@ -129,7 +129,7 @@ module _ (name bytes : List ℕ) where
         let same : got ≡ bytes = loaded.answers.1 bytes (ap (means.holds d) goes.0 ∙ told) in
         let short : length bytes ≤ 1048576 = subst (λ k. length bytes ≤ k) goes.1 (subst (λ xs. length xs ≤ l) same loaded.answers.0) in
         free are short (Load n l (Ok got)) (λ i. Load (goes.0 i) (goes.1 i) (Ok (same i))) turns calls status
-        (subst (λ xs. Goes (checked_todo (checked xs)) turns calls status ⊎ Says no_memory 7 turns calls status) same goes.2)
+        (subst (λ xs. Goes (checked_todo (checked xs)) turns calls status ⊎ Says no_memory_line 7 turns calls status) same goes.2)
     judge turns (Load n l (Err TooLong) ∷ calls) status d e told are goes led =
         let loaded : Loaded means n l (Err TooLong) d led.0 = led.1 in
         long turns calls (Load n l (Err TooLong)) status (λ i. Load (goes.0 i) (goes.1 i) (Err TooLong)) (subst (λ k. k < length bytes) goes.1 (loaded.answers bytes (ap (means.holds d) goes.0 ∙ told))) goes.2
@@ -139,7 +139,7 @@ module _ (name bytes : List ℕ) where
 -- ---- what was written
 
 module _ {D : Type 0} (means : DeskMeaning D) where
-  lines_parted : (lines : List (List ℕ)) (turns : List Turn) (calls : List Call) (d e : D) (status : ℕ) → Goes (lines_todo lines End) turns calls status → Led means d calls e → Parted means (concat (map with_newline lines)) 0 d e status
+  lines_parted : (lines : List (List ℕ)) (turns : List Turn) (calls : List DeskCall) (d e : D) (status : ℕ) → Goes (lines_todo lines End) turns calls status → DeskLed means d calls e → Parted means (concat (map with_newline lines)) 0 d e status
   lines_parted [] turns [] d e status goes led =
       record { part = []; spoke = nothing means d e (λ place. ap (λ x. means.wrote x place) led); is = inl (goes.2, refl) }
   lines_parted [] turns (call ∷ calls) d e status goes led = absurd (cc goes.1)
@@ -174,16 +174,16 @@ module _ {D : Type 0} (means : DeskMeaning D) where
   all_told : (text : List ℕ) (d e : D) (status : ℕ) → Parted means text 0 d e status → WroteText means text d e status
   all_told text d e status parted = record { part = parted.part; spoke = parted.spoke; is = by parted.part parted.is }
     where
-      by : (part : List ℕ) → ((status ≡ 0) × (part ≡ text)) ⊎ ((status ≡ 3) × IsFront part text) → ((status ≡ 0) × (part ≡ text)) ⊎ (((status ≡ 3) × IsFront part text) ⊎ (((status ≡ 3) ⊎ (status ≡ 7)) × IsFront part no_memory))
+      by : (part : List ℕ) → ((status ≡ 0) × (part ≡ text)) ⊎ ((status ≡ 3) × IsFront part text) → ((status ≡ 0) × (part ≡ text)) ⊎ (((status ≡ 3) × IsFront part text) ⊎ (((status ≡ 3) ⊎ (status ≡ 7)) × IsFront part no_memory_line))
       by part (inl done) = inl done
       by part (inr front) = inr (inl front)
 
-  wanting_told : (text : List ℕ) (turns : List Turn) (calls : List Call) (d e : D) (status : ℕ) → Says no_memory 7 turns calls status → Led means d calls e → WroteText means text d e status
+  wanting_told : (text : List ℕ) (turns : List Turn) (calls : List DeskCall) (d e : D) (status : ℕ) → Says no_memory_line 7 turns calls status → DeskLed means d calls e → WroteText means text d e status
   wanting_told text turns calls d e status says led =
-      let parted = line_parted means no_memory 7 turns calls d e status says led in
+      let parted = line_parted means no_memory_line 7 turns calls d e status says led in
       record { part = parted.part; spoke = parted.spoke; is = by parted.part parted.is }
     where
-      by : (part : List ℕ) → ((status ≡ 7) × (part ≡ no_memory)) ⊎ ((status ≡ 3) × IsFront part no_memory) → ((status ≡ 0) × (part ≡ text)) ⊎ (((status ≡ 3) × IsFront part text) ⊎ (((status ≡ 3) ⊎ (status ≡ 7)) × IsFront part no_memory))
+      by : (part : List ℕ) → ((status ≡ 7) × (part ≡ no_memory_line)) ⊎ ((status ≡ 3) × IsFront part no_memory_line) → ((status ≡ 0) × (part ≡ text)) ⊎ (((status ≡ 3) × IsFront part text) ⊎ (((status ≡ 3) ⊎ (status ≡ 7)) × IsFront part no_memory_line))
       by part (inl done) = inr (inr (inr done.0, ([], append-nil part ∙ done.1)))
       by part (inr front) = inr (inr (inl front.0, front.1))
 
@@ -192,19 +192,19 @@ module _ {D : Type 0} (means : DeskMeaning D) where
     abbrev text : List ℕ
     text = concat (map with_newline (counts_of t))
 
-    counts_told : (turns : List Turn) (calls : List Call) (d e : D) (status : ℕ) → Goes (checked_todo (checked bytes)) turns calls status ⊎ Says no_memory 7 turns calls status → Led means d calls e → WroteText means text d e status
+    counts_told : (turns : List Turn) (calls : List DeskCall) (d e : D) (status : ℕ) → Goes (checked_todo (checked bytes)) turns calls status ⊎ Says no_memory_line 7 turns calls status → DeskLed means d calls e → WroteText means text d e status
     counts_told turns calls d e status (inl goes) led =
         all_told text d e status (lines_parted (counts_of t) turns calls d e status (subst (λ r. Goes (checked_todo r) turns calls status) kept goes) led)
     counts_told turns calls d e status (inr says) led = wanting_told text turns calls d e status says led
 
-    check_told : (turns : List Turn) (calls : List Call) (d e : D) (status : ℕ) → means.holds d name ≡ Some bytes → Goes (check name) turns calls status → Led means d calls e → WroteText means text d e status
+    check_told : (turns : List Turn) (calls : List DeskCall) (d e : D) (status : ℕ) → means.holds d name ≡ Some bytes → Goes (check name) turns calls status → DeskLed means d calls e → WroteText means text d e status
     check_told turns [] d e status told goes led = absurd goes
     check_told turns (Did act done ∷ calls) d e status told goes led = absurd goes
     check_told turns (Load n l (Ok got) ∷ calls) d e status told goes led =
         let loaded : Loaded means n l (Ok got) d led.0 = led.1 in
         let same : got ≡ bytes = loaded.answers.1 bytes (ap (means.holds d) goes.0 ∙ told) in
         loaded_told text n l (Ok got) d led.0 e status loaded
-        (counts_told turns calls led.0 e status (subst (λ xs. Goes (checked_todo (checked xs)) turns calls status ⊎ Says no_memory 7 turns calls status) same goes.2) led.2)
+        (counts_told turns calls led.0 e status (subst (λ xs. Goes (checked_todo (checked xs)) turns calls status ⊎ Says no_memory_line 7 turns calls status) same goes.2) led.2)
     check_told turns (Load n l (Err TooLong) ∷ calls) d e status told goes led =
         let loaded : Loaded means n l (Err TooLong) d led.0 = led.1 in
         let over : l < length bytes = loaded.answers bytes (ap (means.holds d) goes.0 ∙ told) in
@@ -213,7 +213,7 @@ module _ {D : Type 0} (means : DeskMeaning D) where
     check_told turns (Load n l (Err OutOfMemory) ∷ calls) d e status told goes led =
         loaded_told text n l (Err OutOfMemory) d led.0 e status led.1 (wanting_told text turns calls led.0 e status goes.2 led.2)
     check_told turns (Load n l (Err Failed) ∷ calls) d e status told goes led =
-        let last : e ≡ led.0 = subst (λ cs. Led means led.0 cs e) goes.2.1 led.2 in
+        let last : e ≡ led.0 = subst (λ cs. DeskLed means led.0 cs e) goes.2.1 led.2 in
         loaded_told text n l (Err Failed) d led.0 e status led.1
         record { part = []; spoke = nothing means led.0 e (λ place. ap (λ x. means.wrote x place) last); is = inr (inl (goes.2.2, (text, refl))) }
 

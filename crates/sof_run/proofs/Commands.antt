@@ -15,7 +15,7 @@ use Rattle.sof_session.specs.Walks.{Out, Written, Carry}
 use Rattle.sof_session.specs.Seat.{Seat}
 use Rattle.sof_session.specs.Turns.{Ran, LifeMeaning, Life, Seated, Turn, Turned, life, turn, shown_by}
 use Rattle.sof_run.specs.Todo as todo
-use Rattle.sof_run.specs.Todo.{Todo, Do, Played, DeskPhase, Follows, Fails, Phase}
+use Rattle.sof_run.specs.Todo.{Todo, Do, Played, DeskPhase, LeadsOn, PhaseFails, Phase}
 use Rattle.sof_run.specs.Rounds.{Round, rounds_after, command_rounds, rounds_of}
 use Rattle.sof_run.specs.Play.{is_show, with_newline, lines_after, flush_todo, lines_todo, round_todo, rounds_todo, commands_todo}
 use Rattle.sof_run.proofs.Steps.{do_on, do_off, step_on, beside, beside_failed}
@@ -182,25 +182,25 @@ module _ {D : Type 0} (means : DeskMeaning D) where
     left : (n i : ℕ) → i < n → n - i ≡ suc (n - (i + 1))
     left n i within = omega (arith, within)
 
-    module _ (numbered : Numbered) (n i : ℕ) (old m new : D) (p r q : P) (so_far : Follows means dsp (rounds_todo (rounds_after n numbered)) (rounds_todo (rounds_after (n - i) numbered)) old p m r) where
+    module _ (numbered : Numbered) (n i : ℕ) (old m new : D) (p r q : P) (so_far : LeadsOn means dsp (rounds_todo (rounds_after n numbered)) (rounds_todo (rounds_after (n - i) numbered)) old p m r) where
       -- one that is not the last
-      pub rounds_on : i < n → Follows means dsp (round_todo (record { numbered = numbered; last = false })) (λ rest. rest) m r new q → Follows means dsp (rounds_todo (rounds_after n numbered)) (rounds_todo (rounds_after (n - (i + 1)) numbered)) old p new q
+      pub rounds_on : i < n → LeadsOn means dsp (round_todo (record { numbered = numbered; last = false })) (λ rest. rest) m r new q → LeadsOn means dsp (rounds_todo (rounds_after n numbered)) (rounds_todo (rounds_after (n - (i + 1)) numbered)) old p new q
       rounds_on within done = λ rest status end t ran.
-          so_far rest status end t (subst (λ k. todo.Ran means dsp (rounds_todo (rounds_after k numbered) rest) m r status end t) (sym (left n i within)) (done (rounds_todo (rounds_after (n - (i + 1)) numbered) rest) status end t ran))
+          so_far rest status end t (subst (λ k. todo.RanOn means dsp (rounds_todo (rounds_after k numbered) rest) m r status end t) (sym (left n i within)) (done (rounds_todo (rounds_after (n - (i + 1)) numbered) rest) status end t ran))
 
-      pub rounds_off : i < n → Fails means dsp (round_todo (record { numbered = numbered; last = false })) m r new q → Fails means dsp (rounds_todo (rounds_after n numbered)) old p new q
+      pub rounds_off : i < n → PhaseFails means dsp (round_todo (record { numbered = numbered; last = false })) m r new q → PhaseFails means dsp (rounds_todo (rounds_after n numbered)) old p new q
       rounds_off within failed = λ rest.
-          so_far rest 3 new q (subst (λ k. todo.Ran means dsp (rounds_todo (rounds_after k numbered) rest) m r 3 new q) (sym (left n i within)) (failed (rounds_todo (rounds_after (n - (i + 1)) numbered) rest)))
+          so_far rest 3 new q (subst (λ k. todo.RanOn means dsp (rounds_todo (rounds_after k numbered) rest) m r 3 new q) (sym (left n i within)) (failed (rounds_todo (rounds_after (n - (i + 1)) numbered) rest)))
 
       -- the last
       pub rounds_last : (done : Bool) → n ≤ i → Phase means dsp (round_todo (record { numbered = numbered; last = true })) done m r new q → Phase means dsp (rounds_todo (rounds_after n numbered)) done old p new q
       rounds_last true past phase = λ rest status end t ran.
-          so_far rest status end t (subst (λ k. todo.Ran means dsp (rounds_todo (rounds_after k numbered) rest) m r status end t) (sym (none n i past)) (phase rest status end t ran))
+          so_far rest status end t (subst (λ k. todo.RanOn means dsp (rounds_todo (rounds_after k numbered) rest) m r status end t) (sym (none n i past)) (phase rest status end t ran))
         where
           none : (n i : ℕ) → n ≤ i → n - i ≡ 0
           none n i past = omega (arith, past)
       rounds_last false past phase = λ rest.
-          so_far rest 3 new q (subst (λ k. todo.Ran means dsp (rounds_todo (rounds_after k numbered) rest) m r 3 new q) (sym (none n i past)) (phase rest))
+          so_far rest 3 new q (subst (λ k. todo.RanOn means dsp (rounds_todo (rounds_after k numbered) rest) m r 3 new q) (sym (none n i past)) (phase rest))
         where
           none : (n i : ℕ) → n ≤ i → n - i ≡ 0
           none n i past = omega (arith, past)
@@ -211,18 +211,18 @@ module _ {D : Type 0} (means : DeskMeaning D) where
     rounds_append [] b rest = refl
     rounds_append (round ∷ a) b rest = ap (round_todo round) (rounds_append a b rest)
 
-    module _ (script : List Numbered) (i : ℕ) (other : Numbered) (old m new : D) (p r q : P) (within : i < length script) (so_far : Follows means dsp (commands_todo script) (commands_todo (drop i script)) old p m r) where
+    module _ (script : List Numbered) (i : ℕ) (other : Numbered) (old m new : D) (p r q : P) (within : i < length script) (so_far : LeadsOn means dsp (commands_todo script) (commands_todo (drop i script)) old p m r) where
       here : (rest : Todo) → commands_todo (drop i script) rest ≡ rounds_todo (command_rounds (get_or script i other)) (commands_todo (drop (i + 1) script) rest)
       here rest = ap (λ cs. commands_todo cs rest) (drop_more script i other within) ∙ rounds_append (command_rounds (get_or script i other)) (rounds_of (drop (i + 1) script)) rest
 
       -- a command more
-      pub commands_on : Follows means dsp (rounds_todo (command_rounds (get_or script i other))) (λ rest. rest) m r new q → Follows means dsp (commands_todo script) (commands_todo (drop (i + 1) script)) old p new q
+      pub commands_on : LeadsOn means dsp (rounds_todo (command_rounds (get_or script i other))) (λ rest. rest) m r new q → LeadsOn means dsp (commands_todo script) (commands_todo (drop (i + 1) script)) old p new q
       commands_on done = λ rest status end t ran.
-          so_far rest status end t (subst (λ x. todo.Ran means dsp x m r status end t) (sym (here rest)) (done (commands_todo (drop (i + 1) script) rest) status end t ran))
+          so_far rest status end t (subst (λ x. todo.RanOn means dsp x m r status end t) (sym (here rest)) (done (commands_todo (drop (i + 1) script) rest) status end t ran))
 
-      pub commands_off : Fails means dsp (rounds_todo (command_rounds (get_or script i other))) m r new q → Fails means dsp (commands_todo script) old p new q
+      pub commands_off : PhaseFails means dsp (rounds_todo (command_rounds (get_or script i other))) m r new q → PhaseFails means dsp (commands_todo script) old p new q
       commands_off failed = λ rest.
-          so_far rest 3 new q (subst (λ x. todo.Ran means dsp x m r 3 new q) (sym (here rest)) (failed (commands_todo (drop (i + 1) script) rest)))
+          so_far rest 3 new q (subst (λ x. todo.RanOn means dsp x m r 3 new q) (sym (here rest)) (failed (commands_todo (drop (i + 1) script) rest)))
 
 -- the same slots, told otherwise
 module _ {D P : Type 0} (means : DeskMeaning D) (device : Meaning P) where

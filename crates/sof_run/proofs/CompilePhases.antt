@@ -9,7 +9,7 @@ use Rattle.tplg_compile.specs.Results.{Fails}
 use Rattle.tplg_compile.specs.InOrder.{compiled_of}
 use Rattle.sof_run.specs.Todo.{Todo, End, Stop, Ask, Do, Free, Played, DeskPhase}
 use Rattle.sof_run.specs.Play.{lines_todo}
-use Rattle.sof_run.specs.Compiling.{Names, source_line, source_status, wrote_line, file_todo, compiled_todo, compile}
+use Rattle.sof_run.specs.Compiling.{CompileNames, source_line, source_status, wrote_line, file_todo, compiled_todo, compile}
 use Rattle.sof_run.proofs.Statuses.{ends}
 use Rattle.sof_run.proofs.Steps.{do_on, do_off, ask_on, free_on, free_off}
 
@@ -40,7 +40,7 @@ module _ {D : Type 0} (means : DeskMeaning D) where
   file_ended out bytes false old new phase = phase End
 
   -- the source was loaded
-  module _ (names : Names) (text : List ℕ) (old m new : D) (loaded : Loaded means names.source 1048576 (Ok text) old m) where
+  module _ (names : CompileNames) (text : List ℕ) (old m new : D) (loaded : Loaded means names.source 1048576 (Ok text) old m) where
     after : (status : ℕ) → Played means (Free (compiled_todo names.out (compiled_of text))) m [] status new → Played means (compile names) old [] status new
     after status played = ask_on means names.source 1048576 (codes "too long source\n") (λ text. Free (compiled_todo names.out (compiled_of text))) text [] status old m new loaded played
 

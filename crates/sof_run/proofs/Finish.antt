@@ -5,7 +5,7 @@ use Rattle.std.specs.List.{AllByRecursion}
 use Rattle.sof_base.specs.Ports.{InputView, OutputView}
 use Rattle.sof_io.specs.Puts.{with_slot}
 use Rattle.sof_io.specs.Takes.{new_input}
-use Rattle.sof_desk.specs.Desk.{DeskMeaning, Call, Load, Did}
+use Rattle.sof_desk.specs.Desk.{DeskMeaning, DeskCall, Load, Did}
 use Rattle.tplg_model.specs.declared.block.Topology.{Topology}
 use Rattle.tplg_model.proofs.FileLaws.{topology_again}
 use Rattle.tplg_graph.specs.ThinTest.{thin_test}
@@ -17,15 +17,15 @@ use Rattle.sof_session.specs.SessionLaws.{FirstIsSettled, FirstStands, CommandsG
 use Rattle.sof_session.specs.Walks.{Stand, Written}
 use Rattle.sof_session.specs.Turns.{LifeMeaning, Turn, Turns}
 use Rattle.sof_run.specs.Words.{Form, play_of}
-use Rattle.sof_run.specs.Todo.{Todo, End, Free, Goes, Ran}
+use Rattle.sof_run.specs.Todo.{Todo, End, Free, Goes, RanOn}
 use Rattle.sof_run.specs.Bindings.{bound_slot}
 use Rattle.sof_run.specs.Rounds.{Round, rounds_of}
 use Rattle.sof_run.specs.Play.{lines_after, flush_todo, lines_todo, rounds_todo, session_todo, WithPorts, binding_todo, bindings_todo, prepared_todo, Prepared, Ready, ticks_of, prepared, prepared_script, prepared_ticks, prepared_topology, prepared_rules, prepared_bindings, prepared_commands, play}
 use Rattle.sof_run.specs.Checking.{check, check_of}
-use Rattle.sof_run.specs.Compiling.{Names, compile, compile_of}
+use Rattle.sof_run.specs.Compiling.{CompileNames, compile, compile_of}
 use Rattle.sof_run.specs.Forms.{todo_for, todo_of}
 use Rattle.sof_run.specs.Whole.{Planned, Memory, whole, whole_end, Throughout, Told, Made}
-use Rattle.sof_run.specs.Runs.{after_units, marked, puts}
+use Rattle.sof_run.specs.Runs.{after_units, marked_pieces, puts}
 use Rattle.sof_run.specs.Run.{IsEarly, Done, Worded, IsRun, IsGiven, inputs_in, slots_in, start_in, units_in, Judged, Plays, Solves}
 use Rattle.sof_run.proofs.Settle.{settle}
 use Rattle.sof_run.proofs.Judging.{judge}
@@ -56,7 +56,7 @@ not_late status (inr (inr (inr (inr (inr (inr is)))))) (inl late) = cc (sym is �
 not_late status (inr (inr (inr (inr (inr (inr is)))))) (inr late) = cc (sym is ∙ late)
 
 -- said of every list of what is to do alike
-module _ {D P : Type 0} (means : DeskMeaning D) (dsp : LifeMeaning P) (todo : Todo) (old new : D) (p q : P) (status : ℕ) (other : Throughout (λ n. n ≡ 3 → ⊥) (λ name. Unit {0}) todo) (last : TurnsLast todo) (ran : Ran means dsp todo old p status new q) where
+module _ {D P : Type 0} (means : DeskMeaning D) (dsp : LifeMeaning P) (todo : Todo) (old new : D) (p q : P) (status : ℕ) (other : Throughout (λ n. n ≡ 3 → ⊥) (λ name. Unit {0}) todo) (last : TurnsLast todo) (ran : RanOn means dsp todo old p status new q) where
   untouched : (IsLate status → ⊥) → q ≡ p
   untouched early = subst (λ ts. Turns dsp p ts q) (none_turned todo ran.turns ran.played.calls status ran.played.goes last early) ran.turned
 
@@ -71,14 +71,14 @@ module _ {D P : Type 0} (means : DeskMeaning D) (dsp : LifeMeaning P) (todo : To
         made = λ calm told. settle means dsp (means.holds old) todo old new p q ran.turns ran.played.calls status (λ name. refl) calm told ran.played.goes ran.played.led ran.turned;
       }
 
-pub words_other : (o : Option Form) (c : Option (List ℕ)) (s : Option Names) → Throughout (λ n. n ≡ 3 → ⊥) (λ name. Unit {0}) (todo_for o c s)
+pub words_other : (o : Option Form) (c : Option (List ℕ)) (s : Option CompileNames) → Throughout (λ n. n ≡ 3 → ⊥) (λ name. Unit {0}) (todo_for o c s)
 words_other None None None = λ e. cc e
 words_other None None (Some names) = compile_all (λ n. n ≡ 3 → ⊥) (λ name. Unit {0}) names (λ e. cc e) (λ e. cc e) (λ e. cc e) (λ e. cc e) tt
 words_other None (Some name) s = check_all (λ n. n ≡ 3 → ⊥) (λ name. Unit {0}) name (λ e. cc e) (λ e. cc e) (λ e. cc e) (λ e. cc e) tt
 words_other (Some form) c s = play_all (λ n. n ≡ 3 → ⊥) (λ name. Unit {0}) form (λ e. cc e) (λ e. cc e) (λ e. cc e) (λ e. cc e) (λ e. cc e) (λ e. cc e) (λ e. cc e) (λ name. tt)
 
 -- status 1 is that of words without a form
-one_only : (o : Option Form) (c : Option (List ℕ)) (s : Option Names) (turns : List Turn) (calls : List Call) (status : ℕ) → Goes (todo_for o c s) turns calls status → status ≡ 1 → (o ≡ None) × (c ≡ None) × (s ≡ None)
+one_only : (o : Option Form) (c : Option (List ℕ)) (s : Option CompileNames) (turns : List Turn) (calls : List DeskCall) (status : ℕ) → Goes (todo_for o c s) turns calls status → status ≡ 1 → (o ≡ None) × (c ≡ None) × (s ≡ None)
 one_only None None None turns calls status goes one = (refl, refl, refl)
 one_only None None (Some names) turns calls status goes one =
     absurd (ends (λ n. n ≡ 1 → ⊥) (λ name. Unit {0}) (compile names) turns calls status goes (compile_all (λ n. n ≡ 1 → ⊥) (λ name. Unit {0}) names (λ e. cc e) (λ e. cc e) (λ e. cc e) (λ e. cc e) tt) (λ e. cc e) one)
@@ -87,7 +87,7 @@ one_only None (Some name) s turns calls status goes one =
 one_only (Some form) c s turns calls status goes one =
     absurd (ends (λ n. n ≡ 1 → ⊥) (λ name. Unit {0}) (play form) turns calls status goes (play_all (λ n. n ≡ 1 → ⊥) (λ name. Unit {0}) form (λ e. cc e) (λ e. cc e) (λ e. cc e) (λ e. cc e) (λ e. cc e) (λ e. cc e) (λ e. cc e) (λ name. tt)) (λ e. cc e) one)
 
-one_each : (o : Option Form) (c : Option (List ℕ)) (s : Option Names) (turns : List Turn) (calls : List Call) (status : ℕ) → Goes (todo_for o c s) turns calls status → o ≡ None → c ≡ None → s ≡ None → (status ≡ 1) ⊎ (status ≡ 3)
+one_each : (o : Option Form) (c : Option (List ℕ)) (s : Option CompileNames) (turns : List Turn) (calls : List DeskCall) (status : ℕ) → Goes (todo_for o c s) turns calls status → o ≡ None → c ≡ None → s ≡ None → (status ≡ 1) ⊎ (status ≡ 3)
 one_each None None None turns [] status goes no_play no_check no_compile = absurd goes
 one_each None None None turns (Load name limit heard ∷ calls) status goes no_play no_check no_compile = absurd goes
 one_each None None None turns (Did act true ∷ calls) status goes no_play no_check no_compile = inl goes.3
@@ -96,7 +96,7 @@ one_each None None (Some names) turns calls status goes no_play no_check no_comp
 one_each None (Some name) s turns calls status goes no_play no_check no_compile = absurd (cc no_check)
 one_each (Some form) c s turns calls status goes no_play no_check no_compile = absurd (cc no_play)
 
-pub worded : (room : ℕ) (words : List (List ℕ)) (turns : List Turn) (calls : List Call) (status : ℕ) → Goes (todo_of room words) turns calls status → Worded room words status
+pub worded : (room : ℕ) (words : List (List ℕ)) (turns : List Turn) (calls : List DeskCall) (status : ℕ) → Goes (todo_of room words) turns calls status → Worded room words status
 worded room words turns calls status goes =
     record {
       only = one_only (play_of room words) (check_of words) (compile_of words) turns calls status goes;
@@ -156,7 +156,7 @@ module _ {D P : Type 0} (means : DeskMeaning D) (dsp : LifeMeaning P) (words : L
       let s = dsp.stand p in
       let holds = means.holds old in
       let plan = plan_of run.t in
-      let marks = marked (units_in run s) in
+      let marks = marked_pieces (units_in run s) in
       let end : ℕ × Stand = (0, after_units (start_in run s) (units_in run s)) in
       let same : todo_of (dsp.most p) words ≡ play run.form = ap (λ o. todo_for o (check_of words) (compile_of words)) run.is_form in
       let ready = files_ready run.topology run.script run.t run.read run.is_run in

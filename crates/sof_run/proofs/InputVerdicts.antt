@@ -4,18 +4,18 @@ use Rattle.sof_base.specs.Ports.{InputView, OutputView}
 use Rattle.sof_io.specs.Puts.{with_slot}
 use Rattle.sof_io.specs.Takes.{new_input}
 use Rattle.sof_desk.specs.declared.calls.LoadFault.TheVariants.{Failed, TooLong, OutOfMemory}
-use Rattle.sof_desk.specs.Desk.{DeskMeaning, Call, Load, Did, Led, Loaded}
+use Rattle.sof_desk.specs.Desk.{DeskMeaning, DeskCall, Load, Did, DeskLed, Loaded}
 use Rattle.tplg_plan.specs.declared.plans.Plan.{Plan}
 use Rattle.sof_script.specs.Commands.{Bound}
 use Rattle.sof_session.specs.Turns.{Turn}
 use Rattle.sof_run.specs.Bindings.{bound_slot}
-use Rattle.sof_run.specs.Todo.{no_memory, Says, Goes}
+use Rattle.sof_run.specs.Todo.{no_memory_line, Says, Goes}
 use Rattle.sof_run.specs.Play.{WithPorts, binding_todo, bindings_todo}
 use Rattle.sof_run.specs.Run.{FitsInput, IsLongInput, RunVerdict}
 use Rattle.sof_run.proofs.Statuses.{IsLate}
 
 -- a line that was said, with its status, or that was not
-says_status : (line : List ℕ) (n : ℕ) (turns : List Turn) (calls : List Call) (status : ℕ) → Says line n turns calls status → (status ≡ 3) ⊎ (status ≡ n)
+says_status : (line : List ℕ) (n : ℕ) (turns : List Turn) (calls : List DeskCall) (status : ℕ) → Says line n turns calls status → (status ≡ 3) ⊎ (status ≡ n)
 says_status line n turns [] status says = absurd says
 says_status line n turns (Load name limit heard ∷ calls) status says = absurd says
 says_status line n turns (Did act true ∷ calls) status says = inr says.3
@@ -32,8 +32,8 @@ module _ (holds : List ℕ → Option (List ℕ)) where
   more b bs status fits (inr (inl five)) = inr (inl (five.0, inr five.1))
   more b bs status fits (inr (inr zero)) = inr (inr (zero.0, (fits, zero.1)))
 
-  wanting : (bs : List Bound) (turns : List Turn) (calls : List Call) (status : ℕ) → Says no_memory 7 turns calls status → Outcome bs status
-  wanting bs turns calls status says = inl (says_status no_memory 7 turns calls status says)
+  wanting : (bs : List Bound) (turns : List Turn) (calls : List DeskCall) (status : ℕ) → Says no_memory_line 7 turns calls status → Outcome bs status
+  wanting bs turns calls status says = inl (says_status no_memory_line 7 turns calls status says)
 
   late : (status : ℕ) → IsLate status ⊎ (status ≡ 7) → Outcome [] status
   late status (inl (inl zero)) = inr (inr (zero, tt))
@@ -44,10 +44,10 @@ module _ (holds : List ℕ → Option (List ℕ)) where
   long b bs status is (inl three) = inl (inl three)
   long b bs status is (inr five) = inr (inl (five, inl is))
 
-  module _ {D : Type 0} (means : DeskMeaning D) (plan : Plan) (turns : List Turn) (status : ℕ) (e : D) (next : WithPorts) (after : (i : List InputView) (o : List OutputView) (later : List Call) → Goes (next i o) turns later status → IsLate status ⊎ (status ≡ 7)) where
+  module _ {D : Type 0} (means : DeskMeaning D) (plan : Plan) (turns : List Turn) (status : ℕ) (e : D) (next : WithPorts) (after : (i : List InputView) (o : List OutputView) (later : List DeskCall) → Goes (next i o) turns later status → IsLate status ⊎ (status ≡ 7)) where
     -- all that is opened later
     abbrev Opens : List Bound → Type 0
-    Opens bs = (inputs : List InputView) (outputs : List OutputView) (calls : List Call) (d : D) → ((name : List ℕ) → means.holds d name ≡ holds name) → Led means d calls e → Goes (bindings_todo plan bs inputs outputs next) turns calls status → Outcome bs status
+    Opens bs = (inputs : List InputView) (outputs : List OutputView) (calls : List DeskCall) (d : D) → ((name : List ℕ) → means.holds d name ≡ holds name) → DeskLed means d calls e → Goes (bindings_todo plan bs inputs outputs next) turns calls status → Outcome bs status
 
     -- one binding, and those behind it
     module _ (b : Bound) (bs : List Bound) (inputs : List InputView) (outputs : List OutputView) (others : Opens bs) (d : D) (held : (name : List ℕ) → means.holds d name ≡ holds name) where
@@ -58,11 +58,11 @@ module _ (holds : List ℕ → Option (List ℕ)) where
       rest i o = bindings_todo plan bs i o next
 
       -- the input has its place, or memory was wanting
-      placed : (got : List ℕ) (later : List Call) (m : D) → ((name : List ℕ) → means.holds m name ≡ holds name) → Led means m later e → FitsInput holds b → Goes (rest (inputs ++ new_input slot got ∷ []) outputs) turns later status ⊎ Says no_memory 7 turns later status → Outcome (b ∷ bs) status
+      placed : (got : List ℕ) (later : List DeskCall) (m : D) → ((name : List ℕ) → means.holds m name ≡ holds name) → DeskLed means m later e → FitsInput holds b → Goes (rest (inputs ++ new_input slot got ∷ []) outputs) turns later status ⊎ Says no_memory_line 7 turns later status → Outcome (b ∷ bs) status
       placed got later m held led fits (inl goes) = more b bs status fits (others (inputs ++ new_input slot got ∷ []) outputs later m held led goes)
       placed got later m held led fits (inr says) = wanting (b ∷ bs) turns later status says
 
-      one : (input : Bool) → b.input ≡ input → (calls : List Call) → Led means d calls e → Goes (binding_todo input slot b.file inputs outputs rest) turns calls status → Outcome (b ∷ bs) status
+      one : (input : Bool) → b.input ≡ input → (calls : List DeskCall) → DeskLed means d calls e → Goes (binding_todo input slot b.file inputs outputs rest) turns calls status → Outcome (b ∷ bs) status
       one true is [] led goes = absurd goes
       one true is (Did act done ∷ calls) led goes = absurd goes
       one true is (Load n l (Ok got) ∷ calls) led goes =

@@ -2,7 +2,7 @@
 use Rattle.std.proofs.Common.{◌≡◌, ◌⊎◌, inl, inr, ℕ, ◌<◌, ◌≤◌, Bool, true, false, List, [], ◌∷◌, length, Option, Some, None, Result, Ok, Err, refl, sym, ◌∙◌, ap, subst, codes, arith, nat_lt}
 use Rattle.std.proofs.lemmas.Bool.Decides.{nat_tests}
 use Rattle.sof_desk.specs.declared.calls.LoadFault.TheVariants.{Failed, TooLong, OutOfMemory}
-use Rattle.sof_desk.specs.Desk.{DeskMeaning, Put, Spoken, Call, Load, Did, Led, Loaded}
+use Rattle.sof_desk.specs.Desk.{DeskMeaning, Put, Spoken, DeskCall, Load, Did, DeskLed, Loaded}
 use Rattle.tplg_model.specs.declared.fault.TplgFault.{TplgFault}
 use Rattle.tplg_model.specs.declared.block.Topology.{Topology}
 use Rattle.tplg_model.specs.Reading.{topology_of}
@@ -24,7 +24,7 @@ use Rattle.sof_run.specs.Bindings.{wrong_binding}
 use Rattle.sof_run.specs.Words.{Form}
 use Rattle.sof_script.specs.declared.script.Numbered.{Numbered}
 use Rattle.sof_base.specs.Ports.{InputView, OutputView}
-use Rattle.sof_run.specs.Todo.{no_memory, Todo, Ask, Free, Says, Goes}
+use Rattle.sof_run.specs.Todo.{no_memory_line, Todo, Ask, Free, Says, Goes}
 use Rattle.sof_run.specs.Play.{Prepared, ticks_of, is_built_script, halt_line, halt_status, prepared, prepared_script, prepared_ticks, prepared_topology, prepared_rules, prepared_bindings, prepared_commands, prepared_todo, session_todo, play}
 use Rattle.sof_run.specs.Run.{AreBytes, IsLong, Fit, IsFile, IsBroken, IsScript, IsRun, IsHalt, last_call, Verdict}
 use Rattle.sof_run.proofs.Statuses.{IsLate}
@@ -33,14 +33,14 @@ use Rattle.sof_run.proofs.InputVerdicts.{Outcome, opened}
 use Rattle.sof_run.proofs.ScriptReads.{never_wanting}
 
 -- a line that was said, with its status, or that was not
-said : (line : List ℕ) (n : ℕ) (turns : List Turn) (calls : List Call) (status : ℕ) → Says line n turns calls status → (status ≡ 3) ⊎ ((status ≡ n) × (last_call calls ≡ Some (Did (Put Spoken line) true)))
+said : (line : List ℕ) (n : ℕ) (turns : List Turn) (calls : List DeskCall) (status : ℕ) → Says line n turns calls status → (status ≡ 3) ⊎ ((status ≡ n) × (last_call calls ≡ Some (Did (Put Spoken line) true)))
 said line n turns [] status says = absurd says
 said line n turns (Load name limit heard ∷ calls) status says = absurd says
 said line n turns (Did act true ∷ []) status says = inr (says.3, ap (λ a. Some (Did a true)) says.0)
 said line n turns (Did act true ∷ call ∷ calls) status says = absurd (cc says.2)
 said line n turns (Did act false ∷ calls) status says = inl says.3
 
-last_more : (call other : Call) (calls : List Call) → last_call calls ≡ Some other → last_call (call ∷ calls) ≡ Some other
+last_more : (call other : DeskCall) (calls : List DeskCall) → last_call calls ≡ Some other → last_call (call ∷ calls) ≡ Some other
 last_more call other [] is = absurd (cc is)
 last_more call other (first ∷ calls) is = is
 
@@ -52,20 +52,20 @@ few sum not = grind (arith, nat_tests)
 
 module _ (holds : List ℕ → Option (List ℕ)) (topology script : List ℕ) where
   -- one call more before
-  more : (call : Call) (calls : List Call) (status : ℕ) → Verdict holds topology script calls status → Verdict holds topology script (call ∷ calls) status
+  more : (call : DeskCall) (calls : List DeskCall) (status : ℕ) → Verdict holds topology script calls status → Verdict holds topology script (call ∷ calls) status
   more call calls status (inl failed) = inl failed
   more call calls status (inr (inl long)) = inr (inl long)
   more call calls status (inr (inr (inl h))) = inr (inr (inl (h.0, h.1, h.2, h.3, last_more call (Did (Put Spoken (halt_line h.0)) true) calls h.4)))
   more call calls status (inr (inr (inr rest))) = inr (inr (inr rest))
 
-  wanting : (turns : List Turn) (calls : List Call) (status : ℕ) → Says no_memory 7 turns calls status → Verdict holds topology script calls status
-  wanting turns calls status says = want (said no_memory 7 turns calls status says)
+  wanting : (turns : List Turn) (calls : List DeskCall) (status : ℕ) → Says no_memory_line 7 turns calls status → Verdict holds topology script calls status
+  wanting turns calls status says = want (said no_memory_line 7 turns calls status says)
     where
-      want : (status ≡ 3) ⊎ ((status ≡ 7) × (last_call calls ≡ Some (Did (Put Spoken no_memory) true))) → Verdict holds topology script calls status
+      want : (status ≡ 3) ⊎ ((status ≡ 7) × (last_call calls ≡ Some (Did (Put Spoken no_memory_line) true))) → Verdict holds topology script calls status
       want (inl three) = inl (inl three)
       want (inr seven) = inl (inr seven.0)
 
-  long : (line : List ℕ) (turns : List Turn) (calls : List Call) (status : ℕ) → Says line 5 turns calls status → IsLong topology ⊎ IsLong script → Verdict holds topology script calls status
+  long : (line : List ℕ) (turns : List Turn) (calls : List DeskCall) (status : ℕ) → Says line 5 turns calls status → IsLong topology ⊎ IsLong script → Verdict holds topology script calls status
   long line turns calls status says is = want (said line 5 turns calls status says)
     where
       want : (status ≡ 3) ⊎ ((status ≡ 5) × (last_call calls ≡ Some (Did (Put Spoken line) true))) → Verdict holds topology script calls status
@@ -74,25 +74,25 @@ module _ (holds : List ℕ → Option (List ℕ)) (topology script : List ℕ) w
 
   module _ (fit : Fit topology script) (bytes : AreBytes topology) where
     -- the files make no run, or they make one
-    stops : (why : Halt) (turns : List Turn) (calls : List Call) (status : ℕ) → IsHalt topology script why → Says (halt_line why) (halt_status why) turns calls status → Verdict holds topology script calls status
+    stops : (why : Halt) (turns : List Turn) (calls : List DeskCall) (status : ℕ) → IsHalt topology script why → Says (halt_line why) (halt_status why) turns calls status → Verdict holds topology script calls status
     stops why turns calls status is says = want (said (halt_line why) (halt_status why) turns calls status says)
       where
         want : (status ≡ 3) ⊎ ((status ≡ halt_status why) × (last_call calls ≡ Some (Did (Put Spoken (halt_line why)) true))) → Verdict holds topology script calls status
         want (inl three) = inl (inl three)
         want (inr done) = inr (inr (inl (why, done.0, fit, is, done.1)))
 
-    runs : (t : Topology) (read : Read) (calls : List Call) (status : ℕ) → IsRun topology script t read → Outcome holds read.bindings status → Verdict holds topology script calls status
+    runs : (t : Topology) (read : Read) (calls : List DeskCall) (status : ℕ) → IsRun topology script t read → Outcome holds read.bindings status → Verdict holds topology script calls status
     runs t read calls status is (inl ended) = inl ended
     runs t read calls status is (inr by_inputs) = inr (inr (inr (fit, (t, (read, is, by_inputs)))))
 
     -- by what each step of preparing comes to
-    module _ {D : Type 0} (means : DeskMeaning D) (heap : ℕ) (turns : List Turn) (calls : List Call) (status : ℕ) (d e : D) (held : (name : List ℕ) → means.holds d name ≡ holds name) (led : Led means d calls e) where
+    module _ {D : Type 0} (means : DeskMeaning D) (heap : ℕ) (turns : List Turn) (calls : List DeskCall) (status : ℕ) (d e : D) (held : (name : List ℕ) → means.holds d name ≡ holds name) (led : DeskLed means d calls e) where
       -- behind the bindings
-      ended : (plan : Plan) (commands : List Numbered) (inputs : List InputView) (outputs : List OutputView) (later : List Call) → Goes (Free (session_todo heap plan commands inputs outputs)) turns later status → IsLate status ⊎ (status ≡ 7)
+      ended : (plan : Plan) (commands : List Numbered) (inputs : List InputView) (outputs : List OutputView) (later : List DeskCall) → Goes (Free (session_todo heap plan commands inputs outputs)) turns later status → IsLate status ⊎ (status ≡ 7)
       ended plan commands inputs outputs later (inl goes) = inl (session_ends heap plan commands inputs outputs turns later status goes)
-      ended plan commands inputs outputs later (inr says) = want (said no_memory 7 turns later status says)
+      ended plan commands inputs outputs later (inr says) = want (said no_memory_line 7 turns later status says)
         where
-          want : (status ≡ 3) ⊎ ((status ≡ 7) × (last_call later ≡ Some (Did (Put Spoken no_memory) true))) → IsLate status ⊎ (status ≡ 7)
+          want : (status ≡ 3) ⊎ ((status ≡ 7) × (last_call later ≡ Some (Did (Put Spoken no_memory_line) true))) → IsLate status ⊎ (status ≡ 7)
           want (inl three) = inl (inr three)
           want (inr seven) = inr seven.0
 
@@ -136,8 +136,8 @@ module _ (holds : List ℕ → Option (List ℕ)) (topology script : List ℕ) w
   module _ {D : Type 0} (means : DeskMeaning D) where
     -- a load of a file that is told
     module _ (name line bytes : List ℕ) (next : List ℕ → Todo) (too_long : IsLong bytes → IsLong topology ⊎ IsLong script) where
-      asked : (turns : List Turn) (calls : List Call) (status : ℕ) (d e : D) → means.holds d name ≡ Some bytes → Goes (Ask name 1048576 line next) turns calls status → Led means d calls e
-          → (length bytes ≤ 1048576 → (later : List Call) (m : D) → ((other : List ℕ) → means.holds m other ≡ means.holds d other) → Goes (next bytes) turns later status → Led means m later e → Verdict holds topology script later status)
+      asked : (turns : List Turn) (calls : List DeskCall) (status : ℕ) (d e : D) → means.holds d name ≡ Some bytes → Goes (Ask name 1048576 line next) turns calls status → DeskLed means d calls e
+          → (length bytes ≤ 1048576 → (later : List DeskCall) (m : D) → ((other : List ℕ) → means.holds m other ≡ means.holds d other) → Goes (next bytes) turns later status → DeskLed means m later e → Verdict holds topology script later status)
           → Verdict holds topology script calls status
       asked turns [] status d e told goes led rest = absurd goes
       asked turns (Did act done ∷ calls) status d e told goes led rest = absurd goes
@@ -153,7 +153,7 @@ module _ (holds : List ℕ → Option (List ℕ)) (topology script : List ℕ) w
       asked turns (Load n l (Err Failed) ∷ calls) status d e told goes led rest = inl (inl goes.2.2)
 
     -- both files are told
-    pub judge : (form : Form) (turns : List Turn) (calls : List Call) (status : ℕ) (d e : D) → ((name : List ℕ) → means.holds d name ≡ holds name) → means.holds d form.topology ≡ Some topology → means.holds d form.script ≡ Some script → AreBytes topology → Goes (play form) turns calls status → Led means d calls e → Verdict holds topology script calls status
+    pub judge : (form : Form) (turns : List Turn) (calls : List DeskCall) (status : ℕ) (d e : D) → ((name : List ℕ) → means.holds d name ≡ holds name) → means.holds d form.topology ≡ Some topology → means.holds d form.script ≡ Some script → AreBytes topology → Goes (play form) turns calls status → DeskLed means d calls e → Verdict holds topology script calls status
     judge form turns calls status d e same first second bytes goes led =
         asked form.topology (codes "too long topology\n") topology (λ xs. Ask form.script 1048576 (codes "too long script\n") (λ ys. Free (prepared_todo form.heap (prepared xs ys)))) (λ is. inl is) turns calls status d e first goes led (λ short later m held goes led.
         asked form.script (codes "too long script\n") script (λ ys. Free (prepared_todo form.heap (prepared topology ys))) (λ is. inr is) turns later status m e (held form.script ∙ second) goes led (λ shorter last n kept goes led.

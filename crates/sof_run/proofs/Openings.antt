@@ -10,7 +10,7 @@ use Rattle.tplg_plan.specs.declared.plans.Plan.{Plan}
 use Rattle.sof_script.specs.declared.script.Binding.{Binding}
 use Rattle.sof_script.specs.Commands.{Bound, bound_of, bounds_of}
 use Rattle.sof_session.specs.Turns.{Turn}
-use Rattle.sof_run.specs.Todo.{no_memory, Todo, Stop, Ask, Do, Free, Played}
+use Rattle.sof_run.specs.Todo.{no_memory_line, Todo, Stop, Ask, Do, Free, Played}
 use Rattle.sof_run.specs.Bindings.{bound_slot}
 use Rattle.sof_run.specs.Play.{WithPorts, input_todo, output_todo, binding_todo, bindings_todo}
 use Rattle.sof_run.specs.Opening.{AreCreated, Opens, Stops}
@@ -37,7 +37,7 @@ module _ {D : Type 0} (means : DeskMeaning D) where
     pub input_missing : (status : ℕ) (old new : D) → ((next : List ℕ → Todo) → Played means (Ask file 4194304 (codes "too long input\n") next) old [] status new) → Stops means (input_todo slot file inputs outputs) status old new
     input_missing status old new missing next = missing (loaded next)
 
-    pub input_wanting : (bytes : List ℕ) (status : ℕ) (old m new : D) → Loaded means file 4194304 (Ok bytes) old m → Played means (Stop no_memory 7) m [] status new → Stops means (input_todo slot file inputs outputs) status old new
+    pub input_wanting : (bytes : List ℕ) (status : ℕ) (old m new : D) → Loaded means file 4194304 (Ok bytes) old m → Played means (Stop no_memory_line 7) m [] status new → Stops means (input_todo slot file inputs outputs) status old new
     input_wanting bytes status old m new load stopped next =
         ask_on means file 4194304 (codes "too long input\n") (loaded next) bytes [] status old m new load
         (free_off means (next (inputs ++ new_input slot bytes ∷ []) outputs) status m new stopped)
@@ -52,7 +52,7 @@ module _ {D : Type 0} (means : DeskMeaning D) where
         free_on means (Do (Create slot file) (next inputs (with_slot slot outputs))) [] 3 old new
         (do_off means (Create slot file) (next inputs (with_slot slot outputs)) old new acted)
 
-    pub output_wanting : (status : ℕ) (old new : D) → Played means (Stop no_memory 7) old [] status new → Stops means (output_todo slot file inputs outputs) status old new
+    pub output_wanting : (status : ℕ) (old new : D) → Played means (Stop no_memory_line 7) old [] status new → Stops means (output_todo slot file inputs outputs) status old new
     output_wanting status old new stopped next = free_off means (Do (Create slot file) (next inputs (with_slot slot outputs))) status old new stopped
 
   -- ---- which files are created

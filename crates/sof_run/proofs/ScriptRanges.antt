@@ -13,9 +13,9 @@ use Rattle.sof_script.specs.declared.reading.ScriptFault.{ScriptFault}
 use Rattle.sof_script.specs.declared.words.Word.{Word}
 use Rattle.sof_script.specs.declared.words.Word.TheVariants as words
 use Rattle.sof_script.specs.Splitting.{before_line, with_byte, lines_of, without_return, is_skipped, all_plain, tokens_of}
-use Rattle.sof_script.specs.ValueForms.{byte_cause, count_cause, number_cause, name_of, file_of, format_of, hex_of, in_range, decimal_of, number_of, negative, error_of}
-use Rattle.sof_script.specs.Words.{word_of}
-use Rattle.sof_script.specs.Commands.{◌⊛◌, any_number, message_number, numbers_of, one_name, one_number, alone, bound, with_params, with_values, with_hex, with_error, with_lag, said_by, behind_word, item_of, line_item, Read, with_item, lines_read, script_of}
+use Rattle.sof_script.specs.ValueForms.{byte_cause, count_cause, number_cause, name_value, file_value, format_value, hex_value, in_range, decimal_value, number_value, negative, error_value}
+use Rattle.sof_script.specs.Words.{word_named}
+use Rattle.sof_script.specs.Commands.{◌⊛◌, any_number, message_number, number_values, one_name, one_number, alone, bound, params_item, values_item, hex_item, error_item, lag_item, said_by, behind_word, item_of, line_item, Read, with_item, lines_read, script_of}
 use Rattle.sof_session.specs.Walks.{is_ahead, is_refusal, is_in_range}
 use Rattle.sof_run.specs.Halts.{IsInRange}
 
@@ -69,7 +69,7 @@ in_between least most (Some n) = by_test (nat_le least n && nat_le n most) refl
 
 one_between : (most : ℕ) (args : List (List ℕ)) → IfOk (one_number most args) (Between 1 most)
 one_between most [] = tt
-one_between most (token ∷ []) = in_between 1 most (decimal_of token)
+one_between most (token ∷ []) = in_between 1 most (decimal_value token)
 one_between most (token ∷ other ∷ args) = tt
 
 below_zero : (n : ℕ) → Between 1 4095 n → is_refusal (pos 0 -ℤ pos n) ≡ true
@@ -81,12 +81,12 @@ negative_refuses : (r : Result ℕ ℕ) → IfOk r (Between 1 4095) → IfOk (ne
 negative_refuses (Ok n) is = below_zero n is
 negative_refuses (Err cause) is = tt
 
-error_refuses : (token : List ℕ) → IfOk (error_of token) (λ e. is_refusal e ≡ true)
+error_refuses : (token : List ℕ) → IfOk (error_value token) (λ e. is_refusal e ≡ true)
 error_refuses [] = tt
 error_refuses (b ∷ bytes) = by_sign (nat_eq b 45)
   where
-    by_sign : (t : Bool) → IfOk (cond t (negative (number_of 1 4095 bytes)) (Err number_cause)) (λ e. is_refusal e ≡ true)
-    by_sign true = negative_refuses (number_of 1 4095 bytes) (in_between 1 4095 (decimal_of bytes))
+    by_sign : (t : Bool) → IfOk (cond t (negative (number_value 1 4095 bytes)) (Err number_cause)) (λ e. is_refusal e ≡ true)
+    by_sign true = negative_refuses (number_value 1 4095 bytes) (in_between 1 4095 (decimal_value bytes))
     by_sign false = tt
 
 -- ---- what a word says
@@ -98,52 +98,52 @@ alone_fine command (token ∷ args) is = tt
 bound_fine : (input : Bool) (args : List (List ℕ)) → Fine (bound input args)
 bound_fine input [] = tt
 bound_fine input (endpoint ∷ []) = tt
-bound_fine input (endpoint ∷ file ∷ []) = always_two (Bind input) (name_of endpoint) (file_of file) (λ e f. tt)
+bound_fine input (endpoint ∷ file ∷ []) = always_two (Bind input) (name_value endpoint) (file_value file) (λ e f. tt)
 bound_fine input (endpoint ∷ file ∷ other ∷ args) = tt
 
-params_fine : (args : List (List ℕ)) → Fine (with_params args)
+params_fine : (args : List (List ℕ)) → Fine (params_item args)
 params_fine [] = tt
 params_fine (stream ∷ []) = tt
 params_fine (stream ∷ rate ∷ []) = tt
 params_fine (stream ∷ rate ∷ channels ∷ []) = tt
 params_fine (stream ∷ rate ∷ channels ∷ format ∷ []) =
     let make : List ℕ → ℕ → ℕ → Format → Item = λ s r c f. Do (commands.Params s (record { rate = r; channels = c; format = f })) in
-    with_any Ranged (Ok make ⊛ name_of stream ⊛ any_number rate ⊛ number_of 0 255 channels) (format_of format)
-    (with_any (λ (f : Format → Item). (v : Format) → Ranged (f v)) (Ok make ⊛ name_of stream ⊛ any_number rate) (number_of 0 255 channels)
-    (with_any (λ (f : ℕ → Format → Item). (c : ℕ) (v : Format) → Ranged (f c v)) (Ok make ⊛ name_of stream) (any_number rate)
-    (with_any (λ (f : ℕ → ℕ → Format → Item). (r : ℕ) (c : ℕ) (v : Format) → Ranged (f r c v)) (Ok make) (name_of stream) (λ s r c f. refl))))
+    with_any Ranged (Ok make ⊛ name_value stream ⊛ any_number rate ⊛ number_value 0 255 channels) (format_value format)
+    (with_any (λ (f : Format → Item). (v : Format) → Ranged (f v)) (Ok make ⊛ name_value stream ⊛ any_number rate) (number_value 0 255 channels)
+    (with_any (λ (f : ℕ → Format → Item). (c : ℕ) (v : Format) → Ranged (f c v)) (Ok make ⊛ name_value stream) (any_number rate)
+    (with_any (λ (f : ℕ → ℕ → Format → Item). (r : ℕ) (c : ℕ) (v : Format) → Ranged (f r c v)) (Ok make) (name_value stream) (λ s r c f. refl))))
 params_fine (stream ∷ rate ∷ channels ∷ format ∷ other ∷ args) = tt
 
-values_fine : (args : List (List ℕ)) → Fine (with_values args)
+values_fine : (args : List (List ℕ)) → Fine (values_item args)
 values_fine [] = tt
 values_fine (control ∷ []) = tt
 values_fine (control ∷ value ∷ values) =
     let make : List ℕ → List ℕ → Item = λ c vs. Do (commands.Set c vs) in
-    fine_if (nat_le (length values) 7) (Ok make ⊛ name_of control ⊛ numbers_of (value ∷ values)) (Err count_cause) (always_two make (name_of control) (numbers_of (value ∷ values)) (λ c vs. refl)) tt
+    fine_if (nat_le (length values) 7) (Ok make ⊛ name_value control ⊛ number_values (value ∷ values)) (Err count_cause) (always_two make (name_value control) (number_values (value ∷ values)) (λ c vs. refl)) tt
 
-hex_fine : (args : List (List ℕ)) → Fine (with_hex args)
+hex_fine : (args : List (List ℕ)) → Fine (hex_item args)
 hex_fine [] = tt
 hex_fine (control ∷ []) = tt
 hex_fine (control ∷ hex ∷ []) =
-    let make : List ℕ → List ℕ → Item = λ c bytes. Do (commands.Bytes c bytes) in always_two make (name_of control) (hex_of hex) (λ c bytes. refl)
+    let make : List ℕ → List ℕ → Item = λ c bytes. Do (commands.Bytes c bytes) in always_two make (name_value control) (hex_value hex) (λ c bytes. refl)
 hex_fine (control ∷ hex ∷ other ∷ args) = tt
 
-refuse_fine : (args : List (List ℕ)) → Fine (with_error args)
+refuse_fine : (args : List (List ℕ)) → Fine (error_item args)
 refuse_fine [] = tt
 refuse_fine (message ∷ []) = tt
 refuse_fine (message ∷ error ∷ []) =
     let make : ℕ → ℤ → Item = λ k e. Do (commands.Refuse k e) in
-    applied (λ (e : ℤ). is_refusal e ≡ true) Ranged (Ok make ⊛ message_number message) (error_of error)
+    applied (λ (e : ℤ). is_refusal e ≡ true) Ranged (Ok make ⊛ message_number message) (error_value error)
     (applied (λ (k : ℕ). is_ahead k ≡ true) (λ (f : ℤ → Item). (e : ℤ) → is_refusal e ≡ true → Ranged (f e)) (Ok make) (message_number message)
-    (λ k ahead e refusal. and_from (is_ahead k) (is_refusal e) ahead refusal) (in_between 1 100000 (decimal_of message)))
+    (λ k ahead e refusal. and_from (is_ahead k) (is_refusal e) ahead refusal) (in_between 1 100000 (decimal_value message)))
     (error_refuses error)
 refuse_fine (message ∷ error ∷ other ∷ args) = tt
 
-lag_fine : (args : List (List ℕ)) → Fine (with_lag args)
+lag_fine : (args : List (List ℕ)) → Fine (lag_item args)
 lag_fine [] = tt
 lag_fine (message ∷ []) = tt
 lag_fine (message ∷ ticks ∷ []) =
-    let make : ℕ → ℕ → Item = λ k n. Do (commands.Lag k n) in always_two make (message_number message) (number_of 1 16 ticks) (λ k n. refl)
+    let make : ℕ → ℕ → Item = λ k n. Do (commands.Lag k n) in always_two make (message_number message) (number_value 1 16 ticks) (λ k n. refl)
 lag_fine (message ∷ ticks ∷ other ∷ args) = tt
 
 said_fine : (word : Word) (args : List (List ℕ)) → Fine (said_by word args)
@@ -178,7 +178,7 @@ behind_fine (Some word) args = said_fine word args
 item_fine : (tokens : Option (List (List ℕ))) → Fine (item_of tokens)
 item_fine None = tt
 item_fine (Some []) = tt
-item_fine (Some (first ∷ args)) = behind_fine (word_of first) args
+item_fine (Some (first ∷ args)) = behind_fine (word_named first) args
 
 line_fine : (line : List ℕ) → Fine (line_item line)
 line_fine line =

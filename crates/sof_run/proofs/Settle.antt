@@ -2,12 +2,12 @@
 use Rattle.std.proofs.Common.{◌≡◌, inl, inr, ℕ, ◌<◌, ◌≤◌, true, false, nat_le, List, [], ◌∷◌, length, Option, Some, Ok, Err, sym, ◌∙◌, ap, subst, arith, if◌then◌else◌}
 use Rattle.std.proofs.lemmas.Bool.Decides.{nat_tests}
 use Rattle.sof_desk.specs.declared.calls.LoadFault.TheVariants.{Failed, TooLong, OutOfMemory}
-use Rattle.sof_desk.specs.Desk.{DeskMeaning, Call, Load, Did, Led, Loaded}
+use Rattle.sof_desk.specs.Desk.{DeskMeaning, DeskCall, Load, Did, DeskLed, Loaded}
 use Rattle.mbox_link.specs.Exchange.{NoneFell}
 use Rattle.mbox_link.proofs.Steps.{NoneFell-same, NoneFell-by, Rose-within}
 use Rattle.sof_session.specs.Walks.{Stand, next}
 use Rattle.sof_session.specs.Turns.{LifeMeaning, Calm, Turn, Turned, Turns}
-use Rattle.sof_run.specs.Todo.{no_memory, Todo, End, Stop, Ask, Do, Step, Free, Says, Goes}
+use Rattle.sof_run.specs.Todo.{no_memory_line, Todo, End, Stop, Ask, Do, Step, Free, Says, Goes}
 use Rattle.sof_run.specs.Whole.{Item, Planned, said_item, asked_items, asked_end, whole, whole_end, Told, Wants, Made}
 
 pub below : (n m : ℕ) → n ≤ m → nat_le n m ≡ true
@@ -17,14 +17,14 @@ above : (n m : ℕ) → m < n → nat_le n m ≡ false
 above n m h = grind (arith, nat_tests)
 
 -- a line that is said at the end
-said_made : (line : List ℕ) (n : ℕ) (turns : List Turn) (calls : List Call) (status : ℕ) (at s : Stand) → Says line n turns calls status → s ≡ at → Made (said_item line at ∷ []) (n, at) calls status s
+said_made : (line : List ℕ) (n : ℕ) (turns : List Turn) (calls : List DeskCall) (status : ℕ) (at s : Stand) → Says line n turns calls status → s ≡ at → Made (said_item line at ∷ []) (n, at) calls status s
 said_made line n turns [] status at s says same = absurd says
 said_made line n turns (Load name limit heard ∷ calls) status at s says same = absurd says
 said_made line n turns (Did act true ∷ []) status at s says same = inl (ap (λ a. Did a true) says.0, (says.3, same))
 said_made line n turns (Did act true ∷ call ∷ calls) status at s says same = absurd (cc says.2)
 said_made line n turns (Did act false ∷ calls) status at s says same = inr (inl (ap (λ a. Did a false) says.0, says.2, says.3, same))
 
-pub no_turns : (line : List ℕ) (n : ℕ) (turns : List Turn) (calls : List Call) (status : ℕ) → Says line n turns calls status → turns ≡ []
+pub no_turns : (line : List ℕ) (n : ℕ) (turns : List Turn) (calls : List DeskCall) (status : ℕ) → Says line n turns calls status → turns ≡ []
 no_turns line n turns [] status says = absurd says
 no_turns line n turns (Load name limit heard ∷ calls) status says = absurd says
 no_turns line n turns (Did act done ∷ calls) status says = says.1
@@ -53,13 +53,13 @@ module _ {D P : Type 0} (means : DeskMeaning D) (dsp : LifeMeaning P) where
       refusals = λ rose. calm.refusals (Rose-within (dsp.refusals p) (dsp.refusals m) (dsp.refusals q) (dsp.refusals q) refusals (NoneFell-same (dsp.refusals q)) rose);
     }
 
-  wanted : (p q : P) (turns : List Turn) (calls : List Call) (status : ℕ) → Says no_memory 7 turns calls status → Turns dsp p turns q → Wants (dsp.stand p) calls status (dsp.stand q)
+  wanted : (p q : P) (turns : List Turn) (calls : List DeskCall) (status : ℕ) → Says no_memory_line 7 turns calls status → Turns dsp p turns q → Wants (dsp.stand p) calls status (dsp.stand q)
   wanted p q turns calls status says turned =
-      let none = no_turns no_memory 7 turns calls status says in
-      (subst (λ ts. Says no_memory 7 ts calls status) none says, stays p q turns none turned)
+      let none = no_turns no_memory_line 7 turns calls status says in
+      (subst (λ ts. Says no_memory_line 7 ts calls status) none says, stays p q turns none turned)
 
   -- a file that was loaded, and one that is too long
-  module _ (name line bytes : List ℕ) (limit : ℕ) (at : Stand) (told : Option (List ℕ)) (is : told ≡ Some bytes) (items : List ℕ → List Item) (end : List ℕ → ℕ × Stand) (calls : List Call) (status : ℕ) (s : Stand) where
+  module _ (name line bytes : List ℕ) (limit : ℕ) (at : Stand) (told : Option (List ℕ)) (is : told ≡ Some bytes) (items : List ℕ → List Item) (end : List ℕ → ℕ × Stand) (calls : List DeskCall) (status : ℕ) (s : Stand) where
     loaded_made : (n : List ℕ) (l : ℕ) (got : List ℕ) → n ≡ name → l ≡ limit → got ≡ bytes → length got ≤ l → Made (items bytes) (end bytes) calls status s → Made (asked_items name limit line at told items) (asked_end limit at told end) (Load n l (Ok got) ∷ calls) status s
     loaded_made n l got same_name same_limit same short made =
         let fits : nat_le (length bytes) limit ≡ true = below (length bytes) limit (subst (λ k. length bytes ≤ k) same_limit (subst (λ xs. length xs ≤ l) same short)) in
@@ -88,7 +88,7 @@ module _ {D P : Type 0} (means : DeskMeaning D) (dsp : LifeMeaning P) where
           | false ↦ inr (inr (call, wants))
         ])
 
-  pub settle : (holds : List ℕ → Option (List ℕ)) (todo : Todo) (d e : D) (p q : P) (turns : List Turn) (calls : List Call) (status : ℕ) → ((name : List ℕ) → means.holds d name ≡ holds name) → Calm dsp p q → Told holds todo → Goes todo turns calls status → Led means d calls e → Turns dsp p turns q → Made (whole holds (dsp.stand p) todo) (whole_end holds (dsp.stand p) todo) calls status (dsp.stand q)
+  pub settle : (holds : List ℕ → Option (List ℕ)) (todo : Todo) (d e : D) (p q : P) (turns : List Turn) (calls : List DeskCall) (status : ℕ) → ((name : List ℕ) → means.holds d name ≡ holds name) → Calm dsp p q → Told holds todo → Goes todo turns calls status → DeskLed means d calls e → Turns dsp p turns q → Made (whole holds (dsp.stand p) todo) (whole_end holds (dsp.stand p) todo) calls status (dsp.stand q)
   settle holds End d e p q turns [] status held calm told goes led turned = (goes.2, stays p q turns goes.0 turned)
   settle holds End d e p q turns (call ∷ calls) status held calm told goes led turned = absurd (cc goes.1)
   settle holds (Stop line n) d e p q turns calls status held calm told goes led turned =

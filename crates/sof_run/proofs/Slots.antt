@@ -14,7 +14,7 @@ use Rattle.sof_io.proofs.OutputLaws.{has_slot-with_slot}
 use Rattle.stream_law.specs.declared.graph.Comp.{Comp}
 use Rattle.tplg_plan.specs.declared.plans.Plan.{Plan}
 use Rattle.sof_script.specs.Commands.{Bound}
-use Rattle.sof_run.specs.Bindings.{is_endpoint, is_named, is_sought, has_endpoint, is_bound, is_right, wrong_behind, slot_of, bound_outputs, bound_slots}
+use Rattle.sof_run.specs.Bindings.{is_endpoint_kind, has_widget_name, is_sought, has_endpoint, is_endpoint_bound, is_right, wrong_behind, slot_of, bound_outputs, bound_slots}
 
 -- what passes a test is found
 found_one : (f : Comp → Bool) (cs : List Comp) → list_any f cs ≡ true → (c : Comp) × (find f cs ≡ Some c) × (f c ≡ true)
@@ -29,11 +29,11 @@ found_one f (c ∷ cs) is =
     ]
 
 -- the widget of an endpoint's slot has its name
-named_slot : (plan : Plan) (input : Bool) (name : List ℕ) → has_endpoint plan input name ≡ true → is_named plan name (slot_of plan input name) ≡ true
+named_slot : (plan : Plan) (input : Bool) (name : List ℕ) → has_endpoint plan input name ≡ true → has_widget_name plan name (slot_of plan input name) ≡ true
 named_slot plan input name there =
     let one = found_one (is_sought plan input name) plan.graph.comps there in
-    let parts = and_parts (is_endpoint input one.0.kind) (is_named plan name one.0.id) one.2 in
-    subst (λ (o : Option Comp). is_named plan name (option_map_or (λ c. c.id) o 0) ≡ true) (sym one.1) parts.1
+    let parts = and_parts (is_endpoint_kind input one.0.kind) (has_widget_name plan name one.0.id) one.2 in
+    subst (λ (o : Option Comp). has_widget_name plan name (option_map_or (λ c. c.id) o 0) ≡ true) (sym one.1) parts.1
 
 same_bytes : (n m : List ℕ) → bytes_eq n m ≡ true → n ≡ m
 same_bytes n m is = (bytes_eq-Decides n m).0 is
@@ -47,7 +47,7 @@ pub apart : (plan : Plan) (input : Bool) (n m : List ℕ) → has_endpoint plan 
 apart plan input n m first second differ =
     ne_eqb (slot_of plan input m) (slot_of plan input n) (λ same.
     let one = named_slot plan input n first in
-    let two = subst (λ id. is_named plan m id ≡ true) same (named_slot plan input m second) in
+    let two = subst (λ id. has_widget_name plan m id ≡ true) same (named_slot plan input m second) in
     let equal = one_name n m (slice_get plan.names (slot_of plan input n)) one two in
     cc (sym differ ∙ (bytes_eq-Decides n m).1 equal))
 
@@ -55,16 +55,16 @@ apart plan input n m first second differ =
 
 -- a name that no earlier binding has gives a slot that is not among these
 abbrev pub IsFresh : Plan → Bool → List Bound → List ℕ → Type 0
-IsFresh plan input bound slots = (name : List ℕ) → has_endpoint plan input name ≡ true → is_bound bound name ≡ false → has_slot (slot_of plan input name) slots ≡ false
+IsFresh plan input bound slots = (name : List ℕ) → has_endpoint plan input name ≡ true → is_endpoint_bound bound name ≡ false → has_slot (slot_of plan input name) slots ≡ false
 
 pub fresh_none : (plan : Plan) (input : Bool) → IsFresh plan input [] []
 fresh_none plan input name there new = refl
 
 module _ (plan : Plan) (bound : List Bound) (b : Bound) where
   -- a name that is new behind one more was new, and is another
-  new_parts : (name : List ℕ) → is_bound (bound ++ b ∷ []) name ≡ false → (is_bound bound name ≡ false) × (bytes_eq name b.endpoint ≡ false)
+  new_parts : (name : List ℕ) → is_endpoint_bound (bound ++ b ∷ []) name ≡ false → (is_endpoint_bound bound name ≡ false) × (bytes_eq name b.endpoint ≡ false)
   new_parts name new =
-      let parts = or_parts (is_bound bound name) (is_bound (b ∷ []) name) (sym (list_any-append (λ (x : Bound). bytes_eq name x.endpoint) bound (b ∷ [])) ∙ new) in
+      let parts = or_parts (is_endpoint_bound bound name) (is_endpoint_bound (b ∷ []) name) (sym (list_any-append (λ (x : Bound). bytes_eq name x.endpoint) bound (b ∷ [])) ∙ new) in
       let last = or_parts (bytes_eq name b.endpoint) false parts.1 in
       (parts.0, last.0)
 
@@ -93,13 +93,13 @@ module _ (plan : Plan) (bound : List Bound) (b : Bound) where
       ∙ or_neither (eqb (slot_of plan false b.endpoint) slot) (has_slot slot (output_slots outputs)) (apart plan false name b.endpoint there right parts.1) (fresh name there parts.0)
 
 -- the first binding is right, and so are those behind it
-pub right_first : (plan : Plan) (bound : List Bound) (b : Bound) (bs : List Bound) → wrong_behind plan bound (b ∷ bs) ≡ None → (has_endpoint plan b.input b.endpoint ≡ true) × (is_bound bound b.endpoint ≡ false) × (wrong_behind plan (bound ++ b ∷ []) bs ≡ None)
+pub right_first : (plan : Plan) (bound : List Bound) (b : Bound) (bs : List Bound) → wrong_behind plan bound (b ∷ bs) ≡ None → (has_endpoint plan b.input b.endpoint ≡ true) × (is_endpoint_bound bound b.endpoint ≡ false) × (wrong_behind plan (bound ++ b ∷ []) bs ≡ None)
 right_first plan bound b bs none =
     elim (cases_Bool (is_right plan bound b)) [
       | inl right ↦
-          let parts = and_parts (has_endpoint plan b.input b.endpoint) (not (is_bound bound b.endpoint)) right in
+          let parts = and_parts (has_endpoint plan b.input b.endpoint) (not (is_endpoint_bound bound b.endpoint)) right in
           let rest : wrong_behind plan (bound ++ b ∷ []) bs ≡ None = rw right at none in
-          (parts.0, not_true (is_bound bound b.endpoint) parts.1, rest)
+          (parts.0, not_true (is_endpoint_bound bound b.endpoint) parts.1, rest)
       | inr wrong ↦ absurd (none_some b.line (rw wrong at none))
     ]
   where

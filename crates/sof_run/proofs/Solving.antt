@@ -5,7 +5,7 @@ use Rattle.std.proofs.lemmas.List.{append-nil}
 use Rattle.std.specs.List.{AllByRecursion}
 use Rattle.std.specs.List.Sorted.{IsStrictlyIncreasing}
 use Rattle.sof_base.specs.Ports.{InputView}
-use Rattle.sof_desk.specs.Desk.{Place, Slot, same_place}
+use Rattle.sof_desk.specs.Desk.{DeskPlace, Slot, same_place}
 use Rattle.stream_law.specs.Table.{list_of}
 use Rattle.stream_law.specs.Past.{Moment, Past, start}
 use Rattle.stream_law.specs.Stands.{Stands, HasRead, position_of, left_of}
@@ -23,33 +23,33 @@ use Rattle.sof_io.specs.Takes.{new_input}
 use Rattle.sof_run.specs.Bindings.{bound_slot, bound_inputs}
 use Rattle.sof_run.specs.Rounds.{Round, earlier, rounds_after, rounds_of}
 use Rattle.sof_run.specs.Play.{lines_after}
-use Rattle.sof_run.specs.Runs.{Piece, RunUnit, slot_pieces, line_pieces, begun, unit_of, units_of, run_of, after_units, pieces_of, moments_of, bytes_at}
+use Rattle.sof_run.specs.Runs.{Piece, RunUnit, slot_pieces, line_pieces, stand_begun, unit_of, units_of, run_of, after_units, pieces_of, moments_of, bytes_of_pieces}
 use Rattle.sof_run.specs.Solved.{files_of, Solved}
 
 -- ---- the bytes of pieces
 
-bytes_at-append : (place : Place) (a b : List Piece) → bytes_at place (a ++ b) ≡ bytes_at place a ++ bytes_at place b
+bytes_at-append : (place : DeskPlace) (a b : List Piece) → bytes_of_pieces place (a ++ b) ≡ bytes_of_pieces place a ++ bytes_of_pieces place b
 bytes_at-append place [] b = refl
 bytes_at-append place (piece ∷ a) b =
-    ap (λ xs. if same_place piece.0 place then piece.1 ++ xs else xs) (bytes_at-append place a b) ∙ on (same_place piece.0 place) piece.1 (bytes_at place a) (bytes_at place b)
+    ap (λ xs. if same_place piece.0 place then piece.1 ++ xs else xs) (bytes_at-append place a b) ∙ on (same_place piece.0 place) piece.1 (bytes_of_pieces place a) (bytes_of_pieces place b)
   where
     on : (t : Bool) (first xs ys : List ℕ) → (if t then first ++ (xs ++ ys) else (xs ++ ys)) ≡ (if t then first ++ xs else xs) ++ ys
     on true first xs ys = sym (append_assoc first xs ys)
     on false first xs ys = refl
 
-slot_bytes : (slot : ℕ) (written : List Written) → bytes_at (Slot slot) (slot_pieces written) ≡ bytes_to slot written
+slot_bytes : (slot : ℕ) (written : List Written) → bytes_of_pieces (Slot slot) (slot_pieces written) ≡ bytes_to slot written
 slot_bytes slot [] = refl
 slot_bytes slot ((other, bytes) ∷ written) = ap (λ xs. if nat_eq other slot then bytes ++ xs else xs) (slot_bytes slot written)
 
-line_bytes : (slot : ℕ) (lines : List (List ℕ)) → bytes_at (Slot slot) (line_pieces lines) ≡ []
+line_bytes : (slot : ℕ) (lines : List (List ℕ)) → bytes_of_pieces (Slot slot) (line_pieces lines) ≡ []
 line_bytes slot [] = refl
 line_bytes slot (line ∷ lines) = line_bytes slot lines
 
-unit_bytes : (slot : ℕ) (written : List Written) (lines : List (List ℕ)) → bytes_at (Slot slot) (slot_pieces written ++ line_pieces lines) ≡ bytes_to slot written
+unit_bytes : (slot : ℕ) (written : List Written) (lines : List (List ℕ)) → bytes_of_pieces (Slot slot) (slot_pieces written ++ line_pieces lines) ≡ bytes_to slot written
 unit_bytes slot written lines =
     bytes_at-append (Slot slot) (slot_pieces written) (line_pieces lines)
-    ∙ ap (λ xs. bytes_at (Slot slot) (slot_pieces written) ++ xs) (line_bytes slot lines)
-    ∙ append-nil (bytes_at (Slot slot) (slot_pieces written))
+    ∙ ap (λ xs. bytes_of_pieces (Slot slot) (slot_pieces written) ++ xs) (line_bytes slot lines)
+    ∙ append-nil (bytes_of_pieces (Slot slot) (slot_pieces written))
     ∙ slot_bytes slot written
 
 -- ---- fronts
@@ -117,7 +117,7 @@ module _ (go_on : CommandsGoOn) (plan : Plan) (whole : List (ℕ × List ℕ)) (
     pub is : (after_units s (units_of rounds s)).host ≡ Some host
     pub settled : IsSettled host
     pub stands : Stands host.device whole host.inputs (before ++ moments_of (units_of rounds s))
-    pub wrote : (slot : ℕ) → is_slot slots slot ≡ true → list_of stands.past.bytes slot ≡ bytes slot ++ bytes_at (Slot slot) (pieces_of (units_of rounds s))
+    pub wrote : (slot : ℕ) → is_slot slots slot ≡ true → list_of stands.past.bytes slot ≡ bytes slot ++ bytes_of_pieces (Slot slot) (pieces_of (units_of rounds s))
 
   -- no unit more
   module _ (boots : ℕ) (h : Host) (settled : IsSettled h) (before : List Moment) (stood : Stands h.device whole h.inputs before) where
@@ -155,17 +155,17 @@ module _ (go_on : CommandsGoOn) (plan : Plan) (whole : List (ℕ × List ℕ)) (
         rest = pieces_of (units_of rounds turned.0)
 
         -- all that was written, in two parts
-        joined : (slot : ℕ) → is_slot slots slot ≡ true → list_of later.stands.past.bytes slot ≡ list_of stood.past.bytes slot ++ bytes_at (Slot slot) (unit.pieces ++ rest)
+        joined : (slot : ℕ) → is_slot slots slot ≡ true → list_of later.stands.past.bytes slot ≡ list_of stood.past.bytes slot ++ bytes_of_pieces (Slot slot) (unit.pieces ++ rest)
         joined slot bound =
             later.wrote slot bound
-            ∙ ap (λ xs. xs ++ bytes_at (Slot slot) rest) (on.bytes slot (subst (λ xs. is_slot xs slot ≡ true) (sym slots_are) bound))
-            ∙ append_assoc (list_of stood.past.bytes slot) (bytes_to slot turned.1.written) (bytes_at (Slot slot) rest)
+            ∙ ap (λ xs. xs ++ bytes_of_pieces (Slot slot) rest) (on.bytes slot (subst (λ xs. is_slot xs slot ≡ true) (sym slots_are) bound))
+            ∙ append_assoc (list_of stood.past.bytes slot) (bytes_to slot turned.1.written) (bytes_of_pieces (Slot slot) rest)
             ∙ ap (λ xs. list_of stood.past.bytes slot ++ xs)
-            (ap (λ xs. xs ++ bytes_at (Slot slot) rest) (sym (unit_bytes slot turned.1.written (lines_after round turned.1)))
+            (ap (λ xs. xs ++ bytes_of_pieces (Slot slot) rest) (sym (unit_bytes slot turned.1.written (lines_after round turned.1)))
             ∙ sym (bytes_at-append (Slot slot) unit.pieces rest))
 
         abbrev Joined : List Moment → Type 0
-        Joined ms = (stands : Stands later.host.device whole later.host.inputs ms) × ((slot : ℕ) → is_slot slots slot ≡ true → list_of stands.past.bytes slot ≡ list_of stood.past.bytes slot ++ bytes_at (Slot slot) (unit.pieces ++ rest))
+        Joined ms = (stands : Stands later.host.device whole later.host.inputs ms) × ((slot : ℕ) → is_slot slots slot ≡ true → list_of stands.past.bytes slot ≡ list_of stood.past.bytes slot ++ bytes_of_pieces (Slot slot) (unit.pieces ++ rest))
 
         one_more : GoesBy (round ∷ rounds) (stand boots h) before (λ slot. list_of stood.past.bytes slot)
         one_more =
@@ -193,13 +193,13 @@ module _ (first : FirstIsSettled) (first_stands : FirstStands) (go_on : Commands
   goes : GoesBy go_on plan (files_of inputs) slots rising (take k (rounds_of commands)) (stand s.boots host) [] (λ slot. list_of stood.0.past.bytes slot)
   goes = solve go_on plan (files_of inputs) slots rising (take k (rounds_of commands)) (built_front plan k (rounds_of commands) (built_rounds plan commands built)) s.boots host (first plan heap inputs slots loadable) refl refl [] stood.0
 
-  pub solved : Solved inputs slots (begun plan heap inputs slots s) (take k (run_of commands (begun plan heap inputs slots s)))
+  pub solved : Solved inputs slots (stand_begun plan heap inputs slots s) (take k (run_of commands (stand_begun plan heap inputs slots s)))
   solved =
-      subst (λ units. Solved inputs slots (begun plan heap inputs slots s) units) (sym (front_units k (rounds_of commands) (begun plan heap inputs slots s)))
+      subst (λ units. Solved inputs slots (stand_begun plan heap inputs slots s) units) (sym (front_units k (rounds_of commands) (stand_begun plan heap inputs slots s)))
       record {
         host = goes.host;
         is = goes.is;
         settled = goes.settled;
         stands = goes.stands;
-        bytes = λ slot bound. sym (goes.wrote slot bound ∙ ap (λ (p : Past). list_of p.bytes slot ++ bytes_at (Slot slot) (pieces_of (units_of (take k (rounds_of commands)) (begun plan heap inputs slots s)))) stood.1);
+        bytes = λ slot bound. sym (goes.wrote slot bound ∙ ap (λ (p : Past). list_of p.bytes slot ++ bytes_of_pieces (Slot slot) (pieces_of (units_of (take k (rounds_of commands)) (stand_begun plan heap inputs slots s)))) stood.1);
       }

@@ -1,30 +1,30 @@
 -- The status that a run ends with, and what comes before it.
 use Rattle.std.proofs.Common.{◌≡◌, ◌⊎◌, inl, inr, ℕ, ◌≤◌, true, false, List, [], ◌∷◌, Ok, Err, refl, sym, ◌∙◌, subst, arith}
 use Rattle.sof_desk.specs.declared.calls.LoadFault.TheVariants.{Failed, TooLong, OutOfMemory}
-use Rattle.sof_desk.specs.Desk.{DeskMeaning, Call, Load, Did, Led, Rose}
+use Rattle.sof_desk.specs.Desk.{DeskMeaning, DeskCall, Load, Did, DeskLed, CountRose}
 use Rattle.sof_session.specs.Walks.{Out}
 use Rattle.sof_session.specs.Turns.{Turn}
-use Rattle.sof_run.specs.Todo.{no_memory, Todo, End, Stop, Ask, Do, Step, Free, Says, Goes}
+use Rattle.sof_run.specs.Todo.{no_memory_line, Todo, End, Stop, Ask, Do, Step, Free, Says, Goes}
 use Rattle.sof_run.specs.Whole.{Throughout}
 use Rattle.sof_run.specs.Run.{LastFails, IsCreate, AreOpening}
 use Rattle.sof_run.proofs.Settle.{no_turns}
 
 module _ (P : ℕ → Type 0) (A : List ℕ → Type 0) where
-  says_all : (line : List ℕ) (n : ℕ) (turns : List Turn) (calls : List Call) (status : ℕ) → Says line n turns calls status → P n → P 3 → P status
+  says_all : (line : List ℕ) (n : ℕ) (turns : List Turn) (calls : List DeskCall) (status : ℕ) → Says line n turns calls status → P n → P 3 → P status
   says_all line n turns [] status says is three = absurd says
   says_all line n turns (Load name limit heard ∷ calls) status says is three = absurd says
   says_all line n turns (Did act true ∷ calls) status says is three = subst P (sym says.3) is
   says_all line n turns (Did act false ∷ calls) status says is three = subst P (sym says.3) three
 
   -- the status is one of those
-  pub ends : (todo : Todo) (turns : List Turn) (calls : List Call) (status : ℕ) → Goes todo turns calls status → Throughout P A todo → P 3 → P status
+  pub ends : (todo : Todo) (turns : List Turn) (calls : List DeskCall) (status : ℕ) → Goes todo turns calls status → Throughout P A todo → P 3 → P status
   ends End turns calls status goes all three = subst P (sym goes.2) all
   ends (Stop line n) turns calls status goes all three = says_all line n turns calls status goes all three
   ends (Ask name limit line rest) turns [] status goes all three = absurd goes
   ends (Ask name limit line rest) turns (Did act done ∷ calls) status goes all three = absurd goes
   ends (Ask name limit line rest) turns (Load n l (Ok got) ∷ calls) status goes all three = ends (rest got) turns calls status goes.2 (all.3 got) three
   ends (Ask name limit line rest) turns (Load n l (Err TooLong) ∷ calls) status goes all three = says_all line 5 turns calls status goes.2 all.1 three
-  ends (Ask name limit line rest) turns (Load n l (Err OutOfMemory) ∷ calls) status goes all three = says_all no_memory 7 turns calls status goes.2 all.2 three
+  ends (Ask name limit line rest) turns (Load n l (Err OutOfMemory) ∷ calls) status goes all three = says_all no_memory_line 7 turns calls status goes.2 all.2 three
   ends (Ask name limit line rest) turns (Load n l (Err Failed) ∷ calls) status goes all three = subst P (sym goes.2.2) three
   ends (Do act rest) turns [] status goes all three = absurd goes
   ends (Do act rest) turns (Load name limit heard ∷ calls) status goes all three = absurd goes
@@ -33,7 +33,7 @@ module _ (P : ℕ → Type 0) (A : List ℕ → Type 0) where
   ends (Step task rest) [] calls status goes all three = absurd goes
   ends (Step task rest) (turn ∷ turns) calls status goes all three = ends (rest turn.out) turns calls status goes.1 (all turn.out) three
   ends (Free rest) turns calls status (inl goes) all three = ends rest turns calls status goes all.1 three
-  ends (Free rest) turns calls status (inr says) all three = says_all no_memory 7 turns calls status says all.0 three
+  ends (Free rest) turns calls status (inr says) all three = says_all no_memory_line 7 turns calls status says all.0 three
 
 -- a status of a run whose commands are being carried out
 abbrev pub IsLate : ℕ → Type 0
@@ -58,14 +58,14 @@ TurnsLast (Step task rest) = (out : Out) → Throughout IsLate (λ name. ⊥) (r
 TurnsLast (Free rest) = TurnsLast rest
 
 -- another status comes before any turn
-pub none_turned : (todo : Todo) (turns : List Turn) (calls : List Call) (status : ℕ) → Goes todo turns calls status → TurnsLast todo → (IsLate status → ⊥) → turns ≡ []
+pub none_turned : (todo : Todo) (turns : List Turn) (calls : List DeskCall) (status : ℕ) → Goes todo turns calls status → TurnsLast todo → (IsLate status → ⊥) → turns ≡ []
 none_turned End turns calls status goes last early = goes.0
 none_turned (Stop line n) turns calls status goes last early = no_turns line n turns calls status goes
 none_turned (Ask name limit line rest) turns [] status goes last early = absurd goes
 none_turned (Ask name limit line rest) turns (Did act done ∷ calls) status goes last early = absurd goes
 none_turned (Ask name limit line rest) turns (Load n l (Ok got) ∷ calls) status goes last early = none_turned (rest got) turns calls status goes.2 (last got) early
 none_turned (Ask name limit line rest) turns (Load n l (Err TooLong) ∷ calls) status goes last early = no_turns line 5 turns calls status goes.2
-none_turned (Ask name limit line rest) turns (Load n l (Err OutOfMemory) ∷ calls) status goes last early = no_turns no_memory 7 turns calls status goes.2
+none_turned (Ask name limit line rest) turns (Load n l (Err OutOfMemory) ∷ calls) status goes last early = no_turns no_memory_line 7 turns calls status goes.2
 none_turned (Ask name limit line rest) turns (Load n l (Err Failed) ∷ calls) status goes last early = goes.2.0
 none_turned (Do act rest) turns [] status goes last early = absurd goes
 none_turned (Do act rest) turns (Load name limit heard ∷ calls) status goes last early = absurd goes
@@ -75,16 +75,16 @@ none_turned (Step task rest) [] calls status goes last early = refl
 none_turned (Step task rest) (turn ∷ turns) calls status goes last early =
     absurd (early (ends IsLate (λ name. ⊥) (rest turn.out) turns calls status goes.1 (last turn.out).0 (inr refl)))
 none_turned (Free rest) turns calls status (inl goes) last early = none_turned rest turns calls status goes last early
-none_turned (Free rest) turns calls status (inr says) last early = no_turns no_memory 7 turns calls status says
+none_turned (Free rest) turns calls status (inr says) last early = no_turns no_memory_line 7 turns calls status says
 
 -- a line that is said is no load, and creates nothing
-said_no_loads : (line : List ℕ) (n : ℕ) (turns : List Turn) (calls : List Call) (status : ℕ) → Says line n turns calls status → AreOpening calls → ⊥
+said_no_loads : (line : List ℕ) (n : ℕ) (turns : List Turn) (calls : List DeskCall) (status : ℕ) → Says line n turns calls status → AreOpening calls → ⊥
 said_no_loads line n turns [] status says loads = says
 said_no_loads line n turns (Load name limit heard ∷ calls) status says loads = says
 said_no_loads line n turns (Did act done ∷ calls) status says loads = subst IsCreate says.0 loads.0
 
 -- once nothing else is loaded or created, a desk that failed did so in another call
-opening_past : (todo : Todo) (turns : List Turn) (calls : List Call) (status : ℕ) → Goes todo turns calls status → Throughout IsLate (λ name. ⊥) todo → CreatesNone todo → AreOpening calls → status ≡ 3 → ⊥
+opening_past : (todo : Todo) (turns : List Turn) (calls : List DeskCall) (status : ℕ) → Goes todo turns calls status → Throughout IsLate (λ name. ⊥) todo → CreatesNone todo → AreOpening calls → status ≡ 3 → ⊥
 opening_past End turns calls status goes none puts loads three = cc (sym goes.2 ∙ three)
 opening_past (Stop line n) turns calls status goes none puts loads three = said_no_loads line n turns calls status goes loads
 opening_past (Ask name limit line rest) turns calls status goes none puts loads three = none.0
@@ -95,17 +95,17 @@ opening_past (Do act rest) turns (Did a false ∷ calls) status goes none puts l
 opening_past (Step task rest) [] calls status goes none puts loads three = goes
 opening_past (Step task rest) (turn ∷ turns) calls status goes none puts loads three = opening_past (rest turn.out) turns calls status goes.1 (none turn.out) (puts turn.out) loads three
 opening_past (Free rest) turns calls status (inl goes) none puts loads three = opening_past rest turns calls status goes none.1 puts loads three
-opening_past (Free rest) turns calls status (inr says) none puts loads three = said_no_loads no_memory 7 turns calls status says loads
+opening_past (Free rest) turns calls status (inr says) none puts loads three = said_no_loads no_memory_line 7 turns calls status says loads
 
 -- a load or a create that failed comes before any turn
-pub none_asked : (todo : Todo) (turns : List Turn) (calls : List Call) (status : ℕ) → Goes todo turns calls status → TurnsLast todo → status ≡ 3 → AreOpening calls → turns ≡ []
+pub none_asked : (todo : Todo) (turns : List Turn) (calls : List DeskCall) (status : ℕ) → Goes todo turns calls status → TurnsLast todo → status ≡ 3 → AreOpening calls → turns ≡ []
 none_asked End turns calls status goes last three loads = goes.0
 none_asked (Stop line n) turns calls status goes last three loads = no_turns line n turns calls status goes
 none_asked (Ask name limit line rest) turns [] status goes last three loads = absurd goes
 none_asked (Ask name limit line rest) turns (Did act done ∷ calls) status goes last three loads = absurd goes
 none_asked (Ask name limit line rest) turns (Load n l (Ok got) ∷ calls) status goes last three loads = none_asked (rest got) turns calls status goes.2 (last got) three loads
 none_asked (Ask name limit line rest) turns (Load n l (Err TooLong) ∷ calls) status goes last three loads = no_turns line 5 turns calls status goes.2
-none_asked (Ask name limit line rest) turns (Load n l (Err OutOfMemory) ∷ calls) status goes last three loads = no_turns no_memory 7 turns calls status goes.2
+none_asked (Ask name limit line rest) turns (Load n l (Err OutOfMemory) ∷ calls) status goes last three loads = no_turns no_memory_line 7 turns calls status goes.2
 none_asked (Ask name limit line rest) turns (Load n l (Err Failed) ∷ calls) status goes last three loads = goes.2.0
 none_asked (Do act rest) turns [] status goes last three loads = absurd goes
 none_asked (Do act rest) turns (Load name limit heard ∷ calls) status goes last three loads = absurd goes
@@ -114,27 +114,27 @@ none_asked (Do act rest) turns (Did a false ∷ calls) status goes last three lo
 none_asked (Step task rest) [] calls status goes last three loads = refl
 none_asked (Step task rest) (turn ∷ turns) calls status goes last three loads = absurd (opening_past (rest turn.out) turns calls status goes.1 (last turn.out).0 (last turn.out).1 loads three)
 none_asked (Free rest) turns calls status (inl goes) last three loads = none_asked rest turns calls status goes last three loads
-none_asked (Free rest) turns calls status (inr says) last three loads = no_turns no_memory 7 turns calls status says
+none_asked (Free rest) turns calls status (inr says) last three loads = no_turns no_memory_line 7 turns calls status says
 
 -- the last call failed where the status is 3
-last_more : (call : Call) (calls : List Call) → LastFails calls → LastFails (call ∷ calls)
+last_more : (call : DeskCall) (calls : List DeskCall) → LastFails calls → LastFails (call ∷ calls)
 last_more call [] fails = absurd fails
 last_more call (other ∷ calls) fails = fails
 
-rose_before : (a b c : ℕ) → a ≤ b → Rose b c → Rose a c
+rose_before : (a b c : ℕ) → a ≤ b → CountRose b c → CountRose a c
 rose_before a b c le (inl above) = inl (omega arith)
 rose_before a b c le (inr last) = inr last
 
 module _ {D : Type 0} (means : DeskMeaning D) where
-  says_three : (line : List ℕ) (n : ℕ) (turns : List Turn) (calls : List Call) (status : ℕ) (d e : D) → Says line n turns calls status → (n ≡ 3 → ⊥) → Led means d calls e → status ≡ 3 → LastFails calls × Rose (means.faults d) (means.faults e)
+  says_three : (line : List ℕ) (n : ℕ) (turns : List Turn) (calls : List DeskCall) (status : ℕ) (d e : D) → Says line n turns calls status → (n ≡ 3 → ⊥) → DeskLed means d calls e → status ≡ 3 → LastFails calls × CountRose (means.faults d) (means.faults e)
   says_three line n turns [] status d e says other led three = absurd says
   says_three line n turns (Load name limit heard ∷ calls) status d e says other led three = absurd says
   says_three line n turns (Did act true ∷ calls) status d e says other led three = absurd (other (sym says.3 ∙ three))
   says_three line n turns (Did act false ∷ []) status d e says other led three =
-      (refl, subst (λ x. Rose (means.faults d) (means.faults x)) (sym led.2) (led.1.failed refl))
+      (refl, subst (λ x. CountRose (means.faults d) (means.faults x)) (sym led.2) (led.1.failed refl))
   says_three line n turns (Did act false ∷ call ∷ calls) status d e says other led three = absurd (cc says.2)
 
-  pub three_last : (todo : Todo) (turns : List Turn) (calls : List Call) (status : ℕ) (d e : D) → Goes todo turns calls status → Throughout (λ n. n ≡ 3 → ⊥) (λ name. Unit {0}) todo → Led means d calls e → status ≡ 3 → LastFails calls × Rose (means.faults d) (means.faults e)
+  pub three_last : (todo : Todo) (turns : List Turn) (calls : List DeskCall) (status : ℕ) (d e : D) → Goes todo turns calls status → Throughout (λ n. n ≡ 3 → ⊥) (λ name. Unit {0}) todo → DeskLed means d calls e → status ≡ 3 → LastFails calls × CountRose (means.faults d) (means.faults e)
   three_last End turns calls status d e goes other led three = absurd (other (sym goes.2 ∙ three))
   three_last (Stop line n) turns calls status d e goes other led three = says_three line n turns calls status d e goes other led three
   three_last (Ask name limit line rest) turns [] status d e goes other led three = absurd goes
@@ -146,10 +146,10 @@ module _ {D : Type 0} (means : DeskMeaning D) where
       let rest_of = says_three line 5 turns calls status led.0 e goes.2 other.1 led.2 three in
       (last_more (Load n l (Err TooLong)) calls rest_of.0, rose_before _ _ _ led.1.kept.faults rest_of.1)
   three_last (Ask name limit line rest) turns (Load n l (Err OutOfMemory) ∷ calls) status d e goes other led three =
-      let rest_of = says_three no_memory 7 turns calls status led.0 e goes.2 other.2 led.2 three in
+      let rest_of = says_three no_memory_line 7 turns calls status led.0 e goes.2 other.2 led.2 three in
       (last_more (Load n l (Err OutOfMemory)) calls rest_of.0, rose_before _ _ _ led.1.kept.faults rest_of.1)
   three_last (Ask name limit line rest) turns (Load n l (Err Failed) ∷ []) status d e goes other led three =
-      (refl, subst (λ x. Rose (means.faults d) (means.faults x)) (sym led.2) led.1.answers)
+      (refl, subst (λ x. CountRose (means.faults d) (means.faults x)) (sym led.2) led.1.answers)
   three_last (Ask name limit line rest) turns (Load n l (Err Failed) ∷ call ∷ calls) status d e goes other led three = absurd (cc goes.2.1)
   three_last (Do act rest) turns [] status d e goes other led three = absurd goes
   three_last (Do act rest) turns (Load name limit heard ∷ calls) status d e goes other led three = absurd goes
@@ -157,9 +157,9 @@ module _ {D : Type 0} (means : DeskMeaning D) where
       let rest_of = three_last rest turns calls status led.0 e goes.1 other led.2 three in
       (last_more (Did a true) calls rest_of.0, rose_before _ _ _ led.1.kept.faults rest_of.1)
   three_last (Do act rest) turns (Did a false ∷ []) status d e goes other led three =
-      (refl, subst (λ x. Rose (means.faults d) (means.faults x)) (sym led.2) (led.1.failed refl))
+      (refl, subst (λ x. CountRose (means.faults d) (means.faults x)) (sym led.2) (led.1.failed refl))
   three_last (Do act rest) turns (Did a false ∷ call ∷ calls) status d e goes other led three = absurd (cc goes.1.1)
   three_last (Step task rest) [] calls status d e goes other led three = absurd goes
   three_last (Step task rest) (turn ∷ turns) calls status d e goes other led three = three_last (rest turn.out) turns calls status d e goes.1 (other turn.out) led three
   three_last (Free rest) turns calls status d e (inl goes) other led three = three_last rest turns calls status d e goes other.1 led three
-  three_last (Free rest) turns calls status d e (inr says) other led three = says_three no_memory 7 turns calls status d e says other.0 led three
+  three_last (Free rest) turns calls status d e (inr says) other led three = says_three no_memory_line 7 turns calls status d e says other.0 led three

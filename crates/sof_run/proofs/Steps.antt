@@ -1,21 +1,21 @@
 -- One call or one turn, and then what comes after it.
 use Rattle.std.proofs.Common.{ℕ, Bool, true, false, List, [], ◌∷◌, Ok, Err, refl, inl, inr, if◌then◌else◌}
 use Rattle.sof_desk.specs.declared.calls.LoadFault.TheVariants.{Failed, TooLong, OutOfMemory}
-use Rattle.sof_desk.specs.Desk.{DeskMeaning, Act, Put, Spoken, Load, Did, Loaded, Acted}
+use Rattle.sof_desk.specs.Desk.{DeskMeaning, DeskAct, Put, Spoken, Load, Did, Loaded, Acted}
 use Rattle.sof_session.specs.Walks.{Out}
 use Rattle.sof_session.specs.Turns.{LifeMeaning, Turn, Turned}
-use Rattle.sof_run.specs.Todo.{no_memory, Todo, Stop, Ask, Do, Step, Free, Played, Ran, DeskPhase, Follows, Fails}
+use Rattle.sof_run.specs.Todo.{no_memory_line, Todo, Stop, Ask, Do, Step, Free, Played, RanOn, DeskPhase, LeadsOn, PhaseFails}
 
 module _ {D : Type 0} (means : DeskMeaning D) where
   pub says : (line : List ℕ) (status : ℕ) (done : Bool) (old new : D) → Acted means (Put Spoken line) done old new → Played means (Stop line status) old [] (if done then status else 3) new
   says line status done old new acted =
       record { calls = Did (Put Spoken line) done ∷ []; led = (new, acted, refl); goes = (refl, refl, refl, refl) }
 
-  pub do_on : (act : Act) (next : Todo) (turns : List Turn) (status : ℕ) (old m new : D) → Acted means act true old m → Played means next m turns status new → Played means (Do act next) old turns status new
+  pub do_on : (act : DeskAct) (next : Todo) (turns : List Turn) (status : ℕ) (old m new : D) → Acted means act true old m → Played means next m turns status new → Played means (Do act next) old turns status new
   do_on act next turns status old m new acted played =
       record { calls = Did act true ∷ played.calls; led = (m, acted, played.led); goes = (refl, played.goes) }
 
-  pub do_off : (act : Act) (next : Todo) (old new : D) → Acted means act false old new → Played means (Do act next) old [] 3 new
+  pub do_off : (act : DeskAct) (next : Todo) (old new : D) → Acted means act false old new → Played means (Do act next) old [] 3 new
   do_off act next old new acted =
       record { calls = Did act false ∷ []; led = (new, acted, refl); goes = (refl, (refl, refl, refl)) }
 
@@ -28,7 +28,7 @@ module _ {D : Type 0} (means : DeskMeaning D) where
     ask_long status old m new loaded played =
         record { calls = Load name limit (Err TooLong) ∷ played.calls; led = (m, loaded, played.led); goes = (refl, refl, played.goes) }
 
-    pub ask_free : (status : ℕ) (old m new : D) → Loaded means name limit (Err OutOfMemory) old m → Played means (Stop no_memory 7) m [] status new → Played means (Ask name limit line next) old [] status new
+    pub ask_free : (status : ℕ) (old m new : D) → Loaded means name limit (Err OutOfMemory) old m → Played means (Stop no_memory_line 7) m [] status new → Played means (Ask name limit line next) old [] status new
     ask_free status old m new loaded played =
         record { calls = Load name limit (Err OutOfMemory) ∷ played.calls; led = (m, loaded, played.led); goes = (refl, refl, played.goes) }
 
@@ -40,16 +40,16 @@ module _ {D : Type 0} (means : DeskMeaning D) where
   pub free_on : (next : Todo) (turns : List Turn) (status : ℕ) (old new : D) → Played means next old turns status new → Played means (Free next) old turns status new
   free_on next turns status old new played = record { calls = played.calls; led = played.led; goes = inl played.goes }
 
-  pub free_off : (next : Todo) (status : ℕ) (old new : D) → Played means (Stop no_memory 7) old [] status new → Played means (Free next) old [] status new
+  pub free_off : (next : Todo) (status : ℕ) (old new : D) → Played means (Stop no_memory_line 7) old [] status new → Played means (Free next) old [] status new
   free_off next status old new played = record { calls = played.calls; led = played.led; goes = inr played.goes }
 
   module _ {P : Type 0} (dsp : LifeMeaning P) where
     -- calls on the desk alone
-    pub alone : (todo : Todo) (old new : D) (p : P) (status : ℕ) → Played means todo old [] status new → Ran means dsp todo old p status new p
+    pub alone : (todo : Todo) (old new : D) (p : P) (status : ℕ) → Played means todo old [] status new → RanOn means dsp todo old p status new p
     alone todo old new p status played = record { turns = []; turned = refl; played = played }
 
     -- a turn, and what comes after it
-    pub step_on : (turn : Turn) (next : Out → Todo) (status : ℕ) (old new : D) (p m q : P) → Turned dsp turn p m → Ran means dsp (next turn.out) old m status new q → Ran means dsp (Step turn.task next) old p status new q
+    pub step_on : (turn : Turn) (next : Out → Todo) (status : ℕ) (old new : D) (p m q : P) → Turned dsp turn p m → RanOn means dsp (next turn.out) old m status new q → RanOn means dsp (Step turn.task next) old p status new q
     step_on turn next status old new p m q turned ran =
         record {
           turns = turn ∷ ran.turns;
@@ -58,14 +58,14 @@ module _ {D : Type 0} (means : DeskMeaning D) where
         }
 
     -- a phase on the desk alone, with a device beside it
-    pub beside : (phase : Todo → Todo) (old new : D) (p : P) → DeskPhase means phase true old new → Follows means dsp phase (λ rest. rest) old p new p
+    pub beside : (phase : Todo → Todo) (old new : D) (p : P) → DeskPhase means phase true old new → LeadsOn means dsp phase (λ rest. rest) old p new p
     beside phase old new p done rest status end r ran =
         record { turns = ran.turns; turned = ran.turned; played = done rest ran.turns status end ran.played }
 
-    pub beside_failed : (phase : Todo → Todo) (old new : D) (p : P) → DeskPhase means phase false old new → Fails means dsp phase old p new p
+    pub beside_failed : (phase : Todo → Todo) (old new : D) (p : P) → DeskPhase means phase false old new → PhaseFails means dsp phase old p new p
     beside_failed phase old new p failed rest = alone (phase rest) old new p 3 (failed rest)
 
   -- one call, as a phase
-  pub do_phase : (act : Act) (done : Bool) (old new : D) → Acted means act done old new → DeskPhase means (Do act) done old new
+  pub do_phase : (act : DeskAct) (done : Bool) (old new : D) → Acted means act done old new → DeskPhase means (Do act) done old new
   do_phase act true old new acted = λ rest turns status end played. do_on act rest turns status old new end acted played
   do_phase act false old new acted = λ rest. do_off act rest old new acted

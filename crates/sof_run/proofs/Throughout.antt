@@ -3,7 +3,7 @@ use Rattle.std.proofs.Common.{ℕ, Bool, true, false, List, [], ◌∷◌, ◌++
 use Rattle.sof_base.specs.Ports.{InputView, OutputView}
 use Rattle.sof_io.specs.Puts.{with_slot}
 use Rattle.sof_io.specs.Takes.{new_input}
-use Rattle.sof_desk.specs.Desk.{Call}
+use Rattle.sof_desk.specs.Desk.{DeskCall}
 use Rattle.tplg_model.specs.declared.fault.TplgFault.{TplgFault}
 use Rattle.tplg_model.specs.declared.block.Topology.{Topology}
 use Rattle.tplg_model.specs.Reading.{topology_of}
@@ -25,7 +25,7 @@ use Rattle.sof_run.specs.Rounds.{Round, rounds_of}
 use Rattle.sof_run.specs.Todo.{Todo, End, Free, Goes}
 use Rattle.sof_run.specs.Play.{Prepared, Ready, Halted, prepared, prepared_todo, lines_after, flush_todo, lines_todo, rounds_todo, session_todo, WithPorts, binding_todo, bindings_todo, play, halt_status}
 use Rattle.sof_run.specs.Checking.{counts_of, checked_rules, checked_file, checked, checked_todo, check}
-use Rattle.sof_run.specs.Compiling.{Names, source_status, compiled_todo, compile}
+use Rattle.sof_run.specs.Compiling.{CompileNames, source_status, compiled_todo, compile}
 use Rattle.sof_run.specs.Forms.{todo_for}
 use Rattle.sof_run.specs.Whole.{Throughout}
 use Rattle.sof_run.proofs.Statuses.{IsLate, CreatesNone, TurnsLast, ends}
@@ -94,7 +94,7 @@ module _ (P : ℕ → Type 0) (A : List ℕ → Type 0) where
   compiled_all out (Ok t) done four seven = done
   compiled_all out (Err f) done four seven = source_all f four seven
 
-  pub compile_all : (names : Names) → P 0 → P 4 → P 5 → P 7 → A names.source → Throughout P A (compile names)
+  pub compile_all : (names : CompileNames) → P 0 → P 4 → P 5 → P 7 → A names.source → Throughout P A (compile names)
   compile_all names done four five seven named = (named, five, seven, λ text. (seven, compiled_all names.out (compiled_of text) done four seven))
 
 -- ---- turns come last
@@ -139,13 +139,13 @@ compiled_last : (out : List ℕ) (r : Result Topology SourceFault) → TurnsLast
 compiled_last out (Ok t) = tt
 compiled_last out (Err f) = tt
 
-pub words_last : (o : Option Form) (c : Option (List ℕ)) (s : Option Names) → TurnsLast (todo_for o c s)
+pub words_last : (o : Option Form) (c : Option (List ℕ)) (s : Option CompileNames) → TurnsLast (todo_for o c s)
 words_last None None None = tt
 words_last None None (Some names) = λ text. compiled_last names.out (compiled_of text)
 words_last None (Some name) s = λ bytes. checked_last (checked bytes)
 words_last (Some form) c s = λ topology script. prepared_last form.heap (prepared topology script)
 
 -- a session ends with 0 or 3
-pub session_ends : (heap : ℕ) (plan : Plan) (commands : List Numbered) (inputs : List InputView) (outputs : List OutputView) (turns : List Turn) (calls : List Call) (status : ℕ) → Goes (session_todo heap plan commands inputs outputs) turns calls status → IsLate status
+pub session_ends : (heap : ℕ) (plan : Plan) (commands : List Numbered) (inputs : List InputView) (outputs : List OutputView) (turns : List Turn) (calls : List DeskCall) (status : ℕ) → Goes (session_todo heap plan commands inputs outputs) turns calls status → IsLate status
 session_ends heap plan commands inputs outputs turns calls status goes =
     ends IsLate (λ name. Unit {0}) (session_todo heap plan commands inputs outputs) turns calls status goes (λ out. rounds_all IsLate (λ name. Unit {0}) (rounds_of commands) (inl refl)) (inr refl)

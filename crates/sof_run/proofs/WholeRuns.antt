@@ -15,7 +15,7 @@ use Rattle.sof_run.specs.Bindings.{bound_slot, bound_inputs, bound_outputs, boun
 use Rattle.sof_run.specs.Rounds.{Round, rounds_of}
 use Rattle.sof_run.specs.Play.{with_newline, lines_after, flush_todo, lines_todo, round_todo, rounds_todo, session_todo, WithPorts, binding_todo, bindings_todo, Ready, prepared, prepared_todo, play}
 use Rattle.sof_run.specs.Whole.{Item, Planned, Memory, asked_items, asked_end, whole, whole_end}
-use Rattle.sof_run.specs.Runs.{Piece, slot_pieces, line_pieces, unit_of, units_of, begun, run_of, after_units, at_stand, marked, puts}
+use Rattle.sof_run.specs.Runs.{Piece, slot_pieces, line_pieces, unit_of, units_of, stand_begun, run_of, after_units, at_stand, marked_pieces, puts}
 use Rattle.sof_run.specs.Run.{IsGiven}
 use Rattle.sof_run.proofs.Settle.{below}
 use Rattle.sof_run.proofs.Written.{binding_items, bindings_items}
@@ -62,13 +62,13 @@ module _ (holds : List ℕ → Option (List ℕ)) where
       let turned = next (Carry round.numbered.command) s in
       flush_end turned.1.written turned.0 (lines_todo (lines_after round turned.1) rest) ∙ lines_end (lines_after round turned.1) turned.0 rest
 
-  rounds_whole : (rounds : List Round) (s : Stand) → whole holds s (rounds_todo rounds End) ≡ puts (marked (units_of rounds s))
+  rounds_whole : (rounds : List Round) (s : Stand) → whole holds s (rounds_todo rounds End) ≡ puts (marked_pieces (units_of rounds s))
   rounds_whole [] s = refl
   rounds_whole (round ∷ rounds) s =
       let unit = unit_of round s in
       round_whole round s (rounds_todo rounds End)
       ∙ ap (λ xs. puts (at_stand unit.pieces unit.stand) ++ xs) (rounds_whole rounds unit.stand)
-      ∙ sym (puts-append (at_stand unit.pieces unit.stand) (marked (units_of rounds unit.stand)))
+      ∙ sym (puts-append (at_stand unit.pieces unit.stand) (marked_pieces (units_of rounds unit.stand)))
 
   rounds_end : (rounds : List Round) (s : Stand) → whole_end holds s (rounds_todo rounds End) ≡ (0, after_units s (units_of rounds s))
   rounds_end [] s = refl
@@ -148,12 +148,12 @@ module _ (holds : List ℕ → Option (List ℕ)) (plan : Plan) (s : Stand) wher
 
 module _ (holds : List ℕ → Option (List ℕ)) (s : Stand) (form : Form) (topology script : List ℕ) (plan : Plan) (read : Read) (is_topology : holds form.topology ≡ Some topology) (is_script : holds form.script ≡ Some script) (short : length topology ≤ 1048576) (shorter : length script ≤ 1048576) (ready : prepared topology script ≡ Ready plan read) (given : AllByRecursion (IsGiven holds) read.bindings) where
   abbrev start : Stand
-  start = begun plan form.heap (bound_inputs plan holds read.bindings) (bound_slots plan read.bindings) s
+  start = stand_begun plan form.heap (bound_inputs plan holds read.bindings) (bound_slots plan read.bindings) s
 
   abbrev session : WithPorts
   session inputs outputs = Free (session_todo form.heap plan read.commands inputs outputs)
 
-  pub play_whole : whole holds s (play form) ≡ Planned (Load form.topology 1048576 (Ok topology)) s ∷ Planned (Load form.script 1048576 (Ok script)) s ∷ Memory s ∷ bindings_items holds plan read.bindings s (Memory s ∷ puts (marked (run_of read.commands start)))
+  pub play_whole : whole holds s (play form) ≡ Planned (Load form.topology 1048576 (Ok topology)) s ∷ Planned (Load form.script 1048576 (Ok script)) s ∷ Memory s ∷ bindings_items holds plan read.bindings s (Memory s ∷ puts (marked_pieces (run_of read.commands start)))
   play_whole =
       asked_right form.topology 1048576 (codes "too long topology\n") s (holds form.topology) _ topology is_topology short
       ∙ ap (λ xs. Planned (Load form.topology 1048576 (Ok topology)) s ∷ xs) (asked_right form.script 1048576 (codes "too long script\n") s (holds form.script) _ script is_script shorter

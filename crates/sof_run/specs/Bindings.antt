@@ -16,33 +16,33 @@ use Rattle.sof_script.specs.Commands.{Bound}
 -- ---- which are right
 
 -- a component of this kind takes its frames from an input, or gives them to an output
-abbrev pub is_endpoint : Bool → Kind → Bool
-is_endpoint true HostPlay = true
-is_endpoint true (DaiCapture format) = true
-is_endpoint true kind = false
-is_endpoint false HostCapture = true
-is_endpoint false (DaiPlay format) = true
-is_endpoint false kind = false
+abbrev pub is_endpoint_kind : Bool → Kind → Bool
+is_endpoint_kind true HostPlay = true
+is_endpoint_kind true (DaiCapture format) = true
+is_endpoint_kind true kind = false
+is_endpoint_kind false HostCapture = true
+is_endpoint_kind false (DaiPlay format) = true
+is_endpoint_kind false kind = false
 
 -- the widget of this id has this name
-abbrev pub is_named : Plan → List ℕ → ℕ → Bool
-is_named plan name id = option_map_or (λ other. bytes_eq name other) (slice_get plan.names id) false
+abbrev pub has_widget_name : Plan → List ℕ → ℕ → Bool
+has_widget_name plan name id = option_map_or (λ other. bytes_eq name other) (slice_get plan.names id) false
 
 -- a component is the endpoint of this direction and this name
 abbrev pub is_sought : Plan → Bool → List ℕ → Comp → Bool
-is_sought plan input name c = is_endpoint input c.kind && is_named plan name c.id
+is_sought plan input name c = is_endpoint_kind input c.kind && has_widget_name plan name c.id
 
 -- an endpoint of this direction has this name
 abbrev pub has_endpoint : Plan → Bool → List ℕ → Bool
 has_endpoint plan input name = list_any (is_sought plan input name) plan.graph.comps
 
 -- some of these binds this endpoint
-abbrev pub is_bound : List Bound → List ℕ → Bool
-is_bound bindings endpoint = list_any (λ b. bytes_eq endpoint b.endpoint) bindings
+abbrev pub is_endpoint_bound : List Bound → List ℕ → Bool
+is_endpoint_bound bindings endpoint = list_any (λ b. bytes_eq endpoint b.endpoint) bindings
 
 -- a binding's name is an endpoint of its direction, which none of the earlier ones binds
 abbrev pub is_right : Plan → List Bound → Bound → Bool
-is_right plan earlier b = has_endpoint plan b.input b.endpoint && not (is_bound earlier b.endpoint)
+is_right plan earlier b = has_endpoint plan b.input b.endpoint && not (is_endpoint_bound earlier b.endpoint)
 
 -- the line of the first that is wrong, behind earlier ones
 abbrev pub wrong_behind : Plan → List Bound → List Bound → Option ℕ

@@ -10,7 +10,7 @@ use Rattle.tplg_graph.specs.PlanOf.{plan_of}
 use Rattle.tplg_rules.specs.RuleTest.{ruling_of}
 use Rattle.sof_run.specs.declared.prepare.Halt.{Halt}
 use Rattle.sof_run.specs.declared.prepare.Halt.TheVariants as halts
-use Rattle.sof_run.specs.Words.{is_name}
+use Rattle.sof_run.specs.Words.{is_file_name}
 use Rattle.sof_run.specs.Todo.{Todo, End, Stop, Ask, Free}
 use Rattle.sof_run.specs.Play.{halt_line, halt_status, lines_todo}
 
@@ -18,7 +18,7 @@ use Rattle.sof_run.specs.Play.{halt_line, halt_status, lines_todo}
 
 -- `check TOPOLOGY`: the name of its file
 abbrev pub check_of : List (List ℕ) → Option (List ℕ)
-check_of (verb ∷ topology ∷ []) = if bytes_eq verb (codes "check") && is_name topology then Some topology else None
+check_of (verb ∷ topology ∷ []) = if bytes_eq verb (codes "check") && is_file_name topology then Some topology else None
 check_of [] = None
 check_of (verb ∷ []) = None
 check_of (verb ∷ topology ∷ more ∷ words) = None

@@ -2,13 +2,13 @@
 use Rattle.std.specs.Prelude.{◌≡◌, ◌⊎◌, ℕ, ◌≤◌, true, List, [], ◌∷◌, ◌++◌, length, map, Some, Ok, Err, codes, if◌then◌else◌}
 use Rattle.std.specs.List.{concat}
 use Rattle.sof_desk.specs.declared.calls.LoadFault.TheVariants.{TooLong}
-use Rattle.sof_desk.specs.Desk.{DeskMeaning, Place, Put, Spoken, Call, Load, Did, same_place, with_more}
+use Rattle.sof_desk.specs.Desk.{DeskMeaning, DeskPlace, Put, Spoken, DeskCall, Load, Did, same_place, with_more}
 use Rattle.tplg_model.specs.declared.block.Topology.{Topology}
 use Rattle.tplg_model.specs.File.{IsFileFault}
 use Rattle.tplg_rules.specs.WellFormed.{IsWellFormed, Breaks}
 use Rattle.sof_run.specs.declared.prepare.Halt.{Halt}
 use Rattle.sof_run.specs.declared.prepare.Halt.TheVariants as halts
-use Rattle.sof_run.specs.Todo.{no_memory}
+use Rattle.sof_run.specs.Todo.{no_memory_line}
 use Rattle.sof_run.specs.Play.{with_newline, halt_line}
 use Rattle.sof_run.specs.TopologyBytes.{AreBytes, IsLong, IsFile, IsBroken}
 use Rattle.sof_run.specs.Checking.{check_of, counts_of}
@@ -25,17 +25,17 @@ abbrev pub IsRight : List ℕ → Topology → Type 0
 IsRight bytes t = IsFile bytes t × IsWellFormed t
 
 -- a line was said
-abbrev pub saying : List ℕ → Call
+abbrev pub saying : List ℕ → DeskCall
 saying line = Did (Put Spoken line) true
 
 -- the file was loaded, and then these lines were said
-abbrev pub telling : List ℕ → List ℕ → List (List ℕ) → List Call
+abbrev pub telling : List ℕ → List ℕ → List (List ℕ) → List DeskCall
 telling name bytes lines = Load name 1048576 (Ok bytes) ∷ map saying lines
 
 -- The status by the file's bytes, whose cases exclude each other, and all calls on the desk: a desk that failed or want of
 -- memory; 5 where the file is too long; 2 where it is no right topology, and then the line for it was said; 0 where it is
 -- one, and then its counts were said.
-abbrev pub CheckVerdict : List ℕ → List ℕ → List Call → ℕ → Type 0
+abbrev pub CheckVerdict : List ℕ → List ℕ → List DeskCall → ℕ → Type 0
 CheckVerdict name bytes calls status =
     ((status ≡ 3) ⊎ (status ≡ 7))
     ⊎ (((status ≡ 5) × IsLong bytes × (calls ≡ Load name 1048576 (Err TooLong) ∷ saying (codes "too long topology\n") ∷ []))
@@ -46,7 +46,7 @@ CheckVerdict name bytes calls status =
 
 -- these bytes were said, and nothing else was written
 abbrev pub Spoke : {D : Type 0} → DeskMeaning D → List ℕ → D → D → Type 0
-Spoke means part old new = (place : Place) → means.wrote new place ≡ (if same_place Spoken place then with_more (means.wrote old place) part else means.wrote old place)
+Spoke means part old new = (place : DeskPlace) → means.wrote new place ≡ (if same_place Spoken place then with_more (means.wrote old place) part else means.wrote old place)
 
 -- a front of a text
 abbrev pub IsFront : List ℕ → List ℕ → Type 0
@@ -57,12 +57,12 @@ IsFront part text = (rest : List ℕ) × (part ++ rest ≡ text)
 pub record WroteText {D : Type 0} (means : DeskMeaning D) (text : List ℕ) (old new : D) (status : ℕ) : Type 0 where
   pub part : List ℕ
   pub spoke : Spoke means part old new
-  pub is : ((status ≡ 0) × (part ≡ text)) ⊎ (((status ≡ 3) × IsFront part text) ⊎ (((status ≡ 3) ⊎ (status ≡ 7)) × IsFront part no_memory))
+  pub is : ((status ≡ 0) × (part ≡ text)) ⊎ (((status ≡ 3) × IsFront part text) ⊎ (((status ≡ 3) ⊎ (status ≡ 7)) × IsFront part no_memory_line))
 
 -- ---- all
 
 -- Where the words are those of `check`.
-pub record Checks {D P : Type 0} (means : DeskMeaning D) (words : List (List ℕ)) (old : D) (p : P) (calls : List Call) (status : ℕ) (new : D) (q : P) : Type 0 where
+pub record Checks {D P : Type 0} (means : DeskMeaning D) (words : List (List ℕ)) (old : D) (p : P) (calls : List DeskCall) (status : ℕ) (new : D) (q : P) : Type 0 where
   -- the device is not touched
   pub alone : (name : List ℕ) → check_of words ≡ Some name → q ≡ p
   -- where the desk tells the file, the status is by its bytes

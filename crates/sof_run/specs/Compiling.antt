@@ -9,26 +9,26 @@ use Rattle.tplg_compile.specs.declared.source_fault.List.TheVariants.{Top, Widge
 use Rattle.tplg_compile.specs.declared.source_fault.SourceFault.{SourceFault}
 use Rattle.tplg_compile.specs.declared.source_fault.SourceFault.TheVariants.{Syntax, Shape, Rule, OutOfMemory}
 use Rattle.tplg_compile.specs.InOrder.{compiled_of}
-use Rattle.sof_run.specs.Words.{is_name}
-use Rattle.sof_run.specs.Todo.{Todo, End, Stop, Ask, Do, Free, no_memory}
+use Rattle.sof_run.specs.Words.{is_file_name}
+use Rattle.sof_run.specs.Todo.{Todo, End, Stop, Ask, Do, Free, no_memory_line}
 use Rattle.sof_run.specs.Play.{with_newline, lines_todo}
 use Rattle.sof_run.specs.Checking.{count_line}
 
 -- ---- the words
 
 -- what `compile` is given: the names of a source and of the file that is made
-pub record Names : Type 0 where
+pub record CompileNames : Type 0 where
   pub source : List ℕ
   pub out : List ℕ
 
 -- these names
-abbrev pub names : List ℕ → List ℕ → Names
+abbrev pub names : List ℕ → List ℕ → CompileNames
 names source out = record { source = source; out = out }
 
 -- `compile SOURCE OUT`
-abbrev pub compile_of : List (List ℕ) → Option Names
+abbrev pub compile_of : List (List ℕ) → Option CompileNames
 compile_of (verb ∷ source ∷ out ∷ []) =
-    if bytes_eq verb (codes "compile") && (is_name source && is_name out) then Some (names source out) else None
+    if bytes_eq verb (codes "compile") && (is_file_name source && is_file_name out) then Some (names source out) else None
 compile_of [] = None
 compile_of (verb ∷ []) = None
 compile_of (verb ∷ source ∷ []) = None
@@ -48,7 +48,7 @@ abbrev pub source_line : SourceFault → List ℕ
 source_line Syntax = codes "source syntax\n"
 source_line (Shape list entry) = with_newline (codes "source shape " ++ list_word list ++ codes " " ++ decimal entry)
 source_line (Rule rule item) = with_newline (codes "source rule " ++ decimal rule ++ codes " " ++ decimal item)
-source_line OutOfMemory = no_memory
+source_line OutOfMemory = no_memory_line
 
 -- and the status
 abbrev pub source_status : SourceFault → ℕ
@@ -71,5 +71,5 @@ compiled_todo out (Ok t) = file_todo out (spelling t) End
 compiled_todo out (Err fault) = Stop (source_line fault) (source_status fault)
 
 -- the source is loaded and compiled
-abbrev pub compile : Names → Todo
+abbrev pub compile : CompileNames → Todo
 compile names = Ask names.source 1048576 (codes "too long source\n") (λ text. Free (compiled_todo names.out (compiled_of text)))

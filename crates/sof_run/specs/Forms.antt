@@ -4,10 +4,10 @@ use Rattle.sof_run.specs.Words.{Form, play_of}
 use Rattle.sof_run.specs.Todo.{Todo, Stop}
 use Rattle.sof_run.specs.Play.{play}
 use Rattle.sof_run.specs.Checking.{check, check_of}
-use Rattle.sof_run.specs.Compiling.{Names, compile, compile_of}
+use Rattle.sof_run.specs.Compiling.{CompileNames, compile, compile_of}
 
 -- what `play` is given, or the file of `check`, or the files of `compile`, or none of them
-abbrev pub todo_for : Option Form → Option (List ℕ) → Option Names → Todo
+abbrev pub todo_for : Option Form → Option (List ℕ) → Option CompileNames → Todo
 todo_for (Some form) name names = play form
 todo_for None (Some name) names = check name
 todo_for None None (Some names) = compile names

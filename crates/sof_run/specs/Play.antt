@@ -29,7 +29,7 @@ use Rattle.sof_run.specs.declared.prepare.Halt.TheVariants as halts
 use Rattle.sof_run.specs.Bindings.{bound_slot, wrong_binding}
 use Rattle.sof_run.specs.Rounds.{Round, rounds_of}
 use Rattle.sof_run.specs.Words.{Form}
-use Rattle.sof_run.specs.Todo.{Todo, End, Stop, Ask, Do, Step, Free, no_memory}
+use Rattle.sof_run.specs.Todo.{Todo, End, Stop, Ask, Do, Step, Free, no_memory_line}
 
 -- ---- what is said
 
@@ -38,20 +38,20 @@ abbrev pub with_newline : List ℕ → List ℕ
 with_newline line = line ++ codes "\n"
 
 -- a fault of a topology file with its place, and the number that was found there; no file's fault is want of memory
-abbrev pub fault_words : TplgFault → List ℕ
-fault_words (Magic at) = codes "magic " ++ decimal at
-fault_words (Abi at found) = codes "abi " ++ decimal at ++ codes " " ++ decimal found
-fault_words (HeaderSize at) = codes "header " ++ decimal at
-fault_words (Truncated at) = codes "truncated " ++ decimal at
-fault_words (Payload at) = codes "payload " ++ decimal at
-fault_words (Name at) = codes "name " ++ decimal at
-fault_words (ControlKind at found) = codes "control " ++ decimal at ++ codes " " ++ decimal found
-fault_words (Tokens at) = codes "tokens " ++ decimal at
-fault_words OutOfMemory = []
+abbrev pub topology_fault_words : TplgFault → List ℕ
+topology_fault_words (Magic at) = codes "magic " ++ decimal at
+topology_fault_words (Abi at found) = codes "abi " ++ decimal at ++ codes " " ++ decimal found
+topology_fault_words (HeaderSize at) = codes "header " ++ decimal at
+topology_fault_words (Truncated at) = codes "truncated " ++ decimal at
+topology_fault_words (Payload at) = codes "payload " ++ decimal at
+topology_fault_words (Name at) = codes "name " ++ decimal at
+topology_fault_words (ControlKind at found) = codes "control " ++ decimal at ++ codes " " ++ decimal found
+topology_fault_words (Tokens at) = codes "tokens " ++ decimal at
+topology_fault_words OutOfMemory = []
 
 -- the line of a fault
 abbrev pub fault_line : TplgFault → List ℕ
-fault_line fault = with_newline (codes "topology " ++ fault_words fault)
+fault_line fault = with_newline (codes "topology " ++ topology_fault_words fault)
 
 -- the cause of a script's line at fault
 abbrev pub cause_words : ℕ → List ℕ
@@ -80,7 +80,7 @@ halt_line (halts.Broken fault) = fault_line fault
 halt_line (halts.Rule rule item) = rule_line rule item
 halt_line (halts.Binding line) = script_line line (codes "binding")
 halt_line halts.NotYet = codes "not yet\n"
-halt_line halts.OutOfMemory = no_memory
+halt_line halts.OutOfMemory = no_memory_line
 
 -- and the status
 abbrev pub halt_status : Halt → ℕ

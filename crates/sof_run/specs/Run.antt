@@ -3,7 +3,7 @@ use Rattle.std.specs.Prelude.{◌≡◌, ◌⊎◌, ℕ, ◌<◌, ◌≤◌, Lis
 use Rattle.sof_desk.specs.declared.calls.LoadFault.TheVariants.{Failed}
 use Rattle.std.specs.List.{AllByRecursion}
 use Rattle.sof_base.specs.Ports.{InputView}
-use Rattle.sof_desk.specs.Desk.{DeskMeaning, Act, Create, Put, Spoken, Call, Load, Did, Rose}
+use Rattle.sof_desk.specs.Desk.{DeskMeaning, DeskAct, Create, Put, Spoken, DeskCall, Load, Did, CountRose}
 use Rattle.mbox_link.specs.Calls.{Meaning}
 use Rattle.sof_session.specs.Turns.{AreAgreed, LifeMeaning, Life, Bare, Seated, Calm, life, device_of}
 use Rattle.tplg_model.specs.declared.block.Topology.{Topology}
@@ -21,35 +21,35 @@ use Rattle.sof_run.specs.Compiling.{compile_of}
 use Rattle.sof_run.specs.Forms.{todo_of}
 use Rattle.sof_run.specs.Checks.{Checks}
 use Rattle.sof_run.specs.Compiles.{Compiles}
-use Rattle.sof_run.specs.Todo.{Todo, Ran}
+use Rattle.sof_run.specs.Todo.{Todo, RanOn}
 use Rattle.sof_run.specs.declared.prepare.Halt.{Halt}
 use Rattle.sof_run.specs.declared.prepare.Halt.TheVariants as halts
 use Rattle.sof_run.specs.Bindings.{wrong_binding, bound_inputs, bound_slots}
 use Rattle.sof_run.specs.Play.{ticks_of, is_built_script, halt_line, halt_status}
 use Rattle.sof_run.specs.Whole.{Made, Told, whole, whole_end}
-use Rattle.sof_run.specs.Runs.{RunUnit, begun, run_of, after_units, marked, Wrote, Before}
+use Rattle.sof_run.specs.Runs.{RunUnit, stand_begun, run_of, after_units, marked_pieces, Wrote, Before}
 use Rattle.sof_run.specs.Solved.{Solved}
 
 -- ---- said of every form of the words alike
 
 -- a call that failed
-abbrev pub Fails : Call → Type 0
-Fails (Load name limit heard) = heard ≡ Err Failed
-Fails (Did act done) = done ≡ false
+abbrev pub IsFailedCall : DeskCall → Type 0
+IsFailedCall (Load name limit heard) = heard ≡ Err Failed
+IsFailedCall (Did act done) = done ≡ false
 
 -- the last of the calls failed
-abbrev pub LastFails : List Call → Type 0
+abbrev pub LastFails : List DeskCall → Type 0
 LastFails [] = ⊥
-LastFails (call ∷ []) = Fails call
+LastFails (call ∷ []) = IsFailedCall call
 LastFails (call ∷ other ∷ calls) = LastFails (other ∷ calls)
 
 -- a file is created
-abbrev pub IsCreate : Act → Type 0
+abbrev pub IsCreate : DeskAct → Type 0
 IsCreate (Create slot name) = Unit {0}
 IsCreate (Put place piece) = ⊥
 
 -- the calls were loads and creates alone
-abbrev pub AreOpening : List Call → Type 0
+abbrev pub AreOpening : List DeskCall → Type 0
 AreOpening [] = Unit {0}
 AreOpening (Load name limit heard ∷ calls) = AreOpening calls
 AreOpening (Did act done ∷ calls) = IsCreate act × AreOpening calls
@@ -61,9 +61,9 @@ IsEarly status = (status ≡ 1) ⊎ (status ≡ 2) ⊎ (status ≡ 4) ⊎ (statu
 -- What was done with a list of what is to do: its calls and turns, why it ended with 3, and what it left of the device.
 pub record Done {D P : Type 0} (means : DeskMeaning D) (dsp : LifeMeaning P) (todo : Todo) (old : D) (p : P) (status : ℕ) (new : D) (q : P) : Type 0 where
   -- the calls and the turns are those of what is to do, by what each of them answered
-  pub ran : Ran means dsp todo old p status new q
+  pub ran : RanOn means dsp todo old p status new q
   -- status 3 comes only where the last call failed and the count rose
-  pub failed : status ≡ 3 → LastFails ran.played.calls × Rose (means.faults old) (means.faults new)
+  pub failed : status ≡ 3 → LastFails ran.played.calls × CountRose (means.faults old) (means.faults new)
   -- want of memory leaves the device as it was
   pub wanting : status ≡ 7 → q ≡ p
   -- so does every status that comes before any command
@@ -118,7 +118,7 @@ IsHalt topology script halts.NotYet = (read : Read) × (t : Topology) × IsScrip
 IsHalt topology script halts.OutOfMemory = ⊥
 
 -- the last of the calls
-abbrev pub last_call : List Call → Option Call
+abbrev pub last_call : List DeskCall → Option DeskCall
 last_call [] = None
 last_call (call ∷ []) = Some call
 last_call (call ∷ other ∷ calls) = last_call (other ∷ calls)
@@ -143,7 +143,7 @@ RunVerdict holds bs status = ((status ≡ 5) × SomeLongInput holds bs) ⊎ ((st
 -- The status by the bytes of the files, whose cases exclude each other where the desk tells the inputs' files too: a desk that
 -- failed or want of memory; 5 where topology or script is too long; 4, 8, 2 or 9 where they make no run, and then the line for
 -- it was said; 5 or 0 by the inputs where they make one.
-abbrev pub Verdict : (List ℕ → Option (List ℕ)) → List ℕ → List ℕ → List Call → ℕ → Type 0
+abbrev pub Verdict : (List ℕ → Option (List ℕ)) → List ℕ → List ℕ → List DeskCall → ℕ → Type 0
 Verdict holds topology script calls status =
     ((status ≡ 3) ⊎ (status ≡ 7))
     ⊎ (((status ≡ 5) × (IsLong topology ⊎ IsLong script))
@@ -151,7 +151,7 @@ Verdict holds topology script calls status =
     ⊎ (Fit topology script × ((t : Topology) × ((read : Read) × IsRun topology script t read × RunVerdict holds read.bindings status)))))
 
 -- where the desk tells topology and script, the status is by the files' bytes
-abbrev pub Judged : {D : Type 0} → DeskMeaning D → ℕ → List (List ℕ) → D → List Call → ℕ → Type 0
+abbrev pub Judged : {D : Type 0} → DeskMeaning D → ℕ → List (List ℕ) → D → List DeskCall → ℕ → Type 0
 Judged means room words old calls status =
     (form : Form) (topology script : List ℕ) → play_of room words ≡ Some form → means.holds old form.topology ≡ Some topology → means.holds old form.script ≡ Some script → AreBytes topology
     → Verdict (means.holds old) topology script calls status
@@ -187,7 +187,7 @@ slots_in play = bound_slots (plan_of play.t) play.read.bindings
 
 -- how everything stands before its first command
 abbrev pub start_in : {holds : List ℕ → Option (List ℕ)} {room : ℕ} {words : List (List ℕ)} → ToPlay holds room words → Stand → Stand
-start_in play s = begun (plan_of play.t) play.form.heap (inputs_in play) (slots_in play) s
+start_in play s = stand_begun (plan_of play.t) play.form.heap (inputs_in play) (slots_in play) s
 
 -- its run
 abbrev pub units_in : {holds : List ℕ → Option (List ℕ)} {room : ℕ} {words : List (List ℕ)} → ToPlay holds room words → Stand → List RunUnit
@@ -197,7 +197,7 @@ units_in play s = run_of play.read.commands (start_in play s)
 abbrev pub Plays : {D P : Type 0} → DeskMeaning D → LifeMeaning P → List (List ℕ) → D → P → ℕ → D → P → Type 0
 Plays means dsp words old p status new q =
     Calm dsp p q → (play : ToPlay (means.holds old) (dsp.most p) words)
-    → Wrote means (slots_in play) (marked (units_in play (dsp.stand p))) (0, after_units (start_in play (dsp.stand p)) (units_in play (dsp.stand p))) old new status (dsp.stand q)
+    → Wrote means (slots_in play) (marked_pieces (units_in play (dsp.stand p))) (0, after_units (start_in play (dsp.stand p)) (units_in play (dsp.stand p))) old new status (dsp.stand q)
     ⊎ Before means (slots_in play) (dsp.stand p) old new status (dsp.stand q)
 
 -- each front of the units of the run solves the stream equations
@@ -218,7 +218,7 @@ pub record Gave {D P : Type 0} (means : DeskMeaning D) (dsp : Meaning P) (todo :
   pub last : Life P
   pub is : device_of last ≡ q
   pub exit : Exit dsp p last
-  pub ran : Ran means (life dsp) todo old (Bare p) status new last
+  pub ran : RanOn means (life dsp) todo old (Bare p) status new last
 
 -- ---- all
 

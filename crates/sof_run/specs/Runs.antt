@@ -2,14 +2,14 @@
 use Rattle.std.specs.Prelude.{◌≡◌, ◌⊎◌, ℕ, true, List, [], ◌∷◌, ◌++◌, map, Option, if◌then◌else◌}
 use Rattle.std.specs.Option.{option_map_or}
 use Rattle.sof_base.specs.Ports.{InputView}
-use Rattle.sof_desk.specs.Desk.{DeskMeaning, Place, Put, Slot, Spoken, Did, same_place, with_more, emptied}
+use Rattle.sof_desk.specs.Desk.{DeskMeaning, DeskPlace, Put, Slot, Spoken, Did, same_place, with_more, with_nothing}
 use Rattle.stream_law.specs.Past.{Moment}
 use Rattle.tplg_plan.specs.declared.plans.Plan.{Plan}
 use Rattle.sof_script.specs.declared.script.Command.{Command}
 use Rattle.sof_script.specs.declared.script.Numbered.{Numbered}
 use Rattle.sof_session.specs.Moments.{command_moments, is_slot}
 use Rattle.sof_session.specs.Walks.{Stand, Written, Begin, Carry, next}
-use Rattle.sof_run.specs.Todo.{no_memory}
+use Rattle.sof_run.specs.Todo.{no_memory_line}
 use Rattle.sof_run.specs.Rounds.{Round, rounds_of}
 use Rattle.sof_run.specs.Play.{with_newline, lines_after}
 use Rattle.sof_run.specs.Whole.{Item, Planned}
@@ -18,11 +18,11 @@ use Rattle.sof_run.specs.Whole.{Item, Planned}
 
 -- a piece of a run: where it goes, and its bytes
 abbrev pub Piece : Type 0
-Piece = Place × List ℕ
+Piece = DeskPlace × List ℕ
 
 -- how everything stands once a session has begun
-abbrev pub begun : Plan → ℕ → List InputView → List ℕ → Stand → Stand
-begun plan heap inputs slots s = (next (Begin plan heap inputs slots) s).0
+abbrev pub stand_begun : Plan → ℕ → List InputView → List ℕ → Stand → Stand
+stand_begun plan heap inputs slots s = (next (Begin plan heap inputs slots) s).0
 
 -- a unit: its pieces in order, the moments of the device in it, and how everything stands after it
 pub record RunUnit : Type 0 where
@@ -82,9 +82,9 @@ at_stand [] s = []
 at_stand (piece ∷ pieces) s = (piece, s) ∷ at_stand pieces s
 
 -- the pieces of units, each with the stand after its unit
-abbrev pub marked : List RunUnit → List (Piece × Stand)
-marked [] = []
-marked (unit ∷ units) = at_stand unit.pieces unit.stand ++ marked units
+abbrev pub marked_pieces : List RunUnit → List (Piece × Stand)
+marked_pieces [] = []
+marked_pieces (unit ∷ units) = at_stand unit.pieces unit.stand ++ marked_pieces units
 
 -- the calls that write pieces
 abbrev pub puts : List (Piece × Stand) → List Item
@@ -92,9 +92,9 @@ puts [] = []
 puts (mark ∷ marks) = Planned (Did (Put mark.0.0 mark.0.1) true) mark.1 ∷ puts marks
 
 -- the bytes that pieces put at a place
-abbrev pub bytes_at : Place → List Piece → List ℕ
-bytes_at place [] = []
-bytes_at place (piece ∷ pieces) = if same_place piece.0 place then piece.1 ++ bytes_at place pieces else bytes_at place pieces
+abbrev pub bytes_of_pieces : DeskPlace → List Piece → List ℕ
+bytes_of_pieces place [] = []
+bytes_of_pieces place (piece ∷ pieces) = if same_place piece.0 place then piece.1 ++ bytes_of_pieces place pieces else bytes_of_pieces place pieces
 
 -- ---- what was written of it
 
@@ -109,26 +109,26 @@ Front (mark ∷ marks) end (piece ∷ pieces) status s =
     ⊎ ((piece.0 ≡ mark.0.0) × ((rest : List ℕ) × (piece.1 ++ rest ≡ mark.0.1)) × (pieces ≡ []) × (status ≡ 3) × (s ≡ mark.1))
 
 -- what stands at a place once the files of these slots are created: nothing in them, and elsewhere what was there
-abbrev pub opened : List ℕ → Place → Option (List ℕ) → Option (List ℕ)
+abbrev pub opened : List ℕ → DeskPlace → Option (List ℕ) → Option (List ℕ)
 opened slots Spoken bytes = bytes
-opened slots (Slot slot) bytes = if is_slot slots slot then emptied bytes else bytes
+opened slots (Slot slot) bytes = if is_slot slots slot then with_nothing bytes else bytes
 
 -- what was written, place by place, behind what stood there once the files of these slots were created: pieces of the run
 pub record Wrote {D : Type 0} (means : DeskMeaning D) (slots : List ℕ) (marks : List (Piece × Stand)) (end : ℕ × Stand) (old new : D) (status : ℕ) (s : Stand) : Type 0 where
   pub pieces : List Piece
   pub front : Front marks end pieces status s
-  pub wrote : (place : Place) → means.wrote new place ≡ with_more (opened slots place (means.wrote old place)) (bytes_at place pieces)
+  pub wrote : (place : DeskPlace) → means.wrote new place ≡ with_more (opened slots place (means.wrote old place)) (bytes_of_pieces place pieces)
 
 -- a place is as it was, or as it is once these slots' files are created
-abbrev pub IsKept : List ℕ → Place → Option (List ℕ) → Option (List ℕ) → Type 0
-IsKept slots place old new = (new ≡ old) ⊎ (new ≡ opened slots place old)
+abbrev pub IsKeptOrOpened : List ℕ → DeskPlace → Option (List ℕ) → Option (List ℕ) → Type 0
+IsKeptOrOpened slots place old new = (new ≡ old) ⊎ (new ≡ opened slots place old)
 
 -- nothing was said but the line for want of memory, or a front of it, or no byte; and nothing was appended
 pub record WroteNone {D : Type 0} (means : DeskMeaning D) (slots : List ℕ) (old new : D) : Type 0 where
   pub part : List ℕ
-  pub front : (rest : List ℕ) × (part ++ rest ≡ no_memory)
+  pub front : (rest : List ℕ) × (part ++ rest ≡ no_memory_line)
   pub said : means.wrote new Spoken ≡ with_more (means.wrote old Spoken) part
-  pub outputs : (slot : ℕ) → IsKept slots (Slot slot) (means.wrote old (Slot slot)) (means.wrote new (Slot slot))
+  pub outputs : (slot : ℕ) → IsKeptOrOpened slots (Slot slot) (means.wrote old (Slot slot)) (means.wrote new (Slot slot))
 
 -- nothing of the run was written, and everything stands as it did
 pub record Before {D : Type 0} (means : DeskMeaning D) (slots : List ℕ) (start : Stand) (old new : D) (status : ℕ) (s : Stand) : Type 0 where

@@ -6,7 +6,7 @@ use Rattle.stream_law.specs.Table.{list_of}
 use Rattle.stream_law.specs.Stands.{Stands}
 use Rattle.sof_session.specs.Moments.{IsSettled, is_slot}
 use Rattle.sof_session.specs.Walks.{Host, Stand}
-use Rattle.sof_run.specs.Runs.{RunUnit, after_units, pieces_of, moments_of, bytes_at}
+use Rattle.sof_run.specs.Runs.{RunUnit, after_units, pieces_of, moments_of, bytes_of_pieces}
 
 -- the whole bytes of each input from which none was taken yet
 abbrev pub files_of : List InputView → List (ℕ × List ℕ)
@@ -20,4 +20,4 @@ pub record Solved (inputs : List InputView) (slots : List ℕ) (start : Stand) (
   pub is : (after_units start units).host ≡ Some host
   pub settled : IsSettled host
   pub stands : Stands host.device (files_of inputs) host.inputs (moments_of units)
-  pub bytes : (slot : ℕ) → is_slot slots slot ≡ true → bytes_at (Slot slot) (pieces_of units) ≡ list_of stands.past.bytes slot
+  pub bytes : (slot : ℕ) → is_slot slots slot ≡ true → bytes_of_pieces (Slot slot) (pieces_of units) ≡ list_of stands.past.bytes slot

@@ -1,7 +1,7 @@
 -- What is still to do: a program's calls on a desk and turns on a device, by what each of them answers.
 use Rattle.std.specs.Prelude.{◌≡◌, ◌⊎◌, ℕ, Bool, true, false, List, [], ◌∷◌, Ok, Err, codes, if◌then◌else◌}
 use Rattle.sof_desk.specs.declared.calls.LoadFault.TheVariants.{Failed, TooLong, OutOfMemory}
-use Rattle.sof_desk.specs.Desk.{DeskMeaning, Act, Put, Spoken, Call, Load, Did, Led}
+use Rattle.sof_desk.specs.Desk.{DeskMeaning, DeskAct, Put, Spoken, DeskCall, Load, Did, DeskLed}
 use Rattle.sof_session.specs.Walks.{Task, Out}
 use Rattle.sof_session.specs.Turns.{LifeMeaning, Turn, Turns}
 
@@ -14,29 +14,29 @@ pub data Todo : Type 0 where
   -- a file is loaded; where it is too long this line is said, and then status 5
   Ask : (name : List ℕ) (limit : ℕ) (line : List ℕ) (next : List ℕ → Todo) → Todo
   -- a call that answers only whether it was done
-  Do : (act : Act) (next : Todo) → Todo
+  Do : (act : DeskAct) (next : Todo) → Todo
   -- a turn on the device
   Step : (task : Task) (next : Out → Todo) → Todo
   -- memory may be wanting here
   Free : (next : Todo) → Todo
 
 -- what is said where memory is wanting
-abbrev pub no_memory : List ℕ
-no_memory = codes "no memory\n"
+abbrev pub no_memory_line : List ℕ
+no_memory_line = codes "no memory\n"
 
 -- a line is said and no other call is made; where the desk fails, the status is 3
-abbrev pub Says : List ℕ → ℕ → List Turn → List Call → ℕ → Type 0
+abbrev pub Says : List ℕ → ℕ → List Turn → List DeskCall → ℕ → Type 0
 Says line n turns [] status = ⊥
 Says line n turns (Load name limit heard ∷ calls) status = ⊥
 Says line n turns (Did act done ∷ calls) status =
     (act ≡ Put Spoken line) × (turns ≡ []) × (calls ≡ []) × (status ≡ (if done then n else 3))
 
 -- what is left once a call or a turn was made: nothing
-abbrev pub Over : ℕ → List Turn → List Call → ℕ → Type 0
+abbrev pub Over : ℕ → List Turn → List DeskCall → ℕ → Type 0
 Over n turns calls status = (turns ≡ []) × (calls ≡ []) × (status ≡ n)
 
 -- Doing it makes these turns and these calls, in this order and no others, and ends with this status.
-abbrev pub Goes : Todo → List Turn → List Call → ℕ → Type 0
+abbrev pub Goes : Todo → List Turn → List DeskCall → ℕ → Type 0
 Goes End turns calls status = Over 0 turns calls status
 Goes (Stop line n) turns calls status = Says line n turns calls status
 Goes (Ask name limit line next) turns [] status = ⊥
@@ -46,7 +46,7 @@ Goes (Ask name limit line next) turns (Load n l (Ok bytes) ∷ calls) status =
 Goes (Ask name limit line next) turns (Load n l (Err TooLong) ∷ calls) status =
     (n ≡ name) × (l ≡ limit) × Says line 5 turns calls status
 Goes (Ask name limit line next) turns (Load n l (Err OutOfMemory) ∷ calls) status =
-    (n ≡ name) × (l ≡ limit) × Says no_memory 7 turns calls status
+    (n ≡ name) × (l ≡ limit) × Says no_memory_line 7 turns calls status
 Goes (Ask name limit line next) turns (Load n l (Err Failed) ∷ calls) status =
     (n ≡ name) × (l ≡ limit) × Over 3 turns calls status
 Goes (Do act next) turns [] status = ⊥
@@ -55,16 +55,16 @@ Goes (Do act next) turns (Did a true ∷ calls) status = (a ≡ act) × Goes nex
 Goes (Do act next) turns (Did a false ∷ calls) status = (a ≡ act) × Over 3 turns calls status
 Goes (Step task next) [] calls status = ⊥
 Goes (Step task next) (turn ∷ turns) calls status = (turn.task ≡ task) × Goes (next turn.out) turns calls status
-Goes (Free next) turns calls status = Goes next turns calls status ⊎ Says no_memory 7 turns calls status
+Goes (Free next) turns calls status = Goes next turns calls status ⊎ Says no_memory_line 7 turns calls status
 
 -- it was done on a desk
 pub record Played {D : Type 0} (means : DeskMeaning D) (todo : Todo) (old : D) (turns : List Turn) (status : ℕ) (new : D) : Type 0 where
-  pub calls : List Call
-  pub led : Led means old calls new
+  pub calls : List DeskCall
+  pub led : DeskLed means old calls new
   pub goes : Goes todo turns calls status
 
 -- it was done on a desk and a device
-pub record Ran {D P : Type 0} (means : DeskMeaning D) (dsp : LifeMeaning P) (todo : Todo) (old : D) (p : P) (status : ℕ) (new : D) (q : P) : Type 0 where
+pub record RanOn {D P : Type 0} (means : DeskMeaning D) (dsp : LifeMeaning P) (todo : Todo) (old : D) (p : P) (status : ℕ) (new : D) (q : P) : Type 0 where
   pub turns : List Turn
   pub turned : Turns dsp p turns q
   pub played : Played means todo old turns status new
@@ -76,15 +76,15 @@ DeskPhase {D} means phase true old new =
 DeskPhase means phase false old new = (rest : Todo) → Played means (phase rest) old [] 3 new
 
 -- what is left on the right, done, makes the whole on the left done
-abbrev pub Follows : {D P : Type 0} → DeskMeaning D → LifeMeaning P → (Todo → Todo) → (Todo → Todo) → D → P → D → P → Type 0
-Follows {D} {P} means dsp whole left old p new q =
-    (rest : Todo) (status : ℕ) (end : D) (r : P) → Ran means dsp (left rest) new q status end r → Ran means dsp (whole rest) old p status end r
+abbrev pub LeadsOn : {D P : Type 0} → DeskMeaning D → LifeMeaning P → (Todo → Todo) → (Todo → Todo) → D → P → D → P → Type 0
+LeadsOn {D} {P} means dsp whole left old p new q =
+    (rest : Todo) (status : ℕ) (end : D) (r : P) → RanOn means dsp (left rest) new q status end r → RanOn means dsp (whole rest) old p status end r
 
 -- the desk failed
-abbrev pub Fails : {D P : Type 0} → DeskMeaning D → LifeMeaning P → (Todo → Todo) → D → P → D → P → Type 0
-Fails means dsp whole old p new q = (rest : Todo) → Ran means dsp (whole rest) old p 3 new q
+abbrev pub PhaseFails : {D P : Type 0} → DeskMeaning D → LifeMeaning P → (Todo → Todo) → D → P → D → P → Type 0
+PhaseFails means dsp whole old p new q = (rest : Todo) → RanOn means dsp (whole rest) old p 3 new q
 
 -- a phase on both
 abbrev pub Phase : {D P : Type 0} → DeskMeaning D → LifeMeaning P → (Todo → Todo) → Bool → D → P → D → P → Type 0
-Phase means dsp phase true old p new q = Follows means dsp phase (λ rest. rest) old p new q
-Phase means dsp phase false old p new q = Fails means dsp phase old p new q
+Phase means dsp phase true old p new q = LeadsOn means dsp phase (λ rest. rest) old p new q
+Phase means dsp phase false old p new q = PhaseFails means dsp phase old p new q

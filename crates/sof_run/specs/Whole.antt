@@ -1,13 +1,13 @@
 -- The whole of what is to do, where the desk tells its files, nothing fails and memory is there; and what part of it was made.
 use Rattle.std.specs.Prelude.{◌≡◌, ◌⊎◌, ℕ, true, false, nat_le, List, [], ◌∷◌, length, Option, Some, None, Ok, Err, if◌then◌else◌}
 use Rattle.sof_desk.specs.declared.calls.LoadFault.TheVariants.{Failed, TooLong, OutOfMemory}
-use Rattle.sof_desk.specs.Desk.{Put, Spoken, Call, Load, Did}
+use Rattle.sof_desk.specs.Desk.{Put, Spoken, DeskCall, Load, Did}
 use Rattle.sof_session.specs.Walks.{Out, Stand, next}
-use Rattle.sof_run.specs.Todo.{no_memory, Todo, End, Stop, Ask, Do, Step, Free, Says}
+use Rattle.sof_run.specs.Todo.{no_memory_line, Todo, End, Stop, Ask, Do, Step, Free, Says}
 
 -- a call, and how the device stands at it; or a place where memory may be wanting
 pub data Item : Type 0 where
-  Planned : (call : Call) (at : Stand) → Item
+  Planned : (call : DeskCall) (at : Stand) → Item
   Memory : (at : Stand) → Item
 
 -- a line that is said
@@ -64,22 +64,22 @@ Told holds (Step task rest) = (out : Out) → Told holds (rest out)
 Told holds (Free rest) = Told holds rest
 
 -- the same call, failed
-abbrev pub failing : Call → Call
+abbrev pub failing : DeskCall → DeskCall
 failing (Load name limit heard) = Load name limit (Err Failed)
 failing (Did act done) = Did act false
 
 -- memory is wanting: the line is said, and the device stands as it did
-abbrev pub Wants : Stand → List Call → ℕ → Stand → Type 0
-Wants at calls status s = Says no_memory 7 [] calls status × (s ≡ at)
+abbrev pub Wants : Stand → List DeskCall → ℕ → Stand → Type 0
+Wants at calls status s = Says no_memory_line 7 [] calls status × (s ≡ at)
 
 -- the same load, for which memory was wanting
-abbrev pub IsWanting : Call → Call → Type 0
+abbrev pub IsWanting : DeskCall → DeskCall → Type 0
 IsWanting (Load name limit heard) made = made ≡ Load name limit (Err OutOfMemory)
 IsWanting (Did act done) made = ⊥
 
 -- Of the whole these calls were made, with this status and the device standing so at the end: all of it, or its front up to
 -- a call that failed, or its front up to a place where memory was wanting.
-abbrev pub Made : List Item → ℕ × Stand → List Call → ℕ → Stand → Type 0
+abbrev pub Made : List Item → ℕ × Stand → List DeskCall → ℕ → Stand → Type 0
 Made [] end [] status s = (status ≡ end.0) × (s ≡ end.1)
 Made [] end (made ∷ calls) status s = ⊥
 Made (Memory at ∷ items) end calls status s = Made items end calls status s ⊎ Wants at calls status s

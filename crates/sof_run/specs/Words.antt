@@ -19,10 +19,10 @@ digits_value value (digit ∷ digits) =
     if nat_le 48 digit && nat_le digit 57 then digits_value (value * 10 + (digit - 48)) digits else None
 
 -- a decimal number without a needless leading zero
-abbrev pub number_of : List ℕ → Option ℕ
-number_of [] = None
-number_of (digit ∷ []) = if nat_eq digit 48 then Some 0 else digits_value 0 (digit ∷ [])
-number_of (digit ∷ other ∷ digits) = if nat_eq digit 48 then None else digits_value 0 (digit ∷ other ∷ digits)
+abbrev pub decimal_number : List ℕ → Option ℕ
+decimal_number [] = None
+decimal_number (digit ∷ []) = if nat_eq digit 48 then Some 0 else digits_value 0 (digit ∷ [])
+decimal_number (digit ∷ other ∷ digits) = if nat_eq digit 48 then None else digits_value 0 (digit ∷ other ∷ digits)
 
 -- a number, where it is at most the room
 abbrev pub at_most : ℕ → Option ℕ → Option ℕ
@@ -30,18 +30,18 @@ at_most room None = None
 at_most room (Some n) = if nat_le n room then Some n else None
 
 -- a file's name has 1 to 255 bytes
-abbrev pub is_name : List ℕ → Bool
-is_name name = nat_le 1 (length name) && nat_le (length name) 255
+abbrev pub is_file_name : List ℕ → Bool
+is_file_name name = nat_le 1 (length name) && nat_le (length name) 255
 
 -- the form with this heap and these names, where all three are right
 abbrev pub form_with : Option ℕ → List ℕ → List ℕ → Option Form
 form_with None topology script = None
-form_with (Some heap) topology script = if is_name topology && is_name script then Some (form heap topology script) else None
+form_with (Some heap) topology script = if is_file_name topology && is_file_name script then Some (form heap topology script) else None
 
 -- `play HEAP TOPOLOGY SCRIPT`, over a device of this room
 abbrev pub play_of : ℕ → List (List ℕ) → Option Form
 play_of room (verb ∷ heap ∷ topology ∷ script ∷ []) =
-    if bytes_eq verb (codes "play") then form_with (at_most room (number_of heap)) topology script else None
+    if bytes_eq verb (codes "play") then form_with (at_most room (decimal_number heap)) topology script else None
 play_of room [] = None
 play_of room (verb ∷ []) = None
 play_of room (verb ∷ heap ∷ []) = None

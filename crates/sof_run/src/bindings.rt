@@ -12,7 +12,7 @@ use tplg_graph::Plan;
 
 // Whether a component of this kind takes its frames from an input, or gives them to an output.
 fn is_endpoint(input: bool, kind: Kind) -> bool
-    ensures { result ≡ right.is_endpoint input kind }
+    ensures { result ≡ right.is_endpoint_kind input kind }
 {
     match kind {
         Kind::HostPlay | Kind::DaiCapture(_) => input,
@@ -23,7 +23,7 @@ fn is_endpoint(input: bool, kind: Kind) -> bool
 
 // Whether the widget of an id has this name.
 fn is_named(plan: &Plan, name: &Name44, id: u32) -> bool
-    ensures { result ≡ right.is_named plan.now name.now id }
+    ensures { result ≡ right.has_widget_name plan.now name.now id }
 {
     match plan.names.items().get(id as usize) {
         Some(other) => name.as_bytes() == other.as_bytes(),

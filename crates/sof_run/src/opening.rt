@@ -5,7 +5,7 @@ ghost use Rattle.sof_io.specs.Bound.{input_slots, output_slots, has_slot};
 ghost use Rattle.sof_io.specs.Puts.{with_slot};
 ghost use Rattle.sof_script.specs.Commands.{bounds_of};
 ghost use Rattle.sof_run.specs.Bindings.{wrong_binding};
-ghost use Rattle.sof_run.specs.Todo.{Stop, Played, no_memory};
+ghost use Rattle.sof_run.specs.Todo.{Stop, Played, no_memory_line};
 ghost use Rattle.sof_run.specs.Play.{input_todo, output_todo, bindings_todo};
 ghost use Rattle.sof_run.specs.Opening.{AreCreated, SameCreated, Opens, Stops};
 
@@ -23,7 +23,7 @@ const INPUT_LIMIT: usize = 4194304;
 
 // Says that memory is wanting.
 fn stop_wanting<D: Desk>(desk: &mut D) -> u8
-    ensures { Played D.means (Stop no_memory 7) desk.old [] result desk.new }
+    ensures { Played D.means (Stop no_memory_line 7) desk.old [] result desk.new }
 {
     stop(desk, b"no memory\n", 7)
 }

@@ -2,7 +2,7 @@
 ghost use Rattle.std.specs.Prelude.{◌≡◌, ◌≤◌, [], map, None, string_bytes};
 ghost use Rattle.sof_run.specs.Todo.{Free, Played};
 ghost use Rattle.sof_run.specs.Words.{form as form_of};
-ghost use Rattle.sof_script.specs.Commands.{told};
+ghost use Rattle.sof_script.specs.Commands.{script_read};
 ghost use Rattle.sof_run.specs.Halts.{IsCarriable, IsInRange};
 ghost use Rattle.sof_run.specs.Play.{play, ready_todo};
 ghost use Rattle.sof_run.specs.Checking.{check_of};
@@ -42,9 +42,9 @@ fn do_session<D: Desk, P: Dsp>(
     requires off { P.means.on dsp ≡ None }
     requires pending { P.means.pending dsp ≡ 0 }
     requires fits { heap ≤ P.means.most dsp }
-    requires carriable { IsCarriable ready.plan (told ready.script) }
-    requires sound { IsInRange (told ready.script) }
-    ensures { Gave D.means P.means (Free (ready_todo heap ready.plan (told ready.script))) desk.old dsp result.status desk.new result.dsp }
+    requires carriable { IsCarriable ready.plan (script_read ready.script) }
+    requires sound { IsInRange (script_read ready.script) }
+    ensures { Gave D.means P.means (Free (ready_todo heap ready.plan (script_read ready.script))) desk.old dsp result.status desk.new result.dsp }
 {
     let Ok(mut inputs) = Inputs::new(alloc) else {
         return Ended {

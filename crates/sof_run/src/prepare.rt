@@ -7,7 +7,7 @@ ghost use Rattle.tplg_plan.specs.HeapNeed.{IsSmall, need_on};
 ghost use Rattle.tplg_graph.specs.TopologyNeed.{need_of};
 ghost use Rattle.tplg_graph.specs.PlanOf.{plan_of};
 ghost use Rattle.host_widgets.specs.Controls.{first_blob, has_no_blobs};
-ghost use Rattle.sof_script.specs.Commands.{told};
+ghost use Rattle.sof_script.specs.Commands.{script_read};
 ghost use Rattle.std.specs.List.{list_all};
 ghost use Rattle.sof_run.specs.Bindings.{wrong_binding as wrong_of};
 ghost use Rattle.sof_run.specs.Play.{Ready as IsReady, is_played as is_carried_out, is_built_script, prepared, prepared_bindings, prepared_rules, prepared_script};
@@ -138,7 +138,7 @@ fn is_without_blobs(plan: &Plan) -> bool
 
 // Whether all that a script asks for over a plan is built.
 fn asks_for_built(thin: bool, plan: &Plan, script: &Script) -> bool
-    ensures { result ≡ is_built_script thin plan.now (told script.now) }
+    ensures { result ≡ is_built_script thin plan.now (script_read script.now) }
 {
     is_without_blobs(plan) && are_played(thin, script.commands.items())
 }
@@ -147,8 +147,8 @@ fn asks_for_built(thin: bool, plan: &Plan, script: &Script) -> bool
 fn ready_for(thin: bool, plan: Plan, script: Script) -> Result<Ready, Halt>
     requires { IsPlanned thin plan }
     ensures { MatchResult result
-        (λ ready. (ready.plan ≡ plan) × IsCarriable ready.plan (told ready.script) × (prepared_bindings thin plan (told script) (wrong_of plan (told script).bindings) ≡ IsReady ready.plan (told ready.script)))
-        (λ halt. Halts halt (prepared_bindings thin plan (told script) (wrong_of plan (told script).bindings))) }
+        (λ ready. (ready.plan ≡ plan) × IsCarriable ready.plan (script_read ready.script) × (prepared_bindings thin plan (script_read script) (wrong_of plan (script_read script).bindings) ≡ IsReady ready.plan (script_read ready.script)))
+        (λ halt. Halts halt (prepared_bindings thin plan (script_read script) (wrong_of plan (script_read script).bindings))) }
 {
     if let Some(line) = wrong_binding(&plan, script.bindings.items()) {
         return Err(Halt::Binding { line });
@@ -162,8 +162,8 @@ fn ready_for(thin: bool, plan: Plan, script: Script) -> Result<Ready, Halt>
 // A script over a topology, whose rules come first.
 fn prepare_rules(alloc: Global, topology: &Topology, script: Script) -> Result<Ready, Halt>
     ensures { MatchResult result
-        (λ ready. (prepared_rules topology.now (told script) (ruling_of topology.now) ≡ IsReady ready.plan (told ready.script)) × IsCarriable ready.plan (told ready.script))
-        (λ halt. Halts halt (prepared_rules topology.now (told script) (ruling_of topology.now))) }
+        (λ ready. (prepared_rules topology.now (script_read script) (ruling_of topology.now) ≡ IsReady ready.plan (script_read ready.script)) × IsCarriable ready.plan (script_read ready.script))
+        (λ halt. Halts halt (prepared_rules topology.now (script_read script) (ruling_of topology.now))) }
 {
     let plan = ruled_plan(alloc, topology)?;
     let thin = asks_thin(alloc, topology)?;
@@ -174,8 +174,8 @@ fn prepare_rules(alloc: Global, topology: &Topology, script: Script) -> Result<R
 fn prepare_script(alloc: Global, topology: &[u8], script: Script) -> Result<Ready, Halt>
     requires { length script.commands < 2 ^ 32 }
     ensures { MatchResult result
-        (λ ready. (prepared_script topology.now (Ok (told script)) ≡ IsReady ready.plan (told ready.script)) × IsCarriable ready.plan (told ready.script))
-        (λ halt. Halts halt (prepared_script topology.now (Ok (told script)))) }
+        (λ ready. (prepared_script topology.now (Ok (script_read script)) ≡ IsReady ready.plan (script_read ready.script)) × IsCarriable ready.plan (script_read ready.script))
+        (λ halt. Halts halt (prepared_script topology.now (Ok (script_read script)))) }
 {
     let sum = ticks(&script);
     if sum > MOST_TICKS {
@@ -190,7 +190,7 @@ fn prepare_script(alloc: Global, topology: &[u8], script: Script) -> Result<Read
 pub fn prepare(alloc: Global, topology: &[u8], script: &[u8]) -> Result<Ready, Halt>
     requires { length script.now < 2 ^ 32 - 1 }
     ensures { MatchResult result
-        (λ ready. (prepared topology.now script.now ≡ IsReady ready.plan (told ready.script)) × IsCarriable ready.plan (told ready.script))
+        (λ ready. (prepared topology.now script.now ≡ IsReady ready.plan (script_read ready.script)) × IsCarriable ready.plan (script_read ready.script))
         (λ halt. Halts halt (prepared topology.now script.now)) }
 {
     match parse(alloc, script) {

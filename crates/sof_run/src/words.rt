@@ -1,7 +1,7 @@
 // The form of the words.
 ghost use Rattle.std.specs.Prelude.{◌≡◌, map, MatchOption, codes, string_bytes};
 ghost use Rattle.std.specs.Str.{bytes_eq};
-ghost use Rattle.sof_run.specs.Words.{play_of, form, number_of, at_most, is_name};
+ghost use Rattle.sof_run.specs.Words.{play_of, form, decimal_number, at_most, is_file_name};
 ghost use Rattle.sof_run.specs.Checking.{check_of};
 ghost use Rattle.sof_run.specs.Compiling.{compile_of, names};
 
@@ -15,7 +15,7 @@ pub struct Form<'a> {
 
 /// A decimal number without a needless leading zero, at most `room`.
 pub fn number(word: &[u8], room: u32) -> Option<u32>
-    ensures { result ≡ at_most room (number_of word.now) }
+    ensures { result ≡ at_most room (decimal_number word.now) }
 {
     if word.is_empty() {
         return None;
@@ -37,7 +37,7 @@ pub fn number(word: &[u8], room: u32) -> Option<u32>
 }
 
 fn is_file_name(name: &str) -> bool
-    ensures { result ≡ is_name name.now }
+    ensures { result ≡ is_file_name name.now }
 {
     name.len() >= 1 && name.len() <= 255
 }

@@ -12,8 +12,8 @@ use Rattle.sof_script.specs.declared.items.Item.{Item}
 use Rattle.sof_script.specs.declared.items.Item.TheVariants.{Bind, Do}
 use Rattle.std.proofs.lemmas.List.{drop_more, drop_all, length-append}
 use Rattle.sof_script.specs.Splitting.{texts, all_plain}
-use Rattle.sof_script.specs.ValueForms.{decimal_of, in_range, negative, number_of, error_of, format_of, name_of, file_of}
-use Rattle.sof_script.specs.Commands.{alone, one_name, one_number, bound, with_params, with_values, with_hex, with_error, with_lag, numbers_of, any_number, ◌⊛◌}
+use Rattle.sof_script.specs.ValueForms.{decimal_value, in_range, negative, number_value, error_value, format_value, name_value, file_value}
+use Rattle.sof_script.specs.Commands.{alone, one_name, one_number, bound, params_item, values_item, hex_item, error_item, lag_item, number_values, any_number, ◌⊛◌}
 
 -- ---- a wrong count
 
@@ -37,25 +37,25 @@ not_bound input (x ∷ []) other = refl
 not_bound input (x ∷ y ∷ []) other = absurd (other refl)
 not_bound input (x ∷ y ∷ z ∷ xs) other = refl
 
-pub not_hex : (xs : List (Bor (List ℕ))) → length xs ≢ 2 → with_hex (texts xs) ≡ Err 4
+pub not_hex : (xs : List (Bor (List ℕ))) → length xs ≢ 2 → hex_item (texts xs) ≡ Err 4
 not_hex [] other = refl
 not_hex (x ∷ []) other = refl
 not_hex (x ∷ y ∷ []) other = absurd (other refl)
 not_hex (x ∷ y ∷ z ∷ xs) other = refl
 
-pub not_error : (xs : List (Bor (List ℕ))) → length xs ≢ 2 → with_error (texts xs) ≡ Err 4
+pub not_error : (xs : List (Bor (List ℕ))) → length xs ≢ 2 → error_item (texts xs) ≡ Err 4
 not_error [] other = refl
 not_error (x ∷ []) other = refl
 not_error (x ∷ y ∷ []) other = absurd (other refl)
 not_error (x ∷ y ∷ z ∷ xs) other = refl
 
-pub not_lag : (xs : List (Bor (List ℕ))) → length xs ≢ 2 → with_lag (texts xs) ≡ Err 4
+pub not_lag : (xs : List (Bor (List ℕ))) → length xs ≢ 2 → lag_item (texts xs) ≡ Err 4
 not_lag [] other = refl
 not_lag (x ∷ []) other = refl
 not_lag (x ∷ y ∷ []) other = absurd (other refl)
 not_lag (x ∷ y ∷ z ∷ xs) other = refl
 
-pub not_params : (xs : List (Bor (List ℕ))) → length xs ≢ 4 → with_params (texts xs) ≡ Err 4
+pub not_params : (xs : List (Bor (List ℕ))) → length xs ≢ 4 → params_item (texts xs) ≡ Err 4
 not_params [] other = refl
 not_params (x ∷ []) other = refl
 not_params (x ∷ y ∷ []) other = refl
@@ -78,35 +78,35 @@ range_only : (least most : ℕ) (o : Option ℕ) → Only 5 (in_range least most
 range_only least most None = refl
 range_only least most (Some n) = elim (nat_le least n && nat_le n most) as (λ t. Only 5 (cond t (Ok n) (Err 5))) [ true ↦ tt | false ↦ refl ]
 
-pub number_only : (least most : ℕ) (token : List ℕ) → Only 5 (number_of least most token)
-number_only least most token = range_only least most (decimal_of token)
+pub number_only : (least most : ℕ) (token : List ℕ) → Only 5 (number_value least most token)
+number_only least most token = range_only least most (decimal_value token)
 
 negative_only : (r : Result ℕ ℕ) → Only 5 r → Only 5 (negative r)
 negative_only (Ok n) only = tt
 negative_only (Err e) only = only
 
-pub error_only : (token : List ℕ) → Only 5 (error_of token)
+pub error_only : (token : List ℕ) → Only 5 (error_value token)
 error_only [] = refl
-error_only (b ∷ bytes) = elim (nat_eq b 45) as (λ t. Only 5 (cond t (negative (number_of 1 4095 bytes)) (Err 5))) [ true ↦ negative_only (number_of 1 4095 bytes) (number_only 1 4095 bytes) | false ↦ refl ]
+error_only (b ∷ bytes) = elim (nat_eq b 45) as (λ t. Only 5 (cond t (negative (number_value 1 4095 bytes)) (Err 5))) [ true ↦ negative_only (number_value 1 4095 bytes) (number_only 1 4095 bytes) | false ↦ refl ]
 
 cond_only : {A : Type 0} (cause : ℕ) (t : Bool) (r s : Result A ℕ) → Only cause r → Only cause s → Only cause (cond t r s)
 cond_only cause true r s first second = first
 cond_only cause false r s first second = second
 
-pub format_only : (token : List ℕ) → Only 5 (format_of token)
+pub format_only : (token : List ℕ) → Only 5 (format_value token)
 format_only token =
     cond_only 5 (bytes_eq token (codes "s16")) (Ok S16) (cond (bytes_eq token (codes "s24")) (Ok S24) (cond (bytes_eq token (codes "s32")) (Ok S32) (Err 5))) tt
     (cond_only 5 (bytes_eq token (codes "s24")) (Ok S24) (cond (bytes_eq token (codes "s32")) (Ok S32) (Err 5)) tt (cond_only 5 (bytes_eq token (codes "s32")) (Ok S32) (Err 5) tt refl))
 
-pub name_only : (token : List ℕ) → Only 7 (name_of token)
+pub name_only : (token : List ℕ) → Only 7 (name_value token)
 name_only token = cond_only 7 (nat_lt 0 (length token) && is_name token) (Ok token) (Err 7) tt refl
 
-pub file_only : (token : List ℕ) → Only 7 (file_of token)
+pub file_only : (token : List ℕ) → Only 7 (file_value token)
 file_only token = cond_only 7 (nat_lt 0 (length token) && nat_lt (length token) 256 && all_plain token) (Ok token) (Err 7) tt refl
 
-pub numbers_only : (tokens : List (List ℕ)) → Only 5 (numbers_of tokens)
+pub numbers_only : (tokens : List (List ℕ)) → Only 5 (number_values tokens)
 numbers_only [] = tt
-numbers_only (token ∷ tokens) = both_only (λ n ns. n ∷ ns) (any_number token) (numbers_of tokens) (number_only 0 4294967295 token) (numbers_only tokens)
+numbers_only (token ∷ tokens) = both_only (λ n ns. n ∷ ns) (any_number token) (number_values tokens) (number_only 0 4294967295 token) (numbers_only tokens)
   where
     both_only : (f : ℕ → List ℕ → List ℕ) (r : Result ℕ ℕ) (s : Result (List ℕ) ℕ) → Only 5 r → Only 5 s → Only 5 (Ok f ⊛ r ⊛ s)
     both_only f (Ok n) (Ok ns) first second = tt
@@ -139,52 +139,52 @@ from_both cause (Err e) (Err d) first second = omega (arith, first, second)
 
 -- ---- each argument at fault
 
-pub bound_endpoint : (input : Bool) (xs : List (Bor (List ℕ))) (d : Bor (List ℕ)) (e : ℕ) → length xs ≡ 2 → name_of (get_or xs 0 d).now ≡ Err e → bound input (texts xs) ≡ Err e
+pub bound_endpoint : (input : Bool) (xs : List (Bor (List ℕ))) (d : Bor (List ℕ)) (e : ℕ) → length xs ≡ 2 → name_value (get_or xs 0 d).now ≡ Err e → bound input (texts xs) ≡ Err e
 bound_endpoint input [] d e two is = absurd (omega (arith, two))
 bound_endpoint input (x ∷ []) d e two is = absurd (omega (arith, two))
 bound_endpoint input (x ∷ y ∷ []) d e two is =
-    let name : e ≡ 7 = only_is 7 e (name_of x.now) (name_only x.now) is in
-    least_first e (Ok (λ e f. Bind input e f) ⊛ name_of x.now) (file_of y.now) (rw is refl) (from_only e 7 (file_of y.now) (file_only y.now) (omega arith))
+    let name : e ≡ 7 = only_is 7 e (name_value x.now) (name_only x.now) is in
+    least_first e (Ok (λ e f. Bind input e f) ⊛ name_value x.now) (file_value y.now) (rw is refl) (from_only e 7 (file_value y.now) (file_only y.now) (omega arith))
 bound_endpoint input (x ∷ y ∷ z ∷ xs) d e two is = absurd (omega (arith, two))
 
-pub error_message : (xs : List (Bor (List ℕ))) (d : Bor (List ℕ)) (e : ℕ) → length xs ≡ 2 → number_of 1 100000 (get_or xs 0 d).now ≡ Err e → with_error (texts xs) ≡ Err e
+pub error_message : (xs : List (Bor (List ℕ))) (d : Bor (List ℕ)) (e : ℕ) → length xs ≡ 2 → number_value 1 100000 (get_or xs 0 d).now ≡ Err e → error_item (texts xs) ≡ Err e
 error_message [] d e two is = absurd (omega (arith, two))
 error_message (x ∷ []) d e two is = absurd (omega (arith, two))
 error_message (x ∷ y ∷ []) d e two is =
-    let number : e ≡ 5 = only_is 5 e (number_of 1 100000 x.now) (number_only 1 100000 x.now) is in
-    least_first e (Ok (λ k e. Do (Refuse k e)) ⊛ number_of 1 100000 x.now) (error_of y.now) (rw is refl) (from_only e 5 (error_of y.now) (error_only y.now) (omega arith))
+    let number : e ≡ 5 = only_is 5 e (number_value 1 100000 x.now) (number_only 1 100000 x.now) is in
+    least_first e (Ok (λ k e. Do (Refuse k e)) ⊛ number_value 1 100000 x.now) (error_value y.now) (rw is refl) (from_only e 5 (error_value y.now) (error_only y.now) (omega arith))
 error_message (x ∷ y ∷ z ∷ xs) d e two is = absurd (omega (arith, two))
 
-pub lag_message : (xs : List (Bor (List ℕ))) (d : Bor (List ℕ)) (e : ℕ) → length xs ≡ 2 → number_of 1 100000 (get_or xs 0 d).now ≡ Err e → with_lag (texts xs) ≡ Err e
+pub lag_message : (xs : List (Bor (List ℕ))) (d : Bor (List ℕ)) (e : ℕ) → length xs ≡ 2 → number_value 1 100000 (get_or xs 0 d).now ≡ Err e → lag_item (texts xs) ≡ Err e
 lag_message [] d e two is = absurd (omega (arith, two))
 lag_message (x ∷ []) d e two is = absurd (omega (arith, two))
 lag_message (x ∷ y ∷ []) d e two is =
-    let number : e ≡ 5 = only_is 5 e (number_of 1 100000 x.now) (number_only 1 100000 x.now) is in
-    least_first e (Ok (λ k n. Do (Lag k n)) ⊛ number_of 1 100000 x.now) (number_of 1 16 y.now) (rw is refl) (from_only e 5 (number_of 1 16 y.now) (number_only 1 16 y.now) (omega arith))
+    let number : e ≡ 5 = only_is 5 e (number_value 1 100000 x.now) (number_only 1 100000 x.now) is in
+    least_first e (Ok (λ k n. Do (Lag k n)) ⊛ number_value 1 100000 x.now) (number_value 1 16 y.now) (rw is refl) (from_only e 5 (number_value 1 16 y.now) (number_only 1 16 y.now) (omega arith))
 lag_message (x ∷ y ∷ z ∷ xs) d e two is = absurd (omega (arith, two))
 
 -- a stream with parameters
 abbrev pub make_params : List ℕ → ℕ → ℕ → Format → Item
 make_params s r c f = Do (Params s (record { rate = r; channels = c; format = f }))
 
-params_rate_of : (s r c f : List ℕ) (e : ℕ) → any_number r ≡ Err e → (Ok make_params ⊛ name_of s ⊛ any_number r ⊛ number_of 0 255 c ⊛ format_of f) ≡ Err e
+params_rate_of : (s r c f : List ℕ) (e : ℕ) → any_number r ≡ Err e → (Ok make_params ⊛ name_value s ⊛ any_number r ⊛ number_value 0 255 c ⊛ format_value f) ≡ Err e
 params_rate_of s r c f e is =
     let number : e ≡ 5 = only_is 5 e (any_number r) (number_only 0 4294967295 r) is in
-    let first : (Ok make_params ⊛ name_of s ⊛ any_number r) ≡ Err e = least_second e (Ok make_params ⊛ name_of s) (any_number r) (from_both e (Ok make_params) (name_of s) tt (from_only e 7 (name_of s) (name_only s) (omega arith))) is in
-    least_first e (Ok make_params ⊛ name_of s ⊛ any_number r ⊛ number_of 0 255 c) (format_of f)
-    (least_first e (Ok make_params ⊛ name_of s ⊛ any_number r) (number_of 0 255 c) first (from_only e 5 (number_of 0 255 c) (number_only 0 255 c) (omega arith)))
-    (from_only e 5 (format_of f) (format_only f) (omega arith))
+    let first : (Ok make_params ⊛ name_value s ⊛ any_number r) ≡ Err e = least_second e (Ok make_params ⊛ name_value s) (any_number r) (from_both e (Ok make_params) (name_value s) tt (from_only e 7 (name_value s) (name_only s) (omega arith))) is in
+    least_first e (Ok make_params ⊛ name_value s ⊛ any_number r ⊛ number_value 0 255 c) (format_value f)
+    (least_first e (Ok make_params ⊛ name_value s ⊛ any_number r) (number_value 0 255 c) first (from_only e 5 (number_value 0 255 c) (number_only 0 255 c) (omega arith)))
+    (from_only e 5 (format_value f) (format_only f) (omega arith))
 
-params_channels_of : (s r c f : List ℕ) (e : ℕ) → number_of 0 255 c ≡ Err e → (Ok make_params ⊛ name_of s ⊛ any_number r ⊛ number_of 0 255 c ⊛ format_of f) ≡ Err e
+params_channels_of : (s r c f : List ℕ) (e : ℕ) → number_value 0 255 c ≡ Err e → (Ok make_params ⊛ name_value s ⊛ any_number r ⊛ number_value 0 255 c ⊛ format_value f) ≡ Err e
 params_channels_of s r c f e is =
-    let number : e ≡ 5 = only_is 5 e (number_of 0 255 c) (number_only 0 255 c) is in
-    let named = from_both e (Ok make_params) (name_of s) tt (from_only e 7 (name_of s) (name_only s) (omega arith)) in
-    let rated = from_both e (Ok make_params ⊛ name_of s) (any_number r) named (from_only e 5 (any_number r) (number_only 0 4294967295 r) (omega arith)) in
-    least_first e (Ok make_params ⊛ name_of s ⊛ any_number r ⊛ number_of 0 255 c) (format_of f)
-    (least_second e (Ok make_params ⊛ name_of s ⊛ any_number r) (number_of 0 255 c) rated is)
-    (from_only e 5 (format_of f) (format_only f) (omega arith))
+    let number : e ≡ 5 = only_is 5 e (number_value 0 255 c) (number_only 0 255 c) is in
+    let named = from_both e (Ok make_params) (name_value s) tt (from_only e 7 (name_value s) (name_only s) (omega arith)) in
+    let rated = from_both e (Ok make_params ⊛ name_value s) (any_number r) named (from_only e 5 (any_number r) (number_only 0 4294967295 r) (omega arith)) in
+    least_first e (Ok make_params ⊛ name_value s ⊛ any_number r ⊛ number_value 0 255 c) (format_value f)
+    (least_second e (Ok make_params ⊛ name_value s ⊛ any_number r) (number_value 0 255 c) rated is)
+    (from_only e 5 (format_value f) (format_only f) (omega arith))
 
-pub params_rate : (xs : List (Bor (List ℕ))) (d : Bor (List ℕ)) (e : ℕ) → length xs ≡ 4 → any_number (get_or xs 1 d).now ≡ Err e → with_params (texts xs) ≡ Err e
+pub params_rate : (xs : List (Bor (List ℕ))) (d : Bor (List ℕ)) (e : ℕ) → length xs ≡ 4 → any_number (get_or xs 1 d).now ≡ Err e → params_item (texts xs) ≡ Err e
 params_rate [] d e four is = absurd (omega (arith, four))
 params_rate (x ∷ []) d e four is = absurd (omega (arith, four))
 params_rate (x ∷ y ∷ []) d e four is = absurd (omega (arith, four))
@@ -192,7 +192,7 @@ params_rate (x ∷ y ∷ z ∷ []) d e four is = absurd (omega (arith, four))
 params_rate (x ∷ y ∷ z ∷ u ∷ []) d e four is = params_rate_of x.now y.now z.now u.now e is
 params_rate (x ∷ y ∷ z ∷ u ∷ v ∷ xs) d e four is = absurd (omega (arith, four))
 
-pub params_channels : (xs : List (Bor (List ℕ))) (d : Bor (List ℕ)) (e : ℕ) → length xs ≡ 4 → number_of 0 255 (get_or xs 2 d).now ≡ Err e → with_params (texts xs) ≡ Err e
+pub params_channels : (xs : List (Bor (List ℕ))) (d : Bor (List ℕ)) (e : ℕ) → length xs ≡ 4 → number_value 0 255 (get_or xs 2 d).now ≡ Err e → params_item (texts xs) ≡ Err e
 params_channels [] d e four is = absurd (omega (arith, four))
 params_channels (x ∷ []) d e four is = absurd (omega (arith, four))
 params_channels (x ∷ y ∷ []) d e four is = absurd (omega (arith, four))
@@ -217,36 +217,36 @@ in_front_one front n (Err e) = refl
 
 -- the numbers of the tokens before a place
 pub record Counted (tokens : List (Bor (List ℕ))) (at : ℕ) (front : List ℕ) : Type 0 where
-  pub whole : numbers_of (texts tokens) ≡ in_front front (numbers_of (texts (drop at tokens)))
+  pub whole : number_values (texts tokens) ≡ in_front front (number_values (texts (drop at tokens)))
   pub many : length front ≡ at
 
 pub Counted-none : (tokens : List (Bor (List ℕ))) → Counted tokens 0 []
-Counted-none tokens = record { whole = in_front_none (numbers_of (texts tokens)); many = refl }
+Counted-none tokens = record { whole = in_front_none (number_values (texts tokens)); many = refl }
 
 pub Counted-more : (tokens : List (Bor (List ℕ))) (at : ℕ) (front : List ℕ) (d : Bor (List ℕ)) (n : ℕ) → Counted tokens at front → at < length tokens → any_number (get_or tokens at d).now ≡ Ok n → Counted tokens (at + 1) (front ++ n ∷ [])
 Counted-more tokens at front d n c more is =
-    let rest = numbers_of (texts (drop (at + 1) tokens)) in
-    let here : numbers_of (texts (drop at tokens)) ≡ (Ok (λ n ns. n ∷ ns) ⊛ any_number (get_or tokens at d).now ⊛ rest) = ap (λ (l : List (Bor (List ℕ))). numbers_of (texts l)) (drop_more tokens at d more) in
+    let rest = number_values (texts (drop (at + 1) tokens)) in
+    let here : number_values (texts (drop at tokens)) ≡ (Ok (λ n ns. n ∷ ns) ⊛ any_number (get_or tokens at d).now ⊛ rest) = ap (λ (l : List (Bor (List ℕ))). number_values (texts l)) (drop_more tokens at d more) in
     record {
       whole = c.whole ∙ ap (in_front front) (here ∙ ap (λ (r : Result ℕ ℕ). Ok (λ n ns. n ∷ ns) ⊛ r ⊛ rest) is) ∙ in_front_one front n rest;
       many = omega (arith, c.many, length-append front (n ∷ []));
     }
 
-pub Counted-fault : (tokens : List (Bor (List ℕ))) (at : ℕ) (front : List ℕ) (d : Bor (List ℕ)) (e : ℕ) → Counted tokens at front → at < length tokens → any_number (get_or tokens at d).now ≡ Err e → numbers_of (texts tokens) ≡ Err e
+pub Counted-fault : (tokens : List (Bor (List ℕ))) (at : ℕ) (front : List ℕ) (d : Bor (List ℕ)) (e : ℕ) → Counted tokens at front → at < length tokens → any_number (get_or tokens at d).now ≡ Err e → number_values (texts tokens) ≡ Err e
 Counted-fault tokens at front d e c more is =
     let token = (get_or tokens at d).now in
-    let rest = numbers_of (texts (drop (at + 1) tokens)) in
+    let rest = number_values (texts (drop (at + 1) tokens)) in
     let number : e ≡ 5 = only_is 5 e (any_number token) (number_only 0 4294967295 token) is in
-    let here : numbers_of (texts (drop at tokens)) ≡ (Ok (λ n ns. n ∷ ns) ⊛ any_number token ⊛ rest) = ap (λ (l : List (Bor (List ℕ))). numbers_of (texts l)) (drop_more tokens at d more) in
+    let here : number_values (texts (drop at tokens)) ≡ (Ok (λ n ns. n ∷ ns) ⊛ any_number token ⊛ rest) = ap (λ (l : List (Bor (List ℕ))). number_values (texts l)) (drop_more tokens at d more) in
     let fault : (Ok (λ n ns. n ∷ ns) ⊛ any_number token ⊛ rest) ≡ Err e =
     least_first e (Ok (λ n ns. n ∷ ns) ⊛ any_number token) rest (rw is refl) (from_only e 5 rest (numbers_only (texts (drop (at + 1) tokens))) (omega arith)) in
     c.whole ∙ ap (in_front front) (here ∙ fault)
 
-pub Counted-all : (tokens : List (Bor (List ℕ))) (at : ℕ) (front : List ℕ) → Counted tokens at front → length tokens ≤ at → numbers_of (texts tokens) ≡ Ok front
+pub Counted-all : (tokens : List (Bor (List ℕ))) (at : ℕ) (front : List ℕ) → Counted tokens at front → length tokens ≤ at → number_values (texts tokens) ≡ Ok front
 Counted-all tokens at front c past =
-    c.whole ∙ ap (λ (l : List (Bor (List ℕ))). in_front front (numbers_of (texts l))) (drop_all at tokens past) ∙ ap (λ (l : List ℕ). Ok l) (append-nil front)
+    c.whole ∙ ap (λ (l : List (Bor (List ℕ))). in_front front (number_values (texts l))) (drop_all at tokens past) ∙ ap (λ (l : List ℕ). Ok l) (append-nil front)
 
-pub values_few : (xs : List (Bor (List ℕ))) → length xs < 2 → with_values (texts xs) ≡ Err 4
+pub values_few : (xs : List (Bor (List ℕ))) → length xs < 2 → values_item (texts xs) ≡ Err 4
 values_few [] few = refl
 values_few (x ∷ []) few = refl
 values_few (x ∷ y ∷ xs) few = absurd (omega (arith, few))
@@ -255,24 +255,24 @@ length-texts : (xs : List (Bor (List ℕ))) → length (texts xs) ≡ length xs
 length-texts [] = refl
 length-texts (x ∷ xs) = ap suc (length-texts xs)
 
-pub values_many : (xs : List (Bor (List ℕ))) → 9 < length xs → with_values (texts xs) ≡ Err 4
+pub values_many : (xs : List (Bor (List ℕ))) → 9 < length xs → values_item (texts xs) ≡ Err 4
 values_many [] many = absurd (omega (arith, many))
 values_many (x ∷ []) many = absurd (omega (arith, many))
 values_many (x ∷ y ∷ xs) many =
     let large : nat_le (length (texts xs)) 7 ≡ false = grind (arith, common_steps, length-texts xs) in
     rw large refl
 
-pub values_are : (xs : List (Bor (List ℕ))) (d : Bor (List ℕ)) → 2 ≤ length xs → length xs ≤ 9 → with_values (texts xs) ≡ (Ok (λ c vs. Do (Set c vs)) ⊛ name_of (get_or xs 0 d).now ⊛ numbers_of (texts (drop 1 xs)))
+pub values_are : (xs : List (Bor (List ℕ))) (d : Bor (List ℕ)) → 2 ≤ length xs → length xs ≤ 9 → values_item (texts xs) ≡ (Ok (λ c vs. Do (Set c vs)) ⊛ name_value (get_or xs 0 d).now ⊛ number_values (texts (drop 1 xs)))
 values_are [] d some few = absurd (omega (arith, some))
 values_are (x ∷ []) d some few = absurd (omega (arith, some))
 values_are (x ∷ y ∷ xs) d some few =
     let small : nat_le (length (texts xs)) 7 ≡ true = grind (arith, common_steps, length-texts xs) in
     rw small refl
 
-pub values_number : (name : Result (List ℕ) ℕ) (ns : List (List ℕ)) (e : ℕ) → Only 7 name → numbers_of ns ≡ Err e → (Ok (λ c vs. Do (Set c vs)) ⊛ name ⊛ numbers_of ns) ≡ Err e
+pub values_number : (name : Result (List ℕ) ℕ) (ns : List (List ℕ)) (e : ℕ) → Only 7 name → number_values ns ≡ Err e → (Ok (λ c vs. Do (Set c vs)) ⊛ name ⊛ number_values ns) ≡ Err e
 values_number name ns e only is =
-    let number : e ≡ 5 = only_is 5 e (numbers_of ns) (numbers_only ns) is in
-    least_second e (Ok (λ c vs. Do (Set c vs)) ⊛ name) (numbers_of ns) (from_both e (Ok (λ c vs. Do (Set c vs))) name tt (from_only e 7 name only (omega arith))) is
+    let number : e ≡ 5 = only_is 5 e (number_values ns) (numbers_only ns) is in
+    least_second e (Ok (λ c vs. Do (Set c vs)) ⊛ name) (number_values ns) (from_both e (Ok (λ c vs. Do (Set c vs))) name tt (from_only e 7 name only (omega arith))) is
 
 pub values_name : (name values : Result (List ℕ) ℕ) (ns : List ℕ) (e : ℕ) → name ≡ Err e → values ≡ Ok ns → (Ok (λ c vs. Do (Set c vs)) ⊛ name ⊛ values) ≡ Err e
 values_name name values ns e is good = rw (is, good) refl
@@ -280,6 +280,6 @@ values_name name values ns e is good = rw (is, good) refl
 pub values_good : (name values : Result (List ℕ) ℕ) (n ns : List ℕ) → name ≡ Ok n → values ≡ Ok ns → (Ok (λ c vs. Do (Set c vs)) ⊛ name ⊛ values) ≡ Ok (Do (Set n ns))
 values_good name values n ns is good = rw (is, good) refl
 
-pub values_fault : (xs : List (Bor (List ℕ))) (e : ℕ) → 2 ≤ length xs → length xs ≤ 9 → numbers_of (texts (drop 1 xs)) ≡ Err e → with_values (texts xs) ≡ Err e
+pub values_fault : (xs : List (Bor (List ℕ))) (e : ℕ) → 2 ≤ length xs → length xs ≤ 9 → number_values (texts (drop 1 xs)) ≡ Err e → values_item (texts xs) ≡ Err e
 values_fault [] e some few is = absurd (omega (arith, some))
-values_fault (x ∷ xs) e some few is = values_are (x ∷ xs) x some few ∙ values_number (name_of x.now) (texts xs) e (name_only x.now) is
+values_fault (x ∷ xs) e some few is = values_are (x ∷ xs) x some few ∙ values_number (name_value x.now) (texts xs) e (name_only x.now) is

@@ -2,7 +2,7 @@
 use Rattle.std.proofs.Common.{◌≡◌, ◌≢◌, ◌⊎◌, inl, inr, ℕ, suc, ◌+◌, ◌-◌, ◌<◌, ◌≤◌, true, false, nat_eq, List, [], ◌∷◌, ◌++◌, length, take, drop, get_or, refl, sym, ap, ◌∙◌, arith, append-nil}
 use Rattle.std.proofs.lemmas.List.{take_more, drop_more, drop_all, take_all}
 use Rattle.std.proofs.lemmas.Grind.{common_steps}
-use Rattle.sof_script.specs.Splitting.{before_line, with_byte, lines_of, without_return, is_blank, is_plain, all_plain, is_skipped, tokens_from, tokens_of, kind_of, Blank, StartsToken}
+use Rattle.sof_script.specs.Splitting.{before_line, with_byte, lines_of, without_return, is_blank, is_plain_byte, all_plain, is_skipped, tokens_from, tokens_of, byte_kind, Blank, StartsToken}
 
 -- ---- lines
 
@@ -94,7 +94,7 @@ Skipped-none bytes = record { tokens = refl; skipped = refl; within = omega arit
 blank_first : (b : ℕ) (rest : List ℕ) → is_blank b ≡ true → (tokens_of (b ∷ rest) ≡ tokens_of rest) × (is_skipped (b ∷ rest) ≡ is_skipped rest)
 unfolding tokens_from is_skipped
 blank_first b rest blank =
-    let kind : kind_of b ≡ Blank = rw blank refl in
+    let kind : byte_kind b ≡ Blank = rw blank refl in
     (rw (kind, tokens_from) refl, rw blank refl)
 
 pub Skipped-more : (bytes : List ℕ) (at : ℕ) → Skipped bytes at → at < length bytes → is_blank (get_or bytes at 0) ≡ true → Skipped bytes (at + 1)
@@ -113,11 +113,11 @@ starts bytes at more other = rw (drop_more bytes at 0 more) other
 
 -- ---- bytes that may stand on a line
 
-pub plain_step : (bytes : List ℕ) (i : ℕ) → i < length bytes → is_plain (get_or bytes i 0) ≡ true → all_plain bytes ≡ all_plain (drop i bytes) → all_plain bytes ≡ all_plain (drop (i + 1) bytes)
+pub plain_step : (bytes : List ℕ) (i : ℕ) → i < length bytes → is_plain_byte (get_or bytes i 0) ≡ true → all_plain bytes ≡ all_plain (drop i bytes) → all_plain bytes ≡ all_plain (drop (i + 1) bytes)
 unfolding all_plain
 plain_step bytes i more is so_far = so_far ∙ ap all_plain (drop_more bytes i 0 more) ∙ rw is refl
 
-pub plain_stop : (bytes : List ℕ) (i : ℕ) → i < length bytes → is_plain (get_or bytes i 0) ≡ false → all_plain bytes ≡ all_plain (drop i bytes) → all_plain bytes ≡ false
+pub plain_stop : (bytes : List ℕ) (i : ℕ) → i < length bytes → is_plain_byte (get_or bytes i 0) ≡ false → all_plain bytes ≡ all_plain (drop i bytes) → all_plain bytes ≡ false
 unfolding all_plain
 plain_stop bytes i more is so_far = so_far ∙ ap all_plain (drop_more bytes i 0 more) ∙ rw is refl
 

@@ -8,7 +8,7 @@ use Rattle.sof_script.specs.declared.items.Item.TheVariants.{Bind}
 use Rattle.sof_script.specs.declared.reading.ScriptFault.{ScriptFault}
 use Rattle.sof_script.specs.declared.reading.ScriptFault.TheVariants.{Line}
 use Rattle.sof_script.specs.Splitting.{lines_of, without_return}
-use Rattle.sof_script.specs.Commands.{Bound, Read, bound_of, bounds_of, told, with_item, behind, line_item, lines_read, script_of}
+use Rattle.sof_script.specs.Commands.{Bound, Read, bound_of, bounds_of, script_read, with_item, behind, line_item, lines_read, script_of}
 
 pub on_ok : {A E : Type 0} (r : Result A E) (P Q : Type 0) → (P → Q) → OnOk r P → OnOk r Q
 on_ok (Ok a) P Q f p = f p
@@ -33,7 +33,7 @@ bound_more bindings commands b file (Ok rest) same =
 
 -- what was read of the first lines, and the bytes of the others
 pub record Reading (bytes rest : List ℕ) (number : ℕ) (script : Script) : Type 0 where
-  pub whole : script_of bytes ≡ behind (told script) (lines_read number (lines_of rest))
+  pub whole : script_of bytes ≡ behind (script_read script) (lines_read number (lines_of rest))
   pub few : number + length rest ≤ length bytes + 1
   pub short : length script.commands < number
 
@@ -41,7 +41,7 @@ nothing_before : (r : Result Read ScriptFault) → r ≡ behind (record { bindin
 nothing_before (Ok read) = refl
 nothing_before (Err fault) = refl
 
-pub Reading-none : (bytes : List ℕ) (script : Script) → told script ≡ record { bindings = []; commands = [] } → Reading bytes bytes 1 script
+pub Reading-none : (bytes : List ℕ) (script : Script) → script_read script ≡ record { bindings = []; commands = [] } → Reading bytes bytes 1 script
 Reading-none bytes script empty = record {
   whole = nothing_before (script_of bytes) ∙ ap (λ (r : Read). behind r (script_of bytes)) (sym empty);
   few = omega arith;
@@ -54,18 +54,18 @@ one_line rest line behind_it number is = ap (lines_read number) is
 
 pub Reading-fault : (bytes rest line behind_it : List ℕ) (number cause : ℕ) (script : Script) → Reading bytes rest number script → lines_of rest ≡ line ∷ lines_of behind_it → line_item (without_return line) ≡ Err cause → script_of bytes ≡ Err (Line number cause)
 Reading-fault bytes rest line behind_it number cause script r is fault =
-    r.whole ∙ ap (behind (told script)) (one_line rest line behind_it number is ∙ ap (λ (i : Result Item ℕ). with_item number i (lines_read (number + 1) (lines_of behind_it))) fault)
+    r.whole ∙ ap (behind (script_read script)) (one_line rest line behind_it number is ∙ ap (λ (i : Result Item ℕ). with_item number i (lines_read (number + 1) (lines_of behind_it))) fault)
 
 pub Reading-more : (bytes rest line behind_it : List ℕ) (number : ℕ) (item : Item) (script next : Script) → Reading bytes rest number script → lines_of rest ≡ line ∷ lines_of behind_it → length behind_it < length rest → line_item (without_return line) ≡ Ok item
-    → ((read : Result Read ScriptFault) → behind (told script) (with_item number (Ok item) read) ≡ behind (told next) read) → length next.commands ≤ length script.commands + 1 → Reading bytes behind_it (number + 1) next
+    → ((read : Result Read ScriptFault) → behind (script_read script) (with_item number (Ok item) read) ≡ behind (script_read next) read) → length next.commands ≤ length script.commands + 1 → Reading bytes behind_it (number + 1) next
 Reading-more bytes rest line behind_it number item script next r is fewer good added one = record {
-  whole = r.whole ∙ ap (behind (told script)) (one_line rest line behind_it number is ∙ ap (λ (i : Result Item ℕ). with_item number i (lines_read (number + 1) (lines_of behind_it))) good)
+  whole = r.whole ∙ ap (behind (script_read script)) (one_line rest line behind_it number is ∙ ap (λ (i : Result Item ℕ). with_item number i (lines_read (number + 1) (lines_of behind_it))) good)
       ∙ added (lines_read (number + 1) (lines_of behind_it));
   few = omega (arith, r.few, fewer);
   short = omega (arith, r.short, one);
 }
 
-pub Reading-all : (bytes rest : List ℕ) (number : ℕ) (script : Script) → Reading bytes rest number script → length rest ≡ 0 → script_of bytes ≡ Ok (told script)
+pub Reading-all : (bytes rest : List ℕ) (number : ℕ) (script : Script) → Reading bytes rest number script → length rest ≡ 0 → script_of bytes ≡ Ok (script_read script)
 unfolding lines_of lines_read
 Reading-all bytes [] number script r none =
     r.whole ∙ ap (λ (l : List Bound). let s : Read = record { bindings = l; commands = script.commands ++ [] } in Ok s) (append-nil (bounds_of script.bindings))

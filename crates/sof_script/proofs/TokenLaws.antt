@@ -3,7 +3,7 @@ use Rattle.std.proofs.Common.{◌≡◌, ◌≢◌, ◌⊎◌, inl, inr, ℕ, �
 use Rattle.std.proofs.lemmas.List.{take_more, drop_more, drop_all}
 use Rattle.std.proofs.lemmas.Grind.{common_steps}
 use Rattle.std.specs.Borrow.{Bor}
-use Rattle.sof_script.specs.Splitting.{is_blank, tokens_from, tokens_of, kind_of, Kind, Blank, Quote, Other, Place, Inside, Quoted, Behind, first_token, onto_first, StartsToken, IsBare}
+use Rattle.sof_script.specs.Splitting.{is_blank, tokens_from, tokens_of, byte_kind, Kind, Blank, Quote, Other, TokenPlace, Inside, Quoted, Behind, first_token, onto_first, StartsToken, IsBare}
 
 -- bytes in front of the first of tokens
 abbrev pub onto : List ℕ → Option (List (List ℕ)) → Option (List (List ℕ))
@@ -27,15 +27,15 @@ onto-first [] token tokens = refl
 onto-first (a ∷ front) token tokens = ap (onto_first a) (onto-first front token tokens) ∙ one a (front ++ token) tokens
 
 -- the bytes before an end are of the first token, which begins at a place
-pub record Within (place : Place) (bytes : List ℕ) (end : ℕ) : Type 0 where
+pub record Within (place : TokenPlace) (bytes : List ℕ) (end : ℕ) : Type 0 where
   pub tokens : tokens_from place bytes ≡ onto (take end bytes) (tokens_from place (drop end bytes))
   pub within : end ≤ length bytes
 
-pub Within-none : (place : Place) (bytes : List ℕ) → Within place bytes 0
+pub Within-none : (place : TokenPlace) (bytes : List ℕ) → Within place bytes 0
 Within-none place bytes = record { tokens = refl; within = omega arith }
 
 -- a byte that belongs to the first token
-pub Within-more : (place : Place) (bytes : List ℕ) (end : ℕ) → Within place bytes end → end < length bytes → ((rest : List ℕ) → tokens_from place (get_or bytes end 0 ∷ rest) ≡ onto_first (get_or bytes end 0) (tokens_from place rest)) → Within place bytes (end + 1)
+pub Within-more : (place : TokenPlace) (bytes : List ℕ) (end : ℕ) → Within place bytes end → end < length bytes → ((rest : List ℕ) → tokens_from place (get_or bytes end 0 ∷ rest) ≡ onto_first (get_or bytes end 0) (tokens_from place rest)) → Within place bytes (end + 1)
 Within-more place bytes end w more keeps =
     let b = get_or bytes end 0 in
     let rest = drop (end + 1) bytes in
@@ -47,28 +47,28 @@ Within-more place bytes end w more keeps =
 
 -- ---- kinds
 
-pub kind_blank : (b : ℕ) → is_blank b ≡ true → kind_of b ≡ Blank
+pub kind_blank : (b : ℕ) → is_blank b ≡ true → byte_kind b ≡ Blank
 kind_blank b is = rw is refl
 
-pub kind_quote : (b : ℕ) → b ≡ 34 → kind_of b ≡ Quote
+pub kind_quote : (b : ℕ) → b ≡ 34 → byte_kind b ≡ Quote
 kind_quote b is = rw is refl
 
-pub kind_other : (b : ℕ) → is_blank b ≡ false → b ≢ 34 → kind_of b ≡ Other
+pub kind_other : (b : ℕ) → is_blank b ≡ false → b ≢ 34 → byte_kind b ≡ Other
 kind_other b is unlike = let other : nat_eq b 34 ≡ false = grind (arith, common_steps) in rw (is, other) refl
 
 -- ---- a token without quotes
 
-inside_other : (b : ℕ) (rest : List ℕ) (k : Kind) → kind_of b ≡ k → k ≢ Blank → tokens_from Inside (b ∷ rest) ≡ onto_first b (tokens_from Inside rest)
+inside_other : (b : ℕ) (rest : List ℕ) (k : Kind) → byte_kind b ≡ k → k ≢ Blank → tokens_from Inside (b ∷ rest) ≡ onto_first b (tokens_from Inside rest)
 unfolding tokens_from
 inside_other b rest Blank is unlike = absurd (unlike refl)
 inside_other b rest Quote is unlike = rw (is, tokens_from) refl
 inside_other b rest Other is unlike = rw (is, tokens_from) refl
 
-not_blank : (b : ℕ) → is_blank b ≡ false → kind_of b ≢ Blank
+not_blank : (b : ℕ) → is_blank b ≡ false → byte_kind b ≢ Blank
 not_blank b unlike = λ is. (elim (nat_eq b 34) as (λ t. cond (is_blank b) Blank (cond t Quote Other) ≡ Blank → ⊥) [ true ↦ λ e. cc (sym (rw unlike at e)) | false ↦ λ e. cc (sym (rw unlike at e)) ]) is
 
 pub inside_keeps : (b : ℕ) → is_blank b ≡ false → (rest : List ℕ) → tokens_from Inside (b ∷ rest) ≡ onto_first b (tokens_from Inside rest)
-inside_keeps b unlike rest = inside_other b rest (kind_of b) refl (not_blank b unlike)
+inside_keeps b unlike rest = inside_other b rest (byte_kind b) refl (not_blank b unlike)
 
 pub bare_begins : (bytes : List ℕ) → IsBare bytes → tokens_of bytes ≡ tokens_from Inside bytes
 unfolding tokens_from IsBare
@@ -79,7 +79,7 @@ pub bare_first : (bytes : List ℕ) → IsBare bytes → (0 < length bytes) × (
 unfolding IsBare
 bare_first [] is = absurd is
 bare_first (b ∷ bytes) is = (omega arith, bare_byte b (is_blank b) refl is) where
-  bare_byte : (b : ℕ) (blank : Bool) → is_blank b ≡ blank → kind_of b ≡ Other → blank ≡ false
+  bare_byte : (b : ℕ) (blank : Bool) → is_blank b ≡ blank → byte_kind b ≡ Other → blank ≡ false
   bare_byte b true is other = cc (sym (rw is at other))
   bare_byte b false is other = refl
 
@@ -101,19 +101,19 @@ bare_whole bytes end is w ends =
 
 -- ---- a quoted token
 
-quoted_kind : (b : ℕ) (rest : List ℕ) (k : Kind) → kind_of b ≡ k → k ≢ Quote → tokens_from Quoted (b ∷ rest) ≡ onto_first b (tokens_from Quoted rest)
+quoted_kind : (b : ℕ) (rest : List ℕ) (k : Kind) → byte_kind b ≡ k → k ≢ Quote → tokens_from Quoted (b ∷ rest) ≡ onto_first b (tokens_from Quoted rest)
 unfolding tokens_from
 quoted_kind b rest Blank is unlike = rw (is, tokens_from) refl
 quoted_kind b rest Quote is unlike = absurd (unlike refl)
 quoted_kind b rest Other is unlike = rw (is, tokens_from) refl
 
-not_quote : (b : ℕ) → b ≢ 34 → kind_of b ≢ Quote
+not_quote : (b : ℕ) → b ≢ 34 → byte_kind b ≢ Quote
 not_quote b unlike =
     let other : nat_eq b 34 ≡ false = grind (arith, common_steps) in
     λ is. (elim (is_blank b) as (λ t. cond t Blank (cond (nat_eq b 34) Quote Other) ≡ Quote → ⊥) [ true ↦ λ e. cc e | false ↦ λ e. cc (sym (rw other at e)) ]) is
 
 pub quoted_keeps : (b : ℕ) → b ≢ 34 → (rest : List ℕ) → tokens_from Quoted (b ∷ rest) ≡ onto_first b (tokens_from Quoted rest)
-quoted_keeps b unlike rest = quoted_kind b rest (kind_of b) refl (not_quote b unlike)
+quoted_keeps b unlike rest = quoted_kind b rest (byte_kind b) refl (not_quote b unlike)
 
 pub quoted_open : (bytes : List ℕ) (end : ℕ) → Within Quoted bytes end → length bytes ≤ end → tokens_from Quoted bytes ≡ None
 unfolding tokens_from
@@ -126,7 +126,7 @@ quoted_closed bytes end w more is =
     let quote = kind_quote (get_or bytes end 0) is in
     w.tokens ∙ ap (λ (r : List ℕ). onto (take end bytes) (tokens_from Quoted r)) (drop_more bytes end 0 more) ∙ rw (quote, tokens_from) refl
 
-behind_kind : (b : ℕ) (rest : List ℕ) (k : Kind) → kind_of b ≡ k → k ≢ Blank → tokens_from Behind (b ∷ rest) ≡ None
+behind_kind : (b : ℕ) (rest : List ℕ) (k : Kind) → byte_kind b ≡ k → k ≢ Blank → tokens_from Behind (b ∷ rest) ≡ None
 unfolding tokens_from
 behind_kind b rest Blank is unlike = absurd (unlike refl)
 behind_kind b rest Quote is unlike = rw (is, tokens_from) refl
@@ -140,7 +140,7 @@ behind_none (b ∷ rest) none = absurd (omega (arith, none))
 behind_byte : (b : ℕ) (rest : List ℕ) (blank : Bool) → is_blank b ≡ blank → tokens_from Behind (b ∷ rest) ≡ cond blank (first_token [] (tokens_of (b ∷ rest))) None
 unfolding tokens_from
 behind_byte b rest true is = let kind = kind_blank b is in rw (kind, tokens_from) refl
-behind_byte b rest false is = behind_kind b rest (kind_of b) refl (not_blank b is)
+behind_byte b rest false is = behind_kind b rest (byte_kind b) refl (not_blank b is)
 
 pub behind_some : (rest : List ℕ) (blank : Bool) → 1 ≤ length rest → is_blank (get_or rest 0 0) ≡ blank → tokens_from Behind rest ≡ cond blank (first_token [] (tokens_of rest)) None
 behind_some [] blank some is = absurd (omega (arith, some))

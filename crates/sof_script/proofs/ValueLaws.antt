@@ -10,8 +10,8 @@ use Rattle.std.specs.Str.Parse.{AllDigits, digits_value, digits_value_after}
 use Rattle.std.proofs.lemmas.Str.{digit_value_digit}
 use Rattle.std.proofs.lemmas.Str.Parse.{IsNumeralModel, digit_from_value}
 use Rattle.std.proofs.lemmas.Fmt.{decimal_digit, decimal_nonempty, first_decimal, digits_decimal, digits_value-decimal, decimal-digits_value}
-use Rattle.sof_script.specs.Splitting.{is_plain, all_plain}
-use Rattle.sof_script.specs.ValueForms.{is_digit, digits_behind, begins_well, decimal_of, in_range, number_of}
+use Rattle.sof_script.specs.Splitting.{is_plain_byte, all_plain}
+use Rattle.sof_script.specs.ValueForms.{is_digit, digits_behind, begins_well, decimal_value, in_range, number_value}
 
 digit_step : (n b : ℕ) (rest : List ℕ) → is_digit b ≡ true → digits_behind n (b ∷ rest) ≡ digits_behind (n * 10 + (b - 48)) rest
 unfolding digits_behind
@@ -48,13 +48,13 @@ digits_end bytes i n so_far past = so_far ∙ ap (digits_behind n) (drop_all i b
 
 -- ---- text
 
-plain_small : (b : ℕ) → is_plain b ≡ true → b < 128
+plain_small : (b : ℕ) → is_plain_byte b ≡ true → b < 128
 plain_small b is = grind (arith, common_steps)
 
 pub plain_ascii : (bytes : List ℕ) → all_plain bytes ≡ true → (i : ℕ) → get_or bytes i 0 < 128
 unfolding all_plain
 plain_ascii [] is i = omega arith
-plain_ascii (b ∷ bytes) is i = elim (cases_Bool (is_plain b)) [
+plain_ascii (b ∷ bytes) is i = elim (cases_Bool (is_plain_byte b)) [
   | inl plain ↦ at_place b bytes (plain_small b plain) (plain_ascii bytes (rw plain at is)) i
   | inr other ↦ let wrong = rw other at is in absurd (cc wrong)
 ]
@@ -69,13 +69,13 @@ range_large : (least most : ℕ) (o : Option ℕ) → most < 2 ^ 32 → ((n : �
 range_large least most None small large = refl
 range_large least most (Some n) small large = let there : 2 ^ 32 ≤ n = large n refl in grind (arith, common_steps)
 
-pub number_large : (token : List ℕ) (least most : ℕ) → most < 2 ^ 32 → ((n : ℕ) → digits_behind 0 token ≡ Some n → 2 ^ 32 ≤ n) → number_of least most token ≡ Err 5
+pub number_large : (token : List ℕ) (least most : ℕ) → most < 2 ^ 32 → ((n : ℕ) → digits_behind 0 token ≡ Some n → 2 ^ 32 ≤ n) → number_value least most token ≡ Err 5
 number_large token least most small large = elim (cases_Bool (begins_well token)) [
   | inl well ↦ rw well (range_large least most (digits_behind 0 token) small large)
   | inr ill ↦ rw ill refl
 ]
 
-pub number_found : (token : List ℕ) (least most n : ℕ) → begins_well token ≡ true → digits_behind 0 token ≡ Some n → number_of least most token ≡ in_range least most (Some n)
+pub number_found : (token : List ℕ) (least most n : ℕ) → begins_well token ≡ true → digits_behind 0 token ≡ Some n → number_value least most token ≡ in_range least most (Some n)
 number_found token least most n well is = rw (well, is) refl
 
 -- ---- numbers and what is written for them
@@ -131,7 +131,7 @@ decimal_begins zero small = ap begins_well (decimal_digit 0 (omega arith))
 decimal_begins (suc n) small = begun_well (decimal (suc n)) (decimal_nonempty (suc n) small) (first_decimal (suc n) (omega arith) small)
 
 -- a number below 2^64 is read of its decimal digits alone
-pub decimal_read : (token : List ℕ) (n : ℕ) → n < 2 ^ 64 → decimal_of token ≡ Some n → token ≡ decimal n
+pub decimal_read : (token : List ℕ) (n : ℕ) → n < 2 ^ 64 → decimal_value token ≡ Some n → token ≡ decimal n
 decimal_read token n small is = elim (cases_Bool (begins_well token)) [
   | inl well ↦
       let told = digits_told 0 token n (rw well at is) in
@@ -140,7 +140,7 @@ decimal_read token n small is = elim (cases_Bool (begins_well token)) [
   | inr ill ↦ let none = rw ill at is in absurd (cc none)
 ]
 
-pub decimal_again : (n : ℕ) → n < 2 ^ 64 → decimal_of (decimal n) ≡ Some n
+pub decimal_again : (n : ℕ) → n < 2 ^ 64 → decimal_value (decimal n) ≡ Some n
 decimal_again n small =
     let read = digits_read 0 (decimal n) (digits_decimal own n small) ∙ ap (λ (m : ℕ). Some m) (digits_value-decimal own n small) in
     elim (cases_Bool (begins_well (decimal n))) [

@@ -12,8 +12,8 @@ use Rattle.sof_script.specs.declared.reading.ScriptFault.TheVariants.{Line}
 use Rattle.sof_script.specs.declared.words.Word.{Word}
 use Rattle.sof_script.specs.declared.words.Word.TheVariants as word
 use Rattle.sof_script.specs.Splitting.{lines_of, without_return, is_skipped, all_plain, tokens_of}
-use Rattle.sof_script.specs.ValueForms.{byte_cause, quote_cause, word_cause, count_cause, number_of, error_of, format_of, hex_of, name_of, file_of}
-use Rattle.sof_script.specs.Words.{word_of}
+use Rattle.sof_script.specs.ValueForms.{byte_cause, quote_cause, word_cause, count_cause, number_value, error_value, format_value, hex_value, name_value, file_value}
+use Rattle.sof_script.specs.Words.{word_named}
 
 -- ---- one line
 
@@ -27,16 +27,16 @@ Err first ⊛ Err second = Err (min first second)
 
 -- any u32
 abbrev pub any_number : List ℕ → Result ℕ ℕ
-any_number token = number_of 0 4294967295 token
+any_number token = number_value 0 4294967295 token
 
 -- the number of a message
 abbrev pub message_number : List ℕ → Result ℕ ℕ
-message_number token = number_of 1 100000 token
+message_number token = number_value 1 100000 token
 
 -- the numbers of tokens
-abbrev pub numbers_of : List (List ℕ) → Result (List ℕ) ℕ
-numbers_of [] = Ok []
-numbers_of (token ∷ tokens) = Ok (λ n ns. n ∷ ns) ⊛ any_number token ⊛ numbers_of tokens
+abbrev pub number_values : List (List ℕ) → Result (List ℕ) ℕ
+number_values [] = Ok []
+number_values (token ∷ tokens) = Ok (λ n ns. n ∷ ns) ⊛ any_number token ⊛ number_values tokens
 
 -- a word without arguments
 abbrev pub alone : Command → List (List ℕ) → Result Item ℕ
@@ -45,48 +45,48 @@ alone command _ = Err count_cause
 
 -- one token, a name
 abbrev pub one_name : List (List ℕ) → Result (List ℕ) ℕ
-one_name (name ∷ []) = name_of name
+one_name (name ∷ []) = name_value name
 one_name _ = Err count_cause
 
 -- one token, a number from 1 on
 abbrev pub one_number : ℕ → List (List ℕ) → Result ℕ ℕ
-one_number most (number ∷ []) = number_of 1 most number
+one_number most (number ∷ []) = number_value 1 most number
 one_number most _ = Err count_cause
 
 -- `in` and `out`: an endpoint and a file
 abbrev pub bound : Bool → List (List ℕ) → Result Item ℕ
-bound input (endpoint ∷ file ∷ []) = Ok (λ e f. Bind input e f) ⊛ name_of endpoint ⊛ file_of file
+bound input (endpoint ∷ file ∷ []) = Ok (λ e f. Bind input e f) ⊛ name_value endpoint ⊛ file_value file
 bound input _ = Err count_cause
 
 -- `params`: a stream, frames a second, channels, and the format of a sample
-abbrev pub with_params : List (List ℕ) → Result Item ℕ
-with_params (stream ∷ rate ∷ channels ∷ format ∷ []) =
+abbrev pub params_item : List (List ℕ) → Result Item ℕ
+params_item (stream ∷ rate ∷ channels ∷ format ∷ []) =
     Ok (λ s r c f. Do (command.Params s (record { rate = r; channels = c; format = f })))
-    ⊛ name_of stream ⊛ any_number rate ⊛ number_of 0 255 channels ⊛ format_of format
-with_params _ = Err count_cause
+    ⊛ name_value stream ⊛ any_number rate ⊛ number_value 0 255 channels ⊛ format_value format
+params_item _ = Err count_cause
 
 -- `set`: a control and one to eight numbers
-abbrev pub with_values : List (List ℕ) → Result Item ℕ
-with_values (control ∷ value ∷ values) =
+abbrev pub values_item : List (List ℕ) → Result Item ℕ
+values_item (control ∷ value ∷ values) =
     if nat_le (length values) 7
-    then Ok (λ c vs. Do (command.Set c vs)) ⊛ name_of control ⊛ numbers_of (value ∷ values)
+    then Ok (λ c vs. Do (command.Set c vs)) ⊛ name_value control ⊛ number_values (value ∷ values)
     else Err count_cause
-with_values _ = Err count_cause
+values_item _ = Err count_cause
 
 -- `bytes`: a control and hex
-abbrev pub with_hex : List (List ℕ) → Result Item ℕ
-with_hex (control ∷ hex ∷ []) = Ok (λ c bytes. Do (command.Bytes c bytes)) ⊛ name_of control ⊛ hex_of hex
-with_hex _ = Err count_cause
+abbrev pub hex_item : List (List ℕ) → Result Item ℕ
+hex_item (control ∷ hex ∷ []) = Ok (λ c bytes. Do (command.Bytes c bytes)) ⊛ name_value control ⊛ hex_value hex
+hex_item _ = Err count_cause
 
 -- `refuse`: a message and an error number
-abbrev pub with_error : List (List ℕ) → Result Item ℕ
-with_error (message ∷ error ∷ []) = Ok (λ k e. Do (command.Refuse k e)) ⊛ message_number message ⊛ error_of error
-with_error _ = Err count_cause
+abbrev pub error_item : List (List ℕ) → Result Item ℕ
+error_item (message ∷ error ∷ []) = Ok (λ k e. Do (command.Refuse k e)) ⊛ message_number message ⊛ error_value error
+error_item _ = Err count_cause
 
 -- `lag`: a message and ticks
-abbrev pub with_lag : List (List ℕ) → Result Item ℕ
-with_lag (message ∷ ticks ∷ []) = Ok (λ k n. Do (command.Lag k n)) ⊛ message_number message ⊛ number_of 1 16 ticks
-with_lag _ = Err count_cause
+abbrev pub lag_item : List (List ℕ) → Result Item ℕ
+lag_item (message ∷ ticks ∷ []) = Ok (λ k n. Do (command.Lag k n)) ⊛ message_number message ⊛ number_value 1 16 ticks
+lag_item _ = Err count_cause
 
 -- what a word and the tokens behind it say
 abbrev pub said_by : Word → List (List ℕ) → Result Item ℕ
@@ -105,14 +105,14 @@ said_by word.Release args = Ok (λ n. Do (command.Release n)) ⊛ one_name args
 said_by word.Close args = Ok (λ n. Do (command.Close n)) ⊛ one_name args
 said_by word.Get args = Ok (λ n. Do (command.Get n)) ⊛ one_name args
 said_by word.Read args = Ok (λ n. Do (command.Read n)) ⊛ one_name args
-said_by word.Params args = with_params args
-said_by word.Set args = with_values args
-said_by word.Bytes args = with_hex args
+said_by word.Params args = params_item args
+said_by word.Set args = values_item args
+said_by word.Bytes args = hex_item args
 said_by word.Tick args = Ok (λ n. Do (command.Tick n)) ⊛ one_number 60000 args
-said_by word.Refuse args = with_error args
+said_by word.Refuse args = error_item args
 said_by word.Drop args = Ok (λ n. Do (command.Drop n)) ⊛ one_number 100000 args
 said_by word.Lose args = Ok (λ n. Do (command.Lose n)) ⊛ one_number 100000 args
-said_by word.Lag args = with_lag args
+said_by word.Lag args = lag_item args
 
 -- the tokens behind a first token, which is a word or not
 abbrev pub behind_word : Option Word → List (List ℕ) → Result Item ℕ
@@ -123,7 +123,7 @@ behind_word (Some w) args = said_by w args
 abbrev pub item_of : Option (List (List ℕ)) → Result Item ℕ
 item_of None = Err quote_cause
 item_of (Some []) = Ok Nothing
-item_of (Some (first ∷ args)) = behind_word (word_of first) args
+item_of (Some (first ∷ args)) = behind_word (word_named first) args
 
 -- what a line is, or its least cause
 abbrev pub line_item : List ℕ → Result Item ℕ
@@ -169,8 +169,8 @@ abbrev pub bounds_of : List Binding → List Bound
 bounds_of [] = []
 bounds_of (b ∷ bindings) = bound_of b ∷ bounds_of bindings
 
-abbrev pub told : Script → Read
-told script = record { bindings = bounds_of script.bindings; commands = script.commands }
+abbrev pub script_read : Script → Read
+script_read script = record { bindings = bounds_of script.bindings; commands = script.commands }
 
 -- commands with the numbers of their lines, from a number on
 abbrev pub numbered_from : ℕ → List Command → List Numbered

@@ -31,13 +31,13 @@ abbrev pub is_blank : ℕ → Bool
 is_blank b = nat_eq b 32 || nat_eq b 9
 
 -- a byte that may stand on a line: 0x20 to 0x7E, or a tab
-abbrev pub is_plain : ℕ → Bool
-is_plain b = (nat_le 32 b && nat_le b 126) || nat_eq b 9
+abbrev pub is_plain_byte : ℕ → Bool
+is_plain_byte b = (nat_le 32 b && nat_le b 126) || nat_eq b 9
 
 -- each byte may
 unfoldable pub all_plain : List ℕ → Bool
 all_plain [] = true
-all_plain (b ∷ bytes) = is_plain b && all_plain bytes
+all_plain (b ∷ bytes) = is_plain_byte b && all_plain bytes
 
 -- a line is skipped that has no token, or whose first token begins with `#` (35)
 unfoldable pub is_skipped : List ℕ → Bool
@@ -50,15 +50,15 @@ pub data Kind : Type 0 where
   Quote : Kind
   Other : Kind
 
-abbrev pub kind_of : ℕ → Kind
-kind_of b = if is_blank b then Blank else if nat_eq b 34 then Quote else Other
+abbrev pub byte_kind : ℕ → Kind
+byte_kind b = if is_blank b then Blank else if nat_eq b 34 then Quote else Other
 
 -- where a byte stands: between tokens, inside one without quotes, between the quotes of one, just behind those
-pub data Place : Type 0 where
-  Between : Place
-  Inside : Place
-  Quoted : Place
-  Behind : Place
+pub data TokenPlace : Type 0 where
+  Between : TokenPlace
+  Inside : TokenPlace
+  Quoted : TokenPlace
+  Behind : TokenPlace
 
 -- a token before others; none where those are none
 abbrev pub first_token : List ℕ → Option (List (List ℕ)) → Option (List (List ℕ))
@@ -72,27 +72,27 @@ onto_first b (Some []) = Some ((b ∷ []) ∷ [])
 onto_first b (Some (token ∷ tokens)) = Some ((b ∷ token) ∷ tokens)
 
 -- the tokens from a place on, the first of which may have begun; none where a quote is not closed, or no blank follows it
-unfoldable pub tokens_from : Place → List ℕ → Option (List (List ℕ))
+unfoldable pub tokens_from : TokenPlace → List ℕ → Option (List (List ℕ))
 tokens_from Between [] = Some []
 tokens_from Inside [] = Some ([] ∷ [])
 tokens_from Quoted [] = None
 tokens_from Behind [] = Some ([] ∷ [])
-tokens_from Between (b ∷ bytes) = elim (kind_of b) [
+tokens_from Between (b ∷ bytes) = elim (byte_kind b) [
   | Blank ↦ tokens_from Between bytes
   | Quote ↦ tokens_from Quoted bytes
   | Other ↦ onto_first b (tokens_from Inside bytes)
 ]
-tokens_from Inside (b ∷ bytes) = elim (kind_of b) [
+tokens_from Inside (b ∷ bytes) = elim (byte_kind b) [
   | Blank ↦ first_token [] (tokens_from Between bytes)
   | Quote ↦ onto_first b (tokens_from Inside bytes)
   | Other ↦ onto_first b (tokens_from Inside bytes)
 ]
-tokens_from Quoted (b ∷ bytes) = elim (kind_of b) [
+tokens_from Quoted (b ∷ bytes) = elim (byte_kind b) [
   | Blank ↦ onto_first b (tokens_from Quoted bytes)
   | Quote ↦ tokens_from Behind bytes
   | Other ↦ onto_first b (tokens_from Quoted bytes)
 ]
-tokens_from Behind (b ∷ bytes) = elim (kind_of b) [
+tokens_from Behind (b ∷ bytes) = elim (byte_kind b) [
   | Blank ↦ first_token [] (tokens_from Between bytes)
   | Quote ↦ None
   | Other ↦ None
@@ -115,4 +115,4 @@ StartsToken (b ∷ bytes) = is_blank b ≡ false
 -- the first byte separates nothing and is no quote
 unfoldable pub IsBare : List ℕ → Type 0
 IsBare [] = ⊥
-IsBare (b ∷ bytes) = kind_of b ≡ Other
+IsBare (b ∷ bytes) = byte_kind b ≡ Other

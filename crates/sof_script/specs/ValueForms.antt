@@ -50,16 +50,16 @@ begins_well (b ∷ []) = true
 begins_well (b ∷ c ∷ bytes) = not (nat_eq b 48)
 
 -- the number of decimal digits without a needless zero
-abbrev pub decimal_of : List ℕ → Option ℕ
-decimal_of token = if begins_well token then digits_behind 0 token else None
+abbrev pub decimal_value : List ℕ → Option ℕ
+decimal_value token = if begins_well token then digits_behind 0 token else None
 
 -- a number in its range
 abbrev pub in_range : ℕ → ℕ → Option ℕ → Result ℕ ℕ
 in_range least most None = Err number_cause
 in_range least most (Some n) = if nat_le least n && nat_le n most then Ok n else Err number_cause
 
-abbrev pub number_of : ℕ → ℕ → List ℕ → Result ℕ ℕ
-number_of least most token = in_range least most (decimal_of token)
+abbrev pub number_value : ℕ → ℕ → List ℕ → Result ℕ ℕ
+number_value least most token = in_range least most (decimal_value token)
 
 -- the negative of a number
 abbrev pub negative : Result ℕ ℕ → Result ℤ ℕ
@@ -67,14 +67,14 @@ negative (Ok n) = Ok (pos 0 -ℤ pos n)
 negative (Err cause) = Err cause
 
 -- an error number: `-` (45), and 1 to 4095 behind it
-abbrev pub error_of : List ℕ → Result ℤ ℕ
-error_of [] = Err number_cause
-error_of (b ∷ bytes) = if nat_eq b 45 then negative (number_of 1 4095 bytes) else Err number_cause
+abbrev pub error_value : List ℕ → Result ℤ ℕ
+error_value [] = Err number_cause
+error_value (b ∷ bytes) = if nat_eq b 45 then negative (number_value 1 4095 bytes) else Err number_cause
 
 -- ---- the format of a sample
 
-abbrev pub format_of : List ℕ → Result Format ℕ
-format_of token =
+abbrev pub format_value : List ℕ → Result Format ℕ
+format_value token =
     if bytes_eq token (codes "s16") then Ok S16
     else if bytes_eq token (codes "s24") then Ok S24
     else if bytes_eq token (codes "s32") then Ok S32
@@ -82,23 +82,23 @@ format_of token =
 
 -- ---- hex
 
-abbrev pub decoded : Result (List ℕ) FromHexError → Result (List ℕ) ℕ
-decoded (Ok bytes) = Ok bytes
-decoded (Err fault) = Err hex_cause
+abbrev pub hex_decoded : Result (List ℕ) FromHexError → Result (List ℕ) ℕ
+hex_decoded (Ok bytes) = Ok bytes
+hex_decoded (Err fault) = Err hex_cause
 
 -- the bytes of at most 2048 hex digits, two for each, in either case; `-` is no bytes
-abbrev pub hex_of : List ℕ → Result (List ℕ) ℕ
-hex_of token =
+abbrev pub hex_value : List ℕ → Result (List ℕ) ℕ
+hex_value token =
     if bytes_eq token (codes "-") then Ok []
     else if nat_lt 2048 (length token) then Err hex_cause
-    else decoded (decode_of token)
+    else hex_decoded (decode_of token)
 
 -- ---- names and files
 
 -- 1 to 43 bytes, none of them 0
-abbrev pub name_of : List ℕ → Result (List ℕ) ℕ
-name_of token = if nat_lt 0 (length token) && is_name token then Ok token else Err name_cause
+abbrev pub name_value : List ℕ → Result (List ℕ) ℕ
+name_value token = if nat_lt 0 (length token) && is_name token then Ok token else Err name_cause
 
 -- 1 to 255 bytes, each of them one that may stand on a line
-abbrev pub file_of : List ℕ → Result (List ℕ) ℕ
-file_of token = if nat_lt 0 (length token) && nat_lt (length token) 256 && all_plain token then Ok token else Err name_cause
+abbrev pub file_value : List ℕ → Result (List ℕ) ℕ
+file_value token = if nat_lt 0 (length token) && nat_lt (length token) 256 && all_plain token then Ok token else Err name_cause

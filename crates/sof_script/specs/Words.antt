@@ -5,8 +5,8 @@ use Rattle.sof_script.specs.declared.words.Word.{Word}
 use Rattle.sof_script.specs.declared.words.Word.TheVariants as word
 
 -- the word that a token is
-abbrev pub word_of : List ℕ → Option Word
-word_of token =
+abbrev pub word_named : List ℕ → Option Word
+word_named token =
     if bytes_eq token (codes "in") then Some word.In
     else if bytes_eq token (codes "out") then Some word.Out
     else if bytes_eq token (codes "load") then Some word.Load

@@ -1,6 +1,6 @@
 // The name of a file.
 ghost use Rattle.std.specs.Prelude.{◌≡◌, IfOk, string_bytes};
-ghost use Rattle.sof_script.specs.ValueForms.{file_of};
+ghost use Rattle.sof_script.specs.ValueForms.{file_value};
 
 use crate::fault_causes::NAME;
 use crate::tokens::all_may_stand;
@@ -28,7 +28,7 @@ impl Model for FileName {
 impl FileName {
     /// The name that a token is; else the cause of a name.
     pub fn of(token: &[u8]) -> Result<FileName, u8>
-        ensures { result ≡ file_of token.now }
+        ensures { result ≡ file_value token.now }
     {
         if token.is_empty() {
             return Err(NAME);

@@ -1,7 +1,7 @@
 // What a line is.
 ghost use Rattle.std.specs.Prelude.{◌≡◌, ◌≤◌, length};
 ghost use Rattle.sof_script.specs.Splitting.{texts};
-ghost use Rattle.sof_script.specs.Commands.{line_item, said_by, alone, one_name, one_number, bound, with_params, with_values, with_hex, with_error, with_lag, numbers_of};
+ghost use Rattle.sof_script.specs.Commands.{line_item, said_by, alone, one_name, one_number, bound, params_item, values_item, hex_item, error_item, lag_item, number_values};
 
 use crate::fault_causes::{BYTE, COUNT, QUOTE, WORD};
 use crate::file::FileName;
@@ -77,7 +77,7 @@ fn binding(args: &[&[u8]], input: bool) -> Result<Item, u8>
 
 // A stream and its parameters.
 fn params(args: &[&[u8]]) -> Result<Item, u8>
-    ensures { result ≡ with_params (texts args.now) }
+    ensures { result ≡ params_item (texts args.now) }
 {
     if args.len() != 4 {
         return Err(COUNT);
@@ -97,7 +97,7 @@ fn params(args: &[&[u8]]) -> Result<Item, u8>
 // The numbers of at most eight tokens.
 fn numbers(tokens: &[&[u8]]) -> Result<Bounded<u32, 8>, u8>
     requires { length tokens.now ≤ 8 }
-    ensures { result ≡ numbers_of (texts tokens.now) }
+    ensures { result ≡ number_values (texts tokens.now) }
 {
     let mut numbers: ArrayVec<u32, 8> = ArrayVec::new();
     for token in tokens {
@@ -111,7 +111,7 @@ fn numbers(tokens: &[&[u8]]) -> Result<Bounded<u32, 8>, u8>
 
 // A control and one to eight numbers.
 fn values(args: &[&[u8]]) -> Result<Item, u8>
-    ensures { result ≡ with_values (texts args.now) }
+    ensures { result ≡ values_item (texts args.now) }
 {
     if args.len() < 2 {
         return Err(COUNT);
@@ -126,7 +126,7 @@ fn values(args: &[&[u8]]) -> Result<Item, u8>
 
 // A control and bytes.
 fn blob(args: &[&[u8]]) -> Result<Item, u8>
-    ensures { result ≡ with_hex (texts args.now) }
+    ensures { result ≡ hex_item (texts args.now) }
 {
     if args.len() != 2 {
         return Err(COUNT);
@@ -138,7 +138,7 @@ fn blob(args: &[&[u8]]) -> Result<Item, u8>
 
 // A message and an error.
 fn refusal(args: &[&[u8]]) -> Result<Item, u8>
-    ensures { result ≡ with_error (texts args.now) }
+    ensures { result ≡ error_item (texts args.now) }
 {
     if args.len() != 2 {
         return Err(COUNT);
@@ -150,7 +150,7 @@ fn refusal(args: &[&[u8]]) -> Result<Item, u8>
 
 // A message and ticks.
 fn lag(args: &[&[u8]]) -> Result<Item, u8>
-    ensures { result ≡ with_lag (texts args.now) }
+    ensures { result ≡ lag_item (texts args.now) }
 {
     if args.len() != 2 {
         return Err(COUNT);

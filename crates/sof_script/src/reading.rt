@@ -1,6 +1,6 @@
 // Reading a script.
 ghost use Rattle.std.specs.Prelude.{◌≡◌, ◌⊎◌, ◌+◌, ◌-◌, ◌<◌, ◌≤◌, ◌^◌, length, IfOk, MatchResult, OnOk, Result};
-ghost use Rattle.sof_script.specs.Commands.{Read, script_of, told, with_item, behind};
+ghost use Rattle.sof_script.specs.Commands.{Read, script_of, script_read, with_item, behind};
 ghost use Rattle.sof_script.specs.Faults.{AllRight, IsToldOf};
 ghost use Rattle.sof_script.specs.Splitting.{lines_of};
 
@@ -27,7 +27,7 @@ pub enum ScriptFault {
 // One more item of a script.
 fn add(alloc: Global, script: &mut Script, line: u32, next: Item) -> Result<(), NoMemory>
     ensures added { (read : Result Read ScriptFault) → OnOk result
-        (behind (told script.old) (with_item line (Ok next) read) ≡ behind (told script.new) read) }
+        (behind (script_read script.old) (with_item line (Ok next) read) ≡ behind (script_read script.new) read) }
     ensures one { length script.new.commands ≤ length script.old.commands + 1 }
 {
     match next {
@@ -55,7 +55,7 @@ fn add(alloc: Global, script: &mut Script, line: u32, next: Item) -> Result<(), 
 pub fn parse(alloc: Global, bytes: &[u8]) -> Result<Script, ScriptFault>
     requires { length bytes.now < 2 ^ 32 - 1 }
     ensures read { MatchResult result
-        (λ script. script_of bytes.now ≡ Ok (told script))
+        (λ script. script_of bytes.now ≡ Ok (script_read script))
         (λ fault. (fault ≡ ScriptFault.OutOfMemory) ⊎ (script_of bytes.now ≡ Err fault)) }
     ensures few { IfOk result (λ script. length script.commands < 2 ^ 32) }
     ensures first { MatchResult result (λ _. AllRight (lines_of bytes.now)) (λ fault. IsToldOf bytes.now fault) }

@@ -1,6 +1,6 @@
 // The tokens of a line.
 ghost use Rattle.std.specs.Prelude.{◌≡◌, ◌⊎◌, ◌∷◌, ◌+◌, ◌<◌, ◌≤◌, List, ℕ, [], length, take, true, false, MatchOption, None, Some, if◌then◌else◌};
-ghost use Rattle.sof_script.specs.Splitting.{tokens_of, tokens_from, Quoted, Behind, first_token, IsBare, is_blank, is_plain, all_plain, is_skipped, StartsToken};
+ghost use Rattle.sof_script.specs.Splitting.{tokens_of, tokens_from, Quoted, Behind, first_token, IsBare, is_blank, is_plain_byte, all_plain, is_skipped, StartsToken};
 
 // A blank or a tab.
 fn is_separator(byte: u8) -> bool
@@ -11,7 +11,7 @@ fn is_separator(byte: u8) -> bool
 
 // 0x20 to 0x7E, or a tab.
 fn may_stand(byte: u8) -> bool
-    ensures { result ≡ is_plain byte }
+    ensures { result ≡ is_plain_byte byte }
 {
     (b' ' <= byte && byte <= b'~') || byte == b'\t'
 }

@@ -1,6 +1,6 @@
 // What a token is worth.
 ghost use Rattle.std.specs.Prelude.{◌≡◌, ◌<◌, ◌≤◌, ◌^◌, ℕ, List, MatchOption, IfOk, Some, decimal};
-ghost use Rattle.sof_script.specs.ValueForms.{is_digit, digits_behind, begins_well, decimal_of, number_of, error_of, format_of, hex_of, name_of};
+ghost use Rattle.sof_script.specs.ValueForms.{is_digit, digits_behind, begins_well, decimal_value, number_value, error_value, format_value, hex_value, name_value};
 
 use crate::fault_causes::{HEX, NAME, NUMBER};
 use sof_base::{Bounded, Format, Name44};
@@ -44,7 +44,7 @@ fn digits(bytes: &[u8]) -> Option<u32>
 
 /// The number of decimal digits without a needless zero, in a range; else the cause of a number.
 pub fn number(token: &[u8], least: u32, most: u32) -> Result<u32, u8>
-    ensures value { result ≡ number_of least most token.now }
+    ensures value { result ≡ number_value least most token.now }
     ensures within { IfOk result (λ n. n ≤ most) }
 {
     if !starts_well(token) {
@@ -64,7 +64,7 @@ pub fn number(token: &[u8], least: u32, most: u32) -> Result<u32, u8>
 
 /// An error number, -4095 to -1; else the cause of a number.
 pub fn error(token: &[u8]) -> Result<i32, u8>
-    ensures { result ≡ error_of token.now }
+    ensures { result ≡ error_value token.now }
 {
     if token.is_empty() {
         return Err(NUMBER);
@@ -80,7 +80,7 @@ pub fn error(token: &[u8]) -> Result<i32, u8>
 
 /// The format of a sample, `s16`, `s24` or `s32`; else the cause of a number.
 pub fn format(token: &[u8]) -> Result<Format, u8>
-    ensures { result ≡ format_of token.now }
+    ensures { result ≡ format_value token.now }
 {
     match token {
         b"s16" => Ok(Format::S16),
@@ -92,7 +92,7 @@ pub fn format(token: &[u8]) -> Result<Format, u8>
 
 /// The bytes of at most 2048 hex digits, none for `-`; else the cause of hex.
 pub fn hex(token: &[u8]) -> Result<Bounded<u8, 1024>, u8>
-    ensures { result ≡ hex_of token.now }
+    ensures { result ≡ hex_value token.now }
 {
     if token == b"-".as_slice() {
         return Ok(Bounded::empty());
@@ -113,7 +113,7 @@ pub fn hex(token: &[u8]) -> Result<Bounded<u8, 1024>, u8>
 
 /// A name of 1 to 43 bytes, none of them 0; else the cause of a name.
 pub fn name(token: &[u8]) -> Result<Name44, u8>
-    ensures { result ≡ name_of token.now }
+    ensures { result ≡ name_value token.now }
 {
     if token.is_empty() {
         return Err(NAME);
@@ -126,6 +126,6 @@ pub fn name(token: &[u8]) -> Result<Name44, u8>
 
 /// A law: a token is read as a number below 2^64 exactly where it is what is written for that number in decimal.
 pub fn numbers_are_decimal()
-    ensures read { (token : List ℕ) (n : ℕ) → n < 2 ^ 64 → decimal_of token ≡ Some n → token ≡ decimal n }
-    ensures again { (n : ℕ) → n < 2 ^ 64 → decimal_of (decimal n) ≡ Some n }
+    ensures read { (token : List ℕ) (n : ℕ) → n < 2 ^ 64 → decimal_value token ≡ Some n → token ≡ decimal n }
+    ensures again { (n : ℕ) → n < 2 ^ 64 → decimal_value (decimal n) ≡ Some n }
 {}

@@ -1,6 +1,6 @@
 // The words that lines begin with.
 ghost use Rattle.std.specs.Prelude.{◌≡◌};
-ghost use Rattle.sof_script.specs.Words.{word_of};
+ghost use Rattle.sof_script.specs.Words.{word_named};
 
 /// The first token of a line that is not skipped.
 #[derive(Clone, Copy, Debug, PartialEq, Eq)]
@@ -33,7 +33,7 @@ pub enum Word {
 impl Word {
     /// The word that a token is; none where it is none of them.
     pub fn of(token: &[u8]) -> Option<Word>
-        ensures { result ≡ word_of token.now }
+        ensures { result ≡ word_named token.now }
     {
         match token {
             b"in" => Some(Word::In),

@@ -16,7 +16,7 @@ use Rattle.tplg_graph.specs.PlanOf.{plan_of}
 use Rattle.sof_script.specs.declared.script.Command.TheVariants.{Load, Show}
 use Rattle.sof_script.specs.Commands.{numbered_from}
 use Rattle.sof_session.specs.Walks.{Stand}
-use Rattle.sof_run.specs.Runs.{RunUnit, begun, run_of, marked, bytes_at, after_units}
+use Rattle.sof_run.specs.Runs.{RunUnit, stand_begun, run_of, marked_pieces, bytes_of_pieces, after_units}
 
 -- one number
 abbrev pub number : ℕ → ℕ → TokenArray
@@ -67,11 +67,11 @@ bare = record { boots = 0; host = None }
 
 -- the run of `load` and `show` with a heap of so many bytes
 abbrev pub load_and_show : ℕ → List RunUnit
-load_and_show heap = run_of (numbered_from 1 (Load ∷ Show ∷ [])) (begun (plan_of thin_topology) heap [] [] bare)
+load_and_show heap = run_of (numbered_from 1 (Load ∷ Show ∷ [])) (stand_begun (plan_of thin_topology) heap [] [] bare)
 
 -- what a run says
 abbrev pub said : List RunUnit → List ℕ
-said units = bytes_at Spoken (map (λ mark. mark.0) (marked units))
+said units = bytes_of_pieces Spoken (map (λ mark. mark.0) (marked_pieces units))
 
 -- how often the device was booted by a run
 abbrev pub boots_of : List RunUnit → ℕ

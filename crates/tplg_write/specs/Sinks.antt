@@ -10,12 +10,12 @@ pub record Sunk : Type 0 where
   pub added : List ℕ
 
 -- a field more
-abbrev pub with_slot : Sunk → Slot → Sunk
-with_slot s slot = record { front = s.front; added = wrote s.added slot }
+abbrev pub with_field : Sunk → Slot → Sunk
+with_field s slot = record { front = s.front; added = wrote s.added slot }
 
 -- fields more
-abbrev pub with_slots : Sunk → List Slot → Sunk
-with_slots s slots = record { front = s.front; added = wrote_all s.added slots }
+abbrev pub with_fields : Sunk → List Slot → Sunk
+with_fields s slots = record { front = s.front; added = wrote_all s.added slots }
 
 -- cells more
 abbrev pub with_cells : Sunk → List Cell → Sunk

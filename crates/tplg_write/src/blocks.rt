@@ -3,7 +3,7 @@ ghost use Rattle.std.specs.Prelude.{◌≡◌, ◌<◌, ◌^◌, OnOk, [], ◌�
 ghost use Rattle.sof_base.specs.Slots.{Word};
 ghost use Rattle.tplg_model.specs.Arrays.{Each};
 ghost use Rattle.tplg_model.specs.Spelling.{IsSound, IsBody, IsBlock, body_cells, block_cells, items_cells, kind_of, count_of};
-ghost use Rattle.tplg_write.specs.Sinks.{with_slots, with_cells};
+ghost use Rattle.tplg_write.specs.Sinks.{with_fields, with_cells};
 
 use crate::items::put_items;
 use crate::records::put_fixed;
@@ -45,7 +45,7 @@ fn kind_and_count(body: &Body) -> (u32, u32)
 
 // A block's header up to the size of its payload: the magic word, the ABI, version, type, its own size and vendor type.
 fn put_front(block: &Block, kind: u32, sink: &mut Sink) -> Result<(), NoMemory>
-    ensures ok { OnOk result (sink.new ≡ with_slots sink.old (Word MAGIC ∷ Word ABI ∷ Word block.now.version ∷ Word kind ∷ Word HEADER_BYTES ∷ Word block.now.vendor_type ∷ [])) }
+    ensures ok { OnOk result (sink.new ≡ with_fields sink.old (Word MAGIC ∷ Word ABI ∷ Word block.now.version ∷ Word kind ∷ Word HEADER_BYTES ∷ Word block.now.vendor_type ∷ [])) }
     ensures fit { OnOk result ((block.now.version < 2 ^ 32) × (block.now.vendor_type < 2 ^ 32)) }
     ensures front { sink.new.front ≡ sink.old.front }
 {

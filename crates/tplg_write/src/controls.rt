@@ -2,7 +2,7 @@
 ghost use Rattle.std.specs.Prelude.{◌≡◌, ◌<◌, ◌^◌, OnOk, length};
 ghost use Rattle.sof_base.specs.Slots.{AreSlots};
 ghost use Rattle.tplg_model.specs.Spelling.{IsControl, HasLengths, control_head_slots, control_slots, control_cells};
-ghost use Rattle.tplg_write.specs.Sinks.{with_slots, with_cells};
+ghost use Rattle.tplg_write.specs.Sinks.{with_fields, with_cells};
 
 use crate::items::Spelled;
 use crate::sink::Sink;
@@ -12,7 +12,7 @@ use tplg_model::{Control, ControlHead, control_kind};
 // A control's head, with the number of its kind.
 #[tactic(auto, unfolding(sof_base::specs::Slots::AreSlots, sof_base::specs::Slots::IsSlot))]
 fn put_control_head(kind: u32, head: &ControlHead, sink: &mut Sink) -> Result<(), NoMemory>
-    ensures ok { OnOk result (sink.new ≡ with_slots sink.old (control_head_slots kind head.now)) }
+    ensures ok { OnOk result (sink.new ≡ with_fields sink.old (control_head_slots kind head.now)) }
     ensures is { OnOk result (AreSlots (control_head_slots kind head.now)) }
     ensures tlv { OnOk result (length head.now.tlv ≡ 32) }
     ensures front { sink.new.front ≡ sink.old.front }
@@ -34,7 +34,7 @@ fn put_control_head(kind: u32, head: &ControlHead, sink: &mut Sink) -> Result<()
 #[tactic(auto, unfolding(sof_base::specs::Slots::AreSlots, sof_base::specs::Slots::IsSlot))]
 fn put_control(control: &Control, sink: &mut Sink) -> Result<(), NoMemory>
     requires { length (control_cells control.now) < 2 ^ 32 }
-    ensures ok { OnOk result (sink.new ≡ with_slots sink.old (control_slots control.now)) }
+    ensures ok { OnOk result (sink.new ≡ with_fields sink.old (control_slots control.now)) }
     ensures is { OnOk result (IsControl control.now) }
     ensures front { sink.new.front ≡ sink.old.front }
 {

@@ -3,7 +3,7 @@ ghost use Rattle.std.specs.Prelude.{◌≡◌, ◌<◌, ◌^◌, OnOk, List, [],
 ghost use Rattle.sof_base.specs.Cells.{fixed};
 ghost use Rattle.sof_base.specs.Slots.{Word, slots_cells, AreSlots};
 ghost use Rattle.tplg_model.specs.Spelling.{IsRoute, route_cells, IsManifest, manifest_cells, stream_slots, stream_cells, IsPcm, caps_slots, caps_cells, pcm_head_slots, pcm_tail_slots, pcm_cells, items_cells};
-ghost use Rattle.tplg_write.specs.Sinks.{with_slots, with_cells};
+ghost use Rattle.tplg_write.specs.Sinks.{with_fields, with_cells};
 
 use crate::items::{Spelled, put_items};
 use crate::sink::Sink;
@@ -60,7 +60,7 @@ impl Spelled for StreamRecord {
 // The words of caps.
 #[tactic(auto, unfolding(sof_base::specs::Slots::AreSlots, sof_base::specs::Slots::IsSlot))]
 fn put_caps(caps: &Caps, sink: &mut Sink) -> Result<(), NoMemory>
-    ensures ok { OnOk result (sink.new ≡ with_slots sink.old (caps_slots caps.now)) }
+    ensures ok { OnOk result (sink.new ≡ with_fields sink.old (caps_slots caps.now)) }
     ensures is { OnOk result (AreSlots (caps_slots caps.now)) }
     ensures front { sink.new.front ≡ sink.old.front }
 {

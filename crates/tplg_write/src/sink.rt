@@ -2,7 +2,7 @@
 ghost use Rattle.std.specs.Prelude.{◌≡◌, ◌≤◌, ◌<◌, ◌+◌, ◌^◌, ◌++◌, [], Ok, OnOk, length};
 ghost use Rattle.sof_base.specs.Slots.{Word, Half, Long, Size, Label, Words, Raw, wrote, IsName, AreWords};
 ghost use Rattle.tplg_model.specs.Arrays.{AreArrays, arrays_spelling};
-ghost use Rattle.tplg_write.specs.Sinks.{with_slot, patched};
+ghost use Rattle.tplg_write.specs.Sinks.{with_field, patched};
 
 use byteorder::{ByteOrder, LittleEndian};
 use sof_base::{Name44, NoMemory};
@@ -75,7 +75,7 @@ impl Sink {
     /// A number as four bytes, little-endian.
     #[tactic(auto, unfolding(sof_base::specs::Slots::wrote, sof_base::specs::Slots::slot_cells))]
     pub fn word(&mut self, n: u32) -> Result<(), NoMemory>
-        ensures ok { OnOk result (self.new ≡ with_slot self.old (Word n)) }
+        ensures ok { OnOk result (self.new ≡ with_field self.old (Word n)) }
         ensures fits { n < 2 ^ 32 }
         ensures front { self.new.front ≡ self.old.front }
     {
@@ -85,7 +85,7 @@ impl Sink {
     /// A number as two bytes, little-endian.
     #[tactic(auto, unfolding(sof_base::specs::Slots::wrote, sof_base::specs::Slots::slot_cells))]
     pub fn half(&mut self, n: u16) -> Result<(), NoMemory>
-        ensures ok { OnOk result (self.new ≡ with_slot self.old (Half n)) }
+        ensures ok { OnOk result (self.new ≡ with_field self.old (Half n)) }
         ensures fits { n < 2 ^ 16 }
         ensures front { self.new.front ≡ self.old.front }
     {
@@ -97,7 +97,7 @@ impl Sink {
     /// A number as eight bytes, little-endian.
     #[tactic(auto, unfolding(sof_base::specs::Slots::wrote, sof_base::specs::Slots::slot_cells))]
     pub fn long(&mut self, n: u64) -> Result<(), NoMemory>
-        ensures ok { OnOk result (self.new ≡ with_slot self.old (Long n)) }
+        ensures ok { OnOk result (self.new ≡ with_field self.old (Long n)) }
         ensures fits { n < 2 ^ 64 }
         ensures front { self.new.front ≡ self.old.front }
     {
@@ -109,7 +109,7 @@ impl Sink {
     /// A size word, which readers ignore.
     #[tactic(auto, unfolding(sof_base::specs::Slots::wrote, sof_base::specs::Slots::slot_cells))]
     pub fn size(&mut self, n: u32) -> Result<(), NoMemory>
-        ensures ok { OnOk result (self.new ≡ with_slot self.old (Size n)) }
+        ensures ok { OnOk result (self.new ≡ with_field self.old (Size n)) }
         ensures front { self.new.front ≡ self.old.front }
     {
         self.put(&word_bytes(n))
@@ -118,7 +118,7 @@ impl Sink {
     /// Bytes as they are.
     #[tactic(auto, using(sof_base::proofs::WriteLaws::written_bytes), unfolding(sof_base::specs::Slots::wrote))]
     pub fn raw(&mut self, bytes: &[u8]) -> Result<(), NoMemory>
-        ensures ok { OnOk result (self.new ≡ with_slot self.old (Raw bytes.now)) }
+        ensures ok { OnOk result (self.new ≡ with_field self.old (Raw bytes.now)) }
         ensures front { self.new.front ≡ self.old.front }
     {
         self.put(bytes)
@@ -126,7 +126,7 @@ impl Sink {
 
     /// A name and zeros behind it, 44 bytes in all.
     pub fn label(&mut self, name: &Name44) -> Result<(), NoMemory>
-        ensures ok { OnOk result (self.new ≡ with_slot self.old (Label name.now)) }
+        ensures ok { OnOk result (self.new ≡ with_field self.old (Label name.now)) }
         ensures fits { IsName name.now }
         ensures front { self.new.front ≡ self.old.front }
     {
@@ -138,7 +138,7 @@ impl Sink {
 
     /// Numbers as four bytes each, little-endian.
     pub fn words(&mut self, words: &[u32]) -> Result<(), NoMemory>
-        ensures ok { OnOk result (self.new ≡ with_slot self.old (Words words.now)) }
+        ensures ok { OnOk result (self.new ≡ with_field self.old (Words words.now)) }
         ensures fit { AreWords words.now }
         ensures front { self.new.front ≡ self.old.front }
     {

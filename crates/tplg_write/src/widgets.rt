@@ -3,7 +3,7 @@ ghost use Rattle.std.specs.Prelude.{◌≡◌, ◌<◌, ◌^◌, OnOk, [], ◌�
 ghost use Rattle.sof_base.specs.Slots.{Word, Raw};
 ghost use Rattle.tplg_model.specs.Arrays.{AreArrays, arrays_spelling};
 ghost use Rattle.tplg_model.specs.Spelling.{IsWidget, IsWidgetHead, widget_cells, widget_head_slots, head_of};
-ghost use Rattle.tplg_write.specs.Sinks.{with_slots, with_cells};
+ghost use Rattle.tplg_write.specs.Sinks.{with_fields, with_cells};
 
 use crate::items::{Spelled, put_items};
 use crate::sink::Sink;
@@ -13,7 +13,7 @@ use tplg_model::{TokenArray, Widget};
 // Vendor arrays as private data: the number of their bytes, and their bytes.
 fn put_tokens(tokens: &[TokenArray], sink: &mut Sink) -> Result<(), NoMemory>
     requires room { length (arrays_spelling tokens.now) < 2 ^ 32 }
-    ensures ok { OnOk result (sink.new ≡ with_slots sink.old (Word (length (arrays_spelling tokens.now)) ∷ Raw (arrays_spelling tokens.now) ∷ [])) }
+    ensures ok { OnOk result (sink.new ≡ with_fields sink.old (Word (length (arrays_spelling tokens.now)) ∷ Raw (arrays_spelling tokens.now) ∷ [])) }
     ensures are { OnOk result (AreArrays tokens.now) }
     ensures front { sink.new.front ≡ sink.old.front }
 {
@@ -29,7 +29,7 @@ fn put_tokens(tokens: &[TokenArray], sink: &mut Sink) -> Result<(), NoMemory>
 #[tactic(auto, unfolding(sof_base::specs::Slots::AreSlots, sof_base::specs::Slots::IsSlot))]
 fn put_widget_head(widget: &Widget, sink: &mut Sink) -> Result<(), NoMemory>
     requires room { length (widget_cells widget.now) < 2 ^ 32 }
-    ensures ok { OnOk result (sink.new ≡ with_slots sink.old (widget_head_slots (head_of widget.now))) }
+    ensures ok { OnOk result (sink.new ≡ with_fields sink.old (widget_head_slots (head_of widget.now))) }
     ensures is { OnOk result (IsWidgetHead (head_of widget.now)) }
     ensures front { sink.new.front ≡ sink.old.front }
 {

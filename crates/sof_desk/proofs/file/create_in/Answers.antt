@@ -1,5 +1,5 @@
 use Rattle.std.proofs.Common.{◌≡◌, ◌∙◌, sym, ap, refl, position, map, set, get_or, List, Some}
-use Rattle.sof_desk.specs.HeldFiles.{HeldFile, named, can_create, without_slot, with_slot}
+use Rattle.sof_desk.specs.HeldFiles.{HeldFile, named, can_create, without_slot, file_with_slot}
 use Rattle.sof_desk.proofs.First.{is_first, find-at, find-none, changed_first-at, position-map}
 use Rattle.sof_desk.proofs.file.create_in.Goals as goal
 
@@ -30,6 +30,6 @@ returns-clause-after c =
     let found : position (named c.args.name.now) files ≡ Some place =
     position-map (named c.args.name.now) (without_slot c.args.slot) (λ file. refl) c.args.files.now ∙ (sym c.place_of.ensures ∙ c.in-Some.is)
     in
-    let at = changed_first-at {X = HeldFile} (named c.args.name.now) (with_slot c.args.slot) files place item (is_first _ _ _ item found) in
-    let made = λ (fs : List HeldFile). set fs place (with_slot c.args.slot (get_or fs place item)) in
+    let at = changed_first-at {X = HeldFile} (named c.args.name.now) (file_with_slot c.args.slot) files place item (is_first _ _ _ item found) in
+    let made = λ (fs : List HeldFile). set fs place (file_with_slot c.args.slot (get_or fs place item)) in
     ap (λ (f : HeldFile). set c.leave_all.new.files place f) c.tie.ensures ∙ ap made c.leave_all.ensures ∙ sym at

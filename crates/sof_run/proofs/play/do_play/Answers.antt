@@ -1,5 +1,5 @@
 use Rattle.std.proofs.Common.{arith}
-use Rattle.sof_script.specs.Commands.{told}
+use Rattle.sof_script.specs.Commands.{script_read}
 use Rattle.sof_session.specs.Turns.{Bare, life}
 use Rattle.sof_run.specs.Words.{form}
 use Rattle.sof_run.proofs.Plays.{gave_bare, gave_alone, second_missing, halted_on, ready_on}
@@ -23,7 +23,7 @@ returns-in-Ok-prepare g c =
       is = gave.is;
       exit = gave.exit;
       ran = ready_on g.D.Desk.means (life g.P.Dsp.means) (form c.args.form.heap c.args.form.topology.now c.args.form.script.now) c.in-Ok.bytes.items c.in-Ok-fetch.bytes.items _ _ _ _ _ _ _ c.in-Ok.ensures c.in-Ok-fetch.ensures
-          c.in-Ok-prepare.ready.plan (told c.in-Ok-prepare.ready.script) (rw (c.deref.ensures.value, c.deref-2.ensures.value) at c.in-Ok-prepare.ensures.0) gave.ran;
+          c.in-Ok-prepare.ready.plan (script_read c.in-Ok-prepare.ready.script) (rw (c.deref.ensures.value, c.deref-2.ensures.value) at c.in-Ok-prepare.ensures.0) gave.ran;
     }
 
 pub returns : goal.returns
@@ -35,5 +35,5 @@ returns g c =
 pub do_session-requires-clause-sound : goal.do_session-requires-clause-sound
 do_session-requires-clause-sound g c =
     let plan = c.in-Ok-prepare.ready.plan in
-    let read = told c.in-Ok-prepare.ready.script in
+    let read = script_read c.in-Ok-prepare.ready.script in
     script_sound c.in-Ok-fetch.bytes.items read (omega (arith, c.in-Ok-fetch.ensures.answers.0)) (prepared_read plan read c.in-Ok.bytes.items c.in-Ok-fetch.bytes.items (rw (c.deref.ensures.value, c.deref-2.ensures.value) at c.in-Ok-prepare.ensures.0))

@@ -1,6 +1,6 @@
 use Rattle.std.proofs.Common.{[], sym, subst}
 use Rattle.sof_io.specs.Bound.{output_slots}
-use Rattle.sof_script.specs.Commands.{told}
+use Rattle.sof_script.specs.Commands.{script_read}
 use Rattle.sof_session.specs.Seat.{new_seat}
 use Rattle.sof_session.specs.Turns.{Seated, life}
 use Rattle.sof_run.specs.Run.{Gave}
@@ -15,7 +15,7 @@ returns-in-Ok-new-2 g c =
     let means = g.D.Desk.means in
     let device = g.P.Dsp.means in
     let plan = c.args.ready.plan in
-    let read = told c.args.ready.script in
+    let read = script_read c.args.ready.script in
     let inputs = c.open_all.new.inputs in
     let outputs = c.open_all.new.outputs in
     record {
@@ -33,7 +33,7 @@ pub returns-in-Err : goal.returns-in-Err
 returns-in-Err g c =
     let means = g.D.Desk.means in
     let plan = c.args.ready.plan in
-    let read = told c.args.ready.script in
+    let read = script_read c.args.ready.script in
     let stops = rw c.items-bindings.ensures at c.in-Err.ensures.done in
     gave_alone means g.P.Dsp.means _ _ _ _ _
     (free_on means (ready_todo c.args.heap plan read) [] _ _ _ (stops (λ inputs outputs. Free (session_todo c.args.heap plan read.commands inputs outputs))))
@@ -43,7 +43,7 @@ pub returns : goal.returns
 returns g c =
     let means = g.D.Desk.means in
     let plan = c.args.ready.plan in
-    let read = told c.args.ready.script in
+    let read = script_read c.args.ready.script in
     let opens = rw c.items-bindings.ensures at c.in_default-open_all.ensures.done in
     subst (λ dsp. Gave means g.P.Dsp.means (Free (ready_todo c.args.heap plan read)) c.args.desk.now c.args.dsp c.stop_for-in-Err-new.result c.stop_for-in-Err-new.new.desk dsp) (sym c.in-Err-new.ensures)
     (gave_alone means g.P.Dsp.means _ _ _ _ _

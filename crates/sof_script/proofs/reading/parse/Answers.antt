@@ -1,6 +1,6 @@
 use Rattle.std.proofs.Common.{◌≡◌, Ok, Err, inr, arith, rules, sym, ap, ◌∙◌}
 use Rattle.sof_script.specs.declared.reading.ScriptFault.TheVariants.{Line}
-use Rattle.sof_script.specs.Commands.{line_item, script_of, told}
+use Rattle.sof_script.specs.Commands.{line_item, script_of, script_read}
 use Rattle.sof_script.proofs.ScriptLaws.{Reading-fault, Reading-more, Reading-all}
 use Rattle.sof_script.proofs.FaultLaws.{told_fault, told_right}
 use Rattle.sof_script.proofs.reading.parse.Goals as goal
@@ -19,5 +19,5 @@ loop-rest-preserved c =
 
 pub returns : goal.returns
 returns c =
-    let all : script_of c.args.bytes.now ≡ Ok (told c.loop-rest.script) = Reading-all c.args.bytes.now c.loop-rest.rest.now c.loop-rest.number c.loop-rest.script c.loop-rest.invariant (search rules) in
-    record { read = all; few = omega (arith, c.loop-rest.invariant.short, c.loop-rest.invariant.few, c.requires); first = told_right c.args.bytes.now (told c.loop-rest.script) all }
+    let all : script_of c.args.bytes.now ≡ Ok (script_read c.loop-rest.script) = Reading-all c.args.bytes.now c.loop-rest.rest.now c.loop-rest.number c.loop-rest.script c.loop-rest.invariant (search rules) in
+    record { read = all; few = omega (arith, c.loop-rest.invariant.short, c.loop-rest.invariant.few, c.requires); first = told_right c.args.bytes.now (script_read c.loop-rest.script) all }

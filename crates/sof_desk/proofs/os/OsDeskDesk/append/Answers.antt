@@ -2,7 +2,7 @@ use Rattle.std.proofs.Common.{◌≡◌, ◌∙◌, sym, ap, subst, is_ok, lengt
 use Rattle.std.proofs.lemmas.List.{with_items_is}
 use Rattle.std.specs.Vec.{with_items}
 use Rattle.sof_desk.specs.Desk.{Put, Slot}
-use Rattle.sof_desk.specs.OutFiles.{Gives, slots_of}
+use Rattle.sof_desk.specs.OutFiles.{GivesFiles, slots_of}
 use Rattle.sof_desk.specs.RealDesk.{RealDesk}
 use Rattle.sof_desk.proofs.ActsOfReal.{puts}
 use Rattle.sof_desk.proofs.os.OsDeskDesk.append.Goals as goal
@@ -16,9 +16,9 @@ returns g c =
     let kept : length files ≡ inside.files.len = omega (arith, done.auto.files, c.deref_mut.ensures.len) in
     let items = with_items_is inside.files files kept in
     let new : RealDesk = record { files = (with_items inside.files files).items; faults = c.answer.new.self } in
-    let gives : Gives (Put (Slot c.args.slot) c.args.piece.now) done.result mid.files files =
+    let gives : GivesFiles (Put (Slot c.args.slot) c.args.piece.now) done.result mid.files files =
     (rw c.deref_mut.ensures.value at done.ensures.given, rw c.deref_mut.ensures.value at done.ensures.others) in
     puts (Slot c.args.slot) c.args.piece.now (is_ok c.answer.result) done.result c.args.self.now mid new c.self.view_is c.answer.ensures.answer
     (ap slots_of items ∙ rw c.deref_mut.ensures.value at done.ensures.slots)
-    (subst (λ fs. Gives (Put (Slot c.args.slot) c.args.piece.now) done.result mid.files fs) (sym items) gives)
+    (subst (λ fs. GivesFiles (Put (Slot c.args.slot) c.args.piece.now) done.result mid.files fs) (sym items) gives)
     c.answer.ensures.after

@@ -2,7 +2,7 @@ use Rattle.std.proofs.Common.{◌≡◌, ◌∙◌, true, sym, ap, subst, is_ok,
 use Rattle.std.proofs.lemmas.List.{with_items_is}
 use Rattle.std.specs.Vec.{with_items}
 use Rattle.sof_desk.specs.Desk.{Put, Spoken}
-use Rattle.sof_desk.specs.OutFiles.{Gives, slots_of}
+use Rattle.sof_desk.specs.OutFiles.{GivesFiles, slots_of}
 use Rattle.sof_desk.specs.RealDesk.{RealDesk}
 use Rattle.sof_desk.proofs.ActsOfReal.{puts}
 use Rattle.sof_desk.proofs.os.OsDeskDesk.say.Goals as goal
@@ -23,9 +23,9 @@ returns g c =
       | then-write_kept_of w ↦ w.if-write_kept_of.true
       | else-write_kept_of w ↦ sym w.done-is ∙ yes
     ] in
-    let gives : Gives (Put Spoken c.args.piece.now) done mid.files files =
+    let gives : GivesFiles (Put Spoken c.args.piece.now) done mid.files files =
     (rw c.deref_mut.ensures.value at wrote.ensures.given, λ yes. wrote.ensures.none (all yes)) in
     puts Spoken c.args.piece.now (is_ok c.answer.result) done c.args.self.now mid new c.self.view_is c.answer.ensures.answer
     (ap slots_of items ∙ rw c.deref_mut.ensures.value at wrote.ensures.slots)
-    (subst (λ fs. Gives (Put Spoken c.args.piece.now) done mid.files fs) (sym items) gives)
+    (subst (λ fs. GivesFiles (Put Spoken c.args.piece.now) done mid.files fs) (sym items) gives)
     c.answer.ensures.after

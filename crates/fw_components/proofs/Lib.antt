@@ -1,9 +1,12 @@
--- Lemmas on kernels and on rings by their places.
-pub mod RingsSeen
-pub mod KernelKept
-mod Parts
-mod FrameLaws
-mod MakeLaws
-mod LookLaws
-mod Draining
-mod CarryLaws
+mod Going
+mod GoneKept
+mod Ids
+mod InTurn
+mod Inserting
+mod Joining
+mod KeptLaws
+mod Linked
+mod Positions
+mod SeenLaws
+mod Taking
+mod Told

@@ -19,9 +19,9 @@ use Rattle.stream_law.specs.Order.{order}
 use Rattle.mbox_link.specs.Step.{fresh}
 use Rattle.mbox_link.specs.Exchange.{ticked}
 use Rattle.fw_ring_lists.specs.RingLists.{Ring, RingLists}
-use Rattle.fw_components.specs.declared.kernel.Kernel.{Kernel}
-use Rattle.fw_components.specs.Places.{no_ring, frames_at, with_frames, ring_emptied, emptied}
-use Rattle.fw_components.specs.Kernels.{looked, frames_moved, drained, moved}
+use Rattle.fw_moves.specs.declared.kernel.Kernel.{Kernel}
+use Rattle.fw_moves.specs.Places.{no_ring, frames_at, with_frames, ring_emptied, emptied}
+use Rattle.fw_moves.specs.Kernels.{looked, frames_moved, drained, moved}
 use Rattle.fw_schedule.specs.declared.turn.Turn.{Turn}
 use Rattle.fw_schedule.specs.declared.turn.Action.{Action}
 use Rattle.fw_schedule.specs.declared.turn.Action.TheVariants.{Feed, Drain, Fill, Make}

@@ -6,7 +6,7 @@ ghost use Rattle.fw_schedule.specs.Turns.{place_of, inlets_of, effect_by, kernel
 
 use crate::joins::is_at;
 use crate::scene::Scene;
-use fw_components::{Effect, Kernel};
+use fw_moves::{Effect, Kernel};
 use sof_base::Bounded;
 use stream_law::{Comp, Edge, Join, Kind, Setting};
 

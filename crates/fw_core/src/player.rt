@@ -11,7 +11,7 @@ ghost use Rattle.fw_core.specs.Device.{io_of};
 use crate::marks::Marks;
 use crate::schedule::schedule;
 use crate::state::State;
-use fw_components::Workspace;
+use fw_moves::Workspace;
 use fw_schedule::{TURN_BYTES, Turn};
 use ipc3_codec::Body;
 use sof_base::{Errno, NoMemory};

@@ -23,11 +23,11 @@ use Rattle.stream_law.specs.Moves.{period, quota, fed_by}
 use Rattle.stream_law.specs.Order.{order}
 use Rattle.stream_law.specs.Move.{next_clock}
 use Rattle.stream_law.specs.Made.{only_slice, chosen_slice, frames_at as frames_of_each}
-use Rattle.fw_components.specs.declared.kernel.Effect.{Effect}
-use Rattle.fw_components.specs.declared.kernel.Effect.TheVariants.{Pass, Amplify, Mix, Choose}
-use Rattle.fw_components.specs.declared.kernel.Kernel.{Kernel}
-use Rattle.fw_components.specs.Places.{frames_at, with_frames}
-use Rattle.fw_components.specs.Kernels.{looked, frames_moved, slices, passed, made_by, drained, moved}
+use Rattle.fw_moves.specs.declared.kernel.Effect.{Effect}
+use Rattle.fw_moves.specs.declared.kernel.Effect.TheVariants.{Pass, Amplify, Mix, Choose}
+use Rattle.fw_moves.specs.declared.kernel.Kernel.{Kernel}
+use Rattle.fw_moves.specs.Places.{frames_at, with_frames}
+use Rattle.fw_moves.specs.Kernels.{looked, frames_moved, slices, passed, made_by, drained, moved}
 use Rattle.fw_schedule.specs.declared.turn.Action.{Action}
 use Rattle.fw_schedule.specs.declared.turn.Action.TheVariants.{Feed, Drain, Fill, Make}
 use Rattle.fw_schedule.specs.declared.turn.Turn.{Turn}

@@ -22,7 +22,7 @@ use Rattle.stream_law.specs.Made.{gains, choice, blob, only_slice, frames_by, fr
 use Rattle.stream_law.specs.Equaliser.{passed_frames}
 use Rattle.stream_law.specs.Endpoints.{format_by, format_of, is_input, reads, bytes_by, bytes_written}
 use Rattle.sof_base.specs.Ports.{Io}
-use Rattle.fw_components.specs.Kernels.{passed, made_by}
+use Rattle.fw_moves.specs.Kernels.{passed, made_by}
 use Rattle.fw_schedule.specs.declared.turn.Action.{Action}
 use Rattle.fw_schedule.specs.declared.turn.Action.TheVariants.{Feed, Drain, Fill, Make}
 use Rattle.fw_schedule.specs.declared.turn.Turn.{Turn}

@@ -10,11 +10,11 @@ use Rattle.stream_law.specs.Table.{table}
 use Rattle.stream_law.specs.Placed.{HasDistinct}
 use Rattle.stream_law.specs.Order.{is_among}
 use Rattle.stream_law.specs.Moves.{is_empty, least}
-use Rattle.fw_components.specs.declared.kernel.Effect.{Effect}
-use Rattle.fw_components.specs.declared.kernel.Effect.TheVariants.{Pass, Amplify, Mix, Choose}
-use Rattle.fw_components.specs.declared.kernel.Kernel.{Kernel}
-use Rattle.fw_components.specs.Places.{no_ring, frames_at, with_frames}
-use Rattle.fw_components.specs.Kernels.{looked, frames_moved, slices, made_by, drained, after_kernel}
+use Rattle.fw_moves.specs.declared.kernel.Effect.{Effect}
+use Rattle.fw_moves.specs.declared.kernel.Effect.TheVariants.{Pass, Amplify, Mix, Choose}
+use Rattle.fw_moves.specs.declared.kernel.Kernel.{Kernel}
+use Rattle.fw_moves.specs.Places.{no_ring, frames_at, with_frames}
+use Rattle.fw_moves.specs.Kernels.{looked, frames_moved, slices, made_by, drained, after_kernel}
 use Rattle.fw_schedule.proofs.Shown.{eqb-turned, shown_rings, ring_place, shown-set, shown-frames}
 
 -- ---- ids

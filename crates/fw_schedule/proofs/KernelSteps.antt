@@ -20,9 +20,9 @@ use Rattle.stream_law.specs.Endpoints.{format_of, bytes_of_frames, bytes_written
 use Rattle.stream_law.specs.Equaliser.{passed_frames}
 use Rattle.stream_law.specs.Move.{Audio, after_move, ring_length, ring_room, frames_moved, looked_now, fronts, made_now, bytes_moved, bytes_now, io_after}
 use Rattle.stream_law.proofs.Keyed.{all-from}
-use Rattle.fw_components.specs.declared.kernel.Kernel.{Kernel}
-use Rattle.fw_components.specs.Places.{frames_at, with_frames}
-use Rattle.fw_components.specs.Kernels.{looked, slices, made_by, drained, frames_moved as frames_turned}
+use Rattle.fw_moves.specs.declared.kernel.Kernel.{Kernel}
+use Rattle.fw_moves.specs.Places.{frames_at, with_frames}
+use Rattle.fw_moves.specs.Kernels.{looked, slices, made_by, drained, frames_moved as frames_turned}
 use Rattle.fw_schedule.specs.declared.turn.Action.TheVariants.{Make}
 use Rattle.fw_schedule.specs.declared.turn.Turn.{Turn}
 use Rattle.fw_schedule.specs.Turns.{place_of, turn_at, turn_of, inlets_of, kernel_by, after_turn}

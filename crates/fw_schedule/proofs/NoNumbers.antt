@@ -6,7 +6,7 @@ use Rattle.sof_base.specs.Samples.{Frame, sample_of}
 use Rattle.sof_base.specs.Slots.{word_at}
 use Rattle.sof_base.specs.Blob.{blob_channels, assignment_at}
 use Rattle.stream_law.specs.Equaliser.{assigned_sections, sections_of, passed_sections, PassedFrame, passed_channels, passed_frames, numbers_after}
-use Rattle.fw_components.specs.Kernels.{passed}
+use Rattle.fw_moves.specs.Kernels.{passed}
 
 -- an empty blob has no sections
 sections-none : (k : ℕ) → sections_of [] k ≡ []

@@ -1,8 +1,8 @@
 -- What a turn needs of the rings.
 use Rattle.std.proofs.Common.{◌≡◌, sym, ap, ◌∙◌, ◌/◌, arith}
 use Rattle.fw_ring_lists.specs.RingLists.{RingLists}
-use Rattle.fw_components.specs.Places.{emptied}
-use Rattle.fw_components.proofs.KernelKept.{count-kept, ring-kept, kernel-kept}
+use Rattle.fw_moves.specs.Places.{emptied}
+use Rattle.fw_moves.proofs.KernelKept.{count-kept, ring-kept, kernel-kept}
 use Rattle.fw_schedule.specs.declared.turn.Action.{Action}
 use Rattle.fw_schedule.specs.declared.turn.Action.TheVariants.{Feed, Drain, Fill, Make}
 use Rattle.fw_schedule.specs.declared.turn.Turn.{Turn}

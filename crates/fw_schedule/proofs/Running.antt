@@ -7,15 +7,15 @@ use Rattle.sof_io.specs.Takes.{given, taken}
 use Rattle.sof_io.specs.Puts.{with_piece}
 use Rattle.stream_law.specs.State.{RingView}
 use Rattle.fw_ring_lists.specs.RingLists.{RingLists, ring_at, changed, pushed, pulled}
-use Rattle.fw_components.specs.declared.kernel.Kernel.{Kernel}
-use Rattle.fw_components.specs.Places.{frames_at, with_frames, ring_seen, rings_seen, emptied}
-use Rattle.fw_components.specs.Kernels.{after_kernel}
+use Rattle.fw_moves.specs.declared.kernel.Kernel.{Kernel}
+use Rattle.fw_moves.specs.Places.{frames_at, with_frames, ring_seen, rings_seen, emptied}
+use Rattle.fw_moves.specs.Kernels.{after_kernel}
 use Rattle.fw_schedule.specs.declared.turn.Action.{Action}
 use Rattle.fw_schedule.specs.declared.turn.Action.TheVariants.{Feed, Drain, Fill, Make}
 use Rattle.fw_schedule.specs.declared.turn.Turn.{Turn}
 use Rattle.fw_schedule.specs.Turns.{turn_bytes, drained_frames, after_drain, after_action, after_turn, after_turn_at}
 use Rattle.fw_schedule.specs.Ticks.{seen_at}
-use Rattle.fw_components.proofs.RingsSeen.{frames-seen, seen-changed, emptied-changed}
+use Rattle.fw_moves.proofs.RingsSeen.{frames-seen, seen-changed, emptied-changed}
 
 module _ (turn : Turn) (clock : ℕ) (s : RingLists) (inputs : List InputView) (outputs : List OutputView) where
   p : List RingView × Io

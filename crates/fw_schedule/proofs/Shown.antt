@@ -10,7 +10,7 @@ use Rattle.sof_io.specs.Puts.{with_piece}
 use Rattle.stream_law.specs.State.{RingView}
 use Rattle.stream_law.specs.Placed.{HasDistinct}
 use Rattle.stream_law.specs.Order.{is_among}
-use Rattle.fw_components.specs.Places.{frames_at, with_frames}
+use Rattle.fw_moves.specs.Places.{frames_at, with_frames}
 
 -- ---- ids
 

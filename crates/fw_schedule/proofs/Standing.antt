@@ -19,7 +19,7 @@ use Rattle.stream_law.specs.Moves.{capacity, period, quota, is_choosy, chooses, 
 use Rattle.stream_law.specs.Order.{is_among, order}
 use Rattle.stream_law.proofs.Keyed.{all-from}
 use Rattle.fw_ring_lists.specs.RingLists.{Ring, RingLists, fresh_ring, capacity_of, ring_at}
-use Rattle.fw_components.specs.Kernels.{IsInletAt, IsKernelAt}
+use Rattle.fw_moves.specs.Kernels.{IsInletAt, IsKernelAt}
 use Rattle.fw_schedule.specs.declared.turn.Action.{Action}
 use Rattle.fw_schedule.specs.declared.turn.Action.TheVariants.{Feed, Drain, Fill, Make}
 use Rattle.fw_schedule.specs.declared.turn.Turn.{Turn}

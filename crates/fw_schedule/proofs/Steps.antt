@@ -25,7 +25,7 @@ use Rattle.stream_law.specs.Endpoints.{format_of, bytes_of_frames, bytes_written
 use Rattle.stream_law.specs.Equaliser.{passed_frames}
 use Rattle.stream_law.specs.Move.{Audio, after_move, ring_length, ring_room, frames_moved, looked_now, fronts, made_now, bytes_moved, bytes_now, io_after}
 use Rattle.stream_law.proofs.Among.{is_among-filter}
-use Rattle.fw_components.specs.Places.{frames_at, with_frames}
+use Rattle.fw_moves.specs.Places.{frames_at, with_frames}
 use Rattle.fw_schedule.specs.declared.turn.Action.{Action}
 use Rattle.fw_schedule.specs.declared.turn.Action.TheVariants.{Feed}
 use Rattle.fw_schedule.specs.declared.turn.Turn.{Turn}

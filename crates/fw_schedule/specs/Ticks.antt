@@ -6,8 +6,8 @@ use Rattle.sof_base.specs.Ports.{Io, InputView, OutputView}
 use Rattle.stream_law.specs.State.{RingView}
 use Rattle.stream_law.specs.Order.{is_among}
 use Rattle.fw_ring_lists.specs.RingLists.{RingLists, capacity_of, ring_at}
-use Rattle.fw_components.specs.Places.{rings_seen}
-use Rattle.fw_components.specs.Kernels.{IsKernelAt}
+use Rattle.fw_moves.specs.Places.{rings_seen}
+use Rattle.fw_moves.specs.Kernels.{IsKernelAt}
 use Rattle.fw_schedule.specs.declared.turn.Action.{Action}
 use Rattle.fw_schedule.specs.declared.turn.Action.TheVariants.{Make}
 use Rattle.fw_schedule.specs.declared.turn.Turn.{Turn}

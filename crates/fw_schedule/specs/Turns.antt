@@ -16,11 +16,11 @@ use Rattle.stream_law.specs.Moves.{capacity, period, quota, chooses, fed_by}
 use Rattle.stream_law.specs.Order.{order}
 use Rattle.stream_law.specs.Made.{gains, choice}
 use Rattle.stream_law.specs.Endpoints.{format_of}
-use Rattle.fw_components.specs.declared.kernel.Effect.{Effect}
-use Rattle.fw_components.specs.declared.kernel.Effect.TheVariants.{Pass, Amplify, Mix, Choose}
-use Rattle.fw_components.specs.declared.kernel.Kernel.{Kernel}
-use Rattle.fw_components.specs.Places.{frames_at, with_frames}
-use Rattle.fw_components.specs.Kernels.{after_kernel}
+use Rattle.fw_moves.specs.declared.kernel.Effect.{Effect}
+use Rattle.fw_moves.specs.declared.kernel.Effect.TheVariants.{Pass, Amplify, Mix, Choose}
+use Rattle.fw_moves.specs.declared.kernel.Kernel.{Kernel}
+use Rattle.fw_moves.specs.Places.{frames_at, with_frames}
+use Rattle.fw_moves.specs.Kernels.{after_kernel}
 use Rattle.fw_schedule.specs.declared.turn.Action.{Action}
 use Rattle.fw_schedule.specs.declared.turn.Action.TheVariants.{Feed, Drain, Fill, Make}
 use Rattle.fw_schedule.specs.declared.turn.Turn.{Turn}

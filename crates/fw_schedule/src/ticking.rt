@@ -5,12 +5,12 @@ ghost use Rattle.sof_base.specs.Ports.{HasRoom};
 ghost use Rattle.sof_io.specs.Takes.{taken};
 ghost use Rattle.sof_io.specs.Puts.{room_at, with_piece};
 ghost use Rattle.fw_ring_lists.specs.RingLists.{changed, pushed, pulled};
-ghost use Rattle.fw_components.specs.Places.{emptied};
+ghost use Rattle.fw_moves.specs.Places.{emptied};
 ghost use Rattle.fw_schedule.specs.Turns.{turn_bytes, after_turn_at, after_turns};
 ghost use Rattle.fw_schedule.specs.Ticks.{IsTurnAt, AreTurnsAt, Grew, fed_now, drained_now, frames_fed, bytes_drained, seen_at};
 
 use crate::turn::{Action, Turn};
-use fw_components::Workspace;
+use fw_moves::Workspace;
 use fw_ring_lists::Rings;
 use sof_io::{Inputs, Outputs};
 

@@ -1,5 +1,5 @@
 // What a component does at a tick.
-use fw_components::Kernel;
+use fw_moves::Kernel;
 use sof_base::Format;
 
 /// How a component moves its frames.

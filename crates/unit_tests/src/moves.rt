@@ -1,6 +1,6 @@
 ghost use Rattle.std.specs.Prelude.{◌≤◌, length};
 
-use fw_components::{Effect, Kernel, Workspace};
+use fw_moves::{Effect, Kernel, Workspace};
 use fw_ring_lists::Rings;
 use sof_base::{Bounded, NoMemory, Sample};
 use std::alloc::Global;

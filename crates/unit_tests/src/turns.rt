@@ -1,5 +1,5 @@
 // Turns of a tick.
-use fw_components::{Effect, Kernel, Workspace};
+use fw_moves::{Effect, Kernel, Workspace};
 use fw_ring_lists::Rings;
 use fw_schedule::{Action, Turn, tick};
 use sof_base::{Bounded, Format};

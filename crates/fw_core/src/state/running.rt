@@ -7,7 +7,7 @@ ghost use Rattle.fw_schedule.specs.Turns.{turns_of};
 ghost use Rattle.fw_core.specs.Device.{io_of};
 
 use super::State;
-use fw_components::Workspace;
+use fw_moves::Workspace;
 use fw_schedule::{Turn, turns_are_a_tick, turns_stand};
 use sof_io::{Inputs, Outputs};
 

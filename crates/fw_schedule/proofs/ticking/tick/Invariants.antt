@@ -3,7 +3,7 @@ use Rattle.std.specs.List.{AllByRecursion, IsDistinct}
 use Rattle.std.specs.Prelude.{nat_eq}
 use Rattle.sof_base.specs.Ports.{OutputView}
 use Rattle.sof_io.specs.Puts.{room_at}
-use Rattle.fw_components.specs.Places.{emptied}
+use Rattle.fw_moves.specs.Places.{emptied}
 use Rattle.fw_schedule.specs.Turns.{after_turns}
 use Rattle.fw_schedule.specs.Ticks.{Grew, seen_at}
 use Rattle.fw_schedule.proofs.ticking.tick.Given as goal

@@ -3,12 +3,12 @@ use Rattle.std.specs.List.{IsDistinct}
 use Rattle.sof_base.specs.Samples.{Frame}
 use Rattle.fw_ring_lists.specs.RingLists.{RingLists, ring_at, no_rings, with_ring, changed, pushed}
 use Rattle.fw_ring_lists.specs.RingWords.{slots}
-use Rattle.fw_components.specs.declared.kernel.Effect.{Effect}
-use Rattle.fw_components.specs.declared.kernel.Kernel.{Kernel}
-use Rattle.fw_components.specs.Places.{emptied}
-use Rattle.fw_components.specs.Kernels.{IsKernelAt}
-use Rattle.fw_components.proofs.RingsSeen.{emptied-changed}
-use Rattle.fw_components.proofs.KernelKept.{count-kept, kernel-kept}
+use Rattle.fw_moves.specs.declared.kernel.Effect.{Effect}
+use Rattle.fw_moves.specs.declared.kernel.Kernel.{Kernel}
+use Rattle.fw_moves.specs.Places.{emptied}
+use Rattle.fw_moves.specs.Kernels.{IsKernelAt}
+use Rattle.fw_moves.proofs.RingsSeen.{emptied-changed}
+use Rattle.fw_moves.proofs.KernelKept.{count-kept, kernel-kept}
 use Rattle.unit_tests.proofs.moves.fed.Goals as goal
 
 -- the three rings before they hold frames

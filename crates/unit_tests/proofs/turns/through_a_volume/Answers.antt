@@ -2,7 +2,7 @@ use Rattle.std.proofs.Common.{◌≡◌, refl, sym, ap, ◌∙◌, subst, ℕ, L
 use Rattle.std.specs.List.{IsDistinct}
 use Rattle.sof_base.specs.declared.format.Format.TheVariants.{S16, S32}
 use Rattle.fw_ring_lists.specs.RingLists.{RingLists, no_rings, with_ring, changed, begun}
-use Rattle.fw_components.specs.declared.kernel.Effect.TheVariants.{Amplify}
+use Rattle.fw_moves.specs.declared.kernel.Effect.TheVariants.{Amplify}
 use Rattle.fw_schedule.specs.declared.turn.Action.TheVariants.{Feed, Fill, Make}
 use Rattle.fw_schedule.specs.declared.turn.Turn.{Turn}
 use Rattle.fw_schedule.specs.Ticks.{AreTurnsAt}

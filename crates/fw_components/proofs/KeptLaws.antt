@@ -1,0 +1,346 @@
+-- What is so of tables after each change.
+use Rattle.std.proofs.Common.{◌≡◌, refl, sym, ap, ◌∙◌, subst, ℕ, suc, ◌+◌, ◌<◌, ◌≤◌, List, [], ◌∷◌, ◌++◌, map, length, Bool, true, false, cond, not, ◌==◌, ◌||◌, Option, arith}
+use Rattle.std.proofs.lemmas.Bool.{or_parts}
+use Rattle.std.proofs.lemmas.List.Folds.{list_any-append}
+use Rattle.std.specs.List.{list_any, AllByRecursion}
+use Rattle.sof_base.specs.declared.format.Params.{Params}
+use Rattle.stream_law.specs.declared.graph.Join.{Join}
+use Rattle.stream_law.specs.declared.stream.Phase.{Phase}
+use Rattle.stream_law.specs.Placed.{placed, AreAbove, Ascends}
+use Rattle.stream_law.proofs.Placing.{length-placed, Ascends-placed}
+use Rattle.fw_components.specs.declared.component.Component.{Component}
+use Rattle.fw_components.specs.declared.component.Unit as units
+use Rattle.fw_components.specs.declared.component.Unit.TheVariants.{Host, Dai, Volume, Mixer, Mux, Eq, Buffer, Pipeline}
+use Rattle.fw_components.specs.Tables.{Tables, is_buffer, is_pipeline}
+use Rattle.fw_components.specs.Kept.{IsKept, IsNamed, IsSound, IsBuffering, IsPiping, is_plain, sides, sides_by}
+use Rattle.fw_components.specs.Values.{valued_unit, valued_at}
+use Rattle.fw_components.specs.Changes.{is_there, IsNew, completed_unit, completed_at, ended_unit, ended_at, set_unit, set_at, joined_at, can_join, sourced_unit, sunk_unit}
+use Rattle.fw_components.proofs.Ids.{apart-placed_first, apart-map_first, apart-map_second}
+use Rattle.fw_components.proofs.Linked.{sides-most, comp-linked, buffer-linked, comps-linked, buffers-linked, each-placed}
+use Rattle.fw_components.proofs.Joining.{joined-id, joined_by, one-more, joined-linked}
+
+pub empty-kept : IsKept (record { comps = []; buffers = []; pipes = []; joins = [] })
+unfolding Ascends
+empty-kept = record {
+  comps = omega arith;
+  buffers = omega arith;
+  pipes = omega arith;
+  plain = tt;
+  buffering = tt;
+  piping = tt;
+  named = record { comps = tt; buffers = tt; pipes = tt; comps_buffers = tt; comps_pipes = tt; buffers_pipes = tt };
+  linked = record { between = tt; each = tt; all = omega arith };
+}
+
+-- what each change keeps is so of all that is changed
+all-map : (P : Component → Type 0) (f : Component → Component) → ((c : Component) → P c → P (f c)) → (cs : List Component) → AllByRecursion P cs → AllByRecursion P (map f cs)
+all-map P f keeps [] all = tt
+all-map P f keeps (c ∷ cs) all = (keeps c all.0, all-map P f keeps cs all.1)
+
+above-map : (f : Component → Component) → ((c : Component) → (f c).id ≡ c.id) → (n : ℕ) (cs : List Component) → AreAbove (λ c. c.id) n cs → AreAbove (λ c. c.id) n (map f cs)
+unfolding AreAbove
+above-map f same n [] all = tt
+above-map f same n (c ∷ cs) all = (subst (λ m. n < m) (sym (same c)) all.0, above-map f same n cs all.1)
+
+ascends-map : (f : Component → Component) → ((c : Component) → (f c).id ≡ c.id) → (cs : List Component) → Ascends (λ c. c.id) cs → Ascends (λ c. c.id) (map f cs)
+unfolding Ascends
+ascends-map f same [] all = tt
+ascends-map f same (c ∷ cs) all = (subst (λ m. AreAbove (λ x. x.id) m (map f cs)) (sym (same c)) (above-map f same c.id cs all.0), ascends-map f same cs all.1)
+
+length-changed : (f : Component → Component) (cs : List Component) → length (map f cs) ≡ length cs
+length-changed f [] = refl
+length-changed f (c ∷ cs) = ap suc (length-changed f cs)
+
+-- ---- what is added
+
+pub new-sound : (u : units.Unit) → IsNew u → IsSound u
+new-sound (Host capture phase params piece) fresh = tt
+new-sound (Dai capture format piece) fresh = tt
+new-sound (Volume gains piece) fresh = tt
+new-sound (Mixer piece) fresh = tt
+new-sound (Mux choice piece) fresh = tt
+new-sound (Eq eq next remaining) fresh = tt
+new-sound (Buffer size ring source sink) fresh = fresh.3
+new-sound (Pipeline sched period complete piece) fresh = fresh
+
+-- no side of it is joined
+pub new-alone : (u : units.Unit) → IsNew u → sides_by u ≡ 0
+new-alone (Host capture phase params piece) fresh = refl
+new-alone (Dai capture format piece) fresh = refl
+new-alone (Volume gains piece) fresh = refl
+new-alone (Mixer piece) fresh = refl
+new-alone (Mux choice piece) fresh = refl
+new-alone (Eq eq next remaining) fresh = refl
+new-alone (Buffer size ring source sink) fresh = ap (λ (p : Option ℕ × Option ℕ). sides_by (Buffer size ring p.0 p.1)) (λ i. (fresh.0 i, fresh.1 i))
+new-alone (Pipeline sched period complete piece) fresh = refl
+
+-- ---- a join keeps a buffer
+
+sunk-buffering : (id : ℕ) (u : units.Unit) → IsBuffering u → IsBuffering (sunk_unit id u)
+sunk-buffering id (Host capture phase params piece) e = e
+sunk-buffering id (Dai capture format piece) e = e
+sunk-buffering id (Volume gains piece) e = e
+sunk-buffering id (Mixer piece) e = e
+sunk-buffering id (Mux choice piece) e = e
+sunk-buffering id (Eq eq next remaining) e = e
+sunk-buffering id (Buffer size ring source sink) e = e
+sunk-buffering id (Pipeline sched period complete piece) e = e
+
+sourced-buffering : (id : ℕ) (u : units.Unit) → IsBuffering u → IsBuffering (sourced_unit id u)
+sourced-buffering id (Host capture phase params piece) e = e
+sourced-buffering id (Dai capture format piece) e = e
+sourced-buffering id (Volume gains piece) e = e
+sourced-buffering id (Mixer piece) e = e
+sourced-buffering id (Mux choice piece) e = e
+sourced-buffering id (Eq eq next remaining) e = e
+sourced-buffering id (Buffer size ring source sink) e = e
+sourced-buffering id (Pipeline sched period complete piece) e = e
+
+joined-buffering : (j : Join) (c : Component) → IsBuffering c.unit → IsBuffering (joined_at j c).unit
+joined-buffering j c e = by (c.id == j.source) (c.id == j.sink)
+  where
+    by : (h k : Bool) → IsBuffering (joined_by h k j c).unit
+    by true k = sunk-buffering j.sink c.unit e
+    by false true = sourced-buffering j.source c.unit e
+    by false false = e
+
+module _ (t : Tables) (kept : IsKept t) where
+  -- an id that nothing has is in none of the tables
+  away : (id : ℕ) → is_there t id ≡ false → (list_any (λ c. c.id == id) t.comps ≡ false) × ((list_any (λ c. c.id == id) t.buffers ≡ false) × (list_any (λ c. c.id == id) t.pipes ≡ false))
+  away id gone =
+      let first = or_parts (list_any (λ c. c.id == id) t.comps) (list_any (λ c. c.id == id) (t.buffers ++ t.pipes)) (sym (list_any-append (λ c. c.id == id) t.comps (t.buffers ++ t.pipes)) ∙ gone) in
+      let second = or_parts (list_any (λ c. c.id == id) t.buffers) (list_any (λ c. c.id == id) t.pipes) (sym (list_any-append (λ c. c.id == id) t.buffers t.pipes) ∙ first.1) in
+      (first.0, second)
+
+  pub comp-added : (c : Component) (new : List Component) → is_there t c.id ≡ false → is_buffer c.unit ≡ false → is_pipeline c.unit ≡ false → length t.comps < 128 → new ≡ placed (λ x. x.id) c t.comps → IsKept (record { comps = new; buffers = t.buffers; pipes = t.pipes; joins = t.joins })
+  comp-added c new gone buffer pipeline room is =
+      let far = away c.id gone in
+      subst (λ cs. IsKept (record { comps = cs; buffers = t.buffers; pipes = t.pipes; joins = t.joins })) (sym is) (record {
+        comps = omega (arith, room, length-placed (λ (x : Component). x.id) c t.comps);
+        buffers = kept.buffers;
+        pipes = kept.pipes;
+        plain = each-placed (λ x. is_plain x.unit ≡ true) c t.comps (ap (λ (p : Bool × Bool). not (p.0 || p.1)) (λ i. (buffer i, pipeline i))) kept.plain;
+        buffering = kept.buffering;
+        piping = kept.piping;
+        named = record {
+          comps = Ascends-placed (λ (x : Component). x.id) c t.comps far.0 kept.named.comps;
+          buffers = kept.named.buffers;
+          pipes = kept.named.pipes;
+          comps_buffers = apart-placed_first c t.comps t.buffers far.1.0 kept.named.comps_buffers;
+          comps_pipes = apart-placed_first c t.comps t.pipes far.1.1 kept.named.comps_pipes;
+          buffers_pipes = kept.named.buffers_pipes;
+        };
+        linked = comp-linked c t.comps t.buffers t.pipes t.joins kept.linked;
+      })
+
+  pub buffer-added : (c : Component) (new : List Component) → is_there t c.id ≡ false → is_buffer c.unit ≡ true → IsNew c.unit → length t.buffers < 128 → new ≡ placed (λ x. x.id) c t.buffers → IsKept (record { comps = t.comps; buffers = new; pipes = t.pipes; joins = t.joins })
+  buffer-added c new gone buffer fresh room is =
+      let far = away c.id gone in
+      subst (λ cs. IsKept (record { comps = t.comps; buffers = cs; pipes = t.pipes; joins = t.joins })) (sym is) (record {
+        comps = kept.comps;
+        buffers = omega (arith, room, length-placed (λ (x : Component). x.id) c t.buffers);
+        pipes = kept.pipes;
+        plain = kept.plain;
+        buffering = each-placed (λ x. IsBuffering x.unit) c t.buffers (buffer, new-sound c.unit fresh) kept.buffering;
+        piping = kept.piping;
+        named = record {
+          comps = kept.named.comps;
+          buffers = Ascends-placed (λ (x : Component). x.id) c t.buffers far.1.0 kept.named.buffers;
+          pipes = kept.named.pipes;
+          comps_buffers = each-placed (λ x. list_any (λ y. y.id == x.id) t.comps ≡ false) c t.buffers far.0 kept.named.comps_buffers;
+          comps_pipes = kept.named.comps_pipes;
+          buffers_pipes = apart-placed_first c t.buffers t.pipes far.1.1 kept.named.buffers_pipes;
+        };
+        linked = buffer-linked c t.comps t.buffers t.pipes t.joins (new-alone c.unit fresh) kept.linked;
+      })
+
+  pub pipe-added : (c : Component) (new : List Component) → is_there t c.id ≡ false → is_pipeline c.unit ≡ true → IsNew c.unit → length t.pipes < 32 → new ≡ placed (λ x. x.id) c t.pipes → IsKept (record { comps = t.comps; buffers = t.buffers; pipes = new; joins = t.joins })
+  pipe-added c new gone pipeline fresh room is =
+      let far = away c.id gone in
+      subst (λ cs. IsKept (record { comps = t.comps; buffers = t.buffers; pipes = cs; joins = t.joins })) (sym is) (record {
+        comps = kept.comps;
+        buffers = kept.buffers;
+        pipes = omega (arith, room, length-placed (λ (x : Component). x.id) c t.pipes);
+        plain = kept.plain;
+        buffering = kept.buffering;
+        piping = each-placed (λ x. IsPiping x.unit) c t.pipes (pipeline, new-sound c.unit fresh) kept.piping;
+        named = record {
+          comps = kept.named.comps;
+          buffers = kept.named.buffers;
+          pipes = Ascends-placed (λ (x : Component). x.id) c t.pipes far.1.1 kept.named.pipes;
+          comps_buffers = kept.named.comps_buffers;
+          comps_pipes = each-placed (λ x. list_any (λ y. y.id == x.id) t.comps ≡ false) c t.pipes far.0 kept.named.comps_pipes;
+          buffers_pipes = each-placed (λ x. list_any (λ y. y.id == x.id) t.buffers ≡ false) c t.pipes far.1.0 kept.named.buffers_pipes;
+        };
+        linked = record { between = kept.linked.between; each = kept.linked.each; all = kept.linked.all };
+      })
+
+  -- components are changed, each under its id and to no buffer and no pipeline
+  pub comps-changed : (f : Component → Component) (new : List Component) → ((c : Component) → (f c).id ≡ c.id) → ((c : Component) → is_plain c.unit ≡ true → is_plain (f c).unit ≡ true) → new ≡ map f t.comps → IsKept (record { comps = new; buffers = t.buffers; pipes = t.pipes; joins = t.joins })
+  comps-changed f new same plain is = subst (λ cs. IsKept (record { comps = cs; buffers = t.buffers; pipes = t.pipes; joins = t.joins })) (sym is) (record {
+    comps = subst (λ n. n ≤ 128) (sym (length-changed f t.comps)) kept.comps;
+    buffers = kept.buffers;
+    pipes = kept.pipes;
+    plain = all-map (λ c. is_plain c.unit ≡ true) f plain t.comps kept.plain;
+    buffering = kept.buffering;
+    piping = kept.piping;
+    named = record {
+      comps = ascends-map f same t.comps kept.named.comps;
+      buffers = kept.named.buffers;
+      pipes = kept.named.pipes;
+      comps_buffers = apart-map_first f same t.comps t.buffers kept.named.comps_buffers;
+      comps_pipes = apart-map_first f same t.comps t.pipes kept.named.comps_pipes;
+      buffers_pipes = kept.named.buffers_pipes;
+    };
+    linked = comps-linked f same t.comps t.buffers t.pipes t.joins kept.linked;
+  })
+
+  -- the ids of buffers that are changed
+  buffers-named : (f : Component → Component) → ((c : Component) → (f c).id ≡ c.id) → (joins : List Join) → IsNamed (record { comps = t.comps; buffers = map f t.buffers; pipes = t.pipes; joins = joins })
+  buffers-named f same joins = record {
+    comps = kept.named.comps;
+    buffers = ascends-map f same t.buffers kept.named.buffers;
+    pipes = kept.named.pipes;
+    comps_buffers = apart-map_second f same t.comps t.buffers kept.named.comps_buffers;
+    comps_pipes = kept.named.comps_pipes;
+    buffers_pipes = apart-map_first f same t.buffers t.pipes kept.named.buffers_pipes;
+  }
+
+  -- buffers are changed, each under its id, to buffers with as many sides joined
+  pub buffers-changed : (f : Component → Component) (new : List Component) → ((c : Component) → (f c).id ≡ c.id) → ((c : Component) → sides_by (f c).unit ≡ sides_by c.unit) → ((c : Component) → IsBuffering c.unit → IsBuffering (f c).unit) → new ≡ map f t.buffers → IsKept (record { comps = t.comps; buffers = new; pipes = t.pipes; joins = t.joins })
+  buffers-changed f new same ends buffer is = subst (λ cs. IsKept (record { comps = t.comps; buffers = cs; pipes = t.pipes; joins = t.joins })) (sym is) (record {
+    comps = kept.comps;
+    buffers = subst (λ n. n ≤ 128) (sym (length-changed f t.buffers)) kept.buffers;
+    pipes = kept.pipes;
+    plain = kept.plain;
+    buffering = all-map (λ c. IsBuffering c.unit) f buffer t.buffers kept.buffering;
+    piping = kept.piping;
+    named = buffers-named f same t.joins;
+    linked = buffers-linked f same ends t.comps t.buffers t.pipes t.joins kept.linked;
+  })
+
+  pub pipes-changed : (f : Component → Component) (new : List Component) → ((c : Component) → (f c).id ≡ c.id) → ((c : Component) → IsPiping c.unit → IsPiping (f c).unit) → new ≡ map f t.pipes → IsKept (record { comps = t.comps; buffers = t.buffers; pipes = new; joins = t.joins })
+  pipes-changed f new same pipeline is = subst (λ cs. IsKept (record { comps = t.comps; buffers = t.buffers; pipes = cs; joins = t.joins })) (sym is) (record {
+    comps = kept.comps;
+    buffers = kept.buffers;
+    pipes = subst (λ n. n ≤ 32) (sym (length-changed f t.pipes)) kept.pipes;
+    plain = kept.plain;
+    buffering = kept.buffering;
+    piping = all-map (λ c. IsPiping c.unit) f pipeline t.pipes kept.piping;
+    named = record {
+      comps = kept.named.comps;
+      buffers = kept.named.buffers;
+      pipes = ascends-map f same t.pipes kept.named.pipes;
+      comps_buffers = kept.named.comps_buffers;
+      comps_pipes = apart-map_second f same t.comps t.pipes kept.named.comps_pipes;
+      buffers_pipes = apart-map_second f same t.buffers t.pipes kept.named.buffers_pipes;
+    };
+    linked = record { between = kept.linked.between; each = kept.linked.each; all = kept.linked.all };
+  })
+
+  -- there are joins for sides alone, so there is room for one more at a free side
+  pub room-to_join : (j : Join) → can_join t j ≡ true → length t.joins < 256
+  room-to_join j can =
+      let gain : sides t.buffers + 1 ≤ sides (map (joined_at j) t.buffers) = one-more j t.comps t.buffers t.joins kept.buffering kept.named.comps_buffers can in
+      omega (arith, kept.linked.all, gain, sides-most (map (joined_at j) t.buffers), length-changed (joined_at j) t.buffers, kept.buffers)
+
+  pub joined-kept : (j : Join) (new : List Component) (joins : List Join) → can_join t j ≡ true → new ≡ map (joined_at j) t.buffers → joins ≡ t.joins ++ j ∷ [] → IsKept (record { comps = t.comps; buffers = new; pipes = t.pipes; joins = joins })
+  joined-kept j new joins can is more = subst (λ (p : List Component × List Join). IsKept (record { comps = t.comps; buffers = p.0; pipes = t.pipes; joins = p.1 })) (λ i. (sym is i, sym more i)) (record {
+    comps = kept.comps;
+    buffers = subst (λ n. n ≤ 128) (sym (length-changed (joined_at j) t.buffers)) kept.buffers;
+    pipes = kept.pipes;
+    plain = kept.plain;
+    buffering = all-map (λ c. IsBuffering c.unit) (joined_at j) (joined-buffering j) t.buffers kept.buffering;
+    piping = kept.piping;
+    named = buffers-named (joined_at j) (joined-id j) (t.joins ++ j ∷ []);
+    linked = joined-linked j t.comps t.buffers t.joins kept.buffering kept.named.comps_buffers t.pipes can kept.linked;
+  })
+
+-- ---- each change keeps ids and what a unit is
+
+completed-pipeline : (u : units.Unit) → IsPiping u → IsPiping (completed_unit u)
+completed-pipeline (Pipeline sched period complete piece) e = e
+completed-pipeline (Host capture phase params piece) e = e
+completed-pipeline (Dai capture format piece) e = e
+completed-pipeline (Volume gains piece) e = e
+completed-pipeline (Mixer piece) e = e
+completed-pipeline (Mux choice piece) e = e
+completed-pipeline (Eq eq next remaining) e = e
+completed-pipeline (Buffer size ring source sink) e = e
+
+set-plain : (phase : Phase) (params : Option Params) (u : units.Unit) → is_plain u ≡ true → is_plain (set_unit phase params u) ≡ true
+set-plain phase params (Host capture was before piece) e = refl
+set-plain phase params (Dai capture format piece) e = e
+set-plain phase params (Volume gains piece) e = e
+set-plain phase params (Mixer piece) e = e
+set-plain phase params (Mux choice piece) e = e
+set-plain phase params (Eq eq next remaining) e = e
+set-plain phase params (Buffer size ring source sink) e = e
+set-plain phase params (Pipeline sched period complete piece) e = e
+
+-- a change at one id
+abbrev at : (units.Unit → units.Unit) → ℕ → Component → Component
+at f id c = cond (c.id == id) (record { id = c.id; pipe = c.pipe; channels = c.channels; unit = f c.unit }) c
+
+at-id : (f : units.Unit → units.Unit) (id : ℕ) (c : Component) → (at f id c).id ≡ c.id
+at-id f id c = by (c.id == id)
+  where
+    by : (h : Bool) → (cond {A = Component} h (record { id = c.id; pipe = c.pipe; channels = c.channels; unit = f c.unit }) c).id ≡ c.id
+    by true = refl
+    by false = refl
+
+at-unit : (P : units.Unit → Type 0) (f : units.Unit → units.Unit) (id : ℕ) → ((u : units.Unit) → P u → P (f u)) → (c : Component) → P c.unit → P (at f id c).unit
+at-unit P f id keeps c e = by (c.id == id)
+  where
+    by : (h : Bool) → P (cond {A = Component} h (record { id = c.id; pipe = c.pipe; channels = c.channels; unit = f c.unit }) c).unit
+    by true = keeps c.unit e
+    by false = e
+
+at-sides : (f : units.Unit → units.Unit) (id : ℕ) → ((u : units.Unit) → sides_by (f u) ≡ sides_by u) → (c : Component) → sides_by (at f id c).unit ≡ sides_by c.unit
+at-sides f id same c = by (c.id == id)
+  where
+    by : (h : Bool) → sides_by (cond {A = Component} h (record { id = c.id; pipe = c.pipe; channels = c.channels; unit = f c.unit }) c).unit ≡ sides_by c.unit
+    by true = same c.unit
+    by false = refl
+
+pub completed-kept : (t : Tables) → IsKept t → (id : ℕ) (new : List Component) → new ≡ map (completed_at id) t.pipes → IsKept (record { comps = t.comps; buffers = t.buffers; pipes = new; joins = t.joins })
+completed-kept t kept id new is = pipes-changed t kept (completed_at id) new (at-id completed_unit id) (at-unit IsPiping completed_unit id completed-pipeline) is
+
+pub stream-kept : (t : Tables) → IsKept t → (id : ℕ) (phase : Phase) (params : Option Params) (new : List Component) → new ≡ map (set_at id phase params) t.comps → IsKept (record { comps = new; buffers = t.buffers; pipes = t.pipes; joins = t.joins })
+stream-kept t kept id phase params new is = comps-changed t kept (set_at id phase params) new (at-id (set_unit phase params) id) (at-unit (λ u. is_plain u ≡ true) (set_unit phase params) id (set-plain phase params)) is
+
+ended-buffer : (u : units.Unit) → IsBuffering u → IsBuffering (ended_unit u)
+ended-buffer (Pipeline sched period complete piece) e = e
+ended-buffer (Host capture phase params piece) e = e
+ended-buffer (Dai capture format piece) e = e
+ended-buffer (Volume gains piece) e = e
+ended-buffer (Mixer piece) e = e
+ended-buffer (Mux choice piece) e = e
+ended-buffer (Eq eq next remaining) e = e
+ended-buffer (Buffer size ring source sink) e = e
+
+ended-sides : (u : units.Unit) → sides_by (ended_unit u) ≡ sides_by u
+ended-sides (Pipeline sched period complete piece) = refl
+ended-sides (Host capture phase params piece) = refl
+ended-sides (Dai capture format piece) = refl
+ended-sides (Volume gains piece) = refl
+ended-sides (Mixer piece) = refl
+ended-sides (Mux choice piece) = refl
+ended-sides (Eq eq next remaining) = refl
+ended-sides (Buffer size ring source sink) = refl
+
+pub ended-kept : (t : Tables) → IsKept t → (id : ℕ) (new : List Component) → new ≡ map (ended_at id) t.buffers → IsKept (record { comps = t.comps; buffers = new; pipes = t.pipes; joins = t.joins })
+ended-kept t kept id new is = buffers-changed t kept (ended_at id) new (at-id ended_unit id) (at-sides ended_unit id ended-sides) (at-unit IsBuffering ended_unit id ended-buffer) is
+
+valued-plain : (values : List ℕ) (u : units.Unit) → is_plain u ≡ true → is_plain (valued_unit values u) ≡ true
+valued-plain values (Host capture phase params piece) e = e
+valued-plain values (Dai capture format piece) e = e
+valued-plain values (Volume gains piece) e = refl
+valued-plain values (Mixer piece) e = e
+valued-plain values (Mux choice piece) e = refl
+valued-plain values (Eq eq next remaining) e = e
+valued-plain values (Buffer size ring source sink) e = e
+valued-plain values (Pipeline sched period complete piece) e = e
+
+pub valued-kept : (t : Tables) → IsKept t → (id : ℕ) (values : List ℕ) (new : List Component) → new ≡ map (valued_at id values) t.comps → IsKept (record { comps = new; buffers = t.buffers; pipes = t.pipes; joins = t.joins })
+valued-kept t kept id values new is = comps-changed t kept (valued_at id values) new (at-id (valued_unit values) id) (at-unit (λ u. is_plain u ≡ true) (valued_unit values) id (valued-plain values)) is

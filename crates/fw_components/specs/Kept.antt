@@ -1,0 +1,83 @@
+-- What is so of the tables of a registry.
+use Rattle.std.specs.Prelude.{◌≡◌, ℕ, ◌+◌, ◌/◌, ◌%◌, ◌≤◌, List, [], ◌∷◌, length, filter, Bool, true, false, ◌||◌, ◌&&◌, not, Option, None, Some}
+use Rattle.std.specs.List.{AllByRecursion}
+use Rattle.stream_law.specs.declared.graph.Join.{Join}
+use Rattle.stream_law.specs.Placed.{Ascends}
+use Rattle.fw_components.specs.declared.component.Unit as units
+use Rattle.fw_components.specs.declared.component.Unit.TheVariants.{Buffer, Pipeline}
+use Rattle.fw_components.specs.declared.component.Component.{Component}
+use Rattle.fw_components.specs.Tables.{Tables, is_buffer, is_pipeline, source_by, sink_by}
+use Rattle.fw_components.specs.Changes.{has_id, touches}
+
+-- neither a buffer nor a pipeline
+abbrev pub is_plain : units.Unit → Bool
+is_plain unit = not (is_buffer unit || is_pipeline unit)
+
+-- ---- ids
+
+-- no component of the second list has the id of one of the first
+abbrev pub AreApart : List Component → List Component → Type 0
+AreApart cs ds = AllByRecursion (λ d. has_id cs d.id ≡ false) ds
+
+-- no id is that of two
+pub record IsNamed (t : Tables) : Type 0 where
+  pub comps : Ascends (λ c. c.id) t.comps
+  pub buffers : Ascends (λ c. c.id) t.buffers
+  pub pipes : Ascends (λ c. c.id) t.pipes
+  pub comps_buffers : AreApart t.comps t.buffers
+  pub comps_pipes : AreApart t.comps t.pipes
+  pub buffers_pipes : AreApart t.buffers t.pipes
+
+-- ---- joins
+
+-- how many sides of a buffer are joined, and how many of all
+abbrev pub side : Option ℕ → ℕ
+side None = 0
+side (Some end) = 1
+
+abbrev pub sides_by : units.Unit → ℕ
+sides_by unit = side (source_by unit) + side (sink_by unit)
+
+abbrev pub sides : List Component → ℕ
+sides [] = 0
+sides (c ∷ cs) = sides_by c.unit + sides cs
+
+-- how many joins are at an id
+abbrev pub joins_at : ℕ → List Join → ℕ
+joins_at id joins = length (filter (touches id) joins)
+
+-- a join is between a component and a buffer
+abbrev pub is_between : List Component → List Component → Join → Bool
+is_between comps buffers j = (has_id comps j.source && has_id buffers j.sink) || (has_id buffers j.source && has_id comps j.sink)
+
+-- each join is between a component and a buffer, and has a side of a buffer of its own
+pub record IsLinked (t : Tables) : Type 0 where
+  pub between : AllByRecursion (λ j. is_between t.comps t.buffers j ≡ true) t.joins
+  pub each : AllByRecursion (λ c. sides_by c.unit ≤ joins_at c.id t.joins) t.buffers
+  pub all : length t.joins ≤ sides t.buffers
+
+-- ---- all of it
+
+-- a ring has the words of its bytes; a period is a multiple of 1000 µs from 1000 to 10000
+abbrev pub IsSound : units.Unit → Type 0
+IsSound (Buffer size ring source sink) = ring.words ≡ size / 4
+IsSound (Pipeline sched period complete piece) = (1000 ≤ period) × (period ≤ 10000) × (period % 1000 ≡ 0)
+IsSound unit = Unit {0}
+
+-- a buffer's unit, and a pipeline's
+abbrev pub IsBuffering : units.Unit → Type 0
+IsBuffering unit = (is_buffer unit ≡ true) × IsSound unit
+
+abbrev pub IsPiping : units.Unit → Type 0
+IsPiping unit = (is_pipeline unit ≡ true) × IsSound unit
+
+-- there is no more than the limits say, each table holds what is its own, no id is that of two, and joins have sides of buffers
+pub record IsKept (t : Tables) : Type 0 where
+  pub comps : length t.comps ≤ 128
+  pub buffers : length t.buffers ≤ 128
+  pub pipes : length t.pipes ≤ 32
+  pub plain : AllByRecursion (λ c. is_plain c.unit ≡ true) t.comps
+  pub buffering : AllByRecursion (λ c. IsBuffering c.unit) t.buffers
+  pub piping : AllByRecursion (λ c. IsPiping c.unit) t.pipes
+  pub named : IsNamed t
+  pub linked : IsLinked t

@@ -1,0 +1,37 @@
+// How changes of the tables are seen in the firmware's state.
+ghost use Rattle.std.specs.Prelude.{◌≡◌, ℕ, List, ◌==◌, not, map, filter, true, Option};
+ghost use Rattle.std.specs.List.{AllByRecursion};
+ghost use Rattle.sof_base.specs.declared.format.Params.{Params};
+ghost use Rattle.stream_law.specs.declared.stream.Phase.{Phase};
+ghost use Rattle.stream_law.specs.Placed.{placed};
+ghost use Rattle.mbox_link.specs.Step.{completed, set_stream};
+ghost use Rattle.fw_components.specs.declared.component.Component.{Component};
+ghost use Rattle.fw_components.specs.Tables.{comp_by, edge_by, pipe_by, ring_by, streams_by, is_pipeline};
+ghost use Rattle.fw_components.specs.Changes.{completed_at, set_at};
+
+/// What is placed in a table is placed in the graph and among the rings.
+pub fn additions_are_seen()
+    ensures comps { (c : Component) (cs : List Component) → map comp_by (placed (λ x. x.id) c cs) ≡ placed (λ x. x.id) (comp_by c) (map comp_by cs) }
+    ensures edges { (c : Component) (cs : List Component) → map edge_by (placed (λ x. x.id) c cs) ≡ placed (λ x. x.buffer) (edge_by c) (map edge_by cs) }
+    ensures pipes { (c : Component) (cs : List Component) → map pipe_by (placed (λ x. x.id) c cs) ≡ placed (λ x. x.id) (pipe_by c) (map pipe_by cs) }
+    ensures rings { (c : Component) (cs : List Component) → map ring_by (placed (λ x. x.id) c cs) ≡ placed (λ x. x.buffer) (ring_by c) (map ring_by cs) }
+{}
+
+/// What goes from a table goes from the graph, the rings and the streams.
+pub fn removals_are_seen()
+    ensures comps { (id : ℕ) (cs : List Component) → map comp_by (filter (λ x. not (x.id == id)) cs) ≡ filter (λ x. not (x.id == id)) (map comp_by cs) }
+    ensures edges { (id : ℕ) (cs : List Component) → map edge_by (filter (λ x. not (x.id == id)) cs) ≡ filter (λ x. not (x.buffer == id)) (map edge_by cs) }
+    ensures pipes { (id : ℕ) (cs : List Component) → map pipe_by (filter (λ x. not (x.id == id)) cs) ≡ filter (λ x. not (x.id == id)) (map pipe_by cs) }
+    ensures rings { (id : ℕ) (cs : List Component) → map ring_by (filter (λ x. not (x.id == id)) cs) ≡ filter (λ x. not (x.buffer == id)) (map ring_by cs) }
+{}
+
+/// What is set at a pipeline is set in the graph.
+pub fn completions_are_seen()
+    ensures { (id : ℕ) (cs : List Component) → AllByRecursion (λ c. is_pipeline c.unit ≡ true) cs → map pipe_by (map (completed_at id) cs) ≡ map (completed id) (map pipe_by cs) }
+{}
+
+/// What is set at a host is set among the streams, and leaves the graph.
+pub fn settings_are_seen()
+    ensures streams { (host : ℕ) (phase : Phase) (params : Option Params) (cs : List Component) → streams_by (map (set_at host phase params) cs) ≡ map (set_stream host phase params) (streams_by cs) }
+    ensures comps { (host : ℕ) (phase : Phase) (params : Option Params) (cs : List Component) → map comp_by (map (set_at host phase params) cs) ≡ map comp_by cs }
+{}

@@ -1,0 +1,320 @@
+// All components, buffers and pipelines, and their joins.
+ghost use Rattle.std.specs.Prelude.{OnErr, find, ◌≡◌, ◌+◌, ◌==◌, ◌&&◌, ◌<◌, ◌≤◌, ◌++◌, ◌∷◌, [], length, position, IfOk, vec_len, vec_capacity, filter, not, OnOk, IfErr, IsErr, ◌↔◌, true, false, map, slice_index_or, slice_get, option_copied};
+ghost use Rattle.fw_components.specs.declared.component.Component.{Component};
+ghost use Rattle.fw_components.specs.Tables.{all_of, is_host_unit, frames_at, capacity_at};
+ghost use Rattle.std.specs.Option.{option_map_or};
+ghost use Rattle.std.specs.List.{list_any, AllByRecursion};
+ghost use Rattle.fw_components.specs.Values.{takes, values_set, left_with, values_at, told};
+ghost use Rattle.fw_components.specs.Changes.{added, is_full, is_there, IsNew, has_new_index, completed_at, ended_at, set_at, found, IsFoundOf, IsOf, given_found, given_all, has_id, touches, without, can_join, with_join};
+
+use crate::component::Component;
+use crate::table::{
+    complete_in, end_in, give_all, join_in, place, place_of, set_stream_in, take_at, value_in,
+};
+use fw_heap::Region;
+use sof_base::{Bounded, Errno, NoMemory, Params};
+use std::alloc::Global;
+use std::marker::Model;
+use stream_law::{Join, Phase};
+
+/// At most 128 components, 128 buffers and 32 pipelines with their pieces, and the joins of components and buffers, in memory that
+/// was reserved for them.
+pub struct Registry {
+    comps: Vec<Component>,
+    buffers: Vec<Component>,
+    pipes: Vec<Component>,
+    joins: Vec<Join>,
+}
+
+/// A component that the registry has no room for.
+pub struct RegistryFull {
+    pub component: Component,
+}
+
+impl Model for Registry {
+    ghost use Rattle.fw_components.specs.Tables.{Tables};
+
+    ghost Value = { Tables };
+
+    ghost use Rattle.fw_components.specs.Laid.{tables_of, IsLaid};
+
+    ghost view = { tables_of };
+
+    ghost invariant = { IsLaid };
+}
+
+impl Registry {
+    /// An empty registry, with memory for all that it may hold.
+    pub fn new(alloc: Global) -> Result<Registry, NoMemory>
+        ensures { IfOk result (λ registry. registry ≡ record { comps = []; buffers = []; pipes = []; joins = [] }) }
+    {
+        let Ok(comps) = Vec::with_capacity(alloc, 128) else {
+            return Err(NoMemory);
+        };
+        let Ok(buffers) = Vec::with_capacity(alloc, 128) else {
+            comps.destroy_empty();
+            return Err(NoMemory);
+        };
+        let Ok(pipes) = Vec::with_capacity(alloc, 32) else {
+            comps.destroy_empty();
+            buffers.destroy_empty();
+            return Err(NoMemory);
+        };
+        let Ok(joins) = Vec::with_capacity(alloc, 256) else {
+            comps.destroy_empty();
+            buffers.destroy_empty();
+            pipes.destroy_empty();
+            return Err(NoMemory);
+        };
+        Ok(Registry {
+            comps,
+            buffers,
+            pipes,
+            joins,
+        })
+    }
+
+    /// How many components, buffers and pipelines there are.
+    pub fn len(&self) -> u16
+        ensures { result ≡ length (all_of self.now) }
+    {
+        (self.comps.len() + self.buffers.len() + self.pipes.len()) as u16
+    }
+
+    /// The place of the one of this id.
+    pub fn find(&self, id: u32) -> Option<u16>
+        ensures { result ≡ position (λ c. c.id == id) (all_of self.now) }
+    {
+        if let Some(at) = place_of(self.comps.as_slice(), id) {
+            return Some(at as u16);
+        }
+        if let Some(at) = place_of(self.buffers.as_slice(), id) {
+            return Some((self.comps.len() + at) as u16);
+        }
+        if let Some(at) = place_of(self.pipes.as_slice(), id) {
+            return Some((self.comps.len() + self.buffers.len() + at) as u16);
+        }
+        None
+    }
+
+    /// The one at a place.
+    pub fn at(&self, k: u16) -> &Component
+        requires { k < length (all_of self.now) }
+        ensures { (d : Component) → result.now ≡ slice_index_or (all_of self.now) k d }
+    {
+        let at = k as usize;
+        let (comps, buffers) = (self.comps.len(), self.buffers.len());
+        if at < comps {
+            &self.comps[at]
+        } else if at - comps < buffers {
+            &self.buffers[at - comps]
+        } else {
+            &self.pipes[at - comps - buffers]
+        }
+    }
+
+    /// The join at a place, in the order in which they came; none past the last.
+    pub fn join_at(&self, k: u16) -> Option<Join>
+        ensures { result ≡ slice_get self.now.joins k }
+    {
+        self.joins.get(k as usize).copied()
+    }
+
+    /// Adds what has a new id, unless there are 128 components, 128 buffers or 32 pipelines already. Then it comes back.
+    pub fn add(&mut self, component: Component) -> Result<(), RegistryFull>
+        requires id { is_there self.old component.id ≡ false }
+        requires unit { IsNew component.unit }
+        requires index { has_new_index component self.old ≡ true }
+        ensures full { IsErr result ↔ (is_full component.unit self.old ≡ true) }
+        ensures ok { OnOk result (self.new ≡ added component self.old) }
+        ensures err { IfErr result (λ full. (full.component ≡ component) × (self.new ≡ self.old)) }
+    {
+        if component.unit.is_buffer() {
+            if self.buffers.len() >= 128 {
+                return Err(RegistryFull { component });
+            }
+            place(&mut self.buffers, component);
+            return Ok(());
+        }
+        if component.unit.is_pipeline() {
+            if self.pipes.len() >= 32 {
+                return Err(RegistryFull { component });
+            }
+            place(&mut self.pipes, component);
+            return Ok(());
+        }
+        if self.comps.len() >= 128 {
+            return Err(RegistryFull { component });
+        }
+        place(&mut self.comps, component);
+        Ok(())
+    }
+
+    /// Joins a component and a buffer, whose side is not joined yet, last in order. This takes no memory.
+    pub fn join(&mut self, source: u32, sink: u32)
+        requires { can_join self.old (record { source = source; sink = sink }) ≡ true }
+        ensures { self.new ≡ with_join (record { source = source; sink = sink }) self.old }
+    {
+        let join = Join { source, sink };
+        join_in(&mut self.buffers, join);
+        put_join(&mut self.joins, join);
+    }
+
+    /// The pipeline of this id is complete.
+    pub fn set_complete(&mut self, id: u32)
+        requires { list_any (λ c. c.id == id) self.old.pipes ≡ true }
+        ensures { self.new ≡ record { comps = self.old.comps; buffers = self.old.buffers; pipes = map (completed_at id) self.old.pipes; joins = self.old.joins } }
+    {
+        complete_in(&mut self.pipes, id);
+    }
+
+    /// The host of this id has this phase and these parameters.
+    pub fn set_stream(&mut self, host: u32, phase: Phase, params: Option<Params>)
+        requires host { list_any (λ c. c.id == host && is_host_unit c.unit) self.old.comps ≡ true }
+        ensures { self.new ≡ record { comps = map (set_at host phase params) self.old.comps; buffers = self.old.buffers; pipes = self.old.pipes; joins = self.old.joins } }
+    {
+        set_stream_in(&mut self.comps, host, phase, params);
+    }
+
+    /// The one of this id is gone, a buffer with its joins, and its piece is given back.
+    pub fn remove(&mut self, id: u32, region: &mut Region)
+        requires there { is_there self.old id ≡ true }
+        requires region { IsFoundOf region.old.home (found self.old id) }
+        requires alone { has_id self.old.buffers id ≡ false → list_any (touches id) self.old.joins ≡ false }
+        ensures tables { self.new ≡ without id self.old }
+        ensures holes { region.new.holes ≡ given_found (found self.old id) region.old.holes }
+        ensures same { (region.new.home ≡ region.old.home) × (region.new.size ≡ region.old.size) × (region.new.usable ≡ region.old.usable) }
+    {
+        if let Some(at) = place_of(self.comps.as_slice(), id) {
+            let component = take_at(&mut self.comps, at, id);
+            region.give(component.into_piece());
+        } else if let Some(at) = place_of(self.buffers.as_slice(), id) {
+            let component = take_at(&mut self.buffers, at, id);
+            remove_joins(&mut self.joins, id);
+            region.give(component.into_piece());
+        } else if let Some(at) = place_of(self.pipes.as_slice(), id) {
+            let component = take_at(&mut self.pipes, at, id);
+            region.give(component.into_piece());
+        }
+    }
+
+    /// Nothing is there any more, and all pieces are given back.
+    pub fn remove_all(&mut self, region: &mut Region)
+        requires { AllByRecursion (IsOf region.old.home) (all_of self.old) }
+        ensures tables { self.new ≡ record { comps = []; buffers = []; pipes = []; joins = [] } }
+        ensures holes { region.new.holes ≡ given_all (all_of self.old) region.old.holes }
+        ensures same { (region.new.home ≡ region.old.home) × (region.new.size ≡ region.old.size) × (region.new.usable ≡ region.old.usable) }
+    {
+        give_all(&mut self.comps, region);
+        give_all(&mut self.buffers, region);
+        give_all(&mut self.pipes, region);
+        self.joins.clear();
+    }
+
+    /// The ring of this buffer is empty.
+    pub fn end(&mut self, buffer: u32)
+        requires { has_id self.old.buffers buffer ≡ true }
+        ensures { self.new ≡ record { comps = self.old.comps; buffers = map (ended_at buffer) self.old.buffers; pipes = self.old.pipes; joins = self.old.joins } }
+    {
+        end_in(&mut self.buffers, buffer);
+    }
+
+    /// How many frames a buffer holds.
+    pub fn held(&self, buffer: u32) -> u32
+        requires { has_id self.now.buffers buffer ≡ true }
+        ensures { result ≡ length (frames_at self.now buffer) }
+    {
+        match place_of(self.buffers.as_slice(), buffer) {
+            Some(at) => self.buffers[at].held(),
+            None => 0,
+        }
+    }
+
+    /// How many more frames a buffer has room for.
+    pub fn free(&self, buffer: u32) -> u32
+        requires { has_id self.now.buffers buffer ≡ true }
+        ensures { result + length (frames_at self.now buffer) ≡ capacity_at self.now buffer }
+    {
+        match place_of(self.buffers.as_slice(), buffer) {
+            Some(at) => self.buffers[at].room(),
+            None => 0,
+        }
+    }
+
+    /// The values of a volume by command 0, and of a mux by command 1.
+    pub fn values(&self, id: u32, command: u32) -> Result<Bounded<u32, 8>, Errno>
+        ensures { told result ≡ values_at self.now id command }
+    {
+        if self.find(id).is_none() {
+            return Err(Errno::NO_DEVICE);
+        }
+        let Some(at) = place_of(self.comps.as_slice(), id) else {
+            return Err(Errno::INVALID);
+        };
+        match self.comps[at].values(command) {
+            Some(values) => Ok(values),
+            None => Err(Errno::INVALID),
+        }
+    }
+
+    /// Sets the gains of a volume by command 0, and the choice of a mux by command 1.
+    pub fn set_values(&mut self, id: u32, command: u32, values: &[u32]) -> Result<(), Errno>
+        ensures answer { left_with self.new result ≡ values_set self.old id command values.now }
+        ensures kept { OnErr result (self.new ≡ self.old) }
+    {
+        if self.find(id).is_none() {
+            return Err(Errno::NO_DEVICE);
+        }
+        if !self.takes(id, command, values) {
+            return Err(Errno::INVALID);
+        }
+        value_in(&mut self.comps, id, values);
+        Ok(())
+    }
+
+    // Whether a component takes values by a command.
+    fn takes(&self, id: u32, command: u32, values: &[u32]) -> bool
+        ensures { result ≡ option_map_or (λ c. takes c.unit command values.now) (find (λ c. c.id == id) self.now.comps) false }
+    {
+        match place_of(self.comps.as_slice(), id) {
+            Some(at) => self.comps[at].takes(command, values),
+            None => false,
+        }
+    }
+
+    /// Gives the memory back, once nothing is there.
+    pub fn close(self)
+        requires { length (all_of self) ≡ 0 }
+    {
+        let Registry {
+            comps,
+            buffers,
+            pipes,
+            joins: _,
+        } = self;
+        comps.destroy_empty();
+        buffers.destroy_empty();
+        pipes.destroy_empty();
+    }
+}
+
+// Puts a join behind the others.
+fn put_join(joins: &mut Vec<Join>, join: Join)
+    requires room { vec_len joins.old < vec_capacity joins.old }
+    ensures items { joins.new.items ≡ joins.old.items ++ join ∷ [] }
+    ensures capacity { vec_capacity joins.new ≡ vec_capacity joins.old }
+{
+    let end = joins.len();
+    match joins.insert(end, join) {
+        Ok(()) => (),
+        Err(_refused) => unreachable!(),
+    }
+}
+
+// Drops the joins at an id.
+fn remove_joins(joins: &mut Vec<Join>, id: u32)
+    ensures items { joins.new.items ≡ filter (λ j. not (touches id j)) joins.old.items }
+    ensures capacity { vec_capacity joins.new ≡ vec_capacity joins.old }
+{
+    joins.retain(|join| join.source != id && join.sink != id);
+}

@@ -42,7 +42,7 @@ never-there id cs e = sym (first-any (λ (c : Component). c.id == id) cs) ∙ ap
 
 -- ---- what is found
 
-find-first : (id : ℕ) (xs ys : List Component) → has_id xs id ≡ true → find (λ c. c.id == id) (xs ++ ys) ≡ find (λ c. c.id == id) xs
+pub find-first : (id : ℕ) (xs ys : List Component) → has_id xs id ≡ true → find (λ c. c.id == id) (xs ++ ys) ≡ find (λ c. c.id == id) xs
 find-first id [] ys e = absurd (true≢false (sym e))
 find-first id (x ∷ xs) ys e = by (x.id == id) e (find-first id xs ys)
   where
@@ -50,7 +50,7 @@ find-first id (x ∷ xs) ys e = by (x.id == id) e (find-first id xs ys)
     by true e rest = refl
     by false e rest = rest e
 
-find-past : (id : ℕ) (xs ys : List Component) → has_id xs id ≡ false → find (λ c. c.id == id) (xs ++ ys) ≡ find (λ c. c.id == id) ys
+pub find-past : (id : ℕ) (xs ys : List Component) → has_id xs id ≡ false → find (λ c. c.id == id) (xs ++ ys) ≡ find (λ c. c.id == id) ys
 find-past id [] ys e = refl
 find-past id (x ∷ xs) ys e = by (x.id == id) e (find-past id xs ys)
   where

@@ -1,3 +1,4 @@
+mod Begun
 mod Going
 mod GoneKept
 mod Ids
@@ -7,6 +8,9 @@ mod Joining
 mod KeptLaws
 mod Linked
 mod Positions
+mod Putting
 mod SeenLaws
+mod Standing
+mod Started
 mod Taking
 mod Told

@@ -27,6 +27,25 @@ found-by {X} p (x ∷ xs) at d e = by (p x) e (found-by p xs)
     by true e rest = ap (λ i. Some (get_or (x ∷ xs) i d)) (some-is 0 at 0 e)
     by false e rest = later (first p xs) e rest
 
+-- the first that passes stands at the first place that passes; none does where there is no such place
+pub found-at : {X : Type 0} (p : X → Bool) (xs : List X) (at : ℕ) (d : X) → Some at ≡ position p xs → Some (get_or xs at d) ≡ find p xs
+found-at p xs at d e = found-by p xs at d (e ∙ first-is p xs)
+
+none-by : {X : Type 0} (p : X → Bool) (xs : List X) → None ≡ first p xs → find p xs ≡ None
+none-by p [] e = refl
+none-by {X} p (x ∷ xs) e = by (p x) e (none-by p xs)
+  where
+    later : (o : Option ℕ) → None ≡ option_map suc o → None ≡ o
+    later None e = refl
+    later (Some k) e = absurd (cc e)
+
+    by : (h : Bool) → None ≡ cond h (Some 0) (option_map suc (first p xs)) → (None ≡ first p xs → find p xs ≡ None) → cond h (Some x) (find p xs) ≡ None
+    by true e rest = absurd (cc e)
+    by false e rest = rest (later (first p xs) e)
+
+pub none-found : {X : Type 0} (p : X → Bool) (xs : List X) → None ≡ position p xs → find p xs ≡ None
+none-found p xs e = none-by p xs (e ∙ first-is p xs)
+
 pub taken-found : (id : ℕ) (cs : List Component) (at : ℕ) (d : Component) → Some at ≡ position (λ c. c.id == id) cs → Some (get_or cs at d) ≡ find (λ c. c.id == id) cs
 taken-found id cs at d e = found-by (λ c. c.id == id) cs at d (e ∙ first-is (λ (c : Component). c.id == id) cs)
 

@@ -1,15 +1,14 @@
 // What stands in a registry.
-ghost use Rattle.std.specs.Prelude.{◌≡◌, ◌==◌, ◌+◌, length, nat_le, if◌then◌else◌};
+ghost use Rattle.std.specs.Prelude.{◌≡◌, ◌+◌, length, nat_le};
 ghost use Rattle.fw_components.specs.Tables.{is_buffer, is_pipeline, piece_of, frames_by, capacity_by};
-ghost use Rattle.fw_components.specs.Values.{values_by, takes, valued_unit, valued_at};
+ghost use Rattle.fw_components.specs.Values.{values_by, takes};
 ghost use Rattle.std.specs.List.{list_all};
-ghost use Rattle.fw_components.specs.Changes.{completed_unit, completed_at, ended_unit, ended_at, set_unit, set_at, sourced_unit, sunk_unit, joined_at};
 
 use eq_biquad::Eq;
 use fw_heap::Piece;
 use fw_ring::Ring;
 use sof_base::{Bounded, Format, Params};
-use stream_law::{Join, Phase};
+use stream_law::Phase;
 
 /// What a component is, with its piece. An equaliser has the number of the part that is next and how many bytes remain; a buffer
 /// has the components that are joined to it.
@@ -93,132 +92,9 @@ impl Unit {
             Unit::Pipeline { .. } => true,
         }
     }
-
-    // A pipeline is complete.
-    fn complete(&mut self)
-        ensures { self.new ≡ completed_unit self.old }
-    {
-        match self {
-            Unit::Host { .. } => (),
-            Unit::Dai { .. } => (),
-            Unit::Volume { .. } => (),
-            Unit::Mixer { .. } => (),
-            Unit::Mux { .. } => (),
-            Unit::Eq { .. } => (),
-            Unit::Buffer { .. } => (),
-            Unit::Pipeline { complete, .. } => *complete = true,
-        }
-    }
-
-    // A host has this phase and these parameters.
-    fn set_stream(&mut self, to: Phase, given: Option<Params>)
-        ensures { self.new ≡ set_unit to given self.old }
-    {
-        match self {
-            Unit::Host { phase, params, .. } => {
-                *phase = to;
-                *params = given;
-            }
-            Unit::Dai { .. } => (),
-            Unit::Volume { .. } => (),
-            Unit::Mixer { .. } => (),
-            Unit::Mux { .. } => (),
-            Unit::Eq { .. } => (),
-            Unit::Buffer { .. } => (),
-            Unit::Pipeline { .. } => (),
-        }
-    }
-
-    // A volume has these gains, if they are as many, and a mux this choice.
-    fn set_values(&mut self, values: &[u32])
-        ensures { self.new ≡ valued_unit values.now self.old }
-    {
-        match self {
-            Unit::Host { .. } => (),
-            Unit::Dai { .. } => (),
-            Unit::Volume { gains, .. } => set_gains(gains, values),
-            Unit::Mixer { .. } => (),
-            Unit::Mux { choice, .. } => {
-                if let [value, ..] = values {
-                    *choice = *value;
-                }
-            }
-            Unit::Eq { .. } => (),
-            Unit::Buffer { .. } => (),
-            Unit::Pipeline { .. } => (),
-        }
-    }
-
-    // A buffer has this component as its source.
-    fn set_source(&mut self, id: u32)
-        ensures { self.new ≡ sourced_unit id self.old }
-    {
-        match self {
-            Unit::Host { .. } => (),
-            Unit::Dai { .. } => (),
-            Unit::Volume { .. } => (),
-            Unit::Mixer { .. } => (),
-            Unit::Mux { .. } => (),
-            Unit::Eq { .. } => (),
-            Unit::Buffer { source, .. } => *source = Some(id),
-            Unit::Pipeline { .. } => (),
-        }
-    }
-
-    // A buffer has this component as its sink.
-    fn set_sink(&mut self, id: u32)
-        ensures { self.new ≡ sunk_unit id self.old }
-    {
-        match self {
-            Unit::Host { .. } => (),
-            Unit::Dai { .. } => (),
-            Unit::Volume { .. } => (),
-            Unit::Mixer { .. } => (),
-            Unit::Mux { .. } => (),
-            Unit::Eq { .. } => (),
-            Unit::Buffer { sink, .. } => *sink = Some(id),
-            Unit::Pipeline { .. } => (),
-        }
-    }
-
-    // A ring is empty.
-    fn end(&mut self)
-        ensures { self.new ≡ ended_unit self.old }
-    {
-        match self {
-            Unit::Host { .. } => (),
-            Unit::Dai { .. } => (),
-            Unit::Volume { .. } => (),
-            Unit::Mixer { .. } => (),
-            Unit::Mux { .. } => (),
-            Unit::Eq { .. } => (),
-            Unit::Buffer { ring, .. } => ring.clear(),
-            Unit::Pipeline { .. } => (),
-        }
-    }
 }
 
 impl Component {
-    /// The buffer's ring is empty if it has this id.
-    pub(crate) fn end(&mut self, id: u32)
-        ensures { self.new ≡ ended_at id self.old }
-    {
-        if self.id == id {
-            self.unit.end();
-        }
-    }
-
-    /// The buffer's side that a join is at is joined.
-    pub(crate) fn join(&mut self, join: Join)
-        ensures { self.new ≡ joined_at join self.old }
-    {
-        if self.id == join.source {
-            self.unit.set_sink(join.sink);
-        } else if self.id == join.sink {
-            self.unit.set_source(join.source);
-        }
-    }
-
     /// The piece that it holds.
     pub(crate) fn into_piece(self) -> Piece
         ensures { result ≡ piece_of self.unit }
@@ -339,44 +215,6 @@ impl Component {
             Unit::Eq { .. } => false,
             Unit::Buffer { .. } => false,
             Unit::Pipeline { .. } => false,
-        }
-    }
-
-    /// The component has these values if it has this id.
-    pub(crate) fn set_values(&mut self, id: u32, values: &[u32])
-        ensures { self.new ≡ valued_at id values.now self.old }
-    {
-        if self.id == id {
-            self.unit.set_values(values);
-        }
-    }
-
-    /// The pipeline is complete if it has this id.
-    pub(crate) fn complete(&mut self, id: u32)
-        ensures { self.new ≡ completed_at id self.old }
-    {
-        if self.id == id {
-            self.unit.complete();
-        }
-    }
-
-    /// The host has this phase and these parameters if it has this id.
-    pub(crate) fn set_stream(&mut self, id: u32, phase: Phase, params: Option<Params>)
-        ensures { self.new ≡ set_at id phase params self.old }
-    {
-        if self.id == id {
-            self.unit.set_stream(phase, params);
-        }
-    }
-}
-
-// Sets gains, if they are as many.
-fn set_gains(gains: &mut Bounded<u32, 8>, values: &[u32])
-    ensures { gains.new ≡ (if length values.now == length gains.old then values.now else gains.old) }
-{
-    if values.len() == gains.items().len() {
-        if let Some(given) = Bounded::new(values) {
-            *gains = given;
         }
     }
 }

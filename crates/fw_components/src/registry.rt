@@ -20,10 +20,10 @@ use stream_law::{Join, Phase};
 /// At most 128 components, 128 buffers and 32 pipelines with their pieces, and the joins of components and buffers, in memory that
 /// was reserved for them.
 pub struct Registry {
-    comps: Vec<Component>,
-    buffers: Vec<Component>,
-    pipes: Vec<Component>,
-    joins: Vec<Join>,
+    pub(crate) comps: Vec<Component>,
+    pub(crate) buffers: Vec<Component>,
+    pub(crate) pipes: Vec<Component>,
+    pub(crate) joins: Vec<Join>,
 }
 
 /// A component that the registry has no room for.

@@ -69,6 +69,14 @@ impl Ring {
         (self.window.start * self.window.channels) as u32
     }
 
+    /// How many samples a frame has, 1 to 8.
+    pub fn channels(&self) -> u8
+        ensures channels { result ≡ self.now.channels }
+        ensures range { (1 ≤ result) × (result ≤ 8) }
+    {
+        self.window.channels as u8
+    }
+
     /// How many frames there are.
     pub fn len(&self) -> u32
         ensures count { result ≡ length self.now.frames }

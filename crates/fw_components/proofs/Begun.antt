@@ -1,0 +1,154 @@
+-- What begins, and changes of the frames of one buffer: what they keep.
+use Rattle.std.proofs.Common.{◌≡◌, refl, sym, ap, ◌∙◌, ℕ, ◌*◌, ◌≤◌, List, [], ◌∷◌, ◌++◌, map, take, length, Bool, true, false, cond, ◌==◌, arith, ℤ}
+use Rattle.sof_base.specs.Samples.{Frame, samples_of}
+use Rattle.fw_ring.specs.RingState.{RingState, SameRing}
+use Rattle.eq_biquad.specs.EqState.{EqState, OnlyNumbers}
+use Rattle.fw_components.specs.declared.component.Component.{Component}
+use Rattle.fw_components.specs.declared.component.Unit as units
+use Rattle.fw_components.specs.declared.component.Unit.TheVariants.{Host, Dai, Volume, Mixer, Mux, Eq, Buffer, Pipeline}
+use Rattle.fw_components.specs.Tables.{Tables}
+use Rattle.fw_components.specs.Kept.{IsKept, IsBuffering, IsPiping, is_plain, sides_by}
+use Rattle.fw_components.specs.Frames.{with_words, begun_unit, begun_by, begun_at, taken_unit, taken_by, taken_at, pushed_ring, pushed_unit, pushed_by, pushed_at}
+use Rattle.fw_components.proofs.KeptLaws.{comps-changed, buffers-changed, pipes-changed}
+
+-- ---- equalisers and rings with other words
+
+pub only-is : (old new : EqState) → OnlyNumbers old new → new ≡ record { blob = old.blob; piece = with_words new.piece.words old.piece }
+only-is old new only = λ i. record { blob = only.blob i; piece = record { home = only.home i; place = only.place i; size = only.size i; words = new.piece.words } }
+
+pub pushed-is : (old new : RingState) (frames : List Frame) → new.frames ≡ old.frames ++ frames → SameRing old new → new ≡ pushed_ring frames new.piece.words old
+pushed-is old new frames more same = λ i. record { frames = more i; words = same.words i; channels = same.channels i; start = same.start i; piece = record { home = same.home i; place = same.place i; size = same.size i; words = new.piece.words } }
+
+-- of what is no buffer nothing is copied
+pub none-copied : (n : ℕ) (xs : List ℤ) → n ≤ 0 → length xs ≡ n * 1 → xs ≡ samples_of (take n [])
+none-copied n xs none long = empty xs (omega (arith, none, long)) ∙ sym (ap samples_of (nothing n (omega (arith, none))))
+  where
+    empty : (xs : List ℤ) → length xs ≡ 0 → xs ≡ []
+    empty [] e = refl
+    empty (x ∷ xs) e = absurd (omega (arith, e))
+
+    nothing : (n : ℕ) → n ≡ 0 → take {A = Frame} n [] ≡ []
+    nothing n e = ap (λ k. take {A = Frame} k []) e
+
+-- ---- each change keeps what a unit is
+
+begun-plain : (channels : ℕ) → (words : List ℤ) → (u : units.Unit) → is_plain u ≡ true → is_plain (begun_unit channels words u) ≡ true
+begun-plain channels words (Host capture phase params piece) e = e
+begun-plain channels words (Dai capture format piece) e = e
+begun-plain channels words (Volume gains piece) e = e
+begun-plain channels words (Mixer piece) e = e
+begun-plain channels words (Mux choice piece) e = e
+begun-plain channels words (Eq eq next remaining) e = e
+begun-plain channels words (Buffer size ring source sink) e = e
+begun-plain channels words (Pipeline sched period complete piece) e = e
+
+begun-buffering : (channels : ℕ) → (words : List ℤ) → (u : units.Unit) → IsBuffering u → IsBuffering (begun_unit channels words u)
+begun-buffering channels words (Host capture phase params piece) e = e
+begun-buffering channels words (Dai capture format piece) e = e
+begun-buffering channels words (Volume gains piece) e = e
+begun-buffering channels words (Mixer piece) e = e
+begun-buffering channels words (Mux choice piece) e = e
+begun-buffering channels words (Eq eq next remaining) e = e
+begun-buffering channels words (Buffer size ring source sink) e = e
+begun-buffering channels words (Pipeline sched period complete piece) e = e
+
+begun-piping : (channels : ℕ) → (words : List ℤ) → (u : units.Unit) → IsPiping u → IsPiping (begun_unit channels words u)
+begun-piping channels words (Host capture phase params piece) e = e
+begun-piping channels words (Dai capture format piece) e = e
+begun-piping channels words (Volume gains piece) e = e
+begun-piping channels words (Mixer piece) e = e
+begun-piping channels words (Mux choice piece) e = e
+begun-piping channels words (Eq eq next remaining) e = e
+begun-piping channels words (Buffer size ring source sink) e = e
+begun-piping channels words (Pipeline sched period complete piece) e = e
+
+begun-sides : (channels : ℕ) → (words : List ℤ) → (u : units.Unit) → sides_by (begun_unit channels words u) ≡ sides_by u
+begun-sides channels words (Host capture phase params piece) = refl
+begun-sides channels words (Dai capture format piece) = refl
+begun-sides channels words (Volume gains piece) = refl
+begun-sides channels words (Mixer piece) = refl
+begun-sides channels words (Mux choice piece) = refl
+begun-sides channels words (Eq eq next remaining) = refl
+begun-sides channels words (Buffer size ring source sink) = refl
+begun-sides channels words (Pipeline sched period complete piece) = refl
+
+taken-buffering : (n : ℕ) → (u : units.Unit) → IsBuffering u → IsBuffering (taken_unit n u)
+taken-buffering n (Host capture phase params piece) e = e
+taken-buffering n (Dai capture format piece) e = e
+taken-buffering n (Volume gains piece) e = e
+taken-buffering n (Mixer piece) e = e
+taken-buffering n (Mux choice piece) e = e
+taken-buffering n (Eq eq next remaining) e = e
+taken-buffering n (Buffer size ring source sink) e = e
+taken-buffering n (Pipeline sched period complete piece) e = e
+
+taken-sides : (n : ℕ) → (u : units.Unit) → sides_by (taken_unit n u) ≡ sides_by u
+taken-sides n (Host capture phase params piece) = refl
+taken-sides n (Dai capture format piece) = refl
+taken-sides n (Volume gains piece) = refl
+taken-sides n (Mixer piece) = refl
+taken-sides n (Mux choice piece) = refl
+taken-sides n (Eq eq next remaining) = refl
+taken-sides n (Buffer size ring source sink) = refl
+taken-sides n (Pipeline sched period complete piece) = refl
+
+pushed-buffering : (frames : List Frame) → (words : List ℤ) → (u : units.Unit) → IsBuffering u → IsBuffering (pushed_unit frames words u)
+pushed-buffering frames words (Host capture phase params piece) e = e
+pushed-buffering frames words (Dai capture format piece) e = e
+pushed-buffering frames words (Volume gains piece) e = e
+pushed-buffering frames words (Mixer piece) e = e
+pushed-buffering frames words (Mux choice piece) e = e
+pushed-buffering frames words (Eq eq next remaining) e = e
+pushed-buffering frames words (Buffer size ring source sink) e = e
+pushed-buffering frames words (Pipeline sched period complete piece) e = e
+
+pushed-sides : (frames : List Frame) → (words : List ℤ) → (u : units.Unit) → sides_by (pushed_unit frames words u) ≡ sides_by u
+pushed-sides frames words (Host capture phase params piece) = refl
+pushed-sides frames words (Dai capture format piece) = refl
+pushed-sides frames words (Volume gains piece) = refl
+pushed-sides frames words (Mixer piece) = refl
+pushed-sides frames words (Mux choice piece) = refl
+pushed-sides frames words (Eq eq next remaining) = refl
+pushed-sides frames words (Buffer size ring source sink) = refl
+pushed-sides frames words (Pipeline sched period complete piece) = refl
+
+-- ---- a change at one id
+
+at-id : (g : Component → Component) → ((c : Component) → (g c).id ≡ c.id) → (id : ℕ) (c : Component) → (cond {A = Component} (c.id == id) (g c) c).id ≡ c.id
+at-id g same id c = by (c.id == id)
+  where
+    by : (h : Bool) → (cond {A = Component} h (g c) c).id ≡ c.id
+    by true = same c
+    by false = refl
+
+at-unit : (P : units.Unit → Type 0) (g : Component → Component) → ((c : Component) → P c.unit → P (g c).unit) → (id : ℕ) (c : Component) → P c.unit → P (cond {A = Component} (c.id == id) (g c) c).unit
+at-unit P g keeps id c e = by (c.id == id)
+  where
+    by : (h : Bool) → P (cond {A = Component} h (g c) c).unit
+    by true = keeps c e
+    by false = e
+
+at-sides : (g : Component → Component) → ((c : Component) → sides_by (g c).unit ≡ sides_by c.unit) → (id : ℕ) (c : Component) → sides_by (cond {A = Component} (c.id == id) (g c) c).unit ≡ sides_by c.unit
+at-sides g same id c = by (c.id == id)
+  where
+    by : (h : Bool) → sides_by (cond {A = Component} h (g c) c).unit ≡ sides_by c.unit
+    by true = same c
+    by false = refl
+
+-- ---- and what is so of tables
+
+module _ (t : Tables) (kept : IsKept t) (id : ℕ) where
+  pub comp-begun : (channels : ℕ) (words : List ℤ) (new : List Component) → new ≡ map (begun_at id channels words) t.comps → IsKept (record { comps = new; buffers = t.buffers; pipes = t.pipes; joins = t.joins })
+  comp-begun channels words new is = comps-changed t kept (begun_at id channels words) new (at-id (begun_by channels words) (λ c. refl) id) (at-unit (λ u. is_plain u ≡ true) (begun_by channels words) (λ c. begun-plain channels words c.unit) id) is
+
+  pub buffer-begun : (channels : ℕ) (words : List ℤ) (new : List Component) → new ≡ map (begun_at id channels words) t.buffers → IsKept (record { comps = t.comps; buffers = new; pipes = t.pipes; joins = t.joins })
+  buffer-begun channels words new is = buffers-changed t kept (begun_at id channels words) new (at-id (begun_by channels words) (λ c. refl) id) (at-sides (begun_by channels words) (λ c. begun-sides channels words c.unit) id) (at-unit IsBuffering (begun_by channels words) (λ c. begun-buffering channels words c.unit) id) is
+
+  pub pipe-begun : (channels : ℕ) (words : List ℤ) (new : List Component) → new ≡ map (begun_at id channels words) t.pipes → IsKept (record { comps = t.comps; buffers = t.buffers; pipes = new; joins = t.joins })
+  pipe-begun channels words new is = pipes-changed t kept (begun_at id channels words) new (at-id (begun_by channels words) (λ c. refl) id) (at-unit IsPiping (begun_by channels words) (λ c. begun-piping channels words c.unit) id) is
+
+  pub buffer-pushed : (frames : List Frame) (words : List ℤ) (new : List Component) → new ≡ map (pushed_at id frames words) t.buffers → IsKept (record { comps = t.comps; buffers = new; pipes = t.pipes; joins = t.joins })
+  buffer-pushed frames words new is = buffers-changed t kept (pushed_at id frames words) new (at-id (pushed_by frames words) (λ c. refl) id) (at-sides (pushed_by frames words) (λ c. pushed-sides frames words c.unit) id) (at-unit IsBuffering (pushed_by frames words) (λ c. pushed-buffering frames words c.unit) id) is
+
+  pub buffer-taken : (n : ℕ) (new : List Component) → new ≡ map (taken_at id n) t.buffers → IsKept (record { comps = t.comps; buffers = new; pipes = t.pipes; joins = t.joins })
+  buffer-taken n new is = buffers-changed t kept (taken_at id n) new (at-id (taken_by n) (λ c. refl) id) (at-sides (taken_by n) (λ c. taken-sides n c.unit) id) (at-unit IsBuffering (taken_by n) (λ c. taken-buffering n c.unit) id) is

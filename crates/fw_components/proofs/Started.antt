@@ -1,0 +1,108 @@
+-- Tables once something begins, or has more frames.
+use Rattle.std.proofs.Common.{◌≡◌, refl, sym, ap, ◌∙◌, subst, ℕ, List, [], ◌∷◌, ◌++◌, map, Bool, true, false, cond, ◌==◌, ◌||◌, Option, Some, None, ℤ}
+use Rattle.std.proofs.lemmas.Bool.{eq-eqb, or_parts, or_left, or_right}
+use Rattle.std.specs.Prelude.{find, option_map}
+use Rattle.std.specs.Option.{option_map_or}
+use Rattle.std.specs.List.{list_any}
+use Rattle.sof_base.specs.Samples.{Frame}
+use Rattle.fw_components.specs.declared.component.Component.{Component}
+use Rattle.fw_components.specs.Tables.{Tables}
+use Rattle.fw_components.specs.Kept.{IsKept}
+use Rattle.fw_components.specs.Changes.{has_id, found}
+use Rattle.fw_components.specs.Frames.{words_by, words_at, begun, begun_by, begun_at, IsFreshBy, staged_in, staged_of_one, staged_at, pushed, pushed_by, pushed_at}
+use Rattle.fw_components.proofs.Ids.{has-map, not-first, not-second}
+use Rattle.fw_components.proofs.Going.{find-first, find-past}
+
+-- where no one has the id nothing changes
+pub none-here : (g : Component → Component) (id : ℕ) (cs : List Component) → has_id cs id ≡ false → map (λ c. cond {A = Component} (c.id == id) (g c) c) cs ≡ cs
+none-here g id [] none = refl
+none-here g id (c ∷ cs) none =
+    let parts = or_parts (c.id == id) (has_id cs id) none in
+    ap (λ h. cond {A = Component} h (g c) c ∷ map (λ c. cond {A = Component} (c.id == id) (g c) c) cs) parts.0 ∙ ap (λ (xs : List Component). c ∷ xs) (none-here g id cs parts.1)
+
+at-id : (g : Component → Component) → ((c : Component) → (g c).id ≡ c.id) → (id : ℕ) (c : Component) → (cond {A = Component} (c.id == id) (g c) c).id ≡ c.id
+at-id g same id c = by (c.id == id)
+  where
+    by : (h : Bool) → (cond {A = Component} h (g c) c).id ≡ c.id
+    by true = same c
+    by false = refl
+
+module _ (t : Tables) (kept : IsKept t) (id : ℕ) where
+  module _ (channels : ℕ) (new : List Component) where
+    there-still : (words : List ℤ) (cs : List Component) → has_id cs id ≡ true → new ≡ map (begun_at id channels words) cs → has_id new id ≡ true
+    there-still words cs there is = ap (λ (xs : List Component). has_id xs id) is ∙ has-map (begun_at id channels words) (at-id (begun_by channels words) (λ c. refl) id) id cs ∙ there
+
+    abbrev Begun : Tables → Type 0
+    Begun now = (now ≡ begun id channels (words_at now id) t) × (IsFreshBy (found now id) × (staged_at now id ≡ staged_at t id))
+
+    pub comp-begins : has_id t.comps id ≡ true → new ≡ map (begun_at id channels (words_by (find (λ c. c.id == id) new))) t.comps → IsFreshBy (find (λ c. c.id == id) new) → staged_in new id ≡ staged_in t.comps id → Begun (record { comps = new; buffers = t.buffers; pipes = t.pipes; joins = t.joins })
+    comp-begins there is fresh staged =
+        let rest = t.buffers ++ t.pipes in
+        let at : find (λ c. c.id == id) (new ++ rest) ≡ find (λ c. c.id == id) new = find-first id new rest (there-still (words_by (find (λ c. c.id == id) new)) t.comps there is) in
+        let before : find (λ c. c.id == id) (t.comps ++ rest) ≡ find (λ c. c.id == id) t.comps = find-first id t.comps rest there in
+        let words = words_by (find (λ c. c.id == id) (new ++ rest)) in
+        let no_buffer = none-here (begun_by channels words) id t.buffers (not-second id t.comps t.buffers kept.named.comps_buffers there) in
+        let no_pipe = none-here (begun_by channels words) id t.pipes (not-second id t.comps t.pipes kept.named.comps_pipes there) in
+        ((λ i. record { comps = (is ∙ ap (λ (o : Option Component). map (begun_at id channels (words_by o)) t.comps) (sym at)) i; buffers = sym no_buffer i; pipes = sym no_pipe i; joins = t.joins }), (subst IsFreshBy (sym at) fresh, ap staged_of_one at ∙ staged ∙ ap staged_of_one (sym before)))
+
+    pub buffer-begins : has_id t.buffers id ≡ true → new ≡ map (begun_at id channels (words_by (find (λ c. c.id == id) new))) t.buffers → IsFreshBy (find (λ c. c.id == id) new) → staged_in new id ≡ staged_in t.buffers id → Begun (record { comps = t.comps; buffers = new; pipes = t.pipes; joins = t.joins })
+    buffer-begins there is fresh staged =
+        let gone = not-first id t.comps t.buffers kept.named.comps_buffers there in
+        let at : find (λ c. c.id == id) (t.comps ++ (new ++ t.pipes)) ≡ find (λ c. c.id == id) new = find-past id t.comps (new ++ t.pipes) gone ∙ find-first id new t.pipes (there-still (words_by (find (λ c. c.id == id) new)) t.buffers there is) in
+        let before : find (λ c. c.id == id) (t.comps ++ (t.buffers ++ t.pipes)) ≡ find (λ c. c.id == id) t.buffers = find-past id t.comps (t.buffers ++ t.pipes) gone ∙ find-first id t.buffers t.pipes there in
+        let words = words_by (find (λ c. c.id == id) (t.comps ++ (new ++ t.pipes))) in
+        let no_comp = none-here (begun_by channels words) id t.comps gone in
+        let no_pipe = none-here (begun_by channels words) id t.pipes (not-second id t.buffers t.pipes kept.named.buffers_pipes there) in
+        ((λ i. record { comps = sym no_comp i; buffers = (is ∙ ap (λ (o : Option Component). map (begun_at id channels (words_by o)) t.buffers) (sym at)) i; pipes = sym no_pipe i; joins = t.joins }), (subst IsFreshBy (sym at) fresh, ap staged_of_one at ∙ staged ∙ ap staged_of_one (sym before)))
+
+    pub pipe-begins : has_id t.comps id ≡ false → has_id t.buffers id ≡ false → new ≡ map (begun_at id channels (words_by (find (λ c. c.id == id) new))) t.pipes → IsFreshBy (find (λ c. c.id == id) new) → staged_in new id ≡ staged_in t.pipes id → Begun (record { comps = t.comps; buffers = t.buffers; pipes = new; joins = t.joins })
+    pipe-begins gone far is fresh staged =
+        let at : find (λ c. c.id == id) (t.comps ++ (t.buffers ++ new)) ≡ find (λ c. c.id == id) new = find-past id t.comps (t.buffers ++ new) gone ∙ find-past id t.buffers new far in
+        let before : find (λ c. c.id == id) (t.comps ++ (t.buffers ++ t.pipes)) ≡ find (λ c. c.id == id) t.pipes = find-past id t.comps (t.buffers ++ t.pipes) gone ∙ find-past id t.buffers t.pipes far in
+        let words = words_by (find (λ c. c.id == id) (t.comps ++ (t.buffers ++ new))) in
+        let no_comp = none-here (begun_by channels words) id t.comps gone in
+        let no_buffer = none-here (begun_by channels words) id t.buffers far in
+        ((λ i. record { comps = sym no_comp i; buffers = sym no_buffer i; pipes = (is ∙ ap (λ (o : Option Component). map (begun_at id channels (words_by o)) t.pipes) (sym at)) i; joins = t.joins }), (subst IsFreshBy (sym at) fresh, ap staged_of_one at ∙ staged ∙ ap staged_of_one (sym before)))
+
+  -- a buffer has more frames
+  pub more-frames : (frames : List Frame) (new : List Component) → has_id t.buffers id ≡ true → new ≡ map (pushed_at id frames (words_by (find (λ c. c.id == id) new))) t.buffers → record { comps = t.comps; buffers = new; pipes = t.pipes; joins = t.joins } ≡ pushed id frames (words_at (record { comps = t.comps; buffers = new; pipes = t.pipes; joins = t.joins }) id) t
+  more-frames frames new there is =
+      let gone = not-first id t.comps t.buffers kept.named.comps_buffers there in
+      let words = words_by (find (λ c. c.id == id) new) in
+      let still : has_id new id ≡ true = ap (λ (xs : List Component). has_id xs id) is ∙ has-map (pushed_at id frames words) (at-id (pushed_by frames words) (λ c. refl) id) id t.buffers ∙ there in
+      let at : find (λ c. c.id == id) (t.comps ++ (new ++ t.pipes)) ≡ find (λ c. c.id == id) new = find-past id t.comps (new ++ t.pipes) gone ∙ find-first id new t.pipes still in
+      ap (λ (cs : List Component). record { comps = t.comps; buffers = cs; pipes = t.pipes; joins = t.joins }) (is ∙ ap (λ (o : Option Component). map (pushed_at id frames (words_by o)) t.buffers) (sym at))
+
+-- ---- the first that passes a test
+
+module _ (q : Component → Bool) where
+  pub id-is : (cs : List Component) (b : ℕ) → Some b ≡ option_map (λ c. c.id) (find q cs) → b ≡ option_map_or (λ c. c.id) (find q cs) 0
+  id-is cs b e = by (find q cs) e
+    where
+      or : Option ℕ → ℕ
+      or None = 0
+      or (Some n) = n
+
+      by : (o : Option Component) → Some b ≡ option_map (λ c. c.id) o → b ≡ option_map_or (λ c. c.id) o 0
+      by None e = absurd (cc e)
+      by (Some c) e = ap or e
+
+  pub id-there : (cs : List Component) (b : ℕ) → Some b ≡ option_map (λ c. c.id) (find q cs) → has_id cs b ≡ true
+  id-there [] b e = absurd (cc e)
+  id-there (c ∷ cs) b e = by (q c) e (id-there cs b)
+    where
+      or : Option ℕ → ℕ
+      or None = 0
+      or (Some n) = n
+
+      by : (h : Bool) → Some b ≡ option_map (λ c. c.id) (cond h (Some c) (find q cs)) → (Some b ≡ option_map (λ c. c.id) (find q cs) → has_id cs b ≡ true) → (c.id == b || has_id cs b) ≡ true
+      by true e rest = or_left (c.id == b) (has_id cs b) (eq-eqb c.id b (sym (ap or e)))
+      by false e rest = or_right (c.id == b) (has_id cs b) (rest e)
+
+  pub id-never : (cs : List Component) → None ≡ option_map (λ c. c.id) (find q cs) → list_any q cs ≡ false
+  id-never [] e = refl
+  id-never (c ∷ cs) e = by (q c) e (id-never cs)
+    where
+      by : (h : Bool) → None ≡ option_map (λ c. c.id) (cond h (Some c) (find q cs)) → (None ≡ option_map (λ c. c.id) (find q cs) → list_any q cs ≡ false) → (h || list_any q cs) ≡ false
+      by true e rest = absurd (cc e)
+      by false e rest = rest e

@@ -1,0 +1,196 @@
+// What begins with a stream, and frames in the ring of one buffer.
+ghost use Rattle.std.specs.Prelude.{◌≡◌, ◌+◌, ◌*◌, ◌/◌, ◌%◌, ◌≤◌, ◌++◌, length, take};
+ghost use Rattle.sof_base.specs.Samples.{frames_of, samples_of};
+ghost use Rattle.stream_law.specs.Ways.{is_end};
+ghost use Rattle.fw_components.specs.Tables.{piece_of, frames_by, capacity_by};
+ghost use Rattle.fw_components.specs.Frames.{words_of, begun_unit, begun_by, IsFresh, staged_by, channels_by, taken_unit, taken_by, pushed_unit, pushed_by, comes_from, goes_to};
+
+use crate::component::{Component, Unit};
+use fw_ring::Ring;
+use sof_base::Sample;
+
+impl Unit {
+    // A ring is empty and has frames of so many channels; an equaliser's epoch begins.
+    fn begin(&mut self, channels: u8)
+        requires { (1 ≤ channels) × (channels ≤ 8) }
+        ensures begun { self.new ≡ begun_unit channels (piece_of self.new).words self.old }
+        ensures fresh { IsFresh self.new }
+        ensures staged { staged_by self.new ≡ staged_by self.old }
+    {
+        match self {
+            Unit::Host { .. } => (),
+            Unit::Dai { .. } => (),
+            Unit::Volume { .. } => (),
+            Unit::Mixer { .. } => (),
+            Unit::Mux { .. } => (),
+            Unit::Eq { eq, .. } => eq.clear(),
+            Unit::Buffer { ring, .. } => {
+                ring.clear();
+                ring.set_channels(channels);
+            }
+            Unit::Pipeline { .. } => (),
+        }
+    }
+
+    // A ring loses its first frames.
+    fn take(&mut self, n: u32)
+        requires { n ≤ length (frames_by self.old) }
+        ensures { self.new ≡ taken_unit n self.old }
+    {
+        match self {
+            Unit::Host { .. } => (),
+            Unit::Dai { .. } => (),
+            Unit::Volume { .. } => (),
+            Unit::Mixer { .. } => (),
+            Unit::Mux { .. } => (),
+            Unit::Eq { .. } => (),
+            Unit::Buffer { ring, .. } => ring.take(n),
+            Unit::Pipeline { .. } => (),
+        }
+    }
+
+    // A ring has the frames of these samples behind its own.
+    fn push(&mut self, samples: &[Sample])
+        requires whole { length samples.now % channels_by self.old ≡ 0 }
+        requires fit { length (frames_by self.old) + length samples.now / channels_by self.old ≤ capacity_by self.old }
+        ensures { self.new ≡ pushed_unit (frames_of (channels_by self.old) (length samples.now / channels_by self.old) samples.now) (piece_of self.new).words self.old }
+    {
+        match self {
+            Unit::Host { .. } => (),
+            Unit::Dai { .. } => (),
+            Unit::Volume { .. } => (),
+            Unit::Mixer { .. } => (),
+            Unit::Mux { .. } => (),
+            Unit::Eq { .. } => (),
+            Unit::Buffer { ring, .. } => ring.push_frames(samples),
+            Unit::Pipeline { .. } => (),
+        }
+    }
+}
+
+impl Component {
+    /// It has so many channels from now on; a ring is empty, and an equaliser's epoch begins.
+    pub(crate) fn begin(&mut self, channels: u8)
+        requires { (1 ≤ channels) × (channels ≤ 8) }
+        ensures begun { self.new ≡ begun_by channels (words_of self.new) self.old }
+        ensures fresh { IsFresh self.new.unit }
+        ensures staged { staged_by self.new.unit ≡ staged_by self.old.unit }
+    {
+        self.channels = channels;
+        self.unit.begin(channels);
+    }
+
+    /// The ring of a buffer loses its first frames.
+    pub(crate) fn take(&mut self, n: u32)
+        requires { n ≤ length (frames_by self.old.unit) }
+        ensures { self.new ≡ taken_by n self.old }
+    {
+        self.unit.take(n);
+    }
+
+    /// The ring of a buffer has the frames of these samples behind its own.
+    pub(crate) fn push(&mut self, samples: &[Sample])
+        requires whole { length samples.now % channels_by self.old.unit ≡ 0 }
+        requires fit { length (frames_by self.old.unit) + length samples.now / channels_by self.old.unit ≤ capacity_by self.old.unit }
+        ensures { self.new ≡ pushed_by (frames_of (channels_by self.old.unit) (length samples.now / channels_by self.old.unit) samples.now) (words_of self.new) self.old }
+    {
+        self.unit.push(samples);
+    }
+
+    /// Whether it is a buffer that comes from this component.
+    pub(crate) fn comes_from(&self, id: u32) -> bool
+        ensures { result ≡ comes_from id self.now }
+    {
+        match &self.unit {
+            Unit::Host { .. } => false,
+            Unit::Dai { .. } => false,
+            Unit::Volume { .. } => false,
+            Unit::Mixer { .. } => false,
+            Unit::Mux { .. } => false,
+            Unit::Eq { .. } => false,
+            Unit::Buffer { source, .. } => is_end(*source, id),
+            Unit::Pipeline { .. } => false,
+        }
+    }
+
+    /// Whether it is a buffer that goes to this component.
+    pub(crate) fn goes_to(&self, id: u32) -> bool
+        ensures { result ≡ goes_to id self.now }
+    {
+        match &self.unit {
+            Unit::Host { .. } => false,
+            Unit::Dai { .. } => false,
+            Unit::Volume { .. } => false,
+            Unit::Mixer { .. } => false,
+            Unit::Mux { .. } => false,
+            Unit::Eq { .. } => false,
+            Unit::Buffer { sink, .. } => is_end(*sink, id),
+            Unit::Pipeline { .. } => false,
+        }
+    }
+
+    /// How many samples a frame of a buffer has.
+    pub(crate) fn frame_samples(&self) -> usize
+        ensures some { 1 ≤ result }
+        ensures is { result ≡ channels_by self.now.unit }
+    {
+        match &self.unit {
+            Unit::Host { .. } => 1,
+            Unit::Dai { .. } => 1,
+            Unit::Volume { .. } => 1,
+            Unit::Mixer { .. } => 1,
+            Unit::Mux { .. } => 1,
+            Unit::Eq { .. } => 1,
+            Unit::Buffer { ring, .. } => usize::from(ring.channels()),
+            Unit::Pipeline { .. } => 1,
+        }
+    }
+
+    /// Writes the samples of the first `n` frames of a buffer.
+    pub(crate) fn copy(&self, n: u32, samples: &mut [Sample])
+        requires held { n ≤ length (frames_by self.now.unit) }
+        requires size { length samples.old ≡ n * channels_by self.now.unit }
+        ensures { samples.new ≡ samples_of (take n (frames_by self.now.unit)) }
+    {
+        match &self.unit {
+            Unit::Host { .. } => (),
+            Unit::Dai { .. } => (),
+            Unit::Volume { .. } => (),
+            Unit::Mixer { .. } => (),
+            Unit::Mux { .. } => (),
+            Unit::Eq { .. } => (),
+            Unit::Buffer { ring, .. } => copy_frames(ring, n, samples),
+            Unit::Pipeline { .. } => (),
+        }
+    }
+}
+
+fn is_end(end: Option<u32>, id: u32) -> bool
+    ensures { result ≡ is_end end id }
+{
+    match end {
+        Some(end) => end == id,
+        None => false,
+    }
+}
+
+// Writes the samples of the first `n` frames of a ring.
+fn copy_frames(ring: &Ring, n: u32, samples: &mut [Sample])
+    requires held { n ≤ length ring.now.frames }
+    requires size { length samples.old ≡ n * ring.now.channels }
+    ensures { samples.new ≡ samples_of (take n ring.now.frames) }
+{
+    let _held = ring.len();
+    let (front, back) = ring.spans(n);
+    copy_both(front, back, samples);
+}
+
+// Writes samples and those behind them.
+fn copy_both(front: &[Sample], back: &[Sample], samples: &mut [Sample])
+    requires { length front.now + length back.now ≡ length samples.old }
+    ensures { samples.new ≡ front.now ++ back.now }
+{
+    let (near, far) = samples.split_at_mut(front.len());
+    near.copy_from_slice(front);
+    far.copy_from_slice(back);
+}

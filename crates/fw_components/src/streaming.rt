@@ -1,0 +1,63 @@
+// What begins with a stream, and frames that endpoints feed and pull.
+ghost use Rattle.std.specs.Prelude.{◌≡◌, ◌+◌, ◌/◌, ◌%◌, ◌≤◌, true, length, take};
+ghost use Rattle.std.specs.List.{list_any};
+ghost use Rattle.sof_base.specs.Samples.{frames_of, samples_of};
+ghost use Rattle.fw_components.specs.Tables.{frames_at, capacity_at};
+ghost use Rattle.fw_components.specs.Changes.{found, is_there};
+ghost use Rattle.fw_components.specs.Frames.{begun, words_at, IsFreshBy, staged_at, channels_at, comes_from, goes_to, out_of as out_id, in_of as in_id, taken, pushed};
+
+use crate::places::{begin_at, in_of, out_of, pull_in, push_in};
+use crate::registry::Registry;
+use crate::table::place_of;
+use sof_base::{Params, Sample};
+
+impl Registry {
+    /// The one of this id becomes Live with so many channels, 1 to 8: a ring is empty, and an equaliser's epoch begins.
+    pub fn begin(&mut self, id: u32, p: Params)
+        requires there { is_there self.old id ≡ true }
+        requires channels { (1 ≤ p.channels) × (p.channels ≤ 8) }
+        ensures tables { self.new ≡ begun id p.channels (words_at self.new id) self.old }
+        ensures fresh { IsFreshBy (found self.new id) }
+        ensures staged { staged_at self.new id ≡ staged_at self.old id }
+    {
+        if let Some(at) = place_of(self.comps.as_slice(), id) {
+            begin_at(&mut self.comps, at, id, p.channels);
+        } else if let Some(at) = place_of(self.buffers.as_slice(), id) {
+            begin_at(&mut self.buffers, at, id, p.channels);
+        } else if let Some(at) = place_of(self.pipes.as_slice(), id) {
+            begin_at(&mut self.pipes, at, id, p.channels);
+        }
+    }
+
+    /// Puts the frames of these samples behind those of the buffer that comes from this component; it has room for them.
+    pub fn feed(&mut self, id: u32, samples: &[Sample])
+        requires there { list_any (comes_from id) self.old.buffers ≡ true }
+        requires whole { length samples.now % channels_at self.old (out_id self.old id) ≡ 0 }
+        requires fit { length (frames_at self.old (out_id self.old id)) + length samples.now / channels_at self.old (out_id self.old id) ≤ capacity_at self.old (out_id self.old id) }
+        ensures { let buffer = out_id self.old id in
+            let channels = channels_at self.old buffer in
+            self.new ≡ pushed buffer (frames_of channels (length samples.now / channels) samples.now) (words_at self.new buffer) self.old }
+    {
+        match out_of(self.buffers.as_slice(), id) {
+            Some(buffer) => push_in(&mut self.buffers, buffer, samples),
+            None => unreachable!(),
+        }
+    }
+
+    /// Takes as many frames as `samples` has room for from the buffer that goes to this component, which holds them, and writes
+    /// their samples.
+    pub fn pull(&mut self, id: u32, samples: &mut [Sample])
+        requires there { list_any (goes_to id) self.old.buffers ≡ true }
+        requires whole { length samples.old % channels_at self.old (in_id self.old id) ≡ 0 }
+        requires held { length samples.old / channels_at self.old (in_id self.old id) ≤ length (frames_at self.old (in_id self.old id)) }
+        ensures tables { let buffer = in_id self.old id in
+            self.new ≡ taken buffer (length samples.old / channels_at self.old buffer) self.old }
+        ensures samples { let buffer = in_id self.old id in
+            samples.new ≡ samples_of (take (length samples.old / channels_at self.old buffer) (frames_at self.old buffer)) }
+    {
+        match in_of(self.buffers.as_slice(), id) {
+            Some(buffer) => pull_in(&mut self.buffers, buffer, samples),
+            None => unreachable!(),
+        }
+    }
+}

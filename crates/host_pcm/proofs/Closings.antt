@@ -24,8 +24,9 @@ use Rattle.host_widgets.specs.declared.kept.StreamRec.{StreamRec}
 use Rattle.host_widgets.specs.declared.kept.Record.{Record}
 use Rattle.host_widgets.specs.declared.trigger.Trigger.TheVariants.{Stop}
 use Rattle.host_widgets.specs.HostRecord.{closed, may_have, no_stream}
-use Rattle.host_widgets.specs.Expected.{phase_of, expected_view}
-use Rattle.host_widgets.specs.Acts.{Act, Trig, Free}
+use Rattle.host_widgets.specs.Expected.{phase_of}
+use Rattle.host_widgets.specs.ViewOf.{view_by}
+use Rattle.host_widgets.specs.HostActs.{Act, Trig, Free}
 use Rattle.host_widgets.specs.Host.{Outcome, Agrees, Sides, Walk, verdict}
 use Rattle.host_widgets.specs.ActFates.{Fated}
 use Rattle.host_widgets.proofs.Walks.{Answers, passing, failing, Walked-room}
@@ -257,7 +258,7 @@ module _ {D : Type 0} (means : Meaning D) (plan : Plan) (p : IsThinPlan plan) (h
           (λ on.
           let was = subst (λ (x : Power). Sides means plan kept w.device x) on agrees.sides in
           let still : shown o.stream ≡ idle_stream = idle-view o.stream.found o.stream.params (subst (λ (s : StreamRec). is_idle s.found ≡ true) same-stream (idle on)) o.may in
-          let same : expected_view plan kept ≡ expected_view plan kept' =
+          let same : view_by plan kept ≡ view_by plan kept' =
           view-is plan kept o.stream p o.is ∙ ap (λ (s : StreamView). record { graph = thin_graph p.pipe p.size p.format p.sched; streams = s ∷ [] }) (still ∙ sym shows) ∙ sym (view-is plan kept' r p streams-are) in
           subst (λ (x : Power). Sides means plan kept' w.device x) (sym on) (was ∙ ap Some same))
           (λ off.

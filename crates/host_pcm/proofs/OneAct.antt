@@ -21,9 +21,12 @@ use Rattle.host_widgets.specs.declared.kept.Power.{Power}
 use Rattle.host_widgets.specs.declared.kept.Power.TheVariants.{On}
 use Rattle.host_widgets.specs.declared.kept.StreamRec.{StreamRec}
 use Rattle.host_widgets.specs.declared.kept.Record.{Record}
-use Rattle.host_widgets.specs.HostRecord.{may_have, went_down}
-use Rattle.host_widgets.specs.Acts.{Act, message_of}
-use Rattle.host_widgets.specs.Host.{Outcome, Agrees, Walk, verdict, own, errno}
+use Rattle.host_widgets.specs.HostRecord.{may_have}
+use Rattle.host_widgets.specs.Kept.{went_down}
+use Rattle.host_widgets.specs.HostActs.{Act}
+use Rattle.host_widgets.specs.ActMessages.{message_of}
+use Rattle.host_widgets.specs.Host.{Outcome, Agrees, Walk, verdict, errno}
+use Rattle.host_widgets.specs.OneAct.{own}
 use Rattle.host_widgets.specs.ActFates.{Fate, WalkFates}
 use Rattle.host_widgets.proofs.ReplyErrors.{reply_with}
 use Rattle.host_widgets.proofs.Exchanges.{came, verdict-number}

@@ -5,7 +5,7 @@ use Rattle.mbox_link.specs.Calls.{World, Meaning, Cut, Exchanged, Did}
 use Rattle.host_widgets.specs.declared.answers.HostFault.{HostFault}
 use Rattle.host_widgets.specs.declared.answers.HostFault.TheVariants.{NotLoaded, Loaded, NoSuch, State, Off, Range, Refused, LinkDown, Blob}
 use Rattle.host_widgets.specs.declared.kept.Record.{Record}
-use Rattle.host_widgets.specs.HostRecord.{went_down}
+use Rattle.host_widgets.specs.Kept.{went_down}
 use Rattle.host_widgets.specs.Host.{Sent}
 use Rattle.host_pcm.specs.Carried.{Passes, Ends, kept_by, outcome, is_down}
 

@@ -20,7 +20,8 @@ use Rattle.host_widgets.specs.declared.trigger.Trigger.{Trigger}
 use Rattle.host_widgets.specs.declared.trigger.Trigger.TheVariants.{Start, Stop, Pause, Release}
 use Rattle.host_widgets.specs.HostRecord.{may_have}
 use Rattle.host_widgets.specs.Expected.{phase_of}
-use Rattle.host_widgets.specs.Acts.{Prepare, Trig, Free, trigger_message}
+use Rattle.host_widgets.specs.HostActs.{Prepare, Trig, Free}
+use Rattle.host_widgets.specs.Acts.{trigger_message}
 use Rattle.host_pcm.specs.declared.asking.Ask.TheVariants.{Preparing}
 use Rattle.host_pcm.specs.Asks.{takes_trigger, takes_params, range_fault, triggered}
 use Rattle.host_pcm.specs.StreamRanges.{has_rate, has_channels, is_between}

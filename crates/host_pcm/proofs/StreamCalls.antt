@@ -14,7 +14,8 @@ use Rattle.host_widgets.specs.declared.kept.StreamRec.{StreamRec}
 use Rattle.host_widgets.specs.declared.kept.Record.{Record}
 use Rattle.host_widgets.specs.declared.trigger.Trigger.{Trigger}
 use Rattle.host_widgets.specs.HostRecord.{closed, may_have}
-use Rattle.host_widgets.specs.Acts.{Prepare, Trig, Free, trigger_message}
+use Rattle.host_widgets.specs.HostActs.{Prepare, Trig, Free}
+use Rattle.host_widgets.specs.Acts.{trigger_message}
 use Rattle.host_widgets.specs.Host.{Outcome, Agrees}
 use Rattle.host_pcm.specs.declared.asking.Ask.{Ask}
 use Rattle.host_pcm.specs.declared.asking.Ask.TheVariants.{Preparing, Triggering, Closing}

@@ -12,7 +12,8 @@ use Rattle.host_widgets.specs.declared.kept.Power.TheVariants.{On}
 use Rattle.host_widgets.specs.declared.kept.StreamRec.{StreamRec}
 use Rattle.host_widgets.specs.declared.kept.Record.{Record}
 use Rattle.host_widgets.specs.HostRecord.{closed, may_have}
-use Rattle.host_widgets.specs.Acts.{Act, message_of}
+use Rattle.host_widgets.specs.HostActs.{Act}
+use Rattle.host_widgets.specs.ActMessages.{message_of}
 use Rattle.host_widgets.specs.Host.{Outcome, Agrees, Sides}
 use Rattle.host_widgets.proofs.ThinRecords.{Only, only, view-is, only_stream}
 use Rattle.host_pcm.specs.declared.asking.Ask.{Ask}

@@ -15,7 +15,7 @@ use Rattle.host_widgets.specs.declared.kept.Record.{Record}
 use Rattle.host_widgets.specs.declared.trigger.Trigger.{Trigger}
 use Rattle.host_widgets.specs.declared.trigger.Trigger.TheVariants.{Start, Stop, Pause, Release}
 use Rattle.host_widgets.specs.HostRecord.{closed, no_stream}
-use Rattle.host_widgets.specs.Acts.{Act, Prepare, Trig, Free}
+use Rattle.host_widgets.specs.HostActs.{Act, Prepare, Trig, Free}
 use Rattle.host_pcm.specs.StreamRanges.{params_fault}
 use Rattle.host_pcm.specs.declared.asking.Ask.{Ask}
 use Rattle.host_pcm.specs.declared.asking.Ask.TheVariants.{Opening, Preparing, Triggering, Closing}

@@ -8,9 +8,10 @@ use Rattle.tplg_plan.specs.declared.plans.Plan.{Plan}
 use Rattle.host_widgets.specs.declared.answers.HostFault.{HostFault}
 use Rattle.host_widgets.specs.declared.answers.HostFault.TheVariants.{LinkDown}
 use Rattle.host_widgets.specs.declared.kept.Record.{Record}
-use Rattle.host_widgets.specs.HostRecord.{went_down, no_stream}
-use Rattle.host_widgets.specs.Acts.{Act}
-use Rattle.host_widgets.specs.Expected.{expected_view}
+use Rattle.host_widgets.specs.Kept.{went_down}
+use Rattle.host_widgets.specs.HostRecord.{no_stream}
+use Rattle.host_widgets.specs.HostActs.{Act}
+use Rattle.host_widgets.specs.ViewOf.{view_by}
 use Rattle.host_widgets.specs.Host.{Outcome, verdict}
 use Rattle.host_widgets.specs.ActFates.{WalkFates}
 use Rattle.host_pcm.specs.declared.asking.Ask.{Ask}
@@ -72,7 +73,7 @@ abbrev pub state_after_acts : Plan → Record → ℕ → List Act → FwState �
 state_after_acts plan kept k [] f = f
 state_after_acts plan kept k (act ∷ acts) f =
     let now = kept_so_far kept k (act ∷ []) in
-    state_after_acts plan now k acts (seen (expected_view plan now) None f)
+    state_after_acts plan now k acts (seen (view_by plan now) None f)
 
 -- the device where no tick came between: off after a failed link, else in the state after the acts that passed
 abbrev pub Left : {D : Type 0} → Meaning D → FwState → Outcome → D → Type 0

@@ -12,15 +12,19 @@ use Rattle.mbox_link.specs.Step.{fresh}
 use Rattle.tplg_plan.specs.declared.plans.Plan.{Plan}
 use Rattle.tplg_plan.specs.declared.plans.StreamPlan.{StreamPlan}
 use Rattle.tplg_plan.specs.Sound.{IsSound, host_of}
-use Rattle.host_widgets.specs.HostRecord.{closed, first_record}
-use Rattle.host_widgets.specs.Controls.{set_comp, set_graph}
-use Rattle.host_widgets.specs.Acts.{Act, Make, Join, Finish, ids_of, put_acts, bring_up_acts}
-use Rattle.host_widgets.specs.Expected.{expected_view, stream_view, with_pieces, loaded_state}
+use Rattle.host_widgets.specs.HostRecord.{closed}
+use Rattle.host_widgets.specs.Kept.{first_record, controls_of}
+use Rattle.host_widgets.specs.ViewOf.{set_comp, graph_by, view_by}
+use Rattle.host_widgets.specs.HostActs.{Act, Make, Join, Finish}
+use Rattle.host_widgets.specs.Acts.{ids_of}
+use Rattle.host_widgets.specs.ActLists.{control_acts, bring_up}
+use Rattle.host_widgets.specs.Expected.{stream_view, with_pieces}
+use Rattle.host_widgets.specs.StateOf.{loaded_state}
 
 -- a fresh firmware is one that was brought up, and there is nothing to see
 pub record Bare (plan : Plan) : Type 0 where
   pub state : (heap : ℕ) → fresh heap ≡ loaded_state plan heap 0
-  pub view : expected_view plan (first_record plan) ≡ empty_view
+  pub view : view_by plan (first_record plan) ≡ empty_view
 
 none-below : {X : Type 0} (key : X → ℕ) (n : ℕ) (xs : List X) → n ≡ 0 → AllByRecursion (λ x. key x < n) xs → xs ≡ []
 none-below key n [] is below = refl
@@ -34,7 +38,7 @@ none-mapped : {X Y : Type 0} (f : X → Y) (xs : List X) → map f xs ≡ [] →
 none-mapped f [] is = refl
 none-mapped f (x ∷ xs) is = absurd (cc is)
 
-module _ (plan : Plan) (sound : IsSound plan) (none : length (bring_up_acts plan) ≡ 0) where
+module _ (plan : Plan) (sound : IsSound plan) (none : length (bring_up plan (first_record plan)) ≡ 0) where
   abbrev makes : List Act
   makes = map Make (ids_of plan)
 
@@ -42,7 +46,7 @@ module _ (plan : Plan) (sound : IsSound plan) (none : length (bring_up_acts plan
   joins = map (λ j. Join j.source j.sink) plan.graph.joins
 
   abbrev rest : List Act
-  rest = flat_map put_acts plan.controls ++ map (λ p. Finish p.id) plan.graph.pipes
+  rest = flat_map control_acts (controls_of plan (first_record plan)) ++ map (λ p. Finish p.id) plan.graph.pipes
 
   no-makes : length plan.widgets ≡ 0
   no-makes = omega (arith, none, length-append makes (joins ++ rest), length-map (ids_of plan) Make, length-range_with_len 0 (length plan.widgets))
@@ -68,8 +72,8 @@ module _ (plan : Plan) (sound : IsSound plan) (none : length (bring_up_acts plan
   streams : plan.streams ≡ []
   streams = none-mapped (λ (s : StreamPlan). (s.host, s.capture)) plan.streams (sound.hosts ∙ ap (filter_map host_of) comps)
 
-  graph : set_graph plan ≡ record { comps = []; edges = []; pipes = []; joins = [] }
-  graph = λ i. record { comps = map (set_comp plan) (comps i); edges = edges i; pipes = pipes i; joins = joins-none i }
+  graph : graph_by plan (first_record plan) ≡ record { comps = []; edges = []; pipes = []; joins = [] }
+  graph = λ i. record { comps = map (set_comp plan (first_record plan)) (comps i); edges = edges i; pipes = pipes i; joins = joins-none i }
 
   abbrev views : List StreamPlan → List StreamView
   views ps = map stream_view (zip ps (map (λ (s : StreamPlan). closed) ps))

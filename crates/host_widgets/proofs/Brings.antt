@@ -3,10 +3,11 @@ use Rattle.std.proofs.Common.{ℕ}
 use Rattle.tplg_plan.specs.declared.plans.Plan.{Plan}
 use Rattle.host_widgets.specs.declared.kept.Record.{Record}
 use Rattle.host_widgets.specs.Controls.{IsLoadable}
+use Rattle.host_widgets.specs.Host.{AreControls}
 use Rattle.host_widgets.proofs.ManyEffects.{Brings}
 use Rattle.host_widgets.proofs.Makes.{brings-by}
 use Rattle.host_widgets.proofs.RestTaken.{rest_acts, rest-behind, rest-goes}
 
-pub brings : (plan : Plan) (heap : ℕ) (kept : Record) → IsLoadable plan → Brings plan heap kept
-brings plan heap kept loadable =
-    brings-by plan heap kept loadable.sound (rest_acts plan) (rest-behind plan) (rest-goes plan heap kept loadable.sound loadable.blobs)
+pub brings : (plan : Plan) (heap : ℕ) (kept : Record) → IsLoadable plan → AreControls plan.controls kept.controls → Brings plan heap kept
+brings plan heap kept loadable are =
+    brings-by plan heap kept loadable.sound (rest_acts plan kept) (rest-behind plan kept) (rest-goes plan heap kept loadable.sound loadable.blobs are)

@@ -25,14 +25,17 @@ use Rattle.tplg_plan.specs.declared.plans.ControlPlan.{ControlPlan}
 use Rattle.tplg_plan.specs.declared.plans.ControlKind.{ControlKind}
 use Rattle.tplg_plan.specs.declared.plans.ControlKind.TheVariants.{Volume, Choice, Blob}
 use Rattle.host_widgets.specs.Controls.{control_of}
+use Rattle.host_widgets.specs.HostActs.{Act, Make, Join, Put, Part, Finish, Prepare, Trig, Free, Save, Ask}
+use Rattle.host_widgets.specs.ActMessages.{message_of, set_message, put_message}
+use Rattle.host_widgets.specs.Acts.{words_of, pipe_by_id, comp_message, buffer_message, pipe_message}
+use Rattle.host_widgets.specs.Expected.{needed_by}
+use Rattle.host_widgets.specs.Host.{verdict, errno, Why}
+use Rattle.host_widgets.specs.OneAct.{own}
+use Rattle.host_widgets.specs.ActFates.{Fate}
 use Rattle.host_widgets.specs.declared.answers.HostFault.{HostFault}
 use Rattle.host_widgets.specs.declared.answers.HostFault.TheVariants.{Refused, LinkDown}
 use Rattle.host_widgets.specs.declared.kept.Record.{Record}
 use Rattle.host_widgets.specs.declared.trigger.Trigger.TheVariants.{Start, Stop, Pause, Release}
-use Rattle.host_widgets.specs.Acts.{Act, Make, Join, Put, Finish, Prepare, Trig, Free, message_of, words_of, pipe_by_id, comp_message, buffer_message, pipe_message, set_message, put_message}
-use Rattle.host_widgets.specs.Expected.{needed_by}
-use Rattle.host_widgets.specs.Host.{verdict, errno, own, Why}
-use Rattle.host_widgets.specs.ActFates.{Fate}
 use Rattle.host_widgets.proofs.ReplyErrors.{reply_with, done_reply}
 use Rattle.host_widgets.proofs.Exchanges.{Came, came, verdict-zero, verdict-number}
 use Rattle.host_widgets.proofs.SilentTicks.{at, AreInputs, IsStill, ticks-still}
@@ -80,8 +83,14 @@ abbrev pub effects : Plan → List Act → FwState → FwState
 effects plan [] g = g
 effects plan (act ∷ acts) g = effects plan acts (effect (message_of plan act) g)
 
+-- all but an act that asks for values are answered by an error number alone
+abbrev pub IsTold : Act → Type 0
+IsTold (Ask comp k) = ⊥
+IsTold act = Unit {0}
+
 -- in this state the firmware takes the act exactly where it has no refusal of its own
 pub record Follows (plan : Plan) (heap : ℕ) (kept : Record) (g : FwState) (act : Act) : Type 0 where
+  pub told : IsTold act
   pub still : IsStill g
   pub message : IsMessage (message_of plan act)
   pub passes : own plan heap kept act ≡ None → (t : ℕ) → row (at g t) (message_of plan act) ≡ Ok (effect (message_of plan act) (at g t))
@@ -101,26 +110,29 @@ made-bare f id k w None (Some e) p = refl
 made-bare f id k w None None (Some p) = refl
 made-bare f id k w None None None = refl
 
-set-bare : (f : FwState) (comp : ℕ) (kind : ControlKind) → body f (set_message comp kind) ≡ Nothing
-set-bare f comp (Volume min max channels lowest step mute) = refl
-set-bare f comp (Choice items) = refl
-set-bare f comp (Blob most initial) = refl
+set-bare : (f : FwState) (comp : ℕ) (values : List ℕ) (kind : ControlKind) → body f (set_message comp values kind) ≡ Nothing
+set-bare f comp values (Volume min max channels lowest step mute) = refl
+set-bare f comp values (Choice items) = refl
+set-bare f comp values (Blob most initial) = refl
 
-put-bare : (f : FwState) (comp : ℕ) (k : Option ControlPlan) → body f (put_message comp k) ≡ Nothing
-put-bare f comp (Some k) = set-bare f comp k.kind
-put-bare f comp None = refl
+put-bare : (f : FwState) (comp : ℕ) (values : List ℕ) (k : Option ControlPlan) → body f (put_message comp values k) ≡ Nothing
+put-bare f comp values (Some k) = set-bare f comp values k.kind
+put-bare f comp values None = refl
 
-act-bare : (f : FwState) (plan : Plan) (act : Act) → body f (message_of plan act) ≡ Nothing
-act-bare f plan (Make id) = made-bare f id (control_of plan id) (words_of plan id) (comp_of plan.graph id) (edge_of plan.graph id) (pipe_by_id plan id)
-act-bare f plan (Join source sink) = refl
-act-bare f plan (Put comp) = put-bare f comp (control_of plan comp)
-act-bare f plan (Finish id) = refl
-act-bare f plan (Prepare host params) = refl
-act-bare f plan (Trig host Start) = refl
-act-bare f plan (Trig host Stop) = refl
-act-bare f plan (Trig host Pause) = refl
-act-bare f plan (Trig host Release) = refl
-act-bare f plan (Free host) = refl
+act-bare : (f : FwState) (plan : Plan) (act : Act) → IsTold act → body f (message_of plan act) ≡ Nothing
+act-bare f plan (Make id) told = made-bare f id (control_of plan id) (words_of plan id) (comp_of plan.graph id) (edge_of plan.graph id) (pipe_by_id plan id)
+act-bare f plan (Join source sink) told = refl
+act-bare f plan (Put comp values) told = put-bare f comp values (control_of plan comp)
+act-bare f plan (Part comp blob k) told = refl
+act-bare f plan (Finish id) told = refl
+act-bare f plan (Prepare host params) told = refl
+act-bare f plan (Trig host Start) told = refl
+act-bare f plan (Trig host Stop) told = refl
+act-bare f plan (Trig host Pause) told = refl
+act-bare f plan (Trig host Release) told = refl
+act-bare f plan (Free host) told = refl
+act-bare f plan Save told = refl
+act-bare f plan (Ask comp k) told = absurd told
 
 -- ---- one exchange
 
@@ -131,9 +143,9 @@ pub row-decoded : (f : FwState) (m : Message) → IsMessage m → row_of f (deco
 row-decoded f m is = ap (row_of f) (decoded-message m is)
 
 -- an act that was done is answered 0
-pub verdict-done : (f : FwState) (plan : Plan) (act : Act) (answer : Option (List ℕ)) → IsMessage (message_of plan act) → answer ≡ Some (done_reply (body_of f (decoded (message_spelling (message_of plan act))))) → verdict answer ≡ Ok (reply_with (pos 0))
-verdict-done f plan act answer is said =
-    let none : body_of f (decoded (message_spelling (message_of plan act))) ≡ Nothing = ap (body_of f) (decoded-message (message_of plan act) is) ∙ act-bare f plan act in
+pub verdict-done : (f : FwState) (plan : Plan) (act : Act) (answer : Option (List ℕ)) → IsTold act → IsMessage (message_of plan act) → answer ≡ Some (done_reply (body_of f (decoded (message_spelling (message_of plan act))))) → verdict answer ≡ Ok (reply_with (pos 0))
+verdict-done f plan act answer told is said =
+    let none : body_of f (decoded (message_spelling (message_of plan act))) ≡ Nothing = ap (body_of f) (decoded-message (message_of plan act) is) ∙ act-bare f plan act told in
     ap verdict said ∙ ap (λ (b : Body). verdict (Some (done_reply b))) none ∙ verdict-zero
 
 pub own_cases : (o : Option Errno) → (o ≡ None) ⊎ ((e : Errno) × (o ≡ Some e))
@@ -168,7 +180,7 @@ module _ {D : Type 0} (means : Meaning D) (plan : Plan) (heap : ℕ) (kept : Rec
       (λ free.
       let row_is : row (at g later) (message_of plan act) ≡ Ok took.next = sym (row-decoded (at g later) (message_of plan act) follows.message) ∙ took.row in
       let next : effect (message_of plan act) (at g later) ≡ took.next = cc (sym (follows.passes free later) ∙ row_is) in
-      inl record { said = verdict-done (at g later) plan act answer follows.message took.said; free = free; on = took.on ∙ ap Some (sym next ∙ effect-at (message_of plan act) g later) })
+      inl record { said = verdict-done (at g later) plan act answer follows.told follows.message took.said; free = free; on = took.on ∙ ap Some (sym next ∙ effect-at (message_of plan act) g later) })
       (λ (e, refused). absurd (cc (sym (follows.refuses e refused later) ∙ sym (row-decoded (at g later) (message_of plan act) follows.message) ∙ took.row)))
       (own_cases (own plan heap kept act)))
       (λ rest. ⊎_elim

@@ -15,8 +15,9 @@ use Rattle.mbox_link.specs.Step.{row, is_used, has_comp, has_edge, has_pipe, com
 use Rattle.tplg_plan.specs.declared.plans.Plan.{Plan}
 use Rattle.tplg_plan.specs.Sound.{pipe_at, IsPipelineOf, IsSound}
 use Rattle.host_widgets.specs.declared.kept.Record.{Record}
-use Rattle.host_widgets.specs.Controls.{set_comp, set_graph}
-use Rattle.host_widgets.specs.Acts.{Act, Finish, no_words}
+use Rattle.host_widgets.specs.ViewOf.{set_comp, graph_by}
+use Rattle.host_widgets.specs.HostActs.{Act, Finish}
+use Rattle.host_widgets.specs.Acts.{no_words}
 use Rattle.host_widgets.proofs.Stages.{begun}
 use Rattle.host_widgets.proofs.SilentTicks.{at}
 use Rattle.host_widgets.proofs.Effects.{effect}
@@ -33,21 +34,21 @@ abbrev pub pipe_while : List Pipe → Pipe → Pipe
 pipe_while todo p = record { id = p.id; index = p.index; sched = p.sched; period = p.period; complete = not (list_any (λ q. q.id == p.id) todo) }
 
 -- all is set, and these pipelines are still to be completed
-abbrev pub finish_graph : Plan → List Pipe → Graph
-finish_graph plan todo = record { comps = map (set_comp plan) plan.graph.comps; edges = plan.graph.edges; pipes = map (pipe_while todo) plan.graph.pipes; joins = plan.graph.joins }
+abbrev pub finish_graph : Plan → Record → List Pipe → Graph
+finish_graph plan kept todo = record { comps = map (set_comp plan kept) plan.graph.comps; edges = plan.graph.edges; pipes = map (pipe_while todo) plan.graph.pipes; joins = plan.graph.joins }
 
-module _ (plan : Plan) (sound : IsSound plan) where
+module _ (plan : Plan) (sound : IsSound plan) (kept : Record) where
   -- before the first
-  pub finishes-none : put_graph plan [] ≡ finish_graph plan plan.graph.pipes
-  finishes-none = λ i. record { comps = map (set_comp plan) plan.graph.comps; edges = plan.graph.edges; pipes = map-all begun (pipe_while plan.graph.pipes) plan.graph.pipes (each plan.graph.pipes (each-pipe plan sound)) i; joins = plan.graph.joins }
+  pub finishes-none : put_graph plan kept [] ≡ finish_graph plan kept plan.graph.pipes
+  finishes-none = λ i. record { comps = map (set_comp plan kept) plan.graph.comps; edges = plan.graph.edges; pipes = map-all begun (pipe_while plan.graph.pipes) plan.graph.pipes (each plan.graph.pipes (each-pipe plan sound)) i; joins = plan.graph.joins }
     where
       each : (ps : List Pipe) → AllByRecursion (λ (p : Pipe). pipe_at plan.graph p.id ≡ Some p) ps → AllByRecursion (λ (p : Pipe). begun p ≡ pipe_while plan.graph.pipes p) ps
       each [] found = tt
       each (p ∷ ps) found = (ap (λ (b : Bool). record (begun p) { complete = not b }) (sym (any-found (λ (q : Pipe). q.id == p.id) plan.graph.pipes p found.0)), each ps found.1)
 
   -- after the last
-  pub finishes-all : finish_graph plan [] ≡ set_graph plan
-  finishes-all = λ i. record { comps = map (set_comp plan) plan.graph.comps; edges = plan.graph.edges; pipes = whole plan.graph.pipes (each-pipe plan sound) i; joins = plan.graph.joins }
+  pub finishes-all : finish_graph plan kept [] ≡ graph_by plan kept
+  finishes-all = λ i. record { comps = map (set_comp plan kept) plan.graph.comps; edges = plan.graph.edges; pipes = whole plan.graph.pipes (each-pipe plan sound) i; joins = plan.graph.joins }
     where
       whole : (ps : List Pipe) → AllByRecursion (λ (p : Pipe). pipe_at plan.graph p.id ≡ Some p) ps → map (pipe_while []) ps ≡ ps
       whole [] found = refl
@@ -58,10 +59,10 @@ module _ (plan : Plan) (sound : IsSound plan) where
   -- one more
   module _ (p : Pipe) (ps : List Pipe) (apart : list_any (λ (q : Pipe). q.id == p.id) ps ≡ false) (there : pipe_at plan.graph p.id ≡ Some p) where
     abbrev now : Graph
-    now = finish_graph plan (p ∷ ps)
+    now = finish_graph plan kept (p ∷ ps)
 
-    one-more : with_pipes (map (completed p.id) now.pipes) now ≡ finish_graph plan ps
-    one-more = λ i. record { comps = map (set_comp plan) plan.graph.comps; edges = plan.graph.edges; pipes = map-twice (completed p.id) (pipe_while (p ∷ ps)) (pipe_while ps) plan.graph.pipes (each plan.graph.pipes) i; joins = plan.graph.joins }
+    one-more : with_pipes (map (completed p.id) now.pipes) now ≡ finish_graph plan kept ps
+    one-more = λ i. record { comps = map (set_comp plan kept) plan.graph.comps; edges = plan.graph.edges; pipes = map-twice (completed p.id) (pipe_while (p ∷ ps)) (pipe_while ps) plan.graph.pipes (each plan.graph.pipes) i; joins = plan.graph.joins }
       where
         one : (q : Pipe) → completed p.id (pipe_while (p ∷ ps) q) ≡ pipe_while ps q
         one q =
@@ -86,7 +87,7 @@ module _ (plan : Plan) (sound : IsSound plan) where
     is = (pipeline-found plan sound p.id p there).is
 
     sched-there : has_comp now p.sched ≡ true
-    sched-there = any-found (λ (c : Comp). c.id == p.sched) now.comps (set_comp plan is.sched) (found-map (λ (c : Comp). c.id) (λ (c : Comp). c.id) (set_comp plan) (λ (c : Comp). refl) plan.graph.comps p.sched is.sched is.scheduled)
+    sched-there = any-found (λ (c : Comp). c.id == p.sched) now.comps (set_comp plan kept is.sched) (found-map (λ (c : Comp). c.id) (λ (c : Comp). c.id) (set_comp plan kept) (λ (c : Comp). refl) plan.graph.comps p.sched is.sched is.scheduled)
 
     sched-used : is_used now p.sched ≡ true
     sched-used = or_left (has_comp now p.sched || has_edge now p.sched) (has_pipe now p.sched) (or_left (has_comp now p.sched) (has_edge now p.sched) sched-there)
@@ -110,10 +111,10 @@ module _ (plan : Plan) (sound : IsSound plan) where
     unfolding AreSlots IsSlot
     finish-message = ((tt, (omega arith, (id-fits plan sound p.id (pipeline-found plan sound p.id p there).low, tt))), tt)
 
-    pub finish-goes : (heap : ℕ) (kept : Record) (then : List Act) (h : FwState) → Goes plan heap kept (standing plan heap (finish_graph plan ps)) then h → Goes plan heap kept (standing plan heap now) (Finish p.id ∷ then) h
-    finish-goes heap kept then h more =
-        goes-on plan heap kept (standing plan heap now) (Finish p.id) (standing plan heap (finish_graph plan ps)) then h
-        (plainly_follows plan heap kept (standing plan heap now) (Finish p.id) (stands-still plan heap sound now) finish-message refl (finish-row heap))
+    pub finish-goes : (heap : ℕ) (then : List Act) (h : FwState) → Goes plan heap kept (standing plan heap (finish_graph plan kept ps)) then h → Goes plan heap kept (standing plan heap now) (Finish p.id ∷ then) h
+    finish-goes heap then h more =
+        goes-on plan heap kept (standing plan heap now) (Finish p.id) (standing plan heap (finish_graph plan kept ps)) then h
+        (plainly_follows plan heap kept (standing plan heap now) (Finish p.id) tt (stands-still plan heap sound now) finish-message refl (finish-row heap))
         (ap (standing plan heap) one-more)
         more
 
@@ -121,8 +122,8 @@ module _ (plan : Plan) (sound : IsSound plan) where
 abbrev pub finish_acts : List Pipe → List Act
 finish_acts ps = map (λ (p : Pipe). Finish p.id) ps
 
-pub finishes-go : (plan : Plan) (sound : IsSound plan) (heap : ℕ) (kept : Record) (todo : List Pipe) → Ascends (λ (p : Pipe). p.id) todo → AllByRecursion (λ (p : Pipe). pipe_at plan.graph p.id ≡ Some p) todo → Goes plan heap kept (standing plan heap (finish_graph plan todo)) (finish_acts todo) (standing plan heap (finish_graph plan []))
-finishes-go plan sound heap kept [] up there = goes-nowhere plan heap kept (standing plan heap (finish_graph plan []))
+pub finishes-go : (plan : Plan) (sound : IsSound plan) (heap : ℕ) (kept : Record) (todo : List Pipe) → Ascends (λ (p : Pipe). p.id) todo → AllByRecursion (λ (p : Pipe). pipe_at plan.graph p.id ≡ Some p) todo → Goes plan heap kept (standing plan heap (finish_graph plan kept todo)) (finish_acts todo) (standing plan heap (finish_graph plan kept []))
+finishes-go plan sound heap kept [] up there = goes-nowhere plan heap kept (standing plan heap (finish_graph plan kept []))
 finishes-go plan sound heap kept (p ∷ ps) up there =
-    finish-goes plan sound p ps (first-apart (λ (x : Pipe). x.id) p ps up) there.0 heap kept (finish_acts ps) (standing plan heap (finish_graph plan []))
+    finish-goes plan sound kept p ps (first-apart (λ (x : Pipe). x.id) p ps up) there.0 heap (finish_acts ps) (standing plan heap (finish_graph plan kept []))
     (finishes-go plan sound heap kept ps (rest-ascends (λ (x : Pipe). x.id) p ps up) there.1)

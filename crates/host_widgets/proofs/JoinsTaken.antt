@@ -18,8 +18,8 @@ use Rattle.mbox_link.specs.Step.{row, has_comp, has_edge, is_used, is_joined, ta
 use Rattle.tplg_plan.specs.declared.plans.Plan.{Plan}
 use Rattle.tplg_plan.specs.Sound.{IsSideOf, IsPassed, IsSound}
 use Rattle.host_widgets.specs.declared.kept.Record.{Record}
-use Rattle.host_widgets.specs.Acts.{Act, message_of}
-use Rattle.host_widgets.specs.Acts as acts
+use Rattle.host_widgets.specs.HostActs.{Act}
+use Rattle.host_widgets.specs.HostActs as acts
 use Rattle.host_widgets.proofs.Stages.{made_comp}
 use Rattle.host_widgets.proofs.SilentTicks.{at}
 use Rattle.host_widgets.proofs.Effects.{effect}
@@ -205,7 +205,7 @@ module _ (plan : Plan) (sound : IsSound plan) (done : List Join) (j : Join) (res
   pub join-goes : (heap : ℕ) (kept : Record) (then : List Act) (h : FwState) → Goes plan heap kept (standing plan heap (joined_graph plan (done ++ j ∷ []))) then h → Goes plan heap kept (standing plan heap now) (acts.Join j.source j.sink ∷ then) h
   join-goes heap kept then h more =
       goes-on plan heap kept (standing plan heap now) (acts.Join j.source j.sink) (standing plan heap (joined_graph plan (done ++ j ∷ []))) then h
-      (plainly_follows plan heap kept (standing plan heap now) (acts.Join j.source j.sink) (stands-still plan heap sound now) join-message refl (join-row heap))
+      (plainly_follows plan heap kept (standing plan heap now) (acts.Join j.source j.sink) tt (stands-still plan heap sound now) join-message refl (join-row heap))
       (ap (standing plan heap) (joined-more plan sound done j rest cut))
       more
 

@@ -20,6 +20,7 @@ pub mod Joined
 pub mod StandingStill
 pub mod JoinRows
 pub mod JoinsTaken
+pub mod ControlLists
 pub mod PutsTaken
 pub mod FinishesTaken
 pub mod RestTaken

@@ -1,8 +1,8 @@
 -- What is so of plans that are loaded.
-use Rattle.std.proofs.Common.{◌≡◌, refl, sym, ap, subst, ◌∙◌, ℕ, zero, suc, ◌<◌, ◌^◌, Bool, true, cond, List, [], ◌∷◌, length, get_or, Option, Some, ◌==◌, inl, inr, arith}
+use Rattle.std.proofs.Common.{◌≡◌, refl, sym, ap, subst, ◌∙◌, ℕ, zero, suc, ◌<◌, ◌≤◌, ◌^◌, Bool, cond, List, [], ◌∷◌, length, get_or, Option, Some, ◌==◌, inl, inr, arith}
 use Rattle.std.specs.Prelude.{find}
-use Rattle.std.specs.List.{AllByRecursion, list_all}
-use Rattle.std.proofs.lemmas.Bool.{cases_Bool, eq-eqb, eqb-true, and_parts}
+use Rattle.std.specs.List.{AllByRecursion}
+use Rattle.std.proofs.lemmas.Bool.{cases_Bool, eq-eqb, eqb-true}
 use Rattle.stream_law.specs.Placed.{Ascends, AreAbove}
 use Rattle.stream_law.specs.declared.graph.Graph.{Graph}
 use Rattle.stream_law.specs.declared.graph.Kind.{Kind}
@@ -12,7 +12,11 @@ use Rattle.tplg_plan.specs.declared.plans.ControlKind.{ControlKind}
 use Rattle.tplg_plan.specs.declared.plans.ControlKind.TheVariants.{Volume, Choice, Blob}
 use Rattle.tplg_plan.specs.Sound.{IsControlOf, IsLive}
 use Rattle.host_widgets.proofs.NamedIds.{few-widgets as at-most}
+use Rattle.host_widgets.specs.declared.kept.ControlRec.{ControlRec}
+use Rattle.host_widgets.specs.declared.kept.Record.{Record}
+use Rattle.host_widgets.specs.Host.{AreControls}
 use Rattle.host_widgets.specs.Controls.{IsLoadable, HasFew, control_of, first_blob}
+use Rattle.host_widgets.proofs.ControlLists.{no-blobs, bare-one}
 
 pub few-widgets : (plan : Plan) → IsLoadable plan → length plan.widgets < 2 ^ 32
 few-widgets plan loadable = omega (arith, at-most plan loadable.sound)
@@ -66,15 +70,26 @@ module _ (plan : Plan) (loadable : IsLoadable plan) (ks : List ControlPlan) (sam
   pub is-first : control_of plan here.comp ≡ Some here
   is-first = subst (λ (k : ControlPlan). control_of plan k.comp ≡ Some k) (sym here-is) (first-at plan.controls i d inside loadable.sound.controls_ascend)
 
--- no blob is there
-bare-at : (ks : List ControlPlan) (i : ℕ) (d : ControlPlan) → i < length ks → list_all (λ k. length (first_blob k.kind) == 0) ks ≡ true → first_blob (get_or ks i d).kind ≡ []
-bare-at [] i d within all = absurd (omega (arith, within))
-bare-at (k ∷ ks) zero d within all = no-bytes (first_blob k.kind) (eqb-true (length (first_blob k.kind)) 0 (and_parts (length (first_blob k.kind) == 0) _ all).0)
-  where
-    no-bytes : (bs : List ℕ) → length bs ≡ 0 → bs ≡ []
-    no-bytes [] is = refl
-    no-bytes (b ∷ bs) is = absurd (let no : suc (length bs) ≡ 0 = is in omega (arith, no))
-bare-at (k ∷ ks) (suc i) d within all = bare-at ks i d (omega (arith, within)) (and_parts (length (first_blob k.kind) == 0) _ all).1
+-- it begins with no blob
+bare-at : (ks : List ControlPlan) (i : ℕ) (d : ControlPlan) → i < length ks → AllByRecursion (λ (k : ControlPlan). first_blob k.kind ≡ []) ks → first_blob (get_or ks i d).kind ≡ []
+bare-at [] i d within none = absurd (omega (arith, within))
+bare-at (k ∷ ks) zero d within none = none.0
+bare-at (k ∷ ks) (suc i) d within none = bare-at ks i d (omega (arith, within)) none.1
 
-pub is-bare : (plan : Plan) → IsLoadable plan → (i : ℕ) (d : ControlPlan) → i < length plan.controls → first_blob (get_or plan.controls i d).kind ≡ []
-is-bare plan loadable i d within = bare-at plan.controls i d within loadable.blobs
+module _ (plan : Plan) (loadable : IsLoadable plan) (ks : List ControlPlan) (same : ks ≡ plan.controls) (i : ℕ) (d : ControlPlan) (within : i < length ks) where
+  pub few-bytes : length (first_blob (get_or ks i d).kind) ≤ 1024
+  few-bytes =
+      let none : first_blob (get_or ks i d).kind ≡ [] = bare-at ks i d within (subst (AllByRecursion (λ (k : ControlPlan). first_blob k.kind ≡ [])) (sym same) (no-blobs plan.controls loadable.blobs)) in
+      omega (arith, ap length none)
+
+-- the record of one has no blob so far
+bare-by : (g : Graph) (ks : List ControlPlan) (rs : List ControlRec) (i : ℕ) (d : ControlRec) → i < length rs → AllByRecursion (IsLive g) ks → AllByRecursion (λ (k : ControlPlan). first_blob k.kind ≡ []) ks → AreControls ks rs → (get_or rs i d).blob ≡ []
+bare-by g [] [] i d within live none are = absurd (omega (arith, within))
+bare-by g [] (r ∷ rs) i d within live none are = absurd are
+bare-by g (k ∷ ks) [] i d within live none are = absurd are
+bare-by g (k ∷ ks) (r ∷ rs) zero d within live none are = bare-one k.kind r none.0 are.0
+bare-by g (k ∷ ks) (r ∷ rs) (suc i) d within live none are = bare-by g ks rs i d (omega (arith, within)) live.1 none.1 are.1
+
+pub no-blob : (plan : Plan) (kept : Record) → IsLoadable plan → AreControls plan.controls kept.controls → (rs : List ControlRec) → rs ≡ kept.controls → (i : ℕ) (d : ControlRec) → i < length rs → (get_or rs i d).blob ≡ []
+no-blob plan kept loadable are rs same i d within =
+    bare-by plan.graph plan.controls rs i d within loadable.sound.live (no-blobs plan.controls loadable.blobs) (subst (AreControls plan.controls) (sym same) are)

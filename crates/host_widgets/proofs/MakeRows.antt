@@ -15,7 +15,9 @@ use Rattle.tplg_plan.specs.declared.plans.Plan.{Plan}
 use Rattle.tplg_plan.specs.declared.plans.WidgetPlan.{WidgetPlan}
 use Rattle.tplg_plan.specs.Sound.{IsSound, NamesComponent, NamesBuffer, NamesPipeline}
 use Rattle.host_widgets.specs.Controls.{control_of}
-use Rattle.host_widgets.specs.Acts.{Make, message_of, kind_words, words_of, comp_message, buffer_message, pipe_message}
+use Rattle.host_widgets.specs.HostActs.{Make}
+use Rattle.host_widgets.specs.ActMessages.{message_of}
+use Rattle.host_widgets.specs.Acts.{kind_words, words_of, comp_message, buffer_message, pipe_message}
 use Rattle.host_widgets.specs.Expected.{stated_bytes}
 use Rattle.host_widgets.proofs.SilentTicks.{at}
 use Rattle.host_widgets.proofs.Effects.{effect}

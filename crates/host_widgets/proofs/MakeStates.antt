@@ -26,7 +26,9 @@ use Rattle.tplg_plan.specs.WidgetWords.{format_number}
 use Rattle.tplg_plan.specs.Sound.{IsSound, Names, NamesComponent, NamesBuffer, NamesPipeline, has_number, host_by, host_of}
 use Rattle.host_widgets.specs.HostRecord.{closed}
 use Rattle.host_widgets.specs.Controls.{control_of}
-use Rattle.host_widgets.specs.Acts.{Make, message_of, kind_words, words_of, no_words, comp_message, buffer_message, pipe_message, made_buffer, made_pipe}
+use Rattle.host_widgets.specs.HostActs.{Make}
+use Rattle.host_widgets.specs.ActMessages.{message_of}
+use Rattle.host_widgets.specs.Acts.{kind_words, words_of, no_words, comp_message, buffer_message, pipe_message, made_buffer, made_pipe}
 use Rattle.host_widgets.specs.Expected.{stream_view, stated_bytes, bytes_by, with_pieces}
 use Rattle.host_widgets.specs.Host.{idle_view}
 use Rattle.host_widgets.proofs.Effects.{effect}

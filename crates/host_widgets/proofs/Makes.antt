@@ -15,8 +15,12 @@ use Rattle.mbox_link.specs.Step.{fresh, comp_bytes}
 use Rattle.tplg_plan.specs.declared.plans.Plan.{Plan}
 use Rattle.tplg_plan.specs.Sound.{IsSound, host_of}
 use Rattle.host_widgets.specs.declared.kept.Record.{Record}
-use Rattle.host_widgets.specs.Acts.{Act, Make, message_of, ids_of, bring_up_acts}
-use Rattle.host_widgets.specs.Expected.{bytes_by, stated_bytes, needed_by, loaded_state}
+use Rattle.host_widgets.specs.HostActs.{Act, Make}
+use Rattle.host_widgets.specs.ActMessages.{message_of}
+use Rattle.host_widgets.specs.Acts.{ids_of}
+use Rattle.host_widgets.specs.ActLists.{bring_up}
+use Rattle.host_widgets.specs.Expected.{bytes_by, stated_bytes, needed_by}
+use Rattle.host_widgets.specs.StateOf.{state_by}
 use Rattle.host_widgets.specs.Host.{Fits, idle_view}
 use Rattle.host_widgets.proofs.SilentTicks.{IsStill}
 use Rattle.host_widgets.proofs.Carving.{left, fresh-left}
@@ -122,7 +126,7 @@ module _ (plan : Plan) (heap : ℕ) (s : IsSound plan) where
     follows-at : (n : ℕ) → n < length plan.widgets → IsCarved n → needed_by plan n ≤ usable_of heap → Follows plan heap kept (made_by plan heap n) (Make n)
     follows-at n within holes room =
         let bound : needed_by plan (n + 1) ≤ needed_by plan (length plan.widgets) = (let k : n + 1 + (length plan.widgets - (n + 1)) ≡ length plan.widgets = omega arith in subst (λ (m : ℕ). needed_by plan (n + 1) ≤ needed_by plan m) k (needed-rises plan (n + 1) (length plan.widgets - (n + 1)))) in
-        make_follows plan heap (needed_by plan n) (bytes plan n) (needed_by plan (n + 1)) (needed-whole plan (n + 1)) (bytes-are plan n) (needed-more plan n) room kept (made_by plan heap n) (Make n) (made-still n) (make-message n within) holes bound refl (row-make plan heap s n within)
+        make_follows plan heap (needed_by plan n) (bytes plan n) (needed_by plan (n + 1)) (needed-whole plan (n + 1)) (bytes-are plan n) (needed-more plan n) room kept (made_by plan heap n) (Make n) tt (made-still n) (make-message n within) holes bound refl (row-make plan heap s n within)
 
     -- the widgets from n on
     follow-from : (k n : ℕ) → n + k ≡ length plan.widgets → IsCarved n → needed_by plan n ≤ usable_of heap → FollowAll plan heap kept (made_by plan heap n) (map Make (range_with_len n k))
@@ -166,7 +170,7 @@ free-first plan heap kept [] ys free = tt
 free-first plan heap kept (x ∷ xs) ys free = (free.0, free-first plan heap kept xs ys free.1)
 
 -- a plan is brought up where what comes after the widgets leads from these to the whole
-pub brings-by : (plan : Plan) (heap : ℕ) (kept : Record) → IsSound plan → (rest : List Act) → bring_up_acts plan ≡ map Make (ids_of plan) ++ rest → Goes plan heap kept (made_state plan heap) rest (loaded_state plan heap 0) → Brings plan heap kept
+pub brings-by : (plan : Plan) (heap : ℕ) (kept : Record) → IsSound plan → (rest : List Act) → bring_up plan kept ≡ map Make (ids_of plan) ++ rest → Goes plan heap kept (made_state plan heap) rest (state_by plan kept heap 0) → Brings plan heap kept
 brings-by plan heap kept s rest is goes =
     let made = makes-state plan heap s in
     record {

@@ -9,12 +9,14 @@ use Rattle.ipc3_codec.specs.Messages.{IsMessage}
 use Rattle.mbox_link.specs.Step.{row, no_memory}
 use Rattle.tplg_plan.specs.declared.plans.Plan.{Plan}
 use Rattle.host_widgets.specs.declared.kept.Record.{Record}
-use Rattle.host_widgets.specs.Acts.{Act, message_of}
+use Rattle.host_widgets.specs.HostActs.{Act}
+use Rattle.host_widgets.specs.ActMessages.{message_of}
 use Rattle.host_widgets.specs.Expected.{needed_by}
-use Rattle.host_widgets.specs.Host.{own, errno}
+use Rattle.host_widgets.specs.OneAct.{own}
+use Rattle.host_widgets.specs.Host.{errno}
 use Rattle.host_widgets.proofs.SilentTicks.{at, IsStill}
 use Rattle.host_widgets.proofs.Carving.{left, fits-left, carved-left}
-use Rattle.host_widgets.proofs.Effects.{effect, Follows}
+use Rattle.host_widgets.proofs.Effects.{effect, IsTold, Follows}
 
 -- the refusal where a test holds
 abbrev pub refusal : Bool → Option Errno
@@ -48,12 +50,13 @@ module _ (plan : Plan) (heap used n total : ℕ) (whole : total % 16 ≡ 0) (som
   pub carved_then : (holes : List Hole) → holes ≡ left used (usable_of heap) → refusal (ltb heap total) ≡ None → carved n holes ≡ left total (usable_of heap)
   carved_then holes are free = ap (carved n) are ∙ carved-left n used (usable_of heap) some (room_for free) ∙ ap (λ (k : ℕ). left k (usable_of heap)) (sym sum_is)
 
-  module _ (kept : Record) (g : FwState) (act : Act) (still : IsStill g) (message : IsMessage (message_of plan act)) (holes : g.heap.holes ≡ left used (usable_of heap)) (bound : total ≤ needed_by plan (length plan.widgets)) (own_is : own plan heap kept act ≡ refusal (ltb heap total)) (row_is : (t : ℕ) → row (at g t) (message_of plan act) ≡ if_fits (fits n g.heap.holes) (effect (message_of plan act) (at g t))) where
+  module _ (kept : Record) (g : FwState) (act : Act) (told : IsTold act) (still : IsStill g) (message : IsMessage (message_of plan act)) (holes : g.heap.holes ≡ left used (usable_of heap)) (bound : total ≤ needed_by plan (length plan.widgets)) (own_is : own plan heap kept act ≡ refusal (ltb heap total)) (row_is : (t : ℕ) → row (at g t) (message_of plan act) ≡ if_fits (fits n g.heap.holes) (effect (message_of plan act) (at g t))) where
     fits_is : fits n g.heap.holes ≡ leb (used + n) (usable_of heap)
     fits_is = ap (fits n) holes ∙ fits-left n used (usable_of heap) some within
 
     pub make_follows : Follows plan heap kept g act
     make_follows = record {
+      told = told;
       still = still;
       message = message;
       passes = λ free t. row_is t ∙ ap (λ (b : Bool). if_fits b (effect (message_of plan act) (at g t))) (fits_is ∙ le-leb (used + n) (usable_of heap) (room_for (sym own_is ∙ free)));
@@ -66,8 +69,9 @@ module _ (plan : Plan) (heap used n total : ℕ) (whole : total % 16 ≡ 0) (som
     }
 
 -- an act for which no heap is asked
-pub plainly_follows : (plan : Plan) (heap : ℕ) (kept : Record) (g : FwState) (act : Act) → IsStill g → IsMessage (message_of plan act) → own plan heap kept act ≡ None → ((t : ℕ) → row (at g t) (message_of plan act) ≡ Ok (effect (message_of plan act) (at g t))) → Follows plan heap kept g act
-plainly_follows plan heap kept g act still message free row_is = record {
+pub plainly_follows : (plan : Plan) (heap : ℕ) (kept : Record) (g : FwState) (act : Act) → IsTold act → IsStill g → IsMessage (message_of plan act) → own plan heap kept act ≡ None → ((t : ℕ) → row (at g t) (message_of plan act) ≡ Ok (effect (message_of plan act) (at g t))) → Follows plan heap kept g act
+plainly_follows plan heap kept g act told still message free row_is = record {
+  told = told;
   still = still;
   message = message;
   passes = λ _ t. row_is t;

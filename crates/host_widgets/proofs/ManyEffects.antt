@@ -12,9 +12,12 @@ use Rattle.tplg_plan.specs.declared.plans.Plan.{Plan}
 use Rattle.host_widgets.specs.declared.answers.HostFault.{HostFault}
 use Rattle.host_widgets.specs.declared.answers.HostFault.TheVariants.{NotLoaded, Loaded, NoSuch, State, Off, Range, Refused, LinkDown, Blob}
 use Rattle.host_widgets.specs.declared.kept.Record.{Record}
-use Rattle.host_widgets.specs.Acts.{Act, message_of, bring_up_acts}
-use Rattle.host_widgets.specs.Expected.{loaded_state}
-use Rattle.host_widgets.specs.Host.{Outcome, verdict, own, exchanges, Walk, Walked, Why, Fits, BroughtUp}
+use Rattle.host_widgets.specs.HostActs.{Act}
+use Rattle.host_widgets.specs.ActMessages.{message_of}
+use Rattle.host_widgets.specs.ActLists.{bring_up}
+use Rattle.host_widgets.specs.StateOf.{state_by}
+use Rattle.host_widgets.specs.Host.{Outcome, verdict, exchanges, Walk, Walked, Why, Fits, BroughtUp}
+use Rattle.host_widgets.specs.OneAct.{own}
 use Rattle.host_widgets.specs.ActFates.{Fate, Fated, WalkFates}
 use Rattle.host_widgets.proofs.ReplyErrors.{reply_with}
 use Rattle.host_widgets.proofs.Walks.{Answers, passing, Walk-goes, Walk-ends, Walked-on}
@@ -148,25 +151,25 @@ Fated-led means plan heap kept (answer ∷ answers) (act ∷ acts) w v fated = (
 
 -- a fresh firmware follows the list, to a state in which the plan stands
 pub record Brings (plan : Plan) (heap : ℕ) (kept : Record) : Type 0 where
-  pub follow : FollowAll plan heap kept (fresh heap) (bring_up_acts plan)
-  pub fits : AllFree plan heap kept (bring_up_acts plan) → Fits plan heap
-  pub state : effects plan (bring_up_acts plan) (fresh heap) ≡ loaded_state plan heap 0
+  pub follow : FollowAll plan heap kept (fresh heap) (bring_up plan kept)
+  pub fits : AllFree plan heap kept (bring_up plan kept) → Fits plan heap
+  pub state : effects plan (bring_up plan kept) (fresh heap) ≡ state_by plan kept heap 0
 
 module _ {D : Type 0} (means : Meaning D) (plan : Plan) (heap : ℕ) (kept : Record) (w v : World D) (brings : Brings plan heap kept) (are : AreInputs w.io.inputs) (on : means.on w.device ≡ Some (fresh heap)) where
-  pub brought_up : (result : Outcome) → Walked means plan (bring_up_acts plan) w v result → BroughtUp means plan heap w.device result v.device × (v.io ≡ w.io)
+  pub brought_up : (result : Outcome) → Walked means plan (bring_up plan kept) w v result → BroughtUp means plan heap kept w.device result v.device × (v.io ≡ w.io)
   brought_up (Ok done) walked =
-      let all = walk_passed means plan heap kept (bring_up_acts plan) walked.answers w v (fresh heap) 0 brings.follow are on walked.led walked.walk in
+      let all = walk_passed means plan heap kept (bring_up plan kept) walked.answers w v (fresh heap) 0 brings.follow are on walked.led walked.walk in
       let fall = means.pending w.device - means.pending v.device in
       let clock : 0 + fall ≡ fall = omega arith in
-      ((brings.fits all.free, all.on ∙ ap (λ (n : ℕ). Some (at (effects plan (bring_up_acts plan) (fresh heap)) n)) clock ∙ ap (λ (g : FwState). Some (at g fall)) brings.state), all.endpoints)
+      ((brings.fits all.free, all.on ∙ ap (λ (n : ℕ). Some (at (effects plan (bring_up plan kept) (fresh heap)) n)) clock ∙ ap (λ (g : FwState). Some (at g fall)) brings.state), all.endpoints)
   brought_up (Err fault) walked =
-      let ended = walk_ended means plan heap kept (bring_up_acts plan) walked.answers fault w v (fresh heap) 0 brings.follow are on walked.led walked.walk in
-      ((Walked-on means plan (bring_up_acts plan) w v (Err fault) walked (ap is_some on), ended.why), ended.endpoints)
+      let ended = walk_ended means plan heap kept (bring_up plan kept) walked.answers fault w v (fresh heap) 0 brings.follow are on walked.led walked.walk in
+      ((Walked-on means plan (bring_up plan kept) w v (Err fault) walked (ap is_some on), ended.why), ended.endpoints)
 
   -- with the fate of each act
-  pub walk_fates : (result : Outcome) → Walked means plan (bring_up_acts plan) w v result → WalkFates means plan heap kept (bring_up_acts plan) w v result
+  pub walk_fates : (result : Outcome) → Walked means plan (bring_up plan kept) w v result → WalkFates means plan heap kept (bring_up plan kept) w v result
   walk_fates result walked = record {
     answers = walked.answers;
-    fated = walk_fated means plan heap kept (bring_up_acts plan) walked.answers result w v (fresh heap) 0 brings.follow are on walked.led walked.walk;
+    fated = walk_fated means plan heap kept (bring_up plan kept) walked.answers result w v (fresh heap) 0 brings.follow are on walked.led walked.walk;
     walk = walked.walk;
   }

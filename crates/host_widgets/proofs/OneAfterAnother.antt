@@ -3,7 +3,8 @@ use Rattle.std.proofs.Common.{◌≡◌, refl, sym, subst, ◌∙◌, ℕ, List,
 use Rattle.stream_law.specs.State.{FwState}
 use Rattle.tplg_plan.specs.declared.plans.Plan.{Plan}
 use Rattle.host_widgets.specs.declared.kept.Record.{Record}
-use Rattle.host_widgets.specs.Acts.{Act, message_of}
+use Rattle.host_widgets.specs.HostActs.{Act}
+use Rattle.host_widgets.specs.ActMessages.{message_of}
 use Rattle.host_widgets.proofs.Effects.{effect, effects, Follows, FollowAll}
 use Rattle.host_widgets.proofs.ManyEffects.{AllFree}
 

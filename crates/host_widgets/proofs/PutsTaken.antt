@@ -1,8 +1,8 @@
--- A firmware in which a sound plan is made and joined takes the first values of all live controls, one after the other.
-use Rattle.std.proofs.Common.{◌≡◌, refl, sym, ap, subst, ◌∙◌, ℕ, List, [], ◌∷◌, ◌++◌, map, length, replicate, Bool, true, false, not, cond, ◌==◌, ◌||◌, Option, Some, None, Ok, Err, arith}
+-- A firmware in which a sound plan is made and joined takes what a record sets at all live controls, one after the other.
+use Rattle.std.proofs.Common.{◌≡◌, refl, sym, ap, subst, ◌∙◌, ℕ, List, [], ◌∷◌, ◌++◌, map, length, get_or, replicate, Bool, true, false, not, cond, ◌==◌, ◌||◌, Option, Some, None, Ok, Err, arith}
 use Rattle.std.specs.Prelude.{option_and_then, nat_le}
 use Rattle.std.specs.List.{list_any, list_all, flat_map, AllByRecursion}
-use Rattle.std.proofs.lemmas.Bool.{eqb-true, eq-eqb, or_left, and_from, and_parts}
+use Rattle.std.proofs.lemmas.Bool.{eqb-true, eq-eqb, or_left, and_from}
 use Rattle.std.proofs.lemmas.List.{length-map, length-replicate}
 use Rattle.stream_law.specs.declared.graph.Kind.{Kind}
 use Rattle.stream_law.specs.declared.graph.Kind.TheVariants as kinds
@@ -26,13 +26,21 @@ use Rattle.tplg_plan.specs.declared.plans.ControlKind.TheVariants.{Volume, Choic
 use Rattle.tplg_plan.specs.GainOf.{control_gain}
 use Rattle.tplg_plan.specs.Sound.{IsControlOf, IsLive, IsSound}
 use Rattle.host_widgets.specs.declared.kept.Record.{Record}
-use Rattle.host_widgets.specs.Controls.{control_of, first_value, first_values, first_gains, first_blob, setting_by}
-use Rattle.host_widgets.specs.Acts.{Act, Put, put_by, put_acts, put_message, message_of, words_of, kind_words}
+use Rattle.host_widgets.specs.Controls.{control_of, first_value, first_values, has_no_blobs}
+use Rattle.host_widgets.specs.ViewOf.{setting_by}
+use Rattle.host_widgets.specs.HostActs.{Act, Put}
+use Rattle.host_widgets.specs.ActLists.{part_acts, control_acts_by, control_acts}
+use Rattle.host_widgets.specs.ActMessages.{put_message, message_of}
+use Rattle.host_widgets.specs.Acts.{words_of, kind_words}
+use Rattle.host_widgets.specs.declared.kept.ControlRec.{ControlRec}
+use Rattle.host_widgets.specs.Kept.{control_at, controls_of}
+use Rattle.host_widgets.specs.Host.{AreControls}
+use Rattle.host_widgets.proofs.ControlLists.{Pair, comp_at, Takes, all-first, all-take, zip-ascends, any-zip, no-blobs}
 use Rattle.host_widgets.proofs.Stages.{made_comp, begun}
 use Rattle.host_widgets.proofs.SilentTicks.{at}
 use Rattle.host_widgets.proofs.Effects.{set_at, effect}
 use Rattle.host_widgets.proofs.Making.{plainly_follows}
-use Rattle.host_widgets.proofs.LookedUp.{found-is, found-map, any-found, lost-any, map-all, map-twice, all-of, first-apart, rest-ascends}
+use Rattle.host_widgets.proofs.LookedUp.{found-is, found-map, any-found, lost-any, map-all, map-twice, all-of, first-apart, rest-ascends, each-found}
 use Rattle.host_widgets.proofs.NamedIds.{component-found, each-comp, id-fits}
 use Rattle.host_widgets.proofs.OneAfterAnother.{Goes, goes-nowhere, goes-on}
 use Rattle.host_widgets.proofs.Joined.{standing, joined_graph, all-joined}
@@ -41,15 +49,15 @@ use Rattle.host_widgets.proofs.GreatestGains.{AreGains, gains-are, gains-pass, s
 
 -- ---- settings while some live controls are still to be set
 
-abbrev pub setting_while : Plan → List ControlPlan → Comp → Setting
-setting_while plan todo c = cond (list_any (λ k. k.comp == c.id) todo) (first_setting (kind_words c.kind (control_of plan c.id) (words_of plan c.id))) (setting_by c.kind (control_of plan c.id))
+abbrev pub setting_while : Plan → Record → List Pair → Comp → Setting
+setting_while plan kept todo c = cond (list_any (λ p. p.0.comp == c.id) todo) (first_setting (kind_words c.kind (control_of plan c.id) (words_of plan c.id))) (setting_by c.kind (control_at plan kept c.id))
 
-abbrev pub comp_while : Plan → List ControlPlan → Comp → Comp
-comp_while plan todo c = record { id = c.id; kind = c.kind; pipe = c.pipe; setting = setting_while plan todo c }
+abbrev pub comp_while : Plan → Record → List Pair → Comp → Comp
+comp_while plan kept todo c = record { id = c.id; kind = c.kind; pipe = c.pipe; setting = setting_while plan kept todo c }
 
 -- all is joined, and these controls are still to be set
-abbrev pub put_graph : Plan → List ControlPlan → Graph
-put_graph plan todo = record { comps = map (comp_while plan todo) plan.graph.comps; edges = plan.graph.edges; pipes = map begun plan.graph.pipes; joins = plan.graph.joins }
+abbrev pub put_graph : Plan → Record → List Pair → Graph
+put_graph plan kept todo = record { comps = map (comp_while plan kept todo) plan.graph.comps; edges = plan.graph.edges; pipes = map begun plan.graph.pipes; joins = plan.graph.joins }
 
 -- what a component without a live control begins with is what is set at it
 bare-setting : (kind : Kind) (w : WidgetPlan) → first_setting (kind_words kind None w) ≡ setting_by kind None
@@ -63,36 +71,37 @@ bare-setting kinds.Mux w = refl
 bare-setting kinds.Eq w = refl
 
 -- before the first control
-pub puts-none : (plan : Plan) → IsSound plan → joined_graph plan plan.graph.joins ≡ put_graph plan plan.controls
-puts-none plan sound = λ i. record { comps = map-all (made_comp plan) (comp_while plan plan.controls) plan.graph.comps (all-of (λ (c : Comp). made_comp plan c ≡ comp_while plan plan.controls c) each plan.graph.comps) i; edges = all-joined plan sound i; pipes = map begun plan.graph.pipes; joins = plan.graph.joins }
+pub puts-none : (plan : Plan) → IsSound plan → (kept : Record) → AreControls plan.controls kept.controls → joined_graph plan plan.graph.joins ≡ put_graph plan kept (controls_of plan kept)
+puts-none plan sound kept are = λ i. record { comps = map-all (made_comp plan) (comp_while plan kept (controls_of plan kept)) plan.graph.comps (all-of (λ (c : Comp). made_comp plan c ≡ comp_while plan kept (controls_of plan kept) c) each plan.graph.comps) i; edges = all-joined plan sound i; pipes = map begun plan.graph.pipes; joins = plan.graph.joins }
   where
-    each : (c : Comp) → made_comp plan c ≡ comp_while plan plan.controls c
-    each c = by (list_any (λ (k : ControlPlan). k.comp == c.id) plan.controls) refl
+    each : (c : Comp) → made_comp plan c ≡ comp_while plan kept (controls_of plan kept) c
+    each c = by (list_any (λ (p : Pair). p.0.comp == c.id) (controls_of plan kept)) refl
       where
-        by : (h : Bool) → list_any (λ (k : ControlPlan). k.comp == c.id) plan.controls ≡ h → made_comp plan c ≡ record { id = c.id; kind = c.kind; pipe = c.pipe; setting = cond h (first_setting (kind_words c.kind (control_of plan c.id) (words_of plan c.id))) (setting_by c.kind (control_of plan c.id)) }
+        by : (h : Bool) → list_any (λ (p : Pair). p.0.comp == c.id) (controls_of plan kept) ≡ h → made_comp plan c ≡ record { id = c.id; kind = c.kind; pipe = c.pipe; setting = cond h (first_setting (kind_words c.kind (control_of plan c.id) (words_of plan c.id))) (setting_by c.kind (control_at plan kept c.id)) }
         by true e = refl
         by false e =
-            let none : control_of plan c.id ≡ None = lost-any (λ (k : ControlPlan). k.comp == c.id) plan.controls e in
-            let same : first_setting (kind_words c.kind (control_of plan c.id) (words_of plan c.id)) ≡ setting_by c.kind (control_of plan c.id) = ap (λ (o : Option ControlPlan). first_setting (kind_words c.kind o (words_of plan c.id))) none ∙ bare-setting c.kind (words_of plan c.id) ∙ ap (setting_by c.kind) (sym none) in
+            let none : control_of plan c.id ≡ None = lost-any (λ (k : ControlPlan). k.comp == c.id) plan.controls (sym (any-zip c.id plan.controls kept.controls are) ∙ e) in
+            let unset : control_at plan kept c.id ≡ None = lost-any (λ (p : Pair). p.0.comp == c.id) (controls_of plan kept) e in
+            let same : first_setting (kind_words c.kind (control_of plan c.id) (words_of plan c.id)) ≡ setting_by c.kind (control_at plan kept c.id) = ap (λ (o : Option ControlPlan). first_setting (kind_words c.kind o (words_of plan c.id))) none ∙ bare-setting c.kind (words_of plan c.id) ∙ ap (setting_by c.kind) (sym unset) in
             λ i. record { id = c.id; kind = c.kind; pipe = c.pipe; setting = same i }
 
 -- ---- what a control sets
 
-abbrev wanted : ControlKind → Setting
-wanted (Volume min max channels lowest step mute) = settings.Gains (first_gains (Volume min max channels lowest step mute))
-wanted (Choice items) = settings.Choice 0
-wanted (Blob most initial) = settings.Blob []
+abbrev wanted : ControlKind → ControlRec → Setting
+wanted (Volume min max channels lowest step mute) r = settings.Gains (map (control_gain (Volume min max channels lowest step mute)) r.values)
+wanted (Choice items) r = settings.Choice (get_or r.values 0 0)
+wanted (Blob most initial) r = settings.Blob r.blob
 
 abbrev with_kind : ℕ → ControlKind → ControlPlan
 with_kind id q = record { comp = id; kind = q }
 
-set-is : (id : ℕ) (q : ControlKind) (kind : Kind) → IsControlOf q kind → first_blob q ≡ [] → setting_by kind (Some (with_kind id q)) ≡ wanted q
-set-is id (Volume min max channels lowest step mute) kind is none = ap (λ (x : Kind). setting_by x (Some (with_kind id (Volume min max channels lowest step mute)))) is.0
-set-is id (Choice items) kind is none = ap (λ (x : Kind). setting_by x (Some (with_kind id (Choice items)))) is.0
-set-is id (Blob most initial) kind is none = ap (λ (x : Kind). setting_by x (Some (with_kind id (Blob most initial)))) is.0 ∙ ap settings.Blob none
+set-is : (id : ℕ) (q : ControlKind) (r : ControlRec) (kind : Kind) → IsControlOf q kind → setting_by kind (Some (with_kind id q, r)) ≡ wanted q r
+set-is id (Volume min max channels lowest step mute) r kind is = ap (λ (x : Kind). setting_by x (Some (with_kind id (Volume min max channels lowest step mute), r))) is.0
+set-is id (Choice items) r kind is = ap (λ (x : Kind). setting_by x (Some (with_kind id (Choice items), r))) is.0
+set-is id (Blob most initial) r kind is = ap (λ (x : Kind). setting_by x (Some (with_kind id (Blob most initial), r))) is.0
 
 -- a component of a plan with a live control has it set to that
-module _ (plan : Plan) (sound : IsSound plan) (id : ℕ) (q : ControlKind) (live : IsLive plan.graph (with_kind id q)) (there : control_of plan id ≡ Some (with_kind id q)) (none : first_blob q ≡ []) (ks : List ControlPlan) (apart : list_any (λ (k : ControlPlan). k.comp == id) ks ≡ false) where
+module _ (plan : Plan) (sound : IsSound plan) (kept : Record) (id : ℕ) (q : ControlKind) (r : ControlRec) (live : IsLive plan.graph (with_kind id q)) (there : control_of plan id ≡ Some (with_kind id q)) (set : control_at plan kept id ≡ Some (with_kind id q, r)) (ks : List Pair) (apart : list_any (λ (p : Pair). p.0.comp == id) ks ≡ false) where
   abbrev first : Comp → Setting
   first c = first_setting (kind_words c.kind (control_of plan c.id) (words_of plan c.id))
 
@@ -100,89 +109,89 @@ module _ (plan : Plan) (sound : IsSound plan) (id : ℕ) (q : ControlKind) (live
     kind-is : c.id ≡ id → IsControlOf q c.kind
     kind-is same = let one : live.comp ≡ c = cc (sym live.there ∙ ap (comp_of plan.graph) (sym same) ∙ found) in subst (λ (x : Comp). IsControlOf q x.kind) one live.kind
 
-    rest-apart : c.id ≡ id → list_any (λ (k : ControlPlan). k.comp == c.id) ks ≡ false
-    rest-apart same = ap (λ (n : ℕ). list_any (λ (k : ControlPlan). k.comp == n) ks) same ∙ apart
+    rest-apart : c.id ≡ id → list_any (λ (p : Pair). p.0.comp == c.id) ks ≡ false
+    rest-apart same = ap (λ (n : ℕ). list_any (λ (p : Pair). p.0.comp == n) ks) same ∙ apart
 
-    by-set : c.id ≡ id → setting_by c.kind (control_of plan c.id) ≡ wanted q
-    by-set same = ap (setting_by c.kind) (ap (control_of plan) same ∙ there) ∙ set-is id q c.kind (kind-is same) none
+    by-set : c.id ≡ id → setting_by c.kind (control_at plan kept c.id) ≡ wanted q r
+    by-set same = ap (setting_by c.kind) (ap (control_at plan kept) same ∙ set) ∙ set-is id q r c.kind (kind-is same)
 
     abbrev comp_by : Setting → Comp
     comp_by s = record { id = c.id; kind = c.kind; pipe = c.pipe; setting = s }
 
-    put-comp : with_setting id (wanted q) (comp_while plan (with_kind id q ∷ ks) c) ≡ comp_while plan ks c
-    put-comp = ap (λ (h : Bool). cond (c.id == id) (comp_by (wanted q)) (comp_by (cond (h || list_any (λ (k : ControlPlan). k.comp == c.id) ks) (first c) (setting_by c.kind (control_of plan c.id))))) (eqb_turned id c.id) ∙ by (c.id == id) refl
+    put-comp : with_setting id (wanted q r) (comp_while plan kept ((with_kind id q, r) ∷ ks) c) ≡ comp_while plan kept ks c
+    put-comp = ap (λ (h : Bool). cond (c.id == id) (comp_by (wanted q r)) (comp_by (cond (h || list_any (λ (p : Pair). p.0.comp == c.id) ks) (first c) (setting_by c.kind (control_at plan kept c.id))))) (eqb_turned id c.id) ∙ by (c.id == id) refl
       where
-        by : (h : Bool) → (c.id == id) ≡ h → cond h (comp_by (wanted q)) (comp_by (cond (h || list_any (λ (k : ControlPlan). k.comp == c.id) ks) (first c) (setting_by c.kind (control_of plan c.id)))) ≡ comp_while plan ks c
-        by true e = let same : c.id ≡ id = eqb-true c.id id e in ap comp_by (sym (by-set same)) ∙ ap (λ (h : Bool). comp_by (cond h (first c) (setting_by c.kind (control_of plan c.id)))) (sym (rest-apart same))
+        by : (h : Bool) → (c.id == id) ≡ h → cond h (comp_by (wanted q r)) (comp_by (cond (h || list_any (λ (p : Pair). p.0.comp == c.id) ks) (first c) (setting_by c.kind (control_at plan kept c.id)))) ≡ comp_while plan kept ks c
+        by true e = let same : c.id ≡ id = eqb-true c.id id e in ap comp_by (sym (by-set same)) ∙ ap (λ (h : Bool). comp_by (cond h (first c) (setting_by c.kind (control_at plan kept c.id)))) (sym (rest-apart same))
         by false e = refl
 
-    kept-comp : ((w : WidgetPlan) (kind : Kind) → IsControlOf q kind → first_setting (kind_words kind (Some (with_kind id q)) w) ≡ wanted q) → comp_while plan (with_kind id q ∷ ks) c ≡ comp_while plan ks c
-    kept-comp stays = ap (λ (h : Bool). comp_by (cond (h || list_any (λ (k : ControlPlan). k.comp == c.id) ks) (first c) (setting_by c.kind (control_of plan c.id)))) (eqb_turned id c.id) ∙ by (c.id == id) refl
+    kept-comp : ((w : WidgetPlan) (kind : Kind) → IsControlOf q kind → first_setting (kind_words kind (Some (with_kind id q)) w) ≡ wanted q r) → comp_while plan kept ((with_kind id q, r) ∷ ks) c ≡ comp_while plan kept ks c
+    kept-comp stays = ap (λ (h : Bool). comp_by (cond (h || list_any (λ (p : Pair). p.0.comp == c.id) ks) (first c) (setting_by c.kind (control_at plan kept c.id)))) (eqb_turned id c.id) ∙ by (c.id == id) refl
       where
-        by : (h : Bool) → (c.id == id) ≡ h → comp_by (cond (h || list_any (λ (k : ControlPlan). k.comp == c.id) ks) (first c) (setting_by c.kind (control_of plan c.id))) ≡ comp_while plan ks c
+        by : (h : Bool) → (c.id == id) ≡ h → comp_by (cond (h || list_any (λ (p : Pair). p.0.comp == c.id) ks) (first c) (setting_by c.kind (control_at plan kept c.id))) ≡ comp_while plan kept ks c
         by true e =
             let same : c.id ≡ id = eqb-true c.id id e in
-            let now : first c ≡ wanted q = ap (λ (o : Option ControlPlan). first_setting (kind_words c.kind o (words_of plan c.id))) (ap (control_of plan) same ∙ there) ∙ stays (words_of plan c.id) c.kind (kind-is same) in
-            ap comp_by (now ∙ sym (by-set same)) ∙ ap (λ (h : Bool). comp_by (cond h (first c) (setting_by c.kind (control_of plan c.id)))) (sym (rest-apart same))
+            let now : first c ≡ wanted q r = ap (λ (o : Option ControlPlan). first_setting (kind_words c.kind o (words_of plan c.id))) (ap (control_of plan) same ∙ there) ∙ stays (words_of plan c.id) c.kind (kind-is same) in
+            ap comp_by (now ∙ sym (by-set same)) ∙ ap (λ (h : Bool). comp_by (cond h (first c) (setting_by c.kind (control_at plan kept c.id)))) (sym (rest-apart same))
         by false e = refl
 
   -- the graph after it
-  put-graph : with_comps (map (with_setting id (wanted q)) (put_graph plan (with_kind id q ∷ ks)).comps) (put_graph plan (with_kind id q ∷ ks)) ≡ put_graph plan ks
-  put-graph = λ i. record { comps = map-twice (with_setting id (wanted q)) (comp_while plan (with_kind id q ∷ ks)) (comp_while plan ks) plan.graph.comps (each plan.graph.comps (each-comp plan sound)) i; edges = plan.graph.edges; pipes = map begun plan.graph.pipes; joins = plan.graph.joins }
+  put-graph : with_comps (map (with_setting id (wanted q r)) (put_graph plan kept ((with_kind id q, r) ∷ ks)).comps) (put_graph plan kept ((with_kind id q, r) ∷ ks)) ≡ put_graph plan kept ks
+  put-graph = λ i. record { comps = map-twice (with_setting id (wanted q r)) (comp_while plan kept ((with_kind id q, r) ∷ ks)) (comp_while plan kept ks) plan.graph.comps (each plan.graph.comps (each-comp plan sound)) i; edges = plan.graph.edges; pipes = map begun plan.graph.pipes; joins = plan.graph.joins }
     where
-      each : (cs : List Comp) → AllByRecursion (λ (c : Comp). comp_of plan.graph c.id ≡ Some c) cs → AllByRecursion (λ (c : Comp). with_setting id (wanted q) (comp_while plan (with_kind id q ∷ ks) c) ≡ comp_while plan ks c) cs
+      each : (cs : List Comp) → AllByRecursion (λ (c : Comp). comp_of plan.graph c.id ≡ Some c) cs → AllByRecursion (λ (c : Comp). with_setting id (wanted q r) (comp_while plan kept ((with_kind id q, r) ∷ ks) c) ≡ comp_while plan kept ks c) cs
       each [] found = tt
       each (c ∷ cs) found = (put-comp c found.0, each cs found.1)
 
-  kept-graph : ((w : WidgetPlan) (kind : Kind) → IsControlOf q kind → first_setting (kind_words kind (Some (with_kind id q)) w) ≡ wanted q) → put_graph plan (with_kind id q ∷ ks) ≡ put_graph plan ks
-  kept-graph stays = λ i. record { comps = map-all (comp_while plan (with_kind id q ∷ ks)) (comp_while plan ks) plan.graph.comps (each plan.graph.comps (each-comp plan sound)) i; edges = plan.graph.edges; pipes = map begun plan.graph.pipes; joins = plan.graph.joins }
+  kept-graph : ((w : WidgetPlan) (kind : Kind) → IsControlOf q kind → first_setting (kind_words kind (Some (with_kind id q)) w) ≡ wanted q r) → put_graph plan kept ((with_kind id q, r) ∷ ks) ≡ put_graph plan kept ks
+  kept-graph stays = λ i. record { comps = map-all (comp_while plan kept ((with_kind id q, r) ∷ ks)) (comp_while plan kept ks) plan.graph.comps (each plan.graph.comps (each-comp plan sound)) i; edges = plan.graph.edges; pipes = map begun plan.graph.pipes; joins = plan.graph.joins }
     where
-      each : (cs : List Comp) → AllByRecursion (λ (c : Comp). comp_of plan.graph c.id ≡ Some c) cs → AllByRecursion (λ (c : Comp). comp_while plan (with_kind id q ∷ ks) c ≡ comp_while plan ks c) cs
+      each : (cs : List Comp) → AllByRecursion (λ (c : Comp). comp_of plan.graph c.id ≡ Some c) cs → AllByRecursion (λ (c : Comp). comp_while plan kept ((with_kind id q, r) ∷ ks) c ≡ comp_while plan kept ks c) cs
       each [] found = tt
       each (c ∷ cs) found = (kept-comp c found.0 stays, each cs found.1)
 
   -- ---- the message is taken
 
   abbrev now : Graph
-  now = put_graph plan (with_kind id q ∷ ks)
+  now = put_graph plan kept ((with_kind id q, r) ∷ ks)
 
-  now-comp : comp_of now id ≡ Some (comp_while plan (with_kind id q ∷ ks) live.comp)
-  now-comp = found-map (λ (x : Comp). x.id) (λ (x : Comp). x.id) (comp_while plan (with_kind id q ∷ ks)) (λ (x : Comp). refl) plan.graph.comps id live.comp live.there
+  now-comp : comp_of now id ≡ Some (comp_while plan kept ((with_kind id q, r) ∷ ks) live.comp)
+  now-comp = found-map (λ (x : Comp). x.id) (λ (x : Comp). x.id) (comp_while plan kept ((with_kind id q, r) ∷ ks)) (λ (x : Comp). refl) plan.graph.comps id live.comp live.there
 
   comp-same : live.comp.id ≡ id
   comp-same = found-is (λ (x : Comp). x.id) plan.graph.comps id live.comp live.there
 
   now-used : is_used now id ≡ true
-  now-used = or_left (has_comp now id || has_edge now id) (has_pipe now id) (or_left (has_comp now id) (has_edge now id) (any-found (λ (x : Comp). x.id == id) now.comps (comp_while plan (with_kind id q ∷ ks) live.comp) now-comp))
+  now-used = or_left (has_comp now id || has_edge now id) (has_pipe now id) (or_left (has_comp now id) (has_edge now id) (any-found (λ (x : Comp). x.id == id) now.comps (comp_while plan kept ((with_kind id q, r) ∷ ks) live.comp) now-comp))
 
-  now-setting : setting_while plan (with_kind id q ∷ ks) live.comp ≡ first_setting (kind_words live.comp.kind (Some (with_kind id q)) (words_of plan live.comp.id))
+  now-setting : setting_while plan kept ((with_kind id q, r) ∷ ks) live.comp ≡ first_setting (kind_words live.comp.kind (Some (with_kind id q)) (words_of plan live.comp.id))
   now-setting =
-      ap (λ (h : Bool). cond (h || list_any (λ (k : ControlPlan). k.comp == live.comp.id) ks) (first live.comp) (setting_by live.comp.kind (control_of plan live.comp.id))) (eq-eqb id live.comp.id (sym comp-same))
+      ap (λ (h : Bool). cond (h || list_any (λ (p : Pair). p.0.comp == live.comp.id) ks) (first live.comp) (setting_by live.comp.kind (control_at plan kept live.comp.id))) (eq-eqb id live.comp.id (sym comp-same))
       ∙ ap (λ (o : Option ControlPlan). first_setting (kind_words live.comp.kind o (words_of plan live.comp.id))) (ap (control_of plan) comp-same ∙ there)
 
-  module _ (heap : ℕ) (kept : Record) (command : ℕ) (values : List ℕ) (is : put_message id (Some (with_kind id q)) ≡ SetValue id command values) (new : new_setting live.comp.kind (first_setting (kind_words live.comp.kind (Some (with_kind id q)) (words_of plan live.comp.id))) command values ≡ Some (wanted q)) (message : IsMessage (SetValue id command values)) where
+  module _ (heap : ℕ) (sets : List ℕ) (command : ℕ) (values : List ℕ) (is : put_message id sets (Some (with_kind id q)) ≡ SetValue id command values) (new : new_setting live.comp.kind (first_setting (kind_words live.comp.kind (Some (with_kind id q)) (words_of plan live.comp.id))) command values ≡ Some (wanted q r)) (message : IsMessage (SetValue id command values)) where
     abbrev asked : Option Setting
     asked = option_and_then (λ (c : Comp). new_setting c.kind c.setting command values) (comp_of now id)
 
-    asked-is : asked ≡ Some (wanted q)
+    asked-is : asked ≡ Some (wanted q r)
     asked-is = ap (option_and_then (λ (c : Comp). new_setting c.kind c.setting command values)) now-comp ∙ ap (λ (s : Setting). new_setting live.comp.kind s command values) now-setting ∙ new
 
     set-row : (t : ℕ) → row (at (standing plan heap now) t) (SetValue id command values) ≡ Ok (effect (SetValue id command values) (at (standing plan heap now) t))
     set-row t = by (is_used now id) asked now-used asked-is
       where
-        by : (b : Bool) (o : Option Setting) → b ≡ true → o ≡ Some (wanted q) → cond (not b) (Err no_device) (value_set (at (standing plan heap now) t) id o) ≡ Ok (record (at (standing plan heap now) t) { graph = set_at id o now })
+        by : (b : Bool) (o : Option Setting) → b ≡ true → o ≡ Some (wanted q r) → cond (not b) (Err no_device) (value_set (at (standing plan heap now) t) id o) ≡ Ok (record (at (standing plan heap now) t) { graph = set_at id o now })
         by b o used is = rw (used, is) refl
 
-    set-effect : effect (SetValue id command values) (standing plan heap now) ≡ standing plan heap (put_graph plan ks)
+    set-effect : effect (SetValue id command values) (standing plan heap now) ≡ standing plan heap (put_graph plan kept ks)
     set-effect = ap (λ (o : Option Setting). standing plan heap (set_at id o now)) asked-is ∙ ap (standing plan heap) put-graph
 
-    message-is : message_of plan (Put id) ≡ SetValue id command values
-    message-is = ap (put_message id) there ∙ is
+    message-is : message_of plan (Put id sets) ≡ SetValue id command values
+    message-is = ap (put_message id sets) there ∙ is
 
-    put-goes : (then : List Act) (h : FwState) → Goes plan heap kept (standing plan heap (put_graph plan ks)) then h → Goes plan heap kept (standing plan heap now) (Put id ∷ then) h
+    put-goes : (then : List Act) (h : FwState) → Goes plan heap kept (standing plan heap (put_graph plan kept ks)) then h → Goes plan heap kept (standing plan heap now) (Put id sets ∷ then) h
     put-goes then h more =
-        goes-on plan heap kept (standing plan heap now) (Put id) (standing plan heap (put_graph plan ks)) then h
-        (plainly_follows plan heap kept (standing plan heap now) (Put id) (stands-still plan heap sound now) (subst IsMessage (sym message-is) message) refl (λ t. subst (λ (m : Message). row (at (standing plan heap now) t) m ≡ Ok (effect m (at (standing plan heap now) t))) (sym message-is) (set-row t)))
+        goes-on plan heap kept (standing plan heap now) (Put id sets) (standing plan heap (put_graph plan kept ks)) then h
+        (plainly_follows plan heap kept (standing plan heap now) (Put id sets) tt (stands-still plan heap sound now) (subst IsMessage (sym message-is) message) refl (λ t. subst (λ (m : Message). row (at (standing plan heap now) t) m ≡ Ok (effect m (at (standing plan heap now) t))) (sym message-is) (set-row t)))
         (ap (λ (m : Message). effect m (standing plan heap now)) message-is ∙ set-effect)
         more
 
@@ -194,44 +203,48 @@ volume-new n values same are =
     let lengths : (length values == length (replicate n 65536)) ≡ true = eq-eqb (length values) (length (replicate n 65536)) (same ∙ sym long) in
     ap (λ (h : Bool). cond h (Some (settings.Gains values)) None) (and_from (length values == length (replicate n 65536)) (list_all (λ v. nat_le v 16777216) values) lengths (gains-pass values are))
 
-put-one : (plan : Plan) (sound : IsSound plan) (heap : ℕ) (kept : Record) (id : ℕ) (q : ControlKind) (ks : List ControlPlan) → IsLive plan.graph (with_kind id q) → control_of plan id ≡ Some (with_kind id q) → first_blob q ≡ [] → list_any (λ (k : ControlPlan). k.comp == id) ks ≡ false → (then : List Act) (h : FwState) → Goes plan heap kept (standing plan heap (put_graph plan ks)) then h → Goes plan heap kept (standing plan heap (put_graph plan (with_kind id q ∷ ks))) (put_by q id ++ then) h
-put-one plan sound heap kept id (Volume min max channels lowest step mute) ks live there none apart then h more =
-    put-goes plan sound id volume live there none ks apart heap kept 0 (first_gains volume) refl new (set-message id 0 (first_gains volume) (id-fits plan sound id (component-found plan sound id live.comp live.there).low) (omega arith) (omega (arith, long, live.kind.3)) (omega (arith, long, live.kind.4)) (gains-are volume (first_values volume))) then h more
+put-one : (plan : Plan) (sound : IsSound plan) (heap : ℕ) (kept : Record) (id : ℕ) (q : ControlKind) (r : ControlRec) (ks : List Pair) → IsLive plan.graph (with_kind id q) → control_of plan id ≡ Some (with_kind id q) → control_at plan kept id ≡ Some (with_kind id q, r) → Takes q r → list_any (λ (p : Pair). p.0.comp == id) ks ≡ false → (then : List Act) (h : FwState) → Goes plan heap kept (standing plan heap (put_graph plan kept ks)) then h → Goes plan heap kept (standing plan heap (put_graph plan kept ((with_kind id q, r) ∷ ks))) (control_acts_by id q r ++ then) h
+put-one plan sound heap kept id (Volume min max channels lowest step mute) r ks live there set takes apart then h more =
+    put-goes plan sound kept id volume r live there set ks apart heap r.values 0 gains refl new (set-message id 0 gains (id-fits plan sound id (component-found plan sound id live.comp live.there).low) (omega arith) (omega (arith, long, live.kind.3)) (omega (arith, long, live.kind.4)) (gains-are volume r.values)) then h more
   where
     volume : ControlKind
     volume = Volume min max channels lowest step mute
 
-    long : length (first_gains volume) ≡ channels
-    long = length-map (first_values volume) (control_gain volume) ∙ length-replicate channels (first_value volume)
+    gains : List ℕ
+    gains = map (control_gain volume) r.values
 
-    new : new_setting live.comp.kind (first_setting (kind_words live.comp.kind (Some (with_kind id volume)) (words_of plan live.comp.id))) 0 (first_gains volume) ≡ Some (settings.Gains (first_gains volume))
+    long : length gains ≡ channels
+    long = length-map r.values (control_gain volume) ∙ takes
+
+    new : new_setting live.comp.kind (first_setting (kind_words live.comp.kind (Some (with_kind id volume)) (words_of plan live.comp.id))) 0 gains ≡ Some (settings.Gains gains)
     new =
-        ap (λ (kind : Kind). new_setting kind (first_setting (kind_words kind (Some (with_kind id volume)) (words_of plan live.comp.id))) 0 (first_gains volume)) live.kind.0
-        ∙ volume-new (length (first_values volume)) (first_gains volume) (length-map (first_values volume) (control_gain volume)) (gains-are volume (first_values volume))
-put-one plan sound heap kept id (Choice items) ks live there none apart then h more =
-    put-goes plan sound id (Choice items) live there none ks apart heap kept 1 (0 ∷ []) refl new (set-message id 1 (0 ∷ []) (id-fits plan sound id (component-found plan sound id live.comp live.there).low) (omega arith) (omega arith) (omega arith) (omega arith, tt)) then h more
+        ap (λ (kind : Kind). new_setting kind (first_setting (kind_words kind (Some (with_kind id volume)) (words_of plan live.comp.id))) 0 gains) live.kind.0
+        ∙ volume-new (length (first_values volume)) gains (long ∙ sym (length-replicate channels (first_value volume))) (gains-are volume r.values)
+put-one plan sound heap kept id (Choice items) r ks live there set takes apart then h more =
+    put-goes plan sound kept id (Choice items) r live there set ks apart heap r.values 1 r.values refl new (set-message id 1 r.values (id-fits plan sound id (component-found plan sound id live.comp live.there).low) (omega arith) (omega (arith, ap length takes.1)) (omega (arith, ap length takes.1)) (subst AreGains (sym takes.1) (takes.2, tt))) then h more
   where
-    new : new_setting live.comp.kind (first_setting (kind_words live.comp.kind (Some (with_kind id (Choice items))) (words_of plan live.comp.id))) 1 (0 ∷ []) ≡ Some (settings.Choice 0)
-    new = ap (λ (kind : Kind). new_setting kind (first_setting (kind_words kind (Some (with_kind id (Choice items))) (words_of plan live.comp.id))) 1 (0 ∷ [])) live.kind.0
-put-one plan sound heap kept id (Blob most initial) ks live there none apart then h more =
-    subst (λ (g : Graph). Goes plan heap kept (standing plan heap g) then h) (sym (kept-graph plan sound id (Blob most initial) live there none ks apart (λ w kind is. ap (λ (x : Kind). first_setting (kind_words x (Some (with_kind id (Blob most initial))) w)) is.0))) more
+    new : new_setting live.comp.kind (first_setting (kind_words live.comp.kind (Some (with_kind id (Choice items))) (words_of plan live.comp.id))) 1 r.values ≡ Some (settings.Choice (get_or r.values 0 0))
+    new =
+        ap (λ (kind : Kind). new_setting kind (first_setting (kind_words kind (Some (with_kind id (Choice items))) (words_of plan live.comp.id))) 1 r.values) live.kind.0
+        ∙ subst (λ (vs : List ℕ). new_setting kinds.Mux (settings.Choice 0) 1 vs ≡ Some (settings.Choice (get_or vs 0 0))) (sym takes.1) refl
+put-one plan sound heap kept id (Blob most initial) r ks live there set takes apart then h more =
+    subst (λ (bytes : List ℕ). Goes plan heap kept (standing plan heap (put_graph plan kept ((with_kind id (Blob most initial), r) ∷ ks))) (part_acts id bytes ++ then) h) (sym takes)
+    (subst (λ (g : Graph). Goes plan heap kept (standing plan heap g) then h) (sym (kept-graph plan sound kept id (Blob most initial) r live there set ks apart (λ w kind is. ap (λ (x : Kind). first_setting (kind_words x (Some (with_kind id (Blob most initial))) w)) is.0 ∙ ap settings.Blob (sym takes)))) more)
 
 -- ---- all of them
 
-pub puts-go : (plan : Plan) (sound : IsSound plan) (heap : ℕ) (kept : Record) (todo : List ControlPlan) → Ascends (λ (k : ControlPlan). k.comp) todo → AllByRecursion (IsLive plan.graph) todo → AllByRecursion (λ (k : ControlPlan). control_of plan k.comp ≡ Some k) todo → AllByRecursion (λ (k : ControlPlan). first_blob k.kind ≡ []) todo → Goes plan heap kept (standing plan heap (put_graph plan todo)) (flat_map put_acts todo) (standing plan heap (put_graph plan []))
-puts-go plan sound heap kept [] up live there none = goes-nowhere plan heap kept (standing plan heap (put_graph plan []))
-puts-go plan sound heap kept (k ∷ ks) up live there none =
-    put-one plan sound heap kept k.comp k.kind ks live.0 there.0 none.0 (first-apart (λ (x : ControlPlan). x.comp) k ks up) (flat_map put_acts ks) (standing plan heap (put_graph plan []))
-    (puts-go plan sound heap kept ks (rest-ascends (λ (x : ControlPlan). x.comp) k ks up) live.1 there.1 none.1)
+puts-go : (plan : Plan) (sound : IsSound plan) (heap : ℕ) (kept : Record) (todo : List Pair) → Ascends comp_at todo → AllByRecursion (λ (p : Pair). IsLive plan.graph p.0) todo → AllByRecursion (λ (p : Pair). control_of plan p.0.comp ≡ Some p.0) todo → AllByRecursion (λ (p : Pair). control_at plan kept p.0.comp ≡ Some p) todo → AllByRecursion (λ (p : Pair). Takes p.0.kind p.1) todo → Goes plan heap kept (standing plan heap (put_graph plan kept todo)) (flat_map control_acts todo) (standing plan heap (put_graph plan kept []))
+puts-go plan sound heap kept [] up live there set takes = goes-nowhere plan heap kept (standing plan heap (put_graph plan kept []))
+puts-go plan sound heap kept (p ∷ ps) up live there set takes =
+    put-one plan sound heap kept p.0.comp p.0.kind p.1 ps live.0 there.0 set.0 takes.0 (first-apart comp_at p ps up) (flat_map control_acts ps) (standing plan heap (put_graph plan kept []))
+    (puts-go plan sound heap kept ps (rest-ascends comp_at p ps up) live.1 there.1 set.1 takes.1)
 
--- no control begins with a blob
-pub no-blobs : (ks : List ControlPlan) → list_all (λ (k : ControlPlan). length (first_blob k.kind) == 0) ks ≡ true → AllByRecursion (λ (k : ControlPlan). first_blob k.kind ≡ []) ks
-no-blobs [] none = tt
-no-blobs (k ∷ ks) none = (empty (first_blob k.kind) parts.0, no-blobs ks parts.1)
+pub all-put : (plan : Plan) (sound : IsSound plan) (heap : ℕ) (kept : Record) → has_no_blobs plan ≡ true → AreControls plan.controls kept.controls → Goes plan heap kept (standing plan heap (put_graph plan kept (controls_of plan kept))) (flat_map control_acts (controls_of plan kept)) (standing plan heap (put_graph plan kept []))
+all-put plan sound heap kept bare are =
+    puts-go plan sound heap kept (controls_of plan kept) up (all-first (IsLive plan.graph) plan.controls kept.controls sound.live)
+    (all-first (λ (k : ControlPlan). control_of plan k.comp ≡ Some k) plan.controls kept.controls (each-found (λ (k : ControlPlan). k.comp) plan.controls sound.controls_ascend))
+    (each-found comp_at (controls_of plan kept) up)
+    (all-take plan.graph plan.controls kept.controls sound.live (no-blobs plan.controls bare) are)
   where
-    parts : ((length (first_blob k.kind) == 0) ≡ true) × (list_all (λ (k : ControlPlan). length (first_blob k.kind) == 0) ks ≡ true)
-    parts = and_parts (length (first_blob k.kind) == 0) (list_all (λ (k : ControlPlan). length (first_blob k.kind) == 0) ks) none
-
-    empty : (bytes : List ℕ) → (length bytes == 0) ≡ true → bytes ≡ []
-    empty [] e = refl
-    empty (b ∷ bs) e = absurd (let same : length (b ∷ bs) ≡ 0 = eqb-true (length (b ∷ bs)) 0 e in omega (arith, same))
+    up : Ascends comp_at (controls_of plan kept)
+    up = zip-ascends plan.controls kept.controls sound.controls_ascend

@@ -1,5 +1,5 @@
 -- The records that calls leave, over any plan.
-use Rattle.std.proofs.Common.{◌≡◌, ℕ, suc, Bool, true, false, not, List, [], ◌∷◌, ◌++◌, map, length, Option, Some, None, refl, sym, ap, subst, ◌∙◌}
+use Rattle.std.proofs.Common.{◌≡◌, ℕ, suc, Bool, true, false, not, List, [], ◌∷◌, ◌++◌, map, length, Option, Some, None, Ok, Err, refl, sym, ap, subst, ◌∙◌}
 use Rattle.std.specs.Prelude.{◌&&◌, ◌||◌, IsTrue}
 use Rattle.std.specs.List.{list_any, list_all, zip}
 use Rattle.std.proofs.lemmas.Bool.{and_parts}
@@ -13,13 +13,19 @@ use Rattle.tplg_plan.specs.declared.plans.StreamPlan.{StreamPlan}
 use Rattle.host_widgets.specs.declared.kept.Found.{Found}
 use Rattle.host_widgets.specs.declared.kept.Found.TheVariants.{Closed, Open, Prepared, Running, Paused, On as Found_On}
 use Rattle.host_widgets.specs.declared.kept.Power.{Power}
-use Rattle.host_widgets.specs.declared.kept.Power.TheVariants.{Unloaded}
+use Rattle.host_widgets.specs.declared.kept.Power.TheVariants.{Unloaded, On}
 use Rattle.host_widgets.specs.declared.kept.StreamRec.{StreamRec}
 use Rattle.host_widgets.specs.declared.kept.Record.{Record}
-use Rattle.host_widgets.specs.HostRecord.{closed, all_closed, went_down, halted, halted_found, may_have}
-use Rattle.host_widgets.specs.Controls.{set_graph}
-use Rattle.host_widgets.specs.Expected.{expected_view, stream_view, phase_of}
-use Rattle.host_widgets.specs.Host.{IsRecordOf, Agrees}
+use Rattle.host_widgets.specs.HostRecord.{closed, halted, halted_found, may_have}
+use Rattle.host_widgets.specs.Kept.{first_record, all_closed, went_down}
+use Rattle.host_widgets.specs.ViewOf.{graph_by, view_by}
+use Rattle.host_widgets.specs.Expected.{stream_view, phase_of}
+use Rattle.host_widgets.specs.Host.{Outcome, LoadLeft, after_load, IsRecordOf, Agrees}
+use Rattle.stream_law.specs.State.{view_of}
+use Rattle.std.specs.Option.{option_map}
+use Rattle.host_widgets.specs.declared.answers.HostFault.TheVariants as faults
+use Rattle.host_widgets.specs.declared.answers.HostFault.TheVariants.{NotLoaded, Loaded, NoSuch, State, Range, Refused, LinkDown}
+use Rattle.host_widgets.proofs.ControlLists.{first-are}
 
 -- ---- whether streams agree is a matter of their hosts and parameters
 
@@ -80,13 +86,14 @@ length-closed : (ps : List StreamPlan) → length (map (λ (s : StreamPlan). clo
 length-closed [] = refl
 length-closed (p ∷ ps) = ap (λ (n : ℕ). suc n) (length-closed ps)
 
-pub closed-agrees : (power : Power) (plan : Plan) → agree (expected_view plan (all_closed power plan)) ≡ true
+pub closed-agrees : (power : Power) (plan : Plan) → agree (view_by plan (all_closed power plan)) ≡ true
 unfolding agree
-closed-agrees power plan = closed-agree (set_graph plan) plan.streams (closed_views plan.streams)
+closed-agrees power plan = closed-agree (graph_by plan (first_record plan)) plan.streams (closed_views plan.streams)
 
 pub closed-record : (power : Power) (plan : Plan) → IsRecordOf plan (all_closed power plan)
 closed-record power plan = record {
   streams = length-closed plan.streams;
+  controls = first-are plan.controls;
   each = closed-may plan.streams;
   shapes = closed-agrees power plan;
 }
@@ -121,11 +128,12 @@ shapes-halted (p ∷ ps) (r ∷ rs) = ap (λ (xs : List Shape). (p.host, r.param
 pub down-record : (plan : Plan) (kept : Record) → IsRecordOf plan kept → IsRecordOf plan (went_down kept)
 down-record plan kept is = record {
   streams = length-halted kept.streams ∙ is.streams;
+  controls = is.controls;
   each = all-halted kept.streams is.each;
   shapes =
-      agree-shapes (set_graph plan) (map stream_view (zip plan.streams (map halted kept.streams)))
-      ∙ ap (all_fair (set_graph plan)) (shapes-halted plan.streams kept.streams)
-      ∙ sym (agree-shapes (set_graph plan) (map stream_view (zip plan.streams kept.streams)))
+      agree-shapes (graph_by plan kept) (map stream_view (zip plan.streams (map halted kept.streams)))
+      ∙ ap (all_fair (graph_by plan kept)) (shapes-halted plan.streams kept.streams)
+      ∙ sym (agree-shapes (graph_by plan kept) (map stream_view (zip plan.streams kept.streams)))
       ∙ is.shapes;
 }
 
@@ -147,11 +155,24 @@ closed-still [] = refl
 closed-still (p ∷ ps) = closed-still ps
 
 -- while all are closed, no stream runs or is paused
-pub closed-silent : (power : Power) (plan : Plan) → IsTrue (is_silent (expected_view plan (all_closed power plan)))
+pub closed-silent : (power : Power) (plan : Plan) → IsTrue (is_silent (view_by plan (all_closed power plan)))
 closed-silent power plan = ap not (closed-still plan.streams)
 
 -- a record that is unloaded agrees with a device that is off
-pub unloaded-agrees : {D : Type 0} (means : Meaning D) (plan : Plan) (streams : List StreamRec) (device : D) → streams ≡ map (λ s. closed) plan.streams → means.on device ≡ None → Agrees means plan (record { power = Unloaded; streams = streams }) device
-unloaded-agrees means plan streams device is off =
-    subst (λ (r : Record). Agrees means plan r device) (λ i. record { power = Unloaded; streams = sym is i })
-    record { record_is = closed-record Unloaded plan; sides = (refl, off) }
+pub unloaded-agrees : {D : Type 0} (means : Meaning D) (plan : Plan) (kept : Record) (device : D) → kept ≡ first_record plan → means.on device ≡ None → Agrees means plan kept device
+unloaded-agrees means plan kept device is off =
+    subst (λ (r : Record). Agrees means plan r device) (sym is) record { record_is = closed-record Unloaded plan; sides = (refl, off) }
+
+-- after a load from nothing: all is closed, or nothing is loaded and the device is off
+pub load-agrees : {D : Type 0} (means : Meaning D) (plan : Plan) (heap : ℕ) (old new : D) (kept kept' : Record) (result : Outcome) → (result ≡ Err Loaded → ⊥) → LoadLeft means plan heap old result new → kept' ≡ after_load plan result kept → Agrees means plan kept' new
+load-agrees means plan heap old new kept kept' (Ok done) other left is =
+    subst (λ (r : Record). Agrees means plan r new) (sym is) record { record_is = closed-record On plan; sides = ap (option_map view_of) left.1 }
+load-agrees means plan heap old new kept kept' (Err Loaded) other left is = absurd (other refl)
+load-agrees means plan heap old new kept kept' (Err (Refused e)) other left is = unloaded-agrees means plan kept' new is left.0
+load-agrees means plan heap old new kept kept' (Err LinkDown) other left is = unloaded-agrees means plan kept' new is left.0
+load-agrees means plan heap old new kept kept' (Err NotLoaded) other left is = absurd left
+load-agrees means plan heap old new kept kept' (Err (NoSuch name)) other left is = absurd left
+load-agrees means plan heap old new kept kept' (Err (State found)) other left is = absurd left
+load-agrees means plan heap old new kept kept' (Err faults.Off) other left is = absurd left
+load-agrees means plan heap old new kept kept' (Err (Range n)) other left is = absurd left
+load-agrees means plan heap old new kept kept' (Err (faults.Blob n)) other left is = absurd left

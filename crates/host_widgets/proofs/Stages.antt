@@ -6,11 +6,13 @@ use Rattle.stream_law.specs.declared.graph.Pipe.{Pipe}
 use Rattle.stream_law.specs.State.{FwState}
 use Rattle.mbox_link.specs.Step.{first_setting}
 use Rattle.tplg_plan.specs.declared.plans.Plan.{Plan}
-use Rattle.host_widgets.specs.HostRecord.{all_closed}
-use Rattle.host_widgets.specs.declared.kept.Power.TheVariants.{On}
+use Rattle.host_widgets.specs.Kept.{all_closed}
 use Rattle.host_widgets.specs.Controls.{control_of}
 use Rattle.host_widgets.specs.Acts.{kind_words, words_of}
-use Rattle.host_widgets.specs.Expected.{expected_view, loaded_heap, empty_rings}
+use Rattle.host_widgets.specs.ViewOf.{view_by}
+use Rattle.host_widgets.specs.Expected.{loaded_heap}
+use Rattle.host_widgets.specs.StateOf.{empty_rings}
+use Rattle.host_widgets.specs.declared.kept.Power.TheVariants.{On}
 
 -- a component that was made, with what is set at a new one
 abbrev pub made_comp : Plan → Comp → Comp
@@ -30,7 +32,7 @@ made_state plan heap = record {
   heap = loaded_heap plan heap;
   clock = 0;
   graph = record { comps = map (made_comp plan) plan.graph.comps; edges = map loose plan.graph.edges; pipes = map begun plan.graph.pipes; joins = [] };
-  streams = (expected_view plan (all_closed On plan)).streams;
+  streams = (view_by plan (all_closed On plan)).streams;
   rings = empty_rings plan.graph;
   histories = [];
   staging = [];

@@ -12,7 +12,8 @@ use Rattle.tplg_plan.specs.declared.plans.Plan.{Plan}
 use Rattle.tplg_plan.specs.declared.plans.StreamPlan.{StreamPlan}
 use Rattle.tplg_plan.specs.Sound.{IsSound}
 use Rattle.host_widgets.specs.HostRecord.{closed}
-use Rattle.host_widgets.specs.Expected.{stream_view, empty_rings}
+use Rattle.host_widgets.specs.Expected.{stream_view}
+use Rattle.host_widgets.specs.StateOf.{empty_rings}
 use Rattle.host_widgets.proofs.SilentTicks.{IsStill}
 use Rattle.host_widgets.proofs.LookedUp.{map-twice, all-of}
 use Rattle.host_widgets.proofs.Joined.{standing}

@@ -16,10 +16,10 @@ use Rattle.tplg_model.specs.declared.pcm.Caps.{Caps}
 use Rattle.host_widgets.specs.declared.kept.StreamRec.{StreamRec}
 use Rattle.host_widgets.specs.declared.kept.Record.{Record}
 use Rattle.host_widgets.specs.HostRecord.{may_have}
+use Rattle.host_widgets.specs.ViewOf.{set_comp, view_by}
+use Rattle.host_widgets.specs.Expected.{stream_view, phase_of}
+use Rattle.host_widgets.specs.Host.{AreControls, IsRecordOf}
 use Rattle.mbox_link.specs.Step.{with_comps}
-use Rattle.host_widgets.specs.Controls.{set_comp}
-use Rattle.host_widgets.specs.Expected.{expected_view, stream_view, phase_of}
-use Rattle.host_widgets.specs.Host.{IsRecordOf}
 
 -- its one stream, of this host
 abbrev pub only_stream : Caps → StreamPlan
@@ -39,12 +39,13 @@ shown r = record { host = 0; phase = phase_of r.found; params = r.params }
 abbrev pub view_with : Graph → StreamRec → View
 view_with g r = record { graph = g; streams = shown r ∷ [] }
 
-pub view-is : (plan : Plan) (kept : Record) (r : StreamRec) (p : IsThinPlan plan) → kept.streams ≡ r ∷ [] → expected_view plan kept ≡ view_with (thin_graph p.pipe p.size p.format p.sched) r
-view-is plan kept r p is = λ i. record { graph = with_comps (map (set_comp plan) (p.graph i).comps) (p.graph i); streams = map stream_view (zip (p.streams i) (is i)) }
+pub view-is : (plan : Plan) (kept : Record) (r : StreamRec) (p : IsThinPlan plan) → kept.streams ≡ r ∷ [] → view_by plan kept ≡ view_with (thin_graph p.pipe p.size p.format p.sched) r
+view-is plan kept r p is = λ i. record { graph = with_comps (map (set_comp plan kept) (p.graph i).comps) (p.graph i); streams = map stream_view (zip (p.streams i) (is i)) }
 
 -- such a record is one of the plan where the stream has what it may have
-pub record-of : (plan : Plan) (kept : Record) (r : StreamRec) → IsThinPlan plan → kept.streams ≡ r ∷ [] → may_have r.found r.params ≡ true → IsRecordOf plan kept
-record-of plan kept r p is may = record {
+pub record-of : (plan : Plan) (kept : Record) (r : StreamRec) → IsThinPlan plan → kept.streams ≡ r ∷ [] → AreControls plan.controls kept.controls → may_have r.found r.params ≡ true → IsRecordOf plan kept
+record-of plan kept r p is are may = record {
+  controls = are;
   streams = ap length is ∙ sym (ap length p.streams);
   each = rw (is, may) refl;
   shapes = ap agree (view-is plan kept r p is) ∙ agree-one p.pipe p.size p.format p.sched (phase_of r.found) r.params;

@@ -14,7 +14,8 @@ use Rattle.mbox_link.proofs.Led.{Led-append}
 use Rattle.mbox_link.proofs.Rooms.{HasRoom-now}
 use Rattle.tplg_plan.specs.declared.plans.Plan.{Plan}
 use Rattle.host_widgets.specs.declared.answers.HostFault.{HostFault}
-use Rattle.host_widgets.specs.Acts.{Act, message_of}
+use Rattle.host_widgets.specs.HostActs.{Act}
+use Rattle.host_widgets.specs.ActMessages.{message_of}
 use Rattle.host_widgets.specs.Host.{Outcome, Sent, verdict, exchanges, Walk, Walked}
 use Rattle.host_widgets.proofs.Exchanges.{state_of, came, Came-on}
 

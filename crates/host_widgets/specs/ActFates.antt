@@ -9,8 +9,11 @@ use Rattle.tplg_plan.specs.declared.plans.Plan.{Plan}
 use Rattle.host_widgets.specs.declared.answers.HostFault.{HostFault}
 use Rattle.host_widgets.specs.declared.answers.HostFault.TheVariants.{Refused, LinkDown}
 use Rattle.host_widgets.specs.declared.kept.Record.{Record}
-use Rattle.host_widgets.specs.Acts.{Act, message_of, bring_up_acts}
-use Rattle.host_widgets.specs.Host.{Outcome, Walk, verdict, own}
+use Rattle.host_widgets.specs.HostActs.{Act}
+use Rattle.host_widgets.specs.ActMessages.{message_of}
+use Rattle.host_widgets.specs.ActLists.{bring_up}
+use Rattle.host_widgets.specs.Host.{Outcome, Walk, verdict}
+use Rattle.host_widgets.specs.OneAct.{own}
 
 -- an act, which the firmware itself refuses with this error or not at all: it passes only where it does not; it is refused
 -- with this error, or the count of refusals rose; where the link is down the count of faults rose
@@ -46,5 +49,5 @@ pub record LoadFates {D : Type 0} (means : Meaning D) (plan : Plan) (heap : ℕ)
   pub booted : World D
   pub sent : World D
   pub boot : Did means (Boot heap) w booted
-  pub fates : WalkFates means plan heap kept (bring_up_acts plan) booted sent result
+  pub fates : WalkFates means plan heap kept (bring_up plan kept) booted sent result
   pub ends : Ends means result sent v

@@ -1,8 +1,7 @@
--- What the host does to a device, and the message that it writes for each act.
-use Rattle.std.specs.Prelude.{ℕ, ◌==◌, List, [], ◌∷◌, ◌++◌, map, length, get_or, find, Option, unwrap_or, Some, None, if◌then◌else◌}
-use Rattle.std.specs.List.{range_with_len, flat_map}
+-- What the host writes of a widget and of a stream in its messages.
+use Rattle.std.specs.Prelude.{ℕ, ◌==◌, List, length, get_or, find, Option, unwrap_or, Some, None, if◌then◌else◌}
+use Rattle.std.specs.List.{range_with_len}
 use Rattle.std.specs.Option.{option_map}
-use Rattle.sof_base.specs.declared.format.Params.{Params}
 use Rattle.stream_law.specs.declared.graph.Kind.{Kind}
 use Rattle.stream_law.specs.declared.graph.Kind.TheVariants.{HostPlay, HostCapture, DaiPlay, DaiCapture, Volume, Mixer, Mux, Eq}
 use Rattle.stream_law.specs.declared.graph.Comp.{Comp}
@@ -10,49 +9,20 @@ use Rattle.stream_law.specs.declared.graph.Edge.{Edge}
 use Rattle.stream_law.specs.declared.graph.Pipe.{Pipe}
 use Rattle.stream_law.specs.Ways.{comp_of, edge_of, is_capture}
 use Rattle.ipc3_codec.specs.declared.message.Message.{Message}
-use Rattle.ipc3_codec.specs.declared.message.Message.TheVariants.{CompNew, BufferNew, PipeNew, Connect, SetValue, PipeComplete, PcmParams, PcmFree, TrigStart, TrigStop, TrigPause, TrigRelease}
+use Rattle.ipc3_codec.specs.declared.message.Message.TheVariants.{CompNew, BufferNew, PipeNew, TrigStart, TrigStop, TrigPause, TrigRelease}
 use Rattle.ipc3_codec.specs.declared.message.CompWords.{CompWords}
 use Rattle.ipc3_codec.specs.declared.message.CompWords.TheVariants as words
 use Rattle.tplg_plan.specs.declared.plans.Plan.{Plan}
 use Rattle.tplg_plan.specs.declared.plans.WidgetPlan.{WidgetPlan}
 use Rattle.tplg_plan.specs.declared.plans.ControlPlan.{ControlPlan}
-use Rattle.tplg_plan.specs.declared.plans.ControlKind.{ControlKind}
-use Rattle.tplg_plan.specs.declared.plans.ControlKind.TheVariants.{Choice, Blob}
 use Rattle.tplg_plan.specs.GainOf.{control_gain}
-use Rattle.host_widgets.specs.Controls.{control_of, first_values, first_gains, greatest_value}
+use Rattle.host_widgets.specs.Controls.{control_of, first_values, greatest_value}
 use Rattle.host_widgets.specs.declared.trigger.Trigger.{Trigger}
 use Rattle.host_widgets.specs.declared.trigger.Trigger.TheVariants.{Start, Stop, Pause, Release}
-
--- an act, by the ids that it is about; a stream by that of its host component
-pub data Act : Type 0 where
-  Make : (id : ℕ) → Act  -- a widget is made
-  Join : (source : ℕ) → (sink : ℕ) → Act  -- a buffer and a component are joined
-  Put : (comp : ℕ) → Act  -- a live control's first values are set
-  Finish : (id : ℕ) → Act  -- a pipeline is complete
-  Prepare : (host : ℕ) → (params : Params) → Act  -- a stream has parameters
-  Trig : (host : ℕ) → (what : Trigger) → Act  -- a stream is triggered
-  Free : (host : ℕ) → Act  -- a stream is without parameters
-
--- ---- the list that brings a device up
 
 -- the ids of all widgets, in order
 abbrev pub ids_of : Plan → List ℕ
 ids_of plan = range_with_len 0 (length plan.widgets)
-
--- a live control that has values sets them; no blob is sent so far
-abbrev pub put_by : ControlKind → ℕ → List Act
-put_by (Blob most initial) comp = []
-put_by kind comp = Put comp ∷ []
-
-abbrev pub put_acts : ControlPlan → List Act
-put_acts k = put_by k.kind k.comp
-
--- each widget is made, by id; then each join is made, in the graph's order; then each live control is set, by component; and
--- then each pipeline is complete, by id
-abbrev pub bring_up_acts : Plan → List Act
-bring_up_acts plan =
-    map Make (ids_of plan)
-    ++ (map (λ j. Join j.source j.sink) plan.graph.joins ++ (flat_map put_acts plan.controls ++ map (λ p. Finish p.id) plan.graph.pipes))
 
 -- ---- what an id names
 
@@ -127,15 +97,6 @@ abbrev pub make_message : Plan → ℕ → WidgetPlan → Message
 make_message plan id w =
     unwrap_or (made_component plan id w) (unwrap_or (made_buffer plan id w) (unwrap_or (made_pipe plan id w) (pipe_message id w 0 0)))
 
--- SET_VALUE: a volume's gains by command 0, a mux's choice by command 1; no other component is set so
-abbrev pub set_message : ℕ → ControlKind → Message
-set_message comp (Choice items) = SetValue comp 1 (0 ∷ [])
-set_message comp kind = SetValue comp 0 (first_gains kind)
-
-abbrev pub put_message : ℕ → Option ControlPlan → Message
-put_message comp (Some k) = set_message comp k.kind
-put_message comp None = SetValue comp 0 []
-
 -- a host's direction in messages: 0 for playback, 1 for capture
 abbrev pub direction_by : Option Comp → ℕ
 direction_by None = 0
@@ -150,13 +111,3 @@ trigger_message host Start = TrigStart host
 trigger_message host Stop = TrigStop host
 trigger_message host Pause = TrigPause host
 trigger_message host Release = TrigRelease host
-
--- the message of an act
-abbrev pub message_of : Plan → Act → Message
-message_of plan (Make id) = make_message plan id (words_of plan id)
-message_of plan (Join source sink) = Connect source sink
-message_of plan (Put comp) = put_message comp (control_of plan comp)
-message_of plan (Finish id) = PipeComplete id
-message_of plan (Prepare host params) = PcmParams host (direction_of plan host) params
-message_of plan (Trig host what) = trigger_message host what
-message_of plan (Free host) = PcmFree host

@@ -1,19 +1,11 @@
--- The live controls of a plan: their first values, and what these set at components.
-use Rattle.std.specs.Prelude.{◌≡◌, ℕ, suc, ◌-◌, ◌≤◌, ℤ, pos, negsuc, Bool, true, false, not, ◌&&◌, ◌==◌, List, [], ◌∷◌, map, length, replicate, find, Option, Some, None, unwrap_or}
+-- The live controls of a plan, and their first values.
+use Rattle.std.specs.Prelude.{◌≡◌, ℕ, suc, ◌-◌, ◌≤◌, ℤ, pos, negsuc, Bool, true, false, not, ◌&&◌, ◌==◌, List, [], ◌∷◌, length, replicate, find, Option, unwrap_or}
 use Rattle.std.specs.List.{list_all, range_with_len}
-use Rattle.stream_law.specs.declared.graph.Kind.{Kind}
-use Rattle.stream_law.specs.declared.graph.Kind.TheVariants as kinds
-use Rattle.stream_law.specs.declared.graph.Setting.{Setting}
-use Rattle.stream_law.specs.declared.graph.Setting.TheVariants as settings
-use Rattle.stream_law.specs.declared.graph.Comp.{Comp}
-use Rattle.stream_law.specs.declared.graph.Graph.{Graph}
 use Rattle.stream_law.specs.Gain.{half_decibels}
-use Rattle.mbox_link.specs.Step.{with_comps}
 use Rattle.tplg_plan.specs.declared.plans.Plan.{Plan}
 use Rattle.tplg_plan.specs.declared.plans.ControlPlan.{ControlPlan}
 use Rattle.tplg_plan.specs.declared.plans.ControlKind.{ControlKind}
 use Rattle.tplg_plan.specs.declared.plans.ControlKind.TheVariants.{Volume, Choice, Blob}
-use Rattle.tplg_plan.specs.GainOf.{control_gain}
 use Rattle.tplg_plan.specs.Sound.{IsSound}
 
 -- the live control of a component
@@ -51,28 +43,6 @@ first_values (Blob most initial) = []
 abbrev pub first_blob : ControlKind → List ℕ
 first_blob (Blob most initial) = initial
 first_blob kind = []
-
--- ---- what is set at components
-
--- the gains of a control's first values
-abbrev pub first_gains : ControlKind → List ℕ
-first_gains kind = map (control_gain kind) (first_values kind)
-
--- without a live control a volume has one gain, which is 1, a mux chooses its first input, and an equaliser has no blob
-abbrev pub setting_by : Kind → Option ControlPlan → Setting
-setting_by kinds.Volume (Some k) = settings.Gains (first_gains k.kind)
-setting_by kinds.Volume None = settings.Gains (65536 ∷ [])
-setting_by kinds.Mux k = settings.Choice 0
-setting_by kinds.Eq (Some k) = settings.Blob (first_blob k.kind)
-setting_by kinds.Eq None = settings.Blob []
-setting_by kind k = settings.Nothing
-
-abbrev pub set_comp : Plan → Comp → Comp
-set_comp plan c = record { id = c.id; kind = c.kind; pipe = c.pipe; setting = setting_by c.kind (control_of plan c.id) }
-
--- the plan's graph with what is set at its components
-abbrev pub set_graph : Plan → Graph
-set_graph plan = with_comps (map (set_comp plan) plan.graph.comps) plan.graph
 
 -- no equaliser begins with a blob
 abbrev pub has_no_blobs : Plan → Bool

@@ -1,28 +1,23 @@
--- What the firmware is expected to show and to keep.
+-- What the firmware is expected to show of a stream, and its heap.
 use Rattle.std.specs.Prelude.{ℕ, List, [], ◌∷◌, map, sum, Option, Some, None}
-use Rattle.std.specs.List.{zip, range_with_len}
+use Rattle.std.specs.List.{range_with_len}
 use Rattle.sof_base.specs.Holes.{rounded}
 use Rattle.stream_law.specs.declared.graph.Comp.{Comp}
 use Rattle.stream_law.specs.declared.graph.Edge.{Edge}
-use Rattle.stream_law.specs.declared.graph.Graph.{Graph}
 use Rattle.stream_law.specs.declared.stream.Phase.{Phase}
 use Rattle.stream_law.specs.declared.stream.Phase.TheVariants as phases
 use Rattle.stream_law.specs.declared.stream.StreamView.{StreamView}
-use Rattle.stream_law.specs.State.{FwState, View, HeapView, RingView}
+use Rattle.stream_law.specs.State.{HeapView}
 use Rattle.stream_law.specs.Ways.{comp_of, edge_of}
 use Rattle.mbox_link.specs.Step.{comp_bytes, buffer_bytes, pipe_bytes, with_piece, fresh}
 use Rattle.tplg_plan.specs.declared.plans.Plan.{Plan}
 use Rattle.tplg_plan.specs.declared.plans.StreamPlan.{StreamPlan}
 use Rattle.host_widgets.specs.declared.kept.Found.{Found}
 use Rattle.host_widgets.specs.declared.kept.Found.TheVariants.{Prepared, Running, Paused}
-use Rattle.host_widgets.specs.declared.kept.Power.TheVariants.{On}
 use Rattle.host_widgets.specs.declared.kept.StreamRec.{StreamRec}
-use Rattle.host_widgets.specs.declared.kept.Record.{Record}
-use Rattle.host_widgets.specs.HostRecord.{all_closed}
-use Rattle.host_widgets.specs.Controls.{set_graph}
 use Rattle.host_widgets.specs.Acts.{ids_of}
 
--- ---- the view
+-- ---- a stream
 
 -- a stream that is closed or open is idle
 abbrev pub phase_of : Found → Phase
@@ -33,10 +28,6 @@ phase_of found = phases.Idle
 
 abbrev pub stream_view : StreamPlan × StreamRec → StreamView
 stream_view (s, r) = record { host = s.host; phase = phase_of r.found; params = r.params }
-
--- the plan's graph with the settings of its controls, and for each stream its host, its phase and its parameters
-abbrev pub expected_view : Plan → Record → View
-expected_view plan kept = record { graph = set_graph plan; streams = map stream_view (zip plan.streams kept.streams) }
 
 -- ---- the heap
 
@@ -62,21 +53,3 @@ with_pieces plan (id ∷ ids) heap = with_pieces plan ids (with_piece id (stated
 -- what carving all stated sizes in the order of ids leaves of a fresh heap of so many bytes
 abbrev pub loaded_heap : Plan → ℕ → HeapView
 loaded_heap plan heap = with_pieces plan (ids_of plan) (fresh heap).heap
-
--- ---- all that the firmware keeps
-
--- a ring without frames for each buffer
-abbrev pub empty_rings : Graph → List RingView
-empty_rings g = map (λ e. record { buffer = e.buffer; frames = [] }) g.edges
-
--- a firmware in which the plan stands, at this clock: every stream is idle, and no audio was moved
-abbrev pub loaded_state : Plan → ℕ → ℕ → FwState
-loaded_state plan heap clock = record {
-  heap = loaded_heap plan heap;
-  clock = clock;
-  graph = set_graph plan;
-  streams = (expected_view plan (all_closed On plan)).streams;
-  rings = empty_rings plan.graph;
-  histories = [];
-  staging = [];
-}

@@ -1,6 +1,6 @@
 -- What the host's calls do on a device, and what they come to.
-use Rattle.std.specs.Prelude.{◌≡◌, ◌⊎◌, ◌↔◌, ℕ, ◌+◌, ◌-◌, ◌%◌, ◌^◌, ◌<◌, ◌≤◌, ℤ, pos, negsuc, Bool, true, false, List, [], ◌∷◌, ◌++◌, length, nat_lt, Option, Some, None, is_some, Result, Ok, Err, MatchResult, if◌then◌else◌, ◌==◌, ◌&&◌, not}
-use Rattle.std.specs.List.{list_any, list_all, zip}
+use Rattle.std.specs.Prelude.{◌≡◌, ◌⊎◌, ◌↔◌, ℕ, ◌-◌, ◌%◌, ◌^◌, ◌<◌, ◌≤◌, ℤ, pos, negsuc, Bool, true, false, List, [], ◌∷◌, ◌++◌, length, nat_le, Option, Some, None, is_some, Result, Ok, Err, MatchResult, if◌then◌else◌, ◌==◌, ◌&&◌, not}
+use Rattle.std.specs.List.{list_any, list_all}
 use Rattle.std.specs.Option.{option_map}
 use Rattle.sof_base.specs.declared.errno.Errno.{Errno}
 use Rattle.sof_base.specs.declared.format.Params.{Params}
@@ -13,20 +13,29 @@ use Rattle.ipc3_codec.specs.declared.reply.Body.TheVariants.{Nothing}
 use Rattle.ipc3_codec.specs.declared.fault.CodecFault.{CodecFault}
 use Rattle.ipc3_codec.specs.Messages.{message_spelling, decoded}
 use Rattle.ipc3_codec.specs.Replies.{decoded_reply}
-use Rattle.mbox_link.specs.Step.{no_memory, invalid, body_of}
+use Rattle.mbox_link.specs.Step.{no_memory, body_of}
 use Rattle.mbox_link.specs.Exchange.{Rose}
 use Rattle.mbox_link.specs.Calls.{World, Meaning, Call, Boot, Cut, Exchange, Led}
 use Rattle.tplg_plan.specs.declared.plans.Plan.{Plan}
 use Rattle.tplg_plan.specs.declared.plans.StreamPlan.{StreamPlan}
+use Rattle.tplg_plan.specs.declared.plans.ControlPlan.{ControlPlan}
+use Rattle.tplg_plan.specs.declared.plans.ControlKind.{ControlKind}
+use Rattle.tplg_plan.specs.declared.plans.ControlKind.TheVariants.{Volume, Choice, Blob}
 use Rattle.host_widgets.specs.declared.answers.HostFault.{HostFault}
 use Rattle.host_widgets.specs.declared.answers.HostFault.TheVariants.{NotLoaded, Loaded, Refused, LinkDown}
 use Rattle.host_widgets.specs.declared.kept.Power.{Power}
 use Rattle.host_widgets.specs.declared.kept.Power.TheVariants.{Unloaded, On, Off}
 use Rattle.host_widgets.specs.declared.kept.StreamRec.{StreamRec}
 use Rattle.host_widgets.specs.declared.kept.Record.{Record}
-use Rattle.host_widgets.specs.HostRecord.{all_closed, first_record, may_have}
-use Rattle.host_widgets.specs.Acts.{Act, Make, Prepare, bring_up_acts, message_of}
-use Rattle.host_widgets.specs.Expected.{phase_of, expected_view, needed_by, loaded_state}
+use Rattle.host_widgets.specs.declared.kept.ControlRec.{ControlRec}
+use Rattle.host_widgets.specs.Kept.{all_closed, first_control, first_record}
+use Rattle.host_widgets.specs.HostRecord.{may_have}
+use Rattle.host_widgets.specs.HostActs.{Act}
+use Rattle.host_widgets.specs.ActLists.{bring_up}
+use Rattle.host_widgets.specs.ActMessages.{message_of}
+use Rattle.host_widgets.specs.Expected.{phase_of, needed_by}
+use Rattle.host_widgets.specs.ViewOf.{view_by}
+use Rattle.host_widgets.specs.StateOf.{state_by}
 
 -- whether a command that answers nothing else was done
 abbrev pub Outcome : Type 0
@@ -100,13 +109,6 @@ abbrev pub conflicts : Plan → ℕ → Params → StreamPlan × StreamRec → B
 conflicts plan host p (s, r) =
     not (s.host == host) && touch plan.graph (idle_view s.host) (idle_view host) && is_some r.params && not (same_shape r.params (Some p))
 
--- An act is refused by the firmware itself exactly where it makes a widget up to which the stated sizes pass the heap, or gives
--- a stream parameters that do not agree with those of another stream in the record.
-abbrev pub own : Plan → ℕ → Record → Act → Option Errno
-own plan heap kept (Make id) = if nat_lt heap (needed_by plan (id + 1)) then Some (errno no_memory) else None
-own plan heap kept (Prepare host p) = if list_any (conflicts plan host p) (zip plan.streams kept.streams) then Some (errno invalid) else None
-own plan heap kept act = None
-
 -- the stated sizes of all widgets fit
 abbrev pub Fits : Plan → ℕ → Type 0
 Fits plan heap = needed_by plan (length plan.widgets) ≤ heap
@@ -124,33 +126,33 @@ Why means plan heap old fault new = ⊥
 abbrev pub ticks_put : {D : Type 0} → Meaning D → D → D → ℕ
 ticks_put means old new = (means.pending old - means.pending new) % 2 ^ 32
 
--- what is there once all acts have passed: the sizes fit, and the device keeps the plan
-abbrev pub Stands : {D : Type 0} → Meaning D → Plan → ℕ → D → D → Type 0
-Stands means plan heap old new = Fits plan heap × (means.on new ≡ Some (loaded_state plan heap (ticks_put means old new)))
+-- what is there once all acts have passed: the sizes fit, and the device keeps the plan with what this record sets
+abbrev pub Stands : {D : Type 0} → Meaning D → Plan → ℕ → Record → D → D → Type 0
+Stands means plan heap kept old new = Fits plan heap × (means.on new ≡ Some (state_by plan kept heap (ticks_put means old new)))
 
 -- what the acts that bring up a fresh device leave
-abbrev pub BroughtUp : {D : Type 0} → Meaning D → Plan → ℕ → D → Outcome → D → Type 0
-BroughtUp means plan heap old (Ok done) new = Stands means plan heap old new
-BroughtUp means plan heap old (Err fault) new = (is_some (means.on new) ≡ true) × Why means plan heap old fault new
+abbrev pub BroughtUp : {D : Type 0} → Meaning D → Plan → ℕ → Record → D → Outcome → D → Type 0
+BroughtUp means plan heap kept old (Ok done) new = Stands means plan heap kept old new
+BroughtUp means plan heap kept old (Err fault) new = (is_some (means.on new) ≡ true) × Why means plan heap old fault new
 
 -- ---- load
 
 -- the calls of a load: a boot, the exchanges, and after a failure a cut
-abbrev pub load_calls : ℕ → Plan → List (Option (List ℕ)) → Outcome → List Call
-load_calls heap plan answers (Ok done) = Boot heap ∷ exchanges plan (bring_up_acts plan) answers
-load_calls heap plan answers (Err fault) = (Boot heap ∷ exchanges plan (bring_up_acts plan) answers) ++ Cut ∷ []
+abbrev pub load_calls : ℕ → Plan → Record → List (Option (List ℕ)) → Outcome → List Call
+load_calls heap plan kept answers (Ok done) = Boot heap ∷ exchanges plan (bring_up plan kept) answers
+load_calls heap plan kept answers (Err fault) = (Boot heap ∷ exchanges plan (bring_up plan kept) answers) ++ Cut ∷ []
 
 -- these calls and no others
-pub record Brought {D : Type 0} (means : Meaning D) (plan : Plan) (heap : ℕ) (w v : World D) (result : Outcome) : Type 0 where
+pub record Brought {D : Type 0} (means : Meaning D) (plan : Plan) (heap : ℕ) (kept : Record) (w v : World D) (result : Outcome) : Type 0 where
   pub answers : List (Option (List ℕ))
-  pub led : Led means w (load_calls heap plan answers result) v
-  pub walk : Walk (bring_up_acts plan) answers result
+  pub led : Led means w (load_calls heap plan kept answers result) v
+  pub walk : Walk (bring_up plan kept) answers result
 
 -- where the record is not unloaded, there is no call and the answer says so
-abbrev pub Loads : {D : Type 0} → Meaning D → Plan → ℕ → Power → World D → World D → Outcome → Type 0
-Loads means plan heap Unloaded w v result = Brought means plan heap w v result
-Loads means plan heap On w v result = (v ≡ w) × (result ≡ Err Loaded)
-Loads means plan heap Off w v result = (v ≡ w) × (result ≡ Err Loaded)
+abbrev pub Loads : {D : Type 0} → Meaning D → Plan → ℕ → Record → Power → World D → World D → Outcome → Type 0
+Loads means plan heap kept Unloaded w v result = Brought means plan heap kept w v result
+Loads means plan heap kept On w v result = (v ≡ w) × (result ≡ Err Loaded)
+Loads means plan heap kept Off w v result = (v ≡ w) × (result ≡ Err Loaded)
 
 -- the record after a load that came to this
 abbrev pub after_load : Plan → Outcome → Record → Record
@@ -161,7 +163,7 @@ after_load plan (Err fault) kept = kept
 
 -- what a load leaves on the device: the plan, or nothing, since it is off
 abbrev pub LoadLeft : {D : Type 0} → Meaning D → Plan → ℕ → D → Outcome → D → Type 0
-LoadLeft means plan heap old (Ok done) new = Stands means plan heap old new
+LoadLeft means plan heap old (Ok done) new = Stands means plan heap (first_record plan) old new
 LoadLeft means plan heap old (Err Loaded) new = new ≡ old
 LoadLeft means plan heap old (Err (Refused e)) new = (means.on new ≡ None) × Why means plan heap old (Refused e) new
 LoadLeft means plan heap old (Err LinkDown) new = (means.on new ≡ None) × Why means plan heap old LinkDown new
@@ -191,15 +193,30 @@ after_unload plan (Err fault) kept = kept
 -- first, and while the power is off no stream runs or is paused
 abbrev pub Sides : {D : Type 0} → Meaning D → Plan → Record → D → Power → Type 0
 Sides means plan kept device Unloaded = (kept ≡ first_record plan) × (means.on device ≡ None)
-Sides means plan kept device On = option_map view_of (means.on device) ≡ Some (expected_view plan kept)
+Sides means plan kept device On = option_map view_of (means.on device) ≡ Some (view_by plan kept)
 Sides means plan kept device Off = (list_any (λ s. is_live_phase (phase_of s.found)) kept.streams ≡ false) × (means.on device ≡ None)
 
--- A record of this plan: it has the plan's streams, each with the parameters that it may have where it stands, and any two
--- whose ways share something have one rate and one number of channels.
+-- values that a command may set: one for each channel of a volume, in its range, and the number of one of a mux's items; no
+-- blob is set so far
+abbrev pub IsSet : ControlKind → ControlRec → Type 0
+IsSet (Volume min max channels lowest step mute) c =
+    (length c.values ≡ channels) × (list_all (λ v. nat_le min v && nat_le v max) c.values ≡ true) × (c.blob ≡ [])
+IsSet (Choice items) c = (v : ℕ) × (c.values ≡ v ∷ []) × (v < items) × (c.blob ≡ [])
+IsSet (Blob most initial) c = ⊥
+
+-- a record for each live control, which is as it begins or was set
+abbrev pub AreControls : List ControlPlan → List ControlRec → Type 0
+AreControls [] [] = Unit {0}
+AreControls (k ∷ ks) (c ∷ cs) = ((c ≡ first_control k) ⊎ IsSet k.kind c) × AreControls ks cs
+AreControls ks cs = ⊥
+
+-- A record of this plan: it has the plan's streams, each with the parameters that it may have where it stands, and its live
+-- controls; and any two streams whose ways share something have one rate and one number of channels.
 pub record IsRecordOf (plan : Plan) (kept : Record) : Type 0 where
   pub streams : length kept.streams ≡ length plan.streams
+  pub controls : AreControls plan.controls kept.controls
   pub each : list_all (λ r. may_have r.found r.params) kept.streams ≡ true
-  pub shapes : agree (expected_view plan kept) ≡ true
+  pub shapes : agree (view_by plan kept) ≡ true
 
 -- the record and the device agree
 pub record Agrees {D : Type 0} (means : Meaning D) (plan : Plan) (kept : Record) (device : D) : Type 0 where

@@ -1,16 +1,12 @@
--- The host's record: what it may be, before anything was loaded, and after the link failed.
-use Rattle.std.specs.Prelude.{map, [], Bool, true, false, ◌&&◌, nat_le, Option, Some, None}
+-- The host's record of a stream: what it may be, before anything was asked of it, and after the link failed.
+use Rattle.std.specs.Prelude.{[], Bool, true, false, ◌&&◌, nat_le, Option, Some, None}
 use Rattle.sof_base.specs.declared.format.Params.{Params}
 use Rattle.mbox_link.specs.Step.{is_rate}
 use Rattle.tplg_model.specs.declared.pcm.Caps.{Caps}
-use Rattle.tplg_plan.specs.declared.plans.Plan.{Plan}
 use Rattle.tplg_plan.specs.declared.plans.StreamPlan.{StreamPlan}
 use Rattle.host_widgets.specs.declared.kept.Found.{Found}
 use Rattle.host_widgets.specs.declared.kept.Found.TheVariants.{Closed, Open, Prepared, Running, Paused}
-use Rattle.host_widgets.specs.declared.kept.Power.{Power}
-use Rattle.host_widgets.specs.declared.kept.Power.TheVariants.{Unloaded, Off}
 use Rattle.host_widgets.specs.declared.kept.StreamRec.{StreamRec}
-use Rattle.host_widgets.specs.declared.kept.Record.{Record}
 
 -- frames a second and samples a frame that a stream may have: a multiple of 1000 from 8000 to 192000, and 1 to 8
 abbrev pub is_in_range : Params → Bool
@@ -52,14 +48,6 @@ no_caps = record {
 abbrev pub no_stream : StreamPlan
 no_stream = record { host = 0; capture = false; caps = no_caps }
 
--- every stream of the plan is closed, at this power
-abbrev pub all_closed : Power → Plan → Record
-all_closed power plan = record { power = power; streams = map (λ s. closed) plan.streams }
-
--- nothing is loaded
-abbrev pub first_record : Plan → Record
-first_record plan = all_closed Unloaded plan
-
 -- a stream that was Running or Paused is Prepared
 abbrev pub halted_found : Found → Found
 halted_found Running = Prepared
@@ -68,7 +56,3 @@ halted_found found = found
 
 abbrev pub halted : StreamRec → StreamRec
 halted r = record { found = halted_found r.found; params = r.params }
-
--- the power is off, and no stream is Running or Paused
-abbrev pub went_down : Record → Record
-went_down kept = record { power = Off; streams = map halted kept.streams }

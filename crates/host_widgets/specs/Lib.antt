@@ -1,6 +1,17 @@
 pub mod HostRecord
 pub mod Controls
 pub mod Acts
+pub mod Kept
+pub mod BlobParts
+pub mod HostActs
+pub mod ActMessages
+pub mod ActLists
 pub mod Expected
+pub mod ViewOf
+pub mod StateOf
 pub mod Host
+pub mod OneAct
+pub mod Walk
+pub mod ActCalls
 pub mod ActFates
+pub mod Orders

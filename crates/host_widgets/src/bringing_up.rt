@@ -1,17 +1,20 @@
 // The messages that bring a device up.
-ghost use Rattle.std.specs.Prelude.{◌≡◌, ◌<◌, ◌^◌, ◌*◌, is_some, true, Some, length, map};
+ghost use Rattle.std.specs.Prelude.{◌≡◌, ◌<◌, ◌^◌, ◌*◌, is_some, true, Some, [], length, map};
 ghost use Rattle.std.specs.List.{flat_map};
 ghost use Rattle.sof_base.specs.Ports.{HasRoom};
 ghost use Rattle.mbox_link.specs.Step.{fresh};
 ghost use Rattle.mbox_link.specs.Calls.{world};
-ghost use Rattle.host_widgets.specs.Controls.{IsLoadable, HasFew, control_of};
-ghost use Rattle.host_widgets.specs.Acts.{Make, Join, Finish, ids_of, put_acts, bring_up_acts};
-ghost use Rattle.host_widgets.specs.Host.{Walked, BroughtUp};
+ghost use Rattle.host_widgets.specs.Controls.{IsLoadable, control_of};
+ghost use Rattle.host_widgets.specs.Kept.{controls_of};
+ghost use Rattle.host_widgets.specs.HostActs.{Make, Join, Finish};
+ghost use Rattle.host_widgets.specs.Acts.{ids_of};
+ghost use Rattle.host_widgets.specs.ActLists.{control_acts, bring_up};
+ghost use Rattle.host_widgets.specs.Host.{IsRecordOf, Walked, BroughtUp};
 ghost use Rattle.host_widgets.specs.ActFates.{WalkFates};
 
 use crate::answers::HostFault;
 use crate::controls::set_message;
-use crate::kept::Record;
+use crate::kept::{ControlRec, Record};
 use crate::messages::make_message;
 use crate::sending::send;
 use ipc3_codec::Message;
@@ -60,42 +63,48 @@ fn make_joins<P: Dsp>(
     Ok(())
 }
 
-// Sets each live control that has values, by component.
+// Sets each live control to what the record says, by component.
 fn put_controls<P: Dsp>(
     plan: &Plan,
+    kept: &Record,
     dsp: &mut P,
     io: &mut Inputs,
     out: &mut Outputs,
 ) -> Result<(), HostFault>
     requires plan { IsLoadable plan.now }
+    requires kept { IsRecordOf plan.now kept.now }
     requires on { is_some (P.means.on dsp.old) ≡ true }
     requires room { HasRoom (61440 * P.means.pending dsp.old) out.old }
-    ensures { Walked P.means plan.now (flat_map put_acts plan.now.controls) (world dsp.old io.old out.old) (world dsp.new io.new out.new) result }
+    ensures { Walked P.means plan.now (flat_map control_acts (controls_of plan.now kept.now)) (world dsp.old io.old out.old) (world dsp.new io.new out.new) result }
 {
-    for control in plan.controls.items() {
-        put_control(plan, control, dsp, io, out)?;
+    let count = plan.controls.items().len();
+    for place in 0..count {
+        let control = &plan.controls.items()[place];
+        put_control(plan, control, &kept.controls.items()[place], dsp, io, out)?;
     }
     Ok(())
 }
 
-// Sets a live control, if it has values.
+// Sets a live control. One that has a blob has none to send so far.
 fn put_control<P: Dsp>(
     plan: &Plan,
     control: &ControlPlan,
+    kept: &ControlRec,
     dsp: &mut P,
     io: &mut Inputs,
     out: &mut Outputs,
 ) -> Result<(), HostFault>
-    requires live { HasFew control.now.kind }
     requires first { control_of plan.now control.now.comp ≡ Some control.now }
+    requires bare { kept.now.blob ≡ [] }
     requires on { is_some (P.means.on dsp.old) ≡ true }
     requires room { HasRoom (61440 * P.means.pending dsp.old) out.old }
-    ensures { Walked P.means plan.now (put_acts control.now) (world dsp.old io.old out.old) (world dsp.new io.new out.new) result }
+    ensures { Walked P.means plan.now (control_acts (control.now, kept.now)) (world dsp.old io.old out.old) (world dsp.new io.new out.new) result }
 {
     match control.kind {
         ControlKind::Blob { .. } => Ok(()),
         _ => {
-            send(&set_message(control.comp, &control.kind), dsp, io, out)?;
+            let setting = set_message(control.comp, &control.kind, &kept.values);
+            send(&setting, dsp, io, out)?;
             Ok(())
         }
     }
@@ -121,28 +130,30 @@ fn finish_pipes<P: Dsp>(
 // Sends the whole list, up to the first message that does not pass.
 fn send_list<P: Dsp>(
     plan: &Plan,
+    kept: &Record,
     dsp: &mut P,
     io: &mut Inputs,
     out: &mut Outputs,
 ) -> Result<(), HostFault>
     requires plan { IsLoadable plan.now }
+    requires kept { IsRecordOf plan.now kept.now }
     requires few { length plan.now.widgets < 2 ^ 32 }
     requires on { is_some (P.means.on dsp.old) ≡ true }
     requires room { HasRoom (61440 * P.means.pending dsp.old) out.old }
-    ensures { Walked P.means plan.now (bring_up_acts plan.now) (world dsp.old io.old out.old) (world dsp.new io.new out.new) result }
+    ensures { Walked P.means plan.now (bring_up plan.now kept.now) (world dsp.old io.old out.old) (world dsp.new io.new out.new) result }
 {
     make_widgets(plan, dsp, io, out)?;
     make_joins(plan, dsp, io, out)?;
-    put_controls(plan, dsp, io, out)?;
+    put_controls(plan, kept, dsp, io, out)?;
     finish_pipes(plan, dsp, io, out)
 }
 
-/// Sends the messages that bring a freshly booted device up, one exchange each, up to the first that does not pass: each
-/// widget is made by id, then each join is made in the graph's order, then each live control that has values is set by
-/// component, then each pipeline is complete by id. The record
-/// stays as it is, and nothing is cut. `heap` is the device's heap in bytes.
+/// Sends the messages that bring a freshly booted device up to what the record says, one exchange each, up to the first that
+/// does not pass: each widget is made by id, then each join is made in the graph's order, then each live control that has
+/// values is set to those of the record, by component, then each pipeline is complete by id. The record stays as it is, and
+/// nothing is cut. `heap` is the device's heap in bytes.
 ///
-/// Ok: the device keeps the plan. `Refused(e)`: a message was answered with the negative error e. `LinkDown`: an exchange
+/// Ok: the device keeps the plan, with what the record sets. `Refused(e)`: a message was answered with the negative error e. `LinkDown`: an exchange
 /// failed.
 pub fn bring_up<P: Dsp>(
     plan: &Plan,
@@ -153,16 +164,17 @@ pub fn bring_up<P: Dsp>(
     out: &mut Outputs,
 ) -> Result<(), HostFault>
     requires plan { IsLoadable plan.now }
+    requires kept { IsRecordOf plan.now kept.old }
     requires booted { P.means.on dsp.old ≡ Some (fresh heap) }
     requires room { HasRoom (61440 * P.means.pending dsp.old) out.old }
-    ensures calls { Walked P.means plan.now (bring_up_acts plan.now) (world dsp.old io.old out.old) (world dsp.new io.new out.new) result }
-    ensures fates { WalkFates P.means plan.now heap kept.old (bring_up_acts plan.now) (world dsp.old io.old out.old) (world dsp.new io.new out.new) result }
-    ensures left { BroughtUp P.means plan.now heap dsp.old result dsp.new }
+    ensures calls { Walked P.means plan.now (bring_up plan.now kept.old) (world dsp.old io.old out.old) (world dsp.new io.new out.new) result }
+    ensures fates { WalkFates P.means plan.now heap kept.old (bring_up plan.now kept.old) (world dsp.old io.old out.old) (world dsp.new io.new out.new) result }
+    ensures left { BroughtUp P.means plan.now heap kept.old dsp.old result dsp.new }
     ensures kept { kept.new ≡ kept.old }
     ensures inputs { io.new ≡ io.old }
     ensures outputs { out.new ≡ out.old }
 {
     // That no two inputs have one slot, and no position is out of range, is what keeps a silent tick silent.
     let _inputs = io.len();
-    send_list(plan, dsp, io, out)
+    send_list(plan, kept, dsp, io, out)
 }

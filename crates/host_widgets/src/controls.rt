@@ -1,8 +1,10 @@
-// Live controls, and what their first values set.
-ghost use Rattle.std.specs.Prelude.{◌≡◌, ◌==◌, ◌<◌, ◌≤◌, ◌^◌, suc, ◌-◌, find, unwrap_or, replicate, length, option_copied};
+// Live controls: what they begin with, and the message that sets their values.
+ghost use Rattle.std.specs.Prelude.{◌≡◌, ◌==◌, ◌<◌, ◌≤◌, ◌^◌, suc, ◌-◌, find, unwrap_or, replicate, map, length, option_copied};
 ghost use Rattle.std.specs.List.{range_with_len};
 ghost use Rattle.host_widgets.specs.Controls as law;
 ghost use Rattle.host_widgets.specs.Acts as acts;
+ghost use Rattle.host_widgets.specs.ActMessages as messages;
+ghost use Rattle.tplg_plan.specs.GainOf.{control_gain};
 
 use ipc3_codec::{CompWords, Message};
 use sof_base::Bounded;
@@ -100,12 +102,35 @@ fn greatest_value(kind: &ControlKind) -> u32
     }
 }
 
-// The gains of a volume's first values.
-fn first_gains(kind: &ControlKind) -> Bounded<u32, 8>
-    requires { law.HasFew kind.now }
-    ensures { result ≡ law.first_gains kind.now }
+/// The blob that a control begins with; none but an equaliser has one.
+pub fn first_blob(kind: &ControlKind) -> Bounded<u8, 1024>
+    requires { length (law.first_blob kind.now) ≤ 1024 }
+    ensures { result ≡ law.first_blob kind.now }
 {
-    same_numbers(count(kind), gain(kind, first_value(kind)))
+    match kind {
+        ControlKind::Blob { initial, .. } => match Bounded::new(initial.items()) {
+            Some(bytes) => bytes,
+            // Never so: it is no longer.
+            None => Bounded::empty(),
+        },
+        _ => Bounded::empty(),
+    }
+}
+
+// The gain of each value, of which 65536 is 1.
+fn gains(kind: &ControlKind, values: &Bounded<u32, 8>) -> Bounded<u32, 8>
+    ensures { result ≡ map (control_gain kind.now) values.now }
+{
+    let mut gains = [0; 8];
+    let count = values.items().len();
+    for place in 0..count {
+        gains[place] = gain(kind, values.items()[place]);
+    }
+    match Bounded::new(&gains[..count]) {
+        Some(list) => list,
+        // Never so: there are at most 8.
+        None => Bounded::empty(),
+    }
 }
 
 /// The words of the volume of this id: how many gains it has, and from 0 to which gain.
@@ -126,21 +151,20 @@ pub fn volume_words(plan: &Plan, id: u32) -> CompWords
     }
 }
 
-/// The message that sets a control's first values.
-pub fn set_message(comp: u32, kind: &ControlKind) -> Message
-    requires { law.HasFew kind.now }
-    ensures { result ≡ acts.set_message comp kind.now }
+/// The message that sets these values at a control.
+pub fn set_message(comp: u32, kind: &ControlKind, values: &Bounded<u32, 8>) -> Message
+    ensures { result ≡ messages.set_message comp values.now kind.now }
 {
     match kind {
         ControlKind::Choice { .. } => Message::SetValue {
             id: comp,
             command: 1,
-            values: same_numbers(1, 0),
+            values: values.copied(),
         },
         _ => Message::SetValue {
             id: comp,
             command: 0,
-            values: first_gains(kind),
+            values: gains(kind, values),
         },
     }
 }

@@ -1,7 +1,8 @@
 // What is left after the link failed.
 ghost use Rattle.std.specs.Prelude.{◌≡◌, ◌<◌, ◌≤◌, length, map, take, drop, ◌++◌};
 ghost use Rattle.mbox_link.specs.Calls.{Cut, Did, world};
-ghost use Rattle.host_widgets.specs.HostRecord.{halted, halted_found, went_down};
+ghost use Rattle.host_widgets.specs.HostRecord.{halted, halted_found};
+ghost use Rattle.host_widgets.specs.Kept.{went_down};
 ghost use Rattle.host_widgets.specs.Host.{Agrees, IsRecordOf};
 
 use crate::kept::{Found, Power, Record, StreamRec};

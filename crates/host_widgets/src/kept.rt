@@ -1,10 +1,13 @@
 // What the host keeps of its device.
-ghost use Rattle.std.specs.Prelude.{◌≡◌, IfOk};
-ghost use Rattle.host_widgets.specs.HostRecord.{first_record};
+ghost use Rattle.std.specs.Prelude.{◌≡◌, ◌≤◌, IfOk, length, map};
+ghost use Rattle.host_widgets.specs.HostRecord.{closed};
+ghost use Rattle.host_widgets.specs.Controls.{IsLoadable, HasFew, first_blob};
+ghost use Rattle.host_widgets.specs.Kept.{first_control, first_record};
 
-use sof_base::{Items, NoMemory, Params};
+use crate::controls::{first_blob, first_values};
+use sof_base::{Bounded, Items, NoMemory, Params};
 use std::alloc::Global;
-use tplg_plan::Plan;
+use tplg_plan::{ControlPlan, Plan};
 
 /// Whether a topology is loaded, and if so, whether the device is on.
 #[derive(Clone, Copy, Debug, PartialEq, Eq)]
@@ -33,29 +36,71 @@ pub struct StreamRec {
     pub params: Option<Params>,
 }
 
-/// The host's record: what should be there, which is the truth whenever the power was cut. Its streams are those of the
-/// plan, in the plan's order.
+/// A live control: a volume's or a mux's values by channel, and an equaliser's blob.
+#[derive(Debug, Drop)]
+pub struct ControlRec {
+    pub values: Bounded<u32, 8>,
+    pub blob: Bounded<u8, 1024>,
+}
+
+/// The host's record: what should be there, which is the truth whenever the power was cut. Its streams and its live controls
+/// are those of the plan, in the plan's order.
 #[derive(Debug, Drop)]
 pub struct Record {
     pub power: Power,
     pub streams: Items<StreamRec>,
+    pub controls: Items<ControlRec>,
+}
+
+// Every stream of the plan is closed.
+fn closed_streams(alloc: Global, plan: &Plan) -> Result<Items<StreamRec>, NoMemory>
+    ensures { IfOk result (λ streams. streams ≡ map (λ s. closed) plan.now.streams) }
+{
+    let mut streams = Items::new(alloc);
+    for _stream in plan.streams.items() {
+        streams.push(StreamRec {
+            found: Found::Closed,
+            params: None,
+        })?;
+    }
+    Ok(streams)
+}
+
+/// A live control as it begins.
+pub fn first_control(control: &ControlPlan) -> ControlRec
+    requires values { HasFew control.now.kind }
+    requires blob { length (first_blob control.now.kind) ≤ 1024 }
+    ensures { result ≡ first_control control.now }
+{
+    ControlRec {
+        values: first_values(&control.kind),
+        blob: first_blob(&control.kind),
+    }
+}
+
+// Every live control of the plan is as it begins.
+fn first_controls(alloc: Global, plan: &Plan) -> Result<Items<ControlRec>, NoMemory>
+    requires plan { IsLoadable plan.now }
+    ensures { IfOk result (λ controls. controls ≡ map first_control plan.now.controls) }
+{
+    let mut controls = Items::new(alloc);
+    for control in plan.controls.items() {
+        controls.push(first_control(control))?;
+    }
+    Ok(controls)
 }
 
 impl Record {
-    /// The record of a plan before anything was loaded: every stream is closed.
+    /// The record of a plan before anything was loaded: every stream is closed, and every live control has the values or the
+    /// blob that it begins with. The plan is that of a well-formed topology.
     pub fn new(alloc: Global, plan: &Plan) -> Result<Record, NoMemory>
+        requires plan { IsLoadable plan.now }
         ensures { IfOk result (λ r. r ≡ first_record plan.now) }
     {
-        let mut streams = Items::new(alloc);
-        for _stream in plan.streams.items() {
-            streams.push(StreamRec {
-                found: Found::Closed,
-                params: None,
-            })?;
-        }
         Ok(Record {
             power: Power::Unloaded,
-            streams,
+            streams: closed_streams(alloc, plan)?,
+            controls: first_controls(alloc, plan)?,
         })
     }
 }

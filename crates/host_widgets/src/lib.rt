@@ -18,7 +18,7 @@ pub use answers::{Answer, HostFault};
 pub use bringing_up::bring_up;
 pub use controls::first_values;
 pub use going_down::link_down;
-pub use kept::{Found, Power, Record, StreamRec};
+pub use kept::{ControlRec, Found, Power, Record, StreamRec};
 pub use loading::load;
 pub use sending::send;
 pub use trigger::Trigger;

@@ -3,7 +3,7 @@ ghost use Rattle.std.specs.Prelude.{◌≡◌, ◌↔◌, ◌≤◌, ◌*◌, No
 ghost use Rattle.sof_base.specs.Ports.{HasRoom};
 ghost use Rattle.mbox_link.specs.Calls.{world};
 ghost use Rattle.host_widgets.specs.Controls.{IsLoadable};
-ghost use Rattle.host_widgets.specs.HostRecord.{first_record};
+ghost use Rattle.host_widgets.specs.Kept.{first_record};
 ghost use Rattle.host_widgets.specs.Host.{Agrees, Brought, Loads, LoadLeft, SucceedsExactly, after_load};
 ghost use Rattle.host_widgets.specs.ActFates.{LoadFates};
 
@@ -28,7 +28,7 @@ fn power_up<P: Dsp>(
     requires off { P.means.on dsp.old ≡ None }
     requires heap { heap ≤ P.means.most dsp.old }
     requires room { HasRoom (61440 * P.means.pending dsp.old) out.old }
-    ensures calls { Brought P.means plan.now heap (world dsp.old io.old out.old) (world dsp.new io.new out.new) result }
+    ensures calls { Brought P.means plan.now heap kept.old (world dsp.old io.old out.old) (world dsp.new io.new out.new) result }
     ensures fates { LoadFates P.means plan.now heap kept.old (world dsp.old io.old out.old) (world dsp.new io.new out.new) result }
     ensures left { LoadLeft P.means plan.now heap dsp.old result dsp.new }
     ensures unloaded { result ≡ Err HostFault.Loaded → ⊥ }
@@ -64,7 +64,7 @@ pub fn load<P: Dsp>(
     requires heap { heap ≤ P.means.most dsp.old }
     requires room { HasRoom (61440 * P.means.pending dsp.old) out.old }
     // Which calls it made on the device, and what they came to.
-    ensures calls { Loads P.means plan.now heap kept.old.power (world dsp.old io.old out.old) (world dsp.new io.new out.new) result }
+    ensures calls { Loads P.means plan.now heap kept.old kept.old.power (world dsp.old io.old out.old) (world dsp.new io.new out.new) result }
     // What became of each act, where it was unloaded.
     ensures fates { kept.old.power ≡ Power.Unloaded → LoadFates P.means plan.now heap kept.old (world dsp.old io.old out.old) (world dsp.new io.new out.new) result }
     ensures loaded { (result ≡ Err HostFault.Loaded) ↔ (kept.old.power ≡ Power.Unloaded → ⊥) }

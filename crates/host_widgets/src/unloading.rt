@@ -3,10 +3,12 @@ ghost use Rattle.std.specs.Prelude.{◌≡◌, ◌↔◌, ◌≤◌, ◌<◌, �
 ghost use Rattle.sof_base.specs.Ports.{HasRoom};
 ghost use Rattle.mbox_link.specs.Calls.{world};
 ghost use Rattle.host_widgets.specs.HostRecord.{closed};
-ghost use Rattle.host_widgets.specs.Host.{Agrees, Unloads, after_unload};
+ghost use Rattle.host_widgets.specs.Controls.{IsLoadable};
+ghost use Rattle.host_widgets.specs.Kept.{first_control, first_record};
+ghost use Rattle.host_widgets.specs.Host.{Agrees, IsRecordOf, Unloads, after_unload};
 
 use crate::answers::HostFault;
-use crate::kept::{Found, Power, Record, StreamRec};
+use crate::kept::{ControlRec, Found, Power, Record, StreamRec, first_control};
 use mbox_link::Dsp;
 use sof_base::Items;
 use sof_io::{Inputs, Outputs};
@@ -28,6 +30,29 @@ fn close_all(streams: &mut Items<StreamRec>)
     }
 }
 
+// Every live control is as it begins.
+fn reset_all(plan: &Plan, controls: &mut Items<ControlRec>)
+    requires plan { IsLoadable plan.now }
+    requires all { length controls.old ≡ length plan.now.controls }
+    ensures { controls.new ≡ map first_control plan.now.controls }
+{
+    let all = plan.controls.items().len();
+    for place in 0..all {
+        controls.put(place, first_control(&plan.controls.items()[place]));
+    }
+}
+
+// Nothing is loaded.
+fn forget(plan: &Plan, kept: &mut Record)
+    requires plan { IsLoadable plan.now }
+    requires kept { IsRecordOf plan.now kept.old }
+    ensures { kept.new ≡ first_record plan.now }
+{
+    kept.power = Power::Unloaded;
+    close_all(&mut kept.streams);
+    reset_all(plan, &mut kept.controls);
+}
+
 /// Unloads the plan: the device is off, and the record is as before the first load. It takes no memory, and sends no message.
 /// Whether the device is cut goes by the record's power: one that is off already is not cut again.
 ///
@@ -40,6 +65,7 @@ pub fn unload<P: Dsp>(
     io: &mut Inputs,
     out: &mut Outputs,
 ) -> Result<(), HostFault>
+    requires plan { IsLoadable plan.now }
     requires agree { Agrees P.means plan.now kept.old dsp.old }
     requires heap { heap ≤ P.means.most dsp.old }
     requires room { HasRoom (61440 * P.means.pending dsp.old) out.old }
@@ -55,13 +81,11 @@ pub fn unload<P: Dsp>(
         Power::Unloaded => Err(HostFault::NotLoaded),
         Power::On => {
             dsp.cut();
-            kept.power = Power::Unloaded;
-            close_all(&mut kept.streams);
+            forget(plan, kept);
             Ok(())
         }
         Power::Off => {
-            kept.power = Power::Unloaded;
-            close_all(&mut kept.streams);
+            forget(plan, kept);
             Ok(())
         }
     }

@@ -4,3 +4,4 @@ pub mod Calls
 pub mod Fates
 pub mod Wire
 pub mod Link
+pub mod Meetings

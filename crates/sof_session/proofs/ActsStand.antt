@@ -25,8 +25,9 @@ use Rattle.host_widgets.specs.declared.kept.Power.TheVariants.{On}
 use Rattle.host_widgets.specs.declared.kept.StreamRec.{StreamRec}
 use Rattle.host_widgets.specs.declared.kept.Record.{Record}
 use Rattle.host_widgets.specs.HostRecord.{may_have}
-use Rattle.host_widgets.specs.Acts.{Act}
-use Rattle.host_widgets.specs.Expected.{expected_view, phase_of}
+use Rattle.host_widgets.specs.HostActs.{Act}
+use Rattle.host_widgets.specs.ViewOf.{view_by}
+use Rattle.host_widgets.specs.Expected.{phase_of}
 use Rattle.host_widgets.specs.Host.{IsRecordOf}
 use Rattle.host_widgets.proofs.ThinRecords.{shown, view_with, view-is, record-of, agree-one}
 use Rattle.host_pcm.specs.Asks.{after_act, after_acts}
@@ -87,10 +88,10 @@ module _ (plan : Plan) (thin : IsThinPlan plan) where
   pub one-record : (power : Power) (r : StreamRec) → MayBe r → IsRecordOf plan (one power r)
   one-record power r may = record-of plan (one power r) r thin refl may
 
-  pub one-view : (power : Power) (r : StreamRec) → expected_view plan (one power r) ≡ view_with (thin_graph thin.pipe thin.size thin.format thin.sched) r
+  pub one-view : (power : Power) (r : StreamRec) → view_by plan (one power r) ≡ view_with (thin_graph thin.pipe thin.size thin.format thin.sched) r
   one-view power r = view-is plan (one power r) r thin refl
 
-  stays-as : (r : StreamRec) (act : Act) → MayBe r → Step r act → StaysAsLive (expected_view plan (one On r)) (expected_view plan (one On (after_act act r))) None
+  stays-as : (r : StreamRec) (act : Act) → MayBe r → Step r act → StaysAsLive (view_by plan (one On r)) (view_by plan (one On (after_act act r))) None
   stays-as r act may step =
       let r' = after_act act r in
       subst (λ (v : View × View). StaysAsLive v.0 v.1 None) (λ i. (sym (one-view On r) i, sym (one-view On r') i))
@@ -128,10 +129,10 @@ module _ (plan : Plan) (thin : IsThinPlan plan) where
       }
 
       one-acted : (act : Act) (r : StreamRec) (f : FwState) (moments : List Moment) (bytes : List (ℕ × List ℕ)) → Acted r f moments bytes → Step r act →
-          Acted (after_act act r) (seen (expected_view plan (one On (after_act act r))) None f) (moments ++ Now (expected_view plan (one On (after_act act r))) None ∷ []) bytes
+          Acted (after_act act r) (seen (view_by plan (one On (after_act act r))) None f) (moments ++ Now (view_by plan (one On (after_act act r))) None ∷ []) bytes
       one-acted act r f moments bytes a step =
           let now = one On (after_act act r) in
-          let v = expected_view plan now in
+          let v = view_by plan now in
           record {
             went = now-went f (seen v None f) v moments bytes a.went (seen-sees f v None a.keeps.rings) (one-record On (after_act act r) step.may).shapes
                 (subst (λ (w : View). StaysAsLive w v None) (sym a.keeps.view) (stays-as r act a.may step));
@@ -145,7 +146,7 @@ module _ (plan : Plan) (thin : IsThinPlan plan) where
       acted [] r f moments bytes a steps = subst (λ (ms : List Moment). Acted r f ms bytes) (sym (append-nil moments)) a
       acted (act ∷ acts) r f moments bytes a steps =
           let r' = after_act act r in
-          let v = expected_view plan (one On r') in
+          let v = view_by plan (one On r') in
           subst (λ (ms : List Moment). Acted (after_acts acts r') (state_after_acts plan (one On r') 0 acts (seen v None f)) ms bytes)
           (append_assoc moments (Now v None ∷ []) (act_moments plan (one On r') 0 acts))
           (acted acts r' (seen v None f) (moments ++ Now v None ∷ []) bytes (one-acted act r f moments bytes a steps.0) steps.1)

@@ -9,13 +9,13 @@ use Rattle.mbox_link.specs.Link.{link}
 use Rattle.mbox_link.proofs.Led.{Led-steady}
 use Rattle.tplg_plan.specs.declared.plans.Plan.{Plan}
 use Rattle.host_widgets.specs.Controls.{IsLoadable}
+use Rattle.host_widgets.specs.Kept.{all_closed, first_record}
+use Rattle.host_widgets.specs.StateOf.{loaded_state}
+use Rattle.host_widgets.specs.Host.{Outcome, Loads, LoadLeft, after_load, load_calls, ticks_put, Agrees}
 use Rattle.host_widgets.specs.declared.answers.HostFault.TheVariants.{NotLoaded, Loaded, NoSuch, State, Off, Range, Refused, LinkDown, Blob}
 use Rattle.host_widgets.specs.declared.kept.Power.{Power}
 use Rattle.host_widgets.specs.declared.kept.Power.TheVariants.{Unloaded, On, Off}
 use Rattle.host_widgets.specs.declared.kept.Record.{Record}
-use Rattle.host_widgets.specs.HostRecord.{all_closed, first_record}
-use Rattle.host_widgets.specs.Expected.{loaded_state}
-use Rattle.host_widgets.specs.Host.{Outcome, Loads, LoadLeft, after_load, load_calls, ticks_put, Agrees}
 use Rattle.host_widgets.proofs.Records.{closed-record}
 use Rattle.sof_session.specs.Seat.{Seat, new_seat}
 use Rattle.sof_session.specs.Turns.{AreAgreed, IsFated, Powered}

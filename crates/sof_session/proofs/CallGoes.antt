@@ -18,9 +18,10 @@ use Rattle.host_widgets.specs.declared.kept.Power.{Power}
 use Rattle.host_widgets.specs.declared.kept.Power.TheVariants.{Unloaded, On, Off}
 use Rattle.host_widgets.specs.declared.kept.StreamRec.{StreamRec}
 use Rattle.host_widgets.specs.declared.kept.Record.{Record}
-use Rattle.host_widgets.specs.HostRecord.{went_down, no_stream, closed}
+use Rattle.host_widgets.specs.Kept.{went_down}
+use Rattle.host_widgets.specs.HostRecord.{no_stream, closed}
 use Rattle.host_widgets.specs.Controls.{IsLoadable}
-use Rattle.host_widgets.specs.Acts.{Act}
+use Rattle.host_widgets.specs.HostActs.{Act}
 use Rattle.host_widgets.specs.Host.{Outcome}
 use Rattle.host_widgets.proofs.ThinRecords.{only, shown}
 use Rattle.host_widgets.proofs.Records.{down-record}

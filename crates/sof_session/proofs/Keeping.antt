@@ -12,12 +12,13 @@ use Rattle.stream_law.specs.Move.{Audio, state_after}
 use Rattle.tplg_plan.specs.declared.plans.Plan.{Plan}
 use Rattle.tplg_plan.specs.ThinPlan.{IsThinPlan, thin_graph}
 use Rattle.mbox_link.specs.Step.{with_comps}
-use Rattle.host_widgets.specs.Controls.{set_comp, set_graph}
+use Rattle.host_widgets.specs.ViewOf.{set_comp, graph_by, view_by}
+use Rattle.host_widgets.specs.Kept.{all_closed}
+use Rattle.host_widgets.specs.HostActs.{Act}
+use Rattle.host_widgets.specs.Expected.{loaded_heap}
+use Rattle.host_widgets.specs.StateOf.{loaded_state}
 use Rattle.host_widgets.specs.declared.kept.Power.TheVariants.{On}
 use Rattle.host_widgets.specs.declared.kept.Record.{Record}
-use Rattle.host_widgets.specs.HostRecord.{all_closed}
-use Rattle.host_widgets.specs.Acts.{Act}
-use Rattle.host_widgets.specs.Expected.{expected_view, loaded_heap, loaded_state}
 use Rattle.host_pcm.specs.Carried.{kept_so_far, state_after_acts}
 use Rattle.sof_session.specs.Turns.{Keeps}
 
@@ -32,7 +33,7 @@ module _ (plan : Plan) (heap : ℕ) (kept : Record) (f : FwState) where
   pub keeps-rests : Keeps plan heap kept f → Rests plan heap f
   keeps-rests keeps = record { pieces = keeps.pieces; rings = keeps.rings; histories = keeps.histories; staging = keeps.staging }
 
-  pub Keeps-seen : Rests plan heap f → view_of f ≡ expected_view plan kept → Keeps plan heap kept f
+  pub Keeps-seen : Rests plan heap f → view_of f ≡ view_by plan kept → Keeps plan heap kept f
   Keeps-seen rests view = record { view = view; pieces = rests.pieces; rings = rests.rings; histories = rests.histories; staging = rests.staging }
 
 -- ---- rings
@@ -72,14 +73,14 @@ none-equalises pipe size format sched streams =
     let v = view_in streams (thin_graph pipe size format sched) in rw (and-false (live v 0), and-false (live v 2)) refl
 
 module _ (plan : Plan) (thin : IsThinPlan plan) (heap : ℕ) where
-  no-equaliser : (streams : List StreamView) → filter (equalises (view_in streams (set_graph plan))) (components (set_graph plan)) ≡ []
+  no-equaliser : (streams : List StreamView) → filter (equalises (view_in streams (graph_by plan))) (components (graph_by plan)) ≡ []
   no-equaliser streams =
-      let set : set_graph plan ≡ thin_graph thin.pipe thin.size thin.format thin.sched = λ i. with_comps (map (set_comp plan) (thin.graph i).comps) (thin.graph i) in
+      let set : graph_by plan ≡ thin_graph thin.pipe thin.size thin.format thin.sched = λ i. with_comps (map (set_comp plan) (thin.graph i).comps) (thin.graph i) in
       subst (λ (g : Graph). filter (equalises (view_in streams g)) (components g) ≡ []) (sym set) (none-equalises thin.pipe thin.size thin.format thin.sched streams)
 
-  seen-rests : (now : Record) (f : FwState) → Rests plan heap f → Rests plan heap (seen (expected_view plan now) None f)
+  seen-rests : (now : Record) (f : FwState) → Rests plan heap f → Rests plan heap (seen (view_by plan now) None f)
   seen-rests now f rests =
-      let v = expected_view plan now in
+      let v = view_by plan now in
       record {
         pieces = rests.pieces;
         rings = same-buffers (ring_seen v) (λ r. refl) f.rings ∙ rests.rings;
@@ -90,7 +91,7 @@ module _ (plan : Plan) (thin : IsThinPlan plan) (heap : ℕ) where
   pub acts-rest : (k : ℕ) (acts : List Act) (kept : Record) (f : FwState) → Rests plan heap f → Rests plan heap (state_after_acts plan kept k acts f)
   acts-rest k [] kept f rests = rests
   acts-rest k (act ∷ acts) kept f rests =
-      let now = kept_so_far kept k (act ∷ []) in acts-rest k acts now (seen (expected_view plan now) None f) (seen-rests now f rests)
+      let now = kept_so_far kept k (act ∷ []) in acts-rest k acts now (seen (view_by plan now) None f) (seen-rests now f rests)
 
 -- ---- after a tick
 

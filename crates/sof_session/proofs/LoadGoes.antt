@@ -12,9 +12,10 @@ use Rattle.host_widgets.specs.declared.answers.Answer.TheVariants.{Fault}
 use Rattle.host_widgets.specs.declared.kept.Power.{Power}
 use Rattle.host_widgets.specs.declared.kept.Power.TheVariants.{Unloaded, On, Off}
 use Rattle.host_widgets.specs.declared.kept.Record.{Record}
-use Rattle.host_widgets.specs.HostRecord.{first_record}
-use Rattle.host_widgets.specs.Acts.{bring_up_acts}
-use Rattle.host_widgets.specs.Expected.{expected_view, loaded_state}
+use Rattle.host_widgets.specs.Kept.{first_record}
+use Rattle.host_widgets.specs.ActLists.{bring_up}
+use Rattle.host_widgets.specs.ViewOf.{view_by}
+use Rattle.host_widgets.specs.StateOf.{loaded_state}
 use Rattle.host_widgets.specs.Host.{Outcome, after_load}
 use Rattle.host_widgets.proofs.Records.{closed-record}
 use Rattle.host_widgets.proofs.BarePlans.{Bare, bare}
@@ -51,7 +52,7 @@ module _ (whole : List (ℕ × List ℕ)) (h : Host) (settled : IsSettled h) (be
   module _ (boots : ℕ) (first : h.kept ≡ first_record h.plan) where
     -- each act that passed, of a walk that ended so
     abbrev moments_of : ℕ → Outcome → Record → List Moment
-    moments_of n outcome kept = Boot ∷ replicate n (Now (expected_view h.plan kept) None) ++ load_end outcome
+    moments_of n outcome kept = Boot ∷ replicate n (Now (view_by h.plan kept) None) ++ load_end outcome
 
     abbrev Ends : Outcome → ℕ → ℕ → List Entry → Type 0
     Ends outcome n sent entries = Goes (stand boots (host_after h (ending outcome n sent entries)), silent (answer_of outcome)) (moments_of n outcome h.kept)
@@ -91,7 +92,7 @@ module _ (whole : List (ℕ × List ℕ)) (h : Host) (settled : IsSettled h) (be
         subst (λ (k : Record × Record). Goes (stand boots (record h { kept = k.0; sent = sent; entries = entries; device = None }), silent (answer_of (Err fault))) (moments_of n (Err fault) k.1))
         (λ i. (sym (failed-kept h.plan fault h.kept first) i, sym first i)) goes
 
-    ended : (outcome : Outcome) (n sent : ℕ) (entries : List Entry) → (outcome ≡ Ok tt → n ≡ length (bring_up_acts h.plan)) → Ends outcome n sent entries
+    ended : (outcome : Outcome) (n sent : ℕ) (entries : List Entry) → (outcome ≡ Ok tt → n ≡ length (bring_up h.plan)) → Ends outcome n sent entries
     ended (Ok done_so) zero sent entries passed = bare-done sent entries (bare h.plan settled.loadable.sound (sym (passed refl)))
     ended (Ok done_so) (suc n) sent entries passed = done n sent entries
     ended (Err fault) n sent entries passed = failed fault n sent entries
@@ -99,7 +100,7 @@ module _ (whole : List (ℕ × List ℕ)) (h : Host) (settled : IsSettled h) (be
   -- by the power
   pub load-goes : (power : Power) → SettledBy h power → (boots : ℕ) → Goes (load_next power boots h) (load_moments power h)
   load-goes Unloaded is boots =
-      let e = walked h.plan h.heap h.kept h.sent h.entries (bring_up_acts h.plan) in
-      ended (more boots) is.0 e.outcome e.passed e.sent e.entries (all-passed h.plan h.heap h.kept h.sent h.entries (bring_up_acts h.plan))
+      let e = walked h.plan h.heap h.kept h.sent h.entries (bring_up h.plan) in
+      ended (more boots) is.0 e.outcome e.passed e.sent e.entries (all-passed h.plan h.heap h.kept h.sent h.entries (bring_up h.plan))
   load-goes On is boots = stays boots (silent (Fault Loaded)) refl
   load-goes Off is boots = stays boots (silent (Fault Loaded)) refl

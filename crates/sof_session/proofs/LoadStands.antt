@@ -14,8 +14,9 @@ use Rattle.stream_law.proofs.Building.{Stands-building, Stands-now_building, Sta
 use Rattle.mbox_link.specs.Step.{fresh}
 use Rattle.tplg_plan.specs.declared.plans.Plan.{Plan}
 use Rattle.host_widgets.specs.declared.kept.Power.TheVariants.{Unloaded}
-use Rattle.host_widgets.specs.HostRecord.{first_record}
-use Rattle.host_widgets.specs.Expected.{expected_view, loaded_state}
+use Rattle.host_widgets.specs.Kept.{first_record}
+use Rattle.host_widgets.specs.ViewOf.{view_by}
+use Rattle.host_widgets.specs.StateOf.{loaded_state}
 use Rattle.host_widgets.proofs.Records.{closed-agrees, closed-silent}
 use Rattle.sof_session.proofs.Keeping.{Keeps-loaded}
 
@@ -38,7 +39,7 @@ module _ (plan : Plan) (heap : ℕ) where
 
   -- the view of each act that passes: no stream runs or is paused
   abbrev pub rest_view : View
-  rest_view = expected_view plan (first_record plan)
+  rest_view = view_by plan (first_record plan)
 
   silent : IsTrue (is_silent rest_view)
   silent = closed-silent Unloaded plan

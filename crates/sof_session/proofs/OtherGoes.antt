@@ -10,7 +10,7 @@ use Rattle.host_widgets.specs.declared.answers.Answer.TheVariants.{Done, Fault, 
 use Rattle.host_widgets.specs.declared.answers.HostFault.TheVariants.{NotLoaded}
 use Rattle.host_widgets.specs.declared.kept.Power.{Power}
 use Rattle.host_widgets.specs.declared.kept.Power.TheVariants.{Unloaded, On, Off}
-use Rattle.host_widgets.specs.HostRecord.{first_record}
+use Rattle.host_widgets.specs.Kept.{first_record}
 use Rattle.host_widgets.proofs.Records.{closed-record}
 use Rattle.sof_session.specs.Walks.{Host, Stand, Out, silent, unload_next, planned_next, plan_next}
 use Rattle.sof_session.specs.Moments.{IsSettled, SettledBy, unload_moments}

@@ -11,7 +11,7 @@ use Rattle.tplg_plan.specs.ThinPlan.{IsThinPlan}
 use Rattle.host_widgets.specs.declared.kept.Power.{Power}
 use Rattle.host_widgets.specs.declared.kept.Power.TheVariants.{Unloaded, On, Off}
 use Rattle.host_widgets.specs.declared.kept.Record.{Record}
-use Rattle.host_widgets.specs.Expected.{expected_view}
+use Rattle.host_widgets.specs.ViewOf.{view_by}
 use Rattle.host_widgets.specs.Host.{Outcome, Agrees, Sides}
 use Rattle.host_pcm.specs.declared.asking.Ask.{Ask}
 use Rattle.host_pcm.specs.Asks.{early_fault}
@@ -38,7 +38,7 @@ module _ {P : Type 0} (means : Meaning P) (old : Seat P) (wire : Wire P) (kept :
   Here = (f : FwState) × (means.on wire.device ≡ Some f) × Keeps old.plan old.heap kept f
 
   -- a device that was on, and is on
-  module _ (on : kept.power ≡ On) (sees : option_map view_of (means.on wire.device) ≡ Some (expected_view old.plan kept)) where
+  module _ (on : kept.power ≡ On) (sees : option_map view_of (means.on wire.device) ≡ Some (view_by old.plan kept)) where
     was-powered : old.kept.power ≡ On → Powered means old On
     was-powered before = subst (Powered means old) before agreed.powered
 
@@ -49,7 +49,7 @@ module _ {P : Type 0} (means : Meaning P) (old : Seat P) (wire : Wire P) (kept :
 
     seen-state : (f : FwState) → Rests old.plan old.heap f → means.on wire.device ≡ Some f → Here
     seen-state f rests here =
-        let shows : Some (view_of f) ≡ Some (expected_view old.plan kept) = ap (option_map view_of) (sym here) ∙ sees in
+        let shows : Some (view_of f) ≡ Some (view_by old.plan kept) = ap (option_map view_of) (sym here) ∙ sees in
         (f, here, Keeps-seen old.plan old.heap kept f rests (cc shows))
 
     walked-state : (k : ℕ) → Walks (link means) old.plan old.heap k ask old.kept kept (at old.link io) (at wire io') result → Here

@@ -9,7 +9,7 @@ use Rattle.host_widgets.specs.declared.kept.Found.TheVariants.{Closed, Open, Pre
 use Rattle.host_widgets.specs.declared.kept.StreamRec.{StreamRec}
 use Rattle.host_widgets.specs.declared.trigger.Trigger.{Trigger}
 use Rattle.host_widgets.specs.HostRecord.{may_have, no_caps}
-use Rattle.host_widgets.specs.Acts.{Act, Trig}
+use Rattle.host_widgets.specs.HostActs.{Act, Trig}
 use Rattle.host_widgets.specs.Expected.{phase_of}
 use Rattle.host_widgets.proofs.ThinRecords.{shown}
 use Rattle.host_pcm.specs.declared.asking.Ask.{Ask}

@@ -10,7 +10,7 @@ use Rattle.host_widgets.specs.declared.answers.HostFault.{HostFault}
 use Rattle.host_widgets.specs.declared.answers.HostFault.TheVariants.{NotLoaded, Loaded, NoSuch, State, Off, Range, Refused, LinkDown, Blob}
 use Rattle.host_widgets.specs.declared.kept.Power.TheVariants.{On}
 use Rattle.host_widgets.specs.declared.kept.Record.{Record}
-use Rattle.host_widgets.specs.Acts.{Act}
+use Rattle.host_widgets.specs.HostActs.{Act}
 use Rattle.host_widgets.specs.Host.{Outcome, exchanges}
 use Rattle.host_widgets.proofs.ManyEffects.{Fated-led}
 use Rattle.host_pcm.specs.declared.asking.Ask.{Ask}

@@ -15,7 +15,7 @@ use Rattle.stream_law.specs.Stands.{IsPlayable}
 use Rattle.tplg_plan.specs.declared.plans.Plan.{Plan}
 use Rattle.tplg_plan.specs.ThinPlan.{IsThinPlan, thin_graph}
 use Rattle.mbox_link.specs.Step.{with_comps}
-use Rattle.host_widgets.specs.Controls.{set_comp, set_graph}
+use Rattle.host_widgets.specs.ViewOf.{set_comp, graph_by}
 
 module _ (pipe size : ℕ) (format : Format) (sched : ℕ) where
   abbrev g : Graph
@@ -62,7 +62,7 @@ module _ (pipe size : ℕ) (format : Format) (sched : ℕ) where
   thin-plays streams = record { ends = thin-ends; ordered = thin-ordered; fits = λ c there runs. thin-fits c there }
 
 -- so a tick may come
-pub plays : (plan : Plan) → IsThinPlan plan → (streams : List StreamView) → IsPlayable (record { graph = set_graph plan; streams = streams })
+pub plays : (plan : Plan) → IsThinPlan plan → (streams : List StreamView) → IsPlayable (record { graph = graph_by plan; streams = streams })
 plays plan thin streams =
-    let set : set_graph plan ≡ thin_graph thin.pipe thin.size thin.format thin.sched = λ i. with_comps (map (set_comp plan) (thin.graph i).comps) (thin.graph i) in
+    let set : graph_by plan ≡ thin_graph thin.pipe thin.size thin.format thin.sched = λ i. with_comps (map (set_comp plan) (thin.graph i).comps) (thin.graph i) in
     subst (λ g. IsPlayable (record { graph = g; streams = streams })) (sym set) (thin-plays thin.pipe thin.size thin.format thin.sched streams)

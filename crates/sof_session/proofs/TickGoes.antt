@@ -12,7 +12,7 @@ use Rattle.tplg_plan.specs.ThinPlan.{IsThinPlan}
 use Rattle.host_widgets.specs.declared.kept.Power.{Power}
 use Rattle.host_widgets.specs.declared.kept.Power.TheVariants.{Unloaded, On, Off}
 use Rattle.host_widgets.specs.declared.answers.Answer.TheVariants.{Done}
-use Rattle.host_widgets.specs.Expected.{expected_view}
+use Rattle.host_widgets.specs.ViewOf.{view_by}
 use Rattle.sof_session.specs.Turns.{Keeps}
 use Rattle.sof_session.specs.Walks.{Host, silent, empty_outputs, moved, moved_next, device_tick, tick_next}
 use Rattle.sof_session.specs.Moments.{IsSettled, SettledBy, tick_moments}
@@ -42,7 +42,7 @@ module _ (whole : List (ℕ × List ℕ)) (h : Host) (settled : IsSettled h) (th
       let a = audio_after f io in
       let f' = state_after f a in
       let io' = io_after io a in
-      let playable : IsPlayable (view_of f) = subst IsPlayable (sym keeps.view) (plays h.plan thin (expected_view h.plan h.kept).streams) in
+      let playable : IsPlayable (view_of f) = subst IsPlayable (sym keeps.view) (plays h.plan thin (view_by h.plan h.kept).streams) in
       let t = ticks-on f f' whole io io' before stood (record { state = refl; endpoints = refl }) playable in
       let h' : Host = record h { device = Some f'; inputs = io'.inputs } in
       record {

@@ -16,8 +16,8 @@ use Rattle.host_widgets.specs.declared.answers.HostFault.TheVariants as faults
 use Rattle.host_widgets.specs.declared.kept.Power.{Power}
 use Rattle.host_widgets.specs.declared.kept.Power.TheVariants.{Unloaded, On, Off}
 use Rattle.host_widgets.specs.declared.kept.Record.{Record}
-use Rattle.host_widgets.specs.Acts.{bring_up_acts}
-use Rattle.host_widgets.specs.Expected.{loaded_state}
+use Rattle.host_widgets.specs.ActLists.{bring_up}
+use Rattle.host_widgets.specs.StateOf.{loaded_state}
 use Rattle.host_widgets.specs.Host.{Outcome, Loads, LoadLeft, after_load, ticks_put}
 use Rattle.host_widgets.specs.ActFates.{LoadFates, Ends}
 use Rattle.host_pcm.specs.Carried.{passed_of}
@@ -45,14 +45,14 @@ module _ {P : Type 0} (means : Meaning P) where
     pub load_boots : means.boots v.device.device ≡ more (means.boots w.device.device)
     load_boots =
         (ends_cut means outcome fates.sent v fates.ends).boots
-        ∙ Fated-boots means plan heap kept fates.fates.answers (bring_up_acts plan) fates.booted fates.sent fates.fates.fated
+        ∙ Fated-boots means plan heap kept fates.fates.answers (bring_up plan) fates.booted fates.sent fates.fates.fated
         ∙ fates.boot.0.boots
 
     abbrev pub passed : ℕ
     passed = passed_of fates.fates.answers outcome
 
     -- and the written walk
-    pub load_ends : IsFated w.device → w.device.sent + length (bring_up_acts plan) < 3 * 2 ^ 62 → Stayed means w.device.device v.device.device → ending outcome passed v.device.sent v.device.entries ≡ walked plan heap kept w.device.sent w.device.entries (bring_up_acts plan)
+    pub load_ends : IsFated w.device → w.device.sent + length (bring_up plan) < 3 * 2 ^ 62 → Stayed means w.device.device v.device.device → ending outcome passed v.device.sent v.device.entries ≡ walked plan heap kept w.device.sent w.device.entries (bring_up plan)
     load_ends held below stayed =
         let boot = fates.boot.0.did.0 in
         let cut = ends_cut means outcome fates.sent v fates.ends in
@@ -64,14 +64,14 @@ module _ {P : Type 0} (means : Meaning P) where
         let entries : fates.booted.device.entries ≡ w.device.entries = ap (λ (wire : Wire P). wire.entries) fates.boot.0.did.1 in
         ap (λ (n : ℕ). ending outcome passed n v.device.entries) cut.sent
         ∙ ap (λ (entries : List Entry). ending outcome passed fates.sent.device.sent entries) cut.entries
-        ∙ walk_ends means plan heap kept (bring_up_acts plan) fates.fates.answers outcome fates.booted fates.sent (boot_fated means heap w fates.booted held fates.boot) (omega (arith, below, sent)) fates.fates.fated fates.fates.walk between
-        ∙ (λ i. walked plan heap kept (sent i) (entries i) (bring_up_acts plan))
+        ∙ walk_ends means plan heap kept (bring_up plan) fates.fates.answers outcome fates.booted fates.sent (boot_fated means heap w fates.booted held fates.boot) (omega (arith, below, sent)) fates.fates.fated fates.fates.walk between
+        ∙ (λ i. walked plan heap kept (sent i) (entries i) (bring_up plan))
 
     -- at most one message for each act
-    pub load_sent : v.device.sent ≤ w.device.sent + length (bring_up_acts plan)
+    pub load_sent : v.device.sent ≤ w.device.sent + length (bring_up plan)
     load_sent =
         let sent : fates.booted.device.sent ≡ w.device.sent = ap (λ (wire : Wire P). wire.sent) fates.boot.0.did.1 in
-        omega (arith, (ends_cut means outcome fates.sent v fates.ends).sent, sent, Fated-sent means plan heap kept fates.fates.answers (bring_up_acts plan) fates.booted fates.sent fates.fates.fated)
+        omega (arith, (ends_cut means outcome fates.sent v fates.ends).sent, sent, Fated-sent means plan heap kept fates.fates.answers (bring_up plan) fates.booted fates.sent fates.fates.fated)
 
 -- ---- a load
 

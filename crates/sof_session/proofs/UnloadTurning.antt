@@ -10,7 +10,7 @@ use Rattle.host_widgets.specs.declared.answers.HostFault.TheVariants.{NotLoaded}
 use Rattle.host_widgets.specs.declared.kept.Power.{Power}
 use Rattle.host_widgets.specs.declared.kept.Power.TheVariants.{Unloaded, On, Off}
 use Rattle.host_widgets.specs.declared.kept.Record.{Record}
-use Rattle.host_widgets.specs.HostRecord.{first_record}
+use Rattle.host_widgets.specs.Kept.{first_record}
 use Rattle.host_widgets.specs.Host.{Outcome, Unloads, after_unload}
 use Rattle.sof_script.specs.declared.script.Command.TheVariants as commands
 use Rattle.sof_session.specs.Seat.{Seat}

@@ -5,8 +5,9 @@ use Rattle.mbox_link.specs.Fates.{planned, without}
 use Rattle.mbox_link.specs.Exchange.{more}
 use Rattle.tplg_plan.specs.declared.plans.Plan.{Plan}
 use Rattle.host_widgets.specs.declared.kept.Record.{Record}
-use Rattle.host_widgets.specs.Acts.{Act}
-use Rattle.host_widgets.specs.Host.{Outcome, own}
+use Rattle.host_widgets.specs.HostActs.{Act}
+use Rattle.host_widgets.specs.Host.{Outcome}
+use Rattle.host_widgets.specs.OneAct.{own}
 use Rattle.sof_session.specs.Walks.{Ending, outcome_by, on_from, walked}
 
 -- one act more

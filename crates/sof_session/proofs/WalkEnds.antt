@@ -17,8 +17,10 @@ use Rattle.tplg_plan.specs.declared.plans.Plan.{Plan}
 use Rattle.host_widgets.specs.declared.answers.HostFault.{HostFault}
 use Rattle.host_widgets.specs.declared.answers.HostFault.TheVariants.{NotLoaded, Loaded, NoSuch, State, Off, Range, Refused, LinkDown, Blob}
 use Rattle.host_widgets.specs.declared.kept.Record.{Record}
-use Rattle.host_widgets.specs.Acts.{Act, message_of}
-use Rattle.host_widgets.specs.Host.{Outcome, own, errno, judged, verdict, Walk}
+use Rattle.host_widgets.specs.HostActs.{Act}
+use Rattle.host_widgets.specs.ActMessages.{message_of}
+use Rattle.host_widgets.specs.Host.{Outcome, errno, judged, verdict, Walk}
+use Rattle.host_widgets.specs.OneAct.{own}
 use Rattle.host_widgets.specs.ActFates.{Fate, Fated}
 use Rattle.host_widgets.proofs.ReplyErrors.{decoded-error, negative-fits}
 use Rattle.host_pcm.specs.Carried.{passed_of}

@@ -11,10 +11,11 @@ use Rattle.host_widgets.specs.declared.answers.HostFault.TheVariants.{LinkDown}
 use Rattle.host_widgets.specs.declared.kept.Power.{Power}
 use Rattle.host_widgets.specs.declared.kept.Power.TheVariants.{Unloaded, On, Off}
 use Rattle.host_widgets.specs.declared.kept.Record.{Record}
-use Rattle.host_widgets.specs.HostRecord.{first_record}
-use Rattle.host_widgets.specs.Acts.{Act, bring_up_acts}
+use Rattle.host_widgets.specs.Kept.{first_record}
+use Rattle.host_widgets.specs.HostActs.{Act}
+use Rattle.host_widgets.specs.ActLists.{bring_up}
 use Rattle.host_widgets.specs.Controls.{IsLoadable}
-use Rattle.host_widgets.specs.Expected.{expected_view}
+use Rattle.host_widgets.specs.ViewOf.{view_by}
 use Rattle.host_widgets.specs.Host.{Outcome, IsRecordOf}
 use Rattle.host_pcm.specs.declared.asking.Ask.{Ask}
 use Rattle.host_pcm.specs.Asks.{early_fault}
@@ -39,15 +40,15 @@ link_end outcome = []
 -- each act that brings a device up leaves the view of the record so far, in which every stream is at rest
 abbrev pub load_moments : Power → Host → List Moment
 load_moments Unloaded h =
-    let e = walked h.plan h.heap h.kept h.sent h.entries (bring_up_acts h.plan) in
-    Boot ∷ replicate e.passed (Now (expected_view h.plan h.kept) None) ++ load_end e.outcome
+    let e = walked h.plan h.heap h.kept h.sent h.entries (bring_up h.plan) in
+    Boot ∷ replicate e.passed (Now (view_by h.plan h.kept) None) ++ load_end e.outcome
 load_moments power h = []
 
 -- each act that passed leaves the view of the record so far
 abbrev pub act_moments : Plan → Record → ℕ → List Act → List Moment
 act_moments plan kept k [] = []
 act_moments plan kept k (act ∷ acts) =
-    let now = kept_so_far kept k (act ∷ []) in Now (expected_view plan now) None ∷ act_moments plan now k acts
+    let now = kept_so_far kept k (act ∷ []) in Now (view_by plan now) None ∷ act_moments plan now k acts
 
 -- the acts of a call on a stream, where no test fails
 abbrev pub tested_moments : Option HostFault → ℕ → Ask → Host → List Moment

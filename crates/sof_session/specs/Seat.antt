@@ -3,7 +3,7 @@ use Rattle.std.specs.Prelude.{ℕ}
 use Rattle.mbox_link.specs.Wire.{Wire, new_link}
 use Rattle.tplg_plan.specs.declared.plans.Plan.{Plan}
 use Rattle.host_widgets.specs.declared.kept.Record.{Record}
-use Rattle.host_widgets.specs.HostRecord.{first_record}
+use Rattle.host_widgets.specs.Kept.{first_record}
 
 -- a host with its device behind a link: the record that it keeps, the plan, and the heap in bytes
 pub record Seat (P : Type 0) : Type 0 where

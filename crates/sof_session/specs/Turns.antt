@@ -18,7 +18,8 @@ use Rattle.host_widgets.specs.declared.kept.Power.{Power}
 use Rattle.host_widgets.specs.declared.kept.Power.TheVariants.{Unloaded, On, Off}
 use Rattle.host_widgets.specs.declared.kept.Record.{Record}
 use Rattle.host_widgets.specs.Controls.{IsLoadable}
-use Rattle.host_widgets.specs.Expected.{expected_view, loaded_heap}
+use Rattle.host_widgets.specs.ViewOf.{view_by}
+use Rattle.host_widgets.specs.Expected.{loaded_heap}
 use Rattle.host_widgets.specs.Host.{Outcome, Agrees, Loads, LoadLeft, after_load, Unloads, after_unload}
 use Rattle.host_widgets.specs.ActFates.{LoadFates}
 use Rattle.host_pcm.specs.declared.asking.Ask.{Ask}
@@ -34,7 +35,7 @@ use Rattle.sof_session.specs.Walks.{Task, Out, Written, Stand, Host, answer_of, 
 -- The state of a powered device: it shows what the record says, its heap is as a load leaves it, and it has a ring for each
 -- buffer. No stream has an equaliser on its way so far.
 pub record Keeps (plan : Plan) (heap : ℕ) (kept : Record) (f : FwState) : Type 0 where
-  pub view : view_of f ≡ expected_view plan kept
+  pub view : view_of f ≡ view_by plan kept
   pub pieces : f.heap ≡ loaded_heap plan heap
   pub rings : map (λ r. r.buffer) f.rings ≡ buffers plan.graph
   pub histories : f.histories ≡ []

@@ -19,10 +19,12 @@ use Rattle.host_widgets.specs.declared.kept.Power.{Power}
 use Rattle.host_widgets.specs.declared.kept.Power.TheVariants.{Unloaded, On, Off}
 use Rattle.host_widgets.specs.declared.kept.Record.{Record}
 use Rattle.host_widgets.specs.declared.trigger.Trigger.TheVariants as triggers
-use Rattle.host_widgets.specs.HostRecord.{first_record}
-use Rattle.host_widgets.specs.Acts.{Act, bring_up_acts}
-use Rattle.host_widgets.specs.Expected.{loaded_state}
-use Rattle.host_widgets.specs.Host.{Outcome, own, errno, after_load}
+use Rattle.host_widgets.specs.Kept.{first_record}
+use Rattle.host_widgets.specs.HostActs.{Act}
+use Rattle.host_widgets.specs.ActLists.{bring_up}
+use Rattle.host_widgets.specs.StateOf.{loaded_state}
+use Rattle.host_widgets.specs.Host.{Outcome, errno, after_load}
+use Rattle.host_widgets.specs.OneAct.{own}
 use Rattle.host_pcm.specs.declared.asking.Ask.{Ask}
 use Rattle.host_pcm.specs.declared.asking.Ask.TheVariants.{Opening, Preparing, Triggering, Closing}
 use Rattle.host_pcm.specs.Asks.{early_fault, stream_place}
@@ -130,7 +132,7 @@ host_after h e = record h {
 -- a load that passes its test boots the device and walks the list that brings it up
 abbrev pub load_next : Power → ℕ → Host → Stand × Out
 load_next Unloaded boots h =
-    let e = walked h.plan h.heap h.kept h.sent h.entries (bring_up_acts h.plan) in
+    let e = walked h.plan h.heap h.kept h.sent h.entries (bring_up h.plan) in
     (stand (more boots) (host_after h e), silent (answer_of e.outcome))
 load_next On boots h = (stand boots h, silent (Fault Loaded))
 load_next Off boots h = (stand boots h, silent (Fault Loaded))

@@ -18,25 +18,25 @@ returns-clause-left g c =
     let w = world c.args.dsp.now c.args.io.now c.args.out.now in
     let v = world c.send_list.new.dsp c.send_list.new.io c.send_list.new.out in
     let are : AreInputs c.args.io.now = record { distinct = c.len-inputs.ensures.distinct; positions = c.len-inputs.ensures.within } in
-    (brought_up g.P.Dsp.means c.args.plan.now c.args.heap c.args.kept.now w v (brings c.args.plan.now c.args.heap c.args.kept.now c.requires.plan) are c.requires.booted c.send_list.result c.send_list.ensures).0
+    (brought_up g.P.Dsp.means c.args.plan.now c.args.heap c.args.kept.now w v (brings c.args.plan.now c.args.heap c.args.kept.now c.requires.plan c.requires.kept.controls) are c.requires.booted c.send_list.result c.send_list.ensures).0
 
 pub returns-clause-inputs : goal.returns-clause-inputs
 returns-clause-inputs g c =
     let w = world c.args.dsp.now c.args.io.now c.args.out.now in
     let v = world c.send_list.new.dsp c.send_list.new.io c.send_list.new.out in
     let are : AreInputs c.args.io.now = record { distinct = c.len-inputs.ensures.distinct; positions = c.len-inputs.ensures.within } in
-    ap (λ (io : Io). io.inputs) (brought_up g.P.Dsp.means c.args.plan.now c.args.heap c.args.kept.now w v (brings c.args.plan.now c.args.heap c.args.kept.now c.requires.plan) are c.requires.booted c.send_list.result c.send_list.ensures).1
+    ap (λ (io : Io). io.inputs) (brought_up g.P.Dsp.means c.args.plan.now c.args.heap c.args.kept.now w v (brings c.args.plan.now c.args.heap c.args.kept.now c.requires.plan c.requires.kept.controls) are c.requires.booted c.send_list.result c.send_list.ensures).1
 
 pub returns-clause-outputs : goal.returns-clause-outputs
 returns-clause-outputs g c =
     let w = world c.args.dsp.now c.args.io.now c.args.out.now in
     let v = world c.send_list.new.dsp c.send_list.new.io c.send_list.new.out in
     let are : AreInputs c.args.io.now = record { distinct = c.len-inputs.ensures.distinct; positions = c.len-inputs.ensures.within } in
-    ap (λ (io : Io). io.outputs) (brought_up g.P.Dsp.means c.args.plan.now c.args.heap c.args.kept.now w v (brings c.args.plan.now c.args.heap c.args.kept.now c.requires.plan) are c.requires.booted c.send_list.result c.send_list.ensures).1
+    ap (λ (io : Io). io.outputs) (brought_up g.P.Dsp.means c.args.plan.now c.args.heap c.args.kept.now w v (brings c.args.plan.now c.args.heap c.args.kept.now c.requires.plan c.requires.kept.controls) are c.requires.booted c.send_list.result c.send_list.ensures).1
 
 pub returns-clause-fates : goal.returns-clause-fates
 returns-clause-fates g c =
     let w = world c.args.dsp.now c.args.io.now c.args.out.now in
     let v = world c.send_list.new.dsp c.send_list.new.io c.send_list.new.out in
     let are : AreInputs c.args.io.now = record { distinct = c.len-inputs.ensures.distinct; positions = c.len-inputs.ensures.within } in
-    walk_fates g.P.Dsp.means c.args.plan.now c.args.heap c.args.kept.now w v (brings c.args.plan.now c.args.heap c.args.kept.now c.requires.plan) are c.requires.booted c.send_list.result c.send_list.ensures
+    walk_fates g.P.Dsp.means c.args.plan.now c.args.heap c.args.kept.now w v (brings c.args.plan.now c.args.heap c.args.kept.now c.requires.plan c.requires.kept.controls) are c.requires.booted c.send_list.result c.send_list.ensures

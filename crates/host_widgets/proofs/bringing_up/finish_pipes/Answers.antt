@@ -1,7 +1,7 @@
 use Rattle.std.proofs.Common.{false}
 use Rattle.mbox_link.specs.Calls.{world}
 use Rattle.stream_law.specs.declared.graph.Pipe.{Pipe}
-use Rattle.host_widgets.specs.Acts.{Act, Finish}
+use Rattle.host_widgets.specs.HostActs.{Act, Finish}
 use Rattle.host_widgets.proofs.Walks.{passing, Walked-on, Walked-room, walked_more, walked_ends, handed_on}
 use Rattle.host_widgets.proofs.bringing_up.finish_pipes.Goals as goal
 

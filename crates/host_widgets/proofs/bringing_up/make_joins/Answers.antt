@@ -1,6 +1,6 @@
 use Rattle.mbox_link.specs.Calls.{world}
 use Rattle.stream_law.specs.declared.graph.Join.{Join as Joined}
-use Rattle.host_widgets.specs.Acts.{Act, Join}
+use Rattle.host_widgets.specs.HostActs.{Act, Join}
 use Rattle.host_widgets.proofs.Walks.{passing, Walked-on, Walked-room, walked_more, walked_ends, handed_on}
 use Rattle.host_widgets.proofs.bringing_up.make_joins.Goals as goal
 

@@ -7,7 +7,9 @@ use Rattle.tplg_plan.specs.declared.plans.Plan.{Plan}
 use Rattle.ipc3_codec.specs.declared.message.Message.{Message}
 use Rattle.ipc3_codec.specs.Messages.{message_spelling}
 use Rattle.host_widgets.specs.Host.{Sent, Walked}
-use Rattle.host_widgets.specs.Acts.{Act, Make, ids_of, no_words, make_message, message_of}
+use Rattle.host_widgets.specs.HostActs.{Act, Make}
+use Rattle.host_widgets.specs.Acts.{ids_of, no_words, make_message}
+use Rattle.host_widgets.specs.ActMessages.{message_of}
 use Rattle.host_widgets.proofs.Walks.{passing, Walked-on, Walked-room, walked_more, walked_ends, handed_on}
 use Rattle.host_widgets.proofs.bringing_up.make_widgets.Goals as goal
 

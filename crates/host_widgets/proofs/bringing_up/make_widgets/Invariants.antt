@@ -1,6 +1,7 @@
 use Rattle.std.proofs.Common.{◌≡◌, take, map}
 use Rattle.mbox_link.specs.Calls.{world}
-use Rattle.host_widgets.specs.Acts.{Make, ids_of}
+use Rattle.host_widgets.specs.HostActs.{Make}
+use Rattle.host_widgets.specs.Acts.{ids_of}
 use Rattle.host_widgets.specs.Host.{Walked}
 use Rattle.host_widgets.proofs.Walks.{passing}
 use Rattle.host_widgets.proofs.bringing_up.make_widgets.Given as goal

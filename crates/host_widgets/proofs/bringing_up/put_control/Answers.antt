@@ -4,7 +4,9 @@ use Rattle.ipc3_codec.specs.declared.reply.Reply.{Reply}
 use Rattle.ipc3_codec.specs.Messages.{message_spelling}
 use Rattle.mbox_link.specs.Calls.{world}
 use Rattle.host_widgets.specs.declared.answers.HostFault.{HostFault}
-use Rattle.host_widgets.specs.Acts.{Act, Put, put_acts, message_of}
+use Rattle.host_widgets.specs.HostActs.{Act, Put}
+use Rattle.host_widgets.specs.ActLists.{control_acts}
+use Rattle.host_widgets.specs.ActMessages.{message_of}
 use Rattle.host_widgets.specs.Host.{Outcome, Sent, Walked}
 use Rattle.host_widgets.proofs.Walks.{passing, failing, Walked-one, Walked-failed, handed_on}
 use Rattle.host_widgets.proofs.FirstSettings.{put-acts, put-message}
@@ -15,23 +17,25 @@ returns-in_err-send-in_default g c =
     let means = g.P.Dsp.means in
     let plan = c.args.plan.now in
     let control = c.args.control.now in
+    let kept = c.args.kept.now in
     let w = world c.args.dsp.now c.args.io.now c.args.out.now in
     let v = world c.send.new.dsp c.send.new.io c.send.new.out in
     let fault = c.in_err-send-in_default.field-0.0 in
-    let message : c.set_message.result ≡ message_of plan (Put control.comp) = c.set_message.ensures ∙ put-message plan control c.requires.first in
+    let message : c.set_message-setting.result ≡ message_of plan (Put control.comp kept.values) = c.set_message-setting.ensures ∙ put-message plan control kept.values c.requires.first in
     let sent = subst (λ (m : Message). Sent means (message_spelling m) w v c.send.result) message c.send.ensures in
-    let failed = subst (λ (r : Result Reply HostFault). Sent means (message_spelling (message_of plan (Put control.comp))) w v r) c.in_err-send-in_default.was sent in
-    subst (λ (r : Outcome). Walked means plan (put_acts control) w v r) (sym (handed_on c.from_residual.result fault c.from_residual.ensures))
-    (subst (λ (acts : List Act). Walked means plan acts w v (failing fault)) (sym (put-acts control c.in_default.not-Blob)) (Walked-failed means plan (Put control.comp) fault w v failed))
+    let failed = subst (λ (r : Result Reply HostFault). Sent means (message_spelling (message_of plan (Put control.comp kept.values))) w v r) c.in_err-send-in_default.was sent in
+    subst (λ (r : Outcome). Walked means plan (control_acts (control, kept)) w v r) (sym (handed_on c.from_residual.result fault c.from_residual.ensures))
+    (subst (λ (acts : List Act). Walked means plan acts w v (failing fault)) (sym (put-acts control kept c.in_default.not-Blob)) (Walked-failed means plan (Put control.comp kept.values) fault w v failed))
 
 pub returns-in_ok-send-in_default : goal.returns-in_ok-send-in_default
 returns-in_ok-send-in_default g c =
     let means = g.P.Dsp.means in
     let plan = c.args.plan.now in
     let control = c.args.control.now in
+    let kept = c.args.kept.now in
     let w = world c.args.dsp.now c.args.io.now c.args.out.now in
     let v = world c.send.new.dsp c.send.new.io c.send.new.out in
-    let message : c.set_message.result ≡ message_of plan (Put control.comp) = c.set_message.ensures ∙ put-message plan control c.requires.first in
+    let message : c.set_message-setting.result ≡ message_of plan (Put control.comp kept.values) = c.set_message-setting.ensures ∙ put-message plan control kept.values c.requires.first in
     let sent = subst (λ (m : Message). Sent means (message_spelling m) w v c.send.result) message c.send.ensures in
-    let passed = subst (λ (r : Result Reply HostFault). Sent means (message_spelling (message_of plan (Put control.comp))) w v r) c.in_ok-send-in_default.was sent in
-    subst (λ (acts : List Act). Walked means plan acts w v passing) (sym (put-acts control c.in_default.not-Blob)) (Walked-one means plan (Put control.comp) c.in_ok-send-in_default.field-0 w v passed)
+    let passed = subst (λ (r : Result Reply HostFault). Sent means (message_spelling (message_of plan (Put control.comp kept.values))) w v r) c.in_ok-send-in_default.was sent in
+    subst (λ (acts : List Act). Walked means plan acts w v passing) (sym (put-acts control kept c.in_default.not-Blob)) (Walked-one means plan (Put control.comp kept.values) c.in_ok-send-in_default.field-0 w v passed)

@@ -1,42 +1,77 @@
-use Rattle.std.proofs.Common.{◌≡◌, Some, subst, sym}
+use Rattle.std.proofs.Common.{◌≡◌, ◌<◌, ◌≤◌, ◌∙◌, List, Some, length, get_or, refl, ap, subst, sym, arith}
+use Rattle.std.specs.List.{flat_map}
+use Rattle.std.proofs.lemmas.List.{take_all}
 use Rattle.mbox_link.specs.Calls.{world}
 use Rattle.tplg_plan.specs.declared.plans.ControlPlan.{ControlPlan}
-use Rattle.host_widgets.specs.Controls.{HasFew, control_of}
-use Rattle.host_widgets.specs.Acts.{put_acts}
+use Rattle.host_widgets.specs.declared.kept.ControlRec.{ControlRec}
+use Rattle.host_widgets.specs.Controls.{control_of}
+use Rattle.host_widgets.specs.ActLists.{control_acts}
+use Rattle.host_widgets.specs.Kept.{controls_of}
 use Rattle.host_widgets.specs.Host.{Walked}
+use Rattle.host_widgets.proofs.ControlLists.{Pair, same-length, pairs-long, pair-at}
 use Rattle.host_widgets.proofs.Walks.{passing, Walked-on, Walked-room, walked_all, walked_stops, handed_on}
-use Rattle.host_widgets.proofs.Loadables.{has-few, is-first}
+use Rattle.host_widgets.proofs.Loadables.{is-first, no-blob}
 use Rattle.host_widgets.proofs.bringing_up.put_controls.Goals as goal
 
-pub put_control-requires-clause-live : goal.put_control-requires-clause-live
-put_control-requires-clause-live g c =
-    subst (λ (k : ControlPlan). HasFew k.kind) (sym c.control-item.is)
-    (has-few c.args.plan.now c.requires.plan c.items-control-items.result.now c.items-control-items.ensures c.loop-control.control-index c.control-item.result c.loop-control-test.true)
+pub bounds-items-place-in-loop-place : goal.bounds-items-place-in-loop-place
+bounds-items-place-in-loop-place g c =
+    omega (arith, c.loop-place-test.true, ap length c.items-count.ensures, ap length c.items-in-loop-place.ensures, same-length c.args.plan.now.controls c.args.kept.now.controls c.requires.kept.controls)
 
 pub put_control-requires-clause-first : goal.put_control-requires-clause-first
 put_control-requires-clause-first g c =
-    subst (λ (k : ControlPlan). control_of c.args.plan.now k.comp ≡ Some k) (sym c.control-item.is)
-    (is-first c.args.plan.now c.requires.plan c.items-control-items.result.now c.items-control-items.ensures c.loop-control.control-index c.control-item.result c.loop-control-test.true)
+    subst (λ (k : ControlPlan). control_of c.args.plan.now k.comp ≡ Some k) (sym c.index-items-place.is)
+    (is-first c.args.plan.now c.requires.plan c.items.result.now c.items.ensures c.loop-place.place c.index-items-place.result (omega (arith, c.loop-place-test.true, ap length c.items.ensures, ap length c.items-count.ensures)))
+
+pub put_control-requires-clause-bare : goal.put_control-requires-clause-bare
+put_control-requires-clause-bare g c =
+    ap (λ (r : ControlRec). r.blob) c.index-items-place-in-loop-place.is
+    ∙ no-blob c.args.plan.now c.args.kept.now c.requires.plan c.requires.kept.controls c.items-in-loop-place.result.now c.items-in-loop-place.ensures c.loop-place.place c.index-items-place-in-loop-place.result
+    (omega (arith, c.loop-place-test.true, ap length c.items-count.ensures, ap length c.items-in-loop-place.ensures, same-length c.args.plan.now.controls c.args.kept.now.controls c.requires.kept.controls))
 
 pub put_control-requires-clause-on : goal.put_control-requires-clause-on
-put_control-requires-clause-on g c = Walked-on g.P.Dsp.means c.args.plan.now _ _ _ passing c.loop-control.invariant c.requires.on
+put_control-requires-clause-on g c = Walked-on g.P.Dsp.means c.args.plan.now _ _ _ passing c.loop-place.invariant c.requires.on
 
 pub put_control-requires-clause-room : goal.put_control-requires-clause-room
-put_control-requires-clause-room g c = Walked-room g.P.Dsp.means c.args.plan.now _ _ _ passing c.loop-control.invariant c.requires.room
+put_control-requires-clause-room g c = Walked-room g.P.Dsp.means c.args.plan.now _ _ _ passing c.loop-place.invariant c.requires.room
 
 pub returns-in_err-put_control : goal.returns-in_err-put_control
 returns-in_err-put_control g c =
-    walked_stops g.P.Dsp.means c.args.plan.now put_acts c.args.plan.now.controls c.items-control-items.result.now c.items-control-items.ensures c.loop-control.control-index c.control-item.result c.loop-control-test.true
-    (world c.args.dsp.now c.args.io.now c.args.out.now) (world c.loop-control.dsp c.loop-control.io c.loop-control.out) (world c.put_control.new.dsp c.put_control.new.io c.put_control.new.out)
-    c.loop-control.invariant c.put_control.result
-    (subst (λ (k : ControlPlan). Walked g.P.Dsp.means c.args.plan.now (put_acts k) (world c.loop-control.dsp c.loop-control.io c.loop-control.out) (world c.put_control.new.dsp c.put_control.new.io c.put_control.new.out) c.put_control.result) c.control-item.is c.put_control.ensures)
+    let plan = c.args.plan.now in
+    let kept = c.args.kept.now in
+    let m = world c.loop-place.dsp c.loop-place.io c.loop-place.out in
+    let v = world c.put_control.new.dsp c.put_control.new.io c.put_control.new.out in
+    let i = c.loop-place.place in
+    let k = c.index-items-place.result in
+    let r = c.index-items-place-in-loop-place.result in
+    let few : i < length plan.controls = omega (arith, c.loop-place-test.true, ap length c.items-count.ensures) in
+    let within : i < length (controls_of plan kept) = omega (arith, few, pairs-long plan.controls kept.controls c.requires.kept.controls) in
+    let here : get_or (controls_of plan kept) i (k, r) ≡ (k, r) = pair-at plan.controls kept.controls c.requires.kept.controls i k r few (c.index-items-place.is ∙ ap (λ (ks : List ControlPlan). get_or ks i k) c.items.ensures) (c.index-items-place-in-loop-place.is ∙ ap (λ (rs : List ControlRec). get_or rs i r) c.items-in-loop-place.ensures) in
+    walked_stops g.P.Dsp.means plan control_acts (controls_of plan kept) (controls_of plan kept) refl i (k, r) within
+    (world c.args.dsp.now c.args.io.now c.args.out.now) m v c.loop-place.invariant c.put_control.result
+    (subst (λ (p : Pair). Walked g.P.Dsp.means plan (control_acts p) m v c.put_control.result) (sym here) c.put_control.ensures)
     c.in_err-put_control.field-0.0 c.from_residual.result c.in_err-put_control.was
     (handed_on c.from_residual.result c.in_err-put_control.field-0.0 c.from_residual.ensures)
 
-pub loop-control-preserved : goal.loop-control-preserved
-loop-control-preserved g c =
-    walked_all g.P.Dsp.means c.args.plan.now put_acts c.args.plan.now.controls c.items-control-items.result.now c.items-control-items.ensures c.loop-control.control-index c.control-item.result c.loop-control-test.true
-    (world c.args.dsp.now c.args.io.now c.args.out.now) (world c.loop-control.dsp c.loop-control.io c.loop-control.out) (world c.put_control.new.dsp c.put_control.new.io c.put_control.new.out)
-    c.loop-control.invariant c.put_control.result
-    (subst (λ (k : ControlPlan). Walked g.P.Dsp.means c.args.plan.now (put_acts k) (world c.loop-control.dsp c.loop-control.io c.loop-control.out) (world c.put_control.new.dsp c.put_control.new.io c.put_control.new.out) c.put_control.result) c.control-item.is c.put_control.ensures)
+pub loop-place-preserved : goal.loop-place-preserved
+loop-place-preserved g c =
+    let plan = c.args.plan.now in
+    let kept = c.args.kept.now in
+    let m = world c.loop-place.dsp c.loop-place.io c.loop-place.out in
+    let v = world c.put_control.new.dsp c.put_control.new.io c.put_control.new.out in
+    let i = c.loop-place.place in
+    let k = c.index-items-place.result in
+    let r = c.index-items-place-in-loop-place.result in
+    let few : i < length plan.controls = omega (arith, c.loop-place-test.true, ap length c.items-count.ensures) in
+    let within : i < length (controls_of plan kept) = omega (arith, few, pairs-long plan.controls kept.controls c.requires.kept.controls) in
+    let here : get_or (controls_of plan kept) i (k, r) ≡ (k, r) = pair-at plan.controls kept.controls c.requires.kept.controls i k r few (c.index-items-place.is ∙ ap (λ (ks : List ControlPlan). get_or ks i k) c.items.ensures) (c.index-items-place-in-loop-place.is ∙ ap (λ (rs : List ControlRec). get_or rs i r) c.items-in-loop-place.ensures) in
+    walked_all g.P.Dsp.means plan control_acts (controls_of plan kept) (controls_of plan kept) refl i (k, r) within
+    (world c.args.dsp.now c.args.io.now c.args.out.now) m v c.loop-place.invariant c.put_control.result
+    (subst (λ (p : Pair). Walked g.P.Dsp.means plan (control_acts p) m v c.put_control.result) (sym here) c.put_control.ensures)
     c.in_ok-put_control.was
+
+pub returns : goal.returns
+returns g c =
+    let plan = c.args.plan.now in
+    let kept = c.args.kept.now in
+    let past : length (controls_of plan kept) ≤ c.loop-place.place = omega (arith, c.loop-place-test.false, ap length c.items-count.ensures, pairs-long plan.controls kept.controls c.requires.kept.controls) in
+    subst (λ (ps : List Pair). Walked g.P.Dsp.means plan (flat_map control_acts ps) (world c.args.dsp.now c.args.io.now c.args.out.now) (world c.loop-place.dsp c.loop-place.io c.loop-place.out) passing) (take_all c.loop-place.place (controls_of plan kept) past) c.loop-place.invariant

@@ -2,7 +2,11 @@ use Rattle.std.proofs.Common.{List, ◌++◌, map, subst, sym}
 use Rattle.std.specs.List.{flat_map}
 use Rattle.mbox_link.specs.Calls.{world}
 use Rattle.tplg_plan.specs.declared.plans.Plan.{Plan}
-use Rattle.host_widgets.specs.Acts.{Act, Make, Join, Finish, ids_of, put_acts}
+use Rattle.host_widgets.specs.HostActs.{Act, Make, Join, Finish}
+use Rattle.host_widgets.specs.Acts.{ids_of}
+use Rattle.host_widgets.specs.ActLists.{control_acts}
+use Rattle.host_widgets.specs.declared.kept.Record.{Record}
+use Rattle.host_widgets.specs.Kept.{controls_of}
 use Rattle.host_widgets.specs.Host.{Outcome, Walked}
 use Rattle.host_widgets.proofs.Walks.{failing, Walked-on, Walked-room, Walked-then, Walked-ended, handed_on}
 use Rattle.host_widgets.proofs.bringing_up.send_list.Goals as goal
@@ -13,8 +17,8 @@ makes plan = map Make (ids_of plan)
 abbrev joins : Plan → List Act
 joins plan = map (λ j. Join j.source j.sink) plan.graph.joins
 
-abbrev puts : Plan → List Act
-puts plan = flat_map put_acts plan.controls
+abbrev puts : Plan → Record → List Act
+puts plan kept = flat_map control_acts (controls_of plan kept)
 
 abbrev finishes : Plan → List Act
 finishes plan = map (λ p. Finish p.id) plan.graph.pipes
@@ -23,11 +27,12 @@ pub returns-in_err-make_widgets : goal.returns-in_err-make_widgets
 returns-in_err-make_widgets g c =
     let means = g.P.Dsp.means in
     let plan = c.args.plan.now in
+    let kept = c.args.kept.now in
     let w = world c.args.dsp.now c.args.io.now c.args.out.now in
     let m = world c.make_widgets.new.dsp c.make_widgets.new.io c.make_widgets.new.out in
     let first = subst (λ (r : Outcome). Walked means plan (makes plan) w m r) c.in_err-make_widgets.was c.make_widgets.ensures in
-    subst (λ (r : Outcome). Walked means plan (makes plan ++ (joins plan ++ (puts plan ++ finishes plan))) w m r) (sym (handed_on c.from_residual.result c.in_err-make_widgets.field-0.0 c.from_residual.ensures))
-    (Walked-ended means plan (makes plan) (joins plan ++ (puts plan ++ finishes plan)) w m c.in_err-make_widgets.field-0.0 first)
+    subst (λ (r : Outcome). Walked means plan (makes plan ++ (joins plan ++ (puts plan kept ++ finishes plan))) w m r) (sym (handed_on c.from_residual.result c.in_err-make_widgets.field-0.0 c.from_residual.ensures))
+    (Walked-ended means plan (makes plan) (joins plan ++ (puts plan kept ++ finishes plan)) w m c.in_err-make_widgets.field-0.0 first)
 
 pub make_joins-requires-clause-on : goal.make_joins-requires-clause-on
 make_joins-requires-clause-on g c = Walked-on g.P.Dsp.means c.args.plan.now _ _ _ _ c.make_widgets.ensures c.requires.on
@@ -51,19 +56,21 @@ pub returns-in_err-make_joins : goal.returns-in_err-make_joins
 returns-in_err-make_joins g c =
     let means = g.P.Dsp.means in
     let plan = c.args.plan.now in
+    let kept = c.args.kept.now in
     let w = world c.args.dsp.now c.args.io.now c.args.out.now in
     let m = world c.make_widgets.new.dsp c.make_widgets.new.io c.make_widgets.new.out in
     let v = world c.make_joins.new.dsp c.make_joins.new.io c.make_joins.new.out in
     let fault = c.in_err-make_joins.field-0.0 in
     let first = subst (λ (r : Outcome). Walked means plan (makes plan) w m r) c.in_ok-make_widgets.was c.make_widgets.ensures in
     let second = subst (λ (r : Outcome). Walked means plan (joins plan) m v r) c.in_err-make_joins.was c.make_joins.ensures in
-    subst (λ (r : Outcome). Walked means plan (makes plan ++ (joins plan ++ (puts plan ++ finishes plan))) w v r) (sym (handed_on c.from_residual-in_err-make_joins.result fault c.from_residual-in_err-make_joins.ensures))
-    (Walked-then means plan (makes plan) (joins plan ++ (puts plan ++ finishes plan)) w m v (failing fault) first (Walked-ended means plan (joins plan) (puts plan ++ finishes plan) m v fault second))
+    subst (λ (r : Outcome). Walked means plan (makes plan ++ (joins plan ++ (puts plan kept ++ finishes plan))) w v r) (sym (handed_on c.from_residual-in_err-make_joins.result fault c.from_residual-in_err-make_joins.ensures))
+    (Walked-then means plan (makes plan) (joins plan ++ (puts plan kept ++ finishes plan)) w m v (failing fault) first (Walked-ended means plan (joins plan) (puts plan kept ++ finishes plan) m v fault second))
 
 pub returns-in_err-put_controls : goal.returns-in_err-put_controls
 returns-in_err-put_controls g c =
     let means = g.P.Dsp.means in
     let plan = c.args.plan.now in
+    let kept = c.args.kept.now in
     let w = world c.args.dsp.now c.args.io.now c.args.out.now in
     let m = world c.make_widgets.new.dsp c.make_widgets.new.io c.make_widgets.new.out in
     let n = world c.make_joins.new.dsp c.make_joins.new.io c.make_joins.new.out in
@@ -71,15 +78,16 @@ returns-in_err-put_controls g c =
     let fault = c.in_err-put_controls.field-0.0 in
     let first = subst (λ (r : Outcome). Walked means plan (makes plan) w m r) c.in_ok-make_widgets.was c.make_widgets.ensures in
     let second = subst (λ (r : Outcome). Walked means plan (joins plan) m n r) c.in_ok-make_joins.was c.make_joins.ensures in
-    let third = subst (λ (r : Outcome). Walked means plan (puts plan) n v r) c.in_err-put_controls.was c.put_controls.ensures in
-    subst (λ (r : Outcome). Walked means plan (makes plan ++ (joins plan ++ (puts plan ++ finishes plan))) w v r) (sym (handed_on c.from_residual-in_err-put_controls.result fault c.from_residual-in_err-put_controls.ensures))
-    (Walked-then means plan (makes plan) (joins plan ++ (puts plan ++ finishes plan)) w m v (failing fault) first
-    (Walked-then means plan (joins plan) (puts plan ++ finishes plan) m n v (failing fault) second (Walked-ended means plan (puts plan) (finishes plan) n v fault third)))
+    let third = subst (λ (r : Outcome). Walked means plan (puts plan kept) n v r) c.in_err-put_controls.was c.put_controls.ensures in
+    subst (λ (r : Outcome). Walked means plan (makes plan ++ (joins plan ++ (puts plan kept ++ finishes plan))) w v r) (sym (handed_on c.from_residual-in_err-put_controls.result fault c.from_residual-in_err-put_controls.ensures))
+    (Walked-then means plan (makes plan) (joins plan ++ (puts plan kept ++ finishes plan)) w m v (failing fault) first
+    (Walked-then means plan (joins plan) (puts plan kept ++ finishes plan) m n v (failing fault) second (Walked-ended means plan (puts plan kept) (finishes plan) n v fault third)))
 
 pub returns : goal.returns
 returns g c =
     let means = g.P.Dsp.means in
     let plan = c.args.plan.now in
+    let kept = c.args.kept.now in
     let w = world c.args.dsp.now c.args.io.now c.args.out.now in
     let m = world c.make_widgets.new.dsp c.make_widgets.new.io c.make_widgets.new.out in
     let n = world c.make_joins.new.dsp c.make_joins.new.io c.make_joins.new.out in
@@ -87,7 +95,7 @@ returns g c =
     let v = world c.finish_pipes.new.dsp c.finish_pipes.new.io c.finish_pipes.new.out in
     let first = subst (λ (r : Outcome). Walked means plan (makes plan) w m r) c.in_ok-make_widgets.was c.make_widgets.ensures in
     let second = subst (λ (r : Outcome). Walked means plan (joins plan) m n r) c.in_ok-make_joins.was c.make_joins.ensures in
-    let third = subst (λ (r : Outcome). Walked means plan (puts plan) n o r) c.in_ok-put_controls.was c.put_controls.ensures in
-    Walked-then means plan (makes plan) (joins plan ++ (puts plan ++ finishes plan)) w m v c.finish_pipes.result first
-    (Walked-then means plan (joins plan) (puts plan ++ finishes plan) m n v c.finish_pipes.result second
-    (Walked-then means plan (puts plan) (finishes plan) n o v c.finish_pipes.result third c.finish_pipes.ensures))
+    let third = subst (λ (r : Outcome). Walked means plan (puts plan kept) n o r) c.in_ok-put_controls.was c.put_controls.ensures in
+    Walked-then means plan (makes plan) (joins plan ++ (puts plan kept ++ finishes plan)) w m v c.finish_pipes.result first
+    (Walked-then means plan (joins plan) (puts plan kept ++ finishes plan) m n v c.finish_pipes.result second
+    (Walked-then means plan (puts plan kept) (finishes plan) n o v c.finish_pipes.result third c.finish_pipes.ensures))

@@ -1,8 +1,10 @@
-use Rattle.std.proofs.Common.{[], ◌∷◌, refl}
+use Rattle.std.proofs.Common.{[], ◌∷◌, refl, sym, subst}
 use Rattle.mbox_link.specs.Calls.{world, Cut}
 use Rattle.mbox_link.proofs.Led.{Led-append}
-use Rattle.host_widgets.specs.Acts.{bring_up_acts}
-use Rattle.host_widgets.specs.Host.{exchanges}
+use Rattle.host_widgets.specs.ActLists.{bring_up}
+use Rattle.host_widgets.specs.declared.kept.Power.TheVariants.{Unloaded}
+use Rattle.host_widgets.specs.Host.{IsRecordOf, exchanges}
+use Rattle.host_widgets.proofs.Records.{closed-record}
 use Rattle.host_widgets.proofs.loading.power_up.Goals as goal
 
 pub returns-in-Err-clause-calls : goal.returns-in-Err-clause-calls
@@ -13,7 +15,7 @@ returns-in-Err-clause-calls g c =
     let v = world c.cut.new.self c.bring_up.new.io c.bring_up.new.out in
     record {
       answers = walked.answers;
-      led = (m, (c.boot.ensures, refl), Led-append g.P.Dsp.means (exchanges c.args.plan.now (bring_up_acts c.args.plan.now) walked.answers) (Cut ∷ []) m n v walked.led (v, (c.cut.ensures, refl), refl));
+      led = (m, (c.boot.ensures, refl), Led-append g.P.Dsp.means (exchanges c.args.plan.now (bring_up c.args.plan.now c.args.kept.now) walked.answers) (Cut ∷ []) m n v walked.led (v, (c.cut.ensures, refl), refl));
       walk = walked.walk;
     }
 
@@ -25,3 +27,6 @@ returns-in-Err-clause-fates g c = record {
   fates = c.in-Err.ensures.fates;
   ends = (c.cut.ensures, refl);
 }
+
+pub bring_up-requires-clause-kept : goal.bring_up-requires-clause-kept
+bring_up-requires-clause-kept g c = subst (IsRecordOf c.args.plan.now) (sym c.requires.kept) (closed-record Unloaded c.args.plan.now)

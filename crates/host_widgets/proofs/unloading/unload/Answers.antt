@@ -1,9 +1,7 @@
-use Rattle.std.proofs.Common.{refl, sym, subst, ◌∙◌}
+use Rattle.std.proofs.Common.{refl, sym, subst}
 use Rattle.mbox_link.specs.Calls.{world}
 use Rattle.host_widgets.specs.declared.kept.Power.{Power}
-use Rattle.host_widgets.specs.declared.kept.Power.TheVariants.{Unloaded}
 use Rattle.host_widgets.specs.Host.{Unloads, Sides}
-use Rattle.host_widgets.proofs.Halting.{closed-alike}
 use Rattle.host_widgets.proofs.Records.{unloaded-agrees}
 use Rattle.host_widgets.proofs.Walks.{passing}
 use Rattle.host_widgets.proofs.unloading.unload.Goals as goal
@@ -16,19 +14,9 @@ returns-in-On-clause-calls g c =
 
 pub returns-in-On-clause-agree : goal.returns-in-On-clause-agree
 returns-in-On-clause-agree g c =
-    unloaded-agrees g.P.Dsp.means c.args.plan.now c.close_all.new.streams c.cut.new.self
-    (c.close_all.ensures ∙ closed-alike c.args.kept.now.streams c.args.plan.now.streams c.requires.agree.record_is.streams) c.cut.ensures.on
+    unloaded-agrees g.P.Dsp.means c.args.plan.now c.forget.new.kept c.cut.new.self c.forget.ensures c.cut.ensures.on
 
 pub returns-in-Off-clause-agree : goal.returns-in-Off-clause-agree
 returns-in-Off-clause-agree g c =
     let sides = subst (λ (p : Power). Sides g.P.Dsp.means c.args.plan.now c.args.kept.now c.args.dsp.now p) c.in-Off.is c.requires.agree.sides in
-    unloaded-agrees g.P.Dsp.means c.args.plan.now c.close_all-in-Off.new.streams c.args.dsp.now
-    (c.close_all-in-Off.ensures ∙ closed-alike c.args.kept.now.streams c.args.plan.now.streams c.requires.agree.record_is.streams) sides.1
-
-pub returns-in-On-clause-kept : goal.returns-in-On-clause-kept
-returns-in-On-clause-kept g c =
-    λ i. record { power = Unloaded; streams = (c.close_all.ensures ∙ closed-alike c.args.kept.now.streams c.args.plan.now.streams c.requires.agree.record_is.streams) i }
-
-pub returns-in-Off-clause-kept : goal.returns-in-Off-clause-kept
-returns-in-Off-clause-kept g c =
-    λ i. record { power = Unloaded; streams = (c.close_all-in-Off.ensures ∙ closed-alike c.args.kept.now.streams c.args.plan.now.streams c.requires.agree.record_is.streams) i }
+    unloaded-agrees g.P.Dsp.means c.args.plan.now c.forget-in-Off.new.kept c.args.dsp.now c.forget-in-Off.ensures sides.1

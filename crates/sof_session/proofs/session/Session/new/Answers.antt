@@ -1,5 +1,5 @@
 use Rattle.std.proofs.Common.{◌≡◌, IfOk, subst}
-use Rattle.host_widgets.specs.HostRecord.{first_record}
+use Rattle.host_widgets.specs.Kept.{first_record}
 use Rattle.sof_session.proofs.Agreement.{AreAgreed-new}
 use Rattle.sof_session.proofs.session.Session.new.Goals as goal
 

@@ -1,6 +1,6 @@
 use Rattle.std.proofs.Common.{◌≡◌, take, map}
 use Rattle.host_widgets.specs.HostRecord.{closed}
-use Rattle.host_widgets.proofs.kept.Record.new.Given as goal
+use Rattle.host_widgets.proofs.kept.closed_streams.Given as goal
 
 -- so many streams are closed so far
 abbrev pub invariant-loop-stream : goal.invariant-loop-stream

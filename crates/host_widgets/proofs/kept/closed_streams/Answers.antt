@@ -3,7 +3,7 @@ use Rattle.std.proofs.lemmas.List.{take_more, map-append}
 use Rattle.tplg_plan.specs.declared.plans.StreamPlan.{StreamPlan}
 use Rattle.host_widgets.specs.declared.kept.StreamRec.{StreamRec}
 use Rattle.host_widgets.specs.HostRecord.{closed, no_stream}
-use Rattle.host_widgets.proofs.kept.Record.new.Goals as goal
+use Rattle.host_widgets.proofs.kept.closed_streams.Goals as goal
 
 pub loop-stream-preserved : goal.loop-stream-preserved
 loop-stream-preserved c =

@@ -1,0 +1,45 @@
+-- The message that the host writes for each act.
+use Rattle.std.specs.Prelude.{ℕ, List, [], map, Option, Some, None}
+use Rattle.ipc3_codec.specs.declared.message.Message.{Message}
+use Rattle.ipc3_codec.specs.declared.message.Message.TheVariants.{Connect, SetValue, GetValue, SetData, GetData, PipeComplete, PcmParams, PcmFree, CtxSave}
+use Rattle.tplg_plan.specs.declared.plans.Plan.{Plan}
+use Rattle.tplg_plan.specs.declared.plans.ControlPlan.{ControlPlan}
+use Rattle.tplg_plan.specs.declared.plans.ControlKind.{ControlKind}
+use Rattle.tplg_plan.specs.declared.plans.ControlKind.TheVariants as controls
+use Rattle.tplg_plan.specs.GainOf.{control_gain}
+use Rattle.host_widgets.specs.Controls.{control_of}
+use Rattle.host_widgets.specs.Acts.{make_message, words_of, direction_of, trigger_message}
+use Rattle.host_widgets.specs.BlobParts.{part_of}
+use Rattle.host_widgets.specs.HostActs.{Act, Make, Join, Put, Part, Finish, Prepare, Trig, Free, Save, Ask}
+
+-- SET_VALUE: a volume's gains by command 0, a mux's choice by command 1; no other component is set so
+abbrev pub set_message : ℕ → List ℕ → ControlKind → Message
+set_message comp values (controls.Choice items) = SetValue comp 1 values
+set_message comp values kind = SetValue comp 0 (map (control_gain kind) values)
+
+abbrev pub put_message : ℕ → List ℕ → Option ControlPlan → Message
+put_message comp values (Some k) = set_message comp values k.kind
+put_message comp values None = SetValue comp 0 []
+
+-- GET_VALUE by the same commands, or GET_DATA of a part
+abbrev pub get_message : ℕ → ℕ → ControlKind → Message
+get_message comp k (controls.Volume min max channels lowest step mute) = GetValue comp 0
+get_message comp k (controls.Choice items) = GetValue comp 1
+get_message comp k (controls.Blob most initial) = GetData comp k
+
+abbrev pub ask_message : ℕ → ℕ → Option ControlPlan → Message
+ask_message comp k (Some c) = get_message comp k c.kind
+ask_message comp k None = GetValue comp 0
+
+-- the message of an act
+abbrev pub message_of : Plan → Act → Message
+message_of plan (Make id) = make_message plan id (words_of plan id)
+message_of plan (Join source sink) = Connect source sink
+message_of plan (Put comp values) = put_message comp values (control_of plan comp)
+message_of plan (Part comp blob k) = SetData comp (part_of blob k)
+message_of plan (Finish id) = PipeComplete id
+message_of plan (Prepare host params) = PcmParams host (direction_of plan host) params
+message_of plan (Trig host what) = trigger_message host what
+message_of plan (Free host) = PcmFree host
+message_of plan Save = CtxSave
+message_of plan (Ask comp k) = ask_message comp k (control_of plan comp)

@@ -1,0 +1,109 @@
+-- What a command does once its tests have passed, and how it ends.
+use Rattle.std.specs.Prelude.{◌≡◌, ℕ, List, [], ◌∷◌, Bool, true, false, Ok, Err}
+use Rattle.stream_law.specs.Past.{Moment, Boot, Cut, Tick}
+use Rattle.mbox_link.specs.Calls.{World, Meaning, Led}
+use Rattle.tplg_plan.specs.declared.plans.Plan.{Plan}
+use Rattle.host_widgets.specs.declared.answers.Answer.{Answer}
+use Rattle.host_widgets.specs.declared.answers.Answer.TheVariants as answers
+use Rattle.host_widgets.specs.declared.answers.HostFault.TheVariants.{LinkDown}
+use Rattle.host_widgets.specs.declared.kept.Power.{Power}
+use Rattle.host_widgets.specs.declared.kept.Power.TheVariants.{On}
+use Rattle.host_widgets.specs.Host.{Outcome}
+use Rattle.mbox_link.specs.Meetings.{Meeting}
+use Rattle.host_widgets.specs.declared.kept.Record.{Record}
+use Rattle.host_widgets.specs.Kept.{first_record, with_power, went_down}
+use Rattle.host_widgets.specs.HostActs.{Act}
+use Rattle.host_widgets.specs.Walk.{Walked, walk}
+use Rattle.host_widgets.specs.ActCalls.{ActsDid, next_of, calls_of}
+use Rattle.host_widgets.specs.ActLists.{bring_up, bring_back, go_down}
+
+-- how a command ends: alone, or bringing the device up or back, or down
+pub data Manner : Type 0 where
+  Plain : Manner
+  Loading : Manner
+  Resuming : Manner
+  Suspending : Manner
+
+-- What a command does: moments of the device before any message, acts, how it ends, the record once all passed, and the answer
+-- then.
+pub record Order : Type 0 where
+  pub first : List Moment
+  pub acts : List Act
+  pub manner : Manner
+  pub done : Record → Record
+  pub answer : Answer
+
+-- after a refusal, acts go on only where the device goes down
+abbrev pub goes_on : Manner → Bool
+goes_on Suspending = true
+goes_on manner = false
+
+-- ---- how it ends: the record, and the last moments
+
+-- alone: a refusal leaves the record so far, and a failed link takes it down
+abbrev pub plain_end : (Record → Record) → Record → Outcome → Record × List Moment
+plain_end done now (Ok passed) = (done now, [])
+plain_end done now (Err LinkDown) = (went_down now, Cut ∷ [])
+plain_end done now (Err fault) = (now, [])
+
+-- bringing up or back: any failure leaves this record, with the device cut
+abbrev pub brought_end : (Record → Record) → Record → Record → Outcome → Record × List Moment
+brought_end done failed now (Ok passed) = (done now, [])
+brought_end done failed now (Err fault) = (failed, Cut ∷ [])
+
+-- by the record at the command's start, the record so far, and what its acts came to
+abbrev pub end_by : Manner → Plan → (Record → Record) → Record → Record → Outcome → Record × List Moment
+end_by Plain plan done start now outcome = plain_end done now outcome
+end_by Loading plan done start now outcome = brought_end done (first_record plan) now outcome
+end_by Resuming plan done start now outcome = brought_end done start now outcome
+end_by Suspending plan done start now outcome = (went_down now, Cut ∷ [])
+
+-- ---- rows
+
+-- one that changes nothing, with this answer
+abbrev pub quiet : Answer → Order
+quiet answer = record { first = []; acts = []; manner = Plain; done = λ kept. kept; answer = answer }
+
+-- one that sends acts where the power is on, and leaves this
+abbrev pub sends : Power → List Act → (Record → Record) → Answer → Order
+sends On acts done answer = record { first = []; acts = acts; manner = Plain; done = done; answer = answer }
+sends power acts done answer = record { first = []; acts = []; manner = Plain; done = done; answer = answer }
+
+-- moments of a device that is on
+abbrev pub where_on : Power → List Moment → List Moment
+where_on On moments = moments
+where_on power moments = []
+
+abbrev pub loading : Plan → Record → Order
+loading plan kept = record { first = Boot ∷ []; acts = bring_up plan kept; manner = Loading; done = with_power On; answer = answers.Done }
+
+abbrev pub unloading : Plan → Record → Order
+unloading plan kept =
+    record { first = where_on kept.power (Cut ∷ []); acts = []; manner = Plain; done = λ now. first_record plan; answer = answers.Done }
+
+abbrev pub suspending : Plan → Record → Order
+suspending plan kept = record { first = []; acts = go_down plan kept; manner = Suspending; done = went_down; answer = answers.Done }
+
+abbrev pub resuming : Plan → Record → Order
+resuming plan kept = record { first = Boot ∷ []; acts = bring_back plan kept; manner = Resuming; done = with_power On; answer = answers.Done }
+
+abbrev pub ticking : Record → Order
+ticking kept = record { first = where_on kept.power (Tick ∷ []); acts = []; manner = Plain; done = λ now. now; answer = answers.Done }
+
+-- ---- an order over any device
+
+-- what a walk left is ended: the record, and the calls of the last moments
+abbrev pub Ends : {D : Type 0} → Meaning D → Plan → ℕ → Order → Record → Record → World D → World D → Walked (List Meeting) → Type 0
+Ends means plan heap o kept kept' w v walked =
+    let end = end_by o.manner plan o.done kept walked.kept walked.outcome in (kept' ≡ end.0) × Led means w (calls_of heap end.1) v
+
+-- Its calls were made and no others: those of its first moments, one exchange for each act up to the end of the walk, and those of
+-- its last moments. By what the messages met there, it came to this, and left this record.
+pub record Carried {D : Type 0} (means : Meaning D) (plan : Plan) (heap : ℕ) (o : Order) (kept kept' : Record) (w v : World D) (result : Outcome) : Type 0 where
+  pub meetings : List Meeting
+  pub begun : World D
+  pub sent : World D
+  pub first : Led means w (calls_of heap o.first) begun
+  pub walked : ActsDid means plan heap (goes_on o.manner) kept o.acts meetings begun sent
+  pub came : result ≡ (walk plan heap (goes_on o.manner) next_of kept meetings o.acts).outcome
+  pub ends : Ends means plan heap o kept kept' sent v (walk plan heap (goes_on o.manner) next_of kept meetings o.acts)

@@ -1,0 +1,50 @@
+-- Acts, one after another.
+use Rattle.std.specs.Prelude.{ℕ, List, [], ◌∷◌, ◌++◌, Bool, true, false, Ok, Err}
+use Rattle.stream_law.specs.Past.{Moment}
+use Rattle.tplg_plan.specs.declared.plans.Plan.{Plan}
+use Rattle.host_widgets.specs.declared.answers.HostFault.TheVariants.{Refused, LinkDown}
+use Rattle.host_widgets.specs.Host.{Outcome}
+use Rattle.mbox_link.specs.Meetings.{Meeting}
+use Rattle.host_widgets.specs.declared.kept.Record.{Record}
+use Rattle.host_widgets.specs.HostActs.{Act}
+use Rattle.host_widgets.specs.OneAct.{Acted, one_act}
+
+-- What acts came to: the first fault, or that the link is down; the record after them; the moments of the device; the acts
+-- whose messages were sent; and what gives the meetings of later messages.
+pub record Walked (Q : Type 0) : Type 0 where
+  pub outcome : Outcome
+  pub kept : Record
+  pub moments : List Moment
+  pub sent : List Act
+  pub queue : Q
+
+-- after an act that passed acts go on, after one that was refused where the command says so, and after a failed link never
+abbrev pub goes_past : Bool → Outcome → Bool
+goes_past goes_on (Ok done) = true
+goes_past goes_on (Err (Refused e)) = goes_on
+goes_past goes_on (Err fault) = false
+
+-- a failed link is told before a refusal, and the first refusal before later ones
+abbrev pub first_of : Outcome → Outcome → Outcome
+first_of (Ok done) rest = rest
+first_of (Err fault) (Err LinkDown) = Err LinkDown
+first_of (Err fault) rest = Err fault
+
+-- an act, and where they go on, the acts behind it
+abbrev pub joined : {Q : Type 0} → Act → Acted → Q → Bool → Walked Q → Walked Q
+joined act a q true rest = record {
+  outcome = first_of a.outcome rest.outcome;
+  kept = rest.kept;
+  moments = a.moments ++ rest.moments;
+  sent = act ∷ rest.sent;
+  queue = rest.queue;
+}
+joined act a q false rest = record { outcome = a.outcome; kept = a.kept; moments = a.moments; sent = act ∷ []; queue = q }
+
+-- The acts in order, each by one message, up to the first after which they do not go on. `next` says what the next message
+-- meets, with what is left for later ones.
+abbrev pub walk : {Q : Type 0} → Plan → ℕ → Bool → (Q → Meeting × Q) → Record → Q → List Act → Walked Q
+walk plan heap goes_on next kept q [] = record { outcome = Ok tt; kept = kept; moments = []; sent = []; queue = q }
+walk plan heap goes_on next kept q (act ∷ acts) =
+    let a = one_act plan heap kept act (next q).0 in
+    joined act a (next q).1 (goes_past goes_on a.outcome) (walk plan heap goes_on next a.kept (next q).1 acts)

@@ -31,7 +31,7 @@ use Rattle.host_widgets.specs.Host.{Outcome, Agrees, Sides, Walk, verdict}
 use Rattle.host_widgets.specs.ActFates.{Fated}
 use Rattle.host_widgets.proofs.Walks.{Answers, passing, failing, Walked-room}
 use Rattle.host_widgets.proofs.ManyEffects.{Fated-led}
-use Rattle.host_widgets.proofs.ThinRecords.{Only, only, view-is, record-of, shown}
+use Rattle.host_widgets.proofs.ThinRecords.{Only, only, view-is, record-of, no-controls, shown}
 use Rattle.host_pcm.specs.declared.asking.Ask.{Ask}
 use Rattle.host_pcm.specs.declared.asking.Ask.TheVariants.{Triggering, Closing}
 use Rattle.host_pcm.specs.Asks.{stream_at, is_closed, takes_trigger, closing_acts, stream_acts, acts_by, after_ask, with_stream}
@@ -57,7 +57,7 @@ module _ {D : Type 0} (means : Meaning D) (pipe size : ℕ) (format : Format) (s
   the_plan = flat pipe size format sched caps names widgets
 
   abbrev kept_on : StreamRec → Record
-  kept_on s = record { power = On; streams = s ∷ [] }
+  kept_on s = record { power = On; streams = s ∷ []; controls = [] }
 
   abbrev stopped : StreamRec
   stopped = record { found = Prepared; params = r.params }
@@ -253,7 +253,7 @@ module _ {D : Type 0} (means : Meaning D) (plan : Plan) (p : IsThinPlan plan) (h
 
     pub rest-agrees : Agrees means plan kept' w.device
     rest-agrees = record {
-      record_is = record-of plan kept' r p streams-are may_r;
+      record_is = record-of plan kept' r p streams-are agrees.record_is.controls may_r;
       sides = ⊎_elim
           (λ on.
           let was = subst (λ (x : Power). Sides means plan kept w.device x) on agrees.sides in
@@ -280,8 +280,8 @@ module _ {D : Type 0} (means : Meaning D) (plan : Plan) (p : IsThinPlan plan) (h
     plan-is : plan ≡ flat-plan
     plan-is = λ i. record { graph = p.graph i; streams = p.streams i; controls = p.controls i; names = plan.names; widgets = plan.widgets }
 
-    kept-is : kept ≡ record { power = On; streams = q.stream ∷ [] }
-    kept-is = λ i. record { power = power i; streams = q.is i }
+    kept-is : kept ≡ record { power = On; streams = q.stream ∷ []; controls = [] }
+    kept-is = λ i. record { power = power i; streams = q.is i; controls = no-controls plan kept p agrees.record_is i }
 
     at-zero : k ≡ 0
     at-zero = omega (arith, within, ap length p.streams)
@@ -298,7 +298,7 @@ module _ {D : Type 0} (means : Meaning D) (plan : Plan) (p : IsThinPlan plan) (h
         (subst (λ (place : ℕ). Walks means plan heap place ask old' new a b result) at-zero
         (subst (λ (o : Record). Walks means plan heap k ask o new a b result) is x))
 
-    back : (new : Record) (a b : World D) (result : Outcome) → Walks means flat-plan heap 0 Closing (record { power = On; streams = q.stream ∷ [] }) new a b result → Walks means plan heap k Closing kept new a b result
+    back : (new : Record) (a b : World D) (result : Outcome) → Walks means flat-plan heap 0 Closing (record { power = On; streams = q.stream ∷ []; controls = [] }) new a b result → Walks means plan heap k Closing kept new a b result
     back new a b result x =
         subst (λ (pl : Plan). Walks means pl heap k Closing kept new a b result) (sym plan-is)
         (subst (λ (place : ℕ). Walks means flat-plan heap place Closing kept new a b result) (sym at-zero)
@@ -310,7 +310,7 @@ module _ {D : Type 0} (means : Meaning D) (plan : Plan) (p : IsThinPlan plan) (h
         (stop-failed means p.pipe p.size p.format p.sched p.caps plan.names plan.widgets heap q.stream acts-are k1 w m fault (there (Triggering Stop) kept _ k1 w m (Err fault) kept-is x))
 
     module _ (k1 : Record) (m : World D) (x : Walks means plan heap k (Triggering Stop) kept k1 w m (Ok tt)) where
-      k1-is : k1 ≡ record { power = On; streams = record { found = Prepared; params = q.stream.params } ∷ [] }
+      k1-is : k1 ≡ record { power = On; streams = record { found = Prepared; params = q.stream.params } ∷ []; controls = [] }
       k1-is = stopped-is means p.pipe p.size p.format p.sched p.caps plan.names plan.widgets heap q.stream acts-are k1 k1 w m m (there (Triggering Stop) kept _ k1 w m (Ok tt) kept-is x)
 
       pub stopped-power : k1.power ≡ On

@@ -30,7 +30,7 @@ use Rattle.host_widgets.specs.OneAct.{own}
 use Rattle.host_widgets.specs.ActFates.{Fate, WalkFates}
 use Rattle.host_widgets.proofs.ReplyErrors.{reply_with}
 use Rattle.host_widgets.proofs.Exchanges.{came, verdict-number}
-use Rattle.host_widgets.proofs.Effects.{row-decoded, verdict-done}
+use Rattle.host_widgets.proofs.Effects.{IsTold, row-decoded, verdict-done}
 use Rattle.host_widgets.proofs.Walks.{Answers, passing, failing}
 use Rattle.host_widgets.proofs.ThinRecords.{only_stream, view_with, record-of}
 use Rattle.host_widgets.proofs.Records.{down-record, down-rests}
@@ -60,13 +60,14 @@ module _ (pipe size : ℕ) (format : Format) (sched : ℕ) (caps : Caps) (names 
   flat = record { graph = thin_graph pipe size format sched; streams = only_stream caps ∷ []; controls = []; names = names; widgets = widgets }
 
   abbrev pub kept_with : Power → StreamRec → Record
-  kept_with power r = record { power = power; streams = r ∷ [] }
+  kept_with power r = record { power = power; streams = r ∷ []; controls = [] }
 
   abbrev pub view_of_stream : StreamRec → View
   view_of_stream r = view_with (thin_graph pipe size format sched) r
 
   -- the firmware takes an act on a stream that stands so, and sees it then as the record says
   pub record Takes (heap : ℕ) (act : Act) (r : StreamRec) : Type 0 where
+    pub told : IsTold act
     pub message : IsMessage (message_of flat act)
     pub free : own flat heap (kept_with On r) act ≡ None
     pub row : (f : FwState) → view_of f ≡ view_of_stream r → row f (message_of flat act) ≡ Ok (seen (view_of_stream (after_act act r)) None f)
@@ -114,7 +115,7 @@ module _ (pipe size : ℕ) (format : Format) (sched : ℕ) (caps : Caps) (names 
           record {
             endpoints = c.endpoints;
             way = ⊎_elim
-                (λ took. inl record { said = verdict-done before.0 flat act x.answer takes.message took.said; on = took.on ∙ (let same : took.next ≡ seen (view_of_stream (after_act act r)) None before.0 = cc (sym took.row ∙ row-is) in ap Some same) })
+                (λ took. inl record { said = verdict-done before.0 flat act x.answer takes.told takes.message took.said; on = took.on ∙ (let same : took.next ≡ seen (view_of_stream (after_act act r)) None before.0 = cc (sym took.row ∙ row-is) in ap Some same) })
                 (λ rest. ⊎_elim
                 (λ it. absurd (cc (sym it.row ∙ row-is)))
                 (λ rest. ⊎_elim
@@ -166,7 +167,7 @@ module _ (pipe size : ℕ) (format : Format) (sched : ℕ) (caps : Caps) (names 
                     ∙ ap (λ (y : FwState). Some (seen (view_of_stream next) None y)) (same-state g is);
               },
               record {
-                record_is = record-of flat (kept_with On next) next thin refl takes.may;
+                record_is = record-of flat (kept_with On next) next thin refl tt takes.may;
                 sides = ap (λ (y : World D). option_map view_of (means.on y.device)) ends ∙ ap (option_map view_of) took.on;
               },
             )
@@ -208,7 +209,7 @@ module _ (pipe size : ℕ) (format : Format) (sched : ℕ) (caps : Caps) (names 
               },
               subst (λ (y : Record). Agrees means flat y v.device) (sym record_is)
                   record {
-                    record_is = record-of flat kept r thin refl may;
+                    record_is = record-of flat kept r thin refl tt may;
                     sides = ap (λ (y : World D). option_map view_of (means.on y.device)) ends ∙ ap (option_map view_of) it.on ∙ ap Some before-sees;
                   },
             )
@@ -229,7 +230,7 @@ module _ (pipe size : ℕ) (format : Format) (sched : ℕ) (caps : Caps) (names 
               },
               subst (λ (y : Record). Agrees means flat y v.device) (sym record_is)
                   record {
-                    record_is = down-record flat kept (record-of flat kept r thin refl may);
+                    record_is = down-record flat kept (record-of flat kept r thin refl tt may);
                     sides = (down-rests (r ∷ []), cut.0.on);
                   },
             )

@@ -121,6 +121,7 @@ rests Found_On is = absurd (cc is)
 module _ (pipe size : ℕ) (format : Format) (sched : ℕ) (caps : Caps) (names : List (List ℕ)) (widgets : List WidgetPlan) (heap : ℕ) (r : StreamRec) where
   pub takes-trigger : (what : Trigger) → takes_trigger what r.found ≡ true → may_have r.found r.params ≡ true → Takes pipe size format sched caps names widgets heap (Trig 0 what) r
   takes-trigger what is may = record {
+    told = tt;
     message = trigger-fits what;
     free = refl;
     row = row-of what is;
@@ -135,6 +136,7 @@ module _ (pipe size : ℕ) (format : Format) (sched : ℕ) (caps : Caps) (names 
 
   pub takes-free : r.found ≡ Prepared → Takes pipe size format sched caps names widgets heap (Free 0) r
   takes-free is = record {
+    told = tt;
     message = free-fits;
     free = refl;
     row = λ f sees. changed-row pipe size format sched f r sees fw.is_prepared (set_stream 0 phases.Idle None) (ap (λ (x : Found). fw.is_prepared (phase_of x)) is);
@@ -145,6 +147,7 @@ module _ (pipe size : ℕ) (format : Format) (sched : ℕ) (caps : Caps) (names 
   takes-params can p is none =
       let both = ranges can p none in
       record {
+        told = tt;
         message = params-fit p both.0 both.1;
         free = refl;
         row = λ f sees. params-row pipe size format sched f r sees p (rests r.found is) both.0;

@@ -43,7 +43,7 @@ module _ {D : Type 0} (means : Meaning D) (plan : Plan) (p : IsThinPlan plan) (h
     trigger-takes : TakesIt means plan p heap k within kept w agrees power (Trig 0 what)
     trigger-takes = takes-trigger p.pipe p.size p.format p.sched p.caps plan.names plan.widgets heap mine what (subst (λ (r : StreamRec). takes_trigger what r.found ≡ true) mine-is found) may-mine
 
-    pub trigger-done : result ≡ Ok tt → (item : StreamRec) → item ≡ record { found = triggered what; params = (stream_at kept k).params } → (streams : List StreamRec) → streams ≡ set kept'.streams k item → Both (Triggering what) (record { power = kept'.power; streams = streams }) v (Ok tt)
+    pub trigger-done : result ≡ Ok tt → (item : StreamRec) → item ≡ record { found = triggered what; params = (stream_at kept k).params } → (streams : List StreamRec) → streams ≡ set kept'.streams k item → Both (Triggering what) (record { power = kept'.power; streams = streams; controls = kept'.controls }) v (Ok tt)
     trigger-done is item item-is streams streams-are =
         act-done means plan p heap k within kept w agrees power (Triggering what) (Trig 0 what) trigger-takes (message_spelling message) (ap message_spelling (message-is ∙ ap (λ (h : ℕ). trigger_message h what) host-0)) kept' v result x refl refl is item
         (item-is ∙ ap (λ (r : StreamRec). record { found = triggered what; params = r.params }) mine-is) streams streams-are
@@ -61,7 +61,7 @@ module _ {D : Type 0} (means : Meaning D) (plan : Plan) (p : IsThinPlan plan) (h
     params-request : message_spelling message ≡ message_spelling (PcmParams 0 0 params)
     params-request = ap message_spelling (message-is ∙ (λ i. PcmParams (host-0 i) (direction-0 i) params))
 
-    pub params-done : result ≡ Ok tt → (item : StreamRec) → item ≡ record { found = Prepared; params = Some params } → (streams : List StreamRec) → streams ≡ set kept'.streams k item → Both (Preparing params) (record { power = kept'.power; streams = streams }) v (Ok tt)
+    pub params-done : result ≡ Ok tt → (item : StreamRec) → item ≡ record { found = Prepared; params = Some params } → (streams : List StreamRec) → streams ≡ set kept'.streams k item → Both (Preparing params) (record { power = kept'.power; streams = streams; controls = kept'.controls }) v (Ok tt)
     params-done is item item-is streams streams-are =
         act-done means plan p heap k within kept w agrees power (Preparing params) (Prepare 0 params) params-takes (message_spelling message) params-request kept' v result x refl refl is item item-is streams streams-are
 
@@ -81,7 +81,7 @@ module _ {D : Type 0} (means : Meaning D) (plan : Plan) (p : IsThinPlan plan) (h
     free-request : message_spelling message ≡ message_spelling (PcmFree 0)
     free-request = ap message_spelling (message-is ∙ ap PcmFree host-0)
 
-    pub free-done : result ≡ Ok tt → (item : StreamRec) → item ≡ closed → (streams : List StreamRec) → streams ≡ set kept'.streams k item → Both Closing (record { power = kept'.power; streams = streams }) v (Ok tt)
+    pub free-done : result ≡ Ok tt → (item : StreamRec) → item ≡ closed → (streams : List StreamRec) → streams ≡ set kept'.streams k item → Both Closing (record { power = kept'.power; streams = streams; controls = kept'.controls }) v (Ok tt)
     free-done is item item-is streams streams-are =
         act-done means plan p heap k within kept w agrees power Closing (Free 0) free-takes (message_spelling message) free-request kept' v result x (ap (closing_acts 0) (sym found-mine)) refl is item item-is streams streams-are
 

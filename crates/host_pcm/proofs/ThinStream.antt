@@ -15,7 +15,7 @@ use Rattle.host_widgets.specs.HostRecord.{closed, may_have}
 use Rattle.host_widgets.specs.HostActs.{Act}
 use Rattle.host_widgets.specs.ActMessages.{message_of}
 use Rattle.host_widgets.specs.Host.{Outcome, Agrees, Sides}
-use Rattle.host_widgets.proofs.ThinRecords.{Only, only, view-is, only_stream}
+use Rattle.host_widgets.proofs.ThinRecords.{Only, only, view-is, only_stream, no-controls}
 use Rattle.host_pcm.specs.declared.asking.Ask.{Ask}
 use Rattle.host_pcm.specs.Asks.{stream_at, after_act, after_ask}
 use Rattle.host_pcm.specs.Carried.{Passes, Walks, acts_at, kept_by}
@@ -45,7 +45,7 @@ module _ {D : Type 0} (means : Meaning D) (plan : Plan) (p : IsThinPlan plan) (h
   stream = stream-of.stream
 
   kept-is : kept ≡ kept_with p.pipe p.size p.format p.sched p.caps plan.names plan.widgets On stream
-  kept-is = λ i. record { power = power i; streams = stream-of.is i }
+  kept-is = λ i. record { power = power i; streams = stream-of.is i; controls = no-controls plan kept p agrees.record_is i }
 
   place-is : k ≡ 0
   place-is = omega (arith, within, ap length p.streams)
@@ -81,13 +81,13 @@ module _ {D : Type 0} (means : Meaning D) (plan : Plan) (p : IsThinPlan plan) (h
         (subst (λ (y : Record). Done (kept_with p.pipe p.size p.format p.sched p.caps plan.names plan.widgets On stream) y plan' 0 ask v outcome) (sym is) d)))
 
     -- it passed, and the record changed after it
-    pub act-done : act ∷ [] ≡ acts_at plan' (kept_with p.pipe p.size p.format p.sched p.caps plan.names plan.widgets On stream) 0 ask → after_ask ask (act ∷ []) stream ≡ after_act act stream → result ≡ Ok tt → (item : StreamRec) → item ≡ after_act act stream → (streams : List StreamRec) → streams ≡ set kept'.streams k item → Done kept (record { power = kept'.power; streams = streams }) plan k ask v (Ok tt)
+    pub act-done : act ∷ [] ≡ acts_at plan' (kept_with p.pipe p.size p.format p.sched p.caps plan.names plan.widgets On stream) 0 ask → after_ask ask (act ∷ []) stream ≡ after_act act stream → result ≡ Ok tt → (item : StreamRec) → item ≡ after_act act stream → (streams : List StreamRec) → streams ≡ set kept'.streams k item → Done kept (record { power = kept'.power; streams = streams; controls = kept'.controls }) plan k ask v (Ok tt)
     act-done acts after is item item-is streams streams-are =
         let same : kept' ≡ kept_with p.pipe p.size p.format p.sched p.caps plan.names plan.widgets On stream = x.record_after ∙ ap (λ (o : Outcome). kept_by o kept) is ∙ kept-is in
         let d = done p.pipe p.size p.format p.sched p.caps plan.names plan.widgets means thin' heap act stream takes w state.0 state.1 state.2 kept' v result x' ask after is in
         let new = kept_with p.pipe p.size p.format p.sched p.caps plan.names plan.widgets On (after_act act stream) in
-        let here : record { power = kept'.power; streams = streams } ≡ new = (λ i. record { power = (same i).power; streams = (streams-are ∙ (λ j. set (same j).streams (place-is j) (item-is j))) i }) in
-        back (record { power = kept'.power; streams = streams }) new (Ok tt) here
+        let here : record { power = kept'.power; streams = streams; controls = kept'.controls } ≡ new = (λ i. record { power = (same i).power; streams = (streams-are ∙ (λ j. set (same j).streams (place-is j) (item-is j))) i; controls = (same i).controls }) in
+        back (record { power = kept'.power; streams = streams; controls = kept'.controls }) new (Ok tt) here
         (walks means plan' heap 0 ask (act ∷ []) (kept_with p.pipe p.size p.format p.sched p.caps plan.names plan.widgets On stream) new w v (Ok tt) acts d.0, d.1)
 
     -- it did not, and none follows

@@ -145,4 +145,4 @@ after_ask ask acts r = after_acts acts r
 
 -- the record with another stream at a place
 abbrev pub with_stream : ℕ → StreamRec → Record → Record
-with_stream k r kept = record { power = kept.power; streams = set kept.streams k r }
+with_stream k r kept = record { power = kept.power; streams = set kept.streams k r; controls = kept.controls }

@@ -11,6 +11,8 @@ use Rattle.stream_law.specs.State.{View}
 use Rattle.stream_law.specs.Ways.{reaches, on_way, agree}
 use Rattle.tplg_plan.specs.declared.plans.Plan.{Plan}
 use Rattle.tplg_plan.specs.declared.plans.StreamPlan.{StreamPlan}
+use Rattle.tplg_plan.specs.declared.plans.ControlPlan.{ControlPlan}
+use Rattle.host_widgets.specs.declared.kept.ControlRec.{ControlRec}
 use Rattle.tplg_plan.specs.ThinPlan.{IsThinPlan, thin_graph}
 use Rattle.tplg_model.specs.declared.pcm.Caps.{Caps}
 use Rattle.host_widgets.specs.declared.kept.StreamRec.{StreamRec}
@@ -67,3 +69,12 @@ one_of kept (r ∷ s ∷ rs) is long each = absurd (let no : suc (suc (length rs
 
 pub only : (plan : Plan) (kept : Record) → IsThinPlan plan → IsRecordOf plan kept → Only kept
 only plan kept p is = one_of kept kept.streams refl (is.streams ∙ ap length p.streams) is.each
+
+-- it has no live control
+none_of : (ks : List ControlPlan) (rs : List ControlRec) → ks ≡ [] → AreControls ks rs → rs ≡ []
+none_of [] [] is are = refl
+none_of [] (r ∷ rs) is are = absurd are
+none_of (k ∷ ks) rs is are = absurd (cc is)
+
+pub no-controls : (plan : Plan) (kept : Record) → IsThinPlan plan → IsRecordOf plan kept → kept.controls ≡ []
+no-controls plan kept p is = none_of plan.controls kept.controls p.controls is.controls

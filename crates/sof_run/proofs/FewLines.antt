@@ -13,6 +13,7 @@ use Rattle.tplg_plan.specs.Sound.{host_of}
 use Rattle.host_widgets.specs.declared.kept.Power.{Power}
 use Rattle.host_widgets.specs.declared.kept.Power.TheVariants.{Unloaded, On, Off}
 use Rattle.host_widgets.specs.declared.kept.Record.{Record}
+use Rattle.host_widgets.specs.Kept.{controls_of}
 use Rattle.host_widgets.specs.Controls.{IsLoadable}
 use Rattle.host_widgets.proofs.NamedIds.{few-widgets}
 use Rattle.sof_session.specs.Show as show
@@ -54,10 +55,12 @@ module _ (plan : Plan) (loadable : IsLoadable plan) (kept : Record) where
         arith,
         length-append widgets (edges ++ show.state_lines plan kept),
         length-append edges (show.state_lines plan kept),
-        length-append (show.stream_lines plan kept) (show.control_lines plan),
+        length-append (show.stream_lines plan kept) (show.control_lines plan kept),
         length-map-range_with_len (show.widget_line plan) 0 (length plan.widgets),
         length-map plan.graph.edges show.edge_line,
-        length-map plan.controls (show.control_line plan),
+        length-map (controls_of plan kept) (show.control_line plan),
+        length-zip plan.controls kept.controls,
+        min-le_left (length plan.controls) (length kept.controls),
         few-widgets plan loadable.sound,
         loadable.sound.edges,
         loadable.sound.controls,

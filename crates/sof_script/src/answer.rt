@@ -33,8 +33,8 @@ pub fn say_values(values: &[u32], line: &mut Line)
     }
 }
 
-// Bytes in hex, `-` where there are none.
-fn say_bytes(bytes: &[u8], line: &mut Line)
+/// Writes at most 1024 bytes in hex, `-` where there are none, behind a line of at most 100 bytes.
+pub fn say_bytes(bytes: &[u8], line: &mut Line)
     requires few { length bytes.now ≤ 1024 }
     requires room { length line.old ≤ 100 }
     ensures said { line.new ≡ line.old ++ bytes_word bytes.now }

@@ -13,7 +13,7 @@ mod tokens;
 mod values;
 mod words;
 
-pub use answer::{say_values, write_answer};
+pub use answer::{say_bytes, say_values, write_answer};
 pub use reading::{ScriptFault, parse};
 pub use script::{Binding, Command, Numbered, Script, ticks};
 pub use sof_base::Line;

@@ -24,6 +24,8 @@ use Rattle.host_widgets.specs.declared.kept.Power.{Power}
 use Rattle.host_widgets.specs.declared.kept.Power.TheVariants.{On}
 use Rattle.host_widgets.specs.declared.kept.StreamRec.{StreamRec}
 use Rattle.host_widgets.specs.declared.kept.Record.{Record}
+use Rattle.host_widgets.specs.Host.{AreControls}
+use Rattle.tplg_plan.specs.declared.plans.ControlPlan.{ControlPlan}
 use Rattle.host_widgets.specs.HostRecord.{may_have}
 use Rattle.host_widgets.specs.HostActs.{Act}
 use Rattle.host_widgets.specs.ViewOf.{view_by}
@@ -83,10 +85,10 @@ module _ (pipe size : ℕ) (format : Format) (sched : ℕ) where
 module _ (plan : Plan) (thin : IsThinPlan plan) where
   -- a record of its one stream
   abbrev pub one : Power → StreamRec → Record
-  one power r = record { power = power; streams = r ∷ [] }
+  one power r = record { power = power; streams = r ∷ []; controls = [] }
 
   pub one-record : (power : Power) (r : StreamRec) → MayBe r → IsRecordOf plan (one power r)
-  one-record power r may = record-of plan (one power r) r thin refl may
+  one-record power r may = record-of plan (one power r) r thin refl (subst (λ (ks : List ControlPlan). AreControls ks []) (sym thin.controls) tt) may
 
   pub one-view : (power : Power) (r : StreamRec) → view_by plan (one power r) ≡ view_with (thin_graph thin.pipe thin.size thin.format thin.sched) r
   one-view power r = view-is plan (one power r) r thin refl

@@ -26,10 +26,10 @@ abbrev pub at : {D : Type 0} → D → Io → World D
 at device io = record { device = device; io = io }
 
 -- the calls of a load, none where the record is not unloaded
-pub Loads-led : {D : Type 0} (means : Meaning D) (plan : Plan) (heap : ℕ) (power : Power) (w v : World D) (outcome : Outcome) → Loads means plan heap power w v outcome → (calls : List Call) × Led means w calls v
-Loads-led means plan heap Unloaded w v outcome brought = (load_calls heap plan brought.answers outcome, brought.led)
-Loads-led means plan heap On w v outcome nothing = ([], nothing.0)
-Loads-led means plan heap Off w v outcome nothing = ([], nothing.0)
+pub Loads-led : {D : Type 0} (means : Meaning D) (plan : Plan) (heap : ℕ) (kept : Record) (power : Power) (w v : World D) (outcome : Outcome) → Loads means plan heap kept power w v outcome → (calls : List Call) × Led means w calls v
+Loads-led means plan heap kept Unloaded w v outcome brought = (load_calls heap plan kept brought.answers outcome, brought.led)
+Loads-led means plan heap kept On w v outcome nothing = ([], nothing.0)
+Loads-led means plan heap kept Off w v outcome nothing = ([], nothing.0)
 
 module _ {P : Type 0} (means : Meaning P) (old : Seat P) (wire : Wire P) (io io' : Io) (agreed : AreAgreed means old) where
   abbrev pub seat_with : Record → Seat P
@@ -77,9 +77,9 @@ module _ {P : Type 0} (means : Meaning P) (old : Seat P) (wire : Wire P) (io io'
   agreed_after calls (Err (Refused e)) left = agreed_off calls left.0
   agreed_after calls (Err LinkDown) left = agreed_off calls left.0
 
-  pub AreAgreed-loaded : (kept : Record) (outcome : Outcome) → Loads (link means) old.plan old.heap old.kept.power (at old.link io) (at wire io') outcome → LoadLeft (link means) old.plan old.heap old.link outcome wire → kept ≡ after_load old.plan outcome old.kept → AreAgreed means (seat_with kept)
+  pub AreAgreed-loaded : (kept : Record) (outcome : Outcome) → Loads (link means) old.plan old.heap old.kept old.kept.power (at old.link io) (at wire io') outcome → LoadLeft (link means) old.plan old.heap old.link outcome wire → kept ≡ after_load old.plan outcome old.kept → AreAgreed means (seat_with kept)
   AreAgreed-loaded kept outcome loads left is =
-      let led = Loads-led (link means) old.plan old.heap old.kept.power (at old.link io) (at wire io') outcome loads in
+      let led = Loads-led (link means) old.plan old.heap old.kept old.kept.power (at old.link io) (at wire io') outcome loads in
       let calls : Kept = record {
         steady = Led-steady (link means) led.0 (at old.link io) (at wire io') led.1;
         fated = Led-fated means led.0 (at old.link io) (at wire io') agreed.fated led.1;

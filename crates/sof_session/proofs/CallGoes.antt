@@ -23,7 +23,7 @@ use Rattle.host_widgets.specs.HostRecord.{no_stream, closed}
 use Rattle.host_widgets.specs.Controls.{IsLoadable}
 use Rattle.host_widgets.specs.HostActs.{Act}
 use Rattle.host_widgets.specs.Host.{Outcome}
-use Rattle.host_widgets.proofs.ThinRecords.{only, shown}
+use Rattle.host_widgets.proofs.ThinRecords.{only, shown, no-controls}
 use Rattle.host_widgets.proofs.Records.{down-record}
 use Rattle.host_pcm.specs.declared.asking.Ask.{Ask}
 use Rattle.host_pcm.specs.declared.asking.Ask.TheVariants.{Opening, Preparing, Triggering, Closing}
@@ -195,7 +195,7 @@ pub call-goes : (whole : List (ℕ × List ℕ)) (h : Host) (settled : IsSettled
     GoesBy whole h.slots before stood.past.bytes (stream_next name ask boots h) (asked_moments (Some (name, ask)) h)
 call-goes whole h settled thin before stood name ask boots =
     let o = only h.plan h.kept thin settled.record_is in
-    let same : h.kept ≡ one h.plan thin h.kept.power o.stream = (λ i. record { power = h.kept.power; streams = o.is i }) in
+    let same : h.kept ≡ one h.plan thin h.kept.power o.stream = (λ i. record { power = h.kept.power; streams = o.is i; controls = no-controls h.plan h.kept thin settled.record_is i }) in
     let with_kept = λ (kept : Record). host_with whole h.inputs before h.plan thin settled.loadable h.heap h.sent h.entries h.slots kept h.device in
     subst (λ (kept : Record). GoesBy whole h.slots before stood.past.bytes (stream_next name ask boots (with_kept kept)) (asked_moments (Some (name, ask)) (with_kept kept))) (sym same)
     (one-goes whole h.inputs before h.plan thin settled.loadable h.heap h.sent h.entries h.slots o.stream o.may name ask boots h.kept.power h.device

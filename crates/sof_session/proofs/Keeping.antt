@@ -73,9 +73,9 @@ none-equalises pipe size format sched streams =
     let v = view_in streams (thin_graph pipe size format sched) in rw (and-false (live v 0), and-false (live v 2)) refl
 
 module _ (plan : Plan) (thin : IsThinPlan plan) (heap : ℕ) where
-  no-equaliser : (streams : List StreamView) → filter (equalises (view_in streams (graph_by plan))) (components (graph_by plan)) ≡ []
-  no-equaliser streams =
-      let set : graph_by plan ≡ thin_graph thin.pipe thin.size thin.format thin.sched = λ i. with_comps (map (set_comp plan) (thin.graph i).comps) (thin.graph i) in
+  no-equaliser : (now : Record) (streams : List StreamView) → filter (equalises (view_in streams (graph_by plan now))) (components (graph_by plan now)) ≡ []
+  no-equaliser now streams =
+      let set : graph_by plan now ≡ thin_graph thin.pipe thin.size thin.format thin.sched = λ i. with_comps (map (set_comp plan now) (thin.graph i).comps) (thin.graph i) in
       subst (λ (g : Graph). filter (equalises (view_in streams g)) (components g) ≡ []) (sym set) (none-equalises thin.pipe thin.size thin.format thin.sched streams)
 
   seen-rests : (now : Record) (f : FwState) → Rests plan heap f → Rests plan heap (seen (view_by plan now) None f)
@@ -84,7 +84,7 @@ module _ (plan : Plan) (thin : IsThinPlan plan) (heap : ℕ) where
       record {
         pieces = rests.pieces;
         rings = same-buffers (ring_seen v) (λ r. refl) f.rings ∙ rests.rings;
-        histories = ap (map (history_seen f v None)) (no-equaliser v.streams);
+        histories = ap (map (history_seen f v None)) (no-equaliser now v.streams);
         staging = rests.staging;
       }
 

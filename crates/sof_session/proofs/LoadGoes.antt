@@ -1,5 +1,5 @@
 -- What a load makes of a host goes on standing.
-use Rattle.std.proofs.Common.{◌≡◌, refl, sym, subst, ℕ, zero, suc, List, [], ◌∷◌, ◌++◌, replicate, length, None, Ok, Err}
+use Rattle.std.proofs.Common.{ap, ◌∙◌, ◌≡◌, refl, sym, subst, ℕ, zero, suc, List, [], ◌∷◌, ◌++◌, replicate, length, None, Ok, Err}
 use Rattle.std.proofs.lemmas.List.{append-nil}
 use Rattle.stream_law.specs.Past.{Moment, Boot, Now}
 use Rattle.stream_law.specs.Stands.{Stands}
@@ -92,15 +92,15 @@ module _ (whole : List (ℕ × List ℕ)) (h : Host) (settled : IsSettled h) (be
         subst (λ (k : Record × Record). Goes (stand boots (record h { kept = k.0; sent = sent; entries = entries; device = None }), silent (answer_of (Err fault))) (moments_of n (Err fault) k.1))
         (λ i. (sym (failed-kept h.plan fault h.kept first) i, sym first i)) goes
 
-    ended : (outcome : Outcome) (n sent : ℕ) (entries : List Entry) → (outcome ≡ Ok tt → n ≡ length (bring_up h.plan)) → Ends outcome n sent entries
-    ended (Ok done_so) zero sent entries passed = bare-done sent entries (bare h.plan settled.loadable.sound (sym (passed refl)))
+    ended : (outcome : Outcome) (n sent : ℕ) (entries : List Entry) → (outcome ≡ Ok tt → n ≡ length (bring_up h.plan h.kept)) → Ends outcome n sent entries
+    ended (Ok done_so) zero sent entries passed = bare-done sent entries (bare h.plan settled.loadable.sound (ap (λ (r : Record). length (bring_up h.plan r)) (sym first) ∙ sym (passed refl)))
     ended (Ok done_so) (suc n) sent entries passed = done n sent entries
     ended (Err fault) n sent entries passed = failed fault n sent entries
 
   -- by the power
   pub load-goes : (power : Power) → SettledBy h power → (boots : ℕ) → Goes (load_next power boots h) (load_moments power h)
   load-goes Unloaded is boots =
-      let e = walked h.plan h.heap h.kept h.sent h.entries (bring_up h.plan) in
-      ended (more boots) is.0 e.outcome e.passed e.sent e.entries (all-passed h.plan h.heap h.kept h.sent h.entries (bring_up h.plan))
+      let e = walked h.plan h.heap h.kept h.sent h.entries (bring_up h.plan h.kept) in
+      ended (more boots) is.0 e.outcome e.passed e.sent e.entries (all-passed h.plan h.heap h.kept h.sent h.entries (bring_up h.plan h.kept))
   load-goes On is boots = stays boots (silent (Fault Loaded)) refl
   load-goes Off is boots = stays boots (silent (Fault Loaded)) refl

@@ -12,6 +12,7 @@ use Rattle.stream_law.specs.Joins.{fits_kind}
 use Rattle.stream_law.specs.Order.{is_among, order}
 use Rattle.stream_law.specs.Walks.{HasAll, HasEnds}
 use Rattle.stream_law.specs.Stands.{IsPlayable}
+use Rattle.host_widgets.specs.declared.kept.Record.{Record}
 use Rattle.tplg_plan.specs.declared.plans.Plan.{Plan}
 use Rattle.tplg_plan.specs.ThinPlan.{IsThinPlan, thin_graph}
 use Rattle.mbox_link.specs.Step.{with_comps}
@@ -62,7 +63,7 @@ module _ (pipe size : ℕ) (format : Format) (sched : ℕ) where
   thin-plays streams = record { ends = thin-ends; ordered = thin-ordered; fits = λ c there runs. thin-fits c there }
 
 -- so a tick may come
-pub plays : (plan : Plan) → IsThinPlan plan → (streams : List StreamView) → IsPlayable (record { graph = graph_by plan; streams = streams })
-plays plan thin streams =
-    let set : graph_by plan ≡ thin_graph thin.pipe thin.size thin.format thin.sched = λ i. with_comps (map (set_comp plan) (thin.graph i).comps) (thin.graph i) in
+pub plays : (plan : Plan) → IsThinPlan plan → (kept : Record) (streams : List StreamView) → IsPlayable (record { graph = graph_by plan kept; streams = streams })
+plays plan thin kept streams =
+    let set : graph_by plan kept ≡ thin_graph thin.pipe thin.size thin.format thin.sched = λ i. with_comps (map (set_comp plan kept) (thin.graph i).comps) (thin.graph i) in
     subst (λ g. IsPlayable (record { graph = g; streams = streams })) (sym set) (thin-plays thin.pipe thin.size thin.format thin.sched streams)

@@ -42,7 +42,7 @@ module _ (whole : List (ℕ × List ℕ)) (h : Host) (settled : IsSettled h) (th
       let a = audio_after f io in
       let f' = state_after f a in
       let io' = io_after io a in
-      let playable : IsPlayable (view_of f) = subst IsPlayable (sym keeps.view) (plays h.plan thin (view_by h.plan h.kept).streams) in
+      let playable : IsPlayable (view_of f) = subst IsPlayable (sym keeps.view) (plays h.plan thin h.kept (view_by h.plan h.kept).streams) in
       let t = ticks-on f f' whole io io' before stood (record { state = refl; endpoints = refl }) playable in
       let h' : Host = record h { device = Some f'; inputs = io'.inputs } in
       record {

@@ -45,14 +45,14 @@ module _ {P : Type 0} (means : Meaning P) where
     pub load_boots : means.boots v.device.device ≡ more (means.boots w.device.device)
     load_boots =
         (ends_cut means outcome fates.sent v fates.ends).boots
-        ∙ Fated-boots means plan heap kept fates.fates.answers (bring_up plan) fates.booted fates.sent fates.fates.fated
+        ∙ Fated-boots means plan heap kept fates.fates.answers (bring_up plan kept) fates.booted fates.sent fates.fates.fated
         ∙ fates.boot.0.boots
 
     abbrev pub passed : ℕ
     passed = passed_of fates.fates.answers outcome
 
     -- and the written walk
-    pub load_ends : IsFated w.device → w.device.sent + length (bring_up plan) < 3 * 2 ^ 62 → Stayed means w.device.device v.device.device → ending outcome passed v.device.sent v.device.entries ≡ walked plan heap kept w.device.sent w.device.entries (bring_up plan)
+    pub load_ends : IsFated w.device → w.device.sent + length (bring_up plan kept) < 3 * 2 ^ 62 → Stayed means w.device.device v.device.device → ending outcome passed v.device.sent v.device.entries ≡ walked plan heap kept w.device.sent w.device.entries (bring_up plan kept)
     load_ends held below stayed =
         let boot = fates.boot.0.did.0 in
         let cut = ends_cut means outcome fates.sent v fates.ends in
@@ -64,14 +64,14 @@ module _ {P : Type 0} (means : Meaning P) where
         let entries : fates.booted.device.entries ≡ w.device.entries = ap (λ (wire : Wire P). wire.entries) fates.boot.0.did.1 in
         ap (λ (n : ℕ). ending outcome passed n v.device.entries) cut.sent
         ∙ ap (λ (entries : List Entry). ending outcome passed fates.sent.device.sent entries) cut.entries
-        ∙ walk_ends means plan heap kept (bring_up plan) fates.fates.answers outcome fates.booted fates.sent (boot_fated means heap w fates.booted held fates.boot) (omega (arith, below, sent)) fates.fates.fated fates.fates.walk between
-        ∙ (λ i. walked plan heap kept (sent i) (entries i) (bring_up plan))
+        ∙ walk_ends means plan heap kept (bring_up plan kept) fates.fates.answers outcome fates.booted fates.sent (boot_fated means heap w fates.booted held fates.boot) (omega (arith, below, sent)) fates.fates.fated fates.fates.walk between
+        ∙ (λ i. walked plan heap kept (sent i) (entries i) (bring_up plan kept))
 
     -- at most one message for each act
-    pub load_sent : v.device.sent ≤ w.device.sent + length (bring_up plan)
+    pub load_sent : v.device.sent ≤ w.device.sent + length (bring_up plan kept)
     load_sent =
         let sent : fates.booted.device.sent ≡ w.device.sent = ap (λ (wire : Wire P). wire.sent) fates.boot.0.did.1 in
-        omega (arith, (ends_cut means outcome fates.sent v fates.ends).sent, sent, Fated-sent means plan heap kept fates.fates.answers (bring_up plan) fates.booted fates.sent fates.fates.fated)
+        omega (arith, (ends_cut means outcome fates.sent v fates.ends).sent, sent, Fated-sent means plan heap kept fates.fates.answers (bring_up plan kept) fates.booted fates.sent fates.fates.fated)
 
 -- ---- a load
 
@@ -123,19 +123,19 @@ module _ {P : Type 0} (means : Meaning P) (old new : Seat P) (io io' : Io) (slot
   goes outcome off stayed fates left kept =
       let boots : means.boots new.link.device ≡ more (means.boots old.link.device) = load_boots means old.plan old.heap old.kept outcome before after fates in
       let n = passed means old.plan old.heap old.kept outcome before after fates in
-      let ends = load_ends means old.plan old.heap old.kept outcome before after fates agreed.fated (omega (arith, below, few-acts old.plan agreed.loadable)) stayed in
+      let ends = load_ends means old.plan old.heap old.kept outcome before after fates agreed.fated (omega (arith, below, few-acts old.plan old.kept agreed.loadable agreed.agree.record_is.controls)) stayed in
       let device = device-left means old.plan old.heap old.link new.link outcome off agreed.pending left in
       let now : told then (silent (answer_of outcome)) ≡ told (stand (more (means.boots old.link.device)) (host_after host (ending outcome n new.link.sent new.link.entries))) (silent (answer_of outcome)) = rw (boots, kept, same_plan, same_heap, same_inputs, device) refl in
       now ∙ ap (λ (e : Ending). told (stand (more (means.boots old.link.device)) (host_after host e)) (silent (answer_of e.outcome))) ends
 
-  load_is_next : (power : Power) (outcome : Outcome) → Powered means old power → Stayed means old.link.device new.link.device → Loads (link means) old.plan old.heap power before after outcome → (power ≡ Unloaded → LoadFates (link means) old.plan old.heap old.kept before after outcome) → LoadLeft (link means) old.plan old.heap old.link outcome new.link → new.kept ≡ after_load old.plan outcome old.kept → told then (silent (answer_of outcome)) ≡ load_next power (means.boots old.link.device) host
+  load_is_next : (power : Power) (outcome : Outcome) → Powered means old power → Stayed means old.link.device new.link.device → Loads (link means) old.plan old.heap old.kept power before after outcome → (power ≡ Unloaded → LoadFates (link means) old.plan old.heap old.kept before after outcome) → LoadLeft (link means) old.plan old.heap old.link outcome new.link → new.kept ≡ after_load old.plan outcome old.kept → told then (silent (answer_of outcome)) ≡ load_next power (means.boots old.link.device) host
   load_is_next Unloaded outcome powered stayed brought fates left kept = goes outcome powered stayed (fates refl) left kept
   load_is_next On outcome powered stayed nothing fates left kept = stays outcome nothing.0 nothing.1 kept
   load_is_next Off outcome powered stayed nothing fates left kept = stays outcome nothing.0 nothing.1 kept
 
   -- a load sends at most so many messages
-  loads_few : (power : Power) (outcome : Outcome) → Loads (link means) old.plan old.heap power before after outcome → (power ≡ Unloaded → LoadFates (link means) old.plan old.heap old.kept before after outcome) → new.link.sent ≤ old.link.sent + 900
-  loads_few Unloaded outcome brought fates = omega (arith, load_sent means old.plan old.heap old.kept outcome before after (fates refl), few-acts old.plan agreed.loadable)
+  loads_few : (power : Power) (outcome : Outcome) → Loads (link means) old.plan old.heap old.kept power before after outcome → (power ≡ Unloaded → LoadFates (link means) old.plan old.heap old.kept before after outcome) → new.link.sent ≤ old.link.sent + 900
+  loads_few Unloaded outcome brought fates = omega (arith, load_sent means old.plan old.heap old.kept outcome before after (fates refl), few-acts old.plan old.kept agreed.loadable agreed.agree.record_is.controls)
   loads_few On outcome nothing fates = let same : new.link.sent ≡ old.link.sent = ap (λ (w : World (Wire P)). w.device.sent) nothing.0 in omega (arith, same)
   loads_few Off outcome nothing fates = let same : new.link.sent ≡ old.link.sent = ap (λ (w : World (Wire P)). w.device.sent) nothing.0 in omega (arith, same)
 
@@ -145,7 +145,7 @@ module _ {P : Type 0} (means : Meaning P) (old new : Seat P) (io io' : Io) (slot
   -- a load writes nothing
   pub load_turned : (answer : Answer) → LoadRan means old new io io' answer → written_in io'.outputs ≡ [] → Turned (life means) (turn (Carry commands.Load) answer [] (written_in io'.outputs)) (Seated old io.inputs slots) (Seated new io'.inputs slots)
   load_turned answer ran silence =
-      let calls = Loads-led (link means) old.plan old.heap old.kept.power before after ran.outcome ran.loads in
+      let calls = Loads-led (link means) old.plan old.heap old.kept old.kept.power before after ran.outcome ran.loads in
       let steady = Led-inside means calls.0 before after calls.1 in
       record {
         next = λ calm.

@@ -40,7 +40,7 @@ link_end outcome = []
 -- each act that brings a device up leaves the view of the record so far, in which every stream is at rest
 abbrev pub load_moments : Power → Host → List Moment
 load_moments Unloaded h =
-    let e = walked h.plan h.heap h.kept h.sent h.entries (bring_up h.plan) in
+    let e = walked h.plan h.heap h.kept h.sent h.entries (bring_up h.plan h.kept) in
     Boot ∷ replicate e.passed (Now (view_by h.plan h.kept) None) ++ load_end e.outcome
 load_moments power h = []
 

@@ -18,11 +18,12 @@ use Rattle.host_widgets.specs.declared.kept.Found.{Found}
 use Rattle.host_widgets.specs.declared.kept.Found.TheVariants.{Closed, Open, Prepared, Running, Paused}
 use Rattle.host_widgets.specs.declared.kept.Found.TheVariants as founds
 use Rattle.host_widgets.specs.declared.kept.StreamRec.{StreamRec}
+use Rattle.host_widgets.specs.declared.kept.ControlRec.{ControlRec}
 use Rattle.host_widgets.specs.declared.kept.Record.{Record}
 use Rattle.tplg_plan.specs.declared.plans.ControlPlan.{ControlPlan}
 use Rattle.tplg_plan.specs.declared.plans.ControlKind.{ControlKind}
 use Rattle.tplg_plan.specs.declared.plans.ControlKind.TheVariants.{Blob}
-use Rattle.host_widgets.specs.Controls.{first_values}
+use Rattle.host_widgets.specs.Kept.{controls_of}
 use Rattle.host_widgets.specs.Acts.{ids_of, pipe_by_id}
 use Rattle.sof_script.specs.Text.{values_words, bytes_word}
 
@@ -111,14 +112,14 @@ stream_line plan (s, r) = codes "stream " ++ name_of plan s.host ++ found_words 
 
 -- ---- controls
 
--- a control's values by channel, each after a blank, or its blob; no command changes them so far, so they are its first
-abbrev pub control_words : ControlKind → List ℕ
-control_words (Blob most initial) = codes " bytes " ++ bytes_word initial
-control_words kind = codes " value" ++ values_words (first_values kind)
+-- a control's values by channel, each after a blank, or its blob
+abbrev pub control_words : ControlKind → ControlRec → List ℕ
+control_words (Blob most initial) c = codes " bytes " ++ bytes_word c.blob
+control_words kind c = codes " value" ++ values_words c.values
 
 -- a live control: the name of its component, and what it is set to
-abbrev pub control_line : Plan → ControlPlan → List ℕ
-control_line plan k = codes "control " ++ name_of plan k.comp ++ control_words k.kind
+abbrev pub control_line : Plan → ControlPlan × ControlRec → List ℕ
+control_line plan (k, c) = codes "control " ++ name_of plan k.comp ++ control_words k.kind c
 
 -- ---- all lines
 
@@ -127,12 +128,12 @@ abbrev pub stream_lines : Plan → Record → List (List ℕ)
 stream_lines plan kept = map (stream_line plan) (zip plan.streams kept.streams)
 
 -- the live controls, by component
-abbrev pub control_lines : Plan → List (List ℕ)
-control_lines plan = map (control_line plan) plan.controls
+abbrev pub control_lines : Plan → Record → List (List ℕ)
+control_lines plan kept = map (control_line plan) (controls_of plan kept)
 
 -- the streams, and then the controls
 abbrev pub state_lines : Plan → Record → List (List ℕ)
-state_lines plan kept = stream_lines plan kept ++ control_lines plan
+state_lines plan kept = stream_lines plan kept ++ control_lines plan kept
 
 -- the edges, and then these
 abbrev pub edge_lines : Plan → Record → List (List ℕ)

@@ -69,7 +69,7 @@ pub record AreAgreed {P : Type 0} (means : Meaning P) (seat : Seat P) : Type 0 w
 -- what a load did: its calls on the link with the fate of each act, what it came to, what it left, and the record after it
 pub record LoadRan {P : Type 0} (means : Meaning P) (old new : Seat P) (before after : Io) (answer : Answer) : Type 0 where
   pub outcome : Outcome
-  pub loads : Loads (link means) old.plan old.heap old.kept.power (record { device = old.link; io = before }) (record { device = new.link; io = after }) outcome
+  pub loads : Loads (link means) old.plan old.heap old.kept old.kept.power (record { device = old.link; io = before }) (record { device = new.link; io = after }) outcome
   pub fates : old.kept.power ≡ Unloaded → LoadFates (link means) old.plan old.heap old.kept (record { device = old.link; io = before }) (record { device = new.link; io = after }) outcome
   pub left : LoadLeft (link means) old.plan old.heap old.link outcome new.link
   pub kept : new.kept ≡ after_load old.plan outcome old.kept

@@ -132,7 +132,7 @@ host_after h e = record h {
 -- a load that passes its test boots the device and walks the list that brings it up
 abbrev pub load_next : Power → ℕ → Host → Stand × Out
 load_next Unloaded boots h =
-    let e = walked h.plan h.heap h.kept h.sent h.entries (bring_up h.plan) in
+    let e = walked h.plan h.heap h.kept h.sent h.entries (bring_up h.plan h.kept) in
     (stand (more boots) (host_after h e), silent (answer_of e.outcome))
 load_next On boots h = (stand boots h, silent (Fault Loaded))
 load_next Off boots h = (stand boots h, silent (Fault Loaded))

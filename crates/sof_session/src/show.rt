@@ -1,14 +1,13 @@
 // The lines that say how everything stands.
-ghost use Rattle.std.specs.Prelude.{◌≡◌, ◌==◌, ◌<◌, [], true, length, find};
+ghost use Rattle.std.specs.Prelude.{◌≡◌, ◌==◌, ◌<◌, true, length, find};
 ghost use Rattle.std.specs.Option.{option_copied};
 ghost use Rattle.stream_law.specs.Ways as ways;
-ghost use Rattle.host_widgets.specs.Controls.{IsLoadable, HasFew, first_blob};
 ghost use Rattle.host_widgets.specs.Acts.{pipe_by_id};
 ghost use Rattle.sof_session.specs.Show as show;
 
 use crate::words::{say_end, say_format, say_found, say_kind, say_params, write_power};
-use host_widgets::{Power, Record, StreamRec, first_values};
-use sof_script::{Line, say_values};
+use host_widgets::{ControlRec, Power, Record, StreamRec};
+use sof_script::{Line, say_bytes, say_values};
 use stream_law::{Comp, Edge, Pipe};
 use tplg_plan::{ControlKind, ControlPlan, Plan, StreamPlan};
 
@@ -151,54 +150,55 @@ fn write_kth_stream(plan: &Plan, kept: &Record, k: usize, line: &mut Line) -> bo
     true
 }
 
-// A live control with its first values, or with no blob.
-fn write_control(plan: &Plan, control: &ControlPlan, line: &mut Line)
-    requires few { HasFew control.now.kind }
-    requires bare { first_blob control.now.kind ≡ [] }
-    ensures said { line.new ≡ show.control_line plan.now control.now }
+// A live control with its values or its blob.
+fn write_control(plan: &Plan, control: &ControlPlan, held: &ControlRec, line: &mut Line)
+    ensures said { line.new ≡ show.control_line plan.now (control.now, held.now) }
     ensures short { length line.new < 2304 }
 {
     line.clear();
     line.say(b"control ");
     line.say(name_of(plan, control.comp));
     match control.kind {
-        ControlKind::Blob { .. } => line.say(b" bytes -"),
+        ControlKind::Blob { .. } => {
+            line.say(b" bytes ");
+            say_bytes(held.blob.items(), line);
+        }
         _ => {
             line.say(b" value");
-            say_values(first_values(&control.kind).items(), line);
+            say_values(held.values.items(), line);
         }
     }
 }
 
 // Writes the k-th of the lines of the live controls, and answers whether there is one.
-fn write_kth_control(plan: &Plan, k: usize, line: &mut Line) -> bool
-    requires { IsLoadable plan.now }
-    ensures line { show.IsLineAt (show.control_lines plan.now) k result line.new }
+fn write_kth_control(plan: &Plan, kept: &Record, k: usize, line: &mut Line) -> bool
+    ensures line { show.IsLineAt (show.control_lines plan.now kept.now) k result line.new }
     ensures short { result ≡ true → length line.new < 2304 }
 {
     let Some(control) = plan.controls.items().get(k) else {
         return false;
     };
-    write_control(plan, control, line);
+    let Some(held) = kept.controls.items().get(k) else {
+        return false;
+    };
+    write_control(plan, control, held, line);
     true
 }
 
 // The same of the lines of the streams and then of the live controls.
 fn write_kth_state(plan: &Plan, kept: &Record, k: usize, line: &mut Line) -> bool
-    requires { IsLoadable plan.now }
     ensures line { show.IsLineAt (show.state_lines plan.now kept.now) k result line.new }
     ensures short { result ≡ true → length line.new < 2304 }
 {
     let streams = plan.streams.items().len().min(kept.streams.items().len());
     if k >= streams {
-        return write_kth_control(plan, k - streams, line);
+        return write_kth_control(plan, kept, k - streams, line);
     }
     write_kth_stream(plan, kept, k, line)
 }
 
 // The same of the lines of the edges and then of these.
 fn write_kth_edge(plan: &Plan, kept: &Record, k: usize, line: &mut Line) -> bool
-    requires { IsLoadable plan.now }
     ensures line { show.IsLineAt (show.edge_lines plan.now kept.now) k result line.new }
     ensures short { result ≡ true → length line.new < 2304 }
 {
@@ -212,7 +212,6 @@ fn write_kth_edge(plan: &Plan, kept: &Record, k: usize, line: &mut Line) -> bool
 
 // The same of all lines where the plan is loaded.
 fn write_kth_loaded(plan: &Plan, kept: &Record, k: u32, line: &mut Line) -> bool
-    requires { IsLoadable plan.now }
     ensures line { show.IsLineAt (show.loaded_lines plan.now kept.now) k result line.new }
     ensures short { result ≡ true → length line.new < 2304 }
 {
@@ -226,7 +225,6 @@ fn write_kth_loaded(plan: &Plan, kept: &Record, k: u32, line: &mut Line) -> bool
 
 /// Writes the k-th of the lines that say how everything stands, from 0, and answers whether there is one.
 pub fn show_line(plan: &Plan, kept: &Record, k: u32, line: &mut Line) -> bool
-    requires { IsLoadable plan.now }
     ensures line { show.IsLineAt (show.show_lines plan.now kept.now) k result line.new }
     ensures short { result ≡ true → length line.new < 2304 }
 {

@@ -18,7 +18,7 @@ returns-then-k-streams-clause-line c =
     let kept = c.args.kept.now in
     let here : c.min-streams.result ≡ min (length plan.streams) (length kept.streams) = c.min-streams.ensures ∙ (λ i. min (length (c.items.ensures i)) (length (c.items-2.ensures i))) in
     let some : length (show.stream_lines plan kept) ≡ c.min-streams.result = some-streams plan kept ∙ sym here in
-    IsLineAt-behind (show.stream_lines plan kept) (show.control_lines plan) c.args.k c.write_kth_control.result c.write_kth_control.new.line
+    IsLineAt-behind (show.stream_lines plan kept) (show.control_lines plan kept) c.args.k c.write_kth_control.result c.write_kth_control.new.line
     (omega (arith, some, c.if-k-streams.true)) (rw some c.write_kth_control.ensures.line)
 
 pub returns-clause-line : goal.returns-clause-line
@@ -27,5 +27,5 @@ returns-clause-line c =
     let kept = c.args.kept.now in
     let here : c.min-streams.result ≡ min (length plan.streams) (length kept.streams) = c.min-streams.ensures ∙ (λ i. min (length (c.items.ensures i)) (length (c.items-2.ensures i))) in
     let some : length (show.stream_lines plan kept) ≡ c.min-streams.result = some-streams plan kept ∙ sym here in
-    IsLineAt-first (show.stream_lines plan kept) (show.control_lines plan) c.args.k c.write_kth_stream.result c.write_kth_stream.new.line
+    IsLineAt-first (show.stream_lines plan kept) (show.control_lines plan kept) c.args.k c.write_kth_stream.result c.write_kth_stream.new.line
     (omega (arith, some, c.if-k-streams.false)) c.write_kth_stream.ensures.line

@@ -17,7 +17,7 @@ use Rattle.mbox_link.specs.Exchange.{ticks, Rose}
 use Rattle.mbox_link.specs.Calls.{World, Meaning, Exchanged}
 use Rattle.host_widgets.specs.declared.answers.HostFault.{HostFault}
 use Rattle.host_widgets.specs.declared.answers.HostFault.TheVariants.{Refused, LinkDown}
-use Rattle.host_widgets.specs.Host.{Sent, IsBare, verdict, judged, errno, is_negative}
+use Rattle.host_widgets.specs.Host.{Sent, IsBare, IsRead, plainly_done, verdict, judged, errno, is_negative}
 use Rattle.host_widgets.proofs.ReplyErrors.{reply_with, done_reply, read-zero, decoded-error, zero-fits, negative-fits, IsErrorNumber, row_of_numbers}
 
 pub state_of : (o : Option FwState) → is_some o ≡ true → (s : FwState) × (o ≡ Some s)
@@ -107,9 +107,10 @@ verdict-number e number =
 
 -- the fields of `Sent` that speak of the result alone
 pub record Judges (request : List ℕ) (answer : Option (List ℕ)) (result : Result Reply HostFault) : Type 0 where
-  pub passed : (reply : Reply) → result ≡ Ok reply → (reply.error ≡ pos 0) × (option_map decoded_reply answer ≡ Some (Ok reply))
+  pub passed : (reply : Reply) → result ≡ Ok reply → (reply.error ≡ pos 0) × IsRead answer reply
   pub refused : (e : Errno) → (result ≡ Err (Refused e)) ↔ ((reply : Reply) × (option_map decoded_reply answer ≡ Some (Ok reply)) × (is_negative reply.error ≡ true) × (errno reply.error ≡ e))
-  pub down : IsBare request → (result ≡ Err LinkDown) ↔ (answer ≡ None)
+  pub down : (result ≡ Err LinkDown) ↔ (answer ≡ None)
+  pub read : IsBare request → (bytes : List ℕ) → answer ≡ Some bytes → (reply : Reply) × (decoded_reply bytes ≡ Ok reply)
 
 -- one way from a fact that cannot be to another
 never : {A B : Type 0} → (A → ⊥) → (B → ⊥) → A ↔ B
@@ -137,12 +138,12 @@ module _ (answer : Option (List ℕ)) (reply : Reply) (is : reads answer reply) 
   one_reply : (other : Reply) → reads answer other → reply ≡ other
   one_reply other so = cc (sym is ∙ so)
 
-  passed-by : (b : Bool) → is_negative reply.error ≡ b → IsDone reply → (other : Reply) → judged_by b reply ≡ Ok other → (other.error ≡ pos 0) × reads answer other
+  passed-by : (b : Bool) → is_negative reply.error ≡ b → IsDone reply → (other : Reply) → judged_by b reply ≡ Ok other → (other.error ≡ pos 0) × IsRead answer other
   passed-by true sign done other so = absurd (cc so)
   passed-by false sign done other so =
       let same : reply ≡ other = cc so in
       let zero : reply.error ≡ pos 0 = ⊎_elim (λ zero. zero) (λ negative. (let no : false ≡ true = sym sign ∙ negative in absurd (cc no))) done in
-      (ap (λ (r : Reply). r.error) (sym same) ∙ zero, is ∙ ap (λ (r : Reply). Some (Ok r)) same)
+      (ap (λ (r : Reply). r.error) (sym same) ∙ zero, inl (is ∙ ap (λ (r : Reply). Some (Ok r)) same))
 
   refused-by : (b : Bool) → is_negative reply.error ≡ b → (e : Errno) → (judged_by b reply ≡ Err (Refused e)) ↔ IsRefused answer e
   refused-by true sign e = (
@@ -159,25 +160,31 @@ module _ (answer : Option (List ℕ)) (reply : Reply) (is : reads answer reply) 
 
 -- a reply with a body may not be read at all
 module _ (request bytes : List ℕ) (bare : IsBare request → (reply : Reply) × (decoded_reply bytes ≡ Ok reply)) where
+  all-read : IsBare request → (given : List ℕ) → Some bytes ≡ Some given → (reply : Reply) × (decoded_reply given ≡ Ok reply)
+  all-read is_bare given same = let one : bytes ≡ given = cc same in subst (λ (bs : List ℕ). (reply : Reply) × (decoded_reply bs ≡ Ok reply)) one (bare is_bare)
+
   judges-read : (d : Result Reply CodecFault) → decoded_reply bytes ≡ d → ((reply : Reply) → d ≡ Ok reply → IsDone reply) → Judges request (Some bytes) (judged d)
   judges-read (Ok reply) is done =
       let so : reads (Some bytes) reply = ap Some is in
       record {
         passed = passed-by (Some bytes) reply so (is_negative reply.error) refl (done reply refl);
         refused = refused-by (Some bytes) reply so (is_negative reply.error) refl;
-        down = λ _. never (up-by (Some bytes) reply so (is_negative reply.error)) (λ none. cc none);
+        down = never (up-by (Some bytes) reply so (is_negative reply.error)) (λ none. cc none);
+        read = all-read;
       }
   judges-read (Err fault) is done = record {
-    passed = λ reply so. absurd (cc so);
+    passed = λ reply so. (let same : plainly_done ≡ reply = cc so in (ap (λ (r : Reply). r.error) (sym same), inr (fault, ap Some is, sym same)));
     refused = λ e. never (λ so. cc so) (λ (reply, so, negative, number). (let other : Some (decoded_reply bytes) ≡ Some (Ok reply) = so in cc (sym is ∙ (let same : decoded_reply bytes ≡ Ok reply = cc other in same))));
-    down = λ is_bare. absurd (let r = bare is_bare in cc (sym is ∙ r.1));
+    down = never (λ so. cc so) (λ none. cc none);
+    read = all-read;
   }
 
 judges-none : (request : List ℕ) → Judges request None (Err LinkDown)
 judges-none request = record {
   passed = λ reply is. absurd (cc is);
   refused = λ e. never (λ is. cc is) (λ (reply, is, negative, number). cc is);
-  down = λ _. (λ is. refl, λ is. refl);
+  down = (λ is. refl, λ is. refl);
+  read = λ _ bytes is. absurd (cc is);
 }
 
 -- a reply with error 0
@@ -219,4 +226,4 @@ module _ {D : Type 0} (means : Meaning D) (request : List ℕ) (answer : Option 
   sent result on x said =
       let s = state_of (means.on w.device) on in
       let j = subst (λ (r : Result Reply HostFault). Judges request answer r) (sym said) (judges-came (ticks (means.pending w.device - means.pending v.device) (s.0, w.io)) (came means request answer w v s.0 s.1 x)) in
-      record { answer = answer; led = (v, x, refl); said = said; passed = j.passed; refused = j.refused; down = j.down }
+      record { answer = answer; led = (v, x, refl); said = said; passed = j.passed; refused = j.refused; down = j.down; read = j.read }

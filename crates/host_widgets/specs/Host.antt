@@ -52,10 +52,14 @@ is_negative (negsuc n) = true
 abbrev pub errno : ℤ → Errno
 errno e = record { 0 = e }
 
--- a reply with a negative error refuses; bytes that are no reply, which no device answers, count as a failed link
+-- a reply whose error is 0, without a body
+abbrev pub plainly_done : Reply
+plainly_done = record { error = pos 0; body = Nothing }
+
+-- a reply with a negative error refuses; a refusal is always read, so a reply that can't be read was of a message that was done
 abbrev pub judged : Result Reply CodecFault → Result Reply HostFault
 judged (Ok reply) = if is_negative reply.error then Err (Refused (errno reply.error)) else Ok reply
-judged (Err fault) = Err LinkDown
+judged (Err fault) = Ok plainly_done
 
 -- what the host makes of an exchange's answer
 abbrev pub verdict : Option (List ℕ) → Result Reply HostFault
@@ -66,15 +70,20 @@ verdict (Some bytes) = judged (decoded_reply bytes)
 abbrev pub IsBare : List ℕ → Type 0
 IsBare request = (f : FwState) → body_of f (decoded request) ≡ Nothing
 
+-- this reply was answered, or one with a body that can't be read, in whose place it stands
+abbrev pub IsRead : Option (List ℕ) → Reply → Type 0
+IsRead answer reply = (option_map decoded_reply answer ≡ Some (Ok reply)) ⊎ ((fault : CodecFault) × (option_map decoded_reply answer ≡ Some (Err fault)) × (reply ≡ plainly_done))
+
 -- What one exchange of these bytes, and no other call, came to. It passes with a reply whose error is 0, it is refused
--- exactly with a reply whose error is negative, and, but for a reply with a body, the link is down exactly where it failed.
+-- exactly with a reply whose error is negative, and the link is down exactly where it failed. A reply without a body is read.
 pub record Sent {D : Type 0} (means : Meaning D) (request : List ℕ) (w v : World D) (result : Result Reply HostFault) : Type 0 where
   pub answer : Option (List ℕ)
   pub led : Led means w (Exchange request answer ∷ []) v
   pub said : result ≡ verdict answer
-  pub passed : (reply : Reply) → result ≡ Ok reply → (reply.error ≡ pos 0) × (option_map decoded_reply answer ≡ Some (Ok reply))
+  pub passed : (reply : Reply) → result ≡ Ok reply → (reply.error ≡ pos 0) × IsRead answer reply
   pub refused : (e : Errno) → (result ≡ Err (Refused e)) ↔ ((reply : Reply) × (option_map decoded_reply answer ≡ Some (Ok reply)) × (is_negative reply.error ≡ true) × (errno reply.error ≡ e))
-  pub down : IsBare request → (result ≡ Err LinkDown) ↔ (answer ≡ None)
+  pub down : (result ≡ Err LinkDown) ↔ (answer ≡ None)
+  pub read : IsBare request → (bytes : List ℕ) → answer ≡ Some bytes → (reply : Reply) × (decoded_reply bytes ≡ Ok reply)
 
 -- ---- a walk of acts
 

@@ -15,3 +15,4 @@ pub mod Walk
 pub mod ActCalls
 pub mod ActFates
 pub mod Orders
+pub mod WalkRows

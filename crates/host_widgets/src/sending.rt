@@ -7,7 +7,7 @@ ghost use Rattle.mbox_link.specs.Calls.{world};
 ghost use Rattle.host_widgets.specs.Host.{Sent, verdict};
 
 use crate::answers::HostFault;
-use ipc3_codec::{Message, Reply, decode_reply, encode};
+use ipc3_codec::{Body, Message, Reply, decode_reply, encode};
 use mbox_link::{Dsp, LinkFault};
 use sof_base::Errno;
 use sof_io::{Inputs, Outputs};
@@ -20,9 +20,12 @@ fn judge(answer: Result<usize, LinkFault>, reply: &[u8; 384]) -> Result<Reply, H
     let Ok(size) = answer else {
         return Err(HostFault::LinkDown);
     };
-    // A device's answer is always a reply; one with a body may still be one that no decoder reads.
+    // A device's answer is always a reply, and a refusal is always read; only a body may be one that no decoder reads.
     let Ok(reply) = decode_reply(&reply[..size]) else {
-        return Err(HostFault::LinkDown);
+        return Ok(Reply {
+            error: 0,
+            body: Body::Nothing,
+        });
     };
     if reply.error < 0 {
         return Err(HostFault::Refused(Errno(reply.error)));
@@ -32,8 +35,8 @@ fn judge(answer: Result<usize, LinkFault>, reply: &[u8; 384]) -> Result<Reply, H
 
 /// Sends a message by one exchange, which cuts nothing.
 ///
-/// Ok is a reply whose error is 0. `Refused(e)`: the reply's error e is negative. `LinkDown`: the exchange failed, and of a
-/// reply with a body also that it can't be read.
+/// Ok is a reply whose error is 0; one whose body can't be read comes without a body. `Refused(e)`: the reply's error e is
+/// negative. `LinkDown`: the exchange failed.
 pub fn send<P: Dsp>(
     message: &Message,
     dsp: &mut P,

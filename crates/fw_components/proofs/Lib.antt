@@ -9,6 +9,7 @@ mod KeptLaws
 mod Linked
 mod Positions
 mod Putting
+mod SeenFrames
 mod SeenLaws
 mod Standing
 mod Started

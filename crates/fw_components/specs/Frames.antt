@@ -6,6 +6,7 @@ use Rattle.fw_heap.specs.Pieces.{PieceState}
 use Rattle.fw_ring.specs.RingState.{RingState, capacity_of, moved_on}
 use Rattle.eq_biquad.specs.EqState.{staged_of, numbers_of}
 use Rattle.stream_law.specs.Seen.{fresh_numbers}
+use Rattle.stream_law.specs.State.{RingView}
 use Rattle.stream_law.specs.Ways.{is_end}
 use Rattle.fw_components.specs.declared.component.Unit as units
 use Rattle.fw_components.specs.declared.component.Unit.TheVariants.{Eq, Buffer}
@@ -148,3 +149,9 @@ taken id n t = record { comps = t.comps; buffers = map (taken_at id n) t.buffers
 
 abbrev pub pushed : ℕ → List Frame → List ℤ → Tables → Tables
 pushed id frames words t = record { comps = t.comps; buffers = map (pushed_at id frames words) t.buffers; pipes = t.pipes; joins = t.joins }
+
+-- ---- how it is seen
+
+-- the ring of a buffer with other frames
+abbrev pub with_frames : (List Frame → List Frame) → ℕ → RingView → RingView
+with_frames f id r = if r.buffer == id then record { buffer = r.buffer; frames = f r.frames } else r

@@ -96,7 +96,7 @@ impl Unit {
 
 impl Component {
     /// The piece that it holds.
-    pub(crate) fn into_piece(self) -> Piece
+    pub fn into_piece(self) -> Piece
         ensures { result ≡ piece_of self.unit }
     {
         let Component {

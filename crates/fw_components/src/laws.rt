@@ -1,13 +1,16 @@
 // How changes of the tables are seen in the firmware's state.
-ghost use Rattle.std.specs.Prelude.{◌≡◌, ℕ, List, ◌==◌, not, map, filter, true, Option};
+ghost use Rattle.std.specs.Prelude.{◌≡◌, ℕ, ℤ, List, [], ◌==◌, not, map, filter, true, Option};
 ghost use Rattle.std.specs.List.{AllByRecursion};
 ghost use Rattle.sof_base.specs.declared.format.Params.{Params};
 ghost use Rattle.stream_law.specs.declared.stream.Phase.{Phase};
 ghost use Rattle.stream_law.specs.Placed.{placed};
+ghost use Rattle.stream_law.specs.Joins.{joined};
+ghost use Rattle.stream_law.specs.declared.graph.Join.{Join};
 ghost use Rattle.mbox_link.specs.Step.{completed, set_stream};
 ghost use Rattle.fw_components.specs.declared.component.Component.{Component};
-ghost use Rattle.fw_components.specs.Tables.{comp_by, edge_by, pipe_by, ring_by, streams_by, is_pipeline};
-ghost use Rattle.fw_components.specs.Changes.{completed_at, set_at};
+ghost use Rattle.fw_components.specs.Tables.{comp_by, edge_by, pipe_by, ring_by, streams_by, is_buffer, is_pipeline};
+ghost use Rattle.fw_components.specs.Frames.{begun_at, with_frames};
+ghost use Rattle.fw_components.specs.Changes.{completed_at, set_at, joined_at, ended_at};
 
 /// What is placed in a table is placed in the graph and among the rings.
 pub fn additions_are_seen()
@@ -34,4 +37,25 @@ pub fn completions_are_seen()
 pub fn settings_are_seen()
     ensures streams { (host : ℕ) (phase : Phase) (params : Option Params) (cs : List Component) → streams_by (map (set_at host phase params) cs) ≡ map (set_stream host phase params) (streams_by cs) }
     ensures comps { (host : ℕ) (phase : Phase) (params : Option Params) (cs : List Component) → map comp_by (map (set_at host phase params) cs) ≡ map comp_by cs }
+{}
+
+/// A join in the table of buffers is one in the graph, and leaves the rings.
+pub fn joins_are_seen()
+    ensures edges { (j : Join) (cs : List Component) → AllByRecursion (λ c. is_buffer c.unit ≡ true) cs → map edge_by (map (joined_at j) cs) ≡ map (joined j) (map edge_by cs) }
+    ensures rings { (j : Join) (cs : List Component) → map ring_by (map (joined_at j) cs) ≡ map ring_by cs }
+{}
+
+/// What begins is as it was in the graph and among the streams, and its ring is empty.
+pub fn beginnings_are_seen()
+    ensures comps { (id channels : ℕ) (words : List ℤ) (cs : List Component) → map comp_by (map (begun_at id channels words) cs) ≡ map comp_by cs }
+    ensures edges { (id channels : ℕ) (words : List ℤ) (cs : List Component) → map edge_by (map (begun_at id channels words) cs) ≡ map edge_by cs }
+    ensures pipes { (id channels : ℕ) (words : List ℤ) (cs : List Component) → map pipe_by (map (begun_at id channels words) cs) ≡ map pipe_by cs }
+    ensures streams { (id channels : ℕ) (words : List ℤ) (cs : List Component) → streams_by (map (begun_at id channels words) cs) ≡ streams_by cs }
+    ensures rings { (id channels : ℕ) (words : List ℤ) (cs : List Component) → map ring_by (map (begun_at id channels words) cs) ≡ map (with_frames (λ frames. []) id) (map ring_by cs) }
+{}
+
+/// A buffer that ends is as it was in the graph, and its ring is empty.
+pub fn endings_are_seen()
+    ensures edges { (id : ℕ) (cs : List Component) → map edge_by (map (ended_at id) cs) ≡ map edge_by cs }
+    ensures rings { (id : ℕ) (cs : List Component) → map ring_by (map (ended_at id) cs) ≡ map (with_frames (λ frames. []) id) (map ring_by cs) }
 {}

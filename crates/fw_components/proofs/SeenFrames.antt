@@ -1,0 +1,244 @@
+-- How joins, beginnings and frames of rings are seen in the firmware's state.
+use Rattle.std.proofs.Common.{◌≡◌, refl, ap, ◌∙◌, ℕ, List, [], ◌∷◌, map, Bool, true, false, cond, ◌==◌, Some, ℤ}
+use Rattle.std.proofs.lemmas.Bool.{false≢true}
+use Rattle.std.specs.List.{AllByRecursion}
+use Rattle.sof_base.specs.Samples.{Frame}
+use Rattle.stream_law.specs.declared.graph.Edge.{Edge}
+use Rattle.stream_law.specs.declared.graph.Join.{Join}
+use Rattle.stream_law.specs.declared.graph.Pipe.{Pipe}
+use Rattle.stream_law.specs.declared.stream.StreamView.{StreamView}
+use Rattle.stream_law.specs.Joins.{joined}
+use Rattle.fw_components.specs.declared.component.Component.{Component}
+use Rattle.fw_components.specs.declared.component.Unit as units
+use Rattle.fw_components.specs.declared.component.Unit.TheVariants.{Host, Dai, Volume, Mixer, Mux, Eq, Buffer, Pipeline}
+use Rattle.fw_components.specs.Tables.{comp_by, edge_by, pipe_by, ring_by, streams_by, with_stream_by, frames_by, kind_by, setting_by, size_by, source_by, sink_by, sched_by, period_by, complete_by, is_buffer}
+use Rattle.fw_components.specs.Changes.{joined_at, sunk_unit, sourced_unit, ended_unit, ended_at}
+use Rattle.fw_components.specs.Frames.{begun_unit, begun_by, begun_at, with_frames}
+use Rattle.fw_components.proofs.Joining.{joined_by}
+
+-- what is seen of each is seen of all
+map-seen : {Y : Type 0} (P : Component → Type 0) (view : Component → Y) (after : Y → Y) (change : Component → Component) → ((c : Component) → P c → view (change c) ≡ after (view c)) → (cs : List Component) → AllByRecursion P cs → map view (map change cs) ≡ map after (map view cs)
+map-seen P view after change one [] all = refl
+map-seen {Y} P view after change one (c ∷ cs) all = ap (λ (p : Y × List Y). p.0 ∷ p.1) (λ i. (one c all.0 i, map-seen P view after change one cs all.1 i))
+
+map-after : {Y : Type 0} (view : Component → Y) (after : Y → Y) (change : Component → Component) → ((c : Component) → view (change c) ≡ after (view c)) → (cs : List Component) → map view (map change cs) ≡ map after (map view cs)
+map-after view after change one [] = refl
+map-after {Y} view after change one (c ∷ cs) = ap (λ (p : Y × List Y). p.0 ∷ p.1) (λ i. (one c i, map-after view after change one cs i))
+
+map-same : {Y : Type 0} (view : Component → Y) (change : Component → Component) → ((c : Component) → view (change c) ≡ view c) → (cs : List Component) → map view (map change cs) ≡ map view cs
+map-same view change one [] = refl
+map-same {Y} view change one (c ∷ cs) = ap (λ (p : Y × List Y). p.0 ∷ p.1) (λ i. (one c i, map-same view change one cs i))
+
+-- ---- what each change leaves of a unit
+
+abbrev edge_of_unit : ℕ → ℕ → units.Unit → Edge
+edge_of_unit id pipe u = record { buffer = id; pipe = pipe; size = size_by u; source = source_by u; sink = sink_by u }
+
+abbrev pipe_of_unit : ℕ → ℕ → units.Unit → Pipe
+pipe_of_unit id pipe u = record { id = id; index = pipe; sched = sched_by u; period = period_by u; complete = complete_by u }
+
+sunk-frames : (id : ℕ) → (u : units.Unit) → frames_by (sunk_unit id u) ≡ frames_by u
+sunk-frames id (Host capture phase params piece) = refl
+sunk-frames id (Dai capture format piece) = refl
+sunk-frames id (Volume gains piece) = refl
+sunk-frames id (Mixer piece) = refl
+sunk-frames id (Mux choice piece) = refl
+sunk-frames id (Eq eq next remaining) = refl
+sunk-frames id (Buffer size ring source sink) = refl
+sunk-frames id (Pipeline sched period complete piece) = refl
+
+sourced-frames : (id : ℕ) → (u : units.Unit) → frames_by (sourced_unit id u) ≡ frames_by u
+sourced-frames id (Host capture phase params piece) = refl
+sourced-frames id (Dai capture format piece) = refl
+sourced-frames id (Volume gains piece) = refl
+sourced-frames id (Mixer piece) = refl
+sourced-frames id (Mux choice piece) = refl
+sourced-frames id (Eq eq next remaining) = refl
+sourced-frames id (Buffer size ring source sink) = refl
+sourced-frames id (Pipeline sched period complete piece) = refl
+
+begun-kind : (channels : ℕ) → (words : List ℤ) → (u : units.Unit) → kind_by (begun_unit channels words u) ≡ kind_by u
+begun-kind channels words (Host capture phase params piece) = refl
+begun-kind channels words (Dai capture format piece) = refl
+begun-kind channels words (Volume gains piece) = refl
+begun-kind channels words (Mixer piece) = refl
+begun-kind channels words (Mux choice piece) = refl
+begun-kind channels words (Eq eq next remaining) = refl
+begun-kind channels words (Buffer size ring source sink) = refl
+begun-kind channels words (Pipeline sched period complete piece) = refl
+
+begun-setting : (channels : ℕ) → (words : List ℤ) → (u : units.Unit) → setting_by (begun_unit channels words u) ≡ setting_by u
+begun-setting channels words (Host capture phase params piece) = refl
+begun-setting channels words (Dai capture format piece) = refl
+begun-setting channels words (Volume gains piece) = refl
+begun-setting channels words (Mixer piece) = refl
+begun-setting channels words (Mux choice piece) = refl
+begun-setting channels words (Eq eq next remaining) = refl
+begun-setting channels words (Buffer size ring source sink) = refl
+begun-setting channels words (Pipeline sched period complete piece) = refl
+
+begun-frames : (channels : ℕ) → (words : List ℤ) → (u : units.Unit) → frames_by (begun_unit channels words u) ≡ []
+begun-frames channels words (Host capture phase params piece) = refl
+begun-frames channels words (Dai capture format piece) = refl
+begun-frames channels words (Volume gains piece) = refl
+begun-frames channels words (Mixer piece) = refl
+begun-frames channels words (Mux choice piece) = refl
+begun-frames channels words (Eq eq next remaining) = refl
+begun-frames channels words (Buffer size ring source sink) = refl
+begun-frames channels words (Pipeline sched period complete piece) = refl
+
+begun-edge : (id pipe : ℕ) → (channels : ℕ) → (words : List ℤ) → (u : units.Unit) → edge_of_unit id pipe (begun_unit channels words u) ≡ edge_of_unit id pipe u
+begun-edge id pipe channels words (Host capture phase params piece) = refl
+begun-edge id pipe channels words (Dai capture format piece) = refl
+begun-edge id pipe channels words (Volume gains piece) = refl
+begun-edge id pipe channels words (Mixer piece) = refl
+begun-edge id pipe channels words (Mux choice piece) = refl
+begun-edge id pipe channels words (Eq eq next remaining) = refl
+begun-edge id pipe channels words (Buffer size ring source sink) = refl
+begun-edge id pipe channels words (Pipeline sched period complete piece) = refl
+
+begun-pipe : (id pipe : ℕ) → (channels : ℕ) → (words : List ℤ) → (u : units.Unit) → pipe_of_unit id pipe (begun_unit channels words u) ≡ pipe_of_unit id pipe u
+begun-pipe id pipe channels words (Host capture phase params piece) = refl
+begun-pipe id pipe channels words (Dai capture format piece) = refl
+begun-pipe id pipe channels words (Volume gains piece) = refl
+begun-pipe id pipe channels words (Mixer piece) = refl
+begun-pipe id pipe channels words (Mux choice piece) = refl
+begun-pipe id pipe channels words (Eq eq next remaining) = refl
+begun-pipe id pipe channels words (Buffer size ring source sink) = refl
+begun-pipe id pipe channels words (Pipeline sched period complete piece) = refl
+
+begun-stream : (id : ℕ) → (channels : ℕ) → (words : List ℤ) → (rest : List StreamView) → (u : units.Unit) → with_stream_by id (begun_unit channels words u) rest ≡ with_stream_by id u rest
+begun-stream id channels words rest (Host capture phase params piece) = refl
+begun-stream id channels words rest (Dai capture format piece) = refl
+begun-stream id channels words rest (Volume gains piece) = refl
+begun-stream id channels words rest (Mixer piece) = refl
+begun-stream id channels words rest (Mux choice piece) = refl
+begun-stream id channels words rest (Eq eq next remaining) = refl
+begun-stream id channels words rest (Buffer size ring source sink) = refl
+begun-stream id channels words rest (Pipeline sched period complete piece) = refl
+
+ended-frames : (u : units.Unit) → frames_by (ended_unit u) ≡ []
+ended-frames (Host capture phase params piece) = refl
+ended-frames (Dai capture format piece) = refl
+ended-frames (Volume gains piece) = refl
+ended-frames (Mixer piece) = refl
+ended-frames (Mux choice piece) = refl
+ended-frames (Eq eq next remaining) = refl
+ended-frames (Buffer size ring source sink) = refl
+ended-frames (Pipeline sched period complete piece) = refl
+
+ended-edge : (id pipe : ℕ) → (u : units.Unit) → edge_of_unit id pipe (ended_unit u) ≡ edge_of_unit id pipe u
+ended-edge id pipe (Host capture phase params piece) = refl
+ended-edge id pipe (Dai capture format piece) = refl
+ended-edge id pipe (Volume gains piece) = refl
+ended-edge id pipe (Mixer piece) = refl
+ended-edge id pipe (Mux choice piece) = refl
+ended-edge id pipe (Eq eq next remaining) = refl
+ended-edge id pipe (Buffer size ring source sink) = refl
+ended-edge id pipe (Pipeline sched period complete piece) = refl
+
+-- ---- joins
+
+module _ (j : Join) where
+  edge-joined : (c : Component) → is_buffer c.unit ≡ true → edge_by (joined_at j c) ≡ joined j (edge_by c)
+  edge-joined c e = by (c.id == j.source) (c.id == j.sink) c.unit e
+    where
+      by : (h k : Bool) (u : units.Unit) → is_buffer u ≡ true → edge_by (joined_by h k j (record { id = c.id; pipe = c.pipe; channels = c.channels; unit = u })) ≡ cond h (record { buffer = c.id; pipe = c.pipe; size = size_by u; source = source_by u; sink = Some j.sink }) (cond k (record { buffer = c.id; pipe = c.pipe; size = size_by u; source = Some j.source; sink = sink_by u }) (record { buffer = c.id; pipe = c.pipe; size = size_by u; source = source_by u; sink = sink_by u }))
+      by h k (Host capture phase params piece) e = absurd (false≢true e)
+      by h k (Dai capture format piece) e = absurd (false≢true e)
+      by h k (Volume gains piece) e = absurd (false≢true e)
+      by h k (Mixer piece) e = absurd (false≢true e)
+      by h k (Mux choice piece) e = absurd (false≢true e)
+      by h k (Eq eq next remaining) e = absurd (false≢true e)
+      by h k (Pipeline sched period complete piece) e = absurd (false≢true e)
+      by true k (Buffer size ring source sink) e = refl
+      by false true (Buffer size ring source sink) e = refl
+      by false false (Buffer size ring source sink) e = refl
+
+  pub edges-joined : (cs : List Component) → AllByRecursion (λ c. is_buffer c.unit ≡ true) cs → map edge_by (map (joined_at j) cs) ≡ map (joined j) (map edge_by cs)
+  edges-joined cs all = map-seen (λ (c : Component). is_buffer c.unit ≡ true) edge_by (joined j) (joined_at j) edge-joined cs all
+
+  ring-joined : (c : Component) → ring_by (joined_at j c) ≡ ring_by c
+  ring-joined c = by (c.id == j.source) (c.id == j.sink)
+    where
+      by : (h k : Bool) → ring_by (joined_by h k j c) ≡ ring_by c
+      by true k = ap (λ (fs : List Frame). record { buffer = c.id; frames = fs }) (sunk-frames j.sink c.unit)
+      by false true = ap (λ (fs : List Frame). record { buffer = c.id; frames = fs }) (sourced-frames j.source c.unit)
+      by false false = refl
+
+  pub rings-joined : (cs : List Component) → map ring_by (map (joined_at j) cs) ≡ map ring_by cs
+  rings-joined cs = map-same ring_by (joined_at j) ring-joined cs
+
+-- ---- beginnings
+
+module _ (id channels : ℕ) (words : List ℤ) where
+  comp-begun : (c : Component) → comp_by (begun_at id channels words c) ≡ comp_by c
+  comp-begun c = by (c.id == id)
+    where
+      by : (h : Bool) → comp_by (cond {A = Component} h (begun_by channels words c) c) ≡ comp_by c
+      by true = λ i. record { id = c.id; kind = begun-kind channels words c.unit i; pipe = c.pipe; setting = begun-setting channels words c.unit i }
+      by false = refl
+
+  edge-begun : (c : Component) → edge_by (begun_at id channels words c) ≡ edge_by c
+  edge-begun c = by (c.id == id)
+    where
+      by : (h : Bool) → edge_by (cond {A = Component} h (begun_by channels words c) c) ≡ edge_by c
+      by true = begun-edge c.id c.pipe channels words c.unit
+      by false = refl
+
+  pipe-begun : (c : Component) → pipe_by (begun_at id channels words c) ≡ pipe_by c
+  pipe-begun c = by (c.id == id)
+    where
+      by : (h : Bool) → pipe_by (cond {A = Component} h (begun_by channels words c) c) ≡ pipe_by c
+      by true = begun-pipe c.id c.pipe channels words c.unit
+      by false = refl
+
+  ring-begun : (c : Component) → ring_by (begun_at id channels words c) ≡ with_frames (λ fs. []) id (ring_by c)
+  ring-begun c = by (c.id == id)
+    where
+      by : (h : Bool) → ring_by (cond {A = Component} h (begun_by channels words c) c) ≡ cond h (record { buffer = c.id; frames = [] }) (ring_by c)
+      by true = ap (λ (fs : List Frame). record { buffer = c.id; frames = fs }) (begun-frames channels words c.unit)
+      by false = refl
+
+  pub comps-begun : (cs : List Component) → map comp_by (map (begun_at id channels words) cs) ≡ map comp_by cs
+  comps-begun cs = map-same comp_by (begun_at id channels words) comp-begun cs
+
+  pub edges-begun : (cs : List Component) → map edge_by (map (begun_at id channels words) cs) ≡ map edge_by cs
+  edges-begun cs = map-same edge_by (begun_at id channels words) edge-begun cs
+
+  pub pipes-begun : (cs : List Component) → map pipe_by (map (begun_at id channels words) cs) ≡ map pipe_by cs
+  pipes-begun cs = map-same pipe_by (begun_at id channels words) pipe-begun cs
+
+  pub rings-begun : (cs : List Component) → map ring_by (map (begun_at id channels words) cs) ≡ map (with_frames (λ fs. []) id) (map ring_by cs)
+  rings-begun cs = map-after ring_by (with_frames (λ fs. []) id) (begun_at id channels words) ring-begun cs
+
+  pub streams-begun : (cs : List Component) → streams_by (map (begun_at id channels words) cs) ≡ streams_by cs
+  streams-begun [] = refl
+  streams-begun (c ∷ cs) = by (c.id == id) ∙ ap (with_stream_by c.id c.unit) (streams-begun cs)
+    where
+      by : (h : Bool) → with_stream_by (cond {A = Component} h (begun_by channels words c) c).id (cond {A = Component} h (begun_by channels words c) c).unit (streams_by (map (begun_at id channels words) cs)) ≡ with_stream_by c.id c.unit (streams_by (map (begun_at id channels words) cs))
+      by true = begun-stream c.id channels words (streams_by (map (begun_at id channels words) cs)) c.unit
+      by false = refl
+
+-- ---- endings
+
+module _ (id : ℕ) where
+  edge-ended : (c : Component) → edge_by (ended_at id c) ≡ edge_by c
+  edge-ended c = by (c.id == id)
+    where
+      by : (h : Bool) → edge_by (cond {A = Component} h (record { id = c.id; pipe = c.pipe; channels = c.channels; unit = ended_unit c.unit }) c) ≡ edge_by c
+      by true = ended-edge c.id c.pipe c.unit
+      by false = refl
+
+  ring-ended : (c : Component) → ring_by (ended_at id c) ≡ with_frames (λ fs. []) id (ring_by c)
+  ring-ended c = by (c.id == id)
+    where
+      by : (h : Bool) → ring_by (cond {A = Component} h (record { id = c.id; pipe = c.pipe; channels = c.channels; unit = ended_unit c.unit }) c) ≡ cond h (record { buffer = c.id; frames = [] }) (ring_by c)
+      by true = ap (λ (fs : List Frame). record { buffer = c.id; frames = fs }) (ended-frames c.unit)
+      by false = refl
+
+  pub edges-ended : (cs : List Component) → map edge_by (map (ended_at id) cs) ≡ map edge_by cs
+  edges-ended cs = map-same edge_by (ended_at id) edge-ended cs
+
+  pub rings-ended : (cs : List Component) → map ring_by (map (ended_at id) cs) ≡ map (with_frames (λ fs. []) id) (map ring_by cs)
+  rings-ended cs = map-after ring_by (with_frames (λ fs. []) id) (ended_at id) ring-ended cs

@@ -1,0 +1,15 @@
+use Rattle.std.proofs.Common.{sym, ap, ◌∙◌, List, ◌&&◌, ◌==◌}
+use Rattle.std.specs.List.{list_any}
+use Rattle.stream_law.specs.declared.graph.Comp.{Comp}
+use Rattle.fw_components.specs.declared.component.Component.{Component}
+use Rattle.fw_components.specs.Tables.{Tables, graph_of, streams_of, comp_by}
+use Rattle.mbox_link.specs.Step.{is_held}
+use Rattle.fw_pipeline.proofs.OnWays.{any-map}
+use Rattle.fw_pipeline.proofs.freeing.has_held_comp.Goals as goal
+
+pub returns : goal.returns
+returns c =
+    let t : Tables = c.args.registry.now in
+    c.any_held.ensures
+    ∙ ap (λ (cs : List Component). list_any (λ x. x.pipe == c.args.index && is_held (graph_of t) (streams_of t) x.id) cs) c.comps.ensures.items
+    ∙ sym (any-map (λ (x : Comp). x.pipe == c.args.index && is_held (graph_of t) (streams_of t) x.id) comp_by t.comps)

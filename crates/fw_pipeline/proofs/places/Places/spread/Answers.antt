@@ -1,0 +1,19 @@
+use Rattle.std.proofs.Common.{◌≡◌, sym, subst, ℕ, List, Bool, true, false, length, get_or, arith}
+use Rattle.std.specs.List.{AllByRecursion}
+use Rattle.stream_law.specs.declared.graph.Join.{Join}
+use Rattle.fw_pipeline.specs.Walks.{IsWithin, IsClosed, is_listed, is_marked, is_reached}
+use Rattle.fw_pipeline.specs.Charts.{Chart}
+use Rattle.fw_pipeline.proofs.Charts.{places-within}
+use Rattle.fw_pipeline.proofs.Reaching.{marks-reach}
+use Rattle.fw_pipeline.proofs.places.Places.spread.Goals as goal
+
+pub spread-requires : goal.spread-requires
+spread-requires c = subst (λ (js : List Join). AllByRecursion (IsWithin (length c.args.marks.now)) js) (sym c.self.invariant.places) (places-within c.self.inside.ids.items (length c.args.marks.now) (omega (arith, c.requires, c.self.invariant.few)) _)
+
+pub returns : goal.returns
+returns c =
+    let old : List Bool = c.args.marks.now in let new : List Bool = c.spread.new.marks in
+    let begins : Chart → Type 0 = λ v. (x : ℕ) → is_listed v.ids x ≡ true → is_marked v.ids new x ≡ is_reached c.args.back v.ids v.joins old x in
+    subst begins c.self.view_is (marks-reach c.args.back c.self.inside.ids.items _ c.self.invariant.listed old new c.spread.ensures.kept
+    (subst (λ (js : List Join). IsClosed c.args.back js (λ k. get_or new k false)) c.self.invariant.places c.spread.ensures.closed)
+    (subst (λ (js : List Join). (q : ℕ → Bool) → IsClosed c.args.back js q → ((k : ℕ) → get_or old k false ≡ true → q k ≡ true) → (k : ℕ) → get_or new k false ≡ true → q k ≡ true) c.self.invariant.places c.spread.ensures.least))

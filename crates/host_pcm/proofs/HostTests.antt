@@ -1,5 +1,5 @@
 -- What the tests before any message tell.
-use Rattle.std.proofs.Common.{◌≡◌, ℕ, ◌<◌, Bool, true, false, not, cond, List, length, Option, Some, None, Result, Ok, Err, refl, sym, ap, subst, ◌∙◌}
+use Rattle.std.proofs.Common.{◌≡◌, ℕ, ◌<◌, Bool, true, false, not, cond, List, length, Option, Some, None, unwrap_or, Result, Ok, Err, refl, sym, ap, subst, ◌∙◌}
 use Rattle.std.specs.Prelude.{IfOk, IfErr}
 use Rattle.std.proofs.lemmas.List.Quantifiers.{position-Some}
 use Rattle.mbox_link.specs.Calls.{World, Meaning}
@@ -14,7 +14,8 @@ use Rattle.host_widgets.specs.Host.{Outcome}
 use Rattle.host_pcm.specs.declared.asking.Ask.{Ask}
 use Rattle.host_pcm.specs.Asks.{is_named, stream_place, takes, asks_for_power, range_fault, found_fault, power_fault, named_fault, loaded_fault, early_fault, stream_at, caps_at}
 use Rattle.host_widgets.specs.HostRecord.{no_stream}
-use Rattle.host_pcm.specs.Carried.{Walks, Asked}
+use Rattle.host_widgets.specs.Orders.{Carried}
+use Rattle.host_pcm.specs.StreamOrders.{place_order, Asked}
 
 -- what no failing test says, of a stream that stands so, at this power
 pub record Stood (caps : Caps) (ask : Ask) (found : Found) (power : Power) : Type 0 where
@@ -69,8 +70,8 @@ module _ (plan : Plan) (kept : Record) (name : List ℕ) (ask : Ask) where
           late = λ none. absurd (cc (sym some ∙ none));
         }
 
-    pub asked-late : (k : ℕ) (kept' : Record) (v : World D) (result : Outcome) → Found_place k → Walks means plan heap k ask kept kept' w v result → Asked means plan heap name ask kept kept' w v result
-    asked-late k kept' v result at walk = record {
+    pub asked-late : (k : ℕ) (kept' : Record) (v : World D) (result : Outcome) → Found_place k → Carried means plan heap (place_order plan kept k ask) kept kept' w v result → Asked means plan heap name ask kept kept' w v result
+    asked-late k kept' v result at carried = record {
       early = λ f e. absurd (cc (sym at.none ∙ e));
-      late = λ none. (k, at.place, walk);
+      late = λ none. subst (λ (o : Option ℕ). Carried means plan heap (place_order plan kept (unwrap_or o 0) ask) kept kept' w v result) (sym at.place) carried;
     }

@@ -1,9 +1,11 @@
+pub mod TakenActs
+pub mod StreamAnswers
+pub mod StreamsTaken
 pub mod OneMessage
-pub mod Rows
-pub mod OneAct
-pub mod StreamMessages
-pub mod StreamActs
-pub mod ThinStream
+pub mod ActSteps
+pub mod PlainOrders
+pub mod Places
 pub mod StreamCalls
-pub mod Closings
+pub mod OneOrders
+pub mod AtRest
 pub mod HostTests

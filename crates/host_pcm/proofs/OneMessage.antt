@@ -7,14 +7,15 @@ use Rattle.host_widgets.specs.declared.answers.HostFault.TheVariants.{NotLoaded,
 use Rattle.host_widgets.specs.declared.kept.Record.{Record}
 use Rattle.host_widgets.specs.Kept.{went_down}
 use Rattle.host_widgets.specs.Host.{Sent}
-use Rattle.host_pcm.specs.Carried.{Passes, Ends, kept_by, outcome, is_down}
+use Rattle.host_widgets.specs.ActCalls.{came_to}
+use Rattle.host_pcm.specs.ActCarried.{Passes, PlainEnd, is_down}
 
-module _ {D : Type 0} (means : Meaning D) (request : List ℕ) (kept : Record) (w : World D) where
+module _ {D : Type 0} (means : Meaning D) (heap : ℕ) (request : List ℕ) (kept : Record) (w : World D) where
   exchanged : (v : World D) (result : Result Reply HostFault) (sent : Sent means request w v result) → Exchanged means request sent.answer w v
   exchanged v result sent = subst (λ (x : World D). Exchanged means request sent.answer w x) (sym sent.led.2) sent.led.1
 
-  pub passed : (v : World D) (result : Result Reply HostFault) (reply : Reply) → Sent means request w v result → result ≡ Ok reply → Passes means request kept kept w v (Ok tt)
-  passed v result reply sent is = record { answer = sent.answer; sent = v; exchanged = exchanged v result sent; said = ap outcome (sym is ∙ sent.said); ends = refl; record_after = refl }
+  pub passed : (v : World D) (result : Result Reply HostFault) (reply : Reply) → Sent means request w v result → result ≡ Ok reply → Passes means heap request kept kept w v (Ok tt)
+  passed v result reply sent is = record { answer = sent.answer; sent = v; exchanged = exchanged v result sent; said = ap came_to (sym is ∙ sent.said); ends = (refl, refl) }
 
   down-is : (fault : HostFault) → is_down fault ≡ true → LinkDown ≡ fault
   down-is LinkDown is = refl
@@ -27,19 +28,18 @@ module _ {D : Type 0} (means : Meaning D) (request : List ℕ) (kept : Record) (
   down-is (Refused e) is = absurd (cc is)
   down-is (Blob n) is = absurd (cc is)
 
-  pub went_dead : (fault : HostFault) (kept' : Record) (m v : World D) (result : Result Reply HostFault) → Sent means request w m result → result ≡ Err fault → is_down fault ≡ true → Did means Cut m v → kept' ≡ went_down kept → Passes means request kept kept' w v (Err fault)
+  pub went_dead : (fault : HostFault) (kept' : Record) (m v : World D) (result : Result Reply HostFault) → Sent means request w m result → result ≡ Err fault → is_down fault ≡ true → Did means Cut m v → kept' ≡ went_down kept → Passes means heap request kept kept' w v (Err fault)
   went_dead fault kept' m v result sent is down cut record_is =
       let same = down-is fault down in
       record {
         answer = sent.answer;
         sent = m;
         exchanged = exchanged m result sent;
-        said = ap outcome (sym is ∙ sent.said);
-        ends = subst (λ (f : HostFault). Ends means (Err f) m v) same cut;
-        record_after = subst (λ (f : HostFault). kept' ≡ kept_by (Err f) kept) same record_is;
+        said = ap came_to (sym is ∙ sent.said);
+        ends = subst (λ (f : HostFault). PlainEnd means heap (Err f) kept kept' m v) same (record_is, (v, cut, refl));
       }
 
-  stays : (fault : HostFault) (v : World D) → is_down fault ≡ false → Ends means (Err fault) v v × (kept ≡ kept_by (Err fault) kept)
+  stays : (fault : HostFault) (v : World D) → is_down fault ≡ false → PlainEnd means heap (Err fault) kept kept v v
   stays LinkDown v other = absurd (cc other)
   stays NotLoaded v other = (refl, refl)
   stays Loaded v other = (refl, refl)
@@ -50,7 +50,6 @@ module _ {D : Type 0} (means : Meaning D) (request : List ℕ) (kept : Record) (
   stays (Refused e) v other = (refl, refl)
   stays (Blob n) v other = (refl, refl)
 
-  pub refused : (fault : HostFault) (v : World D) (result : Result Reply HostFault) → Sent means request w v result → result ≡ Err fault → is_down fault ≡ false → Passes means request kept kept w v (Err fault)
+  pub refused : (fault : HostFault) (v : World D) (result : Result Reply HostFault) → Sent means request w v result → result ≡ Err fault → is_down fault ≡ false → Passes means heap request kept kept w v (Err fault)
   refused fault v result sent is other =
-      let both = stays fault v other in
-      record { answer = sent.answer; sent = v; exchanged = exchanged v result sent; said = ap outcome (sym is ∙ sent.said); ends = both.0; record_after = both.1 }
+      record { answer = sent.answer; sent = v; exchanged = exchanged v result sent; said = ap came_to (sym is ∙ sent.said); ends = stays fault v other }

@@ -1,90 +1,158 @@
--- One act of each kind, for the stream at a place.
-use Rattle.std.proofs.Common.{◌≡◌, ℕ, ◌<◌, true, List, [], length, set, Some, None, Ok, Err, refl, sym, ap, subst, ◌∙◌}
+-- One act of each kind, for the stream at a place of a sound plan.
+use Rattle.std.proofs.Common.{◌≡◌, ℕ, ◌<◌, Bool, true, false, not, cond, List, length, get_or, set, Option, Some, None, Ok, Err, refl, sym, ap, subst, ◌∙◌, if◌then◌else◌}
+use Rattle.std.specs.Prelude.{◌&&◌, nat_le}
+use Rattle.std.proofs.lemmas.Bool.{and_parts}
 use Rattle.sof_base.specs.declared.format.Params.{Params}
 use Rattle.ipc3_codec.specs.declared.message.Message.{Message}
 use Rattle.ipc3_codec.specs.declared.message.Message.TheVariants.{PcmFree, PcmParams}
 use Rattle.ipc3_codec.specs.Messages.{message_spelling}
+use Rattle.mbox_link.specs.Step.{is_rate}
 use Rattle.mbox_link.specs.Calls.{World, Meaning}
+use Rattle.tplg_model.specs.declared.pcm.Caps.{Caps}
 use Rattle.tplg_plan.specs.declared.plans.Plan.{Plan}
-use Rattle.tplg_plan.specs.ThinPlan.{IsThinPlan}
+use Rattle.tplg_plan.specs.Sound.{IsSound}
 use Rattle.host_widgets.specs.declared.answers.HostFault.{HostFault}
 use Rattle.host_widgets.specs.declared.kept.Found.TheVariants.{Prepared}
 use Rattle.host_widgets.specs.declared.kept.Power.TheVariants.{On}
 use Rattle.host_widgets.specs.declared.kept.StreamRec.{StreamRec}
 use Rattle.host_widgets.specs.declared.kept.Record.{Record}
 use Rattle.host_widgets.specs.declared.trigger.Trigger.{Trigger}
-use Rattle.host_widgets.specs.HostRecord.{closed, may_have}
-use Rattle.host_widgets.specs.HostActs.{Prepare, Trig, Free}
+use Rattle.host_widgets.specs.HostRecord.{closed, no_stream, is_in_range}
+use Rattle.host_widgets.specs.HostActs.{Act, Prepare, Trig, Free, after, prepared, triggered, triggered_found}
+use Rattle.host_widgets.specs.ActMessages.{message_of}
 use Rattle.host_widgets.specs.Acts.{trigger_message}
 use Rattle.host_widgets.specs.Host.{Outcome, Agrees}
-use Rattle.host_pcm.specs.declared.asking.Ask.{Ask}
-use Rattle.host_pcm.specs.declared.asking.Ask.TheVariants.{Preparing, Triggering, Closing}
-use Rattle.host_pcm.specs.Asks.{stream_at, takes_trigger, takes_params, range_fault, caps_at, triggered, closing_acts}
-use Rattle.host_pcm.specs.Carried.{Passes, Walks}
-use Rattle.host_pcm.proofs.StreamActs.{takes-trigger, takes-free, takes-params}
-use Rattle.host_pcm.proofs.ThinStream.{stream, stream-is, may, TakesIt, act-done, act-ended}
+use Rattle.host_widgets.proofs.ReadyWays.{has_host}
+use Rattle.host_widgets.proofs.StreamRows.{AllAt}
+use Rattle.host_widgets.proofs.StreamPlaces.{place-has, place-all}
+use Rattle.host_widgets.proofs.OneActLaws.{IsStreamAct}
+use Rattle.host_widgets.proofs.ActsCome.{IsAnswered}
+use Rattle.host_pcm.specs.declared.asking.Ask.TheVariants.{Preparing}
+use Rattle.host_pcm.specs.Asks.{stream_at, takes_trigger, takes_params, range_fault, caps_at, with_place}
+use Rattle.host_pcm.specs.StreamRanges.{has_rate, has_channels, is_between}
+use Rattle.host_pcm.specs.StreamOrders.{host_at, shut}
+use Rattle.host_pcm.specs.ActCarried.{Passes, PlainEnd, ActCarried}
+use Rattle.host_pcm.proofs.ActSteps.{done, ended}
+use Rattle.host_pcm.proofs.Places.{place-changed, place-goes}
+use Rattle.host_pcm.proofs.StreamsTaken.{trig-is, free-is, prepare-is, trig-comes, free-comes, prepare-comes}
 
-module _ {D : Type 0} (means : Meaning D) (plan : Plan) (p : IsThinPlan plan) (heap k : ℕ) (within : k < length plan.streams) (kept : Record) (w : World D) (agrees : Agrees means plan kept w.device) (power : kept.power ≡ On) where
-  abbrev mine : StreamRec
-  mine = stream means plan p heap k within kept w agrees power
+-- ---- ranges
 
-  mine-is : stream_at kept k ≡ mine
-  mine-is = stream-is means plan p heap k within kept w agrees power
+first-holds : (a : Bool) (x : HostFault) (rest : Option HostFault) → cond (not a) (Some x) rest ≡ None → (a ≡ true) × (rest ≡ None)
+first-holds true x rest is = (refl, is)
+first-holds false x rest is = absurd (cc is)
 
-  may-mine : may_have mine.found mine.params ≡ true
-  may-mine = may means plan p heap k within kept w agrees power
+-- parameters that pass the tests are in range
+pub ranges : (caps : Caps) (p : Params) → range_fault caps (Preparing p) ≡ None → is_in_range p ≡ true
+ranges caps p none =
+    let rate = first-holds (has_rate caps p.rate) _ _ none in
+    let channels = first-holds (has_channels caps p.channels) _ _ rate.1 in
+    let is_rate_so = (and_parts (is_rate p.rate) (is_between caps.rate_min caps.rate_max p.rate) rate.0).0 in
+    let few = (and_parts (is_between 1 8 p.channels) (is_between caps.channels_min caps.channels_max p.channels) channels.0).0 in
+    λ i. is_rate_so i && few i
 
-  abbrev Both : Ask → Record → World D → Outcome → Type 0
-  Both ask kept' v result = Walks means plan heap k ask kept kept' w v result × Agrees means plan kept' v.device
+-- ---- an act at a place
+
+module _ {D : Type 0} (means : Meaning D) (plan : Plan) (sound : IsSound plan) (heap k : ℕ) (within : k < length plan.streams) (kept : Record) (w : World D) (agrees : Agrees means plan kept w.device) (power : kept.power ≡ On) where
+  abbrev host : ℕ
+  host = host_at plan k
+
+  some : has_host plan.streams host ≡ true
+  some = place-has plan sound k within
+
+  at-host : (So : StreamRec → Type 0) → So (stream_at kept k) → AllAt So host plan.streams kept.streams
+  at-host So so = place-all plan sound k within So kept.streams so
+
+  abbrev pub Both : Act → Record → World D → Outcome → Type 0
+  Both act kept' v result = ActCarried means plan heap act kept kept' w v result × Agrees means plan kept' v.device
+
+  -- an act whose record changes at the place
+  module _ (act : Act) (s : IsStreamAct plan kept act) (a : IsAnswered plan heap kept act) (change : StreamRec → StreamRec) (changes : with_place k (change (stream_at kept k)) kept ≡ after plan act kept)
+      (message : Message) (message-is : message ≡ message_of plan act) (kept' : Record) (v : World D) (result : Outcome) (x : Passes means heap (message_spelling message) kept kept' w v result) where
+    x' : Passes means heap (message_spelling (message_of plan act)) kept kept' w v result
+    x' = subst (λ (m : Message). Passes means heap (message_spelling m) kept kept' w v result) message-is x
+
+    -- nothing but the reply came so far
+    still-kept : result ≡ Ok tt → kept' ≡ kept
+    still-kept is = (subst (λ (o : Outcome). PlainEnd means heap o kept kept' x.sent v) is x.ends).0
+
+    act-done : result ≡ Ok tt → (item : StreamRec) → item ≡ change (stream_at kept k) → (streams : List StreamRec) → streams ≡ set kept'.streams k item → Both act (record { power = kept'.power; streams = streams; controls = kept'.controls }) v (Ok tt)
+    act-done is item item-is streams streams-are =
+        let same = still-kept is in
+        done means plan heap kept act s a w agrees power kept' v result x' is (record { power = kept'.power; streams = streams; controls = kept'.controls })
+        ((λ i. record { power = (same i).power; streams = (streams-are ∙ (λ j. set (same j).streams k (item-is j))) i; controls = (same i).controls }) ∙ changes)
+
+    act-ended : (fault : HostFault) → result ≡ Err fault → Both act kept' v (Err fault)
+    act-ended fault is = ended means plan heap kept act s a w agrees power kept' v result x' fault is
 
   -- ---- a trigger
 
-  module _ (what : Trigger) (found : takes_trigger what (stream_at kept k).found ≡ true) (message : Message) (host : ℕ) (message-is : message ≡ trigger_message host what) (host-0 : host ≡ 0) (kept' : Record) (v : World D) (result : Outcome) (x : Passes means (message_spelling message) kept kept' w v result) where
-    trigger-takes : TakesIt means plan p heap k within kept w agrees power (Trig 0 what)
-    trigger-takes = takes-trigger p.pipe p.size p.format p.sched p.caps plan.names plan.widgets heap mine what (subst (λ (r : StreamRec). takes_trigger what r.found ≡ true) mine-is found) may-mine
+  module _ (what : Trigger) (found : takes_trigger what (stream_at kept k).found ≡ true) (message : Message) (h : ℕ) (message-is : message ≡ trigger_message h what) (h-is : h ≡ host) (kept' : Record) (v : World D) (result : Outcome) (x : Passes means heap (message_spelling message) kept kept' w v result) where
+    all-take : AllAt (λ r. takes_trigger what r.found ≡ true) host plan.streams kept.streams
+    all-take = at-host (λ r. takes_trigger what r.found ≡ true) found
 
-    pub trigger-done : result ≡ Ok tt → (item : StreamRec) → item ≡ record { found = triggered what; params = (stream_at kept k).params } → (streams : List StreamRec) → streams ≡ set kept'.streams k item → Both (Triggering what) (record { power = kept'.power; streams = streams; controls = kept'.controls }) v (Ok tt)
-    trigger-done is item item-is streams streams-are =
-        act-done means plan p heap k within kept w agrees power (Triggering what) (Trig 0 what) trigger-takes (message_spelling message) (ap message_spelling (message-is ∙ ap (λ (h : ℕ). trigger_message h what) host-0)) kept' v result x refl refl is item
-        (item-is ∙ ap (λ (r : StreamRec). record { found = triggered what; params = r.params }) mine-is) streams streams-are
+    trig : IsStreamAct plan kept (Trig host what)
+    trig = trig-is plan sound kept agrees.record_is host some what all-take
 
-    pub trigger-ended : (fault : HostFault) → result ≡ Err fault → Both (Triggering what) kept' v (Err fault)
-    trigger-ended fault is =
-        act-ended means plan p heap k within kept w agrees power (Triggering what) (Trig 0 what) trigger-takes (message_spelling message) (ap message_spelling (message-is ∙ ap (λ (h : ℕ). trigger_message h what) host-0)) kept' v result x [] refl fault is
+    comes : IsAnswered plan heap kept (Trig host what)
+    comes = trig-comes plan sound kept agrees.record_is host some heap what all-take
+
+    says : message ≡ message_of plan (Trig host what)
+    says = message-is ∙ ap (λ (n : ℕ). trigger_message n what) h-is
+
+    changes : with_place k (triggered what (stream_at kept k)) kept ≡ after plan (Trig host what) kept
+    changes = place-changed plan sound k within (triggered what) kept agrees.record_is.streams
+
+    pub trigger-done : result ≡ Ok tt → (item : StreamRec) → item ≡ record { found = triggered_found what; params = (stream_at kept k).params } → (streams : List StreamRec) → streams ≡ set kept'.streams k item → Both (Trig host what) (record { power = kept'.power; streams = streams; controls = kept'.controls }) v (Ok tt)
+    trigger-done = act-done (Trig host what) trig comes (triggered what) changes message says kept' v result x
+
+    pub trigger-ended : (fault : HostFault) → result ≡ Err fault → Both (Trig host what) kept' v (Err fault)
+    trigger-ended = act-ended (Trig host what) trig comes (triggered what) changes message says kept' v result x
 
   -- ---- parameters
 
-  module _ (params : Params) (found : takes_params (stream_at kept k).found ≡ true) (range : range_fault (caps_at plan k) (Preparing params) ≡ None) (message : Message) (host direction : ℕ) (message-is : message ≡ PcmParams host direction params) (host-0 : host ≡ 0) (direction-0 : direction ≡ 0) (kept' : Record) (v : World D) (result : Outcome) (x : Passes means (message_spelling message) kept kept' w v result) where
-    params-takes : TakesIt means plan p heap k within kept w agrees power (Prepare 0 params)
-    params-takes = takes-params p.pipe p.size p.format p.sched p.caps plan.names plan.widgets heap mine (caps_at plan k) params (subst (λ (r : StreamRec). takes_params r.found ≡ true) mine-is found) range
+  module _ (p : Params) (found : takes_params (stream_at kept k).found ≡ true) (range : range_fault (caps_at plan k) (Preparing p) ≡ None) (message : Message) (h direction : ℕ) (message-is : message ≡ PcmParams h direction p) (h-is : h ≡ host) (direction-is : direction ≡ (if (get_or plan.streams k no_stream).capture then 1 else 0)) (kept' : Record) (v : World D) (result : Outcome) (x : Passes means heap (message_spelling message) kept kept' w v result) where
+    all-rest : AllAt (λ r. takes_params r.found ≡ true) host plan.streams kept.streams
+    all-rest = at-host (λ r. takes_params r.found ≡ true) found
 
-    params-request : message_spelling message ≡ message_spelling (PcmParams 0 0 params)
-    params-request = ap message_spelling (message-is ∙ (λ i. PcmParams (host-0 i) (direction-0 i) params))
+    prepare : IsStreamAct plan kept (Prepare host p)
+    prepare = prepare-is plan sound kept agrees.record_is host some p (ranges (caps_at plan k) p range) all-rest
 
-    pub params-done : result ≡ Ok tt → (item : StreamRec) → item ≡ record { found = Prepared; params = Some params } → (streams : List StreamRec) → streams ≡ set kept'.streams k item → Both (Preparing params) (record { power = kept'.power; streams = streams; controls = kept'.controls }) v (Ok tt)
-    params-done is item item-is streams streams-are =
-        act-done means plan p heap k within kept w agrees power (Preparing params) (Prepare 0 params) params-takes (message_spelling message) params-request kept' v result x refl refl is item item-is streams streams-are
+    answered : IsAnswered plan heap kept (Prepare host p)
+    answered = prepare-comes plan sound kept agrees.record_is host some heap p (ranges (caps_at plan k) p range) all-rest
 
-    pub params-ended : (fault : HostFault) → result ≡ Err fault → Both (Preparing params) kept' v (Err fault)
-    params-ended fault is =
-        act-ended means plan p heap k within kept w agrees power (Preparing params) (Prepare 0 params) params-takes (message_spelling message) params-request kept' v result x [] refl fault is
+    writes : message ≡ message_of plan (Prepare host p)
+    writes = message-is ∙ (λ i. PcmParams (h-is i) ((direction-is ∙ sym (place-goes plan sound k within)) i) p)
+
+    gives : with_place k (prepared p (stream_at kept k)) kept ≡ after plan (Prepare host p) kept
+    gives = place-changed plan sound k within (prepared p) kept agrees.record_is.streams
+
+    pub params-done : result ≡ Ok tt → (item : StreamRec) → item ≡ record { found = Prepared; params = Some p } → (streams : List StreamRec) → streams ≡ set kept'.streams k item → Both (Prepare host p) (record { power = kept'.power; streams = streams; controls = kept'.controls }) v (Ok tt)
+    params-done = act-done (Prepare host p) prepare answered (prepared p) gives message writes kept' v result x
+
+    pub params-ended : (fault : HostFault) → result ≡ Err fault → Both (Prepare host p) kept' v (Err fault)
+    params-ended = act-ended (Prepare host p) prepare answered (prepared p) gives message writes kept' v result x
 
   -- ---- without parameters
 
-  module _ (found : (stream_at kept k).found ≡ Prepared) (message : Message) (host : ℕ) (message-is : message ≡ PcmFree host) (host-0 : host ≡ 0) (kept' : Record) (v : World D) (result : Outcome) (x : Passes means (message_spelling message) kept kept' w v result) where
-    found-mine : mine.found ≡ Prepared
-    found-mine = subst (λ (r : StreamRec). r.found ≡ Prepared) mine-is found
+  module _ (found : (stream_at kept k).found ≡ Prepared) (message : Message) (h : ℕ) (message-is : message ≡ PcmFree h) (h-is : h ≡ host) (kept' : Record) (v : World D) (result : Outcome) (x : Passes means heap (message_spelling message) kept kept' w v result) where
+    all-prepared : AllAt (λ r. r.found ≡ Prepared) host plan.streams kept.streams
+    all-prepared = at-host (λ r. r.found ≡ Prepared) found
 
-    free-takes : TakesIt means plan p heap k within kept w agrees power (Free 0)
-    free-takes = takes-free p.pipe p.size p.format p.sched p.caps plan.names plan.widgets heap mine found-mine
+    free : IsStreamAct plan kept (Free host)
+    free = free-is plan sound kept agrees.record_is host some all-prepared
 
-    free-request : message_spelling message ≡ message_spelling (PcmFree 0)
-    free-request = ap message_spelling (message-is ∙ ap PcmFree host-0)
+    freed : IsAnswered plan heap kept (Free host)
+    freed = free-comes plan sound kept agrees.record_is host some heap all-prepared
 
-    pub free-done : result ≡ Ok tt → (item : StreamRec) → item ≡ closed → (streams : List StreamRec) → streams ≡ set kept'.streams k item → Both Closing (record { power = kept'.power; streams = streams; controls = kept'.controls }) v (Ok tt)
-    free-done is item item-is streams streams-are =
-        act-done means plan p heap k within kept w agrees power Closing (Free 0) free-takes (message_spelling message) free-request kept' v result x (ap (closing_acts 0) (sym found-mine)) refl is item item-is streams streams-are
+    frees : message ≡ message_of plan (Free host)
+    frees = message-is ∙ ap PcmFree h-is
 
-    pub free-ended : (fault : HostFault) → result ≡ Err fault → Both Closing kept' v (Err fault)
-    free-ended fault is =
-        act-ended means plan p heap k within kept w agrees power Closing (Free 0) free-takes (message_spelling message) free-request kept' v result x [] (ap (closing_acts 0) (sym found-mine)) fault is
+    shuts : with_place k closed kept ≡ after plan (Free host) kept
+    shuts = place-changed plan sound k within shut kept agrees.record_is.streams
+
+    pub free-done : result ≡ Ok tt → (item : StreamRec) → item ≡ closed → (streams : List StreamRec) → streams ≡ set kept'.streams k item → Both (Free host) (record { power = kept'.power; streams = streams; controls = kept'.controls }) v (Ok tt)
+    free-done = act-done (Free host) free freed shut shuts message frees kept' v result x
+
+    pub free-ended : (fault : HostFault) → result ≡ Err fault → Both (Free host) kept' v (Err fault)
+    free-ended = act-ended (Free host) free freed shut shuts message frees kept' v result x

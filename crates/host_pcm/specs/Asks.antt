@@ -1,5 +1,5 @@
--- What may be asked of a stream: when it is refused before any message, which acts it takes, and what the record says after it.
-use Rattle.std.specs.Prelude.{ℕ, List, [], ◌∷◌, get_or, set, Bool, true, false, not, Option, Some, None, position, slice_get, if◌then◌else◌}
+-- What may be asked of a stream, and when it is refused before any message.
+use Rattle.std.specs.Prelude.{ℕ, List, get_or, set, Bool, true, false, not, Option, Some, None, position, slice_get, if◌then◌else◌}
 use Rattle.std.specs.Option.{option_map_or}
 use Rattle.std.specs.Str.{bytes_eq}
 use Rattle.tplg_model.specs.declared.pcm.Caps.{Caps}
@@ -15,7 +15,6 @@ use Rattle.host_widgets.specs.declared.kept.Record.{Record}
 use Rattle.host_widgets.specs.declared.trigger.Trigger.{Trigger}
 use Rattle.host_widgets.specs.declared.trigger.Trigger.TheVariants.{Start, Stop, Pause, Release}
 use Rattle.host_widgets.specs.HostRecord.{closed, no_stream}
-use Rattle.host_widgets.specs.HostActs.{Act, Prepare, Trig, Free}
 use Rattle.host_pcm.specs.StreamRanges.{params_fault}
 use Rattle.host_pcm.specs.declared.asking.Ask.{Ask}
 use Rattle.host_pcm.specs.declared.asking.Ask.TheVariants.{Opening, Preparing, Triggering, Closing}
@@ -97,52 +96,6 @@ loaded_fault power rest = rest
 abbrev pub early_fault : Plan → Record → List ℕ → Ask → Option HostFault
 early_fault plan kept name ask = loaded_fault kept.power (named_fault plan kept name ask (stream_place plan name))
 
--- ---- the acts, where the power is on
-
--- a stream that runs or is paused is stopped, and one that has parameters is freed
-abbrev pub closing_acts : ℕ → Found → List Act
-closing_acts host Running = Trig host Stop ∷ Free host ∷ []
-closing_acts host Paused = Trig host Stop ∷ Free host ∷ []
-closing_acts host Prepared = Free host ∷ []
-closing_acts host found = []
-
-abbrev pub stream_acts : ℕ → Found → Ask → List Act
-stream_acts host found Opening = []
-stream_acts host found (Preparing params) = Prepare host params ∷ []
-stream_acts host found (Triggering what) = Trig host what ∷ []
-stream_acts host found Closing = closing_acts host found
-
--- where the power is off there is none
-abbrev pub acts_by : Power → List Act → List Act
-acts_by powers.On acts = acts
-acts_by power acts = []
-
--- ---- the record
-
-abbrev pub triggered : Trigger → Found
-triggered Start = Running
-triggered Stop = Prepared
-triggered Pause = Paused
-triggered Release = Running
-
--- a stream after an act that passed
-abbrev pub after_act : Act → StreamRec → StreamRec
-after_act (Prepare host params) r = record { found = Prepared; params = Some params }
-after_act (Trig host what) r = record { found = triggered what; params = r.params }
-after_act (Free host) r = closed
-after_act act r = r
-
--- after acts that passed, one after the other
-abbrev pub after_acts : List Act → StreamRec → StreamRec
-after_acts [] r = r
-after_acts (act ∷ acts) r = after_acts acts (after_act act r)
-
--- a stream once all that was asked is done: an opening and a closing change the record also where they take no act
-abbrev pub after_ask : Ask → List Act → StreamRec → StreamRec
-after_ask Opening acts r = record { found = Open; params = None }
-after_ask Closing acts r = closed
-after_ask ask acts r = after_acts acts r
-
 -- the record with another stream at a place
-abbrev pub with_stream : ℕ → StreamRec → Record → Record
-with_stream k r kept = record { power = kept.power; streams = set kept.streams k r; controls = kept.controls }
+abbrev pub with_place : ℕ → StreamRec → Record → Record
+with_place k r kept = record { power = kept.power; streams = set kept.streams k r; controls = kept.controls }

@@ -2,11 +2,14 @@
 ghost use Rattle.std.specs.Prelude.{◌≡◌, ◌<◌, ◌*◌, true, None, length, if◌then◌else◌};
 ghost use Rattle.sof_base.specs.Ports.{HasRoom};
 ghost use Rattle.mbox_link.specs.Calls.{world};
-ghost use Rattle.tplg_plan.specs.ThinPlan.{IsThinPlan};
+ghost use Rattle.tplg_plan.specs.Sound.{IsSound};
 ghost use Rattle.host_widgets.specs.HostRecord.{closed};
 ghost use Rattle.host_widgets.specs.Host.{Agrees};
-ghost use Rattle.host_pcm.specs.Asks.{stream_at, takes, range_fault, caps_at, triggered, with_stream};
-ghost use Rattle.host_pcm.specs.Carried.{Walks};
+ghost use Rattle.host_widgets.specs.HostActs.{Prepare, Trig, Free, triggered_found};
+ghost use Rattle.host_widgets.specs.Orders.{Carried};
+ghost use Rattle.host_pcm.specs.Asks.{stream_at, takes, range_fault, caps_at, with_place};
+ghost use Rattle.host_pcm.specs.StreamOrders.{host_at, place_order};
+ghost use Rattle.host_pcm.specs.ActCarried.{ActCarried};
 
 use crate::asking::Ask;
 use crate::passing::pass;
@@ -19,7 +22,7 @@ use tplg_plan::Plan;
 
 // How far a stream is after a trigger.
 fn triggered(what: Trigger) -> Found
-    ensures { result ≡ triggered what }
+    ensures { result ≡ triggered_found what }
 {
     match what {
         Trigger::Start | Trigger::Release => Found::Running,
@@ -46,14 +49,14 @@ pub fn prepare<P: Dsp>(
     place: usize,
     p: Params,
 ) -> Result<(), HostFault>
-    requires plan { IsThinPlan plan.now }
+    requires plan { IsSound plan.now }
     requires agree { Agrees P.means plan.now kept.old dsp.old }
     requires room { HasRoom (61440 * P.means.pending dsp.old) out.old }
     requires power { kept.old.power ≡ Power.On }
     requires place { place < length plan.now.streams }
     requires found { takes (Ask.Preparing p) (stream_at kept.old place).found ≡ true }
     requires range { range_fault (caps_at plan.now place) (Ask.Preparing p) ≡ None }
-    ensures walk { Walks P.means plan.now heap place (Ask.Preparing p) kept.old kept.new
+    ensures act { ActCarried P.means plan.now heap (Prepare (host_at plan.now place) p) kept.old kept.new
         (world dsp.old io.old out.old) (world dsp.new io.new out.new) result }
     ensures agree { Agrees P.means plan.now kept.new dsp.new }
 {
@@ -85,13 +88,13 @@ pub fn trigger<P: Dsp>(
     place: usize,
     what: Trigger,
 ) -> Result<(), HostFault>
-    requires plan { IsThinPlan plan.now }
+    requires plan { IsSound plan.now }
     requires agree { Agrees P.means plan.now kept.old dsp.old }
     requires room { HasRoom (61440 * P.means.pending dsp.old) out.old }
     requires power { kept.old.power ≡ Power.On }
     requires place { place < length plan.now.streams }
     requires found { takes (Ask.Triggering what) (stream_at kept.old place).found ≡ true }
-    ensures walk { Walks P.means plan.now heap place (Ask.Triggering what) kept.old kept.new
+    ensures act { ActCarried P.means plan.now heap (Trig (host_at plan.now place) what) kept.old kept.new
         (world dsp.old io.old out.old) (world dsp.new io.new out.new) result }
     ensures agree { Agrees P.means plan.now kept.new dsp.new }
 {
@@ -118,13 +121,13 @@ fn free<P: Dsp>(
     out: &mut Outputs,
     place: usize,
 ) -> Result<(), HostFault>
-    requires plan { IsThinPlan plan.now }
+    requires plan { IsSound plan.now }
     requires agree { Agrees P.means plan.now kept.old dsp.old }
     requires room { HasRoom (61440 * P.means.pending dsp.old) out.old }
     requires power { kept.old.power ≡ Power.On }
     requires place { place < length plan.now.streams }
     requires found { (stream_at kept.old place).found ≡ Found.Prepared }
-    ensures walk { Walks P.means plan.now heap place Ask.Closing kept.old kept.new
+    ensures act { ActCarried P.means plan.now heap (Free (host_at plan.now place)) kept.old kept.new
         (world dsp.old io.old out.old) (world dsp.new io.new out.new) result }
     ensures agree { Agrees P.means plan.now kept.new dsp.new }
 {
@@ -145,7 +148,7 @@ fn free<P: Dsp>(
 // A stream is closed in the record.
 fn shut(kept: &mut Record, place: usize)
     requires { place < length kept.old.streams }
-    ensures { kept.new ≡ with_stream place closed kept.old }
+    ensures { kept.new ≡ with_place place closed kept.old }
 {
     kept.streams.put(
         place,
@@ -166,13 +169,13 @@ fn stop_and_free<P: Dsp>(
     out: &mut Outputs,
     place: usize,
 ) -> Result<(), HostFault>
-    requires plan { IsThinPlan plan.now }
+    requires plan { IsSound plan.now }
     requires agree { Agrees P.means plan.now kept.old dsp.old }
     requires room { HasRoom (61440 * P.means.pending dsp.old) out.old }
     requires power { kept.old.power ≡ Power.On }
     requires place { place < length plan.now.streams }
     requires found { takes (Ask.Triggering Trigger.Stop) (stream_at kept.old place).found ≡ true }
-    ensures walk { Walks P.means plan.now heap place Ask.Closing kept.old kept.new
+    ensures carried { Carried P.means plan.now heap (place_order plan.now kept.old place Ask.Closing) kept.old kept.new
         (world dsp.old io.old out.old) (world dsp.new io.new out.new) result }
     ensures agree { Agrees P.means plan.now kept.new dsp.new }
 {
@@ -190,12 +193,12 @@ fn close_on<P: Dsp>(
     out: &mut Outputs,
     place: usize,
 ) -> Result<(), HostFault>
-    requires plan { IsThinPlan plan.now }
+    requires plan { IsSound plan.now }
     requires agree { Agrees P.means plan.now kept.old dsp.old }
     requires room { HasRoom (61440 * P.means.pending dsp.old) out.old }
     requires power { kept.old.power ≡ Power.On }
     requires place { place < length plan.now.streams }
-    ensures walk { Walks P.means plan.now heap place Ask.Closing kept.old kept.new
+    ensures carried { Carried P.means plan.now heap (place_order plan.now kept.old place Ask.Closing) kept.old kept.new
         (world dsp.old io.old out.old) (world dsp.new io.new out.new) result }
     ensures agree { Agrees P.means plan.now kept.new dsp.new }
 {
@@ -219,12 +222,12 @@ pub fn close<P: Dsp>(
     out: &mut Outputs,
     place: usize,
 ) -> Result<(), HostFault>
-    requires plan { IsThinPlan plan.now }
+    requires plan { IsSound plan.now }
     requires agree { Agrees P.means plan.now kept.old dsp.old }
     requires room { HasRoom (61440 * P.means.pending dsp.old) out.old }
     requires loaded { kept.old.power ≡ Power.Unloaded → ⊥ }
     requires place { place < length plan.now.streams }
-    ensures walk { Walks P.means plan.now heap place Ask.Closing kept.old kept.new
+    ensures carried { Carried P.means plan.now heap (place_order plan.now kept.old place Ask.Closing) kept.old kept.new
         (world dsp.old io.old out.old) (world dsp.new io.new out.new) result }
     ensures agree { Agrees P.means plan.now kept.new dsp.new }
 {

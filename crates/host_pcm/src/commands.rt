@@ -7,9 +7,9 @@
 ghost use Rattle.std.specs.Prelude.{◌≡◌, ◌≤◌, ◌*◌};
 ghost use Rattle.sof_base.specs.Ports.{HasRoom};
 ghost use Rattle.mbox_link.specs.Calls.{world};
-ghost use Rattle.tplg_plan.specs.ThinPlan.{IsThinPlan};
+ghost use Rattle.tplg_plan.specs.Sound.{IsSound};
 ghost use Rattle.host_widgets.specs.Host.{Agrees};
-ghost use Rattle.host_pcm.specs.Carried.{Asked};
+ghost use Rattle.host_pcm.specs.StreamOrders.{Asked};
 
 use crate::asking::{Ask, tested};
 use crate::carrying;
@@ -29,7 +29,7 @@ pub fn open<P: Dsp>(
     out: &mut Outputs,
     name: &Name44,
 ) -> Result<(), HostFault>
-    requires plan { IsThinPlan plan.now }
+    requires plan { IsSound plan.now }
     requires agree { Agrees P.means plan.now kept.old dsp.old }
     ensures asked { Asked P.means plan.now heap name.now Ask.Opening kept.old kept.new
         (world dsp.old io.old out.old) (world dsp.new io.new out.new) result }
@@ -60,7 +60,7 @@ pub fn params<P: Dsp>(
     name: &Name44,
     p: Params,
 ) -> Result<(), HostFault>
-    requires plan { IsThinPlan plan.now }
+    requires plan { IsSound plan.now }
     requires agree { Agrees P.means plan.now kept.old dsp.old }
     requires heap { heap ≤ P.means.most dsp.old }
     requires room { HasRoom (61440 * P.means.pending dsp.old) out.old }
@@ -83,7 +83,7 @@ fn trigger<P: Dsp>(
     name: &Name44,
     what: Trigger,
 ) -> Result<(), HostFault>
-    requires plan { IsThinPlan plan.now }
+    requires plan { IsSound plan.now }
     requires agree { Agrees P.means plan.now kept.old dsp.old }
     requires heap { heap ≤ P.means.most dsp.old }
     requires room { HasRoom (61440 * P.means.pending dsp.old) out.old }
@@ -105,7 +105,7 @@ pub fn start<P: Dsp>(
     out: &mut Outputs,
     name: &Name44,
 ) -> Result<(), HostFault>
-    requires plan { IsThinPlan plan.now }
+    requires plan { IsSound plan.now }
     requires agree { Agrees P.means plan.now kept.old dsp.old }
     requires heap { heap ≤ P.means.most dsp.old }
     requires room { HasRoom (61440 * P.means.pending dsp.old) out.old }
@@ -126,7 +126,7 @@ pub fn stop<P: Dsp>(
     out: &mut Outputs,
     name: &Name44,
 ) -> Result<(), HostFault>
-    requires plan { IsThinPlan plan.now }
+    requires plan { IsSound plan.now }
     requires agree { Agrees P.means plan.now kept.old dsp.old }
     requires heap { heap ≤ P.means.most dsp.old }
     requires room { HasRoom (61440 * P.means.pending dsp.old) out.old }
@@ -147,7 +147,7 @@ pub fn pause<P: Dsp>(
     out: &mut Outputs,
     name: &Name44,
 ) -> Result<(), HostFault>
-    requires plan { IsThinPlan plan.now }
+    requires plan { IsSound plan.now }
     requires agree { Agrees P.means plan.now kept.old dsp.old }
     requires heap { heap ≤ P.means.most dsp.old }
     requires room { HasRoom (61440 * P.means.pending dsp.old) out.old }
@@ -168,7 +168,7 @@ pub fn release<P: Dsp>(
     out: &mut Outputs,
     name: &Name44,
 ) -> Result<(), HostFault>
-    requires plan { IsThinPlan plan.now }
+    requires plan { IsSound plan.now }
     requires agree { Agrees P.means plan.now kept.old dsp.old }
     requires heap { heap ≤ P.means.most dsp.old }
     requires room { HasRoom (61440 * P.means.pending dsp.old) out.old }
@@ -190,7 +190,7 @@ pub fn close<P: Dsp>(
     out: &mut Outputs,
     name: &Name44,
 ) -> Result<(), HostFault>
-    requires plan { IsThinPlan plan.now }
+    requires plan { IsSound plan.now }
     requires agree { Agrees P.means plan.now kept.old dsp.old }
     requires heap { heap ≤ P.means.most dsp.old }
     requires room { HasRoom (61440 * P.means.pending dsp.old) out.old }

@@ -3,9 +3,8 @@ ghost use Rattle.std.specs.Prelude.{◌≡◌, ◌*◌, is_some, true};
 ghost use Rattle.sof_base.specs.Ports.{HasRoom};
 ghost use Rattle.ipc3_codec.specs.Messages.{message_spelling};
 ghost use Rattle.mbox_link.specs.Calls.{world};
-ghost use Rattle.tplg_plan.specs.ThinPlan.{IsThinPlan};
 ghost use Rattle.host_widgets.specs.Host.{IsRecordOf};
-ghost use Rattle.host_pcm.specs.Carried.{Passes, is_down};
+ghost use Rattle.host_pcm.specs.ActCarried.{Passes, is_down};
 
 use host_widgets::{HostFault, Record, link_down, send};
 use ipc3_codec::Message;
@@ -30,11 +29,10 @@ pub fn pass<P: Dsp>(
     io: &mut Inputs,
     out: &mut Outputs,
 ) -> Result<(), HostFault>
-    requires plan { IsThinPlan plan.now }
     requires kept { IsRecordOf plan.now kept.old }
     requires on { is_some (P.means.on dsp.old) ≡ true }
     requires room { HasRoom (61440 * P.means.pending dsp.old) out.old }
-    ensures { Passes P.means (message_spelling message.now) kept.old kept.new
+    ensures { Passes P.means heap (message_spelling message.now) kept.old kept.new
         (world dsp.old io.old out.old) (world dsp.new io.new out.new) result }
 {
     let Err(fault) = send(message, dsp, io, out) else {

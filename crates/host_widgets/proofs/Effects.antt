@@ -136,7 +136,7 @@ act-bare f plan (Ask comp k) told = absurd told
 
 -- ---- one exchange
 
-decoded-message : (m : Message) → IsMessage m → decoded (message_spelling m) ≡ Ok m
+pub decoded-message : (m : Message) → IsMessage m → decoded (message_spelling m) ≡ Ok m
 decoded-message m is = ap decoded (sym (append-nil (message_spelling m))) ∙ decoded-spelling m [] is
 
 pub row-decoded : (f : FwState) (m : Message) → IsMessage m → row_of f (decoded (message_spelling m)) ≡ row f m

@@ -33,3 +33,13 @@ pub mod Loadables
 pub mod Firsts
 pub mod FirstSettings
 pub mod BarePlans
+pub mod ReadyWays
+pub mod OthersAgree
+pub mod StreamRows
+pub mod StreamPlaces
+pub mod StreamFits
+pub mod ActsCome
+pub mod RecordsStay
+pub mod ActsShow
+pub mod ActsStand
+pub mod OneActLaws

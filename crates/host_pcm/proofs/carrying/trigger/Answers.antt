@@ -3,24 +3,25 @@ use Rattle.mbox_link.specs.Calls.{world}
 use Rattle.tplg_plan.specs.declared.plans.StreamPlan.{StreamPlan}
 use Rattle.host_widgets.specs.declared.kept.StreamRec.{StreamRec}
 use Rattle.host_widgets.specs.HostRecord.{closed}
+use Rattle.host_widgets.specs.HostActs.{Trig}
 use Rattle.host_widgets.specs.Host.{Outcome}
 use Rattle.host_widgets.proofs.Walks.{handed_on}
-use Rattle.host_pcm.specs.declared.asking.Ask.TheVariants.{Triggering}
-use Rattle.host_pcm.specs.Carried.{Walks}
-use Rattle.host_pcm.proofs.ThinStream.{host-is}
+use Rattle.host_pcm.specs.StreamOrders.{host_at}
+use Rattle.host_pcm.specs.ActCarried.{ActCarried}
+use Rattle.host_pcm.proofs.Places.{place-stream}
 use Rattle.host_pcm.proofs.StreamCalls.{trigger-done, trigger-ended}
 use Rattle.host_pcm.proofs.carrying.trigger.Goals as goal
 
-pub returns-in_err-pass-clause-walk : goal.returns-in_err-pass-clause-walk
-returns-in_err-pass-clause-walk g c =
+pub returns-in_err-pass-clause-act : goal.returns-in_err-pass-clause-act
+returns-in_err-pass-clause-act g c =
     let means = g.P.Dsp.means in
     let plan = c.args.plan.now in
     let kept = c.args.kept.now in
     let w = world c.args.dsp.now c.args.io.now c.args.out.now in
     let v = world c.pass.new.dsp c.pass.new.io c.pass.new.out in
-    let host = ap (λ (s : StreamPlan). s.host) (host-is means plan c.requires.plan c.args.heap c.args.place c.requires.place kept w c.requires.agree c.requires.power c.items.result.now _ c.items.ensures) in
-    let both = trigger-ended means plan c.requires.plan c.args.heap c.args.place c.requires.place kept w c.requires.agree c.requires.power c.args.what c.requires.found c.message.result _ c.message.ensures host c.pass.new.kept v c.pass.result c.pass.ensures c.in_err-pass.field-0.0 c.in_err-pass.was in
-    subst (λ (o : Outcome). Walks means plan c.args.heap c.args.place (Triggering c.args.what) kept c.pass.new.kept w v o) (sym (handed_on c.from_residual.result c.in_err-pass.field-0.0 c.from_residual.ensures)) both.0
+    let host = ap (λ (s : StreamPlan). s.host) (place-stream plan c.args.place c.requires.place c.items.result.now _ c.items.ensures) in
+    subst (λ (o : Outcome). ActCarried means plan c.args.heap (Trig (host_at plan c.args.place) c.args.what) kept c.pass.new.kept w v o) (sym (handed_on c.from_residual.result c.in_err-pass.field-0.0 c.from_residual.ensures))
+    (trigger-ended means plan c.requires.plan c.args.heap c.args.place c.requires.place kept w c.requires.agree c.requires.power c.args.what c.requires.found c.message.result _ c.message.ensures host c.pass.new.kept v c.pass.result c.pass.ensures c.in_err-pass.field-0.0 c.in_err-pass.was).0
 
 pub returns-in_err-pass-clause-agree : goal.returns-in_err-pass-clause-agree
 returns-in_err-pass-clause-agree g c =
@@ -29,17 +30,17 @@ returns-in_err-pass-clause-agree g c =
     let kept = c.args.kept.now in
     let w = world c.args.dsp.now c.args.io.now c.args.out.now in
     let v = world c.pass.new.dsp c.pass.new.io c.pass.new.out in
-    let host = ap (λ (s : StreamPlan). s.host) (host-is means plan c.requires.plan c.args.heap c.args.place c.requires.place kept w c.requires.agree c.requires.power c.items.result.now _ c.items.ensures) in
+    let host = ap (λ (s : StreamPlan). s.host) (place-stream plan c.args.place c.requires.place c.items.result.now _ c.items.ensures) in
     (trigger-ended means plan c.requires.plan c.args.heap c.args.place c.requires.place kept w c.requires.agree c.requires.power c.args.what c.requires.found c.message.result _ c.message.ensures host c.pass.new.kept v c.pass.result c.pass.ensures c.in_err-pass.field-0.0 c.in_err-pass.was).1
 
-pub returns-clause-walk : goal.returns-clause-walk
-returns-clause-walk g c =
+pub returns-clause-act : goal.returns-clause-act
+returns-clause-act g c =
     let means = g.P.Dsp.means in
     let plan = c.args.plan.now in
     let kept = c.args.kept.now in
     let w = world c.args.dsp.now c.args.io.now c.args.out.now in
     let v = world c.pass.new.dsp c.pass.new.io c.pass.new.out in
-    let host = ap (λ (s : StreamPlan). s.host) (host-is means plan c.requires.plan c.args.heap c.args.place c.requires.place kept w c.requires.agree c.requires.power c.items.result.now _ c.items.ensures) in
+    let host = ap (λ (s : StreamPlan). s.host) (place-stream plan c.args.place c.requires.place c.items.result.now _ c.items.ensures) in
     (trigger-done means plan c.requires.plan c.args.heap c.args.place c.requires.place kept w c.requires.agree c.requires.power c.args.what c.requires.found c.message.result _ c.message.ensures host c.pass.new.kept v c.pass.result c.pass.ensures c.in_ok-pass.was _
     (λ i. record { found = c.triggered.ensures i; params = (ap (λ (rs : List StreamRec). (get_or rs c.args.place closed).params) c.items-2.ensures) i }) c.put.new.self c.put.ensures).0
 
@@ -50,6 +51,6 @@ returns-clause-agree g c =
     let kept = c.args.kept.now in
     let w = world c.args.dsp.now c.args.io.now c.args.out.now in
     let v = world c.pass.new.dsp c.pass.new.io c.pass.new.out in
-    let host = ap (λ (s : StreamPlan). s.host) (host-is means plan c.requires.plan c.args.heap c.args.place c.requires.place kept w c.requires.agree c.requires.power c.items.result.now _ c.items.ensures) in
+    let host = ap (λ (s : StreamPlan). s.host) (place-stream plan c.args.place c.requires.place c.items.result.now _ c.items.ensures) in
     (trigger-done means plan c.requires.plan c.args.heap c.args.place c.requires.place kept w c.requires.agree c.requires.power c.args.what c.requires.found c.message.result _ c.message.ensures host c.pass.new.kept v c.pass.result c.pass.ensures c.in_ok-pass.was _
     (λ i. record { found = c.triggered.ensures i; params = (ap (λ (rs : List StreamRec). (get_or rs c.args.place closed).params) c.items-2.ensures) i }) c.put.new.self c.put.ensures).1

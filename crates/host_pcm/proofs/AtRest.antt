@@ -1,0 +1,186 @@
+-- A stream that is opened or closed by no message: its order is carried out, and the two sides go on agreeing.
+use Rattle.std.proofs.Common.{◌≡◌, ◌⊎◌, inl, inr, ⊎_elim, ℕ, zero, suc, ◌<◌, Bool, true, false, ◌||◌, ◌==◌, List, [], ◌∷◌, length, map, zip, get_or, set, Option, Some, None, Ok, refl, sym, ap, subst, ◌∙◌, arith, if◌then◌else◌}
+use Rattle.std.specs.List.{list_any, list_all}
+use Rattle.std.proofs.lemmas.Bool.{and_parts}
+use Rattle.sof_base.specs.declared.format.Params.{Params}
+use Rattle.stream_law.specs.declared.stream.Phase.{Phase}
+use Rattle.stream_law.specs.declared.stream.Phase.TheVariants.{Idle}
+use Rattle.stream_law.specs.declared.stream.StreamView.{StreamView}
+use Rattle.stream_law.specs.Ways.{is_live_phase}
+use Rattle.mbox_link.specs.Calls.{World, Meaning}
+use Rattle.tplg_plan.specs.declared.plans.Plan.{Plan}
+use Rattle.tplg_plan.specs.declared.plans.StreamPlan.{StreamPlan}
+use Rattle.tplg_plan.specs.Sound.{IsSound}
+use Rattle.host_widgets.specs.declared.answers.Answer.TheVariants.{Done}
+use Rattle.host_widgets.specs.declared.kept.Found.{Found}
+use Rattle.host_widgets.specs.declared.kept.Found.TheVariants.{Closed, Open, Prepared, Running, Paused, On as Found_On}
+use Rattle.host_widgets.specs.declared.kept.Power.{Power}
+use Rattle.host_widgets.specs.declared.kept.Power.TheVariants.{On, Off, Unloaded}
+use Rattle.host_widgets.specs.declared.kept.StreamRec.{StreamRec}
+use Rattle.host_widgets.specs.declared.kept.Record.{Record}
+use Rattle.host_widgets.specs.HostRecord.{closed, may_have}
+use Rattle.host_widgets.specs.Kept.{changed, with_stream}
+use Rattle.host_widgets.specs.HostActs.{Act}
+use Rattle.host_widgets.specs.ActLists.{close_by}
+use Rattle.host_widgets.specs.Expected.{phase_of, stream_view}
+use Rattle.host_widgets.specs.ViewOf.{view_by, graph_by}
+use Rattle.host_widgets.specs.Host.{Outcome, Agrees, Sides}
+use Rattle.host_widgets.specs.Orders.{Order, Carried, sends}
+use Rattle.host_widgets.proofs.StreamRows.{AllAt}
+use Rattle.host_widgets.proofs.StreamPlaces.{place-all}
+use Rattle.host_widgets.proofs.RecordsStay.{may, Less, record-less}
+use Rattle.host_pcm.specs.declared.asking.Ask.TheVariants.{Opening, Closing}
+use Rattle.host_pcm.specs.Asks.{stream_at, is_closed, with_place}
+use Rattle.host_pcm.specs.StreamOrders.{host_at, place_order, opened, shut}
+use Rattle.host_pcm.proofs.PlainOrders.{plain, no-acts}
+use Rattle.host_pcm.proofs.Places.{place-changed}
+
+-- ---- streams that show nothing
+
+-- a stream in this stand is without parameters
+abbrev pub is_idle : Found → Bool
+is_idle Closed = true
+is_idle Open = true
+is_idle Found_On = true
+is_idle found = false
+
+abbrev IsIdle : StreamRec → Type 0
+IsIdle r = (phase_of r.found ≡ Idle) × (r.params ≡ None)
+
+idle-shows : (found : Found) (params : Option Params) → is_idle found ≡ true → may_have found params ≡ true → IsIdle (record { found = found; params = params })
+idle-shows Closed None is so = (refl, refl)
+idle-shows Closed (Some p) is so = absurd (cc so)
+idle-shows Open None is so = (refl, refl)
+idle-shows Open (Some p) is so = absurd (cc so)
+idle-shows Prepared params is so = absurd (cc is)
+idle-shows Running params is so = absurd (cc is)
+idle-shows Paused params is so = absurd (cc is)
+idle-shows Found_On params is so = absurd (cc so)
+
+-- each stream is as it may be
+may-at : (rs : List StreamRec) (k : ℕ) → list_all may rs ≡ true → may (get_or rs k closed) ≡ true
+may-at [] k all = refl
+may-at (r ∷ rs) zero all = (and_parts (may r) (list_all may rs) all).0
+may-at (r ∷ rs) (suc k) all = may-at rs k (and_parts (may r) (list_all may rs) all).1
+
+neither : (a b : Bool) → (a || b) ≡ false → (a ≡ false) × (b ≡ false)
+neither false b is = (refl, is)
+neither true b is = absurd (cc is)
+
+abbrev is_live : StreamRec → Bool
+is_live r = is_live_phase (phase_of r.found)
+
+-- one that shows nothing, in place of that of a host
+module _ (host : ℕ) (c : StreamRec) (idle : IsIdle c) where
+  abbrev now : List StreamPlan → List StreamRec → List StreamRec
+  now ss rs = changed (λ (s : StreamPlan). s.host) host (λ r. c) ss rs
+
+  same-shown : (ss : List StreamPlan) (rs : List StreamRec) → AllAt IsIdle host ss rs → map stream_view (zip ss (now ss rs)) ≡ map stream_view (zip ss rs)
+  same-shown [] rs so = refl
+  same-shown (s ∷ ss) [] so = refl
+  same-shown (s ∷ ss) (r ∷ rs) so = λ i. by (s.host == host) refl i ∷ same-shown ss rs so.1 i
+    where
+      by : (b : Bool) → (s.host == host) ≡ b → stream_view (s, (if b then c else r)) ≡ stream_view (s, r)
+      by true is = let was = so.0 is in λ i. record { host = s.host; phase = (idle.0 ∙ sym was.0) i; params = (idle.1 ∙ sym was.1) i }
+      by false is = refl
+
+  none-live : (ss : List StreamPlan) (rs : List StreamRec) → list_any is_live rs ≡ false → list_any is_live (now ss rs) ≡ false
+  none-live [] rs none = none
+  none-live (s ∷ ss) [] none = refl
+  none-live (s ∷ ss) (r ∷ rs) none =
+      let parts = neither (is_live r) (list_any is_live rs) none in
+      λ i. by (s.host == host) parts.0 i || none-live ss rs parts.1 i
+    where
+      by : (b : Bool) → is_live r ≡ false → is_live (if b then c else r) ≡ false
+      by true was = ap is_live_phase idle.0
+      by false was = was
+
+anywhere : (So : StreamRec → Type 0) → ((r : StreamRec) → So r) → (host : ℕ) (ss : List StreamPlan) (rs : List StreamRec) → AllAt So host ss rs
+anywhere So so host [] rs = tt
+anywhere So so host (s ∷ ss) [] = tt
+anywhere So so host (s ∷ ss) (r ∷ rs) = (λ here. so r, anywhere So so host ss rs)
+
+-- ---- both sides
+
+loaded : (power : Power) → (power ≡ Unloaded → ⊥) → (power ≡ On) ⊎ (power ≡ Off)
+loaded On is = inl refl
+loaded Off is = inr refl
+loaded Unloaded is = absurd (is refl)
+
+-- orders of no acts
+sends-none : (power : Power) (done : Record → Record) → sends power [] done Done ≡ plain [] done
+sends-none On done = refl
+sends-none Off done = refl
+sends-none Unloaded done = refl
+
+close-none : (host : ℕ) (found : Found) → is_idle found ≡ true → close_by host found ≡ []
+close-none host Closed is = refl
+close-none host Open is = refl
+close-none host Prepared is = absurd (cc is)
+close-none host Running is = absurd (cc is)
+close-none host Paused is = absurd (cc is)
+close-none host Found_On is = refl
+
+module _ {D : Type 0} (means : Meaning D) (plan : Plan) (sound : IsSound plan) (heap k : ℕ) (within : k < length plan.streams) (kept : Record) (w : World D) (agrees : Agrees means plan kept w.device)
+    (up : kept.power ≡ Unloaded → ⊥) where
+  -- a stream that shows nothing, in place of one that shows nothing or while the power is off
+  module _ (c : StreamRec) (idle : IsIdle c) (may-c : may c ≡ true) (was : kept.power ≡ On → is_idle (stream_at kept k).found ≡ true) where
+    abbrev later : Record
+    later = with_stream plan (host_at plan k) (λ r. c) kept
+
+    agrees-later : Agrees means plan later w.device
+    agrees-later = record {
+      record_is = record-less plan kept (host_at plan k) (λ r. c) agrees.record_is
+          (anywhere (λ r. may c ≡ true) (λ r. may-c) (host_at plan k) plan.streams kept.streams)
+          (anywhere (λ r. Less c.params r.params) (λ r. inr idle.1) (host_at plan k) plan.streams kept.streams);
+      sides = ⊎_elim
+          (λ on.
+          let side = subst (λ (x : Power). Sides means plan kept w.device x) on agrees.sides in
+          let here : IsIdle (stream_at kept k) = idle-shows (stream_at kept k).found (stream_at kept k).params (was on) (may-at kept.streams k agrees.record_is.each) in
+          let same = same-shown (host_at plan k) c idle plan.streams kept.streams (place-all plan sound k within IsIdle kept.streams here) in
+          subst (λ (x : Power). Sides means plan later w.device x) (sym on)
+          (side ∙ ap (λ (ss : List StreamView). Some (record { graph = graph_by plan kept; streams = ss })) (sym same)))
+          (λ off.
+          let side = subst (λ (x : Power). Sides means plan kept w.device x) off agrees.sides in
+          subst (λ (x : Power). Sides means plan later w.device x) (sym off) (none-live (host_at plan k) c idle plan.streams kept.streams side.0, side.1))
+          (loaded kept.power up);
+    }
+
+    pub rest-agrees : Agrees means plan (with_place k c kept) w.device
+    rest-agrees = subst (λ (r : Record). Agrees means plan r w.device) (sym (place-changed plan sound k within (λ r. c) kept agrees.record_is.streams)) agrees-later
+
+  abbrev CarriedSo : Order → Record → Type 0
+  CarriedSo order kept' = Carried means plan heap order kept kept' w w (Ok tt)
+
+  -- an opening sends nothing
+  pub open-carried : CarriedSo (place_order plan kept k Opening) (with_place k (opened closed) kept)
+  open-carried = subst (λ (o : Order). CarriedSo o (with_place k (opened closed) kept)) (sym (sends-none kept.power (with_stream plan (host_at plan k) opened)))
+      (no-acts means plan heap (with_stream plan (host_at plan k) opened) kept (with_place k (opened closed) kept) w (place-changed plan sound k within opened kept agrees.record_is.streams))
+
+  -- nor does a closing of a stream without parameters, or while the power is off
+  close-order : (kept.power ≡ On → is_idle (stream_at kept k).found ≡ true) → place_order plan kept k Closing ≡ plain [] (with_stream plan (host_at plan k) shut)
+  close-order was = ⊎_elim
+      (λ on. ap (λ (p : Power). sends p (close_by (host_at plan k) (stream_at kept k).found) (with_stream plan (host_at plan k) shut) Done) on
+      ∙ ap (λ (acts : List Act). plain acts (with_stream plan (host_at plan k) shut)) (close-none (host_at plan k) (stream_at kept k).found (was on)))
+      (λ off. ap (λ (p : Power). sends p (close_by (host_at plan k) (stream_at kept k).found) (with_stream plan (host_at plan k) shut) Done) off)
+      (loaded kept.power up)
+
+  pub close-carried : (kept.power ≡ On → is_idle (stream_at kept k).found ≡ true) → CarriedSo (place_order plan kept k Closing) (with_place k closed kept)
+  close-carried was = subst (λ (o : Order). CarriedSo o (with_place k closed kept)) (sym (close-order was))
+      (no-acts means plan heap (with_stream plan (host_at plan k) shut) kept (with_place k closed kept) w (place-changed plan sound k within shut kept agrees.record_is.streams))
+
+-- ---- what the arms of a match know
+
+pub idle-from : (found : Found) → (found ≡ Closed) ⊎ (found ≡ Open) ⊎ (found ≡ Found_On) → is_idle found ≡ true
+idle-from found is = ⊎_elim (λ e. ap is_idle e) (λ rest. ⊎_elim (λ e. ap is_idle e) (λ e. ap is_idle e) rest) is
+
+pub idle-while-off : {A : Type 0} (power : Power) → (power ≡ Unloaded → ⊥) → (power ≡ Unloaded) ⊎ (power ≡ Off) → power ≡ On → A
+idle-while-off power up is on = ⊎_elim (λ e. absurd (up e)) (λ off. absurd (cc (sym off ∙ on))) is
+
+pub closed-idle : (found : Found) → is_closed found ≡ true → is_idle found ≡ true
+closed-idle Closed is = refl
+closed-idle Open is = absurd (cc is)
+closed-idle Prepared is = absurd (cc is)
+closed-idle Running is = absurd (cc is)
+closed-idle Paused is = absurd (cc is)
+closed-idle Found_On is = absurd (cc is)

@@ -1,0 +1,86 @@
+-- Acts one after another are an order that is carried out.
+use Rattle.std.proofs.Common.{◌≡◌, ℕ, Bool, true, false, List, [], ◌∷◌, Ok, Err, refl, sym, ap, subst}
+use Rattle.stream_law.specs.Past.{Moment}
+use Rattle.mbox_link.specs.Meetings.{Meeting}
+use Rattle.mbox_link.specs.Calls.{World, Meaning, Led}
+use Rattle.tplg_plan.specs.declared.plans.Plan.{Plan}
+use Rattle.host_widgets.specs.declared.answers.Answer.TheVariants as answers
+use Rattle.host_widgets.specs.declared.answers.HostFault.{HostFault}
+use Rattle.host_widgets.specs.declared.answers.HostFault.TheVariants.{NotLoaded, Loaded, NoSuch, State, Off, Range, Refused, LinkDown, Blob}
+use Rattle.host_widgets.specs.declared.kept.Record.{Record}
+use Rattle.host_widgets.specs.HostActs.{Act, after}
+use Rattle.host_widgets.specs.Host.{Outcome}
+use Rattle.host_widgets.specs.OneAct.{own, outcome_by, came, lag_of}
+use Rattle.host_widgets.specs.Walk.{Walked, walk, joined, goes_past}
+use Rattle.host_widgets.specs.ActCalls.{ActsDid, Onwards, next_of, calls_of}
+use Rattle.host_widgets.specs.Orders.{Order, Carried, Ends, Plain, plain_end}
+use Rattle.host_pcm.specs.ActCarried.{ActCarried}
+
+-- acts alone, and this record once all passed
+abbrev pub plain : List Act → (Record → Record) → Order
+plain acts done = record { first = []; acts = acts; manner = Plain; done = done; answer = answers.Done }
+
+-- nothing goes on after a fault
+pub ends-at : (fault : HostFault) → goes_past false (Err fault) ≡ false
+ends-at NotLoaded = refl
+ends-at Loaded = refl
+ends-at (NoSuch name) = refl
+ends-at (State found) = refl
+ends-at Off = refl
+ends-at (Range n) = refl
+ends-at (Refused e) = refl
+ends-at LinkDown = refl
+ends-at (Blob n) = refl
+
+-- what a fault leaves does not hang on what all would have left
+same-end : (done : Record → Record) (kept : Record) (fault : HostFault) → plain_end (λ now. now) kept (Err fault) ≡ plain_end done kept (Err fault)
+same-end done kept NotLoaded = refl
+same-end done kept Loaded = refl
+same-end done kept (NoSuch name) = refl
+same-end done kept (State found) = refl
+same-end done kept Off = refl
+same-end done kept (Range n) = refl
+same-end done kept (Refused e) = refl
+same-end done kept LinkDown = refl
+same-end done kept (Blob n) = refl
+
+module _ {D : Type 0} (means : Meaning D) (plan : Plan) (heap : ℕ) where
+  abbrev CarriedBy : List Act → (Record → Record) → Record → Record → World D → World D → Outcome → Type 0
+  CarriedBy acts done kept kept' w v result = Carried means plan heap (plain acts done) kept kept' w v result
+
+  -- no act
+  pub no-acts : (done : Record → Record) (kept kept' : Record) (w : World D) → kept' ≡ done kept → CarriedBy [] done kept kept' w w (Ok tt)
+  no-acts done kept kept' w is = record { meetings = []; begun = w; sent = w; first = refl; walked = (refl, refl); came = refl; ends = (is, refl) }
+
+  module _ (act : Act) (acts : List Act) (done : Record → Record) (kept : Record) (w : World D) where
+    -- an act of an outcome, and those behind it
+    module _ (m : Meeting) (ms : List Meeting) (o : Outcome) where
+      abbrev Behind : World D → World D → Bool → Type 0
+      Behind mid v b = Onwards b ms mid v (ActsDid means plan heap false (came plan act kept (lag_of m) o).kept acts ms mid v)
+
+      abbrev whole : Bool → Walked (List Meeting)
+      whole b = joined act (came plan act kept (lag_of m) o) ms b (walk plan heap false next_of (came plan act kept (lag_of m) o).kept ms acts)
+
+    abbrev Comes : Meeting → List Meeting → World D → World D → World D → Record → Outcome → Outcome → Bool → Type 0
+    Comes m ms mid sent v kept' result o b = Behind m ms o mid sent b × (result ≡ (whole m ms o b).outcome) × Ends means plan heap (plain (act ∷ acts) done) kept kept' sent v (whole m ms o b)
+
+    -- one that failed ends it
+    pub ends-with : (fault : HostFault) (kept' : Record) (v : World D) → ActCarried means plan heap act kept kept' w v (Err fault) → CarriedBy (act ∷ acts) done kept kept' w v (Err fault)
+    ends-with fault kept' v x =
+        let here : Comes x.meeting [] x.sent x.sent v kept' (Err fault) (Err fault) false = ((refl, refl), refl, subst (λ (end : Record × List Moment). (kept' ≡ end.0) × Led means x.sent (calls_of heap end.1) v) (same-end done kept fault) x.ends) in
+        let there = subst (λ (o : Outcome). Comes x.meeting [] x.sent x.sent v kept' (Err fault) o (goes_past false (came plan act kept (lag_of x.meeting) o).outcome)) x.said
+        (subst (λ (b : Bool). Comes x.meeting [] x.sent x.sent v kept' (Err fault) (Err fault) b) (sym (ends-at fault)) here) in
+        record { meetings = x.meeting ∷ []; begun = w; sent = x.sent; first = refl; walked = (x.sent, x.did, there.0); came = there.1; ends = there.2 }
+
+    -- one that passed is followed by the rest
+    pub goes-on : (k1 k2 : Record) (mid v : World D) (result : Outcome) → ActCarried means plan heap act kept k1 w mid (Ok tt) → CarriedBy acts done k1 k2 mid v result → CarriedBy (act ∷ acts) done kept k2 w v result
+    goes-on k1 k2 mid v result x rest =
+        let y : CarriedBy acts done (after plan act kept) k2 x.sent v result = subst (λ (p : Record × World D). CarriedBy acts done p.0 k2 p.1 v result) (λ i. (x.ends.0 i, x.ends.1 i)) rest in
+        let did = subst (λ (b : World D). ActsDid means plan heap false (after plan act kept) acts y.meetings b y.sent) y.first y.walked in
+        let here : Comes x.meeting y.meetings x.sent y.sent v k2 result (Ok tt) true = (did, y.came, y.ends) in
+        let there = subst (λ (o : Outcome). Comes x.meeting y.meetings x.sent y.sent v k2 result o (goes_past false (came plan act kept (lag_of x.meeting) o).outcome)) x.said here in
+        record { meetings = x.meeting ∷ y.meetings; begun = w; sent = y.sent; first = refl; walked = (x.sent, x.did, there.0); came = there.1; ends = there.2 }
+
+  -- one act alone
+  pub passes-alone : (act : Act) (done : Record → Record) (kept kept' : Record) (w v : World D) → ActCarried means plan heap act kept kept' w v (Ok tt) → kept' ≡ done kept' → CarriedBy (act ∷ []) done kept kept' w v (Ok tt)
+  passes-alone act done kept kept' w v x is = goes-on act [] done kept w kept' kept' v v (Ok tt) x (no-acts done kept' kept' v is)

@@ -1,0 +1,39 @@
+-- One message of a call, and one act with what a failed link leaves.
+use Rattle.std.specs.Prelude.{◌≡◌, ℕ, List, [], Bool, true, false, Option}
+use Rattle.mbox_link.specs.Meetings.{Meeting}
+use Rattle.mbox_link.specs.Calls.{World, Meaning, Exchanged, Led}
+use Rattle.tplg_plan.specs.declared.plans.Plan.{Plan}
+use Rattle.host_widgets.specs.declared.answers.HostFault.{HostFault}
+use Rattle.host_widgets.specs.declared.answers.HostFault.TheVariants.{LinkDown}
+use Rattle.host_widgets.specs.declared.kept.Record.{Record}
+use Rattle.host_widgets.specs.HostActs.{Act}
+use Rattle.host_widgets.specs.OneAct.{own, outcome_by, came}
+use Rattle.host_widgets.specs.ActCalls.{ActDid, came_to, calls_of}
+use Rattle.host_widgets.specs.Orders.{plain_end}
+use Rattle.host_widgets.specs.Host.{Outcome, verdict}
+
+-- whether the link failed
+abbrev pub is_down : HostFault → Bool
+is_down LinkDown = true
+is_down fault = false
+
+-- what came to this leaves the record so far; a failed link takes it down, and cuts the device
+abbrev pub PlainEnd : {D : Type 0} → Meaning D → ℕ → Outcome → Record → Record → World D → World D → Type 0
+PlainEnd means heap result kept kept' w v =
+    let end = plain_end (λ now. now) kept result in (kept' ≡ end.0) × Led means w (calls_of heap end.1) v
+
+-- one exchange of these bytes
+pub record Passes {D : Type 0} (means : Meaning D) (heap : ℕ) (request : List ℕ) (kept kept' : Record) (w v : World D) (result : Outcome) : Type 0 where
+  pub answer : Option (List ℕ)
+  pub sent : World D
+  pub exchanged : Exchanged means request answer w sent
+  pub said : result ≡ came_to (verdict answer)
+  pub ends : PlainEnd means heap result kept kept' sent v
+
+-- one act
+pub record ActCarried {D : Type 0} (means : Meaning D) (plan : Plan) (heap : ℕ) (act : Act) (kept kept' : Record) (w v : World D) (result : Outcome) : Type 0 where
+  pub meeting : Meeting
+  pub sent : World D
+  pub did : ActDid means plan heap kept act meeting w sent
+  pub said : result ≡ outcome_by meeting.fate (own plan heap kept act)
+  pub ends : PlainEnd means heap result (came plan act kept [] result).kept kept' sent v

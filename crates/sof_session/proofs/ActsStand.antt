@@ -32,8 +32,8 @@ use Rattle.host_widgets.specs.ViewOf.{view_by}
 use Rattle.host_widgets.specs.Expected.{phase_of}
 use Rattle.host_widgets.specs.Host.{IsRecordOf}
 use Rattle.host_widgets.proofs.ThinRecords.{shown, view_with, view-is, record-of, agree-one}
-use Rattle.host_pcm.specs.Asks.{after_act, after_acts}
-use Rattle.host_pcm.specs.Carried.{state_after_acts}
+use Rattle.sof_session.specs.StreamEnds.{after_act, after_acts}
+use Rattle.sof_session.specs.StreamEnds.{state_after_acts}
 use Rattle.sof_session.specs.Turns.{Keeps}
 use Rattle.sof_session.specs.Moments.{act_moments}
 use Rattle.sof_session.proofs.Keeping.{keeps-rests, Keeps-seen, acts-rest}

@@ -27,8 +27,9 @@ use Rattle.host_widgets.proofs.ThinRecords.{only, shown, no-controls}
 use Rattle.host_widgets.proofs.Records.{down-record}
 use Rattle.host_pcm.specs.declared.asking.Ask.{Ask}
 use Rattle.host_pcm.specs.declared.asking.Ask.TheVariants.{Opening, Preparing, Triggering, Closing}
-use Rattle.host_pcm.specs.Asks.{is_named, stream_place, caps_at, named_fault, loaded_fault, early_fault, stream_at, stream_acts, after_acts, after_ask}
-use Rattle.host_pcm.specs.Carried.{state_after_acts}
+use Rattle.host_pcm.specs.Asks.{is_named, stream_place, caps_at, named_fault, loaded_fault, early_fault, stream_at}
+use Rattle.sof_session.specs.StreamEnds.{stream_acts, after_acts, after_ask}
+use Rattle.sof_session.specs.StreamEnds.{state_after_acts}
 use Rattle.host_pcm.proofs.HostTests.{Stood, found_place}
 use Rattle.sof_session.specs.Turns.{Keeps}
 use Rattle.sof_session.specs.Walks.{Host, Stand, Out, ending, walked, answer_of, silent, stand, place_of, host_asked, walk_next, tested_next, stream_next}

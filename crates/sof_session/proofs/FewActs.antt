@@ -9,10 +9,12 @@ use Rattle.host_widgets.specs.declared.kept.Record.{Record}
 use Rattle.host_widgets.specs.HostActs.{Act}
 use Rattle.host_pcm.specs.declared.asking.Ask.{Ask}
 use Rattle.host_pcm.specs.declared.asking.Ask.TheVariants.{Opening, Preparing, Triggering, Closing}
-use Rattle.host_pcm.specs.Asks.{acts_by, closing_acts, stream_acts, stream_at}
-use Rattle.host_pcm.specs.Carried.{acts_at}
+use Rattle.host_pcm.specs.Asks.{stream_at}
+use Rattle.host_widgets.specs.ActLists.{close_by}
+use Rattle.sof_session.specs.StreamEnds.{acts_by, stream_acts}
+use Rattle.sof_session.specs.StreamEnds.{acts_at}
 
-few-closing : (host : ℕ) (found : Found) → length (closing_acts host found) ≤ 900
+few-closing : (host : ℕ) (found : Found) → length (close_by host found) ≤ 900
 few-closing host founds.Closed = omega arith
 few-closing host founds.Open = omega arith
 few-closing host founds.Prepared = omega arith

@@ -19,7 +19,7 @@ use Rattle.host_widgets.specs.Expected.{loaded_heap}
 use Rattle.host_widgets.specs.StateOf.{loaded_state}
 use Rattle.host_widgets.specs.declared.kept.Power.TheVariants.{On}
 use Rattle.host_widgets.specs.declared.kept.Record.{Record}
-use Rattle.host_pcm.specs.Carried.{kept_so_far, state_after_acts}
+use Rattle.sof_session.specs.StreamEnds.{kept_so_far, state_after_acts}
 use Rattle.sof_session.specs.Turns.{Keeps}
 
 -- what a powered device keeps besides its view

@@ -15,7 +15,9 @@ use Rattle.host_widgets.specs.ViewOf.{view_by}
 use Rattle.host_widgets.specs.Host.{Outcome, Agrees, Sides}
 use Rattle.host_pcm.specs.declared.asking.Ask.{Ask}
 use Rattle.host_pcm.specs.Asks.{early_fault}
-use Rattle.host_pcm.specs.Carried.{Asked, Walks, acts_at, passed_of, state_after_acts}
+use Rattle.sof_session.specs.StreamEnds.{acts_at, passed_of, state_after_acts}
+use Rattle.host_pcm.specs.StreamOrders as orders
+use Rattle.sof_session.proofs.AskedWalks.{Asked, Walks, asked-over}
 use Rattle.sof_session.specs.Seat.{Seat}
 use Rattle.sof_session.specs.Turns.{AreAgreed, Powered, Keeps}
 use Rattle.sof_session.proofs.LinkFates.{Led-fated}
@@ -23,9 +25,12 @@ use Rattle.sof_session.proofs.Agreement.{at, seat_with, Kept, agreed_with}
 use Rattle.sof_session.proofs.Keeping.{Rests, keeps-rests, Keeps-seen, acts-rest}
 use Rattle.sof_session.proofs.StreamWalks.{off-or-on, was-on, by-tests, calls-of}
 
-module _ {P : Type 0} (means : Meaning P) (old : Seat P) (wire : Wire P) (kept : Record) (io io' : Io) (name : List ℕ) (ask : Ask) (result : Outcome) (agreed : AreAgreed means old) (thin : IsThinPlan old.plan) (asked : Asked (link means) old.plan old.heap name ask old.kept kept (at old.link io) (at wire io') result) (agree : Agrees (link means) old.plan kept wire) where
+module _ {P : Type 0} (means : Meaning P) (old : Seat P) (wire : Wire P) (kept : Record) (io io' : Io) (name : List ℕ) (ask : Ask) (result : Outcome) (agreed : AreAgreed means old) (thin : IsThinPlan old.plan) (given : orders.Asked (link means) old.plan old.heap name ask old.kept kept (at old.link io) (at wire io') result) (agree : Agrees (link means) old.plan kept wire) where
   abbrev new : Seat P
   new = seat_with means old wire io io' agreed kept
+
+  asked : Asked (link means) old.plan old.heap name ask old.kept kept (at old.link io) (at wire io') result
+  asked = asked-over means old agreed kept wire io io' name ask result given
 
   -- the device of the link
   sides-inside : (power : Power) → Sides (link means) old.plan kept wire power → Sides means old.plan kept wire.device power

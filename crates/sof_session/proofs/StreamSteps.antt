@@ -15,8 +15,10 @@ use Rattle.host_widgets.proofs.ThinRecords.{shown}
 use Rattle.host_pcm.specs.declared.asking.Ask.{Ask}
 use Rattle.host_pcm.specs.declared.asking.Ask.TheVariants.{Opening, Preparing, Triggering, Closing}
 use Rattle.tplg_model.specs.declared.pcm.Caps.{Caps}
-use Rattle.host_pcm.specs.Asks.{takes, takes_params, takes_trigger, is_closed, range_fault, stream_acts, after_act, after_acts, after_ask}
-use Rattle.host_pcm.proofs.StreamActs.{takes-trigger, ranges}
+use Rattle.host_pcm.specs.Asks.{takes, takes_params, takes_trigger, is_closed, range_fault}
+use Rattle.sof_session.specs.StreamEnds.{stream_acts, after_act, after_acts, after_ask}
+use Rattle.host_pcm.proofs.TakenActs.{trigger-may}
+use Rattle.host_pcm.proofs.StreamCalls.{ranges}
 
 -- a stream has parameters where it may
 abbrev pub MayBe : StreamRec → Type 0
@@ -71,13 +73,12 @@ rests Found_On is live = false≢true live
 
 taken-params : (caps : Caps) (host : ℕ) (p : Params) (r : StreamRec) → takes_params r.found ≡ true → range_fault caps (Preparing p) ≡ None → Taken (Preparing p) host r
 taken-params caps host p r is none =
-    let both = ranges caps p none in
-    let may : may_have Prepared (Some p) ≡ true = rw (both.0, both.1) refl in
+    let may : may_have Prepared (Some p) ≡ true = ranges caps p none in
     record { steps = (record { may = may; stays = λ live. absurd (rests r.found is live) }, tt); may = may; shows = refl }
 
 taken-trigger : (host : ℕ) (what : Trigger) (r : StreamRec) → takes_trigger what r.found ≡ true → MayBe r → Taken (Triggering what) host r
 taken-trigger host what r is may =
-    let then : MayBe (after_act (Trig host what) r) = (takes-trigger 0 0 S16 0 no_caps [] [] 0 r what is may).may in
+    let then : MayBe (after_act (Trig host what) r) = trigger-may what r.found r.params is may in
     record { steps = (record { may = then; stays = λ live. refl }, tt); may = then; shows = refl }
 
 taken-closing : (host : ℕ) (found : Found) (params : Option Params) → takes Closing found ≡ true → MayBe (stream found params) → Taken Closing host (stream found params)

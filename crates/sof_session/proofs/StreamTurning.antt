@@ -19,7 +19,9 @@ use Rattle.host_widgets.specs.HostActs.{Act}
 use Rattle.host_widgets.specs.Host.{Outcome}
 use Rattle.host_pcm.specs.declared.asking.Ask.{Ask}
 use Rattle.host_pcm.specs.Asks.{early_fault, stream_place}
-use Rattle.host_pcm.specs.Carried.{Asked, Walks, Left, acts_at, passed_of, state_after_acts}
+use Rattle.sof_session.specs.StreamEnds.{acts_at, passed_of, state_after_acts}
+use Rattle.host_pcm.specs.StreamOrders as orders
+use Rattle.sof_session.proofs.AskedWalks.{Asked, Walks, Left, asked-over}
 use Rattle.sof_script.specs.declared.script.Command.{Command}
 use Rattle.sof_session.specs.Seat.{Seat}
 use Rattle.sof_session.specs.Walks.{Ending, ending, walked, Stand, stand, Host, Carry, silent, answer_of, device_asked, host_asked, tested_next, stream_next, place_of, command_next, written_in}
@@ -118,8 +120,9 @@ module _ {P : Type 0} (means : Meaning P) (old new : Seat P) (io io' : Io) (name
     is-next = by-tests (link means) old.plan old.heap name ask old.kept new.kept before after result (early_fault old.plan old.kept name ask) refl asked fails walks
 
   -- a call sends at most so many messages
-  pub stream_few : (result : Outcome) → Asked (link means) old.plan old.heap name ask old.kept new.kept before after result → new.link.sent ≤ old.link.sent + 900
-  stream_few result asked =
+  pub stream_few : (result : Outcome) → orders.Asked (link means) old.plan old.heap name ask old.kept new.kept before after result → new.link.sent ≤ old.link.sent + 900
+  stream_few result given =
+      let asked = asked-over means old agreed new.kept new.link io io' name ask result given in
       by-tests (link means) old.plan old.heap name ask old.kept new.kept before after result (early_fault old.plan old.kept name ask) refl asked
       (λ fault is same. let sent : new.link.sent ≡ old.link.sent = ap (λ (w : World (Wire P)). w.device.sent) same.1 in omega (arith, sent))
       (λ is k place x. omega (arith, (ends-cut means result x.sent after x.ends).sent, Fated-sent means old.plan old.heap old.kept x.fates.answers (acts_at old.plan old.kept k ask) before x.sent x.fates.fated, few-asked old.plan old.kept k ask))
@@ -127,12 +130,13 @@ module _ {P : Type 0} (means : Meaning P) (old new : Seat P) (io io' : Io) (name
   -- a command that asks this of the stream of this name, and shows nothing
   pub stream_turned : (command : Command) (answer : Answer) → StreamRan means name ask old new io io' answer → ((n : ℕ) (h : Host) → command_next command n h ≡ stream_next name ask n h) → shown_by command old ≡ [] → written_in io'.outputs ≡ [] → Turned (life means) (turn (Carry command) answer (shown_by command old) (written_in io'.outputs)) (Seated old io.inputs slots) (Seated new io'.inputs slots)
   stream_turned command answer ran asks quiet silence =
-      let calls = calls-of (link means) old.plan old.heap name ask old.kept new.kept before after ran.outcome ran.asked in
+      let asked = asked-over means old agreed new.kept new.link io io' name ask ran.outcome ran.asked in
+      let calls = calls-of (link means) old.plan old.heap name ask old.kept new.kept before after ran.outcome asked in
       let steady = Led-inside means calls.0 before after calls.1 in
       record {
         next = λ calm.
             let stayed : Stayed means old.link.device new.link.device = record { faults = calm.faults; refusals = calm.refusals } in
-            (λ i. told then record { answer = ran.said i; shown = quiet i; written = silence i }) ∙ is-next ran.outcome ran.asked stayed ∙ sym (asks boots host);
+            (λ i. told then record { answer = ran.said i; shown = quiet i; written = silence i }) ∙ is-next ran.outcome asked stayed ∙ sym (asks boots host);
         faults = steady.faults;
         refusals = steady.refusals;
         most = steady.most;

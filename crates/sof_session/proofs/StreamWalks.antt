@@ -15,7 +15,8 @@ use Rattle.host_widgets.specs.Host.{Outcome, exchanges}
 use Rattle.host_widgets.proofs.ManyEffects.{Fated-led}
 use Rattle.host_pcm.specs.declared.asking.Ask.{Ask}
 use Rattle.host_pcm.specs.Asks.{early_fault, stream_place}
-use Rattle.host_pcm.specs.Carried.{Ends, Left, Walks, Asked, acts_at, kept_after}
+use Rattle.sof_session.specs.StreamEnds.{acts_at, kept_after}
+use Rattle.sof_session.proofs.AskedWalks.{Ends, Left, Walks, Asked}
 use Rattle.sof_session.proofs.WalkCuts.{Cuts, Cuts-none, Cuts-one}
 
 -- ---- the end of a walk

@@ -20,7 +20,7 @@ use Rattle.host_widgets.specs.ActLists.{bring_up}
 use Rattle.host_widgets.specs.StateOf.{loaded_state}
 use Rattle.host_widgets.specs.Host.{Outcome, Loads, LoadLeft, after_load, ticks_put}
 use Rattle.host_widgets.specs.ActFates.{LoadFates, Ends}
-use Rattle.host_pcm.specs.Carried.{passed_of}
+use Rattle.sof_session.specs.StreamEnds.{passed_of}
 use Rattle.sof_script.specs.declared.script.Command.TheVariants as commands
 use Rattle.sof_session.specs.Seat.{Seat}
 use Rattle.sof_session.specs.Show.{show_lines}

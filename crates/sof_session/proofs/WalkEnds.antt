@@ -23,7 +23,7 @@ use Rattle.host_widgets.specs.Host.{Outcome, errno, judged, verdict, Walk}
 use Rattle.host_widgets.specs.OneAct.{own}
 use Rattle.host_widgets.specs.ActFates.{Fate, Fated}
 use Rattle.host_widgets.proofs.ReplyErrors.{decoded-error, negative-fits}
-use Rattle.host_pcm.specs.Carried.{passed_of}
+use Rattle.sof_session.specs.StreamEnds.{passed_of}
 use Rattle.sof_session.specs.Walks.{Ending, ending, outcome_by, on_from, walked}
 use Rattle.sof_session.specs.Turns.{IsFated}
 use Rattle.sof_session.proofs.LinkFates.{planned-meant, more-few, Steady-none, exchange_steady, exchange_fated, exchange_sent, exchange_entries}

@@ -19,7 +19,7 @@ use Rattle.host_widgets.specs.ViewOf.{view_by}
 use Rattle.host_widgets.specs.Host.{Outcome, IsRecordOf}
 use Rattle.host_pcm.specs.declared.asking.Ask.{Ask}
 use Rattle.host_pcm.specs.Asks.{early_fault}
-use Rattle.host_pcm.specs.Carried.{kept_so_far}
+use Rattle.sof_session.specs.StreamEnds.{kept_so_far}
 use Rattle.sof_script.specs.declared.script.Command.{Command}
 use Rattle.sof_script.specs.declared.script.Command.TheVariants as commands
 use Rattle.sof_session.specs.Turns.{Keeps}

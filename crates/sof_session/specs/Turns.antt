@@ -23,7 +23,7 @@ use Rattle.host_widgets.specs.Expected.{loaded_heap}
 use Rattle.host_widgets.specs.Host.{Outcome, Agrees, Loads, LoadLeft, after_load, Unloads, after_unload}
 use Rattle.host_widgets.specs.ActFates.{LoadFates}
 use Rattle.host_pcm.specs.declared.asking.Ask.{Ask}
-use Rattle.host_pcm.specs.Carried.{Asked}
+use Rattle.host_pcm.specs.StreamOrders.{Asked}
 use Rattle.sof_script.specs.declared.script.Command.{Command}
 use Rattle.sof_script.specs.declared.script.Command.TheVariants as commands
 use Rattle.sof_session.specs.Seat.{Seat}

@@ -28,7 +28,7 @@ use Rattle.host_widgets.specs.OneAct.{own}
 use Rattle.host_pcm.specs.declared.asking.Ask.{Ask}
 use Rattle.host_pcm.specs.declared.asking.Ask.TheVariants.{Opening, Preparing, Triggering, Closing}
 use Rattle.host_pcm.specs.Asks.{early_fault, stream_place}
-use Rattle.host_pcm.specs.Carried.{acts_at, kept_after, state_after_acts}
+use Rattle.sof_session.specs.StreamEnds.{acts_at, kept_after, state_after_acts}
 use Rattle.sof_script.specs.declared.script.Command.{Command}
 use Rattle.sof_script.specs.declared.script.Command.TheVariants as commands
 use Rattle.sof_session.specs.Show.{show_lines}

@@ -2,9 +2,9 @@
 ghost use Rattle.std.specs.Prelude.{◌≤◌, ◌*◌};
 ghost use Rattle.sof_base.specs.Ports.{HasRoom};
 ghost use Rattle.mbox_link.specs.Calls.{world};
-ghost use Rattle.tplg_plan.specs.ThinPlan.{IsThinPlan};
+ghost use Rattle.tplg_plan.specs.Sound.{IsSound};
 ghost use Rattle.host_widgets.specs.Host.{Agrees};
-ghost use Rattle.host_pcm.specs.Carried.{Asked};
+ghost use Rattle.host_pcm.specs.StreamOrders.{Asked};
 
 use host_pcm::{Ask, close, open, params, pause, release, start, stop};
 use host_widgets::{HostFault, Record, Trigger};
@@ -24,7 +24,7 @@ pub fn ask_stream<P: Dsp>(
     name: &Name44,
     ask: Ask,
 ) -> Result<(), HostFault>
-    requires plan { IsThinPlan plan.now }
+    requires plan { IsSound plan.now }
     requires agree { Agrees P.means plan.now kept.old dsp.old }
     requires heap { heap ≤ P.means.most dsp.old }
     requires room { HasRoom (61440 * P.means.pending dsp.old) out.old }

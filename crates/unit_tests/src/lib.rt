@@ -22,6 +22,8 @@ mod messages;
 #[cfg(test)]
 mod moves;
 #[cfg(test)]
+mod registry;
+#[cfg(test)]
 mod rings;
 #[cfg(test)]
 mod tokens;

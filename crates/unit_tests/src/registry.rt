@@ -1,0 +1,171 @@
+// A registry with nothing in it, one with a host, and one with a host that feeds a buffer.
+ghost use Rattle.std.specs.Prelude.{◌≡◌, ◌≤◌, None, false, []};
+ghost use Rattle.stream_law.specs.declared.stream.Phase.TheVariants.{Idle};
+ghost use Rattle.fw_components.specs.declared.component.Unit.TheVariants.{Host, Buffer};
+
+use fw_components::{Component, Registry, RegistryFull, Unit};
+use fw_heap::{Piece, Region};
+use fw_ring::Ring;
+use sof_base::{Errno, Format, NoMemory, Params};
+use std::alloc::Global;
+use stream_law::Phase;
+
+// Nothing is found, told or set in an empty registry.
+fn nothing(alloc: Global) -> Result<bool, NoMemory> {
+    let mut registry = Registry::new(alloc)?;
+    let mut right = registry.len() == 0 && registry.find(1).is_none();
+    right = right && registry.join_at(0).is_none();
+    right = right && matches!(registry.values(1, 0), Err(Errno::NO_DEVICE));
+    right = right && matches!(registry.set_values(1, 0, &[1]), Err(Errno::NO_DEVICE));
+    registry.close();
+    Ok(right)
+}
+
+// A host in a piece of 64 bytes.
+fn host(piece: Piece) -> Component
+    ensures { result ≡ record { id = 3; pipe = 1; channels = 2; unit = Host false Idle None piece } }
+{
+    Component {
+        id: 3,
+        pipe: 1,
+        channels: 2,
+        unit: Unit::Host {
+            capture: false,
+            phase: Phase::Idle,
+            params: None,
+            piece,
+        },
+    }
+}
+
+// A buffer of 32 bytes in a piece of 64: there is room for four frames of two channels.
+fn buffer(piece: Piece) -> Component
+    requires { 64 ≤ piece.size }
+    ensures { result ≡ record { id = 5; pipe = 1; channels = 2; unit = Buffer 32 (record { frames = []; words = 8; channels = 2; start = 0; piece = piece }) None None } }
+{
+    Component {
+        id: 5,
+        pipe: 1,
+        channels: 2,
+        unit: Unit::Buffer {
+            size: 32,
+            ring: Ring::over(piece, 8, 2),
+            source: None,
+            sink: None,
+        },
+    }
+}
+
+// A host is added, found, prepared and removed, and its piece comes back.
+fn one_host(alloc: Global) -> Result<bool, NoMemory> {
+    let mut registry = Registry::new(alloc)?;
+    let mut region = match Region::new(alloc, 64) {
+        Ok(region) => region,
+        Err(e) => {
+            registry.close();
+            return Err(e);
+        }
+    };
+    let Ok(piece) = region.carve(64) else {
+        registry.close();
+        region.close();
+        return Ok(false);
+    };
+    let params = Params {
+        rate: 48000,
+        channels: 4,
+        format: Format::S16,
+    };
+    let mut right = false;
+    match registry.add(host(piece)) {
+        Ok(()) => {
+            right = registry.len() == 1 && registry.find(3) == Some(0);
+            registry.set_stream(3, Phase::Prepared, Some(params));
+            right = right && registry.at(0).id == 3;
+            registry.remove(3, &mut region);
+        }
+        Err(RegistryFull { component }) => region.give(component.into_piece()),
+    }
+    right = right && registry.len() == 0 && region.used() == 0;
+    registry.close();
+    region.close();
+    Ok(right)
+}
+
+// Three frames of two channels are fed into a buffer, which is empty once it ends.
+fn fed_by_a_host(alloc: Global) -> Result<bool, NoMemory> {
+    let mut registry = Registry::new(alloc)?;
+    let mut region = match Region::new(alloc, 128) {
+        Ok(region) => region,
+        Err(e) => {
+            registry.close();
+            return Err(e);
+        }
+    };
+    let Ok(first) = region.carve(64) else {
+        registry.close();
+        region.close();
+        return Ok(false);
+    };
+    let Ok(second) = region.carve(64) else {
+        region.give(first);
+        registry.close();
+        region.close();
+        return Ok(false);
+    };
+    let params = Params {
+        rate: 48000,
+        channels: 2,
+        format: Format::S16,
+    };
+    match registry.add(host(first)) {
+        Ok(()) => (),
+        Err(RegistryFull { component }) => {
+            region.give(component.into_piece());
+            region.give(second);
+            registry.close();
+            region.close();
+            return Ok(false);
+        }
+    }
+    match registry.add(buffer(second)) {
+        Ok(()) => (),
+        Err(RegistryFull { component }) => {
+            region.give(component.into_piece());
+            registry.remove(3, &mut region);
+            registry.close();
+            region.close();
+            return Ok(false);
+        }
+    }
+    registry.join(3, 5);
+    registry.begin(5, params);
+    registry.feed(3, &[1, 2, 3, 4, 5, 6]);
+    let held = registry.held(5);
+    let free = registry.free(5);
+    registry.end(5);
+    let left = registry.held(5);
+    registry.remove(5, &mut region);
+    registry.remove(3, &mut region);
+    registry.close();
+    region.close();
+    Ok(held == 3 && free == 1 && left == 0)
+}
+
+#[test]
+fn an_empty_registry_tells_nothing(rt: HostRuntime) {
+    let right = nothing(rt.alloc());
+    assert!(rt; matches!(right, Ok(true)));
+}
+
+#[test]
+fn a_host_comes_and_goes(rt: HostRuntime) {
+    let right = one_host(rt.alloc());
+    assert!(rt; matches!(right, Ok(true)));
+}
+
+#[test]
+fn a_host_feeds_a_buffer(rt: HostRuntime) {
+    let right = fed_by_a_host(rt.alloc());
+    assert!(rt; matches!(right, Ok(true)));
+}

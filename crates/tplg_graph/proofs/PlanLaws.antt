@@ -1,4 +1,4 @@
--- What a plan and a fault say of a topology.
+-- What is so of the plan of a well-formed topology.
 use Rattle.std.proofs.Common.{◌≡◌, sym, subst, suc, All, Result, Ok, Err, OnOk, IfOk}
 use Rattle.tplg_model.specs.declared.block.Topology.{Topology}
 use Rattle.tplg_plan.specs.declared.plans.Plan.{Plan}

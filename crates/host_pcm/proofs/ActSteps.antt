@@ -1,14 +1,13 @@
 -- One act on a stream, over any device: what its exchange came to, and that the two sides agree after it.
-use Rattle.std.proofs.Common.{◌≡◌, ⊎_elim, ℕ, ◌-◌, List, [], Option, Some, None, Ok, Err, refl, sym, ap, subst, ◌∙◌}
+use Rattle.std.proofs.Common.{◌≡◌, ⊎_elim, ℕ, ◌-◌, List, Option, Some, None, Ok, Err, refl, sym, ap, subst, ◌∙◌}
 use Rattle.std.specs.Option.{option_map}
 use Rattle.sof_base.specs.Ports.{Io}
 use Rattle.stream_law.specs.State.{FwState, View, view_of}
-use Rattle.stream_law.specs.Seen.{seen}
-use Rattle.ipc3_codec.specs.Messages.{message_spelling, decoded}
-use Rattle.mbox_link.specs.Step.{row, row_of}
+use Rattle.ipc3_codec.specs.Messages.{message_spelling}
+use Rattle.mbox_link.specs.Step.{row}
 use Rattle.mbox_link.specs.Exchange.{ticks}
 use Rattle.mbox_link.specs.Meetings.{Meeting}
-use Rattle.mbox_link.specs.Calls.{World, Meaning, Led}
+use Rattle.mbox_link.specs.Calls.{World, Meaning}
 use Rattle.tplg_plan.specs.declared.plans.Plan.{Plan}
 use Rattle.host_widgets.specs.declared.answers.HostFault.{HostFault}
 use Rattle.host_widgets.specs.declared.answers.HostFault.TheVariants.{Refused, LinkDown}
@@ -18,7 +17,6 @@ use Rattle.host_widgets.specs.declared.kept.Record.{Record}
 use Rattle.host_widgets.specs.HostActs.{Act, after}
 use Rattle.host_widgets.specs.ActMessages.{message_of}
 use Rattle.host_widgets.specs.ViewOf.{view_by}
-use Rattle.host_widgets.specs.Kept.{went_down}
 use Rattle.host_widgets.specs.Host.{Outcome, Agrees, Sides, IsRecordOf, verdict, errno}
 use Rattle.host_widgets.specs.OneAct.{own, outcome_by}
 use Rattle.host_widgets.specs.ActCalls.{ActDid, came_to}

@@ -1,9 +1,8 @@
 -- A stream that is opened or closed by no message: its order is carried out, and the two sides go on agreeing.
-use Rattle.std.proofs.Common.{◌≡◌, ◌⊎◌, inl, inr, ⊎_elim, ℕ, zero, suc, ◌<◌, Bool, true, false, ◌||◌, ◌==◌, List, [], ◌∷◌, length, map, zip, get_or, set, Option, Some, None, Ok, refl, sym, ap, subst, ◌∙◌, arith, if◌then◌else◌}
+use Rattle.std.proofs.Common.{◌≡◌, ◌⊎◌, inl, inr, ⊎_elim, ℕ, zero, suc, ◌<◌, Bool, true, false, ◌||◌, ◌==◌, List, [], ◌∷◌, length, map, zip, get_or, Option, Some, None, Ok, refl, sym, ap, subst, ◌∙◌, if◌then◌else◌}
 use Rattle.std.specs.List.{list_any, list_all}
 use Rattle.std.proofs.lemmas.Bool.{and_parts}
 use Rattle.sof_base.specs.declared.format.Params.{Params}
-use Rattle.stream_law.specs.declared.stream.Phase.{Phase}
 use Rattle.stream_law.specs.declared.stream.Phase.TheVariants.{Idle}
 use Rattle.stream_law.specs.declared.stream.StreamView.{StreamView}
 use Rattle.stream_law.specs.Ways.{is_live_phase}
@@ -23,8 +22,8 @@ use Rattle.host_widgets.specs.Kept.{changed, with_stream}
 use Rattle.host_widgets.specs.HostActs.{Act}
 use Rattle.host_widgets.specs.ActLists.{close_by}
 use Rattle.host_widgets.specs.Expected.{phase_of, stream_view}
-use Rattle.host_widgets.specs.ViewOf.{view_by, graph_by}
-use Rattle.host_widgets.specs.Host.{Outcome, Agrees, Sides}
+use Rattle.host_widgets.specs.ViewOf.{graph_by}
+use Rattle.host_widgets.specs.Host.{Agrees, Sides}
 use Rattle.host_widgets.specs.Orders.{Order, Carried, sends}
 use Rattle.host_widgets.proofs.StreamRows.{AllAt}
 use Rattle.host_widgets.proofs.StreamPlaces.{place-all}

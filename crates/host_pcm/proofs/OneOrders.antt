@@ -1,5 +1,5 @@
 -- Acts at a place as the orders of calls.
-use Rattle.std.proofs.Common.{◌≡◌, ⊎_elim, ◌⊎◌, ℕ, ◌*◌, ◌<◌, zero, suc, true, List, [], ◌∷◌, length, get_or, set, Ok, Err, refl, sym, ap, subst, ◌∙◌, arith}
+use Rattle.std.proofs.Common.{◌≡◌, ℕ, ◌*◌, ◌<◌, zero, suc, true, List, [], ◌∷◌, length, get_or, set, Ok, Err, refl, sym, ap, subst, ◌∙◌, arith}
 use Rattle.sof_base.specs.Ports.{HasRoom}
 use Rattle.mbox_link.proofs.Rooms.{HasRoom-now}
 use Rattle.mbox_link.specs.Calls.{World, Meaning}
@@ -13,13 +13,12 @@ use Rattle.host_widgets.specs.declared.kept.Power.{Power}
 use Rattle.host_widgets.specs.declared.kept.Power.TheVariants.{On}
 use Rattle.host_widgets.specs.declared.kept.StreamRec.{StreamRec}
 use Rattle.host_widgets.specs.declared.kept.Record.{Record}
-use Rattle.host_widgets.specs.declared.trigger.Trigger.{Trigger}
 use Rattle.host_widgets.specs.declared.trigger.Trigger.TheVariants.{Stop}
 use Rattle.host_widgets.specs.HostRecord.{closed}
 use Rattle.host_widgets.specs.Kept.{with_stream}
 use Rattle.host_widgets.specs.HostActs.{Act, Trig, Free, after, triggered}
 use Rattle.host_widgets.specs.ActLists.{close_by}
-use Rattle.host_widgets.specs.Host.{Outcome, Agrees}
+use Rattle.host_widgets.specs.Host.{Outcome}
 use Rattle.host_widgets.specs.Orders.{Order, Carried, sends}
 use Rattle.host_pcm.specs.declared.asking.Ask.TheVariants.{Closing}
 use Rattle.host_pcm.specs.Asks.{stream_at, takes_trigger, with_place}

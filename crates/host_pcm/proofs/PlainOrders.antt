@@ -1,5 +1,5 @@
 -- Acts one after another are an order that is carried out.
-use Rattle.std.proofs.Common.{◌≡◌, ℕ, Bool, true, false, List, [], ◌∷◌, Ok, Err, refl, sym, ap, subst}
+use Rattle.std.proofs.Common.{◌≡◌, ℕ, Bool, true, false, List, [], ◌∷◌, Ok, Err, refl, sym, subst}
 use Rattle.stream_law.specs.Past.{Moment}
 use Rattle.mbox_link.specs.Meetings.{Meeting}
 use Rattle.mbox_link.specs.Calls.{World, Meaning, Led}
@@ -10,7 +10,7 @@ use Rattle.host_widgets.specs.declared.answers.HostFault.TheVariants.{NotLoaded,
 use Rattle.host_widgets.specs.declared.kept.Record.{Record}
 use Rattle.host_widgets.specs.HostActs.{Act, after}
 use Rattle.host_widgets.specs.Host.{Outcome}
-use Rattle.host_widgets.specs.OneAct.{own, outcome_by, came, lag_of}
+use Rattle.host_widgets.specs.OneAct.{came, lag_of}
 use Rattle.host_widgets.specs.Walk.{Walked, walk, joined, goes_past}
 use Rattle.host_widgets.specs.ActCalls.{ActsDid, Onwards, next_of, calls_of}
 use Rattle.host_widgets.specs.Orders.{Order, Carried, Ends, Plain, plain_end}

@@ -1,23 +1,20 @@
 -- The acts on a stream, in every plan: both laws of one act hold of each.
-use Rattle.std.proofs.Common.{◌≡◌, inl, if◌then◌else◌, refl, ap, ℕ, Bool, true, false, List, [], ◌∷◌, Option, Some, None}
-use Rattle.std.specs.List.{list_all}
-use Rattle.std.proofs.lemmas.Bool.{false≢true, and_parts}
+use Rattle.std.proofs.Common.{◌≡◌, refl, ℕ, true}
+use Rattle.std.proofs.lemmas.Bool.{and_parts}
 use Rattle.sof_base.specs.declared.format.Params.{Params}
 use Rattle.stream_law.specs.State.{FwState}
 use Rattle.ipc3_codec.specs.declared.reply.Body.TheVariants.{Nothing}
 use Rattle.mbox_link.specs.Step as fw
 use Rattle.mbox_link.specs.Step.{is_rate}
 use Rattle.tplg_plan.specs.declared.plans.Plan.{Plan}
-use Rattle.tplg_plan.specs.declared.plans.StreamPlan.{StreamPlan}
 use Rattle.tplg_plan.specs.Sound.{IsSound}
-use Rattle.host_widgets.specs.declared.kept.Found.{Found}
-use Rattle.host_widgets.specs.declared.kept.Found.TheVariants.{Closed, Open, Prepared, Running, Paused, On as Found_On}
+use Rattle.host_widgets.specs.declared.kept.Found.TheVariants.{Prepared}
 use Rattle.host_widgets.specs.declared.kept.StreamRec.{StreamRec}
 use Rattle.host_widgets.specs.declared.trigger.Trigger.{Trigger}
 use Rattle.host_widgets.specs.declared.trigger.Trigger.TheVariants.{Start, Stop, Pause, Release}
-use Rattle.host_widgets.specs.HostRecord.{is_in_range, may_have}
+use Rattle.host_widgets.specs.HostRecord.{is_in_range}
 use Rattle.host_widgets.specs.declared.kept.Record.{Record}
-use Rattle.host_widgets.specs.HostActs.{Act, Prepare, Trig, Free, after, triggered}
+use Rattle.host_widgets.specs.HostActs.{Prepare, Trig, Free}
 use Rattle.host_widgets.specs.ActMessages.{message_of}
 use Rattle.host_widgets.specs.Host.{IsRecordOf}
 use Rattle.host_widgets.proofs.Effects.{decoded-message}
@@ -27,7 +24,7 @@ use Rattle.host_widgets.proofs.ReadyWays.{has_host}
 use Rattle.host_widgets.proofs.StreamFits.{trigger-fits, free-fits, params-fit}
 use Rattle.host_widgets.proofs.StreamRows.{AllAt}
 use Rattle.host_pcm.specs.Asks.{takes_trigger, takes_params}
-use Rattle.host_pcm.proofs.StreamAnswers.{all-at, trig-answered, free-answered, prepare-answered}
+use Rattle.host_pcm.proofs.StreamAnswers.{trig-answered, free-answered, prepare-answered}
 use Rattle.host_pcm.proofs.TakenActs.{trig-act, free-act, prepare-act}
 
 module _ (plan : Plan) (sound : IsSound plan) (kept : Record) (is : IsRecordOf plan kept) (host : ℕ) (some : has_host plan.streams host ≡ true) where

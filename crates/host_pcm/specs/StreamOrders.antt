@@ -1,5 +1,5 @@
 -- What is done on a stream: an opening and a closing change the record also where they send nothing.
-use Rattle.std.specs.Prelude.{◌≡◌, ℕ, List, [], ◌∷◌, get_or, unwrap_or, Option, Some, None, Err}
+use Rattle.std.specs.Prelude.{◌≡◌, ℕ, List, [], ◌∷◌, get_or, unwrap_or, Some, None, Err}
 use Rattle.mbox_link.specs.Calls.{World, Meaning}
 use Rattle.tplg_plan.specs.declared.plans.Plan.{Plan}
 use Rattle.host_widgets.specs.declared.answers.Answer.TheVariants as answers

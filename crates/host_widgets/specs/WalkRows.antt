@@ -1,18 +1,15 @@
 -- A small plan, and what walks of acts over it come to.
-use Rattle.std.specs.Prelude.{ℕ, List, [], ◌∷◌, negsuc, Some, Bool, true, false}
+use Rattle.std.specs.Prelude.{ℕ, List, [], ◌∷◌, Some, true, false}
 use Rattle.sof_base.specs.declared.format.Format.TheVariants.{S16}
 use Rattle.sof_base.specs.declared.format.Params.{Params}
 use Rattle.mbox_link.specs.declared.fates.Fate.{Fate}
-use Rattle.mbox_link.specs.declared.fates.Fate.TheVariants.{Refuse}
 use Rattle.mbox_link.specs.Meetings.{Entry, Queue, calm, next_meeting}
 use Rattle.tplg_plan.specs.declared.plans.Plan.{Plan}
 use Rattle.host_widgets.specs.declared.kept.Found.{Found}
 use Rattle.host_widgets.specs.declared.kept.Found.TheVariants.{Running}
 use Rattle.host_widgets.specs.declared.kept.Power.TheVariants.{On}
-use Rattle.host_widgets.specs.declared.kept.StreamRec.{StreamRec}
 use Rattle.host_widgets.specs.declared.kept.Record.{Record}
 use Rattle.host_widgets.specs.HostRecord.{no_caps}
-use Rattle.host_widgets.specs.HostActs.{Act}
 use Rattle.host_widgets.specs.ActLists.{close_by, go_down}
 use Rattle.host_widgets.specs.Walk.{Walked, walk}
 

@@ -12,6 +12,7 @@ pub mod TurnLaws
 pub mod Keeping
 pub mod Writings
 pub mod TickTurning
+pub mod ActWalks
 pub mod AskedWalks
 pub mod StreamWalks
 pub mod StreamAgreement

@@ -13,7 +13,7 @@ use Rattle.host_pcm.specs.declared.asking.Ask.{Ask}
 use Rattle.host_pcm.specs.Asks.{early_fault}
 use Rattle.sof_script.specs.declared.script.Command.{Command}
 use Rattle.sof_script.specs.declared.script.Command.TheVariants as commands
-use Rattle.sof_session.specs.Walks.{Host, Stand, place_of, load_next, unload_next, planned_next, plan_next, tested_next, stream_next, device_tick, tick_next, asking, asked_next, command_next}
+use Rattle.sof_session.specs.Walks.{Host, Stand, place_of, load_next, unload_next, planned_next, tested_next, device_tick, tick_next, asking, asked_next, command_next}
 
 abbrev plan_of : Stand → Option Plan
 plan_of s = option_map (λ h. h.plan) s.host

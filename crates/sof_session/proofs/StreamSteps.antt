@@ -1,14 +1,13 @@
 -- Acts on a stream by which it keeps what it may have.
 use Rattle.std.proofs.Common.{◌≡◌, refl, ℕ, zero, suc, true, List, [], ◌∷◌, take, Option, Some, None}
 use Rattle.std.proofs.lemmas.Bool.{false≢true}
-use Rattle.sof_base.specs.declared.format.Format.TheVariants.{S16}
 use Rattle.sof_base.specs.declared.format.Params.{Params}
 use Rattle.stream_law.specs.Ways.{is_live_phase}
 use Rattle.host_widgets.specs.declared.kept.Found.{Found}
 use Rattle.host_widgets.specs.declared.kept.Found.TheVariants.{Closed, Open, Prepared, Running, Paused, On as Found_On}
 use Rattle.host_widgets.specs.declared.kept.StreamRec.{StreamRec}
 use Rattle.host_widgets.specs.declared.trigger.Trigger.{Trigger}
-use Rattle.host_widgets.specs.HostRecord.{may_have, no_caps}
+use Rattle.host_widgets.specs.HostRecord.{may_have}
 use Rattle.host_widgets.specs.HostActs.{Act, Trig}
 use Rattle.host_widgets.specs.Expected.{phase_of}
 use Rattle.host_widgets.proofs.ThinRecords.{shown}

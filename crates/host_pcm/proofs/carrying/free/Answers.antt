@@ -1,4 +1,4 @@
-use Rattle.std.proofs.Common.{Ok, List, get_or, refl, ap, subst, sym}
+use Rattle.std.proofs.Common.{Ok, refl, ap, subst, sym}
 use Rattle.mbox_link.specs.Calls.{world}
 use Rattle.tplg_plan.specs.declared.plans.StreamPlan.{StreamPlan}
 use Rattle.host_widgets.specs.declared.kept.Record.{Record}

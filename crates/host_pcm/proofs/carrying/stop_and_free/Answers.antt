@@ -1,5 +1,5 @@
-use Rattle.std.proofs.Common.{Ok, subst, sym}
-use Rattle.mbox_link.specs.Calls.{World, world}
+use Rattle.std.proofs.Common.{subst, sym}
+use Rattle.mbox_link.specs.Calls.{world}
 use Rattle.host_widgets.specs.declared.trigger.Trigger.TheVariants.{Stop}
 use Rattle.host_widgets.specs.HostActs.{Trig}
 use Rattle.host_widgets.specs.Host.{Outcome}

@@ -5,7 +5,7 @@ use Rattle.host_widgets.specs.HostRecord.{closed}
 use Rattle.host_widgets.specs.Host.{Agrees}
 use Rattle.host_widgets.specs.Orders.{Carried}
 use Rattle.host_pcm.specs.declared.asking.Ask.TheVariants.{Opening}
-use Rattle.host_pcm.specs.Asks.{stream_at, with_place}
+use Rattle.host_pcm.specs.Asks.{stream_at}
 use Rattle.host_pcm.specs.StreamOrders.{place_order, opened}
 use Rattle.host_pcm.proofs.HostTests.{found_place, asked-late}
 use Rattle.host_pcm.proofs.AtRest.{open-carried, rest-agrees, closed-idle}

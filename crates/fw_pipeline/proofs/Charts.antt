@@ -99,7 +99,7 @@ place-most ids x = by (is_listed ids x) refl
     by true there = omega (arith, (at-place ids x there).0)
     by false none = omega (arith, place-past ids x none)
 
-member-listed : (ids : List ℕ) (x : ℕ) → IsIn x ids → is_listed ids x ≡ true
+pub member-listed : (ids : List ℕ) (x : ℕ) → IsIn x ids → is_listed ids x ≡ true
 member-listed ids x there = in-any (λ y. y == x) ids x there (eq-eqb x x refl)
 
 listed-member : (ids : List ℕ) (x : ℕ) → is_listed ids x ≡ true → IsIn x ids

@@ -8,3 +8,6 @@ pub mod CompletingRow
 pub mod OneJoin
 pub mod JoinRow
 pub mod FreeRows
+pub mod ReadyWays
+pub mod Agreeing
+pub mod ParamsRow

@@ -1,3 +1,4 @@
 pub mod Walks
 pub mod Charts
 pub mod Rows
+pub mod Preparing

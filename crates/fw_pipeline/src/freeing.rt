@@ -166,8 +166,8 @@ fn pipe_in(components: &[Component], id: u32) -> Option<u32>
     }
 }
 
-// Whether the pipeline of an index is complete.
-fn is_complete(registry: &Registry, index: u32) -> bool
+/// Whether the pipeline of an index is complete.
+pub(crate) fn is_complete(registry: &Registry, index: u32) -> bool
     ensures { result ≡ is_whole (graph_of registry.now) index }
 {
     any_complete(registry.pipes(), index)

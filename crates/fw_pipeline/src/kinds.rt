@@ -1,6 +1,6 @@
 // What units are in a graph, and how many buffers a component takes.
 ghost use Rattle.std.specs.Prelude.{◌≡◌};
-ghost use Rattle.stream_law.specs.Joins.{kind_ins, kind_outs, is_play};
+ghost use Rattle.stream_law.specs.Joins.{kind_ins, kind_outs, fits_kind, is_play};
 ghost use Rattle.stream_law.specs.Ways.{is_capture};
 ghost use Rattle.fw_components.specs.Tables.{kind_by, source_by, sink_by};
 
@@ -103,5 +103,17 @@ pub(crate) fn outs_of(kind: Kind) -> usize
     match kind {
         Kind::HostCapture | Kind::DaiPlay(_) => 0,
         _ => 1,
+    }
+}
+
+/// Whether a component may play with so many buffers into it and out of it.
+pub(crate) fn fits(kind: Kind, ins: usize, outs: usize) -> bool
+    ensures { result ≡ fits_kind kind ins outs }
+{
+    match kind {
+        Kind::HostPlay | Kind::DaiCapture(_) => ins == 0 && outs == 1,
+        Kind::HostCapture | Kind::DaiPlay(_) => ins == 1 && outs == 0,
+        Kind::Volume | Kind::Eq => ins == 1 && outs == 1,
+        Kind::Mixer | Kind::Mux => 1 <= ins && ins <= 8 && outs == 1,
     }
 }

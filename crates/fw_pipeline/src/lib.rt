@@ -8,10 +8,12 @@ mod kinds;
 mod lookups;
 mod one_join;
 mod places;
+mod preparing;
 mod streams;
 mod walk;
 
 pub use completing::complete;
 pub use connecting::connect;
 pub use freeing::{Item, free_item};
+pub use preparing::params;
 pub use streams::{active, live};

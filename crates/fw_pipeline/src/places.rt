@@ -1,6 +1,8 @@
 // Components and buffers by places, and joins between these.
-ghost use Rattle.std.specs.Prelude.{◌≡◌, ◌==◌, ◌+◌, ◌≤◌, ◌++◌, ℕ, true, length, map, take, position, slice_set};
+ghost use Rattle.std.specs.Prelude.{◌≡◌, ◌==◌, ◌&&◌, ◌+◌, ◌≤◌, ◌++◌, ℕ, true, length, map, take, position, slice_set};
+ghost use Rattle.std.specs.List.{list_any};
 ghost use Rattle.arrayvec.specs.ArrayVec.{array_vec_len};
+ghost use Rattle.fw_components.specs.Kept.{IsKept};
 ghost use Rattle.fw_pipeline.specs.Walks.{is_listed, place_in, by_places, leads_by, is_marked, is_reached};
 ghost use Rattle.fw_pipeline.specs.Charts.{ids_of};
 
@@ -33,6 +35,7 @@ impl Places {
     pub(crate) fn of(registry: &Registry) -> Places
         ensures ids { result.ids ≡ ids_of registry.now }
         ensures joins { result.joins ≡ registry.now.joins }
+        ensures kept { IsKept registry.now }
     {
         let mut ids = ArrayVec::new();
         list(&mut ids, registry.comps());
@@ -74,6 +77,15 @@ impl Places {
         marks[place_of(self.ids.as_slice(), id)]
     }
 
+    /// Whether an id is marked in both.
+    pub(crate) fn share(&self, first: &[bool], second: &[bool]) -> bool
+        requires first { length first.now ≡ 257 }
+        requires second { length second.now ≡ 257 }
+        ensures { result ≡ list_any (λ x. is_marked self.now.ids first.now x && is_marked self.now.ids second.now x) self.now.ids }
+    {
+        share(self.ids.as_slice(), first, second)
+    }
+
     /// Marks all that walks lead to from what is marked, or against joins where they go back.
     pub(crate) fn spread(&self, marks: &mut [bool], back: bool)
         requires { length marks.old ≡ 257 }
@@ -81,6 +93,27 @@ impl Places {
     {
         spread(marks, &self.ends[..self.count], back);
     }
+}
+
+// Whether one of these ids is marked in both.
+fn share(ids: &[u32], first: &[bool], second: &[bool]) -> bool
+    requires ids { length ids.now ≤ 256 }
+    requires first { length first.now ≡ 257 }
+    requires second { length second.now ≡ 257 }
+    ensures { result ≡ list_any (λ x. is_marked ids.now first.now x && is_marked ids.now second.now x) ids.now }
+{
+    ids.iter().any(|id| in_both(ids, first, second, *id))
+}
+
+// Whether an id is.
+fn in_both(ids: &[u32], first: &[bool], second: &[bool], id: u32) -> bool
+    requires ids { length ids.now ≤ 256 }
+    requires first { length first.now ≡ 257 }
+    requires second { length second.now ≡ 257 }
+    ensures { result ≡ (is_marked ids.now first.now id && is_marked ids.now second.now id) }
+{
+    let at = place_of(ids, id);
+    first[at] && second[at]
 }
 
 // Lists the ids of more components.

@@ -1,0 +1,287 @@
+// The row of a message that gives a stream parameters.
+ghost use Rattle.std.specs.Prelude.{◌≡◌, ◌≤◌, ◌&&◌, ◌||◌, ℕ, OnErr, OnOk, not, map, true, Some, length};
+ghost use Rattle.std.specs.List.{list_any, list_all};
+ghost use Rattle.stream_law.specs.declared.stream.Phase.TheVariants as phases;
+ghost use Rattle.stream_law.specs.Ways.{on_way, agree, is_capture, same_shape as alike};
+ghost use Rattle.stream_law.specs.State.{FwState};
+ghost use Rattle.mbox_link.specs.Step.{pcm_params, has_kind, goes as has_direction, kind_at as named_kind, is_rate, is_way_ready as has_ready_way, is_ready_comp as is_ready, is_ready_edge as is_edge_ready, set_stream};
+ghost use Rattle.fw_components.specs.Tables.{view_by, graph_of, streams_of, comp_by, edge_by};
+ghost use Rattle.fw_components.specs.Changes.{set_at};
+ghost use Rattle.fw_components.specs.Kept.{IsKept};
+ghost use Rattle.fw_pipeline.specs.Charts.{IsOf, ids_of};
+ghost use Rattle.fw_pipeline.specs.Walks.{is_listed, is_marked};
+ghost use Rattle.fw_pipeline.specs.Rows.{answer_of, view_after, with_view};
+ghost use Rattle.fw_pipeline.specs.Preparing.{is_moving_at, is_refused, shape_by, suits};
+
+use crate::freeing::is_complete;
+use crate::kinds::{fits, kind_of, sink_in, source_in};
+use crate::lookups::{count_ins, count_outs, is_used, kind_at};
+use crate::places::Places;
+use crate::streams::{Sort, has_stream};
+use fw_components::{Component, Registry, Unit, settings_are_seen};
+use sof_base::{Errno, Params};
+use stream_law::{Kind, Phase};
+
+/// A host's stream is Prepared with these parameters. Refused with -19 where the id names nothing, and -22 where it is no host of this
+/// direction, where its stream is Running or Paused, where the rate is none of a stream, where something on its way is not ready, and
+/// where streams would no longer agree.
+pub fn params(registry: &mut Registry, host: u32, direction: u32, p: Params) -> Result<(), Errno>
+    requires { (1 ≤ p.channels) × (p.channels ≤ 8) }
+    ensures answer { (f : FwState) → answer_of (view_by registry.new) result ≡ view_after (pcm_params (with_view (view_by registry.old) f) host direction p) }
+    ensures done { OnOk result (registry.new ≡ record { comps = map (set_at host phases.Prepared (Some p)) registry.old.comps; buffers = registry.old.buffers; pipes = registry.old.pipes; joins = registry.old.joins }) }
+    ensures kept { OnErr result (registry.new ≡ registry.old) }
+{
+    if !is_used(registry, host) {
+        return Err(Errno::NO_DEVICE);
+    }
+    if refuses(registry, host, direction, p) {
+        return Err(Errno::INVALID);
+    }
+    settings_are_seen();
+    registry.set_stream(host, Phase::Prepared, Some(p));
+    Ok(())
+}
+
+// Whether these parameters are refused for a host's stream.
+fn refuses(registry: &Registry, host: u32, direction: u32, p: Params) -> bool
+    ensures refused { result ≡ is_refused (view_by registry.now) host direction p (is_moving_at registry.now.comps host) }
+    ensures kept { IsKept registry.now }
+{
+    let places = Places::of(registry);
+    !goes_at(registry, host, direction)
+        || moves(registry, host)
+        || !has_right_rate(p.rate)
+        || !is_way_ready(registry, &places, host)
+        || !agrees(registry, &places, host, p)
+}
+
+// Whether an id is that of a host of this direction.
+fn goes_at(registry: &Registry, id: u32, direction: u32) -> bool
+    ensures { result ≡ has_kind (λ kind. has_direction kind direction) (named_kind (graph_of registry.now) id) }
+{
+    match kind_at(registry, id) {
+        Some(kind) => goes(kind, direction),
+        None => false,
+    }
+}
+
+// Whether a component is the host's end of a stream of this direction: 0 for playback and 1 for capture.
+fn goes(kind: Kind, direction: u32) -> bool
+    ensures { result ≡ has_direction kind direction }
+{
+    match kind {
+        Kind::HostPlay => direction == 0,
+        Kind::HostCapture => direction == 1,
+        _ => false,
+    }
+}
+
+// Whether the stream of a host is Running or Paused.
+fn moves(registry: &Registry, host: u32) -> bool
+    ensures { result ≡ is_moving_at registry.now.comps host }
+{
+    any_moving(registry.comps(), host)
+}
+
+// The same of one of these.
+fn any_moving(comps: &[Component], host: u32) -> bool
+    ensures { result ≡ is_moving_at comps.now host }
+{
+    comps.iter().any(|component| component.id == host && has_stream(&component.unit, Sort::Live))
+}
+
+// Whether a stream may have so many frames a second: a multiple of 1000 from 8000 to 192000.
+fn has_right_rate(rate: u32) -> bool
+    ensures { result ≡ is_rate rate }
+{
+    8000 <= rate && rate <= 192000 && rate % 1000 == 0
+}
+
+// Whether all that is on the way of a host's stream is ready.
+#[tactic(auto, unfolding(mbox_link::specs::Step::is_way_ready))]
+fn is_way_ready(registry: &Registry, places: &Places, host: u32) -> bool
+    requires { IsOf registry.now places.now }
+    ensures { result ≡ has_ready_way (graph_of registry.now) host }
+{
+    has_ready_comps(registry, places, host) && has_ready_buffers(registry, places, host)
+}
+
+// Whether all components on its way are.
+fn has_ready_comps(registry: &Registry, places: &Places, host: u32) -> bool
+    requires { IsOf registry.now places.now }
+    ensures { result ≡ list_all (λ c. not (on_way (graph_of registry.now) host c.id) || is_ready (graph_of registry.now) c) (graph_of registry.now).comps }
+{
+    let marks = way(registry, places, host);
+    are_comps_ready(registry, registry.comps(), places, &marks)
+}
+
+// Whether all buffers on its way are.
+fn has_ready_buffers(registry: &Registry, places: &Places, host: u32) -> bool
+    requires { IsOf registry.now places.now }
+    ensures { result ≡ list_all (λ e. not (on_way (graph_of registry.now) host e.buffer) || is_edge_ready (graph_of registry.now) e) (graph_of registry.now).edges }
+{
+    let marks = way(registry, places, host);
+    are_buffers_ready(registry, registry.buffers(), places, &marks)
+}
+
+// Whether each of these components that is marked is ready.
+fn are_comps_ready(
+    registry: &Registry,
+    comps: &[Component],
+    places: &Places,
+    marks: &[bool],
+) -> bool
+    requires { length marks.now ≡ 257 }
+    ensures { result ≡ list_all (λ c. not (is_marked places.now.ids marks.now c.id) || is_ready (graph_of registry.now) (comp_by c)) comps.now }
+{
+    comps.iter().all(|comp| !places.has(marks, comp.id) || is_comp_ready(registry, comp))
+}
+
+// Whether each of these buffers that is marked is.
+fn are_buffers_ready(
+    registry: &Registry,
+    buffers: &[Component],
+    places: &Places,
+    marks: &[bool],
+) -> bool
+    requires { length marks.now ≡ 257 }
+    ensures { result ≡ list_all (λ c. not (is_marked places.now.ids marks.now c.id) || is_edge_ready (graph_of registry.now) (edge_by c)) buffers.now }
+{
+    buffers.iter().all(|buffer| !places.has(marks, buffer.id) || is_buffer_ready(registry, buffer))
+}
+
+// Whether a component's pipeline is complete, and its buffers are as many as its kind has.
+fn is_comp_ready(registry: &Registry, comp: &Component) -> bool
+    ensures { result ≡ is_ready (graph_of registry.now) (comp_by comp.now) }
+{
+    is_complete(registry, comp.pipe)
+        && fits(
+            kind_of(&comp.unit),
+            count_ins(registry, comp.id),
+            count_outs(registry, comp.id),
+        )
+}
+
+// Whether a buffer's pipeline is complete, and both its sides are joined.
+fn is_buffer_ready(registry: &Registry, buffer: &Component) -> bool
+    ensures { result ≡ is_edge_ready (graph_of registry.now) (edge_by buffer.now) }
+{
+    is_complete(registry, buffer.pipe)
+        && source_in(&buffer.unit).is_some()
+        && sink_in(&buffer.unit).is_some()
+}
+
+// What is on the way of a host's stream.
+fn way(registry: &Registry, places: &Places, host: u32) -> [bool; 257]
+    requires { IsOf registry.now places.now }
+    ensures { (x : ℕ) → is_listed places.now.ids x ≡ true → is_marked places.now.ids result x ≡ on_way (graph_of registry.now) host x }
+{
+    places.reached(host, captures_at(registry, host))
+}
+
+// Whether an id is that of a capture's host.
+fn captures_at(registry: &Registry, id: u32) -> bool
+    ensures { result ≡ has_kind is_capture (named_kind (graph_of registry.now) id) }
+{
+    match kind_at(registry, id) {
+        Some(kind) => matches!(kind, Kind::HostCapture),
+        None => false,
+    }
+}
+
+// Whether streams agree once a host's stream has these parameters.
+fn agrees(registry: &Registry, places: &Places, host: u32, p: Params) -> bool
+    requires { IsOf registry.now places.now }
+    ensures { result ≡ agree (record { graph = graph_of registry.now; streams = map (set_stream host phases.Prepared (Some p)) (streams_of registry.now) }) }
+{
+    settings_are_seen();
+    all_suit(registry, registry.comps(), places, host, p)
+}
+
+// Whether each two of these suit each other then.
+fn all_suit(registry: &Registry, comps: &[Component], places: &Places, host: u32, p: Params) -> bool
+    requires { IsOf registry.now places.now }
+    ensures { result ≡ list_all (λ c. list_all (λ d. suits registry.now host p c d) comps.now) comps.now }
+{
+    comps
+        .iter()
+        .all(|one| suits_all(registry, comps, places, host, p, one))
+}
+
+// Whether one suits each of these.
+fn suits_all(
+    registry: &Registry,
+    comps: &[Component],
+    places: &Places,
+    host: u32,
+    p: Params,
+    one: &Component,
+) -> bool
+    requires { IsOf registry.now places.now }
+    ensures { result ≡ list_all (λ d. suits registry.now host p one.now d) comps.now }
+{
+    comps
+        .iter()
+        .all(|other| suits_one(registry, places, host, p, one, other))
+}
+
+// Whether two streams have one shape, or their ways share nothing.
+fn suits_one(
+    registry: &Registry,
+    places: &Places,
+    host: u32,
+    p: Params,
+    one: &Component,
+    other: &Component,
+) -> bool
+    requires { IsOf registry.now places.now }
+    ensures { result ≡ suits registry.now host p one.now other.now }
+{
+    has_shape(shape(one, host, p), shape(other, host, p))
+        || !touches(registry, places, one.id, other.id)
+}
+
+// The parameters that a component's stream would have.
+fn shape(component: &Component, host: u32, p: Params) -> Option<Params>
+    ensures { result ≡ shape_by host p component.now }
+{
+    match &component.unit {
+        Unit::Host { params, .. } => {
+            if component.id == host {
+                Some(p)
+            } else {
+                *params
+            }
+        }
+        Unit::Dai { .. } => None,
+        Unit::Volume { .. } => None,
+        Unit::Mixer { .. } => None,
+        Unit::Mux { .. } => None,
+        Unit::Eq { .. } => None,
+        Unit::Buffer { .. } => None,
+        Unit::Pipeline { .. } => None,
+    }
+}
+
+// One rate and one number of channels, where both are there.
+fn has_shape(one: Option<Params>, other: Option<Params>) -> bool
+    ensures { result ≡ alike one other }
+{
+    match one {
+        Some(p) => match other {
+            Some(q) => p.rate == q.rate && p.channels == q.channels,
+            None => true,
+        },
+        None => true,
+    }
+}
+
+// Whether the ways of two hosts share something.
+fn touches(registry: &Registry, places: &Places, one: u32, other: u32) -> bool
+    requires { IsOf registry.now places.now }
+    ensures { result ≡ list_any (λ x. on_way (graph_of registry.now) one x && on_way (graph_of registry.now) other x) (ids_of registry.now) }
+{
+    let first = way(registry, places, one);
+    let second = way(registry, places, other);
+    places.share(&first, &second)
+}

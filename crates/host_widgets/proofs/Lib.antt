@@ -43,3 +43,6 @@ pub mod RecordsStay
 pub mod ActsShow
 pub mod ActsStand
 pub mod OneActLaws
+pub mod LoadWalks
+pub mod BuildingActs
+pub mod LoadOrders

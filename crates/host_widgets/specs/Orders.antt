@@ -1,13 +1,14 @@
 -- What a command does once its tests have passed, and how it ends.
-use Rattle.std.specs.Prelude.{◌≡◌, ℕ, List, [], ◌∷◌, Bool, true, false, Ok, Err}
+use Rattle.std.specs.Prelude.{◌≡◌, ℕ, List, [], ◌∷◌, Bool, true, false, Option, Some, None, Ok, Err}
 use Rattle.stream_law.specs.Past.{Moment, Boot, Cut, Tick}
 use Rattle.mbox_link.specs.Calls.{World, Meaning, Led}
 use Rattle.tplg_plan.specs.declared.plans.Plan.{Plan}
 use Rattle.host_widgets.specs.declared.answers.Answer.{Answer}
 use Rattle.host_widgets.specs.declared.answers.Answer.TheVariants as answers
-use Rattle.host_widgets.specs.declared.answers.HostFault.TheVariants.{LinkDown}
+use Rattle.host_widgets.specs.declared.answers.HostFault.{HostFault}
+use Rattle.host_widgets.specs.declared.answers.HostFault.TheVariants.{NotLoaded, Loaded, LinkDown}
 use Rattle.host_widgets.specs.declared.kept.Power.{Power}
-use Rattle.host_widgets.specs.declared.kept.Power.TheVariants.{On}
+use Rattle.host_widgets.specs.declared.kept.Power.TheVariants.{Unloaded, On}
 use Rattle.host_widgets.specs.Host.{Outcome}
 use Rattle.mbox_link.specs.Meetings.{Meeting}
 use Rattle.host_widgets.specs.declared.kept.Record.{Record}
@@ -90,7 +91,15 @@ resuming plan kept = record { first = Boot ∷ []; acts = bring_back plan kept; 
 abbrev pub ticking : Record → Order
 ticking kept = record { first = where_on kept.power (Tick ∷ []); acts = []; manner = Plain; done = λ now. now; answer = answers.Done }
 
--- ---- an order over any device
+-- ---- over any device
+
+-- These acts were sent by one exchange each, up to the end of the walk, and no other call was made. By what the messages met there,
+-- they came to this, and left this record.
+pub record ActsCame {D : Type 0} (means : Meaning D) (plan : Plan) (heap : ℕ) (past_refusals : Bool) (acts : List Act) (kept kept' : Record) (w v : World D) (result : Outcome) : Type 0 where
+  pub meetings : List Meeting
+  pub did : ActsDid means plan heap past_refusals kept acts meetings w v
+  pub came : result ≡ (walk plan heap past_refusals next_of kept meetings acts).outcome
+  pub left : kept' ≡ (walk plan heap past_refusals next_of kept meetings acts).kept
 
 -- what a walk left is ended: the record, and the calls of the last moments
 abbrev pub Ends : {D : Type 0} → Meaning D → Plan → ℕ → Order → Record → Record → World D → World D → Walked (List Meeting) → Type 0
@@ -107,3 +116,19 @@ pub record Carried {D : Type 0} (means : Meaning D) (plan : Plan) (heap : ℕ) (
   pub walked : ActsDid means plan heap (goes_on o.manner) kept o.acts meetings begun sent
   pub came : result ≡ (walk plan heap (goes_on o.manner) next_of kept meetings o.acts).outcome
   pub ends : Ends means plan heap o kept kept' sent v (walk plan heap (goes_on o.manner) next_of kept meetings o.acts)
+
+-- ---- a call, by its test
+
+-- what is loaded is not loaded again, and only what is loaded is let go
+abbrev pub load_fault : Power → Option HostFault
+load_fault Unloaded = None
+load_fault power = Some Loaded
+
+abbrev pub unload_fault : Power → Option HostFault
+unload_fault Unloaded = Some NotLoaded
+unload_fault power = None
+
+-- where the test tells a fault, that is answered, with nothing changed and no call made; else the order is carried out
+pub record Tested {D : Type 0} (means : Meaning D) (plan : Plan) (heap : ℕ) (test : Option HostFault) (o : Order) (kept kept' : Record) (w v : World D) (result : Outcome) : Type 0 where
+  pub early : (fault : HostFault) → test ≡ Some fault → (result ≡ Err fault) × (v ≡ w) × (kept' ≡ kept)
+  pub late : test ≡ None → Carried means plan heap o kept kept' w v result

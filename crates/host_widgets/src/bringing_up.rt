@@ -1,5 +1,5 @@
 // The messages that bring a device up.
-ghost use Rattle.std.specs.Prelude.{◌≡◌, ◌<◌, ◌^◌, ◌*◌, is_some, true, Some, [], length, map};
+ghost use Rattle.std.specs.Prelude.{◌≡◌, ◌<◌, ◌^◌, ◌*◌, is_some, true, false, Some, [], length, map};
 ghost use Rattle.std.specs.List.{flat_map};
 ghost use Rattle.sof_base.specs.Ports.{HasRoom};
 ghost use Rattle.mbox_link.specs.Step.{fresh};
@@ -11,6 +11,7 @@ ghost use Rattle.host_widgets.specs.Acts.{ids_of};
 ghost use Rattle.host_widgets.specs.ActLists.{control_acts, bring_up};
 ghost use Rattle.host_widgets.specs.Host.{IsRecordOf, Walked, BroughtUp};
 ghost use Rattle.host_widgets.specs.ActFates.{WalkFates};
+ghost use Rattle.host_widgets.specs.Orders.{ActsCame};
 
 use crate::answers::HostFault;
 use crate::controls::set_message;
@@ -169,6 +170,8 @@ pub fn bring_up<P: Dsp>(
     requires room { HasRoom (61440 * P.means.pending dsp.old) out.old }
     ensures calls { Walked P.means plan.now (bring_up plan.now kept.old) (world dsp.old io.old out.old) (world dsp.new io.new out.new) result }
     ensures fates { WalkFates P.means plan.now heap kept.old (bring_up plan.now kept.old) (world dsp.old io.old out.old) (world dsp.new io.new out.new) result }
+    // What its messages met, and what they came to.
+    ensures acts { ActsCame P.means plan.now heap false (bring_up plan.now kept.old) kept.old kept.new (world dsp.old io.old out.old) (world dsp.new io.new out.new) result }
     ensures left { BroughtUp P.means plan.now heap kept.old dsp.old result dsp.new }
     ensures kept { kept.new ≡ kept.old }
     ensures inputs { io.new ≡ io.old }

@@ -6,6 +6,7 @@ ghost use Rattle.host_widgets.specs.Controls.{IsLoadable};
 ghost use Rattle.host_widgets.specs.Kept.{first_record};
 ghost use Rattle.host_widgets.specs.Host.{Agrees, Brought, Loads, LoadLeft, SucceedsExactly, after_load};
 ghost use Rattle.host_widgets.specs.ActFates.{LoadFates};
+ghost use Rattle.host_widgets.specs.Orders.{Carried, Tested, load_fault, loading};
 
 use crate::answers::HostFault;
 use crate::bringing_up::bring_up;
@@ -30,6 +31,7 @@ fn power_up<P: Dsp>(
     requires room { HasRoom (61440 * P.means.pending dsp.old) out.old }
     ensures calls { Brought P.means plan.now heap kept.old (world dsp.old io.old out.old) (world dsp.new io.new out.new) result }
     ensures fates { LoadFates P.means plan.now heap kept.old (world dsp.old io.old out.old) (world dsp.new io.new out.new) result }
+    ensures carried { Carried P.means plan.now heap (loading plan.now kept.old) kept.old kept.new (world dsp.old io.old out.old) (world dsp.new io.new out.new) result }
     ensures left { LoadLeft P.means plan.now heap dsp.old result dsp.new }
     ensures unloaded { result ≡ Err HostFault.Loaded → ⊥ }
     ensures kept { kept.new ≡ after_load plan.now result kept.old }
@@ -63,6 +65,8 @@ pub fn load<P: Dsp>(
     requires agree { Agrees P.means plan.now kept.old dsp.old }
     requires heap { heap ≤ P.means.most dsp.old }
     requires room { HasRoom (61440 * P.means.pending dsp.old) out.old }
+    // From an unloaded record its order is carried out; else nothing changes, and no call is made.
+    ensures carried { Tested P.means plan.now heap (load_fault kept.old.power) (loading plan.now kept.old) kept.old kept.new (world dsp.old io.old out.old) (world dsp.new io.new out.new) result }
     // Which calls it made on the device, and what they came to.
     ensures calls { Loads P.means plan.now heap kept.old kept.old.power (world dsp.old io.old out.old) (world dsp.new io.new out.new) result }
     // What became of each act, where it was unloaded.

@@ -6,6 +6,7 @@ ghost use Rattle.host_widgets.specs.HostRecord.{closed};
 ghost use Rattle.host_widgets.specs.Controls.{IsLoadable};
 ghost use Rattle.host_widgets.specs.Kept.{first_control, first_record};
 ghost use Rattle.host_widgets.specs.Host.{Agrees, IsRecordOf, Unloads, after_unload};
+ghost use Rattle.host_widgets.specs.Orders.{Tested, unload_fault, unloading};
 
 use crate::answers::HostFault;
 use crate::kept::{ControlRec, Found, Power, Record, StreamRec, first_control};
@@ -69,6 +70,8 @@ pub fn unload<P: Dsp>(
     requires agree { Agrees P.means plan.now kept.old dsp.old }
     requires heap { heap ≤ P.means.most dsp.old }
     requires room { HasRoom (61440 * P.means.pending dsp.old) out.old }
+    // What was loaded is let go; else nothing changes, and no call is made.
+    ensures carried { Tested P.means plan.now heap (unload_fault kept.old.power) (unloading plan.now kept.old) kept.old kept.new (world dsp.old io.old out.old) (world dsp.new io.new out.new) result }
     // Which calls it made on the device, and what they came to.
     ensures calls { Unloads P.means kept.old.power (world dsp.old io.old out.old) (world dsp.new io.new out.new) result }
     ensures unloaded { (result ≡ Err HostFault.NotLoaded) ↔ (kept.old.power ≡ Power.Unloaded) }

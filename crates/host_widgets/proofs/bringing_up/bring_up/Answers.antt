@@ -5,6 +5,7 @@ use Rattle.host_widgets.proofs.SilentTicks.{AreInputs}
 use Rattle.host_widgets.proofs.ManyEffects.{brought_up, walk_fates}
 use Rattle.host_widgets.proofs.Brings.{brings}
 use Rattle.host_widgets.proofs.Loadables.{few-widgets}
+use Rattle.host_widgets.proofs.LoadOrders.{brought-came}
 use Rattle.host_widgets.proofs.bringing_up.bring_up.Goals as goal
 
 pub send_list-requires-clause-few : goal.send_list-requires-clause-few
@@ -40,3 +41,11 @@ returns-clause-fates g c =
     let v = world c.send_list.new.dsp c.send_list.new.io c.send_list.new.out in
     let are : AreInputs c.args.io.now = record { distinct = c.len-inputs.ensures.distinct; positions = c.len-inputs.ensures.within } in
     walk_fates g.P.Dsp.means c.args.plan.now c.args.heap c.args.kept.now w v (brings c.args.plan.now c.args.heap c.args.kept.now c.requires.plan c.requires.kept.controls) are c.requires.booted c.send_list.result c.send_list.ensures
+
+pub returns-clause-acts : goal.returns-clause-acts
+returns-clause-acts g c =
+    let w = world c.args.dsp.now c.args.io.now c.args.out.now in
+    let v = world c.send_list.new.dsp c.send_list.new.io c.send_list.new.out in
+    let are : AreInputs c.args.io.now = record { distinct = c.len-inputs.ensures.distinct; positions = c.len-inputs.ensures.within } in
+    brought-came g.P.Dsp.means c.args.plan.now c.args.heap c.args.kept.now c.requires.plan c.requires.kept.controls w v c.send_list.result
+    (walk_fates g.P.Dsp.means c.args.plan.now c.args.heap c.args.kept.now w v (brings c.args.plan.now c.args.heap c.args.kept.now c.requires.plan c.requires.kept.controls) are c.requires.booted c.send_list.result c.send_list.ensures)

@@ -1,10 +1,12 @@
-use Rattle.std.proofs.Common.{[], ◌∷◌, refl, sym, subst}
+use Rattle.std.proofs.Common.{◌∙◌, [], ◌∷◌, refl, sym, subst}
 use Rattle.mbox_link.specs.Calls.{world, Cut}
 use Rattle.mbox_link.proofs.Led.{Led-append}
 use Rattle.host_widgets.specs.ActLists.{bring_up}
-use Rattle.host_widgets.specs.declared.kept.Power.TheVariants.{Unloaded}
+use Rattle.host_widgets.specs.declared.kept.Power.TheVariants.{Unloaded, On}
+use Rattle.host_widgets.specs.Kept.{with_power}
 use Rattle.host_widgets.specs.Host.{IsRecordOf, exchanges}
 use Rattle.host_widgets.proofs.Records.{closed-record}
+use Rattle.host_widgets.proofs.LoadOrders.{load-passed, load-failed}
 use Rattle.host_widgets.proofs.loading.power_up.Goals as goal
 
 pub returns-in-Err-clause-calls : goal.returns-in-Err-clause-calls
@@ -30,3 +32,21 @@ returns-in-Err-clause-fates g c = record {
 
 pub bring_up-requires-clause-kept : goal.bring_up-requires-clause-kept
 bring_up-requires-clause-kept g c = subst (IsRecordOf c.args.plan.now) (sym c.requires.kept) (closed-record Unloaded c.args.plan.now)
+
+pub returns-in-Err-clause-carried : goal.returns-in-Err-clause-carried
+returns-in-Err-clause-carried g c =
+    let kept = c.args.kept.now in
+    let w = world c.args.dsp.now c.args.io.now c.args.out.now in
+    let m = world c.boot.new.self c.args.io.now c.args.out.now in
+    let n = world c.bring_up.new.dsp c.bring_up.new.io c.bring_up.new.out in
+    let v = world c.cut.new.self c.bring_up.new.io c.bring_up.new.out in
+    load-failed g.P.Dsp.means c.args.plan.now c.args.heap kept c.bring_up.new.kept c.bring_up.new.kept w m n _ (c.boot.ensures, refl) c.in-Err.ensures.acts _ refl v (c.cut.ensures, refl)
+    (c.in-Err.ensures.kept ∙ c.requires.kept)
+
+pub returns-clause-carried : goal.returns-clause-carried
+returns-clause-carried g c =
+    let kept = c.args.kept.now in
+    let w = world c.args.dsp.now c.args.io.now c.args.out.now in
+    let m = world c.boot.new.self c.args.io.now c.args.out.now in
+    let n = world c.bring_up.new.dsp c.bring_up.new.io c.bring_up.new.out in
+    load-passed g.P.Dsp.means c.args.plan.now c.args.heap kept (with_power On c.bring_up.new.kept) c.bring_up.new.kept w m n _ (c.boot.ensures, refl) c.in_default.ensures.acts refl refl

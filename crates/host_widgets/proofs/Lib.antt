@@ -46,3 +46,4 @@ pub mod OneActLaws
 pub mod LoadWalks
 pub mod BuildingActs
 pub mod LoadOrders
+pub mod FatesRead

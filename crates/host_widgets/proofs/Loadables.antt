@@ -1,8 +1,10 @@
 -- What is so of plans that are loaded.
-use Rattle.std.proofs.Common.{◌≡◌, refl, sym, ap, subst, ◌∙◌, ℕ, zero, suc, ◌<◌, ◌≤◌, ◌^◌, Bool, cond, List, [], ◌∷◌, length, get_or, Option, Some, ◌==◌, inl, inr, arith}
-use Rattle.std.specs.Prelude.{find}
+use Rattle.std.proofs.Common.{◌≡◌, refl, sym, ap, subst, ◌∙◌, ℕ, zero, suc, ◌<◌, ◌≤◌, ◌^◌, Bool, true, cond, List, [], ◌∷◌, length, get_or, Option, Some, None, ◌==◌, inl, inr, arith}
+use Rattle.std.specs.Prelude.{find, is_none}
 use Rattle.std.specs.List.{AllByRecursion}
 use Rattle.std.proofs.lemmas.Bool.{cases_Bool, eq-eqb, eqb-true}
+use Rattle.sof_base.specs.BlobFaults.{BlobFault, blob_fault}
+use Rattle.sof_base.proofs.BlobTests.{tested-sound}
 use Rattle.stream_law.specs.Placed.{Ascends, AreAbove}
 use Rattle.stream_law.specs.declared.graph.Graph.{Graph}
 use Rattle.stream_law.specs.declared.graph.Kind.{Kind}
@@ -10,7 +12,8 @@ use Rattle.tplg_plan.specs.declared.plans.Plan.{Plan}
 use Rattle.tplg_plan.specs.declared.plans.ControlPlan.{ControlPlan}
 use Rattle.tplg_plan.specs.declared.plans.ControlKind.{ControlKind}
 use Rattle.tplg_plan.specs.declared.plans.ControlKind.TheVariants.{Volume, Choice, Blob}
-use Rattle.tplg_plan.specs.Sound.{IsControlOf, IsLive}
+use Rattle.tplg_plan.specs.Ranges.{is_initial}
+use Rattle.tplg_plan.specs.Sound.{IsControlOf, IsLive, IsSound}
 use Rattle.host_widgets.proofs.NamedIds.{few-widgets as at-most}
 use Rattle.host_widgets.specs.declared.kept.ControlRec.{ControlRec}
 use Rattle.host_widgets.specs.declared.kept.Record.{Record}
@@ -54,7 +57,26 @@ first-at (k ∷ ks) (suc i) d within rises =
       | inr other ↦ ap (λ (b : Bool). cond b (Some k) (found_in ks x.comp)) other ∙ first-at ks i d (omega (arith, within)) rises.1
     ]
 
-module _ (plan : Plan) (loadable : IsLoadable plan) (ks : List ControlPlan) (same : ks ≡ plan.controls) (i : ℕ) (d : ControlPlan) (within : i < length ks) where
+-- what an equaliser begins with has at most 1024 bytes
+none-told : (fault : Option BlobFault) → is_none fault ≡ true → fault ≡ None
+none-told None is = refl
+none-told (Some f) is = absurd (cc is)
+
+few-initial : (bytes : List ℕ) → is_initial bytes ≡ true → length bytes ≤ 1024
+few-initial [] is = omega arith
+few-initial (b ∷ bs) is = (tested-sound (b ∷ bs) (none-told (blob_fault (b ∷ bs)) is)).long.1
+
+short-kind : (kind : ControlKind) (of : Kind) → IsControlOf kind of → length (first_blob kind) ≤ 1024
+short-kind (Volume min max channels lowest step mute) of is = omega arith
+short-kind (Choice items) of is = omega arith
+short-kind (Blob most initial) of is = few-initial initial is.1
+
+short-at : (g : Graph) (ks : List ControlPlan) (i : ℕ) (d : ControlPlan) → i < length ks → AllByRecursion (IsLive g) ks → length (first_blob (get_or ks i d).kind) ≤ 1024
+short-at g [] i d within live = absurd (omega (arith, within))
+short-at g (k ∷ ks) zero d within live = short-kind k.kind live.0.comp.kind live.0.kind
+short-at g (k ∷ ks) (suc i) d within live = short-at g ks i d (omega (arith, within)) live.1
+
+module _ (plan : Plan) (sound : IsSound plan) (ks : List ControlPlan) (same : ks ≡ plan.controls) (i : ℕ) (d : ControlPlan) (within : i < length ks) where
   inside : i < length plan.controls
   inside = omega (arith, within, ap length same)
 
@@ -65,22 +87,13 @@ module _ (plan : Plan) (loadable : IsLoadable plan) (ks : List ControlPlan) (sam
   here-is = ap (λ (xs : List ControlPlan). get_or xs i d) same
 
   pub has-few : HasFew here.kind
-  has-few = subst (λ (k : ControlPlan). HasFew k.kind) (sym here-is) (few-at plan.graph plan.controls i d inside loadable.sound.live)
+  has-few = subst (λ (k : ControlPlan). HasFew k.kind) (sym here-is) (few-at plan.graph plan.controls i d inside sound.live)
+
+  pub few-bytes : length (first_blob here.kind) ≤ 1024
+  few-bytes = subst (λ (k : ControlPlan). length (first_blob k.kind) ≤ 1024) (sym here-is) (short-at plan.graph plan.controls i d inside sound.live)
 
   pub is-first : control_of plan here.comp ≡ Some here
-  is-first = subst (λ (k : ControlPlan). control_of plan k.comp ≡ Some k) (sym here-is) (first-at plan.controls i d inside loadable.sound.controls_ascend)
-
--- it begins with no blob
-bare-at : (ks : List ControlPlan) (i : ℕ) (d : ControlPlan) → i < length ks → AllByRecursion (λ (k : ControlPlan). first_blob k.kind ≡ []) ks → first_blob (get_or ks i d).kind ≡ []
-bare-at [] i d within none = absurd (omega (arith, within))
-bare-at (k ∷ ks) zero d within none = none.0
-bare-at (k ∷ ks) (suc i) d within none = bare-at ks i d (omega (arith, within)) none.1
-
-module _ (plan : Plan) (loadable : IsLoadable plan) (ks : List ControlPlan) (same : ks ≡ plan.controls) (i : ℕ) (d : ControlPlan) (within : i < length ks) where
-  pub few-bytes : length (first_blob (get_or ks i d).kind) ≤ 1024
-  few-bytes =
-      let none : first_blob (get_or ks i d).kind ≡ [] = bare-at ks i d within (subst (AllByRecursion (λ (k : ControlPlan). first_blob k.kind ≡ [])) (sym same) (no-blobs plan.controls loadable.blobs)) in
-      omega (arith, ap length none)
+  is-first = subst (λ (k : ControlPlan). control_of plan k.comp ≡ Some k) (sym here-is) (first-at plan.controls i d inside sound.controls_ascend)
 
 -- the record of one has no blob so far
 bare-by : (g : Graph) (ks : List ControlPlan) (rs : List ControlRec) (i : ℕ) (d : ControlRec) → i < length rs → AllByRecursion (IsLive g) ks → AllByRecursion (λ (k : ControlPlan). first_blob k.kind ≡ []) ks → AreControls ks rs → (get_or rs i d).blob ≡ []

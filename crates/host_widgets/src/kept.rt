@@ -1,7 +1,8 @@
 // What the host keeps of its device.
 ghost use Rattle.std.specs.Prelude.{◌≡◌, ◌≤◌, IfOk, length, map};
+ghost use Rattle.tplg_plan.specs.Sound.{IsSound};
 ghost use Rattle.host_widgets.specs.HostRecord.{closed};
-ghost use Rattle.host_widgets.specs.Controls.{IsLoadable, HasFew, first_blob};
+ghost use Rattle.host_widgets.specs.Controls.{HasFew, first_blob};
 ghost use Rattle.host_widgets.specs.Kept.{first_control, first_record};
 
 use crate::controls::{first_blob, first_values};
@@ -80,7 +81,7 @@ pub fn first_control(control: &ControlPlan) -> ControlRec
 
 // Every live control of the plan is as it begins.
 fn first_controls(alloc: Global, plan: &Plan) -> Result<Items<ControlRec>, NoMemory>
-    requires plan { IsLoadable plan.now }
+    requires plan { IsSound plan.now }
     ensures { IfOk result (λ controls. controls ≡ map first_control plan.now.controls) }
 {
     let mut controls = Items::new(alloc);
@@ -94,7 +95,7 @@ impl Record {
     /// The record of a plan before anything was loaded: every stream is closed, and every live control has the values or the
     /// blob that it begins with. The plan is that of a well-formed topology.
     pub fn new(alloc: Global, plan: &Plan) -> Result<Record, NoMemory>
-        requires plan { IsLoadable plan.now }
+        requires plan { IsSound plan.now }
         ensures { IfOk result (λ r. r ≡ first_record plan.now) }
     {
         Ok(Record {

@@ -2,8 +2,8 @@
 ghost use Rattle.std.specs.Prelude.{◌≡◌, ◌↔◌, ◌≤◌, ◌<◌, ◌*◌, length, map};
 ghost use Rattle.sof_base.specs.Ports.{HasRoom};
 ghost use Rattle.mbox_link.specs.Calls.{world};
+ghost use Rattle.tplg_plan.specs.Sound.{IsSound};
 ghost use Rattle.host_widgets.specs.HostRecord.{closed};
-ghost use Rattle.host_widgets.specs.Controls.{IsLoadable};
 ghost use Rattle.host_widgets.specs.Kept.{first_control, first_record};
 ghost use Rattle.host_widgets.specs.Host.{Agrees, IsRecordOf, Unloads, after_unload};
 ghost use Rattle.host_widgets.specs.Orders.{Tested, unload_fault, unloading};
@@ -33,7 +33,7 @@ fn close_all(streams: &mut Items<StreamRec>)
 
 // Every live control is as it begins.
 fn reset_all(plan: &Plan, controls: &mut Items<ControlRec>)
-    requires plan { IsLoadable plan.now }
+    requires plan { IsSound plan.now }
     requires all { length controls.old ≡ length plan.now.controls }
     ensures { controls.new ≡ map first_control plan.now.controls }
 {
@@ -45,7 +45,7 @@ fn reset_all(plan: &Plan, controls: &mut Items<ControlRec>)
 
 // Nothing is loaded.
 fn forget(plan: &Plan, kept: &mut Record)
-    requires plan { IsLoadable plan.now }
+    requires plan { IsSound plan.now }
     requires kept { IsRecordOf plan.now kept.old }
     ensures { kept.new ≡ first_record plan.now }
 {
@@ -66,7 +66,7 @@ pub fn unload<P: Dsp>(
     io: &mut Inputs,
     out: &mut Outputs,
 ) -> Result<(), HostFault>
-    requires plan { IsLoadable plan.now }
+    requires plan { IsSound plan.now }
     requires agree { Agrees P.means plan.now kept.old dsp.old }
     requires heap { heap ≤ P.means.most dsp.old }
     requires room { HasRoom (61440 * P.means.pending dsp.old) out.old }

@@ -20,7 +20,7 @@ bounds-items-place-in-loop-place g c =
 pub put_control-requires-clause-first : goal.put_control-requires-clause-first
 put_control-requires-clause-first g c =
     subst (λ (k : ControlPlan). control_of c.args.plan.now k.comp ≡ Some k) (sym c.index-items-place.is)
-    (is-first c.args.plan.now c.requires.plan c.items.result.now c.items.ensures c.loop-place.place c.index-items-place.result (omega (arith, c.loop-place-test.true, ap length c.items.ensures, ap length c.items-count.ensures)))
+    (is-first c.args.plan.now c.requires.plan.sound c.items.result.now c.items.ensures c.loop-place.place c.index-items-place.result (omega (arith, c.loop-place-test.true, ap length c.items.ensures, ap length c.items-count.ensures)))
 
 pub put_control-requires-clause-bare : goal.put_control-requires-clause-bare
 put_control-requires-clause-bare g c =

@@ -1,20 +1,55 @@
 //! The program: does what the words of its command line ask for, over the files of this machine and a firmware of its own.
+//! Standard output has what was asked for, and standard error why the system did not let it be done.
 #![tactic(auto)]
 
 use fw_core::Firmware;
 use sof_base::NoMemory;
-use sof_desk::OsDesk;
+use sof_desk::{OsDesk, Subject, Trouble};
 use sof_run::run;
 use std::env;
+use std::fmt::Display;
 use std::io::ErrorKind;
 use std::process::ExitCode;
 
 /// The greatest heap of the firmware, in bytes.
 const ROOM: u32 = 16777216;
 
-const HELP: &str = "sof play HEAP TOPOLOGY SCRIPT\nsof check TOPOLOGY\nsof compile SOURCE OUT\n";
+const HELP: &str = "\
+Forms:
+  sof play HEAP TOPOLOGY SCRIPT   plays a script over the graph of a topology
+  sof check TOPOLOGY              tells what a topology has and needs
+  sof compile SOURCE OUT          makes a topology file from a source in TOML
+  sof --help                      prints this text
+  sof --version                   prints the version
+
+HEAP is the size of the device's heap in bytes, in decimal, at most 16777216.
+'sof check TOPOLOGY' tells how many bytes a topology needs.
+
+Statuses:
+  0  all was carried out; the transcript tells which commands were refused
+  1  the words have none of the forms
+  2  TOPOLOGY is no topology file, or it breaks a rule
+  3  a file or standard output failed; standard error tells which and why
+  4  a line of SCRIPT or an entry of SOURCE is at fault
+  5  a file is longer than its limit
+  6  an argument is no text in UTF-8
+  7  memory was wanting
+  8  the ticks of SCRIPT sum to more than 60000
+  9  SCRIPT or TOPOLOGY asks for what is not built yet
+";
 
 const VERSION: &str = "sof 0.1.0\n";
+
+// Tells why on standard error; where that fails too, nothing more can be told.
+fn tell<D: Display + Drop>(rt: &HostRuntime, why: D) {
+    let _ = eprintln!(rt; "sof: {why}");
+}
+
+// Memory was wanting.
+fn no_memory(rt: &HostRuntime) -> u8 {
+    tell(rt, "no memory");
+    7
+}
 
 // The words after the program's name; else the status: 7 where memory was wanting, and 6 where an argument is no text.
 fn words(rt: &HostRuntime) -> Result<Vec<String>, u8> {
@@ -23,14 +58,16 @@ fn words(rt: &HostRuntime) -> Result<Vec<String>, u8> {
             let _program = args.next();
             match args.collect(rt.alloc()) {
                 Ok(words) => Ok(words),
-                Err(_) => Err(7),
+                Err(_) => Err(no_memory(rt)),
             }
         }
-        Err(error) => Err(if error.kind() == ErrorKind::OutOfMemory {
-            7
-        } else {
-            6
-        }),
+        Err(error) => {
+            if error.kind() == ErrorKind::OutOfMemory {
+                return Err(no_memory(rt));
+            }
+            tell(rt, "an argument is no text");
+            Err(6)
+        }
     }
 }
 
@@ -38,7 +75,11 @@ fn words(rt: &HostRuntime) -> Result<Vec<String>, u8> {
 fn print(rt: &HostRuntime, text: &str) -> u8 {
     match print!(rt; "{text}") {
         Ok(()) => 0,
-        Err(_) => 3,
+        Err(reason) => {
+            let subject = Subject::Output;
+            tell(rt, Trouble { subject, reason });
+            3
+        }
     }
 }
 
@@ -46,7 +87,14 @@ fn print(rt: &HostRuntime, text: &str) -> u8 {
 fn play(rt: &HostRuntime, words: &[String]) -> Result<u8, NoMemory> {
     let dsp = Firmware::new(rt.alloc(), ROOM)?;
     let mut desk = OsDesk::new(rt, rt.alloc())?;
-    Ok(run(rt.alloc(), words, &mut desk, dsp).status)
+    let status = run(rt.alloc(), words, &mut desk, dsp).status;
+    if let Some(trouble) = desk.trouble() {
+        tell(rt, trouble);
+    }
+    if status == 1 {
+        tell(rt, "try 'sof --help'");
+    }
+    Ok(status)
 }
 
 // The status that the words lead to.
@@ -60,7 +108,7 @@ fn status(rt: &HostRuntime, words: &[String]) -> u8 {
     }
     match play(rt, words) {
         Ok(status) => status,
-        Err(NoMemory) => 7,
+        Err(NoMemory) => no_memory(rt),
     }
 }
 

@@ -9,3 +9,4 @@ pub mod ShelfCalls
 pub mod OutFiles
 pub mod RealDesk
 pub mod Transfers
+pub mod Troubles

@@ -12,7 +12,10 @@ mod out_file;
 mod plan;
 mod store;
 mod transfer;
+mod trouble;
+mod troubles;
 
 pub use calls::{Desk, DeskFailed, LoadFault};
 pub use mem::MemDesk;
 pub use os::OsDesk;
+pub use trouble::{Subject, Trouble};

@@ -1,12 +1,13 @@
 // A desk over real files and standard output: the edge to the outside, which tells no content.
-ghost use Rattle.std.specs.Prelude.{◌≡◌, ◌≤◌, length, [], IfOk, if◌then◌else◌};
+ghost use Rattle.std.specs.Prelude.{◌≡◌, ◌≤◌, length, [], is_ok, is_some, nat_lt, IfOk, if◌then◌else◌};
 ghost use Rattle.sof_desk.specs.OutFiles.{slots_of, SameBeside};
 ghost use Rattle.sof_desk.specs.RealDesk.{real, slots_with};
 
 use crate::calls::{Desk, DeskFailed, LoadFault};
-use crate::faults::Faults;
 use crate::out_file::{OutFile, append_in, place_of, write_kept_of};
-use crate::transfer::{read_all, write_all};
+use crate::transfer::{ReadFault, read_all, write_all};
+use crate::trouble::{Subject, Trouble};
+use crate::troubles::Troubles;
 use sof_base::NoMemory;
 use std::alloc::Global;
 use std::marker::Model;
@@ -24,7 +25,7 @@ pub struct OsDesk<R: Files> {
     rt: R,
     alloc: Global,
     files: Vec<OutFile<R::File>>,
-    faults: Faults,
+    troubles: Troubles,
 }
 
 impl<R: Files> Model for OsDesk<R> {
@@ -34,7 +35,7 @@ impl<R: Files> Model for OsDesk<R> {
 
     ghost Value = { RealDesk };
 
-    ghost view = { λ d. record { files = d.files.items; faults = d.faults } };
+    ghost view = { λ d. record { files = d.files.items; faults = d.troubles.count } };
 
     ghost invariant = { λ d. (vec_len d.files ≤ SLOTS) × (SLOTS ≤ vec_capacity d.files) };
 }
@@ -48,33 +49,36 @@ impl<R: Files + Print + Drop> OsDesk<R> {
             rt,
             alloc,
             files: Vec::with_capacity(alloc, SLOTS)?,
-            faults: Faults::none(),
+            troubles: Troubles::none(),
         })
     }
 
-    /// Creates or empties a file and keeps it open under a slot; tells whether there was room for the slot and its bytes and
-    /// the file was created.
-    fn open_for_writing(&mut self, slot: u32, name: &str) -> bool
+    /// Why the first call failed that did: what it was about, and the system's reason.
+    pub fn trouble(&self) -> Option<&Trouble>
+        ensures { is_some result ≡ nat_lt 0 self.now.faults }
+    {
+        self.troubles.first()
+    }
+
+    /// Creates or empties a file and keeps it open under a slot; fails where there was no room for the slot, its name and
+    /// its bytes, or the file was not created.
+    fn open_for_writing(&mut self, slot: u32, name: &str) -> io::Result<()>
         ensures faults { self.new.faults ≡ self.old.faults }
-        ensures slots { slots_of self.new.files ≡ (if result then slots_with slot (slots_of self.old.files) else slots_of self.old.files) }
+        ensures slots { slots_of self.new.files ≡ (if is_ok result then slots_with slot (slots_of self.old.files) else slots_of self.old.files) }
         ensures others { SameBeside slot self.old.files self.new.files }
         ensures room { length self.new.files ≤ SLOTS }
     {
         let place = place_of(&self.files, slot);
         if place.is_none() && self.files.len() >= SLOTS {
-            return false;
+            return Err(io::Error::other("too many outputs"));
         }
-        let Ok(file) = fs::create(&self.rt, name) else {
-            return false;
-        };
-        let Some(opened) = OutFile::new(self.alloc, slot, file) else {
-            return false;
-        };
+        let file = fs::create(&self.rt, name)?;
+        let opened = OutFile::new(self.alloc, slot, name, file)?;
         match place {
             Some(place) => self.files[place] = opened,
             None => self.files.push(opened).unwrap(),
         }
-        true
+        Ok(())
     }
 }
 
@@ -84,12 +88,12 @@ fn load_file<R: Files>(
     alloc: Global,
     name: &str,
     limit: usize,
-) -> Result<Vec<u8>, LoadFault>
+) -> Result<Vec<u8>, ReadFault>
     ensures { IfOk result (λ bytes. length bytes.items ≤ limit) }
 {
     match fs::open(rt, name) {
         Ok(mut file) => read_all(&mut file, alloc, limit),
-        Err(_) => Err(LoadFault::Failed),
+        Err(reason) => Err(ReadFault::Failed(reason)),
     }
 }
 
@@ -97,26 +101,40 @@ impl<R: Files + Print + Drop> Desk for OsDesk<R> {
     ghost means = { real };
 
     fn load(&mut self, alloc: Global, name: &str, limit: usize) -> Result<Vec<u8>, LoadFault> {
-        let loaded = load_file(&self.rt, alloc, name, limit);
-        if let Err(LoadFault::Failed) = &loaded {
-            self.faults.count_one();
+        match load_file(&self.rt, alloc, name, limit) {
+            Ok(bytes) => Ok(bytes),
+            Err(ReadFault::TooLong) => Err(LoadFault::TooLong),
+            Err(ReadFault::OutOfMemory) => Err(LoadFault::OutOfMemory),
+            Err(ReadFault::Failed(reason)) => {
+                self.troubles
+                    .note(Trouble::with_file(self.alloc, name, reason));
+                Err(LoadFault::Failed)
+            }
         }
-        loaded
     }
 
     fn create(&mut self, slot: u32, name: &str) -> Result<(), DeskFailed> {
-        let done = self.open_for_writing(slot, name);
-        self.faults.answer(done)
+        let alloc = self.alloc;
+        let done = self
+            .open_for_writing(slot, name)
+            .map_err(|reason| Trouble::with_file(alloc, name, reason));
+        self.troubles.answer(done)
     }
 
     fn append(&mut self, slot: u32, piece: &[u8]) -> Result<(), DeskFailed> {
         let done = append_in(&mut self.files, slot, piece);
-        self.faults.answer(done)
+        self.troubles.answer(done)
     }
 
     // No line stands on standard output before the bytes that belong to it.
     fn say(&mut self, piece: &[u8]) -> Result<(), DeskFailed> {
-        let done = write_kept_of(&mut self.files) && write_all(&mut io::writer(&self.rt), piece);
-        self.faults.answer(done)
+        let done = match write_kept_of(&mut self.files) {
+            Ok(()) => write_all(&mut io::writer(&self.rt), piece).map_err(|reason| Trouble {
+                subject: Subject::Output,
+                reason,
+            }),
+            Err(trouble) => Err(trouble),
+        };
+        self.troubles.answer(done)
     }
 }

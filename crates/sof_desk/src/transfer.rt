@@ -1,55 +1,66 @@
 // Whole transfers by readers and writers that may move fewer bytes than they are asked to.
-ghost use Rattle.std.specs.Prelude.{MatchResult};
+ghost use Rattle.std.specs.Prelude.{MatchResult, is_ok};
 ghost use Rattle.sof_desk.specs.Desk.{Answers};
-ghost use Rattle.sof_desk.specs.Transfers.{Writes};
+ghost use Rattle.sof_desk.specs.Transfers.{Writes, load_fault};
 
-use crate::calls::LoadFault;
 use std::alloc::Global;
-use std::io::{Read, Write};
+use std::io;
+use std::io::{ErrorKind, Read, Write};
+
+/// Why a reader's bytes were not all read.
+#[derive(Drop)]
+pub enum ReadFault {
+    /// A read failed.
+    Failed(io::Error),
+    /// The reader gave more bytes than the limit.
+    TooLong,
+    /// Memory for the bytes was wanting.
+    OutOfMemory,
+}
 
 /// The most bytes that one read asks for.
 const CHUNK: usize = 4096;
 
 /// The bytes that a reader gives until its end, where they are at most `limit`.
 ///
-/// `TooLong`: it gave more than `limit` bytes, and never is more than one byte beyond the limit asked of it. `Failed`: a
-/// read failed. `OutOfMemory`: memory was wanting.
-pub fn read_all<R: Read>(from: &mut R, alloc: Global, limit: usize) -> Result<Vec<u8>, LoadFault>
+/// Never is more than one byte beyond the limit asked of it.
+pub fn read_all<R: Read>(from: &mut R, alloc: Global, limit: usize) -> Result<Vec<u8>, ReadFault>
     ensures { MatchResult result
         (λ bytes. Answers (R.remaining from.old) limit (Ok bytes.items) (Unit {0}))
-        (λ fault. Answers (R.remaining from.old) limit (Err fault) (Unit {0})) }
+        (λ fault. Answers (R.remaining from.old) limit (Err (load_fault fault)) (Unit {0})) }
 {
     let mut bytes = Vec::new(alloc);
     let mut chunk = [0u8; CHUNK];
     loop {
         let left = limit - bytes.len();
         let part = &mut chunk[..left.saturating_add(1).min(CHUNK)];
-        let Ok(count) = from.read(part) else {
-            return Err(LoadFault::Failed);
+        let count = match from.read(part) {
+            Ok(count) => count,
+            Err(reason) => return Err(ReadFault::Failed(reason)),
         };
         if count == 0 {
             return Ok(bytes);
         }
         if count > left {
-            return Err(LoadFault::TooLong);
+            return Err(ReadFault::TooLong);
         }
         if bytes.extend_from_slice(&part[..count]).is_err() {
-            return Err(LoadFault::OutOfMemory);
+            return Err(ReadFault::OutOfMemory);
         }
     }
 }
 
-/// Writes a piece, and tells whether all of it was written; else a prefix of it was. A write that takes nothing ends it.
-pub fn write_all<W: Write>(to: &mut W, piece: &[u8]) -> bool
-    ensures { Writes piece.now result (W.contents to.old) (W.contents to.new) }
+/// Writes a piece whole, or a prefix of it up to a failure. A write that takes nothing is one.
+pub fn write_all<W: Write>(to: &mut W, piece: &[u8]) -> io::Result<()>
+    ensures { Writes piece.now (is_ok result) (W.contents to.old) (W.contents to.new) }
 {
     let mut rest = piece;
     while !rest.is_empty() {
         match to.write(rest) {
-            Ok(0) => return false,
+            Ok(0) => return Err(io::Error::from(ErrorKind::WriteZero)),
             Ok(count) => rest = &rest[count..],
-            Err(_) => return false,
+            Err(reason) => return Err(reason),
         }
     }
-    true
+    Ok(())
 }

@@ -67,3 +67,18 @@ fn real_files_are_loaded_and_created(rt: HostRuntime) -> Result<(), Fail> {
     assert_eq!(rt; desk.say(b""), Ok(()));
     Ok(())
 }
+
+#[test]
+fn the_first_failure_is_told(rt: HostRuntime) -> Result<(), Fail> {
+    let mut desk = OsDesk::new(&rt, rt.alloc())?;
+    assert!(rt; desk.create(1, "/dev/full").is_ok());
+    assert!(rt; desk.append(1, b"abc").is_ok());
+    assert!(rt; desk.trouble().is_none());
+    assert!(rt; desk.say(b"").is_err());
+    assert!(rt; desk.create(2, "/dev/null/none").is_err());
+    let trouble = desk.trouble().ok_or("no trouble")?;
+    let told = format!(in rt.alloc(); "{trouble}")?;
+    let want = "/dev/full: No space left on device (os error 28)";
+    assert_eq!(rt; told.as_str(), want);
+    Ok(())
+}

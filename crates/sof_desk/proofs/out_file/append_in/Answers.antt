@@ -1,4 +1,4 @@
-use Rattle.std.proofs.Common.{◌∙◌, sym, ap, subst, nat_eq}
+use Rattle.std.proofs.Common.{◌∙◌, sym, ap, subst, nat_eq, is_ok}
 use Rattle.sof_desk.specs.OutFiles.{given_at}
 use Rattle.sof_desk.specs.Transfers.{Writes}
 use Rattle.sof_desk.proofs.First.{is_first}
@@ -16,9 +16,9 @@ returns-in-Some-clause-given g c =
     let found = sym c.place_of.ensures ∙ c.in-Some.is in
     let first = is_first (under c.args.slot) files c.in-Some.place c.index-files-place.result found in
     let passes = ap (λ n. nat_eq n c.args.slot) c.append.ensures.slot ∙ first.passes in
-    subst (λ new. Writes c.args.piece.now c.append.result (given_at c.args.slot files) new)
+    subst (λ new. Writes c.args.piece.now (is_ok c.append.result) (given_at c.args.slot files) new)
     (sym (given-set c.args.slot files c.in-Some.place c.index-files-place.result c.append.new.self first passes))
-    (subst (λ old. Writes c.args.piece.now c.append.result old c.append.new.self.given)
+    (subst (λ old. Writes c.args.piece.now (is_ok c.append.result) old c.append.new.self.given)
     (sym (given-at c.args.slot files c.in-Some.place c.index-files-place.result first))
     c.append.ensures.given)
 

@@ -7,7 +7,7 @@ use Rattle.fw_components.specs.declared.component.Component.{Component}
 use Rattle.fw_components.specs.declared.component.Unit as units
 use Rattle.fw_components.specs.declared.component.Unit.TheVariants.{Host, Dai, Volume, Mixer, Mux, Eq, Buffer, Pipeline}
 use Rattle.fw_components.specs.Tables.{Tables}
-use Rattle.fw_components.specs.Kept.{IsKept, IsBuffering, IsPiping, is_plain, sides_by}
+use Rattle.fw_components.specs.Kept.{IsKept, IsBuffering, IsPiping, IsStreaming, is_plain, sides_by}
 use Rattle.fw_components.specs.Frames.{with_words, begun_unit, begun_by, begun_at, taken_unit, taken_by, taken_at, pushed_ring, pushed_unit, pushed_by, pushed_at}
 use Rattle.fw_components.proofs.KeptLaws.{comps-changed, buffers-changed, pipes-changed}
 
@@ -31,6 +31,16 @@ none-copied n xs none long = empty xs (omega (arith, none, long)) ∙ sym (ap sa
     nothing n e = ap (λ k. take {A = Frame} k []) e
 
 -- ---- each change keeps what a unit is
+
+begun-streaming : (channels : ℕ) → (words : List ℤ) → (u : units.Unit) → IsStreaming u → IsStreaming (begun_unit channels words u)
+begun-streaming channels words (Host capture phase params piece) e = e
+begun-streaming channels words (Dai capture format piece) e = e
+begun-streaming channels words (Volume gains piece) e = e
+begun-streaming channels words (Mixer piece) e = e
+begun-streaming channels words (Mux choice piece) e = e
+begun-streaming channels words (Eq eq next remaining) e = e
+begun-streaming channels words (Buffer size ring source sink) e = e
+begun-streaming channels words (Pipeline sched period complete piece) e = e
 
 begun-plain : (channels : ℕ) → (words : List ℤ) → (u : units.Unit) → is_plain u ≡ true → is_plain (begun_unit channels words u) ≡ true
 begun-plain channels words (Host capture phase params piece) e = e
@@ -72,7 +82,7 @@ begun-sides channels words (Eq eq next remaining) = refl
 begun-sides channels words (Buffer size ring source sink) = refl
 begun-sides channels words (Pipeline sched period complete piece) = refl
 
-taken-buffering : (n : ℕ) → (u : units.Unit) → IsBuffering u → IsBuffering (taken_unit n u)
+pub taken-buffering : (n : ℕ) → (u : units.Unit) → IsBuffering u → IsBuffering (taken_unit n u)
 taken-buffering n (Host capture phase params piece) e = e
 taken-buffering n (Dai capture format piece) e = e
 taken-buffering n (Volume gains piece) e = e
@@ -82,7 +92,7 @@ taken-buffering n (Eq eq next remaining) e = e
 taken-buffering n (Buffer size ring source sink) e = e
 taken-buffering n (Pipeline sched period complete piece) e = e
 
-taken-sides : (n : ℕ) → (u : units.Unit) → sides_by (taken_unit n u) ≡ sides_by u
+pub taken-sides : (n : ℕ) → (u : units.Unit) → sides_by (taken_unit n u) ≡ sides_by u
 taken-sides n (Host capture phase params piece) = refl
 taken-sides n (Dai capture format piece) = refl
 taken-sides n (Volume gains piece) = refl
@@ -92,7 +102,7 @@ taken-sides n (Eq eq next remaining) = refl
 taken-sides n (Buffer size ring source sink) = refl
 taken-sides n (Pipeline sched period complete piece) = refl
 
-pushed-buffering : (frames : List Frame) → (words : List ℤ) → (u : units.Unit) → IsBuffering u → IsBuffering (pushed_unit frames words u)
+pub pushed-buffering : (frames : List Frame) → (words : List ℤ) → (u : units.Unit) → IsBuffering u → IsBuffering (pushed_unit frames words u)
 pushed-buffering frames words (Host capture phase params piece) e = e
 pushed-buffering frames words (Dai capture format piece) e = e
 pushed-buffering frames words (Volume gains piece) e = e
@@ -102,7 +112,7 @@ pushed-buffering frames words (Eq eq next remaining) e = e
 pushed-buffering frames words (Buffer size ring source sink) e = e
 pushed-buffering frames words (Pipeline sched period complete piece) e = e
 
-pushed-sides : (frames : List Frame) → (words : List ℤ) → (u : units.Unit) → sides_by (pushed_unit frames words u) ≡ sides_by u
+pub pushed-sides : (frames : List Frame) → (words : List ℤ) → (u : units.Unit) → sides_by (pushed_unit frames words u) ≡ sides_by u
 pushed-sides frames words (Host capture phase params piece) = refl
 pushed-sides frames words (Dai capture format piece) = refl
 pushed-sides frames words (Volume gains piece) = refl
@@ -114,21 +124,21 @@ pushed-sides frames words (Pipeline sched period complete piece) = refl
 
 -- ---- a change at one id
 
-at-id : (g : Component → Component) → ((c : Component) → (g c).id ≡ c.id) → (id : ℕ) (c : Component) → (cond {A = Component} (c.id == id) (g c) c).id ≡ c.id
+pub at-id : (g : Component → Component) → ((c : Component) → (g c).id ≡ c.id) → (id : ℕ) (c : Component) → (cond {A = Component} (c.id == id) (g c) c).id ≡ c.id
 at-id g same id c = by (c.id == id)
   where
     by : (h : Bool) → (cond {A = Component} h (g c) c).id ≡ c.id
     by true = same c
     by false = refl
 
-at-unit : (P : units.Unit → Type 0) (g : Component → Component) → ((c : Component) → P c.unit → P (g c).unit) → (id : ℕ) (c : Component) → P c.unit → P (cond {A = Component} (c.id == id) (g c) c).unit
+pub at-unit : (P : units.Unit → Type 0) (g : Component → Component) → ((c : Component) → P c.unit → P (g c).unit) → (id : ℕ) (c : Component) → P c.unit → P (cond {A = Component} (c.id == id) (g c) c).unit
 at-unit P g keeps id c e = by (c.id == id)
   where
     by : (h : Bool) → P (cond {A = Component} h (g c) c).unit
     by true = keeps c e
     by false = e
 
-at-sides : (g : Component → Component) → ((c : Component) → sides_by (g c).unit ≡ sides_by c.unit) → (id : ℕ) (c : Component) → sides_by (cond {A = Component} (c.id == id) (g c) c).unit ≡ sides_by c.unit
+pub at-sides : (g : Component → Component) → ((c : Component) → sides_by (g c).unit ≡ sides_by c.unit) → (id : ℕ) (c : Component) → sides_by (cond {A = Component} (c.id == id) (g c) c).unit ≡ sides_by c.unit
 at-sides g same id c = by (c.id == id)
   where
     by : (h : Bool) → sides_by (cond {A = Component} h (g c) c).unit ≡ sides_by c.unit
@@ -139,7 +149,7 @@ at-sides g same id c = by (c.id == id)
 
 module _ (t : Tables) (kept : IsKept t) (id : ℕ) where
   pub comp-begun : (channels : ℕ) (words : List ℤ) (new : List Component) → new ≡ map (begun_at id channels words) t.comps → IsKept (record { comps = new; buffers = t.buffers; pipes = t.pipes; joins = t.joins })
-  comp-begun channels words new is = comps-changed t kept (begun_at id channels words) new (at-id (begun_by channels words) (λ c. refl) id) (at-unit (λ u. is_plain u ≡ true) (begun_by channels words) (λ c. begun-plain channels words c.unit) id) is
+  comp-begun channels words new is = comps-changed t kept (begun_at id channels words) new (at-id (begun_by channels words) (λ c. refl) id) (at-unit (λ u. is_plain u ≡ true) (begun_by channels words) (λ c. begun-plain channels words c.unit) id) (at-unit IsStreaming (begun_by channels words) (λ c. begun-streaming channels words c.unit) id) is
 
   pub buffer-begun : (channels : ℕ) (words : List ℤ) (new : List Component) → new ≡ map (begun_at id channels words) t.buffers → IsKept (record { comps = t.comps; buffers = new; pipes = t.pipes; joins = t.joins })
   buffer-begun channels words new is = buffers-changed t kept (begun_at id channels words) new (at-id (begun_by channels words) (λ c. refl) id) (at-sides (begun_by channels words) (λ c. begun-sides channels words c.unit) id) (at-unit IsBuffering (begun_by channels words) (λ c. begun-buffering channels words c.unit) id) is

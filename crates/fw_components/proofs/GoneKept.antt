@@ -5,7 +5,7 @@ use Rattle.stream_law.specs.declared.graph.Join.{Join}
 use Rattle.stream_law.proofs.Placing.{Ascends-filter}
 use Rattle.fw_components.specs.declared.component.Component.{Component}
 use Rattle.fw_components.specs.Tables.{Tables}
-use Rattle.fw_components.specs.Kept.{IsKept, IsBuffering, IsPiping, is_plain}
+use Rattle.fw_components.specs.Kept.{IsKept, IsBuffering, IsPiping, IsStreaming, is_plain}
 use Rattle.fw_components.specs.Changes.{has_id, touches}
 use Rattle.fw_components.proofs.Ids.{all-left, apart-left_first}
 use Rattle.fw_components.proofs.Linked.{comp-unlinked, buffer-unlinked}
@@ -39,6 +39,7 @@ module _ (t : Tables) (kept : IsKept t) (id : ℕ) where
       buffers_pipes = kept.named.buffers_pipes;
     };
     linked = comp-unlinked id t.comps t.buffers t.joins t.pipes alone kept.linked;
+    streaming = all-left (λ (c : Component). IsStreaming c.unit) keep t.comps kept.streaming;
   })
 
   pub buffer-gone : (new : List Component) (joins : List Join) → has_id t.buffers id ≡ true → new ≡ filter (λ c. not (c.id == id)) t.buffers → joins ≡ filter (λ j. not (touches id j)) t.joins → IsKept (record { comps = t.comps; buffers = new; pipes = t.pipes; joins = joins })
@@ -58,6 +59,7 @@ module _ (t : Tables) (kept : IsKept t) (id : ℕ) where
       buffers_pipes = apart-left_first keep t.buffers t.pipes kept.named.buffers_pipes;
     };
     linked = buffer-unlinked id t.comps t.buffers t.joins t.pipes kept.named.buffers kept.named.comps_buffers there kept.linked;
+    streaming = kept.streaming;
   })
 
   pub pipe-gone : (new : List Component) → new ≡ filter (λ c. not (c.id == id)) t.pipes → IsKept (record { comps = t.comps; buffers = t.buffers; pipes = new; joins = t.joins })
@@ -77,4 +79,5 @@ module _ (t : Tables) (kept : IsKept t) (id : ℕ) where
       buffers_pipes = all-left (λ (d : Component). has_id t.buffers d.id ≡ false) keep t.pipes kept.named.buffers_pipes;
     };
     linked = record { between = kept.linked.between; each = kept.linked.each; all = kept.linked.all };
+    streaming = kept.streaming;
   })

@@ -12,9 +12,9 @@ use Rattle.fw_components.specs.declared.component.Component.{Component}
 use Rattle.fw_components.specs.declared.component.Unit as units
 use Rattle.fw_components.specs.declared.component.Unit.TheVariants.{Host, Dai, Volume, Mixer, Mux, Eq, Buffer, Pipeline}
 use Rattle.fw_components.specs.Tables.{Tables, is_buffer, is_pipeline}
-use Rattle.fw_components.specs.Kept.{IsKept, IsNamed, IsSound, IsBuffering, IsPiping, is_plain, sides, sides_by}
+use Rattle.fw_components.specs.Kept.{IsKept, IsNamed, IsSound, IsBuffering, IsPiping, IsStreamOf, IsStreaming, is_plain, sides, sides_by}
 use Rattle.fw_components.specs.Values.{valued_unit, valued_at}
-use Rattle.fw_components.specs.Changes.{is_there, IsNew, completed_unit, completed_at, ended_unit, ended_at, set_unit, set_at, joined_at, can_join, sourced_unit, sunk_unit}
+use Rattle.fw_components.specs.Changes.{is_there, IsNew, completed_unit, completed_at, is_idle, ended_unit, ended_at, set_unit, set_at, joined_at, can_join, sourced_unit, sunk_unit}
 use Rattle.fw_components.proofs.Ids.{apart-placed_first, apart-map_first, apart-map_second}
 use Rattle.fw_components.proofs.Linked.{sides-most, comp-linked, buffer-linked, comps-linked, buffers-linked, each-placed}
 use Rattle.fw_components.proofs.Joining.{joined-id, joined_by, one-more, joined-linked}
@@ -30,6 +30,7 @@ empty-kept = record {
   piping = tt;
   named = record { comps = tt; buffers = tt; pipes = tt; comps_buffers = tt; comps_pipes = tt; buffers_pipes = tt };
   linked = record { between = tt; each = tt; all = omega arith };
+  streaming = tt;
 }
 
 -- what each change keeps is so of all that is changed
@@ -42,7 +43,7 @@ unfolding AreAbove
 above-map f same n [] all = tt
 above-map f same n (c ∷ cs) all = (subst (λ m. n < m) (sym (same c)) all.0, above-map f same n cs all.1)
 
-ascends-map : (f : Component → Component) → ((c : Component) → (f c).id ≡ c.id) → (cs : List Component) → Ascends (λ c. c.id) cs → Ascends (λ c. c.id) (map f cs)
+pub ascends-map : (f : Component → Component) → ((c : Component) → (f c).id ≡ c.id) → (cs : List Component) → Ascends (λ c. c.id) cs → Ascends (λ c. c.id) (map f cs)
 unfolding Ascends
 ascends-map f same [] all = tt
 ascends-map f same (c ∷ cs) all = (subst (λ m. AreAbove (λ x. x.id) m (map f cs)) (sym (same c)) (above-map f same c.id cs all.0), ascends-map f same cs all.1)
@@ -62,6 +63,16 @@ new-sound (Mux choice piece) fresh = tt
 new-sound (Eq eq next remaining) fresh = tt
 new-sound (Buffer size ring source sink) fresh = fresh.3
 new-sound (Pipeline sched period complete piece) fresh = fresh
+
+pub new-streaming : (u : units.Unit) → IsNew u → IsStreaming u
+new-streaming (Host capture phase params piece) fresh = subst (λ (o : Option Params). IsStreamOf (is_idle phase) o) (sym fresh.1) fresh.0
+new-streaming (Dai capture format piece) fresh = tt
+new-streaming (Volume gains piece) fresh = tt
+new-streaming (Mixer piece) fresh = tt
+new-streaming (Mux choice piece) fresh = tt
+new-streaming (Eq eq next remaining) fresh = tt
+new-streaming (Buffer size ring source sink) fresh = tt
+new-streaming (Pipeline sched period complete piece) fresh = tt
 
 -- no side of it is joined
 pub new-alone : (u : units.Unit) → IsNew u → sides_by u ≡ 0
@@ -112,8 +123,8 @@ module _ (t : Tables) (kept : IsKept t) where
       let second = or_parts (list_any (λ c. c.id == id) t.buffers) (list_any (λ c. c.id == id) t.pipes) (sym (list_any-append (λ c. c.id == id) t.buffers t.pipes) ∙ first.1) in
       (first.0, second)
 
-  pub comp-added : (c : Component) (new : List Component) → is_there t c.id ≡ false → is_buffer c.unit ≡ false → is_pipeline c.unit ≡ false → length t.comps < 128 → new ≡ placed (λ x. x.id) c t.comps → IsKept (record { comps = new; buffers = t.buffers; pipes = t.pipes; joins = t.joins })
-  comp-added c new gone buffer pipeline room is =
+  pub comp-added : (c : Component) (new : List Component) → is_there t c.id ≡ false → is_buffer c.unit ≡ false → is_pipeline c.unit ≡ false → IsNew c.unit → length t.comps < 128 → new ≡ placed (λ x. x.id) c t.comps → IsKept (record { comps = new; buffers = t.buffers; pipes = t.pipes; joins = t.joins })
+  comp-added c new gone buffer pipeline fresh room is =
       let far = away c.id gone in
       subst (λ cs. IsKept (record { comps = cs; buffers = t.buffers; pipes = t.pipes; joins = t.joins })) (sym is) (record {
         comps = omega (arith, room, length-placed (λ (x : Component). x.id) c t.comps);
@@ -131,6 +142,7 @@ module _ (t : Tables) (kept : IsKept t) where
           buffers_pipes = kept.named.buffers_pipes;
         };
         linked = comp-linked c t.comps t.buffers t.pipes t.joins kept.linked;
+        streaming = each-placed (λ x. IsStreaming x.unit) c t.comps (new-streaming c.unit fresh) kept.streaming;
       })
 
   pub buffer-added : (c : Component) (new : List Component) → is_there t c.id ≡ false → is_buffer c.unit ≡ true → IsNew c.unit → length t.buffers < 128 → new ≡ placed (λ x. x.id) c t.buffers → IsKept (record { comps = t.comps; buffers = new; pipes = t.pipes; joins = t.joins })
@@ -152,6 +164,7 @@ module _ (t : Tables) (kept : IsKept t) where
           buffers_pipes = apart-placed_first c t.buffers t.pipes far.1.1 kept.named.buffers_pipes;
         };
         linked = buffer-linked c t.comps t.buffers t.pipes t.joins (new-alone c.unit fresh) kept.linked;
+        streaming = kept.streaming;
       })
 
   pub pipe-added : (c : Component) (new : List Component) → is_there t c.id ≡ false → is_pipeline c.unit ≡ true → IsNew c.unit → length t.pipes < 32 → new ≡ placed (λ x. x.id) c t.pipes → IsKept (record { comps = t.comps; buffers = t.buffers; pipes = new; joins = t.joins })
@@ -173,11 +186,12 @@ module _ (t : Tables) (kept : IsKept t) where
           buffers_pipes = each-placed (λ x. list_any (λ y. y.id == x.id) t.buffers ≡ false) c t.pipes far.1.0 kept.named.buffers_pipes;
         };
         linked = record { between = kept.linked.between; each = kept.linked.each; all = kept.linked.all };
+        streaming = kept.streaming;
       })
 
-  -- components are changed, each under its id and to no buffer and no pipeline
-  pub comps-changed : (f : Component → Component) (new : List Component) → ((c : Component) → (f c).id ≡ c.id) → ((c : Component) → is_plain c.unit ≡ true → is_plain (f c).unit ≡ true) → new ≡ map f t.comps → IsKept (record { comps = new; buffers = t.buffers; pipes = t.pipes; joins = t.joins })
-  comps-changed f new same plain is = subst (λ cs. IsKept (record { comps = cs; buffers = t.buffers; pipes = t.pipes; joins = t.joins })) (sym is) (record {
+  -- components are changed, each under its id, to no buffer and no pipeline, and with a right stream
+  pub comps-changed : (f : Component → Component) (new : List Component) → ((c : Component) → (f c).id ≡ c.id) → ((c : Component) → is_plain c.unit ≡ true → is_plain (f c).unit ≡ true) → ((c : Component) → IsStreaming c.unit → IsStreaming (f c).unit) → new ≡ map f t.comps → IsKept (record { comps = new; buffers = t.buffers; pipes = t.pipes; joins = t.joins })
+  comps-changed f new same plain streaming is = subst (λ cs. IsKept (record { comps = cs; buffers = t.buffers; pipes = t.pipes; joins = t.joins })) (sym is) (record {
     comps = subst (λ n. n ≤ 128) (sym (length-changed f t.comps)) kept.comps;
     buffers = kept.buffers;
     pipes = kept.pipes;
@@ -193,6 +207,7 @@ module _ (t : Tables) (kept : IsKept t) where
       buffers_pipes = kept.named.buffers_pipes;
     };
     linked = comps-linked f same t.comps t.buffers t.pipes t.joins kept.linked;
+    streaming = all-map (λ c. IsStreaming c.unit) f streaming t.comps kept.streaming;
   })
 
   -- the ids of buffers that are changed
@@ -217,6 +232,7 @@ module _ (t : Tables) (kept : IsKept t) where
     piping = kept.piping;
     named = buffers-named f same t.joins;
     linked = buffers-linked f same ends t.comps t.buffers t.pipes t.joins kept.linked;
+    streaming = kept.streaming;
   })
 
   pub pipes-changed : (f : Component → Component) (new : List Component) → ((c : Component) → (f c).id ≡ c.id) → ((c : Component) → IsPiping c.unit → IsPiping (f c).unit) → new ≡ map f t.pipes → IsKept (record { comps = t.comps; buffers = t.buffers; pipes = new; joins = t.joins })
@@ -236,6 +252,7 @@ module _ (t : Tables) (kept : IsKept t) where
       buffers_pipes = apart-map_second f same t.buffers t.pipes kept.named.buffers_pipes;
     };
     linked = record { between = kept.linked.between; each = kept.linked.each; all = kept.linked.all };
+    streaming = kept.streaming;
   })
 
   -- there are joins for sides alone, so there is room for one more at a free side
@@ -254,6 +271,7 @@ module _ (t : Tables) (kept : IsKept t) where
     piping = kept.piping;
     named = buffers-named (joined_at j) (joined-id j) (t.joins ++ j ∷ []);
     linked = joined-linked j t.comps t.buffers t.joins kept.buffering kept.named.comps_buffers t.pipes can kept.linked;
+    streaming = kept.streaming;
   })
 
 -- ---- each change keeps ids and what a unit is
@@ -277,6 +295,16 @@ set-plain phase params (Mux choice piece) e = e
 set-plain phase params (Eq eq next remaining) e = e
 set-plain phase params (Buffer size ring source sink) e = e
 set-plain phase params (Pipeline sched period complete piece) e = e
+
+set-streaming : (phase : Phase) (params : Option Params) → IsStreamOf (is_idle phase) params → (u : units.Unit) → IsStreaming u → IsStreaming (set_unit phase params u)
+set-streaming phase params right (Host capture was before piece) e = right
+set-streaming phase params right (Dai capture format piece) e = e
+set-streaming phase params right (Volume gains piece) e = e
+set-streaming phase params right (Mixer piece) e = e
+set-streaming phase params right (Mux choice piece) e = e
+set-streaming phase params right (Eq eq next remaining) e = e
+set-streaming phase params right (Buffer size ring source sink) e = e
+set-streaming phase params right (Pipeline sched period complete piece) e = e
 
 -- a change at one id
 abbrev at : (units.Unit → units.Unit) → ℕ → Component → Component
@@ -306,8 +334,8 @@ at-sides f id same c = by (c.id == id)
 pub completed-kept : (t : Tables) → IsKept t → (id : ℕ) (new : List Component) → new ≡ map (completed_at id) t.pipes → IsKept (record { comps = t.comps; buffers = t.buffers; pipes = new; joins = t.joins })
 completed-kept t kept id new is = pipes-changed t kept (completed_at id) new (at-id completed_unit id) (at-unit IsPiping completed_unit id completed-pipeline) is
 
-pub stream-kept : (t : Tables) → IsKept t → (id : ℕ) (phase : Phase) (params : Option Params) (new : List Component) → new ≡ map (set_at id phase params) t.comps → IsKept (record { comps = new; buffers = t.buffers; pipes = t.pipes; joins = t.joins })
-stream-kept t kept id phase params new is = comps-changed t kept (set_at id phase params) new (at-id (set_unit phase params) id) (at-unit (λ u. is_plain u ≡ true) (set_unit phase params) id (set-plain phase params)) is
+pub stream-kept : (t : Tables) → IsKept t → (id : ℕ) (phase : Phase) (params : Option Params) → IsStreamOf (is_idle phase) params → (new : List Component) → new ≡ map (set_at id phase params) t.comps → IsKept (record { comps = new; buffers = t.buffers; pipes = t.pipes; joins = t.joins })
+stream-kept t kept id phase params right new is = comps-changed t kept (set_at id phase params) new (at-id (set_unit phase params) id) (at-unit (λ u. is_plain u ≡ true) (set_unit phase params) id (set-plain phase params)) (at-unit IsStreaming (set_unit phase params) id (set-streaming phase params right)) is
 
 ended-buffer : (u : units.Unit) → IsBuffering u → IsBuffering (ended_unit u)
 ended-buffer (Pipeline sched period complete piece) e = e
@@ -342,5 +370,15 @@ valued-plain values (Eq eq next remaining) e = e
 valued-plain values (Buffer size ring source sink) e = e
 valued-plain values (Pipeline sched period complete piece) e = e
 
+valued-streaming : (values : List ℕ) (u : units.Unit) → IsStreaming u → IsStreaming (valued_unit values u)
+valued-streaming values (Host capture phase params piece) e = e
+valued-streaming values (Dai capture format piece) e = e
+valued-streaming values (Volume gains piece) e = e
+valued-streaming values (Mixer piece) e = e
+valued-streaming values (Mux choice piece) e = e
+valued-streaming values (Eq eq next remaining) e = e
+valued-streaming values (Buffer size ring source sink) e = e
+valued-streaming values (Pipeline sched period complete piece) e = e
+
 pub valued-kept : (t : Tables) → IsKept t → (id : ℕ) (values : List ℕ) (new : List Component) → new ≡ map (valued_at id values) t.comps → IsKept (record { comps = new; buffers = t.buffers; pipes = t.pipes; joins = t.joins })
-valued-kept t kept id values new is = comps-changed t kept (valued_at id values) new (at-id (valued_unit values) id) (at-unit (λ u. is_plain u ≡ true) (valued_unit values) id (valued-plain values)) is
+valued-kept t kept id values new is = comps-changed t kept (valued_at id values) new (at-id (valued_unit values) id) (at-unit (λ u. is_plain u ≡ true) (valued_unit values) id (valued-plain values)) (at-unit IsStreaming (valued_unit values) id (valued-streaming values)) is

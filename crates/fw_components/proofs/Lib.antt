@@ -1,4 +1,5 @@
 mod Begun
+mod FrameLaws
 mod Going
 mod GoneKept
 mod Ids
@@ -7,11 +8,18 @@ mod Inserting
 mod Joining
 mod KeptLaws
 mod Linked
+mod MadeLaws
+mod MoveAgain
+mod MovedLaws
 mod Positions
+mod ProcessLaws
 mod Putting
+mod RunLaws
 mod SeenFrames
 mod SeenLaws
+mod SeenMoves
 mod Standing
 mod Started
+mod StepLaws
 mod Taking
 mod Told

@@ -17,7 +17,7 @@ use Rattle.fw_components.specs.Frames.{begun_unit, begun_by, begun_at, with_fram
 use Rattle.fw_components.proofs.Joining.{joined_by}
 
 -- what is seen of each is seen of all
-map-seen : {Y : Type 0} (P : Component → Type 0) (view : Component → Y) (after : Y → Y) (change : Component → Component) → ((c : Component) → P c → view (change c) ≡ after (view c)) → (cs : List Component) → AllByRecursion P cs → map view (map change cs) ≡ map after (map view cs)
+pub map-seen : {Y : Type 0} (P : Component → Type 0) (view : Component → Y) (after : Y → Y) (change : Component → Component) → ((c : Component) → P c → view (change c) ≡ after (view c)) → (cs : List Component) → AllByRecursion P cs → map view (map change cs) ≡ map after (map view cs)
 map-seen P view after change one [] all = refl
 map-seen {Y} P view after change one (c ∷ cs) all = ap (λ (p : Y × List Y). p.0 ∷ p.1) (λ i. (one c all.0 i, map-seen P view after change one cs all.1 i))
 
@@ -25,13 +25,13 @@ map-after : {Y : Type 0} (view : Component → Y) (after : Y → Y) (change : Co
 map-after view after change one [] = refl
 map-after {Y} view after change one (c ∷ cs) = ap (λ (p : Y × List Y). p.0 ∷ p.1) (λ i. (one c i, map-after view after change one cs i))
 
-map-same : {Y : Type 0} (view : Component → Y) (change : Component → Component) → ((c : Component) → view (change c) ≡ view c) → (cs : List Component) → map view (map change cs) ≡ map view cs
+pub map-same : {Y : Type 0} (view : Component → Y) (change : Component → Component) → ((c : Component) → view (change c) ≡ view c) → (cs : List Component) → map view (map change cs) ≡ map view cs
 map-same view change one [] = refl
 map-same {Y} view change one (c ∷ cs) = ap (λ (p : Y × List Y). p.0 ∷ p.1) (λ i. (one c i, map-same view change one cs i))
 
 -- ---- what each change leaves of a unit
 
-abbrev edge_of_unit : ℕ → ℕ → units.Unit → Edge
+abbrev pub edge_of_unit : ℕ → ℕ → units.Unit → Edge
 edge_of_unit id pipe u = record { buffer = id; pipe = pipe; size = size_by u; source = source_by u; sink = sink_by u }
 
 abbrev pipe_of_unit : ℕ → ℕ → units.Unit → Pipe

@@ -1,13 +1,15 @@
 -- What is so of the tables of a registry.
 use Rattle.std.specs.Prelude.{◌≡◌, ℕ, ◌+◌, ◌/◌, ◌%◌, ◌≤◌, List, [], ◌∷◌, length, filter, Bool, true, false, ◌||◌, ◌&&◌, not, Option, None, Some}
 use Rattle.std.specs.List.{AllByRecursion}
+use Rattle.sof_base.specs.declared.format.Params.{Params}
+use Rattle.sof_base.specs.Rates.{is_rate}
 use Rattle.stream_law.specs.declared.graph.Join.{Join}
 use Rattle.stream_law.specs.Placed.{Ascends}
 use Rattle.fw_components.specs.declared.component.Unit as units
-use Rattle.fw_components.specs.declared.component.Unit.TheVariants.{Buffer, Pipeline}
+use Rattle.fw_components.specs.declared.component.Unit.TheVariants.{Host, Buffer, Pipeline}
 use Rattle.fw_components.specs.declared.component.Component.{Component}
 use Rattle.fw_components.specs.Tables.{Tables, is_buffer, is_pipeline, source_by, sink_by}
-use Rattle.fw_components.specs.Changes.{has_id, touches}
+use Rattle.fw_components.specs.Changes.{has_id, touches, is_idle}
 
 -- neither a buffer nor a pipeline
 abbrev pub is_plain : units.Unit → Bool
@@ -71,7 +73,18 @@ IsBuffering unit = (is_buffer unit ≡ true) × IsSound unit
 abbrev pub IsPiping : units.Unit → Type 0
 IsPiping unit = (is_pipeline unit ≡ true) × IsSound unit
 
--- there is no more than the limits say, each table holds what is its own, no id is that of two, and joins have sides of buffers
+-- a stream is Idle and without parameters, or has 1 to 8 channels and a right rate
+abbrev pub IsStreamOf : Bool → Option Params → Type 0
+IsStreamOf idle None = idle ≡ true
+IsStreamOf idle (Some p) = (idle ≡ false) × ((1 ≤ p.channels) × (p.channels ≤ 8)) × (is_rate p.rate ≡ true)
+
+-- the stream of a host is; no other unit has one
+abbrev pub IsStreaming : units.Unit → Type 0
+IsStreaming (Host capture phase params piece) = IsStreamOf (is_idle phase) params
+IsStreaming unit = Unit {0}
+
+-- there is no more than the limits say, each table holds what is its own, no id is that of two, joins have sides of buffers, and a
+-- host has parameters exactly where its stream is not Idle
 pub record IsKept (t : Tables) : Type 0 where
   pub comps : length t.comps ≤ 128
   pub buffers : length t.buffers ≤ 128
@@ -81,3 +94,4 @@ pub record IsKept (t : Tables) : Type 0 where
   pub piping : AllByRecursion (λ c. IsPiping c.unit) t.pipes
   pub named : IsNamed t
   pub linked : IsLinked t
+  pub streaming : AllByRecursion (λ c. IsStreaming c.unit) t.comps

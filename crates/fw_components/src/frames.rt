@@ -1,12 +1,11 @@
 // What begins with a stream, and frames in the ring of one buffer.
 ghost use Rattle.std.specs.Prelude.{◌≡◌, ◌+◌, ◌*◌, ◌/◌, ◌%◌, ◌≤◌, ◌++◌, length, take};
-ghost use Rattle.sof_base.specs.Samples.{frames_of, samples_of};
+ghost use Rattle.sof_base.specs.Samples.{frames_of, samples_of, AreFrames};
 ghost use Rattle.stream_law.specs.Ways.{is_end};
 ghost use Rattle.fw_components.specs.Tables.{piece_of, frames_by, capacity_by};
 ghost use Rattle.fw_components.specs.Frames.{words_of, begun_unit, begun_by, IsFresh, staged_by, channels_by, taken_unit, taken_by, pushed_unit, pushed_by, comes_from, goes_to};
 
 use crate::component::{Component, Unit};
-use fw_ring::Ring;
 use sof_base::Sample;
 
 impl Unit {
@@ -129,9 +128,10 @@ impl Component {
         }
     }
 
-    /// How many samples a frame of a buffer has.
+    /// How many samples a frame of a buffer has, 1 to 8.
     pub(crate) fn frame_samples(&self) -> usize
         ensures some { 1 ≤ result }
+        ensures few { result ≤ 8 }
         ensures is { result ≡ channels_by self.now.unit }
     {
         match &self.unit {
@@ -146,22 +146,36 @@ impl Component {
         }
     }
 
+    /// The samples of the first `n` frames of a buffer, in two parts of whole frames.
+    pub(crate) fn spans(&self, n: u32) -> (&[Sample], &[Sample])
+        requires { n ≤ length (frames_by self.now.unit) }
+        ensures samples { result.0.now ++ result.1.now ≡ samples_of (take n (frames_by self.now.unit)) }
+        ensures whole { length result.0.now % channels_by self.now.unit ≡ 0 }
+        ensures frames { AreFrames (channels_by self.now.unit) (frames_by self.now.unit) }
+    {
+        match &self.unit {
+            Unit::Host { .. } => (&[], &[]),
+            Unit::Dai { .. } => (&[], &[]),
+            Unit::Volume { .. } => (&[], &[]),
+            Unit::Mixer { .. } => (&[], &[]),
+            Unit::Mux { .. } => (&[], &[]),
+            Unit::Eq { .. } => (&[], &[]),
+            Unit::Buffer { ring, .. } => {
+                let _held = ring.len();
+                ring.spans(n)
+            }
+            Unit::Pipeline { .. } => (&[], &[]),
+        }
+    }
+
     /// Writes the samples of the first `n` frames of a buffer.
     pub(crate) fn copy(&self, n: u32, samples: &mut [Sample])
         requires held { n ≤ length (frames_by self.now.unit) }
         requires size { length samples.old ≡ n * channels_by self.now.unit }
         ensures { samples.new ≡ samples_of (take n (frames_by self.now.unit)) }
     {
-        match &self.unit {
-            Unit::Host { .. } => (),
-            Unit::Dai { .. } => (),
-            Unit::Volume { .. } => (),
-            Unit::Mixer { .. } => (),
-            Unit::Mux { .. } => (),
-            Unit::Eq { .. } => (),
-            Unit::Buffer { ring, .. } => copy_frames(ring, n, samples),
-            Unit::Pipeline { .. } => (),
-        }
+        let (front, back) = self.spans(n);
+        copy_both(front, back, samples);
     }
 }
 
@@ -174,19 +188,8 @@ fn is_end(end: Option<u32>, id: u32) -> bool
     }
 }
 
-// Writes the samples of the first `n` frames of a ring.
-fn copy_frames(ring: &Ring, n: u32, samples: &mut [Sample])
-    requires held { n ≤ length ring.now.frames }
-    requires size { length samples.old ≡ n * ring.now.channels }
-    ensures { samples.new ≡ samples_of (take n ring.now.frames) }
-{
-    let _held = ring.len();
-    let (front, back) = ring.spans(n);
-    copy_both(front, back, samples);
-}
-
-// Writes samples and those behind them.
-fn copy_both(front: &[Sample], back: &[Sample], samples: &mut [Sample])
+/// Writes samples and those behind them.
+pub(crate) fn copy_both(front: &[Sample], back: &[Sample], samples: &mut [Sample])
     requires { length front.now + length back.now ≡ length samples.old }
     ensures { samples.new ≡ front.now ++ back.now }
 {

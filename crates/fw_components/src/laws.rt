@@ -1,15 +1,24 @@
 // How changes of the tables are seen in the firmware's state.
-ghost use Rattle.std.specs.Prelude.{◌≡◌, ℕ, ℤ, List, [], ◌==◌, not, map, filter, true, Option};
+ghost use Rattle.std.specs.Prelude.{◌≡◌, ℕ, ℤ, List, [], ◌==◌, not, map, filter, true, false, Option, length};
 ghost use Rattle.std.specs.List.{AllByRecursion};
+ghost use Rattle.std.specs.Option.{option_map_or};
 ghost use Rattle.sof_base.specs.declared.format.Params.{Params};
+ghost use Rattle.sof_base.specs.Samples.{Frame};
 ghost use Rattle.stream_law.specs.declared.stream.Phase.{Phase};
 ghost use Rattle.stream_law.specs.Placed.{placed};
 ghost use Rattle.stream_law.specs.Joins.{joined};
 ghost use Rattle.stream_law.specs.declared.graph.Join.{Join};
+ghost use Rattle.stream_law.specs.Ways.{comp_of, channels_of};
+ghost use Rattle.stream_law.specs.Made.{frames_made, only_slice};
+ghost use Rattle.stream_law.specs.Move.{blob_of};
+ghost use Rattle.stream_law.specs.Seen.{is_equaliser};
+ghost use Rattle.stream_law.specs.Equaliser.{passed_frames, numbers_after};
 ghost use Rattle.mbox_link.specs.Step.{completed, set_stream};
 ghost use Rattle.fw_components.specs.declared.component.Component.{Component};
-ghost use Rattle.fw_components.specs.Tables.{comp_by, edge_by, pipe_by, ring_by, streams_by, is_buffer, is_pipeline};
-ghost use Rattle.fw_components.specs.Frames.{begun_at, with_frames};
+ghost use Rattle.fw_components.specs.Tables.{Tables, comp_by, edge_by, pipe_by, ring_by, streams_by, is_buffer, is_pipeline, graph_of, view_by, streams_of, rings_of, histories_of, staging_of};
+ghost use Rattle.fw_components.specs.Frames.{begun_at, with_frames, staged_in};
+ghost use Rattle.fw_components.specs.Kept.{IsKept};
+ghost use Rattle.fw_components.specs.Processed.{moves_at, channels_moved, slices_in, made_at, numbers_at, numbers_made_at, processed, moved_rings, with_numbers};
 ghost use Rattle.fw_components.specs.Changes.{completed_at, set_at, joined_at, ended_at};
 
 /// What is placed in a table is placed in the graph and among the rings.
@@ -58,4 +67,24 @@ pub fn beginnings_are_seen()
 pub fn endings_are_seen()
     ensures edges { (id : ℕ) (cs : List Component) → map edge_by (map (ended_at id) cs) ≡ map edge_by cs }
     ensures rings { (id : ℕ) (cs : List Component) → map ring_by (map (ended_at id) cs) ≡ map (with_frames (λ frames. []) id) (map ring_by cs) }
+{}
+
+/// What a component moves is seen in the rings and among the histories alone.
+pub fn moves_are_seen()
+    ensures graph { (id fed n : ℕ) (looked : List ℕ) (frames : List Frame) (words own : List ℤ) (t : Tables) → graph_of (processed id looked n fed frames words own t) ≡ graph_of t }
+    ensures streams { (id fed n : ℕ) (looked : List ℕ) (frames : List Frame) (words own : List ℤ) (t : Tables) → streams_of (processed id looked n fed frames words own t) ≡ streams_of t }
+    ensures rings { (id fed n : ℕ) (looked : List ℕ) (frames : List Frame) (words own : List ℤ) (t : Tables) → IsKept t → rings_of (processed id looked n fed frames words own t) ≡ moved_rings looked n fed frames (rings_of t) }
+    ensures histories { (id fed n : ℕ) (looked : List ℕ) (frames : List Frame) (words own : List ℤ) (t : Tables) → IsKept t → let u = processed id looked n fed frames words own t in
+        histories_of u ≡ map (with_numbers id (numbers_at u id)) (histories_of t) }
+    ensures staging { (id fed n : ℕ) (looked : List ℕ) (frames : List Frame) (words own : List ℤ) (t : Tables) → IsKept t → let u = processed id looked n fed frames words own t in
+        staged_in u.comps id ≡ staged_in t.comps id → staging_of u ≡ staging_of t }
+{}
+
+/// The frames that a component makes are those of a tick, and so are an equaliser's numbers after that, where the streams on whose
+/// way it is have its channels.
+pub fn moves_are_ticks()
+    ensures frames { (id n : ℕ) (looked : List ℕ) (read : List Frame) (t : Tables) → moves_at t id (length looked) ≡ true → channels_of (view_by t) id ≡ channels_moved t id →
+        frames_made (view_by t) id n read (slices_in t.buffers looked n) (λ blob channels frames. passed_frames blob channels (numbers_at t id) frames) ≡ made_at t id looked n }
+    ensures numbers { (id n : ℕ) (looked : List ℕ) (t : Tables) → option_map_or (λ x. is_equaliser x.kind) (comp_of (graph_of t) id) false ≡ true → channels_of (view_by t) id ≡ channels_moved t id →
+        numbers_after (blob_of (view_by t) id) (channels_of (view_by t) id) (numbers_at t id) (only_slice (slices_in t.buffers looked n)) ≡ numbers_made_at t id looked n }
 {}

@@ -5,12 +5,14 @@ ghost use Rattle.fw_components.specs.Tables.{all_of, is_host_unit, frames_at, ca
 ghost use Rattle.std.specs.Option.{option_map_or};
 ghost use Rattle.std.specs.List.{list_any, AllByRecursion};
 ghost use Rattle.fw_components.specs.Values.{takes, values_set, left_with, values_at, told};
-ghost use Rattle.fw_components.specs.Changes.{added, is_full, is_there, IsNew, has_new_index, completed_at, ended_at, set_at, found, IsFoundOf, IsOf, given_found, given_all, has_id, touches, without, can_join, with_join};
+ghost use Rattle.fw_components.specs.Kept.{IsStreamOf};
+ghost use Rattle.fw_components.specs.Changes.{added, is_idle, is_full, is_there, IsNew, has_new_index, completed_at, ended_at, set_at, found, IsFoundOf, IsOf, given_found, given_all, has_id, touches, without, can_join, with_join};
 
 use crate::component::Component;
 use crate::table::{
     complete_in, end_in, give_all, join_in, place, place_of, set_stream_in, take_at, value_in,
 };
+use crate::workspace::Workspace;
 use fw_heap::Region;
 use sof_base::{Bounded, Errno, NoMemory, Params};
 use std::alloc::Global;
@@ -24,6 +26,7 @@ pub struct Registry {
     pub(crate) buffers: Vec<Component>,
     pub(crate) pipes: Vec<Component>,
     pub(crate) joins: Vec<Join>,
+    pub(crate) workspace: Workspace,
 }
 
 /// A component that the registry has no room for.
@@ -48,6 +51,7 @@ impl Registry {
     pub fn new(alloc: Global) -> Result<Registry, NoMemory>
         ensures { IfOk result (λ registry. registry ≡ record { comps = []; buffers = []; pipes = []; joins = [] }) }
     {
+        let workspace = Workspace::new(alloc)?;
         let Ok(comps) = Vec::with_capacity(alloc, 128) else {
             return Err(NoMemory);
         };
@@ -71,6 +75,7 @@ impl Registry {
             buffers,
             pipes,
             joins,
+            workspace,
         })
     }
 
@@ -168,9 +173,10 @@ impl Registry {
         complete_in(&mut self.pipes, id);
     }
 
-    /// The host of this id has this phase and these parameters.
+    /// The host of this id has this phase and these parameters: none where it is Idle, and else 1 to 8 channels and a right rate.
     pub fn set_stream(&mut self, host: u32, phase: Phase, params: Option<Params>)
         requires host { list_any (λ c. c.id == host && is_host_unit c.unit) self.old.comps ≡ true }
+        requires stream { IsStreamOf (is_idle phase) params }
         ensures { self.new ≡ record { comps = map (set_at host phase params) self.old.comps; buffers = self.old.buffers; pipes = self.old.pipes; joins = self.old.joins } }
     {
         set_stream_in(&mut self.comps, host, phase, params);
@@ -291,6 +297,7 @@ impl Registry {
             buffers,
             pipes,
             joins: _,
+            workspace: _,
         } = self;
         comps.destroy_empty();
         buffers.destroy_empty();

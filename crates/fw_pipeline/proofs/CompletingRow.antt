@@ -9,7 +9,7 @@ use Rattle.stream_law.proofs.Members.{find-in, in-any}
 use Rattle.fw_components.specs.declared.component.Component.{Component}
 use Rattle.fw_components.specs.Tables.{pipe_by, is_pipeline}
 use Rattle.fw_components.specs.Kept.{IsPiping}
-use Rattle.fw_pipeline.proofs.Naming.{find-map}
+use Rattle.fw_walks.proofs.Naming.{find-map}
 use Rattle.fw_pipeline.specs.Rows.{terms_at, terms_by}
 
 -- a row whose tests pass

@@ -21,7 +21,7 @@ use Rattle.fw_components.specs.Changes.{has_id, is_there, found, IsOf, IsFoundOf
 use Rattle.fw_components.specs.Changes as changes
 use Rattle.fw_components.specs.Kept.{IsKept, AreApart}
 use Rattle.fw_pipeline.specs.Rows.{first_there}
-use Rattle.fw_pipeline.proofs.Naming.{used-named, find-map}
+use Rattle.fw_walks.proofs.Naming.{used-named, find-map}
 
 -- ---- rows whose tests pass
 

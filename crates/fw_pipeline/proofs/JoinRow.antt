@@ -17,7 +17,7 @@ use Rattle.fw_components.specs.Tables.{Tables, graph_of, streams_of, view_by, co
 use Rattle.fw_components.specs.Changes.{has_id, can_join, has_free_source, has_free_sink, joined_at, sourced_unit, sunk_unit}
 use Rattle.fw_components.specs.Changes as changes
 use Rattle.fw_components.specs.Kept.{IsKept, IsBuffering}
-use Rattle.fw_pipeline.proofs.Naming.{comp-named, edge-named, found-then}
+use Rattle.fw_walks.proofs.Naming.{comp-named, edge-named, found-then}
 
 -- a row whose tests pass
 pub connect-row : (f : FwState) (j : Join) → is_used f.graph j.source ≡ true → is_used f.graph j.sink ≡ true → is_joined f.graph j.source j.sink ≡ false → takes_join f.graph j.source j.sink ≡ true → ((would_cycle f.graph j.source j.sink || would_reach f.graph j.source j.sink) || would_grow f.graph f.streams j.source j.sink) ≡ false → connect f j.source j.sink ≡ Ok (record f { graph = with_join f.graph j })

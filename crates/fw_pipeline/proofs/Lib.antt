@@ -1,9 +1,4 @@
--- Lemmas on marks and walks.
-pub mod Marking
-pub mod Reaching
-pub mod Charts
-pub mod OnWays
-pub mod Naming
+-- Lemmas on rows.
 pub mod CompletingRow
 pub mod OneJoin
 pub mod JoinRow
@@ -11,3 +6,11 @@ pub mod FreeRows
 pub mod ReadyWays
 pub mod Agreeing
 pub mod ParamsRow
+pub mod TriggerRows
+pub mod Begins
+pub mod Faces
+pub mod Settled
+pub mod Triggered
+pub mod StateAfter
+pub mod TriggerDoes
+pub mod ParamsState

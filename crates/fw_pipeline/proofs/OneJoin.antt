@@ -16,14 +16,15 @@ use Rattle.fw_components.specs.declared.component.Component.{Component}
 use Rattle.fw_components.specs.Tables.{Tables, graph_of, streams_of, kind_by, comp_by}
 use Rattle.fw_components.specs.Kept.{IsKept}
 use Rattle.fw_components.specs.Changes.{has_id}
-use Rattle.fw_pipeline.proofs.Charts.{listed-is}
-use Rattle.fw_pipeline.proofs.Naming.{comp-named, edge-named}
-use Rattle.fw_pipeline.specs.Rows.{is_of, any_stream, is_growing}
-use Rattle.fw_pipeline.specs.declared.streams.Sort.TheVariants as sorts
-use Rattle.fw_pipeline.specs.Walks.{leads_by, is_listed, is_marked}
-use Rattle.fw_pipeline.specs.Charts.{ids_of}
-use Rattle.fw_pipeline.proofs.Reaching.{both-true}
-use Rattle.fw_pipeline.proofs.OnWays.{any-map, any-each, any-streams, stream-of, find-own}
+use Rattle.fw_walks.proofs.Charts.{listed-is}
+use Rattle.fw_walks.proofs.Naming.{comp-named, edge-named}
+use Rattle.fw_walks.specs.Streams.{is_of, any_stream}
+use Rattle.fw_pipeline.specs.Rows.{is_growing}
+use Rattle.fw_walks.specs.declared.streams.Sort.TheVariants as sorts
+use Rattle.fw_walks.specs.Walks.{leads_by, is_listed, is_marked}
+use Rattle.fw_walks.specs.Charts.{ids_of}
+use Rattle.fw_walks.proofs.Reaching.{both-true}
+use Rattle.fw_walks.proofs.OnWays.{any-map, any-each, any-streams, stream-of, find-own}
 
 abbrev all_lead : List Join → ℕ → ℕ → Bool
 all_lead joins a b = leads joins (length joins) a b

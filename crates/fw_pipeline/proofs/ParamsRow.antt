@@ -9,19 +9,19 @@ use Rattle.stream_law.specs.declared.stream.Phase.{Phase}
 use Rattle.stream_law.specs.declared.stream.Phase.TheVariants.{Idle, Prepared, Running, Paused}
 use Rattle.stream_law.specs.declared.stream.StreamView.{StreamView}
 use Rattle.stream_law.specs.Placed.{Ascends, AreAbove}
-use Rattle.stream_law.specs.State.{FwState}
+use Rattle.stream_law.specs.State.{FwState, View}
 use Rattle.stream_law.specs.Seen.{seen}
 use Rattle.stream_law.specs.Ways.{is_live_phase, agree}
 use Rattle.stream_law.proofs.Members.{find-in, in-any}
-use Rattle.mbox_link.specs.Step.{no_device, invalid, is_used, has_kind, goes, kind_at, has_phase, is_moving, phase_at, is_rate, is_way_ready, with_params, pcm_params}
+use Rattle.mbox_link.specs.Step.{no_device, invalid, is_used, has_kind, goes, kind_at, has_phase, is_moving, phase_at, is_rate, is_way_ready, with_params, set_stream, pcm_params}
 use Rattle.fw_components.specs.declared.component.Component.{Component}
 use Rattle.fw_components.specs.declared.component.Unit as units
 use Rattle.fw_components.specs.declared.component.Unit.TheVariants.{Host, Dai, Volume, Mixer, Mux, Eq, Buffer, Pipeline}
 use Rattle.fw_components.specs.Tables.{streams_by, with_stream_by, kind_by, comp_by, is_host_unit}
-use Rattle.fw_pipeline.specs.declared.streams.Sort.TheVariants as sorts
-use Rattle.fw_pipeline.specs.Rows.{is_of, any_stream}
-use Rattle.fw_pipeline.specs.Preparing.{is_moving_at}
-use Rattle.fw_pipeline.proofs.Naming.{find-map}
+use Rattle.fw_walks.specs.declared.streams.Sort.TheVariants as sorts
+use Rattle.fw_walks.specs.Streams.{is_of, any_stream}
+use Rattle.fw_pipeline.specs.Preparing.{is_moving_at, is_refused}
+use Rattle.fw_walks.proofs.Naming.{find-map}
 
 -- why parameters are refused with -22
 abbrev refusal : FwState → ℕ → ℕ → Params → Bool → Bool
@@ -103,3 +103,22 @@ host-there cs host direction is = by (find (λ c. c.id == host) cs) refl (sym (a
 pub goes-passes : (a b c d e : Bool) → (((((not a || b) || c) || d) || e)) ≡ false → a ≡ true
 goes-passes true b c d e is = refl
 goes-passes false b c d e is = absurd (true≢false is)
+
+-- and so does that of the rate
+pub rate-passes : (v : View) (host direction : ℕ) (p : Params) (moving : Bool) → is_refused v host direction p moving ≡ false → is_rate p.rate ≡ true
+rate-passes v host direction p moving is = by (has_kind (λ kind. goes kind direction) (kind_at v.graph host)) moving (is_rate p.rate) (not (is_way_ready v.graph host)) (not (agree (record { graph = v.graph; streams = map (set_stream host Prepared (Some p)) v.streams }))) is
+  where
+    by : (a b c d e : Bool) → (((((not a || b) || not c) || d) || e)) ≡ false → c ≡ true
+    by true false true d e is = refl
+    by true false false d e is = absurd (true≢false is)
+    by true true c d e is = absurd (true≢false is)
+    by false b c d e is = absurd (true≢false is)
+
+-- and so does that of the phase
+pub rest-passes : (v : View) (host direction : ℕ) (p : Params) (moving : Bool) → is_refused v host direction p moving ≡ false → moving ≡ false
+rest-passes v host direction p moving is = by (has_kind (λ kind. goes kind direction) (kind_at v.graph host)) moving (not (is_rate p.rate)) (not (is_way_ready v.graph host)) (not (agree (record { graph = v.graph; streams = map (set_stream host Prepared (Some p)) v.streams }))) is
+  where
+    by : (a b c d e : Bool) → (((((not a || b) || c) || d) || e)) ≡ false → b ≡ false
+    by true false c d e is = refl
+    by true true c d e is = absurd (true≢false is)
+    by false b c d e is = absurd (true≢false is)

@@ -1,4 +1,5 @@
-pub mod Walks
-pub mod Charts
 pub mod Rows
 pub mod Preparing
+pub mod States
+pub mod Settling
+pub mod Triggers

@@ -1,21 +1,18 @@
 -- The rows of messages as they are read through the view of a registry.
-use Rattle.std.specs.Prelude.{ℕ, ℤ, Bool, false, ◌&&◌, not, if◌then◌else◌, Result, Ok, Err, Option, Some, None, List, is_some, find, option_map, ◌==◌}
+use Rattle.std.specs.Prelude.{ℕ, ℤ, Bool, ◌&&◌, not, if◌then◌else◌, Result, Ok, Err, Option, Some, None, List, find, option_map, ◌==◌}
 use Rattle.sof_base.specs.declared.errno.Errno.{Errno}
 use Rattle.stream_law.specs.declared.graph.Pipe.{Pipe}
 use Rattle.stream_law.specs.declared.graph.Graph.{Graph}
-use Rattle.stream_law.specs.declared.stream.StreamView.{StreamView}
 use Rattle.stream_law.specs.State.{FwState, View, view_of}
-use Rattle.stream_law.specs.Ways.{is_live_phase, is_running_phase, is_capture}
+use Rattle.stream_law.specs.Ways.{is_capture}
 use Rattle.fw_components.specs.declared.component.Component as parts
 use Rattle.fw_components.specs.Tables.{kind_by}
 use Rattle.mbox_link.specs.Step.{comp_free, buffer_free, pipe_free}
 use Rattle.fw_pipeline.specs.declared.freeing.Item.{Item}
 use Rattle.fw_pipeline.specs.declared.freeing.Item.TheVariants as items
-use Rattle.fw_pipeline.specs.Walks.{is_marked}
-use Rattle.fw_components.specs.declared.component.Unit as units
-use Rattle.fw_components.specs.declared.component.Unit.TheVariants.{Host}
-use Rattle.fw_pipeline.specs.declared.streams.Sort.{Sort}
-use Rattle.fw_pipeline.specs.declared.streams.Sort.TheVariants.{Live, Running, Set}
+use Rattle.fw_walks.specs.Walks.{is_marked}
+use Rattle.fw_walks.specs.Streams.{is_of, any_stream}
+use Rattle.fw_walks.specs.declared.streams.Sort.TheVariants.{Set}
 
 -- a state with this view
 abbrev pub with_view : View → FwState → FwState
@@ -30,25 +27,6 @@ view_after (Err e) = Err e
 abbrev pub answer_of : {X : Type 0} → View → Result X Errno → Result View ℤ
 answer_of v (Ok done) = Ok v
 answer_of v (Err error) = Err error.0
-
--- ---- streams
-
--- a stream is Running or Paused, it is Running, or it has parameters
-abbrev pub is_of : Sort → StreamView → Bool
-is_of Live s = is_live_phase s.phase
-is_of Running s = is_running_phase s.phase
-is_of Set s = is_some s.params
-
--- the stream of a host passes; no other unit has one
-abbrev pub any_stream : (StreamView → Bool) → ℕ → units.Unit → Bool
-any_stream p id (Host capture phase params piece) = p (record { host = id; phase = phase; params = params })
-any_stream p id unit = false
-
--- the stream of a host is of a sort, and the host is marked: that of a playback among what is before, that of a capture among
--- what is behind
-abbrev pub is_met : Sort → List ℕ → List Bool → List Bool → parts.Component → Bool
-is_met sort ids before behind c =
-    any_stream (is_of sort) 0 c.unit && (if is_capture (kind_by c.unit) then is_marked ids behind c.id else is_marked ids before c.id)
 
 -- ---- pipelines
 

@@ -2,12 +2,13 @@
 ghost use Rattle.std.specs.Prelude.{◌≡◌, OnErr, OnOk, map};
 ghost use Rattle.stream_law.specs.State.{FwState};
 ghost use Rattle.mbox_link.specs.Step.{pipe_complete};
-ghost use Rattle.fw_components.specs.Tables.{view_by};
+ghost use Rattle.fw_components.specs.Tables.{view_by, graph_of, sched_by, complete_by};
 ghost use Rattle.fw_components.specs.Changes.{completed_at};
-ghost use Rattle.fw_pipeline.specs.Rows.{answer_of, view_after, with_view};
+ghost use Rattle.fw_components.specs.Kept.{IsKept};
+ghost use Rattle.fw_pipeline.specs.Rows.{answer_of, view_after, with_view, terms_at};
 
-use crate::lookups::{has_comp, is_used, terms};
-use fw_components::{Registry, completions_are_seen};
+use fw_components::{Registry, Unit, completions_are_seen};
+use fw_walks::{find, has_comp, is_used};
 use sof_base::Errno;
 
 /// The pipeline of this id is complete. Refused with -19 where the id or that of its scheduling component names nothing, -16 where it
@@ -35,4 +36,35 @@ pub fn complete(registry: &mut Registry, id: u32) -> Result<(), Errno>
     completions_are_seen();
     registry.set_complete(id);
     Ok(())
+}
+
+// The component that schedules the pipeline of an id, and whether the pipeline is complete.
+fn terms(registry: &Registry, id: u32) -> Option<(u32, bool)>
+    ensures found { result ≡ terms_at (graph_of registry.now) id }
+    ensures kept { IsKept registry.now }
+{
+    match find(registry.pipes(), id) {
+        Some(pipe) => Some(terms_of(&pipe.unit)),
+        None => None,
+    }
+}
+
+// The same of a unit.
+fn terms_of(unit: &Unit) -> (u32, bool)
+    ensures { result ≡ (sched_by unit.now, complete_by unit.now) }
+{
+    match unit {
+        Unit::Host { .. } => (0, false),
+        Unit::Dai { .. } => (0, false),
+        Unit::Volume { .. } => (0, false),
+        Unit::Mixer { .. } => (0, false),
+        Unit::Mux { .. } => (0, false),
+        Unit::Eq { .. } => (0, false),
+        Unit::Buffer { .. } => (0, false),
+        Unit::Pipeline {
+            sched,
+            complete,
+            ..
+        } => (*sched, *complete),
+    }
 }

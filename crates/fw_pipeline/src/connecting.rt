@@ -6,12 +6,12 @@ ghost use Rattle.fw_components.specs.Tables.{view_by, graph_of};
 ghost use Rattle.fw_components.specs.Changes.{with_join};
 ghost use Rattle.fw_pipeline.specs.Rows.{answer_of, view_after, with_view};
 
-use crate::kinds::{ins_of, outs_of};
-use crate::lookups::{
-    count_ins, count_outs, has_buffer, has_comp, is_used, kind_at, sink_at, source_at,
-};
 use crate::one_join::is_refused;
 use fw_components::Registry;
+use fw_walks::{
+    count_ins, count_outs, has_buffer, has_comp, ins_of, is_used, kind_at, outs_of, sink_at,
+    source_at,
+};
 use sof_base::Errno;
 
 /// Joins a component and a buffer, either way round, last in order. Refused with -19 where an id names nothing, -16 where this side

@@ -8,10 +8,9 @@ ghost use Rattle.fw_components.specs.Changes.{IsOf, without, given_found, found}
 ghost use Rattle.fw_components.specs.Kept.{IsKept};
 ghost use Rattle.fw_pipeline.specs.Rows.{answer_of, view_after, with_view, freed, first_there};
 
-use crate::lookups::{find, has_buffer, has_comp, is_used};
-use crate::streams::{Sort, is_on_way};
 use fw_components::{Component, Registry, Unit, removals_are_seen};
 use fw_heap::Region;
+use fw_walks::{Sort, find, has_buffer, has_comp, is_on_way, is_used};
 use sof_base::Errno;
 use stream_law::Join;
 

@@ -4,16 +4,16 @@
 mod completing;
 mod connecting;
 mod freeing;
-mod kinds;
-mod lookups;
 mod one_join;
-mod places;
+mod phases;
 mod preparing;
-mod streams;
-mod walk;
+mod settling;
+mod triggering;
 
 pub use completing::complete;
 pub use connecting::connect;
 pub use freeing::{Item, free_item};
+pub use fw_walks::{active, live};
+pub use phases::Trigger;
 pub use preparing::params;
-pub use streams::{active, live};
+pub use triggering::trigger;

@@ -7,14 +7,12 @@ ghost use Rattle.stream_law.specs.Ways.{is_capture};
 ghost use Rattle.mbox_link.specs.Step.{takes_join};
 ghost use Rattle.fw_components.specs.Tables.{graph_of, streams_of, kind_by};
 ghost use Rattle.fw_components.specs.Kept.{IsKept};
-ghost use Rattle.fw_pipeline.specs.Charts.{IsOf};
-ghost use Rattle.fw_pipeline.specs.Walks.{leads_by, is_listed, is_marked as is_marked_at};
+ghost use Rattle.fw_walks.specs.Charts.{IsOf};
+ghost use Rattle.fw_walks.specs.Walks.{leads_by, is_listed, is_marked as is_marked_at};
 ghost use Rattle.fw_pipeline.specs.Rows.{is_growing as would_lead_on};
 
-use crate::kinds::{captures, plays};
-use crate::places::Places;
-use crate::streams::{Sort, has_stream};
 use fw_components::{Component, Registry};
+use fw_walks::{Places, Sort, captures, has_stream, plays};
 
 /// Whether a join of a component and a buffer is refused for what walks would reach.
 pub(crate) fn is_refused(registry: &Registry, source: u32, sink: u32) -> bool

@@ -4,21 +4,23 @@ ghost use Rattle.std.specs.List.{list_any, list_all};
 ghost use Rattle.stream_law.specs.declared.stream.Phase.TheVariants as phases;
 ghost use Rattle.stream_law.specs.Ways.{on_way, agree, is_capture, same_shape as alike};
 ghost use Rattle.stream_law.specs.State.{FwState};
+ghost use Rattle.stream_law.specs.Seen.{ring_seen};
 ghost use Rattle.mbox_link.specs.Step.{pcm_params, has_kind, goes as has_direction, kind_at as named_kind, is_rate, is_way_ready as has_ready_way, is_ready_comp as is_ready, is_ready_edge as is_edge_ready, set_stream};
-ghost use Rattle.fw_components.specs.Tables.{view_by, graph_of, streams_of, comp_by, edge_by};
+ghost use Rattle.fw_components.specs.Tables.{view_by, graph_of, streams_of, rings_of, comp_by, edge_by};
 ghost use Rattle.fw_components.specs.Changes.{set_at};
 ghost use Rattle.fw_components.specs.Kept.{IsKept};
-ghost use Rattle.fw_pipeline.specs.Charts.{IsOf, ids_of};
-ghost use Rattle.fw_pipeline.specs.Walks.{is_listed, is_marked};
+ghost use Rattle.fw_walks.specs.Charts.{IsOf, ids_of};
+ghost use Rattle.fw_walks.specs.Walks.{is_listed, is_marked};
 ghost use Rattle.fw_pipeline.specs.Rows.{answer_of, view_after, with_view};
+ghost use Rattle.fw_pipeline.specs.States.{with_tables, state_after};
 ghost use Rattle.fw_pipeline.specs.Preparing.{is_moving_at, is_refused, shape_by, suits};
 
 use crate::freeing::is_complete;
-use crate::kinds::{fits, kind_of, sink_in, source_in};
-use crate::lookups::{count_ins, count_outs, is_used, kind_at};
-use crate::places::Places;
-use crate::streams::{Sort, has_stream};
 use fw_components::{Component, Registry, Unit, settings_are_seen};
+use fw_walks::{
+    Places, Sort, count_ins, count_outs, fits, has_stream, is_used, kind_at, kind_of, sink_in,
+    source_in,
+};
 use sof_base::{Errno, Params};
 use stream_law::{Kind, Phase};
 
@@ -28,6 +30,7 @@ use stream_law::{Kind, Phase};
 pub fn params(registry: &mut Registry, host: u32, direction: u32, p: Params) -> Result<(), Errno>
     requires { (1 ≤ p.channels) × (p.channels ≤ 8) }
     ensures answer { (f : FwState) → answer_of (view_by registry.new) result ≡ view_after (pcm_params (with_view (view_by registry.old) f) host direction p) }
+    ensures state { (f : FwState) → map (ring_seen (view_by registry.old)) (rings_of registry.old) ≡ rings_of registry.old → state_after registry.new f result ≡ pcm_params (with_tables registry.old f) host direction p }
     ensures done { OnOk result (registry.new ≡ record { comps = map (set_at host phases.Prepared (Some p)) registry.old.comps; buffers = registry.old.buffers; pipes = registry.old.pipes; joins = registry.old.joins }) }
     ensures kept { OnErr result (registry.new ≡ registry.old) }
 {
@@ -171,8 +174,8 @@ fn is_buffer_ready(registry: &Registry, buffer: &Component) -> bool
         && sink_in(&buffer.unit).is_some()
 }
 
-// What is on the way of a host's stream.
-fn way(registry: &Registry, places: &Places, host: u32) -> [bool; 257]
+/// What is on the way of a host's stream.
+pub(crate) fn way(registry: &Registry, places: &Places, host: u32) -> [bool; 257]
     requires { IsOf registry.now places.now }
     ensures { (x : ℕ) → is_listed places.now.ids x ≡ true → is_marked places.now.ids result x ≡ on_way (graph_of registry.now) host x }
 {

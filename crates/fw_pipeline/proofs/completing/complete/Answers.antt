@@ -3,7 +3,7 @@ use Rattle.fw_components.specs.Tables.{Tables, graph_of, view_by, streams_of, co
 use Rattle.stream_law.specs.declared.graph.Pipe.{Pipe}
 use Rattle.stream_law.specs.State.{View}
 use Rattle.fw_pipeline.specs.Rows.{view_after, with_view}
-use Rattle.fw_pipeline.proofs.Naming.{pipe-named}
+use Rattle.fw_walks.proofs.Naming.{pipe-named}
 use Rattle.fw_pipeline.proofs.CompletingRow.{complete-row, terms-named, are-pipelines}
 use Rattle.fw_pipeline.proofs.completing.complete.Goals as goal
 

@@ -5,7 +5,7 @@ use Rattle.fw_components.specs.Changes.{has_id}
 use Rattle.fw_components.specs.Tables.{Tables, view_by, streams_of, comp_by, pipe_by}
 use Rattle.fw_pipeline.specs.Rows.{view_after, with_view}
 use Rattle.fw_pipeline.proofs.FreeRows.{there-all, found-of, apart-gone, buffer-left, buffer_free-row}
-use Rattle.fw_pipeline.proofs.Naming.{edge-named}
+use Rattle.fw_walks.proofs.Naming.{edge-named}
 use Rattle.std.proofs.lemmas.Bool.{true≢false}
 use Rattle.fw_pipeline.proofs.freeing.free_buffer.Goals as goal
 

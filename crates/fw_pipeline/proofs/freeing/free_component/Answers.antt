@@ -6,7 +6,7 @@ use Rattle.fw_components.specs.Changes.{has_id}
 use Rattle.fw_components.specs.Tables.{Tables, view_by, edge_by, pipe_by}
 use Rattle.fw_pipeline.specs.Rows.{view_after, with_view}
 use Rattle.fw_pipeline.proofs.FreeRows.{there-all, found-of, streams-gone, comp-left, comp_free-row}
-use Rattle.fw_pipeline.proofs.Naming.{comp-named}
+use Rattle.fw_walks.proofs.Naming.{comp-named}
 use Rattle.fw_pipeline.proofs.freeing.free_component.Goals as goal
 
 pub remove-requires : goal.remove-requires

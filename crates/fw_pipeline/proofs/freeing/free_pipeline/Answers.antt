@@ -5,7 +5,7 @@ use Rattle.fw_components.specs.Changes.{has_id}
 use Rattle.fw_components.specs.Tables.{Tables, graph_of, view_by, streams_of, comp_by, edge_by}
 use Rattle.fw_pipeline.specs.Rows.{view_after, with_view}
 use Rattle.fw_pipeline.proofs.FreeRows.{there-all, found-of, apart-gone, pipe-alone, pipe-left, pipe_free-row, index-named}
-use Rattle.fw_pipeline.proofs.Naming.{pipe-named}
+use Rattle.fw_walks.proofs.Naming.{pipe-named}
 use Rattle.fw_pipeline.proofs.freeing.free_pipeline.Goals as goal
 
 pub remove-requires : goal.remove-requires

@@ -4,7 +4,7 @@ use Rattle.stream_law.specs.declared.graph.Edge.{Edge}
 use Rattle.fw_components.specs.declared.component.Component.{Component}
 use Rattle.fw_components.specs.Tables.{Tables, graph_of, streams_of, edge_by}
 use Rattle.mbox_link.specs.Step.{is_held}
-use Rattle.fw_pipeline.proofs.OnWays.{any-map}
+use Rattle.fw_walks.proofs.OnWays.{any-map}
 use Rattle.fw_pipeline.proofs.freeing.has_held_buffer.Goals as goal
 
 pub returns : goal.returns

@@ -4,7 +4,7 @@ use Rattle.stream_law.specs.declared.graph.Comp.{Comp}
 use Rattle.fw_components.specs.declared.component.Component.{Component}
 use Rattle.fw_components.specs.Tables.{Tables, graph_of, streams_of, comp_by}
 use Rattle.mbox_link.specs.Step.{is_held}
-use Rattle.fw_pipeline.proofs.OnWays.{any-map}
+use Rattle.fw_walks.proofs.OnWays.{any-map}
 use Rattle.fw_pipeline.proofs.freeing.has_held_comp.Goals as goal
 
 pub returns : goal.returns

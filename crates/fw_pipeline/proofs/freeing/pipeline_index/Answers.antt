@@ -3,7 +3,7 @@ use Rattle.std.specs.Prelude.{find}
 use Rattle.stream_law.specs.declared.graph.Pipe.{Pipe}
 use Rattle.fw_components.specs.declared.component.Component.{Component}
 use Rattle.fw_components.specs.Tables.{pipe_by}
-use Rattle.fw_pipeline.proofs.Naming.{found-shown}
+use Rattle.fw_walks.proofs.Naming.{found-shown}
 use Rattle.fw_pipeline.proofs.freeing.pipeline_index.Goals as goal
 
 pub returns-clause-found : goal.returns-clause-found

@@ -1,7 +1,7 @@
 use Rattle.std.proofs.Common.{◌≡◌, ap, ◌∙◌, ℕ, List, true, false}
 use Rattle.fw_components.specs.Tables.{Tables, graph_of}
 use Rattle.stream_law.specs.declared.graph.Join.{Join}
-use Rattle.fw_pipeline.specs.Walks.{leads_by, is_listed}
+use Rattle.fw_walks.specs.Walks.{leads_by, is_listed}
 use Rattle.fw_pipeline.proofs.OneJoin.{cycle-marked, ends-listed}
 use Rattle.fw_pipeline.proofs.one_join.closes.Goals as goal
 

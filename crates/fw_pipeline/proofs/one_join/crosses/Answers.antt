@@ -4,8 +4,8 @@ use Rattle.stream_law.specs.Joins.{is_play}
 use Rattle.stream_law.specs.Ways.{is_capture}
 use Rattle.fw_components.specs.declared.component.Component.{Component}
 use Rattle.fw_components.specs.Tables.{kind_by}
-use Rattle.fw_pipeline.specs.Walks.{leads_by}
-use Rattle.fw_pipeline.proofs.OnWays.{any-next}
+use Rattle.fw_walks.specs.Walks.{leads_by}
+use Rattle.fw_walks.proofs.OnWays.{any-next}
 use Rattle.fw_pipeline.proofs.one_join.crosses.Goals as goal
 
 pub loop-host-preserved : goal.loop-host-preserved

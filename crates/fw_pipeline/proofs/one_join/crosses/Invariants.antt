@@ -3,7 +3,7 @@ use Rattle.std.specs.List.{list_any}
 use Rattle.stream_law.specs.Joins.{is_play}
 use Rattle.stream_law.specs.Ways.{is_capture}
 use Rattle.fw_components.specs.Tables.{kind_by}
-use Rattle.fw_pipeline.specs.Walks.{leads_by}
+use Rattle.fw_walks.specs.Walks.{leads_by}
 use Rattle.fw_pipeline.proofs.one_join.crosses.Given as goal
 
 abbrev pub invariant-loop-host : goal.invariant-loop-host

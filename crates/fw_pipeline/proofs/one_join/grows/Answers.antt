@@ -3,8 +3,8 @@ use Rattle.fw_components.specs.declared.component.Component.{Component}
 use Rattle.fw_components.specs.Tables.{Tables}
 use Rattle.std.specs.List.{list_any}
 use Rattle.stream_law.specs.declared.graph.Join.{Join}
-use Rattle.fw_pipeline.specs.Charts.{Chart}
-use Rattle.fw_pipeline.specs.Walks.{leads_by}
+use Rattle.fw_walks.specs.Charts.{Chart}
+use Rattle.fw_walks.specs.Walks.{leads_by}
 use Rattle.fw_pipeline.specs.Rows.{is_growing}
 use Rattle.fw_pipeline.proofs.OneJoin.{grow-marked, ends-listed}
 use Rattle.fw_pipeline.proofs.one_join.grows.Goals as goal

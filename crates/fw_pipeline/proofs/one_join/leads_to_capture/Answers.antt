@@ -2,7 +2,7 @@ use Rattle.std.proofs.Common.{◌∙◌, false}
 use Rattle.fw_components.specs.declared.component.Component.{Component}
 use Rattle.fw_components.specs.Tables.{kind_by}
 use Rattle.stream_law.specs.Ways.{is_capture}
-use Rattle.fw_pipeline.specs.Walks.{leads_by}
+use Rattle.fw_walks.specs.Walks.{leads_by}
 use Rattle.fw_pipeline.proofs.OneJoin.{any-marked}
 use Rattle.fw_pipeline.proofs.one_join.leads_to_capture.Goals as goal
 

@@ -5,8 +5,8 @@ use Rattle.std.specs.List.{list_any, AllByRecursion}
 use Rattle.stream_law.specs.declared.graph.Join.{Join}
 use Rattle.stream_law.specs.Joins.{is_play}
 use Rattle.stream_law.specs.Ways.{is_capture}
-use Rattle.fw_pipeline.specs.Charts.{Chart}
-use Rattle.fw_pipeline.specs.Walks.{leads_by, is_listed, is_marked}
+use Rattle.fw_walks.specs.Charts.{Chart}
+use Rattle.fw_walks.specs.Walks.{leads_by, is_listed, is_marked}
 use Rattle.fw_pipeline.proofs.OneJoin.{any-marked, comps-listed, reach-tables, ends-listed}
 use Rattle.fw_pipeline.proofs.one_join.meets.Goals as goal
 

@@ -37,5 +37,5 @@ invariant_of-self-2 c =
       buffers = c.self.invariant.buffers;
       pipes = c.self.invariant.pipes;
       joins = c.self.invariant.joins;
-      kept = comp-added (tables_of c.self.inside) c.self.invariant.kept c.args.component c.place-2.new.components.items gone (sym c.is_buffer.ensures ∙ c.if-is_buffer.false) (sym c.is_pipeline.ensures ∙ c.if-is_pipeline.false) room c.place-2.ensures.items;
+      kept = comp-added (tables_of c.self.inside) c.self.invariant.kept c.args.component c.place-2.new.components.items gone (sym c.is_buffer.ensures ∙ c.if-is_buffer.false) (sym c.is_pipeline.ensures ∙ c.if-is_pipeline.false) c.requires.unit room c.place-2.ensures.items;
     }

@@ -9,5 +9,5 @@ invariant_of-self c = record {
   buffers = c.self.invariant.buffers;
   pipes = c.self.invariant.pipes;
   joins = c.self.invariant.joins;
-  kept = stream-kept (tables_of c.self.inside) c.self.invariant.kept c.args.host c.args.phase c.args.params c.set_stream_in.new.components.items c.set_stream_in.ensures.items;
+  kept = stream-kept (tables_of c.self.inside) c.self.invariant.kept c.args.host c.args.phase c.args.params c.requires.stream c.set_stream_in.new.components.items c.set_stream_in.ensures.items;
 }

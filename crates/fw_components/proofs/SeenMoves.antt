@@ -1,0 +1,324 @@
+-- How the move of a component is seen in the firmware's state.
+use Rattle.std.proofs.Common.{◌≡◌, refl, sym, ap, ◌∙◌, subst, ℕ, ◌+◌, ◌*◌, List, [], ◌∷◌, ◌++◌, map, filter, take, drop, length, Bool, true, false, cond, ◌==◌, Option, Some, None, ℤ}
+use Rattle.std.proofs.lemmas.Bool.{eqb-true, false≢true}
+use Rattle.std.specs.Prelude.{find, option_map}
+use Rattle.std.specs.List.{AllByRecursion}
+use Rattle.std.specs.Option.{option_map_or}
+use Rattle.sof_base.specs.Samples.{Frame}
+use Rattle.eq_biquad.specs.EqState.{numbers_of}
+use Rattle.stream_law.specs.declared.graph.Comp.{Comp}
+use Rattle.stream_law.specs.declared.stream.StreamView.{StreamView}
+use Rattle.stream_law.specs.State.{History, Staging, View}
+use Rattle.stream_law.specs.Order.{is_among}
+use Rattle.stream_law.specs.Placed.{Ascends}
+use Rattle.stream_law.specs.Seen.{equalises, is_equaliser}
+use Rattle.stream_law.specs.Move.{blob_of}
+use Rattle.stream_law.specs.Ways.{comp_of, channels_of}
+use Rattle.stream_law.specs.Made.{frames_made, only_slice, chosen_slice, frames_at as frames_of_each}
+use Rattle.stream_law.specs.Made as made
+use Rattle.stream_law.specs.Equaliser.{passed_frames, numbers_after}
+use Rattle.fw_components.specs.declared.component.Component.{Component}
+use Rattle.fw_components.specs.declared.component.Unit as units
+use Rattle.fw_components.specs.declared.component.Unit.TheVariants.{Host, Dai, Volume, Mixer, Mux, Eq, Buffer, Pipeline}
+use Rattle.fw_components.specs.Tables.{Tables, comp_by, edge_by, pipe_by, ring_by, streams_by, with_stream_by, staging_by, with_staging_by, kind_by, setting_by, frames_by, numbers_by, is_buffer, graph_of, view_by, streams_of, histories_of}
+use Rattle.fw_components.specs.Frames.{staged_by, staged_in, staged_of_one, taken_unit, taken_by, pushed_unit, pushed_by, pushed_at, with_frames}
+use Rattle.fw_components.specs.Kept.{IsKept, IsBuffering}
+use Rattle.fw_components.specs.Processed.{moves_of, moves_at, channels_moved, slices_in, chosen_by, made_frames, made_numbers, made_at, numbers_at, numbers_made_at, drained_at, run_unit, run_by, run_at, processed, drained_ring, moved_rings, with_numbers}
+use Rattle.fw_components.proofs.Begun.{at-id}
+use Rattle.fw_components.proofs.MovedLaws.{taken-frames}
+use Rattle.fw_components.proofs.SeenFrames.{map-same, edge_of_unit}
+use Rattle.fw_components.proofs.StepLaws.{own-found}
+
+-- ---- what each change leaves of a unit
+
+comp-run : (id pipe : ℕ) (w : List ℤ) (u : units.Unit) → ◌≡◌ {A = Comp} (record { id = id; kind = kind_by (run_unit w u); pipe = pipe; setting = setting_by (run_unit w u) }) (record { id = id; kind = kind_by u; pipe = pipe; setting = setting_by u })
+comp-run id pipe w (Host capture phase params piece) = refl
+comp-run id pipe w (Dai capture format piece) = refl
+comp-run id pipe w (Volume gains piece) = refl
+comp-run id pipe w (Mixer piece) = refl
+comp-run id pipe w (Mux choice piece) = refl
+comp-run id pipe w (Eq eq next remaining) = refl
+comp-run id pipe w (Buffer size ring source sink) = refl
+comp-run id pipe w (Pipeline sched period complete piece) = refl
+
+stream-run : (id : ℕ) (w : List ℤ) (rest : List StreamView) (u : units.Unit) → with_stream_by id (run_unit w u) rest ≡ with_stream_by id u rest
+stream-run id w rest (Host capture phase params piece) = refl
+stream-run id w rest (Dai capture format piece) = refl
+stream-run id w rest (Volume gains piece) = refl
+stream-run id w rest (Mixer piece) = refl
+stream-run id w rest (Mux choice piece) = refl
+stream-run id w rest (Eq eq next remaining) = refl
+stream-run id w rest (Buffer size ring source sink) = refl
+stream-run id w rest (Pipeline sched period complete piece) = refl
+
+staging-run : (id : ℕ) (w : List ℤ) (rest : List Staging) (u : units.Unit) → staged_by (run_unit w u) ≡ staged_by u → with_staging_by id (run_unit w u) rest ≡ with_staging_by id u rest
+staging-run id w rest (Host capture phase params piece) same = refl
+staging-run id w rest (Dai capture format piece) same = refl
+staging-run id w rest (Volume gains piece) same = refl
+staging-run id w rest (Mixer piece) same = refl
+staging-run id w rest (Mux choice piece) same = refl
+staging-run id w rest (Eq eq next remaining) same = ap (λ (bytes : List ℕ). cond (remaining == 0) rest (record { eq = id; bytes = take (32 + 260 * next) bytes; next = next; remaining = remaining } ∷ rest)) same
+staging-run id w rest (Buffer size ring source sink) same = refl
+staging-run id w rest (Pipeline sched period complete piece) same = refl
+
+edge-taken : (id pipe n : ℕ) (u : units.Unit) → edge_of_unit id pipe (taken_unit n u) ≡ edge_of_unit id pipe u
+edge-taken id pipe n (Host capture phase params piece) = refl
+edge-taken id pipe n (Dai capture format piece) = refl
+edge-taken id pipe n (Volume gains piece) = refl
+edge-taken id pipe n (Mixer piece) = refl
+edge-taken id pipe n (Mux choice piece) = refl
+edge-taken id pipe n (Eq eq next remaining) = refl
+edge-taken id pipe n (Buffer size ring source sink) = refl
+edge-taken id pipe n (Pipeline sched period complete piece) = refl
+
+edge-pushed : (id pipe : ℕ) (fs : List Frame) (w : List ℤ) (u : units.Unit) → edge_of_unit id pipe (pushed_unit fs w u) ≡ edge_of_unit id pipe u
+edge-pushed id pipe fs w (Host capture phase params piece) = refl
+edge-pushed id pipe fs w (Dai capture format piece) = refl
+edge-pushed id pipe fs w (Volume gains piece) = refl
+edge-pushed id pipe fs w (Mixer piece) = refl
+edge-pushed id pipe fs w (Mux choice piece) = refl
+edge-pushed id pipe fs w (Eq eq next remaining) = refl
+edge-pushed id pipe fs w (Buffer size ring source sink) = refl
+edge-pushed id pipe fs w (Pipeline sched period complete piece) = refl
+
+taken-buffer : (n : ℕ) (u : units.Unit) → is_buffer (taken_unit n u) ≡ is_buffer u
+taken-buffer n (Host capture phase params piece) = refl
+taken-buffer n (Dai capture format piece) = refl
+taken-buffer n (Volume gains piece) = refl
+taken-buffer n (Mixer piece) = refl
+taken-buffer n (Mux choice piece) = refl
+taken-buffer n (Eq eq next remaining) = refl
+taken-buffer n (Buffer size ring source sink) = refl
+taken-buffer n (Pipeline sched period complete piece) = refl
+
+pushed-frames : (fs : List Frame) (w : List ℤ) (u : units.Unit) → is_buffer u ≡ true → frames_by (pushed_unit fs w u) ≡ frames_by u ++ fs
+pushed-frames fs w (Host capture phase params piece) e = absurd (false≢true e)
+pushed-frames fs w (Dai capture format piece) e = absurd (false≢true e)
+pushed-frames fs w (Volume gains piece) e = absurd (false≢true e)
+pushed-frames fs w (Mixer piece) e = absurd (false≢true e)
+pushed-frames fs w (Mux choice piece) e = absurd (false≢true e)
+pushed-frames fs w (Eq eq next remaining) e = absurd (false≢true e)
+pushed-frames fs w (Buffer size ring source sink) e = refl
+pushed-frames fs w (Pipeline sched period complete piece) e = absurd (false≢true e)
+
+-- ---- the component
+
+module _ (id : ℕ) (w : List ℤ) where
+  run-id : (c : Component) → (run_at id w c).id ≡ c.id
+  run-id c = at-id (run_by w) (λ c. refl) id c
+
+  comp-same : (c : Component) → comp_by (run_at id w c) ≡ comp_by c
+  comp-same c = by (c.id == id)
+    where
+      by : (h : Bool) → comp_by (cond {A = Component} h (run_by w c) c) ≡ comp_by c
+      by true = comp-run c.id c.pipe w c.unit
+      by false = refl
+
+  pub comps-run : (cs : List Component) → map comp_by (map (run_at id w) cs) ≡ map comp_by cs
+  comps-run cs = map-same comp_by (run_at id w) comp-same cs
+
+  pub streams-run : (cs : List Component) → streams_by (map (run_at id w) cs) ≡ streams_by cs
+  streams-run [] = refl
+  streams-run (c ∷ cs) = by (c.id == id) ∙ ap (with_stream_by c.id c.unit) (streams-run cs)
+    where
+      by : (h : Bool) → with_stream_by (cond {A = Component} h (run_by w c) c).id (cond {A = Component} h (run_by w c) c).unit (streams_by (map (run_at id w) cs)) ≡ with_stream_by c.id c.unit (streams_by (map (run_at id w) cs))
+      by true = stream-run c.id w (streams_by (map (run_at id w) cs)) c.unit
+      by false = refl
+
+  find-run : (b : ℕ) (cs : List Component) → find (λ c. c.id == b) (map (run_at id w) cs) ≡ option_map (run_at id w) (find (λ c. c.id == b) cs)
+  find-run b [] = refl
+  find-run b (c ∷ cs) =
+      ap (λ k. cond (k == b) (Some (run_at id w c)) (find (λ c. c.id == b) (map (run_at id w) cs))) (run-id c) ∙ by (c.id == b) (find-run b cs)
+    where
+      by : (h : Bool) → find (λ c. c.id == b) (map (run_at id w) cs) ≡ option_map (run_at id w) (find (λ c. c.id == b) cs) → cond h (Some (run_at id w c)) (find (λ c. c.id == b) (map (run_at id w) cs)) ≡ option_map (run_at id w) (cond h (Some c) (find (λ c. c.id == b) cs))
+      by true rest = refl
+      by false rest = rest
+
+  -- the one of the id has become this
+  run-here : (c : Component) → (c.id == id) ≡ true → run_at id w c ≡ run_by w c
+  run-here c is = ap (λ h. cond {A = Component} h (run_by w c) c) is
+
+  own-run : (cs : List Component) (c : Component) → find (λ x. x.id == c.id) cs ≡ Some c → (c.id == id) ≡ true → find (λ x. x.id == id) (map (run_at id w) cs) ≡ Some (run_by w c)
+  own-run cs c own is =
+      find-run id cs
+      ∙ ap (option_map (run_at id w)) (ap (λ k. find (λ x. x.id == k) cs) (sym (eqb-true c.id id is)) ∙ own)
+      ∙ ap (λ (x : Component). Some x) (run-here c is)
+
+  own-before : (cs : List Component) (c : Component) → find (λ x. x.id == c.id) cs ≡ Some c → (c.id == id) ≡ true → find (λ x. x.id == id) cs ≡ Some c
+  own-before cs c own is = ap (λ k. find (λ x. x.id == k) cs) (sym (eqb-true c.id id is)) ∙ own
+
+  -- ---- staged bytes
+
+  staging-each : (all cs : List Component) → staged_in (map (run_at id w) all) id ≡ staged_in all id → AllByRecursion (λ c. find (λ x. x.id == c.id) all ≡ Some c) cs → staging_by (map (run_at id w) cs) ≡ staging_by cs
+  staging-each all [] staged own = refl
+  staging-each all (c ∷ cs) staged own = by (c.id == id) refl ∙ ap (with_staging_by c.id c.unit) (staging-each all cs staged own.1)
+    where
+      rest : List Staging
+      rest = staging_by (map (run_at id w) cs)
+
+      by : (h : Bool) → (c.id == id) ≡ h → with_staging_by (cond {A = Component} h (run_by w c) c).id (cond {A = Component} h (run_by w c) c).unit (staging_by (map (run_at id w) cs)) ≡ with_staging_by c.id c.unit (staging_by (map (run_at id w) cs))
+      by true is = staging-run c.id w (staging_by (map (run_at id w) cs)) c.unit (ap staged_of_one (sym (own-run all c own.0 is)) ∙ staged ∙ ap staged_of_one (own-before all c own.0 is))
+      by false is = refl
+
+  pub staging-same : (cs : List Component) → Ascends (λ c. c.id) cs → staged_in (map (run_at id w) cs) id ≡ staged_in cs id → staging_by (map (run_at id w) cs) ≡ staging_by cs
+  staging-same cs ascends staged = staging-each cs cs staged (own-found cs ascends)
+
+  -- ---- numbers
+
+  abbrev history : Component → History
+  history c = record { comp = c.id; numbers = numbers_by c.unit c.channels }
+
+  abbrev numbers_in : List Component → List ℤ
+  numbers_in cs = option_map_or (λ c. numbers_by c.unit c.channels) (find (λ c. c.id == id) cs) []
+
+  histories-each : (all cs : List Component) (live : ℕ → Bool) → AllByRecursion (λ c. find (λ x. x.id == c.id) all ≡ Some c) cs → map history (filter (λ c. live c.id) (map (run_at id w) cs)) ≡ map (with_numbers id (numbers_in (map (run_at id w) all))) (map history (filter (λ c. live c.id) cs))
+  histories-each all [] live own = refl
+  histories-each all (c ∷ cs) live own =
+      ap (λ k. map history (cond (live k) (run_at id w c ∷ filter (λ c. live c.id) (map (run_at id w) cs)) (filter (λ c. live c.id) (map (run_at id w) cs)))) (run-id c) ∙ by (live c.id) (histories-each all cs live own.1)
+    where
+      one : (h : Bool) → (c.id == id) ≡ h → history (cond {A = Component} h (run_by w c) c) ≡ cond h (record { comp = c.id; numbers = numbers_in (map (run_at id w) all) }) (history c)
+      one true is = ap (λ (ns : List ℤ). record { comp = c.id; numbers = ns }) (ap (λ (o : Option Component). option_map_or (λ x. numbers_by x.unit x.channels) o []) (sym (own-run all c own.0 is)))
+      one false is = refl
+
+      by : (h : Bool) → map history (filter (λ c. live c.id) (map (run_at id w) cs)) ≡ map (with_numbers id (numbers_in (map (run_at id w) all))) (map history (filter (λ c. live c.id) cs)) → map history (cond h (run_at id w c ∷ filter (λ c. live c.id) (map (run_at id w) cs)) (filter (λ c. live c.id) (map (run_at id w) cs))) ≡ map (with_numbers id (numbers_in (map (run_at id w) all))) (map history (cond h (c ∷ filter (λ c. live c.id) cs) (filter (λ c. live c.id) cs)))
+      by true rest = (λ i. one (c.id == id) refl i ∷ rest i)
+      by false rest = rest
+
+  pub histories-run : (cs : List Component) (live : ℕ → Bool) → Ascends (λ c. c.id) cs → map history (filter (λ c. live c.id) (map (run_at id w) cs)) ≡ map (with_numbers id (numbers_in (map (run_at id w) cs))) (map history (filter (λ c. live c.id) cs))
+  histories-run cs live ascends = histories-each cs cs live (own-found cs ascends)
+
+-- ---- the buffers
+
+module _ (looked : List ℕ) (n fed : ℕ) (frames : List Frame) (w : List ℤ) where
+  edge-drained : (c : Component) → edge_by (drained_at looked n c) ≡ edge_by c
+  edge-drained c = by (is_among looked c.id)
+    where
+      by : (h : Bool) → edge_by (cond {A = Component} h (taken_by n c) c) ≡ edge_by c
+      by true = edge-taken c.id c.pipe n c.unit
+      by false = refl
+
+  edge-fed : (c : Component) → edge_by (pushed_at fed frames w c) ≡ edge_by c
+  edge-fed c = by (c.id == fed)
+    where
+      by : (h : Bool) → edge_by (cond {A = Component} h (pushed_by frames w c) c) ≡ edge_by c
+      by true = edge-pushed c.id c.pipe frames w c.unit
+      by false = refl
+
+  pub edges-moved : (cs : List Component) → map edge_by (map (pushed_at fed frames w) (map (drained_at looked n) cs)) ≡ map edge_by cs
+  edges-moved cs = map-same edge_by (pushed_at fed frames w) edge-fed (map (drained_at looked n) cs) ∙ map-same edge_by (drained_at looked n) edge-drained cs
+
+  ring-drained : (c : Component) → ring_by (drained_at looked n c) ≡ drained_ring looked n (ring_by c)
+  ring-drained c = by (is_among looked c.id)
+    where
+      by : (h : Bool) → ring_by (cond {A = Component} h (taken_by n c) c) ≡ cond h (record { buffer = c.id; frames = drop n (frames_by c.unit) }) (ring_by c)
+      by true = ap (λ (fs : List Frame). record { buffer = c.id; frames = fs }) (taken-frames n c.unit)
+      by false = refl
+
+  still-buffer : (c : Component) → is_buffer (drained_at looked n c).unit ≡ is_buffer c.unit
+  still-buffer c = by (is_among looked c.id)
+    where
+      by : (h : Bool) → is_buffer (cond {A = Component} h (taken_by n c) c).unit ≡ is_buffer c.unit
+      by true = taken-buffer n c.unit
+      by false = refl
+
+  ring-fed : (c : Component) → is_buffer c.unit ≡ true → ring_by (pushed_at fed frames w c) ≡ with_frames (λ own. own ++ frames) fed (ring_by c)
+  ring-fed c e = by (c.id == fed)
+    where
+      by : (h : Bool) → ring_by (cond {A = Component} h (pushed_by frames w c) c) ≡ cond h (record { buffer = c.id; frames = frames_by c.unit ++ frames }) (ring_by c)
+      by true = ap (λ (fs : List Frame). record { buffer = c.id; frames = fs }) (pushed-frames frames w c.unit e)
+      by false = refl
+
+  pub rings-moved : (cs : List Component) → AllByRecursion (λ c. IsBuffering c.unit) cs → map ring_by (map (pushed_at fed frames w) (map (drained_at looked n) cs)) ≡ moved_rings looked n fed frames (map ring_by cs)
+  rings-moved [] all = refl
+  rings-moved (c ∷ cs) all =
+      let one = ring-fed (drained_at looked n c) (still-buffer c ∙ all.0.0) ∙ ap (with_frames (λ own. own ++ frames) fed) (ring-drained c) in
+      (λ i. one i ∷ rings-moved cs all.1 i)
+
+-- ---- all of the tables
+
+module _ (id fed n : ℕ) (looked : List ℕ) (frames : List Frame) (words own : List ℤ) (t : Tables) where
+  abbrev after : Tables
+  after = processed id looked n fed frames words own t
+
+  pub graph-moved : graph_of after ≡ graph_of t
+  graph-moved = (λ i. record { comps = comps-run id own t.comps i; edges = edges-moved looked n fed frames words t.buffers i; pipes = map pipe_by t.pipes; joins = t.joins })
+
+  pub streams-moved : streams_of after ≡ streams_of t
+  streams-moved = streams-run id own t.comps
+
+  view-moved : view_by after ≡ view_by t
+  view-moved = (λ i. record { graph = graph-moved i; streams = streams-moved i })
+
+  pub histories-moved : IsKept t → histories_of after ≡ map (with_numbers id (numbers_at after id)) (histories_of t)
+  histories-moved kept =
+      ap (λ (v : View). map (history id own) (filter (λ c. equalises v c.id) (map (run_at id own) t.comps))) view-moved
+      ∙ histories-run id own t.comps (equalises (view_by t)) kept.named.comps
+
+-- ---- the frames of a tick
+
+find-comp : (id : ℕ) (cs : List Component) → find (λ x. x.id == id) (map comp_by cs) ≡ option_map comp_by (find (λ c. c.id == id) cs)
+find-comp id [] = refl
+find-comp id (c ∷ cs) = by (c.id == id) (find-comp id cs)
+  where
+    by : (h : Bool) → find (λ x. x.id == id) (map comp_by cs) ≡ option_map comp_by (find (λ c. c.id == id) cs) → cond h (Some (comp_by c)) (find (λ x. x.id == id) (map comp_by cs)) ≡ option_map comp_by (cond h (Some c) (find (λ c. c.id == id) cs))
+    by true rest = refl
+    by false rest = rest
+
+-- an equaliser's numbers after them
+module _ (id n : ℕ) (looked : List ℕ) (t : Tables) (wide : channels_of (view_by t) id ≡ channels_moved t id) where
+  pub tick-numbers : option_map_or (λ x. is_equaliser x.kind) (comp_of (graph_of t) id) false ≡ true → numbers_after (blob_of (view_by t) id) (channels_of (view_by t) id) (numbers_at t id) (only_slice (slices_in t.buffers looked n)) ≡ numbers_made_at t id looked n
+  tick-numbers kind =
+      subst (λ (o : Option Comp). option_map_or (λ x. is_equaliser x.kind) o false ≡ true → numbers_after (option_map_or (λ x. made.blob x.setting) o []) (channels_of (view_by t) id) (numbers_at t id) (only_slice (slices_in t.buffers looked n)) ≡ numbers_made_at t id looked n)
+      (sym (find-comp id t.comps)) (found (find (λ c. c.id == id) t.comps) wide) kind
+    where
+      by : (u : units.Unit) (channels : ℕ) → channels_of (view_by t) id ≡ channels → is_equaliser (kind_by u) ≡ true → numbers_after (made.blob (setting_by u)) (channels_of (view_by t) id) (numbers_by u channels) (only_slice (slices_in t.buffers looked n)) ≡ made_numbers u channels (slices_in t.buffers looked n)
+      by (Host true phase params piece) channels same e = absurd (false≢true e)
+      by (Host false phase params piece) channels same e = absurd (false≢true e)
+      by (Dai true format piece) channels same e = absurd (false≢true e)
+      by (Dai false format piece) channels same e = absurd (false≢true e)
+      by (Volume gains piece) channels same e = absurd (false≢true e)
+      by (Mixer piece) channels same e = absurd (false≢true e)
+      by (Mux choice piece) channels same e = absurd (false≢true e)
+      by (Eq eq next remaining) channels same e = ap (λ k. numbers_after eq.blob k (numbers_of eq channels) (only_slice (slices_in t.buffers looked n))) same
+      by (Buffer size ring source sink) channels same e = absurd (false≢true e)
+      by (Pipeline sched period complete piece) channels same e = absurd (false≢true e)
+
+      found : (o : Option Component) → channels_of (view_by t) id ≡ option_map_or (λ c. c.channels) o 0 → option_map_or (λ x. is_equaliser x.kind) (option_map comp_by o) false ≡ true →
+          numbers_after (option_map_or (λ x. made.blob x.setting) (option_map comp_by o) []) (channels_of (view_by t) id) (option_map_or (λ c. numbers_by c.unit c.channels) o []) (only_slice (slices_in t.buffers looked n)) ≡ option_map_or (λ c. made_numbers c.unit c.channels (slices_in t.buffers looked n)) o []
+      found None same e = absurd (false≢true e)
+      found (Some c) same e = by c.unit c.channels same e
+
+module _ (id n : ℕ) (looked : List ℕ) (read : List Frame) (t : Tables) (wide : channels_of (view_by t) id ≡ channels_moved t id) where
+  abbrev slices : List (ℕ × List Frame)
+  slices = slices_in t.buffers looked n
+
+  -- by the component that is found
+  abbrev law : Option Component → ℕ → List ℤ → Type 0
+  law o channels numbers =
+      option_map_or (λ x. made.frames_by x.kind x.setting (view_by t) id n read slices (λ blob channels frames. passed_frames blob channels numbers frames)) (option_map comp_by o) []
+      ≡ option_map_or (λ c. made_frames c.unit channels n (chosen_by c.unit id t.joins) slices) o []
+
+  by-unit : (c : Component) → moves_of c.unit (length looked) ≡ true → law (Some c) (channels_of (view_by t) id) (numbers_by c.unit (channels_of (view_by t) id))
+  by-unit c e = by c.unit e
+    where
+      by : (u : units.Unit) → moves_of u (length looked) ≡ true → made.frames_by (kind_by u) (setting_by u) (view_by t) id n read slices (λ blob channels frames. passed_frames blob channels (numbers_by u (channels_of (view_by t) id)) frames) ≡ made_frames u (channels_of (view_by t) id) n (chosen_by u id t.joins) slices
+      by (Host capture phase params piece) e = absurd (false≢true e)
+      by (Dai capture format piece) e = absurd (false≢true e)
+      by (Volume gains piece) e = refl
+      by (Mixer piece) e = refl
+      by (Mux choice piece) e = refl
+      by (Eq eq next remaining) e = refl
+      by (Buffer size ring source sink) e = absurd (false≢true e)
+      by (Pipeline sched period complete piece) e = absurd (false≢true e)
+
+  pub tick-made : moves_at t id (length looked) ≡ true → frames_made (view_by t) id n read slices (λ blob channels frames. passed_frames blob channels (numbers_at t id) frames) ≡ made_at t id looked n
+  unfolding frames_made
+  tick-made kind =
+      ap (λ o. option_map_or (λ x. made.frames_by x.kind x.setting (view_by t) id n read slices (λ blob channels frames. passed_frames blob channels (numbers_at t id) frames)) o []) (find-comp id t.comps)
+      ∙ found (find (λ c. c.id == id) t.comps) kind wide
+    where
+      found : (o : Option Component) → option_map_or (λ c. moves_of c.unit (length looked)) o false ≡ true → channels_of (view_by t) id ≡ option_map_or (λ c. c.channels) o 0 →
+          option_map_or (λ x. made.frames_by x.kind x.setting (view_by t) id n read slices (λ blob channels frames. passed_frames blob channels (option_map_or (λ c. numbers_by c.unit c.channels) o []) frames)) (option_map comp_by o) []
+          ≡ option_map_or (λ c. made_frames c.unit c.channels n (chosen_by c.unit id t.joins) slices) o []
+      found None kind same = absurd (false≢true kind)
+      found (Some c) kind same = subst (λ k. law (Some c) k (numbers_by c.unit k)) same (by-unit c kind)

@@ -1,0 +1,137 @@
+use Rattle.std.proofs.Common.{◌≡◌, ◌≤◌, ◌∙◌, refl, sym, ap, subst, false, length, List, Option, Some, get_or, set, ◌==◌}
+use Rattle.std.proofs.lemmas.Bool.{false≢true}
+use Rattle.std.specs.Prelude.{position, find}
+use Rattle.std.specs.List.{AllByRecursion}
+use Rattle.std.specs.Option.{option_map_or}
+use Rattle.stream_law.specs.declared.graph.Join.{Join}
+use Rattle.fw_components.specs.declared.component.Component.{Component}
+use Rattle.fw_components.specs.Tables.{Tables}
+use Rattle.fw_components.specs.Frames.{words_of, words_at, staged_in}
+use Rattle.fw_components.specs.Laid.{tables_of}
+use Rattle.fw_components.specs.Processed.{moves_of, moves_at, channels_moved, IsInlet, IsOutlet, chosen_by, made_at, numbers_made_at, run_by, processed}
+use Rattle.fw_components.specs.Moving.{CanMove, IsMoved}
+use Rattle.fw_components.proofs.Putting.{put-words}
+use Rattle.fw_components.proofs.Taking.{taken-found, never-found-by}
+use Rattle.fw_components.proofs.ProcessLaws.{can-process, now-processed, now-numbers, now-staged, now-kept}
+use Rattle.fw_components.proofs.registry.Registry.process.Goals as goal
+
+pub unreachable-requires : goal.unreachable-requires
+unreachable-requires c =
+    let t = tables_of c.self.inside in
+    let id = c.args.id in
+    let inlets = length c.args.looked.now in
+    false≢true (
+    sym (ap (λ (o : Option Component). option_map_or (λ y. moves_of y.unit inlets) o false) (never-found-by id t.comps (c.in-None.ensures ∙ ap (position (λ (y : Component). y.id == id)) c.as_slice.ensures.value)))
+    ∙ ap (λ (t : Tables). moves_at t id inlets) c.self.view_is ∙ c.requires.unit)
+
+pub carry-requires : goal.carry-requires
+carry-requires c =
+    let t = tables_of c.self.inside in
+    let id = c.args.id in
+    let looked = c.args.looked.now in
+    let fed = get_or c.args.fed.now 0 0 in
+    let n = c.args.n in
+    let x = c.index_mut.result.now in
+    let place : Some c.in-Some.at ≡ position (λ (y : Component). y.id == id) t.comps = c.in-Some.ensures ∙ ap (position (λ (y : Component). y.id == id)) c.as_slice.ensures.value in
+    let it : Some x ≡ find (λ (y : Component). y.id == id) t.comps = ap (λ (y : Component). Some y) c.index_mut.ensures.value ∙ taken-found id t.comps c.in-Some.at _ place in
+    let can : CanMove t.buffers looked fed n x =
+    can-process t id x it c.self.invariant.kept looked c.args.fed.now n
+    (ap (λ (t : Tables). moves_at t id (length looked)) c.self.view_is ∙ c.requires.unit)
+    c.requires.single
+    (subst (λ (t : Tables). AllByRecursion (IsInlet t.buffers (channels_moved t id) n) looked) (sym c.self.view_is) c.requires.looked)
+    (subst (λ (t : Tables). AllByRecursion (IsOutlet t.buffers (channels_moved t id) n) c.args.fed.now) (sym c.self.view_is) c.requires.fed)
+    c.requires.one in
+    can
+
+pub invariant_of-self : goal.invariant_of-self
+invariant_of-self c =
+    let t = tables_of c.self.inside in
+    let id = c.args.id in
+    let looked = c.args.looked.now in
+    let fed = get_or c.args.fed.now 0 0 in
+    let n = c.args.n in
+    let x = c.index_mut.result.now in
+    let place : Some c.in-Some.at ≡ position (λ (y : Component). y.id == id) t.comps = c.in-Some.ensures ∙ ap (position (λ (y : Component). y.id == id)) c.as_slice.ensures.value in
+    let it : Some x ≡ find (λ (y : Component). y.id == id) t.comps = ap (λ (y : Component). Some y) c.index_mut.ensures.value ∙ taken-found id t.comps c.in-Some.at _ place in
+    let moved : IsMoved (chosen_by x.unit x.id t.joins) looked fed n t.buffers x c.carry.new.buffers.items c.carry.new.self =
+    subst (λ (js : List Join). IsMoved (chosen_by x.unit x.id js) looked fed n t.buffers x c.carry.new.buffers.items c.carry.new.self) c.as_slice-in-Some.ensures.value c.carry.ensures.moved in
+    let comps = set t.comps c.in-Some.at c.carry.new.self in
+    let put = put-words run_by (λ w y. refl) id c.in-Some.at t.comps comps c.carry.new.self x c.self.invariant.kept.named.comps place refl (moved.component ∙ ap (run_by (words_of c.carry.new.self)) c.index_mut.ensures.value) in
+    record {
+      comps = c.self.invariant.comps;
+      buffers = subst (λ k. 128 ≤ k) (sym c.carry.ensures.capacity) c.self.invariant.buffers;
+      pipes = c.self.invariant.pipes;
+      joins = c.self.invariant.joins;
+      kept = now-kept t id x it c.self.invariant.kept looked fed n c.carry.new.self comps c.carry.new.buffers.items _ put.1 moved;
+    }
+
+pub returns-clause-tables : goal.returns-clause-tables
+returns-clause-tables c =
+    let t = tables_of c.self.inside in
+    let id = c.args.id in
+    let looked = c.args.looked.now in
+    let fed = get_or c.args.fed.now 0 0 in
+    let n = c.args.n in
+    let x = c.index_mut.result.now in
+    let place : Some c.in-Some.at ≡ position (λ (y : Component). y.id == id) t.comps = c.in-Some.ensures ∙ ap (position (λ (y : Component). y.id == id)) c.as_slice.ensures.value in
+    let it : Some x ≡ find (λ (y : Component). y.id == id) t.comps = ap (λ (y : Component). Some y) c.index_mut.ensures.value ∙ taken-found id t.comps c.in-Some.at _ place in
+    let can : CanMove t.buffers looked fed n x =
+    can-process t id x it c.self.invariant.kept looked c.args.fed.now n
+    (ap (λ (t : Tables). moves_at t id (length looked)) c.self.view_is ∙ c.requires.unit)
+    c.requires.single
+    (subst (λ (t : Tables). AllByRecursion (IsInlet t.buffers (channels_moved t id) n) looked) (sym c.self.view_is) c.requires.looked)
+    (subst (λ (t : Tables). AllByRecursion (IsOutlet t.buffers (channels_moved t id) n) c.args.fed.now) (sym c.self.view_is) c.requires.fed)
+    c.requires.one in
+    let moved : IsMoved (chosen_by x.unit x.id t.joins) looked fed n t.buffers x c.carry.new.buffers.items c.carry.new.self =
+    subst (λ (js : List Join). IsMoved (chosen_by x.unit x.id js) looked fed n t.buffers x c.carry.new.buffers.items c.carry.new.self) c.as_slice-in-Some.ensures.value c.carry.ensures.moved in
+    let comps = set t.comps c.in-Some.at c.carry.new.self in
+    let put = put-words run_by (λ w y. refl) id c.in-Some.at t.comps comps c.carry.new.self x c.self.invariant.kept.named.comps place refl (moved.component ∙ ap (run_by (words_of c.carry.new.self)) c.index_mut.ensures.value) in
+    let now : Tables = record { comps = comps; buffers = c.carry.new.buffers.items; pipes = t.pipes; joins = t.joins } in
+    now-processed t id x it c.self.invariant.kept looked fed n can.outlet.there c.carry.new.self comps c.carry.new.buffers.items put.0 put.1 moved
+    ∙ ap (λ (t : Tables). processed id looked n fed (made_at t id looked n) (words_at now fed) (words_at now id) t) c.self.view_is
+
+pub returns-clause-numbers : goal.returns-clause-numbers
+returns-clause-numbers c =
+    let t = tables_of c.self.inside in
+    let id = c.args.id in
+    let looked = c.args.looked.now in
+    let fed = get_or c.args.fed.now 0 0 in
+    let n = c.args.n in
+    let x = c.index_mut.result.now in
+    let place : Some c.in-Some.at ≡ position (λ (y : Component). y.id == id) t.comps = c.in-Some.ensures ∙ ap (position (λ (y : Component). y.id == id)) c.as_slice.ensures.value in
+    let it : Some x ≡ find (λ (y : Component). y.id == id) t.comps = ap (λ (y : Component). Some y) c.index_mut.ensures.value ∙ taken-found id t.comps c.in-Some.at _ place in
+    let can : CanMove t.buffers looked fed n x =
+    can-process t id x it c.self.invariant.kept looked c.args.fed.now n
+    (ap (λ (t : Tables). moves_at t id (length looked)) c.self.view_is ∙ c.requires.unit)
+    c.requires.single
+    (subst (λ (t : Tables). AllByRecursion (IsInlet t.buffers (channels_moved t id) n) looked) (sym c.self.view_is) c.requires.looked)
+    (subst (λ (t : Tables). AllByRecursion (IsOutlet t.buffers (channels_moved t id) n) c.args.fed.now) (sym c.self.view_is) c.requires.fed)
+    c.requires.one in
+    let moved : IsMoved (chosen_by x.unit x.id t.joins) looked fed n t.buffers x c.carry.new.buffers.items c.carry.new.self =
+    subst (λ (js : List Join). IsMoved (chosen_by x.unit x.id js) looked fed n t.buffers x c.carry.new.buffers.items c.carry.new.self) c.as_slice-in-Some.ensures.value c.carry.ensures.moved in
+    let comps = set t.comps c.in-Some.at c.carry.new.self in
+    let put = put-words run_by (λ w y. refl) id c.in-Some.at t.comps comps c.carry.new.self x c.self.invariant.kept.named.comps place refl (moved.component ∙ ap (run_by (words_of c.carry.new.self)) c.index_mut.ensures.value) in
+    now-numbers t id x it c.self.invariant.kept looked fed n can.outlet.there c.carry.new.self comps c.carry.new.buffers.items put.0 put.1 moved ∙ ap (λ (t : Tables). numbers_made_at t id looked n) c.self.view_is
+
+pub returns-clause-staged : goal.returns-clause-staged
+returns-clause-staged c =
+    let t = tables_of c.self.inside in
+    let id = c.args.id in
+    let looked = c.args.looked.now in
+    let fed = get_or c.args.fed.now 0 0 in
+    let n = c.args.n in
+    let x = c.index_mut.result.now in
+    let place : Some c.in-Some.at ≡ position (λ (y : Component). y.id == id) t.comps = c.in-Some.ensures ∙ ap (position (λ (y : Component). y.id == id)) c.as_slice.ensures.value in
+    let it : Some x ≡ find (λ (y : Component). y.id == id) t.comps = ap (λ (y : Component). Some y) c.index_mut.ensures.value ∙ taken-found id t.comps c.in-Some.at _ place in
+    let can : CanMove t.buffers looked fed n x =
+    can-process t id x it c.self.invariant.kept looked c.args.fed.now n
+    (ap (λ (t : Tables). moves_at t id (length looked)) c.self.view_is ∙ c.requires.unit)
+    c.requires.single
+    (subst (λ (t : Tables). AllByRecursion (IsInlet t.buffers (channels_moved t id) n) looked) (sym c.self.view_is) c.requires.looked)
+    (subst (λ (t : Tables). AllByRecursion (IsOutlet t.buffers (channels_moved t id) n) c.args.fed.now) (sym c.self.view_is) c.requires.fed)
+    c.requires.one in
+    let moved : IsMoved (chosen_by x.unit x.id t.joins) looked fed n t.buffers x c.carry.new.buffers.items c.carry.new.self =
+    subst (λ (js : List Join). IsMoved (chosen_by x.unit x.id js) looked fed n t.buffers x c.carry.new.buffers.items c.carry.new.self) c.as_slice-in-Some.ensures.value c.carry.ensures.moved in
+    let comps = set t.comps c.in-Some.at c.carry.new.self in
+    let put = put-words run_by (λ w y. refl) id c.in-Some.at t.comps comps c.carry.new.self x c.self.invariant.kept.named.comps place refl (moved.component ∙ ap (run_by (words_of c.carry.new.self)) c.index_mut.ensures.value) in
+    now-staged t id x it c.self.invariant.kept looked fed n can.outlet.there c.carry.new.self comps c.carry.new.buffers.items put.0 put.1 moved ∙ ap (λ (t : Tables). staged_in t.comps id) c.self.view_is

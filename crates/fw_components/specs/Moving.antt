@@ -1,0 +1,58 @@
+-- One component moves frames between the buffers of a table.
+use Rattle.std.specs.Prelude.{◌≡◌, ℕ, ◌≤◌, List, [], ◌∷◌, map, take, length, true, false, ◌==◌, Option, Some, None, if◌then◌else◌, ℤ, find}
+use Rattle.std.specs.List.{AllByRecursion}
+use Rattle.sof_base.specs.Samples.{Frame, AreFrames, samples_of}
+use Rattle.fw_gain.specs.Kernels.{summed}
+use Rattle.stream_law.specs.Placed.{Ascends}
+use Rattle.stream_law.specs.Order.{is_among}
+use Rattle.fw_components.specs.declared.component.Component.{Component}
+use Rattle.fw_components.specs.Tables.{numbers_by, frames_by}
+use Rattle.fw_components.specs.Frames.{words_of, words_by, staged_by, frames_in, channels_in, pushed_at}
+use Rattle.fw_components.specs.Processed.{moves_of, IsInlet, IsOutlet, slices_in, made_frames, made_numbers, drained_at, run_by}
+
+-- ---- samples
+
+-- the samples of the first n frames of a buffer
+abbrev pub samples_in : List Component → (n b : ℕ) → List ℤ
+samples_in buffers n b = samples_of (take n (frames_in buffers b))
+
+-- samples are added to sums, list after list
+abbrev pub all_summed : List ℤ → List (List ℤ) → List ℤ
+all_summed sums [] = sums
+all_summed sums (xs ∷ xss) = all_summed (summed sums xs) xss
+
+-- each frame of a buffer has a sample of each channel
+abbrev pub IsWhole : List Component → ℕ → Type 0
+IsWhole buffers b = AreFrames (channels_in buffers b) (frames_in buffers b)
+
+-- the chosen buffer where it is looked at
+abbrev pub looked_choice : List ℕ → Option ℕ → Option ℕ
+looked_choice looked None = None
+looked_choice looked (Some b) = if is_among looked b then Some b else None
+
+-- ---- frames
+
+-- a buffer that is looked at holds n frames
+abbrev pub HoldsIfLooked : List ℕ → ℕ → Component → Type 0
+HoldsIfLooked looked n c = is_among looked c.id ≡ true → n ≤ length (frames_by c.unit)
+
+-- a component can move n frames from buffers that it looks at into one
+pub record CanMove (buffers : List Component) (looked : List ℕ) (fed n : ℕ) (c : Component) : Type 0 where
+  pub ascends : Ascends (λ c. c.id) buffers
+  pub kind : moves_of c.unit (length looked) ≡ true
+  pub few : length looked ≤ 128
+  pub apart : is_among looked fed ≡ false
+  pub inlets : AllByRecursion (IsInlet buffers c.channels n) looked
+  pub outlet : IsOutlet buffers c.channels n fed
+
+-- what it makes of them
+abbrev pub frames_now : Option ℕ → List Component → List ℕ → ℕ → Component → List Frame
+frames_now chosen buffers looked n c = made_frames c.unit c.channels n chosen (slices_in buffers looked n)
+
+-- it has moved n frames
+pub record IsMoved (chosen : Option ℕ) (looked : List ℕ) (fed n : ℕ) (buffers : List Component) (c : Component) (buffers' : List Component) (c' : Component) : Type 0 where
+  pub component : c' ≡ run_by (words_of c') c
+  pub numbers : numbers_by c'.unit c'.channels ≡ made_numbers c.unit c.channels (slices_in buffers looked n)
+  pub staged : staged_by c'.unit ≡ staged_by c.unit
+  pub count : length (frames_now chosen buffers looked n c) ≡ n
+  pub table : buffers' ≡ map (pushed_at fed (frames_now chosen buffers looked n c) (words_by (find (λ x. x.id == fed) buffers'))) (map (drained_at looked n) buffers)

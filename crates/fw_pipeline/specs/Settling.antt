@@ -1,0 +1,31 @@
+-- What begins and what ends, by the marks of what is Live.
+use Rattle.std.specs.Prelude.{◌≡◌, ℕ, List, Bool, false, ◌&&◌, not, map, if◌then◌else◌, Option}
+use Rattle.std.specs.Option.{option_map_or}
+use Rattle.fw_components.specs.declared.component.Component.{Component}
+use Rattle.fw_components.specs.Tables.{Tables, source_by, sink_by}
+use Rattle.fw_components.specs.Changes.{ended_at}
+use Rattle.fw_walks.specs.Walks.{is_marked}
+use Rattle.fw_pipeline.specs.Triggers.{IsBegun, BecomeEach}
+
+-- an id is marked after, and was not before
+abbrev pub begins_by : List ℕ → List Bool → List Bool → ℕ → Bool
+begins_by ids before after x = is_marked ids after x && not (is_marked ids before x)
+
+-- in each table those that pass begin with so many channels
+abbrev pub HaveBegun : ℕ → (ℕ → Bool) → Tables → Tables → Type 0
+HaveBegun channels test t u =
+    BecomeEach (λ c d. IsBegun channels (test c.id) c d) t.comps u.comps
+    × (BecomeEach (λ c d. IsBegun channels (test c.id) c d) t.buffers u.buffers
+    × (BecomeEach (λ c d. IsBegun channels (test c.id) c d) t.pipes u.pipes
+    × (u.joins ≡ t.joins)))
+
+-- an end is there and marked; a buffer is, and so are both its ends
+abbrev pub is_end_marked : List ℕ → List Bool → Option ℕ → Bool
+is_end_marked ids marks end = option_map_or (is_marked ids marks) end false
+
+abbrev pub flows_by : List ℕ → List Bool → Component → Bool
+flows_by ids marks c = is_marked ids marks c.id && is_end_marked ids marks (source_by c.unit) && is_end_marked ids marks (sink_by c.unit)
+
+-- the tables once the ring of a buffer is empty, unless frames may lie in it
+abbrev pub ended_unless : Bool → ℕ → Tables → Tables
+ended_unless flow id t = if flow then t else record { comps = t.comps; buffers = map (ended_at id) t.buffers; pipes = t.pipes; joins = t.joins }

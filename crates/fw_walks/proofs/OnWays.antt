@@ -1,0 +1,117 @@
+-- The streams of a registry's hosts, and what is on their ways.
+use Rattle.std.proofs.Common.{◌≡◌, refl, sym, ap, ◌∙◌, ℕ, ◌+◌, drop, get_or, ◌<◌, List, [], ◌∷◌, Bool, true, false, cond, map, length, ◌==◌, ◌&&◌, ◌||◌, inl, inr, Option, Some, arith}
+use Rattle.std.specs.Prelude.{find}
+use Rattle.std.specs.Option.{option_map_or}
+use Rattle.std.proofs.lemmas.List.{drop_more}
+use Rattle.std.proofs.lemmas.Bool.{or_left, eqb-true, eq-eqb, false_from_ne_true}
+use Rattle.std.specs.List.{list_any}
+use Rattle.stream_law.specs.declared.graph.Comp.{Comp}
+use Rattle.stream_law.specs.declared.stream.StreamView.{StreamView}
+use Rattle.stream_law.specs.Placed.{Ascends, AreAbove}
+use Rattle.stream_law.specs.Ways.{leads, reaches, on_way, is_capture}
+use Rattle.stream_law.proofs.Members.{IsIn, in-any}
+use Rattle.fw_components.specs.declared.component.Component.{Component}
+use Rattle.fw_components.specs.declared.component.Unit as units
+use Rattle.fw_components.specs.declared.component.Unit.TheVariants.{Host, Dai, Volume, Mixer, Mux, Eq, Buffer, Pipeline}
+use Rattle.fw_components.specs.Tables.{Tables, comp_by, graph_of, streams_by, streams_of, with_stream_by, kind_by}
+use Rattle.fw_components.specs.Changes.{has_id}
+use Rattle.fw_walks.specs.declared.streams.Sort.{Sort}
+use Rattle.fw_walks.specs.declared.streams.Sort.TheVariants.{Live, Running, Set}
+use Rattle.fw_walks.specs.Streams.{is_of, any_stream, is_met}
+use Rattle.fw_walks.specs.Walks.{leads_by, is_listed, is_marked}
+use Rattle.fw_walks.specs.Charts.{ids_of}
+use Rattle.fw_components.specs.Kept.{IsKept}
+use Rattle.fw_walks.proofs.Charts.{listed-is}
+
+-- ---- tests of lists
+
+pub any-map : {X Y : Type 0} (p : Y → Bool) (f : X → Y) (xs : List X) → list_any p (map f xs) ≡ list_any (λ x. p (f x)) xs
+any-map p f [] = refl
+any-map p f (x ∷ xs) = ap (λ h. p (f x) || h) (any-map p f xs)
+
+pub any-each : {X : Type 0} (p q : X → Bool) (xs : List X) → ((x : X) → IsIn x xs → p x ≡ q x) → list_any p xs ≡ list_any q xs
+any-each p q [] same = refl
+any-each p q (x ∷ xs) same = ap (λ (h : Bool × Bool). h.0 || h.1) (λ i. (same x (inl refl) i, any-each p q xs (λ y there. same y (inr there)) i))
+
+-- where one does not pass, those after it tell
+pub any-next : {X : Type 0} (p : X → Bool) (xs : List X) (i : ℕ) (d : X) → i < length xs → p (get_or xs i d) ≡ false → list_any p (drop i xs) ≡ list_any p (drop (i + 1) xs)
+any-next p xs i d low none = ap (list_any p) (drop_more xs i d low) ∙ ap (λ h. h || list_any p (drop (i + 1) xs)) none
+
+-- ---- streams
+
+stream-more : (p : StreamView → Bool) (id : ℕ) (unit : units.Unit) (ss : List StreamView) → list_any p (with_stream_by id unit ss) ≡ (any_stream p id unit || list_any p ss)
+stream-more p id (Host capture phase params piece) ss = refl
+stream-more p id (Dai capture format piece) ss = refl
+stream-more p id (Volume gains piece) ss = refl
+stream-more p id (Mixer piece) ss = refl
+stream-more p id (Mux choice piece) ss = refl
+stream-more p id (Eq eq next remaining) ss = refl
+stream-more p id (Buffer size ring source sink) ss = refl
+stream-more p id (Pipeline sched period complete piece) ss = refl
+
+pub any-streams : (p : StreamView → Bool) (cs : List Component) → list_any p (streams_by cs) ≡ list_any (λ c. any_stream p c.id c.unit) cs
+any-streams p [] = refl
+any-streams p (c ∷ cs) = stream-more p c.id c.unit (streams_by cs) ∙ ap (λ h. any_stream p c.id c.unit || h) (any-streams p cs)
+
+-- ---- what an id names
+
+above-other : (cs : List Component) (n : ℕ) (c : Component) → AreAbove (λ c. c.id) n cs → IsIn c cs → n < c.id
+unfolding AreAbove
+above-other [] n c up there = absurd there
+above-other (d ∷ cs) n c up (inl same) = let e : c.id ≡ d.id = ap (λ (x : Component). x.id) same in omega (arith, e, up.0)
+above-other (d ∷ cs) n c up (inr more) = above-other cs n c up.1 more
+
+-- a component is found by its id
+pub find-own : (cs : List Component) (c : Component) → Ascends (λ c. c.id) cs → IsIn c cs → find (λ x. x.id == c.id) (map comp_by cs) ≡ Some (comp_by c)
+unfolding Ascends
+find-own [] c up there = absurd there
+find-own (d ∷ cs) c up (inl same) = ap (λ h. cond h (Some (comp_by d)) (find (λ x. x.id == c.id) (map comp_by cs))) (eq-eqb d.id c.id (ap (λ (x : Component). x.id) (sym same))) ∙ ap (λ (x : Component). Some (comp_by x)) (sym same)
+find-own (d ∷ cs) c up (inr more) =
+    let low = above-other cs d.id c up.0 more in
+    let other : (d.id == c.id) ≡ false = false_from_ne_true _ (λ e. let same = eqb-true d.id c.id e in absurd (omega (arith, low, same))) in
+    ap (λ h. cond h (Some (comp_by d)) (find (λ x. x.id == c.id) (map comp_by cs))) other ∙ find-own cs c up.1 more
+
+-- ---- ways
+
+module _ (t : Tables) (up : Ascends (λ c. c.id) t.comps) where
+  -- a host's way goes on from a playback's and leads to a capture's
+  pub way-is : (c : Component) → IsIn c t.comps → (x : ℕ) → on_way (graph_of t) c.id x ≡ cond (is_capture (kind_by c.unit)) (leads_by false t.joins x c.id) (leads_by true t.joins x c.id)
+  unfolding on_way reaches
+  way-is c there x = ap (λ (o : Option Comp). cond (option_map_or (λ c. is_capture c.kind) o false) (leads t.joins (length t.joins) x c.id) (leads t.joins (length t.joins) c.id x)) (find-own t.comps c up there)
+
+module _ (sort : Sort) (q : ℕ → Bool) where
+  -- a host's stream is of a sort and passes
+  pub stream-of : (id : ℕ) (unit : units.Unit) → any_stream (λ s. is_of sort s && q s.host) id unit ≡ (any_stream (is_of sort) 0 unit && q id)
+  stream-of id (Host capture phase params piece) = by sort
+    where
+      by : (k : Sort) → (is_of k (record { host = id; phase = phase; params = params }) && q id) ≡ (is_of k (record { host = 0; phase = phase; params = params }) && q id)
+      by Live = refl
+      by Running = refl
+      by Set = refl
+  stream-of id (Dai capture format piece) = refl
+  stream-of id (Volume gains piece) = refl
+  stream-of id (Mixer piece) = refl
+  stream-of id (Mux choice piece) = refl
+  stream-of id (Eq eq next remaining) = refl
+  stream-of id (Buffer size ring source sink) = refl
+  stream-of id (Pipeline sched period complete piece) = refl
+
+-- ---- what is on the ways of streams
+
+module _ (t : Tables) (kept : IsKept t) (sort : Sort) (id : ℕ) (ids : List ℕ) (is : ids ≡ ids_of t) (before behind : List Bool)
+    (led : (x : ℕ) → is_listed ids x ≡ true → is_marked ids before x ≡ leads_by true t.joins id x)
+    (leading : (x : ℕ) → is_listed ids x ≡ true → is_marked ids behind x ≡ leads_by false t.joins id x) where
+  listed : (c : Component) → IsIn c t.comps → is_listed ids c.id ≡ true
+  listed c there = ap (λ (xs : List ℕ). is_listed xs c.id) is ∙ listed-is t c.id ∙ or_left (has_id t.comps c.id) _ (in-any (λ d. d.id == c.id) t.comps c there (eq-eqb c.id c.id refl))
+
+  met : (c : Component) → IsIn c t.comps → is_met sort ids before behind c ≡ any_stream (λ s. is_of sort s && on_way (graph_of t) s.host id) c.id c.unit
+  met c there =
+      ap (λ h. any_stream (is_of sort) 0 c.unit && h) (by (is_capture (kind_by c.unit)) ∙ sym (way-is t kept.named.comps c there id))
+      ∙ sym (stream-of sort (λ host. on_way (graph_of t) host id) c.id c.unit)
+    where
+      by : (h : Bool) → cond h (is_marked ids behind c.id) (is_marked ids before c.id) ≡ cond h (leads_by false t.joins id c.id) (leads_by true t.joins id c.id)
+      by true = leading c.id (listed c there)
+      by false = led c.id (listed c there)
+
+  pub met-streams : list_any (is_met sort ids before behind) t.comps ≡ list_any (λ s. is_of sort s && on_way (graph_of t) s.host id) (streams_of t)
+  met-streams = any-each (is_met sort ids before behind) (λ c. any_stream (λ s. is_of sort s && on_way (graph_of t) s.host id) c.id c.unit) t.comps met ∙ sym (any-streams (λ s. is_of sort s && on_way (graph_of t) s.host id) t.comps)

@@ -1,0 +1,14 @@
+use Rattle.std.proofs.Common.{ap, ◌∙◌, List, length}
+use Rattle.std.specs.Prelude.{filter}
+use Rattle.fw_components.specs.declared.component.Component.{Component}
+use Rattle.stream_law.specs.declared.graph.Edge.{Edge}
+use Rattle.fw_components.specs.Tables.{sink_by}
+use Rattle.fw_walks.proofs.Naming.{counted-shown}
+use Rattle.stream_law.specs.Ways.{is_end}
+use Rattle.fw_walks.proofs.lookups.count_ins.Goals as goal
+
+pub returns : goal.returns
+returns c =
+    c.count_with_sink.ensures
+    ∙ ap (λ (cs : List Component). length (filter (λ b. is_end (sink_by b.unit) c.args.id) cs)) c.buffers.ensures.items
+    ∙ counted-shown (λ (e : Edge). e.sink) c.args.id c.args.registry.now.buffers c.buffers.ensures.kept.named.buffers

@@ -1,0 +1,8 @@
+use Rattle.std.proofs.Common.{ap, ◌∙◌, List}
+use Rattle.fw_components.specs.declared.component.Component.{Component}
+use Rattle.fw_components.specs.Changes.{has_id}
+use Rattle.fw_walks.proofs.Naming.{edge-named}
+use Rattle.fw_walks.proofs.lookups.has_buffer.Goals as goal
+
+pub returns : goal.returns
+returns c = c.has_id.ensures ∙ ap (λ (cs : List Component). has_id cs c.args.id) c.buffers.ensures.items ∙ edge-named c.args.registry.now c.args.id

@@ -1,0 +1,10 @@
+use Rattle.std.proofs.Common.{sym, ap, ◌∙◌, subst, ℕ, ◌+◌, List}
+use Rattle.fw_walks.proofs.Leaves.{AreFirst, first-found, first-passed}
+use Rattle.fw_walks.proofs.walk.marked.Goals as goal
+use Rattle.fw_walks.proofs.walk.marked.Goals.{then-marks-k, else-marks-k}
+
+pub loop-k-preserved : goal.loop-k-preserved
+loop-k-preserved c = elim c.if-marks-k.branch [
+  | then-marks-k w ↦ subst (λ (xs : List ℕ). AreFirst c.args.marks.now xs (c.loop-k.k + 1)) (sym (ap (λ f. f.items) w.found-is ∙ w.push.ensures.items)) (first-found c.args.marks.now c.loop-k.found.items c.loop-k.k c.loop-k.invariant c.loop-k-test.true w.if-marks-k.true)
+  | else-marks-k w ↦ subst (λ (xs : List ℕ). AreFirst c.args.marks.now xs (c.loop-k.k + 1)) (sym (ap (λ f. f.items) w.found-is)) (first-passed c.args.marks.now c.loop-k.found.items c.loop-k.k c.loop-k.invariant c.loop-k-test.true w.if-marks-k.false)
+]

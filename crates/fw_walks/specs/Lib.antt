@@ -1,0 +1,4 @@
+pub mod Walks
+pub mod Charts
+pub mod Streams
+pub mod Leaving

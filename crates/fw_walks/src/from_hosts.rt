@@ -1,0 +1,66 @@
+// What is Live, marked by two walks from the hosts of all streams.
+ghost use Rattle.std.specs.Prelude.{◌≡◌, ◌==◌, ◌&&◌, ◌||◌, ℕ, true, false, length, slice_index_or};
+ghost use Rattle.std.specs.List.{list_any, AllByRecursion};
+ghost use Rattle.stream_law.specs.Ways.{live as is_live};
+ghost use Rattle.fw_components.specs.Tables.{view_by};
+ghost use Rattle.fw_walks.specs.Charts.{IsOf};
+ghost use Rattle.fw_walks.specs.Streams.{is_live_host};
+ghost use Rattle.fw_walks.specs.Walks.{is_listed, is_marked};
+
+use crate::kinds::captures;
+use crate::places::Places;
+use crate::streams::{Sort, has_stream};
+use fw_components::{Component, Registry};
+
+/// Marks all that is on the way of a stream that is Running or Paused.
+pub fn live_marks(registry: &Registry, places: &Places) -> [bool; 257]
+    requires { IsOf registry.now places.now }
+    ensures { (x : ℕ) → is_marked places.now.ids result x ≡ is_live (view_by registry.now) x }
+{
+    let mut marks = live_hosts(registry.comps(), places, false);
+    places.spread(&mut marks, false);
+    let mut behind = live_hosts(registry.comps(), places, true);
+    places.spread(&mut behind, true);
+    add(&mut marks, &behind);
+    marks
+}
+
+// Marks the hosts of playbacks, or of captures, whose streams are Running or Paused.
+fn live_hosts(comps: &[Component], places: &Places, capture: bool) -> [bool; 257]
+    requires { AllByRecursion (λ c. is_listed places.now.ids c.id ≡ true) comps.now }
+    ensures hosts { (x : ℕ) → is_listed places.now.ids x ≡ true → is_marked places.now.ids result x ≡ list_any (λ c. c.id == x && is_live_host capture c) comps.now }
+    ensures past { slice_index_or result (length places.now.ids) false ≡ false }
+{
+    let _ids = places.ids();
+    let mut marks = [false; 257];
+    for comp in comps {
+        if is_live_host(comp, capture) {
+            places.mark(&mut marks, comp.id);
+        }
+    }
+    marks
+}
+
+// Whether a host of a playback, or of a capture, has a stream that is Running or Paused.
+fn is_live_host(comp: &Component, capture: bool) -> bool
+    ensures { result ≡ is_live_host capture comp.now }
+{
+    has_stream(&comp.unit, Sort::Live)
+        && if capture {
+            captures(&comp.unit)
+        } else {
+            !captures(&comp.unit)
+        }
+}
+
+// Marks what is marked in the second as well.
+fn add(marks: &mut [bool], more: &[bool])
+    requires { length marks.old ≡ length more.now }
+    ensures { (k : ℕ) → slice_index_or marks.new k false ≡ (slice_index_or marks.old k false || slice_index_or more.now k false) }
+{
+    for k in 0..marks.len() {
+        if more[k] {
+            marks[k] = true;
+        }
+    }
+}

@@ -1,0 +1,166 @@
+// Components and buffers by places, and joins between these.
+ghost use Rattle.std.specs.Prelude.{◌≡◌, ◌==◌, ◌&&◌, ◌+◌, ◌≤◌, ◌++◌, ℕ, true, false, length, map, take, position, slice_set, slice_index_or};
+ghost use Rattle.std.specs.List.{list_any};
+ghost use Rattle.arrayvec.specs.ArrayVec.{array_vec_len};
+ghost use Rattle.fw_components.specs.Kept.{IsKept};
+ghost use Rattle.fw_walks.specs.Walks.{is_listed, place_in, by_places, leads_by, is_marked, is_reached};
+ghost use Rattle.fw_walks.specs.Charts.{ids_of};
+
+use crate::walk::spread;
+use arrayvec::ArrayVec;
+use fw_components::{Component, Registry};
+use std::marker::Model;
+use stream_law::Join;
+
+/// The ids of all components and buffers, each at a place, and the joins by the places of their ends. Contracts see the joins by ids.
+#[derive(Drop)]
+pub struct Places {
+    ids: ArrayVec<u32, 256>,
+    ends: [Join; 256],
+    count: usize,
+}
+
+impl Model for Places {
+    ghost use Rattle.fw_walks.specs.Charts.{Chart, chart_of, IsChart};
+
+    ghost Value = { Chart };
+
+    ghost view = { λ p. chart_of p.ids.items p.ends p.count };
+
+    ghost invariant = { λ p. IsChart p.ids.items p.ends p.count };
+}
+
+impl Places {
+    /// Those of a registry.
+    pub fn of(registry: &Registry) -> Places
+        ensures ids { result.ids ≡ ids_of registry.now }
+        ensures joins { result.joins ≡ registry.now.joins }
+        ensures kept { IsKept registry.now }
+    {
+        let mut ids = ArrayVec::new();
+        list(&mut ids, registry.comps());
+        list(&mut ids, registry.buffers());
+        let joins = registry.joins();
+        let mut ends = [Join { source: 0, sink: 0 }; 256];
+        resolve(joins, ids.as_slice(), &mut ends);
+        Places {
+            ids,
+            ends,
+            count: joins.len(),
+        }
+    }
+
+    /// The ids, in the order of their places.
+    pub fn ids(&self) -> &[u32]
+        ensures ids { result.now ≡ self.now.ids }
+        ensures few { length self.now.ids ≤ 256 }
+    {
+        self.ids.as_slice()
+    }
+
+    /// What walks lead to from one id, or from what walks lead to it where they go back.
+    pub fn reached(&self, id: u32, back: bool) -> [bool; 257]
+        ensures { (x : ℕ) → is_listed self.now.ids x ≡ true → is_marked self.now.ids result x ≡ leads_by back self.now.joins id x }
+    {
+        let _ = &self.ids;
+        let mut marks = [false; 257];
+        self.mark(&mut marks, id);
+        self.spread(&mut marks, back);
+        marks
+    }
+
+    /// Marks an id.
+    pub fn mark(&self, marks: &mut [bool], id: u32)
+        requires { length marks.old ≡ 257 }
+        ensures { marks.new ≡ slice_set marks.old (place_in self.now.ids id) true }
+    {
+        marks[place_of(self.ids.as_slice(), id)] = true;
+    }
+
+    /// Whether an id is marked.
+    pub fn has(&self, marks: &[bool], id: u32) -> bool
+        requires { length marks.now ≡ 257 }
+        ensures { result ≡ is_marked self.now.ids marks.now id }
+    {
+        marks[place_of(self.ids.as_slice(), id)]
+    }
+
+    /// Whether an id is marked in both.
+    pub fn share(&self, first: &[bool], second: &[bool]) -> bool
+        requires first { length first.now ≡ 257 }
+        requires second { length second.now ≡ 257 }
+        ensures { result ≡ list_any (λ x. is_marked self.now.ids first.now x && is_marked self.now.ids second.now x) self.now.ids }
+    {
+        share(self.ids.as_slice(), first, second)
+    }
+
+    /// Marks all that walks lead to from what is marked, or against joins where they go back.
+    pub fn spread(&self, marks: &mut [bool], back: bool)
+        requires { length marks.old ≡ 257 }
+        ensures past { slice_index_or marks.old (length self.now.ids) false ≡ false → slice_index_or marks.new (length self.now.ids) false ≡ false }
+        ensures reached { (x : ℕ) → is_listed self.now.ids x ≡ true → is_marked self.now.ids marks.new x ≡ is_reached back self.now.ids self.now.joins marks.old x }
+    {
+        spread(marks, &self.ends[..self.count], back);
+    }
+}
+
+// Whether one of these ids is marked in both.
+fn share(ids: &[u32], first: &[bool], second: &[bool]) -> bool
+    requires ids { length ids.now ≤ 256 }
+    requires first { length first.now ≡ 257 }
+    requires second { length second.now ≡ 257 }
+    ensures { result ≡ list_any (λ x. is_marked ids.now first.now x && is_marked ids.now second.now x) ids.now }
+{
+    ids.iter().any(|id| in_both(ids, first, second, *id))
+}
+
+// Whether an id is.
+fn in_both(ids: &[u32], first: &[bool], second: &[bool], id: u32) -> bool
+    requires ids { length ids.now ≤ 256 }
+    requires first { length first.now ≡ 257 }
+    requires second { length second.now ≡ 257 }
+    ensures { result ≡ (is_marked ids.now first.now id && is_marked ids.now second.now id) }
+{
+    let at = place_of(ids, id);
+    first[at] && second[at]
+}
+
+// Lists the ids of more components.
+fn list(ids: &mut ArrayVec<u32, 256>, components: &[Component])
+    requires { array_vec_len ids.old + length components.now ≤ 256 }
+    ensures { ids.new.items ≡ ids.old.items ++ map (λ c. c.id) components.now }
+{
+    for component in components {
+        ids.push(component.id);
+    }
+}
+
+// Writes each join by the places of its ends.
+fn resolve(joins: &[Join], ids: &[u32], ends: &mut [Join])
+    requires room { length joins.now ≤ length ends.old }
+    requires few { length ids.now ≤ 256 }
+    ensures { take (length joins.now) ends.new ≡ map (by_places ids.now) joins.now }
+{
+    for i in 0..joins.len() {
+        ends[i] = Join {
+            source: place_of(ids, joins[i].source) as u32,
+            sink: place_of(ids, joins[i].sink) as u32,
+        };
+    }
+}
+
+// The place of an id; where it is not there, the place behind the last.
+fn place_of(ids: &[u32], id: u32) -> usize
+    ensures place { result ≡ place_in ids.now id }
+    ensures within { result ≤ length ids.now }
+{
+    let end = ids.len();
+    first_of(ids, id).unwrap_or(end)
+}
+
+// The first place of an id.
+fn first_of(ids: &[u32], id: u32) -> Option<usize>
+    ensures { result ≡ position (λ y. y == id) ids.now }
+{
+    ids.iter().position(|x| *x == id)
+}

@@ -9,3 +9,4 @@ pub mod StreamCalls
 pub mod OneOrders
 pub mod AtRest
 pub mod HostTests
+pub mod OrdersTaken

@@ -26,7 +26,7 @@ use Rattle.host_widgets.proofs.LoadWalks.{IsBuilding, own-stays}
 use Rattle.host_widgets.proofs.BuildingActs.{bring-leaves, all-build, walk-leaves}
 
 -- nothing goes on after a fault
-ends-at : (fault : HostFault) → goes_past false (Err fault) ≡ false
+pub ends-at : (fault : HostFault) → goes_past false (Err fault) ≡ false
 ends-at NotLoaded = refl
 ends-at Loaded = refl
 ends-at (NoSuch name) = refl

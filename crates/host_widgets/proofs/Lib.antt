@@ -47,3 +47,8 @@ pub mod LoadWalks
 pub mod BuildingActs
 pub mod LoadOrders
 pub mod FatesRead
+pub mod ActHolds
+pub mod WalksHold
+pub mod WalksStill
+pub mod BuildingMoments
+pub mod SoundPlays

@@ -44,7 +44,7 @@ module _ (g : Graph) (setting : Comp → Setting) where
   unfolding on_way reaches
   way-set host x = ap (λ (b : Bool). if b then reaches g x host else reaches g host x) (ap (λ (o : Option Comp). option_map_or (λ c. is_capture c.kind) o false) (comp-set host) ∙ captures (comp_of g host))
 
-  comps-set : (cs : List Comp) → map (λ (c : Comp). c.id) (map (set_by setting) cs) ≡ map (λ (c : Comp). c.id) cs
+  pub comps-set : (cs : List Comp) → map (λ (c : Comp). c.id) (map (set_by setting) cs) ≡ map (λ (c : Comp). c.id) cs
   comps-set [] = refl
   comps-set (c ∷ cs) = ap (λ (ids : List ℕ). c.id ∷ ids) (comps-set cs)
 

@@ -9,6 +9,7 @@ pub mod ActLists
 pub mod Expected
 pub mod ViewOf
 pub mod StateOf
+pub mod Keeps
 pub mod Host
 pub mod OneAct
 pub mod Walk

@@ -11,7 +11,7 @@ use Rattle.mbox_link.specs.Wire.{Wire}
 use Rattle.mbox_link.specs.Link.{link, inner, over, Met, after_message, next_fate, dropped_after, refused_after}
 use Rattle.mbox_link.proofs.Steps.{NoneFell-same}
 use Rattle.mbox_link.proofs.Led.{Steady-by, Led-steady}
-use Rattle.sof_session.specs.Turns.{IsFated}
+use Rattle.sof_session.specs.Agreement.{IsFated}
 
 -- ---- what is held
 

@@ -2,7 +2,7 @@
 use Rattle.std.proofs.Common.{◌≡◌, ℕ, ◌≤◌, List, [], ◌∷◌, map, refl, sym, ap, subst, ◌∙◌, arith}
 use Rattle.sof_base.specs.Ports.{OutputView, HasRoom, drained}
 use Rattle.sof_io.specs.Bound.{output_slots}
-use Rattle.sof_session.specs.Walks.{empty_outputs, written_in}
+use Rattle.sof_session.specs.Written.{empty_outputs, written_in}
 
 drained-written : (outputs : List OutputView) → written_in (drained outputs) ≡ []
 drained-written [] = refl

@@ -1,7 +1,11 @@
 pub mod Show
 pub mod Seat
-pub mod StreamEnds
-pub mod Walks
-pub mod Turns
-pub mod Moments
-pub mod SessionLaws
+pub mod CommandTests
+pub mod CommandRanges
+pub mod Commands
+pub mod Written
+pub mod SessionStep
+pub mod Agreement
+pub mod SessionCalls
+pub mod Lives
+pub mod RunOver

@@ -25,6 +25,8 @@ use Rattle.tplg_plan.specs.declared.plans.ControlKind.{ControlKind}
 use Rattle.tplg_plan.specs.declared.plans.ControlKind.TheVariants.{Blob}
 use Rattle.host_widgets.specs.Kept.{controls_of}
 use Rattle.host_widgets.specs.Acts.{ids_of, pipe_by_id}
+use Rattle.sof_script.specs.declared.script.Command.{Command}
+use Rattle.sof_script.specs.declared.script.Command.TheVariants as commands
 use Rattle.sof_script.specs.Text.{values_words, bytes_word}
 
 -- ---- words
@@ -156,3 +158,8 @@ show_lines plan kept = power_words kept.power ∷ lines_by kept.power plan kept
 -- whether there is a line of this number, counted from 0, and where there is, that it is this one
 abbrev pub IsLineAt : List (List ℕ) → ℕ → Bool → List ℕ → Type 0
 IsLineAt lines k there line = MatchOption (slice_get lines k) (there ≡ false) (λ text. (there ≡ true) × (line ≡ text))
+
+-- the lines that a command shows
+abbrev pub shown_by : Command → Plan → Record → List (List ℕ)
+shown_by commands.Show plan kept = show_lines plan kept
+shown_by command plan kept = []

@@ -1,11 +1,9 @@
 //! A session: a host with its device behind a link, which carries out a script's commands and shows how everything stands.
 #![tactic(auto)]
 
-mod laws;
 mod session;
 mod show;
 mod streams;
 mod words;
 
-pub use laws::{command_law, first_law};
 pub use session::Session;

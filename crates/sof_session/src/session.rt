@@ -1,14 +1,17 @@
 // A host with its device behind a link.
-ghost use Rattle.std.specs.Prelude.{◌≡◌, ◌+◌, ◌<◌, ◌≤◌, ◌^◌, [], true, false, length, MatchResult};
-ghost use Rattle.sof_base.specs.Ports.{Io, HasRoom, drained};
+ghost use Rattle.std.specs.Prelude.{◌≡◌, ◌+◌, ◌<◌, ◌≤◌, ◌^◌, true, false, length, MatchResult};
+ghost use Rattle.sof_base.specs.Ports.{HasRoom, drained};
+ghost use Rattle.mbox_link.specs.Calls.{world};
 ghost use Rattle.mbox_link.specs.Fates.{IsMeant};
-ghost use Rattle.tplg_plan.specs.ThinPlan.{IsThinPlan};
 ghost use Rattle.host_widgets.specs.Controls.{IsLoadable};
-ghost use Rattle.sof_session.specs.Seat.{new_seat};
-ghost use Rattle.sof_session.specs.Show.{show_lines, IsLineAt};
 ghost use Rattle.sof_io.specs.Bound.{output_slots};
-ghost use Rattle.sof_session.specs.Walks.{Carry, IsBuilt, answer_of, is_in_range, is_tick, most_sent, written_in};
-ghost use Rattle.sof_session.specs.Turns.{AreAgreed, LoadRan, UnloadRan, PlanRan, plan_answer, StreamRan, TickRan, Ran, Turned, Seated, life, turn, shown_by, ports};
+ghost use Rattle.sof_session.specs.Agreement.{AreAgreed};
+ghost use Rattle.sof_session.specs.CommandRanges.{is_built, is_in_range, is_tick, most_sent};
+ghost use Rattle.sof_session.specs.Commands.{answer_by};
+ghost use Rattle.sof_session.specs.Seat.{new_seat};
+ghost use Rattle.sof_session.specs.SessionCalls.{LoadRan, UnloadRan, PlanRan, plan_answer, StreamRan, TickRan, ports};
+ghost use Rattle.sof_session.specs.SessionStep.{Stepped};
+ghost use Rattle.sof_session.specs.Show.{show_lines, IsLineAt};
 
 use crate::show::show_line;
 use crate::streams::ask_stream;
@@ -24,7 +27,7 @@ use tplg_plan::Plan;
 
 // What a call answers that answers nothing else once it is done.
 fn answer_of(done: Result<(), HostFault>) -> Answer
-    ensures { result ≡ answer_of done }
+    ensures { result ≡ answer_by Answer.Done done }
 {
     match done {
         Ok(()) => Answer::Done,
@@ -57,7 +60,7 @@ impl<P: Dsp> Model for Session<P> {
 
     ghost Value = { Seat P };
 
-    ghost use Rattle.sof_session.specs.Turns.{AreAgreed};
+    ghost use Rattle.sof_session.specs.Agreement.{AreAgreed};
 
     ghost view = { λ s. record { link = s.link; kept = s.kept; plan = s.plan; heap = s.heap } };
 
@@ -102,12 +105,12 @@ impl<P: Dsp> Session<P> {
     /// planned fate is that of the K-th message from now, and the answer is `PlanFull` where no more can be planned. It
     /// answers as the host's call does. The outputs are empty before it, and hold what it wrote after it.
     pub fn step(&mut self, command: &Command, io: &mut Inputs, out: &mut Outputs) -> Answer
-        requires built { IsBuilt self.old.plan command.now }
+        requires built { is_built command.now ≡ true }
         requires numbers { is_in_range command.now ≡ true }
         requires few { self.old.link.sent < 2 ^ 63 }
         requires empty { drained out.old ≡ out.old }
-        ensures ran { Ran P.means command.now self.old self.new (ports io.old out.old) (ports io.new out.new) result }
-        ensures turned { Turned (life P.means) (turn (Carry command.now) result (shown_by command.now self.old) (written_in out.new)) (Seated self.old io.old (output_slots out.old)) (Seated self.new io.new (output_slots out.old)) }
+        ensures stepped { Stepped P.means self.old.plan self.old.heap command.now self.old.kept self.new.kept (world self.old.link io.old out.old) (world self.new.link io.new out.new) result }
+        ensures agreed { AreAgreed P.means self.new }
         ensures plan { self.new.plan ≡ self.old.plan }
         ensures heap { self.new.heap ≡ self.old.heap }
         ensures slots { output_slots out.new ≡ output_slots out.old }
@@ -128,8 +131,18 @@ impl<P: Dsp> Session<P> {
             Command::Pause(name) => self.ask(name, Ask::Triggering(Trigger::Pause), io, out),
             Command::Release(name) => self.ask(name, Ask::Triggering(Trigger::Release), io, out),
             Command::Close(name) => self.ask(name, Ask::Closing, io, out),
-            _ => Answer::Show,
+            _ => self.show(),
         }
+    }
+
+    // Nothing is done but to answer that all is shown.
+    fn show(&self) -> Answer
+        ensures shown { result ≡ Answer.Show }
+        ensures agreed { AreAgreed P.means self.now }
+    {
+        // What the type keeps is known of a session that is read.
+        let _heap = self.heap;
+        Answer::Show
     }
 
     // Boots the device and loads the plan, where it is not loaded.
@@ -137,6 +150,7 @@ impl<P: Dsp> Session<P> {
         requires { HasRoom 0 out.old }
         ensures ran { LoadRan P.means self.old self.new (ports io.old out.old) (ports io.new out.new) result }
         ensures agreed { AreAgreed P.means self.old }
+        ensures later { AreAgreed P.means self.new }
         ensures plan { self.new.plan ≡ self.old.plan }
         ensures heap { self.new.heap ≡ self.old.heap }
         ensures inputs { io.new ≡ io.old }
@@ -158,6 +172,7 @@ impl<P: Dsp> Session<P> {
         requires { HasRoom 0 out.old }
         ensures ran { UnloadRan P.means self.old self.new (ports io.old out.old) (ports io.new out.new) result }
         ensures agreed { AreAgreed P.means self.old }
+        ensures later { AreAgreed P.means self.new }
         ensures plan { self.new.plan ≡ self.old.plan }
         ensures heap { self.new.heap ≡ self.old.heap }
         ensures inputs { io.new ≡ io.old }
@@ -179,7 +194,8 @@ impl<P: Dsp> Session<P> {
         requires ahead { 1 ≤ k }
         requires meant { IsMeant fate }
         requires few { self.old.link.sent < 2 ^ 63 }
-        ensures ran { (io : Io) → PlanRan k fate self.old self.new io io result }
+        ensures ran { PlanRan k fate self.old self.new result }
+        ensures later { AreAgreed P.means self.new }
         ensures plan { self.new.plan ≡ self.old.plan }
         ensures heap { self.new.heap ≡ self.old.heap }
     {
@@ -192,6 +208,7 @@ impl<P: Dsp> Session<P> {
         requires { HasRoom 61440 out.old }
         ensures ran { TickRan P.means self.old self.new (ports io.old out.old) (ports io.new out.new) result }
         ensures agreed { AreAgreed P.means self.old }
+        ensures later { AreAgreed P.means self.new }
         ensures plan { self.new.plan ≡ self.old.plan }
         ensures heap { self.new.heap ≡ self.old.heap }
     {
@@ -206,8 +223,7 @@ impl<P: Dsp> Session<P> {
 
     // Makes the host's call for what is asked of the stream of this name.
     fn ask(&mut self, name: &Name44, ask: Ask, io: &mut Inputs, out: &mut Outputs) -> Answer
-        requires thin { IsThinPlan self.old.plan }
-        requires room { HasRoom 0 out.old }
+        requires { HasRoom 0 out.old }
         ensures ran { StreamRan P.means name.now ask self.old self.new (ports io.old out.old) (ports io.new out.new) result }
         ensures agreed { AreAgreed P.means self.old }
         ensures later { AreAgreed P.means self.new }

@@ -1,0 +1,111 @@
+-- After a load, an unload and a call on a stream the two sides agree again.
+use Rattle.std.proofs.Common.{◌≡◌, ⊎_elim, ℕ, false, List, [], Option, Some, None, Ok, Err, refl, ap, subst, ◌∙◌, arith}
+use Rattle.sof_base.specs.Ports.{Io}
+use Rattle.mbox_link.specs.Calls.{World, Meaning}
+use Rattle.mbox_link.specs.Link.{link}
+use Rattle.mbox_link.specs.Wire.{Wire}
+use Rattle.host_widgets.specs.declared.answers.Answer.TheVariants.{Done}
+use Rattle.host_widgets.specs.declared.answers.HostFault.{HostFault}
+use Rattle.host_widgets.specs.declared.answers.HostFault.TheVariants.{NotLoaded, Loaded, NoSuch, State, Off as Down, Range, Refused, LinkDown, Blob}
+use Rattle.host_widgets.specs.declared.kept.Power.{Power}
+use Rattle.host_widgets.specs.declared.kept.Power.TheVariants.{Unloaded, On, Off}
+use Rattle.host_widgets.specs.declared.kept.Record.{Record}
+use Rattle.host_widgets.specs.HostActs.{Act}
+use Rattle.host_widgets.specs.Host.{Outcome, Agrees, LoadLeft, ticks_put}
+use Rattle.host_widgets.specs.Kept.{all_closed}
+use Rattle.host_widgets.specs.Orders.{Order, Carried, Tested, sends, load_fault, loading, unload_fault, unloading}
+use Rattle.host_widgets.specs.StateOf.{loaded_state}
+use Rattle.host_widgets.proofs.LoadOrders.{unloading_at}
+use Rattle.host_widgets.proofs.WalksHold.{AreTaken}
+use Rattle.host_pcm.specs.declared.asking.Ask.{Ask}
+use Rattle.host_pcm.specs.Asks.{early_fault}
+use Rattle.host_pcm.specs.StreamOrders.{Asked, stream_order}
+use Rattle.host_pcm.proofs.OrdersTaken.{asked-taken}
+use Rattle.sof_session.specs.Agreement.{AreAgreed, Powered}
+use Rattle.sof_session.specs.Seat.{Seat}
+use Rattle.sof_session.proofs.Agreement.{at, seat_with, Kept, kept-by, Shows, Here, not-off, kept-here, still-here, agreed-again}
+use Rattle.sof_session.proofs.Keeping.{Keeps-loaded}
+use Rattle.sof_session.proofs.OrderCalls.{carried-led}
+use Rattle.sof_session.proofs.OrderStands.{sending, cut-off, sent-left}
+use Rattle.sof_session.proofs.SentOrders.{sent-stream}
+
+module _ {P : Type 0} (means : Meaning P) (old : Seat P) (wire : Wire P) (io io' : Io) (agreed : AreAgreed means old) (kept : Record) (agree : Agrees (link means) old.plan kept wire) (result : Outcome) where
+  abbrev new : Seat P
+  new = seat_with means old wire io io' agreed kept
+
+  abbrev KeptSo : Type 0
+  KeptSo = Kept means old wire io io' agreed
+
+  abbrev CarriedSo : Order → Type 0
+  CarriedSo o = Carried (link means) old.plan old.heap o old.kept kept (at old.link io) (at wire io') result
+
+  abbrev Found : Type 0
+  Found = Shows means old wire io io' agreed kept agree → Here means old wire io io' agreed kept agree
+
+  off-found : means.on wire.device ≡ None → Found
+  off-found off shows = not-off means old wire io io' agreed kept agree shows off
+
+  still-found : at wire io' ≡ at old.link io → Found
+  still-found same shows = still-here means old wire io io' agreed kept agree shows old.kept.power agreed.powered (ap (λ (w : World (Wire P)). w.device) same)
+
+  still-kept : at wire io' ≡ at old.link io → KeptSo
+  still-kept same = kept-by means old wire io io' agreed [] same
+
+  order-kept : (o : Order) → CarriedSo o → KeptSo
+  order-kept o c = let led = carried-led means old.plan old.heap o old.kept kept (at old.link io) (at wire io') result c in kept-by means old wire io io' agreed led.0 led.1
+
+  -- by a test, and an order where none fails
+  by-test : (test : Option HostFault) (o : Order) → Tested (link means) old.plan old.heap test o old.kept kept (at old.link io) (at wire io') result → (test ≡ None → CarriedSo o → Found) → AreAgreed means new
+  by-test test o tested found = by test refl
+    where
+      by : (t : Option HostFault) → test ≡ t → AreAgreed means new
+      by (Some fault) is = let e = tested.early fault is in agreed-again means old wire io io' agreed kept agree (still-kept e.1) (still-found e.1)
+      by None is = let c = tested.late is in agreed-again means old wire io io' agreed kept agree (order-kept o c) (found is c)
+
+  -- ---- a load
+
+  left-found : KeptSo → (o : Outcome) → LoadLeft (link means) old.plan old.heap old.link o wire → Found
+  left-found calls (Ok done) left shows =
+      let none : means.pending old.link.device ≡ 0 = agreed.pending in
+      let no_ticks : ticks_put (link means) old.link wire ≡ 0 = omega (arith, none) in
+      kept-here means old wire io io' agreed kept agree shows (all_closed On old.plan) (loaded_state old.plan old.heap 0) (left.1 ∙ ap (λ (n : ℕ). Some (loaded_state old.plan old.heap n)) no_ticks) (Keeps-loaded old.plan old.heap)
+  left-found calls (Err Loaded) left shows = still-here means old wire io io' agreed kept agree shows old.kept.power agreed.powered left
+  left-found calls (Err (Refused e)) left shows = off-found left.0 shows
+  left-found calls (Err LinkDown) left shows = off-found left.0 shows
+  left-found calls (Err NotLoaded) left shows = absurd left
+  left-found calls (Err (NoSuch name)) left shows = absurd left
+  left-found calls (Err (State found)) left shows = absurd left
+  left-found calls (Err Down) left shows = absurd left
+  left-found calls (Err (Range n)) left shows = absurd left
+  left-found calls (Err (Blob n)) left shows = absurd left
+
+  pub AreAgreed-loaded : Tested (link means) old.plan old.heap (load_fault old.kept.power) (loading old.plan old.kept) old.kept kept (at old.link io) (at wire io') result → LoadLeft (link means) old.plan old.heap old.link result wire → AreAgreed means new
+  AreAgreed-loaded tested left = by-test (load_fault old.kept.power) (loading old.plan old.kept) tested (λ none c. left-found (order-kept (loading old.plan old.kept) c) result left)
+
+  -- ---- an unload
+
+  gone : (power : Power) → Powered means old power → CarriedSo (unloading_at old.plan power) → means.on wire.device ≡ None
+  gone On powered c = ap (λ (x : World (Wire P)). means.on x.device.device) (c.ends.1 ∙ c.walked.1 ∙ c.first.2) ∙ c.first.1.0.on
+  gone Unloaded off c = ap (λ (x : World (Wire P)). means.on x.device.device) (c.ends.1 ∙ c.walked.1 ∙ c.first) ∙ off
+  gone Off off c = ap (λ (x : World (Wire P)). means.on x.device.device) (c.ends.1 ∙ c.walked.1 ∙ c.first) ∙ off
+
+  pub AreAgreed-unloaded : Tested (link means) old.plan old.heap (unload_fault old.kept.power) (unloading old.plan old.kept) old.kept kept (at old.link io) (at wire io') result → AreAgreed means new
+  AreAgreed-unloaded tested = by-test (unload_fault old.kept.power) (unloading old.plan old.kept) tested (λ none c. off-found (gone old.kept.power agreed.powered c))
+
+  -- ---- a call on a stream, in every sound plan
+
+  -- after acts, or none where the power was off
+  module _ (acts : List Act) (done : Record → Record) where
+    sent-found : (power : Power) → Powered means old power → CarriedSo (sends power acts done Done) → AreTaken old.plan false old.kept (sends power acts done Done).acts → Found
+    sent-found Unloaded off c taken shows = off-found (ap (λ (x : World (Wire P)). means.on x.device.device) (c.ends.1 ∙ c.walked.1 ∙ c.first) ∙ off) shows
+    sent-found Off off c taken shows = off-found (ap (λ (x : World (Wire P)). means.on x.device.device) (c.ends.1 ∙ c.walked.1 ∙ c.first) ∙ off) shows
+    sent-found On powered c taken shows = ⊎_elim
+        (λ cut. off-found (cut-off means old.heap old.plan (sending acts done Done) old.kept kept (at old.link io) (at wire io') result c cut) shows)
+        (λ u. kept-here means old wire io io' agreed kept agree shows _ u.state u.is_on u.keeps_now)
+        (sent-left means old.heap old.plan acts done Done old.kept kept (at old.link io) (at wire io') result c agreed.pending powered.0 powered.1 agreed.agree.record_is powered.2 taken)
+
+  pub AreAgreed-asked : (name : List ℕ) (ask : Ask) → Asked (link means) old.plan old.heap name ask old.kept kept (at old.link io) (at wire io') result → AreAgreed means new
+  AreAgreed-asked name ask asked = by-test (early_fault old.plan old.kept name ask) (stream_order old.plan old.kept name ask) (record { early = asked.early; late = asked.late })
+      (λ none c.
+      let s = sent-stream old.plan old.kept name ask in
+      sent-found s.acts s.done old.kept.power agreed.powered (subst CarriedSo s.is c) (subst (λ (o : Order). AreTaken old.plan false old.kept o.acts) s.is (asked-taken old.plan agreed.loadable.sound old.kept agreed.agree.record_is name ask none)))

@@ -1,0 +1,243 @@
+-- Turns of a session over any device make the written run: its legs, by one doing of the device, from a place to the end.
+use Rattle.std.proofs.Common.{◌≡◌, refl, sym, ap, ◌∙◌, subst, ℕ, ◌+◌, ◌<◌, ◌≤◌, ◌^◌, ◌-◌, Bool, true, false, List, [], ◌∷◌, ◌++◌, map, length, None, append_assoc, arith}
+use Rattle.std.proofs.lemmas.List.{append-nil}
+use Rattle.std.specs.Prelude.{nat_le, if◌then◌else◌}
+use Rattle.std.specs.List.{AllByRecursion}
+use Rattle.sof_base.specs.Ports.{InputView, OutputView}
+use Rattle.stream_law.specs.Past.{Moment, Past, Leads, start}
+use Rattle.stream_law.specs.Stands.{Stands, HasRead}
+use Rattle.stream_law.proofs.Standing.{Stands-start}
+use Rattle.mbox_link.specs.declared.fates.Fate.TheVariants.{Pass}
+use Rattle.mbox_link.specs.Calls.{Meaning, Steady, world}
+use Rattle.mbox_link.specs.Meetings.{Doing}
+use Rattle.mbox_link.proofs.Led.{Steady-by}
+use Rattle.tplg_plan.specs.declared.plans.Plan.{Plan}
+use Rattle.host_widgets.specs.declared.kept.Power.TheVariants.{Unloaded}
+use Rattle.host_widgets.specs.declared.kept.Record.{Record}
+use Rattle.host_widgets.specs.Host.{IsRecordOf}
+use Rattle.host_widgets.proofs.Records.{closed-record}
+use Rattle.sof_script.specs.declared.script.Command.{Command}
+use Rattle.sof_session.specs.Seat.{Seat, new_seat}
+use Rattle.sof_session.specs.Show.{shown_by}
+use Rattle.sof_session.specs.CommandRanges.{most_sent}
+use Rattle.sof_session.specs.Commands.{Known, Came, order_of, next}
+use Rattle.sof_session.specs.Written.{Written, Out, Ground, At, Leg, IsLeg, IsRun, came_at, first_at, end_of, moments_of, boots_in, raised, empty_outputs, written_in, written_between}
+use Rattle.sof_session.specs.SessionStep.{Calm, StandsAt, known_of}
+use Rattle.sof_session.specs.Lives.{Life, Bare, Seated, Turn, Task, Begin, Carry, Carries, Turned, Turns, device_of}
+use Rattle.sof_session.specs.RunOver.{IsAt, EndsAt, RunOver}
+use Rattle.sof_session.proofs.LinkFates.{Steady-none}
+use Rattle.sof_session.proofs.RunBoots.{boots-append}
+use Rattle.sof_session.proofs.SameDoings.{then_by, first-same, later-same}
+use Rattle.sof_session.proofs.SameNext.{next-within, next-same}
+use Rattle.sof_session.proofs.StepCounts.{Calm-between, step-inside, step-boots}
+
+-- these turns carry out these commands
+abbrev pub AreCarried : List Command → List Turn → Type 0
+AreCarried [] [] = Unit {0}
+AreCarried [] (turn ∷ turns) = ⊥
+AreCarried (command ∷ commands) [] = ⊥
+AreCarried (command ∷ commands) (turn ∷ turns) = (turn.task ≡ Carry command) × AreCarried commands turns
+
+-- the most messages that they send
+abbrev pub messages : List Command → ℕ
+messages [] = 0
+messages (command ∷ commands) = most_sent command + messages commands
+
+module _ (g : Ground) where
+  -- over each record a command has no more acts than messages
+  abbrev pub HasFew : Command → Type 0
+  HasFew command = (kept : Record) → IsRecordOf g.plan kept → length (order_of g.plan kept command).acts ≤ most_sent command
+
+  -- the acts at a place have numbers that a link counts
+  abbrev IsCounted : Command → At → Type 0
+  IsCounted command at = at.known.queue.sent + length (order_of g.plan at.known.kept command).acts < 2 ^ 64 - 1
+
+  abbrev AreCounted : List Command → At → List Leg → Type 0
+  AreCounted [] old legs = Unit {0}
+  AreCounted (command ∷ commands) old [] = Unit {0}
+  AreCounted (command ∷ commands) old (leg ∷ legs) = IsCounted command old × AreCounted commands leg.at legs
+
+  -- ---- doings
+
+  module _ (d e : Doing) where
+    -- by doings that are one up to its last message, a leg is one
+    leg-same : (command : Command) (old : At) (leg : Leg) → came_at g d command old ≡ came_at g e command old → IsLeg g d command old leg → IsLeg g e command old leg
+    leg-same command old leg same is = record {
+      command_is = is.command_is;
+      goes = record { known = is.goes.known ∙ ap (λ (c : Came). c.known) same; led = subst (λ (c : Came). Leads g.whole old.past c.moments leg.at.past) same is.goes.led };
+      out_is = is.out_is ∙ ap (λ (c : Came). let out : Out = record { answer = c.answer; shown = shown_by command g.plan old.known.kept; written = written_between g.slots old.past leg.at.past } in out) same;
+      moments_are = is.moments_are ∙ ap (λ (c : Came). c.moments) same;
+    }
+
+    -- and by doings that are one at later numbers, a run
+    run-same : (commands : List Command) (old : At) (legs : List Leg) → AreCounted commands old legs → ((number : ℕ) → old.known.queue.sent < number → d number ≡ e number) → IsRun g d commands old legs → IsRun g e commands old legs
+    run-same [] old legs counted same is = is
+    run-same (command ∷ commands) old [] counted same is = is
+    run-same (command ∷ commands) old (leg ∷ legs) counted same is =
+        let one = next-same g.plan g.heap old.known d e command counted.0 (λ number low high. same number low) in
+        let up = next-within g.plan g.heap old.known d command counted.0 in
+        let known = ap (λ (k : Known). k.queue.sent) is.0.goes.known in
+        (leg-same command old leg one is.0, run-same commands leg.at legs counted.1 (λ number later. same number (omega (arith, later, up.0, known))) is.1)
+
+then-pass : (last : ℕ) (d e : Doing) → ((number : ℕ) → d number ≡ Pass) → ((number : ℕ) → e number ≡ Pass) → (number : ℕ) → then_by last d e number ≡ Pass
+then-pass last d e first later number = by (nat_le number last)
+  where
+    by : (b : Bool) → (if b then d number else e number) ≡ Pass
+    by true = first number
+    by false = later number
+
+slots-empty : (slots : List ℕ) → map (λ (o : OutputView). o.slot) (empty_outputs slots) ≡ slots
+slots-empty [] = refl
+slots-empty (slot ∷ slots) = ap (λ xs. slot ∷ xs) (slots-empty slots)
+
+-- ---- legs from a place on
+
+module _ {P : Type 0} (means : Meaning P) (g : Ground) where
+  -- the legs that turns make from a place, behind these moments
+  pub record Makes (commands : List Command) (turns : List Turn) (from : P) (before : List Moment) (at : At) (last : Life P) : Type 0 where
+    pub doing : Doing
+    pub none : Calm means from (device_of last) → (number : ℕ) → doing number ≡ Pass
+    pub legs : List Leg
+    pub run : IsRun g doing commands at legs
+    pub counted : AreCounted g commands at legs
+    pub outs : map (λ (leg : Leg). leg.out) legs ≡ map (λ (turn : Turn). turn.out) turns
+    pub ends : EndsAt means g last (before ++ moments_of legs) (end_of at legs)
+    pub boots : means.boots (device_of last) ≡ raised (boots_in (moments_of legs)) (means.boots from)
+    pub steady : Steady means from (device_of last)
+
+  -- none more
+  makes-none : (from : P) (before : List Moment) (at : At) (last : Life P) → device_of last ≡ from → EndsAt means g last before at → Makes [] [] from before at last
+  makes-none from before at last same ends = record {
+    doing = λ number. Pass;
+    none = λ calm number. refl;
+    legs = [];
+    run = refl;
+    counted = tt;
+    outs = refl;
+    ends = subst (λ (ms : List Moment). EndsAt means g last ms at) (sym (append-nil before)) ends;
+    boots = ap means.boots same;
+    steady = Steady-none means from (device_of last) same;
+  }
+
+  -- one leg, by a session's step
+  module _ (seat seat' : Seat P) (inputs inputs' : List InputView) (slots slots' : List ℕ) (command : Command) (out : Out) (before : List Moment) (at : At)
+      (c : Carries means command out seat seat' inputs inputs' slots) (same : slots' ≡ slots) (is : IsAt means g seat inputs slots before at) where
+    abbrev doing : Doing
+    doing = c.stepped.doing
+
+    to : next seat.plan seat.heap doing (known_of seat.link seat.kept) command ≡ came_at g doing command at
+    to = λ i. next (is.plan_is i) (is.heap_is i) doing (is.known_is i) command
+
+    abbrev come : Came
+    come = came_at g doing command at
+
+    abbrev Stood : List Moment → Type 0
+    Stood moments = (past' : Past) × Leads g.whole at.past moments past' × StandsAt means g.whole (before ++ moments) past' (world seat'.link inputs' c.outputs)
+        × (written_in c.outputs ≡ written_between (map (λ o. o.slot) (empty_outputs slots)) at.past past')
+
+    stood : Stood come.moments
+    stood = subst (λ (x : Came). Stood x.moments) to (c.stepped.stands g.whole before at.past is.stands)
+
+    abbrev at' : At
+    at' = record { known = come.known; past = stood.0 }
+
+    abbrev leg : Leg
+    leg = record { command = command; out = out; moments = come.moments; at = at' }
+
+    out-is : out ≡ record { answer = come.answer; shown = shown_by command g.plan at.known.kept; written = written_between g.slots at.past stood.0 }
+    out-is = λ i. record {
+      answer = (c.stepped.answer_is ∙ ap (λ (x : Came). x.answer) to) i;
+      shown = (c.shown ∙ (λ j. shown_by command (is.plan_is j) (is.known_is j).kept)) i;
+      written = (c.written ∙ stood.3 ∙ ap (λ xs. written_between xs at.past stood.0) (slots-empty slots ∙ is.slots_are)) i;
+    }
+
+    is-leg : IsLeg g doing command at leg
+    is-leg = record { command_is = refl; goes = record { known = refl; led = stood.1 }; out_is = out-is; moments_are = refl }
+
+    is-at : IsAt means g seat' inputs' slots' (before ++ come.moments) at'
+    is-at = record {
+      plan_is = c.plan_is ∙ is.plan_is;
+      heap_is = c.heap_is ∙ is.heap_is;
+      slots_are = same ∙ is.slots_are;
+      known_is = c.stepped.known_is ∙ ap (λ (x : Came). x.known) to;
+      stands = stood.2;
+    }
+
+    is-record : IsRecordOf g.plan at'.known.kept
+    is-record = subst (λ (k : Known). IsRecordOf g.plan k.kept) is-at.known_is (subst (λ (plan : Plan). IsRecordOf plan seat'.kept) is-at.plan_is c.agrees.agree.record_is)
+
+    steadily : Steady means seat.link.device seat'.link.device
+    steadily = step-inside means seat.plan seat.heap seat.kept seat'.kept (world seat.link inputs (empty_outputs slots)) (world seat'.link inputs' c.outputs) out.answer command c.stepped.calls
+
+    booted : means.boots seat'.link.device ≡ raised (boots_in come.moments) (means.boots seat.link.device)
+    booted =
+        step-boots means seat.plan seat.heap seat.kept seat'.kept (world seat.link inputs (empty_outputs slots)) (world seat'.link inputs' c.outputs) out.answer command c.stepped.calls doing
+        ∙ ap (λ (x : Came). raised (boots_in x.moments) (means.boots seat.link.device)) to
+
+    -- and those behind it
+    module _ (commands : List Command) (turn : Turn) (turns : List Turn) (last : Life P) (counted : IsCounted g command at) (out_is : turn.out ≡ out)
+        (rest : Makes commands turns seat'.link.device (before ++ come.moments) at' last) where
+      abbrev joined : Doing
+      joined = then_by come.known.queue.sent doing rest.doing
+
+      makes-more : Makes (command ∷ commands) (turn ∷ turns) seat.link.device before at last
+      makes-more = record {
+        doing = joined;
+        none = λ calm. then-pass come.known.queue.sent doing rest.doing
+            (c.stepped.none (Calm-between means seat.link.device seat.link.device seat'.link.device (device_of last) (Steady-none means seat.link.device seat.link.device refl) rest.steady calm))
+            (rest.none (Calm-between means seat.link.device seat'.link.device (device_of last) (device_of last) steadily (Steady-none means (device_of last) (device_of last) refl) calm));
+        legs = leg ∷ rest.legs;
+        run = (
+          leg-same g doing joined command at leg
+              (next-same g.plan g.heap at.known doing joined command counted (λ number low high. sym (first-same come.known.queue.sent doing rest.doing number high)))
+              is-leg,
+          run-same g rest.doing joined commands at' rest.legs rest.counted (λ number later. sym (later-same come.known.queue.sent doing rest.doing number later)) rest.run,
+        );
+        counted = (counted, rest.counted);
+        outs = λ i. sym out_is i ∷ rest.outs i;
+        ends = subst (λ (ms : List Moment). EndsAt means g last ms (end_of at' rest.legs)) (append_assoc before come.moments (moments_of rest.legs)) rest.ends;
+        boots = rest.boots ∙ ap (raised (boots_in (moments_of rest.legs))) booted ∙ sym (boots-append come.moments (moments_of rest.legs) (means.boots seat.link.device));
+        steady = Steady-by means seat.link.device seat'.link.device (device_of last) steadily rest.steady;
+      }
+
+  -- all of them
+  makes : (commands : List Command) (turns : List Turn) (seat : Seat P) (inputs : List InputView) (slots : List ℕ) (before : List Moment) (at : At) (last : Life P) →
+      AreCarried commands turns → AllByRecursion (HasFew g) commands → at.known.queue.sent + messages commands < 2 ^ 63 → IsRecordOf g.plan at.known.kept →
+      IsAt means g seat inputs slots before at → Turns means (Seated seat inputs slots) turns last → Makes commands turns seat.link.device before at last
+  makes [] [] seat inputs slots before at last carried few counted record_is is turned =
+      makes-none seat.link.device before at last (ap device_of turned) (subst (λ (l : Life P). EndsAt means g l before at) (sym turned) is)
+  makes [] (turn ∷ turns) seat inputs slots before at last carried few counted record_is is turned = absurd carried
+  makes (command ∷ commands) [] seat inputs slots before at last carried few counted record_is is turned = absurd carried
+  makes (command ∷ commands) (turn ∷ turns) seat inputs slots before at last carried few counted record_is is turned =
+      (elim turned.0 as (λ (m : Life P). Turned means (Carry command) turn.out (Seated seat inputs slots) m → Turns means m turns last → Makes (command ∷ commands) (turn ∷ turns) seat.link.device before at last) [
+        | Bare dsp ↦ λ step rest. absurd step
+        | Seated seat' inputs' slots' ↦ λ step rest.
+            let acts = few.0 at.known.kept record_is in
+            let here : IsCounted g command at = omega (arith, acts, counted) in
+            let within = next-within g.plan g.heap at.known step.1.stepped.doing command here in
+            makes-more seat seat' inputs inputs' slots slots' command turn.out before at step.1 step.0 is commands turn turns last here refl
+            (makes commands turns seat' inputs' slots' (before ++ (come seat seat' inputs inputs' slots slots' command turn.out before at step.1 step.0 is).moments)
+            (at' seat seat' inputs inputs' slots slots' command turn.out before at step.1 step.0 is) last carried.1 few.1 (omega (arith, acts, counted, within.1))
+            (is-record seat seat' inputs inputs' slots slots' command turn.out before at step.1 step.0 is)
+            (is-at seat seat' inputs inputs' slots slots' command turn.out before at step.1 step.0 is) rest)
+      ]) (subst (λ (task : Task). Turned means task turn.out (Seated seat inputs slots) turned.0) carried.0 turned.1) turned.2
+
+  -- ---- from the beginning
+
+  pub run-over : (inputs : List InputView) (p : P) (commands : List Command) (begins : Turn) (turns : List Turn) (last : Life P) → means.on p ≡ None → HasRead g.whole inputs start →
+      begins.task ≡ Begin g.plan g.heap inputs g.slots → AreCarried commands turns → AllByRecursion (HasFew g) commands → messages commands < 2 ^ 63 → Turns means (Bare p) (begins ∷ turns) last →
+      (legs : List Leg) × RunOver means g commands legs p last × (map (λ (leg : Leg). leg.out) legs ≡ map (λ (turn : Turn). turn.out) turns)
+  run-over inputs p commands begins turns last off read is_begin carried few counted turned =
+      let seat = new_seat g.plan g.heap p in
+      let begun : turned.0 ≡ Seated seat inputs g.slots = subst (λ (task : Task). Turned means task begins.out (Bare p) turned.0) is_begin turned.1 in
+      let first = Stands-start g.whole inputs read in
+      let is : IsAt means g seat inputs g.slots [] (first_at g) = record {
+        plan_is = refl;
+        heap_is = refl;
+        slots_are = refl;
+        known_is = refl;
+        stands = subst (λ o. (stands : Stands o g.whole inputs []) × (stands.past ≡ start)) (sym off) (first, sym first.led);
+      } in
+      let m = makes commands turns seat inputs g.slots [] (first_at g) last carried few (omega (arith, counted)) (closed-record Unloaded g.plan) is
+      (subst (λ (l : Life P). Turns means l turns last) begun turned.2) in
+      (m.legs, record { doing = m.doing; none = m.none; run = m.run; ends = m.ends; boots = m.boots }, m.outs)

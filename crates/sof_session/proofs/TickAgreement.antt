@@ -1,0 +1,73 @@
+-- After a tick the two sides agree again, and the outputs have the same slots.
+use Rattle.std.proofs.Common.{◌≡◌, List, [], ◌∷◌, ◌++◌, Some, refl, ap, ◌∙◌}
+use Rattle.std.specs.Option.{option_map}
+use Rattle.sof_base.specs.Ports.{Io, OutputView}
+use Rattle.sof_io.specs.Bound.{output_slots}
+use Rattle.stream_law.specs.State.{view_of}
+use Rattle.stream_law.specs.Table.{list_of}
+use Rattle.stream_law.specs.Move.{Audio, audio_after}
+use Rattle.mbox_link.specs.Exchange.{ticked}
+use Rattle.mbox_link.specs.Calls.{Meaning, Call, Tick, Led}
+use Rattle.mbox_link.specs.Link.{link}
+use Rattle.mbox_link.specs.Wire.{Wire}
+use Rattle.mbox_link.proofs.Led.{Led-one}
+use Rattle.host_widgets.specs.declared.kept.Power.{Power}
+use Rattle.host_widgets.specs.declared.kept.Power.TheVariants.{Unloaded, On, Off}
+use Rattle.host_widgets.specs.Host.{Sides}
+use Rattle.sof_session.specs.Agreement.{AreAgreed, Powered}
+use Rattle.sof_session.specs.Seat.{Seat}
+use Rattle.sof_session.specs.SessionCalls.{TickedBy}
+use Rattle.sof_session.proofs.Agreement.{at, seat_with, kept-by, agreed-with}
+use Rattle.sof_session.proofs.Keeping.{Keeps-moved}
+use Rattle.sof_session.proofs.Writings.{same-slots}
+
+-- the calls of a tick, none where the power is not on
+Ticked-led : {P : Type 0} (means : Meaning P) (power : Power) (old new : Wire P) (io io' : Io) → TickedBy means power old new io io' → (calls : List Call) × Led (link means) (at old io) calls (at new io')
+Ticked-led means On old new io io' tick = (Tick ∷ [], Led-one (link means) (at old io) (at new io') Tick tick)
+Ticked-led means Unloaded old new io io' same = ([], λ i. at (same.0 i) (same.1 i))
+Ticked-led means Off old new io io' same = ([], λ i. at (same.0 i) (same.1 i))
+
+-- ---- both sides
+
+module _ {P : Type 0} (means : Meaning P) (old : Seat P) (wire : Wire P) (io io' : Io) (agreed : AreAgreed means old) where
+  abbrev new : Seat P
+  new = seat_with means old wire io io' agreed old.kept
+
+  record Both (power : Power) : Type 0 where
+    sides : Sides means old.plan old.kept wire.device power
+    powered : Powered means new power
+
+  both-ticked : (power : Power) → Powered means old power → Sides means old.plan old.kept old.link.device power → TickedBy means power old.link wire io io' → Both power
+  both-ticked On powered sides tick =
+      let f = powered.0 in
+      let keeps = powered.2 in
+      let on = tick.on f powered.1 in
+      record {
+        sides = ap (option_map view_of) on.0 ∙ ap Some keeps.view;
+        powered = ((ticked (f, io)).0, on.0, Keeps-moved old.plan old.heap old.kept f (audio_after f io) keeps);
+      }
+  both-ticked Unloaded powered sides same =
+      let device = ap (λ (w : Wire P). means.on w.device) same.0 in record { sides = (sides.0, device ∙ sides.1); powered = device ∙ powered }
+  both-ticked Off powered sides same =
+      let device = ap (λ (w : Wire P). means.on w.device) same.0 in record { sides = (sides.0, device ∙ sides.1); powered = device ∙ powered }
+
+  pub AreAgreed-ticked : TickedBy means old.kept.power old.link wire io io' → AreAgreed means new
+  AreAgreed-ticked tick =
+      let led = Ticked-led means old.kept.power old.link wire io io' tick in
+      let both = both-ticked old.kept.power agreed.powered agreed.agree.sides tick in
+      agreed-with means old wire io io' agreed (kept-by means old wire io io' agreed led.0 led.1) old.kept (record { record_is = agreed.agree.record_is; sides = both.sides }) both.powered
+
+-- ---- the slots
+
+abbrev pub output_after : Audio → OutputView → OutputView
+output_after a output = record { slot = output.slot; bytes = output.bytes ++ list_of a.written output.slot }
+
+module _ {P : Type 0} (means : Meaning P) (old : Seat P) (wire : Wire P) (io io' : Io) where
+  slots-stay : (power : Power) → Powered means old power → TickedBy means power old.link wire io io' → output_slots io'.outputs ≡ output_slots io.outputs
+  slots-stay On powered tick =
+      ap (λ (x : Io). output_slots x.outputs) (tick.on powered.0 powered.1).1 ∙ same-slots (output_after (audio_after powered.0 io)) (λ output. refl) io.outputs
+  slots-stay Unloaded powered same = ap (λ (x : Io). output_slots x.outputs) same.1
+  slots-stay Off powered same = ap (λ (x : Io). output_slots x.outputs) same.1
+
+  pub ticked-slots : AreAgreed means old → TickedBy means old.kept.power old.link wire io io' → output_slots io'.outputs ≡ output_slots io.outputs
+  ticked-slots agreed tick = slots-stay old.kept.power agreed.powered tick

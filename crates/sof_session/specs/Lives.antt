@@ -1,0 +1,64 @@
+-- A device before a session and in it, and the turns of a program over it.
+use Rattle.std.specs.Prelude.{◌≡◌, ℕ, List, [], ◌∷◌}
+use Rattle.sof_base.specs.Ports.{InputView, OutputView}
+use Rattle.mbox_link.specs.Calls.{Meaning, world}
+use Rattle.tplg_plan.specs.declared.plans.Plan.{Plan}
+use Rattle.sof_script.specs.declared.script.Command.{Command}
+use Rattle.sof_session.specs.Agreement.{AreAgreed}
+use Rattle.sof_session.specs.Seat.{Seat, new_seat}
+use Rattle.sof_session.specs.SessionStep.{Stepped}
+use Rattle.sof_session.specs.Show.{shown_by}
+use Rattle.sof_session.specs.Written.{Out, empty_outputs, written_in}
+
+-- a device before a session, and in it with the inputs and the slots of the outputs
+pub data Life (P : Type 0) : Type 0 where
+  Bare : (dsp : P) → Life P
+  Seated : (seat : Seat P) (inputs : List InputView) (slots : List ℕ) → Life P
+
+-- the device in a life
+abbrev pub device_of : {P : Type 0} → Life P → P
+device_of (Bare dsp) = dsp
+device_of (Seated seat inputs slots) = seat.link.device
+
+-- ---- turns
+
+-- a session is begun, or carries out a command
+pub data Task : Type 0 where
+  Begin : (plan : Plan) (heap : ℕ) (inputs : List InputView) (slots : List ℕ) → Task
+  Carry : (command : Command) → Task
+
+-- a task with what it answered
+pub record Turn : Type 0 where
+  pub task : Task
+  pub out : Out
+
+-- a session carries out a command: its step, from outputs to which nothing was written, over the same plan and heap
+pub record Carries {P : Type 0} (means : Meaning P) (command : Command) (out : Out) (old new : Seat P) (inputs inputs' : List InputView) (slots : List ℕ) : Type 0 where
+  pub outputs : List OutputView
+  pub stepped : Stepped means old.plan old.heap command old.kept new.kept (world old.link inputs (empty_outputs slots)) (world new.link inputs' outputs) out.answer
+  pub shown : out.shown ≡ shown_by command old.plan old.kept
+  pub written : out.written ≡ written_in outputs
+  pub plan_is : new.plan ≡ old.plan
+  pub heap_is : new.heap ≡ old.heap
+  pub agrees : AreAgreed means new
+
+-- a turn: a session is begun over a bare device, or carries out a command
+abbrev pub Turned : {P : Type 0} → Meaning P → Task → Out → Life P → Life P → Type 0
+Turned means (Begin plan heap inputs slots) out (Bare dsp) new = new ≡ Seated (new_seat plan heap dsp) inputs slots
+Turned means (Begin plan heap inputs slots) out (Seated seat i s) new = ⊥
+Turned means (Carry command) out (Bare dsp) new = ⊥
+Turned means (Carry command) out (Seated seat inputs slots) (Bare dsp) = ⊥
+Turned means (Carry command) out (Seated seat inputs slots) (Seated seat' inputs' slots') =
+    (slots' ≡ slots) × Carries means command out seat seat' inputs inputs' slots
+
+-- turns, one after another
+abbrev pub Turns : {P : Type 0} → Meaning P → Life P → List Turn → Life P → Type 0
+Turns means p [] q = q ≡ p
+Turns {P} means p (turn ∷ turns) q = (m : Life P) × Turned means turn.task turn.out p m × Turns means m turns q
+
+-- ---- the end
+
+-- the device that is handed back is the one that was handed in, or that of a session whose two sides agree
+abbrev pub Exit : {P : Type 0} → Meaning P → P → Life P → Type 0
+Exit means p (Bare q) = q ≡ p
+Exit means p (Seated seat inputs slots) = AreAgreed means seat

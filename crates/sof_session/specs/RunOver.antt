@@ -1,0 +1,35 @@
+-- The written run over a device.
+use Rattle.std.specs.Prelude.{◌≡◌, ℕ, List}
+use Rattle.sof_base.specs.Ports.{InputView}
+use Rattle.stream_law.specs.Past.{Moment}
+use Rattle.stream_law.specs.Stands.{Stands}
+use Rattle.mbox_link.specs.declared.fates.Fate.TheVariants.{Pass}
+use Rattle.mbox_link.specs.Calls.{Meaning}
+use Rattle.mbox_link.specs.Meetings.{Doing}
+use Rattle.sof_script.specs.declared.script.Command.{Command}
+use Rattle.sof_session.specs.Seat.{Seat}
+use Rattle.sof_session.specs.Lives.{Life, Bare, Seated, device_of}
+use Rattle.sof_session.specs.SessionStep.{Calm, known_of}
+use Rattle.sof_session.specs.Written.{Ground, At, Leg, IsRun, first_at, end_of, moments_of, boots_in, raised}
+
+-- A session is where a run is: it is over the run's plan, heap and slots, its host and link know what is known there, and its
+-- device and the inputs stand where the moments so far lead.
+pub record IsAt {P : Type 0} (means : Meaning P) (g : Ground) (seat : Seat P) (inputs : List InputView) (slots : List ℕ) (moments : List Moment) (at : At) : Type 0 where
+  pub plan_is : seat.plan ≡ g.plan
+  pub heap_is : seat.heap ≡ g.heap
+  pub slots_are : slots ≡ g.slots
+  pub known_is : known_of seat.link seat.kept ≡ at.known
+  pub stands : (stands : Stands (means.on seat.link.device) g.whole inputs moments) × (stands.past ≡ at.past)
+
+abbrev pub EndsAt : {P : Type 0} → Meaning P → Ground → Life P → List Moment → At → Type 0
+EndsAt means g (Bare dsp) moments at = ⊥
+EndsAt means g (Seated seat inputs slots) moments at = IsAt means g seat inputs slots moments at
+
+-- These legs are the run of these commands, by doings of the device, which are none where its counts did not rise. A session is
+-- where the run ends, and its device was booted as often as the moments say.
+pub record RunOver {P : Type 0} (means : Meaning P) (g : Ground) (commands : List Command) (legs : List Leg) (p : P) (last : Life P) : Type 0 where
+  pub doing : Doing
+  pub none : Calm means p (device_of last) → (number : ℕ) → doing number ≡ Pass
+  pub run : IsRun g doing commands (first_at g) legs
+  pub ends : EndsAt means g last (moments_of legs) (end_of (first_at g) legs)
+  pub boots : means.boots (device_of last) ≡ raised (boots_in (moments_of legs)) (means.boots p)

@@ -1,0 +1,55 @@
+-- What a command does to a session over any device.
+use Rattle.std.specs.Prelude.{◌≡◌, ℕ, map, List, ◌++◌, Bool, true, false, Option, Some, None}
+use Rattle.stream_law.specs.Past.{Moment, Past, Leads}
+use Rattle.stream_law.specs.Stands.{Stands}
+use Rattle.mbox_link.specs.declared.fates.Fate.TheVariants.{Pass}
+use Rattle.mbox_link.specs.Exchange.{Rose}
+use Rattle.mbox_link.specs.Calls.{World, Meaning}
+use Rattle.mbox_link.specs.Wire.{Wire}
+use Rattle.mbox_link.specs.Link.{link}
+use Rattle.mbox_link.specs.Meetings.{Doing, queue_of}
+use Rattle.tplg_plan.specs.declared.plans.Plan.{Plan}
+use Rattle.host_widgets.specs.declared.answers.Answer.{Answer}
+use Rattle.host_widgets.specs.declared.answers.HostFault.{HostFault}
+use Rattle.host_widgets.specs.declared.kept.Record.{Record}
+use Rattle.host_widgets.specs.Host.{Outcome}
+use Rattle.host_widgets.specs.Orders.{Order, Carried}
+use Rattle.sof_script.specs.declared.script.Command.{Command}
+use Rattle.sof_session.specs.CommandTests.{fault_of}
+use Rattle.sof_session.specs.Commands.{Known, answer_by, is_plan, next, order_of}
+use Rattle.sof_session.specs.Written.{written_between, written_in}
+
+-- no count of faults or refusals of a device rose
+pub record Calm {D : Type 0} (means : Meaning D) (old new : D) : Type 0 where
+  pub faults : Rose (means.faults old) (means.faults new) → ⊥
+  pub refusals : Rose (means.refusals old) (means.refusals new) → ⊥
+
+-- the device behind a link and the inputs stand where these moments lead, at this past
+abbrev pub StandsAt : {P : Type 0} → Meaning P → List (ℕ × List ℕ) → List Moment → Past → World (Wire P) → Type 0
+StandsAt means whole moments past w = (stands : Stands (means.on w.device.device) whole w.io.inputs moments) × (stands.past ≡ past)
+
+-- The calls of a command: none where a test fails or something is planned, and else those of its order, by which it answers what
+-- they came to.
+abbrev pub CallsBy : {P : Type 0} → Meaning P → Plan → ℕ → Order → Record → Record → World (Wire P) → World (Wire P) → Answer → Bool → Option HostFault → Type 0
+CallsBy means plan heap order kept kept' w v answer true fault = (v.device.device ≡ w.device.device) × (v.io ≡ w.io)
+CallsBy means plan heap order kept kept' w v answer false (Some fault) = v ≡ w
+CallsBy means plan heap order kept kept' w v answer false None =
+    (result : Outcome) × Carried (link means) plan heap order kept kept' w v result × (answer ≡ answer_by order.answer result)
+
+-- what the host and the link know
+abbrev pub known_of : {P : Type 0} → Wire P → Record → Known
+known_of wire kept = record { kept = kept; queue = queue_of wire }
+
+-- What a command does over any device. There are doings of the device, none where its counts did not rise, by which what is
+-- known after it and its answer are the written ones; its calls are those of its order, and no others; and where the device and
+-- the inputs stood at a place of a run, they stand at its next, and the outputs hold what was written.
+pub record Stepped {P : Type 0} (means : Meaning P) (plan : Plan) (heap : ℕ) (command : Command) (kept kept' : Record) (w v : World (Wire P)) (answer : Answer) : Type 0 where
+  pub doing : Doing
+  pub none : Calm means w.device.device v.device.device → (number : ℕ) → doing number ≡ Pass
+  pub known_is : known_of v.device kept' ≡ (next plan heap doing (known_of w.device kept) command).known
+  pub answer_is : answer ≡ (next plan heap doing (known_of w.device kept) command).answer
+  pub calls : CallsBy means plan heap (order_of plan kept command) kept kept' w v answer (is_plan command) (fault_of plan kept command)
+  pub stands : (whole : List (ℕ × List ℕ)) (before : List Moment) (past : Past) → StandsAt means whole before past w →
+      let moments = (next plan heap doing (known_of w.device kept) command).moments in
+      (past' : Past) × Leads whole past moments past' × StandsAt means whole (before ++ moments) past' v
+      × (written_in v.io.outputs ≡ written_between (map (λ o. o.slot) w.io.outputs) past past')

@@ -1,0 +1,129 @@
+-- The written run: command by command what host and link know, the moments of the device, and the bytes that the stream equations
+-- give for them. No state of a firmware stands in it; a device stands beside it.
+use Rattle.std.specs.Prelude.{◌≡◌, ℕ, zero, suc, List, [], ◌∷◌, ◌++◌, drop, map, length}
+use Rattle.sof_base.specs.Ports.{OutputView}
+use Rattle.stream_law.specs.Table.{list_of}
+use Rattle.stream_law.specs.Past.{Moment, Boot, Cut, Now, Tick, Past, Leads, start}
+use Rattle.mbox_link.specs.Exchange.{more}
+use Rattle.mbox_link.specs.Meetings.{Doing}
+use Rattle.tplg_plan.specs.declared.plans.Plan.{Plan}
+use Rattle.host_widgets.specs.declared.answers.Answer.{Answer}
+use Rattle.sof_script.specs.declared.script.Command.{Command}
+use Rattle.sof_session.specs.Show.{shown_by}
+use Rattle.sof_session.specs.Commands.{Known, Came, first_known, next}
+
+-- ---- what comes out
+
+-- what is written to a slot
+abbrev pub Written : Type 0
+Written = ℕ × List ℕ
+
+-- what a command answers, the lines that follow where it shows, and the bytes that it writes, by slot
+pub record Out : Type 0 where
+  pub answer : Answer
+  pub shown : List (List ℕ)
+  pub written : List Written
+
+-- no bytes are not written
+abbrev pub with_bytes : ℕ → List ℕ → List Written → List Written
+with_bytes slot [] rest = rest
+with_bytes slot (byte ∷ bytes) rest = (slot, byte ∷ bytes) ∷ rest
+
+-- outputs to which nothing was written yet
+abbrev pub empty_outputs : List ℕ → List OutputView
+empty_outputs slots = map (λ slot. record { slot = slot; bytes = [] }) slots
+
+-- what was written to each output that has bytes
+abbrev pub written_in : List OutputView → List Written
+written_in [] = []
+written_in (output ∷ outputs) = with_bytes output.slot output.bytes (written_in outputs)
+
+-- the bytes that came to a slot between two pasts
+abbrev pub bytes_between : Past → Past → ℕ → List ℕ
+bytes_between old new slot = drop (length (list_of old.bytes slot)) (list_of new.bytes slot)
+
+-- those of each slot that has any
+abbrev pub written_between : List ℕ → Past → Past → List Written
+written_between [] old new = []
+written_between (slot ∷ slots) old new = with_bytes slot (bytes_between old new slot) (written_between slots old new)
+
+-- ---- where a run is
+
+-- what a run is over: the plan, the heap, the whole bytes of each input, and the slots of the outputs by ascending number
+pub record Ground : Type 0 where
+  pub plan : Plan
+  pub heap : ℕ
+  pub whole : List (ℕ × List ℕ)
+  pub slots : List ℕ
+
+-- where a run is: what is known, and all that the moments so far left
+pub record At : Type 0 where
+  pub known : Known
+  pub past : Past
+
+-- before the first command
+abbrev pub first_at : Ground → At
+first_at g = record { known = first_known g.plan; past = start }
+
+-- ---- one command
+
+-- what a command comes to where the run is
+abbrev pub came_at : Ground → Doing → Command → At → Came
+came_at g doing command at = next g.plan g.heap doing at.known command
+
+-- The run goes on by a command: what is known is the written next, and its moments lead on by the equations.
+pub record Goes (g : Ground) (doing : Doing) (command : Command) (old new : At) : Type 0 where
+  pub known : new.known ≡ (came_at g doing command old).known
+  pub led : Leads g.whole old.past (came_at g doing command old).moments new.past
+
+-- what a command answers, shows and writes
+abbrev pub out_of : Ground → Doing → Command → At → At → Out
+out_of g doing command old new = record {
+  answer = (came_at g doing command old).answer;
+  shown = shown_by command g.plan old.known.kept;
+  written = written_between g.slots old.past new.past;
+}
+
+-- ---- commands, one after another
+
+-- a leg of a run: a command, what it answered, showed and wrote, its moments, and where the run is after it
+pub record Leg : Type 0 where
+  pub command : Command
+  pub out : Out
+  pub moments : List Moment
+  pub at : At
+
+pub record IsLeg (g : Ground) (doing : Doing) (command : Command) (old : At) (leg : Leg) : Type 0 where
+  pub command_is : leg.command ≡ command
+  pub goes : Goes g doing command old leg.at
+  pub out_is : leg.out ≡ out_of g doing command old leg.at
+  pub moments_are : leg.moments ≡ (came_at g doing command old).moments
+
+-- the run of these commands
+abbrev pub IsRun : Ground → Doing → List Command → At → List Leg → Type 0
+IsRun g doing [] old legs = legs ≡ []
+IsRun g doing (command ∷ commands) old [] = ⊥
+IsRun g doing (command ∷ commands) old (leg ∷ legs) = IsLeg g doing command old leg × IsRun g doing commands leg.at legs
+
+-- where it is at its end
+abbrev pub end_of : At → List Leg → At
+end_of at [] = at
+end_of at (leg ∷ legs) = end_of leg.at legs
+
+-- all its moments
+abbrev pub moments_of : List Leg → List Moment
+moments_of [] = []
+moments_of (leg ∷ legs) = leg.moments ++ moments_of legs
+
+-- how often it boots
+abbrev pub boots_in : List Moment → ℕ
+boots_in [] = 0
+boots_in (Boot ∷ moments) = suc (boots_in moments)
+boots_in (Cut ∷ moments) = boots_in moments
+boots_in (Now view fresh ∷ moments) = boots_in moments
+boots_in (Tick ∷ moments) = boots_in moments
+
+-- a count of boots after so many more, up to its last value
+abbrev pub raised : ℕ → ℕ → ℕ
+raised zero count = count
+raised (suc n) count = raised n (more count)

@@ -6,7 +6,8 @@ use Rattle.tplg_model.specs.declared.block.Topology.{Topology}
 use Rattle.sof_run.specs.declared.prepare.Halt.{Halt}
 use Rattle.sof_run.specs.declared.prepare.Halt.TheVariants as halt
 use Rattle.sof_run.specs.Todo.{End, Stop, Free, Played, DeskPhase}
-use Rattle.sof_run.specs.Play.{halt_line, halt_status, lines_todo}
+use Rattle.sof_run.specs.Lines.{halt_line, halt_status}
+use Rattle.sof_run.specs.Play.{lines_todo}
 use Rattle.sof_run.specs.Halts.{HaltsAtCheck}
 use Rattle.sof_run.specs.Checking.{counts_of, checked, checked_todo, check}
 use Rattle.sof_run.proofs.Steps.{ask_on, free_on, free_off}

@@ -4,7 +4,8 @@ use Rattle.std.specs.List.{concat}
 use Rattle.std.proofs.lemmas.List.{append-nil}
 use Rattle.sof_desk.specs.declared.calls.LoadFault.TheVariants.{Failed, TooLong, OutOfMemory}
 use Rattle.sof_desk.specs.Desk.{DeskMeaning, DeskCall, Load, Did, Heard, DeskLed, Loaded, Acted}
-use Rattle.sof_session.specs.Turns.{LifeMeaning, Turn, Turns}
+use Rattle.mbox_link.specs.Calls.{Meaning}
+use Rattle.sof_session.specs.Lives.{Life, Turn, Turns}
 use Rattle.tplg_model.specs.declared.fault.TplgFault.{TplgFault}
 use Rattle.tplg_model.specs.declared.block.Topology.{Topology}
 use Rattle.tplg_model.specs.Reading.{topology_of}
@@ -14,15 +15,15 @@ use Rattle.tplg_rules.proofs.RuleTests.{whole_none, none_whole, some_breaks}
 use Rattle.sof_run.specs.declared.prepare.Halt.{Halt}
 use Rattle.sof_run.specs.declared.prepare.Halt.TheVariants as halts
 use Rattle.sof_run.specs.Words.{play_of}
-use Rattle.sof_run.specs.Todo.{no_memory_line, End, Says, Goes}
-use Rattle.sof_run.specs.Play.{with_newline, halt_line, halt_status, lines_todo}
+use Rattle.sof_run.specs.Todo.{End, Says, Goes, RanOn}
+use Rattle.sof_run.specs.Lines.{no_memory_line, with_newline, halt_line, halt_status}
+use Rattle.sof_run.specs.Play.{lines_todo}
 use Rattle.sof_run.specs.Checking.{check_of, counts_of, checked_rules, checked_file, checked, checked_todo, check}
 use Rattle.sof_run.specs.Compiling.{compile_of}
 use Rattle.sof_run.specs.Forms.{todo_for, todo_of}
 use Rattle.sof_run.specs.TopologyBytes.{AreBytes, IsFile, IsBroken}
 use Rattle.sof_run.specs.Checks.{IsWrong, IsRight, saying, CheckVerdict, Spoke, IsFront, WroteText, Checks}
-use Rattle.sof_run.specs.Run.{Done}
-use Rattle.sof_run.proofs.Settle.{no_turns}
+use Rattle.sof_run.proofs.Steps.{no_turns}
 use Rattle.sof_run.proofs.SaidLines.{said, front_behind, nothing, behind, put, took, Parted, line_failed, line_parted}
 
 -- ---- the words
@@ -220,21 +221,21 @@ module _ {D : Type 0} (means : DeskMeaning D) where
 is_kept : (bytes : List ℕ) (t : Topology) → IsRight bytes t → checked bytes ≡ Ok t
 is_kept bytes t right = ap checked_file (topology_again bytes t right.0.0 right.0.1) ∙ ap (checked_rules t) (whole_none t right.1)
 
-module _ {D P : Type 0} (means : DeskMeaning D) (dsp : LifeMeaning P) (words : List (List ℕ)) (old new : D) (p q : P) (status : ℕ) (done : Done means dsp (todo_of (dsp.most p) words) old p status new q) where
+module _ {D P : Type 0} (means : DeskMeaning D) (dsp : Meaning P) (words : List (List ℕ)) (old new : D) (room : ℕ) (p q : Life P) (status : ℕ) (ran : RanOn means dsp (todo_of room words) old p status new q) where
   -- what it did is that of a check
-  goes_on : (name : List ℕ) → check_of words ≡ Some name → Goes (check name) done.ran.turns done.ran.played.calls status
-  goes_on name is = subst (λ todo. Goes todo done.ran.turns done.ran.played.calls status) (checks_alone (dsp.most p) words name is) done.ran.played.goes
+  goes_on : (name : List ℕ) → check_of words ≡ Some name → Goes (check name) ran.turns ran.played.calls status
+  goes_on name is = subst (λ todo. Goes todo ran.turns ran.played.calls status) (checks_alone room words name is) ran.played.goes
 
-  none : (name : List ℕ) → check_of words ≡ Some name → done.ran.turns ≡ []
-  none name is = no_turn name done.ran.turns done.ran.played.calls status (goes_on name is)
+  none : (name : List ℕ) → check_of words ≡ Some name → ran.turns ≡ []
+  none name is = no_turn name ran.turns ran.played.calls status (goes_on name is)
 
   untouched : (name : List ℕ) → check_of words ≡ Some name → q ≡ p
-  untouched name is = subst (λ ts. Turns dsp p ts q) (none name is) done.ran.turned
+  untouched name is = subst (λ ts. Turns dsp p ts q) (none name is) ran.turned
 
-  pub checks : Checks means words old p done.ran.played.calls status new q
+  pub checks : Checks means words old p ran.played.calls status new q
   checks =
       record {
         alone = untouched;
-        judged = λ name bytes is told are. judge name bytes means done.ran.turns done.ran.played.calls status old new told are (goes_on name is) done.ran.played.led;
-        counted = λ name bytes t is told short right. check_told means name bytes t short (is_kept bytes t right) done.ran.turns done.ran.played.calls old new status told (goes_on name is) done.ran.played.led;
+        judged = λ name bytes is told are. judge name bytes means ran.turns ran.played.calls status old new told are (goes_on name is) ran.played.led;
+        counted = λ name bytes t is told short right. check_told means name bytes t short (is_kept bytes t right) ran.turns ran.played.calls old new status told (goes_on name is) ran.played.led;
       }

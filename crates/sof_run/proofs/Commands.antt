@@ -5,19 +5,28 @@ use Rattle.std.proofs.lemmas.List.{drop_more, drop_all}
 use Rattle.std.proofs.lemmas.Option.{slice_get_within, get_or_from_slice_get, slice_get_cases}
 use Rattle.sof_desk.specs.Desk.{DeskMeaning, Put, Spoken, Acted}
 use Rattle.host_widgets.specs.declared.answers.Answer.{Answer}
-use Rattle.sof_base.specs.Ports.{Io, InputView}
-use Rattle.mbox_link.specs.Calls.{Meaning}
+use Rattle.sof_base.specs.Ports.{InputView, OutputView, drained}
+use Rattle.sof_io.specs.Bound.{output_slots}
+use Rattle.mbox_link.specs.Calls.{Meaning, World, world}
+use Rattle.mbox_link.specs.Wire.{Wire}
 use Rattle.sof_script.specs.declared.script.Command.{Command}
 use Rattle.sof_script.specs.declared.script.Command.TheVariants as commands
 use Rattle.sof_script.specs.declared.script.Numbered.{Numbered}
-use Rattle.sof_session.specs.Show.{IsLineAt, show_lines}
-use Rattle.sof_session.specs.Walks.{Out, Written, Carry}
+use Rattle.host_widgets.specs.declared.kept.Record.{Record}
+use Rattle.tplg_plan.specs.declared.plans.Plan.{Plan}
+use Rattle.sof_session.specs.Commands.{Known}
+use Rattle.sof_session.specs.Agreement.{AreAgreed}
 use Rattle.sof_session.specs.Seat.{Seat}
-use Rattle.sof_session.specs.Turns.{Ran, LifeMeaning, Life, Seated, Turn, Turned, life, turn, shown_by}
+use Rattle.sof_session.specs.SessionStep.{Stepped}
+use Rattle.sof_session.specs.Show.{IsLineAt, show_lines, shown_by}
+use Rattle.sof_session.specs.Written.{Out, Written, written_in}
+use Rattle.sof_session.proofs.Writings.{empty-outputs}
+use Rattle.sof_session.specs.Lives.{Life, Seated, Turn, Turned, Carry}
 use Rattle.sof_run.specs.Todo as todo
 use Rattle.sof_run.specs.Todo.{Todo, Do, Played, DeskPhase, LeadsOn, PhaseFails, Phase}
 use Rattle.sof_run.specs.Rounds.{Round, rounds_after, command_rounds, rounds_of}
-use Rattle.sof_run.specs.Play.{is_show, with_newline, lines_after, flush_todo, lines_todo, round_todo, rounds_todo, commands_todo}
+use Rattle.sof_run.specs.Lines.{is_show, with_newline, lines_after}
+use Rattle.sof_run.specs.Play.{flush_todo, lines_todo, round_todo, rounds_todo, commands_todo}
 use Rattle.sof_run.proofs.Steps.{do_on, do_off, step_on, beside, beside_failed}
 
 -- what the answer says of the list
@@ -78,78 +87,54 @@ module _ {D : Type 0} (means : DeskMeaning D) where
       so_far rest turns status end (subst (λ xs. Played means (lines_todo xs rest) new turns status end) (sym (drop_all k lines (past lines k line is))) played)
 
   -- what a command shows: nothing, or how everything stands
-  module _ {P : Type 0} (device : Meaning P) where
-    pub shown_none : (command : Command) (seat : Seat P) (old : D) → is_show command ≡ false → DeskPhase means (lines_todo (shown_by command seat)) true old old
-    shown_none commands.Load seat old is = none_said old
-    shown_none commands.Unload seat old is = none_said old
-    shown_none commands.Suspend seat old is = none_said old
-    shown_none commands.Resume seat old is = none_said old
-    shown_none commands.Show seat old is = absurd (cc is)
-    shown_none (commands.Open n) seat old is = none_said old
-    shown_none (commands.Start n) seat old is = none_said old
-    shown_none (commands.Stop n) seat old is = none_said old
-    shown_none (commands.Pause n) seat old is = none_said old
-    shown_none (commands.Release n) seat old is = none_said old
-    shown_none (commands.Close n) seat old is = none_said old
-    shown_none (commands.Get n) seat old is = none_said old
-    shown_none (commands.Read n) seat old is = none_said old
-    shown_none (commands.Params n p) seat old is = none_said old
-    shown_none (commands.Set n v) seat old is = none_said old
-    shown_none (commands.Bytes n b) seat old is = none_said old
-    shown_none (commands.Tick t) seat old is = none_said old
-    shown_none (commands.Refuse k e) seat old is = none_said old
-    shown_none (commands.Drop k) seat old is = none_said old
-    shown_none (commands.Lose k) seat old is = none_said old
-    shown_none (commands.Lag k t) seat old is = none_said old
+  module _ (plan : Plan) (kept : Record) where
+    pub shown_none : (command : Command) (old : D) → is_show command ≡ false → DeskPhase means (lines_todo (shown_by command plan kept)) true old old
+    shown_none commands.Load old is = none_said old
+    shown_none commands.Unload old is = none_said old
+    shown_none commands.Suspend old is = none_said old
+    shown_none commands.Resume old is = none_said old
+    shown_none commands.Show old is = absurd (cc is)
+    shown_none (commands.Open n) old is = none_said old
+    shown_none (commands.Start n) old is = none_said old
+    shown_none (commands.Stop n) old is = none_said old
+    shown_none (commands.Pause n) old is = none_said old
+    shown_none (commands.Release n) old is = none_said old
+    shown_none (commands.Close n) old is = none_said old
+    shown_none (commands.Get n) old is = none_said old
+    shown_none (commands.Read n) old is = none_said old
+    shown_none (commands.Params n p) old is = none_said old
+    shown_none (commands.Set n v) old is = none_said old
+    shown_none (commands.Bytes n b) old is = none_said old
+    shown_none (commands.Tick t) old is = none_said old
+    shown_none (commands.Refuse k e) old is = none_said old
+    shown_none (commands.Drop k) old is = none_said old
+    shown_none (commands.Lose k) old is = none_said old
+    shown_none (commands.Lag k t) old is = none_said old
 
-    pub shown_all : (command : Command) (seat : Seat P) (done : Bool) (old new : D) → is_show command ≡ true → DeskPhase means (lines_todo (show_lines seat.plan seat.kept)) done old new → DeskPhase means (lines_todo (shown_by command seat)) done old new
-    shown_all commands.Load seat done old new is phase = absurd (cc is)
-    shown_all commands.Unload seat done old new is phase = absurd (cc is)
-    shown_all commands.Suspend seat done old new is phase = absurd (cc is)
-    shown_all commands.Resume seat done old new is phase = absurd (cc is)
-    shown_all commands.Show seat done old new is phase = phase
-    shown_all (commands.Open n) seat done old new is phase = absurd (cc is)
-    shown_all (commands.Start n) seat done old new is phase = absurd (cc is)
-    shown_all (commands.Stop n) seat done old new is phase = absurd (cc is)
-    shown_all (commands.Pause n) seat done old new is phase = absurd (cc is)
-    shown_all (commands.Release n) seat done old new is phase = absurd (cc is)
-    shown_all (commands.Close n) seat done old new is phase = absurd (cc is)
-    shown_all (commands.Get n) seat done old new is phase = absurd (cc is)
-    shown_all (commands.Read n) seat done old new is phase = absurd (cc is)
-    shown_all (commands.Params n p) seat done old new is phase = absurd (cc is)
-    shown_all (commands.Set n v) seat done old new is phase = absurd (cc is)
-    shown_all (commands.Bytes n b) seat done old new is phase = absurd (cc is)
-    shown_all (commands.Tick t) seat done old new is phase = absurd (cc is)
-    shown_all (commands.Refuse k e) seat done old new is phase = absurd (cc is)
-    shown_all (commands.Drop k) seat done old new is phase = absurd (cc is)
-    shown_all (commands.Lose k) seat done old new is phase = absurd (cc is)
-    shown_all (commands.Lag k t) seat done old new is phase = absurd (cc is)
+    pub shown_all : (command : Command) (done : Bool) (old new : D) → is_show command ≡ true → DeskPhase means (lines_todo (show_lines plan kept)) done old new → DeskPhase means (lines_todo (shown_by command plan kept)) done old new
+    shown_all commands.Load done old new is phase = absurd (cc is)
+    shown_all commands.Unload done old new is phase = absurd (cc is)
+    shown_all commands.Suspend done old new is phase = absurd (cc is)
+    shown_all commands.Resume done old new is phase = absurd (cc is)
+    shown_all commands.Show done old new is phase = phase
+    shown_all (commands.Open n) done old new is phase = absurd (cc is)
+    shown_all (commands.Start n) done old new is phase = absurd (cc is)
+    shown_all (commands.Stop n) done old new is phase = absurd (cc is)
+    shown_all (commands.Pause n) done old new is phase = absurd (cc is)
+    shown_all (commands.Release n) done old new is phase = absurd (cc is)
+    shown_all (commands.Close n) done old new is phase = absurd (cc is)
+    shown_all (commands.Get n) done old new is phase = absurd (cc is)
+    shown_all (commands.Read n) done old new is phase = absurd (cc is)
+    shown_all (commands.Params n p) done old new is phase = absurd (cc is)
+    shown_all (commands.Set n v) done old new is phase = absurd (cc is)
+    shown_all (commands.Bytes n b) done old new is phase = absurd (cc is)
+    shown_all (commands.Tick t) done old new is phase = absurd (cc is)
+    shown_all (commands.Refuse k e) done old new is phase = absurd (cc is)
+    shown_all (commands.Drop k) done old new is phase = absurd (cc is)
+    shown_all (commands.Lose k) done old new is phase = absurd (cc is)
+    shown_all (commands.Lag k t) done old new is phase = absurd (cc is)
 
-    -- a show leaves what it shows
-    pub shown_same : (command : Command) (seat later : Seat P) (io io' : Io) (answer : Answer) → Ran device command seat later io io' answer → shown_by command later ≡ shown_by command seat
-    shown_same commands.Load seat later io io' answer ran = refl
-    shown_same commands.Unload seat later io io' answer ran = refl
-    shown_same commands.Suspend seat later io io' answer ran = refl
-    shown_same commands.Resume seat later io io' answer ran = refl
-    shown_same commands.Show seat later io io' answer ran = ap (λ (x : Seat P). show_lines x.plan x.kept) ran.0
-    shown_same (commands.Open n) seat later io io' answer ran = refl
-    shown_same (commands.Start n) seat later io io' answer ran = refl
-    shown_same (commands.Stop n) seat later io io' answer ran = refl
-    shown_same (commands.Pause n) seat later io io' answer ran = refl
-    shown_same (commands.Release n) seat later io io' answer ran = refl
-    shown_same (commands.Close n) seat later io io' answer ran = refl
-    shown_same (commands.Get n) seat later io io' answer ran = refl
-    shown_same (commands.Read n) seat later io io' answer ran = refl
-    shown_same (commands.Params n p) seat later io io' answer ran = refl
-    shown_same (commands.Set n v) seat later io io' answer ran = refl
-    shown_same (commands.Bytes n b) seat later io io' answer ran = refl
-    shown_same (commands.Tick t) seat later io io' answer ran = refl
-    shown_same (commands.Refuse k e) seat later io io' answer ran = refl
-    shown_same (commands.Drop k) seat later io io' answer ran = refl
-    shown_same (commands.Lose k) seat later io io' answer ran = refl
-    shown_same (commands.Lag k t) seat later io io' answer ran = refl
-
-  module _ {P : Type 0} (dsp : LifeMeaning P) where
+  module _ {P : Type 0} (dsp : Meaning P) where
     -- ---- one unit
 
     module _ (round : Round) (answer : Answer) (shown : List (List ℕ)) (written : List Written) where
@@ -163,18 +148,18 @@ module _ {D : Type 0} (means : DeskMeaning D) where
       after rest out = flush_todo out.written (lines_todo (lines_after round out) rest)
 
       -- a turn, the bytes, and the lines
-      pub round_said : (done : Bool) (old m new : D) (p q : P) → Turned dsp (turn (Carry round.numbered.command) answer shown written) p q → DeskPhase means (flush_todo written) true old m → DeskPhase means (lines_todo lines) done m new → Phase means dsp (round_todo round) done old p new q
+      pub round_said : (done : Bool) (old m new : D) (p q : Life P) → Turned dsp (Carry round.numbered.command) out p q → DeskPhase means (flush_todo written) true old m → DeskPhase means (lines_todo lines) done m new → Phase means dsp (round_todo round) done old p new q
       round_said true old m new p q turned flushed said = λ rest status end r ran.
-          step_on means dsp (turn (Carry round.numbered.command) answer shown written) (after rest) status old end p q r turned
+          step_on means dsp (record { task = Carry round.numbered.command; out = out }) (after rest) status old end p q r turned
           (beside means dsp (flush_todo written) old m q flushed (lines_todo lines rest) status end r (beside means dsp (lines_todo lines) m new q said rest status end r ran))
       round_said false old m new p q turned flushed said = λ rest.
-          step_on means dsp (turn (Carry round.numbered.command) answer shown written) (after rest) 3 old new p q q turned
+          step_on means dsp (record { task = Carry round.numbered.command; out = out }) (after rest) 3 old new p q q turned
           (beside means dsp (flush_todo written) old m q flushed (lines_todo lines rest) 3 new q (beside_failed means dsp (lines_todo lines) m new q said rest))
 
       -- the bytes were not all appended
-      pub round_cut : (old new : D) (p q : P) → Turned dsp (turn (Carry round.numbered.command) answer shown written) p q → DeskPhase means (flush_todo written) false old new → Phase means dsp (round_todo round) false old p new q
+      pub round_cut : (old new : D) (p q : Life P) → Turned dsp (Carry round.numbered.command) out p q → DeskPhase means (flush_todo written) false old new → Phase means dsp (round_todo round) false old p new q
       round_cut old new p q turned failed = λ rest.
-          step_on means dsp (turn (Carry round.numbered.command) answer shown written) (after rest) 3 old new p q q turned
+          step_on means dsp (record { task = Carry round.numbered.command; out = out }) (after rest) 3 old new p q q turned
           (beside_failed means dsp (flush_todo written) old new q failed (lines_todo lines rest))
 
     -- ---- the units of a command
@@ -182,7 +167,7 @@ module _ {D : Type 0} (means : DeskMeaning D) where
     left : (n i : ℕ) → i < n → n - i ≡ suc (n - (i + 1))
     left n i within = omega (arith, within)
 
-    module _ (numbered : Numbered) (n i : ℕ) (old m new : D) (p r q : P) (so_far : LeadsOn means dsp (rounds_todo (rounds_after n numbered)) (rounds_todo (rounds_after (n - i) numbered)) old p m r) where
+    module _ (numbered : Numbered) (n i : ℕ) (old m new : D) (p r q : Life P) (so_far : LeadsOn means dsp (rounds_todo (rounds_after n numbered)) (rounds_todo (rounds_after (n - i) numbered)) old p m r) where
       -- one that is not the last
       pub rounds_on : i < n → LeadsOn means dsp (round_todo (record { numbered = numbered; last = false })) (λ rest. rest) m r new q → LeadsOn means dsp (rounds_todo (rounds_after n numbered)) (rounds_todo (rounds_after (n - (i + 1)) numbered)) old p new q
       rounds_on within done = λ rest status end t ran.
@@ -211,7 +196,7 @@ module _ {D : Type 0} (means : DeskMeaning D) where
     rounds_append [] b rest = refl
     rounds_append (round ∷ a) b rest = ap (round_todo round) (rounds_append a b rest)
 
-    module _ (script : List Numbered) (i : ℕ) (other : Numbered) (old m new : D) (p r q : P) (within : i < length script) (so_far : LeadsOn means dsp (commands_todo script) (commands_todo (drop i script)) old p m r) where
+    module _ (script : List Numbered) (i : ℕ) (other : Numbered) (old m new : D) (p r q : Life P) (within : i < length script) (so_far : LeadsOn means dsp (commands_todo script) (commands_todo (drop i script)) old p m r) where
       here : (rest : Todo) → commands_todo (drop i script) rest ≡ rounds_todo (command_rounds (get_or script i other)) (commands_todo (drop (i + 1) script) rest)
       here rest = ap (λ cs. commands_todo cs rest) (drop_more script i other within) ∙ rounds_append (command_rounds (get_or script i other)) (rounds_of (drop (i + 1) script)) rest
 
@@ -224,7 +209,53 @@ module _ {D : Type 0} (means : DeskMeaning D) where
       commands_off failed = λ rest.
           so_far rest 3 new q (subst (λ x. todo.RanOn means dsp x m r 3 new q) (sym (here rest)) (failed (commands_todo (drop (i + 1) script) rest)))
 
+-- a command leaves what it shows
+pub shown_same : (command : Command) (plan plan' : Plan) (kept kept' : Record) → plan' ≡ plan → (command ≡ commands.Show → kept' ≡ kept) → shown_by command plan' kept' ≡ shown_by command plan kept
+shown_same commands.Load plan plan' kept kept' over same = refl
+shown_same commands.Unload plan plan' kept kept' over same = refl
+shown_same commands.Suspend plan plan' kept kept' over same = refl
+shown_same commands.Resume plan plan' kept kept' over same = refl
+shown_same commands.Show plan plan' kept kept' over same = λ i. show_lines (over i) (same refl i)
+shown_same (commands.Open n) plan plan' kept kept' over same = refl
+shown_same (commands.Start n) plan plan' kept kept' over same = refl
+shown_same (commands.Stop n) plan plan' kept kept' over same = refl
+shown_same (commands.Pause n) plan plan' kept kept' over same = refl
+shown_same (commands.Release n) plan plan' kept kept' over same = refl
+shown_same (commands.Close n) plan plan' kept kept' over same = refl
+shown_same (commands.Get n) plan plan' kept kept' over same = refl
+shown_same (commands.Read n) plan plan' kept kept' over same = refl
+shown_same (commands.Params n p) plan plan' kept kept' over same = refl
+shown_same (commands.Set n v) plan plan' kept kept' over same = refl
+shown_same (commands.Bytes n b) plan plan' kept kept' over same = refl
+shown_same (commands.Tick t) plan plan' kept kept' over same = refl
+shown_same (commands.Refuse k e) plan plan' kept kept' over same = refl
+shown_same (commands.Drop k) plan plan' kept kept' over same = refl
+shown_same (commands.Lose k) plan plan' kept kept' over same = refl
+shown_same (commands.Lag k t) plan plan' kept kept' over same = refl
+
+pub show_stays : {P : Type 0} (means : Meaning P) (plan : Plan) (heap : ℕ) (command : Command) (kept kept' : Record) (w v : World (Wire P)) (answer : Answer) → Stepped means plan heap command kept kept' w v answer → command ≡ commands.Show → kept' ≡ kept
+show_stays means plan heap command kept kept' w v answer stepped is =
+    let shows : Stepped means plan heap commands.Show kept kept' w v answer = subst (λ (c : Command). Stepped means plan heap c kept kept' w v answer) is stepped in
+    ap (λ (k : Known). k.kept) shows.known_is
+
+-- a session's step is a turn
+pub carries_on : {P : Type 0} (means : Meaning P) (command : Command) (seat seat' : Seat P) (inputs inputs' : List InputView) (outputs outputs' : List OutputView) (answer : Answer) →
+    drained outputs ≡ outputs → Stepped means seat.plan seat.heap command seat.kept seat'.kept (world seat.link inputs outputs) (world seat'.link inputs' outputs') answer → seat'.plan ≡ seat.plan → seat'.heap ≡ seat.heap → AreAgreed means seat' →
+    Turned means (Carry command) (record { answer = answer; shown = shown_by command seat.plan seat.kept; written = written_in outputs' }) (Seated seat inputs (output_slots outputs)) (Seated seat' inputs' (output_slots outputs))
+carries_on means command seat seat' inputs inputs' outputs outputs' answer empty stepped plan heap agreed = (
+  refl,
+  record {
+    outputs = outputs';
+    stepped = subst (λ (xs : List OutputView). Stepped means seat.plan seat.heap command seat.kept seat'.kept (world seat.link inputs xs) (world seat'.link inputs' outputs') answer) (sym (empty-outputs outputs empty)) stepped;
+    shown = refl;
+    written = refl;
+    plan_is = plan;
+    heap_is = heap;
+    agrees = agreed;
+  },
+)
+
 -- the same slots, told otherwise
 module _ {D P : Type 0} (means : DeskMeaning D) (device : Meaning P) where
-  pub same_slots : (phase : Todo → Todo) (done : Bool) (old new : D) (p : Life P) (seat : Seat P) (inputs : List InputView) (slots slots' : List ℕ) → slots' ≡ slots → Phase means (life device) phase done old p new (Seated seat inputs slots) → Phase means (life device) phase done old p new (Seated seat inputs slots')
-  same_slots phase done old new p seat inputs slots slots' same made = subst (λ (xs : List ℕ). Phase means (life device) phase done old p new (Seated seat inputs xs)) (sym same) made
+  pub same_slots : (phase : Todo → Todo) (done : Bool) (old new : D) (p : Life P) (seat : Seat P) (inputs : List InputView) (slots slots' : List ℕ) → slots' ≡ slots → Phase means device phase done old p new (Seated seat inputs slots) → Phase means device phase done old p new (Seated seat inputs slots')
+  same_slots phase done old new p seat inputs slots slots' same made = subst (λ (xs : List ℕ). Phase means device phase done old p new (Seated seat inputs xs)) (sym same) made

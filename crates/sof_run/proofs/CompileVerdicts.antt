@@ -2,7 +2,8 @@
 use Rattle.std.proofs.Common.{◌≡◌, ◌⊎◌, inl, inr, ℕ, nat_eq, ◌≤◌, ◌<◌, Bool, true, false, List, [], ◌∷◌, length, Option, Some, None, Result, Ok, Err, refl, sym, ◌∙◌, ap, subst, codes, arith, if◌then◌else◌}
 use Rattle.sof_desk.specs.declared.calls.LoadFault.TheVariants.{Failed, TooLong, OutOfMemory}
 use Rattle.sof_desk.specs.Desk.{DeskMeaning, DeskPlace, Slot, Spoken, DeskAct, Create, Put, DeskCall, Load, Did, DeskLed, Loaded, Acted, Part, Takes, with_more, with_nothing, written_after}
-use Rattle.sof_session.specs.Turns.{LifeMeaning, Turn, Turns}
+use Rattle.mbox_link.specs.Calls.{Meaning}
+use Rattle.sof_session.specs.Lives.{Life, Turn, Turns}
 use Rattle.tplg_model.specs.declared.block.Topology.{Topology}
 use Rattle.tplg_model.specs.File.{IsTopology, spelling}
 use Rattle.tplg_model.proofs.FileLaws.{IsFileOf-spelling}
@@ -12,15 +13,15 @@ use Rattle.tplg_compile.specs.Compiled.{IsCompiled, IsCompileFault}
 use Rattle.tplg_compile.specs.InOrder.{compiled_of}
 use Rattle.tplg_compile.proofs.CompileLaws.{compiled_take, compiled_again, text_fault_take}
 use Rattle.sof_run.specs.Words.{Form, play_of}
-use Rattle.sof_run.specs.Todo.{Todo, End, Do, no_memory_line, Says, Goes}
-use Rattle.sof_run.specs.Play.{with_newline, lines_todo}
+use Rattle.sof_run.specs.Todo.{Todo, End, Do, Says, Goes, RanOn}
+use Rattle.sof_run.specs.Lines.{no_memory_line, with_newline}
+use Rattle.sof_run.specs.Play.{lines_todo}
 use Rattle.sof_run.specs.Checking.{check_of}
 use Rattle.sof_run.specs.Compiling.{CompileNames, compile_of, source_line, source_status, wrote_line, file_todo, compiled_todo, compile}
 use Rattle.sof_run.specs.Forms.{todo_for, todo_of}
 use Rattle.sof_run.specs.Checks.{saying, Spoke, IsFront}
 use Rattle.sof_run.specs.Compiles.{making, CompileVerdict, made_at, MadeFile, WroteFile, MakesTopology, Compiles}
-use Rattle.sof_run.specs.Run.{Done}
-use Rattle.sof_run.proofs.Settle.{no_turns}
+use Rattle.sof_run.proofs.Steps.{no_turns}
 use Rattle.sof_run.proofs.SaidLines.{said, none_more, nothing, behind, line_parted}
 
 -- ---- the words
@@ -288,19 +289,19 @@ module _ {D : Type 0} (means : DeskMeaning D) (words : List (List ℕ)) (old : D
       let same : others ≡ names = cc (sym source.named ∙ is) in
       sound zero text t (ap (λ (n : CompileNames). means.holds old n.source) (sym same) ∙ source.told) got
 
-module _ {D P : Type 0} (means : DeskMeaning D) (dsp : LifeMeaning P) (words : List (List ℕ)) (old new : D) (p q : P) (status : ℕ) (done : Done means dsp (todo_of (dsp.most p) words) old p status new q) (makes : MakesTopology means words old status) where
+module _ {D P : Type 0} (means : DeskMeaning D) (dsp : Meaning P) (words : List (List ℕ)) (old new : D) (room : ℕ) (p q : Life P) (status : ℕ) (ran : RanOn means dsp (todo_of room words) old p status new q) (makes : MakesTopology means words old status) where
   -- what it did is that of compiling
-  goes_on : (names : CompileNames) → compile_of words ≡ Some names → Goes (compile names) done.ran.turns done.ran.played.calls status
-  goes_on names is = subst (λ todo. Goes todo done.ran.turns done.ran.played.calls status) (compiles_alone (dsp.most p) words names is) done.ran.played.goes
+  goes_on : (names : CompileNames) → compile_of words ≡ Some names → Goes (compile names) ran.turns ran.played.calls status
+  goes_on names is = subst (λ todo. Goes todo ran.turns ran.played.calls status) (compiles_alone room words names is) ran.played.goes
 
   untouched : (names : CompileNames) → compile_of words ≡ Some names → q ≡ p
-  untouched names is = subst (λ ts. Turns dsp p ts q) (no_turn names done.ran.turns done.ran.played.calls status (goes_on names is)) done.ran.turned
+  untouched names is = subst (λ ts. Turns dsp p ts q) (no_turn names ran.turns ran.played.calls status (goes_on names is)) ran.turned
 
-  pub compiles : Compiles means words old p done.ran.played.calls status new q
+  pub compiles : Compiles means words old p ran.played.calls status new q
   compiles =
       record {
         alone = untouched;
-        judged = λ names text source. judge names text means done.ran.turns done.ran.played.calls status old new source.told (goes_on names source.named) done.ran.played.led;
-        wrote = λ names text t source short is. compile_wrote means names text t short (compiled_again text t is) done.ran.turns done.ran.played.calls old new status source.told (goes_on names source.named) done.ran.played.led;
+        judged = λ names text source. judge names text means ran.turns ran.played.calls status old new source.told (goes_on names source.named) ran.played.led;
+        wrote = λ names text t source short is. compile_wrote means names text t short (compiled_again text t is) ran.turns ran.played.calls old new status source.told (goes_on names source.named) ran.played.led;
         reads_back = λ names text t source is done. (makes names text t source (compiled_again text t is) done, IsFileOf-spelling t);
       }

@@ -2,7 +2,7 @@
 use Rattle.std.proofs.Common.{◌≡◌, refl, ℕ, ◌<◌, ◌≤◌, arith}
 use Rattle.sof_script.specs.declared.script.Command.{Command}
 use Rattle.sof_script.specs.declared.script.Command.TheVariants as commands
-use Rattle.sof_session.specs.Walks.{most_sent}
+use Rattle.sof_session.specs.CommandRanges.{most_sent}
 use Rattle.sof_run.specs.Rounds.{earlier}
 
 -- a command of more than one unit makes ticks, and sends none

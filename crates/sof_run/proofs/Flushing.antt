@@ -6,8 +6,8 @@ use Rattle.std.proofs.lemmas.Option.{slice_get_within, get_or_from_slice_get}
 use Rattle.sof_base.specs.Ports.{OutputView}
 use Rattle.sof_io.specs.Bound.{output_slots}
 use Rattle.sof_desk.specs.Desk.{DeskMeaning, Acted, Put, Slot}
-use Rattle.sof_session.specs.Walks.{Written, with_bytes, written_in}
-use Rattle.sof_session.specs.Turns.{Turn}
+use Rattle.sof_session.specs.Written.{Written, with_bytes, written_in}
+use Rattle.sof_session.specs.Lives.{Turn}
 use Rattle.sof_run.specs.Todo.{Todo, Played, DeskPhase}
 use Rattle.sof_run.specs.Play.{flush_todo}
 use Rattle.sof_run.specs.Opening.{AreCreated}

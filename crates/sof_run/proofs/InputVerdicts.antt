@@ -7,11 +7,12 @@ use Rattle.sof_desk.specs.declared.calls.LoadFault.TheVariants.{Failed, TooLong,
 use Rattle.sof_desk.specs.Desk.{DeskMeaning, DeskCall, Load, Did, DeskLed, Loaded}
 use Rattle.tplg_plan.specs.declared.plans.Plan.{Plan}
 use Rattle.sof_script.specs.Commands.{Bound}
-use Rattle.sof_session.specs.Turns.{Turn}
+use Rattle.sof_session.specs.Lives.{Turn}
 use Rattle.sof_run.specs.Bindings.{bound_slot}
-use Rattle.sof_run.specs.Todo.{no_memory_line, Says, Goes}
+use Rattle.sof_run.specs.Lines.{no_memory_line}
+use Rattle.sof_run.specs.Todo.{Says, Goes}
 use Rattle.sof_run.specs.Play.{WithPorts, binding_todo, bindings_todo}
-use Rattle.sof_run.specs.Run.{FitsInput, IsLongInput, RunVerdict}
+use Rattle.sof_run.specs.Verdicts.{FitsInput, IsLongInput, RunVerdict}
 use Rattle.sof_run.proofs.Statuses.{IsLate}
 
 -- a line that was said, with its status, or that was not

@@ -9,7 +9,6 @@ use Rattle.tplg_model.specs.Reading.{topology_of}
 use Rattle.tplg_model.proofs.FileLaws.{topology_take, topology_again, topology_found}
 use Rattle.tplg_rules.specs.WellFormed.{IsWellFormed}
 use Rattle.tplg_rules.specs.RuleTest.{ruling_of}
-use Rattle.tplg_graph.specs.ThinTest.{thin_test}
 use Rattle.tplg_graph.specs.PlanOf.{plan_of}
 use Rattle.tplg_plan.specs.declared.plans.Plan.{Plan}
 use Rattle.tplg_rules.proofs.RuleTests.{none_whole, some_breaks}
@@ -17,16 +16,19 @@ use Rattle.sof_script.specs.declared.reading.ScriptFault.{ScriptFault}
 use Rattle.sof_script.specs.declared.reading.ScriptFault.TheVariants.{Line}
 use Rattle.sof_script.specs.declared.reading.ScriptFault.TheVariants as wants
 use Rattle.sof_script.specs.Commands.{Read, script_of}
-use Rattle.sof_session.specs.Turns.{Turn}
+use Rattle.sof_session.specs.Lives.{Turn}
 use Rattle.sof_run.specs.declared.prepare.Halt.{Halt}
 use Rattle.sof_run.specs.declared.prepare.Halt.TheVariants as halts
 use Rattle.sof_run.specs.Bindings.{wrong_binding}
 use Rattle.sof_run.specs.Words.{Form}
 use Rattle.sof_script.specs.declared.script.Numbered.{Numbered}
 use Rattle.sof_base.specs.Ports.{InputView, OutputView}
-use Rattle.sof_run.specs.Todo.{no_memory_line, Todo, Ask, Free, Says, Goes}
-use Rattle.sof_run.specs.Play.{Prepared, ticks_of, is_built_script, halt_line, halt_status, prepared, prepared_script, prepared_ticks, prepared_topology, prepared_rules, prepared_bindings, prepared_commands, prepared_todo, session_todo, play}
-use Rattle.sof_run.specs.Run.{AreBytes, IsLong, Fit, IsFile, IsBroken, IsScript, IsRun, IsHalt, last_call, Verdict}
+use Rattle.sof_run.specs.Todo.{Todo, Ask, Free, Says, Goes}
+use Rattle.sof_run.specs.Lines.{no_memory_line, halt_line, halt_status}
+use Rattle.sof_run.specs.Prepared.{Prepared, ticks_of, is_built_script, prepared, prepared_script, prepared_ticks, prepared_topology, prepared_rules, prepared_bindings, prepared_commands}
+use Rattle.sof_run.specs.Play.{prepared_todo, session_todo, play}
+use Rattle.sof_run.specs.TopologyBytes.{AreBytes, IsLong, IsFile, IsBroken}
+use Rattle.sof_run.specs.Verdicts.{Fit, IsScript, MakeRun, IsHalt, last_call, Verdict}
 use Rattle.sof_run.proofs.Statuses.{IsLate}
 use Rattle.sof_run.proofs.Throughout.{session_ends}
 use Rattle.sof_run.proofs.InputVerdicts.{Outcome, opened}
@@ -81,7 +83,7 @@ module _ (holds : List ℕ → Option (List ℕ)) (topology script : List ℕ) w
         want (inl three) = inl (inl three)
         want (inr done) = inr (inr (inl (why, done.0, fit, is, done.1)))
 
-    runs : (t : Topology) (read : Read) (calls : List DeskCall) (status : ℕ) → IsRun topology script t read → Outcome holds read.bindings status → Verdict holds topology script calls status
+    runs : (t : Topology) (read : Read) (calls : List DeskCall) (status : ℕ) → MakeRun topology script t read → Outcome holds read.bindings status → Verdict holds topology script calls status
     runs t read calls status is (inl ended) = inl ended
     runs t read calls status is (inr by_inputs) = inr (inr (inr (fit, (t, (read, is, by_inputs)))))
 
@@ -99,15 +101,15 @@ module _ (holds : List ℕ → Option (List ℕ)) (topology script : List ℕ) w
       abbrev Judges : Prepared → Type 0
       Judges files = Goes (prepared_todo heap files) turns calls status → Verdict holds topology script calls status
 
-      by_commands : (t : Topology) (read : Read) (built : Bool) → IsScript script read → IsFile topology t → IsWellFormed t → wrong_binding (plan_of t) read.bindings ≡ None → is_built_script (thin_test t) (plan_of t) read ≡ built → Judges (prepared_commands (plan_of t) read built)
+      by_commands : (t : Topology) (read : Read) (built : Bool) → IsScript script read → IsFile topology t → IsWellFormed t → wrong_binding (plan_of t) read.bindings ≡ None → is_built_script (plan_of t) read ≡ built → Judges (prepared_commands (plan_of t) read built)
       by_commands t read true lines file whole right built goes =
           runs t read calls status record { lines = lines; file = file; whole = whole; right = right; built = built }
           (opened holds means (plan_of t) turns status e (λ i o. Free (session_todo heap (plan_of t) read.commands i o)) (ended (plan_of t) read.commands) read.bindings [] [] calls d held led goes)
       by_commands t read false lines file whole right built goes = stops halts.NotYet turns calls status (read, t, lines, file, (whole, right, built)) goes
 
-      by_bindings : (t : Topology) (read : Read) (wrong : Option ℕ) → IsScript script read → IsFile topology t → IsWellFormed t → wrong_binding (plan_of t) read.bindings ≡ wrong → Judges (prepared_bindings (thin_test t) (plan_of t) read wrong)
+      by_bindings : (t : Topology) (read : Read) (wrong : Option ℕ) → IsScript script read → IsFile topology t → IsWellFormed t → wrong_binding (plan_of t) read.bindings ≡ wrong → Judges (prepared_bindings (plan_of t) read wrong)
       by_bindings t read (Some line) lines file whole is goes = stops (halts.Binding line) turns calls status (read, t, lines, file, whole, is) goes
-      by_bindings t read None lines file whole is goes = by_commands t read (is_built_script (thin_test t) (plan_of t) read) lines file whole is refl goes
+      by_bindings t read None lines file whole is goes = by_commands t read (is_built_script (plan_of t) read) lines file whole is refl goes
 
       by_rules : (t : Topology) (read : Read) (ruling : Option (ℕ × ℕ)) → IsScript script read → IsFile topology t → ruling_of t ≡ ruling → Judges (prepared_rules t read ruling)
       by_rules t read (Some (rule, item)) lines file is goes = stops (halts.Rule rule item) turns calls status (read, t, lines, file, some_breaks t rule item is) goes

@@ -3,12 +3,9 @@ pub mod Numbers
 pub mod Commands
 pub mod BrokenFiles
 pub mod Plays
-pub mod Settle
 pub mod Statuses
 pub mod Throughout
 pub mod Judging
-pub mod WholeRuns
-pub mod Carried
 pub mod Finish
 pub mod ScriptReads
 pub mod BindingLaws
@@ -20,9 +17,7 @@ pub mod CompileVerdicts
 pub mod Slots
 pub mod Openings
 pub mod Flushing
-pub mod Written
 pub mod InputVerdicts
-pub mod Solving
 pub mod PlanWords
 pub mod BindingSteps
 pub mod SlotOrder
@@ -31,3 +26,8 @@ pub mod PreparedReads
 pub mod FewMessages
 pub mod Built
 pub mod FewLines
+pub mod WrittenPieces
+pub mod OpenedFiles
+pub mod Grounds
+pub mod PlayRuns
+pub mod Courses

@@ -9,8 +9,9 @@ use Rattle.sof_desk.specs.Desk.{DeskMeaning, Create, Loaded, Acted}
 use Rattle.tplg_plan.specs.declared.plans.Plan.{Plan}
 use Rattle.sof_script.specs.declared.script.Binding.{Binding}
 use Rattle.sof_script.specs.Commands.{Bound, bound_of, bounds_of}
-use Rattle.sof_session.specs.Turns.{Turn}
-use Rattle.sof_run.specs.Todo.{no_memory_line, Todo, Stop, Ask, Do, Free, Played}
+use Rattle.sof_session.specs.Lives.{Turn}
+use Rattle.sof_run.specs.Lines.{no_memory_line}
+use Rattle.sof_run.specs.Todo.{Todo, Stop, Ask, Do, Free, Played}
 use Rattle.sof_run.specs.Bindings.{bound_slot}
 use Rattle.sof_run.specs.Play.{WithPorts, input_todo, output_todo, binding_todo, bindings_todo}
 use Rattle.sof_run.specs.Opening.{AreCreated, Opens, Stops}

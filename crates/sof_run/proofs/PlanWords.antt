@@ -1,5 +1,5 @@
--- The words that a topology's file gives to a plan fit in 32 bits, so the plan of a thin topology is a thin plan.
-use Rattle.std.proofs.Common.{◌≡◌, ℕ, ◌<◌, ◌≤◌, ◌^◌, true, List, [], ◌∷◌, ◌++◌, map, filter, Option, Some, None, unwrap_or, Ok, refl, inl, inr, arith, eqb}
+-- The words that a topology's file gives to a plan fit in 32 bits, so the plan of a well-formed topology is a sound plan.
+use Rattle.std.proofs.Common.{ℕ, ◌<◌, ◌≤◌, ◌^◌, List, [], ◌∷◌, ◌++◌, map, filter, Option, Some, None, unwrap_or, inl, inr, arith, eqb}
 use Rattle.std.proofs.lemmas.Bool.{cases_Bool}
 use Rattle.std.proofs.lemmas.List.Elements.{All-from_recursion}
 use Rattle.std.specs.List.{All, AllByRecursion, flat_map}
@@ -23,14 +23,10 @@ use Rattle.tplg_plan.specs.WidgetWords.{format_number}
 use Rattle.tplg_widgets.specs.Entries.{entry_of, widgets_in, entries_in, entries_of, is_interpreted, interpreted}
 use Rattle.tplg_graph.specs.PlanLists.{widget_plan, widgets_on}
 use Rattle.tplg_graph.specs.PlanOf.{plan_of}
-use Rattle.tplg_plan.specs.ThinPlan.{IsThinPlan}
+use Rattle.tplg_plan.specs.Sound.{IsSound}
 use Rattle.tplg_plan.specs.WidgetWords.{FitsWords}
-use Rattle.tplg_graph.specs.ThinTest.{thin_test}
 use Rattle.tplg_rules.specs.WellFormed.{IsWellFormed}
-use Rattle.tplg_graph.proofs.PlanLaws.{is-thin-plan}
 use Rattle.tplg_graph.proofs.Soundness.{is-sound}
-use Rattle.sof_run.specs.Halts.{IsPlanned}
-use Rattle.tplg_graph.proofs.ThinTests.{thin-test}
 
 -- a number, where there is one, is a word
 abbrev IsWord : Option ℕ → Type 0
@@ -133,10 +129,6 @@ plans_fit (e ∷ es) fit = (fit.0, plans_fit es fit.1)
 words_fit : (t : Topology) → IsTopology t → All FitsWords (plan_of t).widgets
 words_fit t is = All-from_recursion FitsWords (plan_of t).widgets (plans_fit (interpreted (entries_of t)) (kept_fit (entries_of t) (all_fit t.blocks is)))
 
--- the plan of a thin topology that is a file's is a thin plan
-thin_plan : (t : Topology) → IsTopology t → IsWellFormed t → thin_test t ≡ true → IsThinPlan (plan_of t)
-thin_plan t is whole thin = is-thin-plan t (Ok (plan_of t)) whole refl (words_fit t is) ((thin-test t).0 thin)
-
--- the plan of a topology that is a file's is a plan of its kind
-pub planned_plan : (t : Topology) → IsTopology t → IsWellFormed t → IsPlanned (thin_test t) (plan_of t)
-planned_plan t is whole = record { sound = is-sound t whole (words_fit t is); thin = λ thin. thin_plan t is whole thin }
+-- the plan of a well-formed topology that is a file's is a sound plan
+pub sound_plan : (t : Topology) → IsTopology t → IsWellFormed t → IsSound (plan_of t)
+sound_plan t is whole = is-sound t whole (words_fit t is)

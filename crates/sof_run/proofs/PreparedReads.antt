@@ -4,7 +4,6 @@ use Rattle.tplg_model.specs.declared.fault.TplgFault.{TplgFault}
 use Rattle.tplg_model.specs.declared.block.Topology.{Topology}
 use Rattle.tplg_model.specs.Reading.{topology_of}
 use Rattle.tplg_plan.specs.declared.plans.Plan.{Plan}
-use Rattle.tplg_graph.specs.ThinTest.{thin_test}
 use Rattle.tplg_rules.specs.RuleTest.{ruling_of}
 use Rattle.tplg_graph.specs.PlanOf.{plan_of}
 use Rattle.sof_script.specs.declared.reading.ScriptFault.{ScriptFault}
@@ -12,20 +11,20 @@ use Rattle.sof_script.specs.declared.reading.ScriptFault.TheVariants.{Line, OutO
 use Rattle.sof_script.specs.Commands.{Read, script_of}
 use Rattle.std.specs.Prelude.{nat_lt}
 use Rattle.sof_run.specs.Bindings.{wrong_binding}
-use Rattle.sof_run.specs.Play.{Ready, ticks_of, is_built_script, prepared, prepared_script, prepared_ticks, prepared_topology, prepared_rules, prepared_bindings, prepared_commands}
+use Rattle.sof_run.specs.Prepared.{Ready, ticks_of, is_built_script, prepared, prepared_script, prepared_ticks, prepared_topology, prepared_rules, prepared_bindings, prepared_commands}
 
 module _ (plan : Plan) (read : Read) where
   by_commands : (p : Plan) (r : Read) (built : Bool) → prepared_commands p r built ≡ Ready plan read → r ≡ read
   by_commands p r true is = cc is
   by_commands p r false is = absurd (cc is)
 
-  by_bindings : (thin : Bool) (p : Plan) (r : Read) (wrong : Option ℕ) → prepared_bindings thin p r wrong ≡ Ready plan read → r ≡ read
-  by_bindings thin p r (Some line) is = absurd (cc is)
-  by_bindings thin p r None is = by_commands p r (is_built_script thin p r) is
+  by_bindings : (p : Plan) (r : Read) (wrong : Option ℕ) → prepared_bindings p r wrong ≡ Ready plan read → r ≡ read
+  by_bindings p r (Some line) is = absurd (cc is)
+  by_bindings p r None is = by_commands p r (is_built_script p r) is
 
   by_rules : (t : Topology) (r : Read) (ruling : Option (ℕ × ℕ)) → prepared_rules t r ruling ≡ Ready plan read → r ≡ read
   by_rules t r (Some fault) is = absurd (cc is)
-  by_rules t r None is = by_bindings (thin_test t) (plan_of t) r (wrong_binding (plan_of t) r.bindings) is
+  by_rules t r None is = by_bindings (plan_of t) r (wrong_binding (plan_of t) r.bindings) is
 
   by_topology : (r : Read) (t : Result Topology TplgFault) → prepared_topology r t ≡ Ready plan read → r ≡ read
   by_topology r (Err fault) is = absurd (cc is)

@@ -2,7 +2,7 @@
 use Rattle.std.proofs.Common.{◌≡◌, ◌⊎◌, inl, inr, ℕ, Bool, true, false, List, [], ◌∷◌, ◌++◌, Option, Some, None, sym, ◌∙◌, ap, subst, append_assoc, if◌then◌else◌}
 use Rattle.std.proofs.lemmas.List.{append-nil}
 use Rattle.sof_desk.specs.Desk.{DeskMeaning, DeskPlace, Spoken, DeskAct, Put, DeskCall, Load, Did, DeskLed, Acted, Part, Takes, same_place, with_more, written_after}
-use Rattle.sof_session.specs.Turns.{Turn}
+use Rattle.sof_session.specs.Lives.{Turn}
 use Rattle.sof_run.specs.Todo.{Says}
 use Rattle.sof_run.specs.Checks.{saying, Spoke, IsFront}
 

@@ -16,7 +16,7 @@ use Rattle.sof_script.specs.Splitting.{before_line, with_byte, lines_of, without
 use Rattle.sof_script.specs.ValueForms.{byte_cause, count_cause, number_cause, name_value, file_value, format_value, hex_value, in_range, decimal_value, number_value, negative, error_value}
 use Rattle.sof_script.specs.Words.{word_named}
 use Rattle.sof_script.specs.Commands.{◌⊛◌, any_number, message_number, number_values, one_name, one_number, alone, bound, params_item, values_item, hex_item, error_item, lag_item, said_by, behind_word, item_of, line_item, Read, with_item, lines_read, script_of}
-use Rattle.sof_session.specs.Walks.{is_ahead, is_refusal, is_in_range}
+use Rattle.sof_session.specs.CommandRanges.{is_ahead, is_refusal, is_in_range}
 use Rattle.sof_run.specs.Halts.{IsInRange}
 
 -- ---- one line

@@ -2,12 +2,13 @@
 use Rattle.std.proofs.Common.{◌≡◌, ◌⊎◌, inl, inr, ℕ, ◌≤◌, true, false, List, [], ◌∷◌, Ok, Err, refl, sym, ◌∙◌, subst, arith}
 use Rattle.sof_desk.specs.declared.calls.LoadFault.TheVariants.{Failed, TooLong, OutOfMemory}
 use Rattle.sof_desk.specs.Desk.{DeskMeaning, DeskCall, Load, Did, DeskLed, CountRose}
-use Rattle.sof_session.specs.Walks.{Out}
-use Rattle.sof_session.specs.Turns.{Turn}
-use Rattle.sof_run.specs.Todo.{no_memory_line, Todo, End, Stop, Ask, Do, Step, Free, Says, Goes}
-use Rattle.sof_run.specs.Whole.{Throughout}
-use Rattle.sof_run.specs.Run.{LastFails, IsCreate, AreOpening}
-use Rattle.sof_run.proofs.Settle.{no_turns}
+use Rattle.sof_session.specs.Written.{Out}
+use Rattle.sof_session.specs.Lives.{Turn}
+use Rattle.sof_run.specs.Lines.{no_memory_line}
+use Rattle.sof_run.specs.Todo.{Todo, End, Stop, Ask, Do, Step, Free, Says, Goes}
+use Rattle.sof_run.specs.Throughout.{Throughout}
+use Rattle.sof_run.specs.Ends.{IsCreate, AreOpening}
+use Rattle.sof_run.proofs.Steps.{no_turns}
 
 module _ (P : ℕ → Type 0) (A : List ℕ → Type 0) where
   says_all : (line : List ℕ) (n : ℕ) (turns : List Turn) (calls : List DeskCall) (status : ℕ) → Says line n turns calls status → P n → P 3 → P status
@@ -116,50 +117,46 @@ none_asked (Step task rest) (turn ∷ turns) calls status goes last three loads 
 none_asked (Free rest) turns calls status (inl goes) last three loads = none_asked rest turns calls status goes last three loads
 none_asked (Free rest) turns calls status (inr says) last three loads = no_turns no_memory_line 7 turns calls status says
 
--- the last call failed where the status is 3
-last_more : (call : DeskCall) (calls : List DeskCall) → LastFails calls → LastFails (call ∷ calls)
-last_more call [] fails = absurd fails
-last_more call (other ∷ calls) fails = fails
-
+-- the count rose where the status is 3
 rose_before : (a b c : ℕ) → a ≤ b → CountRose b c → CountRose a c
 rose_before a b c le (inl above) = inl (omega arith)
 rose_before a b c le (inr last) = inr last
 
 module _ {D : Type 0} (means : DeskMeaning D) where
-  says_three : (line : List ℕ) (n : ℕ) (turns : List Turn) (calls : List DeskCall) (status : ℕ) (d e : D) → Says line n turns calls status → (n ≡ 3 → ⊥) → DeskLed means d calls e → status ≡ 3 → LastFails calls × CountRose (means.faults d) (means.faults e)
+  abbrev Rises : D → D → Type 0
+  Rises d e = CountRose (means.faults d) (means.faults e)
+
+  last_rises : (act : _) (calls : List DeskCall) (d e : D) → calls ≡ [] → DeskLed means d (Did act false ∷ calls) e → Rises d e
+  last_rises act calls d e none led =
+      let last : e ≡ led.0 = subst (λ cs. DeskLed means led.0 cs e) none led.2 in
+      subst (Rises d) (sym last) (led.1.failed refl)
+
+  says_three : (line : List ℕ) (n : ℕ) (turns : List Turn) (calls : List DeskCall) (status : ℕ) (d e : D) → Says line n turns calls status → (n ≡ 3 → ⊥) → DeskLed means d calls e → status ≡ 3 → Rises d e
   says_three line n turns [] status d e says other led three = absurd says
   says_three line n turns (Load name limit heard ∷ calls) status d e says other led three = absurd says
   says_three line n turns (Did act true ∷ calls) status d e says other led three = absurd (other (sym says.3 ∙ three))
-  says_three line n turns (Did act false ∷ []) status d e says other led three =
-      (refl, subst (λ x. CountRose (means.faults d) (means.faults x)) (sym led.2) (led.1.failed refl))
-  says_three line n turns (Did act false ∷ call ∷ calls) status d e says other led three = absurd (cc says.2)
+  says_three line n turns (Did act false ∷ calls) status d e says other led three = last_rises act calls d e says.2 led
 
-  pub three_last : (todo : Todo) (turns : List Turn) (calls : List DeskCall) (status : ℕ) (d e : D) → Goes todo turns calls status → Throughout (λ n. n ≡ 3 → ⊥) (λ name. Unit {0}) todo → DeskLed means d calls e → status ≡ 3 → LastFails calls × CountRose (means.faults d) (means.faults e)
-  three_last End turns calls status d e goes other led three = absurd (other (sym goes.2 ∙ three))
-  three_last (Stop line n) turns calls status d e goes other led three = says_three line n turns calls status d e goes other led three
-  three_last (Ask name limit line rest) turns [] status d e goes other led three = absurd goes
-  three_last (Ask name limit line rest) turns (Did act done ∷ calls) status d e goes other led three = absurd goes
-  three_last (Ask name limit line rest) turns (Load n l (Ok got) ∷ calls) status d e goes other led three =
-      let rest_of = three_last (rest got) turns calls status led.0 e goes.2 (other.3 got) led.2 three in
-      (last_more (Load n l (Ok got)) calls rest_of.0, rose_before _ _ _ led.1.kept.faults rest_of.1)
-  three_last (Ask name limit line rest) turns (Load n l (Err TooLong) ∷ calls) status d e goes other led three =
-      let rest_of = says_three line 5 turns calls status led.0 e goes.2 other.1 led.2 three in
-      (last_more (Load n l (Err TooLong)) calls rest_of.0, rose_before _ _ _ led.1.kept.faults rest_of.1)
-  three_last (Ask name limit line rest) turns (Load n l (Err OutOfMemory) ∷ calls) status d e goes other led three =
-      let rest_of = says_three no_memory_line 7 turns calls status led.0 e goes.2 other.2 led.2 three in
-      (last_more (Load n l (Err OutOfMemory)) calls rest_of.0, rose_before _ _ _ led.1.kept.faults rest_of.1)
-  three_last (Ask name limit line rest) turns (Load n l (Err Failed) ∷ []) status d e goes other led three =
-      (refl, subst (λ x. CountRose (means.faults d) (means.faults x)) (sym led.2) led.1.answers)
-  three_last (Ask name limit line rest) turns (Load n l (Err Failed) ∷ call ∷ calls) status d e goes other led three = absurd (cc goes.2.1)
-  three_last (Do act rest) turns [] status d e goes other led three = absurd goes
-  three_last (Do act rest) turns (Load name limit heard ∷ calls) status d e goes other led three = absurd goes
-  three_last (Do act rest) turns (Did a true ∷ calls) status d e goes other led three =
-      let rest_of = three_last rest turns calls status led.0 e goes.1 other led.2 three in
-      (last_more (Did a true) calls rest_of.0, rose_before _ _ _ led.1.kept.faults rest_of.1)
-  three_last (Do act rest) turns (Did a false ∷ []) status d e goes other led three =
-      (refl, subst (λ x. CountRose (means.faults d) (means.faults x)) (sym led.2) (led.1.failed refl))
-  three_last (Do act rest) turns (Did a false ∷ call ∷ calls) status d e goes other led three = absurd (cc goes.1.1)
-  three_last (Step task rest) [] calls status d e goes other led three = absurd goes
-  three_last (Step task rest) (turn ∷ turns) calls status d e goes other led three = three_last (rest turn.out) turns calls status d e goes.1 (other turn.out) led three
-  three_last (Free rest) turns calls status d e (inl goes) other led three = three_last rest turns calls status d e goes other.1 led three
-  three_last (Free rest) turns calls status d e (inr says) other led three = says_three no_memory_line 7 turns calls status d e says other.0 led three
+  pub three_rose : (todo : Todo) (turns : List Turn) (calls : List DeskCall) (status : ℕ) (d e : D) → Goes todo turns calls status → Throughout (λ n. n ≡ 3 → ⊥) (λ name. Unit {0}) todo → DeskLed means d calls e → status ≡ 3 → Rises d e
+  three_rose End turns calls status d e goes other led three = absurd (other (sym goes.2 ∙ three))
+  three_rose (Stop line n) turns calls status d e goes other led three = says_three line n turns calls status d e goes other led three
+  three_rose (Ask name limit line rest) turns [] status d e goes other led three = absurd goes
+  three_rose (Ask name limit line rest) turns (Did act done ∷ calls) status d e goes other led three = absurd goes
+  three_rose (Ask name limit line rest) turns (Load n l (Ok got) ∷ calls) status d e goes other led three =
+      rose_before _ _ _ led.1.kept.faults (three_rose (rest got) turns calls status led.0 e goes.2 (other.3 got) led.2 three)
+  three_rose (Ask name limit line rest) turns (Load n l (Err TooLong) ∷ calls) status d e goes other led three =
+      rose_before _ _ _ led.1.kept.faults (says_three line 5 turns calls status led.0 e goes.2 other.1 led.2 three)
+  three_rose (Ask name limit line rest) turns (Load n l (Err OutOfMemory) ∷ calls) status d e goes other led three =
+      rose_before _ _ _ led.1.kept.faults (says_three no_memory_line 7 turns calls status led.0 e goes.2 other.2 led.2 three)
+  three_rose (Ask name limit line rest) turns (Load n l (Err Failed) ∷ calls) status d e goes other led three =
+      let last : e ≡ led.0 = subst (λ cs. DeskLed means led.0 cs e) goes.2.1 led.2 in
+      subst (Rises d) (sym last) led.1.answers
+  three_rose (Do act rest) turns [] status d e goes other led three = absurd goes
+  three_rose (Do act rest) turns (Load name limit heard ∷ calls) status d e goes other led three = absurd goes
+  three_rose (Do act rest) turns (Did a true ∷ calls) status d e goes other led three =
+      rose_before _ _ _ led.1.kept.faults (three_rose rest turns calls status led.0 e goes.1 other led.2 three)
+  three_rose (Do act rest) turns (Did a false ∷ calls) status d e goes other led three = last_rises a calls d e goes.1.1 led
+  three_rose (Step task rest) [] calls status d e goes other led three = absurd goes
+  three_rose (Step task rest) (turn ∷ turns) calls status d e goes other led three = three_rose (rest turn.out) turns calls status d e goes.1 (other turn.out) led three
+  three_rose (Free rest) turns calls status d e (inl goes) other led three = three_rose rest turns calls status d e goes other.1 led three
+  three_rose (Free rest) turns calls status d e (inr says) other led three = says_three no_memory_line 7 turns calls status d e says other.0 led three

@@ -12,22 +12,24 @@ use Rattle.tplg_rules.specs.RuleTest.{ruling_of}
 use Rattle.tplg_compile.specs.declared.source_fault.SourceFault.{SourceFault}
 use Rattle.tplg_compile.specs.declared.source_fault.SourceFault.TheVariants as source
 use Rattle.tplg_compile.specs.InOrder.{compiled_of}
-use Rattle.sof_session.specs.Turns.{Turn}
+use Rattle.sof_session.specs.Lives.{Turn}
 use Rattle.sof_script.specs.Commands.{Bound}
 use Rattle.sof_script.specs.declared.script.Numbered.{Numbered}
-use Rattle.sof_session.specs.Walks.{Written}
-use Rattle.sof_session.specs.Turns.{Turn}
+use Rattle.sof_session.specs.Written.{Written}
+use Rattle.sof_session.specs.Lives.{Turn}
 use Rattle.sof_run.specs.declared.prepare.Halt.{Halt}
 use Rattle.sof_run.specs.declared.prepare.Halt.TheVariants as halt
 use Rattle.sof_run.specs.Words.{Form}
 use Rattle.sof_run.specs.Bindings.{bound_slot}
 use Rattle.sof_run.specs.Rounds.{Round, rounds_of}
 use Rattle.sof_run.specs.Todo.{Todo, End, Free, Goes}
-use Rattle.sof_run.specs.Play.{Prepared, Ready, Halted, prepared, prepared_todo, lines_after, flush_todo, lines_todo, rounds_todo, session_todo, WithPorts, binding_todo, bindings_todo, play, halt_status}
+use Rattle.sof_run.specs.Lines.{lines_after, halt_status}
+use Rattle.sof_run.specs.Prepared.{Prepared, Ready, Halted, prepared}
+use Rattle.sof_run.specs.Play.{prepared_todo, flush_todo, lines_todo, rounds_todo, session_todo, WithPorts, binding_todo, bindings_todo, play}
 use Rattle.sof_run.specs.Checking.{counts_of, checked_rules, checked_file, checked, checked_todo, check}
 use Rattle.sof_run.specs.Compiling.{CompileNames, source_status, compiled_todo, compile}
 use Rattle.sof_run.specs.Forms.{todo_for}
-use Rattle.sof_run.specs.Whole.{Throughout}
+use Rattle.sof_run.specs.Throughout.{Throughout}
 use Rattle.sof_run.proofs.Statuses.{IsLate, CreatesNone, TurnsLast, ends}
 
 module _ (P : ℕ → Type 0) (A : List ℕ → Type 0) where

@@ -12,7 +12,8 @@ use Rattle.sof_run.specs.declared.prepare.Halt.{Halt}
 use Rattle.sof_run.specs.declared.prepare.Halt.TheVariants as halts
 use Rattle.sof_run.specs.Words.{is_file_name}
 use Rattle.sof_run.specs.Todo.{Todo, End, Stop, Ask, Free}
-use Rattle.sof_run.specs.Play.{halt_line, halt_status, lines_todo}
+use Rattle.sof_run.specs.Lines.{halt_line, halt_status}
+use Rattle.sof_run.specs.Play.{lines_todo}
 
 -- ---- the words
 

@@ -8,8 +8,7 @@ use Rattle.tplg_model.specs.File.{IsFileFault}
 use Rattle.tplg_rules.specs.WellFormed.{IsWellFormed, Breaks}
 use Rattle.sof_run.specs.declared.prepare.Halt.{Halt}
 use Rattle.sof_run.specs.declared.prepare.Halt.TheVariants as halts
-use Rattle.sof_run.specs.Todo.{no_memory_line}
-use Rattle.sof_run.specs.Play.{with_newline, halt_line}
+use Rattle.sof_run.specs.Lines.{no_memory_line, with_newline, halt_line}
 use Rattle.sof_run.specs.TopologyBytes.{AreBytes, IsLong, IsFile, IsBroken}
 use Rattle.sof_run.specs.Checking.{check_of, counts_of}
 

@@ -7,8 +7,7 @@ use Rattle.tplg_model.specs.File.{IsTopology, spelling}
 use Rattle.tplg_compile.specs.declared.source_fault.SourceFault.{SourceFault}
 use Rattle.tplg_compile.specs.Compiled.{IsCompiled, IsCompileFault}
 use Rattle.tplg_compile.specs.InOrder.{compiled_of}
-use Rattle.sof_run.specs.Todo.{no_memory_line}
-use Rattle.sof_run.specs.Play.{with_newline}
+use Rattle.sof_run.specs.Lines.{no_memory_line, with_newline}
 use Rattle.sof_run.specs.TopologyBytes.{IsLong, IsFile}
 use Rattle.sof_run.specs.Checks.{saying, Spoke, IsFront}
 use Rattle.sof_run.specs.Compiling.{CompileNames, compile_of, source_line, wrote_line}

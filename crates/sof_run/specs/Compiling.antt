@@ -10,8 +10,9 @@ use Rattle.tplg_compile.specs.declared.source_fault.SourceFault.{SourceFault}
 use Rattle.tplg_compile.specs.declared.source_fault.SourceFault.TheVariants.{Syntax, Shape, Rule, OutOfMemory}
 use Rattle.tplg_compile.specs.InOrder.{compiled_of}
 use Rattle.sof_run.specs.Words.{is_file_name}
-use Rattle.sof_run.specs.Todo.{Todo, End, Stop, Ask, Do, Free, no_memory_line}
-use Rattle.sof_run.specs.Play.{with_newline, lines_todo}
+use Rattle.sof_run.specs.Todo.{Todo, End, Stop, Ask, Do, Free}
+use Rattle.sof_run.specs.Lines.{no_memory_line, with_newline}
+use Rattle.sof_run.specs.Play.{lines_todo}
 use Rattle.sof_run.specs.Checking.{count_line}
 
 -- ---- the words

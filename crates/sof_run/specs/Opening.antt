@@ -3,7 +3,7 @@ use Rattle.std.specs.Prelude.{◌≡◌, ℕ, true, List, []}
 use Rattle.std.specs.List.{AllByRecursion}
 use Rattle.sof_base.specs.Ports.{InputView, OutputView}
 use Rattle.sof_desk.specs.Desk.{DeskMeaning}
-use Rattle.sof_session.specs.Turns.{Turn}
+use Rattle.sof_session.specs.Lives.{Turn}
 use Rattle.sof_run.specs.Todo.{Todo, Played}
 use Rattle.sof_run.specs.Play.{WithPorts}
 

@@ -1,9 +1,11 @@
 -- What is still to do: a program's calls on a desk and turns on a device, by what each of them answers.
-use Rattle.std.specs.Prelude.{◌≡◌, ◌⊎◌, ℕ, Bool, true, false, List, [], ◌∷◌, Ok, Err, codes, if◌then◌else◌}
+use Rattle.std.specs.Prelude.{◌≡◌, ◌⊎◌, ℕ, Bool, true, false, List, [], ◌∷◌, Ok, Err, if◌then◌else◌}
 use Rattle.sof_desk.specs.declared.calls.LoadFault.TheVariants.{Failed, TooLong, OutOfMemory}
 use Rattle.sof_desk.specs.Desk.{DeskMeaning, DeskAct, Put, Spoken, DeskCall, Load, Did, DeskLed}
-use Rattle.sof_session.specs.Walks.{Task, Out}
-use Rattle.sof_session.specs.Turns.{LifeMeaning, Turn, Turns}
+use Rattle.mbox_link.specs.Calls.{Meaning}
+use Rattle.sof_session.specs.Written.{Out}
+use Rattle.sof_session.specs.Lives.{Life, Bare, Task, Turn, Turns, device_of, Exit}
+use Rattle.sof_run.specs.Lines.{no_memory_line}
 
 -- what a program has still to do
 pub data Todo : Type 0 where
@@ -19,10 +21,6 @@ pub data Todo : Type 0 where
   Step : (task : Task) (next : Out → Todo) → Todo
   -- memory may be wanting here
   Free : (next : Todo) → Todo
-
--- what is said where memory is wanting
-abbrev pub no_memory_line : List ℕ
-no_memory_line = codes "no memory\n"
 
 -- a line is said and no other call is made; where the desk fails, the status is 3
 abbrev pub Says : List ℕ → ℕ → List Turn → List DeskCall → ℕ → Type 0
@@ -64,10 +62,17 @@ pub record Played {D : Type 0} (means : DeskMeaning D) (todo : Todo) (old : D) (
   pub goes : Goes todo turns calls status
 
 -- it was done on a desk and a device
-pub record RanOn {D P : Type 0} (means : DeskMeaning D) (dsp : LifeMeaning P) (todo : Todo) (old : D) (p : P) (status : ℕ) (new : D) (q : P) : Type 0 where
+pub record RanOn {D P : Type 0} (means : DeskMeaning D) (dsp : Meaning P) (todo : Todo) (old : D) (p : Life P) (status : ℕ) (new : D) (q : Life P) : Type 0 where
   pub turns : List Turn
   pub turned : Turns dsp p turns q
   pub played : Played means todo old turns status new
+
+-- what was done, with the device that is handed back
+pub record Gave {D P : Type 0} (means : DeskMeaning D) (dsp : Meaning P) (todo : Todo) (old : D) (p : P) (status : ℕ) (new : D) (q : P) : Type 0 where
+  pub last : Life P
+  pub is : device_of last ≡ q
+  pub exit : Exit dsp p last
+  pub ran : RanOn means dsp todo old (Bare p) status new last
 
 -- A phase on a desk alone, before what comes after it. Done, it leads on; else the desk failed, and all ends with 3.
 abbrev pub DeskPhase : {D : Type 0} → DeskMeaning D → (Todo → Todo) → Bool → D → D → Type 0
@@ -76,15 +81,15 @@ DeskPhase {D} means phase true old new =
 DeskPhase means phase false old new = (rest : Todo) → Played means (phase rest) old [] 3 new
 
 -- what is left on the right, done, makes the whole on the left done
-abbrev pub LeadsOn : {D P : Type 0} → DeskMeaning D → LifeMeaning P → (Todo → Todo) → (Todo → Todo) → D → P → D → P → Type 0
+abbrev pub LeadsOn : {D P : Type 0} → DeskMeaning D → Meaning P → (Todo → Todo) → (Todo → Todo) → D → Life P → D → Life P → Type 0
 LeadsOn {D} {P} means dsp whole left old p new q =
-    (rest : Todo) (status : ℕ) (end : D) (r : P) → RanOn means dsp (left rest) new q status end r → RanOn means dsp (whole rest) old p status end r
+    (rest : Todo) (status : ℕ) (end : D) (r : Life P) → RanOn means dsp (left rest) new q status end r → RanOn means dsp (whole rest) old p status end r
 
 -- the desk failed
-abbrev pub PhaseFails : {D P : Type 0} → DeskMeaning D → LifeMeaning P → (Todo → Todo) → D → P → D → P → Type 0
+abbrev pub PhaseFails : {D P : Type 0} → DeskMeaning D → Meaning P → (Todo → Todo) → D → Life P → D → Life P → Type 0
 PhaseFails means dsp whole old p new q = (rest : Todo) → RanOn means dsp (whole rest) old p 3 new q
 
 -- a phase on both
-abbrev pub Phase : {D P : Type 0} → DeskMeaning D → LifeMeaning P → (Todo → Todo) → Bool → D → P → D → P → Type 0
+abbrev pub Phase : {D P : Type 0} → DeskMeaning D → Meaning P → (Todo → Todo) → Bool → D → Life P → D → Life P → Type 0
 Phase means dsp phase true old p new q = LeadsOn means dsp phase (λ rest. rest) old p new q
 Phase means dsp phase false old p new q = PhaseFails means dsp phase old p new q

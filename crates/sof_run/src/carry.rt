@@ -5,12 +5,13 @@ ghost use Rattle.sof_base.specs.Ports.{drained};
 ghost use Rattle.sof_io.specs.Bound.{output_slots};
 ghost use Rattle.host_widgets.specs.Controls.{IsLoadable};
 ghost use Rattle.sof_script.specs.Text.{answer_line};
-ghost use Rattle.sof_session.specs.Show.{show_lines};
-ghost use Rattle.sof_session.specs.Walks.{IsBuilt, is_in_range, most_sent};
-ghost use Rattle.sof_session.specs.Turns.{Seated, life, shown_by};
+ghost use Rattle.sof_session.specs.Show.{show_lines, shown_by};
+ghost use Rattle.sof_session.specs.CommandRanges.{is_built, is_in_range, most_sent};
+ghost use Rattle.sof_session.specs.Lives.{Seated};
 ghost use Rattle.sof_run.specs.Todo.{DeskPhase, Phase};
 ghost use Rattle.sof_run.specs.Rounds.{earlier as units_before, command_rounds};
-ghost use Rattle.sof_run.specs.Play.{is_show, with_newline, lines_todo, round_todo, rounds_todo, commands_todo};
+ghost use Rattle.sof_run.specs.Lines.{is_show, with_newline};
+ghost use Rattle.sof_run.specs.Play.{lines_todo, round_todo, rounds_todo, commands_todo};
 ghost use Rattle.sof_run.specs.Halts.{AreBuilt};
 ghost use Rattle.sof_run.specs.Opening.{AreCreated, SameCreated};
 
@@ -63,7 +64,7 @@ fn say_lines<D: Desk, P: Dsp>(
     line: &mut Line,
 ) -> bool
     requires plan { IsLoadable session.now.plan }
-    ensures phase { DeskPhase D.means (lines_todo (answer_line numbered.now.line answer.now ∷ shown_by numbered.now.command session.now)) result desk.old desk.new }
+    ensures phase { DeskPhase D.means (lines_todo (answer_line numbered.now.line answer.now ∷ shown_by numbered.now.command session.now.plan session.now.kept)) result desk.old desk.new }
     ensures created { SameCreated D.means desk.old desk.new }
 {
     write_line(numbered.line, answer, line);
@@ -87,13 +88,13 @@ fn do_round<D: Desk, P: Dsp>(
     outputs: &mut Outputs,
     line: &mut Line,
 ) -> bool
-    requires built { IsBuilt session.old.plan numbered.now.command }
+    requires built { is_built numbered.now.command ≡ true }
     requires numbers { is_in_range numbered.now.command ≡ true }
     requires few { session.old.link.sent < 2 ^ 63 }
     requires plan { IsLoadable session.old.plan }
     requires created { AreCreated D.means (output_slots outputs.old) desk.old }
     requires empty { drained outputs.old ≡ outputs.old }
-    ensures phase { Phase D.means (life P.means) (round_todo (record { numbered = numbered.now; last = last })) result
+    ensures phase { Phase D.means P.means (round_todo (record { numbered = numbered.now; last = last })) result
         desk.old (Seated session.old inputs.old (output_slots outputs.old)) desk.new (Seated session.new inputs.new (output_slots outputs.new)) }
     ensures plan { session.new.plan ≡ session.old.plan }
     ensures sent { session.new.link.sent ≤ session.old.link.sent + most_sent numbered.now.command }
@@ -132,13 +133,13 @@ fn do_command<D: Desk, P: Dsp>(
     outputs: &mut Outputs,
     line: &mut Line,
 ) -> bool
-    requires built { IsBuilt session.old.plan numbered.now.command }
+    requires built { is_built numbered.now.command ≡ true }
     requires numbers { is_in_range numbered.now.command ≡ true }
     requires few { session.old.link.sent < 2 ^ 63 }
     requires plan { IsLoadable session.old.plan }
     requires created { AreCreated D.means (output_slots outputs.old) desk.old }
     requires empty { drained outputs.old ≡ outputs.old }
-    ensures phase { Phase D.means (life P.means) (rounds_todo (command_rounds numbered.now)) result
+    ensures phase { Phase D.means P.means (rounds_todo (command_rounds numbered.now)) result
         desk.old (Seated session.old inputs.old (output_slots outputs.old)) desk.new (Seated session.new inputs.new (output_slots outputs.new)) }
     ensures plan { session.new.plan ≡ session.old.plan }
     ensures sent { session.new.link.sent ≤ session.old.link.sent + 900 }
@@ -162,14 +163,14 @@ pub fn do_commands<D: Desk, P: Dsp>(
     inputs: &mut Inputs,
     outputs: &mut Outputs,
 ) -> bool
-    requires built { AreBuilt session.old.plan commands.now }
+    requires built { AreBuilt commands.now }
     requires numbers { list_all (λ n. is_in_range n.command) commands.now ≡ true }
     requires few { length commands.now < 2 ^ 32 }
     requires first { session.old.link.sent ≡ 0 }
     requires plan { IsLoadable session.old.plan }
     requires created { AreCreated D.means (output_slots outputs.old) desk.old }
     requires empty { drained outputs.old ≡ outputs.old }
-    ensures { Phase D.means (life P.means) (commands_todo commands.now) result
+    ensures { Phase D.means P.means (commands_todo commands.now) result
         desk.old (Seated session.old inputs.old (output_slots outputs.old)) desk.new (Seated session.new inputs.new (output_slots outputs.new)) }
 {
     let mut line = Line::new();

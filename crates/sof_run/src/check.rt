@@ -3,7 +3,8 @@ ghost use Rattle.std.specs.Prelude.{◌≡◌, ◌≤◌, ◌++◌, [], ◌∷�
 ghost use Rattle.tplg_model.specs.declared.block.Topology.{Topology};
 ghost use Rattle.tplg_plan.specs.HeapNeed.{IsSmall, need_on};
 ghost use Rattle.sof_run.specs.Todo.{DeskPhase, Played};
-ghost use Rattle.sof_run.specs.Play.{lines_todo, with_newline};
+ghost use Rattle.sof_run.specs.Lines.{with_newline};
+ghost use Rattle.sof_run.specs.Play.{lines_todo};
 ghost use Rattle.sof_run.specs.Halts.{HaltsAtCheck};
 ghost use Rattle.sof_run.specs.Checking as law;
 ghost use Rattle.sof_run.specs.Checking.{check, count_line, counts_of, counts_on};

@@ -2,9 +2,10 @@
 ghost use Rattle.std.specs.Prelude.{◌≡◌, ℕ, [], List, true, MatchResult, if◌then◌else◌};
 ghost use Rattle.sof_desk.specs.Desk.{Loaded};
 ghost use Rattle.sof_io.specs.Bound.{output_slots};
-ghost use Rattle.sof_session.specs.Walks.{with_bytes, written_in};
+ghost use Rattle.sof_session.specs.Written.{with_bytes, written_in};
 ghost use Rattle.sof_run.specs.Todo.{Todo, Stop, Ask, Played, DeskPhase};
-ghost use Rattle.sof_run.specs.Play.{flush_todo, halt_line, halt_status};
+ghost use Rattle.sof_run.specs.Lines.{halt_line, halt_status};
+ghost use Rattle.sof_run.specs.Play.{flush_todo};
 ghost use Rattle.sof_run.specs.Opening.{AreCreated, SameCreated};
 
 use crate::lines::write_halt;

@@ -5,7 +5,8 @@ ghost use Rattle.sof_io.specs.Bound.{input_slots, output_slots, has_slot};
 ghost use Rattle.sof_io.specs.Puts.{with_slot};
 ghost use Rattle.sof_script.specs.Commands.{bounds_of};
 ghost use Rattle.sof_run.specs.Bindings.{wrong_binding};
-ghost use Rattle.sof_run.specs.Todo.{Stop, Played, no_memory_line};
+ghost use Rattle.sof_run.specs.Lines.{no_memory_line};
+ghost use Rattle.sof_run.specs.Todo.{Stop, Played};
 ghost use Rattle.sof_run.specs.Play.{input_todo, output_todo, bindings_todo};
 ghost use Rattle.sof_run.specs.Opening.{AreCreated, SameCreated, Opens, Stops};
 

@@ -1,6 +1,6 @@
 // The top call.
 ghost use Rattle.std.specs.Prelude.{◌≡◌, ◌≤◌, [], map, None, string_bytes};
-ghost use Rattle.sof_run.specs.Todo.{Free, Played};
+ghost use Rattle.sof_run.specs.Todo.{Free, Gave, Played};
 ghost use Rattle.sof_run.specs.Words.{form as form_of};
 ghost use Rattle.sof_script.specs.Commands.{script_read};
 ghost use Rattle.sof_run.specs.Halts.{IsCarriable, IsInRange};
@@ -9,7 +9,7 @@ ghost use Rattle.sof_run.specs.Checking.{check_of};
 ghost use Rattle.sof_run.specs.Compiling.{compile_of};
 ghost use Rattle.sof_run.specs.Compiles.{MakesTopology};
 ghost use Rattle.sof_run.specs.Forms.{todo_for, todo_of};
-ghost use Rattle.sof_run.specs.Run.{Gave, Whole};
+ghost use Rattle.sof_run.specs.Run.{Whole};
 
 use crate::carry::do_commands;
 use crate::check::do_check;
@@ -21,7 +21,7 @@ use crate::words::{Form, read_check, read_compile, read_play};
 use mbox_link::Dsp;
 use sof_desk::Desk;
 use sof_io::{Inputs, Outputs};
-use sof_session::{Session, command_law, first_law};
+use sof_session::Session;
 use std::alloc::Global;
 
 /// How a run ended, and the device as it stands.
@@ -163,8 +163,5 @@ pub fn run<D: Desk, P: Dsp>(alloc: Global, words: &[String], desk: &mut D, dsp: 
     requires pending { P.means.pending dsp ≡ 0 }
     ensures { Whole D.means P.means (map string_bytes words.now) desk.old dsp result.status desk.new result.dsp }
 {
-    // The samples rest on these laws of a session; nothing runs here.
-    first_law();
-    command_law();
     do_words(alloc, words, desk, dsp)
 }

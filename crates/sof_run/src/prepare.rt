@@ -2,21 +2,22 @@
 ghost use Rattle.std.specs.Prelude.{◌≡◌, ◌<◌, ◌-◌, ◌^◌, ◌==◌, length, None, Ok, IfOk, MatchResult};
 ghost use Rattle.tplg_model.specs.Reading.{topology_of};
 ghost use Rattle.tplg_rules.specs.RuleTest.{ruling_of};
-ghost use Rattle.tplg_graph.specs.ThinTest.{thin_test};
 ghost use Rattle.tplg_plan.specs.HeapNeed.{IsSmall, need_on};
+ghost use Rattle.tplg_plan.specs.Sound.{IsSound};
 ghost use Rattle.tplg_graph.specs.TopologyNeed.{need_of};
 ghost use Rattle.tplg_graph.specs.PlanOf.{plan_of};
 ghost use Rattle.host_widgets.specs.Controls.{first_blob, has_no_blobs};
 ghost use Rattle.sof_script.specs.Commands.{script_read};
 ghost use Rattle.std.specs.List.{list_all};
 ghost use Rattle.sof_run.specs.Bindings.{wrong_binding as wrong_of};
-ghost use Rattle.sof_run.specs.Play.{Ready as IsReady, is_played as is_carried_out, is_built_script, prepared, prepared_bindings, prepared_rules, prepared_script};
-ghost use Rattle.sof_run.specs.Halts.{Halts, HaltsFor, HaltsAtTopology, HaltsAtRules, IsCarriable, IsPlanned};
+ghost use Rattle.sof_session.specs.CommandRanges.{is_built as is_carried_out};
+ghost use Rattle.sof_run.specs.Prepared.{Ready as IsReady, is_built_script, prepared, prepared_bindings, prepared_rules, prepared_script};
+ghost use Rattle.sof_run.specs.Halts.{Halts, HaltsFor, HaltsAtTopology, HaltsAtRules, IsCarriable};
 
 use crate::bindings::wrong_binding;
 use sof_script::{Command, Numbered, Script, ScriptFault, parse, ticks};
 use std::alloc::Global;
-use tplg_graph::{ControlKind, ControlPlan, Plan, PlanFault, is_thin, plan};
+use tplg_graph::{ControlKind, ControlPlan, Plan, PlanFault, plan};
 use tplg_model::Topology;
 use tplg_read::{TplgFault, read};
 
@@ -77,7 +78,7 @@ pub fn ruled_plan(alloc: Global, topology: &Topology) -> Result<Plan, Halt>
     ensures plan { MatchResult result
         (λ p. (ruling_of topology.now ≡ None) × (p ≡ plan_of topology.now))
         (λ halt. HaltsAtRules halt (ruling_of topology.now)) }
-    ensures planned { IfOk result (λ p. IsPlanned (thin_test topology.now) p) }
+    ensures sound { IfOk result (λ p. IsSound p) }
     ensures small { IfOk result (λ p. IsSmall p.graph) }
     ensures need { IfOk result (λ p. need_on p.graph ≡ need_of topology.now) }
 {
@@ -88,35 +89,25 @@ pub fn ruled_plan(alloc: Global, topology: &Topology) -> Result<Plan, Halt>
     }
 }
 
-// Whether a topology is thin.
-fn asks_thin(alloc: Global, topology: &Topology) -> Result<bool, Halt>
-    ensures { MatchResult result (λ thin. thin ≡ thin_test topology.now) (λ halt. halt ≡ Halt.OutOfMemory) }
-{
-    match is_thin(alloc, topology) {
-        Ok(thin) => Ok(thin),
-        Err(_) => Err(Halt::OutOfMemory),
-    }
-}
-
-// Whether a command is carried out so far: streams and ticks are over a thin topology alone.
-fn is_played(thin: bool, command: &Command) -> bool
-    ensures { result ≡ is_carried_out thin command.now }
+// Whether a command is carried out so far.
+fn is_built(command: &Command) -> bool
+    ensures { result ≡ is_carried_out command.now }
 {
     match command {
-        Command::Load | Command::Unload | Command::Show => true,
-        Command::Refuse(_, _) => true,
-        Command::Open(_) | Command::Close(_) | Command::Params(_, _) => thin,
-        Command::Start(_) | Command::Stop(_) | Command::Tick(_) => thin,
-        _ => false,
+        Command::Load | Command::Unload | Command::Show | Command::Tick(_) => true,
+        Command::Open(_) | Command::Close(_) | Command::Params(_, _) => true,
+        Command::Start(_) | Command::Stop(_) => true,
+        Command::Pause(_) | Command::Release(_) => true,
+        Command::Refuse(_, _) | Command::Drop(_) | Command::Lose(_) => true,
+        Command::Set(_, _) | Command::Bytes(_, _) | Command::Get(_) | Command::Read(_) => false,
+        Command::Suspend | Command::Resume | Command::Lag(_, _) => false,
     }
 }
 
-fn are_played(thin: bool, commands: &[Numbered]) -> bool
-    ensures { result ≡ list_all (λ n. is_carried_out thin n.command) commands.now }
+fn are_built(commands: &[Numbered]) -> bool
+    ensures { result ≡ list_all (λ n. is_carried_out n.command) commands.now }
 {
-    commands
-        .iter()
-        .all(|numbered| is_played(thin, &numbered.command))
+    commands.iter().all(|numbered| is_built(&numbered.command))
 }
 
 // Whether a control has no first blob.
@@ -137,23 +128,23 @@ fn is_without_blobs(plan: &Plan) -> bool
 }
 
 // Whether all that a script asks for over a plan is built.
-fn asks_for_built(thin: bool, plan: &Plan, script: &Script) -> bool
-    ensures { result ≡ is_built_script thin plan.now (script_read script.now) }
+fn asks_for_built(plan: &Plan, script: &Script) -> bool
+    ensures { result ≡ is_built_script plan.now (script_read script.now) }
 {
-    is_without_blobs(plan) && are_played(thin, script.commands.items())
+    is_without_blobs(plan) && are_built(script.commands.items())
 }
 
 // A plan with a script of right bindings, of which all is built.
-fn ready_for(thin: bool, plan: Plan, script: Script) -> Result<Ready, Halt>
-    requires { IsPlanned thin plan }
+fn ready_for(plan: Plan, script: Script) -> Result<Ready, Halt>
+    requires { IsSound plan }
     ensures { MatchResult result
-        (λ ready. (ready.plan ≡ plan) × IsCarriable ready.plan (script_read ready.script) × (prepared_bindings thin plan (script_read script) (wrong_of plan (script_read script).bindings) ≡ IsReady ready.plan (script_read ready.script)))
-        (λ halt. Halts halt (prepared_bindings thin plan (script_read script) (wrong_of plan (script_read script).bindings))) }
+        (λ ready. (ready.plan ≡ plan) × IsCarriable ready.plan (script_read ready.script) × (prepared_bindings plan (script_read script) (wrong_of plan (script_read script).bindings) ≡ IsReady ready.plan (script_read ready.script)))
+        (λ halt. Halts halt (prepared_bindings plan (script_read script) (wrong_of plan (script_read script).bindings))) }
 {
     if let Some(line) = wrong_binding(&plan, script.bindings.items()) {
         return Err(Halt::Binding { line });
     }
-    if !asks_for_built(thin, &plan, &script) {
+    if !asks_for_built(&plan, &script) {
         return Err(Halt::NotYet);
     }
     Ok(Ready { plan, script })
@@ -166,8 +157,7 @@ fn prepare_rules(alloc: Global, topology: &Topology, script: Script) -> Result<R
         (λ halt. Halts halt (prepared_rules topology.now (script_read script) (ruling_of topology.now))) }
 {
     let plan = ruled_plan(alloc, topology)?;
-    let thin = asks_thin(alloc, topology)?;
-    ready_for(thin, plan, script)
+    ready_for(plan, script)
 }
 
 // A script of which neither line is at fault, over a topology's bytes.

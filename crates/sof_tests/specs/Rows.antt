@@ -1,6 +1,9 @@
 -- The thin graph as a topology, and what the written run says over it.
-use Rattle.std.specs.Prelude.{ℕ, List, [], ◌∷◌, ◌++◌, None, codes, map, replicate}
-use Rattle.sof_desk.specs.Desk.{Spoken}
+use Rattle.std.specs.Prelude.{ℕ, List, [], ◌∷◌, ◌++◌, codes, map, replicate}
+use Rattle.std.specs.List.{concat}
+use Rattle.stream_law.specs.Past.{Moment}
+use Rattle.mbox_link.specs.Meetings.{calm}
+use Rattle.tplg_plan.specs.declared.plans.Plan.{Plan}
 use Rattle.tplg_model.specs.declared.tokens.TokenArray.{TokenArray}
 use Rattle.tplg_model.specs.declared.tokens.TokenArray.TheVariants.{Number, Text}
 use Rattle.tplg_model.specs.declared.widget.Widget.{Widget}
@@ -15,8 +18,11 @@ use Rattle.tplg_model.specs.Spelling.{BlockValue}
 use Rattle.tplg_graph.specs.PlanOf.{plan_of}
 use Rattle.sof_script.specs.declared.script.Command.TheVariants.{Load, Show}
 use Rattle.sof_script.specs.Commands.{numbered_from}
-use Rattle.sof_session.specs.Walks.{Stand}
-use Rattle.sof_run.specs.Runs.{RunUnit, stand_begun, run_of, marked_pieces, bytes_of_pieces, after_units}
+use Rattle.sof_script.specs.declared.script.Numbered.{Numbered}
+use Rattle.sof_session.specs.Commands.{Known, first_known, next}
+use Rattle.sof_session.specs.Show.{shown_by}
+use Rattle.sof_session.specs.Written.{boots_in}
+use Rattle.sof_run.specs.Lines.{with_newline, spoken}
 
 -- one number
 abbrev pub number : ℕ → ℕ → TokenArray
@@ -61,18 +67,25 @@ thin_topology = record {
       ∷ block (Pcms (pcm (codes "Main") (codes "P0") ∷ [])) ∷ [];
 }
 
--- before a session
-abbrev pub bare : Stand
-bare = record { boots = 0; host = None }
+-- the lines of numbered commands, one after another, over a device that does nothing of its own accord
+abbrev pub said_from : Plan → ℕ → Known → List Numbered → List (List ℕ)
+said_from plan heap known [] = []
+said_from plan heap known (numbered ∷ commands) =
+    let c = next plan heap calm known numbered.command in
+    spoken numbered.line (record { answer = c.answer; shown = shown_by numbered.command plan known.kept; written = [] }) ++ said_from plan heap c.known commands
 
--- the run of `load` and `show` with a heap of so many bytes
-abbrev pub load_and_show : ℕ → List RunUnit
-load_and_show heap = run_of (numbered_from 1 (Load ∷ Show ∷ [])) (stand_begun (plan_of thin_topology) heap [] [] bare)
+-- their moments
+abbrev pub moments_from : Plan → ℕ → Known → List Numbered → List Moment
+moments_from plan heap known [] = []
+moments_from plan heap known (numbered ∷ commands) = let c = next plan heap calm known numbered.command in c.moments ++ moments_from plan heap c.known commands
 
--- what a run says
-abbrev pub said : List RunUnit → List ℕ
-said units = bytes_of_pieces Spoken (map (λ mark. mark.0) (marked_pieces units))
+abbrev pub load_and_show : List Numbered
+load_and_show = numbered_from 1 (Load ∷ Show ∷ [])
 
--- how often the device was booted by a run
-abbrev pub boots_of : List RunUnit → ℕ
-boots_of units = (after_units bare units).boots
+-- what a run of `load` and `show` says, with a heap of so many bytes
+abbrev pub said : ℕ → List ℕ
+said heap = concat (map with_newline (said_from (plan_of thin_topology) heap (first_known (plan_of thin_topology)) load_and_show))
+
+-- how often the device is booted by it
+abbrev pub boots_of : ℕ → ℕ
+boots_of heap = boots_in (moments_from (plan_of thin_topology) heap (first_known (plan_of thin_topology)) load_and_show)

@@ -1,8 +1,5 @@
 use Rattle.std.proofs.Common.{◌∙◌, subst, sym, arith}
-use Rattle.tplg_plan.specs.declared.plans.Plan.{Plan}
 use Rattle.host_widgets.specs.Controls.{IsLoadable}
-use Rattle.sof_session.specs.Walks.{IsBuilt}
-use Rattle.sof_session.specs.Turns.{life}
 use Rattle.sof_run.specs.Rounds.{earlier as units_before}
 use Rattle.sof_run.proofs.Commands.{rounds_on, rounds_off, rounds_last}
 use Rattle.sof_run.proofs.FewMessages.{none_before, at_most}
@@ -16,18 +13,18 @@ loop-preserved g c =
       sent = omega (arith, c.do_round.ensures.sent, c.loop.invariant.sent, none_before numbered.command c.loop.counter (rw c.earlier-end.ensures at c.loop-test.true));
       created = c.do_round.ensures.created;
       empty = c.do_round.ensures.empty;
-      so_far = rounds_on g.D.Desk.means (life g.P.Dsp.means) numbered (units_before numbered.command) c.loop.counter _ _ _ _ _ _ c.loop.invariant.so_far (rw c.earlier-end.ensures at c.loop-test.true) (rw c.if-not-do_round.false at c.do_round.ensures.phase);
+      so_far = rounds_on g.D.Desk.means g.P.Dsp.means numbered (units_before numbered.command) c.loop.counter _ _ _ _ _ _ c.loop.invariant.so_far (rw c.earlier-end.ensures at c.loop-test.true) (rw c.if-not-do_round.false at c.do_round.ensures.phase);
     }
 
 pub returns-then-not-do_round-clause-phase : goal.returns-then-not-do_round-clause-phase
 returns-then-not-do_round-clause-phase g c =
     let numbered = c.args.numbered.now in
-    rounds_off g.D.Desk.means (life g.P.Dsp.means) numbered (units_before numbered.command) c.loop.counter _ _ _ _ _ _ c.loop.invariant.so_far (rw c.earlier-end.ensures at c.loop-test.true) (rw c.if-not-do_round.true at c.do_round.ensures.phase)
+    rounds_off g.D.Desk.means g.P.Dsp.means numbered (units_before numbered.command) c.loop.counter _ _ _ _ _ _ c.loop.invariant.so_far (rw c.earlier-end.ensures at c.loop-test.true) (rw c.if-not-do_round.true at c.do_round.ensures.phase)
 
 pub returns-clause-phase : goal.returns-clause-phase
 returns-clause-phase g c =
     let numbered = c.args.numbered.now in
-    rounds_last g.D.Desk.means (life g.P.Dsp.means) numbered (units_before numbered.command) c.loop.counter _ _ _ _ _ _ c.loop.invariant.so_far c.do_round-2.result (rw c.earlier-end.ensures at c.loop-test.false) c.do_round-2.ensures.phase
+    rounds_last g.D.Desk.means g.P.Dsp.means numbered (units_before numbered.command) c.loop.counter _ _ _ _ _ _ c.loop.invariant.so_far c.do_round-2.result (rw c.earlier-end.ensures at c.loop-test.false) c.do_round-2.ensures.phase
 
 pub do_round-requires-clause-few : goal.do_round-requires-clause-few
 do_round-requires-clause-few g c = omega (arith, c.loop.invariant.sent, c.requires.few)
@@ -39,13 +36,13 @@ pub returns-clause-sent : goal.returns-clause-sent
 returns-clause-sent g c = omega (arith, c.do_round-2.ensures.sent, c.loop.invariant.sent, at_most c.args.numbered.now.command)
 
 pub do_round-requires-clause-built : goal.do_round-requires-clause-built
-do_round-requires-clause-built g c = subst (λ (p : Plan). IsBuilt p c.args.numbered.now.command) (sym c.loop.invariant.plan) c.requires.built
+do_round-requires-clause-built g c = c.requires.built
 
 pub do_round-requires-clause-plan : goal.do_round-requires-clause-plan
 do_round-requires-clause-plan g c = subst IsLoadable (sym c.loop.invariant.plan) c.requires.plan
 
 pub do_round-requires-2-clause-built : goal.do_round-requires-2-clause-built
-do_round-requires-2-clause-built g c = subst (λ (p : Plan). IsBuilt p c.args.numbered.now.command) (sym c.loop.invariant.plan) c.requires.built
+do_round-requires-2-clause-built g c = c.requires.built
 
 pub do_round-requires-2-clause-plan : goal.do_round-requires-2-clause-plan
 do_round-requires-2-clause-plan g c = subst IsLoadable (sym c.loop.invariant.plan) c.requires.plan

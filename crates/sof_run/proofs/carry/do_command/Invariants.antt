@@ -1,7 +1,7 @@
 use Rattle.std.proofs.Common.{◌≡◌, ◌≤◌, ◌-◌}
 use Rattle.sof_base.specs.Ports.{drained}
 use Rattle.sof_io.specs.Bound.{output_slots}
-use Rattle.sof_session.specs.Turns.{life, Seated}
+use Rattle.sof_session.specs.Lives.{Seated}
 use Rattle.sof_run.specs.Todo.{LeadsOn}
 use Rattle.sof_run.specs.Rounds.{earlier, rounds_after, command_rounds}
 use Rattle.sof_run.specs.Play.{rounds_todo}
@@ -17,6 +17,6 @@ invariant-loop g l =
       sent : l.session.link.sent ≤ l.fn.session.link.sent;
       created : AreCreated means (output_slots l.outputs) l.desk;
       empty : drained l.outputs ≡ l.outputs;
-      so_far : LeadsOn means (life g.P.Dsp.means) (rounds_todo (command_rounds l.numbered)) (rounds_todo (rounds_after (earlier l.numbered.command - l.counter) l.numbered))
+      so_far : LeadsOn means g.P.Dsp.means (rounds_todo (command_rounds l.numbered)) (rounds_todo (rounds_after (earlier l.numbered.command - l.counter) l.numbered))
           l.fn.desk (Seated l.fn.session l.fn.inputs (output_slots l.fn.outputs)) l.desk (Seated l.session l.inputs (output_slots l.outputs));
     }

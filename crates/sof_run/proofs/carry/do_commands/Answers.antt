@@ -1,12 +1,11 @@
-use Rattle.std.proofs.Common.{◌≤◌, length, sym, subst, ◌∙◌, arith}
+use Rattle.std.proofs.Common.{◌≡◌, true, ◌≤◌, length, sym, subst, ◌∙◌, arith}
 use Rattle.std.proofs.lemmas.List.{drop_all}
 use Rattle.sof_io.specs.Bound.{output_slots}
-use Rattle.tplg_plan.specs.declared.plans.Plan.{Plan}
 use Rattle.host_widgets.specs.Controls.{IsLoadable}
 use Rattle.sof_script.specs.declared.script.Numbered.{Numbered}
-use Rattle.sof_session.specs.Walks.{IsBuilt}
+use Rattle.sof_session.specs.CommandRanges.{is_built}
 use Rattle.sof_run.proofs.Built.{built_at}
-use Rattle.sof_session.specs.Turns.{Seated, life}
+use Rattle.sof_session.specs.Lives.{Seated}
 use Rattle.sof_run.specs.Rounds.{command_rounds}
 use Rattle.sof_run.specs.Todo.{Phase}
 use Rattle.sof_run.specs.Play.{rounds_todo}
@@ -16,14 +15,14 @@ use Rattle.sof_run.proofs.carry.do_commands.Goals as goal
 pub returns-then-not-do_command : goal.returns-then-not-do_command
 returns-then-not-do_command g c =
     let means = g.D.Desk.means in
-    let dsp = life g.P.Dsp.means in
+    let dsp = g.P.Dsp.means in
     let phase = subst (λ n. Phase means dsp (rounds_todo (command_rounds n)) c.do_command.result c.loop-numbered.desk (Seated c.loop-numbered.session c.loop-numbered.inputs (output_slots c.loop-numbered.outputs)) c.do_command.new.desk (Seated c.do_command.new.session c.do_command.new.inputs (output_slots c.do_command.new.outputs))) c.numbered-item.is c.do_command.ensures.phase in
     commands_off means dsp c.args.commands.now c.loop-numbered.numbered-index _ _ _ _ _ _ _ c.loop-numbered-test.true c.loop-numbered.invariant.so_far (rw c.if-not-do_command.true at phase)
 
 pub loop-numbered-preserved : goal.loop-numbered-preserved
 loop-numbered-preserved g c =
     let means = g.D.Desk.means in
-    let dsp = life g.P.Dsp.means in
+    let dsp = g.P.Dsp.means in
     let phase = subst (λ n. Phase means dsp (rounds_todo (command_rounds n)) c.do_command.result c.loop-numbered.desk (Seated c.loop-numbered.session c.loop-numbered.inputs (output_slots c.loop-numbered.outputs)) c.do_command.new.desk (Seated c.do_command.new.session c.do_command.new.inputs (output_slots c.do_command.new.outputs))) c.numbered-item.is c.do_command.ensures.phase in
     record {
       plan = c.do_command.ensures.plan ∙ c.loop-numbered.invariant.plan;
@@ -40,9 +39,8 @@ returns g c =
 
 pub do_command-requires-clause-built : goal.do_command-requires-clause-built
 do_command-requires-clause-built g c =
-    let here = built_at c.args.session.now.plan c.args.commands.now c.loop-numbered.numbered-index c.numbered-item.result c.loop-numbered-test.true c.requires.built in
-    let item = subst (λ (n : Numbered). IsBuilt c.args.session.now.plan n.command) (sym c.numbered-item.is) here in
-    subst (λ (p : Plan). IsBuilt p c.numbered-item.result.command) (sym c.loop-numbered.invariant.plan) item
+    let here = built_at c.args.commands.now c.loop-numbered.numbered-index c.numbered-item.result c.loop-numbered-test.true c.requires.built in
+    subst (λ (n : Numbered). is_built n.command ≡ true) (sym c.numbered-item.is) here
 
 pub do_command-requires-clause-plan : goal.do_command-requires-clause-plan
 do_command-requires-clause-plan g c = subst IsLoadable (sym c.loop-numbered.invariant.plan) c.requires.plan

@@ -1,7 +1,7 @@
 use Rattle.std.proofs.Common.{◌≡◌, ◌≤◌, ◌*◌, drop}
 use Rattle.sof_base.specs.Ports.{drained}
 use Rattle.sof_io.specs.Bound.{output_slots}
-use Rattle.sof_session.specs.Turns.{life, Seated}
+use Rattle.sof_session.specs.Lives.{Seated}
 use Rattle.sof_run.specs.Todo.{LeadsOn}
 use Rattle.sof_run.specs.Play.{commands_todo}
 use Rattle.sof_run.specs.Opening.{AreCreated}
@@ -16,6 +16,6 @@ invariant-loop-numbered g l =
       created : AreCreated means (output_slots l.outputs) l.desk;
       empty : drained l.outputs ≡ l.outputs;
       sent : l.session.link.sent ≤ 900 * l.numbered-index;
-      so_far : LeadsOn means (life g.P.Dsp.means) (commands_todo l.commands) (commands_todo (drop l.numbered-index l.commands))
+      so_far : LeadsOn means g.P.Dsp.means (commands_todo l.commands) (commands_todo (drop l.numbered-index l.commands))
           l.fn.desk (Seated l.fn.session l.fn.inputs (output_slots l.fn.outputs)) l.desk (Seated l.session l.inputs (output_slots l.outputs));
     }

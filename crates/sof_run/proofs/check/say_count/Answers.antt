@@ -1,6 +1,6 @@
 use Rattle.std.proofs.Common.{is_ok, ◌∙◌}
 use Rattle.sof_desk.specs.Desk.{Put, Spoken}
-use Rattle.sof_run.specs.Play.{with_newline}
+use Rattle.sof_run.specs.Lines.{with_newline}
 use Rattle.sof_run.specs.Checking.{count_line}
 use Rattle.sof_run.proofs.Steps.{do_phase}
 use Rattle.sof_run.proofs.check.say_count.Goals as goal

@@ -2,8 +2,8 @@ use Rattle.std.proofs.Common.{[], sym, subst}
 use Rattle.sof_io.specs.Bound.{output_slots}
 use Rattle.sof_script.specs.Commands.{script_read}
 use Rattle.sof_session.specs.Seat.{new_seat}
-use Rattle.sof_session.specs.Turns.{Seated, life}
-use Rattle.sof_run.specs.Run.{Gave}
+use Rattle.sof_session.specs.Lives.{Seated}
+use Rattle.sof_run.specs.Todo.{Gave}
 use Rattle.sof_run.specs.Todo.{Free}
 use Rattle.sof_run.specs.Play.{session_todo, ready_todo}
 use Rattle.sof_run.proofs.Steps.{free_on, free_off}
@@ -22,10 +22,10 @@ returns-in-Ok-new-2 g c =
       last = Seated c.do_commands-done.new.session c.do_commands-done.new.inputs (output_slots c.do_commands-done.new.outputs);
       is = sym c.into_dsp.ensures.dsp;
       exit = c.into_dsp.ensures.agreed;
-      ran = opened_on means device plan c.args.heap inputs outputs c.args.dsp c.requires.off read _ _ _ _ _ (rw c.items-bindings.ensures at c.in_default-open_all.ensures.done)
-          (free_ran means (life device) _ _ _ _ _ _
-          (begin_on means device plan c.args.heap inputs outputs c.args.dsp c.requires.off read.commands _ _ _ _
-          (rw c.status_of.ensures (session_done means (life device) read.commands c.do_commands-done.result _ _ (Seated (new_seat plan c.args.heap c.args.dsp) inputs (output_slots outputs)) _
+      ran = opened_on means device plan c.args.heap inputs outputs c.args.dsp read _ _ _ _ _ (rw c.items-bindings.ensures at c.in_default-open_all.ensures.done)
+          (free_ran means device _ _ _ _ _ _
+          (begin_on means device plan c.args.heap inputs outputs c.args.dsp read.commands _ _ _ _
+          (rw c.status_of.ensures (session_done means device read.commands c.do_commands-done.result _ _ (Seated (new_seat plan c.args.heap c.args.dsp) inputs (output_slots outputs)) _
           (rw (c.items-commands.ensures, c.in-Ok-new-2.ensures) at c.do_commands-done.ensures)))));
     }
 

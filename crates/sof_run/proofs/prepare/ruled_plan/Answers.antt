@@ -1,11 +1,7 @@
 use Rattle.std.proofs.Common.{IfErr, Some, subst, ◌∙◌}
 use Rattle.tplg_rules.specs.WellFormed.{rules_of, IsFaultOf}
 use Rattle.tplg_rules.proofs.RuleTests.{breaks_some}
-use Rattle.tplg_graph.proofs.ThinTests.{thin-test}
 use Rattle.sof_run.proofs.prepare.ruled_plan.Goals as goal
-
-pub returns-in-Ok-clause-planned : goal.returns-in-Ok-clause-planned
-returns-in-Ok-clause-planned c = record { sound = c.in-Ok.ensures.sound; thin = λ asked. c.in-Ok.ensures.thin ((thin-test c.args.topology.now).0 asked) }
 
 pub returns-in-Err-Rule-clause-plan : goal.returns-in-Err-Rule-clause-plan
 returns-in-Err-Rule-clause-plan c =

@@ -1,0 +1,260 @@
+-- The files of a run were opened and its session begun, or the run ended before.
+use Rattle.std.proofs.Common.{◌≡◌, ◌⊎◌, inl, inr, ℕ, ◌<◌, ◌≤◌, Bool, true, false, eqb, nat_eq, ◌||◌, if◌then◌else◌, List, [], ◌∷◌, ◌++◌, length, Option, Some, None, unwrap_or, Ok, Err, refl, sym, ◌∙◌, ap, subst, append_assoc, arith, codes}
+use Rattle.std.proofs.lemmas.List.{append-nil}
+use Rattle.std.specs.List.{AllByRecursion}
+use Rattle.sof_base.specs.Ports.{InputView, OutputView}
+use Rattle.sof_io.specs.Bound.{has_slot, output_slots}
+use Rattle.sof_io.specs.Puts.{with_slot}
+use Rattle.sof_io.specs.Takes.{new_input}
+use Rattle.sof_io.proofs.OutputLaws.{has_slot-with_slot}
+use Rattle.sof_desk.specs.declared.calls.LoadFault.TheVariants.{Failed, TooLong, OutOfMemory}
+use Rattle.sof_desk.specs.Desk.{DeskMeaning, DeskPlace, Slot, Spoken, DeskAct, Create, Put, DeskCall, Load, Did, DeskLed, Loaded, Acted, Part, Takes, same_place, with_more, with_nothing}
+use Rattle.tplg_plan.specs.declared.plans.Plan.{Plan}
+use Rattle.sof_script.specs.Commands.{Bound}
+use Rattle.sof_session.specs.Lives.{Turn}
+use Rattle.sof_run.specs.Lines.{no_memory_line}
+use Rattle.sof_run.specs.Todo.{Todo, Ask, Do, Free, Says, Goes}
+use Rattle.sof_run.specs.Bindings.{bound_slot, bound_inputs, bound_outputs}
+use Rattle.sof_run.specs.Play.{WithPorts, binding_todo, bindings_todo}
+use Rattle.sof_run.specs.Pieces.{opened, IsKeptOrOpened, WroteNone}
+use Rattle.sof_run.specs.Plays.{IsGiven}
+use Rattle.sof_run.proofs.WrittenPieces.{more_none, put_part}
+
+-- ---- slots
+
+or_right : (x y : Bool) → y ≡ true → (x || y) ≡ true
+or_right true y is = refl
+or_right false y is = is
+
+-- a slot that is there stays there
+stays_more : (slot : ℕ) (outputs : List OutputView) (n : ℕ) → has_slot n (output_slots outputs) ≡ true → has_slot n (output_slots (with_slot slot outputs)) ≡ true
+stays_more slot outputs n is = has_slot-with_slot n slot outputs ∙ or_right (eqb slot n) (has_slot n (output_slots outputs)) is
+
+abbrev StaysBound : Plan → List Bound → Type 0
+StaysBound plan bs = (outputs : List OutputView) (n : ℕ) → has_slot n (output_slots outputs) ≡ true → has_slot n (output_slots (bound_outputs plan outputs bs)) ≡ true
+
+stays_one : (plan : Plan) (b : Bound) (bs : List Bound) → StaysBound plan bs → (outputs : List OutputView) (n : ℕ) → has_slot n (output_slots outputs) ≡ true → (input : Bool) → has_slot n (output_slots (bound_outputs plan (if input then outputs else with_slot (bound_slot plan b) outputs) bs)) ≡ true
+stays_one plan b bs others outputs n is true = others outputs n is
+stays_one plan b bs others outputs n is false = others (with_slot (bound_slot plan b) outputs) n (stays_more (bound_slot plan b) outputs n is)
+
+pub stays_bound : (plan : Plan) (bs : List Bound) → StaysBound plan bs
+stays_bound plan [] outputs n is = is
+stays_bound plan (b ∷ bs) outputs n is = stays_one plan b bs (stays_bound plan bs) outputs n is b.input
+
+emptied_twice : (a b : Bool) (o : Option (List ℕ)) → (if a then with_nothing (if b then with_nothing o else o) else (if b then with_nothing o else o)) ≡ (if a || b then with_nothing o else o)
+emptied_twice true true None = refl
+emptied_twice true true (Some bytes) = refl
+emptied_twice true false o = refl
+emptied_twice false b o = refl
+
+-- one more file is created
+opened_more : (slot : ℕ) (outputs : List OutputView) (place : DeskPlace) (o : Option (List ℕ)) → (if same_place (Slot slot) place then with_nothing (opened (output_slots outputs) place o) else opened (output_slots outputs) place o) ≡ opened (output_slots (with_slot slot outputs)) place o
+opened_more slot outputs Spoken o = refl
+opened_more slot outputs (Slot n) o =
+    emptied_twice (nat_eq slot n) (has_slot n (output_slots outputs)) o
+    ∙ ap (λ (t : Bool). if t then with_nothing o else o) (sym (has_slot-with_slot n slot outputs))
+
+pub opened_none : (place : DeskPlace) (o : Option (List ℕ)) → o ≡ opened [] place o
+opened_none Spoken o = refl
+opened_none (Slot n) o = refl
+
+pub bind : {A B C : Type 0} → A ⊎ B → (A → C ⊎ B) → C ⊎ B
+bind (inl a) f = f a
+bind (inr b) f = inr b
+
+part_of : (done : Bool) (part piece : List ℕ) → Part done part piece → (rest : List ℕ) × (part ++ rest ≡ piece)
+part_of true part piece is = ([], append-nil part ∙ is)
+part_of false part piece is = is
+
+unwritten : (b : Bool) (o : Option (List ℕ)) → o ≡ (if b then with_more o [] else o)
+unwritten true o = more_none o
+unwritten false o = refl
+
+module _ {D : Type 0} (means : DeskMeaning D) where
+  -- nothing was written but the line for want of memory, or a front of it, or no byte
+  abbrev NoneWrote : D → D → Type 0
+  NoneWrote old new =
+      (part : List ℕ) × ((rest : List ℕ) × (part ++ rest ≡ no_memory_line))
+      × ((place : DeskPlace) → means.wrote new place ≡ (if same_place Spoken place then with_more (means.wrote old place) part else means.wrote old place))
+
+  -- the run ended, with no turn
+  pub record Stopped (turns : List Turn) (status : ℕ) (old new : D) : Type 0 where
+    pub ended : (status ≡ 3) ⊎ (status ≡ 7)
+    pub none : turns ≡ []
+    pub wrote : NoneWrote old new
+
+  none_wrote : (old new : D) → ((place : DeskPlace) → means.wrote new place ≡ means.wrote old place) → NoneWrote old new
+  none_wrote old new kept = ([], (no_memory_line, refl), λ place. kept place ∙ unwritten (same_place Spoken place) (means.wrote old place))
+
+  line_wrote : (act : DeskAct) (done : Bool) (old m new : D) → act ≡ Put Spoken no_memory_line → Acted means act done old m → new ≡ m → NoneWrote old new
+  line_wrote act done old m new is acted last =
+      (acted.part, part_of done acted.part no_memory_line (subst (λ a. Takes a done acted.part) is acted.takes), λ place. ap (λ d. means.wrote d place) last ∙ put_part means Spoken no_memory_line act done old m is acted place)
+
+  -- after calls that wrote nothing
+  stopped_later : (turns : List Turn) (status : ℕ) (old m new : D) → ((place : DeskPlace) → means.wrote m place ≡ means.wrote old place) → Stopped turns status m new → Stopped turns status old new
+  stopped_later turns status old m new kept s =
+      record { ended = s.ended; none = s.none; wrote = (s.wrote.0, s.wrote.1, λ place. s.wrote.2 place ∙ ap (λ o. if same_place Spoken place then with_more o s.wrote.0 else o) (kept place)) }
+
+  -- memory was wanting
+  wanting : (turns : List Turn) (calls : List DeskCall) (status : ℕ) (old new : D) → Says no_memory_line 7 turns calls status → DeskLed means old calls new → Stopped turns status old new
+  wanting turns [] status old new says led = absurd says
+  wanting turns (Load name limit heard ∷ calls) status old new says led = absurd says
+  wanting turns (Did act true ∷ calls) status old new says led =
+      let last : new ≡ led.0 = subst (λ cs. DeskLed means led.0 cs new) says.2 led.2 in
+      record { ended = inr says.3; none = says.1; wrote = line_wrote act true old led.0 new says.0 led.1 last }
+  wanting turns (Did act false ∷ calls) status old new says led =
+      let last : new ≡ led.0 = subst (λ cs. DeskLed means led.0 cs new) says.2 led.2 in
+      record { ended = inl says.3; none = says.1; wrote = line_wrote act false old led.0 new says.0 led.1 last }
+
+  -- what comes next was done, from another desk
+  pub record Next (todo : Todo) (turns : List Turn) (status : ℕ) (mid new : D) : Type 0 where
+    pub calls : List DeskCall
+    pub goes : Goes todo turns calls status
+    pub led : DeskLed means mid calls new
+
+  -- one that told the same, where nothing was written
+  pub record Onwards (todo : Todo) (turns : List Turn) (status : ℕ) (old new : D) : Type 0 where
+    pub mid : D
+    pub next : Next todo turns status mid new
+    pub wrote : (place : DeskPlace) → means.wrote mid place ≡ means.wrote old place
+    pub holds : (name : List ℕ) → means.holds mid name ≡ means.holds old name
+
+  pub free_goes : (rest : Todo) (turns : List Turn) (status : ℕ) (old new : D) → Next (Free rest) turns status old new → Next rest turns status old new ⊎ Stopped turns status old new
+  free_goes rest turns status old new n = by n.calls n.goes n.led
+    where
+      by : (calls : List DeskCall) → Goes (Free rest) turns calls status → DeskLed means old calls new → Next rest turns status old new ⊎ Stopped turns status old new
+      by calls (inl goes) led = inl record { calls = calls; goes = goes; led = led }
+      by calls (inr says) led = inr (wanting turns calls status old new says led)
+
+  -- a load of a file that is told and fits
+  module _ (name : List ℕ) (limit : ℕ) (line : List ℕ) (rest : List ℕ → Todo) (turns : List Turn) (status : ℕ) (old new : D) (bytes : List ℕ) (told : means.holds old name ≡ Some bytes) (short : length bytes ≤ limit) where
+    asks : (calls : List DeskCall) → Goes (Ask name limit line rest) turns calls status → DeskLed means old calls new → Onwards (rest bytes) turns status old new ⊎ Stopped turns status old new
+    asks [] goes led = absurd goes
+    asks (Did act done ∷ calls) goes led = absurd goes
+    asks (Load n l (Ok got) ∷ calls) goes led =
+        let loaded : Loaded means n l (Ok got) old led.0 = led.1 in
+        let same : got ≡ bytes = loaded.answers.1 bytes (ap (means.holds old) goes.0 ∙ told) in
+        inl record { mid = led.0; next = record { calls = calls; goes = subst (λ bs. Goes (rest bs) turns calls status) same goes.2; led = led.2 }; wrote = loaded.wrote; holds = loaded.kept.holds }
+    asks (Load n l (Err TooLong) ∷ calls) goes led =
+        let loaded : Loaded means n l (Err TooLong) old led.0 = led.1 in
+        let long : l < length bytes = loaded.answers bytes (ap (means.holds old) goes.0 ∙ told) in
+        absurd (omega (arith, long, short, goes.1))
+    asks (Load n l (Err OutOfMemory) ∷ calls) goes led =
+        let loaded : Loaded means n l (Err OutOfMemory) old led.0 = led.1 in
+        inr (stopped_later turns status old led.0 new loaded.wrote (wanting turns calls status led.0 new goes.2 led.2))
+    asks (Load n l (Err Failed) ∷ calls) goes led =
+        let loaded : Loaded means n l (Err Failed) old led.0 = led.1 in
+        let last : new ≡ led.0 = subst (λ cs. DeskLed means led.0 cs new) goes.2.1 led.2 in
+        inr record { ended = inl goes.2.2; none = goes.2.0; wrote = none_wrote old new (λ place. ap (λ d. means.wrote d place) last ∙ loaded.wrote place) }
+
+    pub ask_goes : Next (Ask name limit line rest) turns status old new → Onwards (rest bytes) turns status old new ⊎ Stopped turns status old new
+    ask_goes n = asks n.calls n.goes n.led
+
+  -- a file is created
+  pub record Created (slot : ℕ) (file : List ℕ) (todo : Todo) (turns : List Turn) (status : ℕ) (old new : D) : Type 0 where
+    pub mid : D
+    pub next : Next todo turns status mid new
+    pub acted : Acted means (Create slot file) true old mid
+
+  create_goes : (slot : ℕ) (file : List ℕ) (rest : Todo) (turns : List Turn) (status : ℕ) (old new : D) → Next (Do (Create slot file) rest) turns status old new → Created slot file rest turns status old new ⊎ Stopped turns status old new
+  create_goes slot file rest turns status old new n = by n.calls n.goes n.led
+    where
+      by : (calls : List DeskCall) → Goes (Do (Create slot file) rest) turns calls status → DeskLed means old calls new → Created slot file rest turns status old new ⊎ Stopped turns status old new
+      by [] goes led = absurd goes
+      by (Load name limit heard ∷ calls) goes led = absurd goes
+      by (Did act true ∷ calls) goes led =
+          inl record { mid = led.0; next = record { calls = calls; goes = goes.1; led = led.2 }; acted = subst (λ a. Acted means a true old led.0) goes.0 led.1 }
+      by (Did act false ∷ calls) goes led =
+          let acted : Acted means (Create slot file) false old led.0 = subst (λ a. Acted means a false old led.0) goes.0 led.1 in
+          let last : new ≡ led.0 = subst (λ cs. DeskLed means led.0 cs new) goes.1.1 led.2 in
+          inr record { ended = inl goes.1.2; none = goes.1.0; wrote = none_wrote old new (λ place. ap (λ d. means.wrote d place) last ∙ acted.wrote place) }
+
+  -- ---- files that are open
+
+  -- at a desk the files of these outputs are created, and nothing was written since another
+  abbrev pub AreOpen : List OutputView → D → D → Type 0
+  AreOpen outputs base d = (place : DeskPlace) → means.wrote d place ≡ opened (output_slots outputs) place (means.wrote base place)
+
+  created_open : (slot : ℕ) (file : List ℕ) (outputs : List OutputView) (base d e : D) → AreOpen outputs base d → Acted means (Create slot file) true d e → AreOpen (with_slot slot outputs) base e
+  created_open slot file outputs base d e are acted place =
+      acted.wrote place
+      ∙ ap (λ o. if same_place (Slot slot) place then with_nothing o else o) (are place)
+      ∙ opened_more slot outputs place (means.wrote base place)
+
+  -- the run ended while or before the files of these slots were created
+  pub record Before (slots : List ℕ) (turns : List Turn) (status : ℕ) (old new : D) : Type 0 where
+    pub ended : (status ≡ 3) ⊎ (status ≡ 7)
+    pub none : turns ≡ []
+    pub wrote : WroteNone means slots old new
+
+  module _ (all : List ℕ) (outputs : List OutputView) (stays : (n : ℕ) → has_slot n (output_slots outputs) ≡ true → has_slot n all ≡ true) (base d new : D) (are : AreOpen outputs base d) (turns : List Turn) (status : ℕ) where
+    kept : (n : ℕ) (b : Bool) (o later : Option (List ℕ)) → has_slot n (output_slots outputs) ≡ b → later ≡ (if b then with_nothing o else o) → IsKeptOrOpened all (Slot n) o later
+    kept n true o later bound is = inr (is ∙ ap (λ (t : Bool). if t then with_nothing o else o) (sym (stays n bound)))
+    kept n false o later free is = inl is
+
+    pub or_before : {A : Type 0} → A ⊎ Stopped turns status d new → A ⊎ Before all turns status base new
+    or_before (inl a) = inl a
+    or_before (inr s) = inr record {
+      ended = s.ended;
+      none = s.none;
+      wrote = record {
+        part = s.wrote.0;
+        front = s.wrote.1;
+        said = s.wrote.2 Spoken ∙ ap (λ o. with_more o s.wrote.0) (are Spoken);
+        outputs = λ n. kept n (has_slot n (output_slots outputs)) (means.wrote base (Slot n)) (means.wrote new (Slot n)) refl (s.wrote.2 (Slot n) ∙ are (Slot n));
+      };
+    }
+
+  -- ---- the bindings
+
+  module _ (holds : List ℕ → Option (List ℕ)) (plan : Plan) (rest : WithPorts) (turns : List Turn) (status : ℕ) (base new : D) where
+    -- the files are open, and what comes next was done with these inputs
+    pub record Open (inputs : List InputView) (outputs : List OutputView) : Type 0 where
+      pub mid : D
+      pub next : Next (rest inputs outputs) turns status mid new
+      pub are : AreOpen outputs base mid
+
+    abbrev Opens : List Bound → Type 0
+    Opens bs = (inputs : List InputView) (outputs : List OutputView) (old : D) → AllByRecursion (IsGiven holds) bs → ((name : List ℕ) → means.holds old name ≡ holds name) → AreOpen outputs base old →
+        Next (bindings_todo plan bs inputs outputs rest) turns status old new →
+        Open (inputs ++ bound_inputs plan holds bs) (bound_outputs plan outputs bs) ⊎ Before (output_slots (bound_outputs plan outputs bs)) turns status base new
+
+    -- one binding, and those behind it
+    module _ (b : Bound) (bs : List Bound) (others : Opens bs) (inputs : List InputView) (outputs : List OutputView) (old : D) (given : IsGiven holds b) (later : AllByRecursion (IsGiven holds) bs)
+        (held : (name : List ℕ) → means.holds old name ≡ holds name) (are : AreOpen outputs base old) where
+      abbrev slot : ℕ
+      slot = bound_slot plan b
+
+      abbrev bytes : List ℕ
+      bytes = unwrap_or (holds b.file) []
+
+      abbrev outputs_by : Bool → List OutputView
+      outputs_by input = bound_outputs plan (if input then outputs else with_slot slot outputs) bs
+
+      abbrev inputs_by : Bool → List InputView
+      inputs_by input = if input then new_input slot bytes ∷ bound_inputs plan holds bs else bound_inputs plan holds bs
+
+      stays_created : (n : ℕ) → has_slot n (output_slots outputs) ≡ true → has_slot n (output_slots (outputs_by false)) ≡ true
+      stays_created n is = stays_bound plan bs (with_slot slot outputs) n (stays_more slot outputs n is)
+
+      one : (input : Bool) → b.input ≡ input → Next (binding_todo input slot b.file inputs outputs (λ i o. bindings_todo plan bs i o rest)) turns status old new →
+          Open (inputs ++ inputs_by input) (outputs_by input) ⊎ Before (output_slots (outputs_by input)) turns status base new
+      one true is n =
+          let file = given is in
+          let told : means.holds old b.file ≡ Some bytes = held b.file ∙ file.1 ∙ ap (λ o. Some (unwrap_or o [])) (sym file.1) in
+          let short : length bytes ≤ 4194304 = subst (λ o. length (unwrap_or o []) ≤ 4194304) (sym file.1) file.2 in
+          let after = λ (bs' : List ℕ). Free (bindings_todo plan bs (inputs ++ new_input slot bs' ∷ []) outputs rest) in
+          let stay = stays_bound plan bs outputs in
+          bind (or_before (output_slots (outputs_by true)) outputs stay base old new are turns status (ask_goes b.file 4194304 (codes "too long input\n") after turns status old new bytes told short n)) (λ a.
+          let are' : AreOpen outputs base a.mid = λ place. a.wrote place ∙ are place in
+          bind (or_before (output_slots (outputs_by true)) outputs stay base a.mid new are' turns status (free_goes (bindings_todo plan bs (inputs ++ new_input slot bytes ∷ []) outputs rest) turns status a.mid new a.next)) (λ next.
+          subst (λ is. Open is (outputs_by true) ⊎ Before (output_slots (outputs_by true)) turns status base new) (append_assoc inputs (new_input slot bytes ∷ []) (bound_inputs plan holds bs))
+          (others (inputs ++ new_input slot bytes ∷ []) outputs a.mid later (λ name. a.holds name ∙ held name) are' next)))
+      one false is n =
+          bind (or_before (output_slots (outputs_by false)) outputs stays_created base old new are turns status (free_goes (Do (Create slot b.file) (bindings_todo plan bs inputs (with_slot slot outputs) rest)) turns status old new n)) (λ next.
+          bind (or_before (output_slots (outputs_by false)) outputs stays_created base old new are turns status (create_goes slot b.file (bindings_todo plan bs inputs (with_slot slot outputs) rest) turns status old new next)) (λ a.
+          others inputs (with_slot slot outputs) a.mid later (λ name. a.acted.kept.holds name ∙ held name) (created_open slot b.file outputs base old a.mid are a.acted) a.next))
+
+    pub open_all : (bs : List Bound) → Opens bs
+    open_all [] inputs outputs old given held are n = inl record { mid = old; next = subst (λ is. Next (rest is outputs) turns status old new) (sym (append-nil inputs)) n; are = are }
+    open_all (b ∷ bs) inputs outputs old given held are n = one b bs (open_all bs) inputs outputs old given.0 given.1 held are b.input refl n

@@ -1,0 +1,75 @@
+-- What is to be played, and the run that is played of it.
+use Rattle.std.specs.Prelude.{◌≡◌, ◌⊎◌, ℕ, ◌≤◌, true, List, length, map, take, Option, Some}
+use Rattle.std.specs.List.{AllByRecursion}
+use Rattle.sof_base.specs.Ports.{InputView}
+use Rattle.sof_desk.specs.Desk.{DeskMeaning}
+use Rattle.mbox_link.specs.Calls.{Meaning}
+use Rattle.tplg_model.specs.declared.block.Topology.{Topology}
+use Rattle.tplg_graph.specs.PlanOf.{plan_of}
+use Rattle.sof_script.specs.Commands.{Bound, Read}
+use Rattle.sof_session.specs.Written.{Ground, Leg}
+use Rattle.sof_session.specs.Lives.{Life, Bare}
+use Rattle.sof_session.specs.RunOver.{RunOver}
+use Rattle.sof_run.specs.Words.{Form, play_of}
+use Rattle.sof_run.specs.Bindings.{bound_inputs, bound_slots}
+use Rattle.sof_run.specs.Rounds.{Round, rounds_of}
+use Rattle.sof_run.specs.Verdicts.{Fit, MakeRun}
+use Rattle.sof_run.specs.Pieces.{Piece, AreWritten, WroteBehind, WroteNone}
+
+-- ---- what is to be played
+
+-- the desk tells an input's file, which has at most its limit
+abbrev pub IsGiven : (List ℕ → Option (List ℕ)) → Bound → Type 0
+IsGiven holds b = b.input ≡ true → (bytes : List ℕ) × (holds b.file ≡ Some bytes) × (length bytes ≤ 4194304)
+
+-- what is to be played: the words have the form of `play`; and the topology, the script and the inputs that they name are told,
+-- have at most their limits, and make a run
+pub record ToPlay (holds : List ℕ → Option (List ℕ)) (room : ℕ) (words : List (List ℕ)) : Type 0 where
+  pub form : Form
+  pub topology : List ℕ
+  pub script : List ℕ
+  pub t : Topology
+  pub read : Read
+  pub is_form : play_of room words ≡ Some form
+  pub is_topology : holds form.topology ≡ Some topology
+  pub is_script : holds form.script ≡ Some script
+  pub fit : Fit topology script
+  pub make_run : MakeRun topology script t read
+  pub given : AllByRecursion (IsGiven holds) read.bindings
+
+-- the whole bytes of each input from which none was taken yet
+abbrev pub files_of : List InputView → List (ℕ × List ℕ)
+files_of inputs = map (λ (input : InputView). (input.slot, input.left)) inputs
+
+-- what its run is over: the topology's plan, the words' heap, the inputs' bytes and the slots of the outputs
+abbrev pub ground_in : {holds : List ℕ → Option (List ℕ)} {room : ℕ} {words : List (List ℕ)} → ToPlay holds room words → Ground
+ground_in {holds} play = record {
+  plan = plan_of play.t;
+  heap = play.form.heap;
+  whole = files_of (bound_inputs (plan_of play.t) holds play.read.bindings);
+  slots = bound_slots (plan_of play.t) play.read.bindings;
+}
+
+-- ---- what was played
+
+-- The written run over the device: of the first units, one leg each; their pieces were written behind what stood there once the
+-- outputs' files were created.
+pub record Plays {D P : Type 0} (means : DeskMeaning D) (dsp : Meaning P) (g : Ground) (rounds : List Round) (old new : D) (status : ℕ) (p : P) (last : Life P) : Type 0 where
+  pub legs : List Leg
+  pub over : RunOver dsp g (take (length legs) (map (λ (round : Round). round.numbered.command) rounds)) legs p last
+  pub made : List Piece
+  pub written : AreWritten rounds (map (λ (leg : Leg). leg.out) legs) made status
+  pub wrote : WroteBehind means g.slots made old new
+
+-- nothing of the run was written, and the device is as it was handed in: the desk failed, or memory was wanting
+pub record Unbegun {D P : Type 0} (means : DeskMeaning D) (slots : List ℕ) (old new : D) (status : ℕ) (p : P) (last : Life P) : Type 0 where
+  pub ended : (status ≡ 3) ⊎ (status ≡ 7)
+  pub wrote : WroteNone means slots old new
+  pub device : last ≡ Bare p
+
+-- what is to be played is played, or ended before it was begun
+abbrev pub PlaysWhole : {D P : Type 0} → DeskMeaning D → Meaning P → List (List ℕ) → D → D → ℕ → P → Life P → Type 0
+PlaysWhole means dsp words old new status p last =
+    (play : ToPlay (means.holds old) (dsp.most p) words)
+    → Plays means dsp (ground_in play) (rounds_of play.read.commands) old new status p last
+    ⊎ Unbegun means (ground_in play).slots old new status p last

@@ -1,0 +1,91 @@
+-- The status of `play` by the bytes of its files.
+use Rattle.std.specs.Prelude.{◌≡◌, ◌⊎◌, ℕ, ◌<◌, ◌≤◌, List, [], ◌∷◌, length, Option, Some, None, Ok, Err, true, false}
+use Rattle.std.specs.List.{AllByRecursion}
+use Rattle.sof_desk.specs.Desk.{DeskMeaning, Put, Spoken, DeskCall, Did}
+use Rattle.tplg_model.specs.declared.block.Topology.{Topology}
+use Rattle.tplg_model.specs.File.{IsFileFault}
+use Rattle.tplg_rules.specs.WellFormed.{IsWellFormed, Breaks}
+use Rattle.tplg_graph.specs.PlanOf.{plan_of}
+use Rattle.sof_script.specs.declared.reading.ScriptFault.TheVariants.{Line}
+use Rattle.sof_script.specs.Commands.{Bound, Read, script_of}
+use Rattle.sof_run.specs.declared.prepare.Halt.{Halt}
+use Rattle.sof_run.specs.declared.prepare.Halt.TheVariants as halts
+use Rattle.sof_run.specs.Words.{Form, play_of}
+use Rattle.sof_run.specs.TopologyBytes.{AreBytes, IsLong, IsFile, IsBroken}
+use Rattle.sof_run.specs.Bindings.{wrong_binding}
+use Rattle.sof_run.specs.Lines.{halt_line, halt_status}
+use Rattle.sof_run.specs.Prepared.{ticks_of, is_built_script}
+
+-- neither file has
+abbrev pub Fit : List ℕ → List ℕ → Type 0
+Fit topology script = (length topology ≤ 1048576) × (length script ≤ 1048576)
+
+-- the script has no line at fault and not too many ticks
+abbrev pub IsScript : List ℕ → Read → Type 0
+IsScript script read = (script_of script ≡ Ok read) × (ticks_of read.commands ≤ 60000)
+
+-- the files make a run: the topology keeps all rules, the bindings are right, and all that the script asks for is built
+pub record MakeRun (topology script : List ℕ) (t : Topology) (read : Read) : Type 0 where
+  pub lines : IsScript script read
+  pub file : IsFile topology t
+  pub whole : IsWellFormed t
+  pub right : wrong_binding (plan_of t) read.bindings ≡ None
+  pub built : is_built_script (plan_of t) read ≡ true
+
+-- the topology keeps all rules, and over right bindings something that the script asks for is not built
+abbrev pub IsUnbuilt : Topology → Read → Type 0
+IsUnbuilt t read =
+    IsWellFormed t × (wrong_binding (plan_of t) read.bindings ≡ None) × (is_built_script (plan_of t) read ≡ false)
+
+-- Why the files make no run: a line of the script is at fault; its ticks are too many; no topology has the bytes, and this is
+-- their first fault; the topology that has them breaks this rule first, with this least item; it keeps all rules and a binding
+-- is wrong, the first on this line; or it keeps them and something is not built yet.
+abbrev pub IsHalt : List ℕ → List ℕ → Halt → Type 0
+IsHalt topology script (halts.Script line cause) = script_of script ≡ Err (Line line cause)
+IsHalt topology script (halts.Ticks sum) = (read : Read) × (script_of script ≡ Ok read) × (sum ≡ ticks_of read.commands) × (60000 < sum)
+IsHalt topology script (halts.Broken fault) = ((read : Read) × IsScript script read) × IsBroken topology × IsFileFault topology fault
+IsHalt topology script (halts.Rule rule item) = (read : Read) × (t : Topology) × IsScript script read × IsFile topology t × Breaks t rule item
+IsHalt topology script (halts.Binding line) =
+    (read : Read) × (t : Topology)
+    × IsScript script read × IsFile topology t × IsWellFormed t × (wrong_binding (plan_of t) read.bindings ≡ Some line)
+IsHalt topology script halts.NotYet = (read : Read) × (t : Topology) × IsScript script read × IsFile topology t × IsUnbuilt t read
+IsHalt topology script halts.OutOfMemory = ⊥
+
+-- the last of the calls
+abbrev pub last_call : List DeskCall → Option DeskCall
+last_call [] = None
+last_call (call ∷ []) = Some call
+last_call (call ∷ other ∷ calls) = last_call (other ∷ calls)
+
+-- an input's file has more bytes than its limit, where the desk tells it
+abbrev pub IsLongInput : (List ℕ → Option (List ℕ)) → Bound → Type 0
+IsLongInput holds b = (b.input ≡ true) × ((bytes : List ℕ) → holds b.file ≡ Some bytes → 4194304 < length bytes)
+
+-- that of some input has
+abbrev pub SomeLongInput : (List ℕ → Option (List ℕ)) → List Bound → Type 0
+SomeLongInput holds [] = ⊥
+SomeLongInput holds (b ∷ bs) = IsLongInput holds b ⊎ SomeLongInput holds bs
+
+-- an input's file has at most its limit, where the desk tells it
+abbrev pub FitsInput : (List ℕ → Option (List ℕ)) → Bound → Type 0
+FitsInput holds b = b.input ≡ true → (bytes : List ℕ) → holds b.file ≡ Some bytes → length bytes ≤ 4194304
+
+-- Of files that make a run: 5 where the file of some input is too long, and 0 where all fit.
+abbrev pub RunVerdict : (List ℕ → Option (List ℕ)) → List Bound → ℕ → Type 0
+RunVerdict holds bs status = ((status ≡ 5) × SomeLongInput holds bs) ⊎ ((status ≡ 0) × AllByRecursion (FitsInput holds) bs)
+
+-- The status by the bytes of the files, whose cases exclude each other where the desk tells the inputs' files too: a desk that
+-- failed or want of memory; 5 where topology or script is too long; 4, 8, 2 or 9 where they make no run, and then the line for
+-- it was said; 5 or 0 by the inputs where they make one.
+abbrev pub Verdict : (List ℕ → Option (List ℕ)) → List ℕ → List ℕ → List DeskCall → ℕ → Type 0
+Verdict holds topology script calls status =
+    ((status ≡ 3) ⊎ (status ≡ 7))
+    ⊎ (((status ≡ 5) × (IsLong topology ⊎ IsLong script))
+    ⊎ (((why : Halt) × (status ≡ halt_status why) × Fit topology script × IsHalt topology script why × (last_call calls ≡ Some (Did (Put Spoken (halt_line why)) true)))
+    ⊎ (Fit topology script × ((t : Topology) × ((read : Read) × MakeRun topology script t read × RunVerdict holds read.bindings status)))))
+
+-- where the desk tells topology and script, the status is by the files' bytes
+abbrev pub Judged : {D : Type 0} → DeskMeaning D → ℕ → List (List ℕ) → D → List DeskCall → ℕ → Type 0
+Judged means room words old calls status =
+    (form : Form) (topology script : List ℕ) → play_of room words ≡ Some form → means.holds old form.topology ≡ Some topology → means.holds old form.script ≡ Some script → AreBytes topology
+    → Verdict (means.holds old) topology script calls status

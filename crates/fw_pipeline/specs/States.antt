@@ -23,6 +23,6 @@ with_tables t f = record f {
 }
 
 -- that state where a call was done, or its negative error
-abbrev pub state_after : {X : Type 0} → Tables → FwState → Result X Errno → Result FwState ℤ
-state_after t f (Ok done) = Ok (with_tables t f)
-state_after t f (Err error) = Err error.0
+abbrev pub told_state : {X : Type 0} → Tables → FwState → Result X Errno → Result FwState ℤ
+told_state t f (Ok done) = Ok (with_tables t f)
+told_state t f (Err error) = Err error.0

@@ -12,7 +12,7 @@ ghost use Rattle.fw_components.specs.Kept.{IsKept};
 ghost use Rattle.fw_walks.specs.Charts.{IsOf, ids_of};
 ghost use Rattle.fw_walks.specs.Walks.{is_listed, is_marked};
 ghost use Rattle.fw_pipeline.specs.Rows.{answer_of, view_after, with_view};
-ghost use Rattle.fw_pipeline.specs.States.{with_tables, state_after};
+ghost use Rattle.fw_pipeline.specs.States.{with_tables, told_state};
 ghost use Rattle.fw_pipeline.specs.Preparing.{is_moving_at, is_refused, shape_by, suits};
 
 use crate::freeing::is_complete;
@@ -30,7 +30,7 @@ use stream_law::{Kind, Phase};
 pub fn params(registry: &mut Registry, host: u32, direction: u32, p: Params) -> Result<(), Errno>
     requires { (1 ≤ p.channels) × (p.channels ≤ 8) }
     ensures answer { (f : FwState) → answer_of (view_by registry.new) result ≡ view_after (pcm_params (with_view (view_by registry.old) f) host direction p) }
-    ensures state { (f : FwState) → map (ring_seen (view_by registry.old)) (rings_of registry.old) ≡ rings_of registry.old → state_after registry.new f result ≡ pcm_params (with_tables registry.old f) host direction p }
+    ensures state { (f : FwState) → map (ring_seen (view_by registry.old)) (rings_of registry.old) ≡ rings_of registry.old → told_state registry.new f result ≡ pcm_params (with_tables registry.old f) host direction p }
     ensures done { OnOk result (registry.new ≡ record { comps = map (set_at host phases.Prepared (Some p)) registry.old.comps; buffers = registry.old.buffers; pipes = registry.old.pipes; joins = registry.old.joins }) }
     ensures kept { OnErr result (registry.new ≡ registry.old) }
 {

@@ -7,7 +7,7 @@ ghost use Rattle.mbox_link.specs.Step.{has_kind, has_phase, is_host as is_end_of
 ghost use Rattle.fw_components.specs.Tables.{view_by, graph_of, streams_of, rings_of};
 ghost use Rattle.fw_components.specs.Kept.{IsKept};
 ghost use Rattle.fw_pipeline.specs.Rows.{answer_of, view_after, with_view};
-ghost use Rattle.fw_pipeline.specs.States.{AreOf, with_tables, state_after};
+ghost use Rattle.fw_pipeline.specs.States.{AreOf, with_tables, told_state};
 ghost use Rattle.fw_heap.specs.declared.run.Home.{Home};
 ghost use Rattle.fw_pipeline.specs.Triggers.{triggered, leaves as is_left, params_of, left_by, IsTriggered};
 
@@ -23,7 +23,7 @@ use sof_base::{Errno, Params};
 /// and -22 where it is no host or its stream is in another phase.
 pub fn trigger(registry: &mut Registry, host: u32, what: Trigger) -> Result<(), Errno>
     ensures answer { (f : FwState) → answer_of (view_by registry.new) result ≡ view_after (triggered what (with_view (view_by registry.old) f) host) }
-    ensures state { (f : FwState) → map (ring_seen (view_by registry.old)) (rings_of registry.old) ≡ rings_of registry.old → state_after registry.new f result ≡ triggered what (with_tables registry.old f) host }
+    ensures state { (f : FwState) → map (ring_seen (view_by registry.old)) (rings_of registry.old) ≡ rings_of registry.old → told_state registry.new f result ≡ triggered what (with_tables registry.old f) host }
     ensures done { OnOk result (IsTriggered what host registry.old registry.new) }
     ensures homes { (home : Home) → AreOf home registry.old → AreOf home registry.new }
     ensures kept { OnErr result (registry.new ≡ registry.old) }

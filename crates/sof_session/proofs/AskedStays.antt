@@ -20,7 +20,7 @@ use Rattle.host_pcm.specs.StreamOrders.{Asked}
 use Rattle.sof_session.specs.Agreement.{AreAgreed, Powered}
 use Rattle.sof_session.specs.Seat.{Seat}
 use Rattle.sof_session.proofs.Agreement.{at}
-use Rattle.sof_session.proofs.OrderCalls.{acts-io}
+use Rattle.sof_session.proofs.ActsLed.{acts-io}
 use Rattle.sof_session.proofs.OrderStands.{sending, last, plain-cuts}
 use Rattle.sof_session.proofs.SentOrders.{sent-stream}
 

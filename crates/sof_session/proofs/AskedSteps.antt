@@ -37,7 +37,7 @@ use Rattle.sof_session.proofs.FewMeetings.{few-meetings}
 use Rattle.sof_session.proofs.OrderCalls.{carried-sent}
 use Rattle.sof_session.proofs.OrderStands.{LeadsOn, sending, order-still, sent-leads}
 use Rattle.sof_session.proofs.OrderStands as after_order
-use Rattle.sof_session.proofs.SentOrders.{IsSent, sent-stream, sends-done, sends-few}
+use Rattle.sof_session.proofs.SentOrders.{IsSent, sent-stream, sends-done, few-stream}
 use Rattle.sof_session.proofs.Stepping.{Standing, early-stepped, late-stepped, still-standing, stays-standing, SteppedIn, same-ports}
 use Rattle.sof_session.proofs.Writings.{none-written}
 
@@ -131,10 +131,8 @@ stream_few means old new io io' name ask answer ran = by (early_fault old.plan o
     by : (test : Option HostFault) → early_fault old.plan old.kept name ask ≡ test → new.link.sent ≤ old.link.sent + 900
     by (Some fault) is = let same : new.link.sent ≡ old.link.sent = ap (λ (x : World (Wire _)). x.device.sent) (ran.asked.early fault is).1 in omega (arith, same)
     by None is =
-        let s = sent-stream old.plan old.kept name ask in
-        let most : length (stream_order old.plan old.kept name ask).acts ≤ 900 = subst (λ (o : Order). length o.acts ≤ 900) (sym s.is) (sends-few old.kept.power s.acts s.done s.few) in
         let few = carried-sent means old.plan old.heap (stream_order old.plan old.kept name ask) old.kept new.kept (at old.link io) (at new.link io') ran.outcome (ran.asked.late is) in
-        omega (arith, few, most)
+        omega (arith, few, few-stream old.plan old.kept name ask)
 
 -- by what the command is, with endpoints that stayed
 pub asked_step : {P : Type 0} (means : Meaning P) (old new : Seat P) (inputs inputs' : List InputView) (outputs outputs' : List OutputView) → AreAgreed means old → old.link.sent < 2 ^ 63 → inputs' ≡ inputs → outputs' ≡ outputs →

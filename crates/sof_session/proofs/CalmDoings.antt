@@ -10,10 +10,10 @@ use Rattle.mbox_link.specs.Fates as link_fates
 use Rattle.mbox_link.specs.Calls.{World, Meaning, Steady}
 use Rattle.mbox_link.specs.Wire.{Wire}
 use Rattle.mbox_link.specs.Link.{link, next_fate, dropped_after, refused_after}
-use Rattle.mbox_link.proofs.Led.{Steady-by}
 use Rattle.tplg_plan.specs.declared.plans.Plan.{Plan}
 use Rattle.sof_session.specs.Agreement.{IsFated}
-use Rattle.sof_session.proofs.LinkFates.{Steady-none, exchange_steady, exchange_fated, exchange_sent, exchange_entries, more-few}
+use Rattle.sof_session.proofs.ActsLed.{acts-led}
+use Rattle.sof_session.proofs.LinkFates.{Led-inside, Steady-none, exchange_steady, exchange_fated, exchange_sent, exchange_entries, more-few}
 use Rattle.sof_session.proofs.StayedCounts.{Stayed, Stayed-between, none-rose}
 use Rattle.mbox_link.specs.Meetings.{Meeting}
 use Rattle.host_widgets.specs.declared.kept.Record.{Record}
@@ -30,17 +30,7 @@ module _ {P : Type 0} (means : Meaning P) (plan : Plan) (heap : ℕ) where
 
   -- counts of the device over a walk
   pub acts-steady : (goes_on : Bool) (acts : List Act) (ms : List Meeting) (kept : Record) (w v : World (Wire P)) → ActsDid (link means) plan heap goes_on kept acts ms w v → steady w v
-  acts-steady goes_on [] ms kept w v did = Steady-none means w.device.device v.device.device (ap (λ (x : World (Wire P)). x.device.device) did.1)
-  acts-steady goes_on (act ∷ acts) [] kept w v did = absurd did
-  acts-steady goes_on (act ∷ acts) (m ∷ ms) kept w v did =
-      Steady-by means w.device.device did.0.device.device v.device.device
-      (exchange_steady means (message_spelling (message_of plan act)) did.1.answer w did.0 did.1.exchanged)
-      (by (goes_past goes_on (one_act plan heap kept act m).outcome) (acts-steady goes_on acts ms (one_act plan heap kept act m).kept did.0 v) did.2)
-    where
-      by : (b : Bool) → (ActsDid (link means) plan heap goes_on (one_act plan heap kept act m).kept acts ms did.0 v → steady did.0 v) →
-          Onwards b ms did.0 v (ActsDid (link means) plan heap goes_on (one_act plan heap kept act m).kept acts ms did.0 v) → steady did.0 v
-      by true rest on = rest on
-      by false rest on = Steady-none means did.0.device.device v.device.device (ap (λ (x : World (Wire P)). x.device.device) on.1)
+  acts-steady goes_on acts ms kept w v did = let led = acts-led (link means) plan heap goes_on acts ms kept w v did in Led-inside means led.0 w v led.1
 
   -- ---- one message
 

@@ -27,6 +27,7 @@ pub mod PlanSteps
 pub mod TickSteps
 pub mod SentOrders
 pub mod AskedSteps
+pub mod ActsLed
 pub mod OrderCalls
 pub mod CallAgreement
 pub mod TickAgreement

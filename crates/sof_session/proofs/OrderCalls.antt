@@ -1,87 +1,20 @@
--- The calls of an order over a link: what they keep, how many messages they send, and that endpoints stay where no tick comes.
-use Rattle.std.proofs.Common.{◌≡◌, ap, ◌∙◌, ℕ, ◌+◌, ◌-◌, ◌≤◌, Bool, true, false, List, [], ◌∷◌, ◌++◌, length, Option, Some, arith}
-use Rattle.sof_base.specs.Ports.{Io}
-use Rattle.stream_law.specs.State.{FwState}
+-- The calls of an order over a link, and how many messages they send at most.
+use Rattle.std.proofs.Common.{ℕ, ◌+◌, ◌≤◌, List, ◌++◌, length, arith}
 use Rattle.stream_law.specs.Past.{Moment}
-use Rattle.ipc3_codec.specs.Messages.{message_spelling}
-use Rattle.mbox_link.specs.Exchange.{ticks}
-use Rattle.mbox_link.specs.Calls.{World, Meaning, Call, Exchange, Led, Exchanged}
+use Rattle.mbox_link.specs.Calls.{World, Meaning, Call, Led}
 use Rattle.mbox_link.specs.Link.{link}
-use Rattle.mbox_link.specs.Meetings.{Meeting}
 use Rattle.mbox_link.specs.Wire.{Wire}
 use Rattle.mbox_link.proofs.Led.{Led-append}
 use Rattle.tplg_plan.specs.declared.plans.Plan.{Plan}
 use Rattle.host_widgets.specs.declared.kept.Record.{Record}
 use Rattle.host_widgets.specs.Host.{Outcome}
-use Rattle.host_widgets.specs.HostActs.{Act}
-use Rattle.host_widgets.specs.ActMessages.{message_of}
-use Rattle.host_widgets.specs.OneAct.{one_act}
-use Rattle.host_widgets.specs.Walk.{goes_past, walk}
-use Rattle.host_widgets.specs.ActCalls.{ActsDid, Onwards, calls_of, next_of}
+use Rattle.host_widgets.specs.Walk.{walk}
+use Rattle.host_widgets.specs.ActCalls.{calls_of, next_of}
 use Rattle.host_widgets.specs.Orders.{Order, Carried, end_by, goes_on}
-use Rattle.host_widgets.proofs.Exchanges as exchanges
+use Rattle.sof_session.proofs.ActsLed.{acts-led, acts-sent}
 use Rattle.sof_session.proofs.Carrying.{quietly}
-use Rattle.sof_session.proofs.LinkFates.{exchange_sent, more-few}
-
--- ---- acts
-
-module _ {D : Type 0} (means : Meaning D) (plan : Plan) (heap : ℕ) (on_refusal : Bool) where
-  abbrev Did : Record → List Act → List Meeting → World D → World D → Type 0
-  Did kept acts ms w v = ActsDid means plan heap on_refusal kept acts ms w v
-
-  -- one exchange each
-  pub acts-led : (acts : List Act) (ms : List Meeting) (kept : Record) (w v : World D) → Did kept acts ms w v → (calls : List Call) × Led means w calls v
-  acts-led [] ms kept w v did = ([], did.1)
-  acts-led (act ∷ acts) [] kept w v did = absurd did
-  acts-led (act ∷ acts) (m ∷ ms) kept w v did =
-      let a = one_act plan heap kept act m in
-      let rest = by (goes_past on_refusal (one_act plan heap kept act m).outcome) (acts-led acts ms a.kept did.0 v) did.2 in
-      (Exchange (message_spelling (message_of plan act)) did.1.answer ∷ rest.0, (did.0, did.1.exchanged, rest.1))
-    where
-      by : (b : Bool) → (Did (one_act plan heap kept act m).kept acts ms did.0 v → (calls : List Call) × Led means did.0 calls v) → Onwards b ms did.0 v (Did (one_act plan heap kept act m).kept acts ms did.0 v) → (calls : List Call) × Led means did.0 calls v
-      by true rest on = rest on
-      by false rest on = ([], on.1)
-
-  -- an exchange of a device that is on leaves it on
-  stays : (request : List ℕ) (answer : Option (List ℕ)) (w v : World D) → Exchanged means request answer w v → means.pending w.device ≡ 0 → (s : FwState) → means.on w.device ≡ Some s → (v.io ≡ w.io) × ((t : FwState) × (means.on v.device ≡ Some t))
-  stays request answer w v x none s on =
-      let c = exchanges.came means request answer w v s on x in
-      let no_ticks : means.pending w.device - means.pending v.device ≡ 0 = omega (arith, none) in
-      let before : ticks (means.pending w.device - means.pending v.device) (s, w.io) ≡ (s, w.io) = ap (λ (n : ℕ). ticks n (s, w.io)) no_ticks in
-      (c.endpoints ∙ ap (λ (p : FwState × Io). p.1) before, exchanges.state_of (means.on v.device) (exchanges.Came-on means request answer w v (ticks (means.pending w.device - means.pending v.device) (s, w.io)) c))
-
-  -- so the endpoints stay where no tick is pending
-  pub acts-io : (acts : List Act) (ms : List Meeting) (kept : Record) (w v : World D) → Did kept acts ms w v → means.pending w.device ≡ 0 → (s : FwState) → means.on w.device ≡ Some s → v.io ≡ w.io
-  acts-io [] ms kept w v did none s on = ap (λ (x : World D). x.io) did.1
-  acts-io (act ∷ acts) [] kept w v did none s on = absurd did
-  acts-io (act ∷ acts) (m ∷ ms) kept w v did none s on =
-      let a = one_act plan heap kept act m in
-      let here = stays (message_spelling (message_of plan act)) did.1.answer w did.0 did.1.exchanged none s on in
-      let still : means.pending did.0.device ≡ 0 = omega (arith, none, did.1.exchanged.steady.pending) in
-      by (goes_past on_refusal a.outcome) (λ more. acts-io acts ms a.kept did.0 v more still here.1.0 here.1.1) did.2 ∙ here.0
-    where
-      by : (b : Bool) → (Did (one_act plan heap kept act m).kept acts ms did.0 v → v.io ≡ did.0.io) → Onwards b ms did.0 v (Did (one_act plan heap kept act m).kept acts ms did.0 v) → v.io ≡ did.0.io
-      by true rest on = rest on
-      by false rest on = ap (λ (x : World D). x.io) on.1
-
--- ---- over a link
 
 module _ {P : Type 0} (means : Meaning P) (plan : Plan) (heap : ℕ) where
-  -- at most one message for each act
-  pub acts-sent : (on_refusal : Bool) (acts : List Act) (ms : List Meeting) (kept : Record) (w v : World (Wire P)) → ActsDid (link means) plan heap on_refusal kept acts ms w v → v.device.sent ≤ w.device.sent + length acts
-  acts-sent on_refusal [] ms kept w v did = let same : v.device.sent ≡ w.device.sent = ap (λ (x : World (Wire P)). x.device.sent) did.1 in omega (arith, same)
-  acts-sent on_refusal (act ∷ acts) [] kept w v did = absurd did
-  acts-sent on_refusal (act ∷ acts) (m ∷ ms) kept w v did =
-      let a = one_act plan heap kept act m in
-      let one = exchange_sent means (message_spelling (message_of plan act)) did.1.answer w did.0 did.1.exchanged in
-      let rest = by (goes_past on_refusal a.outcome) (acts-sent on_refusal acts ms a.kept did.0 v) did.2 in
-      omega (arith, one, more-few w.device.sent, rest)
-    where
-      by : (b : Bool) → (ActsDid (link means) plan heap on_refusal (one_act plan heap kept act m).kept acts ms did.0 v → v.device.sent ≤ did.0.device.sent + length acts) →
-          Onwards b ms did.0 v (ActsDid (link means) plan heap on_refusal (one_act plan heap kept act m).kept acts ms did.0 v) → v.device.sent ≤ did.0.device.sent + length acts
-      by true rest on = rest on
-      by false rest on = let same : v.device.sent ≡ did.0.device.sent = ap (λ (x : World (Wire P)). x.device.sent) on.1 in omega (arith, same)
-
   module _ (o : Order) (kept kept' : Record) (w v : World (Wire P)) (result : Outcome) (c : Carried (link means) plan heap o kept kept' w v result) where
     abbrev last : List Moment
     last = let met = walk plan heap (goes_on o.manner) next_of kept c.meetings o.acts in (end_by o.manner plan o.done kept met.kept met.outcome).1
@@ -96,6 +29,6 @@ module _ {P : Type 0} (means : Meaning P) (plan : Plan) (heap : ℕ) where
     carried-sent = omega (
       arith,
       (quietly means heap o.first w c.begun c.first).sent,
-      acts-sent (goes_on o.manner) o.acts c.meetings kept c.begun c.sent c.walked,
+      acts-sent means plan heap (goes_on o.manner) o.acts c.meetings kept c.begun c.sent c.walked,
       (quietly means heap last c.sent v c.ends.1).sent,
     )

@@ -21,7 +21,7 @@ use Rattle.sof_session.specs.Seat.{Seat, new_seat}
 use Rattle.sof_session.specs.Show.{shown_by}
 use Rattle.sof_session.specs.CommandRanges.{most_sent}
 use Rattle.sof_session.specs.Commands.{Known, Came, order_of, next}
-use Rattle.sof_session.specs.Written.{Written, Out, Ground, At, Leg, IsLeg, IsRun, came_at, first_at, end_of, moments_of, boots_in, raised, empty_outputs, written_in, written_between}
+use Rattle.sof_session.specs.Written.{Out, Ground, At, Leg, IsLeg, IsRun, came_at, first_at, end_of, moments_of, boots_in, raised, empty_outputs, written_in, written_between}
 use Rattle.sof_session.specs.SessionStep.{Calm, StandsAt, known_of}
 use Rattle.sof_session.specs.Lives.{Life, Bare, Seated, Turn, Task, Begin, Carry, Carries, Turned, Turns, device_of}
 use Rattle.sof_session.specs.RunOver.{IsAt, EndsAt, RunOver}

@@ -14,7 +14,7 @@ use Rattle.sof_script.specs.declared.script.Command.{Command}
 use Rattle.sof_script.specs.declared.script.Command.TheVariants as commands
 use Rattle.sof_session.specs.CommandTests.{fault_of}
 use Rattle.sof_session.specs.Commands.{Known, Came, came, is_plan, order_of, carried, tested, planned, next, answer_by}
-use Rattle.sof_session.proofs.SameDoings.{walked, walk-up, walk-few, same-walk}
+use Rattle.sof_session.proofs.SameDoings.{walk-up, walk-few, same-walk}
 
 -- what is planned has no moments, and sends nothing
 pub record IsPlan (plan : Plan) (heap : ℕ) (known : Known) (command : Command) : Type 0 where

@@ -1,5 +1,5 @@
 -- The orders of calls on streams send acts where the power is on, and else nothing.
-use Rattle.std.proofs.Common.{◌≡◌, refl, ℕ, ◌≤◌, List, [], ◌∷◌, length, unwrap_or, arith}
+use Rattle.std.proofs.Common.{◌≡◌, refl, sym, subst, ℕ, ◌≤◌, List, [], ◌∷◌, length, unwrap_or, arith}
 use Rattle.tplg_plan.specs.declared.plans.Plan.{Plan}
 use Rattle.host_widgets.specs.declared.answers.Answer.TheVariants.{Done}
 use Rattle.host_widgets.specs.declared.kept.Found.{Found}
@@ -44,7 +44,11 @@ sends-done On acts done = refl
 sends-done Unloaded acts done = refl
 sends-done Off acts done = refl
 
-pub sends-few : (power : Power) (acts : List Act) (done : Record → Record) → length acts ≤ 900 → length (sends power acts done Done).acts ≤ 900
+sends-few : (power : Power) (acts : List Act) (done : Record → Record) → length acts ≤ 900 → length (sends power acts done Done).acts ≤ 900
 sends-few On acts done few = few
 sends-few Unloaded acts done few = omega arith
 sends-few Off acts done few = omega arith
+
+-- at most 900
+pub few-stream : (plan : Plan) (kept : Record) (name : List ℕ) (ask : Ask) → length (stream_order plan kept name ask).acts ≤ 900
+few-stream plan kept name ask = let s = sent-stream plan kept name ask in subst (λ (o : Order). length o.acts ≤ 900) (sym s.is) (sends-few kept.power s.acts s.done s.few)

@@ -1,5 +1,5 @@
 -- An act that the firmware takes, over any device: what it leaves, and that what stood goes on standing.
-use Rattle.std.proofs.Common.{map, ◌≡◌, refl, sym, ap, ◌∙◌, subst, ⊎_elim, ℕ, ◌-◌, List, [], ◌∷◌, ◌++◌, Option, Some, Ok, Err, replicate, arith}
+use Rattle.std.proofs.Common.{◌≡◌, refl, sym, ap, ◌∙◌, subst, ⊎_elim, ℕ, ◌-◌, List, [], ◌∷◌, ◌++◌, Option, Some, Ok, Err, replicate, arith}
 use Rattle.std.proofs.lemmas.List.{append-nil}
 use Rattle.sof_base.specs.Ports.{Io, InputView}
 use Rattle.stream_law.specs.State.{FwState}

@@ -19,7 +19,7 @@ use Rattle.host_widgets.specs.HostRecord.{closed}
 use Rattle.host_widgets.specs.Expected.{stream_view, phase_of}
 use Rattle.host_widgets.specs.declared.kept.Record.{Record}
 use Rattle.host_widgets.specs.Kept.{changed}
-use Rattle.host_widgets.specs.HostActs.{Trig, Free, Prepare, Save, after, prepared, triggered, triggered_found}
+use Rattle.host_widgets.specs.HostActs.{Trig, Free, Prepare, after, prepared, triggered, triggered_found}
 use Rattle.host_widgets.specs.ActMessages.{message_of}
 use Rattle.host_widgets.specs.ViewOf.{view_by, graph_by}
 
@@ -94,15 +94,5 @@ module _ (plan : Plan) (kept : Record) (f f' : FwState) (shows : view_of f ≡ v
       (set-stream-shown host (prepared p) phases.Prepared (Some p) (λ s r. refl) plan.streams kept.streams))
 
   -- so it shows what the record says then
-  pub trig-shows : (host : ℕ) (what : Trigger) → row f (message_of plan (Trig host what)) ≡ Ok f' → view_of f' ≡ view_by plan (after plan (Trig host what) kept)
-  trig-shows host what done = ap view_of (trig-seen host what done)
-
-  pub free-shows : (host : ℕ) → row f (message_of plan (Free host)) ≡ Ok f' → view_of f' ≡ view_by plan (after plan (Free host) kept)
-  free-shows host done = ap view_of (free-seen host done)
-
   pub prepare-shows : (host : ℕ) (p : Params) → row f (message_of plan (Prepare host p)) ≡ Ok f' → view_of f' ≡ view_by plan (after plan (Prepare host p) kept)
   prepare-shows host p done = ap view_of (prepare-seen host p done)
-
-  -- and what changes no view shows what it did
-  pub save-shows : row f (message_of plan Save) ≡ Ok f' → view_of f' ≡ view_by plan (after plan Save kept)
-  save-shows done = ap view_of (let same : f ≡ f' = cc done in sym same) ∙ shows

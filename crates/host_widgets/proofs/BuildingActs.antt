@@ -1,4 +1,4 @@
--- The acts that bring a device up build, and leave the record: a control is set to what the record says.
+-- The acts that bring a device up leave the record: a control is set to what the record says.
 use Rattle.std.proofs.Common.{◌≡◌, refl, sym, ap, subst, ◌∙◌, ℕ, Bool, true, false, ◌==◌, List, [], ◌∷◌, ◌++◌, map, Some, Ok, Err}
 use Rattle.std.specs.Prelude.{if◌then◌else◌}
 use Rattle.std.specs.List.{AllByRecursion, flat_map, zip}
@@ -10,6 +10,9 @@ use Rattle.tplg_plan.specs.declared.plans.Plan.{Plan}
 use Rattle.tplg_plan.specs.declared.plans.ControlPlan.{ControlPlan}
 use Rattle.tplg_plan.specs.declared.plans.ControlKind.{ControlKind}
 use Rattle.tplg_plan.specs.declared.plans.ControlKind.TheVariants.{Volume, Choice, Blob}
+use Rattle.host_widgets.specs.declared.answers.HostFault.{HostFault}
+use Rattle.host_widgets.specs.declared.answers.HostFault.TheVariants as faults
+use Rattle.host_widgets.specs.declared.answers.HostFault.TheVariants.{NotLoaded, Loaded, NoSuch, State, Off, Range, Refused, LinkDown}
 use Rattle.host_widgets.specs.declared.kept.ControlRec.{ControlRec}
 use Rattle.host_widgets.specs.declared.kept.Record.{Record}
 use Rattle.host_widgets.specs.Controls.{IsLoadable}
@@ -23,7 +26,18 @@ use Rattle.host_widgets.specs.Walk.{goes_past, joined, walk}
 use Rattle.host_widgets.specs.ActCalls.{next_of}
 use Rattle.host_widgets.proofs.LookedUp.{each-found}
 use Rattle.host_widgets.proofs.ControlLists.{Pair, comp_at, Takes, all-take, zip-ascends, no-blobs}
-use Rattle.host_widgets.proofs.LoadWalks.{IsBuilding}
+
+-- nothing goes on after a fault
+pub ends-at : (fault : HostFault) → goes_past false (Err fault) ≡ false
+ends-at NotLoaded = refl
+ends-at Loaded = refl
+ends-at (NoSuch name) = refl
+ends-at (State found) = refl
+ends-at Off = refl
+ends-at (Range n) = refl
+ends-at (Refused e) = refl
+ends-at LinkDown = refl
+ends-at (faults.Blob n) = refl
 
 all-both : {X : Type 0} (P : X → Type 0) (xs ys : List X) → AllByRecursion P xs → AllByRecursion P ys → AllByRecursion P (xs ++ ys)
 all-both P [] ys first rest = rest
@@ -34,13 +48,9 @@ all-mapped P f each [] = tt
 all-mapped P f each (x ∷ xs) = (each x, all-mapped P f each xs)
 
 module _ (plan : Plan) (kept : Record) where
-  -- an act that builds, and leaves this record
+  -- an act that leaves this record
   abbrev pub Leaves : Act → Type 0
-  Leaves act = IsBuilding act × (after plan act kept ≡ kept)
-
-  pub all-build : (acts : List Act) → AllByRecursion Leaves acts → AllByRecursion IsBuilding acts
-  all-build [] all = tt
-  all-build (act ∷ acts) all = (all.0.0, all-build acts all.1)
+  Leaves act = after plan act kept ≡ kept
 
   -- ---- a control that is set to what it has
 
@@ -68,14 +78,11 @@ module _ (plan : Plan) (kept : Record) where
 
   module _ (all : AllByRecursion IsThere (controls_of plan kept)) where
     put-leaves : (p : Pair) → IsThere p → Leaves (Put p.0.comp p.1.values)
-    put-leaves p there = (
-      tt,
-      λ i. record {
-        power = kept.power;
-        streams = kept.streams;
-        controls = stays p.0.comp p.1.values plan.controls kept.controls (alone p there (controls_of plan kept) all) i;
-      },
-    )
+    put-leaves p there = λ i. record {
+      power = kept.power;
+      streams = kept.streams;
+      controls = stays p.0.comp p.1.values plan.controls kept.controls (alone p there (controls_of plan kept) all) i;
+    }
 
     one-leaves : (id : ℕ) (kind : ControlKind) (r : ControlRec) → Takes kind r → Leaves (Put id r.values) → AllByRecursion Leaves (control_acts_by id kind r)
     one-leaves id (Volume min max channels lowest step mute) r takes put = (put, tt)
@@ -99,10 +106,10 @@ module _ (plan : Plan) (kept : Record) where
       let finishes : List Act = map (λ (p : Pipe). Finish p.id) plan.graph.pipes in
       let there : AllByRecursion IsThere (controls_of plan kept) = each-found comp_at (controls_of plan kept) (zip-ascends plan.controls kept.controls loadable.sound.controls_ascend) in
       let take : AllByRecursion (λ (p : Pair). Takes p.0.kind p.1) (controls_of plan kept) = all-take plan.graph plan.controls kept.controls loadable.sound.live (no-blobs plan.controls loadable.blobs) are in
-      all-both Leaves makes (joins ++ (puts ++ finishes)) (all-mapped Leaves Make (λ (id : ℕ). (tt, refl)) (ids_of plan))
-      (all-both Leaves joins (puts ++ finishes) (all-mapped Leaves (λ (j : Joined). Join j.source j.sink) (λ (j : Joined). (tt, refl)) plan.graph.joins)
+      all-both Leaves makes (joins ++ (puts ++ finishes)) (all-mapped Leaves Make (λ (id : ℕ). refl) (ids_of plan))
+      (all-both Leaves joins (puts ++ finishes) (all-mapped Leaves (λ (j : Joined). Join j.source j.sink) (λ (j : Joined). refl) plan.graph.joins)
       (all-both Leaves puts finishes (puts-leave there (controls_of plan kept) there take)
-      (all-mapped Leaves (λ (p : Pipe). Finish p.id) (λ (p : Pipe). (tt, refl)) plan.graph.pipes)))
+      (all-mapped Leaves (λ (p : Pipe). Finish p.id) (λ (p : Pipe). refl) plan.graph.pipes)))
 
   -- a walk of such acts leaves the record, wherever it ends
   pub walk-leaves : (heap : ℕ) (acts : List Act) (ms : List Meeting) → AllByRecursion Leaves acts → (walk plan heap false next_of kept ms acts).kept ≡ kept
@@ -114,5 +121,5 @@ module _ (plan : Plan) (kept : Record) where
       ended o false rest = refl
 
       by : (o : Outcome) → (walk plan heap false next_of kept (next_of ms).1 acts).kept ≡ kept → (let a = came plan act kept (lag_of (next_of ms).0) o in (joined act a (next_of ms).1 (goes_past false a.outcome) (walk plan heap false next_of a.kept (next_of ms).1 acts)).kept ≡ kept)
-      by (Ok done) rest = ap (λ (now : Record). (walk plan heap false next_of now (next_of ms).1 acts).kept) all.0.1 ∙ rest
+      by (Ok done) rest = ap (λ (now : Record). (walk plan heap false next_of now (next_of ms).1 acts).kept) all.0 ∙ rest
       by (Err fault) rest = ended (Err fault) (goes_past false (Err fault)) rest

@@ -14,8 +14,7 @@ use Rattle.host_widgets.specs.ViewOf.{view_by}
 use Rattle.host_widgets.specs.OneAct.{came, lag_of, own, outcome_by}
 use Rattle.host_widgets.specs.Walk.{Walked, walk, joined, goes_past}
 use Rattle.host_widgets.specs.ActCalls.{ActsDid, Onwards, next_of}
-use Rattle.host_widgets.proofs.BuildingActs.{Leaves}
-use Rattle.host_widgets.proofs.FatesRead.{ends-at}
+use Rattle.host_widgets.proofs.BuildingActs.{Leaves, ends-at}
 
 -- from each of these on, the device has this view
 abbrev pub AllOf : View → List Moment → Type 0
@@ -51,7 +50,7 @@ module _ {D : Type 0} (means : Meaning D) (plan : Plan) (heap : ℕ) (kept : Rec
       did.2
     where
       passed : after plan act now ≡ kept
-      passed = ap (after plan act) same ∙ all.0.1
+      passed = ap (after plan act) same ∙ all.0
 
       still : means.pending did.0.device ≡ 0
       still = let less = did.1.exchanged.steady.pending in omega (arith, quiet, less)

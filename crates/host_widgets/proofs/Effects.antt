@@ -1,5 +1,5 @@
 -- What each message does to a firmware that takes it, and the acts that it takes one after the other.
-use Rattle.std.proofs.Common.{◌≡◌, ◌⊎◌, inl, inr, ⊎_elim, ℕ, ◌+◌, ◌-◌, ◌<◌, pos, List, [], ◌∷◌, map, length, Option, Some, None, unwrap_or, Ok, Err, refl, sym, ap, subst, ◌∙◌, append-nil}
+use Rattle.std.proofs.Common.{◌≡◌, ◌⊎◌, inl, inr, ℕ, ◌<◌, pos, List, [], ◌∷◌, map, length, Option, Some, None, unwrap_or, Ok, Err, refl, sym, ap, ◌∙◌, append-nil}
 use Rattle.std.specs.Prelude.{option_and_then}
 use Rattle.std.specs.Option.{option_map}
 use Rattle.sof_base.specs.declared.errno.Errno.{Errno}
@@ -18,7 +18,6 @@ use Rattle.ipc3_codec.specs.declared.reply.Body.TheVariants.{Nothing}
 use Rattle.ipc3_codec.specs.Messages.{message_spelling, decoded, IsMessage}
 use Rattle.ipc3_codec.proofs.Spelled.{decoded-spelling}
 use Rattle.mbox_link.specs.Step.{row, row_of, body, body_of, kind_of, first_setting, new_setting, with_setting, with_comps, with_comp, with_buffer, with_pipe, with_pipes, completed, no_memory}
-use Rattle.mbox_link.specs.Calls.{World, Meaning, Exchanged}
 use Rattle.tplg_plan.specs.declared.plans.Plan.{Plan}
 use Rattle.tplg_plan.specs.declared.plans.WidgetPlan.{WidgetPlan}
 use Rattle.tplg_plan.specs.declared.plans.ControlPlan.{ControlPlan}
@@ -27,18 +26,15 @@ use Rattle.tplg_plan.specs.declared.plans.ControlKind.TheVariants.{Volume, Choic
 use Rattle.host_widgets.specs.Controls.{control_of}
 use Rattle.host_widgets.specs.HostActs.{Act, Make, Join, Put, Part, Finish, Prepare, Trig, Free, Save, Ask}
 use Rattle.host_widgets.specs.ActMessages.{message_of, set_message, put_message}
-use Rattle.host_widgets.specs.Acts.{words_of, pipe_by_id, comp_message, buffer_message, pipe_message}
+use Rattle.host_widgets.specs.Acts.{widget_words, pipe_by_id, comp_message, buffer_message, pipe_message}
 use Rattle.host_widgets.specs.Expected.{needed_by}
-use Rattle.host_widgets.specs.Host.{verdict, errno, Why}
+use Rattle.host_widgets.specs.Host.{verdict, errno}
 use Rattle.host_widgets.specs.OneAct.{own}
-use Rattle.host_widgets.specs.ActFates.{Fate}
-use Rattle.host_widgets.specs.declared.answers.HostFault.{HostFault}
-use Rattle.host_widgets.specs.declared.answers.HostFault.TheVariants.{Refused, LinkDown}
 use Rattle.host_widgets.specs.declared.kept.Record.{Record}
 use Rattle.host_widgets.specs.declared.trigger.Trigger.TheVariants.{Start, Stop, Pause, Release}
 use Rattle.host_widgets.proofs.ReplyErrors.{reply_with, done_reply}
-use Rattle.host_widgets.proofs.Exchanges.{Came, came, verdict-zero, verdict-number}
-use Rattle.host_widgets.proofs.SilentTicks.{at, AreInputs, IsStill, ticks-still}
+use Rattle.host_widgets.proofs.Exchanges.{verdict-zero}
+use Rattle.host_widgets.proofs.SilentTicks.{at, IsStill}
 
 -- a graph with this set at a component, where it can be set
 abbrev pub set_at : ℕ → Option Setting → Graph → Graph
@@ -120,7 +116,7 @@ put-bare f comp values (Some k) = set-bare f comp values k.kind
 put-bare f comp values None = refl
 
 act-bare : (f : FwState) (plan : Plan) (act : Act) → IsTold act → body f (message_of plan act) ≡ Nothing
-act-bare f plan (Make id) told = made-bare f id (control_of plan id) (words_of plan id) (comp_of plan.graph id) (edge_of plan.graph id) (pipe_by_id plan id)
+act-bare f plan (Make id) told = made-bare f id (control_of plan id) (widget_words plan id) (comp_of plan.graph id) (edge_of plan.graph id) (pipe_by_id plan id)
 act-bare f plan (Join source sink) told = refl
 act-bare f plan (Put comp values) told = put-bare f comp values (control_of plan comp)
 act-bare f plan (Part comp blob k) told = refl
@@ -151,62 +147,3 @@ verdict-done f plan act answer told is said =
 pub own_cases : (o : Option Errno) → (o ≡ None) ⊎ ((e : Errno) × (o ≡ Some e))
 own_cases None = inl refl
 own_cases (Some e) = inr (e, refl)
-
-module _ {D : Type 0} (means : Meaning D) (plan : Plan) (heap : ℕ) (kept : Record) (act : Act) (answer : Option (List ℕ)) (w v : World D) (g : FwState) (t : ℕ) where
-  -- the clock after the ticks before this message
-  abbrev later : ℕ
-  later = t + (means.pending w.device - means.pending v.device)
-
-  -- the act was taken
-  pub record Taken : Type 0 where
-    pub said : verdict answer ≡ Ok (reply_with (pos 0))
-    pub free : own plan heap kept act ≡ None
-    pub on : means.on v.device ≡ Some (at (effect (message_of plan act) g) later)
-
-  -- it was not
-  pub record NotTaken : Type 0 where
-    pub fault : HostFault
-    pub said : verdict answer ≡ Err fault
-    pub why : Why means plan heap w.device fault v.device
-    pub fate : Fate means (own plan heap kept act) w.device (Err fault) v.device
-
-  abbrev request : List ℕ
-  request = message_spelling (message_of plan act)
-
-  ways : Follows plan heap kept g act → Came means request answer w v (at g later, w.io) → Taken ⊎ NotTaken
-  ways follows c = ⊎_elim
-      (λ took.
-      ⊎_elim
-      (λ free.
-      let row_is : row (at g later) (message_of plan act) ≡ Ok took.next = sym (row-decoded (at g later) (message_of plan act) follows.message) ∙ took.row in
-      let next : effect (message_of plan act) (at g later) ≡ took.next = cc (sym (follows.passes free later) ∙ row_is) in
-      inl record { said = verdict-done (at g later) plan act answer follows.told follows.message took.said; free = free; on = took.on ∙ ap Some (sym next ∙ effect-at (message_of plan act) g later) })
-      (λ (e, refused). absurd (cc (sym (follows.refuses e refused later) ∙ sym (row-decoded (at g later) (message_of plan act) follows.message) ∙ took.row)))
-      (own_cases (own plan heap kept act)))
-      (λ rest. ⊎_elim
-      (λ it.
-      let row_is : row (at g later) (message_of plan act) ≡ Err it.error = sym (row-decoded (at g later) (message_of plan act) follows.message) ∙ it.row in
-      ⊎_elim
-      (λ free. absurd (cc (sym (follows.passes free later) ∙ row_is)))
-      (λ (e, refused).
-      let number = follows.number e refused in
-      let same : no_memory ≡ it.error = cc (sym (follows.refuses e refused later) ∙ row_is) in
-      inr record { fault = Refused (errno it.error); said = ap verdict it.said ∙ verdict-number it.error it.number; why = inl (ap errno (sym same), number.1); fate = inl (refused ∙ ap Some (number.0 ∙ ap errno same)) })
-      (own_cases (own plan heap kept act)))
-      (λ rest. ⊎_elim
-      (λ it. inr record { fault = Refused (errno it.error); said = ap verdict it.said ∙ verdict-number it.error it.number; why = inr it.rose; fate = inr it.rose })
-      (λ it. inr record { fault = LinkDown; said = ap verdict it.said; why = it.rose; fate = it.rose })
-      rest)
-      rest)
-      c.way
-
-  -- an exchange of an act's message in a firmware that follows
-  pub record One : Type 0 where
-    pub endpoints : v.io ≡ w.io
-    pub way : Taken ⊎ NotTaken
-
-  pub one : Follows plan heap kept g act → AreInputs w.io.inputs → means.on w.device ≡ Some (at g t) → Exchanged means request answer w v → One
-  one follows are on x =
-      let c = came means request answer w v (at g t) on x in
-      let c' = subst (Came means request answer w v) (ticks-still (means.pending w.device - means.pending v.device) g t w.io follows.still are) c in
-      record { endpoints = c'.endpoints; way = ways follows c' }

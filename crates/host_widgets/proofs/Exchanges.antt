@@ -95,9 +95,6 @@ Came-on means request answer w v p c =
 
 -- ---- what the host makes of them
 
-abbrev passed_with : ℤ → Result Reply HostFault
-passed_with e = Ok (reply_with e)
-
 pub verdict-zero : verdict (Some (error_reply (pos 0))) ≡ Ok (reply_with (pos 0))
 verdict-zero = ap judged (decoded-error (pos 0) zero-fits)
 

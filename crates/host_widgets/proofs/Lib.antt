@@ -26,7 +26,6 @@ pub mod FinishesTaken
 pub mod RestTaken
 pub mod Brings
 pub mod Halting
-pub mod ThinRecords
 pub mod Records
 pub mod FewJoins
 pub mod Loadables
@@ -43,10 +42,9 @@ pub mod RecordsStay
 pub mod ActsShow
 pub mod ActsStand
 pub mod OneActLaws
-pub mod LoadWalks
 pub mod BuildingActs
 pub mod LoadOrders
-pub mod FatesRead
+pub mod LoadEnds
 pub mod ActHolds
 pub mod WalksHold
 pub mod WalksStill

@@ -9,14 +9,10 @@ use Rattle.host_widgets.specs.declared.kept.Power.{Power}
 use Rattle.host_widgets.specs.declared.kept.Power.TheVariants.{On, Off}
 use Rattle.host_widgets.specs.declared.kept.Record.{Record}
 use Rattle.host_widgets.specs.Kept.{first_record, with_power}
-use Rattle.host_widgets.specs.Controls.{IsLoadable}
 use Rattle.host_widgets.specs.ActLists.{bring_up}
 use Rattle.host_widgets.specs.ActCalls.{calls_of}
-use Rattle.host_widgets.specs.Host.{Outcome, AreControls}
-use Rattle.host_widgets.specs.ActFates.{WalkFates}
+use Rattle.host_widgets.specs.Host.{Outcome}
 use Rattle.host_widgets.specs.Orders.{Order, Carried, ActsCame, Tested, Plain, brought_end, loading, where_on}
-use Rattle.host_widgets.proofs.LoadWalks.{folds}
-use Rattle.host_widgets.proofs.BuildingActs.{bring-leaves, all-build, walk-leaves}
 
 -- an unload, by the power
 abbrev pub unloading_at : Plan → Power → Order
@@ -24,12 +20,6 @@ unloading_at plan power = record { first = where_on power (past.Cut ∷ []); act
 
 module _ {D : Type 0} (means : Meaning D) (plan : Plan) (heap : ℕ) where
   -- ---- bringing up
-
-  pub brought-came : (kept : Record) → IsLoadable plan → AreControls plan.controls kept.controls → (w v : World D) (result : Outcome) → WalkFates means plan heap kept (bring_up plan kept) w v result → ActsCame means plan heap false (bring_up plan kept) kept kept w v result
-  brought-came kept loadable are w v result fates =
-      let leaves = bring-leaves plan kept loadable are in
-      let x = folds means plan heap kept (bring_up plan kept) fates.answers result kept w v (all-build plan kept (bring_up plan kept) leaves) fates.fated fates.walk in
-      record { meetings = x.meetings; did = x.did; came = x.came_so; left = sym (walk-leaves plan kept heap (bring_up plan kept) x.meetings leaves) }
 
   module _ (kept kept' mid : Record) (w b s : World D) (result : Outcome) (boot : Did means (Boot heap) w b) (x : ActsCame means plan heap false (bring_up plan kept) kept mid b s result) where
     abbrev EndsSo : World D → Record → Outcome → Type 0

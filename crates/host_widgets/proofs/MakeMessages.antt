@@ -20,7 +20,7 @@ use Rattle.tplg_plan.specs.WidgetWords.{FitsWords}
 use Rattle.tplg_plan.specs.Ranges as plan_ranges
 use Rattle.tplg_plan.specs.Sound.{IsSound, IsLive, IsControlOf, NamesComponent, NamesBuffer, NamesPipeline}
 use Rattle.host_widgets.specs.Controls.{control_of, first_values, first_value, greatest_value}
-use Rattle.host_widgets.specs.Acts.{kind_words, volume_words, words_of, no_words, comp_message, buffer_message, pipe_message}
+use Rattle.host_widgets.specs.Acts.{component_words, volume_words, widget_words, no_words, comp_message, buffer_message, pipe_message}
 use Rattle.host_widgets.proofs.LookedUp.{found-is, all-found}
 use Rattle.host_widgets.proofs.NamedIds.{few-widgets}
 use Rattle.host_widgets.proofs.GreatestGains.{control_gain-most}
@@ -46,7 +46,7 @@ volume-channels n is = let low = leb-true n 8 (and_parts (nat_le 1 n) (nat_le n 
 
 module _ (plan : Plan) (s : IsSound plan) (n : ℕ) (within : n < length plan.widgets) where
   abbrev w : WidgetPlan
-  w = words_of plan n
+  w = widget_words plan n
 
   fits : FitsWords w
   fits = all-at FitsWords plan.widgets n no_words within s.words
@@ -81,7 +81,7 @@ module _ (plan : Plan) (s : IsSound plan) (n : ℕ) (within : n < length plan.wi
     refl,
   )
 
-  message-kind : (kind : Kind) → ((k : ControlPlan) → control_of plan n ≡ Some k → IsControlOf k.kind kind) → IsMessage (messages.CompNew n w.pipe w.periods_sink w.periods_source w.frame_fmt (kind_words kind (control_of plan n) w))
+  message-kind : (kind : Kind) → ((k : ControlPlan) → control_of plan n ≡ Some k → IsControlOf k.kind kind) → IsMessage (messages.CompNew n w.pipe w.periods_sink w.periods_source w.frame_fmt (component_words kind (control_of plan n) w))
   unfolding AreSlots IsSlot
   message-kind kinds.HostPlay are = ((tt, (omega arith, (id-fits, (omega arith, (fits.pipe, (tt, (tt, (tt, (tt, (fits.periods_sink, (fits.periods_source, (tt, (format-fits, (tt, (tt, (tt, (omega arith, (tt, (tt, tt))))))))))))))))))), refl)
   message-kind kinds.HostCapture are = ((tt, (omega arith, (id-fits, (omega arith, (fits.pipe, (tt, (tt, (tt, (tt, (fits.periods_sink, (fits.periods_source, (tt, (format-fits, (tt, (tt, (tt, (omega arith, (tt, (tt, tt))))))))))))))))))), refl)

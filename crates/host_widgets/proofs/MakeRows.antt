@@ -17,7 +17,7 @@ use Rattle.tplg_plan.specs.Sound.{IsSound, NamesComponent, NamesBuffer, NamesPip
 use Rattle.host_widgets.specs.Controls.{control_of}
 use Rattle.host_widgets.specs.HostActs.{Make}
 use Rattle.host_widgets.specs.ActMessages.{message_of}
-use Rattle.host_widgets.specs.Acts.{kind_words, words_of, comp_message, buffer_message, pipe_message}
+use Rattle.host_widgets.specs.Acts.{component_words, widget_words, comp_message, buffer_message, pipe_message}
 use Rattle.host_widgets.specs.Expected.{stated_bytes}
 use Rattle.host_widgets.proofs.SilentTicks.{at}
 use Rattle.host_widgets.proofs.Effects.{effect}
@@ -68,7 +68,7 @@ guarded a b h f first second = ap (λ t. cond t (Err busy) (cond (b || not h) (E
 
 module _ (plan : Plan) (heap : ℕ) (s : IsSound plan) (n : ℕ) where
   abbrev w : WidgetPlan
-  w = words_of plan n
+  w = widget_words plan n
 
   abbrev g : FwState
   g = made_by plan heap n
@@ -89,7 +89,7 @@ module _ (plan : Plan) (heap : ℕ) (s : IsSound plan) (n : ℕ) where
 
   row-comp : (x : NamesComponent plan.graph n w) (t : ℕ) → row (at g t) (comp_message n (control_of plan n) w x.comp) ≡ if_fits (fits (rounded (stated_bytes plan n)) g.heap.holes) (effect (comp_message n (control_of plan n) w x.comp) (at g t))
   row-comp x t =
-      let words = kind_words x.comp.kind (control_of plan n) w in
+      let words = component_words x.comp.kind (control_of plan n) w in
       let limit = within-limit 128 (made_comp plan) (comps_below plan n) (length-room (λ (c : Comp). c.id) n 128 plan.graph.comps x.comp s.comps_ascend x.there s.comps) in
       let bytes : comp_bytes (kind_of words w.frame_fmt) ≡ stated_bytes plan n = ap comp_bytes (kind-read x.comp.kind (control_of plan n) w x.is.format) ∙ sym (bytes-comp plan heap s n x) in
       let done = with_comp n w.pipe (kind_of words w.frame_fmt) (first_setting words) (at g t) in

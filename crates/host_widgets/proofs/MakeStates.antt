@@ -28,8 +28,8 @@ use Rattle.host_widgets.specs.HostRecord.{closed}
 use Rattle.host_widgets.specs.Controls.{control_of}
 use Rattle.host_widgets.specs.HostActs.{Make}
 use Rattle.host_widgets.specs.ActMessages.{message_of}
-use Rattle.host_widgets.specs.Acts.{kind_words, words_of, no_words, comp_message, buffer_message, pipe_message, made_buffer, made_pipe}
-use Rattle.host_widgets.specs.Expected.{stream_view, stated_bytes, bytes_by, with_pieces}
+use Rattle.host_widgets.specs.Acts.{component_words, widget_words, no_words, comp_message, buffer_message, pipe_message, made_buffer, made_pipe}
+use Rattle.host_widgets.specs.Expected.{stream_view, stated_bytes, stated_by, with_pieces}
 use Rattle.host_widgets.specs.Host.{idle_view}
 use Rattle.host_widgets.proofs.Effects.{effect}
 use Rattle.host_widgets.proofs.LookedUp.{found-is}
@@ -179,7 +179,7 @@ format-read S16 = refl
 format-read S24 = refl
 format-read S32 = refl
 
-pub kind-read : (kind : Kind) (k : Option ControlPlan) (w : WidgetPlan) → has_number kind w.frame_fmt ≡ true → kind_of (kind_words kind k w) w.frame_fmt ≡ kind
+pub kind-read : (kind : Kind) (k : Option ControlPlan) (w : WidgetPlan) → has_number kind w.frame_fmt ≡ true → kind_of (component_words kind k w) w.frame_fmt ≡ kind
 kind-read HostPlay k w is = refl
 kind-read HostCapture k w is = refl
 kind-read (DaiPlay format) k w is = ap DaiPlay (ap format_of (sym (eqb-true (format_number format) w.frame_fmt is)) ∙ format-read format)
@@ -194,7 +194,7 @@ kind-read Eq k w is = refl
 
 module _ (plan : Plan) (heap : ℕ) (s : IsSound plan) (n : ℕ) where
   abbrev w : WidgetPlan
-  w = words_of plan n
+  w = widget_words plan n
 
   -- what its message is
   pub message-comp : (x : NamesComponent plan.graph n w) → message_of plan (Make n) ≡ comp_message n (control_of plan n) w x.comp
@@ -213,24 +213,24 @@ module _ (plan : Plan) (heap : ℕ) (s : IsSound plan) (n : ℕ) where
 
   -- its bytes
   pub bytes-comp : (x : NamesComponent plan.graph n w) → stated_bytes plan n ≡ comp_bytes x.comp.kind
-  bytes-comp x = ap (λ o. bytes_by o (edge_of plan.graph n)) x.there
+  bytes-comp x = ap (λ o. stated_by o (edge_of plan.graph n)) x.there
 
   pub bytes-buffer : (x : NamesBuffer plan.graph n w) → stated_bytes plan n ≡ buffer_bytes x.edge.size
-  bytes-buffer x = ap (λ o. bytes_by o (edge_of plan.graph n)) x.no_comp ∙ ap (bytes_by None) x.there
+  bytes-buffer x = ap (λ o. stated_by o (edge_of plan.graph n)) x.no_comp ∙ ap (stated_by None) x.there
 
   pub bytes-pipe : (x : NamesPipeline plan.graph n w) → stated_bytes plan n ≡ pipe_bytes
-  bytes-pipe x = ap (λ o. bytes_by o (edge_of plan.graph n)) x.no_comp ∙ ap (bytes_by None) x.no_edge
+  bytes-pipe x = ap (λ o. stated_by o (edge_of plan.graph n)) x.no_comp ∙ ap (stated_by None) x.no_edge
 
   -- what it does
   abbrev comp_as : Comp → ℕ → Comp
-  comp_as c m = record { id = m; kind = c.kind; pipe = c.pipe; setting = first_setting (kind_words c.kind (control_of plan m) (words_of plan m)) }
+  comp_as c m = record { id = m; kind = c.kind; pipe = c.pipe; setting = first_setting (component_words c.kind (control_of plan m) (widget_words plan m)) }
 
   pub effect-comp : (x : NamesComponent plan.graph n w) → effect (comp_message n (control_of plan n) w x.comp) (made_by plan heap n) ≡ made_by plan heap (n + 1)
   effect-comp x =
       let c = x.comp in
       let id : c.id ≡ n = found-is (λ (c : Comp). c.id) plan.graph.comps n c x.there in
-      let words : with_comp n w.pipe (kind_of (kind_words c.kind (control_of plan n) w) w.frame_fmt) (first_setting (kind_words c.kind (control_of plan n) w)) (made_by plan heap n) ≡ with_comp n c.pipe c.kind (first_setting (kind_words c.kind (control_of plan n) w)) (made_by plan heap n) =
-      λ i. with_comp n (x.is.pipe i) (kind-read c.kind (control_of plan n) w x.is.format i) (first_setting (kind_words c.kind (control_of plan n) w)) (made_by plan heap n) in
+      let words : with_comp n w.pipe (kind_of (component_words c.kind (control_of plan n) w) w.frame_fmt) (first_setting (component_words c.kind (control_of plan n) w)) (made_by plan heap n) ≡ with_comp n c.pipe c.kind (first_setting (component_words c.kind (control_of plan n) w)) (made_by plan heap n) =
+      λ i. with_comp n (x.is.pipe i) (kind-read c.kind (control_of plan n) w x.is.format i) (first_setting (component_words c.kind (control_of plan n) w)) (made_by plan heap n) in
       let piece : with_piece n (comp_bytes c.kind) (heap_by plan heap n) ≡ heap_by plan heap (n + 1) = ap (λ b. with_piece n b (heap_by plan heap n)) (sym (bytes-comp x)) ∙ heap-more plan heap n in
       let comps : placed (λ c. c.id) (comp_as c n) (map (made_comp plan) (comps_below plan n)) ≡ map (made_comp plan) (comps_below plan (n + 1)) =
       ap (λ m. placed (λ c. c.id) (comp_as c m) (map (made_comp plan) (comps_below plan n))) (sym id)

@@ -19,7 +19,7 @@ use Rattle.host_widgets.specs.HostActs.{Act, Make}
 use Rattle.host_widgets.specs.ActMessages.{message_of}
 use Rattle.host_widgets.specs.Acts.{ids_of}
 use Rattle.host_widgets.specs.ActLists.{bring_up}
-use Rattle.host_widgets.specs.Expected.{bytes_by, stated_bytes, needed_by}
+use Rattle.host_widgets.specs.Expected.{stated_by, stated_bytes, needed_by}
 use Rattle.host_widgets.specs.StateOf.{state_by}
 use Rattle.host_widgets.specs.Host.{Fits, idle_view}
 use Rattle.host_widgets.proofs.SilentTicks.{IsStill}
@@ -54,7 +54,7 @@ comp_bytes-some Mixer = omega arith
 comp_bytes-some Mux = omega arith
 comp_bytes-some Eq = omega arith
 
-bytes-some : (c : Option Comp) (e : Option Edge) → 0 < bytes_by c e
+bytes-some : (c : Option Comp) (e : Option Edge) → 0 < stated_by c e
 bytes-some (Some c) e = comp_bytes-some c.kind
 bytes-some None (Some e) = omega arith
 bytes-some None None = omega arith

@@ -1,151 +1,165 @@
--- What a walk of acts leaves in a firmware that follows.
-use Rattle.std.proofs.Common.{◌≡◌, inl, inr, ⊎_elim, ℕ, ◌+◌, ◌-◌, List, [], ◌∷◌, Option, Some, None, is_some, pos, MatchResult, Result, Ok, Err, refl, sym, ap, subst, ◌∙◌, arith}
+-- What acts that were sent did to a firmware that follows them.
+use Rattle.std.proofs.Common.{◌≡◌, ⊎_elim, ℕ, ◌+◌, ◌-◌, ◌≤◌, false, Bool, List, [], ◌∷◌, Option, Some, None, Result, Ok, Err, MatchResult, refl, sym, ap, subst, ◌∙◌, arith}
+use Rattle.std.specs.List.{AllByRecursion}
 use Rattle.sof_base.specs.declared.errno.Errno.{Errno}
 use Rattle.sof_base.specs.Ports.{Io}
 use Rattle.stream_law.specs.State.{FwState}
 use Rattle.ipc3_codec.specs.declared.reply.Reply.{Reply}
-use Rattle.mbox_link.specs.Step.{fresh}
-use Rattle.mbox_link.specs.Calls.{World, Meaning, Led, Steady}
-use Rattle.mbox_link.proofs.Led.{Steady-by}
-use Rattle.mbox_link.proofs.Steps.{NoneFell-same, Rose-within}
+use Rattle.ipc3_codec.specs.Messages.{message_spelling, decoded}
+use Rattle.mbox_link.specs.declared.fates.Fate.{Fate}
+use Rattle.mbox_link.specs.declared.fates.Fate.TheVariants.{Pass, Refuse, Drop, Lose}
+use Rattle.mbox_link.specs.Meetings.{Meeting}
+use Rattle.mbox_link.specs.Step.{fresh, row, body_of}
+use Rattle.mbox_link.specs.Exchange.{ticks}
+use Rattle.mbox_link.specs.Calls.{World, Meaning, Exchanged}
 use Rattle.tplg_plan.specs.declared.plans.Plan.{Plan}
 use Rattle.host_widgets.specs.declared.answers.HostFault.{HostFault}
-use Rattle.host_widgets.specs.declared.answers.HostFault.TheVariants.{NotLoaded, Loaded, NoSuch, State, Off, Range, Refused, LinkDown, Blob}
 use Rattle.host_widgets.specs.declared.kept.Record.{Record}
 use Rattle.host_widgets.specs.HostActs.{Act}
 use Rattle.host_widgets.specs.ActMessages.{message_of}
 use Rattle.host_widgets.specs.ActLists.{bring_up}
 use Rattle.host_widgets.specs.StateOf.{state_by}
-use Rattle.host_widgets.specs.Host.{Outcome, verdict, exchanges, Walk, Walked, Why, Fits, BroughtUp}
-use Rattle.host_widgets.specs.OneAct.{own}
-use Rattle.host_widgets.specs.ActFates.{Fate, Fated, WalkFates}
-use Rattle.host_widgets.proofs.ReplyErrors.{reply_with}
-use Rattle.host_widgets.proofs.Walks.{Answers, passing, Walk-goes, Walk-ends, Walked-on}
-use Rattle.host_widgets.proofs.SilentTicks.{at, AreInputs}
-use Rattle.host_widgets.proofs.Effects.{effect, effects, FollowAll, one}
+use Rattle.host_widgets.specs.Host.{Outcome, verdict, Fits, BroughtUp}
+use Rattle.host_widgets.specs.OneAct.{own, outcome_by, came as came_by, lag_of}
+use Rattle.host_widgets.specs.Walk.{walk, joined, goes_past}
+use Rattle.host_widgets.specs.ActCalls.{ActDid, ActsDid, ActsSent, Onwards, came_to, next_of}
+use Rattle.host_widgets.specs.Orders.{ActsCame}
+use Rattle.host_widgets.proofs.ReplyErrors.{done_reply}
+use Rattle.host_widgets.proofs.Exchanges.{Came, came, verdict-number}
+use Rattle.host_widgets.proofs.SilentTicks.{at, AreInputs, ticks-still}
+use Rattle.host_widgets.proofs.Effects.{effect, effects, effect-at, Follows, FollowAll, verdict-done, row-decoded}
+use Rattle.host_widgets.proofs.ActsCome.{answer_by, act-did}
+use Rattle.host_widgets.proofs.BuildingActs.{Leaves, ends-at, walk-leaves}
 
 -- none of these acts is refused by the firmware itself
 abbrev pub AllFree : Plan → ℕ → Record → List Act → Type 0
 AllFree plan heap kept [] = Unit {0}
 AllFree plan heap kept (act ∷ acts) = (own plan heap kept act ≡ None) × AllFree plan heap kept acts
 
+-- what passed was not refused
+pub passed-free : (fate : Fate) (refusal : Option Errno) → outcome_by fate refusal ≡ Ok tt → refusal ≡ None
+passed-free Pass None is = refl
+passed-free Pass (Some e) is = absurd (cc is)
+passed-free (Refuse n) refusal is = absurd (cc is)
+passed-free Drop refusal is = absurd (cc is)
+passed-free Lose refusal is = absurd (cc is)
+
 module _ {D : Type 0} (means : Meaning D) (plan : Plan) (heap : ℕ) (kept : Record) where
-  -- the reason holds over more calls
-  pub Why-within : (fault : HostFault) (a b c d : D) → Steady means a b → Steady means c d → Why means plan heap b fault c → Why means plan heap a fault d
-  Why-within NotLoaded a b c d before later why = why
-  Why-within Loaded a b c d before later why = why
-  Why-within (NoSuch name) a b c d before later why = why
-  Why-within (State found) a b c d before later why = why
-  Why-within Off a b c d before later why = why
-  Why-within (Range n) a b c d before later why = why
-  Why-within (Blob n) a b c d before later why = why
-  Why-within (Refused e) a b c d before later why =
-      ⊎_elim (λ own. inl own) (λ rose. inr (Rose-within (means.refusals a) (means.refusals b) (means.refusals c) (means.refusals d) before.refusals later.refusals rose)) why
-  Why-within LinkDown a b c d before later why =
-      Rose-within (means.faults a) (means.faults b) (means.faults c) (means.faults d) before.faults later.faults why
+  -- ---- one act
 
-  Steady-none : (a : D) → Steady means a a
-  Steady-none a = record { faults = NoneFell-same (means.faults a); refusals = NoneFell-same (means.refusals a); boots = omega arith; pending = omega arith; most = refl }
+  module _ (act : Act) (answer : Option (List ℕ)) (w v : World D) (g : FwState) (t : ℕ) (follows : Follows plan heap kept g act) (are : AreInputs w.io.inputs) (on : means.on w.device ≡ Some (at g t)) (x : Exchanged means (message_spelling (message_of plan act)) answer w v) where
+    abbrev request : List ℕ
+    request = message_spelling (message_of plan act)
 
-  -- acts that have all passed
-  pub record Passed (acts : List Act) (w v : World D) (g : FwState) (t : ℕ) : Type 0 where
-    pub free : AllFree plan heap kept acts
-    pub on : means.on v.device ≡ Some (at (effects plan acts g) (t + (means.pending w.device - means.pending v.device)))
-    pub endpoints : v.io ≡ w.io
-    pub steady : Steady means w.device v.device
+    -- the clock after the ticks before this message
+    abbrev later : ℕ
+    later = t + (means.pending w.device - means.pending v.device)
 
-  -- acts of which one has not passed
-  pub record Ended (w v : World D) (fault : HostFault) : Type 0 where
-    pub why : Why means plan heap w.device fault v.device
-    pub endpoints : v.io ≡ w.io
+    ticked-so : ticks (means.pending w.device - means.pending v.device) (at g t, w.io) ≡ (at g later, w.io)
+    ticked-so = ticks-still (means.pending w.device - means.pending v.device) g t w.io follows.still are
 
-  -- the verdict is one
-  not_both : {A : Type 0} (answer : Option (List ℕ)) (reply : Reply) (fault : HostFault) → verdict answer ≡ Ok reply → verdict answer ≡ Err fault → A
-  not_both answer reply fault passed failed = absurd (cc (sym passed ∙ failed))
+    way_of : Came means request answer w v (at g later, w.io)
+    way_of = subst (Came means request answer w v) ticked-so (came means request answer w v (at g t) on x)
 
-  walk_passed : (acts : List Act) (answers : Answers) (w v : World D) (g : FwState) (t : ℕ) → FollowAll plan heap kept g acts → AreInputs w.io.inputs → means.on w.device ≡ Some (at g t) → Led means w (exchanges plan acts answers) v → Walk acts answers passing → Passed acts w v g t
-  walk_passed [] [] w v g t follow are on led walk =
-      subst (λ (x : World D). Passed [] w x g t) (sym led)
-      record { free = tt; on = on ∙ ap (λ (n : ℕ). Some (at g n)) (let same : t ≡ t + (means.pending w.device - means.pending w.device) = omega arith in same); endpoints = refl; steady = Steady-none w.device }
-  walk_passed [] (answer ∷ answers) w v g t follow are on led walk = absurd walk
-  walk_passed (act ∷ acts) [] w v g t follow are on led walk = absurd walk
-  walk_passed (act ∷ acts) (answer ∷ answers) w v g t follow are on led walk =
-      let m = led.0 in
-      let goes = Walk-goes act acts answer answers walk in
-      let first = one means plan heap kept act answer w m g t follow.0 are on led.1 in
-      let t' = t + (means.pending w.device - means.pending m.device) in
-      ⊎_elim
-      (λ taken.
-      let rest = walk_passed acts answers m v (effect (message_of plan act) g) t' (follow.1 taken.free) (subst (λ (io : Io). AreInputs io.inputs) (sym first.endpoints) are) taken.on led.2 goes.1 in
-      let clock : t' + (means.pending m.device - means.pending v.device) ≡ t + (means.pending w.device - means.pending v.device) = omega (arith, led.1.steady.pending, rest.steady.pending) in
+    pub same-io : v.io ≡ w.io
+    same-io = way_of.endpoints
+
+    row_by : (o : Option Errno) → own plan heap kept act ≡ o → (next : FwState) × (row (at g later) (message_of plan act) ≡ answer_by o next)
+    row_by None free = (effect (message_of plan act) (at g later), follows.passes free later)
+    row_by (Some e) refused =
+        let number : answer_by (Some e) (at g later) ≡ answer_by (Some _) (at g later) = ap (λ (n : Errno). answer_by (Some n) (at g later)) (follows.number e refused).0 in
+        (at g later, follows.refuses e refused later ∙ sym number)
+
+    passes : (f : FwState) → came_to (verdict (Some (done_reply (body_of f (decoded request))))) ≡ Ok tt
+    passes f = ap came_to (verdict-done f plan act (Some (done_reply (body_of f (decoded request)))) follows.told follows.message refl)
+
+    pub it-did : (m : Meeting) × (did : ActDid means plan heap kept act m w v) × (did.answer ≡ answer)
+    it-did =
+        let r = row_by (own plan heap kept act) refl in
+        act-did means plan heap kept act w v (at g t) on answer x follows.message passes r.0 (ap (λ (p : FwState × Io). row p.0 (message_of plan act)) ticked-so ∙ r.1)
+
+    pub it-took : (reply : Reply) → verdict answer ≡ Ok reply → own plan heap kept act ≡ None → means.on v.device ≡ Some (at (effect (message_of plan act) g) later)
+    it-took reply passed free = ⊎_elim
+        (λ took.
+        let row_is : row (at g later) (message_of plan act) ≡ Ok took.next = sym (row-decoded (at g later) (message_of plan act) follows.message) ∙ took.row in
+        let next : effect (message_of plan act) (at g later) ≡ took.next = cc (sym (follows.passes free later) ∙ row_is) in
+        took.on ∙ ap Some (sym next ∙ effect-at (message_of plan act) g later))
+        (λ rest. ⊎_elim
+        (λ it. absurd (cc (sym passed ∙ ap verdict it.said ∙ verdict-number it.error it.number)))
+        (λ rest. ⊎_elim
+        (λ it. absurd (cc (sym passed ∙ ap verdict it.said ∙ verdict-number it.error it.number)))
+        (λ it. absurd (cc (sym passed ∙ ap verdict it.said)))
+        rest) rest)
+        way_of.way
+
+  -- ---- acts that leave the record, one after another
+
+  -- an act that came to this, and those behind it
+  abbrev pub GoesOn : Act → List Act → Meeting → List Meeting → World D → World D → Outcome → Type 0
+  GoesOn act acts m ms mid v o = let a = came_by plan act kept (lag_of m) o in Onwards (goes_past false a.outcome) ms mid v (ActsDid means plan heap false a.kept acts ms mid v)
+
+  -- and what they all come to
+  abbrev pub outcome_from : Act → List Act → Meeting → List Meeting → Outcome → Outcome
+  outcome_from act acts m ms o = let a = came_by plan act kept (lag_of m) o in (joined act a ms (goes_past false a.outcome) (walk plan heap false next_of a.kept ms acts)).outcome
+
+  -- what they met, what they came to, and where all passed the state that they leave
+  pub record Followed (acts : List Act) (w v : World D) (g : FwState) (t : ℕ) (result : Outcome) : Type 0 where
+    pub meetings : List Meeting
+    pub did : ActsDid means plan heap false kept acts meetings w v
+    pub came_so : result ≡ (walk plan heap false next_of kept meetings acts).outcome
+    pub io : v.io ≡ w.io
+    pub fewer : means.pending v.device ≤ means.pending w.device
+    pub on : result ≡ Ok tt → means.on v.device ≡ Some (at (effects plan acts g) (t + (means.pending w.device - means.pending v.device)))
+
+  pub follow-sent : (acts : List Act) (w v : World D) (g : FwState) (t : ℕ) (result : Outcome) → AllByRecursion (Leaves plan kept) acts → FollowAll plan heap kept g acts → AreInputs w.io.inputs → means.on w.device ≡ Some (at g t) → ActsSent means plan acts w v result → Followed acts w v g t result
+  follow-sent [] w v g t result all follow are on sent =
+      let pending : means.pending v.device ≡ means.pending w.device = ap (λ (y : World D). means.pending y.device) sent.0 in
       record {
-        free = (taken.free, rest.free);
-        on = rest.on ∙ ap (λ (n : ℕ). Some (at (effects plan acts (effect (message_of plan act) g)) n)) clock;
-        endpoints = rest.endpoints ∙ first.endpoints;
-        steady = Steady-by means w.device m.device v.device led.1.steady rest.steady;
-      })
-      (λ other. not_both answer goes.0.0 other.fault goes.0.1 other.said)
-      first.way
+        meetings = [];
+        did = (refl, sent.0);
+        came_so = sent.1;
+        io = ap (λ (y : World D). y.io) sent.0;
+        fewer = omega (arith, pending);
+        on = λ passed. ap (λ (y : World D). means.on y.device) sent.0 ∙ on ∙ ap (λ (n : ℕ). Some (at g n)) (let same : t ≡ t + (means.pending w.device - means.pending v.device) = omega (arith, pending) in same);
+      }
+  follow-sent (act ∷ acts) w v g t result all follow are on (mid, answer, x, more) =
+      by (verdict answer) refl more (λ free there rest. follow-sent acts mid v (effect (message_of plan act) g) (t + (means.pending w.device - means.pending mid.device)) result all.1 (follow.1 free) (subst (λ (io : Io). AreInputs io.inputs) (sym io-stays) are) there rest)
+    where
+      io-stays : mid.io ≡ w.io
+      io-stays = same-io act answer w mid g t follow.0 are on x
 
-  -- no answer, no exchange
-  no_more : (acts : List Act) (answers : Answers) (m v : World D) → answers ≡ [] → Led means m (exchanges plan acts answers) v → v ≡ m
-  no_more [] answers m v none led = led
-  no_more (act ∷ acts) answers m v none led = subst (λ (rest : Answers). Led means m (exchanges plan (act ∷ acts) rest) v) none led
+      it : (m : Meeting) × (did : ActDid means plan heap kept act m w mid) × (did.answer ≡ answer)
+      it = it-did act answer w mid g t follow.0 are on x
 
-  walk_ended : (acts : List Act) (answers : Answers) (fault : HostFault) (w v : World D) (g : FwState) (t : ℕ) → FollowAll plan heap kept g acts → AreInputs w.io.inputs → means.on w.device ≡ Some (at g t) → Led means w (exchanges plan acts answers) v → Walk acts answers (Err fault) → Ended w v fault
-  walk_ended [] [] fault w v g t follow are on led walk = absurd (cc walk)
-  walk_ended [] (answer ∷ answers) fault w v g t follow are on led walk = absurd walk
-  walk_ended (act ∷ acts) [] fault w v g t follow are on led walk = absurd walk
-  walk_ended (act ∷ acts) (answer ∷ answers) fault w v g t follow are on led walk =
-      let m = led.0 in
-      let first = one means plan heap kept act answer w m g t follow.0 are on led.1 in
-      let t' = t + (means.pending w.device - means.pending m.device) in
-      ⊎_elim
-      (λ goes. ⊎_elim
-      (λ taken.
-      let rest = walk_ended acts answers fault m v (effect (message_of plan act) g) t' (follow.1 taken.free) (subst (λ (io : Io). AreInputs io.inputs) (sym first.endpoints) are) taken.on led.2 goes.1 in
-      record { why = Why-within fault w.device m.device v.device v.device led.1.steady (Steady-none v.device) rest.why; endpoints = rest.endpoints ∙ first.endpoints })
-      (λ other. not_both answer goes.0.0 other.fault goes.0.1 other.said)
-      first.way)
-      (λ ends. ⊎_elim
-      (λ taken. not_both answer _ fault taken.said ends.0)
-      (λ other.
-      let same : other.fault ≡ fault = cc (sym other.said ∙ ends.0) in
-      let last : v ≡ m = no_more acts answers m v ends.1 led.2 in
-      let why = subst (λ (f : HostFault). Why means plan heap w.device f m.device) same other.why in
-      subst (λ (x : World D). Ended w x fault) (sym last) record { why = why; endpoints = first.endpoints })
-      first.way)
-      (Walk-ends act acts answer answers fault walk)
+      came-is : came_to (verdict answer) ≡ outcome_by it.0.fate (own plan heap kept act)
+      came-is = ap (λ (a : Option (List ℕ)). came_to (verdict a)) (sym it.2) ∙ it.1.came
 
-  -- the fate of each act, whatever the walk comes to
-  fate_is : (refusal : Option Errno) (old new : D) (answer : Option (List ℕ)) (said : Result Reply HostFault) → verdict answer ≡ said → Fate means refusal old said new → Fate means refusal old (verdict answer) new
-  fate_is refusal old new answer said is fate = subst (λ (r : Result Reply HostFault). Fate means refusal old r new) (sym is) fate
-
-  walk_fated : (acts : List Act) (answers : Answers) (result : Outcome) (w v : World D) (g : FwState) (t : ℕ) → FollowAll plan heap kept g acts → AreInputs w.io.inputs → means.on w.device ≡ Some (at g t) → Led means w (exchanges plan acts answers) v → Walk acts answers result → Fated means plan heap kept answers acts w v
-  walk_fated [] [] result w v g t follow are on led walk = led
-  walk_fated [] (answer ∷ answers) result w v g t follow are on led walk = walk
-  walk_fated (act ∷ acts) [] result w v g t follow are on led walk = absurd walk
-  walk_fated (act ∷ acts) (answer ∷ answers) result w v g t follow are on led walk =
-      let m = led.0 in
-      let first = one means plan heap kept act answer w m g t follow.0 are on led.1 in
-      let t' = t + (means.pending w.device - means.pending m.device) in
-      ⊎_elim
-      (λ taken.
-      let rest_walk = subst (λ (r : Result Reply HostFault). MatchResult r (λ reply. Walk acts answers result) (λ fault. (answers ≡ []) × (result ≡ Err fault))) taken.said walk in
-      let rest = walk_fated acts answers result m v (effect (message_of plan act) g) t' (follow.1 taken.free) (subst (λ (io : Io). AreInputs io.inputs) (sym first.endpoints) are) taken.on led.2 rest_walk in
-      (m, led.1, fate_is (own plan heap kept act) w.device m.device answer (Ok (reply_with (pos 0))) taken.said taken.free, rest))
-      (λ other.
-      let end = subst (λ (r : Result Reply HostFault). MatchResult r (λ reply. Walk acts answers result) (λ fault. (answers ≡ []) × (result ≡ Err fault))) other.said walk in
-      let last : Fated means plan heap kept answers acts m v = subst (λ (xs : Answers). Fated means plan heap kept xs acts m v) (sym end.0) (no_more acts answers m v end.0 led.2) in
-      (m, led.1, fate_is (own plan heap kept act) w.device m.device answer (Err other.fault) other.said other.fate, last))
-      first.way
-
--- what fates entail: the calls alone
-pub Fated-led : {D : Type 0} (means : Meaning D) (plan : Plan) (heap : ℕ) (kept : Record) (answers : Answers) (acts : List Act) (w v : World D) → Fated means plan heap kept answers acts w v → Led means w (exchanges plan acts answers) v
-Fated-led means plan heap kept [] [] w v fated = fated
-Fated-led means plan heap kept [] (act ∷ acts) w v fated = fated
-Fated-led means plan heap kept (answer ∷ answers) [] w v fated = absurd fated
-Fated-led means plan heap kept (answer ∷ answers) (act ∷ acts) w v fated = (fated.0, fated.1, Fated-led means plan heap kept answers acts fated.0 v fated.3)
+      by : (r : Result Reply HostFault) → verdict answer ≡ r → MatchResult r (λ reply. ActsSent means plan acts mid v result) (λ fault. (v ≡ mid) × (result ≡ Err fault)) →
+          (own plan heap kept act ≡ None → means.on mid.device ≡ Some (at (effect (message_of plan act) g) (t + (means.pending w.device - means.pending mid.device))) → ActsSent means plan acts mid v result → Followed acts mid v (effect (message_of plan act) g) (t + (means.pending w.device - means.pending mid.device)) result) →
+          Followed (act ∷ acts) w v g t result
+      by (Ok reply) is rest go =
+          let passed : Ok tt ≡ outcome_by it.0.fate (own plan heap kept act) = ap came_to (sym is) ∙ came-is in
+          let free = passed-free it.0.fate (own plan heap kept act) (sym passed) in
+          let r = go free (it-took act answer w mid g t follow.0 are on x reply is free) rest in
+          let clock : (t + (means.pending w.device - means.pending mid.device)) + (means.pending mid.device - means.pending v.device) ≡ t + (means.pending w.device - means.pending v.device) = omega (arith, x.steady.pending, r.fewer) in
+          record {
+            meetings = it.0 ∷ r.meetings;
+            did = (mid, it.1, subst (GoesOn act acts it.0 r.meetings mid v) passed (subst (λ (now : Record). ActsDid means plan heap false now acts r.meetings mid v) (sym all.0) r.did));
+            came_so = subst (λ (o : Outcome). result ≡ outcome_from act acts it.0 r.meetings o) passed (subst (λ (now : Record). result ≡ (walk plan heap false next_of now r.meetings acts).outcome) (sym all.0) r.came_so);
+            io = r.io ∙ io-stays;
+            fewer = omega (arith, x.steady.pending, r.fewer);
+            on = λ done. r.on done ∙ ap (λ (n : ℕ). Some (at (effects plan acts (effect (message_of plan act) g)) n)) clock;
+          }
+      by (Err fault) is end go =
+          let failed : Err fault ≡ outcome_by it.0.fate (own plan heap kept act) = ap came_to (sym is) ∙ came-is in
+          record {
+            meetings = it.0 ∷ [];
+            did = (mid, it.1, subst (GoesOn act acts it.0 [] mid v) failed (subst (λ (b : Bool). Onwards b [] mid v (ActsDid means plan heap false kept acts [] mid v)) (sym (ends-at fault)) (refl, end.0)));
+            came_so = subst (λ (o : Outcome). result ≡ outcome_from act acts it.0 [] o) failed (subst (λ (b : Bool). result ≡ (joined act (came_by plan act kept (lag_of it.0) (Err fault)) [] b (walk plan heap false next_of kept [] acts)).outcome) (sym (ends-at fault)) end.1);
+            io = ap (λ (y : World D). y.io) end.0 ∙ io-stays;
+            fewer = omega (arith, x.steady.pending, ap (λ (y : World D). means.pending y.device) end.0);
+            on = λ done. absurd (let no : Err fault ≡ Ok tt = sym end.1 ∙ done in cc no);
+          }
 
 -- ---- the list that brings a device up
 
@@ -155,21 +169,22 @@ pub record Brings (plan : Plan) (heap : ℕ) (kept : Record) : Type 0 where
   pub fits : AllFree plan heap kept (bring_up plan kept) → Fits plan heap
   pub state : effects plan (bring_up plan kept) (fresh heap) ≡ state_by plan kept heap 0
 
-module _ {D : Type 0} (means : Meaning D) (plan : Plan) (heap : ℕ) (kept : Record) (w v : World D) (brings : Brings plan heap kept) (are : AreInputs w.io.inputs) (on : means.on w.device ≡ Some (fresh heap)) where
-  pub brought_up : (result : Outcome) → Walked means plan (bring_up plan kept) w v result → BroughtUp means plan heap kept w.device result v.device × (v.io ≡ w.io)
-  brought_up (Ok done) walked =
-      let all = walk_passed means plan heap kept (bring_up plan kept) walked.answers w v (fresh heap) 0 brings.follow are on walked.led walked.walk in
+module _ {D : Type 0} (means : Meaning D) (plan : Plan) (heap : ℕ) (kept : Record) (w v : World D) (brings : Brings plan heap kept) (leaves : AllByRecursion (Leaves plan kept) (bring_up plan kept)) (are : AreInputs w.io.inputs) (on : means.on w.device ≡ Some (fresh heap)) (result : Outcome) (sent : ActsSent means plan (bring_up plan kept) w v result) where
+  followed : Followed means plan heap kept (bring_up plan kept) w v (fresh heap) 0 result
+  followed = follow-sent means plan heap kept (bring_up plan kept) w v (fresh heap) 0 result leaves brings.follow are on sent
+
+  pub list-came : ActsCame means plan heap false (bring_up plan kept) kept kept w v result
+  list-came = record { meetings = followed.meetings; did = followed.did; came = followed.came_so; left = sym (walk-leaves plan kept heap (bring_up plan kept) followed.meetings leaves) }
+
+  pub list-io : v.io ≡ w.io
+  list-io = followed.io
+
+  by : (o : Outcome) → result ≡ o → BroughtUp means plan heap kept w.device o v.device
+  by (Ok done) is =
       let fall = means.pending w.device - means.pending v.device in
       let clock : 0 + fall ≡ fall = omega arith in
-      ((brings.fits all.free, all.on ∙ ap (λ (n : ℕ). Some (at (effects plan (bring_up plan kept) (fresh heap)) n)) clock ∙ ap (λ (g : FwState). Some (at g fall)) brings.state), all.endpoints)
-  brought_up (Err fault) walked =
-      let ended = walk_ended means plan heap kept (bring_up plan kept) walked.answers fault w v (fresh heap) 0 brings.follow are on walked.led walked.walk in
-      ((Walked-on means plan (bring_up plan kept) w v (Err fault) walked (ap is_some on), ended.why), ended.endpoints)
+      followed.on is ∙ ap (λ (n : ℕ). Some (at (effects plan (bring_up plan kept) (fresh heap)) n)) clock ∙ ap (λ (g : FwState). Some (at g fall)) brings.state
+  by (Err fault) is = tt
 
-  -- with the fate of each act
-  pub walk_fates : (result : Outcome) → Walked means plan (bring_up plan kept) w v result → WalkFates means plan heap kept (bring_up plan kept) w v result
-  walk_fates result walked = record {
-    answers = walked.answers;
-    fated = walk_fated means plan heap kept (bring_up plan kept) walked.answers result w v (fresh heap) 0 brings.follow are on walked.led walked.walk;
-    walk = walked.walk;
-  }
+  pub list-leaves : BroughtUp means plan heap kept w.device result v.device
+  list-leaves = by result refl

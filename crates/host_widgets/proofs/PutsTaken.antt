@@ -31,7 +31,7 @@ use Rattle.host_widgets.specs.ViewOf.{setting_by}
 use Rattle.host_widgets.specs.HostActs.{Act, Put}
 use Rattle.host_widgets.specs.ActLists.{part_acts, control_acts_by, control_acts}
 use Rattle.host_widgets.specs.ActMessages.{put_message, message_of}
-use Rattle.host_widgets.specs.Acts.{words_of, kind_words}
+use Rattle.host_widgets.specs.Acts.{widget_words, component_words}
 use Rattle.host_widgets.specs.declared.kept.ControlRec.{ControlRec}
 use Rattle.host_widgets.specs.Kept.{control_at, controls_of}
 use Rattle.host_widgets.specs.Host.{AreControls}
@@ -50,7 +50,7 @@ use Rattle.host_widgets.proofs.GreatestGains.{AreGains, gains-are, gains-pass, s
 -- ---- settings while some live controls are still to be set
 
 abbrev pub setting_while : Plan → Record → List Pair → Comp → Setting
-setting_while plan kept todo c = cond (list_any (λ p. p.0.comp == c.id) todo) (first_setting (kind_words c.kind (control_of plan c.id) (words_of plan c.id))) (setting_by c.kind (control_at plan kept c.id))
+setting_while plan kept todo c = cond (list_any (λ p. p.0.comp == c.id) todo) (first_setting (component_words c.kind (control_of plan c.id) (widget_words plan c.id))) (setting_by c.kind (control_at plan kept c.id))
 
 abbrev pub comp_while : Plan → Record → List Pair → Comp → Comp
 comp_while plan kept todo c = record { id = c.id; kind = c.kind; pipe = c.pipe; setting = setting_while plan kept todo c }
@@ -60,7 +60,7 @@ abbrev pub put_graph : Plan → Record → List Pair → Graph
 put_graph plan kept todo = record { comps = map (comp_while plan kept todo) plan.graph.comps; edges = plan.graph.edges; pipes = map begun plan.graph.pipes; joins = plan.graph.joins }
 
 -- what a component without a live control begins with is what is set at it
-bare-setting : (kind : Kind) (w : WidgetPlan) → first_setting (kind_words kind None w) ≡ setting_by kind None
+bare-setting : (kind : Kind) (w : WidgetPlan) → first_setting (component_words kind None w) ≡ setting_by kind None
 bare-setting kinds.HostPlay w = refl
 bare-setting kinds.HostCapture w = refl
 bare-setting (kinds.DaiPlay format) w = refl
@@ -77,12 +77,12 @@ puts-none plan sound kept are = λ i. record { comps = map-all (made_comp plan) 
     each : (c : Comp) → made_comp plan c ≡ comp_while plan kept (controls_of plan kept) c
     each c = by (list_any (λ (p : Pair). p.0.comp == c.id) (controls_of plan kept)) refl
       where
-        by : (h : Bool) → list_any (λ (p : Pair). p.0.comp == c.id) (controls_of plan kept) ≡ h → made_comp plan c ≡ record { id = c.id; kind = c.kind; pipe = c.pipe; setting = cond h (first_setting (kind_words c.kind (control_of plan c.id) (words_of plan c.id))) (setting_by c.kind (control_at plan kept c.id)) }
+        by : (h : Bool) → list_any (λ (p : Pair). p.0.comp == c.id) (controls_of plan kept) ≡ h → made_comp plan c ≡ record { id = c.id; kind = c.kind; pipe = c.pipe; setting = cond h (first_setting (component_words c.kind (control_of plan c.id) (widget_words plan c.id))) (setting_by c.kind (control_at plan kept c.id)) }
         by true e = refl
         by false e =
             let none : control_of plan c.id ≡ None = lost-any (λ (k : ControlPlan). k.comp == c.id) plan.controls (sym (any-zip c.id plan.controls kept.controls are) ∙ e) in
             let unset : control_at plan kept c.id ≡ None = lost-any (λ (p : Pair). p.0.comp == c.id) (controls_of plan kept) e in
-            let same : first_setting (kind_words c.kind (control_of plan c.id) (words_of plan c.id)) ≡ setting_by c.kind (control_at plan kept c.id) = ap (λ (o : Option ControlPlan). first_setting (kind_words c.kind o (words_of plan c.id))) none ∙ bare-setting c.kind (words_of plan c.id) ∙ ap (setting_by c.kind) (sym unset) in
+            let same : first_setting (component_words c.kind (control_of plan c.id) (widget_words plan c.id)) ≡ setting_by c.kind (control_at plan kept c.id) = ap (λ (o : Option ControlPlan). first_setting (component_words c.kind o (widget_words plan c.id))) none ∙ bare-setting c.kind (widget_words plan c.id) ∙ ap (setting_by c.kind) (sym unset) in
             λ i. record { id = c.id; kind = c.kind; pipe = c.pipe; setting = same i }
 
 -- ---- what a control sets
@@ -103,7 +103,7 @@ set-is id (Blob most initial) r kind is = ap (λ (x : Kind). setting_by x (Some 
 -- a component of a plan with a live control has it set to that
 module _ (plan : Plan) (sound : IsSound plan) (kept : Record) (id : ℕ) (q : ControlKind) (r : ControlRec) (live : IsLive plan.graph (with_kind id q)) (there : control_of plan id ≡ Some (with_kind id q)) (set : control_at plan kept id ≡ Some (with_kind id q, r)) (ks : List Pair) (apart : list_any (λ (p : Pair). p.0.comp == id) ks ≡ false) where
   abbrev first : Comp → Setting
-  first c = first_setting (kind_words c.kind (control_of plan c.id) (words_of plan c.id))
+  first c = first_setting (component_words c.kind (control_of plan c.id) (widget_words plan c.id))
 
   module _ (c : Comp) (found : comp_of plan.graph c.id ≡ Some c) where
     kind-is : c.id ≡ id → IsControlOf q c.kind
@@ -125,13 +125,13 @@ module _ (plan : Plan) (sound : IsSound plan) (kept : Record) (id : ℕ) (q : Co
         by true e = let same : c.id ≡ id = eqb-true c.id id e in ap comp_by (sym (by-set same)) ∙ ap (λ (h : Bool). comp_by (cond h (first c) (setting_by c.kind (control_at plan kept c.id)))) (sym (rest-apart same))
         by false e = refl
 
-    kept-comp : ((w : WidgetPlan) (kind : Kind) → IsControlOf q kind → first_setting (kind_words kind (Some (with_kind id q)) w) ≡ wanted q r) → comp_while plan kept ((with_kind id q, r) ∷ ks) c ≡ comp_while plan kept ks c
+    kept-comp : ((w : WidgetPlan) (kind : Kind) → IsControlOf q kind → first_setting (component_words kind (Some (with_kind id q)) w) ≡ wanted q r) → comp_while plan kept ((with_kind id q, r) ∷ ks) c ≡ comp_while plan kept ks c
     kept-comp stays = ap (λ (h : Bool). comp_by (cond (h || list_any (λ (p : Pair). p.0.comp == c.id) ks) (first c) (setting_by c.kind (control_at plan kept c.id)))) (eqb_turned id c.id) ∙ by (c.id == id) refl
       where
         by : (h : Bool) → (c.id == id) ≡ h → comp_by (cond (h || list_any (λ (p : Pair). p.0.comp == c.id) ks) (first c) (setting_by c.kind (control_at plan kept c.id))) ≡ comp_while plan kept ks c
         by true e =
             let same : c.id ≡ id = eqb-true c.id id e in
-            let now : first c ≡ wanted q r = ap (λ (o : Option ControlPlan). first_setting (kind_words c.kind o (words_of plan c.id))) (ap (control_of plan) same ∙ there) ∙ stays (words_of plan c.id) c.kind (kind-is same) in
+            let now : first c ≡ wanted q r = ap (λ (o : Option ControlPlan). first_setting (component_words c.kind o (widget_words plan c.id))) (ap (control_of plan) same ∙ there) ∙ stays (widget_words plan c.id) c.kind (kind-is same) in
             ap comp_by (now ∙ sym (by-set same)) ∙ ap (λ (h : Bool). comp_by (cond h (first c) (setting_by c.kind (control_at plan kept c.id)))) (sym (rest-apart same))
         by false e = refl
 
@@ -143,7 +143,7 @@ module _ (plan : Plan) (sound : IsSound plan) (kept : Record) (id : ℕ) (q : Co
       each [] found = tt
       each (c ∷ cs) found = (put-comp c found.0, each cs found.1)
 
-  kept-graph : ((w : WidgetPlan) (kind : Kind) → IsControlOf q kind → first_setting (kind_words kind (Some (with_kind id q)) w) ≡ wanted q r) → put_graph plan kept ((with_kind id q, r) ∷ ks) ≡ put_graph plan kept ks
+  kept-graph : ((w : WidgetPlan) (kind : Kind) → IsControlOf q kind → first_setting (component_words kind (Some (with_kind id q)) w) ≡ wanted q r) → put_graph plan kept ((with_kind id q, r) ∷ ks) ≡ put_graph plan kept ks
   kept-graph stays = λ i. record { comps = map-all (comp_while plan kept ((with_kind id q, r) ∷ ks)) (comp_while plan kept ks) plan.graph.comps (each plan.graph.comps (each-comp plan sound)) i; edges = plan.graph.edges; pipes = map begun plan.graph.pipes; joins = plan.graph.joins }
     where
       each : (cs : List Comp) → AllByRecursion (λ (c : Comp). comp_of plan.graph c.id ≡ Some c) cs → AllByRecursion (λ (c : Comp). comp_while plan kept ((with_kind id q, r) ∷ ks) c ≡ comp_while plan kept ks c) cs
@@ -164,12 +164,12 @@ module _ (plan : Plan) (sound : IsSound plan) (kept : Record) (id : ℕ) (q : Co
   now-used : is_used now id ≡ true
   now-used = or_left (has_comp now id || has_edge now id) (has_pipe now id) (or_left (has_comp now id) (has_edge now id) (any-found (λ (x : Comp). x.id == id) now.comps (comp_while plan kept ((with_kind id q, r) ∷ ks) live.comp) now-comp))
 
-  now-setting : setting_while plan kept ((with_kind id q, r) ∷ ks) live.comp ≡ first_setting (kind_words live.comp.kind (Some (with_kind id q)) (words_of plan live.comp.id))
+  now-setting : setting_while plan kept ((with_kind id q, r) ∷ ks) live.comp ≡ first_setting (component_words live.comp.kind (Some (with_kind id q)) (widget_words plan live.comp.id))
   now-setting =
       ap (λ (h : Bool). cond (h || list_any (λ (p : Pair). p.0.comp == live.comp.id) ks) (first live.comp) (setting_by live.comp.kind (control_at plan kept live.comp.id))) (eq-eqb id live.comp.id (sym comp-same))
-      ∙ ap (λ (o : Option ControlPlan). first_setting (kind_words live.comp.kind o (words_of plan live.comp.id))) (ap (control_of plan) comp-same ∙ there)
+      ∙ ap (λ (o : Option ControlPlan). first_setting (component_words live.comp.kind o (widget_words plan live.comp.id))) (ap (control_of plan) comp-same ∙ there)
 
-  module _ (heap : ℕ) (sets : List ℕ) (command : ℕ) (values : List ℕ) (is : put_message id sets (Some (with_kind id q)) ≡ SetValue id command values) (new : new_setting live.comp.kind (first_setting (kind_words live.comp.kind (Some (with_kind id q)) (words_of plan live.comp.id))) command values ≡ Some (wanted q r)) (message : IsMessage (SetValue id command values)) where
+  module _ (heap : ℕ) (sets : List ℕ) (command : ℕ) (values : List ℕ) (is : put_message id sets (Some (with_kind id q)) ≡ SetValue id command values) (new : new_setting live.comp.kind (first_setting (component_words live.comp.kind (Some (with_kind id q)) (widget_words plan live.comp.id))) command values ≡ Some (wanted q r)) (message : IsMessage (SetValue id command values)) where
     abbrev asked : Option Setting
     asked = option_and_then (λ (c : Comp). new_setting c.kind c.setting command values) (comp_of now id)
 
@@ -216,20 +216,20 @@ put-one plan sound heap kept id (Volume min max channels lowest step mute) r ks 
     long : length gains ≡ channels
     long = length-map r.values (control_gain volume) ∙ takes
 
-    new : new_setting live.comp.kind (first_setting (kind_words live.comp.kind (Some (with_kind id volume)) (words_of plan live.comp.id))) 0 gains ≡ Some (settings.Gains gains)
+    new : new_setting live.comp.kind (first_setting (component_words live.comp.kind (Some (with_kind id volume)) (widget_words plan live.comp.id))) 0 gains ≡ Some (settings.Gains gains)
     new =
-        ap (λ (kind : Kind). new_setting kind (first_setting (kind_words kind (Some (with_kind id volume)) (words_of plan live.comp.id))) 0 gains) live.kind.0
+        ap (λ (kind : Kind). new_setting kind (first_setting (component_words kind (Some (with_kind id volume)) (widget_words plan live.comp.id))) 0 gains) live.kind.0
         ∙ volume-new (length (first_values volume)) gains (long ∙ sym (length-replicate channels (first_value volume))) (gains-are volume r.values)
 put-one plan sound heap kept id (Choice items) r ks live there set takes apart then h more =
     put-goes plan sound kept id (Choice items) r live there set ks apart heap r.values 1 r.values refl new (set-message id 1 r.values (id-fits plan sound id (component-found plan sound id live.comp live.there).low) (omega arith) (omega (arith, ap length takes.1)) (omega (arith, ap length takes.1)) (subst AreGains (sym takes.1) (takes.2, tt))) then h more
   where
-    new : new_setting live.comp.kind (first_setting (kind_words live.comp.kind (Some (with_kind id (Choice items))) (words_of plan live.comp.id))) 1 r.values ≡ Some (settings.Choice (get_or r.values 0 0))
+    new : new_setting live.comp.kind (first_setting (component_words live.comp.kind (Some (with_kind id (Choice items))) (widget_words plan live.comp.id))) 1 r.values ≡ Some (settings.Choice (get_or r.values 0 0))
     new =
-        ap (λ (kind : Kind). new_setting kind (first_setting (kind_words kind (Some (with_kind id (Choice items))) (words_of plan live.comp.id))) 1 r.values) live.kind.0
+        ap (λ (kind : Kind). new_setting kind (first_setting (component_words kind (Some (with_kind id (Choice items))) (widget_words plan live.comp.id))) 1 r.values) live.kind.0
         ∙ subst (λ (vs : List ℕ). new_setting kinds.Mux (settings.Choice 0) 1 vs ≡ Some (settings.Choice (get_or vs 0 0))) (sym takes.1) refl
 put-one plan sound heap kept id (Blob most initial) r ks live there set takes apart then h more =
     subst (λ (bytes : List ℕ). Goes plan heap kept (standing plan heap (put_graph plan kept ((with_kind id (Blob most initial), r) ∷ ks))) (part_acts id bytes ++ then) h) (sym takes)
-    (subst (λ (g : Graph). Goes plan heap kept (standing plan heap g) then h) (sym (kept-graph plan sound kept id (Blob most initial) r live there set ks apart (λ w kind is. ap (λ (x : Kind). first_setting (kind_words x (Some (with_kind id (Blob most initial))) w)) is.0 ∙ ap settings.Blob (sym takes)))) more)
+    (subst (λ (g : Graph). Goes plan heap kept (standing plan heap g) then h) (sym (kept-graph plan sound kept id (Blob most initial) r live there set ks apart (λ w kind is. ap (λ (x : Kind). first_setting (component_words x (Some (with_kind id (Blob most initial))) w)) is.0 ∙ ap settings.Blob (sym takes)))) more)
 
 -- ---- all of them
 

@@ -1,5 +1,5 @@
 -- The records that calls leave, over any plan.
-use Rattle.std.proofs.Common.{◌≡◌, ℕ, suc, Bool, true, false, not, List, [], ◌∷◌, ◌++◌, map, length, Option, Some, None, Ok, Err, refl, sym, ap, subst, ◌∙◌}
+use Rattle.std.proofs.Common.{◌≡◌, ℕ, suc, Bool, true, false, not, List, [], ◌∷◌, ◌++◌, map, length, Option, Some, None, refl, sym, ap, subst, ◌∙◌}
 use Rattle.std.specs.Prelude.{◌&&◌, ◌||◌, IsTrue}
 use Rattle.std.specs.List.{list_any, list_all, zip}
 use Rattle.std.proofs.lemmas.Bool.{and_parts}
@@ -13,18 +13,14 @@ use Rattle.tplg_plan.specs.declared.plans.StreamPlan.{StreamPlan}
 use Rattle.host_widgets.specs.declared.kept.Found.{Found}
 use Rattle.host_widgets.specs.declared.kept.Found.TheVariants.{Closed, Open, Prepared, Running, Paused, On as Found_On}
 use Rattle.host_widgets.specs.declared.kept.Power.{Power}
-use Rattle.host_widgets.specs.declared.kept.Power.TheVariants.{Unloaded, On}
+use Rattle.host_widgets.specs.declared.kept.Power.TheVariants.{Unloaded}
 use Rattle.host_widgets.specs.declared.kept.StreamRec.{StreamRec}
 use Rattle.host_widgets.specs.declared.kept.Record.{Record}
 use Rattle.host_widgets.specs.HostRecord.{closed, halted, halted_found, may_have}
 use Rattle.host_widgets.specs.Kept.{first_record, all_closed, went_down}
 use Rattle.host_widgets.specs.ViewOf.{graph_by, view_by}
 use Rattle.host_widgets.specs.Expected.{stream_view, phase_of}
-use Rattle.host_widgets.specs.Host.{Outcome, LoadLeft, after_load, IsRecordOf, Agrees}
-use Rattle.stream_law.specs.State.{view_of}
-use Rattle.std.specs.Option.{option_map}
-use Rattle.host_widgets.specs.declared.answers.HostFault.TheVariants as faults
-use Rattle.host_widgets.specs.declared.answers.HostFault.TheVariants.{NotLoaded, Loaded, NoSuch, State, Range, Refused, LinkDown}
+use Rattle.host_widgets.specs.Host.{IsRecordOf, Agrees}
 use Rattle.host_widgets.proofs.ControlLists.{first-are}
 
 -- ---- whether streams agree is a matter of their hosts and parameters
@@ -162,17 +158,3 @@ closed-silent power plan = ap not (closed-still plan.streams)
 pub unloaded-agrees : {D : Type 0} (means : Meaning D) (plan : Plan) (kept : Record) (device : D) → kept ≡ first_record plan → means.on device ≡ None → Agrees means plan kept device
 unloaded-agrees means plan kept device is off =
     subst (λ (r : Record). Agrees means plan r device) (sym is) record { record_is = closed-record Unloaded plan; sides = (refl, off) }
-
--- after a load from nothing: all is closed, or nothing is loaded and the device is off
-pub load-agrees : {D : Type 0} (means : Meaning D) (plan : Plan) (heap : ℕ) (old new : D) (kept kept' : Record) (result : Outcome) → (result ≡ Err Loaded → ⊥) → LoadLeft means plan heap old result new → kept' ≡ after_load plan result kept → Agrees means plan kept' new
-load-agrees means plan heap old new kept kept' (Ok done) other left is =
-    subst (λ (r : Record). Agrees means plan r new) (sym is) record { record_is = closed-record On plan; sides = ap (option_map view_of) left.1 }
-load-agrees means plan heap old new kept kept' (Err Loaded) other left is = absurd (other refl)
-load-agrees means plan heap old new kept kept' (Err (Refused e)) other left is = unloaded-agrees means plan kept' new is left.0
-load-agrees means plan heap old new kept kept' (Err LinkDown) other left is = unloaded-agrees means plan kept' new is left.0
-load-agrees means plan heap old new kept kept' (Err NotLoaded) other left is = absurd left
-load-agrees means plan heap old new kept kept' (Err (NoSuch name)) other left is = absurd left
-load-agrees means plan heap old new kept kept' (Err (State found)) other left is = absurd left
-load-agrees means plan heap old new kept kept' (Err faults.Off) other left is = absurd left
-load-agrees means plan heap old new kept kept' (Err (Range n)) other left is = absurd left
-load-agrees means plan heap old new kept kept' (Err (faults.Blob n)) other left is = absurd left

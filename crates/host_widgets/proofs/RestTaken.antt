@@ -14,7 +14,6 @@ use Rattle.host_widgets.specs.Acts.{ids_of}
 use Rattle.host_widgets.specs.ActLists.{control_acts, bring_up}
 use Rattle.host_widgets.specs.StateOf.{state_by}
 use Rattle.host_widgets.proofs.Stages.{made_state}
-use Rattle.host_widgets.proofs.Effects.{effects, FollowAll}
 use Rattle.host_widgets.proofs.NamedIds.{each-pipe}
 use Rattle.host_widgets.proofs.OneAfterAnother.{Goes, goes-both}
 use Rattle.host_widgets.proofs.Joined.{standing, joined_graph, joined-none}
@@ -53,9 +52,3 @@ module _ (plan : Plan) (heap : ℕ) (kept : Record) (sound : IsSound plan) (bare
   rest-goes =
       goes-both plan heap kept (made_state plan heap) (join_acts plan.graph.joins) (stood (put_graph plan kept (controls_of plan kept))) (flat_map control_acts (controls_of plan kept) ++ finish_acts plan.graph.pipes) (state_by plan kept heap 0) joins-part
       (goes-both plan heap kept (stood (put_graph plan kept (controls_of plan kept))) (flat_map control_acts (controls_of plan kept)) (stood (finish_graph plan kept plan.graph.pipes)) (finish_acts plan.graph.pipes) (state_by plan kept heap 0) puts-part finishes-part)
-
-  pub rest-follows : FollowAll plan heap kept (made_state plan heap) (rest_acts plan kept)
-  rest-follows = rest-goes.follow
-
-  pub rest-state : effects plan (rest_acts plan kept) (made_state plan heap) ≡ state_by plan kept heap 0
-  rest-state = rest-goes.state

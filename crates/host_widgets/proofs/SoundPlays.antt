@@ -1,19 +1,19 @@
 -- In the graph of a sound plan, whatever is set at its components, a tick may come: edges have ends and no cycle, and each component
 -- has the edges of its kind.
-use Rattle.std.proofs.Common.{◌≡◌, refl, sym, ap, subst, ◌∙◌, ℕ, zero, suc, Bool, true, false, cond, ◌&&◌, ◌||◌, ◌==◌, List, [], ◌∷◌, map, length, Option, Some, None}
+use Rattle.std.proofs.Common.{◌≡◌, refl, sym, ap, subst, ◌∙◌, ℕ, zero, suc, Bool, true, false, cond, ◌||◌, ◌==◌, List, [], ◌∷◌, length, Option, Some, None}
 use Rattle.std.specs.Prelude.{find}
 use Rattle.std.specs.List.{list_any, list_all}
 use Rattle.std.specs.Option.{option_map, option_map_or, option_and_then}
-use Rattle.std.proofs.lemmas.Bool.{true≢false, false≢true, and_parts, or_cases, eqb-true}
+use Rattle.std.proofs.lemmas.Bool.{true≢false, false≢true, and_parts, eqb-true}
 use Rattle.stream_law.specs.declared.graph.Comp.{Comp}
 use Rattle.stream_law.specs.declared.graph.Edge.{Edge}
 use Rattle.stream_law.specs.declared.graph.Graph.{Graph}
 use Rattle.stream_law.specs.declared.graph.Join.{Join}
 use Rattle.stream_law.specs.declared.graph.Setting.{Setting}
 use Rattle.stream_law.specs.declared.stream.StreamView.{StreamView}
-use Rattle.stream_law.specs.Ways.{comp_of, edge_of, components, source_of, sink_of, ins, outs, leads}
+use Rattle.stream_law.specs.Ways.{comp_of, edge_of, components, source_of, sink_of, ins, outs}
 use Rattle.stream_law.specs.Joins.{fits_kind}
-use Rattle.stream_law.specs.Order.{is_among, order}
+use Rattle.stream_law.specs.Order.{is_among}
 use Rattle.stream_law.specs.Stands.{IsPlayable}
 use Rattle.stream_law.specs.Walks.{LeadsTo, Walk, HasCycle, HasEnds}
 use Rattle.stream_law.proofs.Keyed.{list_any-keys}

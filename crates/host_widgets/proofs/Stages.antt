@@ -8,7 +8,7 @@ use Rattle.mbox_link.specs.Step.{first_setting}
 use Rattle.tplg_plan.specs.declared.plans.Plan.{Plan}
 use Rattle.host_widgets.specs.Kept.{all_closed}
 use Rattle.host_widgets.specs.Controls.{control_of}
-use Rattle.host_widgets.specs.Acts.{kind_words, words_of}
+use Rattle.host_widgets.specs.Acts.{component_words, widget_words}
 use Rattle.host_widgets.specs.ViewOf.{view_by}
 use Rattle.host_widgets.specs.Expected.{loaded_heap}
 use Rattle.host_widgets.specs.StateOf.{empty_rings}
@@ -16,7 +16,7 @@ use Rattle.host_widgets.specs.declared.kept.Power.TheVariants.{On}
 
 -- a component that was made, with what is set at a new one
 abbrev pub made_comp : Plan → Comp → Comp
-made_comp plan c = record { id = c.id; kind = c.kind; pipe = c.pipe; setting = first_setting (kind_words c.kind (control_of plan c.id) (words_of plan c.id)) }
+made_comp plan c = record { id = c.id; kind = c.kind; pipe = c.pipe; setting = first_setting (component_words c.kind (control_of plan c.id) (widget_words plan c.id)) }
 
 -- a buffer that is joined to nothing
 abbrev pub loose : Edge → Edge

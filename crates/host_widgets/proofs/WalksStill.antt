@@ -1,5 +1,5 @@
 -- The moments of acts before which no ticks come are no ticks.
-use Rattle.std.proofs.Common.{◌≡◌, refl, sym, ◌∙◌, subst, ℕ, Bool, true, false, List, [], ◌∷◌, ◌++◌, replicate, Ok, Err, arith}
+use Rattle.std.proofs.Common.{◌≡◌, sym, ◌∙◌, subst, ℕ, Bool, true, false, List, [], ◌∷◌, ◌++◌, replicate, Ok, Err, arith}
 use Rattle.stream_law.specs.Past.{Moment, Boot, Cut, Now, Tick}
 use Rattle.mbox_link.specs.Calls.{World, Meaning}
 use Rattle.mbox_link.specs.Meetings.{Meeting}

@@ -8,7 +8,7 @@ use Rattle.tplg_plan.specs.declared.plans.ControlKind.{ControlKind}
 use Rattle.tplg_plan.specs.declared.plans.ControlKind.TheVariants as controls
 use Rattle.tplg_plan.specs.GainOf.{control_gain}
 use Rattle.host_widgets.specs.Controls.{control_of}
-use Rattle.host_widgets.specs.Acts.{make_message, words_of, direction_of, trigger_message}
+use Rattle.host_widgets.specs.Acts.{make_message, widget_words, direction_of, trigger_message}
 use Rattle.host_widgets.specs.BlobParts.{part_of}
 use Rattle.host_widgets.specs.HostActs.{Act, Make, Join, Put, Part, Finish, Prepare, Trig, Free, Save, Ask}
 
@@ -33,7 +33,7 @@ ask_message comp k None = GetValue comp 0
 
 -- the message of an act
 abbrev pub message_of : Plan → Act → Message
-message_of plan (Make id) = make_message plan id (words_of plan id)
+message_of plan (Make id) = make_message plan id (widget_words plan id)
 message_of plan (Join source sink) = Connect source sink
 message_of plan (Put comp values) = put_message comp values (control_of plan comp)
 message_of plan (Part comp blob k) = SetData comp (part_of blob k)

@@ -42,8 +42,8 @@ no_words = record {
 }
 
 -- those of the widget of an id
-abbrev pub words_of : Plan → ℕ → WidgetPlan
-words_of plan id = get_or plan.widgets id no_words
+abbrev pub widget_words : Plan → ℕ → WidgetPlan
+widget_words plan id = get_or plan.widgets id no_words
 
 -- the pipeline of this id
 abbrev pub pipe_by_id : Plan → ℕ → Option Pipe
@@ -58,19 +58,19 @@ volume_words (Some k) = words.Volume (length (first_values k.kind)) 0 (control_g
 volume_words None = words.Volume 1 0 65536
 
 -- a host's direction is 0 for playback and 1 for capture, a DAI's is 0 where it plays and 1 where it captures
-abbrev pub kind_words : Kind → Option ControlPlan → WidgetPlan → CompWords
-kind_words HostPlay k w = words.Host 0
-kind_words HostCapture k w = words.Host 1
-kind_words (DaiPlay format) k w = words.Dai 0 w.dai_index
-kind_words (DaiCapture format) k w = words.Dai 1 w.dai_index
-kind_words Volume k w = volume_words k
-kind_words Mixer k w = words.Mixer
-kind_words Mux k w = words.Mux
-kind_words Eq k w = words.Eq
+abbrev pub component_words : Kind → Option ControlPlan → WidgetPlan → CompWords
+component_words HostPlay k w = words.Host 0
+component_words HostCapture k w = words.Host 1
+component_words (DaiPlay format) k w = words.Dai 0 w.dai_index
+component_words (DaiCapture format) k w = words.Dai 1 w.dai_index
+component_words Volume k w = volume_words k
+component_words Mixer k w = words.Mixer
+component_words Mux k w = words.Mux
+component_words Eq k w = words.Eq
 
 -- COMP_NEW
 abbrev pub comp_message : ℕ → Option ControlPlan → WidgetPlan → Comp → Message
-comp_message id k w c = CompNew id w.pipe w.periods_sink w.periods_source w.frame_fmt (kind_words c.kind k w)
+comp_message id k w c = CompNew id w.pipe w.periods_sink w.periods_source w.frame_fmt (component_words c.kind k w)
 
 -- BUFFER_NEW
 abbrev pub buffer_message : ℕ → WidgetPlan → Edge → Message

@@ -19,12 +19,12 @@ is_at_least_one (pos h) = true
 is_at_least_one (negsuc h) = false
 
 -- a value that is not silent and whose gain is 1 or more
-abbrev pub is_full : ℤ → ℕ → ℕ → ℕ → Bool
-is_full lowest step mute value = not (value == 0 && not (mute == 0)) && is_at_least_one (half_decibels lowest step value)
+abbrev pub has_full_gain : ℤ → ℕ → ℕ → ℕ → Bool
+has_full_gain lowest step mute value = not (value == 0 && not (mute == 0)) && is_at_least_one (half_decibels lowest step value)
 
 -- a volume begins at the least such value, or at its greatest where there is none; a mux begins at its first input
 unfoldable pub first_value : ControlKind → ℕ
-first_value (Volume min max channels lowest step mute) = unwrap_or (find (is_full lowest step mute) (range_with_len min (suc max - min))) max
+first_value (Volume min max channels lowest step mute) = unwrap_or (find (has_full_gain lowest step mute) (range_with_len min (suc max - min))) max
 first_value (Choice items) = 0
 first_value (Blob most initial) = 0
 

@@ -32,14 +32,14 @@ stream_view (s, r) = record { host = s.host; phase = phase_of r.found; params = 
 -- ---- the heap
 
 -- the stated size in bytes of what an id names: a component, or else a buffer, or else a pipeline
-abbrev pub bytes_by : Option Comp → Option Edge → ℕ
-bytes_by (Some c) e = comp_bytes c.kind
-bytes_by None (Some e) = buffer_bytes e.size
-bytes_by None None = pipe_bytes
+abbrev pub stated_by : Option Comp → Option Edge → ℕ
+stated_by (Some c) e = comp_bytes c.kind
+stated_by None (Some e) = buffer_bytes e.size
+stated_by None None = pipe_bytes
 
 -- the same by the plan
 abbrev pub stated_bytes : Plan → ℕ → ℕ
-stated_bytes plan id = bytes_by (comp_of plan.graph id) (edge_of plan.graph id)
+stated_bytes plan id = stated_by (comp_of plan.graph id) (edge_of plan.graph id)
 
 -- the bytes of heap that the first n ids take, each rounded up to 16
 abbrev pub needed_by : Plan → ℕ → ℕ

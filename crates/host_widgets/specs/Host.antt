@@ -1,5 +1,5 @@
 -- What the host's calls do on a device, and what they come to.
-use Rattle.std.specs.Prelude.{◌≡◌, ◌⊎◌, ◌↔◌, ℕ, ◌-◌, ◌%◌, ◌^◌, ◌<◌, ◌≤◌, ℤ, pos, negsuc, Bool, true, false, List, [], ◌∷◌, ◌++◌, length, nat_le, Option, Some, None, is_some, Result, Ok, Err, MatchResult, if◌then◌else◌, ◌==◌, ◌&&◌, not}
+use Rattle.std.specs.Prelude.{◌≡◌, ◌⊎◌, ◌↔◌, ℕ, ◌-◌, ◌%◌, ◌^◌, ◌<◌, ◌≤◌, ℤ, pos, negsuc, Bool, true, false, List, [], ◌∷◌, length, nat_le, Option, Some, None, is_some, Result, Ok, Err, if◌then◌else◌, ◌==◌, ◌&&◌, not}
 use Rattle.std.specs.List.{list_any, list_all}
 use Rattle.std.specs.Option.{option_map}
 use Rattle.sof_base.specs.declared.errno.Errno.{Errno}
@@ -11,28 +11,25 @@ use Rattle.stream_law.specs.Ways.{is_live_phase, touch, same_shape, agree}
 use Rattle.ipc3_codec.specs.declared.reply.Reply.{Reply}
 use Rattle.ipc3_codec.specs.declared.reply.Body.TheVariants.{Nothing}
 use Rattle.ipc3_codec.specs.declared.fault.CodecFault.{CodecFault}
-use Rattle.ipc3_codec.specs.Messages.{message_spelling, decoded}
+use Rattle.ipc3_codec.specs.Messages.{decoded}
 use Rattle.ipc3_codec.specs.Replies.{decoded_reply}
-use Rattle.mbox_link.specs.Step.{no_memory, body_of}
+use Rattle.mbox_link.specs.Step.{body_of}
 use Rattle.mbox_link.specs.Exchange.{Rose}
-use Rattle.mbox_link.specs.Calls.{World, Meaning, Call, Boot, Cut, Exchange, Led}
+use Rattle.mbox_link.specs.Calls.{World, Meaning, Exchange, Led}
 use Rattle.tplg_plan.specs.declared.plans.Plan.{Plan}
 use Rattle.tplg_plan.specs.declared.plans.StreamPlan.{StreamPlan}
 use Rattle.tplg_plan.specs.declared.plans.ControlPlan.{ControlPlan}
 use Rattle.tplg_plan.specs.declared.plans.ControlKind.{ControlKind}
 use Rattle.tplg_plan.specs.declared.plans.ControlKind.TheVariants.{Volume, Choice, Blob}
 use Rattle.host_widgets.specs.declared.answers.HostFault.{HostFault}
-use Rattle.host_widgets.specs.declared.answers.HostFault.TheVariants.{NotLoaded, Loaded, Refused, LinkDown}
+use Rattle.host_widgets.specs.declared.answers.HostFault.TheVariants.{Refused, LinkDown}
 use Rattle.host_widgets.specs.declared.kept.Power.{Power}
 use Rattle.host_widgets.specs.declared.kept.Power.TheVariants.{Unloaded, On, Off}
 use Rattle.host_widgets.specs.declared.kept.StreamRec.{StreamRec}
 use Rattle.host_widgets.specs.declared.kept.Record.{Record}
 use Rattle.host_widgets.specs.declared.kept.ControlRec.{ControlRec}
-use Rattle.host_widgets.specs.Kept.{all_closed, first_control, first_record}
+use Rattle.host_widgets.specs.Kept.{first_control, first_record}
 use Rattle.host_widgets.specs.HostRecord.{may_have}
-use Rattle.host_widgets.specs.HostActs.{Act}
-use Rattle.host_widgets.specs.ActLists.{bring_up}
-use Rattle.host_widgets.specs.ActMessages.{message_of}
 use Rattle.host_widgets.specs.Expected.{phase_of, needed_by}
 use Rattle.host_widgets.specs.ViewOf.{view_by}
 use Rattle.host_widgets.specs.StateOf.{state_by}
@@ -85,28 +82,6 @@ pub record Sent {D : Type 0} (means : Meaning D) (request : List ℕ) (w v : Wor
   pub down : (result ≡ Err LinkDown) ↔ (answer ≡ None)
   pub read : IsBare request → (bytes : List ℕ) → answer ≡ Some bytes → (reply : Reply) × (decoded_reply bytes ≡ Ok reply)
 
--- ---- a walk of acts
-
--- one exchange for each act, with its answer
-abbrev pub exchanges : Plan → List Act → List (Option (List ℕ)) → List Call
-exchanges plan [] answers = []
-exchanges plan (act ∷ acts) [] = []
-exchanges plan (act ∷ acts) (answer ∷ answers) = Exchange (message_spelling (message_of plan act)) answer ∷ exchanges plan acts answers
-
--- the answers to acts, up to the first that did not pass, and what they come to
-abbrev pub Walk : List Act → List (Option (List ℕ)) → Outcome → Type 0
-Walk [] [] result = result ≡ Ok tt
-Walk [] (answer ∷ answers) result = ⊥
-Walk (act ∷ acts) [] result = ⊥
-Walk (act ∷ acts) (answer ∷ answers) result =
-    MatchResult (verdict answer) (λ reply. Walk acts answers result) (λ fault. (answers ≡ []) × (result ≡ Err fault))
-
--- these acts, by one exchange each up to the end of the walk, and no other call
-pub record Walked {D : Type 0} (means : Meaning D) (plan : Plan) (acts : List Act) (w v : World D) (result : Outcome) : Type 0 where
-  pub answers : List (Option (List ℕ))
-  pub led : Led means w (exchanges plan acts answers) v
-  pub walk : Walk acts answers result
-
 -- ---- what the firmware itself refuses
 
 -- a stream of a host, without parameters
@@ -122,79 +97,21 @@ conflicts plan host p (s, r) =
 abbrev pub Fits : Plan → ℕ → Type 0
 Fits plan heap = needed_by plan (length plan.widgets) ≤ heap
 
--- ---- the list that brings a device up
-
--- why it ended early: the stated sizes do not fit, or a count of the device rose
-abbrev pub Why : {D : Type 0} → Meaning D → Plan → ℕ → D → HostFault → D → Type 0
-Why means plan heap old (Refused e) new =
-    ((e ≡ errno no_memory) × (heap < needed_by plan (length plan.widgets))) ⊎ Rose (means.refusals old) (means.refusals new)
-Why means plan heap old LinkDown new = Rose (means.faults old) (means.faults new)
-Why means plan heap old fault new = ⊥
+-- ---- what a device has that was brought up
 
 -- the ticks that a device has put before messages, as its clock counts them
 abbrev pub ticks_put : {D : Type 0} → Meaning D → D → D → ℕ
 ticks_put means old new = (means.pending old - means.pending new) % 2 ^ 32
 
--- what is there once all acts have passed: the sizes fit, and the device keeps the plan with what this record sets
-abbrev pub Stands : {D : Type 0} → Meaning D → Plan → ℕ → Record → D → D → Type 0
-Stands means plan heap kept old new = Fits plan heap × (means.on new ≡ Some (state_by plan kept heap (ticks_put means old new)))
-
--- what the acts that bring up a fresh device leave
+-- once all acts that bring it up have passed, it keeps the plan with what this record sets
 abbrev pub BroughtUp : {D : Type 0} → Meaning D → Plan → ℕ → Record → D → Outcome → D → Type 0
-BroughtUp means plan heap kept old (Ok done) new = Stands means plan heap kept old new
-BroughtUp means plan heap kept old (Err fault) new = (is_some (means.on new) ≡ true) × Why means plan heap old fault new
+BroughtUp means plan heap kept old (Ok done) new = means.on new ≡ Some (state_by plan kept heap (ticks_put means old new))
+BroughtUp means plan heap kept old (Err fault) new = Unit {0}
 
--- ---- load
-
--- the calls of a load: a boot, the exchanges, and after a failure a cut
-abbrev pub load_calls : ℕ → Plan → Record → List (Option (List ℕ)) → Outcome → List Call
-load_calls heap plan kept answers (Ok done) = Boot heap ∷ exchanges plan (bring_up plan kept) answers
-load_calls heap plan kept answers (Err fault) = (Boot heap ∷ exchanges plan (bring_up plan kept) answers) ++ Cut ∷ []
-
--- these calls and no others
-pub record Brought {D : Type 0} (means : Meaning D) (plan : Plan) (heap : ℕ) (kept : Record) (w v : World D) (result : Outcome) : Type 0 where
-  pub answers : List (Option (List ℕ))
-  pub led : Led means w (load_calls heap plan kept answers result) v
-  pub walk : Walk (bring_up plan kept) answers result
-
--- where the record is not unloaded, there is no call and the answer says so
-abbrev pub Loads : {D : Type 0} → Meaning D → Plan → ℕ → Record → Power → World D → World D → Outcome → Type 0
-Loads means plan heap kept Unloaded w v result = Brought means plan heap kept w v result
-Loads means plan heap kept On w v result = (v ≡ w) × (result ≡ Err Loaded)
-Loads means plan heap kept Off w v result = (v ≡ w) × (result ≡ Err Loaded)
-
--- the record after a load that came to this
-abbrev pub after_load : Plan → Outcome → Record → Record
-after_load plan (Ok done) kept = all_closed On plan
-after_load plan (Err (Refused e)) kept = first_record plan
-after_load plan (Err LinkDown) kept = first_record plan
-after_load plan (Err fault) kept = kept
-
--- what a load leaves on the device: the plan, or nothing, since it is off
-abbrev pub LoadLeft : {D : Type 0} → Meaning D → Plan → ℕ → D → Outcome → D → Type 0
-LoadLeft means plan heap old (Ok done) new = Stands means plan heap (first_record plan) old new
-LoadLeft means plan heap old (Err Loaded) new = new ≡ old
-LoadLeft means plan heap old (Err (Refused e)) new = (means.on new ≡ None) × Why means plan heap old (Refused e) new
-LoadLeft means plan heap old (Err LinkDown) new = (means.on new ≡ None) × Why means plan heap old LinkDown new
-LoadLeft means plan heap old (Err fault) new = ⊥
-
--- from an unloaded record it succeeds where the sizes fit and neither count rises, and not where they do not fit
+-- a load from nothing succeeds where the sizes fit and neither count rises, and not where they do not fit
 pub record SucceedsExactly {D : Type 0} (means : Meaning D) (plan : Plan) (heap : ℕ) (old : D) (result : Outcome) (new : D) : Type 0 where
   pub fit : Fits plan heap → (Rose (means.faults old) (means.faults new) → ⊥) → (Rose (means.refusals old) (means.refusals new) → ⊥) → result ≡ Ok tt
   pub unfit : (result ≡ Ok tt) → Fits plan heap
-
--- ---- unload
-
--- what an unload does: it cuts a device that is on, and makes no other call; where nothing is loaded the answer says so
-abbrev pub Unloads : {D : Type 0} → Meaning D → Power → World D → World D → Outcome → Type 0
-Unloads means Unloaded w v result = (v ≡ w) × (result ≡ Err NotLoaded)
-Unloads means On w v result = Led means w (Cut ∷ []) v × (result ≡ Ok tt)
-Unloads means Off w v result = (v ≡ w) × (result ≡ Ok tt)
-
--- the record after an unload that came to this: nothing is loaded, or it stays
-abbrev pub after_unload : Plan → Outcome → Record → Record
-after_unload plan (Ok done) kept = first_record plan
-after_unload plan (Err fault) kept = kept
 
 -- ---- both sides
 

@@ -14,6 +14,5 @@ pub mod Host
 pub mod OneAct
 pub mod Walk
 pub mod ActCalls
-pub mod ActFates
 pub mod Orders
 pub mod WalkRows

@@ -9,8 +9,8 @@ ghost use Rattle.host_widgets.specs.Kept.{controls_of};
 ghost use Rattle.host_widgets.specs.HostActs.{Make, Join, Finish};
 ghost use Rattle.host_widgets.specs.Acts.{ids_of};
 ghost use Rattle.host_widgets.specs.ActLists.{control_acts, bring_up};
-ghost use Rattle.host_widgets.specs.Host.{IsRecordOf, Walked, BroughtUp};
-ghost use Rattle.host_widgets.specs.ActFates.{WalkFates};
+ghost use Rattle.host_widgets.specs.ActCalls.{ActsSent};
+ghost use Rattle.host_widgets.specs.Host.{IsRecordOf, BroughtUp};
 ghost use Rattle.host_widgets.specs.Orders.{ActsCame};
 
 use crate::answers::HostFault;
@@ -33,7 +33,7 @@ fn make_widgets<P: Dsp>(
     requires few { length plan.now.widgets < 2 ^ 32 }
     requires on { is_some (P.means.on dsp.old) ≡ true }
     requires room { HasRoom (61440 * P.means.pending dsp.old) out.old }
-    ensures { Walked P.means plan.now (map Make (ids_of plan.now)) (world dsp.old io.old out.old) (world dsp.new io.new out.new) result }
+    ensures { ActsSent P.means plan.now (map Make (ids_of plan.now)) (world dsp.old io.old out.old) (world dsp.new io.new out.new) result }
 {
     let mut id = 0;
     for words in plan.widgets.items() {
@@ -52,7 +52,7 @@ fn make_joins<P: Dsp>(
 ) -> Result<(), HostFault>
     requires on { is_some (P.means.on dsp.old) ≡ true }
     requires room { HasRoom (61440 * P.means.pending dsp.old) out.old }
-    ensures { Walked P.means plan.now (map (λ j. Join j.source j.sink) plan.now.graph.joins) (world dsp.old io.old out.old) (world dsp.new io.new out.new) result }
+    ensures { ActsSent P.means plan.now (map (λ j. Join j.source j.sink) plan.now.graph.joins) (world dsp.old io.old out.old) (world dsp.new io.new out.new) result }
 {
     for join in plan.graph.joins.items() {
         let message = Message::Connect {
@@ -76,7 +76,7 @@ fn put_controls<P: Dsp>(
     requires kept { IsRecordOf plan.now kept.now }
     requires on { is_some (P.means.on dsp.old) ≡ true }
     requires room { HasRoom (61440 * P.means.pending dsp.old) out.old }
-    ensures { Walked P.means plan.now (flat_map control_acts (controls_of plan.now kept.now)) (world dsp.old io.old out.old) (world dsp.new io.new out.new) result }
+    ensures { ActsSent P.means plan.now (flat_map control_acts (controls_of plan.now kept.now)) (world dsp.old io.old out.old) (world dsp.new io.new out.new) result }
 {
     let count = plan.controls.items().len();
     for place in 0..count {
@@ -99,7 +99,7 @@ fn put_control<P: Dsp>(
     requires bare { kept.now.blob ≡ [] }
     requires on { is_some (P.means.on dsp.old) ≡ true }
     requires room { HasRoom (61440 * P.means.pending dsp.old) out.old }
-    ensures { Walked P.means plan.now (control_acts (control.now, kept.now)) (world dsp.old io.old out.old) (world dsp.new io.new out.new) result }
+    ensures { ActsSent P.means plan.now (control_acts (control.now, kept.now)) (world dsp.old io.old out.old) (world dsp.new io.new out.new) result }
 {
     match control.kind {
         ControlKind::Blob { .. } => Ok(()),
@@ -120,7 +120,7 @@ fn finish_pipes<P: Dsp>(
 ) -> Result<(), HostFault>
     requires on { is_some (P.means.on dsp.old) ≡ true }
     requires room { HasRoom (61440 * P.means.pending dsp.old) out.old }
-    ensures { Walked P.means plan.now (map (λ p. Finish p.id) plan.now.graph.pipes) (world dsp.old io.old out.old) (world dsp.new io.new out.new) result }
+    ensures { ActsSent P.means plan.now (map (λ p. Finish p.id) plan.now.graph.pipes) (world dsp.old io.old out.old) (world dsp.new io.new out.new) result }
 {
     for pipe in plan.graph.pipes.items() {
         send(&Message::PipeComplete { id: pipe.id }, dsp, io, out)?;
@@ -141,7 +141,7 @@ fn send_list<P: Dsp>(
     requires few { length plan.now.widgets < 2 ^ 32 }
     requires on { is_some (P.means.on dsp.old) ≡ true }
     requires room { HasRoom (61440 * P.means.pending dsp.old) out.old }
-    ensures { Walked P.means plan.now (bring_up plan.now kept.now) (world dsp.old io.old out.old) (world dsp.new io.new out.new) result }
+    ensures { ActsSent P.means plan.now (bring_up plan.now kept.now) (world dsp.old io.old out.old) (world dsp.new io.new out.new) result }
 {
     make_widgets(plan, dsp, io, out)?;
     make_joins(plan, dsp, io, out)?;
@@ -168,10 +168,9 @@ pub fn bring_up<P: Dsp>(
     requires kept { IsRecordOf plan.now kept.old }
     requires booted { P.means.on dsp.old ≡ Some (fresh heap) }
     requires room { HasRoom (61440 * P.means.pending dsp.old) out.old }
-    ensures calls { Walked P.means plan.now (bring_up plan.now kept.old) (world dsp.old io.old out.old) (world dsp.new io.new out.new) result }
-    ensures fates { WalkFates P.means plan.now heap kept.old (bring_up plan.now kept.old) (world dsp.old io.old out.old) (world dsp.new io.new out.new) result }
     // What its messages met, and what they came to.
     ensures acts { ActsCame P.means plan.now heap false (bring_up plan.now kept.old) kept.old kept.new (world dsp.old io.old out.old) (world dsp.new io.new out.new) result }
+    // Once all have passed, the device keeps the plan with what the record sets.
     ensures left { BroughtUp P.means plan.now heap kept.old dsp.old result dsp.new }
     ensures kept { kept.new ≡ kept.old }
     ensures inputs { io.new ≡ io.old }

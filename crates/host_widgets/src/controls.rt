@@ -21,8 +21,8 @@ pub fn control_of(plan: &Plan, comp: u32) -> Option<&ControlPlan>
 }
 
 // Whether a value is not silent, and its gain is 1 or more.
-fn is_full(lowest: i32, step: u32, mute: u32, value: u32) -> bool
-    ensures { result ≡ law.is_full lowest step mute value }
+fn has_full_gain(lowest: i32, step: u32, mute: u32, value: u32) -> bool
+    ensures { result ≡ law.has_full_gain lowest step mute value }
 {
     !(value == 0 && mute != 0) && half_decibels(lowest, step, value) >= 0
 }
@@ -30,10 +30,10 @@ fn is_full(lowest: i32, step: u32, mute: u32, value: u32) -> bool
 // The least such value, or the greatest value where there is none.
 fn first_full(min: u32, max: u32, lowest: i32, step: u32, mute: u32) -> u32
     requires { max < 2 ^ 32 - 1 }
-    ensures { result ≡ unwrap_or (find (law.is_full lowest step mute) (range_with_len min (suc max - min))) max }
+    ensures { result ≡ unwrap_or (find (law.has_full_gain lowest step mute) (range_with_len min (suc max - min))) max }
 {
     for value in min..max + 1 {
-        if is_full(lowest, step, mute, value) {
+        if has_full_gain(lowest, step, mute, value) {
             return value;
         }
     }

@@ -1,12 +1,11 @@
 // A device is loaded from nothing.
-ghost use Rattle.std.specs.Prelude.{◌≡◌, ◌↔◌, ◌≤◌, ◌*◌, None};
+ghost use Rattle.std.specs.Prelude.{◌≡◌, ◌≤◌, ◌*◌, None};
 ghost use Rattle.sof_base.specs.Ports.{HasRoom};
 ghost use Rattle.mbox_link.specs.Calls.{world};
 ghost use Rattle.host_widgets.specs.Controls.{IsLoadable};
-ghost use Rattle.host_widgets.specs.Kept.{first_record};
-ghost use Rattle.host_widgets.specs.Host.{Agrees, Brought, Loads, LoadLeft, SucceedsExactly, after_load};
-ghost use Rattle.host_widgets.specs.ActFates.{LoadFates};
-ghost use Rattle.host_widgets.specs.Orders.{Carried, Tested, load_fault, loading};
+ghost use Rattle.host_widgets.specs.Kept.{first_record, with_power};
+ghost use Rattle.host_widgets.specs.Host.{Agrees, BroughtUp, SucceedsExactly};
+ghost use Rattle.host_widgets.specs.Orders.{Carried, Tested, brought_end, load_fault, loading};
 
 use crate::answers::HostFault;
 use crate::bringing_up::bring_up;
@@ -29,12 +28,9 @@ fn power_up<P: Dsp>(
     requires off { P.means.on dsp.old ≡ None }
     requires heap { heap ≤ P.means.most dsp.old }
     requires room { HasRoom (61440 * P.means.pending dsp.old) out.old }
-    ensures calls { Brought P.means plan.now heap kept.old (world dsp.old io.old out.old) (world dsp.new io.new out.new) result }
-    ensures fates { LoadFates P.means plan.now heap kept.old (world dsp.old io.old out.old) (world dsp.new io.new out.new) result }
     ensures carried { Carried P.means plan.now heap (loading plan.now kept.old) kept.old kept.new (world dsp.old io.old out.old) (world dsp.new io.new out.new) result }
-    ensures left { LoadLeft P.means plan.now heap dsp.old result dsp.new }
-    ensures unloaded { result ≡ Err HostFault.Loaded → ⊥ }
-    ensures kept { kept.new ≡ after_load plan.now result kept.old }
+    ensures left { BroughtUp P.means plan.now heap (first_record plan.now) dsp.old result dsp.new }
+    ensures kept { kept.new ≡ (brought_end (with_power Power.On) (first_record plan.now) kept.old result).0 }
     ensures inputs { io.new ≡ io.old }
     ensures outputs { out.new ≡ out.old }
 {
@@ -67,15 +63,11 @@ pub fn load<P: Dsp>(
     requires room { HasRoom (61440 * P.means.pending dsp.old) out.old }
     // From an unloaded record its order is carried out; else nothing changes, and no call is made.
     ensures carried { Tested P.means plan.now heap (load_fault kept.old.power) (loading plan.now kept.old) kept.old kept.new (world dsp.old io.old out.old) (world dsp.new io.new out.new) result }
-    // Which calls it made on the device, and what they came to.
-    ensures calls { Loads P.means plan.now heap kept.old kept.old.power (world dsp.old io.old out.old) (world dsp.new io.new out.new) result }
-    // What became of each act, where it was unloaded.
-    ensures fates { kept.old.power ≡ Power.Unloaded → LoadFates P.means plan.now heap kept.old (world dsp.old io.old out.old) (world dsp.new io.new out.new) result }
-    ensures loaded { (result ≡ Err HostFault.Loaded) ↔ (kept.old.power ≡ Power.Unloaded → ⊥) }
-    ensures left { LoadLeft P.means plan.now heap dsp.old result dsp.new }
+    // Once all acts have passed, the device keeps the plan.
+    ensures left { BroughtUp P.means plan.now heap (first_record plan.now) dsp.old result dsp.new }
     // It succeeds where the stated sizes fit and no count of the device rises, and never where they do not fit.
     ensures exactly { kept.old.power ≡ Power.Unloaded → SucceedsExactly P.means plan.now heap dsp.old result dsp.new }
-    ensures kept { kept.new ≡ after_load plan.now result kept.old }
+    ensures kept { kept.old.power ≡ Power.Unloaded → kept.new ≡ (brought_end (with_power Power.On) (first_record plan.now) kept.old result).0 }
     ensures agree { Agrees P.means plan.now kept.new dsp.new }
     ensures inputs { io.new ≡ io.old }
     ensures outputs { out.new ≡ out.old }

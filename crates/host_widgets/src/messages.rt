@@ -10,8 +10,8 @@ use stream_law::{Comp, Edge, Kind};
 use tplg_plan::{Plan, WidgetPlan};
 
 // The words of a component's kind: 0 is playback and 1 is capture.
-fn kind_words(plan: &Plan, id: u32, kind: Kind, words: &WidgetPlan) -> CompWords
-    ensures { result ≡ acts.kind_words kind (control_of plan.now id) words.now }
+fn component_words(plan: &Plan, id: u32, kind: Kind, words: &WidgetPlan) -> CompWords
+    ensures { result ≡ acts.component_words kind (control_of plan.now id) words.now }
 {
     match kind {
         Kind::HostPlay => CompWords::Host { direction: 0 },
@@ -40,7 +40,7 @@ fn comp_message(plan: &Plan, id: u32, words: &WidgetPlan, comp: &Comp) -> Messag
         periods_sink: words.periods_sink,
         periods_source: words.periods_source,
         frame_fmt: words.frame_fmt,
-        kind: kind_words(plan, id, comp.kind, words),
+        kind: component_words(plan, id, comp.kind, words),
     }
 }
 

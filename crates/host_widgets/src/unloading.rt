@@ -1,11 +1,11 @@
 // What was loaded is let go.
-ghost use Rattle.std.specs.Prelude.{◌≡◌, ◌↔◌, ◌≤◌, ◌<◌, ◌*◌, length, map};
+ghost use Rattle.std.specs.Prelude.{◌≡◌, ◌≤◌, ◌<◌, ◌*◌, length, map};
 ghost use Rattle.sof_base.specs.Ports.{HasRoom};
 ghost use Rattle.mbox_link.specs.Calls.{world};
 ghost use Rattle.tplg_plan.specs.Sound.{IsSound};
 ghost use Rattle.host_widgets.specs.HostRecord.{closed};
 ghost use Rattle.host_widgets.specs.Kept.{first_control, first_record};
-ghost use Rattle.host_widgets.specs.Host.{Agrees, IsRecordOf, Unloads, after_unload};
+ghost use Rattle.host_widgets.specs.Host.{Agrees, IsRecordOf};
 ghost use Rattle.host_widgets.specs.Orders.{Tested, unload_fault, unloading};
 
 use crate::answers::HostFault;
@@ -72,10 +72,6 @@ pub fn unload<P: Dsp>(
     requires room { HasRoom (61440 * P.means.pending dsp.old) out.old }
     // What was loaded is let go; else nothing changes, and no call is made.
     ensures carried { Tested P.means plan.now heap (unload_fault kept.old.power) (unloading plan.now kept.old) kept.old kept.new (world dsp.old io.old out.old) (world dsp.new io.new out.new) result }
-    // Which calls it made on the device, and what they came to.
-    ensures calls { Unloads P.means kept.old.power (world dsp.old io.old out.old) (world dsp.new io.new out.new) result }
-    ensures unloaded { (result ≡ Err HostFault.NotLoaded) ↔ (kept.old.power ≡ Power.Unloaded) }
-    ensures kept { kept.new ≡ after_unload plan.now result kept.old }
     ensures agree { Agrees P.means plan.now kept.new dsp.new }
     ensures inputs { io.new ≡ io.old }
     ensures outputs { out.new ≡ out.old }

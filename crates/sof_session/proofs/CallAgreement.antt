@@ -6,15 +6,15 @@ use Rattle.mbox_link.specs.Link.{link}
 use Rattle.mbox_link.specs.Wire.{Wire}
 use Rattle.host_widgets.specs.declared.answers.Answer.TheVariants.{Done}
 use Rattle.host_widgets.specs.declared.answers.HostFault.{HostFault}
-use Rattle.host_widgets.specs.declared.answers.HostFault.TheVariants.{NotLoaded, Loaded, NoSuch, State, Off as Down, Range, Refused, LinkDown, Blob}
 use Rattle.host_widgets.specs.declared.kept.Power.{Power}
 use Rattle.host_widgets.specs.declared.kept.Power.TheVariants.{Unloaded, On, Off}
 use Rattle.host_widgets.specs.declared.kept.Record.{Record}
 use Rattle.host_widgets.specs.HostActs.{Act}
-use Rattle.host_widgets.specs.Host.{Outcome, Agrees, LoadLeft, ticks_put}
-use Rattle.host_widgets.specs.Kept.{all_closed}
+use Rattle.host_widgets.specs.Host.{Outcome, Agrees, BroughtUp, ticks_put}
+use Rattle.host_widgets.specs.Kept.{all_closed, first_record}
 use Rattle.host_widgets.specs.Orders.{Order, Carried, Tested, sends, load_fault, loading, unload_fault, unloading}
 use Rattle.host_widgets.specs.StateOf.{loaded_state}
+use Rattle.host_widgets.proofs.LoadEnds.{failed-off}
 use Rattle.host_widgets.proofs.LoadOrders.{unloading_at}
 use Rattle.host_widgets.proofs.WalksHold.{AreTaken}
 use Rattle.host_pcm.specs.declared.asking.Ask.{Ask}
@@ -64,23 +64,16 @@ module _ {P : Type 0} (means : Meaning P) (old : Seat P) (wire : Wire P) (io io'
 
   -- ---- a load
 
-  left-found : KeptSo → (o : Outcome) → LoadLeft (link means) old.plan old.heap old.link o wire → Found
-  left-found calls (Ok done) left shows =
+  left-found : CarriedSo (loading old.plan old.kept) → (o : Outcome) → result ≡ o → BroughtUp (link means) old.plan old.heap (first_record old.plan) old.link o wire → Found
+  left-found c (Ok done) is left shows =
       let none : means.pending old.link.device ≡ 0 = agreed.pending in
       let no_ticks : ticks_put (link means) old.link wire ≡ 0 = omega (arith, none) in
-      kept-here means old wire io io' agreed kept agree shows (all_closed On old.plan) (loaded_state old.plan old.heap 0) (left.1 ∙ ap (λ (n : ℕ). Some (loaded_state old.plan old.heap n)) no_ticks) (Keeps-loaded old.plan old.heap)
-  left-found calls (Err Loaded) left shows = still-here means old wire io io' agreed kept agree shows old.kept.power agreed.powered left
-  left-found calls (Err (Refused e)) left shows = off-found left.0 shows
-  left-found calls (Err LinkDown) left shows = off-found left.0 shows
-  left-found calls (Err NotLoaded) left shows = absurd left
-  left-found calls (Err (NoSuch name)) left shows = absurd left
-  left-found calls (Err (State found)) left shows = absurd left
-  left-found calls (Err Down) left shows = absurd left
-  left-found calls (Err (Range n)) left shows = absurd left
-  left-found calls (Err (Blob n)) left shows = absurd left
+      kept-here means old wire io io' agreed kept agree shows (all_closed On old.plan) (loaded_state old.plan old.heap 0) (left ∙ ap (λ (n : ℕ). Some (loaded_state old.plan old.heap n)) no_ticks) (Keeps-loaded old.plan old.heap)
+  left-found c (Err fault) is left shows =
+      off-found (failed-off (link means) old.plan old.heap old.kept agreed.loadable agreed.agree.record_is.controls kept (at old.link io) (at wire io') result c fault is) shows
 
-  pub AreAgreed-loaded : Tested (link means) old.plan old.heap (load_fault old.kept.power) (loading old.plan old.kept) old.kept kept (at old.link io) (at wire io') result → LoadLeft (link means) old.plan old.heap old.link result wire → AreAgreed means new
-  AreAgreed-loaded tested left = by-test (load_fault old.kept.power) (loading old.plan old.kept) tested (λ none c. left-found (order-kept (loading old.plan old.kept) c) result left)
+  pub AreAgreed-loaded : Tested (link means) old.plan old.heap (load_fault old.kept.power) (loading old.plan old.kept) old.kept kept (at old.link io) (at wire io') result → BroughtUp (link means) old.plan old.heap (first_record old.plan) old.link result wire → AreAgreed means new
+  AreAgreed-loaded tested left = by-test (load_fault old.kept.power) (loading old.plan old.kept) tested (λ none c. left-found c result refl left)
 
   -- ---- an unload
 

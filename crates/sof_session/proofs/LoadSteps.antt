@@ -19,7 +19,7 @@ use Rattle.host_widgets.specs.ActLists.{bring_up}
 use Rattle.host_widgets.specs.ActCalls.{next_of}
 use Rattle.host_widgets.specs.StateOf.{loaded_state}
 use Rattle.host_widgets.specs.ViewOf.{view_by}
-use Rattle.host_widgets.specs.Host.{Outcome, LoadLeft, Sides, ticks_put}
+use Rattle.host_widgets.specs.Host.{Outcome, BroughtUp, Sides, ticks_put}
 use Rattle.host_widgets.specs.Walk.{Walked, walk}
 use Rattle.host_widgets.specs.Orders.{Order, Carried, brought_end, load_fault, loading}
 use Rattle.host_widgets.proofs.BarePlans.{Bare, bare}
@@ -61,7 +61,7 @@ module _ {P : Type 0} (means : Meaning P) (old new : Seat P) (io io' : Io) (agre
 
   -- ---- all acts were sent, or a part of them
 
-  module _ (unloaded : old.kept.power ≡ Unloaded) (outcome : Outcome) (c : Carried (link means) old.plan old.heap order old.kept new.kept w v outcome) (left : LoadLeft (link means) old.plan old.heap old.link outcome new.link) where
+  module _ (unloaded : old.kept.power ≡ Unloaded) (outcome : Outcome) (c : Carried (link means) old.plan old.heap order old.kept new.kept w v outcome) (left : BroughtUp (link means) old.plan old.heap (first_record old.plan) old.link outcome new.link) where
     first : old.kept ≡ first_record old.plan
     first = (subst (λ (x : Power). Sides means old.plan old.kept old.link.device x) unloaded agreed.agree.sides).0
 
@@ -86,10 +86,10 @@ module _ {P : Type 0} (means : Meaning P) (old new : Seat P) (io io' : Io) (agre
 
     loaded : met.outcome ≡ Ok tt → means.on new.link.device ≡ Some (loaded_state old.plan old.heap 0)
     loaded passed =
-        let stands = subst (λ (o : Outcome). LoadLeft (link means) old.plan old.heap old.link o new.link) (c.came ∙ passed) left in
+        let stands = subst (λ (o : Outcome). BroughtUp (link means) old.plan old.heap (first_record old.plan) old.link o new.link) (c.came ∙ passed) left in
         let none : means.pending old.link.device ≡ 0 = agreed.pending in
         let no_ticks : ticks_put (link means) old.link new.link ≡ 0 = omega (arith, none) in
-        stands.1 ∙ ap (λ (n : ℕ). Some (loaded_state old.plan old.heap n)) no_ticks
+        stands ∙ ap (λ (n : ℕ). Some (loaded_state old.plan old.heap n)) no_ticks
 
     empty : met.outcome ≡ Ok tt → met.moments ≡ [] → Bare old.plan
     empty passed none =

@@ -10,7 +10,8 @@ use Rattle.host_widgets.specs.declared.answers.Answer.{Answer}
 use Rattle.host_widgets.specs.declared.answers.Answer.TheVariants as answers
 use Rattle.host_widgets.specs.declared.kept.Power.{Power}
 use Rattle.host_widgets.specs.declared.kept.Power.TheVariants.{On}
-use Rattle.host_widgets.specs.Host.{Outcome, LoadLeft}
+use Rattle.host_widgets.specs.Host.{Outcome, BroughtUp}
+use Rattle.host_widgets.specs.Kept.{first_record}
 use Rattle.host_widgets.specs.Orders.{Tested, load_fault, loading, unload_fault, unloading}
 use Rattle.host_pcm.specs.declared.asking.Ask.{Ask}
 use Rattle.host_pcm.specs.StreamOrders.{Asked}
@@ -25,7 +26,7 @@ ports inputs outputs = record { inputs = inputs; outputs = outputs }
 pub record LoadRan {P : Type 0} (means : Meaning P) (old new : Seat P) (before after : Io) (answer : Answer) : Type 0 where
   pub outcome : Outcome
   pub tested : Tested (link means) old.plan old.heap (load_fault old.kept.power) (loading old.plan old.kept) old.kept new.kept (record { device = old.link; io = before }) (record { device = new.link; io = after }) outcome
-  pub left : LoadLeft (link means) old.plan old.heap old.link outcome new.link
+  pub left : BroughtUp (link means) old.plan old.heap (first_record old.plan) old.link outcome new.link
   pub said : answer ≡ answer_by answers.Done outcome
 
 -- what an unload did: its calls on the link, and what it came to

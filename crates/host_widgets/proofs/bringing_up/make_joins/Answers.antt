@@ -1,7 +1,7 @@
 use Rattle.mbox_link.specs.Calls.{world}
 use Rattle.stream_law.specs.declared.graph.Join.{Join as Joined}
 use Rattle.host_widgets.specs.HostActs.{Act, Join}
-use Rattle.host_widgets.proofs.Walks.{passing, Walked-on, Walked-room, walked_more, walked_ends, handed_on}
+use Rattle.host_widgets.proofs.Walks.{passing, sent-on, sent-room, sent-more, sent-ends, handed_on}
 use Rattle.host_widgets.proofs.bringing_up.make_joins.Goals as goal
 
 abbrev act_of : Joined → Act
@@ -11,20 +11,20 @@ abbrev no_join : Joined
 no_join = record { source = 0; sink = 0 }
 
 pub send-requires-clause-on : goal.send-requires-clause-on
-send-requires-clause-on g c = Walked-on g.P.Dsp.means c.args.plan.now _ _ _ passing c.loop-join.invariant c.requires.on
+send-requires-clause-on g c = sent-on g.P.Dsp.means c.args.plan.now _ _ _ passing c.loop-join.invariant c.requires.on
 
 pub send-requires-clause-room : goal.send-requires-clause-room
-send-requires-clause-room g c = Walked-room g.P.Dsp.means c.args.plan.now _ _ _ passing c.loop-join.invariant c.requires.room
+send-requires-clause-room g c = sent-room g.P.Dsp.means c.args.plan.now _ _ _ passing c.loop-join.invariant c.requires.room
 
 pub returns-in_err-send : goal.returns-in_err-send
 returns-in_err-send g c =
-    walked_ends g.P.Dsp.means c.args.plan.now act_of c.args.plan.now.graph.joins c.items-join-items.result.now c.items-join-items.ensures c.loop-join.join-index no_join c.loop-join-test.true
+    sent-ends g.P.Dsp.means c.args.plan.now act_of c.args.plan.now.graph.joins c.items-join-items.result.now c.items-join-items.ensures c.loop-join.join-index no_join c.loop-join-test.true
     (world c.args.dsp.now c.args.io.now c.args.out.now) (world c.loop-join.dsp c.loop-join.io c.loop-join.out) (world c.send.new.dsp c.send.new.io c.send.new.out)
     c.send.result c.loop-join.invariant c.send.ensures c.in_err-send.field-0.0 c.from_residual.result c.in_err-send.was
     (handed_on c.from_residual.result c.in_err-send.field-0.0 c.from_residual.ensures)
 
 pub loop-join-preserved : goal.loop-join-preserved
 loop-join-preserved g c =
-    walked_more g.P.Dsp.means c.args.plan.now act_of c.args.plan.now.graph.joins c.items-join-items.result.now c.items-join-items.ensures c.loop-join.join-index no_join c.loop-join-test.true
+    sent-more g.P.Dsp.means c.args.plan.now act_of c.args.plan.now.graph.joins c.items-join-items.result.now c.items-join-items.ensures c.loop-join.join-index no_join c.loop-join-test.true
     (world c.args.dsp.now c.args.io.now c.args.out.now) (world c.loop-join.dsp c.loop-join.io c.loop-join.out) (world c.send.new.dsp c.send.new.io c.send.new.out)
     c.send.result c.loop-join.invariant c.send.ensures c.in_ok-send.field-0 c.in_ok-send.was

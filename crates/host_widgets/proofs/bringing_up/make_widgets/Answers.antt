@@ -6,11 +6,12 @@ use Rattle.tplg_plan.specs.declared.plans.WidgetPlan.{WidgetPlan}
 use Rattle.tplg_plan.specs.declared.plans.Plan.{Plan}
 use Rattle.ipc3_codec.specs.declared.message.Message.{Message}
 use Rattle.ipc3_codec.specs.Messages.{message_spelling}
-use Rattle.host_widgets.specs.Host.{Sent, Walked}
+use Rattle.host_widgets.specs.Host.{Sent}
+use Rattle.host_widgets.specs.ActCalls.{ActsSent}
 use Rattle.host_widgets.specs.HostActs.{Act, Make}
 use Rattle.host_widgets.specs.Acts.{ids_of, no_words, make_message}
 use Rattle.host_widgets.specs.ActMessages.{message_of}
-use Rattle.host_widgets.proofs.Walks.{passing, Walked-on, Walked-room, walked_more, walked_ends, handed_on}
+use Rattle.host_widgets.proofs.Walks.{passing, sent-on, sent-room, sent-more, sent-ends, handed_on}
 use Rattle.host_widgets.proofs.bringing_up.make_widgets.Goals as goal
 
 -- the message of the widget at a place is that of its id
@@ -23,10 +24,10 @@ message_is plan xs id i m same next within is =
     ∙ ap (λ (k : ℕ). message_of plan (Make k)) (sym at)
 
 pub send-requires-clause-on : goal.send-requires-clause-on
-send-requires-clause-on g c = Walked-on g.P.Dsp.means c.args.plan.now _ _ _ passing c.loop-words.invariant.walked c.requires.on
+send-requires-clause-on g c = sent-on g.P.Dsp.means c.args.plan.now _ _ _ passing c.loop-words.invariant.walked c.requires.on
 
 pub send-requires-clause-room : goal.send-requires-clause-room
-send-requires-clause-room g c = Walked-room g.P.Dsp.means c.args.plan.now _ _ _ passing c.loop-words.invariant.walked c.requires.room
+send-requires-clause-room g c = sent-room g.P.Dsp.means c.args.plan.now _ _ _ passing c.loop-words.invariant.walked c.requires.room
 
 pub returns-in_err-send : goal.returns-in_err-send
 returns-in_err-send g c =
@@ -40,7 +41,7 @@ returns-in_err-send g c =
     let inside : i < length (ids_of plan) = omega (arith, within, ap length same, length-range_with_len 0 (length plan.widgets)) in
     let message : c.make_message.result ≡ message_of plan (Make (get_or (ids_of plan) i 0)) = message_is plan xs c.loop-words.id i c.make_message.result same c.loop-words.invariant.next within c.make_message.ensures in
     let sent = subst (λ (x : Message). Sent g.P.Dsp.means (message_spelling x) m v c.send.result) message c.send.ensures in
-    walked_ends g.P.Dsp.means plan Make (ids_of plan) (ids_of plan) refl i 0 inside
+    sent-ends g.P.Dsp.means plan Make (ids_of plan) (ids_of plan) refl i 0 inside
     (world c.args.dsp.now c.args.io.now c.args.out.now) m v
     c.send.result c.loop-words.invariant.walked sent c.in_err-send.field-0.0 c.from_residual.result c.in_err-send.was
     (handed_on c.from_residual.result c.in_err-send.field-0.0 c.from_residual.ensures)
@@ -59,7 +60,7 @@ loop-words-preserved g c =
     let sent = subst (λ (x : Message). Sent g.P.Dsp.means (message_spelling x) m v c.send.result) message c.send.ensures in
     record {
       next = omega (arith, c.loop-words.invariant.next);
-      walked = walked_more g.P.Dsp.means plan Make (ids_of plan) (ids_of plan) refl i 0 inside
+      walked = sent-more g.P.Dsp.means plan Make (ids_of plan) (ids_of plan) refl i 0 inside
           (world c.args.dsp.now c.args.io.now c.args.out.now) m v
           c.send.result c.loop-words.invariant.walked sent c.in_ok-send.field-0 c.in_ok-send.was;
     }
@@ -71,4 +72,4 @@ returns g c =
     let same : xs ≡ plan.widgets = c.items-words-items.ensures in
     let all : take c.loop-words.words-index (map Make (ids_of plan)) ≡ map Make (ids_of plan) =
     take_all c.loop-words.words-index (map Make (ids_of plan)) (omega (arith, c.loop-words-test.false, ap length same, length-map (ids_of plan) Make, length-range_with_len 0 (length plan.widgets))) in
-    subst (λ (acts : List Act). Walked g.P.Dsp.means plan acts (world c.args.dsp.now c.args.io.now c.args.out.now) (world c.loop-words.dsp c.loop-words.io c.loop-words.out) passing) all c.loop-words.invariant.walked
+    subst (λ (acts : List Act). ActsSent g.P.Dsp.means plan acts (world c.args.dsp.now c.args.io.now c.args.out.now) (world c.loop-words.dsp c.loop-words.io c.loop-words.out) passing) all c.loop-words.invariant.walked

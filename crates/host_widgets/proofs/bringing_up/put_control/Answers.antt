@@ -1,4 +1,4 @@
-use Rattle.std.proofs.Common.{◌≡◌, List, Result, subst, sym, ◌∙◌}
+use Rattle.std.proofs.Common.{◌≡◌, List, Result, Ok, Err, subst, sym, ◌∙◌}
 use Rattle.ipc3_codec.specs.declared.message.Message.{Message}
 use Rattle.ipc3_codec.specs.declared.reply.Reply.{Reply}
 use Rattle.ipc3_codec.specs.Messages.{message_spelling}
@@ -7,8 +7,9 @@ use Rattle.host_widgets.specs.declared.answers.HostFault.{HostFault}
 use Rattle.host_widgets.specs.HostActs.{Act, Put}
 use Rattle.host_widgets.specs.ActLists.{control_acts}
 use Rattle.host_widgets.specs.ActMessages.{message_of}
-use Rattle.host_widgets.specs.Host.{Outcome, Sent, Walked}
-use Rattle.host_widgets.proofs.Walks.{passing, failing, Walked-one, Walked-failed, handed_on}
+use Rattle.host_widgets.specs.Host.{Outcome, Sent}
+use Rattle.host_widgets.specs.ActCalls.{ActsSent}
+use Rattle.host_widgets.proofs.Walks.{passing, failing, sent-one, handed_on}
 use Rattle.host_widgets.proofs.FirstSettings.{put-acts, put-message}
 use Rattle.host_widgets.proofs.bringing_up.put_control.Goals as goal
 
@@ -24,8 +25,8 @@ returns-in_err-send-in_default g c =
     let message : c.set_message-setting.result ≡ message_of plan (Put control.comp kept.values) = c.set_message-setting.ensures ∙ put-message plan control kept.values c.requires.first in
     let sent = subst (λ (m : Message). Sent means (message_spelling m) w v c.send.result) message c.send.ensures in
     let failed = subst (λ (r : Result Reply HostFault). Sent means (message_spelling (message_of plan (Put control.comp kept.values))) w v r) c.in_err-send-in_default.was sent in
-    subst (λ (r : Outcome). Walked means plan (control_acts (control, kept)) w v r) (sym (handed_on c.from_residual.result fault c.from_residual.ensures))
-    (subst (λ (acts : List Act). Walked means plan acts w v (failing fault)) (sym (put-acts control kept c.in_default.not-Blob)) (Walked-failed means plan (Put control.comp kept.values) fault w v failed))
+    subst (λ (r : Outcome). ActsSent means plan (control_acts (control, kept)) w v r) (sym (handed_on c.from_residual.result fault c.from_residual.ensures))
+    (subst (λ (acts : List Act). ActsSent means plan acts w v (failing fault)) (sym (put-acts control kept c.in_default.not-Blob)) (sent-one means plan (Put control.comp kept.values) (Err fault) w v failed))
 
 pub returns-in_ok-send-in_default : goal.returns-in_ok-send-in_default
 returns-in_ok-send-in_default g c =
@@ -38,4 +39,4 @@ returns-in_ok-send-in_default g c =
     let message : c.set_message-setting.result ≡ message_of plan (Put control.comp kept.values) = c.set_message-setting.ensures ∙ put-message plan control kept.values c.requires.first in
     let sent = subst (λ (m : Message). Sent means (message_spelling m) w v c.send.result) message c.send.ensures in
     let passed = subst (λ (r : Result Reply HostFault). Sent means (message_spelling (message_of plan (Put control.comp kept.values))) w v r) c.in_ok-send-in_default.was sent in
-    subst (λ (acts : List Act). Walked means plan acts w v passing) (sym (put-acts control kept c.in_default.not-Blob)) (Walked-one means plan (Put control.comp kept.values) c.in_ok-send-in_default.field-0 w v passed)
+    subst (λ (acts : List Act). ActsSent means plan acts w v passing) (sym (put-acts control kept c.in_default.not-Blob)) (sent-one means plan (Put control.comp kept.values) (Ok c.in_ok-send-in_default.field-0) w v passed)

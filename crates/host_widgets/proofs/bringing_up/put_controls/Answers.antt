@@ -7,9 +7,9 @@ use Rattle.host_widgets.specs.declared.kept.ControlRec.{ControlRec}
 use Rattle.host_widgets.specs.Controls.{control_of}
 use Rattle.host_widgets.specs.ActLists.{control_acts}
 use Rattle.host_widgets.specs.Kept.{controls_of}
-use Rattle.host_widgets.specs.Host.{Walked}
+use Rattle.host_widgets.specs.ActCalls.{ActsSent}
 use Rattle.host_widgets.proofs.ControlLists.{Pair, same-length, pairs-long, pair-at}
-use Rattle.host_widgets.proofs.Walks.{passing, Walked-on, Walked-room, walked_all, walked_stops, handed_on}
+use Rattle.host_widgets.proofs.Walks.{passing, sent-on, sent-room, sent-all, sent-stops, handed_on}
 use Rattle.host_widgets.proofs.Loadables.{is-first, no-blob}
 use Rattle.host_widgets.proofs.bringing_up.put_controls.Goals as goal
 
@@ -29,10 +29,10 @@ put_control-requires-clause-bare g c =
     (omega (arith, c.loop-place-test.true, ap length c.items-count.ensures, ap length c.items-in-loop-place.ensures, same-length c.args.plan.now.controls c.args.kept.now.controls c.requires.kept.controls))
 
 pub put_control-requires-clause-on : goal.put_control-requires-clause-on
-put_control-requires-clause-on g c = Walked-on g.P.Dsp.means c.args.plan.now _ _ _ passing c.loop-place.invariant c.requires.on
+put_control-requires-clause-on g c = sent-on g.P.Dsp.means c.args.plan.now _ _ _ passing c.loop-place.invariant c.requires.on
 
 pub put_control-requires-clause-room : goal.put_control-requires-clause-room
-put_control-requires-clause-room g c = Walked-room g.P.Dsp.means c.args.plan.now _ _ _ passing c.loop-place.invariant c.requires.room
+put_control-requires-clause-room g c = sent-room g.P.Dsp.means c.args.plan.now _ _ _ passing c.loop-place.invariant c.requires.room
 
 pub returns-in_err-put_control : goal.returns-in_err-put_control
 returns-in_err-put_control g c =
@@ -46,9 +46,9 @@ returns-in_err-put_control g c =
     let few : i < length plan.controls = omega (arith, c.loop-place-test.true, ap length c.items-count.ensures) in
     let within : i < length (controls_of plan kept) = omega (arith, few, pairs-long plan.controls kept.controls c.requires.kept.controls) in
     let here : get_or (controls_of plan kept) i (k, r) ≡ (k, r) = pair-at plan.controls kept.controls c.requires.kept.controls i k r few (c.index-items-place.is ∙ ap (λ (ks : List ControlPlan). get_or ks i k) c.items.ensures) (c.index-items-place-in-loop-place.is ∙ ap (λ (rs : List ControlRec). get_or rs i r) c.items-in-loop-place.ensures) in
-    walked_stops g.P.Dsp.means plan control_acts (controls_of plan kept) (controls_of plan kept) refl i (k, r) within
+    sent-stops g.P.Dsp.means plan control_acts (controls_of plan kept) (controls_of plan kept) refl i (k, r) within
     (world c.args.dsp.now c.args.io.now c.args.out.now) m v c.loop-place.invariant c.put_control.result
-    (subst (λ (p : Pair). Walked g.P.Dsp.means plan (control_acts p) m v c.put_control.result) (sym here) c.put_control.ensures)
+    (subst (λ (p : Pair). ActsSent g.P.Dsp.means plan (control_acts p) m v c.put_control.result) (sym here) c.put_control.ensures)
     c.in_err-put_control.field-0.0 c.from_residual.result c.in_err-put_control.was
     (handed_on c.from_residual.result c.in_err-put_control.field-0.0 c.from_residual.ensures)
 
@@ -64,9 +64,9 @@ loop-place-preserved g c =
     let few : i < length plan.controls = omega (arith, c.loop-place-test.true, ap length c.items-count.ensures) in
     let within : i < length (controls_of plan kept) = omega (arith, few, pairs-long plan.controls kept.controls c.requires.kept.controls) in
     let here : get_or (controls_of plan kept) i (k, r) ≡ (k, r) = pair-at plan.controls kept.controls c.requires.kept.controls i k r few (c.index-items-place.is ∙ ap (λ (ks : List ControlPlan). get_or ks i k) c.items.ensures) (c.index-items-place-in-loop-place.is ∙ ap (λ (rs : List ControlRec). get_or rs i r) c.items-in-loop-place.ensures) in
-    walked_all g.P.Dsp.means plan control_acts (controls_of plan kept) (controls_of plan kept) refl i (k, r) within
+    sent-all g.P.Dsp.means plan control_acts (controls_of plan kept) (controls_of plan kept) refl i (k, r) within
     (world c.args.dsp.now c.args.io.now c.args.out.now) m v c.loop-place.invariant c.put_control.result
-    (subst (λ (p : Pair). Walked g.P.Dsp.means plan (control_acts p) m v c.put_control.result) (sym here) c.put_control.ensures)
+    (subst (λ (p : Pair). ActsSent g.P.Dsp.means plan (control_acts p) m v c.put_control.result) (sym here) c.put_control.ensures)
     c.in_ok-put_control.was
 
 pub returns : goal.returns
@@ -74,4 +74,4 @@ returns g c =
     let plan = c.args.plan.now in
     let kept = c.args.kept.now in
     let past : length (controls_of plan kept) ≤ c.loop-place.place = omega (arith, c.loop-place-test.false, ap length c.items-count.ensures, pairs-long plan.controls kept.controls c.requires.kept.controls) in
-    subst (λ (ps : List Pair). Walked g.P.Dsp.means plan (flat_map control_acts ps) (world c.args.dsp.now c.args.io.now c.args.out.now) (world c.loop-place.dsp c.loop-place.io c.loop-place.out) passing) (take_all c.loop-place.place (controls_of plan kept) past) c.loop-place.invariant
+    subst (λ (ps : List Pair). ActsSent g.P.Dsp.means plan (flat_map control_acts ps) (world c.args.dsp.now c.args.io.now c.args.out.now) (world c.loop-place.dsp c.loop-place.io c.loop-place.out) passing) (take_all c.loop-place.place (controls_of plan kept) past) c.loop-place.invariant

@@ -12,16 +12,16 @@ pub loop-value-preserved : goal.loop-value-preserved
 loop-value-preserved c =
     let lowest : ℤ = to_z w32 (of_z w32 c.args.lowest) in
     c.loop-value.invariant
-    ∙ from-next (law.is_full lowest c.args.step c.args.mute) c.args.max c.loop-value.value c.loop-value-test.true (sym c.is_full.ensures ∙ c.if-is_full.false)
+    ∙ from-next (law.has_full_gain lowest c.args.step c.args.mute) c.args.max c.loop-value.value c.loop-value-test.true (sym c.has_full_gain.ensures ∙ c.if-has_full_gain.false)
 
-pub returns-then-is_full : goal.returns-then-is_full
-returns-then-is_full c =
+pub returns-then-has_full_gain : goal.returns-then-has_full_gain
+returns-then-has_full_gain c =
     let lowest : ℤ = to_z w32 (of_z w32 c.args.lowest) in
     let fits : SFits w32 c.args.lowest = search rules in
     let same : lowest ≡ c.args.lowest = to_z-of_z fits in
     sym (ap (λ (o : Option ℕ). unwrap_or o c.args.max)
-    (ap (λ (z : ℤ). from (law.is_full z c.args.step c.args.mute) c.args.max c.args.min) (sym same)
-    ∙ c.loop-value.invariant ∙ from-here (law.is_full lowest c.args.step c.args.mute) c.args.max c.loop-value.value c.loop-value-test.true (sym c.is_full.ensures ∙ c.if-is_full.true)))
+    (ap (λ (z : ℤ). from (law.has_full_gain z c.args.step c.args.mute) c.args.max c.args.min) (sym same)
+    ∙ c.loop-value.invariant ∙ from-here (law.has_full_gain lowest c.args.step c.args.mute) c.args.max c.loop-value.value c.loop-value-test.true (sym c.has_full_gain.ensures ∙ c.if-has_full_gain.true)))
 
 pub returns : goal.returns
 returns c =
@@ -29,5 +29,5 @@ returns c =
     let fits : SFits w32 c.args.lowest = search rules in
     let same : lowest ≡ c.args.lowest = to_z-of_z fits in
     sym (ap (λ (o : Option ℕ). unwrap_or o c.args.max)
-    (ap (λ (z : ℤ). from (law.is_full z c.args.step c.args.mute) c.args.max c.args.min) (sym same)
-    ∙ c.loop-value.invariant ∙ from-past (law.is_full lowest c.args.step c.args.mute) c.args.max c.loop-value.value (omega (arith, c.loop-value-test.false))))
+    (ap (λ (z : ℤ). from (law.has_full_gain z c.args.step c.args.mute) c.args.max c.args.min) (sym same)
+    ∙ c.loop-value.invariant ∙ from-past (law.has_full_gain lowest c.args.step c.args.mute) c.args.max c.loop-value.value (omega (arith, c.loop-value-test.false))))

@@ -6,4 +6,4 @@ use Rattle.host_widgets.proofs.controls.first_full.Given as goal
 -- no value so far is the first
 abbrev pub invariant-loop-value : goal.invariant-loop-value
 invariant-loop-value l =
-    from (law.is_full l.fn.lowest l.fn.step l.fn.mute) l.fn.max l.fn.min ≡ from (law.is_full l.fn.lowest l.fn.step l.fn.mute) l.fn.max l.value
+    from (law.has_full_gain l.fn.lowest l.fn.step l.fn.mute) l.fn.max l.fn.min ≡ from (law.has_full_gain l.fn.lowest l.fn.step l.fn.mute) l.fn.max l.value

@@ -1,14 +1,35 @@
-use Rattle.std.proofs.Common.{⊎_elim, Err, refl, ap}
-use Rattle.mbox_link.specs.Calls.{world}
+use Rattle.std.proofs.Common.{◌≡◌, ◌∙◌, ⊎_elim, Err, refl, ap, subst}
+use Rattle.mbox_link.specs.Calls.{Meaning, world}
+use Rattle.tplg_plan.specs.declared.plans.Plan.{Plan}
 use Rattle.host_widgets.specs.declared.answers.HostFault.TheVariants.{Loaded}
+use Rattle.host_widgets.specs.declared.kept.Power.{Power}
+use Rattle.host_widgets.specs.declared.kept.Power.TheVariants.{Unloaded}
+use Rattle.host_widgets.specs.declared.kept.Record.{Record}
+use Rattle.host_widgets.specs.Kept.{first_record}
+use Rattle.host_widgets.specs.Host.{Agrees, Sides}
 use Rattle.host_widgets.specs.Orders.{load_fault, loading}
 use Rattle.host_widgets.proofs.LoadOrders.{told-early, done-late}
-use Rattle.host_widgets.proofs.Records.{load-agrees}
+use Rattle.host_widgets.proofs.LoadEnds.{load-agrees, load-exactly}
 use Rattle.host_widgets.proofs.loading.load.Goals as goal
+
+-- the record was the first
+pub was-first : (plan : Plan) (kept : Record) (power : Power) → kept.power ≡ power → {D : Type 0} (means : Meaning D) (device : D) → Agrees means plan kept device → power ≡ Unloaded → kept ≡ first_record plan
+was-first plan kept power is means device agree unloaded = (subst (λ (p : Power). Sides means plan kept device p) (is ∙ unloaded) agree.sides).0
 
 pub returns-in-Unloaded-clause-agree : goal.returns-in-Unloaded-clause-agree
 returns-in-Unloaded-clause-agree g c =
-    load-agrees g.P.Dsp.means c.args.plan.now c.args.heap c.args.dsp.now c.power_up.new.dsp c.args.kept.now c.power_up.new.kept c.power_up.result c.power_up.ensures.unloaded c.power_up.ensures.left c.power_up.ensures.kept
+    let plan = c.args.plan.now in
+    let kept = c.args.kept.now in
+    let w = world c.args.dsp.now c.args.io.now c.args.out.now in
+    let v = world c.power_up.new.dsp c.power_up.new.io c.power_up.new.out in
+    load-agrees g.P.Dsp.means plan c.args.heap kept c.requires.plan c.requires.agree.record_is.controls c.power_up.new.kept w v c.power_up.result c.power_up.ensures.carried
+    (was-first plan kept kept.power refl g.P.Dsp.means c.args.dsp.now c.requires.agree c.in-Unloaded.is) c.power_up.ensures.left
+
+pub returns-in-Unloaded-clause-exactly : goal.returns-in-Unloaded-clause-exactly
+returns-in-Unloaded-clause-exactly g c = λ unloaded.
+    (let w = world c.args.dsp.now c.args.io.now c.args.out.now in
+    let v = world c.power_up.new.dsp c.power_up.new.io c.power_up.new.out in
+    load-exactly g.P.Dsp.means c.args.plan.now c.args.heap c.args.kept.now c.requires.plan c.requires.agree.record_is.controls c.power_up.new.kept w v c.power_up.result c.power_up.ensures.carried)
 
 pub returns-in-Unloaded-clause-carried : goal.returns-in-Unloaded-clause-carried
 returns-in-Unloaded-clause-carried g c =

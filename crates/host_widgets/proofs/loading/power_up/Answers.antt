@@ -1,34 +1,11 @@
-use Rattle.std.proofs.Common.{◌∙◌, [], ◌∷◌, refl, sym, subst}
-use Rattle.mbox_link.specs.Calls.{world, Cut}
-use Rattle.mbox_link.proofs.Led.{Led-append}
-use Rattle.host_widgets.specs.ActLists.{bring_up}
+use Rattle.std.proofs.Common.{◌∙◌, refl, sym, subst}
+use Rattle.mbox_link.specs.Calls.{world}
 use Rattle.host_widgets.specs.declared.kept.Power.TheVariants.{Unloaded, On}
 use Rattle.host_widgets.specs.Kept.{with_power}
-use Rattle.host_widgets.specs.Host.{IsRecordOf, exchanges}
+use Rattle.host_widgets.specs.Host.{IsRecordOf}
 use Rattle.host_widgets.proofs.Records.{closed-record}
 use Rattle.host_widgets.proofs.LoadOrders.{load-passed, load-failed}
 use Rattle.host_widgets.proofs.loading.power_up.Goals as goal
-
-pub returns-in-Err-clause-calls : goal.returns-in-Err-clause-calls
-returns-in-Err-clause-calls g c =
-    let walked = c.in-Err.ensures.calls in
-    let m = world c.boot.new.self c.args.io.now c.args.out.now in
-    let n = world c.bring_up.new.dsp c.bring_up.new.io c.bring_up.new.out in
-    let v = world c.cut.new.self c.bring_up.new.io c.bring_up.new.out in
-    record {
-      answers = walked.answers;
-      led = (m, (c.boot.ensures, refl), Led-append g.P.Dsp.means (exchanges c.args.plan.now (bring_up c.args.plan.now c.args.kept.now) walked.answers) (Cut ∷ []) m n v walked.led (v, (c.cut.ensures, refl), refl));
-      walk = walked.walk;
-    }
-
-pub returns-in-Err-clause-fates : goal.returns-in-Err-clause-fates
-returns-in-Err-clause-fates g c = record {
-  booted = world c.boot.new.self c.args.io.now c.args.out.now;
-  sent = world c.bring_up.new.dsp c.bring_up.new.io c.bring_up.new.out;
-  boot = (c.boot.ensures, refl);
-  fates = c.in-Err.ensures.fates;
-  ends = (c.cut.ensures, refl);
-}
 
 pub bring_up-requires-clause-kept : goal.bring_up-requires-clause-kept
 bring_up-requires-clause-kept g c = subst (IsRecordOf c.args.plan.now) (sym c.requires.kept) (closed-record Unloaded c.args.plan.now)

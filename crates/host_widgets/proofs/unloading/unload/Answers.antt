@@ -2,18 +2,11 @@ use Rattle.std.proofs.Common.{Ok, Err, refl, sym, ap, subst}
 use Rattle.mbox_link.specs.Calls.{world}
 use Rattle.host_widgets.specs.declared.kept.Power.{Power}
 use Rattle.host_widgets.specs.declared.answers.HostFault.TheVariants.{NotLoaded}
-use Rattle.host_widgets.specs.Host.{Unloads, Sides}
+use Rattle.host_widgets.specs.Host.{Sides}
 use Rattle.host_widgets.specs.Orders.{Carried, unload_fault, unloading}
 use Rattle.host_widgets.proofs.Records.{unloaded-agrees}
-use Rattle.host_widgets.proofs.Walks.{passing}
 use Rattle.host_widgets.proofs.LoadOrders.{unloading_at, unload-on, unload-off, told-early, done-late}
 use Rattle.host_widgets.proofs.unloading.unload.Goals as goal
-
-pub returns-in-On-clause-calls : goal.returns-in-On-clause-calls
-returns-in-On-clause-calls g c =
-    let w = world c.args.dsp.now c.args.io.now c.args.out.now in
-    let v = world c.cut.new.self c.args.io.now c.args.out.now in
-    subst (λ (p : Power). Unloads g.P.Dsp.means p w v passing) (sym c.in-On.is) ((v, (c.cut.ensures, refl), refl), refl)
 
 pub returns-in-On-clause-agree : goal.returns-in-On-clause-agree
 returns-in-On-clause-agree g c =

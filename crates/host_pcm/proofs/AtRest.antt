@@ -31,7 +31,7 @@ use Rattle.host_widgets.proofs.RecordsStay.{may, Less, record-less}
 use Rattle.host_pcm.specs.declared.asking.Ask.TheVariants.{Opening, Closing}
 use Rattle.host_pcm.specs.Asks.{stream_at, is_closed, with_place}
 use Rattle.host_pcm.specs.StreamOrders.{host_at, place_order, opened, shut}
-use Rattle.host_pcm.proofs.PlainOrders.{plain, no-acts}
+use Rattle.host_widgets.proofs.PlainOrders.{plain, no-acts}
 use Rattle.host_pcm.proofs.Places.{place-changed}
 
 -- ---- streams that show nothing

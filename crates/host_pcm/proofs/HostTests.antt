@@ -5,6 +5,7 @@ use Rattle.std.proofs.lemmas.List.Quantifiers.{position-Some}
 use Rattle.mbox_link.specs.Calls.{World, Meaning}
 use Rattle.tplg_model.specs.declared.pcm.Caps.{Caps}
 use Rattle.tplg_plan.specs.declared.plans.Plan.{Plan}
+use Rattle.host_widgets.specs.Named.{is_named, loaded_fault}
 use Rattle.host_widgets.specs.declared.answers.HostFault.{HostFault}
 use Rattle.host_widgets.specs.declared.kept.Found.{Found}
 use Rattle.host_widgets.specs.declared.kept.Power.{Power}
@@ -12,7 +13,7 @@ use Rattle.host_widgets.specs.declared.kept.Power.TheVariants.{On, Off, Unloaded
 use Rattle.host_widgets.specs.declared.kept.Record.{Record}
 use Rattle.host_widgets.specs.Host.{Outcome}
 use Rattle.host_pcm.specs.declared.asking.Ask.{Ask}
-use Rattle.host_pcm.specs.Asks.{is_named, stream_place, takes, asks_for_power, range_fault, found_fault, power_fault, named_fault, loaded_fault, early_fault, stream_at, caps_at}
+use Rattle.host_pcm.specs.Asks.{stream_place, takes, asks_for_power, range_fault, found_fault, power_fault, named_fault, early_fault, stream_at, caps_at}
 use Rattle.host_widgets.specs.HostRecord.{no_stream}
 use Rattle.host_widgets.specs.Orders.{Carried}
 use Rattle.host_pcm.specs.StreamOrders.{place_order, Asked}

@@ -1,9 +1,6 @@
 pub mod TakenActs
 pub mod StreamAnswers
 pub mod StreamsTaken
-pub mod OneMessage
-pub mod ActSteps
-pub mod PlainOrders
 pub mod Places
 pub mod StreamCalls
 pub mod OneOrders

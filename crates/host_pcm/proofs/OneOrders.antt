@@ -1,7 +1,5 @@
 -- Acts at a place as the orders of calls.
 use Rattle.std.proofs.Common.{◌≡◌, ℕ, ◌*◌, ◌<◌, zero, suc, true, List, [], ◌∷◌, length, get_or, set, Ok, Err, refl, sym, ap, subst, ◌∙◌, arith}
-use Rattle.sof_base.specs.Ports.{HasRoom}
-use Rattle.mbox_link.proofs.Rooms.{HasRoom-now}
 use Rattle.mbox_link.specs.Calls.{World, Meaning}
 use Rattle.tplg_plan.specs.declared.plans.Plan.{Plan}
 use Rattle.tplg_plan.specs.Sound.{IsSound}
@@ -23,26 +21,11 @@ use Rattle.host_widgets.specs.Orders.{Order, Carried, sends}
 use Rattle.host_pcm.specs.declared.asking.Ask.TheVariants.{Closing}
 use Rattle.host_pcm.specs.Asks.{stream_at, takes_trigger, with_place}
 use Rattle.host_pcm.specs.StreamOrders.{host_at, place_order, shut}
-use Rattle.host_pcm.specs.ActCarried.{ActCarried}
-use Rattle.host_pcm.proofs.PlainOrders.{plain, ends-with, goes-on, passes-alone}
+use Rattle.host_widgets.specs.ActCarried.{ActCarried}
+use Rattle.host_widgets.proofs.PlainOrders.{plain, ends-with, goes-on, passes-alone}
 use Rattle.host_pcm.proofs.Places.{place-changed, once}
 
 module _ {D : Type 0} (means : Meaning D) (plan : Plan) (heap : ℕ) where
-  -- where the power is on, one act alone, whichever way it went
-  pub one-order : (act : Act) (done : Record → Record) (kept kept' : Record) (w v : World D) (result : Outcome) → kept.power ≡ On → ActCarried means plan heap act kept kept' w v result → (result ≡ Ok tt → kept' ≡ done kept') → Carried means plan heap (sends kept.power (act ∷ []) done Done) kept kept' w v result
-  one-order act done kept kept' w v result on x is =
-      subst (λ (p : Power). Carried means plan heap (sends p (act ∷ []) done Done) kept kept' w v result) (sym on) (by result x is)
-    where
-      by : (result : Outcome) → ActCarried means plan heap act kept kept' w v result → (result ≡ Ok tt → kept' ≡ done kept') → Carried means plan heap (plain (act ∷ []) done) kept kept' w v result
-      by (Ok passed) x is = passes-alone means plan heap act done kept kept' w v x (is refl)
-      by (Err fault) x is = ends-with means plan heap act [] done kept w fault kept' v x
-
-  -- an act leaves room for what is pending
-  pub act-room : (act : Act) (kept kept' : Record) (w v : World D) → ActCarried means plan heap act kept kept' w v (Ok tt) → HasRoom (61440 * means.pending w.device) w.io.outputs → HasRoom (61440 * means.pending v.device) v.io.outputs
-  act-room act kept kept' w v x room =
-      subst (λ (y : World D). HasRoom (61440 * means.pending y.device) y.io.outputs) (sym x.ends.1)
-      (HasRoom-now (61440 * means.pending w.device) (61440 * means.pending x.sent.device) w.io.outputs x.sent.io.outputs x.did.exchanged.room room)
-
   -- ---- closing
 
   module _ (sound : IsSound plan) (k : ℕ) (within : k < length plan.streams) (kept : Record) (long : length kept.streams ≡ length plan.streams) (on : kept.power ≡ On) where

@@ -4,6 +4,7 @@ use Rattle.std.specs.Prelude.{if◌then◌else◌}
 use Rattle.tplg_plan.specs.declared.plans.Plan.{Plan}
 use Rattle.tplg_plan.specs.declared.plans.StreamPlan.{StreamPlan}
 use Rattle.tplg_plan.specs.Sound.{IsSound}
+use Rattle.host_widgets.specs.Named.{loaded_fault}
 use Rattle.host_widgets.specs.declared.answers.HostFault.TheVariants.{NoSuch}
 use Rattle.host_widgets.specs.declared.kept.Found.{Found}
 use Rattle.host_widgets.specs.declared.kept.Found.TheVariants.{Closed, Open, Prepared, Running, Paused, On as Found_On}
@@ -24,7 +25,7 @@ use Rattle.host_widgets.proofs.OneActLaws.{IsStreamAct, stream-taken}
 use Rattle.host_widgets.proofs.WalksHold.{AreTaken}
 use Rattle.host_pcm.specs.declared.asking.Ask.{Ask}
 use Rattle.host_pcm.specs.declared.asking.Ask.TheVariants.{Opening, Preparing, Triggering, Closing}
-use Rattle.host_pcm.specs.Asks.{stream_at, stream_place, caps_at, takes_trigger, takes_params, early_fault, loaded_fault, named_fault}
+use Rattle.host_pcm.specs.Asks.{stream_at, stream_place, caps_at, takes_trigger, takes_params, early_fault, named_fault}
 use Rattle.host_pcm.specs.StreamOrders.{host_at, asking_order, place_order, stream_order}
 use Rattle.host_pcm.proofs.HostTests.{Stood, found_place}
 use Rattle.host_pcm.proofs.StreamCalls.{ranges}

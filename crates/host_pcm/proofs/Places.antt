@@ -1,12 +1,10 @@
 -- The stream at a place is the one of its host, in every sound plan.
 use Rattle.std.proofs.Common.{◌≡◌, ℕ, zero, suc, ◌<◌, List, [], ◌∷◌, length, map, get_or, set, Some, Bool, true, false, ◌==◌, refl, sym, ap, subst, ◌∙◌, arith, if◌then◌else◌}
 use Rattle.std.specs.List.{AllByRecursion, filter_map, cons_option}
-use Rattle.std.proofs.lemmas.Bool.{eqb-true, eq-eqb}
 use Rattle.stream_law.specs.declared.graph.Comp.{Comp}
 use Rattle.stream_law.specs.declared.graph.Kind.{Kind}
 use Rattle.stream_law.specs.declared.graph.Kind.TheVariants.{HostPlay, HostCapture, DaiPlay, DaiCapture, Volume, Mixer, Mux, Eq}
 use Rattle.stream_law.specs.Ways.{comp_of, is_capture}
-use Rattle.stream_law.specs.Placed.{AreAbove, Ascends}
 use Rattle.tplg_plan.specs.declared.plans.Plan.{Plan}
 use Rattle.tplg_plan.specs.declared.plans.StreamPlan.{StreamPlan}
 use Rattle.tplg_plan.specs.Sound.{IsSound, host_by, host_of}
@@ -15,54 +13,17 @@ use Rattle.host_widgets.specs.declared.kept.Record.{Record}
 use Rattle.host_widgets.specs.HostRecord.{closed, no_stream}
 use Rattle.host_widgets.specs.Kept.{changed, with_stream}
 use Rattle.host_widgets.specs.Acts.{direction_by, direction_of}
+use Rattle.host_widgets.proofs.ChangedPlaces.{changed-at}
 use Rattle.host_widgets.proofs.NamedIds.{each-comp}
 use Rattle.host_widgets.proofs.StreamPlaces.{streams-ascend}
 use Rattle.host_pcm.specs.Asks.{stream_at, with_place}
 use Rattle.host_pcm.specs.StreamOrders.{host_at}
 
-abbrev host : StreamPlan → ℕ
-host s = s.host
-
-module _ (f : StreamRec → StreamRec) where
-  abbrev changed-by : ℕ → List StreamPlan → List StreamRec → List StreamRec
-  changed-by n ss rs = changed host n f ss rs
-
-  -- a host above all of these is none of them
-  none-here : (n : ℕ) (ss : List StreamPlan) → AreAbove host n ss → (rs : List StreamRec) → changed-by n ss rs ≡ rs
-  unfolding AreAbove
-  none-here n [] above rs = refl
-  none-here n (s ∷ ss) above [] = refl
-  none-here n (s ∷ ss) above (r ∷ rs) = by (s.host == n) refl (none-here n ss above.1 rs)
-    where
-      by : (b : Bool) → (s.host == n) ≡ b → changed-by n ss rs ≡ rs → (if b then f r else r) ∷ changed-by n ss rs ≡ r ∷ rs
-      by true is rest = absurd (let e : s.host ≡ n = eqb-true s.host n is in omega (arith, e, above.0))
-      by false is rest = ap (λ (xs : List StreamRec). r ∷ xs) rest
-
-  above-at : (n : ℕ) (ss : List StreamPlan) → AreAbove host n ss → (k : ℕ) → k < length ss → n < (get_or ss k no_stream).host
-  unfolding AreAbove
-  above-at n [] above k low = absurd (omega (arith, low))
-  above-at n (s ∷ ss) above zero low = above.0
-  above-at n (s ∷ ss) above (suc k) low = above-at n ss above.1 k (omega (arith, low))
-
-  -- to change the stream of a place's host is to put another at the place
-  one-here : (ss : List StreamPlan) → Ascends host ss → (rs : List StreamRec) (k : ℕ) → k < length ss → k < length rs → set rs k (f (get_or rs k closed)) ≡ changed-by (get_or ss k no_stream).host ss rs
-  unfolding Ascends
-  one-here [] up rs k low under = absurd (omega (arith, low))
-  one-here (s ∷ ss) up [] k low under = absurd (omega (arith, under))
-  one-here (s ∷ ss) up (r ∷ rs) zero low under = λ i. (if sym (eq-eqb s.host s.host refl) i then f r else r) ∷ sym (none-here s.host ss up.0 rs) i
-  one-here (s ∷ ss) up (r ∷ rs) (suc k) low under =
-      by (s.host == (get_or ss k no_stream).host) refl (one-here ss up.1 rs k (omega (arith, low)) (omega (arith, under)))
-    where
-      by : (b : Bool) → (s.host == (get_or ss k no_stream).host) ≡ b → set rs k (f (get_or rs k closed)) ≡ changed-by (get_or ss k no_stream).host ss rs →
-          r ∷ set rs k (f (get_or rs k closed)) ≡ (if b then f r else r) ∷ changed-by (get_or ss k no_stream).host ss rs
-      by true is rest = absurd (let e : s.host ≡ (get_or ss k no_stream).host = eqb-true s.host (get_or ss k no_stream).host is in let above = above-at s.host ss up.0 k (omega (arith, low)) in omega (arith, e, above))
-      by false is rest = ap (λ (xs : List StreamRec). r ∷ xs) rest
-
 module _ (plan : Plan) (sound : IsSound plan) (k : ℕ) (low : k < length plan.streams) (f : StreamRec → StreamRec) where
   pub place-changed : (kept : Record) → length kept.streams ≡ length plan.streams → with_place k (f (stream_at kept k)) kept ≡ with_stream plan (host_at plan k) f kept
   place-changed kept long =
       ap (λ (rs : List StreamRec). record { power = kept.power; streams = rs; controls = kept.controls })
-      (one-here f plan.streams (streams-ascend plan sound) kept.streams k low (omega (arith, low, long)))
+      (changed-at (λ (s : StreamPlan). s.host) f no_stream closed plan.streams (streams-ascend plan sound) kept.streams k low (omega (arith, low, long)))
 
 -- a change that is made once is made
 pub once : (host : ℕ) (c : StreamRec) (ss : List StreamPlan) (rs : List StreamRec) →

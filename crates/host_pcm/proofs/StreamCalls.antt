@@ -25,14 +25,14 @@ use Rattle.host_widgets.specs.Host.{Outcome, Agrees}
 use Rattle.host_widgets.proofs.ReadyWays.{has_host}
 use Rattle.host_widgets.proofs.StreamRows.{AllAt}
 use Rattle.host_widgets.proofs.StreamPlaces.{place-has, place-all}
-use Rattle.host_widgets.proofs.OneActLaws.{IsStreamAct}
+use Rattle.host_widgets.proofs.OneActLaws.{IsStreamAct, stream-shown}
 use Rattle.host_widgets.proofs.ActsCome.{IsAnswered}
 use Rattle.host_pcm.specs.declared.asking.Ask.TheVariants.{Preparing}
 use Rattle.host_pcm.specs.Asks.{stream_at, takes_trigger, takes_params, range_fault, caps_at, with_place}
 use Rattle.host_pcm.specs.StreamRanges.{has_rate, has_channels, is_between}
 use Rattle.host_pcm.specs.StreamOrders.{host_at, shut}
-use Rattle.host_pcm.specs.ActCarried.{Passes, PlainEnd, ActCarried}
-use Rattle.host_pcm.proofs.ActSteps.{done, ended}
+use Rattle.host_widgets.specs.ActCarried.{Passes, PlainEnd, ActCarried}
+use Rattle.host_widgets.proofs.ActSteps.{done, ended}
 use Rattle.host_pcm.proofs.Places.{place-changed, place-goes}
 use Rattle.host_pcm.proofs.StreamsTaken.{trig-is, free-is, prepare-is, trig-comes, free-comes, prepare-comes}
 
@@ -79,11 +79,11 @@ module _ {D : Type 0} (means : Meaning D) (plan : Plan) (sound : IsSound plan) (
     act-done : result ≡ Ok tt → (item : StreamRec) → item ≡ change (stream_at kept k) → (streams : List StreamRec) → streams ≡ set kept'.streams k item → Both act (record { power = kept'.power; streams = streams; controls = kept'.controls }) v (Ok tt)
     act-done is item item-is streams streams-are =
         let same = still-kept is in
-        done means plan heap kept act s a w agrees power kept' v result x' is (record { power = kept'.power; streams = streams; controls = kept'.controls })
+        done means plan heap kept act (stream-shown plan kept act s) a w agrees power kept' v result x' is (record { power = kept'.power; streams = streams; controls = kept'.controls })
         ((λ i. record { power = (same i).power; streams = (streams-are ∙ (λ j. set (same j).streams k (item-is j))) i; controls = (same i).controls }) ∙ changes)
 
     act-ended : (fault : HostFault) → result ≡ Err fault → Both act kept' v (Err fault)
-    act-ended fault is = ended means plan heap kept act s a w agrees power kept' v result x' fault is
+    act-ended fault is = ended means plan heap kept act (stream-shown plan kept act s) a w agrees power kept' v result x' fault is
 
   -- ---- a trigger
 

@@ -1,11 +1,9 @@
 -- What may be asked of a stream, and when it is refused before any message.
-use Rattle.std.specs.Prelude.{ℕ, List, get_or, set, Bool, true, false, not, Option, Some, None, position, slice_get, if◌then◌else◌}
-use Rattle.std.specs.Option.{option_map_or}
-use Rattle.std.specs.Str.{bytes_eq}
+use Rattle.std.specs.Prelude.{ℕ, List, get_or, set, Bool, true, false, not, Option, Some, None, position, if◌then◌else◌}
 use Rattle.tplg_model.specs.declared.pcm.Caps.{Caps}
 use Rattle.tplg_plan.specs.declared.plans.Plan.{Plan}
 use Rattle.host_widgets.specs.declared.answers.HostFault.{HostFault}
-use Rattle.host_widgets.specs.declared.answers.HostFault.TheVariants.{NotLoaded, NoSuch, State, Off}
+use Rattle.host_widgets.specs.declared.answers.HostFault.TheVariants.{NoSuch, State, Off}
 use Rattle.host_widgets.specs.declared.kept.Found.{Found}
 use Rattle.host_widgets.specs.declared.kept.Found.TheVariants.{Closed, Open, Prepared, Running, Paused}
 use Rattle.host_widgets.specs.declared.kept.Power.{Power}
@@ -15,15 +13,12 @@ use Rattle.host_widgets.specs.declared.kept.Record.{Record}
 use Rattle.host_widgets.specs.declared.trigger.Trigger.{Trigger}
 use Rattle.host_widgets.specs.declared.trigger.Trigger.TheVariants.{Start, Stop, Pause, Release}
 use Rattle.host_widgets.specs.HostRecord.{closed, no_stream}
+use Rattle.host_widgets.specs.Named.{is_named, loaded_fault}
 use Rattle.host_pcm.specs.StreamRanges.{params_fault}
 use Rattle.host_pcm.specs.declared.asking.Ask.{Ask}
 use Rattle.host_pcm.specs.declared.asking.Ask.TheVariants.{Opening, Preparing, Triggering, Closing}
 
 -- ---- the tests before any message, in their order: NotLoaded, NoSuch, Off, State, Range
-
--- the widget of this id has this name
-abbrev pub is_named : Plan → List ℕ → ℕ → Bool
-is_named plan name id = option_map_or (λ other. bytes_eq name other) (slice_get plan.names id) false
 
 -- the place of the stream of this name among the plan's streams: a stream has the name of its host
 abbrev pub stream_place : Plan → List ℕ → Option ℕ
@@ -87,10 +82,6 @@ stream_at kept k = get_or kept.streams k closed
 abbrev pub named_fault : Plan → Record → List ℕ → Ask → Option ℕ → Option HostFault
 named_fault plan kept name ask None = Some (NoSuch name)
 named_fault plan kept name ask (Some k) = power_fault (caps_at plan k) ask (stream_at kept k).found kept.power
-
-abbrev pub loaded_fault : Power → Option HostFault → Option HostFault
-loaded_fault powers.Unloaded rest = Some NotLoaded
-loaded_fault power rest = rest
 
 -- the first test that fails
 abbrev pub early_fault : Plan → Record → List ℕ → Ask → Option HostFault

@@ -1,4 +1,3 @@
 pub mod StreamRanges
 pub mod Asks
 pub mod StreamOrders
-pub mod ActCarried

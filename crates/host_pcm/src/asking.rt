@@ -4,7 +4,7 @@ ghost use Rattle.host_pcm.specs.Asks as asks;
 ghost use Rattle.host_pcm.specs.Asks.{early_fault, stream_place};
 
 use crate::ranges::params_fault;
-use host_widgets::{Found, HostFault, Power, Record, Trigger};
+use host_widgets::{Found, HostFault, Power, Record, Trigger, is_named};
 use sof_base::{Name44, Params};
 use tplg_model::Caps;
 use tplg_plan::Plan;
@@ -66,16 +66,6 @@ impl Ask {
             Ask::Preparing(params) => params_fault(caps, params),
             Ask::Opening | Ask::Triggering(_) | Ask::Closing => None,
         }
-    }
-}
-
-// Whether the widget of an id has this name.
-fn is_named(plan: &Plan, name: &Name44, id: u32) -> bool
-    ensures { result ≡ asks.is_named plan.now name.now id }
-{
-    match plan.names.items().get(id as usize) {
-        Some(other) => name.as_bytes() == other.as_bytes(),
-        None => false,
     }
 }
 

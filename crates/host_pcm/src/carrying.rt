@@ -9,11 +9,10 @@ ghost use Rattle.host_widgets.specs.HostActs.{Prepare, Trig, Free, triggered_fou
 ghost use Rattle.host_widgets.specs.Orders.{Carried};
 ghost use Rattle.host_pcm.specs.Asks.{stream_at, takes, range_fault, caps_at, with_place};
 ghost use Rattle.host_pcm.specs.StreamOrders.{host_at, place_order};
-ghost use Rattle.host_pcm.specs.ActCarried.{ActCarried};
+ghost use Rattle.host_widgets.specs.ActCarried.{ActCarried};
 
 use crate::asking::Ask;
-use crate::passing::pass;
-use host_widgets::{Found, HostFault, Power, Record, StreamRec, Trigger};
+use host_widgets::{Found, HostFault, Power, Record, StreamRec, Trigger, pass};
 use ipc3_codec::Message;
 use mbox_link::Dsp;
 use sof_base::Params;

@@ -5,7 +5,6 @@
 mod asking;
 mod carrying;
 mod commands;
-mod passing;
 mod ranges;
 
 pub use asking::Ask;

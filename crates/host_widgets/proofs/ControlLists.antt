@@ -29,7 +29,7 @@ Takes (Volume min max channels lowest step mute) r = length r.values ≡ channel
 Takes (Choice items) r = (v : ℕ) × (r.values ≡ v ∷ []) × (v ≤ 16777216)
 Takes (Blob most initial) r = r.blob ≡ []
 
-takes-by : (kind : ControlKind) (of : Kind) (r : ControlRec) → IsControlOf kind of → first_blob kind ≡ [] → ((r ≡ record { values = first_values kind; blob = first_blob kind }) ⊎ IsSet kind r) → Takes kind r
+pub takes-by : (kind : ControlKind) (of : Kind) (r : ControlRec) → IsControlOf kind of → first_blob kind ≡ [] → ((r ≡ record { values = first_values kind; blob = first_blob kind }) ⊎ IsSet kind r) → Takes kind r
 takes-by (Volume min max channels lowest step mute) of r is none (inl e) =
     ap (λ (x : ControlRec). length x.values) e ∙ length-replicate channels (first_value (Volume min max channels lowest step mute))
 takes-by (Volume min max channels lowest step mute) of r is none (inr s) = s.0

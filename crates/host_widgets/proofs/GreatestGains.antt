@@ -67,7 +67,7 @@ gains-pass (v ∷ vs) are = rw (le-leb v 16777216 are.0) (gains-pass vs are.1)
 
 -- ---- in messages
 
-value-slots : (channel : ℕ) (values : List ℕ) → channel + length values ≤ 2 ^ 32 → AreGains values → AreSlots (value_slots channel values)
+pub value-slots : (channel : ℕ) (values : List ℕ) → channel + length values ≤ 2 ^ 32 → AreGains values → AreSlots (value_slots channel values)
 unfolding AreSlots IsSlot
 value-slots channel [] few are = tt
 value-slots channel (v ∷ vs) few are = (omega (arith, few), (omega (arith, are.0), value-slots (channel + 1) vs (omega (arith, few)) are.1))

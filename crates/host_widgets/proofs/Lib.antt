@@ -50,3 +50,8 @@ pub mod WalksHold
 pub mod WalksStill
 pub mod BuildingMoments
 pub mod SoundPlays
+pub mod OneMessage
+pub mod ActSteps
+pub mod PlainOrders
+pub mod OneOrder
+pub mod ChangedPlaces

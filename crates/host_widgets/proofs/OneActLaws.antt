@@ -48,6 +48,12 @@ pub record IsTaken (plan : Plan) (kept : Record) (act : Act) : Type 0 where
 pub bare-passes : (said : Body) → said ≡ Nothing → came_to (verdict (Some (done_reply said))) ≡ Ok tt
 bare-passes said bare = ap (λ (b : Body). came_to (verdict (Some (done_reply b)))) bare ∙ ap came_to verdict-zero
 
+-- What a row of it that was done shows: the record after it, which is one of the plan at the same power.
+pub record IsShown (plan : Plan) (kept : Record) (act : Act) : Type 0 where
+  pub message : IsMessage (message_of plan act)
+  pub power : (after plan act kept).power ≡ kept.power
+  pub shown : (f f' : FwState) → view_of f ≡ view_by plan kept → row f (message_of plan act) ≡ Ok f' → IsRecordOf plan (after plan act kept) × (view_of f' ≡ view_by plan (after plan act kept))
+
 -- An act that changes the stream of a host: its message fits and has no body for a reply, a row that was done gives the view of
 -- the record, and then the record may be so.
 pub record IsStreamAct (plan : Plan) (kept : Record) (act : Act) : Type 0 where
@@ -80,4 +86,11 @@ stream-taken plan kept act is = record {
         stands = λ whole inputs before stood. subst (λ (fresh : Option ℕ). (after_it : Stands (Some (seen v None f)) whole inputs (before ++ Now v fresh ∷ [])) × Leads whole stood.past (Now v fresh ∷ []) after_it.past) (sym is.no_blob)
             (stream-stands plan kept is.host is.change f shows rings is.record_is will is.live whole inputs before stood);
       };
+}
+
+pub stream-shown : (plan : Plan) (kept : Record) (act : Act) → IsStreamAct plan kept act → IsShown plan kept act
+stream-shown plan kept act is = record {
+  message = is.message;
+  power = ap (λ (r : Record). r.power) is.changes;
+  shown = λ f f' shows done. (subst (IsRecordOf plan) (sym is.changes) (is.record_will f f' shows done), ap view_of (is.sees f f' shows done));
 }

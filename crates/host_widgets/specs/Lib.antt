@@ -15,4 +15,6 @@ pub mod OneAct
 pub mod Walk
 pub mod ActCalls
 pub mod Orders
+pub mod Named
+pub mod ActCarried
 pub mod WalkRows

@@ -40,8 +40,8 @@ fn first_full(min: u32, max: u32, lowest: i32, step: u32, mute: u32) -> u32
     max
 }
 
-// So many numbers that are all this one.
-fn same_numbers(count: u8, number: u32) -> Bounded<u32, 8>
+/// So many numbers that are all this one.
+pub fn same_numbers(count: u8, number: u32) -> Bounded<u32, 8>
     requires { count ≤ 8 }
     ensures { result ≡ replicate count number }
 {

@@ -7,8 +7,9 @@ use Rattle.host_widgets.specs.Orders.{Carried}
 use Rattle.host_widgets.proofs.Walks.{handed_on}
 use Rattle.host_pcm.specs.declared.asking.Ask.TheVariants.{Closing}
 use Rattle.host_pcm.specs.StreamOrders.{host_at, place_order}
-use Rattle.host_pcm.specs.ActCarried.{ActCarried}
-use Rattle.host_pcm.proofs.OneOrders.{act-room, stop-failed, stopped-power, stopped-found, stop-then}
+use Rattle.host_widgets.specs.ActCarried.{ActCarried}
+use Rattle.host_widgets.proofs.OneOrder.{act-room}
+use Rattle.host_pcm.proofs.OneOrders.{stop-failed, stopped-power, stopped-found, stop-then}
 use Rattle.host_pcm.proofs.carrying.stop_and_free.Goals as goal
 
 pub free-requires-clause-room : goal.free-requires-clause-room

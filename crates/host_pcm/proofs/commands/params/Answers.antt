@@ -1,10 +1,11 @@
 use Rattle.std.proofs.Common.{refl}
 use Rattle.mbox_link.specs.Calls.{world}
+use Rattle.host_widgets.specs.declared.answers.Answer.TheVariants.{Done}
 use Rattle.host_widgets.specs.HostActs.{Prepare}
 use Rattle.host_pcm.specs.declared.asking.Ask.TheVariants.{Preparing}
 use Rattle.host_pcm.specs.StreamOrders.{host_at}
 use Rattle.host_pcm.proofs.HostTests.{found_place, asked-late}
-use Rattle.host_pcm.proofs.OneOrders.{one-order}
+use Rattle.host_widgets.proofs.OneOrder.{one-order}
 use Rattle.host_pcm.proofs.commands.params.Goals as goal
 
 pub returns-clause-asked : goal.returns-clause-asked
@@ -17,4 +18,4 @@ returns-clause-asked g c =
     let k = c.in_ok-place.place in
     let at = found_place plan kept c.args.name.now (Preparing c.args.p) c.tested.result k c.tested.ensures.place c.tested.ensures.none c.in_ok-place.was in
     asked-late plan kept c.args.name.now (Preparing c.args.p) means c.args.heap w k c.prepare.new.kept v c.prepare.result at
-    (one-order means plan c.args.heap (Prepare (host_at plan k) c.args.p) (λ now. now) kept c.prepare.new.kept w v c.prepare.result (at.stood.powered refl) c.prepare.ensures.act (λ passed. refl))
+    (one-order means plan c.args.heap (Prepare (host_at plan k) c.args.p) (λ now. now) Done kept c.prepare.new.kept w v c.prepare.result (at.stood.powered refl) c.prepare.ensures.act (λ passed. refl))

@@ -1,10 +1,11 @@
 use Rattle.std.proofs.Common.{refl}
 use Rattle.mbox_link.specs.Calls.{world}
+use Rattle.host_widgets.specs.declared.answers.Answer.TheVariants.{Done}
 use Rattle.host_widgets.specs.HostActs.{Trig}
 use Rattle.host_pcm.specs.declared.asking.Ask.TheVariants.{Triggering}
 use Rattle.host_pcm.specs.StreamOrders.{host_at}
 use Rattle.host_pcm.proofs.HostTests.{found_place, asked-late}
-use Rattle.host_pcm.proofs.OneOrders.{one-order}
+use Rattle.host_widgets.proofs.OneOrder.{one-order}
 use Rattle.host_pcm.proofs.commands.trigger.Goals as goal
 
 pub returns-clause-asked : goal.returns-clause-asked
@@ -17,4 +18,4 @@ returns-clause-asked g c =
     let k = c.in_ok-place.place in
     let at = found_place plan kept c.args.name.now (Triggering c.args.what) c.tested.result k c.tested.ensures.place c.tested.ensures.none c.in_ok-place.was in
     asked-late plan kept c.args.name.now (Triggering c.args.what) means c.args.heap w k c.trigger.new.kept v c.trigger.result at
-    (one-order means plan c.args.heap (Trig (host_at plan k) c.args.what) (λ now. now) kept c.trigger.new.kept w v c.trigger.result (at.stood.powered refl) c.trigger.ensures.act (λ passed. refl))
+    (one-order means plan c.args.heap (Trig (host_at plan k) c.args.what) (λ now. now) Done kept c.trigger.new.kept w v c.trigger.result (at.stood.powered refl) c.trigger.ensures.act (λ passed. refl))

@@ -1,4 +1,4 @@
--- One act on a stream, over any device: what its exchange came to, and that the two sides agree after it.
+-- One act, over any device: what its exchange came to, and that the two sides agree after it.
 use Rattle.std.proofs.Common.{◌≡◌, ⊎_elim, ℕ, ◌-◌, List, Option, Some, None, Ok, Err, refl, sym, ap, subst, ◌∙◌}
 use Rattle.std.specs.Option.{option_map}
 use Rattle.sof_base.specs.Ports.{Io}
@@ -17,22 +17,22 @@ use Rattle.host_widgets.specs.declared.kept.Record.{Record}
 use Rattle.host_widgets.specs.HostActs.{Act, after}
 use Rattle.host_widgets.specs.ActMessages.{message_of}
 use Rattle.host_widgets.specs.ViewOf.{view_by}
-use Rattle.host_widgets.specs.Host.{Outcome, Agrees, Sides, IsRecordOf, verdict, errno}
+use Rattle.host_widgets.specs.Host.{Outcome, Agrees, Sides, verdict, errno}
 use Rattle.host_widgets.specs.OneAct.{own, outcome_by}
 use Rattle.host_widgets.specs.ActCalls.{ActDid, came_to}
 use Rattle.host_widgets.proofs.Exchanges.{came, verdict-number}
 use Rattle.host_widgets.proofs.Effects.{row-decoded}
 use Rattle.host_widgets.proofs.ActsCome.{IsAnswered, act-comes, still}
-use Rattle.host_widgets.proofs.OneActLaws.{IsStreamAct}
+use Rattle.host_widgets.proofs.OneActLaws.{IsShown}
 use Rattle.host_widgets.proofs.Records.{down-record, down-rests}
-use Rattle.host_pcm.specs.ActCarried.{Passes, PlainEnd, ActCarried}
+use Rattle.host_widgets.specs.ActCarried.{Passes, PlainEnd, ActCarried}
 
 -- a state whose view is known
 pub state-with : (o : Option FwState) (v : View) → option_map view_of o ≡ Some v → (f : FwState) × (o ≡ Some f) × (view_of f ≡ v)
 state-with None v is = absurd (cc is)
 state-with (Some f) v is = (f, refl, cc is)
 
-module _ {D : Type 0} (means : Meaning D) (plan : Plan) (heap : ℕ) (kept : Record) (act : Act) (s : IsStreamAct plan kept act) (a : IsAnswered plan heap kept act)
+module _ {D : Type 0} (means : Meaning D) (plan : Plan) (heap : ℕ) (kept : Record) (act : Act) (s : IsShown plan kept act) (a : IsAnswered plan heap kept act)
     (w : World D) (agrees : Agrees means plan kept w.device) (power : kept.power ≡ On) where
   abbrev request : List ℕ
   request = message_spelling (message_of plan act)
@@ -40,9 +40,9 @@ module _ {D : Type 0} (means : Meaning D) (plan : Plan) (heap : ℕ) (kept : Rec
   state : (f : FwState) × (means.on w.device ≡ Some f) × (view_of f ≡ view_by plan kept)
   state = state-with (means.on w.device) (view_by plan kept) (subst (λ (x : Power). Sides means plan kept w.device x) power agrees.sides)
 
-  -- no act on a stream changes the power
+  -- the power stays
   after-power : (after plan act kept).power ≡ On
-  after-power = ap (λ (r : Record). r.power) s.changes ∙ power
+  after-power = s.power ∙ power
 
   module _ (kept' : Record) (v : World D) (result : Outcome) (x : Passes means heap request kept kept' w v result) where
     -- the state and the endpoints right before the message
@@ -77,9 +77,9 @@ module _ {D : Type 0} (means : Meaning D) (plan : Plan) (heap : ℕ) (kept : Rec
 
         taken : (next : FwState) → means.on x.sent.device ≡ Some next → row before.0 (message_of plan act) ≡ Ok next → Agrees means plan (after plan act kept) v.device
         taken next on row_is = record {
-          record_is = subst (IsRecordOf plan) (sym s.changes) (s.record_will before.0 next before-shows row_is);
+          record_is = (s.shown before.0 next before-shows row_is).0;
           sides = subst (λ (p : Power). Sides means plan (after plan act kept) v.device p) (sym after-power)
-              (ap (λ (y : World D). option_map view_of (means.on y.device)) ends.1 ∙ ap (option_map view_of) on ∙ ap (λ (f : FwState). Some (view_of f)) (s.sees before.0 next before-shows row_is));
+              (ap (λ (y : World D). option_map view_of (means.on y.device)) ends.1 ∙ ap (option_map view_of) on ∙ ap Some (s.shown before.0 next before-shows row_is).1);
         }
 
         agrees-now : Agrees means plan (after plan act kept) v.device

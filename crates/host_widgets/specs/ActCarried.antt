@@ -1,5 +1,6 @@
 -- One message of a call, and one act with what a failed link leaves.
-use Rattle.std.specs.Prelude.{◌≡◌, ℕ, List, [], Bool, true, false, Option}
+use Rattle.std.specs.Prelude.{◌≡◌, ℕ, List, [], Bool, true, false, Option, Result, Err}
+use Rattle.ipc3_codec.specs.declared.reply.Reply.{Reply}
 use Rattle.mbox_link.specs.Meetings.{Meeting}
 use Rattle.mbox_link.specs.Calls.{World, Meaning, Exchanged, Led}
 use Rattle.tplg_plan.specs.declared.plans.Plan.{Plan}
@@ -13,16 +14,24 @@ use Rattle.host_widgets.specs.Orders.{plain_end}
 use Rattle.host_widgets.specs.Host.{Outcome, verdict}
 
 -- whether the link failed
-abbrev pub is_down : HostFault → Bool
-is_down LinkDown = true
-is_down fault = false
+abbrev pub is_down : Result Reply HostFault → Bool
+is_down (Err LinkDown) = true
+is_down answer = false
 
 -- what came to this leaves the record so far; a failed link takes it down, and cuts the device
 abbrev pub PlainEnd : {D : Type 0} → Meaning D → ℕ → Outcome → Record → Record → World D → World D → Type 0
 PlainEnd means heap result kept kept' w v =
     let end = plain_end (λ now. now) kept result in (kept' ≡ end.0) × Led means w (calls_of heap end.1) v
 
--- one exchange of these bytes
+-- one exchange of these bytes, with its reply
+pub record Heard {D : Type 0} (means : Meaning D) (heap : ℕ) (request : List ℕ) (kept kept' : Record) (w v : World D) (result : Result Reply HostFault) : Type 0 where
+  pub answer : Option (List ℕ)
+  pub sent : World D
+  pub exchanged : Exchanged means request answer w sent
+  pub said : result ≡ verdict answer
+  pub ends : PlainEnd means heap (came_to result) kept kept' sent v
+
+-- and without it
 pub record Passes {D : Type 0} (means : Meaning D) (heap : ℕ) (request : List ℕ) (kept kept' : Record) (w v : World D) (result : Outcome) : Type 0 where
   pub answer : Option (List ℕ)
   pub sent : World D

@@ -14,7 +14,7 @@ use Rattle.host_widgets.specs.OneAct.{came, lag_of}
 use Rattle.host_widgets.specs.Walk.{Walked, walk, joined, goes_past}
 use Rattle.host_widgets.specs.ActCalls.{ActsDid, Onwards, next_of, calls_of}
 use Rattle.host_widgets.specs.Orders.{Order, Carried, Ends, Plain, plain_end}
-use Rattle.host_pcm.specs.ActCarried.{ActCarried}
+use Rattle.host_widgets.specs.ActCarried.{ActCarried}
 
 -- acts alone, and this record once all passed
 abbrev pub plain : List Act → (Record → Record) → Order

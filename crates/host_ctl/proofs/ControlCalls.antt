@@ -1,0 +1,184 @@
+-- One act of each kind, for the control at a place of a sound plan.
+use Rattle.std.proofs.Common.{◌≡◌, ⊎_elim, refl, sym, ap, subst, ◌∙◌, ℕ, ◌<◌, ◌≤◌, ◌-◌, zero, suc, List, [], ◌∷◌, length, get_or, Option, Some, Result, Ok, Err, pos, arith}
+use Rattle.std.specs.Option.{option_map, option_and_then}
+use Rattle.std.proofs.lemmas.Bool.{le-leb}
+use Rattle.sof_base.specs.Ports.{Io}
+use Rattle.stream_law.specs.declared.graph.Comp.{Comp}
+use Rattle.stream_law.specs.State.{FwState, view_of}
+use Rattle.stream_law.specs.Ways.{comp_of}
+use Rattle.ipc3_codec.specs.declared.message.Message.{Message}
+use Rattle.ipc3_codec.specs.declared.message.Message.TheVariants.{GetValue}
+use Rattle.ipc3_codec.specs.declared.reply.Body.{Body}
+use Rattle.ipc3_codec.specs.declared.reply.Body.TheVariants.{Values}
+use Rattle.ipc3_codec.specs.declared.reply.Reply.{Reply}
+use Rattle.ipc3_codec.specs.Messages.{message_spelling, decoded}
+use Rattle.ipc3_codec.proofs.Spelled.{decoded_reply-exactly}
+use Rattle.mbox_link.specs.Step.{body_of, values_body}
+use Rattle.mbox_link.specs.Exchange.{ticks}
+use Rattle.mbox_link.specs.Calls.{World, Meaning}
+use Rattle.tplg_plan.specs.declared.plans.Plan.{Plan}
+use Rattle.tplg_plan.specs.declared.plans.ControlPlan.{ControlPlan}
+use Rattle.tplg_plan.specs.declared.plans.ControlKind.{ControlKind}
+use Rattle.tplg_plan.specs.declared.plans.ControlKind.TheVariants.{Volume, Choice, Blob}
+use Rattle.tplg_plan.specs.Sound.{IsSound}
+use Rattle.host_widgets.specs.declared.answers.Answer.TheVariants as answers
+use Rattle.host_widgets.specs.declared.answers.HostFault.{HostFault}
+use Rattle.host_widgets.specs.declared.answers.HostFault.TheVariants.{Refused, LinkDown}
+use Rattle.host_widgets.specs.declared.kept.Power.{Power}
+use Rattle.host_widgets.specs.declared.kept.Power.TheVariants.{On}
+use Rattle.host_widgets.specs.declared.kept.Record.{Record}
+use Rattle.host_widgets.specs.declared.kept.ControlRec.{ControlRec}
+use Rattle.host_widgets.specs.HostActs.{Act, Put, Ask}
+use Rattle.host_widgets.specs.ActMessages.{message_of, set_message}
+use Rattle.host_widgets.specs.ViewOf.{view_by, set_comp}
+use Rattle.host_widgets.specs.Host.{Outcome, Agrees, Sides, verdict, judged, errno}
+use Rattle.host_widgets.specs.ActCalls.{came_to}
+use Rattle.host_widgets.specs.ActCarried.{Heard, Passes, PlainEnd, ActCarried}
+use Rattle.host_widgets.proofs.ActsCome.{still}
+use Rattle.host_widgets.proofs.ActSteps.{state-with, done, ended}
+use Rattle.host_widgets.proofs.Effects.{decoded-message}
+use Rattle.host_widgets.proofs.Exchanges.{came, verdict-number}
+use Rattle.host_widgets.proofs.GreatestGains.{AreGains, value-slots}
+use Rattle.host_widgets.proofs.OneMessage.{passes}
+use Rattle.host_widgets.proofs.ReplyErrors.{done_reply, zero-fits}
+use Rattle.host_ctl.specs.ControlOrders.{MaySet, command_of, carried_by, said_by, set_at, Shows}
+use Rattle.host_ctl.specs.ControlAsks.{named_control}
+use Rattle.host_ctl.specs.ControlPlaces.{no_control, no_values, control_here, record_here, with_place}
+use Rattle.host_ctl.proofs.ControlsThere.{live, place-changed}
+use Rattle.host_ctl.proofs.ControlsTaken.{put-shown, put-comes, puts, asks, ask-fits, ask-shown, ask-comes, found-in, shown-in}
+use Rattle.host_ctl.proofs.PutAnswers.{values_by, values-at, values-fit, set-said}
+
+-- the control at a place, as it is read from the plan's list
+pub place-control : (plan : Plan) (i : ℕ) → i < length plan.controls → (xs : List ControlPlan) (d : ControlPlan) → xs ≡ plan.controls → get_or xs i d ≡ control_here plan i
+place-control plan i low xs d is = ap (λ (ks : List ControlPlan). get_or ks i d) is ∙ by plan.controls i low
+  where
+    by : (ks : List ControlPlan) (j : ℕ) → j < length ks → get_or ks j d ≡ get_or ks j no_control
+    by [] j low = absurd (omega (arith, low))
+    by (k ∷ ks) zero low = refl
+    by (k ∷ ks) (suc j) low = by ks j (omega (arith, low))
+
+pub place-record : (rs : List ControlRec) (i : ℕ) → i < length rs → (xs : List ControlRec) (d : ControlRec) → xs ≡ rs → get_or xs i d ≡ get_or rs i no_values
+place-record rs i low xs d is = ap (λ (ys : List ControlRec). get_or ys i d) is ∙ by rs i low
+  where
+    by : (ys : List ControlRec) (j : ℕ) → j < length ys → get_or ys j d ≡ get_or ys j no_values
+    by [] j low = absurd (omega (arith, low))
+    by (y ∷ ys) zero low = refl
+    by (y ∷ ys) (suc j) low = by ys j (omega (arith, low))
+
+-- a reply with so many gains is read as it was written
+values-read : (vs : List ℕ) → AreGains vs → 1 ≤ length vs → length vs ≤ 8 → verdict (Some (done_reply (Values vs))) ≡ Ok (record { error = pos 0; body = Values vs })
+values-read vs are some few =
+    ap judged (decoded_reply-exactly (record { error = pos 0; body = Values vs }) (zero-fits, (value-slots 0 vs (omega (arith, few)) are, rw (le-leb 1 (length vs) some, le-leb (length vs) 8 few) refl)))
+
+said-values : (c : ControlRec) (q : ControlKind) (command : ℕ) (vs : List ℕ) → command_of q ≡ Some command → vs ≡ values_by c q → carried_by (Values vs) ≡ said_by q c
+said-values c (Volume min max channels lowest step mute) command vs at is = ap answers.Values is
+said-values c (Choice items) command vs at is = ap answers.Values is
+said-values c (Blob most initial) command vs at is = absurd (cc at)
+
+module _ {D : Type 0} (means : Meaning D) (plan : Plan) (sound : IsSound plan) (heap i : ℕ) (low : i < length plan.controls) (kept : Record) (w : World D) (agrees : Agrees means plan kept w.device) (power : kept.power ≡ On) where
+  abbrev k : ControlPlan
+  k = control_here plan i
+
+  abbrev pub Both : Act → Record → World D → Outcome → Type 0
+  Both act kept' v result = ActCarried means plan heap act kept kept' w v result × Agrees means plan kept' v.device
+
+  -- ---- values
+
+  module _ (values : List ℕ) (may : MaySet k.kind values) (message : Message) (comp : ControlPlan) (message-is : message ≡ set_message comp.comp values comp.kind) (comp-is : comp ≡ k) (kept' : Record) (v : World D) (result : Outcome) (x : Passes means heap (message_spelling message) kept kept' w v result) where
+    says : message ≡ message_of plan (Put k.comp values)
+    says = message-is ∙ ap (λ (y : ControlPlan). set_message y.comp values y.kind) comp-is ∙ sym (puts plan sound kept agrees.record_is i low values may)
+
+    x' : Passes means heap (message_spelling (message_of plan (Put k.comp values))) kept kept' w v result
+    x' = subst (λ (m : Message). Passes means heap (message_spelling m) kept kept' w v result) says x
+
+    -- nothing but the reply came so far
+    pub put-still : result ≡ Ok tt → kept' ≡ kept
+    put-still is = (subst (λ (o : Outcome). PlainEnd means heap o kept kept' x.sent v) is x.ends).0
+
+    pub put-done : result ≡ Ok tt → (kept'' : Record) → kept'' ≡ with_place i values kept' → Both (Put k.comp values) kept'' v (Ok tt)
+    put-done is kept'' now =
+        done means plan heap kept (Put k.comp values) (put-shown plan sound kept agrees.record_is i low values may) (put-comes plan sound kept agrees.record_is i low values may heap) w agrees power kept' v result x' is kept''
+        (now ∙ ap (with_place i values) (put-still is) ∙ place-changed plan sound kept agrees.record_is i low values)
+
+    pub put-ended : (fault : HostFault) → result ≡ Err fault → Both (Put k.comp values) kept' v (Err fault)
+    put-ended fault is =
+        ended means plan heap kept (Put k.comp values) (put-shown plan sound kept agrees.record_is i low values may) (put-comes plan sound kept agrees.record_is i low values may heap) w agrees power kept' v result x' fault is
+
+  -- ---- one that asks
+
+  module _ (command : ℕ) (at : command_of k.kind ≡ Some command) (message : Message) (comp : ControlPlan) (message-is : message ≡ GetValue comp.comp command) (comp-is : comp ≡ k) (kept' : Record) (v : World D) (result : Result Reply HostFault) (h : Heard means heap (message_spelling message) kept kept' w v result) where
+    abbrev ask : Act
+    ask = Ask k.comp 0
+
+    asked : message ≡ message_of plan ask
+    asked = message-is ∙ ap (λ (y : ControlPlan). GetValue y.comp command) comp-is ∙ sym (asks plan sound kept agrees.record_is i low command at)
+
+    h' : Heard means heap (message_spelling (message_of plan ask)) kept kept' w v result
+    h' = subst (λ (m : Message). Heard means heap (message_spelling m) kept kept' w v result) asked h
+
+    x : Passes means heap (message_spelling (message_of plan ask)) kept kept' w v (came_to result)
+    x = passes means heap (message_spelling (message_of plan ask)) kept w kept' v result (came_to result) h' refl
+
+    pub ask-still : (reply : Reply) → result ≡ Ok reply → kept' ≡ kept
+    ask-still reply is = (subst (λ (r : Result Reply HostFault). PlainEnd means heap (came_to r) kept kept' h.sent v) is h.ends).0
+
+    pub ask-done : (reply : Reply) → result ≡ Ok reply → Both ask kept' v (Ok tt)
+    ask-done reply is =
+        done means plan heap kept ask (ask-shown plan sound kept agrees.record_is i low command at) (ask-comes plan sound kept agrees.record_is i low command at heap) w agrees power kept' v (came_to result) x (ap came_to is) kept' (ask-still reply is)
+
+    pub ask-ended : (fault : HostFault) → result ≡ Err fault → Both ask kept' v (Err fault)
+    ask-ended fault is =
+        ended means plan heap kept ask (ask-shown plan sound kept agrees.record_is i low command at) (ask-comes plan sound kept agrees.record_is i low command at heap) w agrees power kept' v (came_to result) x fault (ap came_to is)
+
+    -- the state and the endpoints right before the message
+    state : (f : FwState) × (means.on w.device ≡ Some f) × (view_of f ≡ view_by plan kept)
+    state = state-with (means.on w.device) (view_by plan kept) (subst (λ (x : Power). Sides means plan kept w.device x) power agrees.sides)
+
+    abbrev before : FwState × Io
+    before = ticks (means.pending w.device - means.pending h'.sent.device) (state.0, w.io)
+
+    shows : view_of before.0 ≡ view_by plan kept
+    shows = still (means.pending w.device - means.pending h'.sent.device) (state.0, w.io) ∙ state.2
+
+    abbrev vs : List ℕ
+    vs = values_by (record_here kept i) k.kind
+
+    -- the firmware's reply carries what the control has there
+    body-is : body_of before.0 (decoded (message_spelling (message_of plan ask))) ≡ Values vs
+    body-is =
+        ap (body_of before.0) (decoded-message (message_of plan ask) (ask-fits plan sound kept agrees.record_is i low command at))
+        ∙ ap (λ (m : Message). body_of before.0 (Ok m)) (asks plan sound kept agrees.record_is i low command at)
+        ∙ ap values_body (values-at before.0 k.comp (set_comp plan kept (live plan sound kept agrees.record_is i low).comp) (found-in plan sound kept agrees.record_is i low before.0 shows) (record_here kept i) k.kind command (shown-in plan sound kept agrees.record_is i low before.0 shows) at)
+
+    read-back : verdict (Some (done_reply (body_of before.0 (decoded (message_spelling (message_of plan ask)))))) ≡ Ok (record { error = pos 0; body = Values vs })
+    read-back =
+        let fit = values-fit before.0 k.comp (set_comp plan kept (live plan sound kept agrees.record_is i low).comp) (found-in plan sound kept agrees.record_is i low before.0 shows) (record_here kept i) k.kind command (shown-in plan sound kept agrees.record_is i low before.0 shows) at in
+        ap (λ (b : Body). verdict (Some (done_reply b))) body-is ∙ values-read vs fit.0 fit.1 fit.2
+
+    pub ask-said : (reply : Reply) → result ≡ Ok reply → carried_by reply.body ≡ said_by k.kind (record_here kept i)
+    ask-said reply is = ⊎_elim
+        (λ took. (let same : Ok reply ≡ Ok (record { error = pos 0; body = Values vs }) = sym is ∙ h'.said ∙ ap verdict took.said ∙ read-back in
+        let one : reply ≡ record { error = pos 0; body = Values vs } = cc same in
+        ap (λ (r : Reply). carried_by r.body) one ∙ said-values (record_here kept i) k.kind command vs at refl))
+        (λ rest. ⊎_elim
+        (λ it. absurd (let no : Ok reply ≡ Err (Refused (errno it.error)) = sym is ∙ h'.said ∙ ap verdict it.said ∙ verdict-number it.error it.number in cc no))
+        (λ rest. ⊎_elim
+        (λ it. absurd (let no : Ok reply ≡ Err (Refused (errno it.error)) = sym is ∙ h'.said ∙ ap verdict it.said ∙ verdict-number it.error it.number in cc no))
+        (λ it. absurd (let no : Ok reply ≡ Err LinkDown = sym is ∙ h'.said ∙ ap verdict it.said in cc no))
+        rest) rest)
+        (came means (message_spelling (message_of plan ask)) h'.answer w h'.sent state.0 state.1 h'.exchanged).way
+
+  -- ---- what the firmware has
+
+  pub said-shown : (name : List ℕ) → named_control plan name ≡ Some k → Shows plan name (said_by k.kind (record_here kept i)) (means.on w.device)
+  said-shown name named =
+      let s = state-with (means.on w.device) (view_by plan kept) (subst (λ (x : Power). Sides means plan kept w.device x) power agrees.sides) in
+      subst (λ (on : Option FwState). Shows plan name (said_by k.kind (record_here kept i)) on) (sym s.1) (shown-by s.0 s.2)
+    where
+      shown-by : (f : FwState) → view_of f ≡ view_by plan kept → Shows plan name (said_by k.kind (record_here kept i)) (Some f)
+      shown-by f shows =
+          let y = set_comp plan kept (live plan sound kept agrees.record_is i low).comp in
+          let there = found-in plan sound kept agrees.record_is i low f shows in
+          ap (option_and_then (λ (k : ControlPlan). option_map (λ (c : Comp). set_at c.setting) (comp_of f.graph k.comp))) named
+          ∙ ap (option_map (λ (c : Comp). set_at c.setting)) there
+          ∙ ap Some (set-said f k.comp y there (record_here kept i) k.kind (shown-in plan sound kept agrees.record_is i low f shows))

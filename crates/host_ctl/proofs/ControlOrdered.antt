@@ -1,0 +1,119 @@
+-- The orders of calls on the control at a place, as they are carried out.
+use Rattle.std.proofs.Common.{◌≡◌, true, refl, sym, ap, subst, ◌∙◌, ℕ, ◌<◌, Bool, false, List, [], ◌∷◌, length, Some, Ok, ◌==◌, if◌then◌else◌}
+use Rattle.std.specs.Option.{option_and_then}
+use Rattle.mbox_link.specs.Calls.{World, Meaning}
+use Rattle.tplg_plan.specs.declared.plans.Plan.{Plan}
+use Rattle.tplg_plan.specs.declared.plans.ControlPlan.{ControlPlan}
+use Rattle.tplg_plan.specs.declared.plans.ControlKind.{ControlKind}
+use Rattle.tplg_plan.specs.declared.plans.ControlKind.TheVariants.{Volume, Choice, Blob}
+use Rattle.tplg_plan.specs.Sound.{IsSound}
+use Rattle.host_widgets.specs.declared.answers.Answer.{Answer}
+use Rattle.host_widgets.specs.declared.answers.Answer.TheVariants.{Done}
+use Rattle.host_widgets.specs.declared.kept.Power.{Power}
+use Rattle.host_widgets.specs.declared.kept.Power.TheVariants.{Unloaded, On, Off}
+use Rattle.host_widgets.specs.declared.kept.Record.{Record}
+use Rattle.host_widgets.specs.declared.kept.ControlRec.{ControlRec}
+use Rattle.host_widgets.specs.Kept.{changed, control_at, with_control}
+use Rattle.host_widgets.specs.Controls.{first_blob, has_no_blobs}
+use Rattle.host_widgets.specs.HostActs.{Act, Put, Ask, with_values}
+use Rattle.host_widgets.specs.Host.{Outcome, Agrees, Sides}
+use Rattle.host_widgets.specs.Orders.{Order, Carried, quiet, sends}
+use Rattle.host_widgets.specs.ActCarried.{PlainEnd, ActCarried}
+use Rattle.host_widgets.specs.OneAct.{came}
+use Rattle.host_widgets.proofs.ControlLists.{bare-one, no-blobs}
+use Rattle.host_widgets.proofs.PlainOrders.{plain, no-acts}
+use Rattle.host_widgets.proofs.OneOrder.{one-order, answering}
+use Rattle.host_ctl.specs.ControlAsks.{named_control}
+use Rattle.host_ctl.specs.ControlOrders.{MaySet, put_order, setting_order, set_order, ask_acts, reading_order, read_order, named_at, command_of}
+use Rattle.host_ctl.specs.ControlPlaces.{control_here, record_here, with_place}
+use Rattle.host_ctl.proofs.PutStands.{put-record}
+use Rattle.host_ctl.proofs.ControlsThere.{all-of-here, at-here, was-here, place-changed}
+use Rattle.host_ctl.proofs.ControlsTaken.{set-all}
+
+-- values that are put twice are put
+put-twice : (comp : ℕ) (values : List ℕ) (ks : List ControlPlan) (rs : List ControlRec) →
+    changed (λ (k : ControlPlan). k.comp) comp (with_values values) ks (changed (λ (k : ControlPlan). k.comp) comp (with_values values) ks rs) ≡ changed (λ (k : ControlPlan). k.comp) comp (with_values values) ks rs
+put-twice comp values [] rs = refl
+put-twice comp values (k ∷ ks) [] = refl
+put-twice comp values (k ∷ ks) (r ∷ rs) = λ i. twice (k.comp == comp) i ∷ put-twice comp values ks rs i
+  where
+    twice : (b : Bool) → (if b then with_values values (if b then with_values values r else r) else (if b then with_values values r else r)) ≡ (if b then with_values values r else r)
+    twice true = refl
+    twice false = refl
+
+pub sends-answer : (power : Power) (acts : List Act) (done : Record → Record) (answer : Answer) → (sends power acts done answer).answer ≡ answer
+sends-answer On acts done answer = refl
+sends-answer Off acts done answer = refl
+sends-answer Unloaded acts done answer = refl
+
+-- an order without acts, by its answer
+pub quiet-carried : {D : Type 0} (means : Meaning D) (plan : Plan) (heap : ℕ) (answer : Answer) (kept : Record) (w : World D) → Carried means plan heap (quiet answer) kept kept w w (Ok tt)
+quiet-carried means plan heap answer kept w = answering means plan heap (plain [] (λ now. now)) answer kept kept w w (Ok tt) (no-acts means plan heap (λ now. now) kept kept w refl)
+
+module _ {D : Type 0} (means : Meaning D) (plan : Plan) (sound : IsSound plan) (heap i : ℕ) (low : i < length plan.controls) (kept : Record) (w : World D) (agrees : Agrees means plan kept w.device) where
+  abbrev k : ControlPlan
+  k = control_here plan i
+
+  abbrev r : ControlRec
+  r = record_here kept i
+
+  -- ---- values
+
+  module _ (values : List ℕ) where
+    abbrev puts_all : Record → Record
+    puts_all = with_control plan k.comp (with_values values)
+
+    -- where the power is on
+    pub put-carried : (kept' : Record) (v : World D) (result : Outcome) → kept.power ≡ On → ActCarried means plan heap (Put k.comp values) kept kept' w v result → Carried means plan heap (put_order plan kept k.comp values) kept kept' w v result
+    put-carried kept' v result on x = one-order means plan heap (Put k.comp values) puts_all Done kept kept' w v result on x twice
+      where
+        twice : result ≡ Ok tt → kept' ≡ puts_all kept'
+        twice passed =
+            let now : kept' ≡ puts_all kept = (subst (λ (o : Outcome). PlainEnd means heap o (came plan (Put k.comp values) kept [] o).kept kept' x.sent v) passed x.ends).0 in
+            now ∙ ap (λ (rs : List ControlRec). record { power = kept.power; streams = kept.streams; controls = rs }) (sym (put-twice k.comp values plan.controls kept.controls)) ∙ ap puts_all (sym now)
+
+    -- where it is off, the record alone changes
+    module _ (off : kept.power ≡ Off) where
+      pub rest-carried : Carried means plan heap (put_order plan kept k.comp values) kept (with_place i values kept) w w (Ok tt)
+      rest-carried =
+          subst (λ (p : Power). Carried means plan heap (sends p (Put k.comp values ∷ []) puts_all Done) kept (with_place i values kept) w w (Ok tt)) (sym off)
+          (no-acts means plan heap puts_all kept (with_place i values kept) w (place-changed plan sound kept agrees.record_is i low values))
+
+      pub rest-agrees : MaySet k.kind values → Agrees means plan (with_place i values kept) w.device
+      rest-agrees may =
+          subst (λ (now : Record). Agrees means plan now w.device) (sym (place-changed plan sound kept agrees.record_is i low values)) record {
+            record_is = put-record plan kept k.comp (with_values values) (λ c. refl) agrees.record_is (set-all plan sound kept agrees.record_is i low values may);
+            sides = subst (λ (p : Power). Sides means plan (puts_all kept) w.device p) (sym off) (subst (λ (p : Power). Sides means plan kept w.device p) off agrees.sides);
+          }
+
+  -- ---- what is asked
+
+  pub ask-carried : (q : ControlKind) (command : ℕ) → command_of q ≡ Some command → (answer : Answer) (kept' : Record) (v : World D) (result : Outcome) → kept.power ≡ On → ActCarried means plan heap (Ask k.comp 0) kept kept' w v result →
+      Carried means plan heap (sends kept.power (ask_acts k.comp q r) (λ now. now) answer) kept kept' w v result
+  ask-carried (Volume min max channels lowest step mute) command at answer kept' v result on x = one-order means plan heap (Ask k.comp 0) (λ now. now) answer kept kept' w v result on x (λ passed. refl)
+  ask-carried (Choice items) command at answer kept' v result on x = one-order means plan heap (Ask k.comp 0) (λ now. now) answer kept kept' w v result on x (λ passed. refl)
+  ask-carried (Blob most initial) command at answer kept' v result on x = absurd (cc at)
+
+  -- no equaliser begins with a blob, and none is set so far
+  pub bare-here : has_no_blobs plan ≡ true → r.blob ≡ []
+  bare-here none =
+      bare-one k.kind r (all-of-here plan sound kept agrees.record_is i low (λ (x : ControlPlan). first_blob x.kind ≡ []) (no-blobs plan.controls none)) (was-here plan sound kept agrees.record_is i low)
+
+  -- of an equaliser without a blob nothing is asked
+  pub none-asked : (q : ControlKind) (most : ℕ) (initial : List ℕ) → q ≡ Blob most initial → r.blob ≡ [] → kept.power ≡ On → (answer : Answer) → Carried means plan heap (sends kept.power (ask_acts k.comp q r) (λ now. now) answer) kept kept w w (Ok tt)
+  none-asked q most initial is bare on answer =
+      subst (λ (o : Order). Carried means plan heap o kept kept w w (Ok tt))
+      (sym ((λ j. sends (on j) (ask_acts k.comp (is j) r) (λ now. now) answer) ∙ ap (λ (blob : List ℕ). sends On (ask_acts k.comp (Blob most initial) (record { values = r.values; blob = blob })) (λ now. now) answer) bare))
+      (quiet-carried means plan heap answer kept w)
+
+  -- ---- the control of a name
+
+  module _ (name : List ℕ) (named : named_control plan name ≡ Some k) where
+    pub set-named : (values : List ℕ) → setting_order plan kept values (Some k) ≡ set_order plan kept name values
+    set-named values = ap (setting_order plan kept values) (sym named)
+
+    pub at-named : named_at plan kept name ≡ Some (k, r)
+    at-named = ap (option_and_then (λ (x : ControlPlan). control_at plan kept x.comp)) named ∙ at-here plan sound kept agrees.record_is i low
+
+    pub read-named : reading_order kept (Some (k, r)) ≡ read_order plan kept name
+    read-named = ap (reading_order kept) (sym at-named)

@@ -1,0 +1,10 @@
+pub mod PutShows
+pub mod PutStands
+pub mod ControlActs
+pub mod ControlsThere
+pub mod PutAnswers
+pub mod ControlsTaken
+pub mod ControlCalls
+pub mod ControlTests
+pub mod ControlOrdered
+pub mod OrdersTaken

@@ -1,0 +1,59 @@
+use Rattle.std.proofs.Common.{◌≡◌, ℕ, List, unwrap_or, subst, sym, ap, ◌∙◌}
+use Rattle.mbox_link.specs.Calls.{world}
+use Rattle.tplg_plan.specs.declared.plans.ControlPlan.{ControlPlan}
+use Rattle.host_widgets.specs.Orders.{Order, Carried}
+use Rattle.host_ctl.specs.ControlAsks.{channels_of, spread, set_fault}
+use Rattle.host_ctl.specs.ControlOrders.{MaySet, put_order, set_order}
+use Rattle.host_ctl.specs.ControlPlaces.{control_here}
+use Rattle.host_ctl.proofs.ControlsThere.{live, named-here}
+use Rattle.host_ctl.proofs.ControlCalls.{place-control}
+use Rattle.host_ctl.proofs.ControlOrdered.{set-named}
+use Rattle.host_ctl.proofs.ControlTests.{tested-late, place-low, settable, set-passes}
+use Rattle.host_ctl.proofs.commands.set.Goals as goal
+
+pub all_values-all-requires-clause-values : goal.all_values-all-requires-clause-values
+all_values-all-requires-clause-values g c =
+    let plan = c.args.plan.now in
+    let kept = c.args.kept.now in
+    let name = c.args.name.now in
+    let i = c.in_ok-place.place in
+    let at = c.in_ok-place.ensures.place in
+    let low = place-low plan name i at in
+    let named = named-here plan c.requires.plan kept c.requires.agree.record_is i low name at in
+    let there = live plan c.requires.plan kept c.requires.agree.record_is i low in
+    let k = control_here plan i in
+    let fits = settable name k.kind c.args.values.now there.comp.kind there.kind (set-passes plan kept name c.args.values.now k named c.in_ok-place.ensures.none) in
+    fits.values_few
+
+pub set-requires-clause-values : goal.set-requires-clause-values
+set-requires-clause-values g c =
+    let plan = c.args.plan.now in
+    let kept = c.args.kept.now in
+    let name = c.args.name.now in
+    let i = c.in_ok-place.place in
+    let at = c.in_ok-place.ensures.place in
+    let low = place-low plan name i at in
+    let named = named-here plan c.requires.plan kept c.requires.agree.record_is i low name at in
+    let there = live plan c.requires.plan kept c.requires.agree.record_is i low in
+    let k = control_here plan i in
+    let fits = settable name k.kind c.args.values.now there.comp.kind there.kind (set-passes plan kept name c.args.values.now k named c.in_ok-place.ensures.none) in
+    let all : c.all_values-all.result ≡ spread (unwrap_or (channels_of k.kind) 0) c.args.values.now = c.all_values-all.ensures ∙ ap (λ (x : ControlPlan). spread (unwrap_or (channels_of x.kind) 0) c.args.values.now) (place-control plan i low c.items.result.now _ c.items.ensures) in
+    subst (λ (vs : List ℕ). MaySet k.kind vs) (sym all) fits.may
+
+pub returns-clause-asked : goal.returns-clause-asked
+returns-clause-asked g c =
+    let means = g.P.Dsp.means in
+    let plan = c.args.plan.now in
+    let kept = c.args.kept.now in
+    let name = c.args.name.now in
+    let w = world c.args.dsp.now c.args.io.now c.args.out.now in
+    let i = c.in_ok-place.place in
+    let at = c.in_ok-place.ensures.place in
+    let low = place-low plan name i at in
+    let named = named-here plan c.requires.plan kept c.requires.agree.record_is i low name at in
+    let v = world c.set.new.dsp c.set.new.io c.set.new.out in
+    let k = control_here plan i in
+    let all : c.all_values-all.result ≡ spread (unwrap_or (channels_of k.kind) 0) c.args.values.now = c.all_values-all.ensures ∙ ap (λ (x : ControlPlan). spread (unwrap_or (channels_of x.kind) 0) c.args.values.now) (place-control plan i low c.items.result.now _ c.items.ensures) in
+    tested-late means plan c.args.heap (set_fault plan kept name c.args.values.now) (set_order plan kept name c.args.values.now) kept w c.set.new.kept v c.set.result c.in_ok-place.ensures.none
+    (subst (λ (o : Order). Carried means plan c.args.heap o kept c.set.new.kept w v c.set.result)
+    (ap (put_order plan kept k.comp) all ∙ set-named means plan c.requires.plan c.args.heap i low kept w c.requires.agree name named c.args.values.now) c.set.ensures.carried)

@@ -1,0 +1,112 @@
+-- What is done with a control, and what is told of it.
+use Rattle.std.specs.Prelude.{◌≡◌, ℕ, List, [], ◌∷◌, map, unwrap_or, Option, Some, None, Ok, Err, Result}
+use Rattle.std.specs.Option.{option_map, option_and_then}
+use Rattle.stream_law.specs.declared.graph.Comp.{Comp}
+use Rattle.stream_law.specs.declared.graph.Setting.{Setting}
+use Rattle.stream_law.specs.declared.graph.Setting.TheVariants as settings
+use Rattle.stream_law.specs.State.{FwState}
+use Rattle.stream_law.specs.Ways.{comp_of}
+use Rattle.ipc3_codec.specs.declared.reply.Body.{Body}
+use Rattle.ipc3_codec.specs.declared.reply.Body.TheVariants as bodies
+use Rattle.tplg_plan.specs.declared.plans.Plan.{Plan}
+use Rattle.tplg_plan.specs.declared.plans.ControlPlan.{ControlPlan}
+use Rattle.tplg_plan.specs.declared.plans.ControlKind.{ControlKind}
+use Rattle.tplg_plan.specs.declared.plans.ControlKind.TheVariants.{Volume, Choice, Blob}
+use Rattle.tplg_plan.specs.GainOf.{control_gain}
+use Rattle.host_widgets.specs.declared.answers.Answer.{Answer}
+use Rattle.host_widgets.specs.declared.answers.Answer.TheVariants as answers
+use Rattle.host_widgets.specs.declared.answers.HostFault.{HostFault}
+use Rattle.host_widgets.specs.declared.kept.Record.{Record}
+use Rattle.host_widgets.specs.declared.kept.ControlRec.{ControlRec}
+use Rattle.host_widgets.specs.Kept.{control_at, with_control}
+use Rattle.host_widgets.specs.BlobParts.{part_numbers}
+use Rattle.host_widgets.specs.HostActs.{Act, Put, Ask, with_values}
+use Rattle.host_widgets.specs.Host.{Outcome, IsSet}
+use Rattle.host_widgets.specs.Orders.{Order, quiet, sends}
+use Rattle.host_ctl.specs.ControlAsks.{channels_of, spread, named_control}
+
+-- ---- set: a volume's or a mux's values
+
+abbrev pub put_order : Plan → Record → ℕ → List ℕ → Order
+put_order plan kept comp values = sends kept.power (Put comp values ∷ []) (with_control plan comp (with_values values)) answers.Done
+
+abbrev pub setting_order : Plan → Record → List ℕ → Option ControlPlan → Order
+setting_order plan kept values None = quiet answers.Done
+setting_order plan kept values (Some k) = put_order plan kept k.comp (spread (unwrap_or (channels_of k.kind) 0) values)
+
+abbrev pub set_order : Plan → Record → List ℕ → List ℕ → Order
+set_order plan kept name values = setting_order plan kept values (named_control plan name)
+
+-- ---- get: what the record says
+
+abbrev pub told_by : ControlKind → ControlRec → Answer
+told_by (Blob most initial) c = answers.Bytes c.blob
+told_by kind c = answers.Values c.values
+
+abbrev pub told : Option (ControlPlan × ControlRec) → Answer
+told None = answers.Done
+told (Some (k, c)) = told_by k.kind c
+
+-- the control of a name, with its record
+abbrev pub named_at : Plan → Record → List ℕ → Option (ControlPlan × ControlRec)
+named_at plan kept name = option_and_then (λ (k : ControlPlan). control_at plan kept k.comp) (named_control plan name)
+
+abbrev pub get_order : Plan → Record → List ℕ → Order
+get_order plan kept name = quiet (told (named_at plan kept name))
+
+-- ---- read: what the firmware says, by the record: a volume's gains, a mux's choice, an equaliser's blob
+
+abbrev pub said_by : ControlKind → ControlRec → Answer
+said_by (Volume min max channels lowest step mute) c = answers.Values (map (control_gain (Volume min max channels lowest step mute)) c.values)
+said_by (Choice items) c = answers.Values c.values
+said_by (Blob most initial) c = answers.Bytes c.blob
+
+-- a volume or a mux is asked once, and an equaliser for each part of its blob
+abbrev pub ask_acts : ℕ → ControlKind → ControlRec → List Act
+ask_acts comp (Blob most initial) c = map (Ask comp) (part_numbers c.blob)
+ask_acts comp kind c = Ask comp 0 ∷ []
+
+abbrev pub reading_order : Record → Option (ControlPlan × ControlRec) → Order
+reading_order kept None = quiet answers.Done
+reading_order kept (Some (k, c)) = sends kept.power (ask_acts k.comp k.kind c) (λ now. now) (said_by k.kind c)
+
+abbrev pub read_order : Plan → Record → List ℕ → Order
+read_order plan kept name = reading_order kept (named_at plan kept name)
+
+-- the command by which they are asked for; an equaliser has none
+abbrev pub command_of : ControlKind → Option ℕ
+command_of (Volume min max channels lowest step mute) = Some 0
+command_of (Choice items) = Some 1
+command_of (Blob most initial) = None
+
+-- the values that a reply carries
+abbrev pub carried_by : Body → Answer
+carried_by (bodies.Values values) = answers.Values values
+carried_by body = answers.Done
+
+-- what is set at a component of the firmware
+abbrev pub set_at : Setting → Answer
+set_at settings.Nothing = answers.Done
+set_at (settings.Gains gains) = answers.Values gains
+set_at (settings.Choice k) = answers.Values (k ∷ [])
+set_at (settings.Blob blob) = answers.Bytes blob
+
+-- what the firmware has of the control of a name
+abbrev pub firmware_has : Plan → List ℕ → FwState → Option Answer
+firmware_has plan name f = option_and_then (λ (k : ControlPlan). option_map (λ (c : Comp). set_at c.setting) (comp_of f.graph k.comp)) (named_control plan name)
+
+-- a firmware that is on has this there
+abbrev pub Shows : Plan → List ℕ → Answer → Option FwState → Type 0
+Shows plan name a on = option_and_then (firmware_has plan name) on ≡ Some a
+
+-- ---- a call that answers something once it is done
+
+abbrev pub outcome_of : Result Answer HostFault → Outcome
+outcome_of (Ok answer) = Ok tt
+outcome_of (Err fault) = Err fault
+
+-- ---- values that a call may set, whatever the record says so far
+
+-- a record with them is one that is set; no blob goes with them
+abbrev pub MaySet : ControlKind → List ℕ → Type 0
+MaySet kind values = (blob : List ℕ) → blob ≡ [] → IsSet kind (record { values = values; blob = blob })

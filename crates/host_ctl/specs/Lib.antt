@@ -1,0 +1,3 @@
+pub mod ControlAsks
+pub mod ControlPlaces
+pub mod ControlOrders

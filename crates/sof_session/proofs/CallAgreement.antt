@@ -12,7 +12,7 @@ use Rattle.host_widgets.specs.declared.kept.Record.{Record}
 use Rattle.host_widgets.specs.HostActs.{Act}
 use Rattle.host_widgets.specs.Host.{Outcome, Agrees, BroughtUp, ticks_put}
 use Rattle.host_widgets.specs.Kept.{all_closed, first_record}
-use Rattle.host_widgets.specs.Orders.{Order, Carried, Tested, sends, load_fault, loading, unload_fault, unloading}
+use Rattle.host_widgets.specs.Orders.{Order, Carried, Tested, sends, load_fault, loading, suspending, unload_fault, unloading}
 use Rattle.host_widgets.specs.StateOf.{loaded_state}
 use Rattle.host_widgets.proofs.LoadEnds.{failed-off}
 use Rattle.host_widgets.proofs.LoadOrders.{unloading_at}
@@ -21,6 +21,7 @@ use Rattle.host_pcm.specs.declared.asking.Ask.{Ask}
 use Rattle.host_pcm.specs.Asks.{early_fault}
 use Rattle.host_pcm.specs.StreamOrders.{Asked, stream_order}
 use Rattle.host_pcm.proofs.OrdersTaken.{asked-taken}
+use Rattle.host_pm.specs.PowerTests.{suspend_fault}
 use Rattle.sof_session.specs.Agreement.{AreAgreed, Powered}
 use Rattle.sof_session.specs.Seat.{Seat}
 use Rattle.sof_session.proofs.Agreement.{at, seat_with, Kept, kept-by, Shows, Here, not-off, kept-here, still-here, agreed-again}
@@ -84,6 +85,12 @@ module _ {P : Type 0} (means : Meaning P) (old : Seat P) (wire : Wire P) (io io'
 
   pub AreAgreed-unloaded : Tested (link means) old.plan old.heap (unload_fault old.kept.power) (unloading old.plan old.kept) old.kept kept (at old.link io) (at wire io') result → AreAgreed means new
   AreAgreed-unloaded tested = by-test (unload_fault old.kept.power) (unloading old.plan old.kept) tested (λ none c. off-found (gone old.kept.power agreed.powered c))
+
+  -- ---- a suspend, which ends with a cut
+
+  pub AreAgreed-suspended : Tested (link means) old.plan old.heap (suspend_fault old.kept.power) (suspending old.plan old.kept) old.kept kept (at old.link io) (at wire io') result → AreAgreed means new
+  AreAgreed-suspended tested = by-test (suspend_fault old.kept.power) (suspending old.plan old.kept) tested
+      (λ none c. off-found (cut-off means old.heap old.plan (suspending old.plan old.kept) old.kept kept (at old.link io) (at wire io') result c refl))
 
   -- ---- a call on a stream, in every sound plan
 

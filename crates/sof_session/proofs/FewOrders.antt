@@ -12,6 +12,7 @@ use Rattle.sof_session.specs.CommandTests.{asking}
 use Rattle.sof_session.specs.Commands.{asked_order, order_of}
 use Rattle.sof_session.specs.CommandRanges.{is_built, most_sent}
 use Rattle.sof_session.proofs.SentOrders.{few-stream}
+use Rattle.sof_session.proofs.PowerSteps.{few-down}
 
 few-asked : (plan : Plan) (kept : Record) (asked : Option (List ℕ × Ask)) → length (asked_order plan kept asked).acts ≤ 900
 few-asked plan kept None = omega arith
@@ -21,7 +22,7 @@ pub few-order : (plan : Plan) → IsLoadable plan → (command : Command) → is
 few-order plan loadable commands.Load built kept is = few-acts plan kept loadable is.controls
 few-order plan loadable commands.Unload built kept is = omega arith
 few-order plan loadable commands.Show built kept is = omega arith
-few-order plan loadable commands.Suspend built kept is = absurd (cc built)
+few-order plan loadable commands.Suspend built kept is = few-down plan kept loadable.sound
 few-order plan loadable commands.Resume built kept is = absurd (cc built)
 few-order plan loadable (commands.Tick n) built kept is = omega arith
 few-order plan loadable command built kept is = few-asked plan kept (asking command)

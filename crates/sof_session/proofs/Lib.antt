@@ -23,6 +23,7 @@ pub mod FewMeetings
 pub mod BuildStands
 pub mod LoadSteps
 pub mod UnloadSteps
+pub mod PowerSteps
 pub mod PlanSteps
 pub mod TickSteps
 pub mod SentOrders

@@ -1,18 +1,14 @@
 -- The tests of each command before any message, in their order.
 use Rattle.std.specs.Prelude.{ℕ, List, Option, Some, None}
-use Rattle.std.specs.Option.{option_or}
 use Rattle.tplg_plan.specs.declared.plans.Plan.{Plan}
 use Rattle.host_widgets.specs.declared.answers.HostFault.{HostFault}
-use Rattle.host_widgets.specs.declared.answers.HostFault.TheVariants as faults
-use Rattle.host_widgets.specs.declared.kept.Found.TheVariants as founds
-use Rattle.host_widgets.specs.declared.kept.Power.{Power}
-use Rattle.host_widgets.specs.declared.kept.Power.TheVariants.{On, Off}
 use Rattle.host_widgets.specs.declared.kept.Record.{Record}
 use Rattle.host_widgets.specs.declared.trigger.Trigger.TheVariants as triggers
 use Rattle.host_widgets.specs.Orders.{load_fault, unload_fault}
 use Rattle.host_pcm.specs.declared.asking.Ask.{Ask}
 use Rattle.host_pcm.specs.declared.asking.Ask.TheVariants.{Opening, Preparing, Triggering, Closing}
 use Rattle.host_pcm.specs.Asks.{early_fault}
+use Rattle.host_pm.specs.PowerTests.{suspend_fault, resume_fault}
 use Rattle.sof_script.specs.declared.script.Command.{Command}
 use Rattle.sof_script.specs.declared.script.Command.TheVariants as commands
 
@@ -31,19 +27,10 @@ abbrev pub stream_fault : Plan → Record → Option (List ℕ × Ask) → Optio
 stream_fault plan kept None = None
 stream_fault plan kept (Some (name, ask)) = early_fault plan kept name ask
 
--- a suspend asks for the power, and a resume that it is off
-abbrev pub off_fault : Power → Option HostFault
-off_fault Off = Some faults.Off
-off_fault power = None
-
-abbrev pub on_fault : Power → Option HostFault
-on_fault On = Some (faults.State founds.On)
-on_fault power = None
-
 -- the first test that fails
 abbrev pub fault_of : Plan → Record → Command → Option HostFault
 fault_of plan kept commands.Load = load_fault kept.power
 fault_of plan kept commands.Unload = unload_fault kept.power
-fault_of plan kept commands.Suspend = option_or (unload_fault kept.power) (off_fault kept.power)
-fault_of plan kept commands.Resume = option_or (unload_fault kept.power) (on_fault kept.power)
+fault_of plan kept commands.Suspend = suspend_fault kept.power
+fault_of plan kept commands.Resume = resume_fault kept.power
 fault_of plan kept command = stream_fault plan kept (asking command)

@@ -25,6 +25,8 @@ mod stated;
 #[cfg(test)]
 mod thin;
 #[cfg(test)]
+mod volumes;
+#[cfg(test)]
 mod written;
 
 pub use counted::check_rows;

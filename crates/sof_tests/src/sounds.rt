@@ -1,6 +1,6 @@
-// Runs that play an input's file into an output's file over the thin graph and a desk that fails.
+// Runs that play an input's file into an output's file over the volume graph and a desk that fails.
 use crate::played::Failing;
-use crate::thin::thin_graph;
+use crate::volumes::volume_graph;
 use fw_core::Firmware;
 use sof_desk::MemDesk;
 use sof_run::run;
@@ -37,13 +37,13 @@ fn laid_out(
     Ok(desk)
 }
 
-// A run of a script over the thin graph, with an input.
+// A run of a script over the volume graph, with an input.
 fn sounded(alloc: Global, script: &[u8], input: &[u8], failing: Failing) -> Result<Sound, Fail> {
     let mut words = Vec::new(alloc);
-    for word in ["play", "992", "a.tplg", "s.txt"] {
+    for word in ["play", "1856", "a.tplg", "s.txt"] {
         words.push(String::from_str(alloc, word)?)?;
     }
-    let topology = thin_graph(alloc)?;
+    let topology = volume_graph(alloc)?;
     let mut desk = laid_out(alloc, &topology, script, input, failing)?;
     let dsp = Firmware::new(alloc, ROOM)?;
     let ended = run(alloc, &words, &mut desk, dsp);
@@ -78,7 +78,7 @@ stop PCM0P
 close PCM0P
 ";
 
-// The ten-tick script over the thin graph, with 1920 bytes of the greatest sample.
+// The ten-tick script over the volume graph, with 1920 bytes of the greatest sample.
 fn ten_ticks(alloc: Global, failing: Failing) -> Result<Sound, Fail> {
     let input = repeated(alloc, &[0xff, 0x7f], 960)?;
     sounded(alloc, TEN_TICKS, &input, failing)

@@ -1,0 +1,6 @@
+pub mod Turns
+pub mod TurnsCome
+pub mod GoingDown
+pub mod Unprepared
+pub mod PowerOrders
+pub mod Loops

@@ -1,0 +1,253 @@
+-- A suspend and a resume are orders that are carried out.
+use Rattle.std.proofs.Common.{◌≡◌, map, refl, sym, ap, subst, ◌∙◌, ℕ, List, [], ◌∷◌, ◌++◌, zip, Bool, true, false, Some, None, Ok, Err, arith}
+use Rattle.std.specs.List.{AllByRecursion, flat_map, list_any}
+use Rattle.std.specs.Option.{option_map}
+use Rattle.stream_law.specs.declared.graph.Edge.{Edge}
+use Rattle.stream_law.specs.State.{RingView, FwState, view_of}
+use Rattle.stream_law.specs.Ways.{is_live_phase}
+use Rattle.mbox_link.specs.Meetings.{Meeting}
+use Rattle.mbox_link.specs.Calls.{World, Meaning, Boot, Cut, Did, Led}
+use Rattle.tplg_plan.specs.declared.plans.Plan.{Plan}
+use Rattle.tplg_plan.specs.Sound.{IsSound}
+use Rattle.host_widgets.specs.declared.answers.HostFault.{HostFault}
+use Rattle.host_widgets.specs.declared.answers.HostFault.TheVariants.{NotLoaded, Loaded, NoSuch, State, Off, Range, Refused, LinkDown, Blob}
+use Rattle.host_widgets.specs.declared.kept.Power.{Power}
+use Rattle.host_widgets.specs.declared.kept.Power.TheVariants as powers
+use Rattle.host_widgets.specs.declared.kept.Power.TheVariants.{On}
+use Rattle.host_widgets.specs.declared.kept.Record.{Record}
+use Rattle.host_widgets.specs.Controls.{IsLoadable}
+use Rattle.host_widgets.specs.Kept.{went_down, with_power}
+use Rattle.host_widgets.specs.Expected.{phase_of}
+use Rattle.host_widgets.specs.Host.{Outcome, Agrees, IsRecordOf, Sides}
+use Rattle.host_widgets.specs.HostActs.{Act, after}
+use Rattle.host_widgets.specs.ActLists.{go_down, bring_up, bring_back, prepare_acts}
+use Rattle.host_widgets.specs.OneAct.{own, outcome_by, lag_of, came}
+use Rattle.host_widgets.specs.Walk.{Walked, walk, joined, goes_past}
+use Rattle.host_widgets.specs.ActCalls.{ActsDid, Onwards, next_of, calls_of}
+use Rattle.host_widgets.specs.Orders.{ActsCame, Carried, suspending, resuming, brought_end}
+use Rattle.host_widgets.specs.StateOf.{state_by}
+use Rattle.host_widgets.specs.ViewOf.{view_by}
+use Rattle.host_widgets.proofs.BuildingActs.{bring-leaves}
+use Rattle.host_pm.specs.InTurn.{InTurn}
+use Rattle.host_pm.specs.Resumed.{Resumed}
+use Rattle.host_pm.proofs.TurnsCome.{Came, turns-come}
+use Rattle.host_pm.proofs.GoingDown.{are-met, walk-down, going-down}
+use Rattle.host_pm.proofs.Unprepared.{IsFine, bare_from, bare-view, coming-back, prepares-stay, all-were}
+
+-- ---- walks that end at the first failure
+
+module _ {D : Type 0} (means : Meaning D) (plan : Plan) (heap : ℕ) where
+  abbrev walked : Record → List Meeting → List Act → Walked (List Meeting)
+  walked kept ms acts = walk plan heap false next_of kept ms acts
+
+  abbrev did_acts : Record → List Act → List Meeting → World D → World D → Type 0
+  did_acts kept acts ms w v = ActsDid means plan heap false kept acts ms w v
+
+  -- acts behind acts that passed
+  pub record Joined (kept : Record) (xs ys : List Act) (ms ns : List Meeting) (w v : World D) : Type 0 where
+    pub did : did_acts kept (xs ++ ys) (ms ++ ns) w v
+    pub outcome : (walked kept (ms ++ ns) (xs ++ ys)).outcome ≡ (walked (walked kept ms xs).kept ns ys).outcome
+
+  pub acts-joined : (xs ys : List Act) (ms ns : List Meeting) (kept : Record) (w m v : World D) → did_acts kept xs ms w m → (walked kept ms xs).outcome ≡ Ok tt → did_acts (walked kept ms xs).kept ys ns m v → Joined kept xs ys ms ns w v
+  acts-joined [] ys ms ns kept w m v did ok more =
+      subst (λ (p : List Meeting × World D). did_acts kept ys ns p.1 v → Joined kept [] ys p.0 ns w v) (λ i. (sym did.0 i, sym did.1 i)) (λ there. record { did = there; outcome = refl }) more
+  acts-joined (x ∷ xs) ys [] ns kept w m v did ok more = absurd did
+  acts-joined (x ∷ xs) ys (one ∷ ms) ns kept w m v (mid, act, onwards) ok more =
+      let r = by (outcome_by one.fate (own plan heap kept x)) onwards ok more (acts-joined xs ys ms ns (after plan x kept) mid m v) in
+      record { did = (mid, act, r.0); outcome = r.1 }
+    where
+      Left : Outcome → Type 0
+      Left o =
+          let a = came plan x kept (lag_of one) o in
+          Onwards (goes_past false a.outcome) (ms ++ ns) mid v (did_acts a.kept (xs ++ ys) (ms ++ ns) mid v)
+          × ((joined x a (ms ++ ns) (goes_past false a.outcome) (walked a.kept (ms ++ ns) (xs ++ ys))).outcome
+          ≡ (walked (joined x a ms (goes_past false a.outcome) (walked a.kept ms xs)).kept ns ys).outcome)
+
+      by : (o : Outcome) → (let a = came plan x kept (lag_of one) o in Onwards (goes_past false a.outcome) ms mid m (did_acts a.kept xs ms mid m)) →
+          (let a = came plan x kept (lag_of one) o in (joined x a ms (goes_past false a.outcome) (walked a.kept ms xs)).outcome ≡ Ok tt) →
+          (let a = came plan x kept (lag_of one) o in did_acts (joined x a ms (goes_past false a.outcome) (walked a.kept ms xs)).kept ys ns m v) →
+          (did_acts (after plan x kept) xs ms mid m → (walked (after plan x kept) ms xs).outcome ≡ Ok tt → did_acts (walked (after plan x kept) ms xs).kept ys ns m v → Joined (after plan x kept) xs ys ms ns mid v) → Left o
+      by (Ok done) on ok more go = let r = go on ok more in (r.did, r.outcome)
+      by (Err (Refused e)) on ok more go = absurd (cc ok)
+      by (Err LinkDown) on ok more go = absurd (cc ok)
+      by (Err NotLoaded) on ok more go = absurd (cc ok)
+      by (Err Loaded) on ok more go = absurd (cc ok)
+      by (Err (NoSuch name)) on ok more go = absurd (cc ok)
+      by (Err (State found)) on ok more go = absurd (cc ok)
+      by (Err Off) on ok more go = absurd (cc ok)
+      by (Err (Range n)) on ok more go = absurd (cc ok)
+      by (Err (Blob n)) on ok more go = absurd (cc ok)
+
+  -- no act behind one that failed
+  pub record Ended (kept : Record) (xs ys : List Act) (ms : List Meeting) (w v : World D) : Type 0 where
+    pub did : did_acts kept (xs ++ ys) ms w v
+    pub outcome : (walked kept ms (xs ++ ys)).outcome ≡ (walked kept ms xs).outcome
+
+  pub acts-ended : (xs ys : List Act) (ms : List Meeting) (kept : Record) (w v : World D) (fault : HostFault) → did_acts kept xs ms w v → (walked kept ms xs).outcome ≡ Err fault → Ended kept xs ys ms w v
+  acts-ended [] ys ms kept w v fault did is = absurd (cc is)
+  acts-ended (x ∷ xs) ys [] kept w v fault did is = absurd did
+  acts-ended (x ∷ xs) ys (one ∷ ms) kept w v fault (mid, act, onwards) is =
+      let r = by (outcome_by one.fate (own plan heap kept x)) onwards is (acts-ended xs ys ms (after plan x kept) mid v fault) in
+      record { did = (mid, act, r.0); outcome = r.1 }
+    where
+      Left : Outcome → Type 0
+      Left o =
+          let a = came plan x kept (lag_of one) o in
+          Onwards (goes_past false a.outcome) ms mid v (did_acts a.kept (xs ++ ys) ms mid v)
+          × ((joined x a ms (goes_past false a.outcome) (walked a.kept ms (xs ++ ys))).outcome ≡ (joined x a ms (goes_past false a.outcome) (walked a.kept ms xs)).outcome)
+
+      by : (o : Outcome) → (let a = came plan x kept (lag_of one) o in Onwards (goes_past false a.outcome) ms mid v (did_acts a.kept xs ms mid v)) →
+          (let a = came plan x kept (lag_of one) o in (joined x a ms (goes_past false a.outcome) (walked a.kept ms xs)).outcome ≡ Err fault) →
+          (did_acts (after plan x kept) xs ms mid v → (walked (after plan x kept) ms xs).outcome ≡ Err fault → Ended (after plan x kept) xs ys ms mid v) → Left o
+      by (Ok done) on is go = let r = go on is in (r.did, r.outcome)
+      by (Err (Refused e)) on is go = (on, refl)
+      by (Err LinkDown) on is go = (on, refl)
+      by (Err NotLoaded) on is go = (on, refl)
+      by (Err Loaded) on is go = (on, refl)
+      by (Err (NoSuch name)) on is go = (on, refl)
+      by (Err (State found)) on is go = (on, refl)
+      by (Err Off) on is go = (on, refl)
+      by (Err (Range n)) on is go = (on, refl)
+      by (Err (Blob n)) on is go = (on, refl)
+
+  -- where no tick is pending, none is after them
+  acts-quiet : (acts : List Act) (ms : List Meeting) (kept : Record) (w v : World D) → did_acts kept acts ms w v → means.pending w.device ≡ 0 → means.pending v.device ≡ 0
+  acts-quiet [] ms kept w v did quiet = ap (λ (x : World D). means.pending x.device) did.1 ∙ quiet
+  acts-quiet (act ∷ acts) [] kept w v did quiet = absurd did
+  acts-quiet (act ∷ acts) (one ∷ ms) kept w v (mid, did, onwards) quiet =
+      let a = came plan act kept (lag_of one) (outcome_by one.fate (own plan heap kept act)) in
+      by (goes_past false a.outcome) (did_acts a.kept acts ms mid v) onwards (λ more. acts-quiet acts ms a.kept mid v more still-quiet)
+    where
+      still-quiet : means.pending mid.device ≡ 0
+      still-quiet = let less = did.exchanged.steady.pending in omega (arith, quiet, less)
+
+      by : (b : Bool) (Rest : Type 0) → Onwards b ms mid v Rest → (Rest → means.pending v.device ≡ 0) → means.pending v.device ≡ 0
+      by true Rest rest go = go rest
+      by false Rest ended go = ap (λ (x : World D). means.pending x.device) ended.1 ∙ still-quiet
+
+  -- acts that leave the record do so wherever they end
+  pub walk-stays : (kept : Record) (acts : List Act) (ms : List Meeting) → AllByRecursion (λ (act : Act). after plan act kept ≡ kept) acts → (walked kept ms acts).kept ≡ kept
+  walk-stays kept [] ms all = refl
+  walk-stays kept (act ∷ acts) ms all = by (outcome_by (next_of ms).0.fate (own plan heap kept act)) (walk-stays kept acts (next_of ms).1 all.1)
+    where
+      ended : (o : Outcome) (b : Bool) → (walked kept (next_of ms).1 acts).kept ≡ kept → (joined act (record { outcome = o; kept = kept; moments = lag_of (next_of ms).0 }) (next_of ms).1 b (walked kept (next_of ms).1 acts)).kept ≡ kept
+      ended o true rest = rest
+      ended o false rest = refl
+
+      by : (o : Outcome) → (walked kept (next_of ms).1 acts).kept ≡ kept → (let a = came plan act kept (lag_of (next_of ms).0) o in (joined act a (next_of ms).1 (goes_past false a.outcome) (walked a.kept (next_of ms).1 acts)).kept ≡ kept)
+      by (Ok done) rest = ap (λ (now : Record). (walked now (next_of ms).1 acts).kept) all.0 ∙ rest
+      by (Err fault) rest = ended (Err fault) (goes_past false (Err fault)) rest
+
+  all-both : (P : Act → Type 0) (xs ys : List Act) → AllByRecursion P xs → AllByRecursion P ys → AllByRecursion P (xs ++ ys)
+  all-both P [] ys first rest = rest
+  all-both P (x ∷ xs) ys first rest = (first.0, all-both P xs ys first.1 rest)
+
+  -- ---- a suspend
+
+  pub went-down : IsSound plan → (kept kept' : Record) → IsRecordOf plan kept → (w s v : World D) (result : Outcome) → (f : FwState) → means.on w.device ≡ Some f → view_of f ≡ view_by plan kept →
+      InTurn means plan true (go_down plan kept) w s result → Did means Cut s v → kept' ≡ went_down kept → Carried means plan heap (suspending plan kept) kept kept' w v result
+  went-down sound kept kept' is w s v result f on shows turn cut now =
+      let are = going-down plan heap sound kept is in
+      let c = turns-come plan heap true (λ x. Unit {0}) (λ f. Unit {0}) means (go_down plan kept) kept (view_by plan kept) w s result (f, on, shows) (are-met plan heap (go_down plan kept) kept are) turn in
+      record {
+        meetings = c.meetings;
+        begun = w;
+        sent = s;
+        first = refl;
+        walked = c.did;
+        came = c.is;
+        ends = (now ∙ sym (walk-down plan heap (go_down plan kept) c.meetings kept are), (v, cut, refl));
+      }
+
+  -- ---- a resume
+
+  module _ (loadable : IsLoadable plan) (kept : Record) (is : IsRecordOf plan kept) (still : list_any (λ r. is_live_phase (phase_of r.found)) kept.streams ≡ false) where
+    abbrev prepares : List Act
+    prepares = flat_map prepare_acts (zip plan.streams kept.streams)
+
+    stay : AllByRecursion (λ (act : Act). after plan act kept ≡ kept) (bring_back plan kept)
+    stay = all-both (λ (act : Act). after plan act kept ≡ kept) (bring_up plan kept) prepares (bring-leaves plan kept loadable is.controls) (prepares-stay plan heap loadable.sound kept is plan.streams kept.streams (all-were plan heap loadable.sound kept is))
+
+    -- a bring-up that failed is the end
+    pub back-failed : (mid : Record) (w v : World D) (fault : HostFault) (result : Outcome) → ActsCame means plan heap false (bring_up plan kept) kept mid w v (Err fault) → result ≡ Err fault → ActsCame means plan heap false (bring_back plan kept) kept kept w v result
+    back-failed mid w v fault result x so =
+        let e = acts-ended (bring_up plan kept) prepares x.meetings kept w v fault x.did (sym x.came) in
+        record { meetings = x.meetings; did = e.did; came = so ∙ x.came ∙ sym e.outcome; left = sym (walk-stays kept (bring_back plan kept) x.meetings stay) }
+
+    module _ (mid : Record) (w m v : World D) (result : Outcome) (x : ActsCame means plan heap false (bring_up plan kept) kept mid w m (Ok tt)) (n : ℕ) (on : means.on m.device ≡ Some (state_by plan kept heap n)) (turn : InTurn means plan false prepares m v result) where
+      prepared-so : Came plan heap false (λ v. v ≡ view_by plan kept) (IsFine plan heap) means (state_by plan kept heap n) kept prepares m v result
+      prepared-so = turns-come plan heap false (λ v. v ≡ view_by plan kept) (IsFine plan heap) means prepares kept (view_by plan (bare_from plan plan.streams kept)) m v result
+          (state_by plan kept heap n, on, sym (bare-view plan kept is)) (coming-back plan heap loadable.sound kept is still) turn
+
+      same-mid : (walked kept x.meetings (bring_up plan kept)).kept ≡ kept
+      same-mid = walk-stays kept (bring_up plan kept) x.meetings (bring-leaves plan kept loadable is.controls)
+
+      pub back-came : ActsCame means plan heap false (bring_back plan kept) kept kept w v result
+      back-came =
+          let c = prepared-so in
+          let j = acts-joined (bring_up plan kept) prepares x.meetings c.meetings kept w m v x.did (sym x.came) (subst (λ (k : Record). did_acts k prepares c.meetings m v) (sym same-mid) c.did) in
+          record {
+            meetings = x.meetings ++ c.meetings;
+            did = j.did;
+            came = c.is ∙ ap (λ (k : Record). (walked k c.meetings prepares).outcome) (sym same-mid) ∙ sym j.outcome;
+            left = sym (walk-stays kept (bring_back plan kept) (x.meetings ++ c.meetings) stay);
+          }
+
+      pub back-shows : result ≡ Ok tt → option_map view_of (means.on v.device) ≡ Some (view_by plan kept)
+      back-shows ok = let e = prepared-so.ends ok in ap (option_map view_of) e.1 ∙ ap Some e.2
+
+      empty-buffers : (es : List Edge) → map (λ (r : RingView). r.buffer) (map (λ (e : Edge). record { buffer = e.buffer; frames = [] }) es) ≡ map (λ (e : Edge). e.buffer) es
+      empty-buffers [] = refl
+      empty-buffers (e ∷ es) = λ i. e.buffer ∷ empty-buffers es i
+
+      -- no audio was moved where no tick was pending
+      pub back-left : n ≡ 0 → result ≡ Ok tt → means.pending w.device ≡ 0 → Resumed means plan heap kept v.device
+      back-left zero_is ok quiet =
+          let e = prepared-so.ends ok in
+          let fine = e.3 (acts-quiet (bring_up plan kept) x.meetings kept w m x.did quiet) (record { pieces = refl; clock = zero_is; rings = refl }) in
+          record {
+            state = e.0;
+            on = e.1;
+            keeps = record { view = e.2; pieces = fine.pieces; rings = ap (map (λ (r : RingView). r.buffer)) fine.rings ∙ empty-buffers plan.graph.edges };
+            clock = fine.clock;
+            rings = fine.rings;
+          }
+
+  module _ (kept kept' mid : Record) (w b s : World D) (result : Outcome) (boot : Did means (Boot heap) w b) (x : ActsCame means plan heap false (bring_back plan kept) kept mid b s result) where
+    abbrev EndsSo : World D → Record → Outcome → Type 0
+    EndsSo v now o = let end = brought_end (with_power On) kept now o in (kept' ≡ end.0) × Led means s (calls_of heap end.1) v
+
+    resumed : (v : World D) → EndsSo v mid result → Carried means plan heap (resuming plan kept) kept kept' w v result
+    resumed v end = record {
+      meetings = x.meetings;
+      begun = b;
+      sent = s;
+      first = (b, boot, refl);
+      walked = x.did;
+      came = x.came;
+      ends = subst (λ (p : Record × Outcome). EndsSo v p.0 p.1) (λ i. (x.left i, x.came i)) end;
+    }
+
+    pub resume-passed : result ≡ Ok tt → kept' ≡ with_power On mid → Carried means plan heap (resuming plan kept) kept kept' w s result
+    resume-passed passed so = resumed s (subst (EndsSo s mid) (sym passed) (so, refl))
+
+    pub resume-failed : (fault : HostFault) → result ≡ Err fault → (v : World D) → Did means Cut s v → kept' ≡ kept → Carried means plan heap (resuming plan kept) kept kept' w v result
+    resume-failed fault failed v cut so = resumed v (subst (EndsSo v mid) (sym failed) (so, (v, cut, refl)))
+
+  -- ---- both sides
+
+  pub resumed-agrees : (kept kept' : Record) → IsRecordOf plan kept → kept' ≡ kept → (device : D) → option_map view_of (means.on device) ≡ Some (view_by plan kept) → Agrees means plan (with_power On kept') device
+  resumed-agrees kept kept' is same device shows = subst (λ (r : Record). Agrees means plan (with_power On r) device) (sym same) record {
+    record_is = record { streams = is.streams; controls = is.controls; each = is.each; shapes = is.shapes };
+    sides = shows;
+  }
+
+  -- the streams rest, and the device is off
+  pub rests-off : (kept : Record) (device : D) → Agrees means plan kept device → kept.power ≡ powers.Off → list_any (λ r. is_live_phase (phase_of r.found)) kept.streams ≡ false
+  rests-off kept device agrees off = (subst (λ (p : Power). Sides means plan kept device p) off agrees.sides).0
+
+  pub off-agrees : (kept kept' : Record) (old new : D) → Agrees means plan kept old → kept.power ≡ powers.Off → kept' ≡ kept → means.on new ≡ None → Agrees means plan kept' new
+  off-agrees kept kept' old new agrees off same none = subst (λ (r : Record). Agrees means plan r new) (sym same) record {
+    record_is = agrees.record_is;
+    sides = subst (λ (p : Power). Sides means plan kept new p) (sym off) (rests-off kept old agrees off, none);
+  }

@@ -1,0 +1,83 @@
+use Rattle.std.proofs.Common.{◌≡◌, arith, ap, subst, sym, ◌∙◌, is_some, length, zip, false}
+use Rattle.std.specs.List.{flat_map}
+use Rattle.mbox_link.specs.Calls.{world}
+use Rattle.host_widgets.specs.ActLists.{bring_up, bring_back, prepare_acts}
+use Rattle.host_widgets.specs.Host.{BroughtUp, Outcome, ticks_put}
+use Rattle.host_widgets.specs.Orders.{ActsCame}
+use Rattle.host_widgets.specs.declared.kept.Record.{Record}
+use Rattle.host_widgets.proofs.Walks.{did-on, did-room, handed_on}
+use Rattle.host_pm.specs.InTurn.{InTurn}
+use Rattle.host_pm.proofs.PowerOrders.{back-failed, back-came, back-shows, back-left}
+use Rattle.host_pm.proofs.resuming.bring_back.Goals as goal
+
+pub prepare_all-requires-clause-streams : goal.prepare_all-requires-clause-streams
+prepare_all-requires-clause-streams g c = ap (λ (r : Record). length r.streams) c.bring_up.ensures.kept ∙ c.requires.kept.streams
+
+pub prepare_all-requires-clause-on : goal.prepare_all-requires-clause-on
+prepare_all-requires-clause-on g c =
+    let came = c.bring_up.ensures.acts in
+    did-on g.P.Dsp.means c.args.plan.now c.args.heap false (bring_up c.args.plan.now c.args.kept.now) came.meetings c.args.kept.now (world c.args.dsp.now c.args.io.now c.args.out.now) (world c.bring_up.new.dsp c.bring_up.new.io c.bring_up.new.out) came.did (ap is_some c.requires.booted)
+
+pub prepare_all-requires-clause-room : goal.prepare_all-requires-clause-room
+prepare_all-requires-clause-room g c =
+    let came = c.bring_up.ensures.acts in
+    did-room g.P.Dsp.means c.args.plan.now c.args.heap false (bring_up c.args.plan.now c.args.kept.now) came.meetings c.args.kept.now (world c.args.dsp.now c.args.io.now c.args.out.now) (world c.bring_up.new.dsp c.bring_up.new.io c.bring_up.new.out) came.did c.requires.room
+
+pub returns-in_err-bring_up-clause-acts : goal.returns-in_err-bring_up-clause-acts
+returns-in_err-bring_up-clause-acts g c =
+    let means = g.P.Dsp.means in
+    let plan = c.args.plan.now in
+    let kept = c.args.kept.now in
+    let w = world c.args.dsp.now c.args.io.now c.args.out.now in
+    let m = world c.bring_up.new.dsp c.bring_up.new.io c.bring_up.new.out in
+    let fault = c.in_err-bring_up.field-0.0 in
+    let x = subst (λ (o : Outcome). ActsCame means plan c.args.heap false (bring_up plan kept) kept c.bring_up.new.kept w m o) c.in_err-bring_up.was c.bring_up.ensures.acts in
+    subst (λ (r : Record). ActsCame means plan c.args.heap false (bring_back plan kept) kept r w m c.from_residual.result) (sym c.bring_up.ensures.kept)
+    (back-failed means plan c.args.heap c.requires.plan kept c.requires.kept c.requires.rests c.bring_up.new.kept w m fault c.from_residual.result x (handed_on c.from_residual.result fault c.from_residual.ensures))
+
+pub returns-in_err-bring_up-clause-shows : goal.returns-in_err-bring_up-clause-shows
+returns-in_err-bring_up-clause-shows g c ok = absurd (cc (sym (handed_on c.from_residual.result c.in_err-bring_up.field-0.0 c.from_residual.ensures) ∙ ok))
+
+pub returns-clause-acts : goal.returns-clause-acts
+returns-clause-acts g c =
+    let means = g.P.Dsp.means in
+    let plan = c.args.plan.now in
+    let kept = c.args.kept.now in
+    let w = world c.args.dsp.now c.args.io.now c.args.out.now in
+    let m = world c.bring_up.new.dsp c.bring_up.new.io c.bring_up.new.out in
+    let v = world c.prepare_all.new.dsp c.prepare_all.new.io c.prepare_all.new.out in
+    let x = subst (λ (o : Outcome). ActsCame means plan c.args.heap false (bring_up plan kept) kept c.bring_up.new.kept w m o) c.in_ok-bring_up.was c.bring_up.ensures.acts in
+    let left = subst (λ (o : Outcome). BroughtUp means plan c.args.heap kept c.args.dsp.now o c.bring_up.new.dsp) c.in_ok-bring_up.was c.bring_up.ensures.left in
+    let turn = subst (λ (r : Record). InTurn means plan false (flat_map prepare_acts (zip plan.streams r.streams)) m v c.prepare_all.result) c.bring_up.ensures.kept c.prepare_all.ensures in
+    subst (λ (r : Record). ActsCame means plan c.args.heap false (bring_back plan kept) kept r w v c.prepare_all.result) (sym c.bring_up.ensures.kept)
+    (back-came means plan c.args.heap c.requires.plan kept c.requires.kept c.requires.rests c.bring_up.new.kept w m v c.prepare_all.result x (ticks_put means c.args.dsp.now c.bring_up.new.dsp) left turn)
+
+pub returns-clause-shows : goal.returns-clause-shows
+returns-clause-shows g c ok =
+    let means = g.P.Dsp.means in
+    let plan = c.args.plan.now in
+    let kept = c.args.kept.now in
+    let w = world c.args.dsp.now c.args.io.now c.args.out.now in
+    let m = world c.bring_up.new.dsp c.bring_up.new.io c.bring_up.new.out in
+    let v = world c.prepare_all.new.dsp c.prepare_all.new.io c.prepare_all.new.out in
+    let x = subst (λ (o : Outcome). ActsCame means plan c.args.heap false (bring_up plan kept) kept c.bring_up.new.kept w m o) c.in_ok-bring_up.was c.bring_up.ensures.acts in
+    let left = subst (λ (o : Outcome). BroughtUp means plan c.args.heap kept c.args.dsp.now o c.bring_up.new.dsp) c.in_ok-bring_up.was c.bring_up.ensures.left in
+    let turn = subst (λ (r : Record). InTurn means plan false (flat_map prepare_acts (zip plan.streams r.streams)) m v c.prepare_all.result) c.bring_up.ensures.kept c.prepare_all.ensures in
+    back-shows means plan c.args.heap c.requires.plan kept c.requires.kept c.requires.rests c.bring_up.new.kept w m v c.prepare_all.result x (ticks_put means c.args.dsp.now c.bring_up.new.dsp) left turn ok
+
+pub returns-in_err-bring_up-clause-left : goal.returns-in_err-bring_up-clause-left
+returns-in_err-bring_up-clause-left g c ok = absurd (cc (sym (handed_on c.from_residual.result c.in_err-bring_up.field-0.0 c.from_residual.ensures) ∙ ok))
+
+pub returns-clause-left : goal.returns-clause-left
+returns-clause-left g c ok quiet =
+    let means = g.P.Dsp.means in
+    let plan = c.args.plan.now in
+    let kept = c.args.kept.now in
+    let w = world c.args.dsp.now c.args.io.now c.args.out.now in
+    let m = world c.bring_up.new.dsp c.bring_up.new.io c.bring_up.new.out in
+    let v = world c.prepare_all.new.dsp c.prepare_all.new.io c.prepare_all.new.out in
+    let x = subst (λ (o : Outcome). ActsCame means plan c.args.heap false (bring_up plan kept) kept c.bring_up.new.kept w m o) c.in_ok-bring_up.was c.bring_up.ensures.acts in
+    let left = subst (λ (o : Outcome). BroughtUp means plan c.args.heap kept c.args.dsp.now o c.bring_up.new.dsp) c.in_ok-bring_up.was c.bring_up.ensures.left in
+    let turn = subst (λ (r : Record). InTurn means plan false (flat_map prepare_acts (zip plan.streams r.streams)) m v c.prepare_all.result) c.bring_up.ensures.kept c.prepare_all.ensures in
+    let no_ticks : ticks_put means c.args.dsp.now c.bring_up.new.dsp ≡ 0 = omega (arith, quiet) in
+    back-left means plan c.args.heap c.requires.plan kept c.requires.kept c.requires.rests c.bring_up.new.kept w m v c.prepare_all.result x (ticks_put means c.args.dsp.now c.bring_up.new.dsp) left turn no_ticks ok quiet

@@ -1,0 +1,29 @@
+use Rattle.std.proofs.Common.{Err, refl, ap}
+use Rattle.mbox_link.specs.Calls.{world}
+use Rattle.host_widgets.specs.declared.answers.HostFault.TheVariants.{NotLoaded, Off}
+use Rattle.host_widgets.specs.Orders.{suspending}
+use Rattle.host_widgets.proofs.LoadOrders.{told-early, done-late}
+use Rattle.host_pm.specs.PowerTests.{suspend_fault}
+use Rattle.host_pm.proofs.suspending.suspend.Goals as goal
+
+pub returns-in-Unloaded-clause-carried : goal.returns-in-Unloaded-clause-carried
+returns-in-Unloaded-clause-carried g c =
+    let plan = c.args.plan.now in
+    let kept = c.args.kept.now in
+    let w = world c.args.dsp.now c.args.io.now c.args.out.now in
+    told-early g.P.Dsp.means plan c.args.heap (suspend_fault kept.power) (suspending plan kept) kept kept w w (Err NotLoaded) NotLoaded (ap suspend_fault c.in-Unloaded.is) refl refl refl
+
+pub returns-in-Off-clause-carried : goal.returns-in-Off-clause-carried
+returns-in-Off-clause-carried g c =
+    let plan = c.args.plan.now in
+    let kept = c.args.kept.now in
+    let w = world c.args.dsp.now c.args.io.now c.args.out.now in
+    told-early g.P.Dsp.means plan c.args.heap (suspend_fault kept.power) (suspending plan kept) kept kept w w (Err Off) Off (ap suspend_fault c.in-Off.is) refl refl refl
+
+pub returns-in-On-clause-carried : goal.returns-in-On-clause-carried
+returns-in-On-clause-carried g c =
+    let plan = c.args.plan.now in
+    let kept = c.args.kept.now in
+    let w = world c.args.dsp.now c.args.io.now c.args.out.now in
+    let v = world c.go_down.new.dsp c.go_down.new.io c.go_down.new.out in
+    done-late g.P.Dsp.means plan c.args.heap (suspend_fault kept.power) (suspending plan kept) kept c.go_down.new.kept w v c.go_down.result (ap suspend_fault c.in-On.is) c.go_down.ensures.carried

@@ -1,0 +1,3 @@
+pub mod PowerTests
+pub mod InTurn
+pub mod Resumed

@@ -1,0 +1,10 @@
+//! The host's calls on the power: a suspend stops what moves and cuts the device, and a resume brings the device back to what
+//! the record says.
+#![tactic(auto)]
+
+mod resuming;
+mod suspending;
+mod telling;
+
+pub use resuming::resume;
+pub use suspending::suspend;

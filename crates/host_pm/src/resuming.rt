@@ -1,0 +1,159 @@
+// The device is brought back.
+ghost use Rattle.std.specs.Prelude.{◌≡◌, ◌≤◌, ◌*◌, Ok, Some, is_some, true, false, length, if◌then◌else◌};
+ghost use Rattle.std.specs.List.{flat_map, list_any, zip};
+ghost use Rattle.std.specs.Option.{option_map};
+ghost use Rattle.sof_base.specs.Ports.{HasRoom};
+ghost use Rattle.stream_law.specs.State.{view_of};
+ghost use Rattle.stream_law.specs.Ways.{is_live_phase};
+ghost use Rattle.mbox_link.specs.Calls.{world};
+ghost use Rattle.mbox_link.specs.Step.{fresh};
+ghost use Rattle.host_widgets.specs.ActLists.{prepare_by, prepare_acts, bring_back};
+ghost use Rattle.host_widgets.specs.Acts.{direction_of};
+ghost use Rattle.host_widgets.specs.Controls.{IsLoadable};
+ghost use Rattle.host_widgets.specs.Expected.{phase_of};
+ghost use Rattle.host_widgets.specs.Host.{Agrees, IsRecordOf};
+ghost use Rattle.host_widgets.specs.Orders.{ActsCame, Carried, Tested, resuming};
+ghost use Rattle.host_widgets.specs.ViewOf.{view_by};
+ghost use Rattle.host_pm.specs.InTurn.{InTurn};
+ghost use Rattle.host_pm.specs.PowerTests.{resume_fault};
+ghost use Rattle.host_pm.specs.Resumed.{ResumeLeft};
+
+use crate::telling::tell;
+use host_widgets::{Found, HostFault, Power, Record, StreamRec, bring_up};
+use ipc3_codec::Message;
+use mbox_link::Dsp;
+use sof_io::{Inputs, Outputs};
+use tplg_plan::{Plan, StreamPlan};
+
+// A stream's direction in messages: 0 for playback, 1 for capture.
+fn direction(capture: bool) -> u32
+    ensures { result ≡ (if capture then 1 else 0) }
+{
+    if capture { 1 } else { 0 }
+}
+
+// A stream that is prepared has its parameters again.
+fn prepare<P: Dsp>(
+    plan: &Plan,
+    stream: &StreamPlan,
+    kept: StreamRec,
+    dsp: &mut P,
+    io: &mut Inputs,
+    out: &mut Outputs,
+) -> Result<(), HostFault>
+    requires goes { direction_of plan.now stream.now.host ≡ (if stream.now.capture then 1 else 0) }
+    requires on { is_some (P.means.on dsp.old) ≡ true }
+    requires room { HasRoom (61440 * P.means.pending dsp.old) out.old }
+    ensures { InTurn P.means plan.now false (prepare_by stream.now.host kept.found kept.params) (world dsp.old io.old out.old) (world dsp.new io.new out.new) result }
+{
+    let (Found::Prepared, Some(params)) = (kept.found, kept.params) else {
+        return Ok(());
+    };
+    let message = Message::PcmParams {
+        host: stream.host,
+        direction: direction(stream.capture),
+        params,
+    };
+    tell(&message, dsp, io, out)
+}
+
+// Each stream that is prepared has its parameters again, up to the first message that does not pass.
+fn prepare_all<P: Dsp>(
+    plan: &Plan,
+    kept: &Record,
+    dsp: &mut P,
+    io: &mut Inputs,
+    out: &mut Outputs,
+) -> Result<(), HostFault>
+    requires plan { IsLoadable plan.now }
+    requires streams { length kept.now.streams ≡ length plan.now.streams }
+    requires on { is_some (P.means.on dsp.old) ≡ true }
+    requires room { HasRoom (61440 * P.means.pending dsp.old) out.old }
+    ensures { InTurn P.means plan.now false (flat_map prepare_acts (zip plan.now.streams kept.now.streams)) (world dsp.old io.old out.old) (world dsp.new io.new out.new) result }
+{
+    let count = plan.streams.items().len();
+    for place in 0..count {
+        let stream = &plan.streams.items()[place];
+        prepare(plan, stream, kept.streams.items()[place], dsp, io, out)?;
+    }
+    Ok(())
+}
+
+// Sends a freshly booted device all that the record says, up to the first message that does not pass.
+fn bring_back<P: Dsp>(
+    plan: &Plan,
+    kept: &mut Record,
+    heap: u32,
+    dsp: &mut P,
+    io: &mut Inputs,
+    out: &mut Outputs,
+) -> Result<(), HostFault>
+    requires plan { IsLoadable plan.now }
+    requires kept { IsRecordOf plan.now kept.old }
+    requires rests { list_any (λ r. is_live_phase (phase_of r.found)) kept.old.streams ≡ false }
+    requires booted { P.means.on dsp.old ≡ Some (fresh heap) }
+    requires room { HasRoom (61440 * P.means.pending dsp.old) out.old }
+    ensures acts { ActsCame P.means plan.now heap false (bring_back plan.now kept.old) kept.old kept.new (world dsp.old io.old out.old) (world dsp.new io.new out.new) result }
+    ensures kept { kept.new ≡ kept.old }
+    ensures shows { result ≡ Ok tt → option_map view_of (P.means.on dsp.new) ≡ Some (view_by plan.now kept.old) }
+    ensures left { ResumeLeft P.means plan.now heap kept.old dsp.old result dsp.new }
+{
+    bring_up(plan, kept, heap, dsp, io, out)?;
+    prepare_all(plan, kept, dsp, io, out)
+}
+
+// Boots the device, brings it up and prepares its streams. A failure cuts it, and the record stays.
+fn power_up<P: Dsp>(
+    plan: &Plan,
+    kept: &mut Record,
+    heap: u32,
+    dsp: &mut P,
+    io: &mut Inputs,
+    out: &mut Outputs,
+) -> Result<(), HostFault>
+    requires plan { IsLoadable plan.now }
+    requires agree { Agrees P.means plan.now kept.old dsp.old }
+    requires heap { heap ≤ P.means.most dsp.old }
+    requires room { HasRoom (61440 * P.means.pending dsp.old) out.old }
+    requires power { kept.old.power ≡ Power.Off }
+    ensures carried { Carried P.means plan.now heap (resuming plan.now kept.old) kept.old kept.new (world dsp.old io.old out.old) (world dsp.new io.new out.new) result }
+    ensures agree { Agrees P.means plan.now kept.new dsp.new }
+    ensures left { ResumeLeft P.means plan.now heap kept.old dsp.old result dsp.new }
+{
+    dsp.boot(heap);
+    if let Err(fault) = bring_back(plan, kept, heap, dsp, io, out) {
+        dsp.cut();
+        return Err(fault);
+    }
+    kept.power = Power::On;
+    Ok(())
+}
+
+/// Resumes the device: it is booted with a heap of so many bytes and brought up to what the record says, also to what was set
+/// while the power was off; then each stream that is prepared has its parameters again, in the order of the plan. It takes no
+/// memory, and the record changes only once every message has passed.
+///
+/// `NotLoaded`: nothing is loaded, and `State(On)`: the power is on; then nothing changes. `Refused(e)`: a message was
+/// answered with the negative error e, and `LinkDown`: an exchange failed; then the device is off, and the record is as it was.
+pub fn resume<P: Dsp>(
+    plan: &Plan,
+    kept: &mut Record,
+    heap: u32,
+    dsp: &mut P,
+    io: &mut Inputs,
+    out: &mut Outputs,
+) -> Result<(), HostFault>
+    requires plan { IsLoadable plan.now }
+    requires agree { Agrees P.means plan.now kept.old dsp.old }
+    requires heap { heap ≤ P.means.most dsp.old }
+    requires room { HasRoom (61440 * P.means.pending dsp.old) out.old }
+    ensures carried { Tested P.means plan.now heap (resume_fault kept.old.power) (resuming plan.now kept.old) kept.old kept.new (world dsp.old io.old out.old) (world dsp.new io.new out.new) result }
+    ensures agree { Agrees P.means plan.now kept.new dsp.new }
+    ensures left { ResumeLeft P.means plan.now heap kept.old dsp.old result dsp.new }
+{
+    match kept.power {
+        Power::Unloaded => Err(HostFault::NotLoaded),
+        Power::On => Err(HostFault::State(Found::On)),
+        Power::Off => power_up(plan, kept, heap, dsp, io, out),
+    }
+}

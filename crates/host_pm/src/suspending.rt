@@ -1,0 +1,150 @@
+// The device goes down.
+ghost use Rattle.std.specs.Prelude.{◌≡◌, ◌≤◌, ◌*◌, [], ◌∷◌, is_some, true, length};
+ghost use Rattle.sof_base.specs.Ports.{HasRoom};
+ghost use Rattle.mbox_link.specs.Calls.{world};
+ghost use Rattle.tplg_plan.specs.Sound.{IsSound};
+ghost use Rattle.host_widgets.specs.ActLists.{stop_by, go_down};
+ghost use Rattle.host_widgets.specs.Host.{Agrees};
+ghost use Rattle.host_widgets.specs.HostActs.{Save};
+ghost use Rattle.host_widgets.specs.Orders.{Carried, Tested, suspending};
+ghost use Rattle.host_widgets.specs.Walk.{first_of, goes_past};
+ghost use Rattle.host_pm.specs.InTurn.{InTurn};
+ghost use Rattle.host_pm.specs.PowerTests.{suspend_fault};
+
+use crate::telling::tell;
+use host_widgets::{Found, HostFault, Power, Record, Trigger, link_down};
+use ipc3_codec::Message;
+use mbox_link::Dsp;
+use sof_io::{Inputs, Outputs};
+use tplg_plan::Plan;
+
+// Whether messages go on behind one that came to this: also behind a refusal.
+fn goes_on(done: &Result<(), HostFault>) -> bool
+    ensures { result ≡ goes_past true done.now }
+{
+    matches!(done, Ok(()) | Err(HostFault::Refused(_)))
+}
+
+// A failed link, or else the first fault.
+fn first_of(one: Result<(), HostFault>, rest: Result<(), HostFault>) -> Result<(), HostFault>
+    ensures { result ≡ first_of one rest }
+{
+    match (one, rest) {
+        (Ok(()), rest) => rest,
+        (Err(_), Err(HostFault::LinkDown)) => Err(HostFault::LinkDown),
+        (Err(fault), _) => Err(fault),
+    }
+}
+
+// Stops a stream that runs or is paused.
+fn stop<P: Dsp>(
+    plan: &Plan,
+    host: u32,
+    found: Found,
+    dsp: &mut P,
+    io: &mut Inputs,
+    out: &mut Outputs,
+) -> Result<(), HostFault>
+    requires on { is_some (P.means.on dsp.old) ≡ true }
+    requires room { HasRoom (61440 * P.means.pending dsp.old) out.old }
+    ensures { InTurn P.means plan.now true (stop_by host found) (world dsp.old io.old out.old) (world dsp.new io.new out.new) result }
+{
+    match found {
+        Found::Running | Found::Paused => tell(&Trigger::Stop.message(host), dsp, io, out),
+        Found::Closed | Found::Open | Found::Prepared | Found::On => Ok(()),
+    }
+}
+
+// Tells the firmware that the power will be cut.
+fn save<P: Dsp>(
+    plan: &Plan,
+    dsp: &mut P,
+    io: &mut Inputs,
+    out: &mut Outputs,
+) -> Result<(), HostFault>
+    requires on { is_some (P.means.on dsp.old) ≡ true }
+    requires room { HasRoom (61440 * P.means.pending dsp.old) out.old }
+    ensures { InTurn P.means plan.now true (Save ∷ []) (world dsp.old io.old out.old) (world dsp.new io.new out.new) result }
+{
+    tell(&Message::CtxSave, dsp, io, out)
+}
+
+// Sends all messages before the cut, also behind one that was refused, and none behind a link that failed.
+fn send_down<P: Dsp>(
+    plan: &Plan,
+    kept: &Record,
+    dsp: &mut P,
+    io: &mut Inputs,
+    out: &mut Outputs,
+) -> Result<(), HostFault>
+    requires streams { length kept.now.streams ≡ length plan.now.streams }
+    requires on { is_some (P.means.on dsp.old) ≡ true }
+    requires room { HasRoom (61440 * P.means.pending dsp.old) out.old }
+    ensures { InTurn P.means plan.now true (go_down plan.now kept.now) (world dsp.old io.old out.old) (world dsp.new io.new out.new) result }
+{
+    let mut so_far = Ok(());
+    let count = plan.streams.items().len();
+    for place in 0..count {
+        let host = plan.streams.items()[place].host;
+        let found = kept.streams.items()[place].found;
+        let stopped = stop(plan, host, found, dsp, io, out);
+        let goes = goes_on(&stopped);
+        let told = first_of(so_far, stopped);
+        if !goes {
+            return told;
+        }
+        so_far = told;
+    }
+    let saved = save(plan, dsp, io, out);
+    first_of(so_far, saved)
+}
+
+// Sends all messages, and cuts the device whatever they came to.
+fn go_down<P: Dsp>(
+    plan: &Plan,
+    kept: &mut Record,
+    heap: u32,
+    dsp: &mut P,
+    io: &mut Inputs,
+    out: &mut Outputs,
+) -> Result<(), HostFault>
+    requires plan { IsSound plan.now }
+    requires agree { Agrees P.means plan.now kept.old dsp.old }
+    requires room { HasRoom (61440 * P.means.pending dsp.old) out.old }
+    requires power { kept.old.power ≡ Power.On }
+    ensures carried { Carried P.means plan.now heap (suspending plan.now kept.old) kept.old kept.new (world dsp.old io.old out.old) (world dsp.new io.new out.new) result }
+    ensures agree { Agrees P.means plan.now kept.new dsp.new }
+{
+    let sent = send_down(plan, kept, dsp, io, out);
+    link_down(plan, kept, heap, dsp, io, out);
+    sent
+}
+
+/// Suspends the device: each stream that runs or is paused is stopped, in the order of the plan, then the firmware is told
+/// that the power will be cut, and it is cut. The record says that the power is off, and streams that ran or were paused are
+/// prepared. It takes no memory.
+///
+/// `NotLoaded`: nothing is loaded, and `Off`: the power is off already; then nothing changes. `Refused(e)`: a message was
+/// answered with the negative error e, the first of them, and all went on; and `LinkDown`: an exchange failed, and the device
+/// was cut at once. Whatever it answers of these two, the record is as after a suspend that was done.
+pub fn suspend<P: Dsp>(
+    plan: &Plan,
+    kept: &mut Record,
+    heap: u32,
+    dsp: &mut P,
+    io: &mut Inputs,
+    out: &mut Outputs,
+) -> Result<(), HostFault>
+    requires plan { IsSound plan.now }
+    requires agree { Agrees P.means plan.now kept.old dsp.old }
+    requires heap { heap ≤ P.means.most dsp.old }
+    requires room { HasRoom (61440 * P.means.pending dsp.old) out.old }
+    ensures carried { Tested P.means plan.now heap (suspend_fault kept.old.power) (suspending plan.now kept.old) kept.old kept.new (world dsp.old io.old out.old) (world dsp.new io.new out.new) result }
+    ensures agree { Agrees P.means plan.now kept.new dsp.new }
+{
+    match kept.power {
+        Power::Unloaded => Err(HostFault::NotLoaded),
+        Power::Off => Err(HostFault::Off),
+        Power::On => go_down(plan, kept, heap, dsp, io, out),
+    }
+}

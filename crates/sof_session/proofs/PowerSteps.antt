@@ -1,0 +1,140 @@
+-- What a suspend does to a session.
+use Rattle.std.proofs.Common.{◌≡◌, refl, sym, ap, ◌∙◌, subst, ℕ, Bool, suc, ◌+◌, ◌<◌, ◌≤◌, ◌^◌, ◌-◌, true, false, List, [], ◌∷◌, ◌++◌, map, zip, length, Option, Some, None, arith}
+use Rattle.std.specs.List.{filter_map, cons_option, flat_map}
+use Rattle.std.proofs.lemmas.List.{length-map, length-append}
+use Rattle.sof_base.specs.Ports.{Io}
+use Rattle.stream_law.specs.declared.graph.Comp.{Comp}
+use Rattle.mbox_link.specs.Calls.{World, Meaning}
+use Rattle.mbox_link.specs.Wire.{Wire}
+use Rattle.mbox_link.specs.Link.{link}
+use Rattle.tplg_plan.specs.declared.plans.Plan.{Plan}
+use Rattle.tplg_plan.specs.declared.plans.StreamPlan.{StreamPlan}
+use Rattle.tplg_plan.specs.Sound.{IsSound, host_of}
+use Rattle.host_widgets.specs.declared.answers.Answer.{Answer}
+use Rattle.host_widgets.specs.declared.answers.Answer.TheVariants.{Done}
+use Rattle.host_widgets.specs.declared.answers.HostFault.{HostFault}
+use Rattle.host_widgets.specs.declared.kept.Found.{Found}
+use Rattle.host_widgets.specs.declared.kept.Found.TheVariants.{Closed, Open, Prepared, Running, Paused, On as Found_On}
+use Rattle.host_widgets.specs.declared.kept.Power.{Power}
+use Rattle.host_widgets.specs.declared.kept.Power.TheVariants.{Unloaded, On, Off}
+use Rattle.host_widgets.specs.declared.kept.Record.{Record}
+use Rattle.host_widgets.specs.declared.kept.StreamRec.{StreamRec}
+use Rattle.host_widgets.specs.HostActs.{Save}
+use Rattle.host_widgets.specs.ActLists.{go_down, stop_acts, stop_by}
+use Rattle.host_widgets.specs.Host.{Outcome}
+use Rattle.host_widgets.specs.Orders.{Carried, Order, Tested, suspending}
+use Rattle.host_pm.specs.PowerTests.{suspend_fault}
+use Rattle.sof_script.specs.declared.script.Command.TheVariants as commands
+use Rattle.sof_session.specs.Agreement.{AreAgreed, Powered}
+use Rattle.sof_session.specs.Commands.{answer_by}
+use Rattle.sof_session.specs.Seat.{Seat}
+use Rattle.sof_session.specs.SessionStep.{Stepped}
+use Rattle.sof_session.specs.SessionCalls.{PowerRan}
+use Rattle.sof_session.specs.Written.{written_in}
+use Rattle.sof_session.proofs.Agreement.{at}
+use Rattle.sof_session.proofs.FewMeetings.{few-meetings}
+use Rattle.sof_session.proofs.OrderCalls.{acts-io, carried-sent}
+use Rattle.sof_session.proofs.OrderStands.{order-still, cut-leads}
+use Rattle.sof_session.proofs.OrderStands as after_order
+use Rattle.sof_session.proofs.Stepping.{early-stepped, late-stepped, still-standing}
+
+-- the power was on
+was-on : (power : Power) → suspend_fault power ≡ None → power ≡ On
+was-on On none = refl
+was-on Unloaded none = absurd (cc none)
+was-on Off none = absurd (cc none)
+
+-- ---- at most one stop for each stream, and each stream is a component
+
+few-stop : (host : ℕ) (found : Found) → length (stop_by host found) ≤ 1
+few-stop host Running = omega arith
+few-stop host Paused = omega arith
+few-stop host Closed = omega arith
+few-stop host Open = omega arith
+few-stop host Prepared = omega arith
+few-stop host Found_On = omega arith
+
+few-stops : (ss : List StreamPlan) (rs : List StreamRec) → length (flat_map stop_acts (zip ss rs)) ≤ length ss
+few-stops [] rs = omega arith
+few-stops (s ∷ ss) [] = omega arith
+few-stops (s ∷ ss) (r ∷ rs) = omega (arith, few-stop s.host r.found, few-stops ss rs, length-append (stop_by s.host r.found) (flat_map stop_acts (zip ss rs)))
+
+few-found : {X Y : Type 0} (f : X → Option Y) (xs : List X) → length (filter_map f xs) ≤ length xs
+few-found f [] = omega arith
+few-found f (x ∷ xs) = by (f x) (few-found f xs)
+  where
+    by : (o : Option _) → length (filter_map f xs) ≤ length xs → length (cons_option o (filter_map f xs)) ≤ suc (length xs)
+    by (Some y) few = omega (arith, few)
+    by None few = omega (arith, few)
+
+few-streams : (plan : Plan) → IsSound plan → length plan.streams ≤ 128
+few-streams plan sound =
+    let pair : StreamPlan → ℕ × Bool = λ s. (s.host, s.capture) in
+    omega (arith, length-map plan.streams pair, ap length sound.hosts, few-found host_of plan.graph.comps, sound.comps)
+
+pub few-down : (plan : Plan) (kept : Record) → IsSound plan → length (go_down plan kept) ≤ 900
+few-down plan kept sound = omega (arith, few-streams plan sound, few-stops plan.streams kept.streams, length-append (flat_map stop_acts (zip plan.streams kept.streams)) (Save ∷ []))
+
+-- ---- a suspend
+
+module _ {P : Type 0} (means : Meaning P) (old : Seat P) (wire : Wire P) (io io' : Io) (agreed : AreAgreed means old) (kept : Record) (result : Outcome) where
+  abbrev order : Order
+  order = suspending old.plan old.kept
+
+  abbrev CarriedSo : Type 0
+  CarriedSo = Carried (link means) old.plan old.heap order old.kept kept (at old.link io) (at wire io') result
+
+  -- it leaves the endpoints as they are
+  cut-io : (power : Power) → power ≡ On → Powered means old power → CarriedSo → io' ≡ io
+  cut-io On is powered c =
+      ap (λ (x : World (Wire P)). x.io) c.ends.1.2 ∙ c.ends.1.1.1
+      ∙ acts-io (link means) old.plan old.heap true order.acts c.meetings old.kept c.begun c.sent c.walked
+      (ap (λ (x : World (Wire P)). means.pending x.device.device) c.first ∙ agreed.pending) powered.0 (ap (λ (x : World (Wire P)). means.on x.device.device) c.first ∙ powered.1)
+      ∙ ap (λ (x : World (Wire P)). x.io) c.first
+  cut-io Unloaded is powered c = absurd (cc is)
+  cut-io Off is powered c = absurd (cc is)
+
+  pub suspend-io : Tested (link means) old.plan old.heap (suspend_fault old.kept.power) order old.kept kept (at old.link io) (at wire io') result → io' ≡ io
+  suspend-io tested = by (suspend_fault old.kept.power) refl
+    where
+      by : (test : Option HostFault) → suspend_fault old.kept.power ≡ test → io' ≡ io
+      by (Some fault) is = ap (λ (x : World (Wire P)). x.io) (tested.early fault is).1
+      by None is = cut-io old.kept.power (was-on old.kept.power is) agreed.powered (tested.late is)
+
+module _ {P : Type 0} (means : Meaning P) (old new : Seat P) (io io' : Io) (agreed : AreAgreed means old) (few : old.link.sent < 2 ^ 63) where
+  abbrev w : World (Wire P)
+  w = at old.link io
+
+  abbrev v : World (Wire P)
+  v = at new.link io'
+
+  abbrev o : Order
+  o = suspending old.plan old.kept
+
+  abbrev Ran : Answer → Type 0
+  Ran answer = PowerRan means (suspend_fault old.kept.power) o old new io io' answer
+
+  -- all ends with the cut, whatever its acts came to
+  pub suspend_stepped : io' ≡ io → written_in io.outputs ≡ [] → (answer : Answer) → Ran answer → Stepped means old.plan old.heap commands.Suspend old.kept new.kept w v answer
+  suspend_stepped same none answer ran = by (suspend_fault old.kept.power) refl
+    where
+      by : (test : Option HostFault) → suspend_fault old.kept.power ≡ test → Stepped means old.plan old.heap commands.Suspend old.kept new.kept w v answer
+      by (Some fault) is =
+          let e = ran.tested.early fault is in
+          early-stepped means old.plan old.heap commands.Suspend old.kept new.kept w v answer (λ doing known. refl) refl fault is (ran.said ∙ ap (answer_by Done) e.0) e.1 e.2 none
+      by None is =
+          let c = ran.tested.late is in
+          let fewer : old.link.sent + length c.meetings < 2 ^ 64 - 1 = omega (arith, few, few-meetings (link means) old.plan old.heap true o.acts c.meetings old.kept c.begun c.sent c.walked, few-down old.plan old.kept agreed.loadable.sound) in
+          let written = after_order.written means old.heap old.plan o old.kept new.kept w v ran.outcome c agreed.pending agreed.fated fewer in
+          late-stepped means old.plan old.heap commands.Suspend old.kept new.kept w v answer (λ doing known. refl) refl is ran.outcome c agreed.pending agreed.fated fewer
+          ran.said
+          (still-standing means w v written (order-still means old.heap old.plan o old.kept new.kept w v ran.outcome c agreed.pending agreed.fated fewer tt)
+          (cut-leads means old.heap old.plan o old.kept new.kept w v ran.outcome c agreed.pending agreed.fated fewer tt refl (means.on old.link.device)) same none)
+
+  -- it sends at most 900 messages
+  pub suspend_few : (answer : Answer) → Ran answer → new.link.sent ≤ old.link.sent + 900
+  suspend_few answer ran = by (suspend_fault old.kept.power) refl
+    where
+      by : (test : Option HostFault) → suspend_fault old.kept.power ≡ test → new.link.sent ≤ old.link.sent + 900
+      by (Some fault) is = let same : new.link.sent ≡ old.link.sent = ap (λ (x : World (Wire P)). x.device.sent) (ran.tested.early fault is).1 in omega (arith, same)
+      by None is = omega (arith, carried-sent means old.plan old.heap o old.kept new.kept w v ran.outcome (ran.tested.late is), few-down old.plan old.kept agreed.loadable.sound)

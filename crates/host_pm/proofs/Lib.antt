@@ -4,3 +4,4 @@ pub mod GoingDown
 pub mod Unprepared
 pub mod PowerOrders
 pub mod Loops
+pub mod ScratchTaken

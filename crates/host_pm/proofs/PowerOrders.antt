@@ -165,14 +165,15 @@ module _ {D : Type 0} (means : Meaning D) (plan : Plan) (heap : ℕ) where
     abbrev prepares : List Act
     prepares = flat_map prepare_acts (zip plan.streams kept.streams)
 
-    stay : AllByRecursion (λ (act : Act). after plan act kept ≡ kept) (bring_back plan kept)
-    stay = all-both (λ (act : Act). after plan act kept ≡ kept) (bring_up plan kept) prepares (bring-leaves plan kept loadable is.controls) (prepares-stay plan heap loadable.sound kept is plan.streams kept.streams (all-were plan heap loadable.sound kept is))
+    -- all that bring it back leave the record
+    pub back-leaves : AllByRecursion (λ (act : Act). after plan act kept ≡ kept) (bring_back plan kept)
+    back-leaves = all-both (λ (act : Act). after plan act kept ≡ kept) (bring_up plan kept) prepares (bring-leaves plan kept loadable is.controls) (prepares-stay plan heap loadable.sound kept is plan.streams kept.streams (all-were plan heap loadable.sound kept is))
 
     -- a bring-up that failed is the end
     pub back-failed : (mid : Record) (w v : World D) (fault : HostFault) (result : Outcome) → ActsCame means plan heap false (bring_up plan kept) kept mid w v (Err fault) → result ≡ Err fault → ActsCame means plan heap false (bring_back plan kept) kept kept w v result
     back-failed mid w v fault result x so =
         let e = acts-ended (bring_up plan kept) prepares x.meetings kept w v fault x.did (sym x.came) in
-        record { meetings = x.meetings; did = e.did; came = so ∙ x.came ∙ sym e.outcome; left = sym (walk-stays kept (bring_back plan kept) x.meetings stay) }
+        record { meetings = x.meetings; did = e.did; came = so ∙ x.came ∙ sym e.outcome; left = sym (walk-stays kept (bring_back plan kept) x.meetings back-leaves) }
 
     module _ (mid : Record) (w m v : World D) (result : Outcome) (x : ActsCame means plan heap false (bring_up plan kept) kept mid w m (Ok tt)) (n : ℕ) (on : means.on m.device ≡ Some (state_by plan kept heap n)) (turn : InTurn means plan false prepares m v result) where
       prepared-so : Came plan heap false (λ v. v ≡ view_by plan kept) (IsFine plan heap) means (state_by plan kept heap n) kept prepares m v result
@@ -190,7 +191,7 @@ module _ {D : Type 0} (means : Meaning D) (plan : Plan) (heap : ℕ) where
             meetings = x.meetings ++ c.meetings;
             did = j.did;
             came = c.is ∙ ap (λ (k : Record). (walked k c.meetings prepares).outcome) (sym same-mid) ∙ sym j.outcome;
-            left = sym (walk-stays kept (bring_back plan kept) (x.meetings ++ c.meetings) stay);
+            left = sym (walk-stays kept (bring_back plan kept) (x.meetings ++ c.meetings) back-leaves);
           }
 
       pub back-shows : result ≡ Ok tt → option_map view_of (means.on v.device) ≡ Some (view_by plan kept)

@@ -172,7 +172,7 @@ module _ (plan : Plan) where
     pub rings : f.rings ≡ empty_rings plan.graph
 
   -- a change of its streams leaves it so
-  fine-seen : (heap : ℕ) (v : View) (f : FwState) → IsFine heap f → IsFine heap (seen v None f)
+  pub fine-seen : (heap : ℕ) (v : View) (f : FwState) → IsFine heap f → IsFine heap (seen v None f)
   fine-seen heap v f fine = record { pieces = fine.pieces; clock = fine.clock; rings = ap (map (ring_seen v)) fine.rings ∙ all-empty plan.graph.edges }
     where
       none : (b : Bool) (id : ℕ) → ◌≡◌ {A = RingView} (record { buffer = id; frames = if b then [] else [] }) (record { buffer = id; frames = [] })
@@ -190,7 +190,7 @@ module _ (plan : Plan) where
     shown_state now = record { heap = (fresh heap).heap; clock = 0; graph = (view_by plan now).graph; streams = (view_by plan now).streams; rings = []; histories = []; staging = [] }
 
     -- where streams agree after it, the firmware does not refuse it
-    own-none : (now : Record) → IsRecordOf plan now → IsRecordOf plan (after plan (Prepare host p) now) → AllAt (λ r. takes_params r.found ≡ true) host plan.streams now.streams → own plan heap now (Prepare host p) ≡ None
+    pub own-none : (now : Record) → IsRecordOf plan now → IsRecordOf plan (after plan (Prepare host p) now) → AllAt (λ r. takes_params r.found ≡ true) host plan.streams now.streams → own plan heap now (Prepare host p) ≡ None
     own-none now is will all = by (list_any (conflicts plan host p) (zip plan.streams now.streams)) (sym agrees-so ∙ will.shapes)
       where
         set : StreamView → StreamView
@@ -236,7 +236,7 @@ module _ (plan : Plan) where
       takes-before : AllAt (λ r. takes_params r.found ≡ true) host plan.streams before.streams
       takes-before = all-at (λ x. x ≡ unprepared) (λ r. takes_params r.found ≡ true) (λ r stands. ap (λ (x : StreamRec). takes_params x.found) stands) host plan.streams before.streams (was-set host unprepared plan.streams later.streams)
 
-      takes-kept : AllAt (λ r. takes_params r.found ≡ true) host plan.streams kept.streams
+      pub takes-kept : AllAt (λ r. takes_params r.found ≡ true) host plan.streams kept.streams
       takes-kept = all-at (λ x. x ≡ record { found = Prepared; params = Some p }) (λ r. takes_params r.found ≡ true) (λ r stands. ap (λ (x : StreamRec). takes_params x.found) stands) host plan.streams kept.streams was
 
       -- the firmware does not refuse it, whether it shows the stream with its parameters or without
@@ -262,7 +262,7 @@ module _ (plan : Plan) where
   neither false b is = (refl, is)
   neither true b is = absurd (true≢false is)
 
-  abbrev AllWere : Record → List StreamPlan → List StreamRec → Type 0
+  abbrev pub AllWere : Record → List StreamPlan → List StreamRec → Type 0
   AllWere kept [] rs = Unit {0}
   AllWere kept (s ∷ ss) [] = ⊥
   AllWere kept (s ∷ ss) (r ∷ rs) = (has_host plan.streams s.host ≡ true) × AllAt (λ x. x ≡ r) s.host plan.streams kept.streams × AllWere kept ss rs

@@ -1,3 +1,4 @@
 pub mod PowerTests
 pub mod InTurn
 pub mod Resumed
+pub mod FromScratch

@@ -2,9 +2,11 @@
 //! the record says.
 #![tactic(auto)]
 
+mod laws;
 mod resuming;
 mod suspending;
 mod telling;
 
+pub use laws::incremental_equals_from_scratch;
 pub use resuming::resume;
 pub use suspending::suspend;

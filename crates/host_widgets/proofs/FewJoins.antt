@@ -127,8 +127,8 @@ few-puts (k ∷ ks) [] takes = omega arith
 few-puts (k ∷ ks) (r ∷ rs) takes = omega (arith, few-by k.kind k.comp r takes.0, few-puts ks rs takes.1, length-append (control_acts (k, r)) (flat_map control_acts (zip ks rs)))
 
 -- 288 widgets, 256 joins, 64 controls and 32 pipelines
-pub few-acts : (plan : Plan) (kept : Record) → IsLoadable plan → AreControls plan.controls kept.controls → length (bring_up plan kept) ≤ 900
-few-acts plan kept loadable are =
+pub few-brought : (plan : Plan) (kept : Record) → IsLoadable plan → AreControls plan.controls kept.controls → length (bring_up plan kept) ≤ 640
+few-brought plan kept loadable are =
     let makes : List Act = map Make (ids_of plan) in
     let joins : List Act = map (λ j. Joins j.source j.sink) plan.graph.joins in
     let puts : List Act = flat_map control_acts (controls_of plan kept) in
@@ -148,3 +148,7 @@ few-acts plan kept loadable are =
       loadable.sound.controls,
       loadable.sound.pipes,
     )
+
+-- no more than a command may send
+pub few-acts : (plan : Plan) (kept : Record) → IsLoadable plan → AreControls plan.controls kept.controls → length (bring_up plan kept) ≤ 900
+few-acts plan kept loadable are = omega (arith, few-brought plan kept loadable are)

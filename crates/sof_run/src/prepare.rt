@@ -94,14 +94,14 @@ fn is_built(command: &Command) -> bool
     ensures { result ≡ is_carried_out command.now }
 {
     match command {
-        Command::Load | Command::Unload | Command::Suspend => true,
+        Command::Load | Command::Unload | Command::Suspend | Command::Resume => true,
         Command::Show | Command::Tick(_) => true,
         Command::Open(_) | Command::Close(_) | Command::Params(_, _) => true,
         Command::Start(_) | Command::Stop(_) => true,
         Command::Pause(_) | Command::Release(_) => true,
         Command::Refuse(_, _) | Command::Drop(_) | Command::Lose(_) => true,
         Command::Set(_, _) | Command::Bytes(_, _) | Command::Get(_) | Command::Read(_) => false,
-        Command::Resume | Command::Lag(_, _) => false,
+        Command::Lag(_, _) => false,
     }
 }
 

@@ -1,5 +1,5 @@
--- After a load, an unload and a call on a stream the two sides agree again.
-use Rattle.std.proofs.Common.{◌≡◌, ⊎_elim, ℕ, false, List, [], Option, Some, None, Ok, Err, refl, ap, subst, ◌∙◌, arith}
+-- After a load, an unload, a suspend, a resume and a call on a stream the two sides agree again.
+use Rattle.std.proofs.Common.{◌≡◌, ⊎_elim, ℕ, false, List, [], Option, Some, None, Ok, Err, refl, sym, ap, subst, ◌∙◌, arith}
 use Rattle.sof_base.specs.Ports.{Io}
 use Rattle.mbox_link.specs.Calls.{World, Meaning}
 use Rattle.mbox_link.specs.Link.{link}
@@ -11,8 +11,8 @@ use Rattle.host_widgets.specs.declared.kept.Power.TheVariants.{Unloaded, On, Off
 use Rattle.host_widgets.specs.declared.kept.Record.{Record}
 use Rattle.host_widgets.specs.HostActs.{Act}
 use Rattle.host_widgets.specs.Host.{Outcome, Agrees, BroughtUp, ticks_put}
-use Rattle.host_widgets.specs.Kept.{all_closed, first_record}
-use Rattle.host_widgets.specs.Orders.{Order, Carried, Tested, sends, load_fault, loading, suspending, unload_fault, unloading}
+use Rattle.host_widgets.specs.Kept.{all_closed, first_record, with_power}
+use Rattle.host_widgets.specs.Orders.{Order, Carried, Tested, brought_end, sends, load_fault, loading, resuming, suspending, unload_fault, unloading}
 use Rattle.host_widgets.specs.StateOf.{loaded_state}
 use Rattle.host_widgets.proofs.LoadEnds.{failed-off}
 use Rattle.host_widgets.proofs.LoadOrders.{unloading_at}
@@ -21,13 +21,14 @@ use Rattle.host_pcm.specs.declared.asking.Ask.{Ask}
 use Rattle.host_pcm.specs.Asks.{early_fault}
 use Rattle.host_pcm.specs.StreamOrders.{Asked, stream_order}
 use Rattle.host_pcm.proofs.OrdersTaken.{asked-taken}
-use Rattle.host_pm.specs.PowerTests.{suspend_fault}
+use Rattle.host_pm.specs.PowerTests.{suspend_fault, resume_fault}
+use Rattle.host_pm.specs.Resumed.{ResumeLeft}
 use Rattle.sof_session.specs.Agreement.{AreAgreed, Powered}
 use Rattle.sof_session.specs.Seat.{Seat}
 use Rattle.sof_session.proofs.Agreement.{at, seat_with, Kept, kept-by, Shows, Here, not-off, kept-here, still-here, agreed-again}
 use Rattle.sof_session.proofs.Keeping.{Keeps-loaded}
 use Rattle.sof_session.proofs.OrderCalls.{carried-led}
-use Rattle.sof_session.proofs.OrderStands.{sending, cut-off, sent-left}
+use Rattle.sof_session.proofs.OrderStands.{sending, cut-off, met, sent-left}
 use Rattle.sof_session.proofs.SentOrders.{sent-stream}
 
 module _ {P : Type 0} (means : Meaning P) (old : Seat P) (wire : Wire P) (io io' : Io) (agreed : AreAgreed means old) (kept : Record) (agree : Agrees (link means) old.plan kept wire) (result : Outcome) where
@@ -91,6 +92,18 @@ module _ {P : Type 0} (means : Meaning P) (old : Seat P) (wire : Wire P) (io io'
   pub AreAgreed-suspended : Tested (link means) old.plan old.heap (suspend_fault old.kept.power) (suspending old.plan old.kept) old.kept kept (at old.link io) (at wire io') result → AreAgreed means new
   AreAgreed-suspended tested = by-test (suspend_fault old.kept.power) (suspending old.plan old.kept) tested
       (λ none c. off-found (cut-off means old.heap old.plan (suspending old.plan old.kept) old.kept kept (at old.link io) (at wire io') result c refl))
+
+  -- ---- a resume: what it leaves where it was done, and else it ends with a cut
+
+  resumed-found : CarriedSo (resuming old.plan old.kept) → (o : Outcome) → result ≡ o → ResumeLeft (link means) old.plan old.heap old.kept old.link o wire → Found
+  resumed-found c (Ok done) is left shows = let r = left refl agreed.pending in kept-here means old wire io io' agreed kept agree shows old.kept r.state r.on r.keeps
+  resumed-found c (Err fault) is left shows =
+      let o = resuming old.plan old.kept in
+      let now = (met means old.heap old.plan o old.kept kept (at old.link io) (at wire io') result c).kept in
+      off-found (cut-off means old.heap old.plan o old.kept kept (at old.link io) (at wire io') result c (ap (λ (o : Outcome). (brought_end (with_power On) old.kept now o).1) (sym c.came ∙ is))) shows
+
+  pub AreAgreed-resumed : Tested (link means) old.plan old.heap (resume_fault old.kept.power) (resuming old.plan old.kept) old.kept kept (at old.link io) (at wire io') result → ResumeLeft (link means) old.plan old.heap old.kept old.link result wire → AreAgreed means new
+  AreAgreed-resumed tested left = by-test (resume_fault old.kept.power) (resuming old.plan old.kept) tested (λ none c. resumed-found c result refl left)
 
   -- ---- a call on a stream, in every sound plan
 

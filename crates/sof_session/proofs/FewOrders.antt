@@ -13,6 +13,7 @@ use Rattle.sof_session.specs.Commands.{asked_order, order_of}
 use Rattle.sof_session.specs.CommandRanges.{is_built, most_sent}
 use Rattle.sof_session.proofs.SentOrders.{few-stream}
 use Rattle.sof_session.proofs.PowerSteps.{few-down}
+use Rattle.sof_session.proofs.ResumeSteps.{few-back}
 
 few-asked : (plan : Plan) (kept : Record) (asked : Option (List ℕ × Ask)) → length (asked_order plan kept asked).acts ≤ 900
 few-asked plan kept None = omega arith
@@ -23,6 +24,6 @@ few-order plan loadable commands.Load built kept is = few-acts plan kept loadabl
 few-order plan loadable commands.Unload built kept is = omega arith
 few-order plan loadable commands.Show built kept is = omega arith
 few-order plan loadable commands.Suspend built kept is = few-down plan kept loadable.sound
-few-order plan loadable commands.Resume built kept is = absurd (cc built)
+few-order plan loadable commands.Resume built kept is = few-back plan kept loadable is.controls
 few-order plan loadable (commands.Tick n) built kept is = omega arith
 few-order plan loadable command built kept is = few-asked plan kept (asking command)

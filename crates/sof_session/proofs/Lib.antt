@@ -24,6 +24,7 @@ pub mod BuildStands
 pub mod LoadSteps
 pub mod UnloadSteps
 pub mod PowerSteps
+pub mod ResumeSteps
 pub mod PlanSteps
 pub mod TickSteps
 pub mod SentOrders

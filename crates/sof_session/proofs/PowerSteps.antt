@@ -1,9 +1,8 @@
 -- What a suspend does to a session.
-use Rattle.std.proofs.Common.{◌≡◌, refl, sym, ap, ◌∙◌, subst, ℕ, Bool, suc, ◌+◌, ◌<◌, ◌≤◌, ◌^◌, ◌-◌, true, false, List, [], ◌∷◌, ◌++◌, map, zip, length, Option, Some, None, arith}
+use Rattle.std.proofs.Common.{◌≡◌, refl, ap, ◌∙◌, ℕ, Bool, suc, ◌+◌, ◌<◌, ◌≤◌, ◌^◌, ◌-◌, true, List, [], ◌∷◌, zip, length, Option, Some, None, arith}
 use Rattle.std.specs.List.{filter_map, cons_option, flat_map}
 use Rattle.std.proofs.lemmas.List.{length-map, length-append}
 use Rattle.sof_base.specs.Ports.{Io}
-use Rattle.stream_law.specs.declared.graph.Comp.{Comp}
 use Rattle.mbox_link.specs.Calls.{World, Meaning}
 use Rattle.mbox_link.specs.Wire.{Wire}
 use Rattle.mbox_link.specs.Link.{link}
@@ -29,11 +28,12 @@ use Rattle.sof_session.specs.Agreement.{AreAgreed, Powered}
 use Rattle.sof_session.specs.Commands.{answer_by}
 use Rattle.sof_session.specs.Seat.{Seat}
 use Rattle.sof_session.specs.SessionStep.{Stepped}
-use Rattle.sof_session.specs.SessionCalls.{PowerRan}
+use Rattle.sof_session.specs.SessionCalls.{SuspendRan}
 use Rattle.sof_session.specs.Written.{written_in}
+use Rattle.sof_session.proofs.ActsLed.{acts-io}
 use Rattle.sof_session.proofs.Agreement.{at}
 use Rattle.sof_session.proofs.FewMeetings.{few-meetings}
-use Rattle.sof_session.proofs.OrderCalls.{acts-io, carried-sent}
+use Rattle.sof_session.proofs.OrderCalls.{carried-sent}
 use Rattle.sof_session.proofs.OrderStands.{order-still, cut-leads}
 use Rattle.sof_session.proofs.OrderStands as after_order
 use Rattle.sof_session.proofs.Stepping.{early-stepped, late-stepped, still-standing}
@@ -67,7 +67,7 @@ few-found f (x ∷ xs) = by (f x) (few-found f xs)
     by (Some y) few = omega (arith, few)
     by None few = omega (arith, few)
 
-few-streams : (plan : Plan) → IsSound plan → length plan.streams ≤ 128
+pub few-streams : (plan : Plan) → IsSound plan → length plan.streams ≤ 128
 few-streams plan sound =
     let pair : StreamPlan → ℕ × Bool = λ s. (s.host, s.capture) in
     omega (arith, length-map plan.streams pair, ap length sound.hosts, few-found host_of plan.graph.comps, sound.comps)
@@ -112,7 +112,7 @@ module _ {P : Type 0} (means : Meaning P) (old new : Seat P) (io io' : Io) (agre
   o = suspending old.plan old.kept
 
   abbrev Ran : Answer → Type 0
-  Ran answer = PowerRan means (suspend_fault old.kept.power) o old new io io' answer
+  Ran answer = SuspendRan means old new io io' answer
 
   -- all ends with the cut, whatever its acts came to
   pub suspend_stepped : io' ≡ io → written_in io.outputs ≡ [] → (answer : Answer) → Ran answer → Stepped means old.plan old.heap commands.Suspend old.kept new.kept w v answer

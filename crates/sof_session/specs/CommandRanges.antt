@@ -4,11 +4,13 @@ use Rattle.sof_script.specs.declared.script.Command.{Command}
 use Rattle.sof_script.specs.declared.script.Command.TheVariants as commands
 use Rattle.sof_session.specs.CommandTests.{asking}
 
--- the commands that are carried out so far: a load, an unload, a suspend, a show, a tick, a planned fate, and the calls on streams
+-- the commands that are carried out so far: a load, an unload, a suspend, a resume, a show, a tick, a planned fate, and the calls
+-- on streams
 abbrev pub is_built : Command → Bool
 is_built commands.Load = true
 is_built commands.Unload = true
 is_built commands.Suspend = true
+is_built commands.Resume = true
 is_built commands.Show = true
 is_built (commands.Tick n) = true
 is_built (commands.Refuse k e) = true

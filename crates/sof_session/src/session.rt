@@ -4,21 +4,19 @@ ghost use Rattle.sof_base.specs.Ports.{HasRoom, drained};
 ghost use Rattle.mbox_link.specs.Calls.{world};
 ghost use Rattle.mbox_link.specs.Fates.{IsMeant};
 ghost use Rattle.host_widgets.specs.Controls.{IsLoadable};
-ghost use Rattle.host_widgets.specs.Orders.{suspending};
-ghost use Rattle.host_pm.specs.PowerTests.{suspend_fault};
 ghost use Rattle.sof_io.specs.Bound.{output_slots};
 ghost use Rattle.sof_session.specs.Agreement.{AreAgreed};
 ghost use Rattle.sof_session.specs.CommandRanges.{is_built, is_in_range, is_tick, most_sent};
 ghost use Rattle.sof_session.specs.Commands.{answer_by};
 ghost use Rattle.sof_session.specs.Seat.{new_seat};
-ghost use Rattle.sof_session.specs.SessionCalls.{LoadRan, UnloadRan, PowerRan, PlanRan, plan_answer, StreamRan, TickRan, ports};
+ghost use Rattle.sof_session.specs.SessionCalls.{LoadRan, UnloadRan, SuspendRan, ResumeRan, PlanRan, plan_answer, StreamRan, TickRan, ports};
 ghost use Rattle.sof_session.specs.SessionStep.{Stepped};
 ghost use Rattle.sof_session.specs.Show.{show_lines, IsLineAt};
 
 use crate::show::show_line;
 use crate::streams::ask_stream;
 use host_pcm::Ask;
-use host_pm::suspend;
+use host_pm::{resume, suspend};
 use host_widgets::{Answer, HostFault, Power, Record, Trigger, load, unload};
 use mbox_link::{Dsp, Fate, FaultLink, NoRoom, PlanFull};
 use sof_base::{Name44, NoMemory};
@@ -101,10 +99,10 @@ impl<P: Dsp> Session<P> {
         self.link.into_dsp()
     }
 
-    /// Carries out a command that is built so far: `Load`, `Unload`, `Suspend`, `Show`, `Tick`, a planned fate, which
+    /// Carries out a command that is built so far: `Load`, `Unload`, `Suspend`, `Resume`, `Show`, `Tick`, a planned fate, which
     /// are `Refuse`, `Drop` and `Lose`, or a call on a stream, which are `Open`, `Params`, `Start`, `Stop`, `Pause`, `Release` and `Close`.
     /// `Load` boots the device and loads the plan where it is not loaded; `Unload` cuts the device and forgets what was
-    /// loaded; `Suspend` stops what moves and cuts the device; `Show` changes nothing, and its lines are those of `show_line`; `Tick` makes one tick, whatever its number; a
+    /// loaded; `Suspend` stops what moves and cuts the device, and `Resume` brings it back; `Show` changes nothing, and its lines are those of `show_line`; `Tick` makes one tick, whatever its number; a
     /// planned fate is that of the K-th message from now, and the answer is `PlanFull` where no more can be planned. It
     /// answers as the host's call does. The outputs are empty before it, and hold what it wrote after it.
     pub fn step(&mut self, command: &Command, io: &mut Inputs, out: &mut Outputs) -> Answer
@@ -124,6 +122,7 @@ impl<P: Dsp> Session<P> {
             Command::Load => self.load(io, out),
             Command::Unload => self.unload(io, out),
             Command::Suspend => self.suspend(io, out),
+            Command::Resume => self.resume(io, out),
             Command::Refuse(k, error) => self.plan_fate(*k, Fate::Refuse(*error)),
             Command::Drop(k) => self.plan_fate(*k, Fate::Drop),
             Command::Lose(k) => self.plan_fate(*k, Fate::Lose),
@@ -196,7 +195,7 @@ impl<P: Dsp> Session<P> {
     // Stops all that moves, and cuts the device.
     fn suspend(&mut self, io: &mut Inputs, out: &mut Outputs) -> Answer
         requires { HasRoom 0 out.old }
-        ensures ran { PowerRan P.means (suspend_fault self.old.kept.power) (suspending self.old.plan self.old.kept) self.old self.new (ports io.old out.old) (ports io.new out.new) result }
+        ensures ran { SuspendRan P.means self.old self.new (ports io.old out.old) (ports io.new out.new) result }
         ensures agreed { AreAgreed P.means self.old }
         ensures later { AreAgreed P.means self.new }
         ensures plan { self.new.plan ≡ self.old.plan }
@@ -213,6 +212,28 @@ impl<P: Dsp> Session<P> {
             out,
         );
         answer_of(suspended)
+    }
+
+    // Boots the device and brings it back to what the record says.
+    fn resume(&mut self, io: &mut Inputs, out: &mut Outputs) -> Answer
+        requires { HasRoom 0 out.old }
+        ensures ran { ResumeRan P.means self.old self.new (ports io.old out.old) (ports io.new out.new) result }
+        ensures agreed { AreAgreed P.means self.old }
+        ensures later { AreAgreed P.means self.new }
+        ensures plan { self.new.plan ≡ self.old.plan }
+        ensures heap { self.new.heap ≡ self.old.heap }
+        ensures inputs { io.new ≡ io.old }
+        ensures outputs { out.new ≡ out.old }
+    {
+        let resumed = resume(
+            &self.plan,
+            &mut self.kept,
+            self.heap,
+            &mut self.link,
+            io,
+            out,
+        );
+        answer_of(resumed)
     }
 
     // The k-th message from now is to have this fate.

@@ -13,6 +13,7 @@ use Rattle.sof_session.proofs.PlanAgreement.{is-error}
 use Rattle.sof_session.proofs.PlanSteps.{plan_stepped, plan_few, show_stepped}
 use Rattle.sof_session.proofs.StepCommands.{in-range-of, ahead-in, refuse-in, as-is, few-by, is-show}
 use Rattle.sof_session.proofs.PowerSteps.{suspend_stepped, suspend_few}
+use Rattle.sof_session.proofs.ResumeSteps.{resume_stepped, resume_few}
 use Rattle.sof_session.proofs.Stepping.{SteppedIn, same-ports}
 use Rattle.sof_session.proofs.TickAgreement.{ticked-slots}
 use Rattle.sof_session.proofs.TickSteps.{tick_stepped}
@@ -31,6 +32,9 @@ unload-requires g c = all-room c.args.out.now c.requires.empty 0 (omega arith)
 
 pub suspend-requires : goal.suspend-requires
 suspend-requires g c = all-room c.args.out.now c.requires.empty 0 (omega arith)
+
+pub resume-requires : goal.resume-requires
+resume-requires g c = all-room c.args.out.now c.requires.empty 0 (omega arith)
 
 pub plan_fate-requires-clause-ahead : goal.plan_fate-requires-clause-ahead
 plan_fate-requires-clause-ahead g c = ahead-in c.in-Refuse.k (refuse-in c.in-Refuse.k c.in-Refuse.error (in-range-of c.args.command.now (commands.Refuse c.in-Refuse.k c.in-Refuse.error) c.in-Refuse.is c.requires.numbers)).0
@@ -95,6 +99,16 @@ returns-in-Suspend-clause-stepped g c =
     let after = ports done.new.io done.new.out in
     subst (SteppedIn means old done.new.self before after done.result) (sym c.in-Suspend.is)
     (suspend_stepped means old done.new.self before after done.ensures.agreed c.requires.few (same-ports c.args.io.now done.new.io c.args.out.now done.new.out done.ensures.inputs done.ensures.outputs) (none-written c.args.out.now c.requires.empty) done.result done.ensures.ran)
+
+pub returns-in-Resume-clause-stepped : goal.returns-in-Resume-clause-stepped
+returns-in-Resume-clause-stepped g c =
+    let means = g.P.Dsp.means in
+    let old = c.args.self.now in
+    let done = c.resume in
+    let before = ports c.args.io.now c.args.out.now in
+    let after = ports done.new.io done.new.out in
+    subst (SteppedIn means old done.new.self before after done.result) (sym c.in-Resume.is)
+    (resume_stepped means old done.new.self before after done.ensures.agreed c.requires.few (same-ports c.args.io.now done.new.io c.args.out.now done.new.out done.ensures.inputs done.ensures.outputs) (none-written c.args.out.now c.requires.empty) done.result done.ensures.ran)
 
 pub returns-in-Unload-clause-stepped : goal.returns-in-Unload-clause-stepped
 returns-in-Unload-clause-stepped g c =
@@ -183,7 +197,7 @@ returns-in_default-clause-stepped g c =
     let old = c.args.self.now in
     let io = ports c.args.io.now c.args.out.now in
     let arm = c.in_default in
-    let is = is-show c.args.command.now c.requires.built arm.not-Load arm.not-Unload arm.not-Suspend arm.not-Refuse arm.not-Drop arm.not-Lose arm.not-Tick arm.not-Open arm.not-Params arm.not-Start arm.not-Stop arm.not-Pause arm.not-Release arm.not-Close in
+    let is = is-show c.args.command.now c.requires.built arm.not-Load arm.not-Unload arm.not-Suspend arm.not-Resume arm.not-Refuse arm.not-Drop arm.not-Lose arm.not-Tick arm.not-Open arm.not-Params arm.not-Start arm.not-Stop arm.not-Pause arm.not-Release arm.not-Close in
     subst (λ (x : Command × Answer). SteppedIn g.P.Dsp.means old old io io x.1 x.0) (λ i. (sym is i, sym c.show.ensures.shown i)) (show_stepped g.P.Dsp.means old io (none-written c.args.out.now c.requires.empty))
 
 -- ---- the messages that were sent
@@ -201,6 +215,13 @@ returns-in-Suspend-clause-sent g c =
     let done = c.suspend in
     few-by c.args.command.now commands.Suspend old.link.sent done.new.self.link.sent c.in-Suspend.is refl
     (suspend_few g.P.Dsp.means old done.new.self (ports c.args.io.now c.args.out.now) (ports done.new.io done.new.out) done.ensures.agreed c.requires.few done.result done.ensures.ran)
+
+pub returns-in-Resume-clause-sent : goal.returns-in-Resume-clause-sent
+returns-in-Resume-clause-sent g c =
+    let old = c.args.self.now in
+    let done = c.resume in
+    few-by c.args.command.now commands.Resume old.link.sent done.new.self.link.sent c.in-Resume.is refl
+    (resume_few g.P.Dsp.means old done.new.self (ports c.args.io.now c.args.out.now) (ports done.new.io done.new.out) done.ensures.agreed c.requires.few done.result done.ensures.ran)
 
 pub returns-in-Unload-clause-sent : goal.returns-in-Unload-clause-sent
 returns-in-Unload-clause-sent g c =

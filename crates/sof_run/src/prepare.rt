@@ -100,8 +100,8 @@ fn is_built(command: &Command) -> bool
         Command::Start(_) | Command::Stop(_) => true,
         Command::Pause(_) | Command::Release(_) => true,
         Command::Refuse(_, _) | Command::Drop(_) | Command::Lose(_) => true,
-        Command::Set(_, _) | Command::Bytes(_, _) | Command::Get(_) | Command::Read(_) => false,
-        Command::Lag(_, _) => false,
+        Command::Set(_, _) | Command::Get(_) | Command::Read(_) => true,
+        Command::Bytes(_, _) | Command::Lag(_, _) => false,
     }
 }
 

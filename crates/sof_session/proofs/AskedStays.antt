@@ -1,11 +1,11 @@
--- A call on a stream leaves the endpoints as they are.
+-- A call that sends acts alone leaves the endpoints as they are: one on a stream is so.
 use Rattle.std.proofs.Common.{◌≡◌, ⊎_elim, ℕ, false, List, [], ◌∷◌, Option, Some, None, refl, ap, subst, ◌∙◌}
 use Rattle.sof_base.specs.Ports.{Io}
 use Rattle.stream_law.specs.Past.{Moment, Cut}
 use Rattle.mbox_link.specs.Calls.{World, Meaning, Led}
 use Rattle.mbox_link.specs.Link.{link}
 use Rattle.mbox_link.specs.Wire.{Wire}
-use Rattle.host_widgets.specs.declared.answers.Answer.TheVariants.{Done}
+use Rattle.host_widgets.specs.declared.answers.Answer.{Answer}
 use Rattle.host_widgets.specs.declared.answers.HostFault.{HostFault}
 use Rattle.host_widgets.specs.declared.kept.Power.{Power}
 use Rattle.host_widgets.specs.declared.kept.Power.TheVariants.{Unloaded, On, Off}
@@ -13,16 +13,16 @@ use Rattle.host_widgets.specs.declared.kept.Record.{Record}
 use Rattle.host_widgets.specs.HostActs.{Act}
 use Rattle.host_widgets.specs.ActCalls.{calls_of}
 use Rattle.host_widgets.specs.Host.{Outcome, Agrees}
-use Rattle.host_widgets.specs.Orders.{Order, Carried, sends}
+use Rattle.host_widgets.specs.Orders.{Order, Carried, Tested, sends}
 use Rattle.host_pcm.specs.declared.asking.Ask.{Ask}
 use Rattle.host_pcm.specs.Asks.{early_fault}
-use Rattle.host_pcm.specs.StreamOrders.{Asked}
+use Rattle.host_pcm.specs.StreamOrders.{Asked, stream_order}
 use Rattle.sof_session.specs.Agreement.{AreAgreed, Powered}
 use Rattle.sof_session.specs.Seat.{Seat}
 use Rattle.sof_session.proofs.Agreement.{at}
 use Rattle.sof_session.proofs.ActsLed.{acts-io}
 use Rattle.sof_session.proofs.OrderStands.{sending, last, plain-cuts}
-use Rattle.sof_session.proofs.SentOrders.{sent-stream}
+use Rattle.sof_session.proofs.SentOrders.{IsSent, sent-stream}
 
 module _ {P : Type 0} (means : Meaning P) (old : Seat P) (wire : Wire P) (io io' : Io) (agreed : AreAgreed means old) (kept : Record) (agree : Agrees (link means) old.plan kept wire) (result : Outcome) where
   abbrev w : World (Wire P)
@@ -31,7 +31,7 @@ module _ {P : Type 0} (means : Meaning P) (old : Seat P) (wire : Wire P) (io io'
   abbrev v : World (Wire P)
   v = at wire io'
 
-  module _ (acts : List Act) (done : Record → Record) where
+  module _ (acts : List Act) (done : Record → Record) (answer : Answer) where
     abbrev CarriedSo : Order → Type 0
     CarriedSo o = Carried (link means) old.plan old.heap o old.kept kept w v result
 
@@ -42,22 +42,24 @@ module _ {P : Type 0} (means : Meaning P) (old : Seat P) (wire : Wire P) (io io'
     none-io : (s : World (Wire P)) (ms : List Moment) → Led (link means) s (calls_of old.heap ms) v → ms ≡ [] → v.io ≡ s.io
     none-io s ms led is = ap (λ (x : World (Wire P)). x.io) (subst (λ (x : List Moment). Led (link means) s (calls_of old.heap x) v) is led)
 
-    by-power : (power : Power) → Powered means old power → CarriedSo (sends power acts done Done) → v.io ≡ w.io
+    by-power : (power : Power) → Powered means old power → CarriedSo (sends power acts done answer) → v.io ≡ w.io
     by-power Unloaded off c = ap (λ (x : World (Wire P)). x.io) (c.ends.1 ∙ c.walked.1 ∙ c.first)
     by-power Off off c = ap (λ (x : World (Wire P)). x.io) (c.ends.1 ∙ c.walked.1 ∙ c.first)
     by-power On powered c =
-        let o = sending acts done Done in
+        let o = sending acts done answer in
         let ms = last means old.heap old.plan o old.kept kept w v result c in
         ⊎_elim (λ cut. end-io c.sent ms c.ends.1 cut) (λ no_more. none-io c.sent ms c.ends.1 no_more) (plain-cuts done _ _)
         ∙ acts-io (link means) old.plan old.heap false acts c.meetings old.kept c.begun c.sent c.walked
         (ap (λ (x : World (Wire P)). means.pending x.device.device) c.first ∙ agreed.pending) powered.0 (ap (λ (x : World (Wire P)). means.on x.device.device) c.first ∙ powered.1)
         ∙ ap (λ (x : World (Wire P)). x.io) c.first
 
-  pub asked-io : (name : List ℕ) (ask : Ask) → Asked (link means) old.plan old.heap name ask old.kept kept w v result → io' ≡ io
-  asked-io name ask asked = by (early_fault old.plan old.kept name ask) refl
+  -- by a test, and such an order where none fails
+  pub sent-io : (test : Option HostFault) (o : Order) → IsSent old.kept o → Tested (link means) old.plan old.heap test o old.kept kept w v result → io' ≡ io
+  sent-io test o sent tested = by test refl
     where
-      by : (test : Option HostFault) → early_fault old.plan old.kept name ask ≡ test → io' ≡ io
-      by (Some fault) is = ap (λ (x : World (Wire P)). x.io) (asked.early fault is).1
-      by None is =
-          let s = sent-stream old.plan old.kept name ask in
-          by-power s.acts s.done old.kept.power agreed.powered (subst (CarriedSo s.acts s.done) s.is (asked.late is))
+      by : (t : Option HostFault) → test ≡ t → io' ≡ io
+      by (Some fault) is = ap (λ (x : World (Wire P)). x.io) (tested.early fault is).1
+      by None is = by-power sent.acts sent.done sent.answer old.kept.power agreed.powered (subst (CarriedSo sent.acts sent.done sent.answer) sent.is (tested.late is))
+
+  pub asked-io : (name : List ℕ) (ask : Ask) → Asked (link means) old.plan old.heap name ask old.kept kept w v result → io' ≡ io
+  asked-io name ask asked = sent-io (early_fault old.plan old.kept name ask) (stream_order old.plan old.kept name ask) (sent-stream old.plan old.kept name ask) (record { early = asked.early; late = asked.late })

@@ -1,10 +1,10 @@
--- After a load, an unload, a suspend, a resume and a call on a stream the two sides agree again.
+-- After a load, an unload, a suspend, a resume and a call that sends acts alone, as one on a stream, the two sides agree again.
 use Rattle.std.proofs.Common.{◌≡◌, ⊎_elim, ℕ, false, List, [], Option, Some, None, Ok, Err, refl, sym, ap, subst, ◌∙◌, arith}
 use Rattle.sof_base.specs.Ports.{Io}
 use Rattle.mbox_link.specs.Calls.{World, Meaning}
 use Rattle.mbox_link.specs.Link.{link}
 use Rattle.mbox_link.specs.Wire.{Wire}
-use Rattle.host_widgets.specs.declared.answers.Answer.TheVariants.{Done}
+use Rattle.host_widgets.specs.declared.answers.Answer.{Answer}
 use Rattle.host_widgets.specs.declared.answers.HostFault.{HostFault}
 use Rattle.host_widgets.specs.declared.kept.Power.{Power}
 use Rattle.host_widgets.specs.declared.kept.Power.TheVariants.{Unloaded, On, Off}
@@ -29,7 +29,7 @@ use Rattle.sof_session.proofs.Agreement.{at, seat_with, Kept, kept-by, Shows, He
 use Rattle.sof_session.proofs.Keeping.{Keeps-loaded}
 use Rattle.sof_session.proofs.OrderCalls.{carried-led}
 use Rattle.sof_session.proofs.OrderStands.{sending, cut-off, met, sent-left}
-use Rattle.sof_session.proofs.SentOrders.{sent-stream}
+use Rattle.sof_session.proofs.SentOrders.{IsSent, sent-stream}
 
 module _ {P : Type 0} (means : Meaning P) (old : Seat P) (wire : Wire P) (io io' : Io) (agreed : AreAgreed means old) (kept : Record) (agree : Agrees (link means) old.plan kept wire) (result : Outcome) where
   abbrev new : Seat P
@@ -105,20 +105,23 @@ module _ {P : Type 0} (means : Meaning P) (old : Seat P) (wire : Wire P) (io io'
   pub AreAgreed-resumed : Tested (link means) old.plan old.heap (resume_fault old.kept.power) (resuming old.plan old.kept) old.kept kept (at old.link io) (at wire io') result → ResumeLeft (link means) old.plan old.heap old.kept old.link result wire → AreAgreed means new
   AreAgreed-resumed tested left = by-test (resume_fault old.kept.power) (resuming old.plan old.kept) tested (λ none c. resumed-found c result refl left)
 
-  -- ---- a call on a stream, in every sound plan
+  -- ---- a call that sends acts alone
 
   -- after acts, or none where the power was off
-  module _ (acts : List Act) (done : Record → Record) where
-    sent-found : (power : Power) → Powered means old power → CarriedSo (sends power acts done Done) → AreTaken old.plan false old.kept (sends power acts done Done).acts → Found
+  module _ (acts : List Act) (done : Record → Record) (answer : Answer) where
+    sent-found : (power : Power) → Powered means old power → CarriedSo (sends power acts done answer) → AreTaken old.plan false old.kept (sends power acts done answer).acts → Found
     sent-found Unloaded off c taken shows = off-found (ap (λ (x : World (Wire P)). means.on x.device.device) (c.ends.1 ∙ c.walked.1 ∙ c.first) ∙ off) shows
     sent-found Off off c taken shows = off-found (ap (λ (x : World (Wire P)). means.on x.device.device) (c.ends.1 ∙ c.walked.1 ∙ c.first) ∙ off) shows
     sent-found On powered c taken shows = ⊎_elim
-        (λ cut. off-found (cut-off means old.heap old.plan (sending acts done Done) old.kept kept (at old.link io) (at wire io') result c cut) shows)
+        (λ cut. off-found (cut-off means old.heap old.plan (sending acts done answer) old.kept kept (at old.link io) (at wire io') result c cut) shows)
         (λ u. kept-here means old wire io io' agreed kept agree shows _ u.state u.is_on u.keeps_now)
-        (sent-left means old.heap old.plan acts done Done old.kept kept (at old.link io) (at wire io') result c agreed.pending powered.0 powered.1 agreed.agree.record_is powered.2 taken)
+        (sent-left means old.heap old.plan acts done answer old.kept kept (at old.link io) (at wire io') result c agreed.pending powered.0 powered.1 agreed.agree.record_is powered.2 taken)
 
+  pub AreAgreed-sent : (test : Option HostFault) (o : Order) → IsSent old.kept o → (test ≡ None → AreTaken old.plan false old.kept o.acts) → Tested (link means) old.plan old.heap test o old.kept kept (at old.link io) (at wire io') result → AreAgreed means new
+  AreAgreed-sent test o s taken tested = by-test test o tested
+      (λ none c. sent-found s.acts s.done s.answer old.kept.power agreed.powered (subst CarriedSo s.is c) (subst (λ (x : Order). AreTaken old.plan false old.kept x.acts) s.is (taken none)))
+
+  -- one on a stream, in every sound plan
   pub AreAgreed-asked : (name : List ℕ) (ask : Ask) → Asked (link means) old.plan old.heap name ask old.kept kept (at old.link io) (at wire io') result → AreAgreed means new
-  AreAgreed-asked name ask asked = by-test (early_fault old.plan old.kept name ask) (stream_order old.plan old.kept name ask) (record { early = asked.early; late = asked.late })
-      (λ none c.
-      let s = sent-stream old.plan old.kept name ask in
-      sent-found s.acts s.done old.kept.power agreed.powered (subst CarriedSo s.is c) (subst (λ (o : Order). AreTaken old.plan false old.kept o.acts) s.is (asked-taken old.plan agreed.loadable.sound old.kept agreed.agree.record_is name ask none)))
+  AreAgreed-asked name ask asked = AreAgreed-sent (early_fault old.plan old.kept name ask) (stream_order old.plan old.kept name ask) (sent-stream old.plan old.kept name ask)
+      (asked-taken old.plan agreed.loadable.sound old.kept agreed.agree.record_is name ask) (record { early = asked.early; late = asked.late })

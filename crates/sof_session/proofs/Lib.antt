@@ -28,6 +28,8 @@ pub mod ResumeSteps
 pub mod PlanSteps
 pub mod TickSteps
 pub mod SentOrders
+pub mod SentSteps
+pub mod ControlSteps
 pub mod AskedSteps
 pub mod ActsLed
 pub mod OrderCalls

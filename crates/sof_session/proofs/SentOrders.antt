@@ -1,6 +1,7 @@
--- The orders of calls on streams send acts where the power is on, and else nothing.
+-- Orders that send acts where the power is on, and else nothing: those of calls on streams are so.
 use Rattle.std.proofs.Common.{◌≡◌, refl, sym, subst, ℕ, ◌≤◌, List, [], ◌∷◌, length, unwrap_or, arith}
 use Rattle.tplg_plan.specs.declared.plans.Plan.{Plan}
+use Rattle.host_widgets.specs.declared.answers.Answer.{Answer}
 use Rattle.host_widgets.specs.declared.answers.Answer.TheVariants.{Done}
 use Rattle.host_widgets.specs.declared.kept.Found.{Found}
 use Rattle.host_widgets.specs.declared.kept.Found.TheVariants.{Closed, Open, Prepared, Running, Paused, On as Found_On}
@@ -27,28 +28,42 @@ few-closing host Found_On = omega arith
 pub record IsSent (kept : Record) (o : Order) : Type 0 where
   pub acts : List Act
   pub done : Record → Record
-  pub is : o ≡ sends kept.power acts done Done
+  pub answer : Answer
+  pub is : o ≡ sends kept.power acts done answer
   pub few : length acts ≤ 900
 
 sent-asking : (plan : Plan) (kept : Record) (host : ℕ) (found : Found) (ask : Ask) → IsSent kept (asking_order plan kept host found ask)
-sent-asking plan kept host found Opening = record { acts = []; done = with_stream plan host opened; is = refl; few = omega arith }
-sent-asking plan kept host found (Preparing p) = record { acts = Prepare host p ∷ []; done = λ now. now; is = refl; few = omega arith }
-sent-asking plan kept host found (Triggering what) = record { acts = Trig host what ∷ []; done = λ now. now; is = refl; few = omega arith }
-sent-asking plan kept host found Closing = record { acts = close_by host found; done = with_stream plan host shut; is = refl; few = few-closing host found }
+sent-asking plan kept host found Opening = record { acts = []; done = with_stream plan host opened; answer = Done; is = refl; few = omega arith }
+sent-asking plan kept host found (Preparing p) = record { acts = Prepare host p ∷ []; done = λ now. now; answer = Done; is = refl; few = omega arith }
+sent-asking plan kept host found (Triggering what) = record { acts = Trig host what ∷ []; done = λ now. now; answer = Done; is = refl; few = omega arith }
+sent-asking plan kept host found Closing = record { acts = close_by host found; done = with_stream plan host shut; answer = Done; is = refl; few = few-closing host found }
 
 pub sent-stream : (plan : Plan) (kept : Record) (name : List ℕ) (ask : Ask) → IsSent kept (stream_order plan kept name ask)
 sent-stream plan kept name ask = let k = unwrap_or (stream_place plan name) 0 in sent-asking plan kept (host_at plan k) (stream_at kept k).found ask
 
-pub sends-done : (power : Power) (acts : List Act) (done : Record → Record) → (sends power acts done Done).answer ≡ Done
-sends-done On acts done = refl
-sends-done Unloaded acts done = refl
-sends-done Off acts done = refl
+pub sends-answer : (power : Power) (acts : List Act) (done : Record → Record) (answer : Answer) → (sends power acts done answer).answer ≡ answer
+sends-answer On acts done answer = refl
+sends-answer Unloaded acts done answer = refl
+sends-answer Off acts done answer = refl
 
-sends-few : (power : Power) (acts : List Act) (done : Record → Record) → length acts ≤ 900 → length (sends power acts done Done).acts ≤ 900
-sends-few On acts done few = few
-sends-few Unloaded acts done few = omega arith
-sends-few Off acts done few = omega arith
+sends-few : (power : Power) (acts : List Act) (done : Record → Record) (answer : Answer) → length acts ≤ 900 → length (sends power acts done answer).acts ≤ 900
+sends-few On acts done answer few = few
+sends-few Unloaded acts done answer few = omega arith
+sends-few Off acts done answer few = omega arith
+
+-- a call on a stream answers no more than that it is done
+asking-done : (plan : Plan) (kept : Record) (host : ℕ) (found : Found) (ask : Ask) → (asking_order plan kept host found ask).answer ≡ Done
+asking-done plan kept host found Opening = sends-answer kept.power [] (with_stream plan host opened) Done
+asking-done plan kept host found (Preparing p) = sends-answer kept.power (Prepare host p ∷ []) (λ now. now) Done
+asking-done plan kept host found (Triggering what) = sends-answer kept.power (Trig host what ∷ []) (λ now. now) Done
+asking-done plan kept host found Closing = sends-answer kept.power (close_by host found) (with_stream plan host shut) Done
+
+pub stream-done : (plan : Plan) (kept : Record) (name : List ℕ) (ask : Ask) → (stream_order plan kept name ask).answer ≡ Done
+stream-done plan kept name ask = let k = unwrap_or (stream_place plan name) 0 in asking-done plan kept (host_at plan k) (stream_at kept k).found ask
 
 -- at most 900
+pub few-sent : (kept : Record) (o : Order) → IsSent kept o → length o.acts ≤ 900
+few-sent kept o s = subst (λ (x : Order). length x.acts ≤ 900) (sym s.is) (sends-few kept.power s.acts s.done s.answer s.few)
+
 pub few-stream : (plan : Plan) (kept : Record) (name : List ℕ) (ask : Ask) → length (stream_order plan kept name ask).acts ≤ 900
-few-stream plan kept name ask = let s = sent-stream plan kept name ask in subst (λ (o : Order). length o.acts ≤ 900) (sym s.is) (sends-few kept.power s.acts s.done s.few)
+few-stream plan kept name ask = few-sent kept (stream_order plan kept name ask) (sent-stream plan kept name ask)

@@ -4,8 +4,8 @@ use Rattle.sof_script.specs.declared.script.Command.{Command}
 use Rattle.sof_script.specs.declared.script.Command.TheVariants as commands
 use Rattle.sof_session.specs.CommandTests.{asking}
 
--- the commands that are carried out so far: a load, an unload, a suspend, a resume, a show, a tick, a planned fate, and the calls
--- on streams
+-- the commands that are carried out so far: a load, an unload, a suspend, a resume, a show, a tick, a planned fate, values of
+-- controls, which are set, told and read, and the calls on streams
 abbrev pub is_built : Command → Bool
 is_built commands.Load = true
 is_built commands.Unload = true
@@ -16,6 +16,9 @@ is_built (commands.Tick n) = true
 is_built (commands.Refuse k e) = true
 is_built (commands.Drop k) = true
 is_built (commands.Lose k) = true
+is_built (commands.Set name values) = true
+is_built (commands.Get name) = true
+is_built (commands.Read name) = true
 is_built command = is_some (asking command)
 
 -- how far ahead a fate is planned: 1 to 100000 messages

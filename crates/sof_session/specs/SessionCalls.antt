@@ -1,5 +1,5 @@
 -- What the calls of a session do, each by its own test and calls on the link.
-use Rattle.std.specs.Prelude.{◌≡◌, ℕ, List, Result, Ok, Err}
+use Rattle.std.specs.Prelude.{◌≡◌, ℕ, List, Option, Result, Ok, Err}
 use Rattle.sof_base.specs.Ports.{Io, InputView, OutputView}
 use Rattle.mbox_link.specs.Calls.{Meaning, Tick, Did}
 use Rattle.mbox_link.specs.Wire.{Wire}
@@ -8,11 +8,12 @@ use Rattle.mbox_link.specs.declared.fates.PlanFull.{PlanFull}
 use Rattle.mbox_link.specs.Link.{link, Planned}
 use Rattle.host_widgets.specs.declared.answers.Answer.{Answer}
 use Rattle.host_widgets.specs.declared.answers.Answer.TheVariants as answers
+use Rattle.host_widgets.specs.declared.answers.HostFault.{HostFault}
 use Rattle.host_widgets.specs.declared.kept.Power.{Power}
 use Rattle.host_widgets.specs.declared.kept.Power.TheVariants.{On}
 use Rattle.host_widgets.specs.Host.{Outcome, BroughtUp}
 use Rattle.host_widgets.specs.Kept.{first_record}
-use Rattle.host_widgets.specs.Orders.{Tested, load_fault, loading, unload_fault, unloading, suspending, resuming}
+use Rattle.host_widgets.specs.Orders.{Order, Tested, load_fault, loading, unload_fault, unloading, suspending, resuming}
 use Rattle.host_pcm.specs.declared.asking.Ask.{Ask}
 use Rattle.host_pcm.specs.StreamOrders.{Asked}
 use Rattle.host_pm.specs.PowerTests.{suspend_fault, resume_fault}
@@ -49,6 +50,17 @@ pub record ResumeRan {P : Type 0} (means : Meaning P) (old new : Seat P) (before
   pub tested : Tested (link means) old.plan old.heap (resume_fault old.kept.power) (resuming old.plan old.kept) old.kept new.kept (record { device = old.link; io = before }) (record { device = new.link; io = after }) outcome
   pub left : ResumeLeft (link means) old.plan old.heap old.kept old.link outcome new.link
   pub said : answer ≡ answer_by answers.Done outcome
+
+-- what a call on a control did, by its test and its order: its calls on the link, what it came to, and its order's answer
+pub record ControlRan {P : Type 0} (means : Meaning P) (test : Option HostFault) (o : Order) (old new : Seat P) (before after : Io) (answer : Answer) : Type 0 where
+  pub outcome : Outcome
+  pub tested : Tested (link means) old.plan old.heap test o old.kept new.kept (record { device = old.link; io = before }) (record { device = new.link; io = after }) outcome
+  pub said : answer ≡ answer_by o.answer outcome
+
+-- the answer of a call that tells something once it is done
+abbrev pub told_answer : Result Answer HostFault → Answer
+told_answer (Ok answer) = answer
+told_answer (Err fault) = answers.Fault fault
 
 -- the answer where a fate was planned, or where there was no room for it
 abbrev pub plan_answer : Result (Unit {0}) PlanFull → Answer

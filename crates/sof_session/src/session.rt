@@ -4,22 +4,25 @@ ghost use Rattle.sof_base.specs.Ports.{HasRoom, drained};
 ghost use Rattle.mbox_link.specs.Calls.{world};
 ghost use Rattle.mbox_link.specs.Fates.{IsMeant};
 ghost use Rattle.host_widgets.specs.Controls.{IsLoadable};
+ghost use Rattle.host_ctl.specs.ControlAsks.{set_fault, get_fault, read_fault};
+ghost use Rattle.host_ctl.specs.ControlOrders.{set_order, get_order, read_order};
 ghost use Rattle.sof_io.specs.Bound.{output_slots};
 ghost use Rattle.sof_session.specs.Agreement.{AreAgreed};
 ghost use Rattle.sof_session.specs.CommandRanges.{is_built, is_in_range, is_tick, most_sent};
 ghost use Rattle.sof_session.specs.Commands.{answer_by};
 ghost use Rattle.sof_session.specs.Seat.{new_seat};
-ghost use Rattle.sof_session.specs.SessionCalls.{LoadRan, UnloadRan, SuspendRan, ResumeRan, PlanRan, plan_answer, StreamRan, TickRan, ports};
+ghost use Rattle.sof_session.specs.SessionCalls.{LoadRan, UnloadRan, SuspendRan, ResumeRan, ControlRan, told_answer, PlanRan, plan_answer, StreamRan, TickRan, ports};
 ghost use Rattle.sof_session.specs.SessionStep.{Stepped};
 ghost use Rattle.sof_session.specs.Show.{show_lines, IsLineAt};
 
 use crate::show::show_line;
 use crate::streams::ask_stream;
+use host_ctl::{get, read, set};
 use host_pcm::Ask;
 use host_pm::{resume, suspend};
 use host_widgets::{Answer, HostFault, Power, Record, Trigger, load, unload};
 use mbox_link::{Dsp, Fate, FaultLink, NoRoom, PlanFull};
-use sof_base::{Name44, NoMemory};
+use sof_base::{Bounded, Name44, NoMemory};
 use sof_io::{Inputs, Outputs};
 use sof_script::{Command, Line};
 use std::alloc::Global;
@@ -34,6 +37,13 @@ fn answer_of(done: Result<(), HostFault>) -> Answer
         Ok(()) => Answer::Done,
         Err(fault) => Answer::Fault(fault),
     }
+}
+
+// What a call answers that tells something once it is done.
+fn told_answer(asked: Result<Answer, HostFault>) -> Answer
+    ensures { result ≡ told_answer asked }
+{
+    asked.unwrap_or_else(Answer::Fault)
 }
 
 // The answer where a fate was planned, or where there was no room for it.
@@ -100,7 +110,8 @@ impl<P: Dsp> Session<P> {
     }
 
     /// Carries out a command that is built so far: `Load`, `Unload`, `Suspend`, `Resume`, `Show`, `Tick`, a planned fate, which
-    /// are `Refuse`, `Drop` and `Lose`, or a call on a stream, which are `Open`, `Params`, `Start`, `Stop`, `Pause`, `Release` and `Close`.
+    /// are `Refuse`, `Drop` and `Lose`, a call on a control, which are `Set`, `Get` and `Read`, or a call on a stream, which are
+    /// `Open`, `Params`, `Start`, `Stop`, `Pause`, `Release` and `Close`.
     /// `Load` boots the device and loads the plan where it is not loaded; `Unload` cuts the device and forgets what was
     /// loaded; `Suspend` stops what moves and cuts the device, and `Resume` brings it back; `Show` changes nothing, and its lines are those of `show_line`; `Tick` makes one tick, whatever its number; a
     /// planned fate is that of the K-th message from now, and the answer is `PlanFull` where no more can be planned. It
@@ -134,6 +145,9 @@ impl<P: Dsp> Session<P> {
             Command::Pause(name) => self.ask(name, Ask::Triggering(Trigger::Pause), io, out),
             Command::Release(name) => self.ask(name, Ask::Triggering(Trigger::Release), io, out),
             Command::Close(name) => self.ask(name, Ask::Closing, io, out),
+            Command::Set(name, values) => self.set(name, values, io, out),
+            Command::Get(name) => self.get(name, io, out),
+            Command::Read(name) => self.read(name, io, out),
             _ => self.show(),
         }
     }
@@ -234,6 +248,81 @@ impl<P: Dsp> Session<P> {
             out,
         );
         answer_of(resumed)
+    }
+
+    // The control of this name has these values, or this one value for all its channels.
+    fn set(
+        &mut self,
+        name: &Name44,
+        values: &Bounded<u32, 8>,
+        io: &mut Inputs,
+        out: &mut Outputs,
+    ) -> Answer
+        requires { HasRoom 0 out.old }
+        ensures ran { ControlRan P.means (set_fault self.old.plan self.old.kept name.now values.now) (set_order self.old.plan self.old.kept name.now values.now) self.old self.new (ports io.old out.old) (ports io.new out.new) result }
+        ensures agreed { AreAgreed P.means self.old }
+        ensures later { AreAgreed P.means self.new }
+        ensures plan { self.new.plan ≡ self.old.plan }
+        ensures heap { self.new.heap ≡ self.old.heap }
+        ensures inputs { io.new ≡ io.old }
+        ensures outputs { out.new ≡ out.old }
+    {
+        let done = set(
+            &self.plan,
+            &mut self.kept,
+            self.heap,
+            &mut self.link,
+            io,
+            out,
+            name,
+            values.items(),
+        );
+        answer_of(done)
+    }
+
+    // What the record says of the control of this name.
+    fn get(&mut self, name: &Name44, io: &mut Inputs, out: &mut Outputs) -> Answer
+        ensures ran { ControlRan P.means (get_fault self.old.plan self.old.kept name.now) (get_order self.old.plan self.old.kept name.now) self.old self.new (ports io.old out.old) (ports io.new out.new) result }
+        ensures agreed { AreAgreed P.means self.old }
+        ensures later { AreAgreed P.means self.new }
+        ensures plan { self.new.plan ≡ self.old.plan }
+        ensures heap { self.new.heap ≡ self.old.heap }
+        ensures inputs { io.new ≡ io.old }
+        ensures outputs { out.new ≡ out.old }
+    {
+        let told = get(
+            &self.plan,
+            &mut self.kept,
+            self.heap,
+            &mut self.link,
+            io,
+            out,
+            name,
+        );
+        told_answer(told)
+    }
+
+    // What the firmware says of the control of this name.
+    fn read(&mut self, name: &Name44, io: &mut Inputs, out: &mut Outputs) -> Answer
+        requires { HasRoom 0 out.old }
+        ensures ran { ControlRan P.means (read_fault self.old.plan self.old.kept name.now) (read_order self.old.plan self.old.kept name.now) self.old self.new (ports io.old out.old) (ports io.new out.new) result }
+        ensures agreed { AreAgreed P.means self.old }
+        ensures later { AreAgreed P.means self.new }
+        ensures plan { self.new.plan ≡ self.old.plan }
+        ensures heap { self.new.heap ≡ self.old.heap }
+        ensures inputs { io.new ≡ io.old }
+        ensures outputs { out.new ≡ out.old }
+    {
+        let told = read(
+            &self.plan,
+            &mut self.kept,
+            self.heap,
+            &mut self.link,
+            io,
+            out,
+            name,
+        );
+        told_answer(told)
     }
 
     // The k-th message from now is to have this fate.

@@ -1,5 +1,5 @@
 -- A fresh firmware takes all acts that lead from nothing to what a record says.
-use Rattle.std.proofs.Common.{◌≡◌, ⊎_elim, refl, sym, ap, subst, ◌∙◌, ℕ, ◌<◌, List, [], ◌∷◌, ◌++◌, map, length, zip, Bool, true, false, ◌==◌, Option, Some, None, Ok, arith}
+use Rattle.std.proofs.Common.{◌≡◌, ⊎_elim, refl, sym, ap, subst, ◌∙◌, ℕ, List, [], ◌∷◌, ◌++◌, map, length, zip, Bool, true, false, ◌==◌, Option, Some, None, Ok, arith}
 use Rattle.std.specs.Prelude.{if◌then◌else◌}
 use Rattle.std.specs.List.{flat_map, list_all}
 use Rattle.std.proofs.lemmas.Bool.{and_parts, cases_Bool, eq-eqb, eqb-true, false≢true}
@@ -21,10 +21,10 @@ use Rattle.host_widgets.specs.ActLists.{bring_up, bring_back, prepare_acts, prep
 use Rattle.host_widgets.specs.ActMessages.{message_of}
 use Rattle.host_widgets.specs.Controls.{IsLoadable}
 use Rattle.host_widgets.specs.Host.{Fits, IsRecordOf}
-use Rattle.host_widgets.specs.HostActs.{Act, Prepare, Trig, after, triggered}
+use Rattle.host_widgets.specs.HostActs.{Act, Trig, after, triggered}
 use Rattle.host_widgets.specs.HostRecord.{halted, halted_found, is_in_range}
 use Rattle.host_widgets.specs.Keeps.{Keeps}
-use Rattle.host_widgets.specs.Kept.{changed, with_stream, went_down}
+use Rattle.host_widgets.specs.Kept.{changed, went_down}
 use Rattle.host_widgets.specs.OneAct.{own}
 use Rattle.host_widgets.specs.StateOf.{state_by}
 use Rattle.host_widgets.specs.ViewOf.{view_by}
@@ -40,21 +40,21 @@ use Rattle.host_widgets.proofs.StreamRows.{AllAt}
 use Rattle.host_pcm.specs.Asks.{takes_trigger}
 use Rattle.host_pcm.proofs.StreamAnswers.{all-at}
 use Rattle.host_pcm.proofs.StreamsTaken.{trig-is, trig-comes}
-use Rattle.host_pm.specs.FromScratch.{IsFromScratch, Takes, from_scratch, start_acts, start_by}
+use Rattle.host_pm.specs.FromScratch.{IsFromScratch, TakesActs, start_acts, start_by}
 use Rattle.host_pm.proofs.GoingDown.{elsewhere}
 use Rattle.host_pm.proofs.TurnsCome.{AreMet}
 use Rattle.host_pm.proofs.Unprepared.{AllWere, IsFine, all-were, bare_from, bare-view, coming-back, fine-seen, own-none, same-kept, takes-kept}
 
 -- ---- one list behind another
 
-takes-then : (plan : Plan) (xs ys : List Act) (f g h : FwState) → Takes plan f xs g → Takes plan g ys h → Takes plan f (xs ++ ys) h
-takes-then plan [] ys f g h first rest = subst (λ (s : FwState). Takes plan s ys h) first rest
+takes-then : (plan : Plan) (xs ys : List Act) (f g h : FwState) → TakesActs plan f xs g → TakesActs plan g ys h → TakesActs plan f (xs ++ ys) h
+takes-then plan [] ys f g h first rest = subst (λ (s : FwState). TakesActs plan s ys h) first rest
 takes-then plan (x ∷ xs) ys f g h (next, took, more) rest = (next, took, takes-then plan xs ys next g h more rest)
 
 -- ---- what brings the device up
 
 module _ (plan : Plan) (heap : ℕ) (kept : Record) (fits : Fits plan heap) where
-  takes-brought : (acts : List Act) (g : FwState) → FollowAll plan heap kept g acts → Takes plan (at g 0) acts (at (effects plan acts g) 0)
+  takes-brought : (acts : List Act) (g : FwState) → FollowAll plan heap kept g acts → TakesActs plan (at g 0) acts (at (effects plan acts g) 0)
   takes-brought [] g follow = refl
   takes-brought (act ∷ acts) g follow =
       let m = message_of plan act in
@@ -65,16 +65,16 @@ module _ (plan : Plan) (heap : ℕ) (kept : Record) (fits : Fits plan heap) wher
 
 module _ (plan : Plan) (heap : ℕ) where
   -- none of them is refused
-  abbrev AllFree : Record → List Act → Type 0
-  AllFree now [] = Unit {0}
-  AllFree now (act ∷ acts) = (own plan heap now act ≡ None) × AllFree (after plan act now) acts
+  abbrev NoneRefused : Record → List Act → Type 0
+  NoneRefused now [] = Unit {0}
+  NoneRefused now (act ∷ acts) = (own plan heap now act ≡ None) × NoneRefused (after plan act now) acts
 
   module _ (last : View) where
     abbrev AreTaken : Record → View → List Act → Type 0
     AreTaken now shown acts = AreMet plan heap false (λ v. v ≡ last) (IsFine plan heap) now shown acts
 
-    met-taken : (acts : List Act) (now : Record) (shown : View) (f : FwState) → view_of f ≡ shown → AreTaken now shown acts → AllFree now acts → IsFine plan heap f →
-        (g : FwState) × Takes plan f acts g × (view_of g ≡ last) × IsFine plan heap g
+    met-taken : (acts : List Act) (now : Record) (shown : View) (f : FwState) → view_of f ≡ shown → AreTaken now shown acts → NoneRefused now acts → IsFine plan heap f →
+        (g : FwState) × TakesActs plan f acts g × (view_of g ≡ last) × IsFine plan heap g
     met-taken [] now shown f shows met free fine = (f, refl, shows ∙ met, fine)
     met-taken (act ∷ acts) now shown f shows (later, law, behind, same) free fine =
         let a = law.answers f shows in
@@ -85,7 +85,7 @@ module _ (plan : Plan) (heap : ℕ) where
   -- ---- parameters
 
   module _ (sound : IsSound plan) (kept : Record) (is : IsRecordOf plan kept) where
-    prepares-free : (ss : List StreamPlan) (rs : List StreamRec) → Ascends (λ (s : StreamPlan). s.host) ss → AllWere plan kept ss rs → list_all may rs ≡ true → AllFree kept (flat_map prepare_acts (zip ss rs))
+    prepares-free : (ss : List StreamPlan) (rs : List StreamRec) → Ascends (λ (s : StreamPlan). s.host) ss → AllWere plan kept ss rs → list_all may rs ≡ true → NoneRefused kept (flat_map prepare_acts (zip ss rs))
     unfolding Ascends
     prepares-free [] rs up were all = tt
     prepares-free (s ∷ ss) [] up were all = absurd were
@@ -94,13 +94,13 @@ module _ (plan : Plan) (heap : ℕ) where
         rest : List Act
         rest = flat_map prepare_acts (zip ss rs)
 
-        by : (found : Found) (params : Option Params) → r.found ≡ found → r.params ≡ params → AllFree kept rest → may r ≡ true → AllFree kept (prepare_by s.host found params ++ rest)
+        by : (found : Found) (params : Option Params) → r.found ≡ found → r.params ≡ params → NoneRefused kept rest → may r ≡ true → NoneRefused kept (prepare_by s.host found params ++ rest)
         by Prepared (Some p) is_so has more fair =
             let was = all-at (λ x. x ≡ r) (λ x. x ≡ record { found = Prepared; params = Some p }) (λ x same. same ∙ (λ i. record { found = is_so i; params = has i })) s.host plan.streams kept.streams were.1 in
             let range : is_in_range p ≡ true = (λ i. may (record { found = sym is_so i; params = sym has i })) ∙ fair in
             let stays = same-kept plan heap sound s.host were.0 p range kept is ss up.0 was in (
               own-none plan heap sound s.host were.0 p range kept is (subst (IsRecordOf plan) (sym stays) is) (takes-kept plan heap sound s.host were.0 p range kept is ss up.0 was),
-              subst (λ (k : Record). AllFree k rest) (sym stays) more,
+              subst (λ (k : Record). NoneRefused k rest) (sym stays) more,
             )
         by Prepared None is_so has more fair = more
         by Closed params is_so has more fair = more
@@ -186,7 +186,7 @@ module _ (plan : Plan) (heap : ℕ) (sound : IsSound plan) (kept : Record) where
   halted_from ss = record { power = kept.power; streams = halts ss plan.streams kept.streams; controls = kept.controls }
 
   abbrev GoesOn : Record → List Act → Type 0
-  GoesOn now acts = AreTaken plan heap (view_by plan kept) now (view_by plan now) acts × AllFree plan heap now acts
+  GoesOn now acts = AreTaken plan heap (view_by plan kept) now (view_by plan now) acts × NoneRefused plan heap now acts
 
   module _ (now : Record) (is : IsRecordOf plan now) (host : ℕ) (some : has_host plan.streams host ≡ true) (what : Trigger) (takes : AllAt (λ r. takes_trigger what r.found ≡ true) host plan.streams now.streams) where
     abbrev later : Record
@@ -314,14 +314,14 @@ module _ (plan : Plan) (heap : ℕ) (kept : Record) (loadable : IsLoadable plan)
   down-is = down-record plan kept is
 
   -- the list that brings the device up
-  first-taken : Takes plan (fresh heap) (bring_up plan down) (state_by plan down heap 0)
+  first-taken : TakesActs plan (fresh heap) (bring_up plan down) (state_by plan down heap 0)
   first-taken =
       let b = brings plan heap down loadable down-is.controls in
-      subst (λ (s : FwState). Takes plan (fresh heap) (bring_up plan down) (at s 0)) b.state (takes-brought plan heap down fits (bring_up plan down) (fresh heap) b.follow)
+      subst (λ (s : FwState). TakesActs plan (fresh heap) (bring_up plan down) (at s 0)) b.state (takes-brought plan heap down fits (bring_up plan down) (fresh heap) b.follow)
 
   -- the streams' parameters
   abbrev Taken : FwState → List Act → View → Type 0
-  Taken f acts last = (g : FwState) × Takes plan f acts g × (view_of g ≡ last) × IsFine plan heap g
+  Taken f acts last = (g : FwState) × TakesActs plan f acts g × (view_of g ≡ last) × IsFine plan heap g
 
   then-taken : Taken (state_by plan down heap 0) prepares (view_by plan down)
   then-taken = met-taken plan heap (view_by plan down) prepares down (view_by plan (bare_from plan plan.streams down)) (state_by plan down heap 0) (sym (bare-view plan down down-is))

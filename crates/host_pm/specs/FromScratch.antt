@@ -33,15 +33,15 @@ abbrev pub from_scratch : Plan → Record → List Act
 from_scratch plan kept = bring_back plan (went_down kept) ++ flat_map start_acts (zip plan.streams kept.streams)
 
 -- the firmware takes the message of each act, one after another with no tick between, and comes to this state
-abbrev pub Takes : Plan → FwState → List Act → FwState → Type 0
-Takes plan f [] g = g ≡ f
-Takes plan f (act ∷ acts) g = (next : FwState) × (row_of f (decoded (message_spelling (message_of plan act))) ≡ Ok next) × Takes plan next acts g
+abbrev pub TakesActs : Plan → FwState → List Act → FwState → Type 0
+TakesActs plan f [] g = g ≡ f
+TakesActs plan f (act ∷ acts) g = (next : FwState) × (row_of f (decoded (message_spelling (message_of plan act))) ≡ Ok next) × TakesActs plan next acts g
 
 -- a fresh firmware takes all that the record says, and keeps it then; so each state that keeps the record, whatever led to it, shows
 -- what this one shows, and has the same pieces in its heap
 pub record IsFromScratch (plan : Plan) (heap : ℕ) (kept : Record) : Type 0 where
   pub state : FwState
-  pub taken : Takes plan (fresh heap) (from_scratch plan kept) state
+  pub taken : TakesActs plan (fresh heap) (from_scratch plan kept) state
   pub keeps : Keeps plan heap kept state
   pub same : (g : FwState) → Keeps plan heap kept g → (view_of g ≡ view_of state) × (g.heap ≡ state.heap)
 

@@ -5,7 +5,7 @@ use Rattle.tplg_model.specs.declared.block.Topology.{Topology}
 use Rattle.tplg_model.specs.File.{IsTopology, spelling}
 use Rattle.tplg_compile.specs.declared.source_fault.SourceFault.{SourceFault}
 use Rattle.tplg_compile.specs.declared.source_fault.SourceFault.TheVariants.{Syntax, Shape, Rule, OutOfMemory}
-use Rattle.tplg_compile.specs.Results.{Fails}
+use Rattle.tplg_compile.specs.Results.{FaultIs}
 use Rattle.tplg_compile.specs.InOrder.{compiled_of}
 use Rattle.sof_run.specs.Todo.{Todo, End, Stop, Ask, Do, Free, Played, DeskPhase}
 use Rattle.sof_run.specs.Play.{lines_todo}
@@ -56,7 +56,7 @@ module _ {D : Type 0} (means : DeskMeaning D) where
         after status (free_on means (compiled_todo names.out (compiled_of text)) [] status m new (subst (λ r. Played means (compiled_todo names.out r) m [] status new) (sym is) played))
 
     -- why it is refused was said
-    pub refused : (f : SourceFault) (status : ℕ) → Fails f (compiled_of text) → Played means (Stop (source_line f) (source_status f)) m [] status new → Played means (compile names) old [] status new
+    pub refused : (f : SourceFault) (status : ℕ) → FaultIs f (compiled_of text) → Played means (Stop (source_line f) (source_status f)) m [] status new → Played means (compile names) old [] status new
     refused Syntax status is played = told Syntax status is played
     refused (Shape list entry) status is played = told (Shape list entry) status is played
     refused (Rule rule item) status is played = told (Rule rule item) status is played

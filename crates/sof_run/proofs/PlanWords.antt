@@ -14,9 +14,9 @@ use Rattle.tplg_model.specs.declared.block.Body.{Body}
 use Rattle.tplg_model.specs.declared.block.Body.TheVariants.{Manifests, Widgets, Routes, Pcms, Other}
 use Rattle.tplg_model.specs.declared.block.Topology.{Topology}
 use Rattle.tplg_model.specs.Arrays.{Each, IsNumber, AreArrays}
-use Rattle.tplg_model.specs.Spelling.{IsWidget, IsBody, BlockValue, IsBlock, header_slots}
+use Rattle.tplg_model.specs.Spelling.{IsWidget, AreRecords, BlockValue, IsBlock, header_slots}
 use Rattle.tplg_model.specs.File.{IsTopology}
-use Rattle.tplg_model.specs.TokenValues.{numbers_in, first_number, number_of}
+use Rattle.tplg_model.specs.TokenValues.{number_tuples, first_number, number_of}
 use Rattle.tplg_widgets.specs.declared.entry.Entry.{Entry}
 use Rattle.tplg_widgets.specs.Tokens.{stated_format}
 use Rattle.tplg_plan.specs.WidgetWords.{format_number}
@@ -48,12 +48,12 @@ found_word (item ∷ items) rest token are is =
       | inr other ↦ rw other (found_word items rest token are.1 is)
     ]
 
-found_in : (arrays : List TokenArray) (token : ℕ) → AreArrays arrays → IsWord (first_number (flat_map numbers_in arrays) token)
+found_in : (arrays : List TokenArray) (token : ℕ) → AreArrays arrays → IsWord (first_number (flat_map number_tuples arrays) token)
 unfolding Each
 found_in [] token are = tt
 found_in (Uuid items ∷ arrays) token are = found_in arrays token are.1
 found_in (Text items ∷ arrays) token are = found_in arrays token are.1
-found_in (Number numbers ∷ arrays) token are = found_word numbers.items (flat_map numbers_in arrays) token are.0.elements.2 (found_in arrays token are.1)
+found_in (Number numbers ∷ arrays) token are = found_word numbers.items (flat_map number_tuples arrays) token are.0.elements.2 (found_in arrays token are.1)
 
 token_word : (arrays : List TokenArray) (token : ℕ) → AreArrays arrays → IsWord (number_of arrays token)
 unfolding number_of
@@ -97,7 +97,7 @@ both_fit : (a b : List Entry) → FitEntries a → FitEntries b → FitEntries (
 both_fit [] b first second = second
 both_fit (e ∷ a) b first second = (first.0, both_fit a b first.1 second)
 
-body_fits : (index : ℕ) (body : Body) → index < 2 ^ 32 → IsBody body → FitEntries (map (entry_of index) (widgets_in body))
+body_fits : (index : ℕ) (body : Body) → index < 2 ^ 32 → AreRecords body → FitEntries (map (entry_of index) (widgets_in body))
 body_fits index (Manifests ms) fits is = tt
 body_fits index (Widgets ws) fits is = entries_fit index ws fits is
 body_fits index (Routes rs) fits is = tt

@@ -2,7 +2,7 @@
 ghost use Rattle.std.specs.Prelude.{◌≡◌, ◌≤◌, ℕ, List, [], length, is_ok, Ok, Some, MatchResult};
 ghost use Rattle.tplg_model.specs.declared.block.Topology.{Topology};
 ghost use Rattle.tplg_model.specs.File.{IsTopology, spelling};
-ghost use Rattle.tplg_compile.specs.Results.{Fails};
+ghost use Rattle.tplg_compile.specs.Results.{FaultIs};
 ghost use Rattle.tplg_compile.specs.InOrder.{compiled_of};
 ghost use Rattle.sof_run.specs.Todo.{DeskPhase, Played, Stop};
 ghost use Rattle.sof_run.specs.Compiling.{compile as compile_todo, file_todo, names as names_of, source_line, source_status};
@@ -22,7 +22,7 @@ fn compiled(alloc: Global, text: &[u8]) -> Result<Vec<u8>, SourceFault>
     requires { length text.now ≤ 1048576 }
     ensures { MatchResult result
         (λ bytes. (t : Topology) × (compiled_of text.now ≡ Ok t) × (bytes.items ≡ spelling t) × IsTopology t)
-        (λ fault. Fails fault (compiled_of text.now)) }
+        (λ fault. FaultIs fault (compiled_of text.now)) }
 {
     let topology = compile(alloc, text)?;
     let mut bytes = Vec::new(alloc);

@@ -18,7 +18,7 @@ use Rattle.host_widgets.specs.declared.kept.ControlRec.{ControlRec}
 use Rattle.host_widgets.specs.BlobParts.{part_numbers}
 use Rattle.host_widgets.specs.Controls.{IsLoadable, first_blob}
 use Rattle.host_widgets.specs.Host.{IsRecordOf}
-use Rattle.host_widgets.specs.HostActs.{Act, Put, Ask, with_values}
+use Rattle.host_widgets.specs.HostActs.{Put, Ask, with_values}
 use Rattle.host_widgets.specs.Kept.{control_at, with_control}
 use Rattle.host_widgets.specs.Named.{is_named}
 use Rattle.host_widgets.specs.Orders.{Order, quiet, sends}

@@ -1,9 +1,8 @@
 -- What a suspend does to a session.
-use Rattle.std.proofs.Common.{◌≡◌, refl, sym, ap, ◌∙◌, subst, ℕ, Bool, suc, ◌+◌, ◌<◌, ◌≤◌, ◌^◌, ◌-◌, true, false, List, [], ◌∷◌, ◌++◌, map, zip, length, Option, Some, None, arith}
+use Rattle.std.proofs.Common.{◌≡◌, refl, ap, ◌∙◌, ℕ, Bool, suc, ◌+◌, ◌<◌, ◌≤◌, ◌^◌, ◌-◌, true, List, [], ◌∷◌, zip, length, Option, Some, None, arith}
 use Rattle.std.specs.List.{filter_map, cons_option, flat_map}
 use Rattle.std.proofs.lemmas.List.{length-map, length-append}
 use Rattle.sof_base.specs.Ports.{Io}
-use Rattle.stream_law.specs.declared.graph.Comp.{Comp}
 use Rattle.mbox_link.specs.Calls.{World, Meaning}
 use Rattle.mbox_link.specs.Wire.{Wire}
 use Rattle.mbox_link.specs.Link.{link}

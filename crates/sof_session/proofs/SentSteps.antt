@@ -29,7 +29,7 @@ use Rattle.sof_session.proofs.FewMeetings.{few-meetings}
 use Rattle.sof_session.proofs.OrderCalls.{carried-sent}
 use Rattle.sof_session.proofs.OrderStands.{LeadsOn, sending, order-still, sent-leads}
 use Rattle.sof_session.proofs.OrderStands as after_order
-use Rattle.sof_session.proofs.SentOrders.{IsSent, sends-answer, few-sent}
+use Rattle.sof_session.proofs.SentOrders.{IsSent, few-sent}
 use Rattle.sof_session.proofs.Stepping.{Standing, early-stepped, late-stepped, still-standing, stays-standing}
 
 -- a command that plans nothing has this test and this order

@@ -113,9 +113,10 @@ impl<P: Dsp> Session<P> {
     /// are `Refuse`, `Drop` and `Lose`, a call on a control, which are `Set`, `Get` and `Read`, or a call on a stream, which are
     /// `Open`, `Params`, `Start`, `Stop`, `Pause`, `Release` and `Close`.
     /// `Load` boots the device and loads the plan where it is not loaded; `Unload` cuts the device and forgets what was
-    /// loaded; `Suspend` stops what moves and cuts the device, and `Resume` brings it back; `Show` changes nothing, and its lines are those of `show_line`; `Tick` makes one tick, whatever its number; a
-    /// planned fate is that of the K-th message from now, and the answer is `PlanFull` where no more can be planned. It
-    /// answers as the host's call does. The outputs are empty before it, and hold what it wrote after it.
+    /// loaded; `Suspend` stops what moves and cuts the device, and `Resume` brings it back; `Show` changes nothing, and its lines are
+    /// those of `show_line`; `Tick` makes one tick, whatever its number; `Set` puts a control's values, `Get` tells them by the record,
+    /// and `Read` by the device; a planned fate is that of the K-th message from now, and the answer is `PlanFull` where no more can
+    /// be planned. It answers as the host's call does. The outputs are empty before it, and hold what it wrote after it.
     pub fn step(&mut self, command: &Command, io: &mut Inputs, out: &mut Outputs) -> Answer
         requires built { is_built command.now ≡ true }
         requires numbers { is_in_range command.now ≡ true }

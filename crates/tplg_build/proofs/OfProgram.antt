@@ -7,7 +7,7 @@ use Rattle.tplg_model.specs.declared.control.ControlHead.{ControlHead}
 use Rattle.tplg_model.specs.declared.control.Control.TheVariants as control
 use Rattle.tplg_model.specs.declared.tokens.TokenArray.{TokenArray}
 use Rattle.tplg_model.specs.Arrays.{Each, arrays_spelling}
-use Rattle.tplg_model.specs.Spelling.{IsControl, control_head_slots, widget_head_slots, stream_slots}
+use Rattle.tplg_model.specs.Spelling.{IsControl, control_head_slots, widget_head_slots, stream_record_slots}
 use Rattle.tplg_build.specs.WidgetForm.{plain_head, scaled_head, channel_records}
 use Rattle.tplg_build.specs.PcmForm.{empty_stream, empty_streams}
 
@@ -136,10 +136,10 @@ widget_head_is id name sname num_kcontrols tokens a b c d e = (tt, (a, (b, (c, (
 
 -- ---- PCMs
 
-stream_is : AreSlots (stream_slots empty_stream)
+stream_is : AreSlots (stream_record_slots empty_stream)
 unfolding AreSlots IsSlot
 stream_is = (tt, (none_is, (lit< tt, (lit< tt, (lit< tt, (lit< tt, (lit< tt, tt)))))))
 
-pub streams_are : Each (λ s. AreSlots (stream_slots s)) empty_streams
+pub streams_are : Each (λ s. AreSlots (stream_record_slots s)) empty_streams
 unfolding Each
 streams_are = (stream_is, (stream_is, (stream_is, (stream_is, (stream_is, (stream_is, (stream_is, (stream_is, tt))))))))

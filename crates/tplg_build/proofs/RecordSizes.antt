@@ -9,7 +9,7 @@ use Rattle.tplg_model.specs.declared.control.Control.{Control}
 use Rattle.tplg_model.specs.declared.control.Control.TheVariants.{Mixer, Enum, Bytes}
 use Rattle.tplg_model.specs.declared.widget.Widget.{Widget}
 use Rattle.tplg_model.specs.Arrays.{Each, arrays_spelling}
-use Rattle.tplg_model.specs.Spelling.{items_cells, IsRoute, route_slots, route_cells, stream_slots, stream_cells, caps_slots, pcm_head_slots, pcm_tail_slots, pcm_parts, pcm_cells, IsPcm, IsControl, control_cells, widget_head_slots, widget_head_cells, head_of, IsWidget, widget_cells}
+use Rattle.tplg_model.specs.Spelling.{items_cells, IsRoute, route_slots, route_cells, stream_record_slots, stream_cells, caps_slots, pcm_head_slots, pcm_tail_slots, pcm_parts, pcm_cells, IsPcm, IsControl, control_cells, widget_head_slots, widget_head_cells, head_of, IsWidget, widget_cells}
 use Rattle.tplg_model.proofs.ItemLaws.{items_cells-more}
 use Rattle.tplg_build.proofs.FieldSizes.{length-joined, length-items}
 
@@ -21,12 +21,12 @@ route_size r is = length-slots (route_slots r) is
 pub routes_size : (rs : List Route) → Each IsRoute rs → length (items_cells route_cells rs) ≡ 132 * length rs
 routes_size rs are = length-items route_cells 132 IsRoute route_size rs are
 
-stream_size : (s : StreamRecord) → AreSlots (stream_slots s) → length (stream_cells s) ≡ 72
-stream_size s is = length-slots (stream_slots s) is
+stream_size : (s : StreamRecord) → AreSlots (stream_record_slots s) → length (stream_cells s) ≡ 72
+stream_size s is = length-slots (stream_record_slots s) is
 
 pcm_size : (p : Pcm) → IsPcm p → length (pcm_cells p) ≡ 912 + length p.private
 pcm_size p is =
-    let streams = length-items stream_cells 72 (λ s. AreSlots (stream_slots s)) stream_size p.streams is.streams in
+    let streams = length-items stream_cells 72 (λ s. AreSlots (stream_record_slots s)) stream_size p.streams is.streams in
     omega (
       arith,
       length-joined (pcm_parts p),

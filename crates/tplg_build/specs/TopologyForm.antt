@@ -3,7 +3,7 @@ use Rattle.std.specs.Prelude.{ℕ, ◌<◌, ◌^◌, List, [], ◌∷◌, ◌++�
 use Rattle.tplg_model.specs.declared.block.Body.{Body}
 use Rattle.tplg_model.specs.declared.block.Body.TheVariants.{Widgets, Routes, Pcms}
 use Rattle.tplg_model.specs.declared.block.Topology.{Topology}
-use Rattle.tplg_model.specs.Spelling.{BlockValue, IsSound, IsBody, kind_of, count_of}
+use Rattle.tplg_model.specs.Spelling.{BlockValue, IsStorable, AreRecords, block_type, count_of}
 use Rattle.tplg_build.specs.declared.source.TopologySource.{TopologySource}
 use Rattle.tplg_build.specs.declared.source.SourceWidget.{SourceWidget}
 use Rattle.tplg_build.specs.declared.source.SourceRoute.{SourceRoute}
@@ -35,7 +35,7 @@ topology_stated s = record { blocks = map widget_block s.widgets ++ (route_block
 
 -- records of the program, whose type, number and bytes fit the words of a header
 pub record IsPayload (body : Body) : Type 0 where
-  pub records : IsBody body
-  pub sound : IsSound body
-  pub kind : kind_of body < 2 ^ 32
+  pub records : AreRecords body
+  pub sound : IsStorable body
+  pub kind : block_type body < 2 ^ 32
   pub count : count_of body < 2 ^ 32

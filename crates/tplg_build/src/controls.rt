@@ -75,7 +75,7 @@ fn fields(alloc: Global, texts: &[Name44]) -> Result<Vec<u8>, NoMemory>
 
 // An enum control of these texts.
 fn choice(alloc: Global, name: &Name44, items: &Choices) -> Result<Control, NoMemory>
-    ensures value { IfOk result (λ x. x ≡ form.control_of (SourceControl.Choice name.now items.now)) }
+    ensures value { IfOk result (λ x. x ≡ form.control_record (SourceControl.Choice name.now items.now)) }
     ensures is { IfOk result IsControl }
     ensures short { IfOk result (λ x. length (control_cells x) ≤ 1764) }
 {
@@ -97,7 +97,7 @@ fn choice(alloc: Global, name: &Name44, items: &Choices) -> Result<Control, NoMe
 
 // A bytes control with this blob, which is at most 4 million bytes.
 fn data(alloc: Global, name: &Name44, max: u32, blob: &[u8]) -> Result<Control, NoMemory>
-    ensures value { IfOk result (λ x. x ≡ form.control_of (SourceControl.Blob name.now max blob.now)) }
+    ensures value { IfOk result (λ x. x ≡ form.control_record (SourceControl.Blob name.now max blob.now)) }
     ensures is { IfOk result IsControl }
     ensures short { IfOk result (λ x. length (control_cells x) ≤ 4001764) }
 {
@@ -117,7 +117,7 @@ fn data(alloc: Global, name: &Name44, max: u32, blob: &[u8]) -> Result<Control, 
 
 // The control that a source states.
 fn control(alloc: Global, control: &SourceControl) -> Result<Control, NoMemory>
-    ensures value { IfOk result (λ x. x ≡ form.control_of control.now) }
+    ensures value { IfOk result (λ x. x ≡ form.control_record control.now) }
     ensures is { IfOk result IsControl }
     ensures short { IfOk result (λ x. length (control_cells x) ≤ 4001764) }
 {
@@ -147,7 +147,7 @@ fn control(alloc: Global, control: &SourceControl) -> Result<Control, NoMemory>
 
 /// The controls that a source states, at most 1000, in their order.
 pub fn controls(alloc: Global, stated: &[SourceControl]) -> Result<Items<Control>, NoMemory>
-    ensures value { IfOk result (λ x. x ≡ map form.control_of stated.now) }
+    ensures value { IfOk result (λ x. x ≡ map form.control_record stated.now) }
     ensures are { IfOk result (Each IsControl) }
     ensures few { IfOk result (λ x. length x ≤ 1000) }
     ensures short { IfOk result (λ x. length (items_cells control_cells x) ≤ 4001764000) }

@@ -14,9 +14,9 @@ use Rattle.tplg_rules.specs.RuleTest.{ruling_of}
 use Rattle.tplg_rules.proofs.RuleTests.{whole_none, breaks_some, none_whole, some_breaks}
 use Rattle.tplg_compile.specs.declared.source_fault.SourceFault.{SourceFault}
 use Rattle.tplg_compile.specs.declared.source_fault.SourceFault.TheVariants.{Syntax, Shape, Rule, OutOfMemory}
-use Rattle.tplg_compile.specs.Results.{Fails, Gives, or_fault}
+use Rattle.tplg_compile.specs.Results.{FaultIs, AnswerIs, or_fault}
 use Rattle.tplg_compile.specs.Source.{IsSourceOf}
-use Rattle.tplg_compile.specs.InOrder.{source_of, table_of, ruled, compiled_of}
+use Rattle.tplg_compile.specs.InOrder.{source_of, table_of, checked_by_rules, compiled_of}
 use Rattle.tplg_compile.specs.Compiled.{IsDocument, IsCompiled, IsCompileFault, KeepsRules, BreaksRule, IsRuleFault, rule_told}
 use Rattle.tplg_compile.proofs.SourceLaws.{bind_ok, bind_err, or_some, or_none, source_is, source_again, fault_is, fault_again}
 
@@ -32,7 +32,7 @@ syntax-fault text f (inl memory) = inl memory
 syntax-fault text f (inr syntax) = inr syntax.1
 
 module _ (text : List ℕ) (table : Members) (document : IsDocument text table) where
-  pub shape-fault : (f : SourceFault) → Fails f (source_of table) → (f ≡ OutOfMemory) ⊎ IsCompileFault text f
+  pub shape-fault : (f : SourceFault) → FaultIs f (source_of table) → (f ≡ OutOfMemory) ⊎ IsCompileFault text f
   shape-fault Syntax first = absurd (fault_is table Syntax first)
   shape-fault (Shape list entry) first = inr (record { table = table; document = document; first = fault_is table (Shape list entry) first })
   shape-fault (Rule rule item) first = absurd (fault_is table (Rule rule item) first)
@@ -94,11 +94,11 @@ is_document text table e =
     let both = document_is (is_utf8 text) (parse_document text) table e in
     record { utf8 = IsUtf8-from_is_utf8 text both.0; parsed = both.1 }
 
-ruled_ok : (u t : Topology) (r : Option (ℕ × ℕ)) → ruled u r ≡ Ok t → (r ≡ None) × (u ≡ t)
+ruled_ok : (u t : Topology) (r : Option (ℕ × ℕ)) → checked_by_rules u r ≡ Ok t → (r ≡ None) × (u ≡ t)
 ruled_ok u t None e = (refl, cc e)
 ruled_ok u t (Some (rule, item)) e = absurd (cc e)
 
-ruled_err : (u : Topology) (f : SourceFault) (r : Option (ℕ × ℕ)) → ruled u r ≡ Err f → (rule : ℕ) × (item : ℕ) × (r ≡ Some (rule, item)) × (Rule rule item ≡ f)
+ruled_err : (u : Topology) (f : SourceFault) (r : Option (ℕ × ℕ)) → checked_by_rules u r ≡ Err f → (rule : ℕ) × (item : ℕ) × (r ≡ Some (rule, item)) × (Rule rule item ≡ f)
 ruled_err u f None e = absurd (cc e)
 ruled_err u f (Some (rule, item)) e = (rule, item, refl, cc e)
 
@@ -144,20 +144,20 @@ text_fault_take text f e =
           ]
     ]
 
-fails : (text : List ℕ) (f : SourceFault) → (f ≡ OutOfMemory) ⊎ IsCompileFault text f → Fails f (compiled_of text)
-fails text f (inl memory) = subst (λ g. Fails g (compiled_of text)) (sym memory) tt
+fails : (text : List ℕ) (f : SourceFault) → (f ≡ OutOfMemory) ⊎ IsCompileFault text f → FaultIs f (compiled_of text)
+fails text f (inl memory) = subst (λ g. FaultIs g (compiled_of text)) (sym memory) tt
 fails text Syntax (inr is) = text_fault_again text Syntax is
 fails text (Shape list entry) (inr is) = text_fault_again text (Shape list entry) is
 fails text (Rule rule item) (inr is) = text_fault_again text (Rule rule item) is
 fails text OutOfMemory (inr is) = tt
 
 -- what was found, and what was told where nothing was
-pub gives : (text : List ℕ) (r : Result Topology SourceFault) → IfOk r (IsCompiled text) → IfErr r (λ f. (f ≡ OutOfMemory) ⊎ IsCompileFault text f) → Gives (λ x. x) r (compiled_of text)
+pub gives : (text : List ℕ) (r : Result Topology SourceFault) → IfOk r (IsCompiled text) → IfErr r (λ f. (f ≡ OutOfMemory) ⊎ IsCompileFault text f) → AnswerIs (λ x. x) r (compiled_of text)
 gives text (Ok t) found fault = compiled_again text t found
 gives text (Err f) found fault = fails text f fault
 
-pub gives-only : (text : List ℕ) (r : Result Topology SourceFault) → Gives (λ x. x) r (compiled_of text) → (t : Topology) → IsCompiled text t → Gives (λ x. x) r (Ok t)
-gives-only text r given t is = subst (λ told. Gives (λ x. x) r told) (compiled_again text t is) given
+pub gives-only : (text : List ℕ) (r : Result Topology SourceFault) → AnswerIs (λ x. x) r (compiled_of text) → (t : Topology) → IsCompiled text t → AnswerIs (λ x. x) r (Ok t)
+gives-only text r given t is = subst (λ told. AnswerIs (λ x. x) r told) (compiled_again text t is) given
 
-pub gives-fault_only : (text : List ℕ) (r : Result Topology SourceFault) → Gives (λ x. x) r (compiled_of text) → (f : SourceFault) → IsCompileFault text f → Gives (λ x. x) r (Err f)
-gives-fault_only text r given f is = subst (λ told. Gives (λ x. x) r told) (text_fault_again text f is) given
+pub gives-fault_only : (text : List ℕ) (r : Result Topology SourceFault) → AnswerIs (λ x. x) r (compiled_of text) → (f : SourceFault) → IsCompileFault text f → AnswerIs (λ x. x) r (Err f)
+gives-fault_only text r given f is = subst (λ told. AnswerIs (λ x. x) r told) (text_fault_again text f is) given

@@ -15,7 +15,7 @@ use Rattle.tplg_compile.specs.Results as told
 use Rattle.tplg_compile.specs.ValueForm.{each, perhaps}
 use Rattle.tplg_compile.specs.KeyTables.{Keyed}
 use Rattle.tplg_compile.specs.Entries.{tuples_at, bit_of, bits_with}
-use Rattle.tplg_compile.specs.InOrder.{entries_read, told as told_of}
+use Rattle.tplg_compile.specs.InOrder.{entries_read, entry_fault_at as told_of}
 
 -- ---- of an entry
 
@@ -125,6 +125,6 @@ module _ {A : Type 0} (list : SourceList) (read : Data → Option A) where
   told-end done place = ap Ok (append-nil done)
 
 -- a fault of an entry is told of its list, where the list is at fault there
-pub told_fault : {A B : Type 0} (f : EntryFault) (list : SourceList) (place : ℕ) (part : Option A) (whole : Result B SourceFault) → (part ≡ None → whole ≡ Err (Shape list place)) → Lacks f part → told.Fails (told_of f list place) whole
+pub told_fault : {A B : Type 0} (f : EntryFault) (list : SourceList) (place : ℕ) (part : Option A) (whole : Result B SourceFault) → (part ≡ None → whole ≡ Err (Shape list place)) → Lacks f part → told.FaultIs (told_of f list place) whole
 told_fault Misfit list place part whole none lacks = none lacks
 told_fault OutOfMemory list place part whole none lacks = tt

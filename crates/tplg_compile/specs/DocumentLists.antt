@@ -2,7 +2,7 @@
 use Rattle.std.specs.Prelude.{Bool, true, ◌&&◌, if◌then◌else◌, is_some, List, [], ◌∷◌, codes, ℕ, Option, Some, None}
 use Rattle.toml.specs.Data.{Data, Members, get_member, as_array, as_table}
 use Rattle.tplg_compile.specs.Outcomes.{◌>>=◌}
-use Rattle.tplg_compile.specs.ValueForm.{list_of, only}
+use Rattle.tplg_compile.specs.ValueForm.{item_list, only}
 use Rattle.tplg_compile.specs.KeyTables.{document_keys}
 
 -- each value is a table
@@ -14,7 +14,7 @@ are_tables (d ∷ ds) = is_some (as_table d) && are_tables ds
 unfoldable pub entries_of : Data → Option (List Data)
 entries_of d = do
   ds ← as_array d
-  if are_tables (list_of ds) then Some (list_of ds) else None
+  if are_tables (item_list ds) then Some (item_list ds) else None
 
 -- those of a list that may be absent
 abbrev pub or_none : Option Data → Option (List Data)

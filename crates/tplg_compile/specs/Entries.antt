@@ -15,7 +15,7 @@ use Rattle.tplg_build.specs.declared.source.PcmLimits.{PcmLimits}
 use Rattle.tplg_build.specs.declared.source.SourcePcm.{SourcePcm}
 use Rattle.tplg_build.specs.WidgetForm.{text_tuple}
 use Rattle.tplg_compile.specs.Outcomes.{◌>>=◌}
-use Rattle.tplg_compile.specs.ValueForm.{number_of, index_of, signed_of, name_of, filled_of, blob_of, list_of, each, required_at, perhaps, optional_at, in_table, only}
+use Rattle.tplg_compile.specs.ValueForm.{number_of, index_of, signed_of, name_of, filled_of, blob_of, item_list, each, required_at, perhaps, optional_at, in_table, only}
 use Rattle.tplg_compile.specs.KeyTables.{Keyed, kind_named, number_tokens, text_tokens, widget_keys, pga_keys, mux_keys, effect_keys, route_keys, pcm_keys}
 
 -- ---- tokens
@@ -58,7 +58,7 @@ stated_volume entry = do
 unfoldable pub names_of : Data → Option (List (List ℕ))
 names_of d = do
   ds ← as_array d
-  each name_of (list_of ds)
+  each name_of (item_list ds)
 
 -- 1 to 16 of them
 unfoldable pub items_of : Data → Option (List (List ℕ))
@@ -92,8 +92,8 @@ stated_control _ entry = None
 
 -- ---- widgets
 
-unfoldable pub kind_of : Data → Option WidgetKind
-kind_of d = do
+unfoldable pub stated_kind : Data → Option WidgetKind
+stated_kind d = do
   text ← filled_of d
   kind_named text
 
@@ -105,7 +105,7 @@ or_empty (Some text) = text
 unfoldable pub stated_widget : Members → Option SourceWidget
 stated_widget entry = do
   known ← only widget_keys entry
-  kind ← required_at kind_of (codes "kind") entry
+  kind ← required_at stated_kind (codes "kind") entry
   name ← required_at filled_of (codes "name") entry
   index ← required_at index_of (codes "index") entry
   sname ← optional_at name_of (codes "sname") entry
@@ -148,7 +148,7 @@ bits_with bits (d ∷ ds) = do
 unfoldable pub formats_of : Data → Option ℕ
 formats_of d = do
   ds ← as_array d
-  bits_with 0 (list_of ds)
+  bits_with 0 (item_list ds)
 
 unfoldable pub limits_of : Members → Option PcmLimits
 limits_of entry = do

@@ -19,9 +19,9 @@ use Rattle.tplg_compile.specs.DocumentLists.{lists_of}
 use Rattle.tplg_compile.specs.Entries.{stated_widget, stated_route, stated_pcm}
 
 -- the fault of an entry at a place of a list; want of memory stays what it is
-abbrev pub told : EntryFault → SourceList → ℕ → SourceFault
-told Misfit list place = Shape list place
-told NoRoom list place = OutOfMemory
+abbrev pub entry_fault_at : EntryFault → SourceList → ℕ → SourceFault
+entry_fault_at Misfit list place = Shape list place
+entry_fault_at NoRoom list place = OutOfMemory
 
 -- what the entries of a list are, from a place on, or the first of them that is nothing
 unfoldable pub entries_read : {A : Type 0} → SourceList → (Data → Option A) → ℕ → List Data → Result (List A) SourceFault
@@ -46,14 +46,14 @@ source_of table = do
 abbrev pub table_of : List ℕ → Option Members
 table_of text = if is_utf8 text then parse_document text else None
 
--- a topology keeps all rules, or the first that it breaks is told
-abbrev pub ruled : Topology → Option (ℕ × ℕ) → Result Topology SourceFault
-ruled t None = Ok t
-ruled t (Some (rule, item)) = Err (Rule rule item)
+-- a topology keeps all rules, or the first that it breaks is entry_fault_at
+abbrev pub checked_by_rules : Topology → Option (ℕ × ℕ) → Result Topology SourceFault
+checked_by_rules t None = Ok t
+checked_by_rules t (Some (rule, item)) = Err (Rule rule item)
 
 -- the topology that bytes are the source of, or what is wrong with them
 unfoldable pub compiled_of : List ℕ → Result Topology SourceFault
 compiled_of text = do
   table ← or_fault Syntax (table_of text)
   source ← source_of table
-  ruled (topology_stated source) (ruling_of (topology_stated source))
+  checked_by_rules (topology_stated source) (ruling_of (topology_stated source))

@@ -60,14 +60,14 @@ blob_of d = do
 -- ---- lists of values
 
 -- the items of an array as a list
-abbrev pub list_of : Items → List Data
-list_of no_items = []
-list_of (item d ds) = d ∷ list_of ds
+abbrev pub item_list : Items → List Data
+item_list no_items = []
+item_list (item d ds) = d ∷ item_list ds
 
 -- the values of the program
-abbrev pub seen : List Value → List Data
-seen [] = []
-seen (v ∷ vs) = view v ∷ seen vs
+abbrev pub viewed : List Value → List Data
+viewed [] = []
+viewed (v ∷ vs) = view v ∷ viewed vs
 
 -- each value read, in their order
 unfoldable pub each : {A : Type 0} → (Data → Option A) → List Data → Option (List A)
@@ -101,19 +101,19 @@ unfoldable pub optional_at : {A : Type 0} → (Data → Option A) → List ℕ �
 optional_at read key entry = perhaps read (get_member key entry)
 
 -- a key is one of these
-abbrev pub is_among : List ℕ → List (List ℕ) → Bool
-is_among key [] = false
-is_among key (k ∷ ks) = bytes_eq key k || is_among key ks
+abbrev pub is_one_of : List ℕ → List (List ℕ) → Bool
+is_one_of key [] = false
+is_one_of key (k ∷ ks) = bytes_eq key k || is_one_of key ks
 
 -- each key of an entry is one of these
 abbrev pub has_only : List (List ℕ) → Members → Bool
 has_only keys no_members = true
-has_only keys (member k d ms) = is_among k keys && has_only keys ms
+has_only keys (member k d ms) = is_one_of k keys && has_only keys ms
 
--- the texts of slices
-abbrev pub texts : List (Bor (List ℕ)) → List (List ℕ)
-texts [] = []
-texts (r ∷ rs) = r.now ∷ texts rs
+-- the slice_texts of slices
+abbrev pub slice_texts : List (Bor (List ℕ)) → List (List ℕ)
+slice_texts [] = []
+slice_texts (r ∷ rs) = r.now ∷ slice_texts rs
 
 -- something where each key of an entry is one of these
 unfoldable pub only : List (List ℕ) → Members → Option (Unit {0})

@@ -4,7 +4,7 @@ ghost use Rattle.toml.specs.View.{table_view};
 ghost use Rattle.tplg_model.specs.File.{IsTopology};
 ghost use Rattle.tplg_model.specs.declared.block.Topology.{Topology as TopologyValue};
 ghost use Rattle.tplg_compile.specs.declared.source_fault.SourceFault.{SourceFault as Fault};
-ghost use Rattle.tplg_compile.specs.Results.{Gives};
+ghost use Rattle.tplg_compile.specs.Results.{AnswerIs};
 ghost use Rattle.tplg_compile.specs.InOrder.{compiled_of};
 ghost use Rattle.tplg_compile.specs.Compiled.{IsDocument, IsCompiled, IsCompileFault, KeepsRules, IsRuleFault, rule_told};
 
@@ -74,13 +74,13 @@ pub fn compile(alloc: Global, text: &[u8]) -> Result<Topology, SourceFault>
     // It can be written, and what is written is its file.
     ensures sound { IfOk result IsTopology }
     // A topology that the text is the source of is answered, unless memory runs out.
-    ensures only { (t : TopologyValue) → IsCompiled text.now t → Gives (λ x. x) result (Ok t) }
+    ensures only { (t : TopologyValue) → IsCompiled text.now t → AnswerIs (λ x. x) result (Ok t) }
     // A fault is what is wrong with the text, or want of memory.
     ensures fault { IfErr result (λ f. (f ≡ SourceFault.OutOfMemory) ⊎ IsCompileFault text.now f) }
     // What is wrong with the text is answered, unless memory runs out.
-    ensures fault_only { (f : Fault) → IsCompileFault text.now f → Gives (λ x. x) result (Err f) }
+    ensures fault_only { (f : Fault) → IsCompileFault text.now f → AnswerIs (λ x. x) result (Err f) }
     // The same as a function of the text.
-    ensures gives { Gives (λ x. x) result (compiled_of text.now) }
+    ensures gives { AnswerIs (λ x. x) result (compiled_of text.now) }
 {
     compiled(alloc, text)
 }

@@ -39,7 +39,7 @@ fn volume(entry: &Table) -> Result<SourceControl, EntryFault>
 
 // The names that values are, in their order.
 fn names(alloc: Global, values: &[Value]) -> Result<Vec<Name44>, EntryFault>
-    ensures { Finds (λ x. x.items) result (reading.each reading.name_of (reading.seen values.now)) }
+    ensures { Finds (λ x. x.items) result (reading.each reading.name_of (reading.viewed values.now)) }
 {
     let mut names = Vec::new(alloc);
     for value in values {

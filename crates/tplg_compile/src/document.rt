@@ -5,8 +5,8 @@ ghost use Rattle.tplg_compile.specs.declared.source_fault.List.{List as ListName
 ghost use Rattle.tplg_compile.specs.declared.source_fault.List.TheVariants as list_name;
 ghost use Rattle.toml.specs.View.{view, table_view};
 ghost use Rattle.tplg_compile.specs.Outcomes.{Finds};
-ghost use Rattle.tplg_compile.specs.Results.{Gives};
-ghost use Rattle.tplg_compile.specs.ValueForm.{in_table, seen};
+ghost use Rattle.tplg_compile.specs.Results.{AnswerIs};
+ghost use Rattle.tplg_compile.specs.ValueForm.{in_table, viewed};
 ghost use Rattle.tplg_compile.specs.Entries.{stated_widget, stated_route, stated_pcm};
 ghost use Rattle.tplg_compile.specs.DocumentLists as lists;
 ghost use Rattle.tplg_compile.specs.InOrder as source;
@@ -33,7 +33,7 @@ struct Entries<'a> {
 
 // Whether each value is a table.
 fn are_tables(values: &[Value]) -> bool
-    ensures { result ≡ lists.are_tables (seen values.now) }
+    ensures { result ≡ lists.are_tables (viewed values.now) }
 {
     for value in values {
         if !value.is_table() {
@@ -46,7 +46,7 @@ fn are_tables(values: &[Value]) -> bool
 // The entries of a value, an array of tables.
 #[tactic(auto, unfolding(crate::specs::DocumentLists::entries_of))]
 fn tables(value: &Value) -> Result<&[Value], EntryFault>
-    ensures { Finds (λ x. seen x.now) result (lists.entries_of (view value.now)) }
+    ensures { Finds (λ x. viewed x.now) result (lists.entries_of (view value.now)) }
 {
     let Some(array) = value.as_array() else {
         return Err(EntryFault::Misfit);
@@ -60,7 +60,7 @@ fn tables(value: &Value) -> Result<&[Value], EntryFault>
 // The entries of a list, which may be absent.
 #[tactic(auto, unfolding(crate::specs::DocumentLists::entries_at))]
 fn entries_at<'a>(table: &'a Table, key: &str) -> Result<&'a [Value], EntryFault>
-    ensures { Finds (λ x. seen x.now) result (lists.entries_at key.now (table_view table.now)) }
+    ensures { Finds (λ x. viewed x.now) result (lists.entries_at key.now (table_view table.now)) }
 {
     match value_at(table, key) {
         Some(value) => tables(value),
@@ -71,7 +71,7 @@ fn entries_at<'a>(table: &'a Table, key: &str) -> Result<&'a [Value], EntryFault
 // The entries of the three lists.
 #[tactic(auto, unfolding(crate::specs::DocumentLists::lists_of))]
 fn entries_of(table: &Table) -> Result<Entries<'_>, EntryFault>
-    ensures { Finds (λ x. record { widgets = seen x.widgets.now; routes = seen x.routes.now; pcms = seen x.pcms.now }) result (lists.lists_of (table_view table.now)) }
+    ensures { Finds (λ x. record { widgets = viewed x.widgets.now; routes = viewed x.routes.now; pcms = viewed x.pcms.now }) result (lists.lists_of (table_view table.now)) }
 {
     only(table, &DOCUMENT_KEYS)?;
     let widgets = entries_at(table, "widget")?;
@@ -166,7 +166,7 @@ fn record<L: EntryList>(alloc: Global, entry: &Value) -> Result<L::Record, Entry
 
 // The fault of an entry at a place of a list.
 fn told(fault: EntryFault, list: List, entry: u32) -> SourceFault
-    ensures { result ≡ source.told fault list entry }
+    ensures { result ≡ source.entry_fault_at fault list entry }
 {
     match fault {
         EntryFault::Misfit => SourceFault::Shape { list, entry },
@@ -179,7 +179,7 @@ const MOST: usize = 0xffff_ffff;
 
 // What the entries of a list state, up to the first at fault.
 fn records<L: EntryList>(alloc: Global, entries: &[Value]) -> Result<Vec<L::Record>, SourceFault>
-    ensures { Gives (λ x. x.items) result (source.entries_read L.list (in_table L.read) 0 (seen entries.now)) }
+    ensures { AnswerIs (λ x. x.items) result (source.entries_read L.list (in_table L.read) 0 (viewed entries.now)) }
 {
     if entries.len() > MOST {
         return Err(SourceFault::OutOfMemory);
@@ -197,7 +197,7 @@ fn records<L: EntryList>(alloc: Global, entries: &[Value]) -> Result<Vec<L::Reco
 /// What a document states, or its first fault.
 #[tactic(auto, unfolding(crate::specs::InOrder::source_of))]
 pub fn stated(alloc: Global, table: &Table) -> Result<TopologySource, SourceFault>
-    ensures { Gives (λ x. x) result (source.source_of (table_view table.now)) }
+    ensures { AnswerIs (λ x. x) result (source.source_of (table_view table.now)) }
 {
     let entries = match entries_of(table) {
         Ok(entries) => entries,

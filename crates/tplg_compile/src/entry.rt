@@ -4,7 +4,7 @@ ghost use Rattle.toml.specs.Data.{get_member};
 ghost use Rattle.toml.specs.View.{view, table_view};
 ghost use Rattle.tplg_compile.specs.Outcomes.{Finds};
 ghost use Rattle.tplg_compile.specs.ValueForm as reading;
-ghost use Rattle.tplg_compile.specs.KeyTables.{told, keys_of};
+ghost use Rattle.tplg_compile.specs.KeyTables.{keyed_by, keys_of};
 
 use crate::entry_fault::EntryFault;
 use crate::keys::TokenKey;
@@ -66,7 +66,7 @@ pub fn optional_name_at(entry: &Table, key: &str) -> Result<Option<Name44>, Entr
 
 // Whether a key is one of these.
 fn is_among(key: &str, keys: &[&str]) -> bool
-    ensures { result ≡ reading.is_among key.now (reading.texts keys.now) }
+    ensures { result ≡ reading.is_one_of key.now (reading.slice_texts keys.now) }
 {
     for one in keys {
         if key == *one {
@@ -78,7 +78,7 @@ fn is_among(key: &str, keys: &[&str]) -> bool
 
 // Whether a key stands for one of these tokens.
 fn is_token(key: &str, tokens: &[TokenKey]) -> bool
-    ensures { result ≡ reading.is_among key.now (keys_of (told tokens.now)) }
+    ensures { result ≡ reading.is_one_of key.now (keys_of (keyed_by tokens.now)) }
 {
     for one in tokens {
         if key == one.key {
@@ -90,7 +90,7 @@ fn is_token(key: &str, tokens: &[TokenKey]) -> bool
 
 // Whether a key is one of these, or stands for one of these tokens.
 fn is_known(key: &str, keys: &[&str], numbers: &[TokenKey], texts: &[TokenKey]) -> bool
-    ensures { result ≡ reading.is_among key.now (reading.texts keys.now ++ (keys_of (told numbers.now) ++ keys_of (told texts.now))) }
+    ensures { result ≡ reading.is_one_of key.now (reading.slice_texts keys.now ++ (keys_of (keyed_by numbers.now) ++ keys_of (keyed_by texts.now))) }
 {
     if is_among(key, keys) {
         return true;
@@ -103,7 +103,7 @@ fn is_known(key: &str, keys: &[&str], numbers: &[TokenKey], texts: &[TokenKey]) 
 
 // Whether each key of an entry is.
 fn has_only(entry: &Table, keys: &[&str], numbers: &[TokenKey], texts: &[TokenKey]) -> bool
-    ensures { result ≡ reading.has_only (reading.texts keys.now ++ (keys_of (told numbers.now) ++ keys_of (told texts.now))) (table_view entry.now) }
+    ensures { result ≡ reading.has_only (reading.slice_texts keys.now ++ (keys_of (keyed_by numbers.now) ++ keys_of (keyed_by texts.now))) (table_view entry.now) }
 {
     for (key, _value) in entry.iter() {
         if !is_known(key.as_str(), keys, numbers, texts) {
@@ -121,7 +121,7 @@ pub fn only_with(
     numbers: &[TokenKey],
     texts: &[TokenKey],
 ) -> Result<(), EntryFault>
-    ensures { Finds (λ _. tt) result (reading.only (reading.texts keys.now ++ (keys_of (told numbers.now) ++ keys_of (told texts.now))) (table_view entry.now)) }
+    ensures { Finds (λ _. tt) result (reading.only (reading.slice_texts keys.now ++ (keys_of (keyed_by numbers.now) ++ keys_of (keyed_by texts.now))) (table_view entry.now)) }
 {
     if has_only(entry, keys, numbers, texts) {
         Ok(())
@@ -132,7 +132,7 @@ pub fn only_with(
 
 /// A misfit where an entry has a key that is none of these.
 pub fn only(entry: &Table, keys: &[&str]) -> Result<(), EntryFault>
-    ensures { Finds (λ _. tt) result (reading.only (reading.texts keys.now) (table_view entry.now)) }
+    ensures { Finds (λ _. tt) result (reading.only (reading.slice_texts keys.now) (table_view entry.now)) }
 {
     only_with(entry, keys, &[], &[])
 }

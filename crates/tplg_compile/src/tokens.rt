@@ -4,7 +4,7 @@ ghost use Rattle.toml.specs.Data.{Data, get_member};
 ghost use Rattle.toml.specs.View.{view, table_view};
 ghost use Rattle.tplg_compile.specs.Outcomes.{Finds};
 ghost use Rattle.tplg_compile.specs.ValueForm.{perhaps};
-ghost use Rattle.tplg_compile.specs.KeyTables.{told, number_tokens, text_tokens};
+ghost use Rattle.tplg_compile.specs.KeyTables.{keyed_by, number_tokens, text_tokens};
 ghost use Rattle.tplg_compile.specs.Entries as entries;
 
 use crate::entry::value_at;
@@ -63,7 +63,7 @@ fn tuples<T: Tuple + Drop>(
     entry: &Table,
     keys: &[TokenKey],
 ) -> Result<Items<T>, EntryFault>
-    ensures { Finds (λ x. x) result (entries.tuples_at T.read (told keys.now) (table_view entry.now)) }
+    ensures { Finds (λ x. x) result (entries.tuples_at T.read (keyed_by keys.now) (table_view entry.now)) }
 {
     let mut tuples = Items::new(alloc);
     for key in keys {

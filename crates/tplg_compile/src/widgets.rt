@@ -19,9 +19,9 @@ use toml::{Table, Value};
 use tplg_build::{SourceWidget, WidgetKind, empty_name};
 
 // The kind that a value names.
-#[tactic(auto, unfolding(crate::specs::Entries::kind_of))]
+#[tactic(auto, unfolding(crate::specs::Entries::stated_kind))]
 fn kind(value: &Value) -> Result<WidgetKind, EntryFault>
-    ensures { Finds (λ x. x) result (entries.kind_of (view value.now)) }
+    ensures { Finds (λ x. x) result (entries.stated_kind (view value.now)) }
 {
     let text = filled(value)?;
     match kind_named(text.as_bytes()) {
@@ -33,7 +33,7 @@ fn kind(value: &Value) -> Result<WidgetKind, EntryFault>
 // The kind at a key.
 #[tactic(auto, unfolding(crate::specs::ValueForm::required_at))]
 fn kind_at(entry: &Table, key: &str) -> Result<WidgetKind, EntryFault>
-    ensures { Finds (λ x. x) result (reading.required_at entries.kind_of key.now (table_view entry.now)) }
+    ensures { Finds (λ x. x) result (reading.required_at entries.stated_kind key.now (table_view entry.now)) }
 {
     kind(needed(entry, key)?)
 }

@@ -11,8 +11,8 @@ use Rattle.stream_law.specs.declared.graph.Pipe.{Pipe}
 use Rattle.stream_law.specs.declared.graph.Join.{Join}
 use Rattle.stream_law.specs.declared.graph.Setting.TheVariants.{Nothing}
 use Rattle.tplg_widgets.specs.declared.entry.Entry.{Entry}
-use Rattle.tplg_widgets.specs.Entries.{is_interpreted, is_buffer, is_scheduler, interpreted, id_of}
-use Rattle.tplg_widgets.specs.Ends.{end_of}
+use Rattle.tplg_widgets.specs.Entries.{is_interpreted, is_buffer_entry, is_scheduler, interpreted, id_of}
+use Rattle.tplg_widgets.specs.Ends.{end_named}
 use Rattle.tplg_widgets.specs.GraphLists.{component_kind, is_sink, component_at, route_in, route_out, edge_at}
 use Rattle.tplg_graph.specs.PlanLists.{component_end, pipeline_at}
 use Rattle.tplg_rules.specs.RuleTable.{at}
@@ -76,7 +76,7 @@ of-component ps js i c h = by_entry (slice_get ps i) refl h
 pub record OfEdge (ps : List Entry) (js : List Join) (i : ℕ) (e : Edge) : Type 0 where
   pub entry : Entry
   pub there : slice_get ps i ≡ Some entry
-  pub sort : is_buffer entry ≡ true
+  pub sort : is_buffer_entry entry ≡ true
   pub buffer : e.buffer ≡ i
   pub pipe : e.pipe ≡ entry.index
   pub size : e.size ≡ unwrap_or entry.tokens.size 0
@@ -89,21 +89,21 @@ made_edge js i e = record { buffer = i; pipe = e.index; size = unwrap_or e.token
 pub of-edge : (ps : List Entry) (js : List Join) (i : ℕ) (e : Edge) → edge_at ps js i ≡ Some e → OfEdge ps js i e
 of-edge ps js i e h = by_entry (slice_get ps i) refl h
   where
-    by_sort : (p : Entry) → slice_get ps i ≡ Some p → (b : Bool) → is_buffer p ≡ b → cond b (Some (made_edge js i p)) None ≡ Some e → OfEdge ps js i e
+    by_sort : (p : Entry) → slice_get ps i ≡ Some p → (b : Bool) → is_buffer_entry p ≡ b → cond b (Some (made_edge js i p)) None ≡ Some e → OfEdge ps js i e
     by_sort p f false g h = cc
     by_sort p f true g h =
         let same : e ≡ made_edge js i p = ap (λ o. unwrap_or o e) (sym h) in
         record { entry = p; there = f; sort = g; buffer = ap (λ (x : Edge). x.buffer) same; pipe = ap (λ (x : Edge). x.pipe) same; size = ap (λ (x : Edge). x.size) same; source = ap (λ (x : Edge). x.source) same; sink = ap (λ (x : Edge). x.sink) same }
 
-    by_entry : (o : Option Entry) → slice_get ps i ≡ o → option_and_then (λ p. cond (is_buffer p) (Some (made_edge js i p)) None) o ≡ Some e → OfEdge ps js i e
+    by_entry : (o : Option Entry) → slice_get ps i ≡ o → option_and_then (λ p. cond (is_buffer_entry p) (Some (made_edge js i p)) None) o ≡ Some e → OfEdge ps js i e
     by_entry None f h = cc
-    by_entry (Some p) f h = by_sort p f (is_buffer p) refl h
+    by_entry (Some p) f h = by_sort p f (is_buffer_entry p) refl h
 
 pub record OfPipe (es ps : List Entry) (i : ℕ) (p : Pipe) : Type 0 where
   pub entry : Entry
   pub there : slice_get ps i ≡ Some entry
   pub sort : is_scheduler entry ≡ true
-  pub sched : component_end (end_of es entry.sname) ≡ Some p.sched
+  pub sched : component_end (end_named es entry.sname) ≡ Some p.sched
   pub id : p.id ≡ i
   pub index : p.index ≡ entry.index
   pub period : p.period ≡ unwrap_or entry.tokens.period 0
@@ -112,18 +112,18 @@ pub record OfPipe (es ps : List Entry) (i : ℕ) (p : Pipe) : Type 0 where
 pub of-pipe : (es ps : List Entry) (i : ℕ) (p : Pipe) → pipeline_at es ps i ≡ Some p → OfPipe es ps i p
 of-pipe es ps i p h = by_entry (slice_get ps i) refl h
   where
-    by_sched : (e : Entry) → slice_get ps i ≡ Some e → is_scheduler e ≡ true → (o : Option ℕ) → component_end (end_of es e.sname) ≡ o → option_map (λ sched. record { id = i; index = e.index; sched = sched; period = unwrap_or e.tokens.period 0; complete = true }) o ≡ Some p → OfPipe es ps i p
+    by_sched : (e : Entry) → slice_get ps i ≡ Some e → is_scheduler e ≡ true → (o : Option ℕ) → component_end (end_named es e.sname) ≡ o → option_map (λ sched. record { id = i; index = e.index; sched = sched; period = unwrap_or e.tokens.period 0; complete = true }) o ≡ Some p → OfPipe es ps i p
     by_sched e f g None k h = cc
     by_sched e f g (Some s) k h =
         let made : Pipe = record { id = i; index = e.index; sched = s; period = unwrap_or e.tokens.period 0; complete = true } in
         let same : p ≡ made = ap (λ o. unwrap_or o made) (sym h) in
         record { entry = e; there = f; sort = g; sched = k ∙ ap (λ (x : Pipe). Some x.sched) (sym same); id = ap (λ (x : Pipe). x.id) same; index = ap (λ (x : Pipe). x.index) same; period = ap (λ (x : Pipe). x.period) same; complete = ap (λ (x : Pipe). x.complete) same }
 
-    by_sort : (e : Entry) → slice_get ps i ≡ Some e → (b : Bool) → is_scheduler e ≡ b → cond b (option_map (λ sched. record { id = i; index = e.index; sched = sched; period = unwrap_or e.tokens.period 0; complete = true }) (component_end (end_of es e.sname))) None ≡ Some p → OfPipe es ps i p
+    by_sort : (e : Entry) → slice_get ps i ≡ Some e → (b : Bool) → is_scheduler e ≡ b → cond b (option_map (λ sched. record { id = i; index = e.index; sched = sched; period = unwrap_or e.tokens.period 0; complete = true }) (component_end (end_named es e.sname))) None ≡ Some p → OfPipe es ps i p
     by_sort e f false g h = cc
-    by_sort e f true g h = by_sched e f g (component_end (end_of es e.sname)) refl h
+    by_sort e f true g h = by_sched e f g (component_end (end_named es e.sname)) refl h
 
-    by_entry : (o : Option Entry) → slice_get ps i ≡ o → option_and_then (λ e. cond (is_scheduler e) (option_map (λ sched. record { id = i; index = e.index; sched = sched; period = unwrap_or e.tokens.period 0; complete = true }) (component_end (end_of es e.sname))) None) o ≡ Some p → OfPipe es ps i p
+    by_entry : (o : Option Entry) → slice_get ps i ≡ o → option_and_then (λ e. cond (is_scheduler e) (option_map (λ sched. record { id = i; index = e.index; sched = sched; period = unwrap_or e.tokens.period 0; complete = true }) (component_end (end_named es e.sname))) None) o ≡ Some p → OfPipe es ps i p
     by_entry None f h = cc
     by_entry (Some e) f h = by_sort e f (is_scheduler e) refl h
 

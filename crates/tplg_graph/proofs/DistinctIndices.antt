@@ -8,7 +8,7 @@ use Rattle.stream_law.specs.declared.graph.Pipe.{Pipe}
 use Rattle.stream_law.specs.Placed.{HasDistinct}
 use Rattle.tplg_widgets.specs.declared.entry.Entry.{Entry}
 use Rattle.tplg_widgets.specs.Entries.{is_scheduler, interpreted}
-use Rattle.tplg_widgets.specs.Ends.{end_of}
+use Rattle.tplg_widgets.specs.Ends.{end_named}
 use Rattle.tplg_graph.specs.PlanLists.{component_end, pipeline_of, pipes_on}
 use Rattle.tplg_rules.specs.Rules.{HoldsAll}
 use Rattle.tplg_rules.specs.RuleTable.{is_of_index, schedules, is_scheduled, indices_rule}
@@ -56,7 +56,7 @@ none-made es index i [] none = tt
 none-made es index i (p ∷ ps) none =
     let s : count_by (schedules index) (p ∷ ps) ≡ cond (schedules index p) 1 0 + count_by (schedules index) ps = sum_by-cons (λ e. cond (schedules index e) 1 0) p ps in
     let head : ◌≡◌ {A = ℕ} (cond (schedules index p) 1 0) 0 = omega (arith, s, none) in
-    by_sort (is_scheduler p) head (component_end (end_of es p.sname)) (none-made es index (i + 1) ps (omega (arith, s, none)))
+    by_sort (is_scheduler p) head (component_end (end_named es p.sname)) (none-made es index (i + 1) ps (omega (arith, s, none)))
   where
     one-zero : ◌≡◌ {A = ℕ} 1 0 → ⊥
     one-zero e = omega (arith, e)
@@ -75,7 +75,7 @@ none-made es index i (p ∷ ps) none =
 distinct : (es : List Entry) (i : ℕ) (ps : List Entry) → ((index : ℕ) → count_by (schedules index) ps ≤ 1) → HasDistinct (λ p. p.index) (indexed (pipeline_of es) i ps)
 unfolding IsDistinct
 distinct es i [] one = tt
-distinct es i (p ∷ ps) one = by_sort (is_scheduler p) refl (component_end (end_of es p.sname)) (distinct es (i + 1) ps (λ index. let s = sum_by-cons (λ e. cond (schedules index e) 1 0) p ps in let o = one index in omega (arith, s, o)))
+distinct es i (p ∷ ps) one = by_sort (is_scheduler p) refl (component_end (end_named es p.sname)) (distinct es (i + 1) ps (λ index. let s = sum_by-cons (λ e. cond (schedules index e) 1 0) p ps in let o = one index in omega (arith, s, o)))
   where
     none : is_scheduler p ≡ true → count_by (schedules p.index) ps ≡ 0
     none f =

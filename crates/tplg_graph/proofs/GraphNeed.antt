@@ -17,8 +17,8 @@ use Rattle.tplg_widgets.specs.declared.entry.Entry.{Entry}
 use Rattle.tplg_widgets.specs.declared.route_end.End.{End}
 use Rattle.tplg_widgets.specs.declared.route_end.End.TheVariants as an_end
 use Rattle.tplg_widgets.specs.declared.tokens.FormatToken.{FormatToken}
-use Rattle.tplg_widgets.specs.Entries.{is_interpreted, is_buffer, is_buffer_role, is_scheduler, is_scheduler_role, interpreted}
-use Rattle.tplg_widgets.specs.Ends.{end_of}
+use Rattle.tplg_widgets.specs.Entries.{is_interpreted, is_buffer_entry, is_buffer_role, is_scheduler, is_scheduler_role, interpreted}
+use Rattle.tplg_widgets.specs.Ends.{end_named}
 use Rattle.tplg_widgets.specs.GraphLists.{component_kind, component_of, buffer_edge, is_sink, route_in, route_out}
 use Rattle.tplg_graph.specs.PlanLists.{pipeline_of, component_end}
 use Rattle.tplg_plan.specs.HeapNeed.{component_size, components_need, edges_need, need_on}
@@ -82,16 +82,16 @@ is-pipe true an_end.Missing pipe h = absurd (false≢true h)
 add-up : (C E L c e l C' E' L' n rest : ℕ) → C ≡ c + C' → E ≡ e + E' → L ≡ l + L' → c + e + 64 * l ≡ n → C' + E' + 64 * L' ≡ rest → C + E + 64 * L ≡ n + rest
 add-up C E L c e l C' E' L' n rest f g h k m = omega arith
 
-needs : (es : List Entry) (js : List Join) (i : ℕ) (ps : List Entry) → list_all is_interpreted ps ≡ true → list_all (λ e. not (is_scheduler e) || is_component_end (end_of es e.sname)) ps ≡ true → components_need (indexed (component_of js) i ps) + edges_need (indexed (buffer_edge js) i ps) + 64 * length (indexed (pipeline_of es) i ps) ≡ sum (map widget_need ps)
+needs : (es : List Entry) (js : List Join) (i : ℕ) (ps : List Entry) → list_all is_interpreted ps ≡ true → list_all (λ e. not (is_scheduler e) || is_component_end (end_named es e.sname)) ps ≡ true → components_need (indexed (component_of js) i ps) + edges_need (indexed (buffer_edge js) i ps) + 64 * length (indexed (pipeline_of es) i ps) ≡ sum (map widget_need ps)
 needs es js i [] all scheds = refl
 needs es js i (p ∷ ps) all scheds =
     let a = and_parts (is_interpreted p) (list_all is_interpreted ps) all in
-    let s = and_parts (not (is_scheduler p) || is_component_end (end_of es p.sname)) (list_all (λ e. not (is_scheduler e) || is_component_end (end_of es e.sname)) ps) scheds in
+    let s = and_parts (not (is_scheduler p) || is_component_end (end_named es p.sname)) (list_all (λ e. not (is_scheduler e) || is_component_end (end_named es e.sname)) ps) scheds in
     let size = unwrap_or p.tokens.size 0 in
-    let own_need = ap (λ b. kind_size (component_kind p.role p.tokens.format (is_sink js i)) + cond (is_buffer_role p.role) (rounded (32 + size)) 0 + 64 * cond b 1 0) (is-pipe (is_scheduler_role p.role) (end_of es p.sname) (λ sched. record { id = i; index = p.index; sched = sched; period = unwrap_or p.tokens.period 0; complete = true }) s.0) ∙ role-need p.role p.tokens.format (is_sink js i) size a.0 in
+    let own_need = ap (λ b. kind_size (component_kind p.role p.tokens.format (is_sink js i)) + cond (is_buffer_role p.role) (rounded (32 + size)) 0 + 64 * cond b 1 0) (is-pipe (is_scheduler_role p.role) (end_named es p.sname) (λ sched. record { id = i; index = p.index; sched = sched; period = unwrap_or p.tokens.period 0; complete = true }) s.0) ∙ role-need p.role p.tokens.format (is_sink js i) size a.0 in
     add-up _ _ _ _ _ _ _ _ _ _ _
     (more-comps i p.index (component_kind p.role p.tokens.format (is_sink js i)) (indexed (component_of js) (i + 1) ps))
-    (more-edges (is_buffer p) (record { buffer = i; pipe = p.index; size = size; source = option_map (λ j. j.source) (route_in js i); sink = option_map (λ j. j.sink) (route_out js i) }) (indexed (buffer_edge js) (i + 1) ps))
+    (more-edges (is_buffer_entry p) (record { buffer = i; pipe = p.index; size = size; source = option_map (λ j. j.source) (route_in js i); sink = option_map (λ j. j.sink) (route_out js i) }) (indexed (buffer_edge js) (i + 1) ps))
     (more-pipes (pipeline_of es i p) (indexed (pipeline_of es) (i + 1) ps))
     own_need
     (needs es js (i + 1) ps a.1 s.1)
@@ -100,4 +100,4 @@ needs es js i (p ∷ ps) all scheds =
 pub graph-need : (es : List Entry) (js : List Join) → HoldsAll (scheds_rule es) → need_on (graph_on es (interpreted es) js) ≡ sum (map widget_need (interpreted es))
 graph-need es js scheds =
     (λ k. components_need (by-index (component_of js) (interpreted es) k) + edges_need (by-index (buffer_edge js) (interpreted es) k) + 64 * length (by-index (pipeline_of es) (interpreted es) k))
-    ∙ needs es js 0 (interpreted es) (all-interpreted es) (of-interpreted es (interpreted es) (λ e. not (is_scheduler e) || is_component_end (end_of es e.sname)) refl scheds)
+    ∙ needs es js 0 (interpreted es) (all-interpreted es) (of-interpreted es (interpreted es) (λ e. not (is_scheduler e) || is_component_end (end_named es e.sname)) refl scheds)

@@ -4,7 +4,7 @@ use Rattle.std.proofs.lemmas.Bool.{leb-true}
 use Rattle.stream_law.specs.declared.graph.Join.{Join}
 use Rattle.tplg_widgets.specs.declared.entry.Entry.{Entry}
 use Rattle.tplg_widgets.specs.declared.pcm_caps.PcmCaps.{PcmCaps}
-use Rattle.tplg_widgets.specs.Entries.{is_buffer, is_component, is_scheduler}
+use Rattle.tplg_widgets.specs.Entries.{is_buffer_entry, is_component, is_scheduler}
 use Rattle.tplg_graph.specs.PlanLists.{pipeline_of, pipes_on}
 use Rattle.tplg_rules.specs.Rules.{HoldsAll}
 use Rattle.tplg_rules.specs.RuleTable.{counts_rule}
@@ -20,6 +20,6 @@ length-pipes es ps = let n = ap length (by-index (pipeline_of es) ps) in omega (
 pub small : (es ps : List Entry) (pcms : List PcmCaps) (js : List Join) → HoldsAll (counts_rule ps pcms) → IsSmall (graph_on es ps js)
 small es ps pcms js counts = record {
   comps = let c = leb-true (count_by is_component ps) 128 (counts 1 (lit< tt)) in omega (arith, c, length-components ps js);
-  edges = let b = leb-true (count_by is_buffer ps) 128 (counts 2 (lit< tt)) in omega (arith, b, length-edges ps js);
+  edges = let b = leb-true (count_by is_buffer_entry ps) 128 (counts 2 (lit< tt)) in omega (arith, b, length-edges ps js);
   pipes = let s = leb-true (count_by is_scheduler ps) 32 (counts 0 (lit< tt)) in omega (arith, s, length-pipes es ps);
 }

@@ -25,7 +25,7 @@ use Rattle.tplg_widgets.specs.Entries.{is_interpreted, is_effect, is_component_r
 use Rattle.tplg_widgets.specs.LiveControls.{is_live, live_of, scale_word}
 use Rattle.tplg_rules.specs.ControlRanges.{is_control, is_live_in_range}
 use Rattle.tplg_widgets.specs.GraphLists.{component_kind, is_sink}
-use Rattle.tplg_graph.specs.PlanLists.{kind_in, control_plan, control_at, controls_on}
+use Rattle.tplg_graph.specs.PlanLists.{kind_in, control_plan, entry_control, controls_on}
 use Rattle.tplg_rules.specs.Rules.{HoldsAll}
 use Rattle.tplg_rules.specs.RuleTable.{is_known_process, controls_rule, counts_rule}
 use Rattle.tplg_plan.specs.Sound.{IsControlOf, IsLive}
@@ -115,7 +115,7 @@ pub record OfControl (ps : List Entry) (i : ℕ) (k : ControlPlan) : Type 0 wher
   pub kind : kind_in control ≡ Some k.kind
   pub comp : k.comp ≡ i
 
-of-control : (ps : List Entry) (i : ℕ) (k : ControlPlan) → control_at ps i ≡ Some k → OfControl ps i k
+of-control : (ps : List Entry) (i : ℕ) (k : ControlPlan) → entry_control ps i ≡ Some k → OfControl ps i k
 of-control ps i k h = by_entry (slice_get ps i) refl h
   where
     by_kind : (e : Entry) → slice_get ps i ≡ Some e → (c : Control) → e.control ≡ Some c → (o : Option ControlKind) → kind_in c ≡ o → option_map (λ kind. record { comp = i; kind = kind }) o ≡ Some k → OfControl ps i k
@@ -133,7 +133,7 @@ of-control ps i k h = by_entry (slice_get ps i) refl h
     by_entry None f h = cc
     by_entry (Some e) f h = by_control e f e.control refl h
 
-pub keyed-controls : (ps : List Entry) → IsKeyed (λ k. k.comp) (control_at ps)
+pub keyed-controls : (ps : List Entry) → IsKeyed (λ k. k.comp) (entry_control ps)
 keyed-controls ps i k h = (of-control ps i k h).comp
 
 no-control : (o : Option Control) (i : ℕ) → is_some o ≡ false → control_plan i o ≡ None
@@ -147,7 +147,7 @@ few-controls ps pcms counts =
     omega (arith, n, c, length-indexed (λ i e. control_plan i e.control) has_control (λ i p h. no-control p.control i h) 0 ps)
 
 pub live-controls : (es : List Entry) (js : List Join) → list_all is_matched es ≡ true → HoldsAll (controls_rule es) → AllByRecursion (IsLive (graph_of es js)) (controls_on (interpreted es))
-live-controls es js matched rule = all-made (IsLive (graph_of es js)) (control_at (interpreted es)) 0 (length (interpreted es)) (λ i k high h. each i k (of-control (interpreted es) i k h))
+live-controls es js matched rule = all-made (IsLive (graph_of es js)) (entry_control (interpreted es)) 0 (length (interpreted es)) (λ i k high h. each i k (of-control (interpreted es) i k h))
   where
     each : (i : ℕ) (k : ControlPlan) → OfControl (interpreted es) i k → IsLive (graph_of es js) k
     each i k o =

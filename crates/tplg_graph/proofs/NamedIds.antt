@@ -16,8 +16,8 @@ use Rattle.tplg_widgets.specs.declared.entry.Role.TheVariants.{HostPlay, HostCap
 use Rattle.tplg_widgets.specs.declared.entry.Entry.{Entry}
 use Rattle.tplg_plan.specs.declared.plans.WidgetPlan.{WidgetPlan}
 use Rattle.tplg_widgets.specs.declared.tokens.FormatToken.{FormatToken}
-use Rattle.tplg_widgets.specs.Entries.{is_interpreted, is_buffer, is_scheduler, is_component, is_buffer_role, is_scheduler_role, is_component_role, interpreted}
-use Rattle.tplg_widgets.specs.Ends.{end_of}
+use Rattle.tplg_widgets.specs.Entries.{is_interpreted, is_buffer_entry, is_scheduler, is_component, is_buffer_role, is_scheduler_role, is_component_role, interpreted}
+use Rattle.tplg_widgets.specs.Ends.{end_named}
 use Rattle.tplg_widgets.specs.GraphLists.{component_kind, is_sink, component_of, component_at, route_in, route_out, edge_at, buffer_edge}
 use Rattle.tplg_graph.specs.PlanLists.{component_end, pipeline_of, pipeline_at, widget_plan, widgets_on}
 use Rattle.tplg_widgets.specs.Tokens.{stated_format}
@@ -55,11 +55,11 @@ pipe-by-id es js id = by-key (λ p. p.id) (pipeline_at es (interpreted es)) (key
 no-comp : (ps : List Entry) (js : List Join) (id : ℕ) (e : Entry) → slice_get ps id ≡ Some e → is_component e ≡ false → component_at ps js id ≡ None
 no-comp ps js id e there h = ap (option_and_then (component_of js id)) there ∙ ap (option_map (λ k. record { id = id; kind = k; pipe = e.index; setting = Nothing })) (no-kind e.role e.tokens.format (is_sink js id) h)
 
-no-edge : (ps : List Entry) (js : List Join) (id : ℕ) (e : Entry) → slice_get ps id ≡ Some e → is_buffer e ≡ false → edge_at ps js id ≡ None
-no-edge ps js id e there h = ap (option_and_then (buffer_edge js id)) there ∙ cond-none (is_buffer e) (Some (made_edge js id e)) h
+no-edge : (ps : List Entry) (js : List Join) (id : ℕ) (e : Entry) → slice_get ps id ≡ Some e → is_buffer_entry e ≡ false → edge_at ps js id ≡ None
+no-edge ps js id e there h = ap (option_and_then (buffer_edge js id)) there ∙ cond-none (is_buffer_entry e) (Some (made_edge js id e)) h
 
 no-pipe : (es ps : List Entry) (id : ℕ) (e : Entry) → slice_get ps id ≡ Some e → is_scheduler e ≡ false → pipeline_at es ps id ≡ None
-no-pipe es ps id e there h = ap (option_and_then (pipeline_of es id)) there ∙ cond-none (is_scheduler e) (option_map (λ sched. record { id = id; index = e.index; sched = sched; period = unwrap_or e.tokens.period 0; complete = true }) (component_end (end_of es e.sname))) h
+no-pipe es ps id e there h = ap (option_and_then (pipeline_of es id)) there ∙ cond-none (is_scheduler e) (option_map (λ sched. record { id = id; index = e.index; sched = sched; period = unwrap_or e.tokens.period 0; complete = true }) (component_end (end_named es e.sname))) h
 
 pub record Known (es : List Entry) (js : List Join) (id : ℕ) : Type 0 where
   pub comp : Comp
@@ -188,18 +188,18 @@ sides es js good id b ins outs =
 -- rule 5 at an id
 pub passed : (es : List Entry) (js : List Join) → HoldsAll (buffers_rule es js) → (id : ℕ) → IsBuf (interpreted es) id → (ins_of js id ≡ 1) × (outs_of js id ≡ 1)
 passed es js rule id b =
-    let h = implied (is_buffer b.entry) (is_joined_through js id) b.sort (at-id es (λ i e. not (is_buffer e) || is_joined_through js i) rule id b.entry b.there) in
+    let h = implied (is_buffer_entry b.entry) (is_joined_through js id) b.sort (at-id es (λ i e. not (is_buffer_entry e) || is_joined_through js i) rule id b.entry b.there) in
     let parts = and_parts (ins_of js id == 1) (outs_of js id == 1) h in
     (eqb-true (ins_of js id) 1 parts.0, eqb-true (outs_of js id) 1 parts.1)
 
-names-buffer : (es : List Entry) (js : List Join) → AllByRecursion (Good (interpreted es)) js → HoldsAll (buffers_rule es js) → HoldsAll (sizes_rule es) → (id : ℕ) (e : Entry) → slice_get (interpreted es) id ≡ Some e → is_buffer e ≡ true → Names (graph_of es js) id (widget_plan e)
+names-buffer : (es : List Entry) (js : List Join) → AllByRecursion (Good (interpreted es)) js → HoldsAll (buffers_rule es js) → HoldsAll (sizes_rule es) → (id : ℕ) (e : Entry) → slice_get (interpreted es) id ≡ Some e → is_buffer_entry e ≡ true → Names (graph_of es js) id (widget_plan e)
 names-buffer es js good rule sizes id e there sort =
     let b : IsBuf (interpreted es) id = record { entry = e; there = there; sort = sort } in
     let p = passed es js rule id b in
     let s = sides es js good id b p.0 p.1 in
     let from = known es js s.before.source s.source in
     let to = known es js s.behind.sink s.sink in
-    let size = size-of e.tokens.size (implied (is_buffer e) (is_size e.tokens.size) sort (at-id es (λ i e. not (is_buffer e) || is_size e.tokens.size) sizes id e there)) in
+    let size = size-of e.tokens.size (implied (is_buffer_entry e) (is_size e.tokens.size) sort (at-id es (λ i e. not (is_buffer_entry e) || is_size e.tokens.size) sizes id e there)) in
     let apart = of-buffer-role e.role sort in
     inr (inl (record {
       edge = made_edge js id e;
@@ -225,7 +225,7 @@ period-of (Some p) h = h
 
 names-pipe : (es : List Entry) (js : List Join) → HoldsAll (scheds_rule es) → HoldsAll (periods_rule es) → (id : ℕ) (e : Entry) → slice_get (interpreted es) id ≡ Some e → is_scheduler e ≡ true → Names (graph_of es js) id (widget_plan e)
 names-pipe es js scheds periods id e there sort =
-    let c = component-of (end_of es e.sname) (implied (is_scheduler e) (is_component_end (end_of es e.sname)) sort (at-id es (λ i e. not (is_scheduler e) || is_component_end (end_of es e.sname)) scheds id e there)) in
+    let c = component-of (end_named es e.sname) (implied (is_scheduler e) (is_component_end (end_named es e.sname)) sort (at-id es (λ i e. not (is_scheduler e) || is_component_end (end_named es e.sname)) scheds id e there)) in
     let k = known es js c.0 (component-end es e.sname c.0 c.1) in
     let pipe : Pipe = record { id = id; index = e.index; sched = c.0; period = unwrap_or e.tokens.period 0; complete = true } in
     let apart = of-scheduler-role e.role sort in
@@ -235,7 +235,7 @@ names-pipe es js scheds periods id e there sort =
       no_edge = edge-by-id es js id ∙ no-edge (interpreted es) js id e there apart.1;
       there =
           pipe-by-id es js id ∙ ap (option_and_then (pipeline_of es id)) there
-          ∙ ap (λ b. cond b (option_map (λ sched. record { id = id; index = e.index; sched = sched; period = unwrap_or e.tokens.period 0; complete = true }) (component_end (end_of es e.sname))) None) sort
+          ∙ ap (λ b. cond b (option_map (λ sched. record { id = id; index = e.index; sched = sched; period = unwrap_or e.tokens.period 0; complete = true }) (component_end (end_named es e.sname))) None) sort
           ∙ ap (λ x. option_map (λ sched. record { id = id; index = e.index; sched = sched; period = unwrap_or e.tokens.period 0; complete = true }) (component_end x)) c.1;
       is = record {
         index = refl;
@@ -251,7 +251,7 @@ names-pipe es js scheds periods id e there sort =
 pub named-ids : (es : List Entry) (js : List Join) → AllByRecursion (Good (interpreted es)) js → HoldsAll (buffers_rule es js) → HoldsAll (scheds_rule es) → HoldsAll (periods_rule es) → HoldsAll (sizes_rule es) → (id : ℕ) (widget : WidgetPlan) → slice_get (widgets_on (interpreted es)) id ≡ Some widget → Names (graph_of es js) id widget
 named-ids es js good rule scheds periods sizes id widget h = by_entry (slice_get (interpreted es) id) refl (sym (slice_get-map widget_plan (interpreted es) id) ∙ h)
   where
-    by_sort : (e : Entry) → slice_get (interpreted es) id ≡ Some e → (is_component e ≡ true) ⊎ ((is_buffer e ≡ true) ⊎ (is_scheduler e ≡ true)) → Names (graph_of es js) id (widget_plan e)
+    by_sort : (e : Entry) → slice_get (interpreted es) id ≡ Some e → (is_component e ≡ true) ⊎ ((is_buffer_entry e ≡ true) ⊎ (is_scheduler e ≡ true)) → Names (graph_of es js) id (widget_plan e)
     by_sort e f (inl s) = names-component es js id e f s
     by_sort e f (inr (inl s)) = names-buffer es js good rule sizes id e f s
     by_sort e f (inr (inr s)) = names-pipe es js scheds periods id e f s

@@ -20,9 +20,9 @@ use Rattle.tplg_widgets.specs.declared.entry.Role.TheVariants as role_is
 use Rattle.tplg_widgets.specs.declared.entry.Entry.{Entry}
 use Rattle.tplg_widgets.specs.declared.route_end.End.{End}
 use Rattle.tplg_widgets.specs.declared.route_end.End.TheVariants.{Buffer, Component, Other, Missing}
-use Rattle.tplg_widgets.specs.Entries.{is_buffer, is_component, is_buffer_role, is_component_role, routes_in, entries_of, interpreted}
+use Rattle.tplg_widgets.specs.Entries.{is_buffer_entry, is_component, is_buffer_role, is_component_role, routes_in, entries_of, interpreted}
 use Rattle.tplg_widgets.specs.Names.{has_name}
-use Rattle.tplg_widgets.specs.Ends.{end_at, end_of, ends_of, join_of, real_of, block_ends}
+use Rattle.tplg_widgets.specs.Ends.{end_at, end_named, ends_of, join_of, real_of, block_ends}
 use Rattle.tplg_widgets.specs.declared.tokens.FormatToken.{FormatToken}
 use Rattle.tplg_widgets.specs.GraphLists.{component_kind, is_sink, component_of, component_at, components_on, route_in, route_out, buffer_edge, edge_at, edges_on}
 use Rattle.tplg_widgets.specs.Ends.{joins_of}
@@ -63,7 +63,7 @@ pub record IsComp (es : List Entry) (a : ℕ) : Type 0 where
 pub record IsBuf (es : List Entry) (a : ℕ) : Type 0 where
   pub entry : Entry
   pub there : slice_get es a ≡ Some entry
-  pub sort : is_buffer entry ≡ true
+  pub sort : is_buffer_entry entry ≡ true
 
 comp-among : (ps : List Entry) (js : List Join) (a : ℕ) → IsComp ps a → is_among (ids_of (components_on ps js)) a ≡ true
 comp-among ps js a c =
@@ -75,23 +75,23 @@ comp-among ps js a c =
 -- ---- what an end names
 
 end_at-component : (e : Entry) (k a : ℕ) → end_at e k ≡ Component a → (k ≡ a) × (is_component e ≡ true)
-end_at-component e k a h = by_buffer (is_buffer e) refl (is_component e) refl h
+end_at-component e k a h = by_buffer (is_buffer_entry e) refl (is_component e) refl h
   where
-    by_buffer : (b : Bool) → is_buffer e ≡ b → (c : Bool) → is_component e ≡ c → cond b (Buffer k) (cond c (Component k) Other) ≡ Component a → (k ≡ a) × (is_component e ≡ true)
+    by_buffer : (b : Bool) → is_buffer_entry e ≡ b → (c : Bool) → is_component e ≡ c → cond b (Buffer k) (cond c (Component k) Other) ≡ Component a → (k ≡ a) × (is_component e ≡ true)
     by_buffer true f c g h = cc
     by_buffer false f true g h = (let s : k ≡ a = cc in s, g)
     by_buffer false f false g h = cc
 
-end_at-buffer : (e : Entry) (k a : ℕ) → end_at e k ≡ Buffer a → (k ≡ a) × (is_buffer e ≡ true)
-end_at-buffer e k a h = by_buffer (is_buffer e) refl (is_component e) h
+end_at-buffer : (e : Entry) (k a : ℕ) → end_at e k ≡ Buffer a → (k ≡ a) × (is_buffer_entry e ≡ true)
+end_at-buffer e k a h = by_buffer (is_buffer_entry e) refl (is_component e) h
   where
-    by_buffer : (b : Bool) → is_buffer e ≡ b → (c : Bool) → cond b (Buffer k) (cond c (Component k) Other) ≡ Buffer a → (k ≡ a) × (is_buffer e ≡ true)
+    by_buffer : (b : Bool) → is_buffer_entry e ≡ b → (c : Bool) → cond b (Buffer k) (cond c (Component k) Other) ≡ Buffer a → (k ≡ a) × (is_buffer_entry e ≡ true)
     by_buffer true f c h = (let s : k ≡ a = cc in s, f)
     by_buffer false f true h = cc
     by_buffer false f false h = cc
 
 -- an end is that of a widget of its number, or names no interpreted one
-from_end : (es : List Entry) (name : List ℕ) (x : End) → end_of es name ≡ x → ((k : ℕ) × (e : Entry) × (slice_get (interpreted es) k ≡ Some e) × (end_at e k ≡ x)) ⊎ ((x ≡ Other) ⊎ (x ≡ Missing))
+from_end : (es : List Entry) (name : List ℕ) (x : End) → end_named es name ≡ x → ((k : ℕ) × (e : Entry) × (slice_get (interpreted es) k ≡ Some e) × (end_at e k ≡ x)) ⊎ ((x ≡ Other) ⊎ (x ≡ Missing))
 from_end es name x h = by_place (position (has_name name) (interpreted es)) (is_some (position (has_name name) es)) h
   where
     by_entry : (k : ℕ) (o : Option Entry) → slice_get (interpreted es) k ≡ o → option_map_or (λ e. end_at e k) o Other ≡ x → ((k : ℕ) × (e : Entry) × (slice_get (interpreted es) k ≡ Some e) × (end_at e k ≡ x)) ⊎ ((x ≡ Other) ⊎ (x ≡ Missing))
@@ -103,7 +103,7 @@ from_end es name x h = by_place (position (has_name name) (interpreted es)) (is_
     by_place None true h = inr (inl (sym h))
     by_place None false h = inr (inr (sym h))
 
-pub component-end : (es : List Entry) (name : List ℕ) (a : ℕ) → end_of es name ≡ Component a → IsComp (interpreted es) a
+pub component-end : (es : List Entry) (name : List ℕ) (a : ℕ) → end_named es name ≡ Component a → IsComp (interpreted es) a
 component-end es name a h = by_case (from_end es name (Component a) h)
   where
     by_case : ((k : ℕ) × (e : Entry) × (slice_get (interpreted es) k ≡ Some e) × (end_at e k ≡ Component a)) ⊎ ((Component a ≡ Other) ⊎ (Component a ≡ Missing)) → IsComp (interpreted es) a
@@ -111,7 +111,7 @@ component-end es name a h = by_case (from_end es name (Component a) h)
     by_case (inr (inl e)) = cc
     by_case (inr (inr e)) = cc
 
-buffer-end : (es : List Entry) (name : List ℕ) (a : ℕ) → end_of es name ≡ Buffer a → IsBuf (interpreted es) a
+buffer-end : (es : List Entry) (name : List ℕ) (a : ℕ) → end_named es name ≡ Buffer a → IsBuf (interpreted es) a
 buffer-end es name a h = by_case (from_end es name (Buffer a) h)
   where
     by_case : ((k : ℕ) × (e : Entry) × (slice_get (interpreted es) k ≡ Some e) × (end_at e k ≡ Buffer a)) ⊎ ((Buffer a ≡ Other) ⊎ (Buffer a ≡ Missing)) → IsBuf (interpreted es) a
@@ -125,12 +125,12 @@ abbrev pub Good : List Entry → Join → Type 0
 Good ps j = (IsComp ps j.source × IsBuf ps j.sink) ⊎ (IsBuf ps j.source × IsComp ps j.sink)
 
 join-good : (es : List Entry) (r : Route) (j : Join) → real_of (ends_of es r) ≡ Some j → Good (interpreted es) j
-join-good es r j h = by_ends (end_of es r.source) refl (end_of es r.sink) refl h
+join-good es r j h = by_ends (end_named es r.source) refl (end_named es r.sink) refl h
   where
     made : (a b : ℕ) → join_of (Buffer a) (Component b) ≡ Some j → (a ≡ j.source) × (b ≡ j.sink)
     made a b e = (ap (λ o. option_map_or (λ (x : Join). x.source) o 0) e, ap (λ o. option_map_or (λ (x : Join). x.sink) o 0) e)
 
-    by_ends : (s : End) → end_of es r.source ≡ s → (d : End) → end_of es r.sink ≡ d → join_of s d ≡ Some j → Good (interpreted es) j
+    by_ends : (s : End) → end_named es r.source ≡ s → (d : End) → end_named es r.sink ≡ d → join_of s d ≡ Some j → Good (interpreted es) j
     by_ends (Buffer a) f (Component b) g h = let m = made a b h in inr (subst (IsBuf (interpreted es)) m.0 (buffer-end es r.source a f), subst (IsComp (interpreted es)) m.1 (component-end es r.sink b g))
     by_ends (Component a) f (Buffer b) g h = let m = made a b h in inl (subst (IsComp (interpreted es)) m.0 (component-end es r.source a f), subst (IsBuf (interpreted es)) m.1 (buffer-end es r.sink b g))
     by_ends (Buffer a) f (Buffer b) g h = cc
@@ -212,9 +212,9 @@ edges-known es js good (k ∷ ks) = by_entry (slice_get es k) refl (edges-known 
   where
     by_entry : (o : Option Entry) → slice_get es k ≡ o → list_all (λ e. is_known (ids_of (components_on es js)) e.source && is_known (ids_of (components_on es js)) e.sink) (filter_map (edge_at es js) ks) ≡ true → list_all (λ e. is_known (ids_of (components_on es js)) e.source && is_known (ids_of (components_on es js)) e.sink) (cons_option (option_and_then (buffer_edge js k) o) (filter_map (edge_at es js) ks)) ≡ true
     by_entry None f rest = rest
-    by_entry (Some e) f rest = by_buffer (is_buffer e) refl
+    by_entry (Some e) f rest = by_buffer (is_buffer_entry e) refl
       where
-        by_buffer : (b : Bool) → is_buffer e ≡ b → list_all (λ e. is_known (ids_of (components_on es js)) e.source && is_known (ids_of (components_on es js)) e.sink) (cons_option (cond b (Some (record { buffer = k; pipe = e.index; size = unwrap_or e.tokens.size 0; source = option_map (λ j. j.source) (route_in js k); sink = option_map (λ j. j.sink) (route_out js k) })) None) (filter_map (edge_at es js) ks)) ≡ true
+        by_buffer : (b : Bool) → is_buffer_entry e ≡ b → list_all (λ e. is_known (ids_of (components_on es js)) e.source && is_known (ids_of (components_on es js)) e.sink) (cons_option (cond b (Some (record { buffer = k; pipe = e.index; size = unwrap_or e.tokens.size 0; source = option_map (λ j. j.source) (route_in js k); sink = option_map (λ j. j.sink) (route_out js k) })) None) (filter_map (edge_at es js) ks)) ≡ true
         by_buffer false g = rest
         by_buffer true g = and_from _ _ (edge-known es js good k (record { entry = e; there = f; sort = g })) rest
 

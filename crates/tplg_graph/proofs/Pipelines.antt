@@ -12,7 +12,7 @@ use Rattle.tplg_widgets.specs.declared.entry.Entry.{Entry}
 use Rattle.tplg_widgets.specs.declared.route_end.End.{End}
 use Rattle.tplg_widgets.specs.declared.route_end.End.TheVariants.{Buffer, Component, Other, Missing}
 use Rattle.tplg_widgets.specs.Entries.{is_scheduler, interpreted}
-use Rattle.tplg_widgets.specs.Ends.{end_of}
+use Rattle.tplg_widgets.specs.Ends.{end_named}
 use Rattle.tplg_widgets.specs.GraphLists.{component_at, components_on, edge_at, edges_on}
 use Rattle.tplg_graph.specs.PlanLists.{component_end, pipeline_of}
 use Rattle.tplg_graph.specs.PlanOf.{graph_on}
@@ -39,7 +39,7 @@ some-passes {X} p (x ∷ xs) one = by_test (p x) refl (some-passes p xs)
 
 -- a scheduler whose stream name names a component is a pipeline
 abbrev is_named : List Entry → Entry → Bool
-is_named es e = not (is_scheduler e) || is_component_end (end_of es e.sname)
+is_named es e = not (is_scheduler e) || is_component_end (end_named es e.sname)
 
 abbrev is_pipeline : ℕ → Pipe → Bool
 is_pipeline index p = p.index == index && p.complete
@@ -55,7 +55,7 @@ made-there : (es : List Entry) (index i : ℕ) (ps : List Entry) → list_all (i
 made-there es index i [] named some = absurd (false≢true some)
 made-there es index i (p ∷ ps) named some =
     let parts = and_parts (is_named es p) (list_all (is_named es) ps) named in
-    by_sort (is_scheduler p) refl (end_of es p.sname) refl (implied (is_scheduler p) (is_component_end (end_of es p.sname))) parts.0 some (made-there es index (i + 1) ps parts.1)
+    by_sort (is_scheduler p) refl (end_named es p.sname) refl (implied (is_scheduler p) (is_component_end (end_named es p.sname))) parts.0 some (made-there es index (i + 1) ps parts.1)
   where
     behind : List Pipe
     behind = indexed (pipeline_of es) (i + 1) ps
@@ -70,7 +70,7 @@ made-there es index i (p ∷ ps) named some =
     by_end Other is some rest = absurd (false≢true is)
     by_end Missing is some rest = absurd (false≢true is)
 
-    by_sort : (b : Bool) → is_scheduler p ≡ b → (end : End) → end_of es p.sname ≡ end → (is_scheduler p ≡ true → is_named es p ≡ true → is_component_end (end_of es p.sname) ≡ true) → is_named es p ≡ true → ((b && (p.index == index)) || list_any (schedules index) ps) ≡ true → (list_any (schedules index) ps ≡ true → list_any (is_pipeline index) behind ≡ true) → list_any (is_pipeline index) (cons_option (cond b (made i p.index (unwrap_or p.tokens.period 0) (component_end end)) None) behind) ≡ true
+    by_sort : (b : Bool) → is_scheduler p ≡ b → (end : End) → end_named es p.sname ≡ end → (is_scheduler p ≡ true → is_named es p ≡ true → is_component_end (end_named es p.sname) ≡ true) → is_named es p ≡ true → ((b && (p.index == index)) || list_any (schedules index) ps) ≡ true → (list_any (schedules index) ps ≡ true → list_any (is_pipeline index) behind ≡ true) → list_any (is_pipeline index) (cons_option (cond b (made i p.index (unwrap_or p.tokens.period 0) (component_end end)) None) behind) ≡ true
     by_sort true f end g names is some rest = by_end end (ap is_component_end (sym g) ∙ names f is) some rest
     by_sort false f end g names is some rest = rest some
 

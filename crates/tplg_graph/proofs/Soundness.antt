@@ -9,7 +9,7 @@ use Rattle.tplg_plan.specs.declared.plans.Plan.{Plan}
 use Rattle.tplg_rules.specs.declared.plan_fault.PlanFault.{PlanFault}
 use Rattle.tplg_widgets.specs.Entries.{is_interpreted, entries_of, interpreted}
 use Rattle.tplg_widgets.specs.GraphLists.{components_on, edges_on, component_at, edge_at}
-use Rattle.tplg_graph.specs.PlanLists.{pipes_on, pipeline_at, control_at, names_on, widgets_on}
+use Rattle.tplg_graph.specs.PlanLists.{pipes_on, pipeline_at, entry_control, names_on, widgets_on}
 use Rattle.tplg_widgets.specs.Ends.{joins_of}
 use Rattle.tplg_widgets.specs.PcmList.{pcms_of}
 use Rattle.tplg_graph.specs.PlanOf.{plan_of}
@@ -87,7 +87,7 @@ is-sound t (counts, (names, (ends, (routes, (buffers, (components, (indices, (sc
       fits = kinds-fit es js good buffers components;
       apart = are-apart es js good buffers ways;
       hosts = hosts-are es js pcms hosts;
-      controls_ascend = ascends (λ k. k.comp) (control_at ps) (keyed-controls ps) 0 (length ps);
+      controls_ascend = ascends (λ k. k.comp) (entry_control ps) (keyed-controls ps) 0 (length ps);
       live = live-controls es js (entries-matched t) controls;
     }
 

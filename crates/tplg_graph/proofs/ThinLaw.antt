@@ -11,9 +11,9 @@ use Rattle.tplg_widgets.specs.declared.entry.Role.TheVariants.{HostPlay, HostCap
 use Rattle.tplg_widgets.specs.declared.route_end.End.{End}
 use Rattle.tplg_widgets.specs.declared.route_end.End.TheVariants as an_end
 use Rattle.tplg_widgets.specs.declared.route_end.Ends.{Ends}
-use Rattle.tplg_widgets.specs.Entries.{is_interpreted, is_buffer, is_buffer_role, is_scheduler, is_scheduler_role, is_dai_role, is_host_play_role, interpreted, role_of, entry_of, entries_in, widgets_in, entries_of}
+use Rattle.tplg_widgets.specs.Entries.{is_interpreted, is_buffer_entry, is_buffer_role, is_scheduler, is_scheduler_role, is_dai_role, is_host_play_role, interpreted, role_of, entry_of, entries_in, widgets_in, entries_of}
 use Rattle.tplg_widgets.specs.Names.{has_name}
-use Rattle.tplg_widgets.specs.Ends.{end_of, end_at, real_of}
+use Rattle.tplg_widgets.specs.Ends.{end_named, end_at, real_of}
 use Rattle.tplg_widgets.specs.Tokens.{stated_format}
 use Rattle.tplg_graph.proofs.Interpreted.{of-interpreted, all-filter, weaker, or-front}
 use Rattle.tplg_rules.specs.Rules.{HoldsAll, AllHold}
@@ -118,7 +118,7 @@ no-component : (b : Bool) → is_component_end (cond b an_end.Other an_end.Missi
 no-component true = refl
 no-component false = refl
 
-schedules : (es : List Entry) (index : ℕ) (h b d s : Entry) (name : List ℕ) (c : ℕ) → four index h b d s ≡ interpreted es → end_of es name ≡ an_end.Component c → (c ≡ 0) ⊎ (c ≡ 2)
+schedules : (es : List Entry) (index : ℕ) (h b d s : Entry) (name : List ℕ) (c : ℕ) → four index h b d s ≡ interpreted es → end_named es name ≡ an_end.Component c → (c ≡ 0) ⊎ (c ≡ 2)
 schedules es index h b d s name c same e =
     scheduling index h b d s (position (has_name name) (four index h b d s)) (cond (is_some (position (has_name name) es)) an_end.Other an_end.Missing) c (no-component _)
     (ap (λ ps. option_map_or (λ id. option_map_or (λ e. end_at e id) (slice_get ps id) an_end.Other) (position (has_name name) ps) (cond (is_some (position (has_name name) es)) an_end.Other an_end.Missing)) same ∙ e)
@@ -138,14 +138,14 @@ pub record Kept (es : List Entry) (index : ℕ) (h b d s : Entry) : Type 0 where
   pub period : s.tokens.period ≡ Some 1000
   pub printable : list_all is_widget_name (names_on (four index h b d s)) ≡ true
   pub sched : ℕ
-  pub sched_end : end_of es s.sname ≡ an_end.Component sched
+  pub sched_end : end_named es s.sname ≡ an_end.Component sched
   pub size : is_size b.tokens.size ≡ true
 
 kept-of : (es : List Entry) (index : ℕ) (h b d s : Entry) (js : List Join) → four index h b d s ≡ interpreted es → s.tokens.period ≡ Some 1000 → AllHold (thin_rules es js) → Kept es index h b d s
 kept-of es index h b d s js same period all =
-    let scheds = of-interpreted es (four index h b d s) (λ e. not (is_scheduler e) || is_component_end (end_of es e.sname)) same all.1.0 in
-    let sizes = of-interpreted es (four index h b d s) (λ e. not (is_buffer e) || is_size e.tokens.size) same all.1.1.1.1.0 in
-    let c = component-of (end_of es s.sname) (and_parts (is_component_end (end_of es s.sname)) true scheds).0 in
+    let scheds = of-interpreted es (four index h b d s) (λ e. not (is_scheduler e) || is_component_end (end_named es e.sname)) same all.1.0 in
+    let sizes = of-interpreted es (four index h b d s) (λ e. not (is_buffer_entry e) || is_size e.tokens.size) same all.1.1.1.1.0 in
+    let c = component-of (end_named es s.sname) (and_parts (is_component_end (end_named es s.sname)) true scheds).0 in
     record {
       same = same;
       period = period;

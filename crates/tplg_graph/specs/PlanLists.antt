@@ -24,7 +24,7 @@ use Rattle.tplg_widgets.specs.LiveControls.{scale_word}
 use Rattle.tplg_widgets.specs.PcmList.{caps_named}
 use Rattle.tplg_widgets.specs.Tokens.{stated_format}
 use Rattle.tplg_widgets.specs.Entries.{is_scheduler}
-use Rattle.tplg_widgets.specs.Ends.{end_of}
+use Rattle.tplg_widgets.specs.Ends.{end_named}
 use Rattle.tplg_rules.specs.ControlRanges.{is_volume}
 
 -- ---- pipelines
@@ -43,7 +43,7 @@ pipeline_of es id e =
       sched = sched;
       period = unwrap_or e.tokens.period 0;
       complete = true;
-    }) (component_end (end_of es e.sname)) else None
+    }) (component_end (end_named es e.sname)) else None
 
 -- the pipeline of this id, where it is a scheduler
 abbrev pub pipeline_at : List Entry → List Entry → ℕ → Option Pipe
@@ -88,11 +88,11 @@ kind_in (recorded.Bytes head max mask base num_regs ext_ops private) = Some (Blo
 abbrev pub control_plan : ℕ → Option Control → Option ControlPlan
 control_plan id control = option_map (λ kind. record { comp = id; kind = kind }) (option_and_then kind_in control)
 
-abbrev pub control_at : List Entry → ℕ → Option ControlPlan
-control_at ps id = option_and_then (λ e. control_plan id e.control) (slice_get ps id)
+abbrev pub entry_control : List Entry → ℕ → Option ControlPlan
+entry_control ps id = option_and_then (λ e. control_plan id e.control) (slice_get ps id)
 
 abbrev pub controls_on : List Entry → List ControlPlan
-controls_on ps = filter_map (control_at ps) (range_with_len 0 (length ps))
+controls_on ps = filter_map (entry_control ps) (range_with_len 0 (length ps))
 
 -- ---- names and words
 

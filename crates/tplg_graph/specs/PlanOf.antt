@@ -31,8 +31,8 @@ edges_of t = edges_on (ids t) (joins_of t)
 abbrev pub pipelines_of : Topology → List Pipe
 pipelines_of t = pipes_on (entries_of t) (ids t)
 
-abbrev pub streams_of : Topology → List StreamPlan
-streams_of t = streams_on (ids t) (pcms_of t)
+abbrev pub planned_streams : Topology → List StreamPlan
+planned_streams t = streams_on (ids t) (pcms_of t)
 
 abbrev pub live_controls_of : Topology → List ControlPlan
 live_controls_of t = controls_on (ids t)

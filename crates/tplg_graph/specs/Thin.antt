@@ -6,14 +6,14 @@ use Rattle.tplg_widgets.specs.declared.entry.Entry.{Entry}
 use Rattle.tplg_widgets.specs.declared.route_end.End.TheVariants.{Buffer, Component}
 use Rattle.tplg_widgets.specs.declared.route_end.Ends.{Ends}
 use Rattle.tplg_widgets.specs.WiringValue.{WiringValue, wiring_of}
-use Rattle.tplg_widgets.specs.Entries.{interpreted, is_host_play, is_buffer, is_dai, is_scheduler}
+use Rattle.tplg_widgets.specs.Entries.{interpreted, is_host_play, is_buffer_entry, is_dai, is_scheduler}
 use Rattle.tplg_rules.specs.Rules.{Rule, AllHold}
 use Rattle.tplg_rules.specs.RuleTable.{names_rule, scheds_rule, periods_rule, dais_rule, sizes_rule}
 
 -- an AIF_IN, a BUFFER, a DAI and a SCHEDULER, of one index, and a period of 1000 µs
 pub record AreInOrder (host buffer dai scheduler : Entry) : Type 0 where
   pub host_is : is_host_play host ≡ true
-  pub buffer_is : is_buffer buffer ≡ true
+  pub buffer_is : is_buffer_entry buffer ≡ true
   pub dai_is : is_dai dai ≡ true
   pub scheduler_is : is_scheduler scheduler ≡ true
   pub buffer_index : buffer.index ≡ host.index

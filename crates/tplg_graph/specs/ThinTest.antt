@@ -7,14 +7,14 @@ use Rattle.tplg_widgets.specs.declared.entry.Entry.{Entry}
 use Rattle.tplg_widgets.specs.declared.route_end.End.{End}
 use Rattle.tplg_widgets.specs.declared.route_end.End.TheVariants.{Buffer, Component}
 use Rattle.tplg_widgets.specs.declared.route_end.Ends.{Ends}
-use Rattle.tplg_widgets.specs.Entries.{entries_of, interpreted, is_host_play, is_buffer, is_dai, is_scheduler}
+use Rattle.tplg_widgets.specs.Entries.{entries_of, interpreted, is_host_play, is_buffer_entry, is_dai, is_scheduler}
 use Rattle.tplg_widgets.specs.Ends.{ends_in, real_of}
 use Rattle.tplg_rules.specs.RuleTable.{name_holds, sched_holds, period_holds, dai_holds, size_holds}
 use Rattle.tplg_widgets.specs.Names.{is_number}
 
 abbrev pub in_order : Entry → Entry → Entry → Entry → Bool
 in_order host buffer dai scheduler =
-    is_host_play host && (is_buffer buffer && (is_dai dai && (is_scheduler scheduler
+    is_host_play host && (is_buffer_entry buffer && (is_dai dai && (is_scheduler scheduler
     && (buffer.index == host.index && (dai.index == host.index && (scheduler.index == host.index && is_number scheduler.tokens.period 1000))))))
 
 abbrev pub are_four : List Entry → Bool

@@ -70,7 +70,7 @@ fn control_plan(
 }
 
 fn control_at(alloc: Global, parts: &[Entry], id: u32) -> Result<Option<ControlPlan>, AllocError>
-    ensures { IfOk result (λ o. o ≡ law.control_at parts.now id) }
+    ensures { IfOk result (λ o. o ≡ law.entry_control parts.now id) }
 {
     match parts.get(id as usize) {
         None => Ok(None),

@@ -8,7 +8,7 @@ use Rattle.sof_base.proofs.FieldLaws.{IsBytes, part-add}
 use Rattle.tplg_model.specs.declared.tokens.NumberTuple.{NumberTuple}
 use Rattle.tplg_model.specs.declared.tokens.TokenArray.{TokenArray}
 use Rattle.tplg_model.specs.declared.tokens.TokenArray.TheVariants.{Uuid, Text, Number}
-use Rattle.tplg_model.specs.Arrays.{element_size, type_of, count_of, array_size, uuid_spelling, text_spelling, number_spelling, elements_spelling, array_spelling, Each, IsUuid, IsText, IsNumber, HasElements, HasSize, IsArray, ArrayFault, array_fault, elements_at, uuid_at, text_at, number_at, array_with, array_at}
+use Rattle.tplg_model.specs.Arrays.{element_size, array_type, count_of, array_size, uuid_spelling, text_spelling, number_spelling, elements_spelling, array_spelling, Each, IsUuid, IsText, IsNumber, HasElements, HasSize, IsArray, ArrayFault, array_fault, elements_at, uuid_at, text_at, number_tuple_at, array_with, array_at}
 use Rattle.tplg_model.proofs.ElementLaws.{word_same, word_fits, word_again, uuid_element, text_element, number_element, length-elements, elements_same, elements_are, elements_width, elements_again}
 
 -- ---- the tests of an array's three words
@@ -48,7 +48,7 @@ fault_none at bytes w =
 
 -- an array of a type and a number of elements that was read
 record Reads (kind count : ℕ) (bytes : List ℕ) (a : TokenArray) : Type 0 where
-  type_is : type_of a ≡ kind
+  type_is : array_type a ≡ kind
   count_is : count_of a ≡ count
   same : elements_spelling a ≡ part bytes 12 (count * element_size kind)
   has : HasElements a
@@ -59,7 +59,7 @@ number_size kind le =
     let b : eqb kind 1 ≡ false = ne_eqb kind 1 (λ e. omega (arith, e, le)) in
     rw (a, b) refl
 
-number_array : (kind count : ℕ) (bytes : List ℕ) → 2 ≤ kind → array_with kind count bytes ≡ Number (record { kind = kind; items = elements_at 8 number_at count bytes 12 })
+number_array : (kind count : ℕ) (bytes : List ℕ) → 2 ≤ kind → array_with kind count bytes ≡ Number (record { kind = kind; items = elements_at 8 number_tuple_at count bytes 12 })
 number_array kind count bytes le =
     let a : eqb kind 0 ≡ false = ne_eqb kind 0 (λ e. omega (arith, e, le)) in
     let b : eqb kind 1 ≡ false = ne_eqb kind 1 (λ e. omega (arith, e, le)) in
@@ -71,9 +71,9 @@ numbers_read kind count bytes h from to long =
     let fits : 12 + count * 8 ≤ length bytes = rw eight at long in
     rw (number_array kind count bytes from) (record {
       type_is = refl;
-      count_is = length-elements 8 number_at count bytes 12;
-      same = rw eight (elements_same 8 number_at number_spelling IsNumber number_element count bytes 12 h fits);
-      has = (from, to, elements_are 8 number_at number_spelling IsNumber number_element count bytes 12 h fits);
+      count_is = length-elements 8 number_tuple_at count bytes 12;
+      same = rw eight (elements_same 8 number_tuple_at number_spelling IsNumber number_element count bytes 12 h fits);
+      has = (from, to, elements_are 8 number_tuple_at number_spelling IsNumber number_element count bytes 12 h fits);
     })
 
 with_read : (kind count : ℕ) (bytes : List ℕ) → IsBytes bytes → kind ≤ 5 → 12 + count * element_size kind ≤ length bytes → Reads kind count bytes (array_with kind count bytes)
@@ -100,7 +100,7 @@ words_same bytes n h long =
     let second : to_le_bytes w32 (word_at bytes 4) ++ (to_le_bytes w32 (word_at bytes 8) ++ part bytes 12 n) ≡ part bytes 4 (4 + (4 + n)) = ap (λ (t : List ℕ). to_le_bytes w32 (word_at bytes 4) ++ t) third ∙ ap (λ (t : List ℕ). t ++ part bytes 8 (4 + n)) b ∙ sym (part-add bytes 4 4 (4 + n)) in
     ap (λ (t : List ℕ). to_le_bytes w32 (word_at bytes 0) ++ t) second ∙ ap (λ (t : List ℕ). t ++ part bytes 4 (4 + (4 + n))) a ∙ sym (part-add bytes 0 4 (4 + (4 + n)))
 
-spelled_so : (a : TokenArray) (size kind count : ℕ) (elements : List ℕ) → array_size a ≡ size → type_of a ≡ kind → count_of a ≡ count → elements_spelling a ≡ elements → array_spelling a ≡ to_le_bytes w32 size ++ (to_le_bytes w32 kind ++ (to_le_bytes w32 count ++ elements))
+spelled_so : (a : TokenArray) (size kind count : ℕ) (elements : List ℕ) → array_size a ≡ size → array_type a ≡ kind → count_of a ≡ count → elements_spelling a ≡ elements → array_spelling a ≡ to_le_bytes w32 size ++ (to_le_bytes w32 kind ++ (to_le_bytes w32 count ++ elements))
 unfolding array_spelling
 spelled_so a size kind count elements s k c e = cc
 
@@ -127,9 +127,9 @@ array_takes bytes h w =
 -- ---- what is spelled is read again
 
 record Spelled (a : TokenArray) : Type 0 where
-  known : type_of a ≤ 5
+  known : array_type a ≤ 5
   count : count_of a < 2 ^ 32
-  width : length (elements_spelling a) ≡ count_of a * element_size (type_of a)
+  width : length (elements_spelling a) ≡ count_of a * element_size (array_type a)
 
 is_spelled : (a : TokenArray) → IsArray a → Spelled a
 is_spelled (Uuid items) is = record { known = omega arith; count = omega (arith, is.size); width = elements_width 20 uuid_at uuid_spelling IsUuid uuid_element items is.elements }
@@ -137,15 +137,15 @@ is_spelled (Text items) is = record { known = omega arith; count = omega (arith,
 is_spelled (Number numbers) is =
     let eight = number_size numbers.kind is.elements.0 in
     let small : 12 + length numbers.items * 8 < 2 ^ 32 = rw eight at is.size in
-    record { known = is.elements.1; count = omega (arith, small); width = rw eight (elements_width 8 number_at number_spelling IsNumber number_element numbers.items is.elements.2) }
+    record { known = is.elements.1; count = omega (arith, small); width = rw eight (elements_width 8 number_tuple_at number_spelling IsNumber number_element numbers.items is.elements.2) }
 
-with_again : (a : TokenArray) (bytes : List ℕ) → HasElements a → part bytes 12 (count_of a * element_size (type_of a)) ≡ elements_spelling a → array_with (type_of a) (count_of a) bytes ≡ a
+with_again : (a : TokenArray) (bytes : List ℕ) → HasElements a → part bytes 12 (count_of a * element_size (array_type a)) ≡ elements_spelling a → array_with (array_type a) (count_of a) bytes ≡ a
 with_again (Uuid items) bytes has e = ap Uuid (elements_again 20 uuid_at uuid_spelling IsUuid uuid_element items bytes 12 has e)
 with_again (Text items) bytes has e = ap Text (elements_again 48 text_at text_spelling IsText text_element items bytes 12 has e)
 with_again (Number numbers) bytes has e =
     let eight = number_size numbers.kind has.0 in
     number_array numbers.kind (length numbers.items) bytes has.0
-    ∙ ap (λ (items : List NumberTuple). Number (record { kind = numbers.kind; items = items })) (elements_again 8 number_at number_spelling IsNumber number_element numbers.items bytes 12 has.2 (rw eight at e))
+    ∙ ap (λ (items : List NumberTuple). Number (record { kind = numbers.kind; items = items })) (elements_again 8 number_tuple_at number_spelling IsNumber number_element numbers.items bytes 12 has.2 (rw eight at e))
 
 pub length-spelling : (a : TokenArray) → IsArray a → length (array_spelling a) ≡ array_size a
 unfolding array_spelling
@@ -156,7 +156,7 @@ pub record Again (a : TokenArray) (bytes : List ℕ) : Type 0 where
   pub size : word_at bytes 0 ≡ length (array_spelling a)
   pub array : array_at bytes ≡ a
 
-again_from : (a : TokenArray) (bytes : List ℕ) → IsArray a → word_at bytes 0 ≡ array_size a → word_at bytes 4 ≡ type_of a → word_at bytes 8 ≡ count_of a → part bytes 12 (count_of a * element_size (type_of a)) ≡ elements_spelling a → array_size a ≤ length bytes → Again a bytes
+again_from : (a : TokenArray) (bytes : List ℕ) → IsArray a → word_at bytes 0 ≡ array_size a → word_at bytes 4 ≡ array_type a → word_at bytes 8 ≡ count_of a → part bytes 12 (count_of a * element_size (array_type a)) ≡ elements_spelling a → array_size a ≤ length bytes → Again a bytes
 unfolding array_at
 again_from a bytes is size kind count elements room =
     let p = is_spelled a is in
@@ -173,7 +173,7 @@ array_again a rest is =
     let bytes = array_spelling a ++ rest in
     again_from a bytes is
     (word_again bytes 0 (array_size a) is.size refl)
-    (word_again bytes 4 (type_of a) (omega (arith, p.known)) refl)
+    (word_again bytes 4 (array_type a) (omega (arith, p.known)) refl)
     (word_again bytes 8 (count_of a) p.count refl)
-    (take_at (elements_spelling a) rest (count_of a * element_size (type_of a)) p.width)
+    (take_at (elements_spelling a) rest (count_of a * element_size (array_type a)) p.width)
     (omega (arith, p.width, length-append (elements_spelling a) rest))

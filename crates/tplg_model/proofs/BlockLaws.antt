@@ -12,7 +12,7 @@ use Rattle.sof_base.specs.Slots.{Shape, A_word, slots_cells, AreSlots, part, wor
 use Rattle.sof_base.proofs.FieldLaws.{IsBytes, IsBytes-part, length-part, slots_read, slots_again, length-slots}
 use Rattle.sof_base.proofs.Fitting.{Fits-append, Fits-split, Fits-length, Fits-fixed, is_fixed}
 use Rattle.tplg_model.specs.Outcomes.{◌>>=◌}
-use Rattle.tplg_model.specs.Spelling.{IsRoute, route_cells, IsManifest, manifest_cells, IsPcm, pcm_cells, IsWidget, widget_cells, body_cells, kind_of, count_of, HasNoRecords, IsKept, IsSound, BlockValue, header_slots, block_cells, IsBody, IsBlock}
+use Rattle.tplg_model.specs.Spelling.{IsRoute, route_cells, IsManifest, manifest_cells, IsPcm, pcm_cells, IsWidget, widget_cells, body_cells, block_type, count_of, HasNoRecords, HasOwnForm, IsStorable, BlockValue, header_slots, block_cells, AreRecords, IsBlock}
 use Rattle.tplg_model.specs.Reading.{route_step, manifest_step, pcm_step, widget_step, all_items, body_at, header_then, block_with, block_step}
 use Rattle.tplg_model.specs.File.{RouteFault, ManifestFault, PcmFault, WidgetFault, header_fault, PayloadFault, BlockFault}
 use Rattle.tplg_model.proofs.FaultLaws.{bind_ok, ok_same, only_first}
@@ -25,10 +25,10 @@ use Rattle.tplg_model.proofs.WidgetLaws.{widget_item, widget_is_fault}
 
 pub record BodyTook (kind count : ℕ) (payload : List ℕ) (body : Body) : Type 0 where
   pub fits : Fits payload (body_cells body)
-  pub is : IsBody body
-  pub kind_is : kind_of body ≡ kind
+  pub is : AreRecords body
+  pub kind_is : block_type body ≡ kind
   pub count_is : count_of body ≡ count
-  pub kept : IsKept body
+  pub kept : HasOwnForm body
 
 data Kind (kind : ℕ) : Type 0 where
   Is_routes : kind ≡ 4 → Kind kind
@@ -96,7 +96,7 @@ body_take kind count at payload body h e =
           subst (λ (b : Body). BodyTook kind count payload b) (ok_same (Other kind count payload) body (body_at kind count at payload) (at_other kind count at payload k) e) made
     ]
 
-body_again : (body : Body) (at : ℕ) (payload : List ℕ) → IsKept body → IsBody body → Fits payload (body_cells body) → body_at (kind_of body) (count_of body) at payload ≡ Ok body
+body_again : (body : Body) (at : ℕ) (payload : List ℕ) → HasOwnForm body → AreRecords body → Fits payload (body_cells body) → body_at (block_type body) (count_of body) at payload ≡ Ok body
 body_again (Routes rs) at payload kept is f = at_routes (length rs) at payload ∙ (rw (all_again route_step route_cells IsRoute route_item rs at payload is f) refl)
 body_again (Widgets ws) at payload kept is f = at_widgets (length ws) at payload ∙ (rw (all_again widget_step widget_cells IsWidget widget_item ws at payload is f) refl)
 body_again (Pcms ps) at payload kept is f = at_pcms (length ps) at payload ∙ (rw (all_again pcm_step pcm_cells IsPcm pcm_item ps at payload is f) refl)
@@ -128,7 +128,7 @@ body_only kind count at payload f (inr (inr (inl (k, q)))) = rw k (at_pcms count
 body_only kind count at payload f (inr (inr (inr (k, q)))) = rw k (at_manifests count at payload ∙ (rw (all_only manifest_step manifest_cells IsManifest manifest_item ManifestFault manifest_is_fault count at payload f q) refl))
 
 -- a payload that was read is a body of the program
-pub body_sound : (kind count at : ℕ) (payload : List ℕ) (body : Body) → IsBytes payload → length payload < 2 ^ 32 → body_at kind count at payload ≡ Ok body → IsSound body
+pub body_sound : (kind count at : ℕ) (payload : List ℕ) (body : Body) → IsBytes payload → length payload < 2 ^ 32 → body_at kind count at payload ≡ Ok body → IsStorable body
 body_sound kind count at payload body h small e =
     let t = body_take kind count at payload body h e in
     record { size = omega (arith, Fits-length payload (body_cells body) t.fits, small); kept = t.kept }
@@ -264,7 +264,7 @@ block_again at x front rest is f =
     let magic : word_at bytes 0 ≡ 0x41536F43 = cc in
     let abi : word_at bytes 4 ≡ 5 = cc in
     let version : word_at bytes 8 ≡ x.version = cc in
-    let kind : word_at bytes 12 ≡ kind_of x.body = cc in
+    let kind : word_at bytes 12 ≡ block_type x.body = cc in
     let header_size : word_at bytes 16 ≡ 36 = cc in
     let vendor_type : word_at bytes 20 ≡ x.vendor_type = cc in
     let size : word_at bytes 24 ≡ length (body_cells x.body) = cc in

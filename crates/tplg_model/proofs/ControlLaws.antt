@@ -14,7 +14,7 @@ use Rattle.sof_base.specs.Cells.{Fits}
 use Rattle.sof_base.specs.Slots.{Slot, Shape, A_word, A_size, A_name, A_words, Bytes, word_at, has_name, name_at, slots_from, shapes_of}
 use Rattle.sof_base.proofs.FieldLaws.{IsBytes, length-part, length-words}
 use Rattle.tplg_model.specs.Outcomes.{◌>>=◌}
-use Rattle.tplg_model.specs.Spelling.{control_slots, control_cells, HasLengths, IsControl}
+use Rattle.tplg_model.specs.Spelling.{kcontrol_slots, control_cells, HasLengths, IsControl}
 use Rattle.tplg_model.specs.Reading.{tail_size, label_at, control_head_with, mixer_with, mixer_step, enum_with, enum_step, bytes_with, bytes_step, unknown_step, control_step}
 use Rattle.tplg_model.specs.File.{sized_fault, control_fault, ControlFault}
 use Rattle.tplg_model.proofs.ElementLaws.{word_fits}
@@ -89,7 +89,7 @@ mixer_from ss =
     Mixer (head_from ss) (cast_signed w32 (number (pick 11 ss))) (cast_signed w32 (number (pick 12 ss))) (cast_signed w32 (number (pick 13 ss)))
     (number (pick 14 ss)) (number (pick 15 ss)) (text (pick 16 ss)) (text (pick 18 ss))
 
-mixer_is : (bytes : List ℕ) (n : ℕ) → IsBytes bytes → SaysKind 1 bytes → word_at bytes 356 ≡ n → 360 + n ≤ length bytes → control_slots (mixer_of n bytes) ≡ slots_from (mixer_shapes ++ Bytes n ∷ []) bytes 0 0
+mixer_is : (bytes : List ℕ) (n : ℕ) → IsBytes bytes → SaysKind 1 bytes → word_at bytes 356 ≡ n → 360 + n ≤ length bytes → kcontrol_slots (mixer_of n bytes) ≡ slots_from (mixer_shapes ++ Bytes n ∷ []) bytes 0 0
 unfolding control_head_with
 mixer_is bytes n h k e long =
     let min = bits_again bytes 208 h (omega (arith, long)) in
@@ -105,12 +105,12 @@ mixer_rest bytes n h k long =
     let platform_max = signed_fits bytes 216 h (omega (arith, long)) in
     (refl, (length-words 32 bytes 76, (length-words 32 bytes 228, (min, (max, platform_max)))))
 
-mixer_shape : (x : Control) → IsOf 1 x → shapes_of (control_slots x) ≡ mixer_shapes ++ Bytes (size_of x) ∷ []
+mixer_shape : (x : Control) → IsOf 1 x → shapes_of (kcontrol_slots x) ≡ mixer_shapes ++ Bytes (size_of x) ∷ []
 mixer_shape (Mixer head min max platform_max invert num_channels channels private) is = rw (is.1.0, is.1.1.0) refl
 mixer_shape (Enum head num_channels channels items mask count texts values private) is = absurd (omega (arith, is.0))
 mixer_shape (Data head max mask base num_regs ext_ops private) is = absurd (omega (arith, is.0))
 
-mixer_back : (bytes : List ℕ) (x : Control) → IsOf 1 x → slots_from (mixer_shapes ++ Bytes (size_of x) ∷ []) bytes 0 0 ≡ control_slots x → (word_at bytes 356 ≡ size_of x) × (mixer_of (size_of x) bytes ≡ x)
+mixer_back : (bytes : List ℕ) (x : Control) → IsOf 1 x → slots_from (mixer_shapes ++ Bytes (size_of x) ∷ []) bytes 0 0 ≡ kcontrol_slots x → (word_at bytes 356 ≡ size_of x) × (mixer_of (size_of x) bytes ≡ x)
 unfolding control_head_with mixer_from head_from pick number text
 mixer_back bytes (Mixer head min max platform_max invert num_channels channels private) is e =
     let low = to_z-of_z w32 min is.1.1.1.0 in
@@ -120,7 +120,7 @@ mixer_back bytes (Mixer head min max platform_max invert num_channels channels p
 mixer_back bytes (Enum head num_channels channels items mask count texts values private) is e = absurd (omega (arith, is.0))
 mixer_back bytes (Data head max mask base num_regs ext_ops private) is e = absurd (omega (arith, is.0))
 
-mixer_kind : SizedKind 360 mixer_shapes mixer_of control_slots size_of (SaysKind 1) (IsOf 1)
+mixer_kind : SizedKind 360 mixer_shapes mixer_of kcontrol_slots size_of (SaysKind 1) (IsOf 1)
 mixer_kind = record { wide = refl; is = mixer_is; rest = mixer_rest; shape = mixer_shape; back = mixer_back }
 
 mixer_same : (at : ℕ) (bytes : List ℕ) → mixer_step at bytes ≡ sized_step 360 mixer_shapes mixer_of at bytes
@@ -134,7 +134,7 @@ enum_from ss =
     Enum (head_from ss) (number (pick 11 ss)) (text (pick 12 ss)) (number (pick 13 ss)) (number (pick 14 ss)) (number (pick 15 ss))
     (text (pick 16 ss)) (text (pick 17 ss)) (text (pick 19 ss))
 
-enum_is : (bytes : List ℕ) (n : ℕ) → IsBytes bytes → SaysKind 4 bytes → word_at bytes 1760 ≡ n → 1764 + n ≤ length bytes → control_slots (enum_of n bytes) ≡ slots_from (enum_shapes ++ Bytes n ∷ []) bytes 0 0
+enum_is : (bytes : List ℕ) (n : ℕ) → IsBytes bytes → SaysKind 4 bytes → word_at bytes 1760 ≡ n → 1764 + n ≤ length bytes → kcontrol_slots (enum_of n bytes) ≡ slots_from (enum_shapes ++ Bytes n ∷ []) bytes 0 0
 unfolding control_head_with
 enum_is bytes n h k e long = rw (length-part bytes 1764 n long, e, k) refl
 
@@ -143,18 +143,18 @@ unfolding control_head_with
 enum_rest bytes n h k long =
     (refl, (length-words 32 bytes 76, (length-words 32 bytes 212, (length-part bytes 352 704 (omega (arith, long)), length-words 176 bytes 1056))))
 
-enum_shape : (x : Control) → IsOf 4 x → shapes_of (control_slots x) ≡ enum_shapes ++ Bytes (size_of x) ∷ []
+enum_shape : (x : Control) → IsOf 4 x → shapes_of (kcontrol_slots x) ≡ enum_shapes ++ Bytes (size_of x) ∷ []
 enum_shape (Mixer head min max platform_max invert num_channels channels private) is = absurd (omega (arith, is.0))
 enum_shape (Enum head num_channels channels items mask count texts values private) is = rw (is.1.0, is.1.1.0, is.1.1.1.0, is.1.1.1.1) refl
 enum_shape (Data head max mask base num_regs ext_ops private) is = absurd (omega (arith, is.0))
 
-enum_back : (bytes : List ℕ) (x : Control) → IsOf 4 x → slots_from (enum_shapes ++ Bytes (size_of x) ∷ []) bytes 0 0 ≡ control_slots x → (word_at bytes 1760 ≡ size_of x) × (enum_of (size_of x) bytes ≡ x)
+enum_back : (bytes : List ℕ) (x : Control) → IsOf 4 x → slots_from (enum_shapes ++ Bytes (size_of x) ∷ []) bytes 0 0 ≡ kcontrol_slots x → (word_at bytes 1760 ≡ size_of x) × (enum_of (size_of x) bytes ≡ x)
 unfolding control_head_with enum_from head_from pick number text
 enum_back bytes (Mixer head min max platform_max invert num_channels channels private) is e = absurd (omega (arith, is.0))
 enum_back bytes (Enum head num_channels channels items mask count texts values private) is e = (ap (λ (ss : List Slot). number (pick 18 ss)) e, ap enum_from e)
 enum_back bytes (Data head max mask base num_regs ext_ops private) is e = absurd (omega (arith, is.0))
 
-enum_kind : SizedKind 1764 enum_shapes enum_of control_slots size_of (SaysKind 4) (IsOf 4)
+enum_kind : SizedKind 1764 enum_shapes enum_of kcontrol_slots size_of (SaysKind 4) (IsOf 4)
 enum_kind = record { wide = refl; is = enum_is; rest = enum_rest; shape = enum_shape; back = enum_back }
 
 enum_same : (at : ℕ) (bytes : List ℕ) → enum_step at bytes ≡ sized_step 1764 enum_shapes enum_of at bytes
@@ -167,7 +167,7 @@ bytes_from : List Slot → Control
 bytes_from ss =
     Data (head_from ss) (number (pick 11 ss)) (number (pick 12 ss)) (number (pick 13 ss)) (number (pick 14 ss)) (text (pick 15 ss)) (text (pick 17 ss))
 
-bytes_is : (bytes : List ℕ) (n : ℕ) → IsBytes bytes → SaysKind 5 bytes → word_at bytes 236 ≡ n → 240 + n ≤ length bytes → control_slots (bytes_of n bytes) ≡ slots_from (bytes_shapes ++ Bytes n ∷ []) bytes 0 0
+bytes_is : (bytes : List ℕ) (n : ℕ) → IsBytes bytes → SaysKind 5 bytes → word_at bytes 236 ≡ n → 240 + n ≤ length bytes → kcontrol_slots (bytes_of n bytes) ≡ slots_from (bytes_shapes ++ Bytes n ∷ []) bytes 0 0
 unfolding control_head_with
 bytes_is bytes n h k e long = rw (length-part bytes 240 n long, e, k) refl
 
@@ -175,18 +175,18 @@ bytes_rest : (bytes : List ℕ) (n : ℕ) → IsBytes bytes → SaysKind 5 bytes
 unfolding control_head_with
 bytes_rest bytes n h k long = (refl, (length-words 32 bytes 76, length-words 3 bytes 224))
 
-bytes_shape : (x : Control) → IsOf 5 x → shapes_of (control_slots x) ≡ bytes_shapes ++ Bytes (size_of x) ∷ []
+bytes_shape : (x : Control) → IsOf 5 x → shapes_of (kcontrol_slots x) ≡ bytes_shapes ++ Bytes (size_of x) ∷ []
 bytes_shape (Mixer head min max platform_max invert num_channels channels private) is = absurd (omega (arith, is.0))
 bytes_shape (Enum head num_channels channels items mask count texts values private) is = absurd (omega (arith, is.0))
 bytes_shape (Data head max mask base num_regs ext_ops private) is = rw (is.1.0, is.1.1) refl
 
-bytes_back : (bytes : List ℕ) (x : Control) → IsOf 5 x → slots_from (bytes_shapes ++ Bytes (size_of x) ∷ []) bytes 0 0 ≡ control_slots x → (word_at bytes 236 ≡ size_of x) × (bytes_of (size_of x) bytes ≡ x)
+bytes_back : (bytes : List ℕ) (x : Control) → IsOf 5 x → slots_from (bytes_shapes ++ Bytes (size_of x) ∷ []) bytes 0 0 ≡ kcontrol_slots x → (word_at bytes 236 ≡ size_of x) × (bytes_of (size_of x) bytes ≡ x)
 unfolding control_head_with bytes_from head_from pick number text
 bytes_back bytes (Mixer head min max platform_max invert num_channels channels private) is e = absurd (omega (arith, is.0))
 bytes_back bytes (Enum head num_channels channels items mask count texts values private) is e = absurd (omega (arith, is.0))
 bytes_back bytes (Data head max mask base num_regs ext_ops private) is e = (ap (λ (ss : List Slot). number (pick 16 ss)) e, ap bytes_from e)
 
-bytes_kind : SizedKind 240 bytes_shapes bytes_of control_slots size_of (SaysKind 5) (IsOf 5)
+bytes_kind : SizedKind 240 bytes_shapes bytes_of kcontrol_slots size_of (SaysKind 5) (IsOf 5)
 bytes_kind = record { wide = refl; is = bytes_is; rest = bytes_rest; shape = bytes_shape; back = bytes_back }
 
 bytes_same : (at : ℕ) (bytes : List ℕ) → bytes_step at bytes ≡ sized_step 240 bytes_shapes bytes_of at bytes
@@ -267,15 +267,15 @@ control_takes at bytes x n h e =
       | Short lt ↦ let a = sym (at_short bytes short (mixer_step at bytes) (enum_step at bytes) (bytes_step at bytes) (unknown_step at bytes) lt) ∙ step in absurd cc
       | A_mixer long k ↦
           let a = sym (at_mixer bytes short (mixer_step at bytes) (enum_step at bytes) (bytes_step at bytes) (unknown_step at bytes) long k) ∙ step in
-          let t = sized_takes 360 mixer_shapes mixer_of control_slots size_of (SaysKind 1) (IsOf 1) mixer_kind at bytes x n h k (sym (mixer_same at bytes) ∙ a) in
+          let t = sized_takes 360 mixer_shapes mixer_of kcontrol_slots size_of (SaysKind 1) (IsOf 1) mixer_kind at bytes x n h k (sym (mixer_same at bytes) ∙ a) in
           (t.0, (t.1.0, t.1.1.1))
       | An_enum long k ↦
           let a = sym (at_enum bytes short (mixer_step at bytes) (enum_step at bytes) (bytes_step at bytes) (unknown_step at bytes) long k) ∙ step in
-          let t = sized_takes 1764 enum_shapes enum_of control_slots size_of (SaysKind 4) (IsOf 4) enum_kind at bytes x n h k (sym (enum_same at bytes) ∙ a) in
+          let t = sized_takes 1764 enum_shapes enum_of kcontrol_slots size_of (SaysKind 4) (IsOf 4) enum_kind at bytes x n h k (sym (enum_same at bytes) ∙ a) in
           (t.0, (t.1.0, t.1.1.1))
       | A_bytes long k ↦
           let a = sym (at_bytes bytes short (mixer_step at bytes) (enum_step at bytes) (bytes_step at bytes) (unknown_step at bytes) long k) ∙ step in
-          let t = sized_takes 240 bytes_shapes bytes_of control_slots size_of (SaysKind 5) (IsOf 5) bytes_kind at bytes x n h k (sym (bytes_same at bytes) ∙ a) in
+          let t = sized_takes 240 bytes_shapes bytes_of kcontrol_slots size_of (SaysKind 5) (IsOf 5) bytes_kind at bytes x n h k (sym (bytes_same at bytes) ∙ a) in
           (t.0, (t.1.0, t.1.1.1))
       | Unknown long p q r ↦
           let a = sym (at_unknown bytes short (mixer_step at bytes) (enum_step at bytes) (bytes_step at bytes) (unknown_step at bytes) long p q r) ∙ step in
@@ -287,23 +287,23 @@ unfolding pick number
 control_again at (Mixer head min max platform_max invert num_channels channels private) front rest is f =
     let x = Mixer head min max platform_max invert num_channels channels private in
     let bytes = front ++ rest in
-    let s = sized_spelled 360 mixer_shapes mixer_of control_slots size_of (SaysKind 1) (IsOf 1) mixer_kind x front rest (is.0, (refl, is.1)) f in
+    let s = sized_spelled 360 mixer_shapes mixer_of kcontrol_slots size_of (SaysKind 1) (IsOf 1) mixer_kind x front rest (is.0, (refl, is.1)) f in
     let k : word_at bytes 64 ≡ 1 = ap (λ (ss : List Slot). number (pick 6 ss)) s.slots_are in
-    let again = sized_again 360 mixer_shapes mixer_of control_slots size_of (SaysKind 1) (IsOf 1) mixer_kind at x front rest (is.0, (refl, is.1)) f in
+    let again = sized_again 360 mixer_shapes mixer_of kcontrol_slots size_of (SaysKind 1) (IsOf 1) mixer_kind at x front rest (is.0, (refl, is.1)) f in
     step_is at bytes ∙ at_mixer bytes (Err (Payload at)) (mixer_step at bytes) (enum_step at bytes) (bytes_step at bytes) (unknown_step at bytes) (omega (arith, s.len, length-append front rest)) k ∙ mixer_same at bytes ∙ again
 control_again at (Enum head num_channels channels items mask count texts values private) front rest is f =
     let x = Enum head num_channels channels items mask count texts values private in
     let bytes = front ++ rest in
-    let s = sized_spelled 1764 enum_shapes enum_of control_slots size_of (SaysKind 4) (IsOf 4) enum_kind x front rest (is.0, (refl, is.1)) f in
+    let s = sized_spelled 1764 enum_shapes enum_of kcontrol_slots size_of (SaysKind 4) (IsOf 4) enum_kind x front rest (is.0, (refl, is.1)) f in
     let k : word_at bytes 64 ≡ 4 = ap (λ (ss : List Slot). number (pick 6 ss)) s.slots_are in
-    let again = sized_again 1764 enum_shapes enum_of control_slots size_of (SaysKind 4) (IsOf 4) enum_kind at x front rest (is.0, (refl, is.1)) f in
+    let again = sized_again 1764 enum_shapes enum_of kcontrol_slots size_of (SaysKind 4) (IsOf 4) enum_kind at x front rest (is.0, (refl, is.1)) f in
     step_is at bytes ∙ at_enum bytes (Err (Payload at)) (mixer_step at bytes) (enum_step at bytes) (bytes_step at bytes) (unknown_step at bytes) (omega (arith, s.len, length-append front rest)) k ∙ enum_same at bytes ∙ again
 control_again at (Data head max mask base num_regs ext_ops private) front rest is f =
     let x = Data head max mask base num_regs ext_ops private in
     let bytes = front ++ rest in
-    let s = sized_spelled 240 bytes_shapes bytes_of control_slots size_of (SaysKind 5) (IsOf 5) bytes_kind x front rest (is.0, (refl, is.1)) f in
+    let s = sized_spelled 240 bytes_shapes bytes_of kcontrol_slots size_of (SaysKind 5) (IsOf 5) bytes_kind x front rest (is.0, (refl, is.1)) f in
     let k : word_at bytes 64 ≡ 5 = ap (λ (ss : List Slot). number (pick 6 ss)) s.slots_are in
-    let again = sized_again 240 bytes_shapes bytes_of control_slots size_of (SaysKind 5) (IsOf 5) bytes_kind at x front rest (is.0, (refl, is.1)) f in
+    let again = sized_again 240 bytes_shapes bytes_of kcontrol_slots size_of (SaysKind 5) (IsOf 5) bytes_kind at x front rest (is.0, (refl, is.1)) f in
     step_is at bytes ∙ at_bytes bytes (Err (Payload at)) (mixer_step at bytes) (enum_step at bytes) (bytes_step at bytes) (unknown_step at bytes) (omega (arith, s.len, length-append front rest)) k ∙ bytes_same at bytes ∙ again
 
 pub control_item : IsItem control_step control_cells IsControl

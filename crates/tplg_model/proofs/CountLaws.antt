@@ -9,7 +9,7 @@ use Rattle.tplg_model.specs.declared.widget.Widget.{Widget}
 use Rattle.sof_base.specs.Cells.{Cell, fixed, loose}
 use Rattle.sof_base.specs.Slots.{Slot, Size, Label, zeros, slot_cells, slots_cells}
 use Rattle.sof_base.proofs.FieldLaws.{length-fixed}
-use Rattle.tplg_model.specs.Spelling.{items_cells, route_cells, manifest_cells, pcm_cells, widget_head_cells, head_of, widget_cells, control_cells, count_of, IsSound}
+use Rattle.tplg_model.specs.Spelling.{items_cells, route_cells, manifest_cells, pcm_cells, widget_head_cells, head_of, widget_cells, control_cells, count_of, IsStorable}
 use Rattle.tplg_model.proofs.ItemLaws.{items_few}
 
 -- cells whose first field has bytes
@@ -46,7 +46,7 @@ abbrev pub KeptCountFits : Body → Type 0
 KeptCountFits (Other kind count bytes) = count < 2 ^ 32
 KeptCountFits body = Unit {0}
 
-pub count_fits : (body : Body) → IsSound body → KeptCountFits body → count_of body < 2 ^ 32
+pub count_fits : (body : Body) → IsStorable body → KeptCountFits body → count_of body < 2 ^ 32
 count_fits (Manifests ms) sound kept = omega (arith, sound.size, items_few manifest_cells manifest_some ms)
 count_fits (Widgets ws) sound kept = omega (arith, sound.size, items_few widget_cells widget_some ws)
 count_fits (Routes rs) sound kept = omega (arith, sound.size, items_few route_cells route_some rs)

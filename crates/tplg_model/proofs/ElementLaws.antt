@@ -9,7 +9,7 @@ use Rattle.sof_base.proofs.FieldLaws.{IsBytes, IsBytes-part, length-part, part-a
 use Rattle.tplg_model.specs.declared.tokens.UuidTuple.{UuidTuple}
 use Rattle.tplg_model.specs.declared.tokens.TextTuple.{TextTuple}
 use Rattle.tplg_model.specs.declared.tokens.NumberTuple.{NumberTuple}
-use Rattle.tplg_model.specs.Arrays.{Each, IsUuid, IsText, IsNumber, uuid_spelling, text_spelling, number_spelling, elements_at, uuid_at, text_at, number_at}
+use Rattle.tplg_model.specs.Arrays.{Each, IsUuid, IsText, IsNumber, uuid_spelling, text_spelling, number_spelling, elements_at, uuid_at, text_at, number_tuple_at}
 
 -- ---- words
 
@@ -48,7 +48,7 @@ uuid_back bytes at t e d = rw (e, d) refl
 text_back : (bytes : List ℕ) (at : ℕ) (t : TextTuple) → word_at bytes at ≡ t.token → part bytes (at + 4) 44 ≡ t.bytes → text_at bytes at ≡ t
 text_back bytes at t e d = rw (e, d) refl
 
-number_back : (bytes : List ℕ) (at : ℕ) (t : NumberTuple) → word_at bytes at ≡ t.token → word_at bytes (at + 4) ≡ t.value → number_at bytes at ≡ t
+number_back : (bytes : List ℕ) (at : ℕ) (t : NumberTuple) → word_at bytes at ≡ t.token → word_at bytes (at + 4) ≡ t.value → number_tuple_at bytes at ≡ t
 number_back bytes at t e d = rw (e, d) refl
 
 pub uuid_element : IsElement 20 uuid_at uuid_spelling IsUuid
@@ -67,7 +67,7 @@ text_element = record {
   width = λ x is. omega (arith, length-append (to_le_bytes w32 x.token) x.bytes, is.1);
 }
 
-pub number_element : IsElement 8 number_at number_spelling IsNumber
+pub number_element : IsElement 8 number_tuple_at number_spelling IsNumber
 number_element = record {
   same = λ bytes at h long. ap (λ (t : List ℕ). t ++ to_le_bytes w32 (word_at bytes (at + 4))) (word_same bytes at h (omega (arith, long))) ∙ ap (λ (t : List ℕ). part bytes at 4 ++ t) (word_same bytes (at + 4) h (omega (arith, long))) ∙ sym (part-add bytes at 4 4);
   is = λ bytes at h long. (word_fits bytes at h (omega (arith, long)), word_fits bytes (at + 4) h (omega (arith, long)));

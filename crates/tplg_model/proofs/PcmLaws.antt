@@ -9,8 +9,8 @@ use Rattle.tplg_model.specs.declared.pcm.Pcm.{Pcm}
 use Rattle.sof_base.specs.Cells.{fixed, Fits}
 use Rattle.tplg_model.specs.Outcomes.{◌>>=◌}
 use Rattle.sof_base.specs.Slots.{Slot, Word, Shape, A_word, A_long, A_size, A_name, slots_cells, AreSlots, part, word_at, has_name, name_at, widths, slots_from, shapes_of}
-use Rattle.tplg_model.specs.Spelling.{items_cells, stream_slots, stream_cells, caps_slots, caps_cells, pcm_head_slots, pcm_tail_slots, pcm_cells, IsPcm}
-use Rattle.tplg_model.specs.Reading.{label_at, stream_with, stream_step, caps_with, caps_step, parts_step, streams_step, tail_size, pcm_with, pcm_step}
+use Rattle.tplg_model.specs.Spelling.{items_cells, stream_record_slots, stream_cells, caps_slots, caps_cells, pcm_head_slots, pcm_tail_slots, pcm_cells, IsPcm}
+use Rattle.tplg_model.specs.Reading.{label_at, stream_with, stream_step, caps_at, caps_step, parts_step, streams_step, tail_size, pcm_with, pcm_step}
 use Rattle.tplg_model.specs.File.{have_names, pcm_names, PcmFault}
 use Rattle.tplg_model.specs.Arrays.{Each}
 use Rattle.tplg_model.proofs.ItemLaws.{Took, IsItem, IsFault}
@@ -30,7 +30,7 @@ stream_shapes = A_size 72 ∷ A_name ∷ A_long ∷ A_word ∷ A_word ∷ A_word
 stream_from : List Slot → StreamRecord
 stream_from ss = record { name = text (pick 1 ss); format = number (pick 2 ss); rate = number (pick 3 ss); period_bytes = number (pick 4 ss); buffer_bytes = number (pick 5 ss); channels = number (pick 6 ss) }
 
-stream_fields : Fields stream_shapes stream_step stream_slots
+stream_fields : Fields stream_shapes stream_step stream_record_slots
 unfolding stream_shapes stream_step label_at stream_from pick number text
 stream_fields = record {
   make = λ bytes off. stream_with (name_at bytes (off + 4)) bytes off;
@@ -40,9 +40,9 @@ stream_fields = record {
   back = λ bytes off x e. ap stream_from e;
 }
 
-stream_part : IsPart 72 stream_step stream_cells (λ s. AreSlots (stream_slots s))
+stream_part : IsPart 72 stream_step stream_cells (λ s. AreSlots (stream_record_slots s))
 unfolding stream_shapes
-stream_part = fields_part stream_shapes stream_step stream_slots stream_fields
+stream_part = fields_part stream_shapes stream_step stream_record_slots stream_fields
 
 caps_shapes : List Shape
 caps_shapes = A_size 104 ∷ A_name ∷ A_long ∷ A_word ∷ A_word ∷ A_word ∷ A_word ∷ A_word ∷ A_word ∷ A_word ∷ A_word ∷ A_word ∷ A_word ∷ A_word ∷ A_word ∷ []
@@ -53,8 +53,8 @@ caps_from ss = record { name = text (pick 1 ss); formats = number (pick 2 ss); r
 caps_fields : Fields caps_shapes caps_step caps_slots
 unfolding caps_shapes caps_step label_at caps_from pick number text
 caps_fields = record {
-  make = λ bytes off. caps_with (name_at bytes (off + 4)) bytes off;
-  same = λ at bytes off. label_then (has_name bytes (off + 4)) (Name at) (name_at bytes (off + 4)) (λ name. caps_with name bytes off);
+  make = λ bytes off. caps_at (name_at bytes (off + 4)) bytes off;
+  same = λ at bytes off. label_then (has_name bytes (off + 4)) (Name at) (name_at bytes (off + 4)) (λ name. caps_at name bytes off);
   is = λ bytes off. refl;
   shape = λ x. refl;
   back = λ bytes off x e. ap caps_from e;
@@ -123,14 +123,14 @@ head_shapes = A_size 912 ∷ A_name ∷ A_name ∷ A_word ∷ A_word ∷ A_word 
 tail_shapes : List Shape
 tail_shapes = A_word ∷ A_word ∷ A_word ∷ []
 
-streams_part : IsPart 576 (λ at bytes off. parts_step 72 (stream_step at bytes) 8 off) (λ xs. items_cells stream_cells xs) (λ xs. Each (λ s. AreSlots (stream_slots s)) xs × (length xs ≡ 8))
-streams_part = equal_parts 72 stream_step stream_cells (λ s. AreSlots (stream_slots s)) stream_part 8
+streams_part : IsPart 576 (λ at bytes off. parts_step 72 (stream_step at bytes) 8 off) (λ xs. items_cells stream_cells xs) (λ xs. Each (λ s. AreSlots (stream_record_slots s)) xs × (length xs ≡ 8))
+streams_part = equal_parts 72 stream_step stream_cells (λ s. AreSlots (stream_record_slots s)) stream_part 8
 
 pcm_widths : ℕ → List ℕ
 pcm_widths size = 112 ∷ 576 ∷ 4 ∷ 104 ∷ 104 ∷ 12 ∷ size ∷ []
 
 pcm_whole : (bytes : List ℕ) (size : ℕ) (name dai_name : List ℕ) (streams : List StreamRecord) (play cap : Caps) → IsBytes bytes → Tail 912 size bytes → Named bytes 4 name → Named bytes 48 dai_name
-    → Fits (part bytes 112 576) (items_cells stream_cells streams) × (Each (λ s. AreSlots (stream_slots s)) streams × (length streams ≡ 8))
+    → Fits (part bytes 112 576) (items_cells stream_cells streams) × (Each (λ s. AreSlots (stream_record_slots s)) streams × (length streams ≡ 8))
     → Fits (part bytes 692 104) (caps_cells play) × AreSlots (caps_slots play)
     → Fits (part bytes 796 104) (caps_cells cap) × AreSlots (caps_slots cap)
     → Took bytes (pcm_cells (pcm_with size name dai_name streams play cap bytes)) (912 + size) × IsPcm (pcm_with size name dai_name streams play cap bytes)
@@ -285,7 +285,7 @@ between a b ss d e = ap (λ (r : Bool). a && (b && r)) (each_then ss (d && e) �
 pcm_of : ℕ → List ℕ → Pcm
 pcm_of n bytes =
     pcm_with n (name_at bytes 4) (name_at bytes 48) (made_parts 72 (λ off. stream_with (name_at bytes (off + 4)) bytes off) 8 112)
-    (caps_with (name_at bytes 696) bytes 692) (caps_with (name_at bytes 800) bytes 796) bytes
+    (caps_at (name_at bytes 696) bytes 692) (caps_at (name_at bytes 800) bytes 796) bytes
 
 -- a PCM's tests as one
 abbrev pcm_gate : ℕ → List ℕ → Result (Pcm × ℕ) TplgFault
@@ -297,11 +297,11 @@ pcm_gated at bytes =
     let h = has_name bytes in
     let streams = parts_made 72 (λ off. stream_step at bytes off) (λ off. has_name bytes (off + 4)) (λ off. stream_with (name_at bytes (off + 4)) bytes off) (Name at)
     (λ off. then_made (has_name bytes (off + 4)) (Name at) (name_at bytes (off + 4)) (λ name. stream_with name bytes off)) 8 112 in
-    let play = then_made (has_name bytes 696) (Name at) (name_at bytes 696) (λ name. caps_with name bytes 692) in
-    let cap = then_made (has_name bytes 800) (Name at) (name_at bytes 800) (λ name. caps_with name bytes 796) in
+    let play = then_made (has_name bytes 696) (Name at) (name_at bytes 696) (λ name. caps_at name bytes 692) in
+    let cap = then_made (has_name bytes 800) (Name at) (name_at bytes 800) (λ name. caps_at name bytes 796) in
     let made = made_parts 72 (λ off. stream_with (name_at bytes (off + 4)) bytes off) 8 112 in
     rw (streams, play, cap) (gates (tail_size 912 at bytes) (h 4) (h 48) (all_parts 72 (λ off. has_name bytes (off + 4)) 8 112) (h 696) (h 800) (Name at) (name_at bytes 4) (name_at bytes 48) made
-    (caps_with (name_at bytes 696) bytes 692) (caps_with (name_at bytes 800) bytes 796) (λ n name dai_name ss play_caps cap_caps. (pcm_with n name dai_name ss play_caps cap_caps bytes, 912 + n)))
+    (caps_at (name_at bytes 696) bytes 692) (caps_at (name_at bytes 800) bytes 796) (λ n name dai_name ss play_caps cap_caps. (pcm_with n name dai_name ss play_caps cap_caps bytes, 912 + n)))
     ∙ ap (λ (b : Bool). tail_size 912 at bytes >>= λ n. cond b (Ok (pcm_of n bytes, 912 + n)) (Err (Name at)))
     (between (h 4) (h 48) (h 116 ∷ h 188 ∷ h 260 ∷ h 332 ∷ h 404 ∷ h 476 ∷ h 548 ∷ h 620 ∷ []) (h 696) (h 800))
 

@@ -7,7 +7,7 @@ use Rattle.sof_base.specs.Cells.{Cell, Fits}
 use Rattle.tplg_model.specs.Outcomes.{◌>>=◌}
 use Rattle.sof_base.specs.Slots.{Slot, Shape, slots_cells, AreSlots, part, widths, slots_from, all_named, shapes_of}
 use Rattle.tplg_model.specs.Arrays.{Each}
-use Rattle.tplg_model.specs.Spelling.{items_cells, joined}
+use Rattle.tplg_model.specs.Spelling.{items_cells, joined_cells}
 use Rattle.tplg_model.proofs.FaultLaws.{bind_ok, ok_same, passed_last}
 use Rattle.tplg_model.specs.Reading.{parts_step}
 use Rattle.sof_base.proofs.FieldLaws.{IsBytes, part-add, slots_read, slots_again, length-slots}
@@ -118,12 +118,12 @@ abbrev pub total : List ℕ → ℕ
 total [] = 0
 total (w ∷ ws) = w + total ws
 
-pub fits_joined : (bytes : List ℕ) (off : ℕ) (ws : List ℕ) (cs : List (List Cell)) → FitsAt bytes off ws cs → Fits (part bytes off (total ws)) (joined cs)
+pub fits_joined : (bytes : List ℕ) (off : ℕ) (ws : List ℕ) (cs : List (List Cell)) → FitsAt bytes off ws cs → Fits (part bytes off (total ws)) (joined_cells cs)
 unfolding Fits
 fits_joined bytes off [] [] f = tt
 fits_joined bytes off [] (c ∷ cs) f = absurd f
 fits_joined bytes off (w ∷ ws) [] f = absurd f
-fits_joined bytes off (w ∷ ws) (c ∷ cs) f = rw (part-add bytes off w (total ws)) (Fits-append (part bytes off w) (part bytes (off + w) (total ws)) c (joined cs) f.0 (fits_joined bytes (off + w) ws cs f.1))
+fits_joined bytes off (w ∷ ws) (c ∷ cs) f = rw (part-add bytes off w (total ws)) (Fits-append (part bytes off w) (part bytes (off + w) (total ws)) c (joined_cells cs) f.0 (fits_joined bytes (off + w) ws cs f.1))
 
 -- the parts have these widths
 abbrev pub Wide : List ℕ → List (List Cell) → Type 0
@@ -132,13 +132,13 @@ Wide [] (c ∷ cs) = ⊥
 Wide (w ∷ ws) [] = ⊥
 Wide (w ∷ ws) (c ∷ cs) = (length c ≡ w) × Wide ws cs
 
-pub joined_fits : (bytes : List ℕ) (off : ℕ) (ws : List ℕ) (cs : List (List Cell)) (front rest : List ℕ) → Wide ws cs → drop off bytes ≡ front ++ rest → Fits front (joined cs) → FitsAt bytes off ws cs × (length front ≡ total ws)
+pub joined_fits : (bytes : List ℕ) (off : ℕ) (ws : List ℕ) (cs : List (List Cell)) (front rest : List ℕ) → Wide ws cs → drop off bytes ≡ front ++ rest → Fits front (joined_cells cs) → FitsAt bytes off ws cs × (length front ≡ total ws)
 unfolding Fits
 joined_fits bytes off [] [] front rest wide e f = (tt, Fits-length front [] f)
 joined_fits bytes off [] (c ∷ cs) front rest wide e f = absurd wide
 joined_fits bytes off (w ∷ ws) [] front rest wide e f = absurd wide
 joined_fits bytes off (w ∷ ws) (c ∷ cs) front rest wide e f =
-    let parts = Fits-split front c (joined cs) f in
+    let parts = Fits-split front c (joined_cells cs) f in
     let len : length parts.first ≡ w = Fits-length parts.first c parts.fits_first ∙ wide.0 in
     let here : drop off bytes ≡ parts.first ++ (parts.second ++ rest) = e ∙ ap (λ (t : List ℕ). t ++ rest) parts.whole ∙ append_assoc parts.first parts.second rest in
     let is : part bytes off w ≡ parts.first = ap (take w) here ∙ take_at parts.first (parts.second ++ rest) w len in

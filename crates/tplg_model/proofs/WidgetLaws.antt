@@ -11,7 +11,7 @@ use Rattle.sof_base.proofs.FieldLaws.{IsBytes, IsBytes-part, length-part, length
 use Rattle.tplg_model.specs.Arrays.{Each, ArrayFault, arrays_spelling, arrays_of}
 use Rattle.tplg_model.specs.Outcomes.{◌>>=◌}
 use Rattle.tplg_model.specs.Spelling.{items_cells, WidgetHead, widget_head_slots, widget_head_cells, IsWidgetHead, head_of, widget_cells, IsWidget, control_cells, IsControl}
-use Rattle.tplg_model.specs.Reading.{tail_size, label_at, or_tokens, widget_head_with, widget_head_step, controls_of, control_step, headed_at, widget_with, widget_step}
+use Rattle.tplg_model.specs.Reading.{tail_size, label_at, or_tokens, widget_head_with, widget_head_step, kcontrol_count, control_step, headed_at, widget_with, widget_step}
 use Rattle.tplg_model.specs.File.{sized_fault, WidgetHeadFault, ControlFault, WidgetFault}
 use Rattle.tplg_model.proofs.ArrayListLaws.{read_is, read_written, fault_is, fault_again}
 use Rattle.tplg_model.proofs.FaultLaws.{bind_ok, At_first, Later, bind_err, ok_same, only_first}
@@ -224,10 +224,10 @@ abbrev Headed : Type 0
 Headed = WidgetHead × List Control
 
 abbrev headed_step : ℕ → List ℕ → Result (Headed × ℕ) TplgFault
-headed_step at bytes = headed_at widget_head_step controls_of control_step at bytes
+headed_step at bytes = headed_at widget_head_step kcontrol_count control_step at bytes
 
-abbrev headed_kind : IsItem headed_step (λ (x : Headed). widget_head_cells x.0 ++ items_cells control_cells x.1) (λ (x : Headed). IsWidgetHead x.0 × (Each IsControl x.1 × (length x.1 ≡ controls_of x.0)))
-headed_kind = headed_item widget_head_step widget_head_cells IsWidgetHead head_item controls_of control_step control_cells IsControl control_item
+abbrev headed_kind : IsItem headed_step (λ (x : Headed). widget_head_cells x.0 ++ items_cells control_cells x.1) (λ (x : Headed). IsWidgetHead x.0 × (Each IsControl x.1 × (length x.1 ≡ kcontrol_count x.0)))
+headed_kind = headed_item widget_head_step widget_head_cells IsWidgetHead head_item kcontrol_count control_step control_cells IsControl control_item
 
 -- a head whose number is that of its controls is the head of its widget
 head_again_is : (head : WidgetHead) (controls : List Control) → length controls ≡ head.num_kcontrols → head_of (widget_with head controls) ≡ head
@@ -254,7 +254,7 @@ pub widget_item : IsItem widget_step widget_cells IsWidget
 widget_item = record { takes = widget_takes; again = widget_again }
 
 abbrev headed_fault_is : IsFault headed_step WidgetFault
-headed_fault_is = headed_is_fault widget_head_step widget_head_cells IsWidgetHead head_item controls_of control_step control_cells IsControl control_item WidgetHeadFault ControlFault head_is_fault control_is_fault
+headed_fault_is = headed_is_fault widget_head_step widget_head_cells IsWidgetHead head_item kcontrol_count control_step control_cells IsControl control_item WidgetHeadFault ControlFault head_is_fault control_is_fault
 
 widget_found : (at : ℕ) (bytes : List ℕ) (f : TplgFault) → IsBytes bytes → widget_step at bytes ≡ Err f → WidgetFault at bytes f
 unfolding widget_step

@@ -17,10 +17,10 @@ abbrev pub element_size : ℕ → ℕ
 element_size kind = if kind == UUID then 20 else if kind == STRING then 48 else 8
 
 -- an array's type
-abbrev pub type_of : TokenArray → ℕ
-type_of (Uuid items) = UUID
-type_of (Text items) = STRING
-type_of (Number numbers) = numbers.kind
+abbrev pub array_type : TokenArray → ℕ
+array_type (Uuid items) = UUID
+array_type (Text items) = STRING
+array_type (Number numbers) = numbers.kind
 
 -- an array's number of elements
 abbrev pub count_of : TokenArray → ℕ
@@ -30,7 +30,7 @@ count_of (Number numbers) = length numbers.items
 
 -- an array's bytes: three words, and its elements
 abbrev pub array_size : TokenArray → ℕ
-array_size a = 12 + count_of a * element_size (type_of a)
+array_size a = 12 + count_of a * element_size (array_type a)
 
 -- a UUID's element: its token and 16 bytes
 abbrev pub uuid_spelling : UuidTuple → List ℕ
@@ -52,7 +52,7 @@ elements_spelling (Number numbers) = flat_map number_spelling numbers.items
 
 -- an array: its size, its type, its number of elements, and its elements
 unfoldable pub array_spelling : TokenArray → List ℕ
-array_spelling a = to_le_bytes w32 (array_size a) ++ (to_le_bytes w32 (type_of a) ++ (to_le_bytes w32 (count_of a) ++ elements_spelling a))
+array_spelling a = to_le_bytes w32 (array_size a) ++ (to_le_bytes w32 (array_type a) ++ (to_le_bytes w32 (count_of a) ++ elements_spelling a))
 
 -- arrays, one after the other
 abbrev pub arrays_spelling : List TokenArray → List ℕ
@@ -146,15 +146,15 @@ abbrev pub text_at : List ℕ → ℕ → TextTuple
 text_at bytes at = record { token = word_at bytes at; bytes = part bytes (at + 4) 44 }
 
 -- the number's element at a place
-abbrev pub number_at : List ℕ → ℕ → NumberTuple
-number_at bytes at = record { token = word_at bytes at; value = word_at bytes (at + 4) }
+abbrev pub number_tuple_at : List ℕ → ℕ → NumberTuple
+number_tuple_at bytes at = record { token = word_at bytes at; value = word_at bytes (at + 4) }
 
 -- the array of a type with a number of elements at the front of bytes
 abbrev pub array_with : ℕ → ℕ → List ℕ → TokenArray
 array_with kind count bytes =
     if kind == UUID then Uuid (elements_at 20 uuid_at count bytes 12)
     else if kind == STRING then Text (elements_at 48 text_at count bytes 12)
-    else Number (record { kind = kind; items = elements_at 8 number_at count bytes 12 })
+    else Number (record { kind = kind; items = elements_at 8 number_tuple_at count bytes 12 })
 
 -- the array at the front of bytes that have no fault there
 unfoldable pub array_at : List ℕ → TokenArray

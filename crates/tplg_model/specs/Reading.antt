@@ -110,8 +110,8 @@ stream_step at bytes off = do
   Ok (stream_with name bytes off)
 
 -- caps at an offset, whose name was read
-abbrev pub caps_with : List ℕ → List ℕ → ℕ → Caps
-caps_with name bytes off = record {
+abbrev pub caps_at : List ℕ → List ℕ → ℕ → Caps
+caps_at name bytes off = record {
   name = name;
   formats = long_at bytes (off + 48);
   rates = word_at bytes (off + 56);
@@ -132,7 +132,7 @@ caps_with name bytes off = record {
 unfoldable pub caps_step : ℕ → List ℕ → ℕ → Result Caps TplgFault
 caps_step at bytes off = do
   name ← label_at at bytes (off + 4)
-  Ok (caps_with name bytes off)
+  Ok (caps_at name bytes off)
 
 -- the eight stream records of a PCM
 unfoldable pub streams_step : ℕ → List ℕ → Result (List StreamRecord) TplgFault
@@ -267,8 +267,8 @@ widget_head_step at bytes = do
   Ok (widget_head_with name sname tokens bytes, 132 + size)
 
 -- the number of controls that a head says
-abbrev pub controls_of : WidgetHead → ℕ
-controls_of head = head.num_kcontrols
+abbrev pub kcontrol_count : WidgetHead → ℕ
+kcontrol_count head = head.num_kcontrols
 
 -- a widget of a head and controls
 abbrev pub widget_with : WidgetHead → List Control → Widget
@@ -286,7 +286,7 @@ widget_with head controls = record {
 -- the widget at the front of bytes, with its controls
 unfoldable pub widget_step : ℕ → List ℕ → Result (Widget × ℕ) TplgFault
 widget_step at bytes = do
-  x ← headed_at widget_head_step controls_of control_step at bytes
+  x ← headed_at widget_head_step kcontrol_count control_step at bytes
   Ok (widget_with x.0.0 x.0.1, x.1)
 
 -- ---- blocks

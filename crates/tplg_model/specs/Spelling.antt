@@ -27,10 +27,10 @@ unfoldable pub items_cells : {A : Type 0} → (A → List Cell) → List A → L
 items_cells cells [] = []
 items_cells cells (x ∷ xs) = cells x ++ items_cells cells xs
 
--- the spellings of parts, joined
-abbrev pub joined : List (List Cell) → List Cell
-joined [] = []
-joined (c ∷ cs) = c ++ joined cs
+-- the spellings of parts, joined_cells
+abbrev pub joined_cells : List (List Cell) → List Cell
+joined_cells [] = []
+joined_cells (c ∷ cs) = c ++ joined_cells cs
 
 -- ---- routes and manifests
 
@@ -61,12 +61,12 @@ manifest_cells m = slots_cells (manifest_slots m)
 -- ---- PCMs
 
 -- a stream record
-abbrev pub stream_slots : StreamRecord → List Slot
-stream_slots s = Size 72 ∷ Label s.name ∷ Long s.format ∷ Word s.rate ∷ Word s.period_bytes ∷ Word s.buffer_bytes ∷ Word s.channels ∷ []
+abbrev pub stream_record_slots : StreamRecord → List Slot
+stream_record_slots s = Size 72 ∷ Label s.name ∷ Long s.format ∷ Word s.rate ∷ Word s.period_bytes ∷ Word s.buffer_bytes ∷ Word s.channels ∷ []
 
 -- a stream record's bytes
 abbrev pub stream_cells : StreamRecord → List Cell
-stream_cells s = slots_cells (stream_slots s)
+stream_cells s = slots_cells (stream_record_slots s)
 
 -- caps
 abbrev pub caps_slots : Caps → List Slot
@@ -101,12 +101,12 @@ pcm_parts p =
 
 -- a PCM's bytes
 abbrev pub pcm_cells : Pcm → List Cell
-pcm_cells p = joined (pcm_parts p)
+pcm_cells p = joined_cells (pcm_parts p)
 
 -- the values of a PCM of the program
 pub record IsPcm (p : Pcm) : Type 0 where
   pub head : AreSlots (pcm_head_slots p)
-  pub streams : Each (λ s. AreSlots (stream_slots s)) p.streams
+  pub streams : Each (λ s. AreSlots (stream_record_slots s)) p.streams
   pub eight : length p.streams ≡ 8
   pub num_streams : AreSlots (Word p.num_streams ∷ [])
   pub play : AreSlots (caps_slots p.play)
@@ -122,22 +122,22 @@ control_head_slots kind h =
     ∷ Word h.tlv_size ∷ Word h.tlv_type ∷ Words h.tlv ∷ []
 
 -- a mixer, an enum or a bytes control: its head, its own size and words, and private data
-abbrev pub control_slots : Control → List Slot
-control_slots (Mixer head min max platform_max invert num_channels channels private) =
+abbrev pub kcontrol_slots : Control → List Slot
+kcontrol_slots (Mixer head min max platform_max invert num_channels channels private) =
     control_head_slots control_kind.MIXER head
     ++ Size 360 ∷ Word (cast_unsigned w32 min) ∷ Word (cast_unsigned w32 max) ∷ Word (cast_unsigned w32 platform_max) ∷ Word invert
     ∷ Word num_channels ∷ Words channels ∷ Word (length private) ∷ Raw private ∷ []
-control_slots (Enum head num_channels channels items mask count texts values private) =
+kcontrol_slots (Enum head num_channels channels items mask count texts values private) =
     control_head_slots control_kind.ENUM head
     ++ Size 1764 ∷ Word num_channels ∷ Words channels ∷ Word items ∷ Word mask ∷ Word count ∷ Raw texts ∷ Words values
     ∷ Word (length private) ∷ Raw private ∷ []
-control_slots (Bytes head max mask base num_regs ext_ops private) =
+kcontrol_slots (Bytes head max mask base num_regs ext_ops private) =
     control_head_slots control_kind.BYTES head
     ++ Size 240 ∷ Word max ∷ Word mask ∷ Word base ∷ Word num_regs ∷ Words ext_ops ∷ Word (length private) ∷ Raw private ∷ []
 
 -- a control's bytes
 abbrev pub control_cells : Control → List Cell
-control_cells c = slots_cells (control_slots c)
+control_cells c = slots_cells (kcontrol_slots c)
 
 -- a control's arrays have their lengths, and its signed words are 32 bits
 abbrev pub HasLengths : Control → Type 0
@@ -149,7 +149,7 @@ HasLengths (Bytes head max mask base num_regs ext_ops private) = (length head.tl
 
 -- the values of a control of the program
 abbrev pub IsControl : Control → Type 0
-IsControl c = AreSlots (control_slots c) × HasLengths c
+IsControl c = AreSlots (kcontrol_slots c) × HasLengths c
 
 -- ---- widgets
 
@@ -213,12 +213,12 @@ body_cells (Pcms ps) = items_cells pcm_cells ps
 body_cells (Other kind count bytes) = fixed bytes
 
 -- a block's type
-abbrev pub kind_of : Body → ℕ
-kind_of (Manifests ms) = MANIFEST
-kind_of (Widgets ws) = DAPM_WIDGET
-kind_of (Routes rs) = DAPM_GRAPH
-kind_of (Pcms ps) = PCM
-kind_of (Other kind count bytes) = kind
+abbrev pub block_type : Body → ℕ
+block_type (Manifests ms) = MANIFEST
+block_type (Widgets ws) = DAPM_WIDGET
+block_type (Routes rs) = DAPM_GRAPH
+block_type (Pcms ps) = PCM
+block_type (Other kind count bytes) = kind
 
 -- its number of records
 abbrev pub count_of : Body → ℕ
@@ -236,14 +236,14 @@ pub record HasNoRecords (kind : ℕ) : Type 0 where
   pub no_manifests : kind ≡ MANIFEST → ⊥
 
 -- bytes are kept only where the type has no records
-abbrev pub IsKept : Body → Type 0
-IsKept (Other kind count bytes) = HasNoRecords kind
-IsKept body = Unit {0}
+abbrev pub HasOwnForm : Body → Type 0
+HasOwnForm (Other kind count bytes) = HasNoRecords kind
+HasOwnForm body = Unit {0}
 
 -- what each block of the program keeps: its payload has a size, and bytes are kept only of other types
-pub record IsSound (body : Body) : Type 0 where
+pub record IsStorable (body : Body) : Type 0 where
   pub size : length (body_cells body) < 2 ^ 32
-  pub kept : IsKept body
+  pub kept : HasOwnForm body
 
 -- a block: three words of its header, and its records
 pub record BlockValue : Type 0 where
@@ -260,22 +260,22 @@ words_slots version kind vendor_type size index count =
 
 -- the header of a block
 abbrev pub header_slots : BlockValue → List Slot
-header_slots b = words_slots b.version (kind_of b.body) b.vendor_type (length (body_cells b.body)) b.index (count_of b.body)
+header_slots b = words_slots b.version (block_type b.body) b.vendor_type (length (body_cells b.body)) b.index (count_of b.body)
 
 -- a block: its header and its payload
 abbrev pub block_cells : BlockValue → List Cell
 block_cells b = slots_cells (header_slots b) ++ body_cells b.body
 
 -- the values of a payload of the program
-abbrev pub IsBody : Body → Type 0
-IsBody (Manifests ms) = Each IsManifest ms
-IsBody (Widgets ws) = Each IsWidget ws
-IsBody (Routes rs) = Each IsRoute rs
-IsBody (Pcms ps) = Each IsPcm ps
-IsBody (Other kind count bytes) = Unit {0}
+abbrev pub AreRecords : Body → Type 0
+AreRecords (Manifests ms) = Each IsManifest ms
+AreRecords (Widgets ws) = Each IsWidget ws
+AreRecords (Routes rs) = Each IsRoute rs
+AreRecords (Pcms ps) = Each IsPcm ps
+AreRecords (Other kind count bytes) = Unit {0}
 
 -- the values of a block of the program
 pub record IsBlock (b : BlockValue) : Type 0 where
   pub header : AreSlots (header_slots b)
-  pub kept : IsKept b.body
-  pub body : IsBody b.body
+  pub kept : HasOwnForm b.body
+  pub body : AreRecords b.body

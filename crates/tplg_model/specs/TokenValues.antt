@@ -8,10 +8,10 @@ use Rattle.tplg_model.specs.declared.tokens.TokenArray.{TokenArray}
 use Rattle.tplg_model.specs.declared.tokens.TokenArray.TheVariants.{Uuid, Text, Number}
 
 -- an array's elements where it is one of numbers (types 2 to 5)
-abbrev pub numbers_in : TokenArray → List NumberTuple
-numbers_in (Uuid items) = []
-numbers_in (Text items) = []
-numbers_in (Number numbers) = numbers.items
+abbrev pub number_tuples : TokenArray → List NumberTuple
+number_tuples (Uuid items) = []
+number_tuples (Text items) = []
+number_tuples (Number numbers) = numbers.items
 
 -- an array's elements where it is one of texts
 abbrev pub texts_in : TokenArray → List TextTuple
@@ -31,7 +31,7 @@ first_text (t ∷ ts) token = if t.token == token then Some (until_zero t.bytes)
 
 -- the number of a token: its first element, in file order, in the arrays of numbers
 unfoldable pub number_of : List TokenArray → ℕ → Option ℕ
-number_of arrays token = first_number (flat_map numbers_in arrays) token
+number_of arrays token = first_number (flat_map number_tuples arrays) token
 
 -- the text of a token: its first element, in file order, in the arrays of texts
 unfoldable pub text_of : List TokenArray → ℕ → Option (List ℕ)

@@ -20,13 +20,13 @@ pub struct Block {
 }
 
 impl Model for Block {
-    ghost use Rattle.tplg_model.specs.Spelling.{BlockValue, IsSound};
+    ghost use Rattle.tplg_model.specs.Spelling.{BlockValue, IsStorable};
 
     ghost Value = { BlockValue };
 
     ghost view = { λ a. record { version = a.version; vendor_type = a.vendor_type; index = a.index; body = a.body } };
 
-    ghost invariant = { λ a. IsSound a.body };
+    ghost invariant = { λ a. IsStorable a.body };
 }
 
 /// The records of a block by its type: 8, 5, 4 and 7, or any other type, whose bytes are kept. `kind` is none of 4, 5, 7

@@ -7,7 +7,7 @@ use Rattle.stream_law.specs.declared.graph.Comp.{Comp}
 use Rattle.stream_law.specs.declared.graph.Edge.{Edge}
 use Rattle.stream_law.specs.Ways.{is_end, is_capture}
 use Rattle.tplg_rules.specs.Cycles.{are_joined, EdgeWalk, Reaches, captures_at, ReachesCapture}
-use Rattle.tplg_rules.specs.RuleTest.{leads_along, is_reached, leads_to_capture}
+use Rattle.tplg_rules.specs.RuleTest.{leads_along, reaches, leads_to_capture}
 use Rattle.tplg_rules.proofs.Among.{is_end-some}
 
 -- a walk of some length
@@ -129,34 +129,34 @@ walk-is_reached all (e ∷ es) a c b j h = by_case (or_cases (is_end e.source a 
     by_case (inr k) rest =
         or_right (is_end e.source a && option_map_or (λ x. leads_along all x b) e.sink false) (list_any (λ e. is_end e.source a && option_map_or (λ c. leads_along all c b) e.sink false) es) (rest k)
 
-pub reaches-from : (edges : List Edge) (a b : ℕ) → is_reached edges a b ≡ true → Reaches edges a b
+pub reaches-from : (edges : List Edge) (a b : ℕ) → reaches edges a b ≡ true → Reaches edges a b
 reaches-from edges a b h = let r = is_reached-walk edges edges a b h in let w = leads-walk edges r.0 b r.2 in (w.0, (r.0, r.1, w.1))
 
-pub reaches-to : (edges : List Edge) (a b : ℕ) → Reaches edges a b → is_reached edges a b ≡ true
+pub reaches-to : (edges : List Edge) (a b : ℕ) → Reaches edges a b → reaches edges a b ≡ true
 reaches-to edges a b r = walk-is_reached edges edges a r.1.0 b r.1.1 (walk-leads edges r.0 r.1.0 b r.1.2)
 
 -- ---- hosts that capture
 
-capture-from : (comps : List Comp) (edges : List Edge) (id : ℕ) → leads_to_capture comps edges id ≡ true → (d : ℕ) × (captures_at comps d ≡ true) × (is_reached edges id d ≡ true)
+capture-from : (comps : List Comp) (edges : List Edge) (id : ℕ) → leads_to_capture comps edges id ≡ true → (d : ℕ) × (captures_at comps d ≡ true) × (reaches edges id d ≡ true)
 capture-from [] edges id h = absurd (false≢true h)
-capture-from (c ∷ cs) edges id h = by_case (or_cases (is_capture c.kind && is_reached edges id c.id) (leads_to_capture cs edges id) h) (λ k. capture-from cs edges id k)
+capture-from (c ∷ cs) edges id h = by_case (or_cases (is_capture c.kind && reaches edges id c.id) (leads_to_capture cs edges id) h) (λ k. capture-from cs edges id k)
   where
-    by_case : ((is_capture c.kind && is_reached edges id c.id) ≡ true) ⊎ (leads_to_capture cs edges id ≡ true) → (leads_to_capture cs edges id ≡ true → (d : ℕ) × (captures_at cs d ≡ true) × (is_reached edges id d ≡ true)) → (d : ℕ) × (captures_at (c ∷ cs) d ≡ true) × (is_reached edges id d ≡ true)
+    by_case : ((is_capture c.kind && reaches edges id c.id) ≡ true) ⊎ (leads_to_capture cs edges id ≡ true) → (leads_to_capture cs edges id ≡ true → (d : ℕ) × (captures_at cs d ≡ true) × (reaches edges id d ≡ true)) → (d : ℕ) × (captures_at (c ∷ cs) d ≡ true) × (reaches edges id d ≡ true)
     by_case (inl k) rest =
-        let parts = and_parts (is_capture c.kind) (is_reached edges id c.id) k in
+        let parts = and_parts (is_capture c.kind) (reaches edges id c.id) k in
         (c.id, or_left (c.id == c.id && is_capture c.kind) (captures_at cs c.id) (and_from (c.id == c.id) (is_capture c.kind) (eq-eqb c.id c.id refl) parts.0), parts.1)
     by_case (inr k) rest = let r = rest k in (r.0, or_right (c.id == r.0 && is_capture c.kind) (captures_at cs r.0) r.1, r.2)
 
-capture-to : (comps : List Comp) (edges : List Edge) (id d : ℕ) → captures_at comps d ≡ true → is_reached edges id d ≡ true → leads_to_capture comps edges id ≡ true
+capture-to : (comps : List Comp) (edges : List Edge) (id d : ℕ) → captures_at comps d ≡ true → reaches edges id d ≡ true → leads_to_capture comps edges id ≡ true
 capture-to [] edges id d h on = absurd (false≢true h)
 capture-to (c ∷ cs) edges id d h on = by_case (or_cases (c.id == d && is_capture c.kind) (captures_at cs d) h) (λ k. capture-to cs edges id d k on)
   where
     by_case : ((c.id == d && is_capture c.kind) ≡ true) ⊎ (captures_at cs d ≡ true) → (captures_at cs d ≡ true → leads_to_capture cs edges id ≡ true) → leads_to_capture (c ∷ cs) edges id ≡ true
     by_case (inl k) rest =
         let parts = and_parts (c.id == d) (is_capture c.kind) k in
-        or_left (is_capture c.kind && is_reached edges id c.id) (leads_to_capture cs edges id)
-        (and_from (is_capture c.kind) (is_reached edges id c.id) parts.1 (ap (λ x. is_reached edges id x) (eqb-true c.id d parts.0) ∙ on))
-    by_case (inr k) rest = or_right (is_capture c.kind && is_reached edges id c.id) (leads_to_capture cs edges id) (rest k)
+        or_left (is_capture c.kind && reaches edges id c.id) (leads_to_capture cs edges id)
+        (and_from (is_capture c.kind) (reaches edges id c.id) parts.1 (ap (λ x. reaches edges id x) (eqb-true c.id d parts.0) ∙ on))
+    by_case (inr k) rest = or_right (is_capture c.kind && reaches edges id c.id) (leads_to_capture cs edges id) (rest k)
 
 pub capture-reached : (comps : List Comp) (edges : List Edge) (id : ℕ) → leads_to_capture comps edges id ≡ true → ReachesCapture comps edges id
 capture-reached comps edges id h = let r = capture-from comps edges id h in (r.0, r.1, reaches-from edges id r.0 r.2)

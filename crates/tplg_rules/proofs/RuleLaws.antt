@@ -2,7 +2,7 @@
 use Rattle.std.proofs.Common.{is_some, ◌↔◌, ◌≡◌, refl, sym, ap, ◌∙◌, ℕ, zero, suc, ◌+◌, ◌<◌, ◌≤◌, List, [], ◌∷◌, Bool, true, false, cond, not, Option, Some, None, ◌⊎◌, inl, inr, arith}
 use Rattle.std.specs.List.{find, range_with_len}
 use Rattle.std.proofs.lemmas.Bool.{true≢false, cases_order}
-use Rattle.tplg_rules.specs.Rules.{Rule, tested, HoldsAll, FailsFirst, AllHold, BreaksOf, IsFirstFailing}
+use Rattle.tplg_rules.specs.Rules.{Rule, item_test, HoldsAll, FailsFirst, AllHold, BreaksOf, IsFirstFailing}
 
 -- where all rules hold, none is broken
 pub none_breaks : (rs : List Rule) (number item : ℕ) → AllHold rs → BreaksOf rs number item → ⊥
@@ -67,17 +67,17 @@ least-none test from (suc n) e i low high = by_test (test from) refl e (least-no
     by_test false h e rest = cc
 
 -- a search by `find` has found the first item
-pub first-found : (number items : ℕ) (test : ℕ → Bool) (o : Option ℕ) → o ≡ find (λ k. not (test k)) (range_with_len 0 items) → IsFirstFailing (tested number items test) o
+pub first-found : (number items : ℕ) (test : ℕ → Bool) (o : Option ℕ) → o ≡ find (λ k. not (test k)) (range_with_len 0 items) → IsFirstFailing (item_test number items test) o
 first-found number items test None e = λ i within. least-none test 0 items (sym e) i (omega arith) (omega arith)
 first-found number items test (Some item) e =
     let l = least-found test 0 items item (sym e) in
     record { within = omega (arith, l.within); fails = λ h. true≢false (sym h ∙ l.fails); before = λ i high. l.before i (omega arith) high }
 
 -- a search that finds none says that the rule holds
-pub kept : (number items : ℕ) (test : ℕ → Bool) (o : Option ℕ) (b : Bool) → is_some o ≡ not b → o ≡ find (λ k. not (test k)) (range_with_len 0 items) → (b ≡ true) ↔ HoldsAll (tested number items test)
+pub kept : (number items : ℕ) (test : ℕ → Bool) (o : Option ℕ) (b : Bool) → is_some o ≡ not b → o ≡ find (λ k. not (test k)) (range_with_len 0 items) → (b ≡ true) ↔ HoldsAll (item_test number items test)
 kept number items test o b same e = by_found o b (first-found number items test o e) same
   where
-    by_found : (o : Option ℕ) (b : Bool) → IsFirstFailing (tested number items test) o → is_some o ≡ not b → (b ≡ true) ↔ HoldsAll (tested number items test)
+    by_found : (o : Option ℕ) (b : Bool) → IsFirstFailing (item_test number items test) o → is_some o ≡ not b → (b ≡ true) ↔ HoldsAll (item_test number items test)
     by_found None true f same = (λ h. f, λ all. refl)
     by_found None false f same = absurd (true≢false (sym same))
     by_found (Some i) true f same = absurd (true≢false same)

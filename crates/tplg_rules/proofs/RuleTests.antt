@@ -10,10 +10,10 @@ use Rattle.tplg_widgets.specs.PcmList.{pcms_of}
 use Rattle.tplg_widgets.specs.GraphLists.{components_on, edges_on}
 use Rattle.tplg_widgets.specs.Ends.{joins_of}
 use Rattle.tplg_widgets.specs.WiringValue.{WiringValue, wiring_of}
-use Rattle.tplg_rules.specs.Rules.{Rule, tested, AllHold, BreaksOf, IsFirstFailing}
+use Rattle.tplg_rules.specs.Rules.{Rule, item_test, AllHold, BreaksOf, IsFirstFailing}
 use Rattle.tplg_rules.specs.Cycles.{Reaches, ReachesCapture, plays_at, cycles_rule, ways_rule}
 use Rattle.tplg_rules.specs.WellFormed.{IsWellFormed, Breaks, rules_on}
-use Rattle.tplg_rules.specs.RuleTest.{is_reached, leads_to_capture, Test, first_failing, ruled, ruling, tests_on, ruling_of}
+use Rattle.tplg_rules.specs.RuleTest.{reaches, leads_to_capture, Test, first_failing, ruled, ruling, tests_on, ruling_of}
 use Rattle.tplg_rules.proofs.RuleLaws.{none_breaks, one_breaks, first-found}
 use Rattle.tplg_rules.proofs.Leading.{reaches-from, reaches-to, capture-reached, reached-capture}
 
@@ -34,7 +34,7 @@ abbrev pub Told : List Rule → Option (ℕ × ℕ) → Type 0
 Told rs None = AllHold rs
 Told rs (Some at) = BreaksOf rs at.0 at.1
 
-one-told : (r : Rule) (x : Test) (o : Option ℕ) → Same r x → IsFirstFailing (tested x.number x.items x.holds) o → IsFirstFailing r o
+one-told : (r : Rule) (x : Test) (o : Option ℕ) → Same r x → IsFirstFailing (item_test x.number x.items x.holds) o → IsFirstFailing r o
 one-told r x None s f = λ i within. s.holds i (f i (subst (λ n. i < n) s.items within))
 one-told r x (Some item) s f =
     record { within = subst (λ n. item < n) (sym s.items) f.within; fails = λ h. f.fails (s.kept item h); before = λ i low. s.holds i (f.before i low) }
@@ -51,18 +51,18 @@ all-told (r ∷ rs) (x ∷ xs) s =
     by_first None f None t = (f, t)
     by_first None f (Some at) t = inr (f, t)
 
-same : (number items : ℕ) (test : ℕ → Bool) → Same (tested number items test) (record { number = number; items = items; holds = test })
+same : (number items : ℕ) (test : ℕ → Bool) → Same (item_test number items test) (record { number = number; items = items; holds = test })
 same number items test = record { number = refl; items = refl; holds = λ i h. h; kept = λ i h. h }
 
 -- ---- rule 14
 
-cycle-same : (ids : ℕ) (edges : List Edge) → Same (cycles_rule ids edges) (record { number = 14; items = ids; holds = λ id. not (is_reached edges id id) })
-cycle-same ids edges = record { number = refl; items = refl; holds = λ i h r. none i h r; kept = λ i r. kept i r (cases_Bool (is_reached edges i i)) }
+cycle-same : (ids : ℕ) (edges : List Edge) → Same (cycles_rule ids edges) (record { number = 14; items = ids; holds = λ id. not (reaches edges id id) })
+cycle-same ids edges = record { number = refl; items = refl; holds = λ i h r. none i h r; kept = λ i r. kept i r (cases_Bool (reaches edges i i)) }
   where
-    none : (i : ℕ) → not (is_reached edges i i) ≡ true → Reaches edges i i → ⊥
+    none : (i : ℕ) → not (reaches edges i i) ≡ true → Reaches edges i i → ⊥
     none i h r = false≢true (ap not (sym (reaches-to edges i i r)) ∙ h)
 
-    kept : (i : ℕ) → (Reaches edges i i → ⊥) → (is_reached edges i i ≡ true) ⊎ (is_reached edges i i ≡ false) → not (is_reached edges i i) ≡ true
+    kept : (i : ℕ) → (Reaches edges i i → ⊥) → (reaches edges i i ≡ true) ⊎ (reaches edges i i ≡ false) → not (reaches edges i i) ≡ true
     kept i r (inl h) = absurd (r (reaches-from edges i i h))
     kept i r (inr h) = ap not h
 

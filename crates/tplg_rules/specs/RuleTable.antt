@@ -16,14 +16,14 @@ use Rattle.tplg_widgets.specs.declared.tokens.Process.TheVariants.{Equaliser, Ot
 use Rattle.tplg_widgets.specs.declared.tokens.FormatToken.{FormatToken}
 use Rattle.tplg_widgets.specs.declared.tokens.FormatToken.TheVariants.{Unknown}
 use Rattle.tplg_plan.specs.Ranges.{is_period}
-use Rattle.tplg_widgets.specs.Entries.{is_interpreted, is_buffer, is_component, is_scheduler, is_dai, is_host_play, is_host_capture, is_effect, has_control, id_of}
+use Rattle.tplg_widgets.specs.Entries.{is_interpreted, is_buffer_entry, is_component, is_scheduler, is_dai, is_host_play, is_host_capture, is_effect, has_control, id_of}
 use Rattle.tplg_widgets.specs.PcmList.{is_side_of}
 use Rattle.tplg_rules.specs.ControlRanges.{is_live_in_range}
 use Rattle.tplg_widgets.specs.Names.{is_interpreted_named, is_number}
-use Rattle.tplg_widgets.specs.Ends.{end_of}
+use Rattle.tplg_widgets.specs.Ends.{end_named}
 use Rattle.tplg_widgets.specs.GraphLists.{is_sink}
 use Rattle.tplg_plan.specs.Printable.{is_widget_name}
-use Rattle.tplg_rules.specs.Rules.{Rule, tested}
+use Rattle.tplg_rules.specs.Rules.{Rule, item_test}
 
 -- at the item of this number, where there is one
 abbrev pub at : {X : Type 0} → List X → ℕ → (X → Bool) → Bool
@@ -35,12 +35,12 @@ abbrev pub count_holds : List Entry → List PcmCaps → ℕ → Bool
 count_holds ps pcms k =
     if k == 0 then nat_le (count_by is_scheduler ps) 32
     else if k == 1 then nat_le (count_by is_component ps) 128
-    else if k == 2 then nat_le (count_by is_buffer ps) 128
+    else if k == 2 then nat_le (count_by is_buffer_entry ps) 128
     else if k == 3 then nat_le (length pcms) 16
     else nat_le (count_by has_control ps) 64
 
 abbrev pub counts_rule : List Entry → List PcmCaps → Rule
-counts_rule ps pcms = tested 1 5 (count_holds ps pcms)
+counts_rule ps pcms = item_test 1 5 (count_holds ps pcms)
 
 -- ---- 2: names
 
@@ -49,7 +49,7 @@ abbrev pub name_holds : List Entry → ℕ → Bool
 name_holds es k = at es k (λ e. not (is_interpreted e) || (is_widget_name e.name && not (list_any (is_interpreted_named e.name) (take k es))))
 
 abbrev pub names_rule : List Entry → Rule
-names_rule es = tested 2 (length es) (name_holds es)
+names_rule es = item_test 2 (length es) (name_holds es)
 
 -- the same by places: it is the first of its name
 abbrev pub name_at : List Entry → ℕ → Bool
@@ -57,15 +57,15 @@ name_at es k = at es k (λ e. not (is_interpreted e) || (is_widget_name e.name &
 
 -- ---- 3: both ends of each route name a widget
 
-abbrev pub is_there : End → Bool
-is_there Missing = false
-is_there _ = true
+abbrev pub is_real_end : End → Bool
+is_real_end Missing = false
+is_real_end _ = true
 
 abbrev pub ends_hold : List Ends → ℕ → Bool
-ends_hold rs k = at rs k (λ r. is_there r.source && is_there r.sink)
+ends_hold rs k = at rs k (λ r. is_real_end r.source && is_real_end r.sink)
 
 abbrev pub ends_rule : List Ends → Rule
-ends_rule rs = tested 3 (length rs) (ends_hold rs)
+ends_rule rs = item_test 3 (length rs) (ends_hold rs)
 
 -- ---- 4: no route joins two buffers
 
@@ -77,7 +77,7 @@ abbrev pub route_holds : List Ends → ℕ → Bool
 route_holds rs k = at rs k (λ r. not (is_buffer_end r.source && is_buffer_end r.sink))
 
 abbrev pub routes_rule : List Ends → Rule
-routes_rule rs = tested 4 (length rs) (route_holds rs)
+routes_rule rs = item_test 4 (length rs) (route_holds rs)
 
 -- ---- 5: each buffer has exactly one real route in and one out
 
@@ -92,10 +92,10 @@ abbrev pub is_joined_through : List Join → ℕ → Bool
 is_joined_through js id = ins_of js id == 1 && outs_of js id == 1
 
 abbrev pub buffer_holds : List Entry → List Join → ℕ → Bool
-buffer_holds es js k = at es k (λ e. not (is_buffer e) || is_joined_through js (id_of es k))
+buffer_holds es js k = at es k (λ e. not (is_buffer_entry e) || is_joined_through js (id_of es k))
 
 abbrev pub buffers_rule : List Entry → List Join → Rule
-buffers_rule es js = tested 5 (length es) (buffer_holds es js)
+buffers_rule es js = item_test 5 (length es) (buffer_holds es js)
 
 -- ---- 6: each component has as many real routes in and out as its kind; a DAI has exactly one in all
 
@@ -116,7 +116,7 @@ abbrev pub component_holds : List Entry → List Join → ℕ → Bool
 component_holds es js k = at es k (λ e. not (is_component e) || are_routes_of e.role js (id_of es k))
 
 abbrev pub components_rule : List Entry → List Join → Rule
-components_rule es js = tested 6 (length es) (component_holds es js)
+components_rule es js = item_test 6 (length es) (component_holds es js)
 
 -- ---- 7: each index that has an interpreted widget has exactly one scheduler
 
@@ -135,7 +135,7 @@ abbrev pub index_holds : List Entry → List Entry → ℕ → Bool
 index_holds es ps k = at es k (λ e. is_scheduled ps e.index)
 
 abbrev pub indices_rule : List Entry → List Entry → Rule
-indices_rule es ps = tested 7 (length es) (index_holds es ps)
+indices_rule es ps = item_test 7 (length es) (index_holds es ps)
 
 -- ---- 8: each scheduler's stream name names a component
 
@@ -144,10 +144,10 @@ is_component_end (Component id) = true
 is_component_end _ = false
 
 abbrev pub sched_holds : List Entry → ℕ → Bool
-sched_holds es k = at es k (λ e. not (is_scheduler e) || is_component_end (end_of es e.sname))
+sched_holds es k = at es k (λ e. not (is_scheduler e) || is_component_end (end_named es e.sname))
 
 abbrev pub scheds_rule : List Entry → Rule
-scheds_rule es = tested 8 (length es) (sched_holds es)
+scheds_rule es = item_test 8 (length es) (sched_holds es)
 
 -- ---- 9: each scheduler has token 200, a multiple of 1000 from 1000 to 10000
 
@@ -155,7 +155,7 @@ abbrev pub period_holds : List Entry → ℕ → Bool
 period_holds es k = at es k (λ e. not (is_scheduler e) || is_period e.tokens.period)
 
 abbrev pub periods_rule : List Entry → Rule
-periods_rule es = tested 9 (length es) (period_holds es)
+periods_rule es = item_test 9 (length es) (period_holds es)
 
 -- ---- 10: a DAI's direction, where it says one, is its own; its format, where it says one, is known
 
@@ -172,7 +172,7 @@ abbrev pub dai_holds : List Entry → List Join → ℕ → Bool
 dai_holds es js k = at es k (λ e. not (is_dai e) || (is_own_direction e.tokens.dai_direction (is_sink js (id_of es k)) && is_format e.tokens.format))
 
 abbrev pub dais_rule : List Entry → List Join → Rule
-dais_rule es js = tested 10 (length es) (dai_holds es js)
+dais_rule es js = item_test 10 (length es) (dai_holds es js)
 
 -- ---- 11: each host's stream name is not empty, is that of some PCM's caps of its direction, and of no earlier host of its kind
 
@@ -191,7 +191,7 @@ abbrev pub host_holds : List Entry → List PcmCaps → ℕ → Bool
 host_holds es pcms k = at es k (λ e. not (is_host_widget e) || (has_pcm pcms e && not (list_any (is_same_stream e) (take k es))))
 
 abbrev pub hosts_rule : List Entry → List PcmCaps → Rule
-hosts_rule es pcms = tested 11 (length es) (host_holds es pcms)
+hosts_rule es pcms = item_test 11 (length es) (host_holds es pcms)
 
 -- ---- 12: each buffer has token 100, from 16 to 16777184
 
@@ -200,10 +200,10 @@ is_size None = false
 is_size (Some n) = nat_le 16 n && nat_le n 16777184
 
 abbrev pub size_holds : List Entry → ℕ → Bool
-size_holds es k = at es k (λ e. not (is_buffer e) || is_size e.tokens.size)
+size_holds es k = at es k (λ e. not (is_buffer_entry e) || is_size e.tokens.size)
 
 abbrev pub sizes_rule : List Entry → Rule
-sizes_rule es = tested 12 (length es) (size_holds es)
+sizes_rule es = item_test 12 (length es) (size_holds es)
 
 -- ---- 13: each EFFECT is an equaliser, and each live control is in range
 
@@ -215,4 +215,4 @@ abbrev pub control_holds : List Entry → ℕ → Bool
 control_holds es k = at es k (λ e. (not (is_effect e) || is_known_process e.tokens.process) && is_live_in_range e.control)
 
 abbrev pub controls_rule : List Entry → Rule
-controls_rule es = tested 13 (length es) (control_holds es)
+controls_rule es = item_test 13 (length es) (control_holds es)

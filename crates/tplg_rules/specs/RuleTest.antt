@@ -11,7 +11,7 @@ use Rattle.tplg_rules.specs.declared.rule_name.RuleName.TheVariants as rule
 use Rattle.tplg_widgets.specs.Entries.{interpreted}
 use Rattle.tplg_widgets.specs.WiringValue.{WiringValue, wiring_of}
 use Rattle.tplg_widgets.specs.GraphLists.{components_on, edges_on}
-use Rattle.tplg_rules.specs.Rules.{Rule, tested}
+use Rattle.tplg_rules.specs.Rules.{Rule, item_test}
 use Rattle.tplg_rules.specs.RuleTable.{count_holds, name_holds, ends_hold, route_holds, buffer_holds, component_holds, index_holds, sched_holds, period_holds, dai_holds, host_holds, size_holds, control_holds}
 use Rattle.tplg_rules.specs.Cycles.{plays_at}
 
@@ -23,12 +23,12 @@ leads_along [] a b = a == b
 leads_along (e ∷ es) a b = leads_along es a b || (option_map_or (λ c. leads_along es a c) e.source false && option_map_or (λ c. leads_along es c b) e.sink false)
 
 -- b is reached from a along one edge or more
-abbrev pub is_reached : List Edge → ℕ → ℕ → Bool
-is_reached edges a b = list_any (λ e. is_end e.source a && option_map_or (λ c. leads_along edges c b) e.sink false) edges
+abbrev pub reaches : List Edge → ℕ → ℕ → Bool
+reaches edges a b = list_any (λ e. is_end e.source a && option_map_or (λ c. leads_along edges c b) e.sink false) edges
 
 -- a host that captures is reached from this id
 abbrev pub leads_to_capture : List Comp → List Edge → ℕ → Bool
-leads_to_capture comps edges id = list_any (λ c. is_capture c.kind && is_reached edges id c.id) comps
+leads_to_capture comps edges id = list_any (λ c. is_capture c.kind && reaches edges id c.id) comps
 
 -- ---- the rules
 
@@ -96,7 +96,7 @@ test_by name w = record { number = rule_number name; items = items_of name w; ho
 
 -- the same as a rule
 abbrev pub rule_by : RuleName → WiringValue → Rule
-rule_by name w = tested (rule_number name) (items_of name w) (holds_at name w)
+rule_by name w = item_test (rule_number name) (items_of name w) (holds_at name w)
 
 abbrev pub rule_names : List RuleName
 rule_names =
@@ -108,7 +108,7 @@ rule_names =
 -- both parts of rule 14, over the components and the edges
 abbrev pub walk_tests : ℕ → List Comp → List Edge → List Test
 walk_tests ids comps edges =
-    record { number = 14; items = ids; holds = λ id. not (is_reached edges id id) }
+    record { number = 14; items = ids; holds = λ id. not (reaches edges id id) }
     ∷ record { number = 14; items = ids; holds = λ id. not (plays_at comps id && leads_to_capture comps edges id) }
     ∷ []
 

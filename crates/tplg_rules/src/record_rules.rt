@@ -23,7 +23,7 @@ fn count_components(parts: &[Entry]) -> usize
 }
 
 fn count_buffers(parts: &[Entry]) -> usize
-    ensures { result ≡ count_by entries.is_buffer parts.now }
+    ensures { result ≡ count_by entries.is_buffer_entry parts.now }
 {
     parts.iter().filter(|p| is_buffer(*p)).count()
 }

@@ -8,7 +8,7 @@ use stream_law::Join;
 use tplg_widgets::{End, Ends, Entry, Role, is_buffer, is_component, is_interpreted, is_scheduler};
 
 fn is_there(end: End) -> bool
-    ensures { result ≡ law.is_there end }
+    ensures { result ≡ law.is_real_end end }
 {
     !matches!(end, End::Missing)
 }

@@ -5,7 +5,7 @@ use Rattle.std.specs.Int.{w32, to_le_bytes}
 use Rattle.std.specs.declared.alloc.AllocError.{AllocError}
 use Rattle.sof_base.proofs.FieldLaws.{IsBytes}
 use Rattle.tplg_model.specs.declared.tokens.TokenArray.{TokenArray}
-use Rattle.tplg_model.specs.Arrays.{type_of, count_of, array_size, elements_spelling, array_spelling, array_fault, AreArrays, AreArraysOf, IsTokenFault, arrays_of}
+use Rattle.tplg_model.specs.Arrays.{array_type, count_of, array_size, elements_spelling, array_spelling, array_fault, AreArrays, AreArraysOf, IsTokenFault, arrays_of}
 use Rattle.tplg_model.proofs.ArrayListLaws.{SoFar, SoFar-fault, read_is, fault_is}
 use Rattle.tplg_tokens.specs.declared.fault.TokenFault.{TokenFault}
 use Rattle.tplg_tokens.specs.declared.fault.TokenFault.TheVariants.{Short, Size, Kind, OutOfMemory}
@@ -37,9 +37,9 @@ is_fault bytes (Err f) h g = fault_named bytes f h g
 -- ---- writing
 
 -- an array's words and elements behind what is written
-pub array_written : (a : TokenArray) (size kind count : ℕ) (old words : List ℕ) (new : List ℕ) (r : Result (Unit {0}) AllocError) → size ≡ array_size a → kind ≡ type_of a → count ≡ count_of a → words ≡ old ++ (to_le_bytes w32 size ++ (to_le_bytes w32 kind ++ to_le_bytes w32 count)) → OnOk r (new ≡ words ++ elements_spelling a) → OnOk r (new ≡ old ++ array_spelling a)
+pub array_written : (a : TokenArray) (size kind count : ℕ) (old words : List ℕ) (new : List ℕ) (r : Result (Unit {0}) AllocError) → size ≡ array_size a → kind ≡ array_type a → count ≡ count_of a → words ≡ old ++ (to_le_bytes w32 size ++ (to_le_bytes w32 kind ++ to_le_bytes w32 count)) → OnOk r (new ≡ words ++ elements_spelling a) → OnOk r (new ≡ old ++ array_spelling a)
 unfolding array_spelling
 array_written a size kind count old words new (Err e) s k c w h = tt
 array_written a size kind count old words new (Ok x) s k c w h =
-    let three : words ≡ old ++ (to_le_bytes w32 (array_size a) ++ (to_le_bytes w32 (type_of a) ++ to_le_bytes w32 (count_of a))) = rw (← s, ← k, ← c) w in
-    h ∙ ap (λ (t : List ℕ). t ++ elements_spelling a) three ∙ append_assoc old (to_le_bytes w32 (array_size a) ++ (to_le_bytes w32 (type_of a) ++ to_le_bytes w32 (count_of a))) (elements_spelling a)
+    let three : words ≡ old ++ (to_le_bytes w32 (array_size a) ++ (to_le_bytes w32 (array_type a) ++ to_le_bytes w32 (count_of a))) = rw (← s, ← k, ← c) w in
+    h ∙ ap (λ (t : List ℕ). t ++ elements_spelling a) three ∙ append_assoc old (to_le_bytes w32 (array_size a) ++ (to_le_bytes w32 (array_type a) ++ to_le_bytes w32 (count_of a))) (elements_spelling a)

@@ -2,7 +2,7 @@
 ghost use Rattle.std.specs.Prelude.{◌≡◌, ◌≤◌, ◌<◌, ◌+◌, ◌*◌, ◌^◌, ◌++◌, ℕ, length, take, Some, None, IfOk, IfErr, IsOk, OnOk};
 ghost use Rattle.sof_base.specs.Slots.{word_at};
 ghost use Rattle.std.specs.Int.{w32, to_le_bytes};
-ghost use Rattle.tplg_model.specs.Arrays.{element_size, type_of, count_of, elements_spelling, array_fault, array_at, array_size, array_spelling, HasSize, HasElements, IsArray};
+ghost use Rattle.tplg_model.specs.Arrays.{element_size, array_type, count_of, elements_spelling, array_fault, array_at, array_size, array_spelling, HasSize, HasElements, IsArray};
 ghost use Rattle.tplg_tokens.specs.Answers.{NamesFault};
 
 use crate::element::{Element, read_elements, word_bytes, write_elements};
@@ -80,7 +80,7 @@ pub fn read_array(alloc: Global, bytes: &[u8]) -> Result<TokenArray, NoMemory>
 
 /// An array's three words: its size, its type, and its number of elements.
 fn array_words(array: &TokenArray) -> (u32, u32, u32)
-    ensures words { result ≡ (array_size array.now, type_of array.now, count_of array.now) }
+    ensures words { result ≡ (array_size array.now, array_type array.now, count_of array.now) }
     ensures size { HasSize array.now }
 {
     match array {

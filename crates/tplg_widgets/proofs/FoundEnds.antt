@@ -5,9 +5,9 @@ use Rattle.tplg_widgets.specs.EntryValue.{EntryValue}
 use Rattle.tplg_widgets.specs.declared.route_end.End.TheVariants.{Other, Missing}
 use Rattle.tplg_widgets.specs.Entries.{interpreted, is_interpreted}
 use Rattle.tplg_widgets.specs.Names.{has_name}
-use Rattle.tplg_widgets.specs.Ends.{end_at, end_of}
+use Rattle.tplg_widgets.specs.Ends.{end_at, end_named}
 
-pub end-found : (es ps : List EntryValue) (name : List ℕ) (id : ℕ) (e : EntryValue) → ps ≡ interpreted es → position (has_name name) ps ≡ Some id → slice_get ps id ≡ Some e → end_at e id ≡ end_of es name
+pub end-found : (es ps : List EntryValue) (name : List ℕ) (id : ℕ) (e : EntryValue) → ps ≡ interpreted es → position (has_name name) ps ≡ Some id → slice_get ps id ≡ Some e → end_at e id ≡ end_named es name
 end-found es ps name id e same found there =
     let place : position (has_name name) (interpreted es) ≡ Some id = ap (position (has_name name)) (sym same) ∙ found in
     let here : slice_get (interpreted es) id ≡ Some e = ap (λ xs. slice_get xs id) (sym same) ∙ there in

@@ -10,22 +10,22 @@ use Rattle.tplg_widgets.specs.declared.entry.Entry.{Entry}
 use Rattle.tplg_widgets.specs.declared.route_end.End.{End}
 use Rattle.tplg_widgets.specs.declared.route_end.End.TheVariants.{Buffer, Component, Other, Missing}
 use Rattle.tplg_widgets.specs.declared.route_end.Ends.{Ends}
-use Rattle.tplg_widgets.specs.Entries.{is_buffer, is_component, routes_in, entries_of, interpreted}
+use Rattle.tplg_widgets.specs.Entries.{is_buffer_entry, is_component, routes_in, entries_of, interpreted}
 use Rattle.tplg_widgets.specs.Names.{has_name}
 
 -- the interpreted widget of this id, as an end
 abbrev pub end_at : Entry → ℕ → End
-end_at e id = if is_buffer e then Buffer id else if is_component e then Component id else Other
+end_at e id = if is_buffer_entry e then Buffer id else if is_component e then Component id else Other
 
 -- what a name names: the first interpreted widget of the name, else any widget of it
-abbrev pub end_of : List Entry → List ℕ → End
-end_of es name =
+abbrev pub end_named : List Entry → List ℕ → End
+end_named es name =
     option_map_or (λ id. option_map_or (λ e. end_at e id) (slice_get (interpreted es) id) Other)
     (position (has_name name) (interpreted es))
     (if is_some (position (has_name name) es) then Other else Missing)
 
 abbrev pub ends_of : List Entry → Route → Ends
-ends_of es r = record { source = end_of es r.source; sink = end_of es r.sink }
+ends_of es r = record { source = end_named es r.source; sink = end_named es r.sink }
 
 abbrev pub block_ends : List Entry → Block → List Ends
 block_ends es b = map (ends_of es) (routes_in b.body)

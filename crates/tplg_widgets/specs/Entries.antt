@@ -93,8 +93,8 @@ is_component_role (Some Buffer) = false
 is_component_role (Some Scheduler) = false
 is_component_role _ = true
 
-abbrev pub is_buffer : Entry → Bool
-is_buffer e = is_buffer_role e.role
+abbrev pub is_buffer_entry : Entry → Bool
+is_buffer_entry e = is_buffer_role e.role
 
 abbrev pub is_scheduler : Entry → Bool
 is_scheduler e = is_scheduler_role e.role

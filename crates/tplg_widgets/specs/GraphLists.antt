@@ -15,7 +15,7 @@ use Rattle.tplg_widgets.specs.declared.entry.Role.TheVariants as role_is
 use Rattle.tplg_widgets.specs.declared.entry.Entry.{Entry}
 use Rattle.tplg_widgets.specs.declared.tokens.FormatToken.{FormatToken}
 use Rattle.tplg_widgets.specs.Tokens.{stated_format}
-use Rattle.tplg_widgets.specs.Entries.{is_buffer}
+use Rattle.tplg_widgets.specs.Entries.{is_buffer_entry}
 
 -- the first real route into what has this id, and the first out of it
 abbrev pub route_in : List Join → ℕ → Option Join
@@ -59,7 +59,7 @@ components_on ps js = filter_map (component_at ps js) (range_with_len 0 (length 
 -- a buffer has its real route in and its real route out
 abbrev pub buffer_edge : List Join → ℕ → Entry → Option Edge
 buffer_edge js id e =
-    if is_buffer e then Some (record {
+    if is_buffer_entry e then Some (record {
       buffer = id;
       pipe = e.index;
       size = unwrap_or e.tokens.size 0;

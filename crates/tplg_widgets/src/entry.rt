@@ -132,7 +132,7 @@ pub fn is_interpreted(entry: &Entry) -> bool
 }
 
 pub fn is_buffer(entry: &Entry) -> bool
-    ensures { result ≡ law.is_buffer entry.now }
+    ensures { result ≡ law.is_buffer_entry entry.now }
 {
     matches!(entry.role(), Some(Role::Buffer))
 }

@@ -57,7 +57,7 @@ fn first_number(items: &[NumberTuple], token: u32) -> Option<u32>
 }
 
 fn number_in(array: &TokenArray, token: u32) -> Option<u32>
-    ensures { result ≡ values.first_number (values.numbers_in array.now) token }
+    ensures { result ≡ values.first_number (values.number_tuples array.now) token }
 {
     match array {
         TokenArray::Number(numbers) => first_number(numbers.items(), token),

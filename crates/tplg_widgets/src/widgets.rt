@@ -92,7 +92,7 @@ impl<'t> Widgets<'t> {
 
     /// What a name names.
     pub fn end_of(&self, name: &[u8]) -> End
-        ensures { result ≡ law.end_of self.now name.now }
+        ensures { result ≡ law.end_named self.now name.now }
     {
         match self.ids.get(&name) {
             Some(id) => match self.interpreted.get(*id) {

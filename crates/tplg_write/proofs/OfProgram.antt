@@ -2,7 +2,7 @@
 use Rattle.std.proofs.Common.{ℕ, ℤ, ◌<◌, ◌^◌, List, [], ◌∷◌, ◌++◌, length, arith}
 use Rattle.std.specs.Int.{w32, cast_unsigned}
 use Rattle.sof_base.specs.Slots.{Slot, Size, Word, Words, Raw, AreSlots, AreWords, IsSlot}
-use Rattle.tplg_model.specs.Spelling.{BlockValue, kind_of, count_of, IsSound, IsBody, IsBlock}
+use Rattle.tplg_model.specs.Spelling.{BlockValue, block_type, count_of, IsStorable, AreRecords, IsBlock}
 
 -- fields, and fields behind them
 are_append : (xs ys : List Slot) → AreSlots xs → AreSlots ys → AreSlots (xs ++ ys)
@@ -35,7 +35,7 @@ bytes_slots head max mask base num_regs ext_ops private are a b c d e f =
     (tt, (a, (b, (c, (d, (e, (f, (tt, tt))))))))
 
 -- a block, by the numbers of its header
-pub block_is : (b : BlockValue) → b.version < 2 ^ 32 → kind_of b.body < 2 ^ 32 → b.vendor_type < 2 ^ 32 → IsSound b.body → b.index < 2 ^ 32 → count_of b.body < 2 ^ 32 → IsBody b.body → IsBlock b
+pub block_is : (b : BlockValue) → b.version < 2 ^ 32 → block_type b.body < 2 ^ 32 → b.vendor_type < 2 ^ 32 → IsStorable b.body → b.index < 2 ^ 32 → count_of b.body < 2 ^ 32 → AreRecords b.body → IsBlock b
 unfolding AreSlots IsSlot
 block_is b version kind vendor_type sound index count body = record {
   header = (omega arith, (omega arith, (version, (kind, (omega arith, (vendor_type, (sound.size, (index, (count, tt)))))))));

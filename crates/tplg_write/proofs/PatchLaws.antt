@@ -5,7 +5,7 @@ use Rattle.std.specs.Int.{w32, to_le_bytes}
 use Rattle.sof_base.specs.Cells.{Cell, written, byte_of}
 use Rattle.sof_base.specs.Slots.{Slot, Word, Raw, slot_cells, slots_cells, wrote, wrote_all, wrote_part}
 use Rattle.sof_base.proofs.WriteLaws.{written-fixed, written_bytes, wrote_slots}
-use Rattle.tplg_model.specs.Spelling.{BlockValue, kind_of, count_of, body_cells, block_cells, header_slots}
+use Rattle.tplg_model.specs.Spelling.{BlockValue, block_type, count_of, body_cells, block_cells, header_slots}
 use Rattle.tplg_write.specs.Sinks.{patched}
 
 word_behind : (old : List ℕ) (n : ℕ) → wrote old (Word n) ≡ old ++ to_le_bytes w32 n
@@ -69,7 +69,7 @@ abbrev pub front_slots : BlockValue → ℕ → List Slot
 front_slots b kind = Word 0x41536F43 ∷ Word 5 ∷ Word b.version ∷ Word kind ∷ Word 36 ∷ Word b.vendor_type ∷ []
 
 -- a block whose size word is written last
-pub block_wrote : (old front : List ℕ) (b : BlockValue) (kind count n place : ℕ) → front ≡ wrote_all old (front_slots b kind) → kind ≡ kind_of b.body → count ≡ count_of b.body → n ≡ length (body_cells b.body) → place ≡ length front → patched place n (wrote_part (wrote (wrote (wrote front (Word 0)) (Word b.index)) (Word count)) (body_cells b.body)) ≡ wrote_part old (block_cells b)
+pub block_wrote : (old front : List ℕ) (b : BlockValue) (kind count n place : ℕ) → front ≡ wrote_all old (front_slots b kind) → kind ≡ block_type b.body → count ≡ count_of b.body → n ≡ length (body_cells b.body) → place ≡ length front → patched place n (wrote_part (wrote (wrote (wrote front (Word 0)) (Word b.index)) (Word count)) (body_cells b.body)) ≡ wrote_part old (block_cells b)
 block_wrote old front b kind count n place is kind_is count_is size at =
     patched_header front b.index count n place (body_cells b.body) at
     ∙ (λ i. wrote_part (wrote (wrote (wrote (is i) (Word (size i))) (Word b.index)) (Word (count_is i))) (body_cells b.body))

@@ -4,7 +4,7 @@ use Rattle.std.proofs.lemmas.List.{length-map}
 use Rattle.sof_base.specs.Cells.{Cell, fixed, written, byte_of}
 use Rattle.sof_base.specs.Slots.{Slot, Raw, slot_cells, slots_cells}
 use Rattle.sof_base.proofs.FieldLaws.{length-fixed}
-use Rattle.tplg_model.specs.Spelling.{items_cells, joined}
+use Rattle.tplg_model.specs.Spelling.{items_cells, joined_cells}
 
 -- bytes among fields
 pub raw_among : (front : List Slot) (bytes : List ℕ) (rest : List Slot) → length bytes ≤ length (slots_cells (front ++ Raw bytes ∷ rest))
@@ -13,9 +13,9 @@ raw_among [] bytes rest = omega (arith, length-append (fixed bytes) (slots_cells
 raw_among (s ∷ front) bytes rest = omega (arith, raw_among front bytes rest, length-append (slot_cells s) (slots_cells (front ++ Raw bytes ∷ rest)))
 
 -- a part among parts
-pub part_among : (front : List (List Cell)) (part : List Cell) (rest : List (List Cell)) → length part ≤ length (joined (front ++ part ∷ rest))
-part_among [] part rest = omega (arith, length-append part (joined rest))
-part_among (c ∷ front) part rest = omega (arith, part_among front part rest, length-append c (joined (front ++ part ∷ rest)))
+pub part_among : (front : List (List Cell)) (part : List Cell) (rest : List (List Cell)) → length part ≤ length (joined_cells (front ++ part ∷ rest))
+part_among [] part rest = omega (arith, length-append part (joined_cells rest))
+part_among (c ∷ front) part rest = omega (arith, part_among front part rest, length-append c (joined_cells (front ++ part ∷ rest)))
 
 -- an item among items
 module _ {A : Type 0} (cells : A → List Cell) where

@@ -7,7 +7,7 @@ use borrow.Rule.Slice.PartMut.{put_mid}
 use Rattle.std.proofs.lemmas.List.{map-append}
 use Rattle.sof_base.specs.Cells.{Cell, written, byte_of}
 use Rattle.sof_base.specs.Slots.{wrote_part, AreWords}
-use Rattle.tplg_model.specs.Spelling.{joined}
+use Rattle.tplg_model.specs.Spelling.{joined_cells}
 use Rattle.tplg_write.specs.Sinks.{Sunk, patched}
 
 -- a number written over bytes behind those that are kept
@@ -39,14 +39,14 @@ abbrev pub wrote_parts : List ℕ → List (List Cell) → List ℕ
 wrote_parts out [] = out
 wrote_parts out (c ∷ cs) = wrote_parts (wrote_part out c) cs
 
--- parts, one after the other, are their cells joined
-pub parts_wrote : (old : List ℕ) (parts : List (List Cell)) → wrote_parts old parts ≡ wrote_part old (joined parts)
+-- parts, one after the other, are their cells joined_cells
+pub parts_wrote : (old : List ℕ) (parts : List (List Cell)) → wrote_parts old parts ≡ wrote_part old (joined_cells parts)
 unfolding wrote_part
 parts_wrote old [] = sym (append-nil old)
 parts_wrote old (c ∷ cs) =
     parts_wrote (old ++ written c) cs
-    ∙ append_assoc old (written c) (written (joined cs))
-    ∙ ap (λ (t : List ℕ). old ++ t) (sym (map-append byte_of c (joined cs)))
+    ∙ append_assoc old (written c) (written (joined_cells cs))
+    ∙ ap (λ (t : List ℕ). old ++ t) (sym (map-append byte_of c (joined_cells cs)))
 
 -- ---- words
 

@@ -6,7 +6,7 @@ use Rattle.tplg_model.specs.declared.widget.Widget.{Widget}
 use Rattle.tplg_model.specs.declared.block.Body.{Body}
 use Rattle.tplg_model.specs.declared.block.Body.TheVariants.{Manifests, Widgets, Routes, Pcms, Other}
 use Rattle.tplg_model.specs.declared.block.Topology.{Topology}
-use Rattle.tplg_model.specs.Spelling.{IsWidget, IsBlock, IsBody, BlockValue}
+use Rattle.tplg_model.specs.Spelling.{IsWidget, IsBlock, AreRecords, BlockValue}
 use Rattle.tplg_write.specs.Sizes.{HasSizes, HasArraySizes}
 
 each_of : {A : Type 0} (P Q : A → Type 0) → ((x : A) → P x → Q x) → (xs : List A) → Each P xs → Each Q xs
@@ -17,7 +17,7 @@ each_of P Q one (x ∷ xs) all = (one x all.0, each_of P Q one xs all.1)
 of_widget : (w : Widget) → IsWidget w → Each HasSize w.tokens
 of_widget w is = each_of IsArray HasSize (λ a array. array.size) w.tokens is.head.tokens
 
-of_body : (body : Body) → IsBody body → HasSizes body
+of_body : (body : Body) → AreRecords body → HasSizes body
 of_body (Manifests ms) is = tt
 of_body (Widgets ws) is = each_of IsWidget (λ w. Each HasSize w.tokens) of_widget ws is
 of_body (Routes rs) is = tt

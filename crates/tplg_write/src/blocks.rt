@@ -2,7 +2,7 @@
 ghost use Rattle.std.specs.Prelude.{◌≡◌, ◌<◌, ◌^◌, OnOk, [], ◌∷◌, length};
 ghost use Rattle.sof_base.specs.Slots.{Word};
 ghost use Rattle.tplg_model.specs.Arrays.{Each};
-ghost use Rattle.tplg_model.specs.Spelling.{IsSound, IsBody, IsBlock, body_cells, block_cells, items_cells, kind_of, count_of};
+ghost use Rattle.tplg_model.specs.Spelling.{IsStorable, AreRecords, IsBlock, body_cells, block_cells, items_cells, block_type, count_of};
 ghost use Rattle.tplg_write.specs.Sinks.{with_fields, with_cells};
 
 use crate::items::put_items;
@@ -16,7 +16,7 @@ use tplg_model::{ABI, Block, Body, HEADER_BYTES, MAGIC};
 fn put_body(body: &Body, sink: &mut Sink) -> Result<(), NoMemory>
     requires room { length (body_cells body.now) < 2 ^ 32 }
     ensures ok { OnOk result (sink.new ≡ with_cells sink.old (body_cells body.now)) }
-    ensures is { OnOk result (IsBody body.now) }
+    ensures is { OnOk result (AreRecords body.now) }
     ensures front { sink.new.front ≡ sink.old.front }
 {
     match body {
@@ -30,9 +30,9 @@ fn put_body(body: &Body, sink: &mut Sink) -> Result<(), NoMemory>
 
 // The type of a block and its number of records.
 fn kind_and_count(body: &Body) -> (u32, u32)
-    requires { IsSound body.now }
-    ensures words { result ≡ (kind_of body.now, count_of body.now) }
-    ensures fit { (kind_of body.now < 2 ^ 32) × (count_of body.now < 2 ^ 32) }
+    requires { IsStorable body.now }
+    ensures words { result ≡ (block_type body.now, count_of body.now) }
+    ensures fit { (block_type body.now < 2 ^ 32) × (count_of body.now < 2 ^ 32) }
 {
     match body {
         Body::Manifests(manifests) => (MANIFEST, manifests.items().len() as u32),

@@ -1,7 +1,7 @@
 // A widget's controls: a head, and what each kind has behind it.
 ghost use Rattle.std.specs.Prelude.{◌≡◌, ◌<◌, ◌^◌, OnOk, length};
 ghost use Rattle.sof_base.specs.Slots.{AreSlots};
-ghost use Rattle.tplg_model.specs.Spelling.{IsControl, HasLengths, control_head_slots, control_slots, control_cells};
+ghost use Rattle.tplg_model.specs.Spelling.{IsControl, HasLengths, control_head_slots, kcontrol_slots, control_cells};
 ghost use Rattle.tplg_write.specs.Sinks.{with_fields, with_cells};
 
 use crate::items::Spelled;
@@ -34,7 +34,7 @@ fn put_control_head(kind: u32, head: &ControlHead, sink: &mut Sink) -> Result<()
 #[tactic(auto, unfolding(sof_base::specs::Slots::AreSlots, sof_base::specs::Slots::IsSlot))]
 fn put_control(control: &Control, sink: &mut Sink) -> Result<(), NoMemory>
     requires { length (control_cells control.now) < 2 ^ 32 }
-    ensures ok { OnOk result (sink.new ≡ with_fields sink.old (control_slots control.now)) }
+    ensures ok { OnOk result (sink.new ≡ with_fields sink.old (kcontrol_slots control.now)) }
     ensures is { OnOk result (IsControl control.now) }
     ensures front { sink.new.front ≡ sink.old.front }
 {

@@ -2,7 +2,7 @@
 ghost use Rattle.std.specs.Prelude.{◌≡◌, ◌<◌, ◌^◌, OnOk, List, [], ◌∷◌, length};
 ghost use Rattle.sof_base.specs.Cells.{fixed};
 ghost use Rattle.sof_base.specs.Slots.{Word, slots_cells, AreSlots};
-ghost use Rattle.tplg_model.specs.Spelling.{IsRoute, route_cells, IsManifest, manifest_cells, stream_slots, stream_cells, IsPcm, caps_slots, caps_cells, pcm_head_slots, pcm_tail_slots, pcm_cells, items_cells};
+ghost use Rattle.tplg_model.specs.Spelling.{IsRoute, route_cells, IsManifest, manifest_cells, stream_record_slots, stream_cells, IsPcm, caps_slots, caps_cells, pcm_head_slots, pcm_tail_slots, pcm_cells, items_cells};
 ghost use Rattle.tplg_write.specs.Sinks.{with_fields, with_cells};
 
 use crate::items::{Spelled, put_items};
@@ -42,7 +42,7 @@ impl Spelled for Manifest {
 impl Spelled for StreamRecord {
     ghost cells = { stream_cells };
 
-    ghost is = { λ s. AreSlots (stream_slots s) };
+    ghost is = { λ s. AreSlots (stream_record_slots s) };
 
     #[tactic(auto, using(sof_base::proofs::WriteLaws::part_slots), unfolding(sof_base::specs::Slots::AreSlots, sof_base::specs::Slots::IsSlot))]
     fn put(&self, sink: &mut Sink) -> Result<(), NoMemory> {

@@ -2,7 +2,7 @@ use Rattle.std.proofs.Common.{◌≡◌, ◌∷◌, ◌++◌, ◌+◌, [], map, 
 use Rattle.std.proofs.lemmas.List.{map_more}
 use Rattle.tplg_model.specs.Arrays.{Each}
 use Rattle.tplg_model.specs.Spelling.{IsControl, items_cells}
-use Rattle.tplg_build.specs.WidgetForm.{control_of}
+use Rattle.tplg_build.specs.WidgetForm.{control_record}
 use Rattle.tplg_build.proofs.ArraySizes.{each_append, each_one}
 use Rattle.tplg_build.proofs.RecordSizes.{controls_more}
 use Rattle.tplg_build.proofs.controls.controls.Goals as goal
@@ -16,7 +16,7 @@ loop-one-preserved c =
     let xs = c.args.stated.now in
     let i = c.loop-one.one-index in
     let x = c.one-item.result in
-    let more : map control_of (take (i + 1) xs) ≡ map control_of (take i xs) ++ control_of x ∷ [] = map_more control_of xs i x c.loop-one-test.true ∙ ap (λ y. map control_of (take i xs) ++ control_of y ∷ []) (sym c.one-item.is) in
+    let more : map control_record (take (i + 1) xs) ≡ map control_record (take i xs) ++ control_record x ∷ [] = map_more control_record xs i x c.loop-one-test.true ∙ ap (λ y. map control_record (take i xs) ++ control_record y ∷ []) (sym c.one-item.is) in
     rw (c.in_ok-push.ensures.ok) (
       rw (c.in_ok-control.ensures.value, c.loop-one.invariant.0) (sym more),
       each_append IsControl c.loop-one.controls _ c.loop-one.invariant.1 (each_one IsControl c.in_ok-control.field-0 c.in_ok-control.ensures.is),

@@ -1,7 +1,7 @@
 use Rattle.std.proofs.Common.{◌≡◌, drop}
-use Rattle.tplg_compile.specs.ValueForm.{is_among}
-use Rattle.tplg_compile.specs.KeyTables.{told, keys_of}
+use Rattle.tplg_compile.specs.ValueForm.{is_one_of}
+use Rattle.tplg_compile.specs.KeyTables.{keyed_by, keys_of}
 use Rattle.tplg_compile.proofs.entry.is_token.Given as goal
 
 abbrev pub invariant-loop-one : goal.invariant-loop-one
-invariant-loop-one l = is_among l.key (keys_of (told (drop l.one-index l.tokens))) ≡ is_among l.key (keys_of (told l.tokens))
+invariant-loop-one l = is_one_of l.key (keys_of (keyed_by (drop l.one-index l.tokens))) ≡ is_one_of l.key (keys_of (keyed_by l.tokens))

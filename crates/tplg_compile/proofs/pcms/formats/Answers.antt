@@ -3,13 +3,13 @@ use Rattle.std.proofs.lemmas.Result.{err_from_is_err_and}
 use Rattle.toml.specs.Data.{Data, as_array}
 use Rattle.toml.specs.View.{view, items_view}
 use Rattle.toml.specs.declared.value.Value.{Value}
-use Rattle.tplg_compile.specs.ValueForm.{seen}
+use Rattle.tplg_compile.specs.ValueForm.{viewed}
 use Rattle.tplg_compile.specs.Entries.{bit_of, bits_with, formats_of}
 use Rattle.tplg_compile.proofs.SeenLaws.{list_of-items, seen-drop, seen-past}
 use Rattle.tplg_compile.proofs.LoopLaws.{bits-more, bits-lack, bits-end, through}
 use Rattle.tplg_compile.proofs.pcms.formats.Goals as goal
 
-listed : (d : Data) (vs : List Value) → as_array d ≡ Some (items_view vs) → formats_of d ≡ bits_with 0 (seen vs)
+listed : (d : Data) (vs : List Value) → as_array d ≡ Some (items_view vs) → formats_of d ≡ bits_with 0 (viewed vs)
 unfolding formats_of
 listed d vs is = rw (is, list_of-items vs) refl
 

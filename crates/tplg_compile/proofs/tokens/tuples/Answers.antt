@@ -3,7 +3,7 @@ use Rattle.std.proofs.lemmas.Result.{err_from_is_err_and}
 use Rattle.toml.specs.Data.{get_member}
 use Rattle.toml.specs.View.{members_view}
 use Rattle.tplg_compile.specs.ValueForm.{perhaps}
-use Rattle.tplg_compile.specs.KeyTables.{told}
+use Rattle.tplg_compile.specs.KeyTables.{keyed_by}
 use Rattle.tplg_compile.specs.Entries.{tuples_at}
 use Rattle.tplg_compile.proofs.SeenLaws.{no_key, told-drop, told-past}
 use Rattle.tplg_compile.proofs.LoopLaws.{behind, tuples-more, tuples-lack, tuples-end, through}
@@ -18,7 +18,7 @@ returns-in_err-tuple g c =
     let tuple = g.T.Tuple.read in
     let done = c.loop-key.tuples in
     let p = err_from_is_err_and c.from_residual.result c.from_residual.ensures.1 in
-    rw (p.1, p.2) (through c.in_err-tuple.field-0.0 (perhaps (tuple k.token) (get_member k.key.now entry)) (tuples_at tuple (told ks) entry) (λ none.
+    rw (p.1, p.2) (through c.in_err-tuple.field-0.0 (perhaps (tuple k.token) (get_member k.key.now entry)) (tuples_at tuple (keyed_by ks) entry) (λ none.
     sym c.loop-key.invariant ∙ ap (λ qs. behind done (tuples_at tuple qs entry)) (told-drop ks i no_key c.loop-key-test.true) ∙ tuples-lack tuple entry done _ _ none) c.in_err-tuple.ensures)
 
 pub loop-key-preserved : goal.loop-key-preserved

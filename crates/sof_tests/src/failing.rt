@@ -1,6 +1,6 @@
 // Runs over a desk that fails: a front of the whole run is left, and the status is 3.
+use crate::graphs::{THIN, graph};
 use crate::played::{played, played_thin};
-use crate::thin::thin_graph;
 use std::test::Fail;
 
 // The first call loads the topology. The fifth says the second line of the show. The third of a broken topology says its
@@ -39,7 +39,7 @@ need 992
 #[test]
 fn a_check_that_fails_leaves_a_front_of_its_lines(rt: HostRuntime) -> Result<(), Fail> {
     let alloc = rt.alloc();
-    let topology = thin_graph(alloc)?;
+    let topology = graph(alloc, THIN)?;
     for (call, passes, status, length) in [
         (1u32, 0u32, 3u8, 0usize),
         (4, 3, 3, 28),

@@ -1,5 +1,5 @@
 // A run over a desk in memory and the firmware.
-use crate::thin::thin_graph;
+use crate::graphs::{THIN, graph};
 use fw_core::Firmware;
 use mbox_link::Dsp;
 use sof_desk::MemDesk;
@@ -61,7 +61,7 @@ pub fn played_thin(
     script: &[u8],
     failing: Failing,
 ) -> Result<Outcome, Fail> {
-    let topology = thin_graph(alloc)?;
+    let topology = graph(alloc, THIN)?;
     let words = ["play", heap, "a.tplg", "s.txt"];
     played(alloc, words.as_slice(), &topology, Some(script), failing)
 }

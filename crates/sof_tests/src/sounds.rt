@@ -1,6 +1,6 @@
 // Runs that play an input's file into an output's file over the volume graph and a desk that fails.
+use crate::graphs::{VOLUME, graph};
 use crate::played::Failing;
-use crate::volumes::volume_graph;
 use fw_core::Firmware;
 use sof_desk::MemDesk;
 use sof_run::run;
@@ -43,7 +43,7 @@ fn sounded(alloc: Global, script: &[u8], input: &[u8], failing: Failing) -> Resu
     for word in ["play", "1856", "a.tplg", "s.txt"] {
         words.push(String::from_str(alloc, word)?)?;
     }
-    let topology = volume_graph(alloc)?;
+    let topology = graph(alloc, VOLUME)?;
     let mut desk = laid_out(alloc, &topology, script, input, failing)?;
     let dsp = Firmware::new(alloc, ROOM)?;
     let ended = run(alloc, &words, &mut desk, dsp);

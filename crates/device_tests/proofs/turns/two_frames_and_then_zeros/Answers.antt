@@ -5,7 +5,7 @@ use Rattle.fw_ring_lists.specs.RingLists.{no_rings, with_ring, changed, begun}
 use Rattle.fw_schedule.specs.declared.turn.Action.TheVariants.{Feed, Fill}
 use Rattle.fw_schedule.specs.declared.turn.Turn.{Turn}
 use Rattle.fw_schedule.specs.Ticks.{AreTurnsAt}
-use Rattle.unit_tests.proofs.turns.two_frames_and_then_zeros.Goals as goal
+use Rattle.device_tests.proofs.turns.two_frames_and_then_zeros.Goals as goal
 
 abbrev turns : List Turn
 turns =

@@ -9,7 +9,7 @@ use Rattle.fw_moves.specs.Places.{emptied}
 use Rattle.fw_moves.specs.Kernels.{IsKernelAt}
 use Rattle.fw_moves.proofs.RingsSeen.{emptied-changed}
 use Rattle.fw_moves.proofs.KernelKept.{count-kept, kernel-kept}
-use Rattle.unit_tests.proofs.moves.fed.Goals as goal
+use Rattle.device_tests.proofs.moves.fed.Goals as goal
 
 -- the three rings before they hold frames
 abbrev three : RingLists

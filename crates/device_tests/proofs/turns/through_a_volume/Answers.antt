@@ -6,7 +6,7 @@ use Rattle.fw_moves.specs.declared.kernel.Effect.TheVariants.{Amplify}
 use Rattle.fw_schedule.specs.declared.turn.Action.TheVariants.{Feed, Fill, Make}
 use Rattle.fw_schedule.specs.declared.turn.Turn.{Turn}
 use Rattle.fw_schedule.specs.Ticks.{AreTurnsAt}
-use Rattle.unit_tests.proofs.turns.through_a_volume.Goals as goal
+use Rattle.device_tests.proofs.turns.through_a_volume.Goals as goal
 
 abbrev turns : List ℕ → List ℕ → List Turn
 turns inlets gains =

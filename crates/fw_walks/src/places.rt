@@ -58,6 +58,14 @@ impl Places {
         self.ids.as_slice()
     }
 
+    /// The place of an id; where it is not listed, the place behind the last.
+    pub fn place(&self, id: u32) -> usize
+        ensures place { result ≡ place_in self.now.ids id }
+        ensures within { result ≤ 256 }
+    {
+        place_of(self.ids.as_slice(), id)
+    }
+
     /// What walks lead to from one id, or from what walks lead to it where they go back.
     pub fn reached(&self, id: u32, back: bool) -> [bool; 257]
         ensures { (x : ℕ) → is_listed self.now.ids x ≡ true → is_marked self.now.ids result x ≡ leads_by back self.now.joins id x }

@@ -1,0 +1,58 @@
+-- What a component makes of no frames, whatever its kind.
+use Rattle.std.proofs.Common.{◌≡◌, refl, ap, ℕ, List, [], ◌∷◌, map, take, replicate, Option, Some, None, Bool, true, false, cond, ◌==◌, ℤ}
+use Rattle.std.specs.Prelude.{find, slice_get}
+use Rattle.std.specs.Option.{option_map_or}
+use Rattle.sof_base.specs.Samples.{Frame, silence}
+use Rattle.sof_base.specs.Equations.{volume_of}
+use Rattle.stream_law.specs.declared.graph.Kind.{Kind}
+use Rattle.stream_law.specs.declared.graph.Kind.TheVariants.{HostPlay, HostCapture, DaiPlay, DaiCapture, Volume, Mixer, Mux, Eq}
+use Rattle.stream_law.specs.declared.graph.Setting.{Setting}
+use Rattle.stream_law.specs.declared.graph.Comp.{Comp}
+use Rattle.stream_law.specs.State.{View}
+use Rattle.stream_law.specs.Table.{table}
+use Rattle.stream_law.specs.Ways.{comp_of, channels_of, inputs}
+use Rattle.stream_law.specs.Made.{gains, choice, blob, only_slice, chosen_slice, frames_by, frames_made}
+use Rattle.stream_law.specs.Equaliser.{passed_frames}
+
+-- slices of no frames at these edges
+module _ (ids : List ℕ) (frames : ℕ → List Frame) where
+  abbrev slices : List (ℕ × List Frame)
+  slices = table ids (λ b. take 0 (frames b))
+
+  pub only-none : only_slice slices ≡ []
+  only-none = first ids
+    where
+      first : (bs : List ℕ) → only_slice (table bs (λ b. take 0 (frames b))) ≡ []
+      first [] = refl
+      first (b ∷ bs) = refl
+
+  chosen-none : (channels : ℕ) (o : Option ℕ) → chosen_slice slices channels 0 o ≡ []
+  chosen-none channels None = refl
+  chosen-none channels (Some b) = found ids
+    where
+      found : (bs : List ℕ) → option_map_or (λ entry. entry.1) (find (λ entry. entry.0 == b) (table bs (λ b. take 0 (frames b)))) (replicate 0 (silence channels)) ≡ []
+      found [] = refl
+      found (x ∷ bs) = by_id (x == b) (found bs)
+        where
+          by_id : (h : Bool) → option_map_or (λ entry. entry.1) (find (λ entry. entry.0 == b) (table bs (λ b. take 0 (frames b)))) (replicate 0 (silence channels)) ≡ [] → option_map_or (λ entry. entry.1) (cond h (Some (x, take 0 (frames x))) (find (λ entry. entry.0 == b) (table bs (λ b. take 0 (frames b))))) (replicate 0 (silence channels)) ≡ []
+          by_id true rest = refl
+          by_id false rest = rest
+
+  by-kind : (k : Kind) (setting : Setting) (v : View) (c : ℕ) (numbers : List ℤ) → frames_by k setting v c 0 [] slices (λ blob channels frames. passed_frames blob channels numbers frames) ≡ []
+  by-kind HostPlay setting v c numbers = refl
+  by-kind (DaiCapture format) setting v c numbers = refl
+  by-kind Volume setting v c numbers = ap (map (volume_of (channels_of v c) (gains setting))) only-none
+  by-kind Mixer setting v c numbers = refl
+  by-kind Mux setting v c numbers = chosen-none (channels_of v c) (slice_get (inputs v.graph c) (choice setting))
+  by-kind Eq setting v c numbers = ap (passed_frames (blob setting) (channels_of v c) numbers) only-none
+  by-kind HostCapture setting v c numbers = refl
+  by-kind (DaiPlay format) setting v c numbers = refl
+
+  -- a component makes none of them
+  pub made-none : (v : View) (c : ℕ) (numbers : List ℤ) → frames_made v c 0 [] slices (λ blob channels frames. passed_frames blob channels numbers frames) ≡ []
+  unfolding frames_made
+  made-none v c numbers = by_comp (comp_of v.graph c)
+    where
+      by_comp : (o : Option Comp) → option_map_or (λ x. frames_by x.kind x.setting v c 0 [] slices (λ blob channels frames. passed_frames blob channels numbers frames)) o [] ≡ []
+      by_comp None = refl
+      by_comp (Some x) = by-kind x.kind x.setting v c numbers

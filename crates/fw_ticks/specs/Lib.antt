@@ -1,0 +1,7 @@
+-- What a tick over the registry asks and leaves.
+pub mod Units
+pub mod Spots
+pub mod Turns
+pub mod Dues
+pub mod Ticks
+pub mod Stages

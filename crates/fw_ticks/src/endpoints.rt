@@ -1,0 +1,149 @@
+// Endpoints move frames between their bytes and buffers.
+ghost use Rattle.std.specs.Prelude.{◌≡◌, ◌+◌, ◌*◌, ◌≤◌, true, take, replicate, length};
+ghost use Rattle.std.specs.List.{list_any};
+ghost use Rattle.sof_base.specs.Samples.{width, frames_in, frames_out};
+ghost use Rattle.sof_io.specs.Takes.{given, taken as input_taken};
+ghost use Rattle.sof_io.specs.Puts.{room_at, with_piece};
+ghost use Rattle.fw_components.specs.Tables.{frames_at, capacity_at};
+ghost use Rattle.fw_components.specs.Frames.{words_at, channels_at, comes_from, goes_to, out_of, in_of, taken, pushed};
+
+use crate::samples::{read_samples, write_samples};
+use crate::scratch::{MOST, ZEROS};
+use fw_components::Registry;
+use sof_base::{Format, Sample};
+use sof_io::{Inputs, Outputs};
+
+/// An input gives `n` frames to the buffer that comes from its component.
+pub(crate) fn feed_frames(
+    registry: &mut Registry,
+    io: &mut Inputs,
+    samples: &mut [Sample],
+    bytes: &mut [u8],
+    id: u32,
+    channels: u8,
+    format: Format,
+    n: u32,
+)
+    requires scratch { (512 ≤ length samples.old) × (2048 ≤ length bytes.old) }
+    requires channels { (1 ≤ channels) × (channels ≤ 8) }
+    requires there { list_any (comes_from id) registry.old.buffers ≡ true }
+    requires shape { channels_at registry.old (out_of registry.old id) ≡ channels }
+    requires fit { length (frames_at registry.old (out_of registry.old id)) + n ≤ capacity_at registry.old (out_of registry.old id) }
+    ensures tables { let buffer = out_of registry.old id in
+        registry.new ≡ pushed buffer (frames_in format channels (given id (n * (channels * width format)) io.old) 0 n) (words_at registry.new buffer) registry.old }
+    ensures inputs { io.new ≡ input_taken id (n * (channels * width format)) io.old }
+{
+    let most = (MOST / usize::from(channels)) as u32;
+    let mut fed = n.min(most);
+    feed_some(registry, io, samples, bytes, id, channels, format, fed);
+    while fed < n {
+        let more = (n - fed).min(most);
+        feed_some(registry, io, samples, bytes, id, channels, format, more);
+        fed += more;
+    }
+}
+
+// The same for no more than there is room for.
+fn feed_some(
+    registry: &mut Registry,
+    io: &mut Inputs,
+    samples: &mut [Sample],
+    bytes: &mut [u8],
+    id: u32,
+    channels: u8,
+    format: Format,
+    n: u32,
+)
+    requires scratch { (512 ≤ length samples.old) × (2048 ≤ length bytes.old) }
+    requires channels { (1 ≤ channels) × (channels ≤ 8) }
+    requires few { n * channels ≤ 512 }
+    requires there { list_any (comes_from id) registry.old.buffers ≡ true }
+    requires shape { channels_at registry.old (out_of registry.old id) ≡ channels }
+    requires fit { length (frames_at registry.old (out_of registry.old id)) + n ≤ capacity_at registry.old (out_of registry.old id) }
+    ensures tables { let buffer = out_of registry.old id in
+        registry.new ≡ pushed buffer (frames_in format channels (given id (n * (channels * width format)) io.old) 0 n) (words_at registry.new buffer) registry.old }
+    ensures inputs { io.new ≡ input_taken id (n * (channels * width format)) io.old }
+{
+    let count = n as usize * usize::from(channels);
+    let given = &mut bytes[..count * format.width()];
+    io.take(id, given);
+    let frames = &mut samples[..count];
+    read_samples(format, given, frames);
+    registry.feed(id, frames);
+}
+
+/// The buffer that goes to an output's component gives it `n` frames.
+pub(crate) fn drain_frames(
+    registry: &mut Registry,
+    out: &mut Outputs,
+    samples: &mut [Sample],
+    bytes: &mut [u8],
+    id: u32,
+    channels: u8,
+    format: Format,
+    n: u32,
+)
+    requires scratch { (512 ≤ length samples.old) × (2048 ≤ length bytes.old) }
+    requires channels { (1 ≤ channels) × (channels ≤ 8) }
+    requires there { list_any (goes_to id) registry.old.buffers ≡ true }
+    requires shape { channels_at registry.old (in_of registry.old id) ≡ channels }
+    requires held { n ≤ length (frames_at registry.old (in_of registry.old id)) }
+    requires room { n * (channels * width format) ≤ room_at id out.old }
+    ensures tables { registry.new ≡ taken (in_of registry.old id) n registry.old }
+    ensures size { length (frames_out format (take n (frames_at registry.old (in_of registry.old id)))) ≡ n * (channels * width format) }
+    ensures outputs { out.new ≡ with_piece id (frames_out format (take n (frames_at registry.old (in_of registry.old id)))) out.old }
+{
+    let most = (MOST / usize::from(channels)) as u32;
+    let mut drained = n.min(most);
+    drain_some(registry, out, samples, bytes, id, channels, format, drained);
+    while drained < n {
+        let more = (n - drained).min(most);
+        drain_some(registry, out, samples, bytes, id, channels, format, more);
+        drained += more;
+    }
+}
+
+// The same for no more than there is room for.
+fn drain_some(
+    registry: &mut Registry,
+    out: &mut Outputs,
+    samples: &mut [Sample],
+    bytes: &mut [u8],
+    id: u32,
+    channels: u8,
+    format: Format,
+    n: u32,
+)
+    requires scratch { (512 ≤ length samples.old) × (2048 ≤ length bytes.old) }
+    requires channels { (1 ≤ channels) × (channels ≤ 8) }
+    requires few { n * channels ≤ 512 }
+    requires there { list_any (goes_to id) registry.old.buffers ≡ true }
+    requires shape { channels_at registry.old (in_of registry.old id) ≡ channels }
+    requires held { n ≤ length (frames_at registry.old (in_of registry.old id)) }
+    requires room { n * (channels * width format) ≤ room_at id out.old }
+    ensures tables { registry.new ≡ taken (in_of registry.old id) n registry.old }
+    ensures size { length (frames_out format (take n (frames_at registry.old (in_of registry.old id)))) ≡ n * (channels * width format) }
+    ensures outputs { out.new ≡ with_piece id (frames_out format (take n (frames_at registry.old (in_of registry.old id)))) out.old }
+{
+    let count = n as usize * usize::from(channels);
+    let frames = &mut samples[..count];
+    registry.pull(id, frames);
+    let written = &mut bytes[..count * format.width()];
+    write_samples(format, frames, written);
+    out.put(id, written);
+}
+
+/// An output gets so many zeros.
+pub(crate) fn fill(out: &mut Outputs, id: u32, size: usize)
+    requires { size ≤ room_at id out.old }
+    ensures { out.new ≡ with_piece id (replicate size 0) out.old }
+{
+    let zeros = [0; ZEROS];
+    let mut filled = size.min(ZEROS);
+    out.put(id, &zeros[..filled]);
+    while filled < size {
+        let more = (size - filled).min(ZEROS);
+        out.put(id, &zeros[..more]);
+        filled += more;
+    }
+}

@@ -1,0 +1,14 @@
+//! A tick over the registry: each Active component whose pipeline runs moves its frames once, in order.
+#![tactic(auto)]
+
+mod dues;
+mod endpoints;
+mod ends;
+mod ordering;
+mod samples;
+mod scratch;
+mod spots;
+mod ticking;
+mod units;
+
+pub use ticking::tick;

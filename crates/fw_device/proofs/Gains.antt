@@ -1,0 +1,18 @@
+-- The first gains of a volume.
+use Rattle.std.proofs.Common.{◌≡◌, refl, sym, ap, ◌∙◌, subst, ℕ, zero, suc, ◌≤◌, List, [], ◌∷◌, length, replicate, true, ◌&&◌, arith}
+use Rattle.std.specs.Prelude.{nat_le}
+use Rattle.std.proofs.lemmas.List.{length-replicate}
+use Rattle.std.specs.List.{list_all}
+use Rattle.std.proofs.lemmas.Bool.{and_parts, leb-true}
+use Rattle.ipc3_codec.specs.Allowed.{is_channels}
+
+most : (n : ℕ) → list_all (λ g. nat_le g 16777216) (replicate n 65536) ≡ true
+most zero = refl
+most (suc n) = most n
+
+pub first-gains : (n : ℕ) (gains : List ℕ) → is_channels n ≡ true → gains ≡ replicate n 65536 → (1 ≤ length gains) × (length gains ≤ 8) × (list_all (λ g. nat_le g 16777216) gains ≡ true)
+first-gains n gains right is =
+    let parts = and_parts (nat_le 1 n) (nat_le n 8) right in
+    let few = leb-true 1 n parts.0 in let many = leb-true n 8 parts.1 in
+    let size : length gains ≡ n = ap length is ∙ length-replicate n 65536 in
+    (omega arith, omega arith, ap (λ (xs : List ℕ). list_all (λ g. nat_le g 16777216) xs) is ∙ most n)

@@ -1,0 +1,5 @@
+pub mod Held
+pub mod Answers
+pub mod Device
+pub mod Laid
+pub mod Making

@@ -1,0 +1,114 @@
+// The firmware, its making and its end.
+ghost use Rattle.std.specs.Prelude.{◌≡◌, IfOk, None, Some, true, is_some};
+ghost use Rattle.fw_pipeline.specs.States.{with_tables};
+ghost use Rattle.stream_law.specs.State.{FwState};
+ghost use Rattle.fw_device.specs.Device.{used_of, stepped, reply_to, with_state};
+ghost use Rattle.fw_device.specs.Laid.{no_tables};
+ghost use Rattle.ipc3_codec.specs.Replies.{reply_spelling};
+ghost use Rattle.fw_device.specs.Answers.{reply_with};
+
+use crate::messages::answer;
+use fw_components::Registry;
+use fw_heap::Region;
+use ipc3_codec::{Body, Reply};
+use sof_base::{Errno, NoMemory};
+use std::alloc::Global;
+use std::marker::Model;
+
+/// A DSP that answers each message with the firmware's step: its registry, the region that its pieces are carved from, and its
+/// clock in ticks. Its link never fails.
+pub struct Firmware {
+    pub(crate) on: bool,
+    pub(crate) boots: u64,
+    pub(crate) clock: u32,
+    pub(crate) registry: Registry,
+    pub(crate) region: Region,
+}
+
+impl Model for Firmware {
+    ghost use Rattle.fw_device.specs.Device.{Chip};
+    ghost use Rattle.fw_device.specs.Laid.{chip_of, IsLaid};
+
+    ghost Value = { Chip };
+
+    ghost view = { chip_of };
+
+    ghost invariant = { IsLaid };
+}
+
+impl Firmware {
+    /// A firmware that is off and was never booted, with a greatest heap of `room` bytes. All that it will ever need is
+    /// reserved here.
+    pub fn new(alloc: Global, room: u32) -> Result<Firmware, NoMemory>
+        ensures { IfOk result (λ f. f ≡ record { state = None; boots = 0; most = room }) }
+    {
+        let region = Region::new(alloc, room)?;
+        match Registry::new(alloc) {
+            Ok(registry) => Ok(Firmware {
+                on: false,
+                boots: 0,
+                clock: 0,
+                registry,
+                region,
+            }),
+            Err(refused) => {
+                region.close();
+                Err(refused)
+            }
+        }
+    }
+
+    /// How many bytes of its heap are carved; 0 where it is off.
+    pub fn used(&self) -> u32
+        ensures { result ≡ used_of self.now.state }
+    {
+        self.region.used()
+    }
+
+    /// Its components, buffers and pipelines: those of its state where it is on, and none where it is off.
+    pub fn registry(&self) -> &Registry
+        ensures on { (f : FwState) → self.now.state ≡ Some f → with_tables result.now f ≡ f }
+        ensures off { self.now.state ≡ None → result.now ≡ no_tables }
+    {
+        &self.registry
+    }
+
+    // The step of a message: its reply.
+    pub(crate) fn reply(&mut self, request: &[u8]) -> Reply
+        requires { is_some self.old.state ≡ true }
+        ensures step { self.new ≡ with_state (stepped self.old.state request.now) self.old }
+        ensures reply { reply_to self.old.state request.now ≡ Some (reply_spelling result) }
+    {
+        reply_of(answer(&mut self.registry, &mut self.region, request))
+    }
+}
+
+// The reply to a message: 0 and its body where it was done, or its error.
+fn reply_of(answer: Result<Body, Errno>) -> Reply
+    ensures { result ≡ reply_with answer }
+{
+    match answer {
+        Ok(body) => Reply { error: 0, body },
+        Err(error) => Reply {
+            error: error.0,
+            body: Body::Nothing,
+        },
+    }
+}
+
+impl Drop for Firmware {
+    /// Gives all pieces and all memory back.
+    fn drop(self) {
+        let Firmware {
+            on: _,
+            boots: _,
+            clock: _,
+            registry,
+            region,
+        } = self;
+        let (mut registry, mut region) = (registry, region);
+        registry.remove_all(&mut region);
+        registry.close();
+        region.close();
+    }
+}

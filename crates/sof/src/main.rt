@@ -19,6 +19,7 @@ Forms:
   sof play HEAP TOPOLOGY SCRIPT   plays a script over the graph of a topology
   sof check TOPOLOGY              tells what a topology has and needs
   sof compile SOURCE OUT          makes a topology file from a source in TOML
+  sof stress N                    carries out what N draws, from 1 to 1000, and counts it
   sof --help                      prints this text
   sof --version                   prints the version
 

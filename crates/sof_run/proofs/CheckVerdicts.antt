@@ -20,6 +20,7 @@ use Rattle.sof_run.specs.Lines.{no_memory_line, with_newline, halt_line, halt_st
 use Rattle.sof_run.specs.Play.{lines_todo}
 use Rattle.sof_run.specs.Checking.{check_of, counts_of, checked_rules, checked_file, checked, checked_todo, check}
 use Rattle.sof_run.specs.Compiling.{compile_of}
+use Rattle.sof_run.specs.Stressing.{stress_of}
 use Rattle.sof_run.specs.Forms.{todo_for, todo_of}
 use Rattle.sof_run.specs.TopologyBytes.{AreBytes, IsFile, IsBroken}
 use Rattle.sof_run.specs.Checks.{IsWrong, IsRight, saying, CheckVerdict, Spoke, IsFront, WroteText, Checks}
@@ -35,8 +36,8 @@ apart room (verb ∷ []) name is = absurd (cc is)
 apart room (verb ∷ topology ∷ []) name is = refl
 apart room (verb ∷ topology ∷ more ∷ words) name is = absurd (cc is)
 
-checks_alone : (room : ℕ) (words : List (List ℕ)) (name : List ℕ) → check_of words ≡ Some name → todo_of room words ≡ check name
-checks_alone room words name is = λ i. todo_for (apart room words name is i) (is i) (compile_of words)
+checks_alone : (room sent : ℕ) (words : List (List ℕ)) (name : List ℕ) → check_of words ≡ Some name → todo_of room sent words ≡ check name
+checks_alone room sent words name is = λ i. todo_for room sent (apart room words name is i) (is i) (compile_of words) (stress_of words)
 
 -- ---- the device
 
@@ -140,7 +141,7 @@ module _ (name bytes : List ℕ) where
 -- ---- what was written
 
 module _ {D : Type 0} (means : DeskMeaning D) where
-  lines_parted : (lines : List (List ℕ)) (turns : List Turn) (calls : List DeskCall) (d e : D) (status : ℕ) → Goes (lines_todo lines End) turns calls status → DeskLed means d calls e → Parted means (concat (map with_newline lines)) 0 d e status
+  pub lines_parted : (lines : List (List ℕ)) (turns : List Turn) (calls : List DeskCall) (d e : D) (status : ℕ) → Goes (lines_todo lines End) turns calls status → DeskLed means d calls e → Parted means (concat (map with_newline lines)) 0 d e status
   lines_parted [] turns [] d e status goes led =
       record { part = []; spoke = nothing means d e (λ place. ap (λ x. means.wrote x place) led); is = inl (goes.2, refl) }
   lines_parted [] turns (call ∷ calls) d e status goes led = absurd (cc goes.1)
@@ -221,10 +222,10 @@ module _ {D : Type 0} (means : DeskMeaning D) where
 is_kept : (bytes : List ℕ) (t : Topology) → IsRight bytes t → checked bytes ≡ Ok t
 is_kept bytes t right = ap checked_file (topology_again bytes t right.0.0 right.0.1) ∙ ap (checked_rules t) (whole_none t right.1)
 
-module _ {D P : Type 0} (means : DeskMeaning D) (dsp : Meaning P) (words : List (List ℕ)) (old new : D) (room : ℕ) (p q : Life P) (status : ℕ) (ran : RanOn means dsp (todo_of room words) old p status new q) where
+module _ {D P : Type 0} (means : DeskMeaning D) (dsp : Meaning P) (words : List (List ℕ)) (old new : D) (room sent : ℕ) (p q : Life P) (status : ℕ) (ran : RanOn means dsp (todo_of room sent words) old p status new q) where
   -- what it did is that of a check
   goes_on : (name : List ℕ) → check_of words ≡ Some name → Goes (check name) ran.turns ran.played.calls status
-  goes_on name is = subst (λ todo. Goes todo ran.turns ran.played.calls status) (checks_alone room words name is) ran.played.goes
+  goes_on name is = subst (λ todo. Goes todo ran.turns ran.played.calls status) (checks_alone room sent words name is) ran.played.goes
 
   none : (name : List ℕ) → check_of words ≡ Some name → ran.turns ≡ []
   none name is = no_turn name ran.turns ran.played.calls status (goes_on name is)

@@ -18,6 +18,7 @@ use Rattle.sof_run.specs.Lines.{no_memory_line, with_newline}
 use Rattle.sof_run.specs.Play.{lines_todo}
 use Rattle.sof_run.specs.Checking.{check_of}
 use Rattle.sof_run.specs.Compiling.{CompileNames, compile_of, source_line, source_status, wrote_line, file_todo, compiled_todo, compile}
+use Rattle.sof_run.specs.Stressing.{stress_of}
 use Rattle.sof_run.specs.Forms.{todo_for, todo_of}
 use Rattle.sof_run.specs.Checks.{saying, Spoke, IsFront}
 use Rattle.sof_run.specs.Compiles.{making, CompileVerdict, made_at, MadeFile, WroteFile, MakesTopology, Compiles}
@@ -41,8 +42,8 @@ no_check (verb ∷ source ∷ []) names is = absurd (cc is)
 no_check (verb ∷ source ∷ out ∷ []) names is = refl
 no_check (verb ∷ source ∷ out ∷ more ∷ words) names is = absurd (cc is)
 
-compiles_alone : (room : ℕ) (words : List (List ℕ)) (names : CompileNames) → compile_of words ≡ Some names → todo_of room words ≡ compile names
-compiles_alone room words names is = λ i. todo_for (no_play room words names is i) (no_check words names is i) (is i)
+compiles_alone : (room sent : ℕ) (words : List (List ℕ)) (names : CompileNames) → compile_of words ≡ Some names → todo_of room sent words ≡ compile names
+compiles_alone room sent words names is = λ i. todo_for room sent (no_play room words names is i) (no_check words names is i) (is i) (stress_of words)
 
 -- ---- the device
 
@@ -289,10 +290,10 @@ module _ {D : Type 0} (means : DeskMeaning D) (words : List (List ℕ)) (old : D
       let same : others ≡ names = cc (sym source.named ∙ is) in
       sound zero text t (ap (λ (n : CompileNames). means.holds old n.source) (sym same) ∙ source.told) got
 
-module _ {D P : Type 0} (means : DeskMeaning D) (dsp : Meaning P) (words : List (List ℕ)) (old new : D) (room : ℕ) (p q : Life P) (status : ℕ) (ran : RanOn means dsp (todo_of room words) old p status new q) (makes : MakesTopology means words old status) where
+module _ {D P : Type 0} (means : DeskMeaning D) (dsp : Meaning P) (words : List (List ℕ)) (old new : D) (room sent : ℕ) (p q : Life P) (status : ℕ) (ran : RanOn means dsp (todo_of room sent words) old p status new q) (makes : MakesTopology means words old status) where
   -- what it did is that of compiling
   goes_on : (names : CompileNames) → compile_of words ≡ Some names → Goes (compile names) ran.turns ran.played.calls status
-  goes_on names is = subst (λ todo. Goes todo ran.turns ran.played.calls status) (compiles_alone room words names is) ran.played.goes
+  goes_on names is = subst (λ todo. Goes todo ran.turns ran.played.calls status) (compiles_alone room sent words names is) ran.played.goes
 
   untouched : (names : CompileNames) → compile_of words ≡ Some names → q ≡ p
   untouched names is = subst (λ ts. Turns dsp p ts q) (no_turn names ran.turns ran.played.calls status (goes_on names is)) ran.turned

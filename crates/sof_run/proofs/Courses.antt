@@ -23,8 +23,14 @@ use Rattle.sof_run.specs.Play.{WithPorts, prepared_todo, lines_todo, rounds_todo
 use Rattle.sof_run.specs.Pieces.{Piece, pieces_of}
 use Rattle.sof_run.specs.Checking.{check_of, checked, checked_todo, counts_of}
 use Rattle.sof_run.specs.Compiling.{CompileNames, compile_of, compiled_todo}
+use Rattle.sof_stress.specs.declared.counts.Counts.{Counts}
+use Rattle.sof_stress.specs.Draws.{streams_of}
+use Rattle.sof_stress.specs.StressPorts.{dai_slot}
+use Rattle.sof_stress.specs.CommandTurns.{CommandTurn, counted, no_counts}
+use Rattle.sof_stress.specs.StressRun.{stress_begins, stress_turns}
+use Rattle.sof_run.specs.Stressing.{stress_of, stress_lines, counted_todo, told_todo, stress}
 use Rattle.sof_run.specs.Forms.{todo_for, todo_of}
-use Rattle.sof_run.specs.Calls.{Calls, Turns, Memory, Course, behind, saying, last_line, loading, turning, putting, units, bindings, files, playing, counting, making, by_form, heard_in, Wants, Made, Follows}
+use Rattle.sof_run.specs.Calls.{Calls, Turns, Memory, Course, behind, saying, last_line, loading, turning, putting, units, bindings, files, playing, counting, making, counting_turns, telling, stressing, by_form, heard_in, Wants, Made, Follows}
 use Rattle.sof_run.proofs.WrittenPieces.{puts, puts_flush, outs_of}
 
 -- ---- what is to do, unrolled
@@ -142,13 +148,25 @@ making-same : (out : List ℕ) (r : Result Topology SourceFault) (heard : List H
 making-same out (Ok t) heard outs = refl
 making-same out (Err fault) heard outs = refl
 
-form-same : (o : Option Form) (c : Option (List ℕ)) (s : Option CompileNames) (heard : List Heard) (outs : List Out) → unrolled (todo_for o c s) heard outs ≡ by_form o c s heard outs
-form-same (Some form) c s heard outs = playing-same form heard outs
-form-same None (Some name) s heard outs = loading-same name 1048576 (codes "too long topology\n") heard _ _ (λ bytes heard. ap (behind (Memory ∷ [])) (counting-same (checked bytes) heard outs))
-form-same None None (Some names) heard outs = loading-same names.source 1048576 (codes "too long source\n") heard _ _ (λ text heard. ap (behind (Memory ∷ [])) (making-same names.out (compiled_of text) heard outs))
-form-same None None None heard outs = refl
+counted-same : (slot : ℕ) (turns : List CommandTurn) (counts : Counts) (f : Counts → Todo) (g : Counts → Course) (heard : List Heard) (outs : List Out) → ((c : Counts) (outs : List Out) → unrolled (f c) heard outs ≡ g c) → unrolled (counted_todo slot turns counts f) heard outs ≡ counting_turns slot turns counts outs g
+counted-same slot [] counts f g heard outs same = same counts outs
+counted-same slot (turn ∷ turns) counts f g heard outs same =
+    turning-same (Carry turn.command) outs _ _ (λ out outs. counted-same slot turns (counted slot turn out counts) f g heard outs same)
+
+stressing-same : (room sent seed : ℕ) (heard : List Heard) (outs : List Out) → unrolled (stress room sent seed) heard outs ≡ stressing room sent seed outs
+stressing-same room sent seed heard outs =
+    ap (behind (Memory ∷ [])) (turning-same (stress_begins room seed) outs _ _ (λ out outs.
+    counted-same (dai_slot (streams_of seed)) (stress_turns seed) no_counts (told_todo sent) (telling sent) heard outs
+    (λ counts outs. lines-same (stress_lines (record counts { messages = sent })) heard outs)))
+
+form-same : (room sent : ℕ) (o : Option Form) (c : Option (List ℕ)) (s : Option CompileNames) (n : Option ℕ) (heard : List Heard) (outs : List Out) → unrolled (todo_for room sent o c s n) heard outs ≡ by_form room sent o c s n heard outs
+form-same room sent (Some form) c s n heard outs = playing-same form heard outs
+form-same room sent None (Some name) s n heard outs = loading-same name 1048576 (codes "too long topology\n") heard _ _ (λ bytes heard. ap (behind (Memory ∷ [])) (counting-same (checked bytes) heard outs))
+form-same room sent None None (Some names) n heard outs = loading-same names.source 1048576 (codes "too long source\n") heard _ _ (λ text heard. ap (behind (Memory ∷ [])) (making-same names.out (compiled_of text) heard outs))
+form-same room sent None None None (Some seed) heard outs = stressing-same room sent seed heard outs
+form-same room sent None None None None heard outs = refl
 
 -- what was done is the course of the words, or its front
-pub follows : (room : ℕ) (words : List (List ℕ)) (turns : List Turn) (calls : List DeskCall) (status : ℕ) → Goes (todo_of room words) turns calls status → Follows room words turns calls status
-follows room words turns calls status goes =
-    subst (λ (c : Course). IsMade c turns calls status) (form-same (play_of room words) (check_of words) (compile_of words) (heard_in calls) (outs_of turns)) (made (todo_of room words) turns calls status goes)
+pub follows : (room sent : ℕ) (words : List (List ℕ)) (turns : List Turn) (calls : List DeskCall) (status : ℕ) → Goes (todo_of room sent words) turns calls status → Follows room sent words turns calls status
+follows room sent words turns calls status goes =
+    subst (λ (c : Course). IsMade c turns calls status) (form-same room sent (play_of room words) (check_of words) (compile_of words) (stress_of words) (heard_in calls) (outs_of turns)) (made (todo_of room sent words) turns calls status goes)

@@ -17,6 +17,7 @@ use Rattle.sof_run.specs.Prepared.{Ready, ticks_of, prepared, prepared_script, p
 use Rattle.sof_run.specs.Play.{play}
 use Rattle.sof_run.specs.Checking.{check, check_of}
 use Rattle.sof_run.specs.Compiling.{CompileNames, compile, compile_of}
+use Rattle.sof_run.specs.Stressing.{stress_of, stress}
 use Rattle.sof_run.specs.Forms.{todo_for, todo_of}
 use Rattle.sof_run.specs.Ends.{IsEarly, Worded}
 use Rattle.sof_run.specs.Verdicts.{MakeRun, Judged}
@@ -32,7 +33,7 @@ use Rattle.sof_run.proofs.OpenedFiles.{Next}
 use Rattle.sof_run.proofs.Courses.{follows}
 use Rattle.sof_run.proofs.PlayRuns.{play_goes, plays, before_begun}
 use Rattle.sof_run.proofs.Statuses.{IsLate, TurnsLast, ends, none_turned, none_asked, three_rose}
-use Rattle.sof_run.proofs.Throughout.{play_all, check_all, compile_all, words_last}
+use Rattle.sof_run.proofs.Throughout.{play_all, check_all, compile_all, stress_all, words_last}
 
 not_late : (status : ℕ) → IsEarly status → IsLate status → ⊥
 not_late status (inl is) (inl late) = cc (sym is ∙ late)
@@ -50,36 +51,40 @@ not_late status (inr (inr (inr (inr (inr (inl is)))))) (inr late) = cc (sym is �
 not_late status (inr (inr (inr (inr (inr (inr is)))))) (inl late) = cc (sym is ∙ late)
 not_late status (inr (inr (inr (inr (inr (inr is)))))) (inr late) = cc (sym is ∙ late)
 
-pub words_other : (o : Option Form) (c : Option (List ℕ)) (s : Option CompileNames) → Throughout (λ n. n ≡ 3 → ⊥) (λ name. Unit {0}) (todo_for o c s)
-words_other None None None = λ e. cc e
-words_other None None (Some names) = compile_all (λ n. n ≡ 3 → ⊥) (λ name. Unit {0}) names (λ e. cc e) (λ e. cc e) (λ e. cc e) (λ e. cc e) tt
-words_other None (Some name) s = check_all (λ n. n ≡ 3 → ⊥) (λ name. Unit {0}) name (λ e. cc e) (λ e. cc e) (λ e. cc e) (λ e. cc e) tt
-words_other (Some form) c s = play_all (λ n. n ≡ 3 → ⊥) (λ name. Unit {0}) form (λ e. cc e) (λ e. cc e) (λ e. cc e) (λ e. cc e) (λ e. cc e) (λ e. cc e) (λ e. cc e) (λ name. tt)
+pub words_other : (room sent : ℕ) (o : Option Form) (c : Option (List ℕ)) (s : Option CompileNames) (n : Option ℕ) → Throughout (λ n. n ≡ 3 → ⊥) (λ name. Unit {0}) (todo_for room sent o c s n)
+words_other room sent None None None None = λ e. cc e
+words_other room sent None None None (Some seed) = stress_all (λ n. n ≡ 3 → ⊥) (λ name. Unit {0}) room sent seed (λ e. cc e) (λ e. cc e)
+words_other room sent None None (Some names) n = compile_all (λ n. n ≡ 3 → ⊥) (λ name. Unit {0}) names (λ e. cc e) (λ e. cc e) (λ e. cc e) (λ e. cc e) tt
+words_other room sent None (Some name) s n = check_all (λ n. n ≡ 3 → ⊥) (λ name. Unit {0}) name (λ e. cc e) (λ e. cc e) (λ e. cc e) (λ e. cc e) tt
+words_other room sent (Some form) c s n = play_all (λ n. n ≡ 3 → ⊥) (λ name. Unit {0}) form (λ e. cc e) (λ e. cc e) (λ e. cc e) (λ e. cc e) (λ e. cc e) (λ e. cc e) (λ e. cc e) (λ name. tt)
 
 -- status 1 is that of words without a form
-one_only : (o : Option Form) (c : Option (List ℕ)) (s : Option CompileNames) (turns : List Turn) (calls : List DeskCall) (status : ℕ) → Goes (todo_for o c s) turns calls status → status ≡ 1 → (o ≡ None) × (c ≡ None) × (s ≡ None)
-one_only None None None turns calls status goes one = (refl, refl, refl)
-one_only None None (Some names) turns calls status goes one =
+one_only : (room sent : ℕ) (o : Option Form) (c : Option (List ℕ)) (s : Option CompileNames) (n : Option ℕ) (turns : List Turn) (calls : List DeskCall) (status : ℕ) → Goes (todo_for room sent o c s n) turns calls status → status ≡ 1 → (o ≡ None) × (c ≡ None) × (s ≡ None) × (n ≡ None)
+one_only room sent None None None None turns calls status goes one = (refl, refl, refl, refl)
+one_only room sent None None None (Some seed) turns calls status goes one =
+    absurd (ends (λ n. n ≡ 1 → ⊥) (λ name. Unit {0}) (stress room sent seed) turns calls status goes (stress_all (λ n. n ≡ 1 → ⊥) (λ name. Unit {0}) room sent seed (λ e. cc e) (λ e. cc e)) (λ e. cc e) one)
+one_only room sent None None (Some names) n turns calls status goes one =
     absurd (ends (λ n. n ≡ 1 → ⊥) (λ name. Unit {0}) (compile names) turns calls status goes (compile_all (λ n. n ≡ 1 → ⊥) (λ name. Unit {0}) names (λ e. cc e) (λ e. cc e) (λ e. cc e) (λ e. cc e) tt) (λ e. cc e) one)
-one_only None (Some name) s turns calls status goes one =
+one_only room sent None (Some name) s n turns calls status goes one =
     absurd (ends (λ n. n ≡ 1 → ⊥) (λ name. Unit {0}) (check name) turns calls status goes (check_all (λ n. n ≡ 1 → ⊥) (λ name. Unit {0}) name (λ e. cc e) (λ e. cc e) (λ e. cc e) (λ e. cc e) tt) (λ e. cc e) one)
-one_only (Some form) c s turns calls status goes one =
+one_only room sent (Some form) c s n turns calls status goes one =
     absurd (ends (λ n. n ≡ 1 → ⊥) (λ name. Unit {0}) (play form) turns calls status goes (play_all (λ n. n ≡ 1 → ⊥) (λ name. Unit {0}) form (λ e. cc e) (λ e. cc e) (λ e. cc e) (λ e. cc e) (λ e. cc e) (λ e. cc e) (λ e. cc e) (λ name. tt)) (λ e. cc e) one)
 
-one_each : (o : Option Form) (c : Option (List ℕ)) (s : Option CompileNames) (turns : List Turn) (calls : List DeskCall) (status : ℕ) → Goes (todo_for o c s) turns calls status → o ≡ None → c ≡ None → s ≡ None → (status ≡ 1) ⊎ (status ≡ 3)
-one_each None None None turns [] status goes no_play no_check no_compile = absurd goes
-one_each None None None turns (Load name limit heard ∷ calls) status goes no_play no_check no_compile = absurd goes
-one_each None None None turns (Did act true ∷ calls) status goes no_play no_check no_compile = inl goes.3
-one_each None None None turns (Did act false ∷ calls) status goes no_play no_check no_compile = inr goes.3
-one_each None None (Some names) turns calls status goes no_play no_check no_compile = absurd (cc no_compile)
-one_each None (Some name) s turns calls status goes no_play no_check no_compile = absurd (cc no_check)
-one_each (Some form) c s turns calls status goes no_play no_check no_compile = absurd (cc no_play)
+one_each : (room sent : ℕ) (o : Option Form) (c : Option (List ℕ)) (s : Option CompileNames) (n : Option ℕ) (turns : List Turn) (calls : List DeskCall) (status : ℕ) → Goes (todo_for room sent o c s n) turns calls status → o ≡ None → c ≡ None → s ≡ None → n ≡ None → (status ≡ 1) ⊎ (status ≡ 3)
+one_each room sent None None None None turns [] status goes no_play no_check no_compile no_stress = absurd goes
+one_each room sent None None None None turns (Load name limit heard ∷ calls) status goes no_play no_check no_compile no_stress = absurd goes
+one_each room sent None None None None turns (Did act true ∷ calls) status goes no_play no_check no_compile no_stress = inl goes.3
+one_each room sent None None None None turns (Did act false ∷ calls) status goes no_play no_check no_compile no_stress = inr goes.3
+one_each room sent None None None (Some seed) turns calls status goes no_play no_check no_compile no_stress = absurd (cc no_stress)
+one_each room sent None None (Some names) n turns calls status goes no_play no_check no_compile no_stress = absurd (cc no_compile)
+one_each room sent None (Some name) s n turns calls status goes no_play no_check no_compile no_stress = absurd (cc no_check)
+one_each room sent (Some form) c s n turns calls status goes no_play no_check no_compile no_stress = absurd (cc no_play)
 
-pub worded : (room : ℕ) (words : List (List ℕ)) (turns : List Turn) (calls : List DeskCall) (status : ℕ) → Goes (todo_of room words) turns calls status → Worded room words status
-worded room words turns calls status goes =
+pub worded : (room sent : ℕ) (words : List (List ℕ)) (turns : List Turn) (calls : List DeskCall) (status : ℕ) → Goes (todo_of room sent words) turns calls status → Worded room words status
+worded room sent words turns calls status goes =
     record {
-      only = one_only (play_of room words) (check_of words) (compile_of words) turns calls status goes;
-      each = one_each (play_of room words) (check_of words) (compile_of words) turns calls status goes;
+      only = one_only room sent (play_of room words) (check_of words) (compile_of words) (stress_of words) turns calls status goes;
+      each = one_each room sent (play_of room words) (check_of words) (compile_of words) (stress_of words) turns calls status goes;
     }
 
 -- ---- the files
@@ -98,24 +103,24 @@ files_ready topology script t read is =
 
 -- ---- all
 
-module _ {D P : Type 0} (means : DeskMeaning D) (dsp : Meaning P) (words : List (List ℕ)) (old new : D) (p q : P) (status : ℕ) (gave : Gave means dsp (todo_of (dsp.most p) words) old p status new q) where
+module _ {D P : Type 0} (means : DeskMeaning D) (dsp : Meaning P) (words : List (List ℕ)) (old new : D) (p q : P) (status : ℕ) (sent : ℕ) (gave : Gave means dsp (todo_of (dsp.most p) sent words) old p status new q) where
   abbrev form : Option Form
   form = play_of (dsp.most p) words
 
   abbrev todo : Todo
-  todo = todo_of (dsp.most p) words
+  todo = todo_of (dsp.most p) sent words
 
   abbrev goes : Goes todo gave.ran.turns gave.ran.played.calls status
   goes = gave.ran.played.goes
 
   other : Throughout (λ n. n ≡ 3 → ⊥) (λ name. Unit {0}) todo
-  other = words_other form (check_of words) (compile_of words)
+  other = words_other (dsp.most p) sent form (check_of words) (compile_of words) (stress_of words)
 
   turns_last : TurnsLast todo
-  turns_last = words_last form (check_of words) (compile_of words)
+  turns_last = words_last (dsp.most p) sent form (check_of words) (compile_of words) (stress_of words)
 
-  pub course_made : Follows (dsp.most p) words gave.ran.turns gave.ran.played.calls status
-  course_made = follows (dsp.most p) words gave.ran.turns gave.ran.played.calls status goes
+  pub course_made : Follows (dsp.most p) sent words gave.ran.turns gave.ran.played.calls status
+  course_made = follows (dsp.most p) sent words gave.ran.turns gave.ran.played.calls status goes
 
   pub count_rose : status ≡ 3 → CountRose (means.faults old) (means.faults new)
   count_rose three = three_rose means todo gave.ran.turns gave.ran.played.calls status old new goes other gave.ran.played.led three
@@ -132,12 +137,12 @@ module _ {D P : Type 0} (means : DeskMeaning D) (dsp : Meaning P) (words : List 
   }
 
   pub words_end : Worded (dsp.most p) words status
-  words_end = worded (dsp.most p) words gave.ran.turns gave.ran.played.calls status goes
+  words_end = worded (dsp.most p) sent words gave.ran.turns gave.ran.played.calls status goes
 
   pub judged : Judged means (dsp.most p) words old gave.ran.played.calls status
   judged form topology script is_form is_topology is_script bytes =
       judge (means.holds old) topology script means form gave.ran.turns gave.ran.played.calls status old new (λ name. refl) is_topology is_script bytes
-      (subst (λ o. Goes (todo_for o (check_of words) (compile_of words)) gave.ran.turns gave.ran.played.calls status) is_form goes) gave.ran.played.led
+      (subst (λ o. Goes (todo_for (dsp.most p) sent o (check_of words) (compile_of words) (stress_of words)) gave.ran.turns gave.ran.played.calls status) is_form goes) gave.ran.played.led
 
   pub plays_whole : dsp.on p ≡ None → PlaysWhole means dsp words old new status p gave.last
   plays_whole off run =
@@ -145,7 +150,7 @@ module _ {D P : Type 0} (means : DeskMeaning D) (dsp : Meaning P) (words : List 
       let turns = gave.ran.turns in
       let ready = files_ready run.topology run.script run.t run.read run.make_run in
       let carries = carriable plan (sound_plan run.t run.make_run.file.0 run.make_run.whole) run.read run.make_run.right run.make_run.built in
-      let same : todo ≡ play run.form = ap (λ o. todo_for o (check_of words) (compile_of words)) run.is_form in
+      let same : todo ≡ play run.form = ap (λ o. todo_for (dsp.most p) sent o (check_of words) (compile_of words) (stress_of words)) run.is_form in
       let next : Next means (play run.form) turns status old new = record { calls = gave.ran.played.calls; goes = subst (λ x. Goes x turns gave.ran.played.calls status) same goes; led = gave.ran.played.led } in
       let sound = script_sound run.script run.read (omega (arith, run.fit.1)) run.make_run.lines.0 in
       (elim (play_goes means run.form run.topology run.script plan run.read ready turns status old new run.is_topology run.is_script run.fit.0 run.fit.1 run.given next) as (λ w. Plays means dsp (ground_in run) (rounds_of run.read.commands) old new status p gave.last ⊎ Unbegun means (ground_in run).slots old new status p gave.last) [

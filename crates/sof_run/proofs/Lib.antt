@@ -31,3 +31,5 @@ pub mod OpenedFiles
 pub mod Grounds
 pub mod PlayRuns
 pub mod Courses
+pub mod StressPhases
+pub mod StressVerdicts

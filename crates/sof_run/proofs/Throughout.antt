@@ -28,6 +28,12 @@ use Rattle.sof_run.specs.Prepared.{Prepared, Ready, Halted, prepared}
 use Rattle.sof_run.specs.Play.{prepared_todo, flush_todo, lines_todo, rounds_todo, session_todo, WithPorts, binding_todo, bindings_todo, play}
 use Rattle.sof_run.specs.Checking.{counts_of, checked_rules, checked_file, checked, checked_todo, check}
 use Rattle.sof_run.specs.Compiling.{CompileNames, source_status, compiled_todo, compile}
+use Rattle.sof_stress.specs.declared.counts.Counts.{Counts}
+use Rattle.sof_stress.specs.Draws.{streams_of}
+use Rattle.sof_stress.specs.StressPorts.{dai_slot}
+use Rattle.sof_stress.specs.CommandTurns.{CommandTurn, counted, no_counts}
+use Rattle.sof_stress.specs.StressRun.{stress_turns}
+use Rattle.sof_run.specs.Stressing.{stress_lines, counted_todo, told_todo, stress}
 use Rattle.sof_run.specs.Forms.{todo_for}
 use Rattle.sof_run.specs.Throughout.{Throughout}
 use Rattle.sof_run.proofs.Statuses.{IsLate, CreatesNone, TurnsLast, ends}
@@ -99,6 +105,17 @@ module _ (P : ℕ → Type 0) (A : List ℕ → Type 0) where
   pub compile_all : (names : CompileNames) → P 0 → P 4 → P 5 → P 7 → A names.source → Throughout P A (compile names)
   compile_all names done four five seven named = (named, five, seven, λ text. (seven, compiled_all names.out (compiled_of text) done four seven))
 
+  counted_all : (slot : ℕ) (turns : List CommandTurn) (counts : Counts) (next : Counts → Todo) → ((c : Counts) → Throughout P A (next c)) → Throughout P A (counted_todo slot turns counts next)
+  counted_all slot [] counts next all = all counts
+  counted_all slot (turn ∷ turns) counts next all = λ out. counted_all slot turns (counted slot turn out counts) next all
+
+  told_all : (sent : ℕ) (counts : Counts) → P 0 → Throughout P A (told_todo sent counts)
+  told_all sent counts done = lines_all (stress_lines (record counts { messages = sent })) End done
+
+  pub stress_all : (room sent seed : ℕ) → P 0 → P 7 → Throughout P A (stress room sent seed)
+  stress_all room sent seed done seven =
+      (seven, λ out. counted_all (dai_slot (streams_of seed)) (stress_turns seed) no_counts (told_todo sent) (λ counts. told_all sent counts done))
+
 -- ---- turns come last
 
 flush_puts : (written : List Written) (rest : Todo) → CreatesNone rest → CreatesNone (flush_todo written rest)
@@ -141,11 +158,22 @@ compiled_last : (out : List ℕ) (r : Result Topology SourceFault) → TurnsLast
 compiled_last out (Ok t) = tt
 compiled_last out (Err f) = tt
 
-pub words_last : (o : Option Form) (c : Option (List ℕ)) (s : Option CompileNames) → TurnsLast (todo_for o c s)
-words_last None None None = tt
-words_last None None (Some names) = λ text. compiled_last names.out (compiled_of text)
-words_last None (Some name) s = λ bytes. checked_last (checked bytes)
-words_last (Some form) c s = λ topology script. prepared_last form.heap (prepared topology script)
+counted_puts : (slot : ℕ) (turns : List CommandTurn) (counts : Counts) (next : Counts → Todo) → ((c : Counts) → CreatesNone (next c)) → CreatesNone (counted_todo slot turns counts next)
+counted_puts slot [] counts next puts = puts counts
+counted_puts slot (turn ∷ turns) counts next puts = λ out. counted_puts slot turns (counted slot turn out counts) next puts
+
+stress_last : (room sent seed : ℕ) → TurnsLast (stress room sent seed)
+stress_last room sent seed = λ out. (
+  counted_all IsLate (λ name. ⊥) (dai_slot (streams_of seed)) (stress_turns seed) no_counts (told_todo sent) (λ counts. told_all IsLate (λ name. ⊥) sent counts (inl refl)),
+  counted_puts (dai_slot (streams_of seed)) (stress_turns seed) no_counts (told_todo sent) (λ counts. lines_puts (stress_lines (record counts { messages = sent })) End tt),
+)
+
+pub words_last : (room sent : ℕ) (o : Option Form) (c : Option (List ℕ)) (s : Option CompileNames) (n : Option ℕ) → TurnsLast (todo_for room sent o c s n)
+words_last room sent None None None None = tt
+words_last room sent None None None (Some seed) = stress_last room sent seed
+words_last room sent None None (Some names) n = λ text. compiled_last names.out (compiled_of text)
+words_last room sent None (Some name) s n = λ bytes. checked_last (checked bytes)
+words_last room sent (Some form) c s n = λ topology script. prepared_last form.heap (prepared topology script)
 
 -- a session ends with 0 or 3
 pub session_ends : (heap : ℕ) (plan : Plan) (commands : List Numbered) (inputs : List InputView) (outputs : List OutputView) (turns : List Turn) (calls : List DeskCall) (status : ℕ) → Goes (session_todo heap plan commands inputs outputs) turns calls status → IsLate status

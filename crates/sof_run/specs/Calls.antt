@@ -20,7 +20,13 @@ use Rattle.sof_run.specs.Lines.{no_memory_line, halt_line, halt_status, with_new
 use Rattle.sof_run.specs.Prepared.{Prepared, Ready, Halted, prepared}
 use Rattle.sof_run.specs.Pieces.{Piece, pieces_of}
 use Rattle.sof_run.specs.Checking.{check_of, checked, counts_of}
+use Rattle.sof_stress.specs.declared.counts.Counts.{Counts}
+use Rattle.sof_stress.specs.Draws.{streams_of}
+use Rattle.sof_stress.specs.StressPorts.{dai_slot}
+use Rattle.sof_stress.specs.CommandTurns.{CommandTurn, counted, no_counts}
+use Rattle.sof_stress.specs.StressRun.{stress_begins, stress_turns}
 use Rattle.sof_run.specs.Compiling.{CompileNames, compile_of, source_line, source_status, wrote_line}
+use Rattle.sof_run.specs.Stressing.{stress_of, stress_lines}
 
 -- ---- the list
 
@@ -104,17 +110,33 @@ making out (Err fault) = last_line (source_line fault) (source_status fault)
 abbrev pub compiling : CompileNames → List Heard → Course
 compiling names heard = loading names.source 1048576 (codes "too long source\n") heard (λ text heard. behind (Memory ∷ []) (making names.out (compiled_of text)))
 
+-- ---- `stress`
+
+-- each turn is made and counted
+abbrev pub counting_turns : ℕ → List CommandTurn → Counts → List Out → (Counts → Course) → Course
+counting_turns slot [] counts outs next = next counts
+counting_turns slot (turn ∷ turns) counts outs next = turning (Carry turn.command) outs (λ out outs. counting_turns slot turns (counted slot turn out counts) outs next)
+
+-- the five numbers are said, once so many messages were sent
+abbrev pub telling : ℕ → Counts → Course
+telling sent counts = record { items = map (λ line. saying (with_newline line)) (stress_lines (record counts { messages = sent })); status = 0 }
+
+abbrev pub stressing : ℕ → ℕ → ℕ → List Out → Course
+stressing room sent seed outs =
+    behind (Memory ∷ []) (turning (stress_begins room seed) outs (λ out outs. counting_turns (dai_slot (streams_of seed)) (stress_turns seed) no_counts outs (telling sent)))
+
 -- ---- all words
 
-abbrev pub by_form : Option Form → Option (List ℕ) → Option CompileNames → List Heard → List Out → Course
-by_form (Some form) name names heard outs = playing form heard outs
-by_form None (Some name) names heard outs = checking name heard
-by_form None None (Some names) heard outs = compiling names heard
-by_form None None None heard outs = last_line (codes "words\n") 1
+abbrev pub by_form : ℕ → ℕ → Option Form → Option (List ℕ) → Option CompileNames → Option ℕ → List Heard → List Out → Course
+by_form room sent (Some form) name names seed heard outs = playing form heard outs
+by_form room sent None (Some name) names seed heard outs = checking name heard
+by_form room sent None None (Some names) seed heard outs = compiling names heard
+by_form room sent None None None (Some seed) heard outs = stressing room sent seed outs
+by_form room sent None None None None heard outs = last_line (codes "words\n") 1
 
--- the course of these words, over a device of this room
-abbrev pub course : ℕ → List (List ℕ) → List Heard → List Out → Course
-course room words heard outs = by_form (play_of room words) (check_of words) (compile_of words) heard outs
+-- the course of these words, over a device of this room; a stress has sent so many messages at its end
+abbrev pub course : ℕ → ℕ → List (List ℕ) → List Heard → List Out → Course
+course room sent words heard outs = by_form room sent (play_of room words) (check_of words) (compile_of words) (stress_of words) heard outs
 
 -- ---- what was made of it
 
@@ -144,6 +166,6 @@ Made (Calls (Did act done) ∷ items) end turns (made ∷ calls) status =
     ⊎ ((made ≡ Did act false) × (turns ≡ []) × (calls ≡ []) × (status ≡ 3))
 
 -- what these words ask for was done, by what loads answered and turns came to
-abbrev pub Follows : ℕ → List (List ℕ) → List Turn → List DeskCall → ℕ → Type 0
-Follows room words turns calls status =
-    let c = course room words (heard_in calls) (map (λ (turn : Turn). turn.out) turns) in Made c.items c.status turns calls status
+abbrev pub Follows : ℕ → ℕ → List (List ℕ) → List Turn → List DeskCall → ℕ → Type 0
+Follows room sent words turns calls status =
+    let c = course room sent words (heard_in calls) (map (λ (turn : Turn). turn.out) turns) in Made c.items c.status turns calls status

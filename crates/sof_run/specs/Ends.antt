@@ -4,6 +4,7 @@ use Rattle.sof_desk.specs.Desk.{DeskAct, Create, Put, DeskCall, Load, Did}
 use Rattle.sof_run.specs.Words.{play_of}
 use Rattle.sof_run.specs.Checking.{check_of}
 use Rattle.sof_run.specs.Compiling.{compile_of}
+use Rattle.sof_run.specs.Stressing.{stress_of}
 
 -- ---- the calls
 
@@ -26,5 +27,5 @@ IsEarly status = (status ≡ 1) ⊎ (status ≡ 2) ⊎ (status ≡ 4) ⊎ (statu
 
 -- status 1 comes exactly where the words have none of the forms, but for a failure of the desk
 pub record Worded (room : ℕ) (words : List (List ℕ)) (status : ℕ) : Type 0 where
-  pub only : status ≡ 1 → (play_of room words ≡ None) × (check_of words ≡ None) × (compile_of words ≡ None)
-  pub each : play_of room words ≡ None → check_of words ≡ None → compile_of words ≡ None → (status ≡ 1) ⊎ (status ≡ 3)
+  pub only : status ≡ 1 → (play_of room words ≡ None) × (check_of words ≡ None) × (compile_of words ≡ None) × (stress_of words ≡ None)
+  pub each : play_of room words ≡ None → check_of words ≡ None → compile_of words ≡ None → stress_of words ≡ None → (status ≡ 1) ⊎ (status ≡ 3)

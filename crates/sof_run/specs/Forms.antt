@@ -1,18 +1,44 @@
 -- What `run` has to do, by the form of its words.
-use Rattle.std.specs.Prelude.{ℕ, List, Option, Some, None, codes}
+use Rattle.std.specs.Prelude.{◌≡◌, ◌⊎◌, ℕ, List, [], Option, Some, None, codes}
 use Rattle.sof_run.specs.Words.{Form, play_of}
-use Rattle.sof_run.specs.Todo.{Todo, Stop}
+use Rattle.sof_desk.specs.Desk.{DeskMeaning}
+use Rattle.mbox_link.specs.Calls.{Meaning}
+use Rattle.host_widgets.specs.Controls.{IsLoadable}
+use Rattle.sof_session.specs.Lives.{Turn}
+use Rattle.sof_stress.specs.StressRun.{sent_in, stress_plan}
+use Rattle.sof_run.specs.Todo.{Todo, Stop, Gave}
 use Rattle.sof_run.specs.Play.{play}
 use Rattle.sof_run.specs.Checking.{check, check_of}
 use Rattle.sof_run.specs.Compiling.{CompileNames, compile, compile_of}
+use Rattle.sof_run.specs.Stressing.{stress, stress_of}
 
--- what `play` is given, or the file of `check`, or the files of `compile`, or none of them
-abbrev pub todo_for : Option Form → Option (List ℕ) → Option CompileNames → Todo
-todo_for (Some form) name names = play form
-todo_for None (Some name) names = check name
-todo_for None None (Some names) = compile names
-todo_for None None None = Stop (codes "words\n") 1
+-- What `play` is given, or the file of `check`, or the files of `compile`, or the number of `stress`, or none of them. A stress
+-- has sent so many messages at its end.
+abbrev pub todo_for : ℕ → ℕ → Option Form → Option (List ℕ) → Option CompileNames → Option ℕ → Todo
+todo_for room sent (Some form) name names seed = play form
+todo_for room sent None (Some name) names seed = check name
+todo_for room sent None None (Some names) seed = compile names
+todo_for room sent None None None (Some seed) = stress room sent seed
+todo_for room sent None None None None = Stop (codes "words\n") 1
 
 -- all that `run` does with these words, over a device of this room
-abbrev pub todo_of : ℕ → List (List ℕ) → Todo
-todo_of room words = todo_for (play_of room words) (check_of words) (compile_of words)
+abbrev pub todo_of : ℕ → ℕ → List (List ℕ) → Todo
+todo_of room sent words = todo_for room sent (play_of room words) (check_of words) (compile_of words) (stress_of words)
+
+-- a plan that a stress begins a session over can be loaded
+abbrev pub BeginsLoadable : List (List ℕ) → List Turn → Type 0
+BeginsLoadable words turns = (seed : ℕ) → stress_of words ≡ Some seed → (turns ≡ []) ⊎ IsLoadable (stress_plan seed)
+
+-- It was done, and the session at its end has sent so many messages.
+pub record GaveSent {D P : Type 0} (means : DeskMeaning D) (dsp : Meaning P) (words : List (List ℕ)) (todo : ℕ → Todo) (old : D) (p : P) (status : ℕ) (new : D) (q : P) : Type 0 where
+  pub sent : ℕ
+  pub gave : Gave means dsp (todo sent) old p status new q
+  pub is_sent : sent ≡ sent_in gave.last
+  pub loadable : BeginsLoadable words gave.ran.turns
+
+-- the same of a stress alone
+pub record StressGave {D P : Type 0} (means : DeskMeaning D) (dsp : Meaning P) (seed : ℕ) (old : D) (p : P) (status : ℕ) (new : D) (q : P) : Type 0 where
+  pub sent : ℕ
+  pub gave : Gave means dsp (stress (dsp.most p) sent seed) old p status new q
+  pub is_sent : sent ≡ sent_in gave.last
+  pub loadable : (gave.ran.turns ≡ []) ⊎ IsLoadable (stress_plan seed)

@@ -7,6 +7,7 @@ pub mod Prepared
 pub mod Play
 pub mod Checking
 pub mod Compiling
+pub mod Stressing
 pub mod Forms
 pub mod Opening
 pub mod Halts
@@ -19,4 +20,5 @@ pub mod Calls
 pub mod Ends
 pub mod Checks
 pub mod Compiles
+pub mod Stresses
 pub mod Run

@@ -3,12 +3,14 @@ use Rattle.std.specs.Prelude.{◌≡◌, ℕ, List}
 use Rattle.sof_desk.specs.Desk.{DeskMeaning, DeskCall, DeskLed, CountRose}
 use Rattle.mbox_link.specs.Calls.{Meaning}
 use Rattle.sof_session.specs.Lives.{Life, Bare, Turn, Turns, device_of, Exit}
+use Rattle.sof_stress.specs.StressRun.{sent_in}
 use Rattle.sof_run.specs.Calls.{Follows}
 use Rattle.sof_run.specs.Ends.{AreOpening, IsEarly, Worded}
 use Rattle.sof_run.specs.Verdicts.{Judged}
 use Rattle.sof_run.specs.Plays.{PlaysWhole}
 use Rattle.sof_run.specs.Checks.{Checks}
 use Rattle.sof_run.specs.Compiles.{Compiles}
+use Rattle.sof_run.specs.Stresses.{StressesWhole}
 
 -- The turns on the device, each a session's step, and the calls on the desk: those that the words ask for, in their order and no
 -- others. Status 3 comes only where the desk's count rose.
@@ -17,7 +19,7 @@ pub record Called {D P : Type 0} (means : DeskMeaning D) (dsp : Meaning P) (word
   pub turned : Turns dsp (Bare p) turns last
   pub calls : List DeskCall
   pub led : DeskLed means old calls new
-  pub follows : Follows (dsp.most p) words turns calls status
+  pub follows : Follows (dsp.most p) (sent_in last) words turns calls status
   pub failed : status ≡ 3 → CountRose (means.faults old) (means.faults new)
 
 -- The device that is handed back: the one that was handed in, or that of a session whose two sides agree. It is the one that was
@@ -38,3 +40,4 @@ pub record Whole {D P : Type 0} (means : DeskMeaning D) (dsp : Meaning P) (words
   pub run : PlaysWhole means dsp words old new status p last
   pub checks : Checks means words old (Bare p) called.calls status new last
   pub compiles : Compiles means words old (Bare p) called.calls status new last
+  pub stresses : StressesWhole means dsp words old new status p last

@@ -11,6 +11,7 @@ mod lines;
 mod opening;
 mod play;
 mod prepare;
+mod stress;
 mod words;
 
 pub use play::{Ended, run};

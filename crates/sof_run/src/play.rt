@@ -1,6 +1,6 @@
 // The top call.
 ghost use Rattle.std.specs.Prelude.{◌≡◌, ◌≤◌, [], map, None, string_bytes};
-ghost use Rattle.sof_run.specs.Todo.{Free, Gave, Played};
+ghost use Rattle.sof_run.specs.Todo.{Free, Gave};
 ghost use Rattle.sof_run.specs.Words.{form as form_of};
 ghost use Rattle.sof_script.specs.Commands.{script_read};
 ghost use Rattle.sof_run.specs.Halts.{IsCarriable, IsInRange};
@@ -8,7 +8,8 @@ ghost use Rattle.sof_run.specs.Play.{play, ready_todo};
 ghost use Rattle.sof_run.specs.Checking.{check_of};
 ghost use Rattle.sof_run.specs.Compiling.{compile_of};
 ghost use Rattle.sof_run.specs.Compiles.{MakesTopology};
-ghost use Rattle.sof_run.specs.Forms.{todo_for, todo_of};
+ghost use Rattle.sof_run.specs.Stressing.{stress_of};
+ghost use Rattle.sof_run.specs.Forms.{GaveSent, todo_for, todo_of};
 ghost use Rattle.sof_run.specs.Run.{Whole};
 
 use crate::carry::do_commands;
@@ -17,7 +18,8 @@ use crate::compile::do_compile;
 use crate::files::{LIMIT, fetch, status_of, stop, stop_for};
 use crate::opening::open_all;
 use crate::prepare::{Halt, Ready, prepare};
-use crate::words::{Form, read_check, read_compile, read_play};
+use crate::stress::do_stress;
+use crate::words::{Form, read_check, read_compile, read_play, read_stress};
 use mbox_link::Dsp;
 use sof_desk::Desk;
 use sof_io::{Inputs, Outputs};
@@ -109,25 +111,50 @@ fn do_play<D: Desk, P: Dsp>(alloc: Global, form: Form<'_>, desk: &mut D, dsp: P)
     }
 }
 
-// All that words ask for that are neither those of `play` nor those of `check`.
-fn do_source<D: Desk>(alloc: Global, words: &[String], desk: &mut D) -> u8
-    ensures played { Played D.means (todo_for None None (compile_of (map string_bytes words.now))) desk.old [] result desk.new }
-    ensures sound { MakesTopology D.means (map string_bytes words.now) desk.old result }
+// All that words ask for that are those of `stress` or have no form.
+fn do_numbers<D: Desk, P: Dsp>(alloc: Global, words: &[String], desk: &mut D, dsp: P) -> Ended<P>
+    requires off { P.means.on dsp ≡ None }
+    requires pending { P.means.pending dsp ≡ 0 }
+    ensures { GaveSent D.means P.means (map string_bytes words.now) (λ sent. todo_for (P.means.most dsp) sent None None None (stress_of (map string_bytes words.now))) desk.old dsp result.status desk.new result.dsp }
 {
-    match read_compile(words) {
-        Some(names) => do_compile(alloc, names, desk),
-        None => stop(desk, b"words\n", 1),
+    match read_stress(words) {
+        Some(seed) => do_stress(alloc, seed, desk, dsp),
+        None => Ended {
+            status: stop(desk, b"words\n", 1),
+            dsp,
+        },
     }
 }
 
-// All that words ask for that are not those of `play`: the device is left alone.
-fn do_alone<D: Desk>(alloc: Global, words: &[String], desk: &mut D) -> u8
-    ensures played { Played D.means (todo_for None (check_of (map string_bytes words.now)) (compile_of (map string_bytes words.now))) desk.old [] result desk.new }
-    ensures sound { MakesTopology D.means (map string_bytes words.now) desk.old result }
+// All that words ask for that are neither those of `play` nor those of `check`.
+fn do_source<D: Desk, P: Dsp>(alloc: Global, words: &[String], desk: &mut D, dsp: P) -> Ended<P>
+    requires off { P.means.on dsp ≡ None }
+    requires pending { P.means.pending dsp ≡ 0 }
+    ensures gave { GaveSent D.means P.means (map string_bytes words.now) (λ sent. todo_for (P.means.most dsp) sent None None (compile_of (map string_bytes words.now)) (stress_of (map string_bytes words.now))) desk.old dsp result.status desk.new result.dsp }
+    ensures sound { MakesTopology D.means (map string_bytes words.now) desk.old result.status }
+{
+    match read_compile(words) {
+        Some(names) => Ended {
+            status: do_compile(alloc, names, desk),
+            dsp,
+        },
+        None => do_numbers(alloc, words, desk, dsp),
+    }
+}
+
+// All that words ask for that are not those of `play`.
+fn do_other<D: Desk, P: Dsp>(alloc: Global, words: &[String], desk: &mut D, dsp: P) -> Ended<P>
+    requires off { P.means.on dsp ≡ None }
+    requires pending { P.means.pending dsp ≡ 0 }
+    ensures gave { GaveSent D.means P.means (map string_bytes words.now) (λ sent. todo_for (P.means.most dsp) sent None (check_of (map string_bytes words.now)) (compile_of (map string_bytes words.now)) (stress_of (map string_bytes words.now))) desk.old dsp result.status desk.new result.dsp }
+    ensures sound { MakesTopology D.means (map string_bytes words.now) desk.old result.status }
 {
     match read_check(words) {
-        Some(name) => do_check(alloc, name, desk),
-        None => do_source(alloc, words, desk),
+        Some(name) => Ended {
+            status: do_check(alloc, name, desk),
+            dsp,
+        },
+        None => do_source(alloc, words, desk, dsp),
     }
 }
 
@@ -135,22 +162,19 @@ fn do_alone<D: Desk>(alloc: Global, words: &[String], desk: &mut D) -> u8
 fn do_words<D: Desk, P: Dsp>(alloc: Global, words: &[String], desk: &mut D, dsp: P) -> Ended<P>
     requires off { P.means.on dsp ≡ None }
     requires pending { P.means.pending dsp ≡ 0 }
-    ensures gave { Gave D.means P.means (todo_of (P.means.most dsp) (map string_bytes words.now)) desk.old dsp result.status desk.new result.dsp }
+    ensures gave { GaveSent D.means P.means (map string_bytes words.now) (λ sent. todo_of (P.means.most dsp) sent (map string_bytes words.now)) desk.old dsp result.status desk.new result.dsp }
     ensures sound { MakesTopology D.means (map string_bytes words.now) desk.old result.status }
 {
     match read_play(words, dsp.room()) {
         Some(form) => do_play(alloc, form, desk, dsp),
-        None => Ended {
-            status: do_alone(alloc, words, desk),
-            dsp,
-        },
+        None => do_other(alloc, words, desk, dsp),
     }
 }
 
 /// Does what the words ask for over a desk and a device, and hands the device back.
 ///
-/// The words are `play HEAP TOPOLOGY SCRIPT`, `check TOPOLOGY` or `compile SOURCE OUT`: HEAP is a decimal number of bytes
-/// without a needless leading zero, at most the device's room, and each name has 1 to 255 bytes. A topology, a script and a
+/// The words are `play HEAP TOPOLOGY SCRIPT`, `check TOPOLOGY`, `compile SOURCE OUT` or `stress N`: HEAP is a decimal number of
+/// bytes without a needless leading zero, at most the device's room, N is one from 1 to 1000, and each name has 1 to 255 bytes. A topology, a script and a
 /// source have at most 1048576 bytes. The script's inputs are loaded, each of at most 4194304 bytes, and its outputs created
 /// in the order of its lines, before the commands. After each tick, and after each other command, the bytes of the outputs are
 /// appended, and then the command's lines are said. The statuses: 0 all commands were carried out, the topology is right, or

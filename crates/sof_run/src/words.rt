@@ -1,9 +1,10 @@
 // The form of the words.
-ghost use Rattle.std.specs.Prelude.{◌≡◌, map, MatchOption, codes, string_bytes};
+ghost use Rattle.std.specs.Prelude.{◌≡◌, ◌≤◌, map, MatchOption, IfSome, codes, string_bytes};
 ghost use Rattle.std.specs.Str.{bytes_eq};
 ghost use Rattle.sof_run.specs.Words.{play_of, form, decimal_number, at_most, is_file_name};
 ghost use Rattle.sof_run.specs.Checking.{check_of};
 ghost use Rattle.sof_run.specs.Compiling.{compile_of, names};
+ghost use Rattle.sof_run.specs.Stressing.{stress_of};
 
 /// What `play` is given: the heap in bytes, and the names of its two files.
 #[derive(Clone, Copy, Debug)]
@@ -15,7 +16,8 @@ pub struct Form<'a> {
 
 /// A decimal number without a needless leading zero, at most `room`.
 pub fn number(word: &[u8], room: u32) -> Option<u32>
-    ensures { result ≡ at_most room (decimal_number word.now) }
+    ensures value { result ≡ at_most room (decimal_number word.now) }
+    ensures most { IfSome result (λ n. n ≤ room) }
 {
     if word.is_empty() {
         return None;
@@ -137,4 +139,28 @@ pub fn read_compile(words: &[String]) -> Option<Names<'_>>
         return None;
     }
     Some(Names { source, out })
+}
+
+fn is_stress(word: &str) -> bool
+    ensures { result ≡ bytes_eq word.now (codes "stress") }
+{
+    word == "stress"
+}
+
+/// `stress N`: its number, from 1 to 1000.
+pub fn read_stress(words: &[String]) -> Option<u32>
+    ensures value { result ≡ stress_of (map string_bytes words.now) }
+    ensures most { IfSome result (λ seed. seed ≤ 1000) }
+{
+    if words.len() != 2 {
+        return None;
+    }
+    if !is_stress(words[0].as_str()) {
+        return None;
+    }
+    let seed = number(words[1].as_bytes(), 1000)?;
+    if seed == 0 {
+        return None;
+    }
+    Some(seed)
 }

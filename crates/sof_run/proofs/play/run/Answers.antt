@@ -1,7 +1,9 @@
-use Rattle.std.proofs.Common.{map, string_bytes}
+use Rattle.std.proofs.Common.{map, string_bytes, subst}
+use Rattle.sof_run.specs.Calls.{Follows}
 use Rattle.sof_run.proofs.Finish.{course_made, count_rose, left, words_end, judged, plays_whole}
 use Rattle.sof_run.proofs.CheckVerdicts.{checks}
 use Rattle.sof_run.proofs.CompileVerdicts.{compiles}
+use Rattle.sof_run.proofs.StressVerdicts.{stresses}
 use Rattle.sof_run.proofs.play.run.Goals as goal
 
 pub returns : goal.returns
@@ -10,7 +12,9 @@ returns g c =
     let means = g.D.Desk.means in
     let dsp = g.P.Dsp.means in
     let room = dsp.most c.args.dsp in
-    let gave = c.do_words.ensures.gave in
+    let given = c.do_words.ensures.gave in
+    let gave = given.gave in
+    let sent = given.sent in
     record {
       last = gave.last;
       called = record {
@@ -18,13 +22,14 @@ returns g c =
         turned = gave.ran.turned;
         calls = gave.ran.played.calls;
         led = gave.ran.played.led;
-        follows = course_made means dsp words _ _ _ _ _ gave;
-        failed = count_rose means dsp words _ _ _ _ _ gave;
+        follows = subst (λ n. Follows room n words gave.ran.turns gave.ran.played.calls c.do_words.result.status) given.is_sent (course_made means dsp words _ _ _ _ _ sent gave);
+        failed = count_rose means dsp words _ _ _ _ _ sent gave;
       };
-      exit = left means dsp words _ _ _ _ _ gave;
-      worded = words_end means dsp words _ _ _ _ _ gave;
-      judged = judged means dsp words _ _ _ _ _ gave;
-      run = plays_whole means dsp words _ _ _ _ _ gave c.requires.off;
-      checks = checks means dsp words _ _ room _ _ _ gave.ran;
-      compiles = compiles means dsp words _ _ room _ _ _ gave.ran c.do_words.ensures.sound;
+      exit = left means dsp words _ _ _ _ _ sent gave;
+      worded = words_end means dsp words _ _ _ _ _ sent gave;
+      judged = judged means dsp words _ _ _ _ _ sent gave;
+      run = plays_whole means dsp words _ _ _ _ _ sent gave c.requires.off;
+      checks = checks means dsp words _ _ room sent _ _ _ gave.ran;
+      compiles = compiles means dsp words _ _ room sent _ _ _ gave.ran c.do_words.ensures.sound;
+      stresses = stresses means dsp words _ _ _ _ _ c.requires.off given;
     }

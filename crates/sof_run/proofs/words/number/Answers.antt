@@ -3,7 +3,7 @@ use Rattle.sof_run.specs.Words.{at_most}
 use Rattle.sof_run.proofs.Numbers.{passes_room}
 use Rattle.sof_run.proofs.words.number.Goals as goal
 
-pub returns-then-value-room : goal.returns-then-value-room
-returns-then-value-room c =
+pub returns-then-value-room-clause-value : goal.returns-then-value-room-clause-value
+returns-then-value-room-clause-value c =
     sym (ap (at_most c.args.room) c.loop-digit.invariant.value
     ∙ passes_room c.args.room c.loop-digit.value c.args.word.now c.loop-digit.digit-index _ c.loop-digit-test.true c.if-digit-lt48.false c.if-digit-gt57.false c.if-value-room.true)

@@ -1,0 +1,136 @@
+-- What `stress` did, put together from its session and its lines.
+use Rattle.std.proofs.Common.{◌≡◌, ◌⊎◌, inl, inr, ℕ, Bool, true, false, List, [], ◌∷◌, map, Option, Some, None, refl, sym, ◌∙◌, subst, if◌then◌else◌}
+use Rattle.sof_desk.specs.Desk.{DeskMeaning, DeskCall}
+use Rattle.mbox_link.specs.Calls.{Meaning}
+use Rattle.host_widgets.specs.Controls.{IsLoadable}
+use Rattle.sof_session.specs.Written.{Out}
+use Rattle.sof_session.specs.Lives.{Bare, Turn, Carry}
+use Rattle.sof_stress.specs.declared.counts.Counts.{Counts}
+use Rattle.sof_stress.specs.Draws.{streams_of}
+use Rattle.sof_stress.specs.StressPorts.{dai_slot}
+use Rattle.sof_stress.specs.CommandTurns.{CommandTurn, counted, all_counted, no_counts, tasks_of}
+use Rattle.sof_stress.specs.StressRun.{Stresses, sent_in, stress_begins, stress_plan, stress_turns}
+use Rattle.sof_run.specs.Words.{Form, play_of}
+use Rattle.sof_run.specs.Lines.{no_memory_line}
+use Rattle.sof_run.specs.Todo.{Todo, End, Stop, Step, Goes, Played, Gave, DeskPhase}
+use Rattle.sof_run.specs.Play.{lines_todo, play}
+use Rattle.sof_run.specs.Checking.{check_of}
+use Rattle.sof_run.specs.Compiling.{compile_of}
+use Rattle.sof_run.specs.Stressing.{stress_of, stress_lines, counted_todo, told_todo}
+use Rattle.sof_run.specs.Forms.{todo_for, todo_of, GaveSent, StressGave}
+use Rattle.sof_run.proofs.Steps.{free_off}
+
+-- no words have both forms
+no_stress : (room : ℕ) (words : List (List ℕ)) (form : Form) → play_of room words ≡ Some form → stress_of words ≡ None
+no_stress room [] form is = refl
+no_stress room (verb ∷ []) form is = refl
+no_stress room (verb ∷ number ∷ []) form is = absurd (cc is)
+no_stress room (verb ∷ number ∷ more ∷ words) form is = refl
+
+-- turns of these tasks are made and counted, and then comes what is next
+counted_on : (slot : ℕ) (todo : List CommandTurn) (counts : Counts) (next : Counts → Todo) (turns : List Turn) (calls : List DeskCall) (status : ℕ) → map (λ (turn : Turn). turn.task) turns ≡ tasks_of todo →
+    Goes (next (all_counted slot todo (map (λ (turn : Turn). turn.out) turns) counts)) [] calls status → Goes (counted_todo slot todo counts next) turns calls status
+counted_on slot [] counts next [] calls status same goes = goes
+counted_on slot [] counts next (turn ∷ turns) calls status same goes = absurd (cc same)
+counted_on slot (t ∷ todo) counts next [] calls status same goes = absurd (cc same)
+counted_on slot (t ∷ todo) counts next (turn ∷ turns) calls status same goes =
+    let first : turn.task ≡ Carry t.command = cc in
+    let rest : map (λ (turn : Turn). turn.task) turns ≡ tasks_of todo = cc in
+    (first, counted_on slot todo (counted slot t turn.out counts) next turns calls status rest goes)
+
+module _ {D P : Type 0} (means : DeskMeaning D) (dsp : Meaning P) where
+  -- the lines, said or cut off
+  lines_played : (lines : List (List ℕ)) (done : Bool) (old new : D) → DeskPhase means (lines_todo lines) done old new → Played means (lines_todo lines End) old [] (if done then 0 else 3) new
+  lines_played lines true old new phase = phase End [] 0 new (record { calls = []; led = refl; goes = (refl, refl, refl) })
+  lines_played lines false old new phase = phase End
+
+  -- the session, and then the lines
+  pub stressed : (seed : ℕ) (old new : D) (p q : P) (counts : Counts) (done : Bool) → Stresses dsp seed p counts q → DeskPhase means (lines_todo (stress_lines counts)) done old new → StressGave means dsp seed old p (if done then 0 else 3) new q
+  stressed seed old new p q counts done s phase =
+      let status : ℕ = if done then 0 else 3 in
+      let sent = sent_in s.last in
+      let slot = dai_slot (streams_of seed) in
+      let outs : List Out = map (λ (turn : Turn). turn.out) s.turns in
+      let said : Played means (told_todo sent (all_counted slot (stress_turns seed) outs no_counts)) old [] status new =
+      subst (λ c. Played means (lines_todo (stress_lines c) End) old [] status new) s.numbers (lines_played (stress_lines counts) done old new phase) in
+      record {
+        sent = sent;
+        gave = record {
+          last = s.last;
+          is = s.is;
+          exit = s.exit;
+          ran = record {
+            turns = record { task = stress_begins (dsp.most p) seed; out = s.begun } ∷ s.turns;
+            turned = s.turned;
+            played = record {
+              calls = said.calls;
+              led = said.led;
+              goes = inl (refl, counted_on slot (stress_turns seed) no_counts (told_todo sent) s.turns said.calls status s.tasks said.goes);
+            };
+          };
+        };
+        is_sent = refl;
+        loadable = inr s.loadable;
+      }
+
+  -- memory was wanting
+  pub unstressed : (seed : ℕ) (old new : D) (p q : P) (status : ℕ) → q ≡ p → Played means (Stop no_memory_line 7) old [] status new → StressGave means dsp seed old p status new q
+  unstressed seed old new p q status same played = record {
+    sent = 0;
+    gave = record {
+      last = Bare p;
+      is = sym same;
+      exit = refl;
+      ran = record { turns = []; turned = refl; played = free_off means (Step (stress_begins (dsp.most p) seed) (λ out. counted_todo (dai_slot (streams_of seed)) (stress_turns seed) no_counts (told_todo 0))) status old new played };
+    };
+    is_sent = refl;
+    loadable = inl refl;
+  }
+
+  -- ---- by the words
+
+  module _ (words : List (List ℕ)) (old new : D) (p q : P) (status : ℕ) where
+    pub stress_gave : (seed : ℕ) → stress_of words ≡ Some seed → StressGave means dsp seed old p status new q → GaveSent means dsp words (λ sent. todo_for (dsp.most p) sent None None None (stress_of words)) old p status new q
+    stress_gave seed is given =
+        by (stress_of words) is
+      where
+        by : (o : Option ℕ) → o ≡ Some seed → GaveSent means dsp words (λ sent. todo_for (dsp.most p) sent None None None o) old p status new q
+        by None some = absurd (cc some)
+        by (Some n) some =
+            let same : n ≡ seed = cc some in
+            subst (λ m. GaveSent means dsp words (λ sent. todo_for (dsp.most p) sent None None None (Some m)) old p status new q) (sym same)
+            record {
+              sent = given.sent;
+              gave = given.gave;
+              is_sent = given.is_sent;
+              loadable = λ other is_other. let one : other ≡ seed = cc (sym is_other ∙ is) in subst (λ m. (given.gave.ran.turns ≡ []) ⊎ IsLoadable (stress_plan m)) (sym one) given.loadable;
+            }
+
+    -- what was done on the desk alone
+    pub alone_gave : (todo : ℕ → Todo) → Played means (todo 0) old [] status new → GaveSent means dsp words todo old p status new p
+    alone_gave todo played = record {
+      sent = 0;
+      gave = record { last = Bare p; is = refl; exit = refl; ran = record { turns = []; turned = refl; played = played } };
+      is_sent = refl;
+      loadable = λ seed is. inl refl;
+    }
+
+    -- what was done with no number of messages
+    pub plain_gave : (todo : Todo) → stress_of words ≡ None → Gave means dsp todo old p status new q → GaveSent means dsp words (λ sent. todo) old p status new q
+    plain_gave todo none given = record {
+      sent = sent_in given.last;
+      gave = given;
+      is_sent = refl;
+      loadable = λ seed is. absurd (cc (sym none ∙ is));
+    }
+
+    -- the words of `play` are not those of `stress`
+    pub play_gave : (form : Form) → play_of (dsp.most p) words ≡ Some form → Gave means dsp (play form) old p status new q → GaveSent means dsp words (λ sent. todo_of (dsp.most p) sent words) old p status new q
+    play_gave form is given =
+        subst (λ o. GaveSent means dsp words (λ sent. todo_for (dsp.most p) sent o (check_of words) (compile_of words) (stress_of words)) old p status new q) (sym is)
+        (plain_gave (play form) (no_stress (dsp.most p) words form is) given)
+
+    -- other words
+    pub other_gave : play_of (dsp.most p) words ≡ None → GaveSent means dsp words (λ sent. todo_for (dsp.most p) sent None (check_of words) (compile_of words) (stress_of words)) old p status new q → GaveSent means dsp words (λ sent. todo_of (dsp.most p) sent words) old p status new q
+    other_gave none given =
+        subst (λ o. GaveSent means dsp words (λ sent. todo_for (dsp.most p) sent o (check_of words) (compile_of words) (stress_of words)) old p status new q) (sym none) given

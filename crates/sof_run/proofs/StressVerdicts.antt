@@ -1,0 +1,181 @@
+-- What `stress` ensures, from what it did.
+use Rattle.std.proofs.Common.{◌≡◌, ◌⊎◌, inl, inr, ℕ, ◌≤◌, nat_le, Bool, true, false, List, [], ◌∷◌, ◌++◌, map, Option, Some, None, refl, sym, ◌∙◌, ap, subst, codes, arith, if◌then◌else◌}
+use Rattle.std.specs.List.{concat}
+use Rattle.std.specs.Str.{bytes_eq}
+use Rattle.std.proofs.lemmas.List.{append-nil}
+use Rattle.std.proofs.lemmas.Bool.Decides.{nat_tests}
+use Rattle.std.proofs.lemmas.Slice.Eq.{bytes_eq-Decides}
+use Rattle.sof_desk.specs.Desk.{DeskMeaning, Spoken, Slot, DeskCall, Load, Did, DeskLed}
+use Rattle.mbox_link.specs.Calls.{Meaning}
+use Rattle.host_widgets.specs.Controls.{IsLoadable}
+use Rattle.stream_law.specs.Past.{Moment}
+use Rattle.sof_session.specs.Commands.{Known}
+use Rattle.sof_session.specs.Written.{Out, Ground, At, first_at, end_of, moments_of}
+use Rattle.sof_session.specs.Lives.{Life, Bare, Seated, Turn, Turns}
+use Rattle.sof_session.specs.RunOver.{EndsAt}
+use Rattle.sof_stress.specs.declared.counts.Counts.{Counts}
+use Rattle.sof_stress.specs.Draws.{streams_of}
+use Rattle.sof_stress.specs.StressPorts.{dai_slot}
+use Rattle.sof_stress.specs.CommandTurns.{CommandTurn, counted, all_counted, no_counts, tasks_of}
+use Rattle.sof_stress.specs.StressRun.{sent_in, stress_begins, stress_counts, stress_ground, stress_plan, stress_turns}
+use Rattle.sof_stress.proofs.StressOver.{stress-over}
+use Rattle.sof_run.specs.Words.{at_most, decimal_number, play_of}
+use Rattle.sof_run.specs.Lines.{no_memory_line, with_newline}
+use Rattle.sof_run.specs.Todo.{Todo, End, Says, Goes}
+use Rattle.sof_run.specs.Play.{lines_todo}
+use Rattle.sof_run.specs.Plays.{Unbegun}
+use Rattle.sof_run.specs.Checks.{IsFront}
+use Rattle.sof_run.specs.Checking.{check_of}
+use Rattle.sof_run.specs.Compiling.{compile_of}
+use Rattle.sof_run.specs.Stressing.{at_least_one, stress_of, stress_lines, counted_todo, told_todo, stress}
+use Rattle.sof_run.specs.Stresses.{stress_text, StressRan, StressesWhole}
+use Rattle.sof_run.specs.Forms.{todo_for, todo_of, GaveSent}
+use Rattle.sof_run.proofs.Steps.{no_turns}
+use Rattle.sof_run.proofs.SaidLines.{line_parted}
+use Rattle.sof_run.proofs.CheckVerdicts.{lines_parted}
+
+-- ---- the words
+
+no_play : (room : ℕ) (words : List (List ℕ)) (seed : ℕ) → stress_of words ≡ Some seed → play_of room words ≡ None
+no_play room [] seed is = refl
+no_play room (verb ∷ []) seed is = refl
+no_play room (verb ∷ number ∷ []) seed is = refl
+no_play room (verb ∷ number ∷ more ∷ words) seed is = absurd (cc is)
+
+no_compile : (words : List (List ℕ)) (seed : ℕ) → stress_of words ≡ Some seed → compile_of words ≡ None
+no_compile [] seed is = refl
+no_compile (verb ∷ []) seed is = refl
+no_compile (verb ∷ number ∷ []) seed is = refl
+no_compile (verb ∷ number ∷ more ∷ words) seed is = absurd (cc is)
+
+-- the number is at most 1000
+least_by : (b : Bool) (n seed : ℕ) → (if b then Some n else None) ≡ Some seed → n ≡ seed
+least_by true n seed is = cc is
+least_by false n seed is = absurd (cc is)
+
+most_by : (o : Option ℕ) (seed : ℕ) → at_least_one (at_most 1000 o) ≡ Some seed → seed ≤ 1000
+most_by None seed is = absurd (cc is)
+most_by (Some n) seed is = by (nat_le n 1000) refl is
+  where
+    by : (b : Bool) → nat_le n 1000 ≡ b → at_least_one (if b then Some n else None) ≡ Some seed → seed ≤ 1000
+    by true le is = let same : n ≡ seed = least_by (nat_le 1 n) n seed is in grind (arith, nat_tests, same, le)
+    by false le is = absurd (cc is)
+
+verb_by : (b : Bool) (o : Option ℕ) (seed : ℕ) → (if b then o else None) ≡ Some seed → (b ≡ true) × (o ≡ Some seed)
+verb_by true o seed is = (refl, is)
+verb_by false o seed is = absurd (cc is)
+
+small : (words : List (List ℕ)) (seed : ℕ) → stress_of words ≡ Some seed → seed ≤ 1000
+small [] seed is = absurd (cc is)
+small (verb ∷ []) seed is = absurd (cc is)
+small (verb ∷ number ∷ []) seed is = most_by (decimal_number number) seed (verb_by (bytes_eq verb (codes "stress")) (at_least_one (at_most 1000 (decimal_number number))) seed is).1
+small (verb ∷ number ∷ more ∷ words) seed is = absurd (cc is)
+
+-- a verb is not two
+not_both : (verb : List ℕ) → bytes_eq verb (codes "stress") ≡ true → bytes_eq verb (codes "check") ≡ false
+not_both verb is = ap (λ v. bytes_eq v (codes "check")) ((bytes_eq-Decides verb (codes "stress")).0 is)
+
+no_check : (words : List (List ℕ)) (seed : ℕ) → stress_of words ≡ Some seed → check_of words ≡ None
+no_check [] seed is = absurd (cc is)
+no_check (verb ∷ []) seed is = absurd (cc is)
+no_check (verb ∷ number ∷ []) seed is =
+    let other = not_both verb (verb_by (bytes_eq verb (codes "stress")) (at_least_one (at_most 1000 (decimal_number number))) seed is).0 in
+    rw other refl
+no_check (verb ∷ number ∷ more ∷ words) seed is = absurd (cc is)
+
+stress_alone : (room sent : ℕ) (words : List (List ℕ)) (seed : ℕ) → stress_of words ≡ Some seed → todo_of room sent words ≡ stress room sent seed
+stress_alone room sent words seed is = λ i. todo_for room sent (no_play room words seed is i) (no_check words seed is i) (no_compile words seed is i) (is i)
+
+-- ---- the turns
+
+-- no turn comes with lines
+lines_turnless : (lines : List (List ℕ)) (turns : List Turn) (calls : List DeskCall) (status : ℕ) → Goes (lines_todo lines End) turns calls status → turns ≡ []
+lines_turnless [] turns calls status goes = goes.0
+lines_turnless (line ∷ lines) turns [] status goes = absurd goes
+lines_turnless (line ∷ lines) turns (Load name limit heard ∷ calls) status goes = absurd goes
+lines_turnless (line ∷ lines) turns (Did act true ∷ calls) status goes = lines_turnless lines turns calls status goes.1
+lines_turnless (line ∷ lines) turns (Did act false ∷ calls) status goes = goes.1.0
+
+-- turns were made and counted, and then what is next was done
+counted_off : (slot : ℕ) (todo : List CommandTurn) (counts : Counts) (next : Counts → Todo) (turns : List Turn) (calls : List DeskCall) (status : ℕ) →
+    ((c : Counts) (ts : List Turn) (cs : List DeskCall) (n : ℕ) → Goes (next c) ts cs n → ts ≡ []) → Goes (counted_todo slot todo counts next) turns calls status →
+    (map (λ (turn : Turn). turn.task) turns ≡ tasks_of todo) × Goes (next (all_counted slot todo (map (λ (turn : Turn). turn.out) turns) counts)) [] calls status
+counted_off slot [] counts next turns calls status none goes =
+    let is : turns ≡ [] = none counts turns calls status goes in
+    (ap (map (λ (turn : Turn). turn.task)) is, subst (λ ts. Goes (next counts) ts calls status) is goes)
+counted_off slot (t ∷ todo) counts next [] calls status none goes = absurd goes
+counted_off slot (t ∷ todo) counts next (turn ∷ turns) calls status none goes =
+    let others = counted_off slot todo (counted slot t turn.out counts) next turns calls status none goes.1 in
+    ((λ i. goes.0 i ∷ others.0 i), others.1)
+
+-- ---- the run
+
+-- a session at the end of a run has sent what the run says
+sent_at : {P : Type 0} (dsp : Meaning P) (g : Ground) (life : Life P) (moments : List Moment) (at : At) → EndsAt dsp g life moments at → sent_in life ≡ at.known.queue.sent
+sent_at dsp g (Bare p) moments at ends = absurd ends
+sent_at dsp g (Seated seat inputs slots) moments at ends = ap (λ (k : Known). k.queue.sent) ends.known_is
+
+module _ {D P : Type 0} (means : DeskMeaning D) (dsp : Meaning P) (seed : ℕ) (small_is : seed ≤ 1000) (old new : D) (status : ℕ) (p : P) (last : Life P) (off : dsp.on p ≡ None) (loadable : IsLoadable (stress_plan seed)) where
+  abbrev g : Ground
+  g = stress_ground (dsp.most p) seed
+
+  -- the session was begun, and all its turns were made
+  stress_ran : (sent : ℕ) → sent ≡ sent_in last → (begins : Turn) (turns : List Turn) (calls : List DeskCall) → begins.task ≡ stress_begins (dsp.most p) seed →
+      Goes (counted_todo (dai_slot (streams_of seed)) (stress_turns seed) no_counts (told_todo sent)) turns calls status → Turns dsp (Bare p) (begins ∷ turns) last → DeskLed means old calls new → StressRan means dsp g seed old new status p last
+  stress_ran sent is_sent begins turns calls begun goes turned led =
+      let slot = dai_slot (streams_of seed) in
+      let made = counted_off slot (stress_turns seed) no_counts (told_todo sent) turns calls status (λ c ts cs n said. lines_turnless (stress_lines (record c { messages = sent })) ts cs n said) goes in
+      let over = stress-over dsp seed small_is p last off loadable begins turns begun made.0 turned in
+      let lines : List Out → ℕ → List (List ℕ) = λ outs n. stress_lines (stress_counts seed n outs) in
+      let parted = lines_parted means (lines (map (λ (turn : Turn). turn.out) turns) sent) [] calls old new status made.1 led in
+      let same : concat (map with_newline (lines (map (λ (turn : Turn). turn.out) turns) sent)) ≡ stress_text seed g over.0 =
+      λ i. concat (map with_newline (lines (sym over.2 i) ((is_sent ∙ sent_at dsp g last (moments_of over.0) (end_of (first_at g) over.0) over.1.ends) i))) in
+      record {
+        legs = over.0;
+        over = over.1;
+        part = parted.part;
+        spoke = parted.spoke;
+        is = subst (λ text. ((status ≡ 0) × (parted.part ≡ text)) ⊎ ((status ≡ 3) × IsFront parted.part text)) same parted.is;
+      }
+
+-- ---- all of it
+
+module _ {D P : Type 0} (means : DeskMeaning D) (dsp : Meaning P) (words : List (List ℕ)) (old new : D) (status : ℕ) (p q : P) (off : dsp.on p ≡ None) (given : GaveSent means dsp words (λ sent. todo_of (dsp.most p) sent words) old p status new q) where
+  abbrev last : Life P
+  last = given.gave.last
+
+  -- memory was wanting
+  wanted : (turns : List Turn) (calls : List DeskCall) → Says no_memory_line 7 turns calls status → DeskLed means old calls new → Turns dsp (Bare p) turns last → Unbegun means [] old new status p last
+  wanted turns calls says led turned =
+      let parted = line_parted means no_memory_line 7 turns calls old new status says led in
+      record {
+        ended = ended_by parted.part parted.is;
+        wrote = record {
+          part = parted.part;
+          front = front_by parted.part parted.is;
+          said = parted.spoke Spoken;
+          outputs = λ slot. inl (parted.spoke (Slot slot));
+        };
+        device = subst (λ ts. Turns dsp (Bare p) ts last) (no_turns no_memory_line 7 turns calls status says) turned;
+      }
+    where
+      ended_by : (part : List ℕ) → ((status ≡ 7) × (part ≡ no_memory_line)) ⊎ ((status ≡ 3) × IsFront part no_memory_line) → (status ≡ 3) ⊎ (status ≡ 7)
+      ended_by part (inl all) = inr all.0
+      ended_by part (inr some) = inl some.0
+
+      front_by : (part : List ℕ) → ((status ≡ 7) × (part ≡ no_memory_line)) ⊎ ((status ≡ 3) × IsFront part no_memory_line) → (rest : List ℕ) × (part ++ rest ≡ no_memory_line)
+      front_by part (inl all) = ([], append-nil part ∙ all.1)
+      front_by part (inr some) = some.1
+
+  pub stresses : StressesWhole means dsp words old new status p last
+  stresses seed is =
+      by given.gave.ran.turns given.gave.ran.played.calls (given.loadable seed is) given.gave.ran.turned given.gave.ran.played.led
+      (subst (λ todo. Goes todo given.gave.ran.turns given.gave.ran.played.calls status) (stress_alone (dsp.most p) given.sent words seed is) given.gave.ran.played.goes)
+    where
+      by : (turns : List Turn) (calls : List DeskCall) → (turns ≡ []) ⊎ IsLoadable (stress_plan seed) → Turns dsp (Bare p) turns last → DeskLed means old calls new → Goes (stress (dsp.most p) given.sent seed) turns calls status →
+          StressRan means dsp (stress_ground (dsp.most p) seed) seed old new status p last ⊎ Unbegun means [] old new status p last
+      by turns calls planned turned led (inr says) = inr (wanted turns calls says led turned)
+      by [] calls planned turned led (inl goes) = absurd goes
+      by (begins ∷ turns) calls (inl none) turned led (inl goes) = absurd (cc none)
+      by (begins ∷ turns) calls (inr loadable) turned led (inl goes) =
+          inl (stress_ran means dsp seed (small words seed is) old new status p last off loadable given.sent given.is_sent begins turns calls goes.0 goes.1 turned led)

@@ -1,0 +1,127 @@
+-- Each command of a stress is one that is carried out, and they are few.
+use Rattle.std.proofs.Common.{◌≡◌, ℕ, ◌+◌, ◌*◌, ◌/◌, ◌%◌, ◌<◌, ◌≤◌, ◌^◌, ◌==◌, Bool, true, false, List, [], ◌∷◌, ◌++◌, map, length, refl, arith, length-append, lit≤, if◌then◌else◌}
+use Rattle.std.specs.List.{AllByRecursion, flat_map, range_with_len}
+use Rattle.std.proofs.lemmas.List.FromFn.{length-range_with_len, length-map-range_with_len}
+use Rattle.sof_script.specs.declared.script.Command.{Command}
+use Rattle.sof_script.specs.declared.script.Command.TheVariants as commands
+use Rattle.sof_stress.specs.Draws.{command_by, drawn, streams_of, opening, openings, drawn_commands, stress_commands}
+use Rattle.sof_script.specs.Ticks.{command_ticks}
+use Rattle.sof_session.specs.CommandRanges.{most_sent}
+use Rattle.sof_stress.specs.CommandTurns.{IsDue, earlier_turns}
+
+-- ---- how much each does
+
+-- no command sends more than 900 messages
+pub at-most : (c : Command) → most_sent c ≤ 900
+at-most commands.Load = lit≤ tt
+at-most commands.Unload = lit≤ tt
+at-most commands.Suspend = lit≤ tt
+at-most commands.Resume = lit≤ tt
+at-most commands.Show = lit≤ tt
+at-most (commands.Open name) = lit≤ tt
+at-most (commands.Start name) = lit≤ tt
+at-most (commands.Stop name) = lit≤ tt
+at-most (commands.Pause name) = lit≤ tt
+at-most (commands.Release name) = lit≤ tt
+at-most (commands.Close name) = lit≤ tt
+at-most (commands.Get name) = lit≤ tt
+at-most (commands.Read name) = lit≤ tt
+at-most (commands.Params name p) = lit≤ tt
+at-most (commands.Set name v) = lit≤ tt
+at-most (commands.Bytes name b) = lit≤ tt
+at-most (commands.Tick t) = lit≤ tt
+at-most (commands.Refuse k e) = lit≤ tt
+at-most (commands.Drop k) = lit≤ tt
+at-most (commands.Lose k) = lit≤ tt
+at-most (commands.Lag k t) = lit≤ tt
+
+-- none that is due has more than ten turns
+pub earlier-few : (c : Command) → command_ticks c ≤ 10 → earlier_turns c ≤ 9
+earlier-few commands.Load few = omega arith
+earlier-few commands.Unload few = omega arith
+earlier-few commands.Suspend few = omega arith
+earlier-few commands.Resume few = omega arith
+earlier-few commands.Show few = omega arith
+earlier-few (commands.Open name) few = omega arith
+earlier-few (commands.Start name) few = omega arith
+earlier-few (commands.Stop name) few = omega arith
+earlier-few (commands.Pause name) few = omega arith
+earlier-few (commands.Release name) few = omega arith
+earlier-few (commands.Close name) few = omega arith
+earlier-few (commands.Get name) few = omega arith
+earlier-few (commands.Read name) few = omega arith
+earlier-few (commands.Params name p) few = omega arith
+earlier-few (commands.Set name v) few = omega arith
+earlier-few (commands.Bytes name b) few = omega arith
+earlier-few (commands.Tick t) few = omega (arith, few)
+earlier-few (commands.Refuse k e) few = omega arith
+earlier-few (commands.Drop k) few = omega arith
+earlier-few (commands.Lose k) few = omega arith
+earlier-few (commands.Lag k t) few = omega arith
+
+-- ---- lists
+
+all-append : (xs ys : List Command) → AllByRecursion IsDue xs → AllByRecursion IsDue ys → AllByRecursion IsDue (xs ++ ys)
+all-append [] ys first second = second
+all-append (x ∷ xs) ys first second = (first.0, all-append xs ys first.1 second)
+
+all-map : (f : ℕ → Command) → ((k : ℕ) → IsDue (f k)) → (ks : List ℕ) → AllByRecursion IsDue (map f ks)
+all-map f due [] = tt
+all-map f due (k ∷ ks) = (due k, all-map f due ks)
+
+all-flat : (f : ℕ → List Command) → ((k : ℕ) → AllByRecursion IsDue (f k)) → (ks : List ℕ) → AllByRecursion IsDue (flat_map f ks)
+all-flat f due [] = tt
+all-flat f due (k ∷ ks) = all-append (f k) (flat_map f ks) (due k) (all-flat f due ks)
+
+-- ---- commands
+
+due-either : (b : Bool) (x y : Command) → IsDue x → IsDue y → IsDue (if b then x else y)
+due-either true x y first second = first
+due-either false x y first second = second
+
+-- the command that a number makes
+due-by : (streams r : ℕ) → IsDue (command_by streams r)
+due-by streams r =
+    let amount : 1 + (r / 8) % 10 ≤ 10 = omega arith in
+    due-either (r % 8 == 0) _ _ (record { built = refl; numbers = refl; ticks = amount })
+    (due-either (r % 8 == 1) _ _ (record { built = refl; numbers = refl; ticks = omega arith })
+    (due-either (r % 8 == 2) _ _ (record { built = refl; numbers = refl; ticks = omega arith })
+    (due-either (r % 8 == 3) _ _ (record { built = refl; numbers = refl; ticks = omega arith })
+    (due-either (r % 8 == 4) _ _ (record { built = refl; numbers = refl; ticks = omega arith })
+    (due-either (r % 8 == 5) _ _ (record { built = refl; numbers = refl; ticks = omega arith })
+    (due-either (r % 8 == 6) _ _ (record { built = refl; numbers = refl; ticks = omega arith })
+    (record { built = refl; numbers = refl; ticks = omega arith })))))))
+
+due-opening : (i : ℕ) → AllByRecursion IsDue (opening i)
+due-opening i = (
+  record { built = refl; numbers = refl; ticks = omega arith },
+  (record { built = refl; numbers = refl; ticks = omega arith }, (record { built = refl; numbers = refl; ticks = omega arith }, tt)),
+)
+
+-- all are carried out
+pub all-due : (seed : ℕ) → AllByRecursion IsDue (stress_commands seed)
+all-due seed =
+    all-append (commands.Load ∷ [] ++ openings (streams_of seed) ++ drawn_commands seed) (commands.Tick 4 ∷ [])
+    (all-append (commands.Load ∷ [] ++ openings (streams_of seed)) (drawn_commands seed)
+    (all-append (commands.Load ∷ []) (openings (streams_of seed)) (record { built = refl; numbers = refl; ticks = omega arith }, tt) (all-flat opening due-opening (range_with_len 0 (streams_of seed))))
+    (all-map (λ k. command_by (streams_of seed) (drawn seed k)) (λ k. due-by (streams_of seed) (drawn seed k)) (range_with_len 1 seed)))
+    (record { built = refl; numbers = refl; ticks = omega arith }, tt)
+
+-- ---- how many
+
+opened-length : (ks : List ℕ) → length (flat_map opening ks) ≡ 3 * length ks
+opened-length [] = omega arith
+opened-length (k ∷ ks) = omega (arith, opened-length ks)
+
+-- there are few
+pub few-commands : (seed : ℕ) → seed ≤ 1000 → length (stress_commands seed) ≤ 1014
+few-commands seed small =
+    omega (
+      arith,
+      length-append (commands.Load ∷ [] ++ openings (streams_of seed) ++ drawn_commands seed) (commands.Tick 4 ∷ []),
+      length-append (commands.Load ∷ [] ++ openings (streams_of seed)) (drawn_commands seed),
+      length-append (commands.Load ∷ []) (openings (streams_of seed)),
+      opened-length (range_with_len 0 (streams_of seed)),
+      length-range_with_len 0 (streams_of seed),
+      length-map-range_with_len (λ k. command_by (streams_of seed) (drawn seed k)) 1 seed,
+    )

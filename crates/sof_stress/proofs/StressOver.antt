@@ -1,0 +1,97 @@
+-- The turns of a stress make the written run.
+use Rattle.std.proofs.Common.{◌≡◌, ℕ, zero, suc, ◌+◌, ◌*◌, ◌-◌, ◌<◌, ◌≤◌, ◌^◌, Bool, true, false, eqb, List, [], ◌∷◌, ◌++◌, map, length, None, refl, sym, ◌∙◌, ap, subst, inl, inr, arith}
+use Rattle.std.proofs.lemmas.Bool.{cases_Bool}
+use Rattle.std.specs.List.{AllByRecursion, range_with_len}
+use Rattle.sof_base.specs.Ports.{InputView}
+use Rattle.stream_law.specs.Table.{list_of}
+use Rattle.stream_law.specs.Past.{start}
+use Rattle.stream_law.specs.Stands.{HasRead, position_of, left_of}
+use Rattle.mbox_link.specs.Calls.{Meaning}
+use Rattle.host_widgets.specs.Controls.{IsLoadable}
+use Rattle.sof_script.specs.declared.script.Command.{Command}
+use Rattle.sof_session.specs.Written.{Ground, Leg}
+use Rattle.sof_session.specs.Lives.{Life, Bare, Turn, Turns, Carry}
+use Rattle.sof_session.specs.RunOver.{RunOver}
+use Rattle.sof_session.proofs.FewOrders.{few-order}
+use Rattle.sof_session.proofs.RunLegs.{HasFew, AreCarried, messages, run-over}
+use Rattle.sof_stress.specs.Draws.{streams_of, stress_commands}
+use Rattle.sof_stress.specs.StressPorts.{stream_input, stress_inputs}
+use Rattle.sof_stress.specs.CommandTurns.{CommandTurn, IsDue, earlier_turns, turns_after, turns_of, tasks_of}
+use Rattle.sof_stress.specs.StressRun.{commands_of, stress_begins, stress_ground, stress_plan, stress_turns}
+use Rattle.sof_stress.proofs.DueCommands.{at-most, earlier-few, all-due, few-commands}
+
+-- ---- the inputs, of which nothing was read
+
+abbrev AreWhole : List InputView → Type 0
+AreWhole inputs = AllByRecursion (λ (input : InputView). input.position ≡ 0) inputs
+
+at-zero : (inputs : List InputView) (slot : ℕ) → AreWhole inputs → position_of inputs slot ≡ 0
+at-zero [] slot all = refl
+at-zero (input ∷ inputs) slot all =
+    elim (cases_Bool (eqb input.slot slot)) [
+      | inl same ↦ rw same all.0
+      | inr other ↦ rw other (at-zero inputs slot all.1)
+    ]
+
+all-left : (inputs : List InputView) (slot : ℕ) → left_of inputs slot ≡ list_of (map (λ (input : InputView). (input.slot, input.left)) inputs) slot
+all-left [] slot = refl
+all-left (input ∷ inputs) slot =
+    elim (cases_Bool (eqb input.slot slot)) [
+      | inl same ↦ rw same refl
+      | inr other ↦ rw other (all-left inputs slot)
+    ]
+
+are-whole : (ks : List ℕ) → AreWhole (map stream_input ks)
+are-whole [] = tt
+are-whole (k ∷ ks) = (refl, are-whole ks)
+
+none-read : (seed room : ℕ) → HasRead (stress_ground room seed).whole (stress_inputs (streams_of seed)) start
+none-read seed room =
+    let inputs = stress_inputs (streams_of seed) in
+    record { positions = λ slot bound. at-zero inputs slot (are-whole (range_with_len 0 (streams_of seed))); left = λ slot. all-left inputs slot }
+
+-- ---- the commands
+
+few-after : (g : Ground) → IsLoadable g.plan → (n : ℕ) (command : Command) (rest : List CommandTurn) → IsDue command → AllByRecursion (HasFew g) (commands_of rest) → AllByRecursion (HasFew g) (commands_of (turns_after n command ++ rest))
+few-after g loadable zero command rest due few = (few-order g.plan loadable command due.built, few)
+few-after g loadable (suc n) command rest due few = (few-order g.plan loadable command due.built, few-after g loadable n command rest due few)
+
+few-all : (g : Ground) → IsLoadable g.plan → (cs : List Command) → AllByRecursion IsDue cs → AllByRecursion (HasFew g) (commands_of (turns_of cs))
+few-all g loadable [] due = tt
+few-all g loadable (c ∷ cs) due = few-after g loadable (earlier_turns c) c (turns_of cs) due.0 (few-all g loadable cs due.1)
+
+messages-few : (turns : List CommandTurn) → messages (commands_of turns) ≤ 900 * length turns
+messages-few [] = omega arith
+messages-few (turn ∷ turns) = omega (arith, at-most turn.command, messages-few turns)
+
+after-length : (n : ℕ) (c : Command) (rest : List CommandTurn) → length (turns_after n c ++ rest) ≡ n + 1 + length rest
+after-length zero c rest = omega arith
+after-length (suc n) c rest = omega (arith, after-length n c rest)
+
+turns-few : (cs : List Command) → AllByRecursion IsDue cs → length (turns_of cs) ≤ 10 * length cs
+turns-few [] due = omega arith
+turns-few (c ∷ cs) due = omega (arith, after-length (earlier_turns c) c (turns_of cs), earlier-few c due.0.ticks, turns-few cs due.1)
+
+-- ---- the turns
+
+are-carried : (todo : List CommandTurn) (turns : List Turn) → map (λ (turn : Turn). turn.task) turns ≡ tasks_of todo → AreCarried (commands_of todo) turns
+are-carried [] [] same = tt
+are-carried [] (turn ∷ turns) same = absurd (cc same)
+are-carried (t ∷ todo) [] same = absurd (cc same)
+are-carried (t ∷ todo) (turn ∷ turns) same =
+    let first : turn.task ≡ Carry t.command = cc in
+    let rest : map (λ (turn : Turn). turn.task) turns ≡ tasks_of todo = cc in
+    (first, are-carried todo turns rest)
+
+module _ {P : Type 0} (means : Meaning P) (seed : ℕ) (small : seed ≤ 1000) (p : P) (last : Life P) (off : means.on p ≡ None) (loadable : IsLoadable (stress_plan seed)) where
+  abbrev g : Ground
+  g = stress_ground (means.most p) seed
+
+  -- the written run of all commands, whose legs are the turns
+  pub stress-over : (begins : Turn) (turns : List Turn) → begins.task ≡ stress_begins (means.most p) seed → map (λ (turn : Turn). turn.task) turns ≡ tasks_of (stress_turns seed) → Turns means (Bare p) (begins ∷ turns) last →
+      (legs : List Leg) × RunOver means g (commands_of (stress_turns seed)) legs p last × (map (λ (leg : Leg). leg.out) legs ≡ map (λ (turn : Turn). turn.out) turns)
+  stress-over begins turns begun tasks turned =
+      run-over means g (stress_inputs (streams_of seed)) p (commands_of (stress_turns seed)) begins turns last off
+      (none-read seed (means.most p)) begun (are-carried (stress_turns seed) turns tasks)
+      (few-all g loadable (stress_commands seed) (all-due seed))
+      (omega (arith, messages-few (stress_turns seed), turns-few (stress_commands seed) (all-due seed), few-commands seed small)) turned

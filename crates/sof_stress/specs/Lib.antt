@@ -1,0 +1,5 @@
+pub mod Draws
+pub mod StressGraph
+pub mod StressPorts
+pub mod CommandTurns
+pub mod StressRun

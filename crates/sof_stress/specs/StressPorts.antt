@@ -1,0 +1,33 @@
+-- The inputs of a stress, by the ids of the hosts, and the slot of its one output, which is the DAI's id.
+use Rattle.std.specs.Prelude.{ℕ, ◌+◌, ◌*◌, ◌%◌, List, [], ◌∷◌, map}
+use Rattle.std.specs.List.{range_with_len}
+use Rattle.sof_base.specs.Ports.{InputView}
+use Rattle.sof_io.specs.Takes.{new_input}
+
+-- a stream has five widgets, of which the first is its host
+abbrev pub host_slot : ℕ → ℕ
+host_slot i = 5 * i
+
+-- behind all streams' widgets come the mixer, a buffer, the equaliser, a buffer and the DAI
+abbrev pub dai_slot : ℕ → ℕ
+dai_slot streams = 5 * streams + 4
+
+-- the j-th byte of a stream's input, from 0
+abbrev pub input_byte : ℕ → ℕ → ℕ
+input_byte i j = (7 * j + i) % 256
+
+-- all its bytes
+unfoldable pub input_bytes : ℕ → List ℕ
+input_bytes i = map (input_byte i) (range_with_len 0 4800)
+
+-- the input of a stream
+abbrev pub stream_input : ℕ → InputView
+stream_input i = new_input (host_slot i) (input_bytes i)
+
+-- those of each
+abbrev pub stress_inputs : ℕ → List InputView
+stress_inputs streams = map stream_input (range_with_len 0 streams)
+
+-- the slots of the outputs
+abbrev pub stress_slots : ℕ → List ℕ
+stress_slots streams = dai_slot streams ∷ []

@@ -1,0 +1,72 @@
+-- A stress over a device: the turns of its session, and its five numbers.
+use Rattle.std.specs.Prelude.{◌≡◌, ℕ, min, List, ◌∷◌, map}
+use Rattle.sof_base.specs.Ports.{InputView}
+use Rattle.mbox_link.specs.Calls.{Meaning}
+use Rattle.tplg_plan.specs.declared.plans.Plan.{Plan}
+use Rattle.host_widgets.specs.Controls.{IsLoadable}
+use Rattle.tplg_graph.specs.PlanOf.{plan_of}
+use Rattle.tplg_graph.specs.TopologyNeed.{need_of}
+use Rattle.sof_script.specs.declared.script.Command.{Command}
+use Rattle.sof_session.specs.Written.{Out, Ground}
+use Rattle.sof_session.specs.Lives.{Life, Bare, Seated, Turn, Turns, Task, Begin, device_of, Exit}
+use Rattle.sof_stress.specs.declared.counts.Counts.{Counts}
+use Rattle.sof_stress.specs.Draws.{streams_of, stress_commands}
+use Rattle.sof_stress.specs.StressGraph.{stress_topology}
+use Rattle.sof_stress.specs.StressPorts.{dai_slot, stress_inputs, stress_slots}
+use Rattle.sof_stress.specs.CommandTurns.{CommandTurn, turns_of, tasks_of, no_counts, all_counted}
+
+-- ---- what it is over, by its seed
+
+abbrev pub stress_plan : ℕ → Plan
+stress_plan seed = plan_of (stress_topology (streams_of seed))
+
+-- the heap: what the topology needs, where the device has room for it
+abbrev pub stress_heap : ℕ → ℕ → ℕ
+stress_heap room seed = min (need_of (stress_topology (streams_of seed))) room
+
+-- a session is begun over the plan, the heap, the inputs and the slot of the output
+abbrev pub stress_begins : ℕ → ℕ → Task
+stress_begins room seed = Begin (stress_plan seed) (stress_heap room seed) (stress_inputs (streams_of seed)) (stress_slots (streams_of seed))
+
+-- and carries out the commands, turn by turn
+abbrev pub stress_turns : ℕ → List CommandTurn
+stress_turns seed = turns_of (stress_commands seed)
+
+-- what its run is over, on a device of this room
+abbrev pub stress_ground : ℕ → ℕ → Ground
+stress_ground room seed = record {
+  plan = stress_plan seed;
+  heap = stress_heap room seed;
+  whole = map (λ (input : InputView). (input.slot, input.left)) (stress_inputs (streams_of seed));
+  slots = stress_slots (streams_of seed);
+}
+
+-- and by its commands
+abbrev pub commands_of : List CommandTurn → List Command
+commands_of turns = map (λ (turn : CommandTurn). turn.command) turns
+
+-- ---- the five numbers
+
+-- how many messages a session sent
+abbrev pub sent_in : {P : Type 0} → Life P → ℕ
+sent_in (Bare dsp) = 0
+sent_in (Seated seat inputs slots) = seat.link.sent
+
+-- how many messages were sent, and what is counted of the turns by what each came to
+abbrev pub stress_counts : ℕ → ℕ → List Out → Counts
+stress_counts seed sent outs = record (all_counted (dai_slot (streams_of seed)) (stress_turns seed) outs no_counts) { messages = sent }
+
+-- ---- over a device
+
+-- The device was handed in bare and is handed back after the turns of the stress, in their order and no others; the numbers are
+-- those of what each came to. Each plan that is begun can be loaded.
+pub record Stresses {P : Type 0} (means : Meaning P) (seed : ℕ) (p : P) (counts : Counts) (q : P) : Type 0 where
+  pub last : Life P
+  pub is : device_of last ≡ q
+  pub exit : Exit means p last
+  pub loadable : IsLoadable (stress_plan seed)
+  pub begun : Out
+  pub turns : List Turn
+  pub turned : Turns means (Bare p) (record { task = stress_begins (means.most p) seed; out = begun } ∷ turns) last
+  pub tasks : map (λ (turn : Turn). turn.task) turns ≡ tasks_of (stress_turns seed)
+  pub numbers : counts ≡ stress_counts seed (sent_in last) (map (λ (turn : Turn). turn.out) turns)

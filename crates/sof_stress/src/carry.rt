@@ -1,0 +1,154 @@
+// The commands of a stress, turn by turn.
+ghost use Rattle.std.specs.Prelude.{◌≡◌, ◌+◌, ◌*◌, ◌<◌, ◌≤◌, ◌^◌, ◌∷◌, [], ℕ, false, length};
+ghost use Rattle.std.specs.List.{AllByRecursion};
+ghost use Rattle.sof_base.specs.Ports.{drained};
+ghost use Rattle.sof_io.specs.Bound.{output_slots};
+ghost use Rattle.sof_session.specs.CommandRanges.{most_sent};
+ghost use Rattle.sof_session.specs.CommandRanges as ranges;
+ghost use Rattle.sof_session.specs.Lives.{Seated};
+ghost use Rattle.sof_session.specs.Written.{written_in};
+ghost use Rattle.sof_stress.specs.CommandTurns as law;
+ghost use Rattle.sof_stress.specs.CommandTurns.{AreCountsOf, CarriedFirst, CarriedOut, IsDue, command_turns, turns_of};
+
+use crate::counts::Counts;
+use host_widgets::Answer;
+use mbox_link::Dsp;
+use sof_io::{Inputs, Outputs};
+use sof_script::Command;
+use sof_session::Session;
+
+// Whether a command was done.
+fn is_done(answer: &Answer) -> bool
+    ensures { result ≡ law.is_done answer.now }
+{
+    matches!(answer, Answer::Done)
+}
+
+// Whether a command makes ticks.
+fn is_tick(command: &Command) -> bool
+    ensures { result ≡ ranges.is_tick command.now }
+{
+    matches!(command, Command::Tick(_))
+}
+
+// How many bytes the one output holds.
+fn held(outputs: &Outputs, slot: u32) -> u64
+    requires { output_slots outputs.now ≡ slot ∷ [] }
+    ensures held { result ≡ law.bytes_to slot (written_in outputs.now) }
+    ensures most { result ≤ 1048576 }
+{
+    if outputs.len() == 0 {
+        return 0;
+    }
+    let (_, bytes) = outputs.at(0);
+    bytes.len() as u64
+}
+
+// How many turns of a command come before its last.
+fn earlier_turns(command: &Command) -> u32
+    ensures { result ≡ law.earlier_turns command.now }
+{
+    match command {
+        Command::Tick(ticks) => ticks.saturating_sub(1),
+        _ => 0,
+    }
+}
+
+// 1 where it is so.
+fn one_where(holds: bool) -> u64
+    ensures value { result ≡ law.one_where holds }
+    ensures most { result ≤ 1 }
+{
+    if holds { 1 } else { 0 }
+}
+
+// Counts a turn of a command, what it answered and how many bytes came out.
+fn count_turn(command: &Command, last: bool, answer: &Answer, bytes: u64, counts: &mut Counts)
+    requires counts { AreCountsOf (2 ^ 31) counts.old }
+    requires bytes { bytes ≤ 1048576 }
+    ensures counted { counts.new ≡ law.counted_by command.now last answer.now bytes counts.old }
+    ensures counts { (n : ℕ) → AreCountsOf n counts.old → AreCountsOf (n + 1) counts.new }
+{
+    counts.ticks += one_where(is_tick(command));
+    counts.done += one_where(last && is_done(answer));
+    counts.refused += one_where(last && !is_done(answer));
+    counts.bytes += bytes;
+}
+
+// One turn: a session's step, and what is counted of it.
+fn carry_turn<P: Dsp>(
+    command: &Command,
+    last: bool,
+    slot: u32,
+    session: &mut Session<P>,
+    inputs: &mut Inputs,
+    outputs: &mut Outputs,
+    counts: &mut Counts,
+)
+    requires due { IsDue command.now }
+    requires few { session.old.link.sent < 2 ^ 63 }
+    requires slots { output_slots outputs.old ≡ slot ∷ [] }
+    requires empty { drained outputs.old ≡ outputs.old }
+    requires counts { AreCountsOf (2 ^ 31) counts.old }
+    ensures carried { CarriedFirst P.means slot (record { command = command.now; last = last } ∷ [])
+        (Seated session.old inputs.old (output_slots outputs.old)) counts.old (Seated session.new inputs.new (output_slots outputs.new)) counts.new }
+    ensures sent { session.new.link.sent ≤ session.old.link.sent + most_sent command.now }
+    ensures slots { output_slots outputs.new ≡ output_slots outputs.old }
+    ensures empty { drained outputs.new ≡ outputs.new }
+    ensures counts { (n : ℕ) → AreCountsOf n counts.old → AreCountsOf (n + 1) counts.new }
+{
+    let answer = session.step(command, inputs, outputs);
+    let bytes = held(outputs, slot);
+    outputs.drain();
+    count_turn(command, last, &answer, bytes, counts);
+}
+
+// The turns of a command.
+fn carry_command<P: Dsp>(
+    command: &Command,
+    slot: u32,
+    session: &mut Session<P>,
+    inputs: &mut Inputs,
+    outputs: &mut Outputs,
+    counts: &mut Counts,
+)
+    requires due { IsDue command.now }
+    requires few { session.old.link.sent < 2 ^ 62 }
+    requires slots { output_slots outputs.old ≡ slot ∷ [] }
+    requires empty { drained outputs.old ≡ outputs.old }
+    requires counts { AreCountsOf (2 ^ 30) counts.old }
+    ensures carried { CarriedFirst P.means slot (command_turns command.now)
+        (Seated session.old inputs.old (output_slots outputs.old)) counts.old (Seated session.new inputs.new (output_slots outputs.new)) counts.new }
+    ensures sent { session.new.link.sent ≤ session.old.link.sent + 9000 }
+    ensures slots { output_slots outputs.new ≡ output_slots outputs.old }
+    ensures empty { drained outputs.new ≡ outputs.new }
+    ensures counts { (n : ℕ) → AreCountsOf n counts.old → AreCountsOf (n + 10) counts.new }
+{
+    for _ in 0..earlier_turns(command) {
+        carry_turn(command, false, slot, session, inputs, outputs, counts);
+    }
+    carry_turn(command, true, slot, session, inputs, outputs, counts);
+}
+
+/// Carries out each command in turn, and counts what came of it. The outputs are one, of this slot, and empty.
+pub fn carry_all<P: Dsp>(
+    commands: &[Command],
+    slot: u32,
+    session: &mut Session<P>,
+    inputs: &mut Inputs,
+    outputs: &mut Outputs,
+) -> Counts
+    requires due { AllByRecursion IsDue commands.now }
+    requires few { length commands.now < 2 ^ 20 }
+    requires first { session.old.link.sent ≡ 0 }
+    requires slots { output_slots outputs.old ≡ slot ∷ [] }
+    requires empty { drained outputs.old ≡ outputs.old }
+    ensures { CarriedOut P.means slot (turns_of commands.now)
+        (Seated session.old inputs.old (output_slots outputs.old)) law.no_counts (Seated session.new inputs.new (output_slots outputs.new)) result }
+{
+    let mut counts = Counts::none();
+    for command in commands {
+        carry_command(command, slot, session, inputs, outputs, &mut counts);
+    }
+    counts
+}

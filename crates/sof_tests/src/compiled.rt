@@ -1,8 +1,6 @@
 // Compiles over a desk that fails: a front of the file and of its line is left, and the status is 3.
-use fw_core::Firmware;
-use mbox_link::Dsp;
+use crate::runs::run_over;
 use sof_desk::MemDesk;
-use sof_run::run;
 use std::alloc::Global;
 use std::test::Fail;
 
@@ -28,23 +26,19 @@ struct Left {
 // A compile of the source into a file of at most `room` bytes, over a desk whose call of a number fails and still writes some
 // bytes.
 fn compiled(alloc: Global, room: usize, call: u32, passes: u32) -> Result<Left, Fail> {
-    let mut words = Vec::new(alloc);
-    for word in ["compile", "a.toml", "a.tplg"] {
-        words.push(String::from_str(alloc, word)?)?;
-    }
     let mut desk = MemDesk::new(alloc, 4096)?;
     desk.put_file("a.toml", SOURCE)?;
     desk.put_out("a.tplg", room)?;
     desk.fail_call(call, passes)?;
-    let dsp = Firmware::new(alloc, ROOM)?;
-    let ended = run(alloc, &words, &mut desk, dsp);
+    let words = ["compile", "a.toml", "a.tplg"];
+    let ending = run_over(alloc, words.as_slice(), ROOM, &mut desk)?;
     let mut said = Vec::new(alloc);
     said.extend_from_slice(desk.said())?;
     let mut out = Vec::new(alloc);
     out.extend_from_slice(desk.file("a.tplg").ok_or("no file")?)?;
     Ok(Left {
-        status: ended.status,
-        on: ended.dsp.on(),
+        status: ending.status,
+        on: ending.on,
         said,
         out,
     })

@@ -14,14 +14,14 @@ fn a_call_that_fails_leaves_a_front_of_what_is_said(rt: HostRuntime) -> Result<(
     ] {
         let failing = Some((call, passes));
         let outcome = played_thin(rt.alloc(), "992", b"load\nshow\nload\n", failing)?;
-        assert_eq!(rt; outcome.status, 3, "call {call}");
-        assert_eq!(rt; outcome.on, on, "call {call}");
+        assert_eq!(rt; outcome.ending.status, 3, "call {call}");
+        assert_eq!(rt; outcome.ending.on, on, "call {call}");
         assert_eq!(rt; outcome.said.as_slice(), said, "call {call}");
     }
     let words = ["play", "992", "a.tplg", "s.txt"];
     let script = Some(b"load\n".as_slice());
     let outcome = played(rt.alloc(), words.as_slice(), b"CoS", script, Some((3, 6)))?;
-    assert_eq!(rt; outcome.status, 3);
+    assert_eq!(rt; outcome.ending.status, 3);
     assert_eq!(rt; outcome.said.as_slice(), b"topolo".as_slice());
     Ok(())
 }
@@ -49,8 +49,8 @@ fn a_check_that_fails_leaves_a_front_of_its_lines(rt: HostRuntime) -> Result<(),
         let failing = Some((call, passes));
         let words = ["check", "a.tplg"];
         let outcome = played(alloc, words.as_slice(), &topology, None, failing)?;
-        assert_eq!(rt; outcome.status, status, "call {call}");
-        assert!(rt; !outcome.on, "call {call}");
+        assert_eq!(rt; outcome.ending.status, status, "call {call}");
+        assert!(rt; !outcome.ending.on, "call {call}");
         assert_eq!(rt;
             Some(outcome.said.as_slice()),
             COUNTS.get(..length),

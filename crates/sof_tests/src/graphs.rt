@@ -98,8 +98,11 @@ channels_min = 1
 channels_max = 8
 "#;
 
-/// The topology's file of a source.
+/// The topology's file of a source of at most 1 MiB.
 pub fn graph(alloc: Global, source: &[u8]) -> Result<Vec<u8>, Fail> {
+    if source.len() > 1048576 {
+        return Err("a long source")?;
+    }
     let Ok(topology) = compile(alloc, source) else {
         return Err("no source")?;
     };

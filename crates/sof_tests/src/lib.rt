@@ -13,6 +13,8 @@ mod graphs;
 mod played;
 mod rows;
 #[cfg(test)]
+mod runs;
+#[cfg(test)]
 mod sounds;
 
 pub use counted::check_rows;

@@ -1,21 +1,17 @@
 // A run over a desk in memory and the firmware.
 use crate::graphs::{THIN, graph};
-use fw_core::Firmware;
-use mbox_link::Dsp;
+use crate::runs::{Ending, run_over};
 use sof_desk::MemDesk;
-use sof_run::run;
 use std::alloc::Global;
 use std::test::Fail;
 
 /// The greatest heap of the firmware, in bytes.
 const ROOM: u32 = 16777216;
 
-/// What a run came to: its status, whether the device is on, how many bytes of its heap are carved, and what was said.
+/// What a run came to: how it ended, and what was said.
 #[derive(Debug, Drop)]
 pub struct Outcome {
-    pub status: u8,
-    pub on: bool,
-    pub used: u32,
+    pub ending: Ending,
     pub said: Vec<u8>,
 }
 
@@ -30,10 +26,6 @@ pub fn played(
     script: Option<&[u8]>,
     failing: Failing,
 ) -> Result<Outcome, Fail> {
-    let mut texts = Vec::new(alloc);
-    for word in words {
-        texts.push(String::from_str(alloc, word)?)?;
-    }
     let mut desk = MemDesk::new(alloc, 4096)?;
     desk.put_file("a.tplg", topology)?;
     if let Some(bytes) = script {
@@ -42,16 +34,10 @@ pub fn played(
     if let Some((call, written)) = failing {
         desk.fail_call(call, written)?;
     }
-    let dsp = Firmware::new(alloc, ROOM)?;
-    let ended = run(alloc, &texts, &mut desk, dsp);
+    let ending = run_over(alloc, words, ROOM, &mut desk)?;
     let mut said = Vec::new(alloc);
     said.extend_from_slice(desk.said())?;
-    Ok(Outcome {
-        status: ended.status,
-        on: ended.dsp.on(),
-        used: ended.dsp.used(),
-        said,
-    })
+    Ok(Outcome { ending, said })
 }
 
 /// A run of a script over the thin graph.

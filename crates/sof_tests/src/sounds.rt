@@ -1,9 +1,8 @@
 // Runs that play an input's file into an output's file over the volume graph and a desk that fails.
 use crate::graphs::{VOLUME, graph};
 use crate::played::Failing;
-use fw_core::Firmware;
+use crate::runs::run_over;
 use sof_desk::MemDesk;
-use sof_run::run;
 use std::alloc::Global;
 use std::test::Fail;
 
@@ -39,20 +38,16 @@ fn laid_out(
 
 // A run of a script over the volume graph, with an input.
 fn sounded(alloc: Global, script: &[u8], input: &[u8], failing: Failing) -> Result<Sound, Fail> {
-    let mut words = Vec::new(alloc);
-    for word in ["play", "1856", "a.tplg", "s.txt"] {
-        words.push(String::from_str(alloc, word)?)?;
-    }
     let topology = graph(alloc, VOLUME)?;
     let mut desk = laid_out(alloc, &topology, script, input, failing)?;
-    let dsp = Firmware::new(alloc, ROOM)?;
-    let ended = run(alloc, &words, &mut desk, dsp);
+    let words = ["play", "1856", "a.tplg", "s.txt"];
+    let ending = run_over(alloc, words.as_slice(), ROOM, &mut desk)?;
     let mut said = Vec::new(alloc);
     said.extend_from_slice(desk.said())?;
     let mut out = Vec::new(alloc);
     out.extend_from_slice(desk.file("out.raw").ok_or("no output")?)?;
     Ok(Sound {
-        status: ended.status,
+        status: ending.status,
         said,
         out,
     })

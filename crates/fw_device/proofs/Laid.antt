@@ -1,5 +1,7 @@
 -- A firmware's fields where it is off, and where it is on.
 use Rattle.std.proofs.Common.{zero-add, ◌≡◌, refl, sym, ap, ◌∙◌, subst, ℕ, ◌+◌, List, [], Bool, true, false, cond, Option, Some, None, arith}
+use Rattle.std.proofs.lemmas.Bool.{false≢true}
+use Rattle.std.specs.Prelude.{is_some}
 use Rattle.sof_base.specs.Holes.{total, usable_of, fresh_holes}
 use Rattle.stream_law.specs.State.{FwState}
 use Rattle.mbox_link.specs.Step.{fresh}
@@ -13,7 +15,7 @@ use Rattle.fw_components.specs.Changes.{given_all}
 use Rattle.fw_pipeline.specs.States.{AreOf, with_tables}
 use Rattle.fw_device.specs.declared.firmware.Firmware.TheInside.{Inside}
 use Rattle.fw_device.specs.Held.{state_in, IsHeld}
-use Rattle.fw_device.specs.Device.{used_of}
+use Rattle.fw_device.specs.Device.{Chip, used_of}
 use Rattle.fw_device.specs.Laid.{no_tables, chip_of, IsLaid}
 use Rattle.fw_device.proofs.Back.{all-back}
 
@@ -78,6 +80,14 @@ module _ (f : Inside) (laid : IsLaid f) where
       by : (h : Bool) → cond h (Some (state_in f.registry f.region f.clock)) None ≡ None → h ≡ false
       by true is = cc
       by false is = refl
+
+-- where it has a state it is on
+pub is-on : (f : Inside) (d : Chip) → chip_of f ≡ d → is_some d.state ≡ true → f.on ≡ true
+is-on f d was some = by f.on (ap (λ (d : Chip). is_some d.state) was ∙ some)
+  where
+    by : (h : Bool) → is_some (cond h (Some (state_in f.registry f.region f.clock)) None) ≡ true → h ≡ true
+    by true e = refl
+    by false e = absurd (false≢true e)
 
 -- ---- a boot
 

@@ -14,3 +14,4 @@ pub mod Gains
 pub mod Channels
 pub mod Played
 pub mod Ticks
+pub mod Scheduled

@@ -2,6 +2,7 @@
 use Rattle.std.specs.Prelude.{◌≡◌, [], true, false, Some, None, if◌then◌else◌}
 use Rattle.sof_base.specs.Holes.{fresh_holes}
 use Rattle.fw_components.specs.Tables.{Tables}
+use Rattle.fw_ticks.specs.Schedules.{IsScheduleOf}
 use Rattle.fw_device.specs.declared.firmware.Firmware.TheInside.{Inside}
 use Rattle.fw_device.specs.Held.{state_in, IsHeld}
 use Rattle.fw_device.specs.Device.{Chip}
@@ -17,7 +18,9 @@ chip_of f = record {
   most = f.region.size;
 }
 
--- Where it is on, what is so between messages. Where it is off, nothing is there, and all pieces are back.
+-- Where it is on, what is so between messages. Where it is off, nothing is there, and all pieces are back. Where its schedule is
+-- current, it is that of its registry.
 pub record IsLaid (f : Inside) : Type 0 where
   pub on : f.on ≡ true → IsHeld f.registry f.region
   pub off : f.on ≡ false → (f.registry ≡ no_tables) × (f.region.holes ≡ fresh_holes f.region.usable)
+  pub schedule : f.current ≡ true → IsScheduleOf f.registry f.schedule

@@ -3,3 +3,4 @@ pub mod Answers
 pub mod Device
 pub mod Laid
 pub mod Making
+pub mod Unchanged

@@ -1,9 +1,11 @@
 // The firmware behind its mailbox.
-ghost use Rattle.std.specs.Prelude.{◌≡◌};
+ghost use Rattle.std.specs.Prelude.{◌≡◌, true};
+ghost use Rattle.fw_ticks.specs.Schedules.{IsScheduleOf};
 ghost use Rattle.fw_device.specs.Device.{firmware};
 
 use crate::firmware::Firmware;
-use fw_ticks::tick;
+use fw_components::Registry;
+use fw_ticks::{Schedule, tick_by};
 use ipc3_codec::encode_reply;
 use mbox_link::{Dsp, LinkFault};
 use sof_io::{Inputs, Outputs};
@@ -29,6 +31,7 @@ impl Dsp for Firmware {
     fn cut(&mut self) {
         self.registry.remove_all(&mut self.region);
         self.on = false;
+        self.current = false;
     }
 
     fn exchange(
@@ -45,7 +48,20 @@ impl Dsp for Firmware {
     fn tick(&mut self, io: &mut Inputs, out: &mut Outputs) {
         if self.on {
             self.clock = self.clock.wrapping_add(1);
-            tick(&mut self.registry, io, out, self.clock);
+            renew(&self.registry, &mut self.schedule, self.current);
+            self.current = true;
+            tick_by(&mut self.registry, &self.schedule, io, out, self.clock);
         }
     }
+}
+
+// A schedule that is not current is made anew.
+fn renew(registry: &Registry, schedule: &mut Schedule, current: bool)
+    requires { current ≡ true → IsScheduleOf registry.now schedule.old }
+    ensures { IsScheduleOf registry.now schedule.new }
+{
+    if current {
+        return;
+    }
+    *schedule = Schedule::of(registry);
 }

@@ -1,28 +1,33 @@
 // The firmware, its making and its end.
-ghost use Rattle.std.specs.Prelude.{◌≡◌, IfOk, None, Some, true, is_some};
+ghost use Rattle.std.specs.Prelude.{◌≡◌, ◌&&◌, IfOk, None, Some, true, is_some};
 ghost use Rattle.fw_pipeline.specs.States.{with_tables};
 ghost use Rattle.stream_law.specs.State.{FwState};
 ghost use Rattle.fw_device.specs.Device.{used_of, stepped, reply_to, with_state};
 ghost use Rattle.fw_device.specs.Laid.{no_tables};
 ghost use Rattle.ipc3_codec.specs.Replies.{reply_spelling};
 ghost use Rattle.fw_device.specs.Answers.{reply_with};
+ghost use Rattle.fw_device.specs.Unchanged.{tells, changes_nothing};
 
 use crate::messages::answer;
 use fw_components::Registry;
 use fw_heap::Region;
+use fw_ticks::Schedule;
 use ipc3_codec::{Body, Reply};
 use sof_base::{Errno, NoMemory};
 use std::alloc::Global;
 use std::marker::Model;
 
-/// A DSP that answers each message with the firmware's step: its registry, the region that its pieces are carved from, and its
-/// clock in ticks. Its link never fails.
+/// A DSP that answers each message with the firmware's step: its registry, the region that its pieces are carved from, its clock
+/// in ticks, and the schedule that its ticks go by, which is made anew after a message that may have changed it. Its link never
+/// fails.
 pub struct Firmware {
     pub(crate) on: bool,
     pub(crate) boots: u64,
     pub(crate) clock: u32,
     pub(crate) registry: Registry,
     pub(crate) region: Region,
+    pub(crate) schedule: Schedule,
+    pub(crate) current: bool,
 }
 
 impl Model for Firmware {
@@ -44,13 +49,18 @@ impl Firmware {
     {
         let region = Region::new(alloc, room)?;
         match Registry::new(alloc) {
-            Ok(registry) => Ok(Firmware {
-                on: false,
-                boots: 0,
-                clock: 0,
-                registry,
-                region,
-            }),
+            Ok(registry) => {
+                let schedule = Schedule::of(&registry);
+                Ok(Firmware {
+                    on: false,
+                    boots: 0,
+                    clock: 0,
+                    registry,
+                    region,
+                    schedule,
+                    current: true,
+                })
+            }
             Err(refused) => {
                 region.close();
                 Err(refused)
@@ -79,7 +89,37 @@ impl Firmware {
         ensures step { self.new ≡ with_state (stepped self.old.state request.now) self.old }
         ensures reply { reply_to self.old.state request.now ≡ Some (reply_spelling result) }
     {
-        reply_of(answer(&mut self.registry, &mut self.region, request))
+        let answer = answer(&mut self.registry, &mut self.region, request);
+        self.current = is_still_current(self.current, &answer);
+        reply_of(answer)
+    }
+}
+
+// Whether what was current before a message with this answer still is.
+fn is_still_current(current: bool, answer: &Result<Body, Errno>) -> bool
+    ensures { result ≡ (current && changes_nothing answer.now) }
+{
+    current && changes_nothing(answer)
+}
+
+// Whether a message with this answer changed nothing: it was refused, or it told something.
+fn changes_nothing(answer: &Result<Body, Errno>) -> bool
+    ensures { result ≡ changes_nothing answer.now }
+{
+    match answer {
+        Ok(body) => tells(body),
+        Err(_) => true,
+    }
+}
+
+// Whether a body tells something.
+fn tells(body: &Body) -> bool
+    ensures { result ≡ tells body.now }
+{
+    match body {
+        Body::Nothing => false,
+        Body::Values(_) => true,
+        Body::Part(_) => true,
     }
 }
 
@@ -105,6 +145,8 @@ impl Drop for Firmware {
             clock: _,
             registry,
             region,
+            schedule: _,
+            current: _,
         } = self;
         let (mut registry, mut region) = (registry, region);
         registry.remove_all(&mut region);

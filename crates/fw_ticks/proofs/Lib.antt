@@ -25,3 +25,4 @@ mod AtPlaces
 mod InOrder
 mod Rising
 mod InTurn
+pub mod ScheduleLaws

@@ -5,3 +5,4 @@ pub mod Turns
 pub mod Dues
 pub mod Ticks
 pub mod Stages
+pub mod Schedules

@@ -6,9 +6,11 @@ mod endpoints;
 mod ends;
 mod ordering;
 mod samples;
+mod schedules;
 mod scratch;
 mod spots;
 mod ticking;
 mod units;
 
-pub use ticking::tick;
+pub use schedules::Schedule;
+pub use ticking::{tick, tick_by};

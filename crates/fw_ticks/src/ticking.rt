@@ -16,6 +16,7 @@ ghost use Rattle.stream_law.specs.TickLaws.{clocked};
 ghost use Rattle.fw_pipeline.specs.States.{with_tables, AreOf};
 ghost use Rattle.fw_ticks.specs.Ticks.{CanTick, io_of};
 ghost use Rattle.fw_ticks.specs.Spots.{AreSpots};
+ghost use Rattle.fw_ticks.specs.Schedules.{IsScheduleOf};
 ghost use Rattle.fw_ticks.specs.Dues.{IsDue, IsKindAt, is_output, least_by};
 ghost use Rattle.fw_ticks.specs.Stages.{bare_of, Moves, Grew};
 ghost use Rattle.sof_base.specs.Ports.{OutputView, InputView};
@@ -27,7 +28,7 @@ ghost use Rattle.fw_components.specs.Tables.{graph_of, view_by};
 use crate::dues::{Due, due_at};
 use crate::endpoints::{drain_frames, feed_frames, fill};
 use crate::ends::{fed_of, first_in, looked_of};
-use crate::ordering::order;
+use crate::schedules::Schedule;
 use crate::scratch::Scratch;
 use crate::spots::Spots;
 use crate::units::{chooses, format_in, least, reads, writes};
@@ -47,18 +48,38 @@ pub fn tick(registry: &mut Registry, io: &mut Inputs, out: &mut Outputs, clock: 
     ensures region { (home : Home) → AreOf home registry.old → AreOf home registry.new }
     ensures room { (n : ℕ) → HasRoom (n + 61440) out.old → HasRoom n out.new }
 {
+    let schedule = Schedule::of(registry);
+    tick_by(registry, &schedule, io, out, clock);
+}
+
+/// The same by the registry's schedule, which is still its schedule after that.
+pub fn tick_by(
+    registry: &mut Registry,
+    schedule: &Schedule,
+    io: &mut Inputs,
+    out: &mut Outputs,
+    clock: u32,
+)
+    requires can { CanTick registry.old }
+    requires schedule { IsScheduleOf registry.old schedule.now }
+    requires room { HasRoom 61440 out.old }
+    ensures moved { (f : FwState) → next_clock f.clock ≡ clock → Move (with_tables registry.old f) (io_of io.old out.old) (with_tables registry.new (clocked f)) (io_of io.new out.new) }
+    ensures can { CanTick registry.new }
+    ensures schedule { IsScheduleOf registry.new schedule.now }
+    ensures region { (home : Home) → AreOf home registry.old → AreOf home registry.new }
+    ensures room { (n : ℕ) → HasRoom (n + 61440) out.old → HasRoom n out.new }
+{
+    let _comps = registry.comps();
     let _inputs = io.len();
     let _outputs = out.len();
-    let spots = Spots::of(registry);
-    let order = order(registry);
-    let places = order.as_slice();
+    let places = schedule.order.as_slice();
     let mut scratch = Scratch::new();
     for i in 0..places.len() {
         move_at(
             registry,
             io,
             out,
-            &spots,
+            &schedule.spots,
             &mut scratch,
             usize::from(places[i]),
             clock,

@@ -13,4 +13,5 @@ invariant_of-self c =
     record {
       on = λ e. subst (λ (t : Tables). IsHeld t c.limit.new.self) (sym off.0) (fresh-held c.args.heap c.limit.new.self (ap (λ (r : RegionState). r.holes) c.limit.ensures) (ap (λ (r : RegionState). r.usable) c.limit.ensures));
       off = λ e. absurd (true≢false e);
+      schedule = c.self.invariant.schedule;
     }

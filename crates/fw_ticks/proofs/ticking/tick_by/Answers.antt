@@ -5,22 +5,20 @@ use Rattle.std.specs.List.{AllByRecursion, IsDistinct}
 use Rattle.sof_base.specs.Ports.{InputView}
 use Rattle.sof_io.specs.Bound.{HasPosition, output_slots}
 use Rattle.sof_io.specs.Puts.{room_at}
-use Rattle.stream_law.specs.State.{View}
 use Rattle.stream_law.specs.Order.{order}
 use Rattle.stream_law.specs.Ways.{components}
 use Rattle.stream_law.specs.Move.{after_moves, blob_of, next_clock, audio_after}
 use Rattle.fw_components.specs.Tables.{Tables, graph_of, view_by}
 use Rattle.fw_pipeline.specs.States.{with_tables}
-use Rattle.fw_ticks.specs.declared.spots.Spots.{Spots}
-use Rattle.fw_ticks.specs.Spots.{IsSpot, AreSpots, spot_at}
 use Rattle.fw_ticks.specs.Ticks.{io_of}
-use Rattle.fw_ticks.specs.Stages.{bare_by, bare_of, IsStage, Moves, Grew, audio_from}
+use Rattle.fw_ticks.specs.Stages.{bare_of, IsStage, Moves, Grew, audio_from}
 use Rattle.fw_ticks.proofs.Growing.{grew-still, grew-room}
 use Rattle.fw_ticks.proofs.InOrder.{order-distinct}
 use Rattle.fw_ticks.proofs.Rising.{rising-distinct}
 use Rattle.fw_ticks.proofs.Still.{can-still, view-still, graph-still, streams-still, pieces-still, homes-still}
+use Rattle.fw_ticks.proofs.ScheduleLaws.{schedule-seen}
 use Rattle.fw_ticks.proofs.InTurn.{IsOnWay, on-first, on-step}
-use Rattle.fw_ticks.proofs.ticking.tick.Goals as goal
+use Rattle.fw_ticks.proofs.ticking.tick_by.Goals as goal
 
 each-low : (xs : List InputView) → All HasPosition xs → AllByRecursion (λ x. x.position ≤ 2 ^ 64 - 1) xs
 each-low [] low = tt
@@ -32,32 +30,26 @@ id-now t0 t same places i k low is =
     (λ j. slice_index (components (graph-still t t0 same j)) (is j))
     ∙ sym (get_or-map (slice_index (components (graph_of t0))) places i 0 0 low)
 
-comps-same : (t t0 : Tables) → bare_of t ≡ bare_of t0 → length t.comps ≡ length t0.comps
-comps-same t t0 same = sym (length-map t.comps bare_by) ∙ ap (λ (t : Tables). length t.comps) same ∙ length-map t0.comps bare_by
-
-spots-still : (t t0 : Tables) (s : Spots) → bare_of t ≡ bare_of t0 → AreSpots t0 s → AreSpots t s
-spots-still t t0 s same spots = record { each = λ x. subst (λ (v : View). IsSpot v x (spot_at s x)) (sym (view-still t t0 same)) (spots.each x) }
-
 pub loop-i-init : goal.loop-i-init
 loop-i-init c =
     let t = c.args.registry.now in
     let ids = map (slice_index (components (graph_of t))) c.as_slice-places.result.now in
-    let is : ids ≡ order (graph_of t) = ap (map (slice_index (components (graph_of t)))) c.as_slice-places.ensures.value ∙ c.order-order.ensures.order in
-    on-first t c.order-order.ensures.kept (io_of c.args.io.now c.args.out.now) c.len-inputs.ensures.distinct (rising-distinct (output_slots c.args.out.now) c.len-outputs.ensures.ascending) (each-low c.args.io.now c.len-inputs.ensures.within) c.args.clock ids
+    let is : ids ≡ order (graph_of t) = ap (map (slice_index (components (graph_of t)))) c.as_slice-places.ensures.value ∙ c.requires.schedule.order in
+    on-first t c.comps-comps.ensures.kept (io_of c.args.io.now c.args.out.now) c.len-inputs.ensures.distinct (rising-distinct (output_slots c.args.out.now) c.len-outputs.ensures.ascending) (each-low c.args.io.now c.len-inputs.ensures.within) c.args.clock ids
     (subst (IsDistinct nat_eq) (sym is) (order-distinct (graph_of t))) c.requires.room
 
 pub move_at-requires-clause-there : goal.move_at-requires-clause-there
 move_at-requires-clause-there c =
     let t0 = c.args.registry.now in let t = c.loop-i.registry in let places = c.as_slice-places.result.now in let i = c.loop-i.i in
-    let same = c.loop-i.invariant.stage.bare in
-    let within : get_or places i 0 < length t0.comps = subst (All (λ k. k < length t0.comps)) (sym c.as_slice-places.ensures.value) c.order-order.ensures.within i 0 c.loop-i-test.true in
-    omega (arith, within, c.from.ensures, comps-same t t0 same)
+    let now = schedule-seen t0 t c.args.schedule.now (sym (view-still t t0 c.loop-i.invariant.stage.bare)) c.requires.schedule in
+    let within : get_or places i 0 < length t.comps = subst (All (λ k. k < length t.comps)) (sym c.as_slice-places.ensures.value) now.within i 0 c.loop-i-test.true in
+    omega (arith, within, c.from.ensures)
 
 pub move_at-requires-clause-can : goal.move_at-requires-clause-can
 move_at-requires-clause-can c = can-still c.args.registry.now c.loop-i.registry (sym c.loop-i.invariant.stage.bare) c.requires.can
 
 pub move_at-requires-clause-spots : goal.move_at-requires-clause-spots
-move_at-requires-clause-spots c = spots-still c.loop-i.registry c.args.registry.now c.of-spots.result c.loop-i.invariant.stage.bare c.of-spots.ensures
+move_at-requires-clause-spots c = (schedule-seen c.args.registry.now c.loop-i.registry c.args.schedule.now (sym (view-still c.loop-i.registry c.args.registry.now c.loop-i.invariant.stage.bare)) c.requires.schedule).spots
 
 pub move_at-requires-clause-room : goal.move_at-requires-clause-room
 move_at-requires-clause-room c =
@@ -93,7 +85,7 @@ returns-clause-moved c = λ f tick.
     let v = view_by t0 in
     let all : take i cs ≡ order (graph_of t0) =
     take_all i cs (omega (arith, c.loop-i-test.false, length-map places (slice_index (components (graph_of t0)))))
-    ∙ ap (map (slice_index (components (graph_of t0)))) c.as_slice-places.ensures.value ∙ c.order-order.ensures.order in
+    ∙ ap (map (slice_index (components (graph_of t0)))) c.as_slice-places.ensures.value ∙ c.requires.schedule.order in
     let stage : IsStage t0 start t c.loop-i.io c.loop-i.out (audio_after (with_tables t0 f) start) =
     subst (IsStage t0 start t c.loop-i.io c.loop-i.out) (λ j. after_moves (view_by t0) (blob_of (view_by t0)) (sym tick j) (all j) (audio_from t0 start)) c.loop-i.invariant.stage in
     record {
@@ -111,6 +103,9 @@ returns-clause-moved c = λ f tick.
 
 pub returns-clause-can : goal.returns-clause-can
 returns-clause-can c = can-still c.args.registry.now c.loop-i.registry (sym c.loop-i.invariant.stage.bare) c.requires.can
+
+pub returns-clause-schedule : goal.returns-clause-schedule
+returns-clause-schedule c = schedule-seen c.args.registry.now c.loop-i.registry c.args.schedule.now (sym (view-still c.loop-i.registry c.args.registry.now c.loop-i.invariant.stage.bare)) c.requires.schedule
 
 pub returns-clause-region : goal.returns-clause-region
 returns-clause-region c = λ home. homes-still home c.args.registry.now c.loop-i.registry (sym c.loop-i.invariant.stage.bare)

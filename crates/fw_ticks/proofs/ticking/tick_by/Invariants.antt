@@ -5,7 +5,7 @@ use Rattle.fw_components.specs.Tables.{graph_of}
 use Rattle.fw_ticks.specs.Ticks.{io_of}
 use Rattle.fw_ticks.specs.Stages.{audio_from}
 use Rattle.fw_ticks.proofs.InTurn.{IsOnWay}
-use Rattle.fw_ticks.proofs.ticking.tick.Given as goal
+use Rattle.fw_ticks.proofs.ticking.tick_by.Given as goal
 
 -- the first places have moved, and the others are left
 abbrev pub invariant-loop-i : goal.invariant-loop-i

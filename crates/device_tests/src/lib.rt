@@ -1,11 +1,7 @@
-//! Tests of the firmware as a device, and of what moves its frames, by their public calls.
+//! Tests of the firmware as a device, by its public calls.
 #![tactic(auto)]
 
 #[cfg(test)]
 mod device;
 #[cfg(test)]
-mod moves;
-#[cfg(test)]
-mod rings;
-#[cfg(test)]
-mod turns;
+mod pieces;

@@ -11,8 +11,10 @@ use Rattle.stream_law.specs.State.{FwState}
 use Rattle.mbox_link.specs.Step.{step, replied, row_of, body_of, error_reply}
 use Rattle.mbox_link.specs.Exchange.{Stepped, Rose, ticked}
 use Rattle.mbox_link.specs.Calls.{World, Exchanged, Ticked}
-use Rattle.fw_core.specs.Kept.{Held}
-use Rattle.fw_core.specs.Answers.{answer_of, reply_with}
+use Rattle.fw_heap.specs.Regions.{RegionState}
+use Rattle.fw_components.specs.Tables.{Tables}
+use Rattle.fw_core.specs.Held.{state_in}
+use Rattle.fw_core.specs.Answers.{answer_of, reply_with, IsRow}
 use Rattle.fw_core.specs.Device.{Chip, firmware, stepped, reply_to, with_state, after_tick}
 
 -- ---- an exchange
@@ -35,18 +37,23 @@ replied-by : (f g : FwState) (answer : Result Body Errno) (body : Body) (row : R
 replied-by f g (Ok said) body row is told kept = subst (λ r. replied f body r ≡ (g, reply_spelling (record { error = pos 0; body = said }))) is (ap (λ (b : Body). (g, reply_spelling (record { error = pos 0; body = b }))) (sym told))
 replied-by f g (Err error) body row is told kept = subst (λ r. replied f body r ≡ (g, error_reply error.0)) is (ap (λ (h : FwState). (h, error_reply error.0)) (sym kept))
 
+same-state : (t u : Tables) (r s : RegionState) (clock : ℕ) (answer : Result Body Errno) → OnErr answer ((u ≡ t) × (s ≡ r)) → OnErr answer (state_in u s clock ≡ state_in t r clock)
+same-state t u r s clock (Ok done) kept = kept
+same-state t u r s clock (Err error) kept = λ i. state_in (kept.0 i) (kept.1 i) clock
+
+said-at : (t : Tables) (r : RegionState) (clock : ℕ) (request : List ℕ) (answer : Result Body Errno) → IfOk answer (λ said. (clock : ℕ) → said ≡ body_of (state_in t r clock) (decoded request)) → IfOk answer (λ said. said ≡ body_of (state_in t r clock) (decoded request))
+said-at t r clock request (Ok said) told = told clock
+said-at t r clock request (Err error) told = told
+
 -- a device that answers so has done the step
-pub step-answered : (on : Bool) (boots : ℕ) (f g : Held) (answer : Result Body Errno) (request : List ℕ) (old : Chip) → record { state = cond on (Some f.state) None; boots = boots; most = f.room } ≡ old → is_some old.state ≡ true → answer_of g.state answer ≡ row_of f.state (decoded request) → IfOk answer (λ said. said ≡ body_of f.state (decoded request)) → OnErr answer (g ≡ f) → g.room ≡ f.room → (record { state = cond on (Some g.state) None; boots = boots; most = g.room } ≡ with_state (stepped old.state request) old) × (reply_to old.state request ≡ Some (reply_spelling (reply_with answer)))
+pub step-answered : (on : Bool) (boots clock : ℕ) (t u : Tables) (r s : RegionState) (answer : Result Body Errno) (request : List ℕ) (old : Chip) → record { state = cond on (Some (state_in t r clock)) None; boots = boots; most = r.size } ≡ old → is_some old.state ≡ true → IsRow (λ f. row_of f (decoded request)) t u r s answer → IfOk answer (λ said. (clock : ℕ) → said ≡ body_of (state_in t r clock) (decoded request)) → (record { state = cond on (Some (state_in u s clock)) None; boots = boots; most = s.size } ≡ with_state (stepped old.state request) old) × (reply_to old.state request ≡ Some (reply_spelling (reply_with answer)))
 unfolding step
-step-answered true boots f g answer request old was on is told kept room =
-    let done : replied f.state (body_of f.state (decoded request)) (row_of f.state (decoded request)) ≡ (g.state, reply_spelling (reply_with answer)) = replied-by f.state g.state answer (body_of f.state (decoded request)) (row_of f.state (decoded request)) is told (same answer kept) in
-    subst (λ (d : Chip). (record { state = Some g.state; boots = boots; most = g.room } ≡ with_state (stepped d.state request) d) × (reply_to d.state request ≡ Some (reply_spelling (reply_with answer)))) was
-    (λ i. record { state = Some (sym done i).0; boots = boots; most = room i }, ap (λ (p : FwState × List ℕ). Some p.1) done)
-  where
-    same : (a : Result Body Errno) → OnErr a (g ≡ f) → OnErr a (g.state ≡ f.state)
-    same (Ok done) e = e
-    same (Err error) e = ap (λ (h : Held). h.state) e
-step-answered false boots f g answer request old was on is told kept room = absurd (false≢true (ap (λ (d : Chip). is_some d.state) was ∙ on))
+step-answered true boots clock t u r s answer request old was on row told =
+    let f = state_in t r clock in let g = state_in u s clock in
+    let done : replied f (body_of f (decoded request)) (row_of f (decoded request)) ≡ (g, reply_spelling (reply_with answer)) = replied-by f g answer (body_of f (decoded request)) (row_of f (decoded request)) (row.told clock) (said-at t r clock request answer told) (same-state t u r s clock answer row.kept) in
+    subst (λ (d : Chip). (record { state = Some g; boots = boots; most = s.size } ≡ with_state (stepped d.state request) d) × (reply_to d.state request ≡ Some (reply_spelling (reply_with answer)))) was
+    (λ i. record { state = Some (sym done i).0; boots = boots; most = row.size i }, ap (λ (p : FwState × List ℕ). Some p.1) done)
+step-answered false boots clock t u r s answer request old was on row told = absurd (false≢true (ap (λ (d : Chip). is_some d.state) was ∙ on))
 
 -- ---- a tick
 

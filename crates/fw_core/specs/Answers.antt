@@ -1,15 +1,13 @@
 -- What a message was answered.
-use Rattle.std.specs.Prelude.{ℕ, ℤ, pos, map, Bool, true, not, ◌&&◌, nat_le, None, Result, Ok, Err, if◌then◌else◌}
+use Rattle.std.specs.Prelude.{◌≡◌, ℕ, ℤ, pos, OnErr, Result, Ok, Err}
 use Rattle.sof_base.specs.declared.errno.Errno.{Errno}
-use Rattle.ipc3_codec.specs.declared.message.CompWords.{CompWords}
-use Rattle.ipc3_codec.specs.declared.message.CompWords.TheVariants.{Volume}
 use Rattle.ipc3_codec.specs.declared.reply.Body.{Body}
 use Rattle.ipc3_codec.specs.declared.reply.Body.TheVariants.{Nothing}
 use Rattle.ipc3_codec.specs.declared.reply.Reply.{Reply}
-use Rattle.stream_law.specs.declared.stream.StreamView.{StreamView}
 use Rattle.stream_law.specs.State.{FwState}
-use Rattle.stream_law.specs.Seen.{seen}
-use Rattle.mbox_link.specs.Step.{no_device, invalid, is_used, has_kind, is_host, kind_at}
+use Rattle.fw_heap.specs.Regions.{RegionState}
+use Rattle.fw_components.specs.Tables.{Tables}
+use Rattle.fw_core.specs.Held.{state_in, IsHeld}
 
 -- the state that a message led to, or its negative error
 abbrev pub answer_of : {X : Type 0} → FwState → Result X Errno → Result FwState ℤ
@@ -21,18 +19,10 @@ abbrev pub reply_with : Result Body Errno → Reply
 reply_with (Ok body) = record { error = pos 0; body = body }
 reply_with (Err error) = record { error = error.0; body = Nothing }
 
--- whether the words of a component say at most 8 channels
-abbrev pub has_few_channels : CompWords → Bool
-has_few_channels (Volume channels min_value max_value) = nat_le channels 8
-has_few_channels words = true
-
--- a state whose streams are changed, and what that leaves of its rings
-abbrev pub with_streams : (StreamView → StreamView) → FwState → FwState
-with_streams to f = seen (record { graph = f.graph; streams = map to f.streams }) None f
-
--- the row of a message that changes a host's stream, by whether its phase is one of those that it leads from
-abbrev pub changed_if : FwState → ℕ → Bool → (StreamView → StreamView) → Result FwState ℤ
-changed_if f host from to =
-    if not (is_used f.graph host) then Err no_device
-    else if not (has_kind is_host (kind_at f.graph host) && from) then Err invalid
-    else Ok (with_streams to f)
+-- What a call does that a row of messages describes: it leads to the row's state or tells its error, at any clock. What is so of the
+-- tables and the region stays so, the region keeps its size, and nothing changes where the row is refused.
+pub record IsRow {X : Type 0} (row : FwState → Result FwState ℤ) (t u : Tables) (r s : RegionState) (answer : Result X Errno) : Type 0 where
+  pub told : (clock : ℕ) → answer_of (state_in u s clock) answer ≡ row (state_in t r clock)
+  pub held : IsHeld u s
+  pub size : s.size ≡ r.size
+  pub kept : OnErr answer ((u ≡ t) × (s ≡ r))

@@ -1,7 +1,6 @@
-pub mod Pieces
-pub mod Kept
-pub mod Marked
-pub mod Settled
+pub mod Held
 pub mod Answers
 pub mod Device
-pub mod Unready
+pub mod Laid
+pub mod Making
+pub mod Unchanged

@@ -1,32 +1,44 @@
-// The firmware behind its mailbox.
-ghost use Rattle.std.specs.Prelude.{◌≡◌, IfOk, Some, None, is_some, true};
+// The firmware, its making and its end.
+ghost use Rattle.std.specs.Prelude.{◌≡◌, ◌&&◌, IfOk, None, Some, true, is_some};
+ghost use Rattle.fw_pipeline.specs.States.{with_tables};
+ghost use Rattle.stream_law.specs.State.{FwState};
+ghost use Rattle.fw_core.specs.Device.{used_of, stepped, reply_to, with_state};
+ghost use Rattle.fw_core.specs.Laid.{no_tables};
 ghost use Rattle.ipc3_codec.specs.Replies.{reply_spelling};
 ghost use Rattle.fw_core.specs.Answers.{reply_with};
-ghost use Rattle.fw_core.specs.Device.{firmware, used_of, stepped, reply_to, with_state};
+ghost use Rattle.fw_core.specs.Unchanged.{tells, changes_nothing};
 
-use crate::player::Player;
-use ipc3_codec::{Body, Reply, encode_reply};
-use mbox_link::{Dsp, LinkFault};
+use crate::messages::answer;
+use fw_components::Registry;
+use fw_heap::Region;
+use fw_schedule::Schedule;
+use ipc3_codec::{Body, Reply};
 use sof_base::{Errno, NoMemory};
-use sof_io::{Inputs, Outputs};
 use std::alloc::Global;
 use std::marker::Model;
 
-/// A DSP that answers each message with the firmware's step. Its link never fails.
-#[derive(Drop)]
+/// A DSP that answers each message with the firmware's step: its registry, the region that its pieces are carved from, its clock
+/// in ticks, and the schedule that its ticks go by, which is made anew after a message that may have changed it. Its link never
+/// fails.
 pub struct Firmware {
-    on: bool,
-    boots: u64,
-    player: Player,
+    pub(crate) on: bool,
+    pub(crate) boots: u64,
+    pub(crate) clock: u32,
+    pub(crate) registry: Registry,
+    pub(crate) region: Region,
+    pub(crate) schedule: Schedule,
+    pub(crate) current: bool,
 }
 
 impl Model for Firmware {
-    ghost use Rattle.std.specs.Prelude.{Some, None, if◌then◌else◌};
     ghost use Rattle.fw_core.specs.Device.{Chip};
+    ghost use Rattle.fw_core.specs.Laid.{chip_of, IsLaid};
 
     ghost Value = { Chip };
 
-    ghost view = { λ f. record { state = if f.on then Some f.player.state else None; boots = f.boots; most = f.player.room } };
+    ghost view = { chip_of };
+
+    ghost invariant = { IsLaid };
 }
 
 impl Firmware {
@@ -35,27 +47,79 @@ impl Firmware {
     pub fn new(alloc: Global, room: u32) -> Result<Firmware, NoMemory>
         ensures { IfOk result (λ f. f ≡ record { state = None; boots = 0; most = room }) }
     {
-        Ok(Firmware {
-            on: false,
-            boots: 0,
-            player: Player::new(alloc, room)?,
-        })
+        let region = Region::new(alloc, room)?;
+        match Registry::new(alloc) {
+            Ok(registry) => {
+                let schedule = Schedule::of(&registry);
+                Ok(Firmware {
+                    on: false,
+                    boots: 0,
+                    clock: 0,
+                    registry,
+                    region,
+                    schedule,
+                    current: true,
+                })
+            }
+            Err(refused) => {
+                region.close();
+                Err(refused)
+            }
+        }
     }
 
     /// How many bytes of its heap are carved; 0 where it is off.
     pub fn used(&self) -> u32
         ensures { result ≡ used_of self.now.state }
     {
-        if self.on { self.player.used() } else { 0 }
+        self.region.used()
+    }
+
+    /// Its components, buffers and pipelines: those of its state where it is on, and none where it is off.
+    pub fn registry(&self) -> &Registry
+        ensures on { (f : FwState) → self.now.state ≡ Some f → with_tables result.now f ≡ f }
+        ensures off { self.now.state ≡ None → result.now ≡ no_tables }
+    {
+        &self.registry
     }
 
     // The step of a message: its reply.
-    fn reply(&mut self, request: &[u8]) -> Reply
+    pub(crate) fn reply(&mut self, request: &[u8]) -> Reply
         requires { is_some self.old.state ≡ true }
         ensures step { self.new ≡ with_state (stepped self.old.state request.now) self.old }
         ensures reply { reply_to self.old.state request.now ≡ Some (reply_spelling result) }
     {
-        reply_of(self.player.answer(request))
+        let answer = answer(&mut self.registry, &mut self.region, request);
+        self.current = is_still_current(self.current, &answer);
+        reply_of(answer)
+    }
+}
+
+// Whether what was current before a message with this answer still is.
+fn is_still_current(current: bool, answer: &Result<Body, Errno>) -> bool
+    ensures { result ≡ (current && changes_nothing answer.now) }
+{
+    current && changes_nothing(answer)
+}
+
+// Whether a message with this answer changed nothing: it was refused, or it told something.
+fn changes_nothing(answer: &Result<Body, Errno>) -> bool
+    ensures { result ≡ changes_nothing answer.now }
+{
+    match answer {
+        Ok(body) => tells(body),
+        Err(_) => true,
+    }
+}
+
+// Whether a body tells something.
+fn tells(body: &Body) -> bool
+    ensures { result ≡ tells body.now }
+{
+    match body {
+        Body::Nothing => false,
+        Body::Values(_) => true,
+        Body::Part(_) => true,
     }
 }
 
@@ -72,41 +136,21 @@ fn reply_of(answer: Result<Body, Errno>) -> Reply
     }
 }
 
-impl Dsp for Firmware {
-    ghost means = { firmware };
-
-    fn room(&self) -> u32 {
-        self.player.room()
-    }
-
-    fn on(&self) -> bool {
-        self.on
-    }
-
-    fn boot(&mut self, heap: u32) {
-        self.player.reset(heap);
-        self.on = true;
-        self.boots = self.boots.saturating_add(1);
-    }
-
-    fn cut(&mut self) {
-        self.on = false;
-    }
-
-    fn exchange(
-        &mut self,
-        request: &[u8],
-        reply: &mut [u8; 384],
-        _io: &mut Inputs,
-        _out: &mut Outputs,
-    ) -> Result<usize, LinkFault> {
-        let answer = self.reply(request);
-        Ok(encode_reply(&answer, reply))
-    }
-
-    fn tick(&mut self, io: &mut Inputs, out: &mut Outputs) {
-        if self.on {
-            self.player.tick(io, out);
-        }
+impl Drop for Firmware {
+    /// Gives all pieces and all memory back.
+    fn drop(self) {
+        let Firmware {
+            on: _,
+            boots: _,
+            clock: _,
+            registry,
+            region,
+            schedule: _,
+            current: _,
+        } = self;
+        let (mut registry, mut region) = (registry, region);
+        registry.remove_all(&mut region);
+        registry.close();
+        region.close();
     }
 }

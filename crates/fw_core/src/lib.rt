@@ -1,23 +1,13 @@
-//! The firmware as a device: its heap, its graph of components and buffers, its streams and its clock, what it answers to
-//! each message, and what a tick does. All that it will ever need is reserved when it is made.
+//! The firmware as a device: off, or on with its registry and its heap; what it answers to each message, and its ticks. All that it
+//! will ever need is reserved when it is made.
 #![tactic(auto)]
 
-mod changes;
+mod controls;
+mod dsp;
 mod firmware;
-mod growth;
-mod heap;
-mod joins;
-mod kinds;
 mod making;
-mod marks;
-mod order;
-mod player;
-mod scene;
-mod schedule;
-mod settle;
-mod state;
-mod table;
-mod turning;
-mod walks;
+mod messages;
+mod rows;
+mod units;
 
 pub use firmware::Firmware;

@@ -1,94 +1,195 @@
-// What a component that is no endpoint does in a view.
-ghost use Rattle.std.specs.Prelude.{◌≡◌, ◌≤◌, ◌&&◌, ◌||◌, ◌==◌, not, map, filter, option_map, option_copied, slice_get, Some, length};
-ghost use Rattle.stream_law.specs.Ways.{comp_of, is_end, ins, inputs, active_end as has_active_end};
-ghost use Rattle.stream_law.specs.Moves.{is_choosy as picks};
-ghost use Rattle.fw_schedule.specs.Turns.{place_of, inlets_of, effect_by, kernel_by};
+// The rows of messages that bring a component, a buffer or a pipeline.
+ghost use Rattle.std.specs.Prelude.{◌≡◌, ◌==◌, ◌&&◌, true, false};
+ghost use Rattle.std.specs.List.{list_any};
+ghost use Rattle.ipc3_codec.specs.Allowed.{is_buffer_size, is_period};
+ghost use Rattle.ipc3_codec.specs.Messages.{IsKind};
+ghost use Rattle.mbox_link.specs.Step.{comp_new as comp_new_row, buffer_new as buffer_new_row, pipe_new as pipe_new_row, kind_of, first_setting, is_complete as is_whole, has_index as names_index};
+ghost use Rattle.fw_components.specs.Tables.{graph_of, complete_by};
+ghost use Rattle.fw_components.specs.Changes.{added, is_there, is_full, IsNew, has_new_index};
+ghost use Rattle.fw_core.specs.Held.{IsHeld};
+ghost use Rattle.fw_core.specs.Answers.{IsRow};
 
-use crate::joins::is_at;
-use crate::scene::Scene;
-use fw_moves::{Effect, Kernel};
-use sof_base::Bounded;
-use stream_law::{Comp, Edge, Join, Kind, Setting};
+use crate::units::{bytes_of, unit_of};
+use fw_components::{Component, Registry, Unit, additions_are_seen};
+use fw_heap::Region;
+use fw_ring::Ring;
+use fw_walks::is_used;
+use ipc3_codec::CompWords;
+use sof_base::Errno;
 
-impl<'a> Scene<'a> {
-    /// The rings that a component takes frames from, and what it makes of them.
-    pub fn kernel(&self, comp: &Comp) -> Kernel
-        requires there { comp_of self.now.graph comp.now.id ≡ Some comp.now }
-        requires few { length (ins self.now.graph comp.now.id) ≤ 8 }
-        ensures { result ≡ kernel_by comp.now.kind comp.now.setting self.now comp.now.id }
-    {
-        Kernel {
-            inlets: self.inlets(comp),
-            effect: self.effect(comp),
-        }
+/// The stated size of a pipeline, and of a buffer without its bytes, in bytes.
+const PIPE_BYTES: u32 = 64;
+
+const BUFFER_BYTES: u32 = 32;
+
+/// A component of these words, in the pipeline of this index. A host brings a stream without parameters.
+pub(crate) fn comp_new(
+    registry: &mut Registry,
+    region: &mut Region,
+    id: u32,
+    pipe: u32,
+    words: CompWords,
+    frame_fmt: u32,
+) -> Result<(), Errno>
+    requires words { IsKind words frame_fmt }
+    requires held { IsHeld registry.old region.old }
+    ensures { IsRow (λ f. comp_new_row f id pipe (kind_of words frame_fmt) (first_setting words)) registry.old registry.new region.old region.new result }
+{
+    if is_used(registry, id) || is_complete(registry, pipe) {
+        return Err(Errno::BUSY);
     }
-
-    // What it makes of its frames.
-    fn effect(&self, comp: &Comp) -> Effect
-        ensures { result ≡ effect_by comp.now.kind comp.now.setting self.now comp.now.id }
-    {
-        match (comp.kind, &comp.setting) {
-            (Kind::Volume, Setting::Gains(gains)) => Effect::Amplify(gains.copied()),
-            (Kind::Volume, _) => Effect::Amplify(Bounded::empty()),
-            (Kind::Mixer, _) => Effect::Mix,
-            (Kind::Mux, Setting::Choice(choice)) => Effect::Choose(self.chosen(comp.id, *choice)),
-            (Kind::Mux, _) => Effect::Choose(self.chosen(comp.id, 0)),
-            _ => Effect::Pass,
-        }
+    if registry.comps().len() >= 128 {
+        return Err(Errno::NO_MEMORY);
     }
+    let Ok(piece) = region.carve(bytes_of(words, frame_fmt)) else {
+        return Err(Errno::NO_MEMORY);
+    };
+    add(
+        registry,
+        Component {
+            id,
+            pipe,
+            channels: 1,
+            unit: unit_of(words, frame_fmt, piece),
+        },
+    );
+    Ok(())
+}
 
-    // The place of the ring of a component's input of this number, from 0 in the order in which they were joined.
-    fn chosen(&self, id: u32, number: u32) -> Option<usize>
-        ensures { result ≡ option_map (place_of self.now.graph) (slice_get (inputs self.now.graph id) number) }
-    {
-        match self.join_in(id, number) {
-            Some(join) => Some(self.place(join.source)),
-            None => None,
-        }
+/// A buffer of so many bytes, in the pipeline of this index, joined to nothing. Its ring lies behind the first 32 bytes of its
+/// piece.
+pub(crate) fn buffer_new(
+    registry: &mut Registry,
+    region: &mut Region,
+    id: u32,
+    pipe: u32,
+    size: u32,
+) -> Result<(), Errno>
+    requires size { is_buffer_size size ≡ true }
+    requires held { IsHeld registry.old region.old }
+    ensures { IsRow (λ f. buffer_new_row f id pipe size) registry.old registry.new region.old region.new result }
+{
+    if is_used(registry, id) || is_complete(registry, pipe) {
+        return Err(Errno::BUSY);
     }
-
-    // The join of that input.
-    fn join_in(&self, id: u32, number: u32) -> Option<&Join>
-        ensures { option_copied result ≡ slice_get (filter (λ j. j.sink == id) self.now.graph.joins) number }
-    {
-        self.joins
-            .iter()
-            .filter(|join| join.sink == id)
-            .nth(number as usize)
+    if registry.buffers().len() >= 128 {
+        return Err(Errno::NO_MEMORY);
     }
+    let Ok(piece) = region.carve(BUFFER_BYTES + size) else {
+        return Err(Errno::NO_MEMORY);
+    };
+    add(
+        registry,
+        Component {
+            id,
+            pipe,
+            channels: 1,
+            unit: Unit::Buffer {
+                size,
+                ring: Ring::over(piece, size / 4, 1),
+                source: None,
+                sink: None,
+            },
+        },
+    );
+    Ok(())
+}
 
-    // The places of the rings that it may take frames from.
-    fn inlets(&self, comp: &Comp) -> Bounded<usize, 8>
-        requires there { comp_of self.now.graph comp.now.id ≡ Some comp.now }
-        requires few { length (ins self.now.graph comp.now.id) ≤ 8 }
-        ensures { result ≡ map (place_of self.now.graph) (inlets_of self.now comp.now.id) }
-    {
-        let mut places = [0; 8];
-        let mut count = 0;
-        for (place, edge) in self.edges.iter().enumerate() {
-            if self.is_inlet(comp, edge) {
-                places[count] = place;
-                count += 1;
-            }
-        }
-        match Bounded::new(&places[..count]) {
-            Some(places) => places,
-            // Never so: there are at most 8.
-            None => Bounded::empty(),
-        }
+/// A pipeline of this index that is not complete.
+pub(crate) fn pipe_new(
+    registry: &mut Registry,
+    region: &mut Region,
+    id: u32,
+    index: u32,
+    sched: u32,
+    period: u32,
+) -> Result<(), Errno>
+    requires period { is_period period ≡ true }
+    requires held { IsHeld registry.old region.old }
+    ensures { IsRow (λ f. pipe_new_row f id index sched period) registry.old registry.new region.old region.new result }
+{
+    if is_used(registry, id) || has_index(registry, index) {
+        return Err(Errno::BUSY);
     }
+    if registry.pipes().len() >= 32 {
+        return Err(Errno::NO_MEMORY);
+    }
+    let Ok(piece) = region.carve(PIPE_BYTES) else {
+        return Err(Errno::NO_MEMORY);
+    };
+    add(
+        registry,
+        Component {
+            id,
+            pipe: index,
+            channels: 1,
+            unit: Unit::Pipeline {
+                sched,
+                period,
+                complete: false,
+                piece,
+            },
+        },
+    );
+    Ok(())
+}
 
-    // Whether an edge goes into a component, which may take frames from it.
-    fn is_inlet(&self, comp: &Comp, edge: &Edge) -> bool
-        ensures { result ≡ (is_end edge.now.sink comp.now.id && (not (picks comp.now.kind) || has_active_end self.now edge.now.source)) }
-    {
-        is_at(edge.sink, comp.id) && (!is_choosy(comp.kind) || self.active_end(edge.source))
+// Adds what there is room for.
+fn add(registry: &mut Registry, component: Component)
+    requires id { is_there registry.old component.id ≡ false }
+    requires unit { IsNew component.unit }
+    requires index { has_new_index component registry.old ≡ true }
+    requires room { is_full component.unit registry.old ≡ false }
+    ensures { registry.new ≡ added component registry.old }
+{
+    match registry.add(component) {
+        Ok(()) => (),
+        Err(_full) => unreachable!(),
     }
 }
 
-// Whether a component of a kind takes frames only from inputs that are Active.
-fn is_choosy(kind: Kind) -> bool
-    ensures { result ≡ picks kind }
+// Whether the pipeline of an index is complete.
+fn is_complete(registry: &Registry, index: u32) -> bool
+    ensures { result ≡ is_whole (graph_of registry.now) index }
 {
-    matches!(kind, Kind::Mixer | Kind::Mux)
+    any_complete(registry.pipes(), index)
+}
+
+// Whether one of these of an index is complete.
+fn any_complete(pipes: &[Component], index: u32) -> bool
+    ensures { result ≡ list_any (λ p. p.pipe == index && complete_by p.unit) pipes.now }
+{
+    pipes
+        .iter()
+        .any(|pipe| pipe.pipe == index && completes(&pipe.unit))
+}
+
+// Whether a unit is a pipeline that is complete.
+fn completes(unit: &Unit) -> bool
+    ensures { result ≡ complete_by unit.now }
+{
+    match unit {
+        Unit::Host { .. } => false,
+        Unit::Dai { .. } => false,
+        Unit::Volume { .. } => false,
+        Unit::Mixer { .. } => false,
+        Unit::Mux { .. } => false,
+        Unit::Eq { .. } => false,
+        Unit::Buffer { .. } => false,
+        Unit::Pipeline { complete, .. } => *complete,
+    }
+}
+
+// Whether a pipeline of an index is there.
+fn has_index(registry: &Registry, index: u32) -> bool
+    ensures { result ≡ names_index (graph_of registry.now) index }
+{
+    any_of(registry.pipes(), index)
+}
+
+// Whether one of these has an index.
+fn any_of(pipes: &[Component], index: u32) -> bool
+    ensures { result ≡ list_any (λ p. p.pipe == index) pipes.now }
+{
+    pipes.iter().any(|pipe| pipe.pipe == index)
 }

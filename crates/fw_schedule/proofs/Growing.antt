@@ -5,8 +5,8 @@ use Rattle.std.specs.List.{AllByRecursion}
 use Rattle.sof_base.specs.Ports.{OutputView, HasRoom}
 use Rattle.sof_io.specs.Puts.{with_piece}
 use Rattle.stream_law.specs.Order.{is_among}
-use Rattle.fw_schedule.specs.Ticks.{Grew}
-use Rattle.fw_schedule.proofs.Shown.{eqb-turned}
+use Rattle.fw_schedule.specs.Stages.{Grew}
+use Rattle.fw_schedule.proofs.ShownEnds.{eqb-turned}
 
 pub grew-none : (outputs : List OutputView) → Grew [] outputs outputs
 grew-none [] = tt

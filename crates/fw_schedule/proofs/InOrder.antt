@@ -1,16 +1,15 @@
 -- The order of moves has components alone, and none twice.
-use Rattle.std.proofs.Common.{◌≡◌, refl, sym, ap, ◌∙◌, ℕ, zero, suc, ◌<◌, min, List, [], ◌∷◌, length, filter, map, Some, Bool, true, false, cond, not, inl, inr, ◌⊎◌, ◌==◌, ◌||◌, arith}
-use Rattle.std.proofs.lemmas.Bool.{false≢true, and_parts, eq-eqb, or_left, or_right, cases_order, not-true}
-use Rattle.std.specs.List.{AllByRecursion, IsDistinct, list_all, find}
+use Rattle.std.proofs.Common.{◌≡◌, refl, sym, ap, ◌∙◌, ℕ, zero, suc, ◌<◌, min, List, [], ◌∷◌, length, filter, Bool, true, false, not, inl, inr, ◌⊎◌, ◌==◌, ◌||◌, arith}
+use Rattle.std.proofs.lemmas.Bool.{and_parts, eq-eqb, or_left, or_right, cases_order, not-true}
+use Rattle.std.specs.List.{AllByRecursion, IsDistinct}
 use Rattle.std.specs.Option.{option_map_or}
-use Rattle.stream_law.specs.declared.graph.Comp.{Comp}
 use Rattle.stream_law.specs.declared.graph.Graph.{Graph}
 use Rattle.stream_law.specs.Ways.{components}
 use Rattle.stream_law.specs.Moves.{least}
 use Rattle.stream_law.specs.Order.{is_among, is_ready, least_of, without, placed_from, order}
 use Rattle.stream_law.proofs.Among.{is_among-filter}
 use Rattle.stream_law.proofs.Keyed.{all-from}
-use Rattle.fw_schedule.proofs.Shown.{eqb-turned}
+use Rattle.fw_schedule.proofs.ShownEnds.{eqb-turned}
 
 -- the least of a list is in it
 least-among : (x : ℕ) (xs : List ℕ) → is_among (x ∷ xs) (least x xs) ≡ true
@@ -67,14 +66,3 @@ order-among g = placed-among g (length (components g)) [] (components g)
 pub order-distinct : (g : Graph) → IsDistinct (λ a b. a == b) (order g)
 unfolding order
 order-distinct g = placed-distinct g (length (components g)) [] (components g)
-
--- a component by its id, which passes a test that all pass
-pub comp-at : (p : Comp → Bool) (comps : List Comp) (c : ℕ) → list_all p comps ≡ true → is_among (map (λ x. x.id) comps) c ≡ true → (x : Comp) × (find (λ x. x.id == c) comps ≡ Some x) × ((x.id == c) ≡ true) × (p x ≡ true)
-comp-at p [] c ps there = absurd (false≢true there)
-comp-at p (y ∷ ys) c ps there =
-    let pp = and_parts (p y) (list_all p ys) ps in
-    by_first (y.id == c) refl there pp.0 (comp-at p ys c pp.1)
-  where
-    by_first : (h : Bool) → (y.id == c) ≡ h → (h || is_among (map (λ x. x.id) ys) c) ≡ true → p y ≡ true → (is_among (map (λ x. x.id) ys) c ≡ true → (x : Comp) × (find (λ x. x.id == c) ys ≡ Some x) × ((x.id == c) ≡ true) × (p x ≡ true)) → (x : Comp) × (cond h (Some y) (find (λ x. x.id == c) ys) ≡ Some x) × ((x.id == c) ≡ true) × (p x ≡ true)
-    by_first true e h py rest = (y, refl, e, py)
-    by_first false e h py rest = rest h

@@ -1,20 +1,28 @@
--- Lemmas on turns.
-pub mod NextFrames
-pub mod Shown
-pub mod NoFrames
-pub mod NoNumbers
-pub mod Moved
-pub mod KernelMade
-pub mod ByKind
-pub mod KernelRings
-pub mod Steps
-pub mod KernelSteps
-pub mod InOrder
-pub mod Whole
-pub mod Growing
-pub mod Bounds
-pub mod RingsSeen
-pub mod Pieces
-pub mod Running
-pub mod OneByOne
-pub mod Standing
+mod SampleRuns
+mod FrameBytes
+mod OneBuffer
+mod Parts
+mod Meeting
+mod FirstEnds
+mod MetStreams
+mod TurnsSeen
+mod KeptEnds
+mod DueRuns
+mod ShownEnds
+mod NoFrames
+mod NextFrames
+mod Moved
+mod ByKind
+mod Still
+mod Stages
+mod Along
+mod Fed
+mod Growing
+mod Drained
+mod Least
+mod Processed
+mod AtPlaces
+mod InOrder
+mod Rising
+mod InTurn
+pub mod ScheduleLaws

@@ -7,7 +7,7 @@ use Rattle.sof_base.specs.Samples.{Frame, frames_in}
 use Rattle.sof_base.specs.Ports.{Io, InputView, moved_on}
 use Rattle.sof_io.specs.Takes.{taken}
 use Rattle.sof_io.specs.Puts.{with_piece}
-use Rattle.stream_law.specs.State.{View, RingView}
+use Rattle.stream_law.specs.State.{View}
 use Rattle.stream_law.specs.Table.{table, number_of, list_of, updated}
 use Rattle.stream_law.specs.Placed.{HasDistinct}
 use Rattle.stream_law.specs.Ways.{outs, channels_of}
@@ -15,22 +15,12 @@ use Rattle.stream_law.specs.Moves.{quota, runs, chooses, fed_by, looked_at, is_e
 use Rattle.stream_law.specs.Order.{is_among}
 use Rattle.stream_law.specs.Made.{only_slice, frames_made}
 use Rattle.stream_law.specs.Endpoints.{format_of, reads, bytes_of_frames, bytes_written}
-use Rattle.stream_law.specs.Equaliser.{passed_frames, numbers_after}
-use Rattle.stream_law.specs.Move.{Audio, after_move, ring_length, ring_room, frames_moved, looked_now, fronts, made_now, bytes_moved, bytes_now, io_after}
+use Rattle.stream_law.specs.Equaliser.{passed_frames}
+use Rattle.stream_law.specs.Move.{Audio, after_move, frames_moved, looked_now, fronts, made_now, bytes_moved, bytes_now, io_after}
 use Rattle.stream_law.proofs.Among.{value_of-updated_among, value_of-updated_apart, value_of-updated_kept}
+use Rattle.fw_schedule.specs.Stages.{AreEnds}
 use Rattle.fw_schedule.proofs.NoFrames.{made-none}
-use Rattle.fw_schedule.proofs.NoNumbers.{numbers-none}
-use Rattle.fw_schedule.proofs.Shown.{shown_rings, shown-taken, shown-untaken, shown-put, put-none}
-
--- rings and endpoints at a stage of a tick
-abbrev pub shown : List RingView → Io → Audio → List RingView × Io
-shown rings io a = (shown_rings (λ b. list_of a.rings b) rings, io_after io a)
-
--- no position is past its last value, nothing is left of a slot that is not bound, and no number is kept
-pub record IsStage (io : Io) (a : Audio) : Type 0 where
-  pub low : (x : ℕ) → number_of a.positions x ≤ 2 ^ 64 - 1
-  pub none : (x : ℕ) → is_among (map (λ (i : InputView). i.slot) io.inputs) x ≡ false → list_of a.left x ≡ []
-  pub numbers : (x : ℕ) → list_of a.numbers x ≡ []
+use Rattle.fw_schedule.proofs.ShownEnds.{shown-taken, shown-put}
 
 -- ---- how many frames
 
@@ -78,13 +68,9 @@ module _ (v : View) (blobs : ℕ → List ℕ) (t c : ℕ) (io : Io) (a : Audio)
     outputs = shown-put c (bytes_now v blobs t c a) (λ x. list_of a.written x) io.outputs outputs i;
   }
 
-  pub stage-moved : blobs c ≡ [] → IsStage io a → IsStage io (after_move v blobs t c a)
-  stage-moved unset stage = record { low = λ x. low x (c == x); none = λ x gone. none x gone (c == x) refl; numbers = λ x. numbers x (c == x) }
+  pub on-moved : AreEnds io a → AreEnds io (after_move v blobs t c a)
+  on-moved stage = record { inputs = stage.inputs; outputs = stage.outputs; low = λ x. low x (c == x); none = λ x gone. none x gone (c == x) refl }
     where
-      numbers : (x : ℕ) (h : Bool) → cond h (numbers_after (blobs c) (channels_of v c) (list_of a.numbers c) (only_slice (fronts v blobs t c a))) (list_of a.numbers x) ≡ []
-      numbers x true = (λ i. numbers_after (unset i) (channels_of v c) (stage.numbers c i) (only_slice (fronts v blobs t c a))) ∙ numbers-none (channels_of v c) (only_slice (fronts v blobs t c a))
-      numbers x false = stage.numbers x
-
       low : (x : ℕ) (h : Bool) → cond h (moved_on (number_of a.positions c) (bytes_moved v blobs t c a)) (number_of a.positions x) ≤ 2 ^ 64 - 1
       low x true = omega arith
       low x false = stage.low x
@@ -96,7 +82,7 @@ module _ (v : View) (blobs : ℕ → List ℕ) (t c : ℕ) (io : Io) (a : Audio)
   -- ---- rings
 
   -- a component that moves no frame and makes none leaves the rings
-  rings-still : frames_moved v blobs t c a ≡ 0 → made_now v blobs t c a ≡ [] → (b : ℕ) → list_of (after_move v blobs t c a).rings b ≡ list_of a.rings b
+  pub rings-still : frames_moved v blobs t c a ≡ 0 → made_now v blobs t c a ≡ [] → (b : ℕ) → list_of (after_move v blobs t c a).rings b ≡ list_of a.rings b
   rings-still idle none b =
       value_of-updated_kept [] (fed_by v c) (λ b. list_of a.rings b ++ made_now v blobs t c a) dropped b (λ there. ap (λ made. list_of a.rings b ++ made) none ∙ append-nil (list_of a.rings b) ∙ sym ring)
       ∙ ring
@@ -107,22 +93,12 @@ module _ (v : View) (blobs : ℕ → List ℕ) (t c : ℕ) (io : Io) (a : Audio)
       ring : list_of dropped b ≡ list_of a.rings b
       ring = value_of-updated_kept [] (looked_now v blobs t c a) (λ b. drop (frames_moved v blobs t c a) (list_of a.rings b)) a.rings b (λ there. ap (λ m. drop m (list_of a.rings b)) idle)
 
-  takes-none : frames_moved v blobs t c a ≡ 0 → bytes_moved v blobs t c a ≡ 0
+  pub takes-none : frames_moved v blobs t c a ≡ 0 → bytes_moved v blobs t c a ≡ 0
   takes-none idle = ap (λ m. cond (reads v c) (bytes_of_frames v c m) 0) idle ∙ both (reads v c)
     where
       both : (h : Bool) → cond h (bytes_of_frames v c 0) 0 ≡ 0
       both true = omega arith
       both false = refl
-
-  -- and one that writes nothing either leaves all
-  pub shown-still : (rings : List RingView) → HasDistinct (λ x. x.slot) io.inputs → HasDistinct (λ x. x.slot) io.outputs → IsStage io a → frames_moved v blobs t c a ≡ 0 → made_now v blobs t c a ≡ [] → bytes_now v blobs t c a ≡ [] → shown rings io (after_move v blobs t c a) ≡ shown rings io a
-  shown-still rings inputs outputs stage idle none silent =
-      λ i. (
-        shown_rings (λ b. rings-still idle none b i) rings,
-        (io-moved inputs outputs
-            ∙ (λ j. record { inputs = taken c (takes-none idle j) (io_after io a).inputs; outputs = with_piece c (silent j) (io_after io a).outputs })
-            ∙ (λ j. record { inputs = shown-untaken c (λ x. number_of a.positions x) (λ x. list_of a.left x) io.inputs stage.low j; outputs = put-none c (io_after io a).outputs j })) i,
-      )
 
   -- what does not run makes nothing
   pub made-idle : frames_moved v blobs t c a ≡ 0 → made_now v blobs t c a ≡ []
@@ -130,11 +106,8 @@ module _ (v : View) (blobs : ℕ → List ℕ) (t c : ℕ) (io : Io) (a : Audio)
       ap (λ n. frames_made v c n (frames_in (format_of v c) (channels_of v c) (list_of a.left c) 0 n) (table (looked_now v blobs t c a) (λ b. take n (list_of a.rings b))) (λ blob channels frames. passed_frames blob channels (list_of a.numbers c) frames)) idle
       ∙ made-none (looked_now v blobs t c a) (λ b. list_of a.rings b) v c (list_of a.numbers c)
 
-  -- and leaves all, whatever its kind
-  pub shown-idle : (rings : List RingView) → HasDistinct (λ x. x.slot) io.inputs → HasDistinct (λ x. x.slot) io.outputs → IsStage io a → runs v t c ≡ false → shown rings io (after_move v blobs t c a) ≡ shown rings io a
-  shown-idle rings inputs outputs stage off =
-      let idle = frames-idle v t (ring_length v blobs t c a) (ring_room v blobs t c a) c off in
-      shown-still rings inputs outputs stage idle (made-idle idle) (ap (λ h. cond h (bytes_written v c (frames_moved v blobs t c a) (quota v t c) (only_slice (fronts v blobs t c a))) []) off)
+  pub writes-idle : runs v t c ≡ false → bytes_now v blobs t c a ≡ []
+  writes-idle off = ap (λ h. cond h (bytes_written v c (frames_moved v blobs t c a) (quota v t c) (only_slice (fronts v blobs t c a))) []) off
 
   -- one that feeds one edge and takes from none puts its frames behind those of the edge
   pub rings-fed : (b : ℕ) → looked_now v blobs t c a ≡ [] → fed_by v c ≡ b ∷ [] → (x : ℕ) → list_of (after_move v blobs t c a).rings x ≡ cond (b == x) (list_of a.rings b ++ made_now v blobs t c a) (list_of a.rings x)

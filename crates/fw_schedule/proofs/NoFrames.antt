@@ -19,7 +19,7 @@ module _ (ids : List ℕ) (frames : ℕ → List Frame) where
   abbrev slices : List (ℕ × List Frame)
   slices = table ids (λ b. take 0 (frames b))
 
-  only-none : only_slice slices ≡ []
+  pub only-none : only_slice slices ≡ []
   only-none = first ids
     where
       first : (bs : List ℕ) → only_slice (table bs (λ b. take 0 (frames b))) ≡ []

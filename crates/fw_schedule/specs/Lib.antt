@@ -1,4 +1,8 @@
--- The turns of a tick, and their laws.
+-- What a tick over the registry asks and leaves.
+pub mod Units
+pub mod Spots
 pub mod Turns
+pub mod Dues
 pub mod Ticks
-pub mod TurnLaws
+pub mod Stages
+pub mod Schedules

@@ -1,11 +1,16 @@
-//! The turns of a tick: what each Active component moves between its rings, and an endpoint between its slot and its ring. A call
-//! that runs nothing carries the law that these turns are the tick.
+//! A tick over the registry: each Active component whose pipeline runs moves its frames once, in order.
 #![tactic(auto)]
 
-mod laws;
+mod dues;
+mod endpoints;
+mod ends;
+mod ordering;
+mod samples;
+mod schedules;
+mod scratch;
+mod spots;
 mod ticking;
-mod turn;
+mod units;
 
-pub use laws::{turns_are_a_tick, turns_stand};
-pub use ticking::{TURN_BYTES, tick};
-pub use turn::{Action, Turn};
+pub use schedules::Schedule;
+pub use ticking::{tick, tick_by};

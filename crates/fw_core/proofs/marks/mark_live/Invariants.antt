@@ -1,8 +1,0 @@
-use Rattle.std.proofs.Common.{◌≡◌, map, take}
-use Rattle.stream_law.specs.Ways.{is_live_phase}
-use Rattle.fw_core.proofs.Marking.{first-of}
-use Rattle.fw_core.proofs.OneWay.{passing}
-use Rattle.fw_core.proofs.marks.mark_live.Given as goal
-
-abbrev pub invariant-loop-stream : goal.invariant-loop-stream
-invariant-loop-stream l = l.marks ≡ map (first-of (passing (λ s. is_live_phase s.phase) l.scene.graph) (take l.stream-index l.stream-items)) l.fn.marks

@@ -1,0 +1,88 @@
+// What a new component is, by the words of its message, and how many bytes it takes.
+ghost use Rattle.std.specs.Prelude.{◌≡◌, ◌≤◌, ◌<◌, replicate, false};
+ghost use Rattle.sof_base.specs.Holes.{rounded};
+ghost use Rattle.mbox_link.specs.Step.{comp_bytes, format_of, kind_of as named_kind, first_setting as named_setting};
+ghost use Rattle.ipc3_codec.specs.Messages.{IsKind};
+ghost use Rattle.fw_components.specs.Tables.{is_buffer, is_pipeline, kind_by, setting_by};
+ghost use Rattle.fw_components.specs.Changes.{IsNew};
+ghost use Rattle.fw_core.specs.Making.{IsIn};
+
+use eq_biquad::Eq;
+use fw_components::Unit;
+use fw_heap::Piece;
+use ipc3_codec::CompWords;
+use sof_base::{Bounded, Format};
+use stream_law::Phase;
+
+/// A new component by the words of its message: a host is Idle, each gain of a volume is 1, a mux chooses its first input, and no
+/// blob is in force.
+pub(crate) fn unit_of(words: CompWords, frame_fmt: u32, piece: Piece) -> Unit
+    requires words { IsKind words frame_fmt }
+    requires size { piece.size ≡ rounded (comp_bytes (named_kind words frame_fmt)) }
+    ensures kind { kind_by result ≡ named_kind words frame_fmt }
+    ensures setting { setting_by result ≡ named_setting words }
+    ensures piece { IsIn piece result }
+    ensures new { IsNew result }
+    ensures plain { (is_buffer result ≡ false) × (is_pipeline result ≡ false) }
+{
+    match words {
+        CompWords::Host { direction } => Unit::Host {
+            capture: direction != 0,
+            phase: Phase::Idle,
+            params: None,
+            piece,
+        },
+        CompWords::Dai { direction, .. } => Unit::Dai {
+            capture: direction != 0,
+            format: frame_format(frame_fmt),
+            piece,
+        },
+        CompWords::Volume { channels, .. } => Unit::Volume {
+            gains: first_gains(channels),
+            piece,
+        },
+        CompWords::Mixer => Unit::Mixer { piece },
+        CompWords::Mux => Unit::Mux { choice: 0, piece },
+        CompWords::Eq => Unit::Eq {
+            eq: Eq::in_piece(piece),
+            next: 0,
+            remaining: 0,
+        },
+    }
+}
+
+// A gain of 1 for each of so many channels.
+fn first_gains(channels: u32) -> Bounded<u32, 8>
+    requires { channels ≤ 8 }
+    ensures { result ≡ replicate channels 65536 }
+{
+    let gains = [65536; 8];
+    match Bounded::new(&gains[..channels as usize]) {
+        Some(gains) => gains,
+        // Never so: there are at most 8.
+        None => Bounded::empty(),
+    }
+}
+
+// The sample format of a frame format: 0 for 16 bits, 1 for 24 bits in 4 bytes, and 32 bits for the rest.
+fn frame_format(number: u32) -> Format
+    ensures { result ≡ format_of number }
+{
+    match number {
+        0 => Format::S16,
+        1 => Format::S24,
+        _ => Format::S32,
+    }
+}
+
+/// The stated size of a component, in bytes.
+pub(crate) fn bytes_of(words: CompWords, _frame_fmt: u32) -> u32
+    ensures size { result ≡ comp_bytes (named_kind words _frame_fmt) }
+    ensures some { 0 < result }
+{
+    match words {
+        CompWords::Host { .. } | CompWords::Dai { .. } | CompWords::Volume { .. } => 64,
+        CompWords::Mixer | CompWords::Mux => 32,
+        CompWords::Eq => 4160,
+    }
+}

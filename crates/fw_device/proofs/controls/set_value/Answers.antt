@@ -1,7 +1,0 @@
-use Rattle.std.proofs.Common.{◌∙◌, ap, List, ℕ}
-use Rattle.fw_components.specs.Values.{values_set}
-use Rattle.fw_device.proofs.Values.{set-is}
-use Rattle.fw_device.proofs.controls.set_value.Goals as goal
-
-pub returns : goal.returns
-returns c = set-is c.args.registry.now c.set_values.new.self c.args._region.now c.args.id c.args.command c.args.values.now c.requires c.set_values.result (c.set_values.ensures.answer ∙ ap (λ (xs : List ℕ). values_set c.args.registry.now c.args.id c.args.command xs) c.items.ensures.value) c.set_values.ensures.kept

@@ -1,3 +1,0 @@
-pub mod RingLists
-pub mod RingWords
-pub mod RingsLaid

@@ -1,0 +1,424 @@
+-- A move between buffers is that of a tick.
+use Rattle.std.proofs.Common.{◌≡◌, refl, sym, ap, ◌∙◌, subst, ℕ, ◌+◌, ◌≤◌, min, List, [], ◌∷◌, ◌++◌, map, take, drop, filter, length, Bool, true, false, cond, not, nat_le, ◌==◌, ◌&&◌, ◌||◌, Option, Some, None, option_map, inl, inr, ◌⊎◌, arith, ℤ}
+use Rattle.std.proofs.lemmas.Bool.{true≢false, false≢true, or_right, or_left, or_cases, and_parts, and_from, eqb-true, eq-eqb, false_from_ne_true}
+use Rattle.std.specs.Prelude.{find, slice_get, nat_eq}
+use Rattle.std.specs.List.{AllByRecursion, IsDistinct}
+use Rattle.std.specs.Option.{option_map_or}
+use Rattle.sof_base.specs.Samples.{Frame, frames_in}
+use Rattle.sof_base.specs.Ports.{InputView, OutputView, Io}
+use Rattle.stream_law.specs.declared.graph.Kind.{Kind}
+use Rattle.stream_law.specs.declared.graph.Kind.TheVariants as kinds
+use Rattle.stream_law.specs.declared.graph.Comp.{Comp}
+use Rattle.stream_law.specs.declared.graph.Edge.{Edge}
+use Rattle.stream_law.specs.State.{View, RingView, History}
+use Rattle.stream_law.specs.Table.{table, list_of}
+use Rattle.stream_law.specs.Ways.{ins, outs, buffers, comp_of, source_of, sink_of, is_end, active, active_end, live, channels_of}
+use Rattle.stream_law.specs.Joins.{fits_kind}
+use Rattle.stream_law.specs.Moves.{runs, quota, chooses, is_choosy, looks, looked_at, fed, fed_by, is_empty, least}
+use Rattle.stream_law.specs.Order.{is_among}
+use Rattle.stream_law.specs.Made.{only_slice, frames_made}
+use Rattle.stream_law.specs.Seen.{is_equaliser, equalises}
+use Rattle.stream_law.specs.Endpoints.{is_input, format_of, bytes_of_frames, bytes_by, bytes_written}
+use Rattle.stream_law.specs.Equaliser.{passed_frames, numbers_after}
+use Rattle.stream_law.specs.Move.{Audio, after_move, blob_of, ring_length, ring_room, frames_moved, looked_now, fronts, made_now, bytes_moved, bytes_now}
+use Rattle.stream_law.proofs.Members.{IsIn, in-all, in-any, find-in}
+use Rattle.stream_law.proofs.Placing.{Ascends-distinct}
+use Rattle.stream_law.proofs.Feeding.{frames_made_same, looked-parts}
+use Rattle.row_laws.proofs.Fewer.{distinct-filter}
+use Rattle.row_laws.proofs.Near.{no-loop}
+use Rattle.row_laws.proofs.Playing.{active-live}
+use Rattle.fw_components.specs.declared.component.Unit as units
+use Rattle.fw_components.specs.declared.component.Unit.TheVariants.{Host, Dai, Volume, Mixer, Mux, Eq, Buffer, Pipeline}
+use Rattle.fw_components.specs.declared.component.Component.{Component}
+use Rattle.fw_components.specs.Tables.{Tables, graph_of, view_by, comp_by, edge_by, kind_by, rings_of, histories_of, staging_of, frames_at, capacity_at, numbers_by}
+use Rattle.fw_components.specs.Changes.{has_id}
+use Rattle.fw_components.specs.Frames.{with_frames}
+use Rattle.fw_components.specs.Kept.{IsKept, is_plain}
+use Rattle.fw_components.specs.Processed.{moves_of, moves_at, channels_moved, IsInlet, IsOutlet, slices_in, made_at, numbers_at, drained_ring, moved_rings, with_numbers}
+use Rattle.fw_walks.proofs.Naming.{find-map}
+use Rattle.fw_walks.proofs.OnWays.{any-map}
+use Rattle.fw_schedule.specs.Ticks.{CanTick}
+use Rattle.fw_schedule.specs.Dues.{is_output}
+use Rattle.fw_schedule.specs.Stages.{bare_of, heard_ring, heard_history, IsStage, AreEnds}
+use Rattle.fw_schedule.proofs.KeptEnds.{is_looked, looked-are}
+use Rattle.fw_schedule.proofs.ShownEnds.{eqb-turned}
+use Rattle.fw_schedule.proofs.Moved.{frames-looked, frames-unfed, rings-made, made-idle}
+use Rattle.fw_schedule.proofs.ByKind.{chooses-of, written-of, reads-of}
+use Rattle.fw_schedule.proofs.Still.{frames-heard, view-still}
+use Rattle.fw_schedule.proofs.Stages.{still, inputs-still, outputs-still, ring, histories-each}
+use Rattle.fw_schedule.proofs.Least.{least-last, least-most, least-each}
+use Rattle.fw_schedule.proofs.Along.{IsThere, IsAt, fits, out-at, in-at, single-some, single-none, only-passes}
+
+-- ---- kinds that move frames between buffers
+
+pub record IsMaker (k : Kind) : Type 0 where
+  pub silent : (v : View) (c n most : ℕ) (frames : List Frame) → bytes_by k v c n most frames ≡ []
+  pub reads : is_input k ≡ false
+  pub single : (m n : ℕ) → fits_kind k m n ≡ true → n ≡ 1
+  pub alone : (m n : ℕ) → fits_kind k m n ≡ true → is_choosy k ≡ false → m ≡ 1
+
+two-numbers : (m n a b : ℕ) → ((m == a) && (n == b)) ≡ true → (m ≡ a) × (n ≡ b)
+two-numbers m n a b h = let parts = and_parts (m == a) (n == b) h in (eqb-true m a parts.0, eqb-true n b parts.1)
+
+choosy-single : (m n : ℕ) → (nat_le 1 m && nat_le m 8 && (n == 1)) ≡ true → n ≡ 1
+choosy-single m n h = eqb-true n 1 (and_parts (nat_le 1 m && nat_le m 8) (n == 1) h).1
+
+maker-by : (k : Kind) → (not (is_input k) && not (is_output k)) ≡ true → IsMaker k
+maker-by kinds.Volume is = record { silent = λ v c n most frames. refl; reads = refl; single = λ m n h. (two-numbers m n 1 1 h).1; alone = λ m n h picks. (two-numbers m n 1 1 h).0 }
+maker-by kinds.Eq is = record { silent = λ v c n most frames. refl; reads = refl; single = λ m n h. (two-numbers m n 1 1 h).1; alone = λ m n h picks. (two-numbers m n 1 1 h).0 }
+maker-by kinds.Mixer is = record { silent = λ v c n most frames. refl; reads = refl; single = choosy-single; alone = λ m n h picks. absurd (true≢false picks) }
+maker-by kinds.Mux is = record { silent = λ v c n most frames. refl; reads = refl; single = choosy-single; alone = λ m n h picks. absurd (true≢false picks) }
+maker-by kinds.HostPlay is = absurd (false≢true is)
+maker-by (kinds.DaiCapture format) is = absurd (false≢true is)
+maker-by kinds.HostCapture is = absurd (false≢true is)
+maker-by (kinds.DaiPlay format) is = absurd (false≢true is)
+
+-- a unit of such a kind moves so many
+unit-moves : (u : units.Unit) (inlets : ℕ) → is_plain u ≡ true → (not (is_input (kind_by u)) && not (is_output (kind_by u))) ≡ true → (is_choosy (kind_by u) ≡ false → inlets ≡ 1) → moves_of u inlets ≡ true
+unit-moves (Host true phase params piece) inlets plain is one = absurd (false≢true is)
+unit-moves (Host false phase params piece) inlets plain is one = absurd (false≢true is)
+unit-moves (Dai true format piece) inlets plain is one = absurd (false≢true is)
+unit-moves (Dai false format piece) inlets plain is one = absurd (false≢true is)
+unit-moves (Volume gains piece) inlets plain is one = eq-eqb inlets 1 (one refl)
+unit-moves (Mixer piece) inlets plain is one = refl
+unit-moves (Mux choice piece) inlets plain is one = refl
+unit-moves (Eq eq next remaining) inlets plain is one = eq-eqb inlets 1 (one refl)
+unit-moves (Buffer size ring source sink) inlets plain is one = absurd (false≢true plain)
+unit-moves (Pipeline sched period complete piece) inlets plain is one = absurd (false≢true plain)
+
+-- ---- lists
+
+in-each-among : (P : ℕ → Type 0) (xs : List ℕ) → ((x : ℕ) → is_among xs x ≡ true → P x) → AllByRecursion P xs
+in-each-among P [] each = tt
+in-each-among P (x ∷ xs) each = (each x (or_left (x == x) _ (eq-eqb x x refl)), in-each-among P xs (λ y there. each y (or_right (x == y) _ there)))
+
+all-among : (P : ℕ → Type 0) (xs : List ℕ) (x : ℕ) → AllByRecursion P xs → is_among xs x ≡ true → P x
+all-among P [] x all there = absurd (false≢true there)
+all-among P (y ∷ ys) x all there = by (or_cases (y == x) (is_among ys x) there) (all-among P ys x all.1)
+  where
+    by : ((y == x) ≡ true) ⊎ (is_among ys x ≡ true) → (is_among ys x ≡ true → P x) → P x
+    by (inl same) rest = subst P (eqb-true y x same) all.0
+    by (inr more) rest = rest more
+
+distinct-end : (xs : List ℕ) (b : ℕ) → IsDistinct nat_eq xs → is_among xs b ≡ false → IsDistinct nat_eq (xs ++ b ∷ [])
+unfolding IsDistinct
+distinct-end [] b apart out = (tt, tt)
+distinct-end (x ∷ xs) b apart out = by (x == b) refl out (distinct-end xs b apart.1)
+  where
+    each : (ys : List ℕ) → AllByRecursion (λ y. nat_eq x y ≡ false) ys → nat_eq x b ≡ false → AllByRecursion (λ y. nat_eq x y ≡ false) (ys ++ b ∷ [])
+    each [] all other = (other, tt)
+    each (y ∷ ys) all other = (all.0, each ys all.1 other)
+
+    by : (h : Bool) → (x == b) ≡ h → (h || is_among xs b) ≡ false → (is_among xs b ≡ false → IsDistinct nat_eq (xs ++ b ∷ [])) → IsDistinct nat_eq (x ∷ (xs ++ b ∷ []))
+    by true h out rest = absurd (true≢false out)
+    by false h out rest = (each xs apart.0 h, rest out)
+
+filter-same : (p q : ℕ → Bool) (xs : List ℕ) → ((x : ℕ) → is_among xs x ≡ true → p x ≡ q x) → filter p xs ≡ filter q xs
+filter-same p q [] same = refl
+filter-same p q (x ∷ xs) same = (λ i. cond (same x (or_left (x == x) _ (eq-eqb x x refl)) i) (x ∷ filter-same p q xs (λ y there. same y (or_right (x == y) _ there)) i) (filter-same p q xs (λ y there. same y (or_right (x == y) _ there)) i))
+
+table-same : {X : Type 0} (f g : ℕ → X) (xs : List ℕ) → AllByRecursion (λ x. f x ≡ g x) xs → table xs f ≡ table xs g
+table-same f g [] same = refl
+table-same f g (x ∷ xs) same = λ i. (x, same.0 i) ∷ table-same f g xs same.1 i
+
+map-same-among : (f g : ℕ → ℕ) (xs : List ℕ) → AllByRecursion (λ x. f x ≡ g x) xs → map f xs ≡ map g xs
+map-same-among f g [] same = refl
+map-same-among f g (x ∷ xs) same = λ i. same.0 i ∷ map-same-among f g xs same.1 i
+
+-- a filtered id is one of the list, and passes
+among-filter : (p : ℕ → Bool) (xs : List ℕ) (x : ℕ) → is_among (filter p xs) x ≡ true → (is_among xs x ≡ true) × (p x ≡ true)
+among-filter p [] x there = absurd (false≢true there)
+among-filter p (y ∷ ys) x there = by (p y) refl there (among-filter p ys x)
+  where
+    by : (h : Bool) → p y ≡ h → is_among (cond h (y ∷ filter p ys) (filter p ys)) x ≡ true → (is_among (filter p ys) x ≡ true → (is_among ys x ≡ true) × (p x ≡ true)) → ((y == x || is_among ys x) ≡ true) × (p x ≡ true)
+    by true is there rest = both (or_cases (y == x) (is_among (filter p ys) x) there)
+      where
+        both : ((y == x) ≡ true) ⊎ (is_among (filter p ys) x ≡ true) → ((y == x || is_among ys x) ≡ true) × (p x ≡ true)
+        both (inl same) = (or_left (y == x) _ same, ap p (sym (eqb-true y x same)) ∙ is)
+        both (inr more) = let r = rest more in (or_right (y == x) _ r.0, r.1)
+    by false is there rest = let r = rest there in (or_right (y == x) _ r.0, r.1)
+
+-- ---- numbers
+
+-- a history of a component
+abbrev history : ℕ → List ℤ → History
+history c numbers = record { comp = c; numbers = numbers }
+
+-- the numbers of a Live equaliser are those of the audio
+numbers-heard : (a : Audio) (v : View) (cs : List Component) (hs : List History) → map (λ c. record { comp = c.id; numbers = numbers_by c.unit c.channels }) (filter (λ c. equalises v c.id) cs) ≡ map (heard_history a) hs → (id : ℕ) → equalises v id ≡ true → has_id cs id ≡ true → option_map_or (λ c. numbers_by c.unit c.channels) (find (λ c. c.id == id) cs) [] ≡ list_of a.numbers id
+numbers-heard a v [] hs same id is there = absurd (false≢true there)
+numbers-heard a v (c ∷ cs) hs same id is there = by (c.id == id) refl there (equalises v c.id) refl hs same (λ hs same there. numbers-heard a v cs hs same id is there)
+  where
+    one : Component → History
+    one c = record { comp = c.id; numbers = numbers_by c.unit c.channels }
+
+    rest : List Component
+    rest = filter (λ c. equalises v c.id) cs
+
+    by : (h : Bool) → (c.id == id) ≡ h → (h || has_id cs id) ≡ true → (k : Bool) → equalises v c.id ≡ k → (hs : List History) → map (λ c. record { comp = c.id; numbers = numbers_by c.unit c.channels }) (cond k (c ∷ filter (λ c. equalises v c.id) cs) (filter (λ c. equalises v c.id) cs)) ≡ map (heard_history a) hs
+        → ((hs : List History) → map (λ c. record { comp = c.id; numbers = numbers_by c.unit c.channels }) (filter (λ c. equalises v c.id) cs) ≡ map (heard_history a) hs → has_id cs id ≡ true → option_map_or (λ c. numbers_by c.unit c.channels) (find (λ c. c.id == id) cs) [] ≡ list_of a.numbers id)
+        → option_map_or (λ c. numbers_by c.unit c.channels) (cond h (Some c) (find (λ c. c.id == id) cs)) [] ≡ list_of a.numbers id
+    by true own there true eq [] same more = absurd (cc same)
+    by true own there true eq (h ∷ hs) same more =
+        let first : record { comp = c.id; numbers = numbers_by c.unit c.channels } ≡ heard_history a h = cc same in
+        ap (λ (h : History). h.numbers) first ∙ ap (list_of a.numbers) (sym (ap (λ (h : History). h.comp) first) ∙ eqb-true c.id id own)
+    by true own there false eq hs same more = absurd (true≢false (sym is ∙ ap (equalises v) (sym (eqb-true c.id id own)) ∙ eq))
+    by false own there true eq [] same more = absurd (cc same)
+    by false own there true eq (h ∷ hs) same more = more hs (cc same) there
+    by false own there false eq hs same more = more hs same there
+
+-- ---- one component
+
+abbrev pub is_maker : Kind → Bool
+is_maker k = not (is_input k) && not (is_output k)
+
+module _ (t : Tables) (kept : IsKept t) (can : CanTick t) (id : ℕ) (there : IsThere (graph_of t) id is_maker) (now : active (view_by t) id ≡ true) where
+  abbrev v : View
+  v = view_by t
+
+  maker : IsMaker there.comp.kind
+  maker = maker-by there.comp.kind there.kind
+
+  -- what the graph has as a buffer is one
+  has-buffer : (b : ℕ) → has_id t.buffers b ≡ is_among (buffers (graph_of t)) b
+  has-buffer b = sym (any-map (λ id. id == b) (λ (e : Edge). e.buffer) (map edge_by t.buffers) ∙ any-map (λ (e : Edge). e.buffer == b) edge_by t.buffers)
+
+  one-out : length (outs (graph_of t) id) ≡ 1
+  one-out = maker.single (length (ins (graph_of t) id)) (length (outs (graph_of t) id)) (fits t kept can id is_maker there now)
+
+  pub fed-one : (b : ℕ) → slice_get (fed_by v id) 0 ≡ Some b → (outs (graph_of t) id ≡ b ∷ []) × (fed_by v id ≡ b ∷ [])
+  fed-one b is = single-some (fed v) (outs (graph_of t) id) b one-out is
+
+  out-end : (b : ℕ) → slice_get (fed_by v id) 0 ≡ Some b → is_end (source_of (graph_of t) b) id ≡ true
+  out-end b is = only-passes (λ b. is_end (source_of (graph_of t) b) id) _ b (fed-one b is).0
+
+  pub fed-at : (b : ℕ) → slice_get (fed_by v id) 0 ≡ Some b → IsAt t id b
+  fed-at b is = out-at t kept can id is_maker there now b (out-end b is)
+
+  -- a buffer that it looks at
+  weaker : (x y z : Bool) → (x || (y && z)) ≡ true → (x || y) ≡ true
+  weaker true y z e = refl
+  weaker false y z e = (and_parts y z e).0
+
+  pub looked-at : (h : ℕ → ℕ) (b : ℕ) → is_among (looked_at v h id) b ≡ true → IsAt t id b
+  looked-at h b is =
+      let parts = looked-parts v h id b is in
+      in-at t kept can id is_maker there now b parts.1 (weaker (not (chooses v id)) (active_end v (source_of (graph_of t) b)) (nat_le 1 (h b)) parts.0)
+
+  -- it looks at none that it feeds
+  pub looked-apart : (h : ℕ → ℕ) (b : ℕ) → slice_get (fed_by v id) 0 ≡ Some b → is_among (looked_at v h id) b ≡ false
+  looked-apart h b is = false_from_ne_true _ (λ both. true≢false (sym (looked-parts v h id b both).1 ∙ no-loop (graph_of t) can.wired can.linked b id (out-end b is)))
+
+  pub looked-distinct : (looked : List ℕ) (b : ℕ) → looked ≡ looked_at v (λ b. length (frames_at t b)) id → slice_get (fed_by v id) 0 ≡ Some b → IsDistinct nat_eq (looked ++ b ∷ [])
+  looked-distinct looked b are is =
+      distinct-end looked b
+      (subst (IsDistinct nat_eq) (sym (are ∙ looked-are t id (chooses v id) kept.named.buffers refl)) (distinct-filter (λ (c : Component). c.id) (is_looked t id (chooses v id)) t.buffers (Ascends-distinct (λ (c : Component). c.id) t.buffers kept.named.buffers)))
+      (ap (λ ids. is_among ids b) are ∙ looked-apart (λ b. length (frames_at t b)) b is)
+
+  -- where it does not choose it looks at its one buffer
+  pub looked-one : (h : ℕ → ℕ) → chooses v id ≡ false → length (looked_at v h id) ≡ 1
+  looked-one h plain =
+      ap length (pass (ins (graph_of t) id))
+      ∙ maker.alone (length (ins (graph_of t) id)) (length (outs (graph_of t) id)) (fits t kept can id is_maker there now) (sym (chooses-of v id there.comp there.is there.comp.kind refl) ∙ plain)
+    where
+      pass : (xs : List ℕ) → filter (looks v h id) xs ≡ xs
+      pass [] = refl
+      pass (x ∷ xs) = (λ i. cond (or_left (not (chooses v id)) (active_end v (source_of (graph_of t) x) && nat_le 1 (h x)) (ap not plain) i) (x ∷ pass xs i) (pass xs i))
+
+  -- its component in the table
+  own : (d : Component) × (find (λ c. c.id == id) t.comps ≡ Some d) × (comp_by d ≡ there.comp)
+  own = by (find (λ c. c.id == id) t.comps) refl (sym (find-map (λ (x : Comp). x.id == id) comp_by t.comps) ∙ there.is)
+    where
+      by : (o : Option Component) → find (λ c. c.id == id) t.comps ≡ o → option_map comp_by o ≡ Some there.comp → (d : Component) × (find (λ c. c.id == id) t.comps ≡ Some d) × (comp_by d ≡ there.comp)
+      by None is e = absurd (cc e)
+      by (Some d) is e = (d, is, cc e)
+
+  own-in : IsIn own.0 t.comps × ((own.0.id == id) ≡ true)
+  own-in = find-in (λ (c : Component). c.id == id) t.comps own.0 own.1
+
+  pub moves : (inlets : ℕ) → (chooses v id ≡ false → inlets ≡ 1) → moves_at t id inlets ≡ true
+  moves inlets one =
+      ap (λ (o : Option Component). option_map_or (λ c. moves_of c.unit inlets) o false) own.1
+      ∙ unit-moves own.0.unit inlets (in-all (λ (c : Component). is_plain c.unit ≡ true) t.comps own.0 kept.plain own-in.0)
+      (ap (λ (x : Comp). is_maker x.kind) own.2 ∙ there.kind)
+      (λ plain. one (chooses-of v id there.comp there.is there.comp.kind refl ∙ ap (λ (x : Comp). is_choosy x.kind) (sym own.2) ∙ plain))
+
+  pub wide : channels_moved t id ≡ channels_of v id
+  wide =
+      let same = eqb-true own.0.id id own-in.1 in
+      ap (λ (o : Option Component). option_map_or (λ c. c.channels) o 0) own.1
+      ∙ in-all (λ (c : Component). live v c.id ≡ true → c.channels ≡ channels_of v c.id) t.comps own.0 can.channels own-in.0 (ap (live v) same ∙ active-live v can.wired can.linked can.played id now)
+      ∙ ap (channels_of v) same
+
+  -- what is looked at can be taken from, and what is fed has room
+  pub inlets : (looked : List ℕ) (q n : ℕ) → looked ≡ looked_at v (λ b. length (frames_at t b)) id → n ≡ least q (map (λ b. length (frames_at t b)) looked) → AllByRecursion (IsInlet t.buffers (channels_moved t id) n) looked
+  inlets looked q n are count = in-each-among (IsInlet t.buffers (channels_moved t id) n) looked (λ b is.
+      let at = looked-at (λ b. length (frames_at t b)) b (ap (λ ids. is_among ids b) (sym are) ∙ is) in
+      let low = all-among (λ x. least q (map (λ b. length (frames_at t b)) looked) ≤ length (frames_at t x)) looked b (least-each (λ b. length (frames_at t b)) q looked) is in
+      record { there = at.there; shape = at.shape ∙ sym wide; held = omega (arith, low, count) })
+
+  pub outlet : (b q n : ℕ) (looked : List ℕ) → slice_get (fed_by v id) 0 ≡ Some b → q + length (frames_at t b) ≤ capacity_at t b → n ≡ least q (map (λ b. length (frames_at t b)) looked) → IsOutlet t.buffers (channels_moved t id) n b
+  outlet b q n looked is room count =
+      let at = fed-at b is in
+      let low = least-most q (map (λ b. length (frames_at t b)) looked) in
+      record { there = at.there; shape = at.shape ∙ sym wide; room = omega (arith, low, count, room) }
+
+  pub looked-there : (looked : List ℕ) → looked ≡ looked_at v (λ b. length (frames_at t b)) id → AllByRecursion (λ b. has_id t.buffers b ≡ true) looked
+  looked-there looked are = in-each-among (λ b. has_id t.buffers b ≡ true) looked (λ b is. (looked-at (λ b. length (frames_at t b)) b (ap (λ ids. is_among ids b) (sym are) ∙ is)).there)
+
+  -- ---- the stage after it
+
+  module _ (began : Tables) (start : Io) (inputs : List InputView) (outputs : List OutputView) (a : Audio) (ends : AreEnds start a) (stage : IsStage began start t inputs outputs a) (clock : ℕ) (run : runs v clock id ≡ true) where
+    abbrev blobs : ℕ → List ℕ
+    blobs = blob_of (view_by t)
+
+    silent : bytes_now v blobs clock id a ≡ []
+    silent =
+        ap (λ h. cond h (bytes_written v id (frames_moved v blobs clock id a) (quota v clock id) (only_slice (fronts v blobs clock id a))) []) run
+        ∙ written-of v id there.comp there.is there.comp.kind refl (frames_moved v blobs clock id a) (quota v clock id) (only_slice (fronts v blobs clock id a))
+        ∙ maker.silent v id (frames_moved v blobs clock id a) (quota v clock id) (only_slice (fronts v blobs clock id a))
+
+    -- nothing moves where it feeds nothing
+    pub unfed : slice_get (fed_by v id) 0 ≡ None → IsStage began start t inputs outputs (after_move v blobs clock id a)
+    unfed is =
+        let none = single-none (fed v) (outs (graph_of t) id) one-out is in
+        let idle = frames-unfed v clock (ring_length v blobs clock id a) (ring_room v blobs clock id a) id none.0 none.1 none.2 in
+        still began start t inputs outputs a ends stage clock id idle (made-idle v blobs clock id start a idle) silent
+
+    heard : (b : ℕ) → has_id t.buffers b ≡ true → frames_at t b ≡ list_of a.rings b
+    heard b is = frames-heard a t.buffers _ stage.rings b is
+
+    -- the same edges are looked at, by the tables and by the audio
+    look : looked_at v (λ b. length (frames_at t b)) id ≡ looked_now v blobs clock id a
+    look = filter-same (looks v (λ b. length (frames_at t b)) id) (looks v (ring_length v blobs clock id a) id) (ins (graph_of t) id) (λ b is.
+        ap (λ n. not (chooses v id) || (active_end v (source_of (graph_of t) b) && nat_le 1 n)) (same b is))
+      where
+        same : (b : ℕ) → is_among (ins (graph_of t) id) b ≡ true → length (frames_at t b) ≡ length (list_of a.rings b)
+        same b is = ap length (heard b (has-buffer b ∙ (among-filter (λ b. is_end (sink_of (graph_of t) b) id) (buffers (graph_of t)) b is).0))
+
+    -- nor where it looks at nothing
+    pub unlooked : (b : ℕ) → slice_get (fed_by v id) 0 ≡ Some b → looked_at v (λ b. length (frames_at t b)) id ≡ [] → IsStage began start t inputs outputs (after_move v blobs clock id a)
+    unlooked b is none =
+        let now_none : looked_now v blobs clock id a ≡ [] = sym look ∙ none in
+        let idle = frames-looked v clock (ring_length v blobs clock id a) (ring_room v blobs clock id a) id b [] run now_none (fed-one b is).1 (by (chooses v id) refl (is_empty (looked_now v blobs clock id a)) (ap is_empty now_none)) in
+        still began start t inputs outputs a ends stage clock id idle (made-idle v blobs clock id start a idle) silent
+      where
+        by : (h : Bool) → chooses v id ≡ h → (k : Bool) → k ≡ true → (not (chooses v id) || not k) ≡ false
+        by true picks k e = λ i. not (picks i) || not (e i)
+        by false plain k e = absurd (no (sym (ap length none) ∙ looked-one (λ b. length (frames_at t b)) plain))
+          where
+            no : ◌≡◌ {A = ℕ} 0 1 → ⊥
+            no e = omega (arith, e)
+
+    -- else frames move
+    module _ (b : ℕ) (is : slice_get (fed_by v id) 0 ≡ Some b) (looked : List ℕ) (are : looked ≡ looked_at v (λ b. length (frames_at t b)) id) (some : is_empty looked ≡ false) (n free most : ℕ) (room : free + length (frames_at t b) ≡ capacity_at t b) (bound : most ≡ min (quota v clock id) free) (count : n ≡ least most (map (λ b. length (frames_at t b)) looked)) where
+      now_looked : looked_now v blobs clock id a ≡ looked
+      now_looked = sym look ∙ sym are
+
+      each-heard : AllByRecursion (λ b. frames_at t b ≡ list_of a.rings b) looked
+      each-heard = in-each-among (λ b. frames_at t b ≡ list_of a.rings b) looked (λ b at. heard b (looked-at (λ b. length (frames_at t b)) b (ap (λ ids. is_among ids b) (sym are) ∙ at)).there)
+
+      lengths : (xs : List ℕ) → AllByRecursion (λ b. frames_at t b ≡ list_of a.rings b) xs → map (ring_length v blobs clock id a) xs ≡ map (λ b. length (frames_at t b)) xs
+      lengths [] same = refl
+      lengths (x ∷ xs) same = λ i. length (sym same.0 i) ∷ lengths xs same.1 i
+
+      takes : (m : ℕ) (xs : List ℕ) → AllByRecursion (λ b. frames_at t b ≡ list_of a.rings b) xs → table xs (λ b. take m (frames_at t b)) ≡ table xs (λ b. take m (list_of a.rings b))
+      takes m [] same = refl
+      takes m (x ∷ xs) same = λ i. (x, take m (same.0 i)) ∷ takes m xs same.1 i
+
+      chosen : (not (chooses v id) || not (is_empty (looked_now v blobs clock id a))) ≡ not (is_empty looked)
+      chosen = ap (λ ids. not (chooses v id) || not (is_empty ids)) now_looked ∙ ap (λ h. not (chooses v id) || not h) some ∙ or_right (not (chooses v id)) true refl ∙ sym (ap not some)
+
+      frames : frames_moved v blobs clock id a ≡ n
+      frames =
+          frames-looked v clock (ring_length v blobs clock id a) (ring_room v blobs clock id a) id b looked run now_looked (fed-one b is).1 chosen
+          ∙ ap (λ h. cond h 0 (least (quota v clock id) (map (ring_length v blobs clock id a) looked ++ ring_room v blobs clock id a b ∷ []))) some
+          ∙ least-last (quota v clock id) (ring_room v blobs clock id a b) (map (ring_length v blobs clock id a) looked)
+          ∙ (λ i. least (top i) (lengths looked each-heard i))
+          ∙ sym count
+        where
+          top : min (ring_room v blobs clock id a b) (quota v clock id) ≡ most
+          top =
+              let at = fed-at b is in
+              let own = ap length (heard b at.there) in
+              omega (arith, at.room, own, room, bound)
+
+      slices : slices_in t.buffers looked n ≡ fronts v blobs clock id a
+      slices = takes n looked each-heard ∙ (λ i. table (sym now_looked i) (λ b. take (sym frames i) (list_of a.rings b)))
+
+      -- numbers of an equaliser
+      module _ (equal : equalises v id ≡ true) where
+        numbers-now : numbers_at t id ≡ list_of a.numbers id
+        numbers-now = numbers-heard a v t.comps (histories_of began) stage.histories id equal (in-any (λ c. c.id == id) t.comps own.0 own-in.0 own-in.1)
+
+      equal-by : option_map_or (λ x. is_equaliser x.kind) (comp_of (graph_of t) id) false ≡ true → equalises v id ≡ true
+      equal-by kind = and_from (live v id) _ (active-live v can.wired can.linked can.played id now) kind
+
+      module _ (u : Tables) (bare : bare_of u ≡ bare_of t)
+          (rings-law : rings_of u ≡ moved_rings looked n b (made_at t id looked n) (rings_of t))
+          (histories-law : histories_of u ≡ map (with_numbers id (numbers_at u id)) (histories_of t))
+          (staging-law : staging_of u ≡ staging_of t)
+          (made-law : (read : List Frame) → frames_made v id n read (slices_in t.buffers looked n) (λ blob channels frames. passed_frames blob channels (numbers_at t id) frames) ≡ made_at t id looked n)
+          (numbers-law : option_map_or (λ x. is_equaliser x.kind) (comp_of (graph_of t) id) false ≡ true → numbers_after (blob_of v id) (channels_of v id) (numbers_at t id) (only_slice (slices_in t.buffers looked n)) ≡ numbers_at u id) where
+        made : made_now v blobs clock id a ≡ made_at t id looked n
+        made =
+            (λ i. frames_made v id (frames i) (frames_in (format_of v id) (channels_of v id) (list_of a.left id) 0 (frames i)) (sym slices i) (λ blob channels frames. passed_frames blob channels (list_of a.numbers id) frames))
+            ∙ frames_made_same v id n (frames_in (format_of v id) (channels_of v id) (list_of a.left id) 0 n) (slices_in t.buffers looked n) (λ blob channels frames. passed_frames blob channels (list_of a.numbers id) frames) (λ blob channels frames. passed_frames blob channels (numbers_at t id) frames)
+            (λ kind. ap (λ (numbers : List ℤ). passed_frames (blob_of v id) (channels_of v id) numbers (only_slice (slices_in t.buffers looked n))) (sym (numbers-now (equal-by kind))))
+            ∙ made-law (frames_in (format_of v id) (channels_of v id) (list_of a.left id) 0 n)
+
+        next : Audio
+        next = after_move v blobs clock id a
+
+        ring-each : (r : RingView) → with_frames (λ own. own ++ made_at t id looked n) b (drained_ring looked n (heard_ring a r)) ≡ heard_ring (after_move v blobs clock id a) r
+        ring-each r =
+            by (is_among looked r.buffer) refl (r.buffer == b) refl
+            ∙ ap (ring r.buffer) (sym (rings-made v blobs clock id start a b looked now_looked (fed-one b is).1 r.buffer
+            ∙ (λ i. cond (b == r.buffer) (list_of a.rings b ++ made i) (cond (is_among looked r.buffer) (drop (frames i) (list_of a.rings r.buffer)) (list_of a.rings r.buffer)))))
+          where
+            fs : List Frame
+            fs = made_at t id looked n
+
+            by : (k : Bool) → is_among looked r.buffer ≡ k → (h : Bool) → (r.buffer == b) ≡ h → with_frames (λ own. own ++ made_at t id looked n) b (cond k (ring r.buffer (drop n (list_of a.rings r.buffer))) (ring r.buffer (list_of a.rings r.buffer))) ≡ ring r.buffer (cond (b == r.buffer) (list_of a.rings b ++ made_at t id looked n) (cond (is_among looked r.buffer) (drop n (list_of a.rings r.buffer)) (list_of a.rings r.buffer)))
+            by true at true h = absurd (true≢false (sym at ∙ ap (is_among looked) (eqb-true r.buffer b h) ∙ ap (λ ids. is_among ids b) are ∙ looked-apart (λ b. length (frames_at t b)) b is))
+            by false at true h =
+                ap (λ q. cond q (ring r.buffer (list_of a.rings r.buffer ++ made_at t id looked n)) (ring r.buffer (list_of a.rings r.buffer))) h
+                ∙ ap (λ x. ring r.buffer (list_of a.rings x ++ made_at t id looked n)) (eqb-true r.buffer b h)
+                ∙ sym (ap (λ q. ring r.buffer (cond q (list_of a.rings b ++ made_at t id looked n) (cond (is_among looked r.buffer) (drop n (list_of a.rings r.buffer)) (list_of a.rings r.buffer)))) (eqb-turned b r.buffer ∙ h))
+            by true at false h =
+                ap (λ q. cond q (ring r.buffer (drop n (list_of a.rings r.buffer) ++ made_at t id looked n)) (ring r.buffer (drop n (list_of a.rings r.buffer)))) h
+                ∙ sym (λ i. ring r.buffer (cond ((eqb-turned b r.buffer ∙ h) i) (list_of a.rings b ++ made_at t id looked n) (cond (at i) (drop n (list_of a.rings r.buffer)) (list_of a.rings r.buffer))))
+            by false at false h =
+                ap (λ q. cond q (ring r.buffer (list_of a.rings r.buffer ++ made_at t id looked n)) (ring r.buffer (list_of a.rings r.buffer))) h
+                ∙ sym (λ i. ring r.buffer (cond ((eqb-turned b r.buffer ∙ h) i) (list_of a.rings b ++ made_at t id looked n) (cond (at i) (drop n (list_of a.rings r.buffer)) (list_of a.rings r.buffer))))
+
+        rings-each : (rs : List RingView) → moved_rings looked n b (made_at t id looked n) (map (heard_ring a) rs) ≡ map (heard_ring (after_move v blobs clock id a)) rs
+        rings-each [] = refl
+        rings-each (r ∷ rs) = λ i. ring-each r i ∷ rings-each rs i
+
+        histories-each-moved : (hs : List History) → AllByRecursion (λ (h : History). equalises (view_by began) h.comp ≡ true) hs → map (with_numbers id (numbers_at u id)) (map (heard_history a) hs) ≡ map (heard_history (after_move v blobs clock id a)) hs
+        histories-each-moved [] each = refl
+        histories-each-moved (h ∷ hs) each = λ i. by (h.comp == id) refl i ∷ histories-each-moved hs each.1 i
+          where
+            by : (k : Bool) → (h.comp == id) ≡ k → cond k (record { comp = h.comp; numbers = numbers_at u id }) (heard_history a h) ≡ heard_history (after_move v blobs clock id a) h
+            by true same =
+                let equal : equalises v id ≡ true = (λ i. equalises (view-still t began stage.bare i) (sym (eqb-true h.comp id same) i)) ∙ each.0 in
+                let kind = (and_parts (live v id) (option_map_or (λ x. is_equaliser x.kind) (comp_of (graph_of t) id) false) equal).1 in
+                let numbers : numbers_at u id ≡ numbers_after (blobs id) (channels_of v id) (list_of a.numbers id) (only_slice (fronts v blobs clock id a)) =
+                sym (numbers-law kind) ∙ (λ i. numbers_after (blob_of v id) (channels_of v id) (numbers-now equal i) (only_slice (slices i))) in
+                ap (history h.comp) numbers
+                ∙ sym (ap (λ q. history h.comp (cond q (numbers_after (blobs id) (channels_of v id) (list_of a.numbers id) (only_slice (fronts v blobs clock id a))) (list_of a.numbers h.comp))) (eqb-turned id h.comp ∙ same))
+            by false other = sym (ap (λ q. history h.comp (cond q (numbers_after (blobs id) (channels_of v id) (list_of a.numbers id) (only_slice (fronts v blobs clock id a))) (list_of a.numbers h.comp))) (eqb-turned id h.comp ∙ other))
+
+        pub processed-stage : IsStage began start u inputs outputs (after_move v blobs clock id a)
+        processed-stage = record {
+          bare = bare ∙ stage.bare;
+          rings = rings-law ∙ ap (moved_rings looked n b (made_at t id looked n)) stage.rings ∙ rings-each (rings_of began);
+          histories = histories-law ∙ ap (map (with_numbers id (numbers_at u id))) stage.histories ∙ histories-each-moved (histories_of began) (histories-each began);
+          staging = staging-law ∙ stage.staging;
+          inputs = sym (inputs-still began start t inputs outputs a ends stage clock id moved);
+          outputs = sym (outputs-still began start t inputs outputs a ends stage clock id silent);
+        }
+          where
+            moved : bytes_moved v blobs clock id a ≡ 0
+            moved = ap (λ h. cond h (bytes_of_frames v id (frames_moved v blobs clock id a)) 0) (reads-of v id there.comp there.is there.comp.kind refl ∙ maker.reads)

@@ -1,0 +1,300 @@
+-- What of tables stays when frames move, and what is read of it.
+use Rattle.std.proofs.Common.{◌≡◌, refl, sym, ap, ◌∙◌, subst, ℕ, List, [], ◌∷◌, ◌++◌, map, drop, Bool, true, false, cond, ◌==◌, ◌||◌, Some, ℤ}
+use Rattle.std.proofs.lemmas.Bool.{eqb-true, false≢true}
+use Rattle.std.specs.Prelude.{find}
+use Rattle.std.specs.List.{AllByRecursion}
+use Rattle.std.specs.Option.{option_map_or}
+use Rattle.sof_base.specs.Samples.{Frame}
+use Rattle.fw_heap.specs.declared.run.Home.{Home}
+use Rattle.stream_law.specs.declared.stream.StreamView.{StreamView}
+use Rattle.stream_law.specs.State.{RingView, View}
+use Rattle.stream_law.specs.Table.{list_of}
+use Rattle.stream_law.specs.Order.{is_among}
+use Rattle.stream_law.specs.Placed.{placed}
+use Rattle.stream_law.specs.Ways.{live, channels_of}
+use Rattle.stream_law.specs.Move.{Audio}
+use Rattle.row_laws.specs.Wired.{IsWired, IsLinked}
+use Rattle.row_laws.specs.Played.{IsPlayable}
+use Rattle.fw_components.specs.declared.component.Unit as units
+use Rattle.fw_components.specs.declared.component.Unit.TheVariants.{Host, Dai, Volume, Mixer, Mux, Eq, Buffer, Pipeline}
+use Rattle.fw_components.specs.declared.component.Component.{Component}
+use Rattle.fw_components.specs.Tables.{Tables, piece_of, comp_by, edge_by, kind_by, setting_by, graph_of, streams_by, with_stream_by, view_by, streams_of, ring_by, rings_of, frames_by, piece_by, pieces_by, pieces_of, is_buffer}
+use Rattle.fw_components.specs.Changes.{has_id, IsOf}
+use Rattle.fw_components.specs.Kept.{IsKept, IsBuffering}
+use Rattle.fw_components.specs.Frames.{channels_by, taken_unit, taken_at, taken, pushed_unit, pushed_at, pushed, with_frames}
+use Rattle.fw_components.specs.Processed.{drained_at, run_unit, run_at, processed}
+use Rattle.fw_pipeline.specs.States.{AreOf}
+use Rattle.fw_schedule.specs.Ticks.{CanTick}
+use Rattle.fw_schedule.specs.Stages.{bare_unit, bare_by, bare_of, heard_ring}
+use Rattle.fw_schedule.proofs.OneBuffer.{taken-frames}
+
+map-same : {Y : Type 0} (view : Component → Y) (change : Component → Component) → ((c : Component) → view (change c) ≡ view c) → (cs : List Component) → map view (map change cs) ≡ map view cs
+map-same view change same [] = refl
+map-same view change same (c ∷ cs) = λ i. same c i ∷ map-same view change same cs i
+
+-- ---- what changes of a unit is what is bare of it
+
+taken-bare : (n : ℕ) (u : units.Unit) → bare_unit (taken_unit n u) ≡ bare_unit u
+taken-bare n (Host capture phase params piece) = refl
+taken-bare n (Dai capture format piece) = refl
+taken-bare n (Volume gains piece) = refl
+taken-bare n (Mixer piece) = refl
+taken-bare n (Mux choice piece) = refl
+taken-bare n (Eq eq next remaining) = refl
+taken-bare n (Buffer size ring source sink) = refl
+taken-bare n (Pipeline sched period complete piece) = refl
+
+pushed-bare : (fs : List Frame) (w : List ℤ) (u : units.Unit) → bare_unit (pushed_unit fs w u) ≡ bare_unit u
+pushed-bare fs w (Host capture phase params piece) = refl
+pushed-bare fs w (Dai capture format piece) = refl
+pushed-bare fs w (Volume gains piece) = refl
+pushed-bare fs w (Mixer piece) = refl
+pushed-bare fs w (Mux choice piece) = refl
+pushed-bare fs w (Eq eq next remaining) = refl
+pushed-bare fs w (Buffer size ring source sink) = refl
+pushed-bare fs w (Pipeline sched period complete piece) = refl
+
+run-bare : (w : List ℤ) (u : units.Unit) → bare_unit (run_unit w u) ≡ bare_unit u
+run-bare w (Host capture phase params piece) = refl
+run-bare w (Dai capture format piece) = refl
+run-bare w (Volume gains piece) = refl
+run-bare w (Mixer piece) = refl
+run-bare w (Mux choice piece) = refl
+run-bare w (Eq eq next remaining) = refl
+run-bare w (Buffer size ring source sink) = refl
+run-bare w (Pipeline sched period complete piece) = refl
+
+-- a component whose unit changes where a test holds
+where-bare : (f : units.Unit → units.Unit) → ((u : units.Unit) → bare_unit (f u) ≡ bare_unit u) → (h : Bool) (c : Component) → bare_by (cond h (record { id = c.id; pipe = c.pipe; channels = c.channels; unit = f c.unit }) c) ≡ bare_by c
+where-bare f same true c = ap (λ u. record { id = c.id; pipe = c.pipe; channels = c.channels; unit = u }) (same c.unit)
+where-bare f same false c = refl
+
+bare-changed : (t : Tables) (comps buffers : List Component) → map bare_by comps ≡ map bare_by t.comps → map bare_by buffers ≡ map bare_by t.buffers → bare_of (record { comps = comps; buffers = buffers; pipes = t.pipes; joins = t.joins }) ≡ bare_of t
+bare-changed t comps buffers cs bs = λ i. record { comps = cs i; buffers = bs i; pipes = t.pipes; joins = t.joins }
+
+pub bare-taken : (b n : ℕ) (t : Tables) → bare_of (taken b n t) ≡ bare_of t
+bare-taken b n t = bare-changed t t.comps (map (taken_at b n) t.buffers) refl (map-same bare_by (taken_at b n) (λ c. where-bare (taken_unit n) (taken-bare n) (c.id == b) c) t.buffers)
+
+pub bare-pushed : (b : ℕ) (fs : List Frame) (w : List ℤ) (t : Tables) → bare_of (pushed b fs w t) ≡ bare_of t
+bare-pushed b fs w t = bare-changed t t.comps (map (pushed_at b fs w) t.buffers) refl (map-same bare_by (pushed_at b fs w) (λ c. where-bare (pushed_unit fs w) (pushed-bare fs w) (c.id == b) c) t.buffers)
+
+pub bare-processed : (id n fed : ℕ) (looked : List ℕ) (fs : List Frame) (v w : List ℤ) (t : Tables) → bare_of (processed id looked n fed fs v w t) ≡ bare_of t
+bare-processed id n fed looked fs v w t =
+    bare-changed t (map (run_at id w) t.comps) (map (pushed_at fed fs v) (map (drained_at looked n) t.buffers))
+    (map-same bare_by (run_at id w) (λ c. where-bare (run_unit w) (run-bare w) (c.id == id) c) t.comps)
+    (map-same bare_by (pushed_at fed fs v) (λ c. where-bare (pushed_unit fs v) (pushed-bare fs v) (c.id == fed) c) (map (drained_at looked n) t.buffers)
+    ∙ map-same bare_by (drained_at looked n) (λ c. where-bare (taken_unit n) (taken-bare n) (is_among looked c.id) c) t.buffers)
+
+-- ---- what is read of what is bare
+
+bare-comp : (c : Component) → comp_by (bare_by c) ≡ comp_by c
+bare-comp c = λ i. record { id = c.id; kind = kind c.unit i; pipe = c.pipe; setting = setting c.unit i }
+  where
+    kind : (u : units.Unit) → kind_by (bare_unit u) ≡ kind_by u
+    kind (Host capture phase params piece) = refl
+    kind (Dai capture format piece) = refl
+    kind (Volume gains piece) = refl
+    kind (Mixer piece) = refl
+    kind (Mux choice piece) = refl
+    kind (Eq eq next remaining) = refl
+    kind (Buffer size ring source sink) = refl
+    kind (Pipeline sched period complete piece) = refl
+
+    setting : (u : units.Unit) → setting_by (bare_unit u) ≡ setting_by u
+    setting (Host capture phase params piece) = refl
+    setting (Dai capture format piece) = refl
+    setting (Volume gains piece) = refl
+    setting (Mixer piece) = refl
+    setting (Mux choice piece) = refl
+    setting (Eq eq next remaining) = refl
+    setting (Buffer size ring source sink) = refl
+    setting (Pipeline sched period complete piece) = refl
+
+bare-edge : (c : Component) → edge_by (bare_by c) ≡ edge_by c
+bare-edge c = by c.unit
+  where
+    by : (u : units.Unit) → edge_by (record { id = c.id; pipe = c.pipe; channels = c.channels; unit = bare_unit u }) ≡ edge_by (record { id = c.id; pipe = c.pipe; channels = c.channels; unit = u })
+    by (Host capture phase params piece) = refl
+    by (Dai capture format piece) = refl
+    by (Volume gains piece) = refl
+    by (Mixer piece) = refl
+    by (Mux choice piece) = refl
+    by (Eq eq next remaining) = refl
+    by (Buffer size ring source sink) = refl
+    by (Pipeline sched period complete piece) = refl
+
+graph-bare : (t : Tables) → graph_of (bare_of t) ≡ graph_of t
+graph-bare t = λ i. record { comps = map-same comp_by bare_by bare-comp t.comps i; edges = map-same edge_by bare_by bare-edge t.buffers i; pipes = (graph_of t).pipes; joins = t.joins }
+
+bare-stream : (id : ℕ) (u : units.Unit) (ss : List StreamView) → with_stream_by id (bare_unit u) ss ≡ with_stream_by id u ss
+bare-stream id (Host capture phase params piece) ss = refl
+bare-stream id (Dai capture format piece) ss = refl
+bare-stream id (Volume gains piece) ss = refl
+bare-stream id (Mixer piece) ss = refl
+bare-stream id (Mux choice piece) ss = refl
+bare-stream id (Eq eq next remaining) ss = refl
+bare-stream id (Buffer size ring source sink) ss = refl
+bare-stream id (Pipeline sched period complete piece) ss = refl
+
+streams-bare : (cs : List Component) → streams_by (map bare_by cs) ≡ streams_by cs
+streams-bare [] = refl
+streams-bare (c ∷ cs) = bare-stream c.id c.unit (streams_by (map bare_by cs)) ∙ ap (with_stream_by c.id c.unit) (streams-bare cs)
+
+pub graph-still : (t u : Tables) → bare_of t ≡ bare_of u → graph_of t ≡ graph_of u
+graph-still t u same = sym (graph-bare t) ∙ ap graph_of same ∙ graph-bare u
+
+pub streams-still : (t u : Tables) → bare_of t ≡ bare_of u → streams_of t ≡ streams_of u
+streams-still t u same = sym (streams-bare t.comps) ∙ ap (λ (t : Tables). streams_by t.comps) same ∙ streams-bare u.comps
+
+pub view-still : (t u : Tables) → bare_of t ≡ bare_of u → view_by t ≡ view_by u
+view-still t u same = λ i. record { graph = graph-still t u same i; streams = streams-still t u same i }
+
+-- ---- pieces
+
+bare-piece : (c : Component) → piece_by (bare_by c) ≡ piece_by c
+bare-piece c = by c.unit
+  where
+    by : (u : units.Unit) → piece_by (record { id = c.id; pipe = c.pipe; channels = c.channels; unit = bare_unit u }) ≡ piece_by (record { id = c.id; pipe = c.pipe; channels = c.channels; unit = u })
+    by (Host capture phase params piece) = refl
+    by (Dai capture format piece) = refl
+    by (Volume gains piece) = refl
+    by (Mixer piece) = refl
+    by (Mux choice piece) = refl
+    by (Eq eq next remaining) = refl
+    by (Buffer size ring source sink) = refl
+    by (Pipeline sched period complete piece) = refl
+
+pieces-front : (cs ds es : List Component) → pieces_by ds ≡ pieces_by es → pieces_by (map bare_by cs ++ ds) ≡ pieces_by (cs ++ es)
+pieces-front [] ds es same = same
+pieces-front (c ∷ cs) ds es same = λ i. placed (λ p. p.id) (bare-piece c i) (pieces-front cs ds es same i)
+
+pieces-bare : (t : Tables) → pieces_of (bare_of t) ≡ pieces_of t
+pieces-bare t = pieces-front t.comps (map bare_by t.buffers ++ t.pipes) (t.buffers ++ t.pipes) (pieces-front t.buffers t.pipes t.pipes refl)
+
+pub pieces-still : (t u : Tables) → bare_of t ≡ bare_of u → pieces_of t ≡ pieces_of u
+pieces-still t u same = sym (pieces-bare t) ∙ ap pieces_of same ∙ pieces-bare u
+
+home-bare : (u : units.Unit) → (piece_of (bare_unit u)).home ≡ (piece_of u).home
+home-bare (Host capture phase params piece) = refl
+home-bare (Dai capture format piece) = refl
+home-bare (Volume gains piece) = refl
+home-bare (Mixer piece) = refl
+home-bare (Mux choice piece) = refl
+home-bare (Eq eq next remaining) = refl
+home-bare (Buffer size ring source sink) = refl
+home-bare (Pipeline sched period complete piece) = refl
+
+module _ (home : Home) where
+  homes-in : (cs ds es : List Component) → (AllByRecursion (IsOf home) ds → AllByRecursion (IsOf home) es) → AllByRecursion (IsOf home) (cs ++ ds) → AllByRecursion (IsOf home) (map bare_by cs ++ es)
+  homes-in [] ds es rest all = rest all
+  homes-in (c ∷ cs) ds es rest all = (home-bare c.unit ∙ all.0, homes-in cs ds es rest all.1)
+
+  homes-out : (cs ds es : List Component) → (AllByRecursion (IsOf home) ds → AllByRecursion (IsOf home) es) → AllByRecursion (IsOf home) (map bare_by cs ++ ds) → AllByRecursion (IsOf home) (cs ++ es)
+  homes-out [] ds es rest all = rest all
+  homes-out (c ∷ cs) ds es rest all = (sym (home-bare c.unit) ∙ all.0, homes-out cs ds es rest all.1)
+
+  pub homes-still : (t u : Tables) → bare_of t ≡ bare_of u → AreOf home t → AreOf home u
+  homes-still t u same all =
+      let bare : AreOf home (bare_of t) = homes-in t.comps (t.buffers ++ t.pipes) (map bare_by t.buffers ++ t.pipes) (homes-in t.buffers t.pipes t.pipes (λ rest. rest)) all in
+      let moved : AreOf home (bare_of u) = subst (AreOf home) same bare in
+      homes-out u.comps (map bare_by u.buffers ++ u.pipes) (u.buffers ++ u.pipes) (homes-out u.buffers u.pipes u.pipes (λ rest. rest)) moved
+
+-- ---- when a tick can be made
+
+channels-bare : (u : units.Unit) → channels_by (bare_unit u) ≡ channels_by u
+channels-bare (Host capture phase params piece) = refl
+channels-bare (Dai capture format piece) = refl
+channels-bare (Volume gains piece) = refl
+channels-bare (Mixer piece) = refl
+channels-bare (Mux choice piece) = refl
+channels-bare (Eq eq next remaining) = refl
+channels-bare (Buffer size ring source sink) = refl
+channels-bare (Pipeline sched period complete piece) = refl
+
+module _ (v : View) where
+  abbrev AreWide : List Component → Type 0
+  AreWide cs = AllByRecursion (λ c. live v c.id ≡ true → c.channels ≡ channels_of v c.id) cs
+
+  abbrev AreFramed : List Component → Type 0
+  AreFramed cs = AllByRecursion (λ c. live v c.id ≡ true → channels_by c.unit ≡ channels_of v c.id) cs
+
+  wide-in : (cs : List Component) → AreWide cs → AreWide (map bare_by cs)
+  wide-in [] all = tt
+  wide-in (c ∷ cs) all = (all.0, wide-in cs all.1)
+
+  wide-out : (cs : List Component) → AreWide (map bare_by cs) → AreWide cs
+  wide-out [] all = tt
+  wide-out (c ∷ cs) all = (all.0, wide-out cs all.1)
+
+  framed-in : (cs : List Component) → AreFramed cs → AreFramed (map bare_by cs)
+  framed-in [] all = tt
+  framed-in (c ∷ cs) all = (λ now. channels-bare c.unit ∙ all.0 now, framed-in cs all.1)
+
+  framed-out : (cs : List Component) → AreFramed (map bare_by cs) → AreFramed cs
+  framed-out [] all = tt
+  framed-out (c ∷ cs) all = (λ now. sym (channels-bare c.unit) ∙ all.0 now, framed-out cs all.1)
+
+-- what CanTick says of a view and tables
+abbrev CanBy : View → Tables → Type 0
+CanBy v t = AreWide v t.comps × AreFramed v t.buffers
+
+pub can-still : (t u : Tables) → bare_of t ≡ bare_of u → CanTick t → CanTick u
+can-still t u same can =
+    let view = view-still t u same in
+    let bare : CanBy (view_by t) (bare_of t) = (wide-in (view_by t) t.comps can.channels, framed-in (view_by t) t.buffers can.frames) in
+    let moved : CanBy (view_by u) (bare_of u) = subst (λ (p : View × Tables). CanBy p.0 p.1) (λ i. (view i, same i)) bare in
+    record {
+      wired = subst (λ (v : View). IsWired v.graph) view can.wired;
+      linked = subst (λ (v : View). IsLinked v.graph) view can.linked;
+      played = subst IsPlayable view can.played;
+      channels = wide-out (view_by u) u.comps moved.0;
+      frames = framed-out (view_by u) u.buffers moved.1;
+    }
+
+-- ---- rings
+
+-- a ring of a buffer alone has other frames
+where-frames : (f : List Frame → List Frame) (g : units.Unit → units.Unit) (b : ℕ) (c : Component) → frames_by (g c.unit) ≡ f (frames_by c.unit) → ring_by (cond (c.id == b) (record { id = c.id; pipe = c.pipe; channels = c.channels; unit = g c.unit }) c) ≡ with_frames f b (ring_by c)
+where-frames f g b c is = by (c.id == b)
+  where
+    by : (h : Bool) → ring_by (cond h (record { id = c.id; pipe = c.pipe; channels = c.channels; unit = g c.unit }) c) ≡ cond h (record { buffer = c.id; frames = f (frames_by c.unit) }) (ring_by c)
+    by true = ap (λ (fs : List Frame). record { buffer = c.id; frames = fs }) is
+    by false = refl
+
+pub rings-taken : (b n : ℕ) (t : Tables) → rings_of (taken b n t) ≡ map (with_frames (drop n) b) (rings_of t)
+rings-taken b n t = all t.buffers
+  where
+    all : (cs : List Component) → map ring_by (map (taken_at b n) cs) ≡ map (with_frames (drop n) b) (map ring_by cs)
+    all [] = refl
+    all (c ∷ cs) = λ i. where-frames (drop n) (taken_unit n) b c (taken-frames n c.unit) i ∷ all cs i
+
+pushed-frames : (fs : List Frame) (w : List ℤ) (u : units.Unit) → is_buffer u ≡ true → frames_by (pushed_unit fs w u) ≡ frames_by u ++ fs
+pushed-frames fs w (Host capture phase params piece) is = absurd (false≢true is)
+pushed-frames fs w (Dai capture format piece) is = absurd (false≢true is)
+pushed-frames fs w (Volume gains piece) is = absurd (false≢true is)
+pushed-frames fs w (Mixer piece) is = absurd (false≢true is)
+pushed-frames fs w (Mux choice piece) is = absurd (false≢true is)
+pushed-frames fs w (Eq eq next remaining) is = absurd (false≢true is)
+pushed-frames fs w (Buffer size ring source sink) is = refl
+pushed-frames fs w (Pipeline sched period complete piece) is = absurd (false≢true is)
+
+pub rings-pushed : (b : ℕ) (fs : List Frame) (w : List ℤ) (t : Tables) → IsKept t → rings_of (pushed b fs w t) ≡ map (with_frames (λ own. own ++ fs) b) (rings_of t)
+rings-pushed b fs w t kept = all t.buffers kept.buffering
+  where
+    all : (cs : List Component) → AllByRecursion (λ c. IsBuffering c.unit) cs → map ring_by (map (pushed_at b fs w) cs) ≡ map (with_frames (λ own. own ++ fs) b) (map ring_by cs)
+    all [] are = refl
+    all (c ∷ cs) are = λ i. where-frames (λ own. own ++ fs) (pushed_unit fs w) b c (pushed-frames fs w c.unit are.0.0) i ∷ all cs are.1 i
+
+-- the frames of a buffer that is there are those of the audio
+pub frames-heard : (a : Audio) (cs : List Component) (rs : List RingView) → map ring_by cs ≡ map (heard_ring a) rs → (b : ℕ) → has_id cs b ≡ true → option_map_or (λ c. frames_by c.unit) (find (λ c. c.id == b) cs) [] ≡ list_of a.rings b
+frames-heard a [] rs same b there = absurd (false≢true there)
+frames-heard a (c ∷ cs) [] same b there = absurd (cc same)
+frames-heard a (c ∷ cs) (r ∷ rs) same b there = by (c.id == b) refl there (frames-heard a cs rs (cc same) b)
+  where
+    first : ring_by c ≡ heard_ring a r
+    first = cc same
+
+    by : (h : Bool) → (c.id == b) ≡ h → (h || has_id cs b) ≡ true → (has_id cs b ≡ true → option_map_or (λ c. frames_by c.unit) (find (λ c. c.id == b) cs) [] ≡ list_of a.rings b) → option_map_or (λ c. frames_by c.unit) (cond h (Some c) (find (λ c. c.id == b) cs)) [] ≡ list_of a.rings b
+    by true is there rest =
+        ap (λ (r : RingView). r.frames) first ∙ ap (list_of a.rings) (sym (ap (λ (r : RingView). r.buffer) first) ∙ eqb-true c.id b is)
+    by false is there rest = rest there

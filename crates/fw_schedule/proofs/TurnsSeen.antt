@@ -1,0 +1,86 @@
+-- The turns of a registry's components are those of its graph.
+use Rattle.std.proofs.Common.{◌≡◌, refl, sym, ap, ◌∙◌, ℕ, zero, suc, ◌+◌, ◌-◌, ◌<◌, List, [], ◌∷◌, map, filter, length, get_or, count_by, Option, Some, None, Bool, true, false, cond, not, ◌&&◌, ◌==◌, arith}
+use Rattle.std.proofs.lemmas.Bool.{eq-eqb}
+use Rattle.std.proofs.lemmas.List.Sums.{sum_by-cons}
+use Rattle.std.specs.Prelude.{find, is_some}
+use Rattle.std.specs.List.{AllByRecursion}
+use Rattle.std.specs.Option.{option_map_or}
+use Rattle.stream_law.specs.declared.graph.Edge.{Edge}
+use Rattle.stream_law.specs.declared.turns.Turn as law
+use Rattle.stream_law.specs.Placed.{Ascends}
+use Rattle.stream_law.specs.Ways.{is_end}
+use Rattle.stream_law.specs.Waiting as waiting
+use Rattle.stream_law.specs.Waiting.{same_end, is_found, is_open, leads_from, waits}
+use Rattle.row_laws.proofs.Found.{found-each}
+use Rattle.fw_components.specs.declared.component.Component.{Component}
+use Rattle.fw_components.specs.Tables.{edge_by, source_by, sink_by}
+use Rattle.fw_schedule.specs.declared.ordering.Turn.{Turn}
+use Rattle.fw_schedule.specs.Turns.{shown, lowered}
+use Rattle.fw_schedule.proofs.FirstEnds.{edges-distinct}
+
+-- ---- each edge is found by its buffer
+
+same-end : (o : Option ℕ) → same_end o o ≡ true
+same-end None = refl
+same-end (Some a) = eq-eqb a a refl
+
+all-found : (edges es : List Edge) → AllByRecursion (λ e. find (λ x. x.buffer == e.buffer) edges ≡ Some e) es → AllByRecursion (λ e. is_found edges e ≡ true) es
+all-found edges [] found = tt
+all-found edges (e ∷ es) found = (
+  ap (λ (o : Option Edge). option_map_or (λ f. same_end f.source e.source && same_end f.sink e.sink) o false) found.0 ∙ (λ i. same-end e.source i && same-end e.sink i),
+  all-found edges es found.1,
+)
+
+-- the edges of buffers are all found
+pub are-found : (bs : List Component) → Ascends (λ c. c.id) bs → AllByRecursion (λ e. is_found (map edge_by bs) e ≡ true) (map edge_by bs)
+are-found bs up = all-found (map edge_by bs) (map edge_by bs) (found-each (λ (e : Edge). e.buffer) (map edge_by bs) (edges-distinct (record { comps = []; buffers = bs; pipes = []; joins = [] }) up))
+
+pub at-found : (edges : List Edge) (cs : List Component) (i : ℕ) (d : Component) → i < length cs → AllByRecursion (λ e. is_found edges e ≡ true) (map edge_by cs) → is_found edges (edge_by (get_or cs i d)) ≡ true
+at-found edges [] i d low found = absurd (omega arith)
+at-found edges (c ∷ cs) zero d low found = found.0
+at-found edges (c ∷ cs) (suc i) d low found = at-found edges cs i d (omega arith) found.1
+
+-- ---- how many wait
+
+open-none : (o : Option ℕ) → is_open [] o ≡ is_some o
+open-none None = refl
+open-none (Some a) = refl
+
+waited : (edges : List Edge) (id : ℕ) (cs : List Component) → AllByRecursion (λ e. is_found edges e ≡ true) (map edge_by cs) → count_by (λ b. is_end (sink_by b.unit) id && is_some (source_by b.unit)) cs ≡ count_by (λ e. is_end e.sink id && (is_found edges e && is_open [] e.source)) (map edge_by cs)
+waited edges id [] found = refl
+waited edges id (c ∷ cs) found =
+    sum_by-cons (λ b. cond (is_end (sink_by b.unit) id && is_some (source_by b.unit)) 1 0) c cs
+    ∙ (λ i. cond (is_end (sink_by c.unit) id && (sym found.0 i && sym (open-none (source_by c.unit)) i)) 1 0 + waited edges id cs found.1 i)
+    ∙ sym (sum_by-cons (λ e. cond (is_end e.sink id && (is_found edges e && is_open [] e.source)) 1 0) (edge_by c) (map edge_by cs))
+
+pub waits-are : (bs : List Component) (id : ℕ) → Ascends (λ c. c.id) bs → count_by (λ b. is_end (sink_by b.unit) id && is_some (source_by b.unit)) bs ≡ waits (map edge_by bs) [] id
+waits-are bs id up = waited (map edge_by bs) id bs (are-found bs up)
+
+-- ---- turns as they are shown
+
+pub shown-lowered : (end : Option ℕ) (ts : List Turn) → map shown (map (lowered end) ts) ≡ map (waiting.lowered end) (map shown ts)
+shown-lowered end [] = refl
+shown-lowered end (t ∷ ts) = λ i. one (is_end end t.id) i ∷ shown-lowered end ts i
+  where
+    one : (h : Bool) → shown (cond h (record { place = t.place; id = t.id; waits = t.waits - 1 }) t) ≡ cond h (record { place = t.place; id = t.id; waits = t.waits - 1 }) (shown t)
+    one true = refl
+    one false = refl
+
+pub shown-without : (id : ℕ) (ts : List Turn) → map shown (filter (λ t. not (t.id == id)) ts) ≡ filter (λ t. not (t.id == id)) (map shown ts)
+shown-without id [] = refl
+shown-without id (t ∷ ts) = by (not (t.id == id)) (shown-without id ts)
+  where
+    by : (h : Bool) → map shown (filter (λ t. not (t.id == id)) ts) ≡ filter (λ t. not (t.id == id)) (map shown ts) → map shown (cond h (t ∷ filter (λ t. not (t.id == id)) ts) (filter (λ t. not (t.id == id)) ts)) ≡ cond h (shown t ∷ filter (λ t. not (t.id == id)) (map shown ts)) (filter (λ t. not (t.id == id)) (map shown ts))
+    by true rest = ap (λ (ls : List law.Turn). shown t ∷ ls) rest
+    by false rest = rest
+
+-- one buffer that is freed, as its edge is
+pub shown-freed : (edges : List Edge) (id : ℕ) (c : Component) (old new : List Turn) → is_found edges (edge_by c) ≡ true → new ≡ cond (is_end (source_by c.unit) id) (map (lowered (sink_by c.unit)) old) old → map shown new ≡ cond (leads_from edges id (edge_by c)) (map (waiting.lowered (sink_by c.unit)) (map shown old)) (map shown old)
+shown-freed edges id c old new found is =
+    ap (map shown) is
+    ∙ by (is_end (source_by c.unit) id)
+    ∙ ap (λ h. cond (is_end (source_by c.unit) id && h) (map (waiting.lowered (sink_by c.unit)) (map shown old)) (map shown old)) (sym found)
+  where
+    by : (h : Bool) → map shown (cond h (map (lowered (sink_by c.unit)) old) old) ≡ cond (h && true) (map (waiting.lowered (sink_by c.unit)) (map shown old)) (map shown old)
+    by true = shown-lowered (sink_by c.unit) old
+    by false = refl

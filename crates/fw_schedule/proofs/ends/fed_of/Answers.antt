@@ -1,0 +1,11 @@
+use Rattle.std.proofs.Common.{◌∙◌, ap, List}
+use Rattle.std.specs.Prelude.{find}
+use Rattle.fw_components.specs.declared.component.Component.{Component}
+use Rattle.fw_schedule.proofs.KeptEnds.{is_fed, first-fed}
+use Rattle.fw_schedule.proofs.ends.fed_of.Goals as goal
+
+pub returns-in-Some-clause-fed : goal.returns-in-Some-clause-fed
+returns-in-Some-clause-fed c = first-fed c.args.registry.now c.args.id _ c.buffers-buffers.ensures.kept.named.buffers (c.in-Some.ensures ∙ ap (λ (bs : List Component). find (is_fed c.args.registry.now c.args.id) bs) c.buffers-buffers.ensures.items)
+
+pub returns-in-None-clause-fed : goal.returns-in-None-clause-fed
+returns-in-None-clause-fed c = first-fed c.args.registry.now c.args.id _ c.buffers-buffers.ensures.kept.named.buffers (c.in-None.ensures ∙ ap (λ (bs : List Component). find (is_fed c.args.registry.now c.args.id) bs) c.buffers-buffers.ensures.items)

@@ -1,0 +1,22 @@
+use Rattle.std.proofs.Common.{◌≡◌, ◌∙◌, ap, ℕ, ◌+◌, ◌-◌, ◌*◌, ◌<◌, ◌≤◌, length, take, drop, set, arith, rules, ℤ, w32, FitsSigned}
+use Rattle.std.proofs.Math.Nat.{mul-le-mul_right}
+use Rattle.std.proofs.lemmas.Int.{to_z-of_z}
+use Rattle.sof_base.specs.Samples.{width, sample_in_of}
+use Rattle.fw_schedule.proofs.SampleRuns.{read-more}
+use Rattle.fw_schedule.proofs.samples.read_samples.Goals as goal
+
+pub loop-word-preserved : goal.loop-word-preserved
+loop-word-preserved c =
+    let bytes = c.args.bytes.now in let words = c.loop-word.words in let i = c.loop-word.word-index in let at = c.loop-word.at in let format = c.args.format in
+    let w = c.width-width.ensures in
+    let fit : FitsSigned w32 c.sample_in.result = search rules in
+    let lt : i < length words = omega (arith, c.loop-word-test.true, c.loop-word.auto.words) in
+    let within : (i + 1) * width format ≤ length c.args.words.now * width format = mul-le-mul_right (width format) (let l : i + 1 ≤ length c.args.words.now = omega (arith, c.loop-word-test.true) in l) in
+    let fits : at + width format ≤ length bytes = omega (arith, within, c.requires, c.loop-word.invariant.place) in
+    let span : at + c.width-width.result - at ≡ width format = omega (arith, w) in
+    let is : c.sample_in.result ≡ sample_in_of format (take (width format) (drop at bytes)) 0 =
+    c.sample_in.ensures ∙ ap (λ (n : ℕ). sample_in_of format (take n (drop at bytes)) 0) span in
+    record {
+      place = omega (arith, c.loop-word.invariant.place, w);
+      so_far = ap (λ (x : ℤ). take (i + 1) (set words i x)) (to_z-of_z w32 c.sample_in.result fit) ∙ read-more format bytes words i at c.sample_in.result lt c.loop-word.invariant.place fits c.loop-word.invariant.so_far is;
+    }

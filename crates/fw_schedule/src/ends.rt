@@ -1,0 +1,141 @@
+// The buffers at a component that frames move along.
+ghost use Rattle.std.specs.Prelude.{◌≡◌, ◌&&◌, ◌||◌, not, true, nat_le, find, length, option_copied, slice_get};
+ghost use Rattle.stream_law.specs.Ways.{ins, is_end, live, active, active_end};
+ghost use Rattle.stream_law.specs.Moves.{fed_by, looked_at, chooses as is_choosing};
+ghost use Rattle.fw_components.specs.Tables.{graph_of, view_by, source_by, sink_by, frames_at};
+ghost use Rattle.fw_components.specs.Changes.{has_id};
+ghost use Rattle.fw_components.specs.Kept.{IsKept};
+ghost use Rattle.fw_schedule.specs.Spots.{AreSpots};
+
+use crate::spots::Spots;
+use arrayvec::ArrayVec;
+use fw_components::{Component, Registry};
+use fw_walks::{sink_in, source_in};
+
+/// The first buffer that a component feeds.
+pub(crate) fn fed_of(registry: &Registry, spots: &Spots, id: u32) -> Option<u32>
+    requires { AreSpots registry.now spots.now }
+    ensures fed { result ≡ slice_get (fed_by (view_by registry.now) id) 0 }
+    ensures kept { IsKept registry.now }
+{
+    let buffers = registry.buffers();
+    match buffer_from(buffers, registry, spots, id) {
+        Some(buffer) => Some(buffer.id),
+        None => None,
+    }
+}
+
+// The first of these buffers that comes from a component and is fed.
+fn buffer_from<'a>(
+    buffers: &'a [Component],
+    registry: &Registry,
+    spots: &Spots,
+    id: u32,
+) -> Option<&'a Component>
+    requires { AreSpots registry.now spots.now }
+    ensures { option_copied result ≡ find (λ b. is_end (source_by b.unit) id && (live (view_by registry.now) b.id && active_end (view_by registry.now) (sink_by b.unit))) buffers.now }
+{
+    buffers
+        .iter()
+        .find(|buffer| is_fed(registry, spots, buffer, id))
+}
+
+// Whether a buffer comes from a component and is fed.
+fn is_fed(registry: &Registry, spots: &Spots, buffer: &Component, id: u32) -> bool
+    requires { AreSpots registry.now spots.now }
+    ensures { result ≡ (is_end (source_by buffer.now.unit) id && (live (view_by registry.now) buffer.now.id && active_end (view_by registry.now) (sink_by buffer.now.unit))) }
+{
+    is_at(source_in(&buffer.unit), id)
+        && is_live(registry, spots, buffer.id)
+        && is_active_end(registry, spots, sink_in(&buffer.unit))
+}
+
+/// The first buffer into a component.
+pub(crate) fn first_in(registry: &Registry, id: u32) -> Option<u32>
+    ensures first { result ≡ slice_get (ins (graph_of registry.now) id) 0 }
+    ensures kept { IsKept registry.now }
+{
+    match buffer_to(registry.buffers(), id) {
+        Some(buffer) => Some(buffer.id),
+        None => None,
+    }
+}
+
+// The first of these buffers that goes to a component.
+fn buffer_to(buffers: &[Component], id: u32) -> Option<&Component>
+    ensures { option_copied result ≡ find (λ b. is_end (sink_by b.unit) id) buffers.now }
+{
+    buffers
+        .iter()
+        .find(|buffer| is_at(sink_in(&buffer.unit), id))
+}
+
+/// The buffers into a component that it looks at; one that chooses looks at those whose source is Active and that hold a frame.
+pub(crate) fn looked_of(
+    registry: &Registry,
+    spots: &Spots,
+    id: u32,
+    chooses: bool,
+) -> ArrayVec<u32, 128>
+    requires spots { AreSpots registry.now spots.now }
+    requires chooses { chooses ≡ is_choosing (view_by registry.now) id }
+    ensures { result.items ≡ looked_at (view_by registry.now) (λ b. length (frames_at registry.now b)) id }
+{
+    let buffers = registry.buffers();
+    let mut looked: ArrayVec<u32, 128> = ArrayVec::new();
+    for buffer in buffers {
+        if is_looked(registry, spots, buffer, id, chooses) {
+            looked.push(buffer.id);
+        }
+    }
+    looked
+}
+
+// Whether a component looks at a buffer.
+fn is_looked(registry: &Registry, spots: &Spots, buffer: &Component, id: u32, chooses: bool) -> bool
+    requires spots { AreSpots registry.now spots.now }
+    requires there { has_id registry.now.buffers buffer.now.id ≡ true }
+    ensures { result ≡ (is_end (sink_by buffer.now.unit) id && (not chooses || (active_end (view_by registry.now) (source_by buffer.now.unit) && nat_le 1 (length (frames_at registry.now buffer.now.id))))) }
+{
+    is_at(sink_in(&buffer.unit), id)
+        && (!chooses
+            || is_active_end(registry, spots, source_in(&buffer.unit))
+                && 1 <= registry.held(buffer.id))
+}
+
+// Whether an end of a buffer is there and Active.
+fn is_active_end(registry: &Registry, spots: &Spots, end: Option<u32>) -> bool
+    requires { AreSpots registry.now spots.now }
+    ensures { result ≡ active_end (view_by registry.now) end }
+{
+    match end {
+        Some(id) => is_active(registry, spots, id),
+        None => false,
+    }
+}
+
+// Whether something is Active.
+fn is_active(_registry: &Registry, spots: &Spots, id: u32) -> bool
+    requires { AreSpots _registry.now spots.now }
+    ensures { result ≡ active (view_by _registry.now) id }
+{
+    spots.at(id).active
+}
+
+// Whether something is Live.
+fn is_live(_registry: &Registry, spots: &Spots, id: u32) -> bool
+    requires { AreSpots _registry.now spots.now }
+    ensures { result ≡ live (view_by _registry.now) id }
+{
+    spots.at(id).live
+}
+
+/// Whether a side of a buffer is joined to a component.
+pub(crate) fn is_at(side: Option<u32>, id: u32) -> bool
+    ensures { result ≡ is_end side id }
+{
+    match side {
+        Some(end) => end == id,
+        None => false,
+    }
+}

@@ -1,8 +1,0 @@
--- What a tick over the registry asks and leaves.
-pub mod Units
-pub mod Spots
-pub mod Turns
-pub mod Dues
-pub mod Ticks
-pub mod Stages
-pub mod Schedules

@@ -1,5 +1,5 @@
 //! The holes of a region, in ascending place. None touches the next.
-ghost use Rattle.std.specs.Prelude.{◌≡◌, ℕ, ◌+◌, ◌*◌, ◌%◌, ◌^◌, ◌<◌, ◌≤◌, ◌++◌, Option, length, take, drop, slice_index_or, vec_len, vec_capacity, nat_lt, nat_le};
+ghost use Rattle.std.specs.Prelude.{◌≡◌, ℕ, ◌+◌, ◌*◌, ◌%◌, ◌^◌, ◌<◌, ◌≤◌, ◌++◌, Option, false, length, take, drop, slice_index_or, vec_len, vec_capacity, nat_lt, nat_le};
 ghost use Rattle.std.specs.List.{position, insert};
 ghost use denote.RawPtr.{Ptr};
 ghost use Rattle.sof_base.specs.declared.hole.Hole.{Hole};
@@ -21,7 +21,7 @@ pub(crate) fn take_from(holes: &mut Vec<FreeRun>, at: usize, size: u32) -> (u32,
     requires within { at < vec_len holes.old }
     requires size { (0 < size) × (size % 16 ≡ 0) × ((d : FreeRun) → size ≤ (slice_index_or holes.old.items at d).size) }
     ensures place { (d : FreeRun) → result.0 ≡ (slice_index_or holes.old.items at d).place }
-    ensures run { (d : FreeRun) → (result.1.start ≡ (slice_index_or holes.old.items at d).run.start) × (result.1.first * 4 ≡ result.0) × (length result.1.items * 4 ≡ size) }
+    ensures run { (d : FreeRun) → (result.1.start ≡ (slice_index_or holes.old.items at d).run.start) × (result.1.first * 4 ≡ result.0) × (length result.1.items * 4 ≡ size) × (result.1.written ≡ false) }
     ensures spans { (d : Hole) → spans holes.new.items ≡ take at (spans holes.old.items) ++ shortened size (slice_index_or (spans holes.old.items) at d) (drop (at + 1) (spans holes.old.items)) }
     ensures spaced { (high : ℕ) → Spaced 0 high (spans holes.old.items) → Spaced 0 high (spans holes.new.items) }
     ensures ours { (p : Ptr) → Ours p holes.old.items → Ours p holes.new.items }

@@ -2,6 +2,7 @@
 //! words. A piece is spent by giving it back, and a region by closing it.
 #![tactic(auto)]
 
+mod block;
 mod free_run;
 mod holes;
 mod piece;

@@ -1,15 +1,16 @@
 //! One region of memory.
-ghost use Rattle.std.specs.Prelude.{◌≡◌, ◌+◌, ◌*◌, ◌/◌, ◌%◌, ◌^◌, ◌<◌, ◌≤◌, ◌↔◌, [], length, vec_capacity, IsTrue, IsOk, IfOk, IfErr};
-ghost use Rattle.core.specs.Mem.Slots.{lease_ptr, lease_len, lease_heap};
+ghost use Rattle.std.specs.Prelude.{◌≡◌, ◌+◌, ◌*◌, ◌/◌, ◌%◌, ◌^◌, ◌<◌, ◌≤◌, ◌↔◌, [], true, false, length, vec_capacity, IsTrue, IsOk, IfOk, IfErr};
+ghost use Rattle.core.specs.Mem.Slots.{slots_len, SamePlaces, IsFull};
 ghost use Rattle.fw_heap.specs.HoleList.{spans, Ours};
 ghost use Rattle.sof_base.specs.Holes.{fresh_holes, usable_of, rounded, total, fits, first_fit, carved, given};
 ghost use Rattle.fw_heap.specs.Regions.{carves, limited};
 
+use crate::block::{Block, release, reserve};
 use crate::free_run::FreeRun;
 use crate::holes::{add, find, take_from};
 use crate::piece::Piece;
 use crate::run::{Home, Run};
-use core::slots::{Lease, release, reserve};
+use core::slots::Slots;
 use sof_base::NoMemory;
 use std::alloc::Global;
 use std::marker::Model;
@@ -27,7 +28,7 @@ pub struct Region {
     holes: Vec<FreeRun>,
     // The words past the usable ones.
     rest: Run,
-    lease: Lease<i32, Global>,
+    block: Block<Global>,
     alloc: Global,
 }
 
@@ -43,29 +44,12 @@ impl Model for Region {
     ghost invariant = { IsRegion };
 }
 
-/// Words that are all 0.
-fn allocate(alloc: Global, words: u32) -> Result<(Home, Run, Lease<i32, Global>), NoMemory>
-    ensures run { IfOk result (λ r. (r.1.start ≡ r.0.start) × (r.1.first ≡ 0) × (length r.1.items ≡ words) × (r.0.words ≡ words)) }
-    ensures lease { IfOk result (λ r. (lease_ptr r.2 ≡ r.0.start) × (lease_len r.2 ≡ words) × (lease_heap r.2 ≡ alloc)) }
-{
-    let Ok(zeros) = Vec::from_elem(alloc, 0i32, words as usize) else {
-        return Err(NoMemory);
-    };
-    let Ok((row, lease)) = (unsafe { reserve(&alloc, &zeros) }) else {
-        return Err(NoMemory);
-    };
-    let mut row = row;
-    row.copy_in(0, &zeros);
-    let (home, run) = Run::of(row, words);
-    Ok((home, run, lease))
-}
-
 /// Joins all words, once all pieces are back.
 fn gather(holes: &mut Vec<FreeRun>, rest: &mut Run)
     requires back { spans holes.old.items ≡ fresh_holes (rest.old.first * 4) }
-    requires ours { Ours rest.old.start holes.old.items }
+    requires ours { Ours rest.old.start holes.old.items × (rest.old.written ≡ false) }
     ensures holes { (holes.new.items ≡ []) × (vec_capacity holes.new ≡ vec_capacity holes.old) }
-    ensures rest { (rest.new.start ≡ rest.old.start) × (rest.new.first ≡ 0) × (length rest.new.items ≡ rest.old.first + length rest.old.items) }
+    ensures rest { (rest.new.start ≡ rest.old.start) × (rest.new.first ≡ 0) × (length rest.new.items ≡ rest.old.first + length rest.old.items) × (rest.new.written ≡ false) }
 {
     if let Some(hole) = holes.pop() {
         let FreeRun {
@@ -81,9 +65,9 @@ fn gather(holes: &mut Vec<FreeRun>, rest: &mut Run)
 /// Makes a hole of the first `usable` bytes.
 fn open(holes: &mut Vec<FreeRun>, rest: &mut Run, usable: u32)
     requires empty { (holes.old.items ≡ []) × (0 < vec_capacity holes.old) }
-    requires words { (rest.old.first ≡ 0) × (usable % 16 ≡ 0) × (usable ≤ length rest.old.items * 4) }
+    requires words { (rest.old.first ≡ 0) × (usable % 16 ≡ 0) × (usable ≤ length rest.old.items * 4) × (rest.old.written ≡ false) }
     ensures holes { (spans holes.new.items ≡ fresh_holes usable) × Ours rest.old.start holes.new.items × (vec_capacity holes.new ≡ vec_capacity holes.old) }
-    ensures rest { (rest.new.start ≡ rest.old.start) × (rest.new.first * 4 ≡ usable) × (rest.new.first + length rest.new.items ≡ length rest.old.items) }
+    ensures rest { (rest.new.start ≡ rest.old.start) × (rest.new.first * 4 ≡ usable) × (rest.new.first + length rest.new.items ≡ length rest.old.items) × (rest.new.written ≡ false) }
 {
     if usable > 0 {
         let run = rest.take_front((usable / 4) as usize);
@@ -106,6 +90,28 @@ fn free(holes: &Vec<FreeRun>) -> u32
     free
 }
 
+/// Writes 0 to each word of a run.
+fn written(run: Run, home: Home, first: usize, len: u32) -> Run
+    requires { (home.start ≡ run.start) × (first ≡ run.first) × (len ≡ length run.items) × (first + len < 2 ^ 32) × (run.written ≡ false) }
+    ensures { (result.start ≡ run.start) × (result.first ≡ run.first) × (length result.items ≡ len) × (result.written ≡ true) }
+{
+    let mut row = run.into_row(home, first, len as usize);
+    fill(&mut row, len as usize);
+    let (_, run) = Run::of(row, len);
+    run.rebase(home, first)
+}
+
+/// Puts 0 at each place of a row.
+fn fill(row: &mut Slots<i32>, len: usize)
+    requires { slots_len row.old ≡ len }
+    ensures full { IsFull row.new }
+    ensures places { SamePlaces row.old row.new }
+{
+    for i in 0..len {
+        row.put(i, 0);
+    }
+}
+
 impl Region {
     pub fn new(alloc: Global, bytes: u32) -> Result<Region, NoMemory>
         ensures { IfOk result (λ r. (r.size ≡ bytes) × (r.usable ≡ usable_of bytes) × (r.holes ≡ fresh_holes (usable_of bytes))) }
@@ -114,8 +120,8 @@ impl Region {
             return Err(NoMemory);
         };
         let usable = bytes / 16 * 16;
-        match allocate(alloc, bytes / 16 * 4) {
-            Ok((home, run, lease)) => {
+        match reserve(&alloc, bytes / 16 * 4) {
+            Ok(((home, run), block)) => {
                 let (mut holes, mut rest) = (holes, run);
                 open(&mut holes, &mut rest, usable);
                 Ok(Region {
@@ -124,13 +130,13 @@ impl Region {
                     usable,
                     holes,
                     rest,
-                    lease,
+                    block,
                     alloc,
                 })
             }
-            Err(refused) => {
+            Err(_refused) => {
                 holes.destroy_empty();
-                Err(refused)
+                Err(NoMemory)
             }
         }
     }
@@ -165,19 +171,18 @@ impl Region {
         requires { self.holes ≡ fresh_holes self.usable }
     {
         let Region {
-            home,
+            home: _,
             bytes: _,
             usable: _,
             holes,
             rest,
-            lease,
+            block,
             alloc,
         } = self;
         let (mut holes, mut rest) = (holes, rest);
         gather(&mut holes, &mut rest);
         holes.destroy_empty();
-        let row = rest.into_row(home);
-        release(&alloc, row, lease);
+        release(&alloc, rest, block);
     }
 
     /// Gives back a piece of this region. Holes that touch are joined.
@@ -192,7 +197,7 @@ impl Region {
             size,
             run,
         } = piece;
-        let mut run = run;
+        let mut run = run.forget();
         self.rest.apart(&mut run);
         add(&mut self.holes, FreeRun { place, size, run });
     }
@@ -212,11 +217,12 @@ impl Region {
         match find(&self.holes, size) {
             Some(at) => {
                 let (place, run) = take_from(&mut self.holes, at, size);
+                let (first, len) = ((place / 4) as usize, size / 4);
                 Ok(Piece {
                     home: self.home,
                     place,
                     size,
-                    run,
+                    run: written(run, self.home, first, len),
                 })
             }
             None => Err(RegionFull),

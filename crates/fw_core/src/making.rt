@@ -1,10 +1,10 @@
 // The rows of messages that bring a component, a buffer or a pipeline.
-ghost use Rattle.std.specs.Prelude.{◌≡◌, ◌==◌, ◌&&◌, true, false};
+ghost use Rattle.std.specs.Prelude.{◌≡◌, ◌==◌, true, false};
 ghost use Rattle.std.specs.List.{list_any};
 ghost use Rattle.ipc3_codec.specs.Allowed.{is_buffer_size, is_period};
 ghost use Rattle.ipc3_codec.specs.Messages.{IsKind};
-ghost use Rattle.mbox_link.specs.Step.{comp_new as comp_new_row, buffer_new as buffer_new_row, pipe_new as pipe_new_row, kind_of, first_setting, is_complete as is_whole, has_index as names_index};
-ghost use Rattle.fw_components.specs.Tables.{graph_of, complete_by};
+ghost use Rattle.mbox_link.specs.Step.{comp_new as comp_new_row, buffer_new as buffer_new_row, pipe_new as pipe_new_row, kind_of, first_setting, has_index as names_index};
+ghost use Rattle.fw_components.specs.Tables.{graph_of};
 ghost use Rattle.fw_components.specs.Changes.{added, is_there, is_full, IsNew, has_new_index};
 ghost use Rattle.fw_core.specs.Held.{IsHeld};
 ghost use Rattle.fw_core.specs.Answers.{IsRow};
@@ -12,6 +12,7 @@ ghost use Rattle.fw_core.specs.Answers.{IsRow};
 use crate::units::{bytes_of, unit_of};
 use fw_components::{Component, Registry, Unit, additions_are_seen};
 use fw_heap::Region;
+use fw_pipeline::is_complete;
 use fw_ring::Ring;
 use fw_walks::is_used;
 use ipc3_codec::CompWords;
@@ -145,38 +146,6 @@ fn add(registry: &mut Registry, component: Component)
     match registry.add(component) {
         Ok(()) => (),
         Err(_full) => unreachable!(),
-    }
-}
-
-// Whether the pipeline of an index is complete.
-fn is_complete(registry: &Registry, index: u32) -> bool
-    ensures { result ≡ is_whole (graph_of registry.now) index }
-{
-    any_complete(registry.pipes(), index)
-}
-
-// Whether one of these of an index is complete.
-fn any_complete(pipes: &[Component], index: u32) -> bool
-    ensures { result ≡ list_any (λ p. p.pipe == index && complete_by p.unit) pipes.now }
-{
-    pipes
-        .iter()
-        .any(|pipe| pipe.pipe == index && completes(&pipe.unit))
-}
-
-// Whether a unit is a pipeline that is complete.
-fn completes(unit: &Unit) -> bool
-    ensures { result ≡ complete_by unit.now }
-{
-    match unit {
-        Unit::Host { .. } => false,
-        Unit::Dai { .. } => false,
-        Unit::Volume { .. } => false,
-        Unit::Mixer { .. } => false,
-        Unit::Mux { .. } => false,
-        Unit::Eq { .. } => false,
-        Unit::Buffer { .. } => false,
-        Unit::Pipeline { complete, .. } => *complete,
     }
 }
 

@@ -166,7 +166,7 @@ fn pipe_in(components: &[Component], id: u32) -> Option<u32>
 }
 
 /// Whether the pipeline of an index is complete.
-pub(crate) fn is_complete(registry: &Registry, index: u32) -> bool
+pub fn is_complete(registry: &Registry, index: u32) -> bool
     ensures { result ≡ is_whole (graph_of registry.now) index }
 {
     any_complete(registry.pipes(), index)

@@ -12,7 +12,7 @@ mod triggering;
 
 pub use completing::complete;
 pub use connecting::connect;
-pub use freeing::{Item, free_item};
+pub use freeing::{Item, free_item, is_complete};
 pub use fw_walks::{active, live};
 pub use phases::Trigger;
 pub use preparing::params;

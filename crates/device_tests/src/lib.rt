@@ -2,6 +2,10 @@
 #![tactic(auto)]
 
 #[cfg(test)]
-mod device;
+mod messages;
 #[cfg(test)]
-mod pieces;
+mod rows;
+#[cfg(test)]
+mod steps;
+#[cfg(test)]
+mod streams;

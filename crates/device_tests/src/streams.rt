@@ -1,0 +1,146 @@
+// What ticks write while streams start, pause, go on and stop.
+use crate::messages::{S16, S32, amplified, capture, gains, mixed, mono, slow, stereo, thin};
+use crate::steps::{INVALID, Step, done, play, silent, tick};
+use ipc3_codec::Message;
+use sof_io::Inputs;
+use std::alloc::Global;
+use std::test::Fail;
+
+// An input of these bytes.
+fn input(alloc: Global, slot: u32, bytes: &[u8]) -> Result<Inputs, Fail> {
+    let mut io = Inputs::new(alloc)?;
+    io.add(slot, Vec::from_slice(alloc, bytes)?)?;
+    Ok(io)
+}
+
+// So many 16-bit samples, all with this value.
+fn samples(alloc: Global, count: usize, value: u16) -> Result<Vec<u8>, Fail> {
+    let mut bytes = Vec::new(alloc);
+    for _ in 0..count {
+        bytes.extend_from_slice(&value.to_le_bytes())?;
+    }
+    Ok(bytes)
+}
+
+#[test]
+fn a_stream_runs_from_its_start_to_its_stop(rt: HostRuntime) -> Result<(), Fail> {
+    let steps = [
+        done(stereo(0, 48000)),
+        silent(1, 2),
+        done(Message::TrigStart { id: 0 }),
+        tick(2, 384, [0, 0, 1, 2, 0, 0, 3, 4, 0, 0, 5, 0]),
+        done(Message::TrigStop { id: 0 }),
+        done(Message::PcmFree { id: 0 }),
+        silent(1, 2),
+    ];
+    let mut io = input(rt.alloc(), 0, &[1, 2, 3, 4, 5])?;
+    let other = play(rt.alloc(), 992, &thin(), &mut io, &steps)?;
+    assert_eq!(rt; other, None);
+    Ok(())
+}
+
+// Two ticks of two channels: the first all 1, the second all 2.
+fn ones_and_twos(alloc: Global) -> Result<Inputs, Fail> {
+    let mut bytes = samples(alloc, 96, 1)?;
+    bytes.extend_from_slice(&samples(alloc, 96, 2)?)?;
+    input(alloc, 0, &bytes)
+}
+
+#[test]
+fn a_stream_goes_on_behind_its_pause(rt: HostRuntime) -> Result<(), Fail> {
+    let steps = [
+        done(stereo(0, 48000)),
+        done(Message::TrigStart { id: 0 }),
+        tick(4, 384, [0, 0, 1, 0, 0, 0, 1, 0, 0, 0, 1, 0]),
+        done(Message::TrigPause { id: 0 }),
+        silent(3, 4),
+        done(Message::TrigRelease { id: 0 }),
+        tick(4, 384, [0, 0, 2, 0, 0, 0, 2, 0, 0, 0, 2, 0]),
+    ];
+    let mut io = ones_and_twos(rt.alloc())?;
+    let other = play(rt.alloc(), 1856, &amplified(S32), &mut io, &steps)?;
+    assert_eq!(rt; other, None);
+    Ok(())
+}
+
+#[test]
+fn a_pipeline_of_ten_ms_runs_at_each_tenth_tick(rt: HostRuntime) -> Result<(), Fail> {
+    let steps = [
+        done(stereo(0, 48000)),
+        done(Message::TrigStart { id: 0 }),
+        silent(9, 2),
+        tick(2, 3840, [0, 0, 1, 0, 0, 0, 1, 0, 0, 0, 1, 0]),
+        silent(9, 2),
+        tick(2, 3840, [0; 12]),
+    ];
+    let mut io = ones_and_twos(rt.alloc())?;
+    let other = play(rt.alloc(), 4096, &slow(), &mut io, &steps)?;
+    assert_eq!(rt; other, None);
+    Ok(())
+}
+
+#[test]
+fn a_capture_gives_the_frames_of_its_dai_to_its_host(rt: HostRuntime) -> Result<(), Fail> {
+    let steps = [
+        done(mono(2)),
+        done(Message::TrigStart { id: 2 }),
+        tick(2, 192, [0, 0, 1, 2, 0, 0, 0, 0, 0, 0, 0, 0]),
+    ];
+    let mut io = input(rt.alloc(), 0, &[1, 2])?;
+    let other = play(rt.alloc(), 992, &capture(), &mut io, &steps)?;
+    assert_eq!(rt; other, None);
+    Ok(())
+}
+
+#[test]
+fn a_volume_multiplies_by_its_gain(rt: HostRuntime) -> Result<(), Fail> {
+    let steps = [
+        done(gains(2, 52056, 52056)),
+        done(stereo(0, 48000)),
+        done(Message::TrigStart { id: 0 }),
+        tick(4, 192, [0xab, 0x65, 0, 0, 0, 0, 0, 0, 0, 0, 0, 0]),
+    ];
+    let mut io = input(rt.alloc(), 0, &[0xff, 0x7f])?;
+    let other = play(rt.alloc(), 1856, &amplified(S16), &mut io, &steps)?;
+    assert_eq!(rt; other, None);
+    Ok(())
+}
+
+// Inputs of both hosts: one of 1000s, and one of ones.
+fn inputs(alloc: Global) -> Result<Inputs, Fail> {
+    let mut io = Inputs::new(alloc)?;
+    io.add(0, samples(alloc, 192, 1000)?)?;
+    io.add(6, samples(alloc, 192, 1)?)?;
+    Ok(io)
+}
+
+#[test]
+fn a_mixer_adds_the_streams_that_run(rt: HostRuntime) -> Result<(), Fail> {
+    let steps = [
+        done(stereo(0, 48000)),
+        done(stereo(6, 48000)),
+        done(Message::TrigStart { id: 0 }),
+        tick(2, 384, [0, 0, 0xe8, 3, 0, 0, 0xe8, 3, 0, 0, 0xe8, 3]),
+        done(Message::TrigStart { id: 6 }),
+        tick(2, 384, [0, 0, 0xe9, 3, 0, 0, 0xe9, 3, 0, 0, 0xe9, 3]),
+    ];
+    let mut io = inputs(rt.alloc())?;
+    let other = play(rt.alloc(), 4096, &mixed(), &mut io, &steps)?;
+    assert_eq!(rt; other, None);
+    Ok(())
+}
+
+#[test]
+fn a_mixer_refuses_a_second_rate(rt: HostRuntime) -> Result<(), Fail> {
+    let steps = [
+        done(stereo(0, 48000)),
+        done(Message::TrigStart { id: 0 }),
+        Step::Told(stereo(6, 16000), INVALID),
+        Step::Told(Message::TrigStart { id: 6 }, INVALID),
+        tick(2, 384, [0, 0, 0xe8, 3, 0, 0, 0xe8, 3, 0, 0, 0xe8, 3]),
+    ];
+    let mut io = inputs(rt.alloc())?;
+    let other = play(rt.alloc(), 4096, &mixed(), &mut io, &steps)?;
+    assert_eq!(rt; other, None);
+    Ok(())
+}

@@ -1,7 +1,9 @@
 mod Begun
+mod Draining
 mod FrameLaws
 mod Going
 mod GoneKept
+mod Hinted
 mod Ids
 mod InTurn
 mod Inserting

@@ -39,6 +39,7 @@ module _ (chosen : Option ℕ) (looked : List ℕ) (fed a m : ℕ) (bs : List Co
     ascends = ascends-map (pushed_at fed made v) (pushed-id looked fed can.apart made v) (map (drained_at looked a) bs) (ascends-map (drained_at looked a) (drained-id looked fed can.apart a) bs can.ascends);
     kind = run-kind w (length looked) c.unit ∙ can.kind;
     few = can.few;
+    distinct = can.distinct;
     apart = can.apart;
     inlets = all-with (λ b. is_among looked b ≡ true) (IsInlet bs c.channels (a + m)) (IsInlet (left v) c.channels m) (λ b among inlet. inlet-left looked fed can.apart a made v bs c.channels m b among inlet) looked (own-among looked) can.inlets;
     outlet = outlet-left looked fed can.apart a made v bs c.channels m count can.outlet;
@@ -87,6 +88,7 @@ can-less looked fed n m bs c less can = record {
   ascends = can.ascends;
   kind = can.kind;
   few = can.few;
+  distinct = can.distinct;
   apart = can.apart;
   inlets = all-by (IsInlet bs c.channels n) (IsInlet bs c.channels m) (λ b inlet. record { there = inlet.there; shape = inlet.shape; held = omega (arith, less, inlet.held) }) looked can.inlets;
   outlet = record { there = can.outlet.there; shape = can.outlet.shape; room = omega (arith, less, can.outlet.room) };

@@ -114,6 +114,7 @@ module _ (t : Tables) (id : ℕ) (c : Component) (it : Some c ≡ find (λ x. x.
     ascends = kept.named.buffers;
     kind = ap (λ (o : Option Component). option_map_or (λ x. moves_of x.unit (length looked)) o false) it ∙ kind;
     few = few-of looked fed (channels_moved t id) n t.buffers kept.buffers single inlets;
+    distinct = distinct-front looked fed single;
     apart = apart-of looked fed one single;
     inlets = subst (λ k. AllByRecursion (IsInlet t.buffers k n) looked) channels-are inlets;
     outlet = subst (λ k. IsOutlet t.buffers k n (get_or fed 0 0)) channels-are (the-one fed one outlets);

@@ -12,13 +12,11 @@ use Rattle.fw_components.specs.declared.component.Component.{Component}
 use Rattle.fw_components.specs.Tables.{frames_by, capacity_by}
 use Rattle.fw_components.specs.Changes.{has_id}
 use Rattle.fw_components.specs.Frames.{words_by, channels_by, frames_in, channels_in, capacity_in, taken_by, pushed_at}
-use Rattle.fw_components.specs.Processed.{IsInlet, drained_at}
-use Rattle.fw_components.specs.Moving.{HoldsIfLooked, CanMove}
-use Rattle.fw_components.proofs.Ids.{all-by, has-map}
+use Rattle.fw_components.specs.Processed.{drained_at}
+use Rattle.fw_components.specs.Moving.{CanMove}
+use Rattle.fw_components.proofs.Ids.{has-map}
 use Rattle.fw_components.proofs.KeptLaws.{ascends-map}
-use Rattle.fw_components.proofs.MadeLaws.{all-among}
 use Rattle.fw_components.proofs.MovedLaws.{drained-id}
-use Rattle.fw_components.proofs.Standing.{frames-is}
 
 -- ---- each component is found by its id
 
@@ -34,15 +32,9 @@ unfolding Ascends
 own-found [] all = tt
 own-found (c ∷ cs) all = (ap (λ h. cond h (Some c) (find (λ y. y.id == c.id) cs)) (eq-eqb c.id c.id refl), found-behind c cs cs all.0 (own-found cs all.1))
 
--- each buffer that is looked at holds the frames
-pub looked-held : (cs : List Component) (channels n : ℕ) (looked : List ℕ) → Ascends (λ c. c.id) cs → AllByRecursion (IsInlet cs channels n) looked → AllByRecursion (HoldsIfLooked looked n) cs
-looked-held cs channels n looked ascends inlets =
-    all-by (λ c. find (λ y. y.id == c.id) cs ≡ Some c) (HoldsIfLooked looked n)
-    (λ c own among. subst (λ (fs : List Frame). n ≤ length fs) (sym (frames-is c.id cs c (sym own))) (all-among (IsInlet cs channels n) c.id looked among inlets).held) cs (own-found cs ascends)
-
 -- ---- what is not looked at stays
 
-find-apart : (looked : List ℕ) (n b : ℕ) (cs : List Component) → is_among looked b ≡ false → find (λ c. c.id == b) (map (drained_at looked n) cs) ≡ find (λ c. c.id == b) cs
+pub find-apart : (looked : List ℕ) (n b : ℕ) (cs : List Component) → is_among looked b ≡ false → find (λ c. c.id == b) (map (drained_at looked n) cs) ≡ find (λ c. c.id == b) cs
 find-apart looked n b [] apart = refl
 find-apart looked n b (c ∷ cs) apart = by (c.id == b) refl (find-apart looked n b cs apart)
   where

@@ -1,12 +1,12 @@
 -- One component moves frames between the buffers of a table.
-use Rattle.std.specs.Prelude.{◌≡◌, ℕ, ◌≤◌, List, [], ◌∷◌, map, take, length, true, false, ◌==◌, Option, Some, None, if◌then◌else◌, ℤ, find}
-use Rattle.std.specs.List.{AllByRecursion}
+use Rattle.std.specs.Prelude.{◌≡◌, nat_eq, ℕ, ◌≤◌, List, [], ◌∷◌, map, take, length, true, false, ◌==◌, Option, Some, None, if◌then◌else◌, ℤ, find}
+use Rattle.std.specs.List.{AllByRecursion, IsDistinct}
 use Rattle.sof_base.specs.Samples.{Frame, AreFrames, samples_of}
 use Rattle.fw_gain.specs.Kernels.{summed}
 use Rattle.stream_law.specs.Placed.{Ascends}
 use Rattle.stream_law.specs.Order.{is_among}
 use Rattle.fw_components.specs.declared.component.Component.{Component}
-use Rattle.fw_components.specs.Tables.{numbers_by, frames_by}
+use Rattle.fw_components.specs.Tables.{numbers_by}
 use Rattle.fw_components.specs.Frames.{words_of, words_by, staged_by, frames_in, channels_in, pushed_at}
 use Rattle.fw_components.specs.Processed.{moves_of, IsInlet, IsOutlet, slices_in, made_frames, made_numbers, drained_at, run_by}
 
@@ -32,15 +32,12 @@ looked_choice looked (Some b) = if is_among looked b then Some b else None
 
 -- ---- frames
 
--- a buffer that is looked at holds n frames
-abbrev pub HoldsIfLooked : List ℕ → ℕ → Component → Type 0
-HoldsIfLooked looked n c = is_among looked c.id ≡ true → n ≤ length (frames_by c.unit)
-
 -- a component can move n frames from buffers that it looks at into one
 pub record CanMove (buffers : List Component) (looked : List ℕ) (fed n : ℕ) (c : Component) : Type 0 where
   pub ascends : Ascends (λ c. c.id) buffers
   pub kind : moves_of c.unit (length looked) ≡ true
   pub few : length looked ≤ 128
+  pub distinct : IsDistinct nat_eq looked
   pub apart : is_among looked fed ≡ false
   pub inlets : AllByRecursion (IsInlet buffers c.channels n) looked
   pub outlet : IsOutlet buffers c.channels n fed

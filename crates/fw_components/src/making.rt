@@ -2,6 +2,7 @@
 ghost use Rattle.std.specs.Prelude.{◌≡◌, ◌*◌, ◌%◌, ◌≤◌, ◌<◌, ◌^◌, ◌++◌, true, map, length, replicate, pos, nat_abs, filter, slice_get, option_copied, ◌==◌};
 ghost use Rattle.std.specs.List.{AllByRecursion};
 ghost use Rattle.sof_base.specs.Samples.{frames_of, AreFrames};
+ghost use Rattle.stream_law.specs.Placed.{Ascends};
 ghost use Rattle.fw_gain.specs.Kernels.{all_amplified, summed, held};
 ghost use Rattle.fw_components.specs.Tables.{numbers_by};
 ghost use Rattle.fw_components.specs.Changes.{has_id};
@@ -11,7 +12,7 @@ ghost use Rattle.fw_components.specs.Moving.{samples_in, all_summed, IsWhole, lo
 
 use crate::component::{Component, Unit};
 use crate::frames::copy_both;
-use crate::table::place_of;
+use crate::hints::Hints;
 use fw_gain::{mix_add, mix_begin, mix_end, select, volume};
 use sof_base::Sample;
 use stream_law::Join;
@@ -37,6 +38,7 @@ impl Component {
     pub(crate) fn make(
         &mut self,
         chosen: Option<u32>,
+        hints: &Hints,
         buffers: &[Component],
         looked: &[u32],
         n: u32,
@@ -44,6 +46,7 @@ impl Component {
         samples: &mut [Sample],
     )
         requires kind { moves_of self.old.unit (length looked.now) ≡ true }
+        requires ascends { Ascends (λ c. c.id) buffers.now }
         requires channels { (1 ≤ self.old.channels) × (self.old.channels ≤ 8) }
         requires few { length looked.now ≤ 128 }
         requires inlets { AllByRecursion (IsInlet buffers.now self.old.channels n) looked.now }
@@ -58,15 +61,23 @@ impl Component {
             Unit::Host { .. } => (),
             Unit::Dai { .. } => (),
             Unit::Volume { gains, .. } => {
-                amplify(looked[0], n, buffers, self.channels, gains.items(), samples);
+                amplify(
+                    looked[0],
+                    n,
+                    hints,
+                    buffers,
+                    self.channels,
+                    gains.items(),
+                    samples,
+                );
             }
-            Unit::Mixer { .. } => mix(looked, n, buffers, sums, samples),
+            Unit::Mixer { .. } => mix(looked, n, hints, buffers, sums, samples),
             Unit::Mux { .. } => match looked_at(looked, chosen) {
-                Some(inlet) => copy(inlet, n, buffers, samples),
+                Some(inlet) => copy(inlet, n, hints, buffers, samples),
                 None => select(None, samples),
             },
             Unit::Eq { eq, .. } => {
-                copy(looked[0], n, buffers, samples);
+                copy(looked[0], n, hints, buffers, samples);
                 eq.run(samples, self.channels);
             }
             Unit::Buffer { .. } => (),
@@ -108,28 +119,35 @@ fn looked_at(looked: &[u32], chosen: Option<u32>) -> Option<u32>
 }
 
 // The samples of the first `n` frames of the buffer of this id, in two parts of whole frames.
-fn spans(buffers: &[Component], inlet: u32, n: u32) -> (&[Sample], &[Sample])
+fn spans<'a>(
+    hints: &Hints,
+    buffers: &'a [Component],
+    inlet: u32,
+    n: u32,
+) -> (&'a [Sample], &'a [Sample])
+    requires ascends { Ascends (λ c. c.id) buffers.now }
     requires there { has_id buffers.now inlet ≡ true }
     requires held { n ≤ length (frames_in buffers.now inlet) }
     ensures samples { result.0.now ++ result.1.now ≡ samples_in buffers.now n inlet }
     ensures whole { length result.0.now % channels_in buffers.now inlet ≡ 0 }
     ensures frames { IsWhole buffers.now inlet }
 {
-    match place_of(buffers, inlet) {
+    match hints.place_of(buffers, inlet) {
         Some(at) => buffers[at].spans(n),
         None => unreachable!(),
     }
 }
 
 // Writes the samples of the first `n` frames of a buffer.
-fn copy(inlet: u32, n: u32, buffers: &[Component], samples: &mut [Sample])
+fn copy(inlet: u32, n: u32, hints: &Hints, buffers: &[Component], samples: &mut [Sample])
+    requires ascends { Ascends (λ c. c.id) buffers.now }
     requires there { has_id buffers.now inlet ≡ true }
     requires held { n ≤ length (frames_in buffers.now inlet) }
     requires size { length samples.old ≡ n * channels_in buffers.now inlet }
     ensures samples { samples.new ≡ samples_in buffers.now n inlet }
     ensures frames { IsWhole buffers.now inlet }
 {
-    let (front, back) = spans(buffers, inlet, n);
+    let (front, back) = spans(hints, buffers, inlet, n);
     copy_both(front, back, samples);
 }
 
@@ -137,11 +155,13 @@ fn copy(inlet: u32, n: u32, buffers: &[Component], samples: &mut [Sample])
 fn amplify(
     inlet: u32,
     n: u32,
+    hints: &Hints,
     buffers: &[Component],
     channels: u8,
     gains: &[u32],
     samples: &mut [Sample],
 )
+    requires ascends { Ascends (λ c. c.id) buffers.now }
     requires there { has_id buffers.now inlet ≡ true }
     requires held { n ≤ length (frames_in buffers.now inlet) }
     requires shape { channels_in buffers.now inlet ≡ channels }
@@ -150,15 +170,23 @@ fn amplify(
     ensures samples { samples.new ≡ all_amplified channels gains.now (samples_in buffers.now n inlet) }
     ensures frames { IsWhole buffers.now inlet }
 {
-    let (front, back) = spans(buffers, inlet, n);
+    let (front, back) = spans(hints, buffers, inlet, n);
     let (near, far) = samples.split_at_mut(front.len());
     volume(front, near, channels, gains);
     volume(back, far, channels, gains);
 }
 
 // Writes the sums of the samples of the first `n` frames of each of these buffers, held once.
-fn mix(looked: &[u32], n: u32, buffers: &[Component], sums: &mut [i64], samples: &mut [Sample])
+fn mix(
+    looked: &[u32],
+    n: u32,
+    hints: &Hints,
+    buffers: &[Component],
+    sums: &mut [i64],
+    samples: &mut [Sample],
+)
     requires few { length looked.now ≤ 128 }
+    requires ascends { Ascends (λ c. c.id) buffers.now }
     requires there { AllByRecursion (λ b. has_id buffers.now b ≡ true) looked.now }
     requires held { AllByRecursion (λ b. n ≤ length (frames_in buffers.now b)) looked.now }
     requires sums { AllByRecursion (λ b. length sums.old ≡ n * channels_in buffers.now b) looked.now }
@@ -168,13 +196,14 @@ fn mix(looked: &[u32], n: u32, buffers: &[Component], sums: &mut [i64], samples:
 {
     mix_begin(sums);
     for inlet in looked {
-        add(*inlet, n, buffers, sums);
+        add(*inlet, n, hints, buffers, sums);
     }
     mix_end(sums, samples);
 }
 
 // Adds the samples of the first `n` frames of a buffer to sums.
-fn add(inlet: u32, n: u32, buffers: &[Component], sums: &mut [i64])
+fn add(inlet: u32, n: u32, hints: &Hints, buffers: &[Component], sums: &mut [i64])
+    requires ascends { Ascends (λ c. c.id) buffers.now }
     requires there { has_id buffers.now inlet ≡ true }
     requires held { n ≤ length (frames_in buffers.now inlet) }
     requires size { length sums.old ≡ n * channels_in buffers.now inlet }
@@ -183,7 +212,7 @@ fn add(inlet: u32, n: u32, buffers: &[Component], sums: &mut [i64])
     ensures within { AllByRecursion (λ x. nat_abs x ≤ 2 ^ 31) (samples_in buffers.now n inlet) }
     ensures frames { IsWhole buffers.now inlet }
 {
-    let (front, back) = spans(buffers, inlet, n);
+    let (front, back) = spans(hints, buffers, inlet, n);
     let (near, far) = sums.split_at_mut(front.len());
     mix_add(near, front);
     mix_add(far, back);

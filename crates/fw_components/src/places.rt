@@ -6,7 +6,7 @@ ghost use Rattle.fw_components.specs.Changes.{has_id};
 ghost use Rattle.fw_components.specs.Frames.{words_by, begun_at, IsFreshBy, staged_in, channels_in, frames_in, capacity_in, pushed_at, taken_at, comes_from, goes_to};
 
 use crate::component::Component;
-use crate::table::place_of;
+use crate::hints::Hints;
 use sof_base::Sample;
 
 /// The one of this id, which stands at this place, has so many channels; a ring is empty, and an equaliser's epoch begins.
@@ -45,8 +45,22 @@ fn push_at(components: &mut Vec<Component>, at: usize, id: u32, samples: &[Sampl
     components[at].push(samples);
 }
 
+/// The buffer of this id loses its first frames.
+pub(crate) fn shorten_in(hints: &Hints, components: &mut Vec<Component>, id: u32, n: u32)
+    requires there { has_id components.old.items id ≡ true }
+    requires ascends { Ascends (λ c. c.id) components.old.items }
+    requires held { n ≤ length (frames_in components.old.items id) }
+    ensures items { components.new.items ≡ map (taken_at id n) components.old.items }
+    ensures capacity { vec_capacity components.new ≡ vec_capacity components.old }
+{
+    match hints.place_of(components.as_slice(), id) {
+        Some(at) => shorten_at(components, at, id, n),
+        None => unreachable!(),
+    }
+}
+
 /// The buffer of this id has the frames of these samples behind its own.
-pub(crate) fn push_in(components: &mut Vec<Component>, id: u32, samples: &[Sample])
+pub(crate) fn push_in(hints: &Hints, components: &mut Vec<Component>, id: u32, samples: &[Sample])
     requires there { has_id components.old.items id ≡ true }
     requires ascends { Ascends (λ c. c.id) components.old.items }
     requires whole { length samples.now % channels_in components.old.items id ≡ 0 }
@@ -54,14 +68,19 @@ pub(crate) fn push_in(components: &mut Vec<Component>, id: u32, samples: &[Sampl
     ensures items { components.new.items ≡ map (pushed_at id (frames_of (channels_in components.old.items id) (length samples.now / channels_in components.old.items id) samples.now) (words_by (find (λ c. c.id == id) components.new.items))) components.old.items }
     ensures capacity { vec_capacity components.new ≡ vec_capacity components.old }
 {
-    match place_of(components.as_slice(), id) {
+    match hints.place_of(components.as_slice(), id) {
         Some(at) => push_at(components, at, id, samples),
         None => unreachable!(),
     }
 }
 
 /// The buffer of this id loses as many frames as `samples` has room for, and their samples are written there.
-pub(crate) fn pull_in(components: &mut Vec<Component>, id: u32, samples: &mut [Sample])
+pub(crate) fn pull_in(
+    hints: &Hints,
+    components: &mut Vec<Component>,
+    id: u32,
+    samples: &mut [Sample],
+)
     requires there { has_id components.old.items id ≡ true }
     requires ascends { Ascends (λ c. c.id) components.old.items }
     requires whole { length samples.old % channels_in components.old.items id ≡ 0 }
@@ -70,7 +89,7 @@ pub(crate) fn pull_in(components: &mut Vec<Component>, id: u32, samples: &mut [S
     ensures samples { samples.new ≡ samples_of (take (length samples.old / channels_in components.old.items id) (frames_in components.old.items id)) }
     ensures capacity { vec_capacity components.new ≡ vec_capacity components.old }
 {
-    match place_of(components.as_slice(), id) {
+    match hints.place_of(components.as_slice(), id) {
         Some(at) => {
             let held = components[at].held() as usize;
             let n = (samples.len() / components[at].frame_samples()).min(held) as u32;

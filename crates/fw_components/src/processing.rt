@@ -2,16 +2,16 @@
 ghost use Rattle.std.specs.Prelude.{◌≡◌, ◌+◌, ◌*◌, ◌≤◌, ◌++◌, [], true, map, length, nat_eq, slice_index, vec_capacity};
 ghost use Rattle.std.specs.List.{AllByRecursion, IsDistinct};
 ghost use Rattle.stream_law.specs.Order.{is_among};
-ghost use Rattle.fw_components.specs.Tables.{frames_by};
+ghost use Rattle.stream_law.specs.Placed.{Ascends};
 ghost use Rattle.fw_components.specs.Changes.{has_id};
-ghost use Rattle.fw_components.specs.Frames.{channels_in, words_at, staged_in};
+ghost use Rattle.fw_components.specs.Frames.{channels_in, frames_in, words_at, staged_in};
 ghost use Rattle.fw_components.specs.Processed.{moves_at, channels_moved, IsInlet, IsOutlet, chosen_by, made_at, numbers_at, numbers_made_at, drained_at, processed};
-ghost use Rattle.fw_components.specs.Moving.{HoldsIfLooked, CanMove, IsMoved};
+ghost use Rattle.fw_components.specs.Moving.{CanMove, IsMoved};
 
 use crate::component::Component;
-use crate::places::push_in;
+use crate::hints::Hints;
+use crate::places::{push_in, shorten_in};
 use crate::registry::Registry;
-use crate::table::place_of;
 use crate::workspace::{MOST, Workspace};
 use sof_base::Sample;
 use stream_law::Join;
@@ -31,9 +31,10 @@ impl Registry {
         ensures numbers { numbers_at self.new id ≡ numbers_made_at self.old id looked.now n }
         ensures staged { staged_in self.new.comps id ≡ staged_in self.old.comps id }
     {
-        match place_of(self.comps.as_slice(), id) {
+        match self.comp_hints.place_of(self.comps.as_slice(), id) {
             Some(at) => self.comps[at].carry(
                 self.joins.as_slice(),
+                &self.buffer_hints,
                 &mut self.buffers,
                 looked,
                 fed[0],
@@ -50,6 +51,7 @@ impl Component {
     fn carry(
         &mut self,
         joins: &[Join],
+        hints: &Hints,
         buffers: &mut Vec<Component>,
         looked: &[u32],
         fed: u32,
@@ -63,6 +65,7 @@ impl Component {
         let chosen = self.chosen(joins);
         self.steps(
             chosen,
+            hints,
             buffers,
             looked,
             fed,
@@ -76,6 +79,7 @@ impl Component {
     fn steps(
         &mut self,
         chosen: Option<u32>,
+        hints: &Hints,
         buffers: &mut Vec<Component>,
         looked: &[u32],
         fed: u32,
@@ -88,12 +92,12 @@ impl Component {
         ensures moved { IsMoved chosen looked.now fed n buffers.old.items self.old buffers.new.items self.new }
         ensures capacity { vec_capacity buffers.new ≡ vec_capacity buffers.old }
     {
-        let most = (MOST / width_of(buffers.as_slice(), fed)) as u32;
+        let most = (MOST / width_of(hints, buffers.as_slice(), fed)) as u32;
         let mut moved = n.min(most);
-        self.step(chosen, buffers, looked, fed, moved, sums, samples);
+        self.step(chosen, hints, buffers, looked, fed, moved, sums, samples);
         while moved < n {
             let more = (n - moved).min(most);
-            self.step(chosen, buffers, looked, fed, more, sums, samples);
+            self.step(chosen, hints, buffers, looked, fed, more, sums, samples);
             moved += more;
         }
     }
@@ -102,6 +106,7 @@ impl Component {
     fn step(
         &mut self,
         chosen: Option<u32>,
+        hints: &Hints,
         buffers: &mut Vec<Component>,
         looked: &[u32],
         fed: u32,
@@ -119,54 +124,41 @@ impl Component {
         let made = &mut samples[..size];
         self.make(
             chosen,
+            hints,
             buffers.as_slice(),
             looked,
             n,
             &mut sums[..size],
             made,
         );
-        drain_in(buffers, looked, n);
-        push_in(buffers, fed, made);
-    }
-
-    // A buffer that is looked at loses its first frames.
-    fn drain(&mut self, looked: &[u32], n: u32)
-        requires { HoldsIfLooked looked.now n self.old }
-        ensures { self.new ≡ drained_at looked.now n self.old }
-    {
-        if looked.contains(&self.id) {
-            self.take(n);
-        }
+        drain_in(hints, buffers, looked, n);
+        push_in(hints, buffers, fed, made);
     }
 }
 
 // How many samples a frame of a buffer has, 1 to 8.
-fn width_of(buffers: &[Component], id: u32) -> usize
-    requires { has_id buffers.now id ≡ true }
+fn width_of(hints: &Hints, buffers: &[Component], id: u32) -> usize
+    requires ascends { Ascends (λ c. c.id) buffers.now }
+    requires there { has_id buffers.now id ≡ true }
     ensures range { (1 ≤ result) × (result ≤ 8) }
     ensures is { result ≡ channels_in buffers.now id }
 {
-    match place_of(buffers, id) {
+    match hints.place_of(buffers, id) {
         Some(at) => buffers[at].frame_samples(),
         None => unreachable!(),
     }
 }
 
-// The buffers that are looked at lose their first frames.
-fn drain_all(components: &mut [Component], looked: &[u32], n: u32)
-    requires { AllByRecursion (HoldsIfLooked looked.now n) components.old }
-    ensures { components.new ≡ map (drained_at looked.now n) components.old }
-{
-    for i in 0..components.len() {
-        components[i].drain(looked, n);
-    }
-}
-
-// The same in the table.
-fn drain_in(components: &mut Vec<Component>, looked: &[u32], n: u32)
-    requires { AllByRecursion (HoldsIfLooked looked.now n) components.old.items }
+// The buffers that are looked at, each of them named once, lose their first frames.
+fn drain_in(hints: &Hints, components: &mut Vec<Component>, looked: &[u32], n: u32)
+    requires ascends { Ascends (λ c. c.id) components.old.items }
+    requires single { IsDistinct nat_eq looked.now }
+    requires there { AllByRecursion (λ b. has_id components.old.items b ≡ true) looked.now }
+    requires held { AllByRecursion (λ b. n ≤ length (frames_in components.old.items b)) looked.now }
     ensures items { components.new.items ≡ map (drained_at looked.now n) components.old.items }
     ensures capacity { vec_capacity components.new ≡ vec_capacity components.old }
 {
-    drain_all(components, looked, n);
+    for inlet in looked {
+        shorten_in(hints, components, *inlet, n);
+    }
 }

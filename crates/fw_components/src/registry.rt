@@ -9,6 +9,7 @@ ghost use Rattle.fw_components.specs.Kept.{IsStreamOf};
 ghost use Rattle.fw_components.specs.Changes.{added, is_idle, is_full, is_there, IsNew, has_new_index, completed_at, ended_at, set_at, found, IsFoundOf, IsOf, given_found, given_all, has_id, touches, without, can_join, with_join};
 
 use crate::component::Component;
+use crate::hints::Hints;
 use crate::table::{
     complete_in, end_in, give_all, join_in, place, place_of, set_stream_in, take_at, value_in,
 };
@@ -26,6 +27,8 @@ pub struct Registry {
     pub(crate) buffers: Vec<Component>,
     pub(crate) pipes: Vec<Component>,
     pub(crate) joins: Vec<Join>,
+    pub(crate) comp_hints: Hints,
+    pub(crate) buffer_hints: Hints,
     pub(crate) workspace: Workspace,
 }
 
@@ -75,6 +78,8 @@ impl Registry {
             buffers,
             pipes,
             joins,
+            comp_hints: Hints::new(),
+            buffer_hints: Hints::new(),
             workspace,
         })
     }
@@ -90,10 +95,10 @@ impl Registry {
     pub fn find(&self, id: u32) -> Option<u16>
         ensures { result ≡ position (λ c. c.id == id) (all_of self.now) }
     {
-        if let Some(at) = place_of(self.comps.as_slice(), id) {
+        if let Some(at) = self.comp_hints.place_of(self.comps.as_slice(), id) {
             return Some(at as u16);
         }
-        if let Some(at) = place_of(self.buffers.as_slice(), id) {
+        if let Some(at) = self.buffer_hints.place_of(self.buffers.as_slice(), id) {
             return Some((self.comps.len() + at) as u16);
         }
         if let Some(at) = place_of(self.pipes.as_slice(), id) {
@@ -139,6 +144,7 @@ impl Registry {
                 return Err(RegistryFull { component });
             }
             place(&mut self.buffers, component);
+            self.buffer_hints.renew(self.buffers.as_slice());
             return Ok(());
         }
         if component.unit.is_pipeline() {
@@ -152,6 +158,7 @@ impl Registry {
             return Err(RegistryFull { component });
         }
         place(&mut self.comps, component);
+        self.comp_hints.renew(self.comps.as_slice());
         Ok(())
     }
 
@@ -191,11 +198,13 @@ impl Registry {
         ensures holes { region.new.holes ≡ given_found (found self.old id) region.old.holes }
         ensures same { (region.new.home ≡ region.old.home) × (region.new.size ≡ region.old.size) × (region.new.usable ≡ region.old.usable) }
     {
-        if let Some(at) = place_of(self.comps.as_slice(), id) {
+        if let Some(at) = self.comp_hints.place_of(self.comps.as_slice(), id) {
             let component = take_at(&mut self.comps, at, id);
+            self.comp_hints.renew(self.comps.as_slice());
             region.give(component.into_piece());
-        } else if let Some(at) = place_of(self.buffers.as_slice(), id) {
+        } else if let Some(at) = self.buffer_hints.place_of(self.buffers.as_slice(), id) {
             let component = take_at(&mut self.buffers, at, id);
+            self.buffer_hints.renew(self.buffers.as_slice());
             remove_joins(&mut self.joins, id);
             region.give(component.into_piece());
         } else if let Some(at) = place_of(self.pipes.as_slice(), id) {
@@ -230,7 +239,7 @@ impl Registry {
         requires { has_id self.now.buffers buffer ≡ true }
         ensures { result ≡ length (frames_at self.now buffer) }
     {
-        match place_of(self.buffers.as_slice(), buffer) {
+        match self.buffer_hints.place_of(self.buffers.as_slice(), buffer) {
             Some(at) => self.buffers[at].held(),
             None => 0,
         }
@@ -241,7 +250,7 @@ impl Registry {
         requires { has_id self.now.buffers buffer ≡ true }
         ensures { result + length (frames_at self.now buffer) ≡ capacity_at self.now buffer }
     {
-        match place_of(self.buffers.as_slice(), buffer) {
+        match self.buffer_hints.place_of(self.buffers.as_slice(), buffer) {
             Some(at) => self.buffers[at].room(),
             None => 0,
         }
@@ -254,7 +263,7 @@ impl Registry {
         if self.find(id).is_none() {
             return Err(Errno::NO_DEVICE);
         }
-        let Some(at) = place_of(self.comps.as_slice(), id) else {
+        let Some(at) = self.comp_hints.place_of(self.comps.as_slice(), id) else {
             return Err(Errno::INVALID);
         };
         match self.comps[at].values(command) {
@@ -282,7 +291,7 @@ impl Registry {
     fn takes(&self, id: u32, command: u32, values: &[u32]) -> bool
         ensures { result ≡ option_map_or (λ c. takes c.unit command values.now) (find (λ c. c.id == id) self.now.comps) false }
     {
-        match place_of(self.comps.as_slice(), id) {
+        match self.comp_hints.place_of(self.comps.as_slice(), id) {
             Some(at) => self.comps[at].takes(command, values),
             None => false,
         }
@@ -297,6 +306,8 @@ impl Registry {
             buffers,
             pipes,
             joins: _,
+            comp_hints: _,
+            buffer_hints: _,
             workspace: _,
         } = self;
         comps.destroy_empty();

@@ -3,7 +3,7 @@ ghost use Rattle.std.specs.Prelude.{◌≡◌, ◌+◌, ◌/◌, ◌%◌, ◌≤
 ghost use Rattle.std.specs.List.{list_any};
 ghost use Rattle.sof_base.specs.Samples.{frames_of, samples_of};
 ghost use Rattle.fw_components.specs.Tables.{frames_at, capacity_at};
-ghost use Rattle.fw_components.specs.Changes.{found, is_there};
+ghost use Rattle.fw_components.specs.Changes.{found, is_there, has_id};
 ghost use Rattle.fw_components.specs.Frames.{begun, words_at, IsFreshBy, staged_at, channels_at, comes_from, goes_to, out_of as out_id, in_of as in_id, taken, pushed};
 
 use crate::places::{begin_at, in_of, out_of, pull_in, push_in};
@@ -20,13 +20,37 @@ impl Registry {
         ensures fresh { IsFreshBy (found self.new id) }
         ensures staged { staged_at self.new id ≡ staged_at self.old id }
     {
-        if let Some(at) = place_of(self.comps.as_slice(), id) {
+        if let Some(at) = self.comp_hints.place_of(self.comps.as_slice(), id) {
             begin_at(&mut self.comps, at, id, p.channels);
-        } else if let Some(at) = place_of(self.buffers.as_slice(), id) {
+        } else if let Some(at) = self.buffer_hints.place_of(self.buffers.as_slice(), id) {
             begin_at(&mut self.buffers, at, id, p.channels);
         } else if let Some(at) = place_of(self.pipes.as_slice(), id) {
             begin_at(&mut self.pipes, at, id, p.channels);
         }
+    }
+
+    /// Puts the frames of these samples behind those of this buffer, which has room for them: `samples` has a sample of each
+    /// channel for each frame. This takes no memory.
+    pub fn push(&mut self, buffer: u32, samples: &[Sample])
+        requires there { has_id self.old.buffers buffer ≡ true }
+        requires whole { length samples.now % channels_at self.old buffer ≡ 0 }
+        requires fit { length (frames_at self.old buffer) + length samples.now / channels_at self.old buffer ≤ capacity_at self.old buffer }
+        ensures { let channels = channels_at self.old buffer in
+            self.new ≡ pushed buffer (frames_of channels (length samples.now / channels) samples.now) (words_at self.new buffer) self.old }
+    {
+        push_in(&self.buffer_hints, &mut self.buffers, buffer, samples);
+    }
+
+    /// Takes as many frames as `samples` has room for from this buffer, which holds them, and writes their samples, a sample of
+    /// each channel for each frame. This takes no memory.
+    pub fn draw(&mut self, buffer: u32, samples: &mut [Sample])
+        requires there { has_id self.old.buffers buffer ≡ true }
+        requires whole { length samples.old % channels_at self.old buffer ≡ 0 }
+        requires held { length samples.old / channels_at self.old buffer ≤ length (frames_at self.old buffer) }
+        ensures tables { self.new ≡ taken buffer (length samples.old / channels_at self.old buffer) self.old }
+        ensures samples { samples.new ≡ samples_of (take (length samples.old / channels_at self.old buffer) (frames_at self.old buffer)) }
+    {
+        pull_in(&self.buffer_hints, &mut self.buffers, buffer, samples);
     }
 
     /// Puts the frames of these samples behind those of the buffer that comes from this component; it has room for them.
@@ -38,8 +62,8 @@ impl Registry {
             let channels = channels_at self.old buffer in
             self.new ≡ pushed buffer (frames_of channels (length samples.now / channels) samples.now) (words_at self.new buffer) self.old }
     {
-        match out_of(self.buffers.as_slice(), id) {
-            Some(buffer) => push_in(&mut self.buffers, buffer, samples),
+        match out_of(self.buffers(), id) {
+            Some(buffer) => self.push(buffer, samples),
             None => unreachable!(),
         }
     }
@@ -55,8 +79,8 @@ impl Registry {
         ensures samples { let buffer = in_id self.old id in
             samples.new ≡ samples_of (take (length samples.old / channels_at self.old buffer) (frames_at self.old buffer)) }
     {
-        match in_of(self.buffers.as_slice(), id) {
-            Some(buffer) => pull_in(&mut self.buffers, buffer, samples),
+        match in_of(self.buffers(), id) {
+            Some(buffer) => self.draw(buffer, samples),
             None => unreachable!(),
         }
     }

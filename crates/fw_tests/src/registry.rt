@@ -92,7 +92,7 @@ fn one_host(alloc: Global) -> Result<bool, NoMemory> {
     Ok(right)
 }
 
-// Three frames of two channels are fed into a buffer, which is empty once it ends.
+// Four frames of two channels are put into a buffer, the first is drawn, and the buffer is empty once it ends.
 fn fed_by_a_host(alloc: Global) -> Result<bool, NoMemory> {
     let mut registry = Registry::new(alloc)?;
     let mut region = match Region::new(alloc, 128) {
@@ -140,7 +140,10 @@ fn fed_by_a_host(alloc: Global) -> Result<bool, NoMemory> {
     }
     registry.join(3, 5);
     registry.begin(5, params);
-    registry.feed(3, &[1, 2, 3, 4, 5, 6]);
+    registry.feed(3, &[1, 2, 3, 4]);
+    registry.push(5, &[5, 6, 7, 8]);
+    let mut first = [0; 2];
+    registry.draw(5, &mut first);
     let held = registry.held(5);
     let free = registry.free(5);
     registry.end(5);
@@ -149,7 +152,7 @@ fn fed_by_a_host(alloc: Global) -> Result<bool, NoMemory> {
     registry.remove(3, &mut region);
     registry.close();
     region.close();
-    Ok(held == 3 && free == 1 && left == 0)
+    Ok(first == [1, 2] && held == 3 && free == 1 && left == 0)
 }
 
 #[test]

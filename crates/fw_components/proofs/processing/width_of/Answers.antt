@@ -8,7 +8,7 @@ use Rattle.fw_components.proofs.Taking.{taken-found}
 use Rattle.fw_components.proofs.processing.width_of.Goals as goal
 
 pub unreachable-requires : goal.unreachable-requires
-unreachable-requires c = true≢false (sym c.requires ∙ never-there c.args.id c.args.buffers.now c.in-None.ensures)
+unreachable-requires c = true≢false (sym c.requires.there ∙ never-there c.args.id c.args.buffers.now c.in-None.ensures)
 
 pub returns-clause-is : goal.returns-clause-is
 returns-clause-is c =

@@ -1,13 +1,23 @@
-use Rattle.std.proofs.Common.{◌≡◌, ◌∙◌, sym, ap, ℕ, ◌*◌, List, length, arith, length-take}
+use Rattle.std.proofs.Common.{◌≡◌, ◌∙◌, sym, ap, ℕ, ◌*◌, ◌≤◌, true, List, length, arith, length-take}
 use Rattle.fw_ring.proofs.FrameLaws.{length-frames}
 use Rattle.fw_components.specs.declared.component.Component.{Component}
-use Rattle.fw_components.specs.Processed.{slices_in, made_numbers}
+use Rattle.fw_components.specs.Changes.{has_id}
+use Rattle.fw_components.specs.Frames.{frames_in}
+use Rattle.fw_components.specs.Processed.{IsInlet, slices_in, made_numbers}
 use Rattle.fw_components.specs.Moving.{frames_now}
-use Rattle.fw_components.proofs.StepLaws.{looked-held, mid-there, mid-ascends, mid-whole, mid-fit, step-table}
+use Rattle.fw_components.proofs.Ids.{all-by}
+use Rattle.fw_components.proofs.StepLaws.{mid-there, mid-ascends, mid-whole, mid-fit, step-table}
 use Rattle.fw_components.proofs.component.Component.step.Goals as goal
 
-pub drain_in-requires : goal.drain_in-requires
-drain_in-requires c = looked-held c.args.buffers.now.items c.args.self.now.channels c.args.n c.args.looked.now c.requires.can.ascends c.requires.can.inlets
+pub drain_in-requires-clause-there : goal.drain_in-requires-clause-there
+drain_in-requires-clause-there c =
+    let bs = c.args.buffers.now.items in let x = c.args.self.now in let n = c.args.n in
+    all-by (IsInlet bs x.channels n) (λ b. has_id bs b ≡ true) (λ b inlet. inlet.there) c.args.looked.now c.requires.can.inlets
+
+pub drain_in-requires-clause-held : goal.drain_in-requires-clause-held
+drain_in-requires-clause-held c =
+    let bs = c.args.buffers.now.items in let x = c.args.self.now in let n = c.args.n in
+    all-by (IsInlet bs x.channels n) (λ b. n ≤ length (frames_in bs b)) (λ b inlet. inlet.held) c.args.looked.now c.requires.can.inlets
 
 pub push_in-requires-clause-there : goal.push_in-requires-clause-there
 push_in-requires-clause-there c = mid-there c.args.buffers.now.items c.args.looked.now c.args.fed c.args.n c.args.self.now c.requires.can c.requires.channels.0 c.drain_in.new.components.items c.drain_in.ensures.items

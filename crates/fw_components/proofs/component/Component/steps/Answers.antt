@@ -5,8 +5,8 @@ use Rattle.fw_components.specs.Moving.{CanMove}
 use Rattle.fw_components.proofs.MoveAgain.{can-again, moved-again, can-less}
 use Rattle.fw_components.proofs.component.Component.steps.Goals as goal
 
-pub width_of-requires : goal.width_of-requires
-width_of-requires c = subst (λ (cs : List Component). has_id cs c.args.fed ≡ true) (sym c.as_slice.ensures.value) c.requires.can.outlet.there
+pub width_of-requires-clause-there : goal.width_of-requires-clause-there
+width_of-requires-clause-there c = subst (λ (cs : List Component). has_id cs c.args.fed ≡ true) (sym c.as_slice.ensures.value) c.requires.can.outlet.there
 
 pub step-requires-in-loop-moved-clause-can : goal.step-requires-in-loop-moved-clause-can
 step-requires-in-loop-moved-clause-can c =

@@ -1,42 +1,41 @@
-use Rattle.std.proofs.Common.{◌≡◌, ◌≤◌, ◌∙◌, ◌/◌, sym, ap, subst, length, List, ℕ}
+use Rattle.std.proofs.Common.{◌≡◌, ◌≤◌, ◌∙◌, ◌+◌, ◌/◌, ◌%◌, sym, ap, subst, List, length}
 use Rattle.std.proofs.lemmas.Bool.{true≢false}
 use Rattle.std.specs.Prelude.{find, option_map}
-use Rattle.std.specs.List.{list_any}
-use Rattle.fw_components.specs.declared.component.Component.{Component}
-use Rattle.fw_components.specs.Tables.{Tables}
-use Rattle.fw_components.specs.Laid.{tables_of}
 use Rattle.sof_base.specs.Samples.{frames_of}
+use Rattle.fw_components.specs.declared.component.Component.{Component}
+use Rattle.fw_components.specs.Tables.{frames_at, capacity_at}
 use Rattle.fw_components.specs.Frames.{comes_from, out_of, channels_at, pushed, words_at}
-use Rattle.fw_components.proofs.Begun.{buffer-pushed}
-use Rattle.fw_components.proofs.Started.{id-is, id-there, id-never, more-frames}
+use Rattle.fw_components.proofs.Started.{id-is, id-there, id-never}
 use Rattle.fw_components.proofs.registry.Registry.feed.Goals as goal
 
-pub push_in-requires-clause-there : goal.push_in-requires-clause-there
-push_in-requires-clause-there c =
-    let bs = c.self.inside.buffers.items in
-    id-there (comes_from c.args.id) bs c.in-Some.buffer (c.in-Some.ensures ∙ ap (λ (cs : List Component). option_map (λ (x : Component). x.id) (find (comes_from c.args.id) cs)) c.as_slice.ensures.value)
+pub push-requires-clause-there : goal.push-requires-clause-there
+push-requires-clause-there c =
+    let it = λ (x : Component). comes_from c.args.id x in
+    let out = c.in-Some.ensures ∙ ap (λ (cs : List Component). option_map (λ (x : Component). x.id) (find it cs)) c.buffers.ensures.items in
+    id-there it c.args.self.now.buffers c.in-Some.buffer out
 
-pub invariant_of-self : goal.invariant_of-self
-invariant_of-self c = record {
-  comps = c.self.invariant.comps;
-  buffers = subst (λ n. 128 ≤ n) (sym c.push_in.ensures.capacity) c.self.invariant.buffers;
-  pipes = c.self.invariant.pipes;
-  joins = c.self.invariant.joins;
-  kept = buffer-pushed (tables_of c.self.inside) c.self.invariant.kept c.in-Some.buffer _ _ c.push_in.new.components.items c.push_in.ensures.items;
-}
+pub push-requires-clause-whole : goal.push-requires-clause-whole
+push-requires-clause-whole c =
+    let it = λ (x : Component). comes_from c.args.id x in let t = c.args.self.now in
+    let out = c.in-Some.ensures ∙ ap (λ (cs : List Component). option_map (λ (x : Component). x.id) (find it cs)) c.buffers.ensures.items in
+    let at : c.in-Some.buffer ≡ out_of t c.args.id = id-is it t.buffers c.in-Some.buffer out in
+    ap (λ b. length c.args.samples.now % channels_at t b) at ∙ c.requires.whole
+
+pub push-requires-clause-fit : goal.push-requires-clause-fit
+push-requires-clause-fit c =
+    let it = λ (x : Component). comes_from c.args.id x in let t = c.args.self.now in
+    let out = c.in-Some.ensures ∙ ap (λ (cs : List Component). option_map (λ (x : Component). x.id) (find it cs)) c.buffers.ensures.items in
+    let at : c.in-Some.buffer ≡ out_of t c.args.id = id-is it t.buffers c.in-Some.buffer out in
+    subst (λ b. length (frames_at t b) + length c.args.samples.now / channels_at t b ≤ capacity_at t b) (sym at) c.requires.fit
 
 pub unreachable-requires : goal.unreachable-requires
 unreachable-requires c =
-    let bs = c.self.inside.buffers.items in
-    true≢false (sym c.requires.there ∙ ap (λ (t : Tables). list_any (comes_from c.args.id) t.buffers) (sym c.self.view_is)
-    ∙ id-never (comes_from c.args.id) bs (c.in-None.ensures ∙ ap (λ (cs : List Component). option_map (λ (x : Component). x.id) (find (comes_from c.args.id) cs)) c.as_slice.ensures.value))
+    let it = λ (x : Component). comes_from c.args.id x in
+    true≢false (sym c.requires.there ∙ id-never it c.args.self.now.buffers (c.in-None.ensures ∙ ap (λ (cs : List Component). option_map (λ (x : Component). x.id) (find it cs)) c.buffers.ensures.items))
 
 pub returns : goal.returns
 returns c =
-    let t = tables_of c.self.inside in
-    let now : Tables = record { comps = t.comps; buffers = c.push_in.new.components.items; pipes = t.pipes; joins = t.joins } in
-    let out = c.in-Some.ensures ∙ ap (λ (cs : List Component). option_map (λ (x : Component). x.id) (find (comes_from c.args.id) cs)) c.as_slice.ensures.value in
-    let at : c.in-Some.buffer ≡ out_of c.args.self.now c.args.id = id-is (comes_from c.args.id) t.buffers c.in-Some.buffer out ∙ ap (λ (t : Tables). out_of t c.args.id) c.self.view_is in
-    let n = length c.args.samples.now in
-    let it : now ≡ pushed c.in-Some.buffer (frames_of (channels_at t c.in-Some.buffer) (n / channels_at t c.in-Some.buffer) c.args.samples.now) (words_at now c.in-Some.buffer) t = more-frames t c.self.invariant.kept c.in-Some.buffer (frames_of (channels_at t c.in-Some.buffer) (n / channels_at t c.in-Some.buffer) c.args.samples.now) c.push_in.new.components.items (id-there (comes_from c.args.id) t.buffers c.in-Some.buffer out) c.push_in.ensures.items in
-    subst (λ (p : ℕ × Tables). now ≡ pushed p.0 (frames_of (channels_at p.1 p.0) (n / channels_at p.1 p.0) c.args.samples.now) (words_at now p.0) p.1) (λ i. (at i, c.self.view_is i)) it
+    let it = λ (x : Component). comes_from c.args.id x in let t = c.args.self.now in let xs = c.args.samples.now in
+    let out = c.in-Some.ensures ∙ ap (λ (cs : List Component). option_map (λ (x : Component). x.id) (find it cs)) c.buffers.ensures.items in
+    let at : c.in-Some.buffer ≡ out_of t c.args.id = id-is it t.buffers c.in-Some.buffer out in
+    c.push.ensures ∙ ap (λ b. pushed b (frames_of (channels_at t b) (length xs / channels_at t b) xs) (words_at c.push.new.self b) t) at

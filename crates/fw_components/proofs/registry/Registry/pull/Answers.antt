@@ -1,31 +1,48 @@
-use Rattle.std.proofs.Common.{◌≤◌, ◌∙◌, sym, ap, subst, List}
+use Rattle.std.proofs.Common.{◌≡◌, ◌≤◌, ◌∙◌, ◌/◌, ◌%◌, sym, ap, subst, List, take, length}
 use Rattle.std.proofs.lemmas.Bool.{true≢false}
 use Rattle.std.specs.Prelude.{find, option_map}
-use Rattle.std.specs.List.{list_any}
+use Rattle.sof_base.specs.Samples.{samples_of}
 use Rattle.fw_components.specs.declared.component.Component.{Component}
-use Rattle.fw_components.specs.Tables.{Tables}
-use Rattle.fw_components.specs.Laid.{tables_of}
-use Rattle.fw_components.specs.Frames.{goes_to}
-use Rattle.fw_components.proofs.Begun.{buffer-taken}
-use Rattle.fw_components.proofs.Started.{id-there, id-never}
+use Rattle.fw_components.specs.Tables.{frames_at}
+use Rattle.fw_components.specs.Frames.{goes_to, in_of, channels_at, taken}
+use Rattle.fw_components.proofs.Started.{id-is, id-there, id-never}
 use Rattle.fw_components.proofs.registry.Registry.pull.Goals as goal
 
-pub pull_in-requires-clause-there : goal.pull_in-requires-clause-there
-pull_in-requires-clause-there c =
-    let bs = c.self.inside.buffers.items in
-    id-there (goes_to c.args.id) bs c.in-Some.buffer (c.in-Some.ensures ∙ ap (λ (cs : List Component). option_map (λ (x : Component). x.id) (find (goes_to c.args.id) cs)) c.as_slice.ensures.value)
+pub draw-requires-clause-there : goal.draw-requires-clause-there
+draw-requires-clause-there c =
+    let it = λ (x : Component). goes_to c.args.id x in
+    let into = c.in-Some.ensures ∙ ap (λ (cs : List Component). option_map (λ (x : Component). x.id) (find it cs)) c.buffers.ensures.items in
+    id-there it c.args.self.now.buffers c.in-Some.buffer into
 
-pub invariant_of-self : goal.invariant_of-self
-invariant_of-self c = record {
-  comps = c.self.invariant.comps;
-  buffers = subst (λ n. 128 ≤ n) (sym c.pull_in.ensures.capacity) c.self.invariant.buffers;
-  pipes = c.self.invariant.pipes;
-  joins = c.self.invariant.joins;
-  kept = buffer-taken (tables_of c.self.inside) c.self.invariant.kept c.in-Some.buffer _ c.pull_in.new.components.items c.pull_in.ensures.items;
-}
+pub draw-requires-clause-whole : goal.draw-requires-clause-whole
+draw-requires-clause-whole c =
+    let it = λ (x : Component). goes_to c.args.id x in let t = c.args.self.now in
+    let into = c.in-Some.ensures ∙ ap (λ (cs : List Component). option_map (λ (x : Component). x.id) (find it cs)) c.buffers.ensures.items in
+    let at : c.in-Some.buffer ≡ in_of t c.args.id = id-is it t.buffers c.in-Some.buffer into in
+    ap (λ b. length c.args.samples.now % channels_at t b) at ∙ c.requires.whole
+
+pub draw-requires-clause-held : goal.draw-requires-clause-held
+draw-requires-clause-held c =
+    let it = λ (x : Component). goes_to c.args.id x in let t = c.args.self.now in
+    let into = c.in-Some.ensures ∙ ap (λ (cs : List Component). option_map (λ (x : Component). x.id) (find it cs)) c.buffers.ensures.items in
+    let at : c.in-Some.buffer ≡ in_of t c.args.id = id-is it t.buffers c.in-Some.buffer into in
+    subst (λ b. length c.args.samples.now / channels_at t b ≤ length (frames_at t b)) (sym at) c.requires.held
 
 pub unreachable-requires : goal.unreachable-requires
 unreachable-requires c =
-    let bs = c.self.inside.buffers.items in
-    true≢false (sym c.requires.there ∙ ap (λ (t : Tables). list_any (goes_to c.args.id) t.buffers) (sym c.self.view_is)
-    ∙ id-never (goes_to c.args.id) bs (c.in-None.ensures ∙ ap (λ (cs : List Component). option_map (λ (x : Component). x.id) (find (goes_to c.args.id) cs)) c.as_slice.ensures.value))
+    let it = λ (x : Component). goes_to c.args.id x in
+    true≢false (sym c.requires.there ∙ id-never it c.args.self.now.buffers (c.in-None.ensures ∙ ap (λ (cs : List Component). option_map (λ (x : Component). x.id) (find it cs)) c.buffers.ensures.items))
+
+pub returns-clause-tables : goal.returns-clause-tables
+returns-clause-tables c =
+    let it = λ (x : Component). goes_to c.args.id x in let t = c.args.self.now in let n = length c.args.samples.now in
+    let into = c.in-Some.ensures ∙ ap (λ (cs : List Component). option_map (λ (x : Component). x.id) (find it cs)) c.buffers.ensures.items in
+    let at : c.in-Some.buffer ≡ in_of t c.args.id = id-is it t.buffers c.in-Some.buffer into in
+    c.draw.ensures.tables ∙ ap (λ b. taken b (n / channels_at t b) t) at
+
+pub returns-clause-samples : goal.returns-clause-samples
+returns-clause-samples c =
+    let it = λ (x : Component). goes_to c.args.id x in let t = c.args.self.now in let n = length c.args.samples.now in
+    let into = c.in-Some.ensures ∙ ap (λ (cs : List Component). option_map (λ (x : Component). x.id) (find it cs)) c.buffers.ensures.items in
+    let at : c.in-Some.buffer ≡ in_of t c.args.id = id-is it t.buffers c.in-Some.buffer into in
+    c.draw.ensures.samples ∙ ap (λ b. samples_of (take (n / channels_at t b) (frames_at t b))) at

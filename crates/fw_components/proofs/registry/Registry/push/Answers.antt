@@ -1,0 +1,29 @@
+use Rattle.std.proofs.Common.{◌≡◌, ◌≤◌, ◌∙◌, ◌/◌, sym, ap, subst, true, length}
+use Rattle.sof_base.specs.Samples.{frames_of}
+use Rattle.fw_components.specs.Tables.{Tables}
+use Rattle.fw_components.specs.Changes.{has_id}
+use Rattle.fw_components.specs.Laid.{tables_of}
+use Rattle.fw_components.specs.Frames.{channels_at, pushed, words_at}
+use Rattle.fw_components.proofs.Begun.{buffer-pushed}
+use Rattle.fw_components.proofs.Started.{more-frames}
+use Rattle.fw_components.proofs.registry.Registry.push.Goals as goal
+
+pub push_in-requires-clause-there : goal.push_in-requires-clause-there
+push_in-requires-clause-there c = ap (λ (t : Tables). has_id t.buffers c.args.buffer) c.self.view_is ∙ c.requires.there
+
+pub invariant_of-self : goal.invariant_of-self
+invariant_of-self c = record {
+  comps = c.self.invariant.comps;
+  buffers = subst (λ n. 128 ≤ n) (sym c.push_in.ensures.capacity) c.self.invariant.buffers;
+  pipes = c.self.invariant.pipes;
+  joins = c.self.invariant.joins;
+  kept = buffer-pushed (tables_of c.self.inside) c.self.invariant.kept c.args.buffer _ _ c.push_in.new.components.items c.push_in.ensures.items;
+}
+
+pub returns : goal.returns
+returns c =
+    let t = tables_of c.self.inside in let b = c.args.buffer in let n = length c.args.samples.now in
+    let now : Tables = record { comps = t.comps; buffers = c.push_in.new.components.items; pipes = t.pipes; joins = t.joins } in
+    let there : has_id t.buffers b ≡ true = ap (λ (t : Tables). has_id t.buffers b) c.self.view_is ∙ c.requires.there in
+    more-frames t c.self.invariant.kept b (frames_of (channels_at t b) (n / channels_at t b) c.args.samples.now) c.push_in.new.components.items there c.push_in.ensures.items
+    ∙ ap (λ (t : Tables). pushed b (frames_of (channels_at t b) (n / channels_at t b) c.args.samples.now) (words_at now b) t) c.self.view_is

@@ -50,7 +50,14 @@ impl Dsp for Firmware {
             self.clock = self.clock.wrapping_add(1);
             renew(&self.registry, &mut self.schedule, self.current);
             self.current = true;
-            tick_by(&mut self.registry, &self.schedule, io, out, self.clock);
+            tick_by(
+                &mut self.registry,
+                &self.schedule,
+                &mut self.scratch,
+                io,
+                out,
+                self.clock,
+            );
         }
     }
 }

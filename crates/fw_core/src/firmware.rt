@@ -11,15 +11,15 @@ ghost use Rattle.fw_core.specs.Unchanged.{tells, changes_nothing};
 use crate::messages::answer;
 use fw_components::Registry;
 use fw_heap::Region;
-use fw_schedule::Schedule;
+use fw_schedule::{Schedule, Scratch};
 use ipc3_codec::{Body, Reply};
 use sof_base::{Errno, NoMemory};
 use std::alloc::Global;
 use std::marker::Model;
 
 /// A DSP that answers each message with the firmware's step: its registry, the region that its pieces are carved from, its clock
-/// in ticks, and the schedule that its ticks go by, which is made anew after a message that may have changed it. Its link never
-/// fails.
+/// in ticks, the schedule that its ticks go by, which is made anew after a message that may have changed it, and the room that
+/// frames of endpoints pass through. Its link never fails.
 pub struct Firmware {
     pub(crate) on: bool,
     pub(crate) boots: u64,
@@ -28,6 +28,7 @@ pub struct Firmware {
     pub(crate) region: Region,
     pub(crate) schedule: Schedule,
     pub(crate) current: bool,
+    pub(crate) scratch: Scratch,
 }
 
 impl Model for Firmware {
@@ -59,6 +60,7 @@ impl Firmware {
                     region,
                     schedule,
                     current: true,
+                    scratch: Scratch::new(),
                 })
             }
             Err(refused) => {
@@ -147,6 +149,7 @@ impl Drop for Firmware {
             region,
             schedule: _,
             current: _,
+            scratch: _,
         } = self;
         let (mut registry, mut region) = (registry, region);
         registry.remove_all(&mut region);

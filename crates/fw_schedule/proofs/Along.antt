@@ -3,7 +3,6 @@ use Rattle.std.proofs.Common.{◌≡◌, refl, sym, ap, ◌∙◌, subst, ℕ, �
 use Rattle.std.proofs.lemmas.Bool.{eqb-true, eq-eqb, false≢true}
 use Rattle.std.proofs.lemmas.List.{nil_from_length}
 use Rattle.std.specs.Prelude.{find, option_and_then, slice_get}
-use Rattle.std.specs.List.{list_any, AllByRecursion}
 use Rattle.std.specs.Option.{option_map_or}
 use Rattle.stream_law.specs.declared.graph.Kind.{Kind}
 use Rattle.stream_law.specs.declared.graph.Comp.{Comp}
@@ -23,17 +22,11 @@ use Rattle.fw_components.specs.declared.component.Component.{Component}
 use Rattle.fw_components.specs.Tables.{Tables, graph_of, view_by, edge_by, size_by, capacity_by, capacity_at}
 use Rattle.fw_components.specs.Changes.{has_id}
 use Rattle.fw_components.specs.Kept.{IsKept, IsBuffering}
-use Rattle.fw_components.specs.Frames.{channels_by, channels_at, comes_from, goes_to, out_of, in_of}
+use Rattle.fw_components.specs.Frames.{channels_by, channels_at}
 use Rattle.fw_walks.proofs.Naming.{find-map}
 use Rattle.fw_schedule.specs.Ticks.{CanTick}
-use Rattle.fw_schedule.proofs.KeptEnds.{HasSides, sides-of, first-kept}
 
 -- ---- lists
-
--- what is found, or nothing
-pub found-some : {X : Type 0} (f : X → ℕ) (o : Option X) (b : ℕ) → option_map f o ≡ Some b → (x : X) × (o ≡ Some x) × (f x ≡ b)
-found-some f None b e = absurd (cc e)
-found-some f (Some x) b e = (x, refl, cc e)
 
 -- a list of one, filtered
 pub single-some : (p : ℕ → Bool) (xs : List ℕ) (b : ℕ) → length xs ≡ 1 → slice_get (filter p xs) 0 ≡ Some b → (xs ≡ b ∷ []) × (filter p xs ≡ b ∷ [])
@@ -157,43 +150,6 @@ module _ (t : Tables) (kept : IsKept t) (can : CanTick t) where
         let may : (not (chooses v there.comp.id) || active_end v (source_of (graph_of t) e.0.buffer)) ≡ true = (λ i. not (chooses v (there.same i)) || active_end v (source_of (graph_of t) (e.2 i))) ∙ takes in
         let along = along-in v can.wired can.linked can.played there.comp there.among own-now e.0 e.1 (ap (is_end e.0.sink) there.same ∙ e.3) may in
         subst (λ n. IsAt t n b) there.same (subst (IsAt t there.comp.id) e.2 (at-along there.comp.id e.0.buffer along))
-
-  -- ---- the first buffer on a side
-
-  -- buffers on one side, by the components of the table
-  sided : (p : ℕ → Bool) (r : Component → Bool) (cs : List Component) → AllByRecursion (λ c. p c.id ≡ r c) cs → filter p (map (λ e. e.buffer) (map edge_by cs)) ≡ map (λ c. c.id) (filter r cs)
-  sided p r [] same = refl
-  sided p r (c ∷ cs) same = ap (λ h. cond h (c.id ∷ filter p (map (λ e. e.buffer) (map edge_by cs))) (filter p (map (λ e. e.buffer) (map edge_by cs)))) same.0 ∙ by (r c) (sided p r cs same.1)
-    where
-      by : (h : Bool) → filter p (map (λ e. e.buffer) (map edge_by cs)) ≡ map (λ c. c.id) (filter r cs) → cond h (c.id ∷ filter p (map (λ e. e.buffer) (map edge_by cs))) (filter p (map (λ e. e.buffer) (map edge_by cs))) ≡ map (λ c. c.id) (cond h (c ∷ filter r cs) (filter r cs))
-      by true rest = ap (λ (ids : List ℕ). c.id ∷ ids) rest
-      by false rest = rest
-
-  outs-are : (id : ℕ) → outs (graph_of t) id ≡ map (λ c. c.id) (filter (comes_from id) t.buffers)
-  outs-are id = sided (λ b. is_end (source_of (graph_of t) b) id) (comes_from id) t.buffers (each t.buffers (sides-of t kept.named.buffers))
-    where
-      each : (cs : List Component) → AllByRecursion (HasSides t) cs → AllByRecursion (λ c. is_end (source_of (graph_of t) c.id) id ≡ comes_from id c) cs
-      each [] sides = tt
-      each (c ∷ cs) sides = (ap (λ o. is_end o id) sides.0.source, each cs sides.1)
-
-  ins-are : (id : ℕ) → ins (graph_of t) id ≡ map (λ c. c.id) (filter (goes_to id) t.buffers)
-  ins-are id = sided (λ b. is_end (sink_of (graph_of t) b) id) (goes_to id) t.buffers (each t.buffers (sides-of t kept.named.buffers))
-    where
-      each : (cs : List Component) → AllByRecursion (HasSides t) cs → AllByRecursion (λ c. is_end (sink_of (graph_of t) c.id) id ≡ goes_to id c) cs
-      each [] sides = tt
-      each (c ∷ cs) sides = (ap (λ o. is_end o id) sides.0.sink, each cs sides.1)
-
-  first-at : (r : Component → Bool) (b : ℕ) → slice_get (map (λ (c : Component). c.id) (filter r t.buffers)) 0 ≡ Some b → (option_map_or (λ c. c.id) (find r t.buffers) 0 ≡ b) × (list_any r t.buffers ≡ true)
-  first-at r b first =
-      let c = found-some (λ (c : Component). c.id) (find r t.buffers) b (first-kept r t.buffers ∙ first) in
-      let at = find-in r t.buffers c.0 c.1 in
-      (ap (λ (o : Option Component). option_map_or (λ c. c.id) o 0) c.1 ∙ c.2, in-any r t.buffers c.0 at.0 at.1)
-
-  pub out-first : (id b : ℕ) → outs (graph_of t) id ≡ b ∷ [] → (out_of t id ≡ b) × (list_any (comes_from id) t.buffers ≡ true)
-  out-first id b one = first-at (comes_from id) b (ap (λ ids. slice_get ids 0) (sym (outs-are id) ∙ one))
-
-  pub in-first : (id b : ℕ) → ins (graph_of t) id ≡ b ∷ [] → (in_of t id ≡ b) × (list_any (goes_to id) t.buffers ≡ true)
-  in-first id b one = first-at (goes_to id) b (ap (λ ids. slice_get ids 0) (sym (ins-are id) ∙ one))
 
 -- the only one that passes
 pub only-passes : (p : ℕ → Bool) (xs : List ℕ) (b : ℕ) → filter p xs ≡ b ∷ [] → p b ≡ true

@@ -1,39 +1,48 @@
--- The kind and the format of the component at a place.
-use Rattle.std.proofs.Common.{◌≡◌, refl, sym, ap, ◌∙◌, ℕ, ◌<◌, List, [], ◌∷◌, length, get_or, Bool, true, false, cond, ◌==◌, ◌||◌, Option, Some, None, option_map}
-use Rattle.std.proofs.lemmas.Bool.{false≢true}
-use Rattle.std.specs.Prelude.{find, slice_index}
+-- What the component at a place is.
+use Rattle.std.proofs.Common.{◌≡◌, refl, sym, ap, ◌∙◌, ℕ, zero, suc, ◌*◌, ◌/◌, ◌<◌, ◌≤◌, List, [], ◌∷◌, map, length, get_or, Bool, true, false, cond, ◌==◌, ◌&&◌, ◌||◌, Option, Some, None, option_map, arith}
+use Rattle.std.proofs.lemmas.Bool.{false≢true, and_parts, leb-true}
+use Rattle.std.specs.Prelude.{find, option_and_then, slice_index, nat_le}
+use Rattle.std.specs.List.{AllByRecursion}
 use Rattle.std.specs.Option.{option_map_or}
 use Rattle.sof_base.specs.declared.format.Format.{Format}
 use Rattle.sof_base.specs.declared.format.Format.TheVariants.{S32}
 use Rattle.sof_base.specs.declared.format.Params.{Params}
 use Rattle.stream_law.specs.declared.graph.Kind.{Kind}
 use Rattle.stream_law.specs.declared.graph.Comp.{Comp}
+use Rattle.stream_law.specs.declared.graph.Pipe.{Pipe}
 use Rattle.stream_law.specs.declared.stream.Phase.{Phase}
 use Rattle.stream_law.specs.declared.stream.StreamView.{StreamView}
-use Rattle.stream_law.specs.Ways.{comp_of, components}
+use Rattle.stream_law.specs.State.{View}
+use Rattle.stream_law.specs.Ways.{comp_of, pipe_of, components, live_params, is_live_phase, on_way}
+use Rattle.stream_law.specs.Moves.{is_choosy, chooses, period}
 use Rattle.stream_law.specs.Endpoints.{is_input, format_by, format_of}
 use Rattle.fw_heap.specs.Pieces.{PieceState}
 use Rattle.fw_components.specs.declared.component.Unit as units
 use Rattle.fw_components.specs.declared.component.Unit.TheVariants.{Host, Dai, Volume, Mixer, Mux, Eq, Buffer, Pipeline}
 use Rattle.fw_components.specs.declared.component.Component.{Component}
-use Rattle.fw_components.specs.Tables.{Tables, graph_of, view_by, kind_by, comp_by, streams_by, with_stream_by}
+use Rattle.fw_components.specs.Tables.{Tables, graph_of, view_by, kind_by, comp_by, pipe_by, period_by, streams_by, with_stream_by}
 use Rattle.stream_law.proofs.Placing.{Ascends-distinct}
 use Rattle.row_laws.proofs.Found.{found-each}
-use Rattle.fw_components.specs.Kept.{IsKept}
+use Rattle.row_laws.proofs.Stays.{all-of, find-some}
+use Rattle.fw_components.specs.Changes.{is_idle}
+use Rattle.fw_components.specs.Kept.{IsKept, IsPiping, IsStreamOf, IsStreaming}
 use Rattle.fw_walks.proofs.Marking.{all-at}
-use Rattle.fw_schedule.specs.Ticks.{CanTick}
+use Rattle.fw_walks.proofs.Naming.{find-map}
 use Rattle.fw_schedule.specs.Units.{unit_format}
-use Rattle.fw_schedule.specs.Dues.{is_output}
-use Rattle.fw_schedule.proofs.DueRuns.{comp-is, id-at}
+use Rattle.fw_schedule.specs.Outputs.{is_output}
+use Rattle.fw_schedule.proofs.Running.{run-most}
 
 -- what a kind passes the component does
 pub kind-passes : (passes : Kind → Bool) (o : Option Comp) (k : Kind) → option_map (λ x. x.kind) o ≡ Some k → option_map_or (λ x. passes x.kind) o false ≡ passes k
 kind-passes passes None k e = absurd (cc e)
 kind-passes passes (Some x) k e = let same : x.kind ≡ k = cc e in ap passes same
 
-pub least-kind : (f : Kind → ℕ) (o : Option Comp) (k : Kind) → option_map (λ x. x.kind) o ≡ Some k → f k ≡ option_map_or (λ x. f x.kind) o 0
-least-kind f None k e = absurd (cc e)
-least-kind f (Some x) k e = let same : x.kind ≡ k = cc e in ap f (sym same)
+pub same-kind : (o : Option Comp) (x : Comp) (k : Kind) → o ≡ Some x → option_map (λ x. x.kind) o ≡ Some k → k ≡ x.kind
+same-kind o x k is e = let both : Some x.kind ≡ Some k = ap (option_map (λ (x : Comp). x.kind)) (sym is) ∙ e in cc
+
+pub chooses-by : (v : View) (c : ℕ) (k : Kind) → option_map (λ x. x.kind) (comp_of v.graph c) ≡ Some k → chooses v c ≡ is_choosy k
+unfolding chooses
+chooses-by v c k e = kind-passes (λ k. is_choosy k) (comp_of v.graph c) k e
 
 -- ---- formats
 
@@ -81,25 +90,96 @@ format-is t id d found there is = by d.unit refl is ∙ sym (ap (λ (o : Option 
     by (Buffer size ring source sink) own is = absurd (false≢true is)
     by (Pipeline sched period complete piece) own is = absurd (false≢true is)
 
+-- ---- periods and rates
+
+-- a pipeline's period is at most 10000 µs
+period-low : (u : units.Unit) → IsPiping u → period_by u ≤ 10000
+period-low (Host capture phase params piece) is = omega arith
+period-low (Dai capture format piece) is = omega arith
+period-low (Volume gains piece) is = omega arith
+period-low (Mixer piece) is = omega arith
+period-low (Mux choice piece) is = omega arith
+period-low (Eq eq next remaining) is = omega arith
+period-low (Buffer size ring source sink) is = omega arith
+period-low (Pipeline sched period complete piece) is = is.1.1
+
+found-low : (index : ℕ) (ps : List Component) → AllByRecursion (λ p. IsPiping p.unit) ps → option_map_or (λ p. period_by p.unit) (find (λ p. p.pipe == index) ps) 0 ≤ 10000
+found-low index [] all = omega arith
+found-low index (p ∷ ps) all = by (p.pipe == index) (found-low index ps all.1)
+  where
+    by : (h : Bool) → option_map_or (λ p. period_by p.unit) (find (λ p. p.pipe == index) ps) 0 ≤ 10000 → option_map_or (λ p. period_by p.unit) (cond h (Some p) (find (λ p. p.pipe == index) ps)) 0 ≤ 10000
+    by true rest = period-low p.unit all.0
+    by false rest = rest
+
+-- a stream's rate is at most 192000
+with-right : (id : ℕ) (u : units.Unit) (ss : List StreamView) → IsStreaming u → AllByRecursion (λ s. IsStreamOf (is_idle s.phase) s.params) ss → AllByRecursion (λ s. IsStreamOf (is_idle s.phase) s.params) (with_stream_by id u ss)
+with-right id (Host capture phase params piece) ss is all = (is, all)
+with-right id (Dai capture format piece) ss is all = all
+with-right id (Volume gains piece) ss is all = all
+with-right id (Mixer piece) ss is all = all
+with-right id (Mux choice piece) ss is all = all
+with-right id (Eq eq next remaining) ss is all = all
+with-right id (Buffer size ring source sink) ss is all = all
+with-right id (Pipeline sched period complete piece) ss is all = all
+
+streams-right : (cs : List Component) → AllByRecursion (λ c. IsStreaming c.unit) cs → AllByRecursion (λ s. IsStreamOf (is_idle s.phase) s.params) (streams_by cs)
+streams-right [] all = tt
+streams-right (c ∷ cs) all = with-right c.id c.unit (streams_by cs) all.0 (streams-right cs all.1)
+
+rate-low : (idle : Bool) (o : Option Params) → IsStreamOf idle o → option_map_or (λ p. p.rate) o 0 ≤ 192000
+rate-low idle None is = omega arith
+rate-low idle (Some p) is = leb-true p.rate 192000 (and_parts (nat_le 8000 p.rate) (nat_le p.rate 192000) (and_parts (nat_le 8000 p.rate && nat_le p.rate 192000) _ is.2).0).1
+
+pub live-low : (t : Tables) → IsKept t → (x : ℕ) → option_map_or (λ p. p.rate) (live_params (view_by t) x) 0 ≤ 192000
+live-low t kept x = by (find (λ s. is_live_phase s.phase && on_way (graph_of t) s.host x) (streams_by t.comps)) refl
+  where
+    by : (o : Option StreamView) → find (λ s. is_live_phase s.phase && on_way (graph_of t) s.host x) (streams_by t.comps) ≡ o → option_map_or (λ p. p.rate) (option_and_then (λ s. s.params) o) 0 ≤ 192000
+    by None is = omega arith
+    by (Some s) is =
+        let of = find-some (λ s. is_live_phase s.phase && on_way (graph_of t) s.host x) (streams_by t.comps) s is in
+        rate-low (is_idle s.phase) s.params (all-of (λ s. IsStreamOf (is_idle s.phase) s.params) (streams_by t.comps) s (streams-right t.comps kept.streaming) of.1)
+
 -- ---- the component at a place
 
-module _ (t : Tables) (kept : IsKept t) (can : CanTick t) (at : ℕ) (low : at < length t.comps) (d c : Component) (is : c ≡ get_or t.comps at d) where
-  own : c.id ≡ slice_index (components (graph_of t)) at
-  own = ap (λ (c : Component). c.id) is ∙ sym (id-at t.comps at d low)
+pub id-at : (cs : List Component) (i : ℕ) (d : Component) → i < length cs → slice_index (map (λ (x : Comp). x.id) (map comp_by cs)) i ≡ (get_or cs i d).id
+id-at [] i d lt = absurd (omega (arith, lt))
+id-at (x ∷ xs) zero d lt = refl
+id-at (x ∷ xs) (suc i) d lt = id-at xs i d (omega (arith, lt))
 
-  comp-at : comp_of (graph_of t) (slice_index (components (graph_of t)) at) ≡ Some (comp_by c)
-  comp-at =
-      ap (comp_of (graph_of t)) (sym own ∙ ap (λ (c : Component). c.id) is) ∙ comp-is t can at d low
-      ∙ ap (λ (c : Component). Some (comp_by c)) (sym is)
+module _ (t : Tables) (kept : IsKept t) (at : ℕ) (low : at < length t.comps) (d : Component) (is : d ≡ get_or t.comps at d) where
+  pub own-at : d.id ≡ slice_index (components (graph_of t)) at
+  own-at = ap (λ (c : Component). c.id) is ∙ sym (id-at t.comps at d low)
 
-  found-at : find (λ x. x.id == slice_index (components (graph_of t)) at) t.comps ≡ Some c
+  found-at : find (λ x. x.id == d.id) t.comps ≡ Some d
   found-at =
-      ap (λ n. find (λ x. x.id == n) t.comps) (sym own ∙ ap (λ (c : Component). c.id) is)
+      ap (λ (c : Component). find (λ x. x.id == c.id) t.comps) is
       ∙ all-at (λ (x : Component). find (λ y. y.id == x.id) t.comps ≡ Some x) t.comps at d low (found-each (λ (x : Component). x.id) t.comps (Ascends-distinct (λ (x : Component). x.id) t.comps kept.named.comps))
       ∙ ap (λ (c : Component). Some c) (sym is)
 
-  pub kind-at : (n : ℕ) → n ≡ slice_index (components (graph_of t)) at → option_map (λ x. x.kind) (comp_of (graph_of t) n) ≡ Some (kind_by c.unit)
-  kind-at n same = ap (λ m. option_map (λ (x : Comp). x.kind) (comp_of (graph_of t) m)) same ∙ ap (option_map (λ (x : Comp). x.kind)) comp-at
+  comp-at : comp_of (graph_of t) d.id ≡ Some (comp_by d)
+  comp-at = find-map (λ (x : Comp). x.id == d.id) comp_by t.comps ∙ ap (option_map comp_by) found-at
 
-  pub format-at : (n : ℕ) → n ≡ slice_index (components (graph_of t)) at → (is_input (kind_by c.unit) || is_output (kind_by c.unit)) ≡ true → unit_format c.unit ≡ format_of (view_by t) n
-  format-at n same passes = format-is t (slice_index (components (graph_of t)) at) c found-at comp-at passes ∙ ap (format_of (view_by t)) (sym same)
+  pub kind-at : option_map (λ x. x.kind) (comp_of (graph_of t) d.id) ≡ Some (kind_by d.unit)
+  kind-at = ap (option_map (λ (x : Comp). x.kind)) comp-at
+
+  pub chooses-at : is_choosy (kind_by d.unit) ≡ chooses (view_by t) d.id
+  chooses-at = sym (chooses-by (view_by t) d.id (kind_by d.unit) kind-at)
+
+  pub format-at : (is_input (kind_by d.unit) || is_output (kind_by d.unit)) ≡ true → unit_format d.unit ≡ format_of (view_by t) d.id
+  format-at passes = format-is t d.id d found-at comp-at passes
+
+  -- the period of its pipeline, in ticks
+  pub period-at : option_map_or (λ p. period_by p.unit) (find (λ p. p.pipe == d.pipe) t.pipes) 0 / 1000 ≡ period (view_by t) d.id
+  period-at =
+      ap (λ n. n / 1000) (by (find (λ p. p.pipe == d.pipe) t.pipes) ∙ ap (λ (o : Option Pipe). option_map_or (λ p. p.period) o 0) (sym (find-map (λ (p : Pipe). p.index == d.pipe) pipe_by t.pipes)))
+      ∙ sym (ap (λ (o : Option Comp). option_map_or (λ x. option_map_or (λ p. p.period) (pipe_of (graph_of t) x.pipe) 0) o 0 / 1000) comp-at)
+    where
+      by : (o : Option Component) → option_map_or (λ p. period_by p.unit) o 0 ≡ option_map_or (λ p. p.period) (option_map pipe_by o) 0
+      by None = refl
+      by (Some p) = refl
+
+  -- frames of a run do not pass their bound
+  pub run-low : (rate : ℕ) → rate ≡ option_map_or (λ p. p.rate) (live_params (view_by t) d.id) 0 → option_map_or (λ p. period_by p.unit) (find (λ p. p.pipe == d.pipe) t.pipes) 0 / 1000 * rate ≤ 1920000
+  run-low rate is =
+      let period = found-low d.pipe t.pipes kept.piping in let few = live-low t kept d.id in
+      run-most (option_map_or (λ p. period_by p.unit) (find (λ p. p.pipe == d.pipe) t.pipes) 0 / 1000) rate (omega (arith, period)) (omega (arith, few, is))

@@ -1,5 +1,5 @@
 -- A sink's move is that of a tick.
-use Rattle.std.proofs.Common.{◌≡◌, refl, sym, ap, ◌∙◌, ℕ, ◌-◌, ◌*◌, min, take, replicate, not, nat_le, ◌&&◌, List, [], ◌∷◌, ◌++◌, filter, length, Bool, true, false, cond, Option, Some, None, arith}
+use Rattle.std.proofs.Common.{◌≡◌, refl, sym, ap, ◌∙◌, ℕ, ◌-◌, ◌*◌, ◌≤◌, min, take, replicate, not, nat_le, ◌&&◌, List, [], ◌∷◌, ◌++◌, filter, length, Bool, true, false, cond, Option, Some, None, arith}
 use Rattle.std.proofs.Math.Nat.{min_comm}
 use Rattle.std.proofs.lemmas.Bool.{or_left, false≢true}
 use Rattle.std.proofs.lemmas.List.{nil_from_length}
@@ -20,7 +20,7 @@ use Rattle.fw_components.specs.Tables.{Tables, graph_of, view_by, frames_at}
 use Rattle.fw_components.specs.Frames.{taken}
 use Rattle.fw_components.specs.Kept.{IsKept}
 use Rattle.fw_schedule.specs.Ticks.{CanTick}
-use Rattle.fw_schedule.specs.Dues.{is_output, least_by}
+use Rattle.fw_schedule.specs.Outputs.{is_output, least_by}
 use Rattle.fw_schedule.specs.Stages.{IsStage, AreEnds}
 use Rattle.fw_schedule.proofs.Moved.{frames-run}
 use Rattle.fw_schedule.proofs.ByKind.{chooses-of, written-of, reads-of, format-of, IsSink, host-capture, dai-play}
@@ -47,6 +47,17 @@ sink-by Mixer is = absurd (false≢true is)
 sink-by Mux is = absurd (false≢true is)
 sink-by Eq is = absurd (false≢true is)
 
+-- a kind writes no more than its quota
+pub least-few : (k : Kind) (q : ℕ) → least_by k q ≤ q
+least-few (DaiPlay format) q = omega arith
+least-few HostPlay q = omega arith
+least-few HostCapture q = omega arith
+least-few (DaiCapture format) q = omega arith
+least-few Volume q = omega arith
+least-few Mixer q = omega arith
+least-few Mux q = omega arith
+least-few Eq q = omega arith
+
 one-in : (xs : List ℕ) (b : ℕ) → length xs ≡ 1 → slice_get xs 0 ≡ Some b → xs ≡ b ∷ []
 one-in [] b one e = absurd (omega (arith, one))
 one-in (x ∷ xs) b one e = let same : x ≡ b = cc e in λ i. same i ∷ nil_from_length xs (omega (arith, one)) i
@@ -72,7 +83,7 @@ module _ (t : Tables) (kept : IsKept t) (can : CanTick t) (id : ℕ) (there : Is
   outs-none : outs (graph_of t) id ≡ []
   outs-none = nil_from_length (outs (graph_of t) id) sizes.1
 
-  picks : chooses v id ≡ false
+  pub picks : chooses v id ≡ false
   picks = chooses-of v id there.comp there.is there.comp.kind refl ∙ drain.sink.picks
 
   -- it has one buffer in

@@ -1,21 +1,17 @@
 -- The buffers that are left of those at a component.
-use Rattle.std.proofs.Common.{◌≡◌, refl, sym, ap, ◌∙◌, ℕ, ◌+◌, ◌<◌, ◌≤◌, List, [], ◌∷◌, ◌++◌, Bool, true, false, cond, map, take, filter, length, get_or, not, ◌==◌, ◌&&◌, ◌||◌, Option, Some, option_map, arith}
-use Rattle.std.proofs.lemmas.Bool.{eq-eqb}
-use Rattle.std.proofs.lemmas.List.{take_more, length-map, length-take}
-use Rattle.std.proofs.lemmas.List.Elements.{filter-append}
+use Rattle.std.proofs.Common.{◌≡◌, refl, sym, ap, ◌∙◌, ℕ, zero, suc, ◌<◌, List, [], ◌∷◌, Bool, true, false, cond, map, take, filter, length, get_or, not, ◌==◌, ◌&&◌, ◌||◌, Option, Some, option_map, arith}
+use Rattle.std.proofs.lemmas.Bool.{false≢true}
 use Rattle.std.specs.Prelude.{find, option_and_then, slice_get, nat_le}
 use Rattle.std.specs.List.{AllByRecursion}
 use Rattle.stream_law.specs.declared.graph.Edge.{Edge}
 use Rattle.stream_law.specs.Placed.{Ascends}
 use Rattle.stream_law.specs.Ways.{source_of, sink_of, is_end, live, active_end}
 use Rattle.stream_law.specs.Moves.{fed, fed_by, looked_at, chooses}
-use Rattle.stream_law.proofs.Members.{in-any, filter-most}
 use Rattle.row_laws.proofs.Found.{found-each}
 use Rattle.fw_components.specs.declared.component.Component.{Component}
 use Rattle.fw_components.specs.Tables.{Tables, graph_of, view_by, edge_by, source_by, sink_by, frames_at}
-use Rattle.fw_components.specs.Changes.{has_id}
-use Rattle.fw_schedule.proofs.FirstEnds.{edges-distinct}
-use Rattle.fw_schedule.proofs.MetStreams.{at-in}
+use Rattle.fw_schedule.specs.Schedules.{inlets_of}
+use Rattle.fw_schedule.proofs.DistinctEdges.{edges-distinct}
 
 -- the ends of a buffer are those of its edge
 pub record HasSides (t : Tables) (c : Component) : Type 0 where
@@ -98,22 +94,30 @@ module _ (t : Tables) (id : ℕ) where
         each [] sides = tt
         each (c ∷ cs) sides = ((λ i. is_end (sides.0.sink i) id && (not (sym is i) || (active_end (view_by t) (sides.0.source i) && nat_le 1 (length (frames_at t c.id))))), each cs sides.1)
 
--- ---- one buffer more
+    -- ---- those that may be looked at
 
-pub kept-more : (r : Component → Bool) (cs : List Component) (i : ℕ) (d : Component) → i < length cs → (h : Bool) → r (get_or cs i d) ≡ h → map (λ c. c.id) (filter r (take (i + 1) cs)) ≡ map (λ c. c.id) (filter r (take i cs)) ++ cond h ((get_or cs i d).id ∷ []) []
-kept-more r cs i d low h is = ap (λ (xs : List Component). map (λ c. c.id) (filter r xs)) (take_more cs i d low) ∙ ap (map (λ c. c.id)) (filter-append r (take i cs) (get_or cs i d ∷ [])) ∙ ends (filter r (take i cs)) ∙ ap (λ x. map (λ c. c.id) (filter r (take i cs)) ++ cond x ((get_or cs i d).id ∷ []) []) is
+    abbrev pub is_inlet : Component → Bool
+    is_inlet b = is_end (sink_by b.unit) id && (not choosing || active_end (view_by t) (source_by b.unit))
+
+    pub inlets-are : Ascends (λ c. c.id) t.buffers → choosing ≡ chooses (view_by t) id → inlets_of (view_by t) id ≡ map (λ c. c.id) (filter is_inlet t.buffers)
+    inlets-are up is = kept-both (λ b. not (chooses (view_by t) id) || active_end (view_by t) (source_of (graph_of t) b)) (λ b. is_end (sink_of (graph_of t) b) id) is_inlet t.buffers (each t.buffers (sides-of t up))
+      where
+        each : (cs : List Component) → AllByRecursion (HasSides t) cs → AllByRecursion (λ c. (is_end (sink_of (graph_of t) c.id) id && (not (chooses (view_by t) id) || active_end (view_by t) (source_of (graph_of t) c.id))) ≡ is_inlet c) cs
+        each [] sides = tt
+        each (c ∷ cs) sides = ((λ i. is_end (sides.0.sink i) id && (not (sym is i) || active_end (view_by t) (sides.0.source i))), each cs sides.1)
+
+-- ---- counts
+
+-- before one that passes there are fewer than in all
+pub kept-under : (r : Component → Bool) (cs : List Component) (i : ℕ) (d : Component) → i < length cs → r (get_or cs i d) ≡ true → length (map (λ (c : Component). c.id) (filter r (take i cs))) < length (map (λ (c : Component). c.id) (filter r cs))
+kept-under r [] i d low is = absurd (omega (arith, low))
+kept-under r (c ∷ cs) zero d low is = ap-under (r c) is
   where
-    one : (x : Bool) (c : Component) → map (λ (c : Component). c.id) (cond x (c ∷ []) []) ≡ cond x (c.id ∷ []) []
-    one true c = refl
-    one false c = refl
-
-    ends : (xs : List Component) → map (λ (c : Component). c.id) (xs ++ filter r (get_or cs i d ∷ [])) ≡ map (λ c. c.id) xs ++ cond (r (get_or cs i d)) ((get_or cs i d).id ∷ []) []
-    ends [] = one (r (get_or cs i d)) (get_or cs i d)
-    ends (x ∷ xs) = ap (λ (ids : List ℕ). x.id ∷ ids) (ends xs)
-
-pub kept-few : (r : Component → Bool) (cs : List Component) (i : ℕ) → length (map (λ (c : Component). c.id) (filter r (take i cs))) ≤ i
-kept-few r cs i = omega (arith, length-map (filter r (take i cs)) (λ (c : Component). c.id), filter-most r (take i cs), length-take i cs)
-
--- a buffer of the table is there
-pub is-there : (cs : List Component) (i : ℕ) (d : Component) → i < length cs → has_id cs (get_or cs i d).id ≡ true
-is-there cs i d low = in-any (λ c. c.id == (get_or cs i d).id) cs (get_or cs i d) (at-in cs i d low) (eq-eqb (get_or cs i d).id (get_or cs i d).id refl)
+    ap-under : (h : Bool) → h ≡ true → 0 < length (map (λ (c : Component). c.id) (cond h (c ∷ filter r cs) (filter r cs)))
+    ap-under true e = omega arith
+    ap-under false e = absurd (false≢true e)
+kept-under r (c ∷ cs) (suc i) d low is = by (r c) (kept-under r cs i d (omega (arith, low)) is)
+  where
+    by : (h : Bool) → length (map (λ (c : Component). c.id) (filter r (take i cs))) < length (map (λ (c : Component). c.id) (filter r cs)) → length (map (λ (c : Component). c.id) (cond h (c ∷ filter r (take i cs)) (filter r (take i cs)))) < length (map (λ (c : Component). c.id) (cond h (c ∷ filter r cs) (filter r cs)))
+    by true rest = omega (arith, rest)
+    by false rest = rest

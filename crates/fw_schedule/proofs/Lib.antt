@@ -3,11 +3,11 @@ mod FrameBytes
 mod OneBuffer
 mod Parts
 mod Meeting
-mod FirstEnds
+mod DistinctEdges
 mod MetStreams
 mod TurnsSeen
 mod KeptEnds
-mod DueRuns
+mod Running
 mod ShownEnds
 mod NoFrames
 mod NextFrames
@@ -22,6 +22,9 @@ mod Drained
 mod Least
 mod Processed
 mod AtPlaces
+mod InletRooms
+mod StepLaws
+mod Looking
 mod InOrder
 mod Rising
 mod InTurn

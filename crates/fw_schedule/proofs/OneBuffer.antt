@@ -8,13 +8,13 @@ use Rattle.std.specs.Prelude.{find, option_map}
 use Rattle.std.specs.List.{list_any}
 use Rattle.std.specs.Option.{option_map_or}
 use Rattle.sof_base.specs.Samples.{Frame}
-use Rattle.stream_law.specs.Ways.{is_end}
 use Rattle.fw_ring.specs.RingState.{RingState, capacity_of, moved_on}
 use Rattle.fw_components.specs.declared.component.Unit as units
 use Rattle.fw_components.specs.declared.component.Unit.TheVariants.{Host, Dai, Volume, Mixer, Mux, Eq, Buffer, Pipeline}
 use Rattle.fw_components.specs.declared.component.Component.{Component}
-use Rattle.fw_components.specs.Tables.{Tables, frames_by, capacity_by, source_by, sink_by, frames_at, capacity_at}
-use Rattle.fw_components.specs.Frames.{channels_by, channels_at, taken_ring, taken_unit, taken, pushed_unit, pushed, comes_from, goes_to, out_of, in_of}
+use Rattle.fw_components.specs.Tables.{Tables, frames_by, capacity_by, frames_at, capacity_at}
+use Rattle.fw_components.specs.Changes.{has_id}
+use Rattle.fw_components.specs.Frames.{channels_by, channels_at, taken_ring, taken_unit, taken, pushed_unit, pushed}
 
 -- ---- a unit
 
@@ -120,26 +120,6 @@ twice-at f g h b is (c ∷ cs) = λ i. one (c.id == b) refl i ∷ twice-at f g h
 
 -- ---- what stays of a unit
 
-pushed-source : (fs : List Frame) (w : List ℤ) (u : units.Unit) → source_by (pushed_unit fs w u) ≡ source_by u
-pushed-source fs w (Host capture phase params piece) = refl
-pushed-source fs w (Dai capture format piece) = refl
-pushed-source fs w (Volume gains piece) = refl
-pushed-source fs w (Mixer piece) = refl
-pushed-source fs w (Mux choice piece) = refl
-pushed-source fs w (Eq eq next remaining) = refl
-pushed-source fs w (Buffer size ring source sink) = refl
-pushed-source fs w (Pipeline sched period complete piece) = refl
-
-pushed-sink : (fs : List Frame) (w : List ℤ) (u : units.Unit) → sink_by (pushed_unit fs w u) ≡ sink_by u
-pushed-sink fs w (Host capture phase params piece) = refl
-pushed-sink fs w (Dai capture format piece) = refl
-pushed-sink fs w (Volume gains piece) = refl
-pushed-sink fs w (Mixer piece) = refl
-pushed-sink fs w (Mux choice piece) = refl
-pushed-sink fs w (Eq eq next remaining) = refl
-pushed-sink fs w (Buffer size ring source sink) = refl
-pushed-sink fs w (Pipeline sched period complete piece) = refl
-
 pushed-channels : (fs : List Frame) (w : List ℤ) (u : units.Unit) → channels_by (pushed_unit fs w u) ≡ channels_by u
 pushed-channels fs w (Host capture phase params piece) = refl
 pushed-channels fs w (Dai capture format piece) = refl
@@ -160,26 +140,6 @@ pushed-capacity fs w (Eq eq next remaining) = refl
 pushed-capacity fs w (Buffer size ring source sink) = refl
 pushed-capacity fs w (Pipeline sched period complete piece) = refl
 
-taken-source : (n : ℕ) (u : units.Unit) → source_by (taken_unit n u) ≡ source_by u
-taken-source n (Host capture phase params piece) = refl
-taken-source n (Dai capture format piece) = refl
-taken-source n (Volume gains piece) = refl
-taken-source n (Mixer piece) = refl
-taken-source n (Mux choice piece) = refl
-taken-source n (Eq eq next remaining) = refl
-taken-source n (Buffer size ring source sink) = refl
-taken-source n (Pipeline sched period complete piece) = refl
-
-taken-sink : (n : ℕ) (u : units.Unit) → sink_by (taken_unit n u) ≡ sink_by u
-taken-sink n (Host capture phase params piece) = refl
-taken-sink n (Dai capture format piece) = refl
-taken-sink n (Volume gains piece) = refl
-taken-sink n (Mixer piece) = refl
-taken-sink n (Mux choice piece) = refl
-taken-sink n (Eq eq next remaining) = refl
-taken-sink n (Buffer size ring source sink) = refl
-taken-sink n (Pipeline sched period complete piece) = refl
-
 taken-channels : (n : ℕ) (u : units.Unit) → channels_by (taken_unit n u) ≡ channels_by u
 taken-channels n (Host capture phase params piece) = refl
 taken-channels n (Dai capture format piece) = refl
@@ -189,16 +149,6 @@ taken-channels n (Mux choice piece) = refl
 taken-channels n (Eq eq next remaining) = refl
 taken-channels n (Buffer size ring source sink) = refl
 taken-channels n (Pipeline sched period complete piece) = refl
-
-taken-capacity : (n : ℕ) (u : units.Unit) → capacity_by (taken_unit n u) ≡ capacity_by u
-taken-capacity n (Host capture phase params piece) = refl
-taken-capacity n (Dai capture format piece) = refl
-taken-capacity n (Volume gains piece) = refl
-taken-capacity n (Mixer piece) = refl
-taken-capacity n (Mux choice piece) = refl
-taken-capacity n (Eq eq next remaining) = refl
-taken-capacity n (Buffer size ring source sink) = refl
-taken-capacity n (Pipeline sched period complete piece) = refl
 
 pushed-most : (fs : List Frame) (w : List ℤ) (u : units.Unit) → length (frames_by (pushed_unit fs w u)) ≤ length (frames_by u) + length fs
 pushed-most fs w (Host capture phase params piece) = omega arith
@@ -236,11 +186,8 @@ found-id b (x ∷ cs) c e = by (x.id == b) (eqb-true x.id b) e (found-id b cs c)
 -- ---- frames behind those of a buffer
 
 module _ (b : ℕ) (fs : List Frame) (w : List ℤ) (t : Tables) where
-  pub out-pushed : (id : ℕ) → out_of (pushed b fs w t) id ≡ out_of t id
-  out-pushed id = read-at (pushed_unit fs w) b (comes_from id) (λ c. same-at (pushed_unit fs w) b (λ u. is_end (source_by u) id) (λ u. ap (λ o. is_end o id) (pushed-source fs w u)) c) (λ c. c.id) 0 (id-at (pushed_unit fs w) b) t.buffers
-
-  pub there-pushed : (id : ℕ) → list_any (comes_from id) (pushed b fs w t).buffers ≡ list_any (comes_from id) t.buffers
-  there-pushed id = any-at (pushed_unit fs w) b (comes_from id) (λ c. same-at (pushed_unit fs w) b (λ u. is_end (source_by u) id) (λ u. ap (λ o. is_end o id) (pushed-source fs w u)) c) t.buffers
+  pub has-pushed : (x : ℕ) → has_id (pushed b fs w t).buffers x ≡ has_id t.buffers x
+  has-pushed x = any-at (pushed_unit fs w) b (λ c. c.id == x) (λ c. ap (λ n. n == x) (id-at (pushed_unit fs w) b c)) t.buffers
 
   pub channels-pushed : (x : ℕ) → channels_at (pushed b fs w t) x ≡ channels_at t x
   channels-pushed x = read-at (pushed_unit fs w) b (λ c. c.id == x) (λ c. ap (λ n. n == x) (id-at (pushed_unit fs w) b c)) (λ c. channels_by c.unit) 1 (same-at (pushed_unit fs w) b channels_by (pushed-channels fs w)) t.buffers
@@ -265,11 +212,8 @@ pushed-twice b xs ys v w t = ap (λ (bs : List Component). record { comps = t.co
 -- ---- a buffer without its first frames
 
 module _ (b n : ℕ) (t : Tables) where
-  pub in-taken : (id : ℕ) → in_of (taken b n t) id ≡ in_of t id
-  in-taken id = read-at (taken_unit n) b (goes_to id) (λ c. same-at (taken_unit n) b (λ u. is_end (sink_by u) id) (λ u. ap (λ o. is_end o id) (taken-sink n u)) c) (λ c. c.id) 0 (id-at (taken_unit n) b) t.buffers
-
-  pub there-taken : (id : ℕ) → list_any (goes_to id) (taken b n t).buffers ≡ list_any (goes_to id) t.buffers
-  there-taken id = any-at (taken_unit n) b (goes_to id) (λ c. same-at (taken_unit n) b (λ u. is_end (sink_by u) id) (λ u. ap (λ o. is_end o id) (taken-sink n u)) c) t.buffers
+  pub has-taken : (x : ℕ) → has_id (taken b n t).buffers x ≡ has_id t.buffers x
+  has-taken x = any-at (taken_unit n) b (λ c. c.id == x) (λ c. ap (λ n. n == x) (id-at (taken_unit n) b c)) t.buffers
 
   pub channels-taken : (x : ℕ) → channels_at (taken b n t) x ≡ channels_at t x
   channels-taken x = read-at (taken_unit n) b (λ c. c.id == x) (λ c. ap (λ n. n == x) (id-at (taken_unit n) b c)) (λ c. channels_by c.unit) 1 (same-at (taken_unit n) b channels_by (taken-channels n)) t.buffers

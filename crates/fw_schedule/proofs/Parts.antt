@@ -1,6 +1,5 @@
 -- An endpoint's frames that pass part by part are those that pass at once.
 use Rattle.std.proofs.Common.{◌≡◌, refl, sym, ap, ◌∙◌, subst, ℕ, ◌+◌, ◌*◌, ◌/◌, ◌%◌, ◌≤◌, List, ◌++◌, take, drop, length, Bool, true, false, arith, ℤ, length-drop, length-append}
-use Rattle.std.specs.List.{list_any}
 use Rattle.std.proofs.lemmas.List.FromFn.{length-map-range_with_len}
 use Rattle.std.proofs.Math.Nat.{mul-div_cancel, mul-mod_left, mul-le-mul_right}
 use Rattle.sof_base.specs.declared.format.Format.{Format}
@@ -13,9 +12,10 @@ use Rattle.sof_io.specs.Puts.{room_at, with_piece}
 use Rattle.sof_io.proofs.InputLaws.{length-given, taken-taken, given-more}
 use Rattle.sof_io.proofs.OutputLaws.{room_at-with_piece, with_piece-unknown, with_piece-with_piece}
 use Rattle.fw_components.specs.Tables.{Tables, frames_at, capacity_at}
-use Rattle.fw_components.specs.Frames.{words_at, channels_at, comes_from, goes_to, out_of, in_of, taken, pushed}
+use Rattle.fw_components.specs.Changes.{has_id}
+use Rattle.fw_components.specs.Frames.{words_at, channels_at, taken, pushed}
 use Rattle.fw_schedule.proofs.FrameBytes.{frames-read, frames_in-both, bytes-more}
-use Rattle.fw_schedule.proofs.OneBuffer.{out-pushed, there-pushed, channels-pushed, capacity-pushed, most-pushed, pushed-twice, in-taken, there-taken, channels-taken, frames-taken, taken-twice}
+use Rattle.fw_schedule.proofs.OneBuffer.{has-pushed, channels-pushed, capacity-pushed, most-pushed, pushed-twice, has-taken, channels-taken, frames-taken, taken-twice}
 
 -- ---- counts
 
@@ -40,45 +40,39 @@ frames-were-read format n channels at samples bytes some count shape is =
 
 -- ---- inputs
 
--- the buffer out of a component has so many channels, and room for so many frames
-pub record CanFeed (id channels n : ℕ) (t : Tables) : Type 0 where
-  pub there : list_any (comes_from id) t.buffers ≡ true
-  pub shape : channels_at t (out_of t id) ≡ channels
-  pub fit : length (frames_at t (out_of t id)) + n ≤ capacity_at t (out_of t id)
+-- a buffer has so many channels, and room for so many frames
+pub record CanFeed (b channels n : ℕ) (t : Tables) : Type 0 where
+  pub there : has_id t.buffers b ≡ true
+  pub shape : channels_at t b ≡ channels
+  pub fit : length (frames_at t b) + n ≤ capacity_at t b
 
--- it has got so many frames of the component's input
-pub record IsFed (id channels : ℕ) (format : Format) (n : ℕ) (t : Tables) (io : List InputView) (t' : Tables) (io' : List InputView) : Type 0 where
-  pub tables : t' ≡ pushed (out_of t id) (frames_in format channels (given id (n * (channels * width format)) io) 0 n) (words_at t' (out_of t id)) t
+-- it has got so many frames of an input
+pub record IsFed (id b channels : ℕ) (format : Format) (n : ℕ) (t : Tables) (io : List InputView) (t' : Tables) (io' : List InputView) : Type 0 where
+  pub tables : t' ≡ pushed b (frames_in format channels (given id (n * (channels * width format)) io) 0 n) (words_at t' b) t
   pub inputs : io' ≡ input_taken id (n * (channels * width format)) io
 
-pub can-feed-less : (id channels n m : ℕ) (t : Tables) → m ≤ n → CanFeed id channels n t → CanFeed id channels m t
-can-feed-less id channels n m t less can = record { there = can.there; shape = can.shape; fit = omega (arith, less, can.fit) }
+pub can-feed-less : (b channels n m : ℕ) (t : Tables) → m ≤ n → CanFeed b channels n t → CanFeed b channels m t
+can-feed-less b channels n m t less can = record { there = can.there; shape = can.shape; fit = omega (arith, less, can.fit) }
 
-module _ (id channels : ℕ) (format : Format) (a k : ℕ) (t t1 : Tables) (io io1 : List InputView) (first : IsFed id channels format a t io t1 io1) where
-  abbrev b : ℕ
-  b = out_of t id
-
+module _ (id b channels : ℕ) (format : Format) (a k : ℕ) (t t1 : Tables) (io io1 : List InputView) (first : IsFed id b channels format a t io t1 io1) where
   abbrev m : ℕ
   m = channels * width format
 
   abbrev xs : List Frame
   xs = frames_in format channels (given id (a * m) io) 0 a
 
-  same-out : out_of t1 id ≡ b
-  same-out = ap (λ (x : Tables). out_of x id) first.tables ∙ out-pushed b xs (words_at t1 b) t id
-
-  pub can-feed-on : CanFeed id channels (a + k) t → CanFeed id channels k t1
+  pub can-feed-on : CanFeed b channels (a + k) t → CanFeed b channels k t1
   can-feed-on can = record {
-    there = ap (λ (x : Tables). list_any (comes_from id) x.buffers) first.tables ∙ there-pushed b xs (words_at t1 b) t id ∙ can.there;
-    shape = ap (channels_at t1) same-out ∙ ap (λ (x : Tables). channels_at x b) first.tables ∙ channels-pushed b xs (words_at t1 b) t b ∙ can.shape;
+    there = ap (λ (x : Tables). has_id x.buffers b) first.tables ∙ has-pushed b xs (words_at t1 b) t b ∙ can.there;
+    shape = ap (λ (x : Tables). channels_at x b) first.tables ∙ channels-pushed b xs (words_at t1 b) t b ∙ can.shape;
     fit =
-        let room : capacity_at t1 (out_of t1 id) ≡ capacity_at t b = ap (capacity_at t1) same-out ∙ ap (λ (x : Tables). capacity_at x b) first.tables ∙ capacity-pushed b xs (words_at t1 b) t b in
-        let held : length (frames_at t1 (out_of t1 id)) ≡ length (frames_at (pushed b xs (words_at t1 b) t) b) = ap (λ x. length (frames_at t1 x)) same-out ∙ ap (λ (x : Tables). length (frames_at x b)) first.tables in
+        let room : capacity_at t1 b ≡ capacity_at t b = ap (λ (x : Tables). capacity_at x b) first.tables ∙ capacity-pushed b xs (words_at t1 b) t b in
+        let held : length (frames_at t1 b) ≡ length (frames_at (pushed b xs (words_at t1 b) t) b) = ap (λ (x : Tables). length (frames_at x b)) first.tables in
         let count : length xs ≡ a = length-map-range_with_len _ 0 a in
         omega (arith, room, held, count, most-pushed b xs (words_at t1 b) t b, can.fit);
   }
 
-  pub fed-more : (t2 : Tables) (io2 : List InputView) → IsFed id channels format k t1 io1 t2 io2 → IsFed id channels format (a + k) t io t2 io2
+  pub fed-more : (t2 : Tables) (io2 : List InputView) → IsFed id b channels format k t1 io1 t2 io2 → IsFed id b channels format (a + k) t io t2 io2
   fed-more t2 io2 next =
       let ys = frames_in format channels (given id (k * m) io1) 0 k in
       let w = words_at t2 b in
@@ -91,7 +85,6 @@ module _ (id channels : ℕ) (format : Format) (a k : ℕ) (t t1 : Tables) (io i
       record {
         tables =
             next.tables
-            ∙ ap (λ x. pushed x ys (words_at t2 x) t1) same-out
             ∙ ap (pushed b ys w) first.tables
             ∙ pushed-twice b xs ys (words_at t1 b) w t
             ∙ ap (λ (fs : List Frame). pushed b fs w t) all;
@@ -108,63 +101,57 @@ room-left id n k piece out size room = by (has_slot id (output_slots out)) refl
     by true it = let left = room_at-with_piece id piece out it in omega (arith, left, size, room)
     by false it = let same : room_at id (with_piece id piece out) ≡ room_at id out = ap (room_at id) (with_piece-unknown id piece out it) in omega (arith, same, room)
 
--- the buffer into a component has so many channels, and holds so many frames, for whose bytes there is room
-pub record CanDrain (id channels : ℕ) (format : Format) (n : ℕ) (t : Tables) (out : List OutputView) : Type 0 where
-  pub there : list_any (goes_to id) t.buffers ≡ true
-  pub shape : channels_at t (in_of t id) ≡ channels
-  pub held : n ≤ length (frames_at t (in_of t id))
+-- a buffer has so many channels, and holds so many frames, for whose bytes there is room
+pub record CanDrain (id b channels : ℕ) (format : Format) (n : ℕ) (t : Tables) (out : List OutputView) : Type 0 where
+  pub there : has_id t.buffers b ≡ true
+  pub shape : channels_at t b ≡ channels
+  pub held : n ≤ length (frames_at t b)
   pub room : n * (channels * width format) ≤ room_at id out
 
--- it has lost so many frames, and the component's output has got their bytes
-pub record IsDrained (id channels : ℕ) (format : Format) (n : ℕ) (t : Tables) (out : List OutputView) (t' : Tables) (out' : List OutputView) : Type 0 where
-  pub tables : t' ≡ taken (in_of t id) n t
-  pub size : length (frames_out format (take n (frames_at t (in_of t id)))) ≡ n * (channels * width format)
-  pub outputs : out' ≡ with_piece id (frames_out format (take n (frames_at t (in_of t id)))) out
+-- it has lost so many frames, and an output has got their bytes
+pub record IsDrained (id b channels : ℕ) (format : Format) (n : ℕ) (t : Tables) (out : List OutputView) (t' : Tables) (out' : List OutputView) : Type 0 where
+  pub tables : t' ≡ taken b n t
+  pub size : length (frames_out format (take n (frames_at t b))) ≡ n * (channels * width format)
+  pub outputs : out' ≡ with_piece id (frames_out format (take n (frames_at t b))) out
 
-pub can-drain-less : (id channels : ℕ) (format : Format) (n m : ℕ) (t : Tables) (out : List OutputView) → m ≤ n → CanDrain id channels format n t out → CanDrain id channels format m t out
-can-drain-less id channels format n m t out less can = record {
+pub can-drain-less : (id b channels : ℕ) (format : Format) (n m : ℕ) (t : Tables) (out : List OutputView) → m ≤ n → CanDrain id b channels format n t out → CanDrain id b channels format m t out
+can-drain-less id b channels format n m t out less can = record {
   there = can.there;
   shape = can.shape;
   held = omega (arith, less, can.held);
   room = let fewer = mul-le-mul_right (channels * width format) less in omega (arith, fewer, can.room);
 }
 
-module _ (id channels : ℕ) (format : Format) (a k : ℕ) (t t1 : Tables) (out out1 : List OutputView) (first : IsDrained id channels format a t out t1 out1) where
-  abbrev c : ℕ
-  c = in_of t id
-
+module _ (id b channels : ℕ) (format : Format) (a k : ℕ) (t t1 : Tables) (out out1 : List OutputView) (first : IsDrained id b channels format a t out t1 out1) where
   abbrev piece : List ℕ
-  piece = frames_out format (take a (frames_at t c))
+  piece = frames_out format (take a (frames_at t b))
 
-  same-in : in_of t1 id ≡ c
-  same-in = ap (λ (x : Tables). in_of x id) first.tables ∙ in-taken c a t id
+  left : frames_at t1 b ≡ drop a (frames_at t b)
+  left = ap (λ (x : Tables). frames_at x b) first.tables ∙ frames-taken b a t
 
-  left : frames_at t1 (in_of t1 id) ≡ drop a (frames_at t c)
-  left = ap (frames_at t1) same-in ∙ ap (λ (x : Tables). frames_at x c) first.tables ∙ frames-taken c a t
-
-  pub can-drain-on : CanDrain id channels format (a + k) t out → CanDrain id channels format k t1 out1
+  pub can-drain-on : CanDrain id b channels format (a + k) t out → CanDrain id b channels format k t1 out1
   can-drain-on can = record {
-    there = ap (λ (x : Tables). list_any (goes_to id) x.buffers) first.tables ∙ there-taken c a t id ∙ can.there;
-    shape = ap (channels_at t1) same-in ∙ ap (λ (x : Tables). channels_at x c) first.tables ∙ channels-taken c a t c ∙ can.shape;
-    held = let rest = ap length left in let size = length-drop a (frames_at t c) in omega (arith, rest, size, can.held);
+    there = ap (λ (x : Tables). has_id x.buffers b) first.tables ∙ has-taken b a t b ∙ can.there;
+    shape = ap (λ (x : Tables). channels_at x b) first.tables ∙ channels-taken b a t b ∙ can.shape;
+    held = let rest = ap length left in let size = length-drop a (frames_at t b) in omega (arith, rest, size, can.held);
     room =
         let m = channels * width format in
         let sum : (a + k) * m ≡ a * m + k * m = omega arith in
         subst (λ (o : List OutputView). k * m ≤ room_at id o) (sym first.outputs) (room-left id (a * m) (k * m) piece out first.size (subst (λ n. n ≤ room_at id out) sum can.room));
   }
 
-  pub drained-more : (t2 : Tables) (out2 : List OutputView) → IsDrained id channels format k t1 out1 t2 out2 → IsDrained id channels format (a + k) t out t2 out2
+  pub drained-more : (t2 : Tables) (out2 : List OutputView) → IsDrained id b channels format k t1 out1 t2 out2 → IsDrained id b channels format (a + k) t out t2 out2
   drained-more t2 out2 next =
-      let rest : frames_out format (take k (frames_at t1 (in_of t1 id))) ≡ frames_out format (take k (drop a (frames_at t c))) = ap (λ (fs : List Frame). frames_out format (take k fs)) left in
-      let all : piece ++ frames_out format (take k (frames_at t1 (in_of t1 id))) ≡ frames_out format (take (a + k) (frames_at t c)) =
-      ap (λ (bytes : List ℕ). piece ++ bytes) rest ∙ sym (bytes-more format a k (frames_at t c)) in
+      let rest : frames_out format (take k (frames_at t1 b)) ≡ frames_out format (take k (drop a (frames_at t b))) = ap (λ (fs : List Frame). frames_out format (take k fs)) left in
+      let all : piece ++ frames_out format (take k (frames_at t1 b)) ≡ frames_out format (take (a + k) (frames_at t b)) =
+      ap (λ (bytes : List ℕ). piece ++ bytes) rest ∙ sym (bytes-more format a k (frames_at t b)) in
       let sum : a * (channels * width format) + k * (channels * width format) ≡ (a + k) * (channels * width format) = omega arith in
       record {
-        tables = next.tables ∙ ap (λ x. taken x k t1) same-in ∙ ap (taken c k) first.tables ∙ taken-twice c a k t;
-        size = ap length (sym all) ∙ length-append piece (frames_out format (take k (frames_at t1 (in_of t1 id)))) ∙ (λ i. first.size i + next.size i) ∙ sum;
+        tables = next.tables ∙ ap (taken b k) first.tables ∙ taken-twice b a k t;
+        size = ap length (sym all) ∙ length-append piece (frames_out format (take k (frames_at t1 b))) ∙ (λ i. first.size i + next.size i) ∙ sum;
         outputs =
             next.outputs
-            ∙ ap (with_piece id (frames_out format (take k (frames_at t1 (in_of t1 id))))) first.outputs
-            ∙ with_piece-with_piece id piece (frames_out format (take k (frames_at t1 (in_of t1 id)))) out
+            ∙ ap (with_piece id (frames_out format (take k (frames_at t1 b)))) first.outputs
+            ∙ with_piece-with_piece id piece (frames_out format (take k (frames_at t1 b))) out
             ∙ ap (λ (bytes : List ℕ). with_piece id bytes out) all;
       }

@@ -1,6 +1,6 @@
 -- A move between buffers is that of a tick.
 use Rattle.std.proofs.Common.{◌≡◌, refl, sym, ap, ◌∙◌, subst, ℕ, ◌+◌, ◌≤◌, min, List, [], ◌∷◌, ◌++◌, map, take, drop, filter, length, Bool, true, false, cond, not, nat_le, ◌==◌, ◌&&◌, ◌||◌, Option, Some, None, option_map, inl, inr, ◌⊎◌, arith, ℤ}
-use Rattle.std.proofs.lemmas.Bool.{true≢false, false≢true, or_right, or_left, or_cases, and_parts, and_from, eqb-true, eq-eqb, false_from_ne_true}
+use Rattle.std.proofs.lemmas.Bool.{true≢false, false≢true, or_right, or_left, or_cases, and_parts, and_from, eqb-true, eq-eqb, leb-true, false_from_ne_true}
 use Rattle.std.specs.Prelude.{find, slice_get, nat_eq}
 use Rattle.std.specs.List.{AllByRecursion, IsDistinct}
 use Rattle.std.specs.Option.{option_map_or}
@@ -21,7 +21,7 @@ use Rattle.stream_law.specs.Seen.{is_equaliser, equalises}
 use Rattle.stream_law.specs.Endpoints.{is_input, format_of, bytes_of_frames, bytes_by, bytes_written}
 use Rattle.stream_law.specs.Equaliser.{passed_frames, numbers_after}
 use Rattle.stream_law.specs.Move.{Audio, after_move, blob_of, ring_length, ring_room, frames_moved, looked_now, fronts, made_now, bytes_moved, bytes_now}
-use Rattle.stream_law.proofs.Members.{IsIn, in-all, in-any, find-in}
+use Rattle.stream_law.proofs.Members.{IsIn, in-all, in-any, find-in, filter-most}
 use Rattle.stream_law.proofs.Placing.{Ascends-distinct}
 use Rattle.stream_law.proofs.Feeding.{frames_made_same, looked-parts}
 use Rattle.row_laws.proofs.Fewer.{distinct-filter}
@@ -38,7 +38,8 @@ use Rattle.fw_components.specs.Processed.{moves_of, moves_at, channels_moved, Is
 use Rattle.fw_walks.proofs.Naming.{find-map}
 use Rattle.fw_walks.proofs.OnWays.{any-map}
 use Rattle.fw_schedule.specs.Ticks.{CanTick}
-use Rattle.fw_schedule.specs.Dues.{is_output}
+use Rattle.fw_schedule.specs.Outputs.{is_output}
+use Rattle.fw_schedule.specs.Schedules.{inlets_of}
 use Rattle.fw_schedule.specs.Stages.{bare_of, heard_ring, heard_history, IsStage, AreEnds}
 use Rattle.fw_schedule.proofs.KeptEnds.{is_looked, looked-are}
 use Rattle.fw_schedule.proofs.ShownEnds.{eqb-turned}
@@ -56,6 +57,7 @@ pub record IsMaker (k : Kind) : Type 0 where
   pub reads : is_input k ≡ false
   pub single : (m n : ℕ) → fits_kind k m n ≡ true → n ≡ 1
   pub alone : (m n : ℕ) → fits_kind k m n ≡ true → is_choosy k ≡ false → m ≡ 1
+  pub few : (m n : ℕ) → fits_kind k m n ≡ true → m ≤ 8
 
 two-numbers : (m n a b : ℕ) → ((m == a) && (n == b)) ≡ true → (m ≡ a) × (n ≡ b)
 two-numbers m n a b h = let parts = and_parts (m == a) (n == b) h in (eqb-true m a parts.0, eqb-true n b parts.1)
@@ -63,11 +65,17 @@ two-numbers m n a b h = let parts = and_parts (m == a) (n == b) h in (eqb-true m
 choosy-single : (m n : ℕ) → (nat_le 1 m && nat_le m 8 && (n == 1)) ≡ true → n ≡ 1
 choosy-single m n h = eqb-true n 1 (and_parts (nat_le 1 m && nat_le m 8) (n == 1) h).1
 
+choosy-few : (m n : ℕ) → (nat_le 1 m && nat_le m 8 && (n == 1)) ≡ true → m ≤ 8
+choosy-few m n h = leb-true m 8 (and_parts (nat_le 1 m) (nat_le m 8) (and_parts (nat_le 1 m && nat_le m 8) (n == 1) h).0).1
+
+one-few : (m n : ℕ) → ((m == 1) && (n == 1)) ≡ true → m ≤ 8
+one-few m n h = let one = (two-numbers m n 1 1 h).0 in omega (arith, one)
+
 maker-by : (k : Kind) → (not (is_input k) && not (is_output k)) ≡ true → IsMaker k
-maker-by kinds.Volume is = record { silent = λ v c n most frames. refl; reads = refl; single = λ m n h. (two-numbers m n 1 1 h).1; alone = λ m n h picks. (two-numbers m n 1 1 h).0 }
-maker-by kinds.Eq is = record { silent = λ v c n most frames. refl; reads = refl; single = λ m n h. (two-numbers m n 1 1 h).1; alone = λ m n h picks. (two-numbers m n 1 1 h).0 }
-maker-by kinds.Mixer is = record { silent = λ v c n most frames. refl; reads = refl; single = choosy-single; alone = λ m n h picks. absurd (true≢false picks) }
-maker-by kinds.Mux is = record { silent = λ v c n most frames. refl; reads = refl; single = choosy-single; alone = λ m n h picks. absurd (true≢false picks) }
+maker-by kinds.Volume is = record { silent = λ v c n most frames. refl; reads = refl; single = λ m n h. (two-numbers m n 1 1 h).1; alone = λ m n h picks. (two-numbers m n 1 1 h).0; few = one-few }
+maker-by kinds.Eq is = record { silent = λ v c n most frames. refl; reads = refl; single = λ m n h. (two-numbers m n 1 1 h).1; alone = λ m n h picks. (two-numbers m n 1 1 h).0; few = one-few }
+maker-by kinds.Mixer is = record { silent = λ v c n most frames. refl; reads = refl; single = choosy-single; alone = λ m n h picks. absurd (true≢false picks); few = choosy-few }
+maker-by kinds.Mux is = record { silent = λ v c n most frames. refl; reads = refl; single = choosy-single; alone = λ m n h picks. absurd (true≢false picks); few = choosy-few }
 maker-by kinds.HostPlay is = absurd (false≢true is)
 maker-by (kinds.DaiCapture format) is = absurd (false≢true is)
 maker-by kinds.HostCapture is = absurd (false≢true is)
@@ -224,6 +232,18 @@ module _ (t : Tables) (kept : IsKept t) (can : CanTick t) (id : ℕ) (there : Is
       pass : (xs : List ℕ) → filter (looks v h id) xs ≡ xs
       pass [] = refl
       pass (x ∷ xs) = (λ i. cond (or_left (not (chooses v id)) (active_end v (source_of (graph_of t) x) && nat_le 1 (h x)) (ap not plain) i) (x ∷ pass xs i) (pass xs i))
+
+  -- its inlets are few, and there
+  pub inlets-few : length (inlets_of v id) ≤ 8
+  inlets-few =
+      let most : length (inlets_of v id) ≤ length (ins (graph_of t) id) = filter-most (λ b. not (chooses v id) || active_end v (source_of (graph_of t) b)) (ins (graph_of t) id) in
+      let fit = maker.few (length (ins (graph_of t) id)) (length (outs (graph_of t) id)) (fits t kept can id is_maker there now) in
+      omega (arith, most, fit)
+
+  pub inlets-there : AllByRecursion (λ b. has_id t.buffers b ≡ true) (inlets_of v id)
+  inlets-there = in-each-among (λ b. has_id t.buffers b ≡ true) (inlets_of v id) (λ b is.
+      let among = (among-filter (λ b. not (chooses v id) || active_end v (source_of (graph_of t) b)) (ins (graph_of t) id) b is).0 in
+      has-buffer b ∙ (among-filter (λ b. is_end (sink_of (graph_of t) b) id) (buffers (graph_of t)) b among).0)
 
   -- its component in the table
   own : (d : Component) × (find (λ c. c.id == id) t.comps ≡ Some d) × (comp_by d ≡ there.comp)

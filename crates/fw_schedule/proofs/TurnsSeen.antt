@@ -16,7 +16,7 @@ use Rattle.fw_components.specs.declared.component.Component.{Component}
 use Rattle.fw_components.specs.Tables.{edge_by, source_by, sink_by}
 use Rattle.fw_schedule.specs.declared.ordering.Turn.{Turn}
 use Rattle.fw_schedule.specs.Turns.{shown, lowered}
-use Rattle.fw_schedule.proofs.FirstEnds.{edges-distinct}
+use Rattle.fw_schedule.proofs.DistinctEdges.{edges-distinct}
 
 -- ---- each edge is found by its buffer
 

@@ -2,7 +2,7 @@
 pub mod Units
 pub mod Spots
 pub mod Turns
-pub mod Dues
+pub mod Outputs
 pub mod Ticks
 pub mod Stages
 pub mod Schedules

@@ -1,11 +1,11 @@
 // Endpoints move frames between their bytes and buffers.
 ghost use Rattle.std.specs.Prelude.{◌≡◌, ◌+◌, ◌*◌, ◌≤◌, true, take, replicate, length};
-ghost use Rattle.std.specs.List.{list_any};
 ghost use Rattle.sof_base.specs.Samples.{width, frames_in, frames_out};
 ghost use Rattle.sof_io.specs.Takes.{given, taken as input_taken};
 ghost use Rattle.sof_io.specs.Puts.{room_at, with_piece};
 ghost use Rattle.fw_components.specs.Tables.{frames_at, capacity_at};
-ghost use Rattle.fw_components.specs.Frames.{words_at, channels_at, comes_from, goes_to, out_of, in_of, taken, pushed};
+ghost use Rattle.fw_components.specs.Changes.{has_id};
+ghost use Rattle.fw_components.specs.Frames.{words_at, channels_at, taken, pushed};
 
 use crate::samples::{read_samples, write_samples};
 use crate::scratch::{MOST, ZEROS};
@@ -13,32 +13,36 @@ use fw_components::Registry;
 use sof_base::{Format, Sample};
 use sof_io::{Inputs, Outputs};
 
-/// An input gives `n` frames to the buffer that comes from its component.
+/// An input gives `n` frames of so many channels to a buffer.
 pub(crate) fn feed_frames(
     registry: &mut Registry,
     io: &mut Inputs,
     samples: &mut [Sample],
     bytes: &mut [u8],
     id: u32,
+    buffer: u32,
     channels: u8,
     format: Format,
     n: u32,
 )
-    requires scratch { (512 ≤ length samples.old) × (2048 ≤ length bytes.old) }
+    requires scratch { (1536 ≤ length samples.old) × (6144 ≤ length bytes.old) }
     requires channels { (1 ≤ channels) × (channels ≤ 8) }
-    requires there { list_any (comes_from id) registry.old.buffers ≡ true }
-    requires shape { channels_at registry.old (out_of registry.old id) ≡ channels }
-    requires fit { length (frames_at registry.old (out_of registry.old id)) + n ≤ capacity_at registry.old (out_of registry.old id) }
-    ensures tables { let buffer = out_of registry.old id in
-        registry.new ≡ pushed buffer (frames_in format channels (given id (n * (channels * width format)) io.old) 0 n) (words_at registry.new buffer) registry.old }
+    requires there { has_id registry.old.buffers buffer ≡ true }
+    requires shape { channels_at registry.old buffer ≡ channels }
+    requires fit { length (frames_at registry.old buffer) + n ≤ capacity_at registry.old buffer }
+    ensures tables { registry.new ≡ pushed buffer (frames_in format channels (given id (n * (channels * width format)) io.old) 0 n) (words_at registry.new buffer) registry.old }
     ensures inputs { io.new ≡ input_taken id (n * (channels * width format)) io.old }
 {
     let most = (MOST / usize::from(channels)) as u32;
     let mut fed = n.min(most);
-    feed_some(registry, io, samples, bytes, id, channels, format, fed);
+    feed_some(
+        registry, io, samples, bytes, id, buffer, channels, format, fed,
+    );
     while fed < n {
         let more = (n - fed).min(most);
-        feed_some(registry, io, samples, bytes, id, channels, format, more);
+        feed_some(
+            registry, io, samples, bytes, id, buffer, channels, format, more,
+        );
         fed += more;
     }
 }
@@ -50,18 +54,18 @@ fn feed_some(
     samples: &mut [Sample],
     bytes: &mut [u8],
     id: u32,
+    buffer: u32,
     channels: u8,
     format: Format,
     n: u32,
 )
-    requires scratch { (512 ≤ length samples.old) × (2048 ≤ length bytes.old) }
+    requires scratch { (1536 ≤ length samples.old) × (6144 ≤ length bytes.old) }
     requires channels { (1 ≤ channels) × (channels ≤ 8) }
-    requires few { n * channels ≤ 512 }
-    requires there { list_any (comes_from id) registry.old.buffers ≡ true }
-    requires shape { channels_at registry.old (out_of registry.old id) ≡ channels }
-    requires fit { length (frames_at registry.old (out_of registry.old id)) + n ≤ capacity_at registry.old (out_of registry.old id) }
-    ensures tables { let buffer = out_of registry.old id in
-        registry.new ≡ pushed buffer (frames_in format channels (given id (n * (channels * width format)) io.old) 0 n) (words_at registry.new buffer) registry.old }
+    requires few { n * channels ≤ 1536 }
+    requires there { has_id registry.old.buffers buffer ≡ true }
+    requires shape { channels_at registry.old buffer ≡ channels }
+    requires fit { length (frames_at registry.old buffer) + n ≤ capacity_at registry.old buffer }
+    ensures tables { registry.new ≡ pushed buffer (frames_in format channels (given id (n * (channels * width format)) io.old) 0 n) (words_at registry.new buffer) registry.old }
     ensures inputs { io.new ≡ input_taken id (n * (channels * width format)) io.old }
 {
     let count = n as usize * usize::from(channels);
@@ -69,36 +73,41 @@ fn feed_some(
     io.take(id, given);
     let frames = &mut samples[..count];
     read_samples(format, given, frames);
-    registry.feed(id, frames);
+    registry.push(buffer, frames);
 }
 
-/// The buffer that goes to an output's component gives it `n` frames.
+/// A buffer gives `n` frames of so many channels to an output.
 pub(crate) fn drain_frames(
     registry: &mut Registry,
     out: &mut Outputs,
     samples: &mut [Sample],
     bytes: &mut [u8],
     id: u32,
+    buffer: u32,
     channels: u8,
     format: Format,
     n: u32,
 )
-    requires scratch { (512 ≤ length samples.old) × (2048 ≤ length bytes.old) }
+    requires scratch { (1536 ≤ length samples.old) × (6144 ≤ length bytes.old) }
     requires channels { (1 ≤ channels) × (channels ≤ 8) }
-    requires there { list_any (goes_to id) registry.old.buffers ≡ true }
-    requires shape { channels_at registry.old (in_of registry.old id) ≡ channels }
-    requires held { n ≤ length (frames_at registry.old (in_of registry.old id)) }
+    requires there { has_id registry.old.buffers buffer ≡ true }
+    requires shape { channels_at registry.old buffer ≡ channels }
+    requires held { n ≤ length (frames_at registry.old buffer) }
     requires room { n * (channels * width format) ≤ room_at id out.old }
-    ensures tables { registry.new ≡ taken (in_of registry.old id) n registry.old }
-    ensures size { length (frames_out format (take n (frames_at registry.old (in_of registry.old id)))) ≡ n * (channels * width format) }
-    ensures outputs { out.new ≡ with_piece id (frames_out format (take n (frames_at registry.old (in_of registry.old id)))) out.old }
+    ensures tables { registry.new ≡ taken buffer n registry.old }
+    ensures size { length (frames_out format (take n (frames_at registry.old buffer))) ≡ n * (channels * width format) }
+    ensures outputs { out.new ≡ with_piece id (frames_out format (take n (frames_at registry.old buffer))) out.old }
 {
     let most = (MOST / usize::from(channels)) as u32;
     let mut drained = n.min(most);
-    drain_some(registry, out, samples, bytes, id, channels, format, drained);
+    drain_some(
+        registry, out, samples, bytes, id, buffer, channels, format, drained,
+    );
     while drained < n {
         let more = (n - drained).min(most);
-        drain_some(registry, out, samples, bytes, id, channels, format, more);
+        drain_some(
+            registry, out, samples, bytes, id, buffer, channels, format, more,
+        );
         drained += more;
     }
 }
@@ -110,24 +119,25 @@ fn drain_some(
     samples: &mut [Sample],
     bytes: &mut [u8],
     id: u32,
+    buffer: u32,
     channels: u8,
     format: Format,
     n: u32,
 )
-    requires scratch { (512 ≤ length samples.old) × (2048 ≤ length bytes.old) }
+    requires scratch { (1536 ≤ length samples.old) × (6144 ≤ length bytes.old) }
     requires channels { (1 ≤ channels) × (channels ≤ 8) }
-    requires few { n * channels ≤ 512 }
-    requires there { list_any (goes_to id) registry.old.buffers ≡ true }
-    requires shape { channels_at registry.old (in_of registry.old id) ≡ channels }
-    requires held { n ≤ length (frames_at registry.old (in_of registry.old id)) }
+    requires few { n * channels ≤ 1536 }
+    requires there { has_id registry.old.buffers buffer ≡ true }
+    requires shape { channels_at registry.old buffer ≡ channels }
+    requires held { n ≤ length (frames_at registry.old buffer) }
     requires room { n * (channels * width format) ≤ room_at id out.old }
-    ensures tables { registry.new ≡ taken (in_of registry.old id) n registry.old }
-    ensures size { length (frames_out format (take n (frames_at registry.old (in_of registry.old id)))) ≡ n * (channels * width format) }
-    ensures outputs { out.new ≡ with_piece id (frames_out format (take n (frames_at registry.old (in_of registry.old id)))) out.old }
+    ensures tables { registry.new ≡ taken buffer n registry.old }
+    ensures size { length (frames_out format (take n (frames_at registry.old buffer))) ≡ n * (channels * width format) }
+    ensures outputs { out.new ≡ with_piece id (frames_out format (take n (frames_at registry.old buffer))) out.old }
 {
     let count = n as usize * usize::from(channels);
     let frames = &mut samples[..count];
-    registry.pull(id, frames);
+    registry.draw(buffer, frames);
     let written = &mut bytes[..count * format.width()];
     write_samples(format, frames, written);
     out.put(id, written);
@@ -138,6 +148,9 @@ pub(crate) fn fill(out: &mut Outputs, id: u32, size: usize)
     requires { size ≤ room_at id out.old }
     ensures { out.new ≡ with_piece id (replicate size 0) out.old }
 {
+    if size == 0 {
+        return;
+    }
     let zeros = [0; ZEROS];
     let mut filled = size.min(ZEROS);
     out.put(id, &zeros[..filled]);

@@ -1,11 +1,10 @@
 // The buffers at a component that frames move along.
-ghost use Rattle.std.specs.Prelude.{◌≡◌, ◌&&◌, ◌||◌, not, true, nat_le, find, length, option_copied, slice_get};
-ghost use Rattle.stream_law.specs.Ways.{ins, is_end, live, active, active_end};
-ghost use Rattle.stream_law.specs.Moves.{fed_by, looked_at, chooses as is_choosing};
-ghost use Rattle.fw_components.specs.Tables.{graph_of, view_by, source_by, sink_by, frames_at};
-ghost use Rattle.fw_components.specs.Changes.{has_id};
-ghost use Rattle.fw_components.specs.Kept.{IsKept};
+ghost use Rattle.std.specs.Prelude.{◌≡◌, ◌≤◌, ◌+◌, ◌++◌, ◌&&◌, ◌||◌, not, find, length, option_copied, slice_get};
+ghost use Rattle.stream_law.specs.Ways.{is_end, live, active, active_end};
+ghost use Rattle.stream_law.specs.Moves.{fed_by, chooses as is_choosing};
+ghost use Rattle.fw_components.specs.Tables.{view_by, source_by, sink_by};
 ghost use Rattle.fw_schedule.specs.Spots.{AreSpots};
+ghost use Rattle.fw_schedule.specs.Schedules.{inlets_of};
 
 use crate::spots::Spots;
 use arrayvec::ArrayVec;
@@ -15,8 +14,7 @@ use fw_walks::{sink_in, source_in};
 /// The first buffer that a component feeds.
 pub(crate) fn fed_of(registry: &Registry, spots: &Spots, id: u32) -> Option<u32>
     requires { AreSpots registry.now spots.now }
-    ensures fed { result ≡ slice_get (fed_by (view_by registry.now) id) 0 }
-    ensures kept { IsKept registry.now }
+    ensures { result ≡ slice_get (fed_by (view_by registry.now) id) 0 }
 {
     let buffers = registry.buffers();
     match buffer_from(buffers, registry, spots, id) {
@@ -50,57 +48,35 @@ fn is_fed(registry: &Registry, spots: &Spots, buffer: &Component, id: u32) -> bo
         && is_active_end(registry, spots, sink_in(&buffer.unit))
 }
 
-/// The first buffer into a component.
-pub(crate) fn first_in(registry: &Registry, id: u32) -> Option<u32>
-    ensures first { result ≡ slice_get (ins (graph_of registry.now) id) 0 }
-    ensures kept { IsKept registry.now }
-{
-    match buffer_to(registry.buffers(), id) {
-        Some(buffer) => Some(buffer.id),
-        None => None,
-    }
-}
-
-// The first of these buffers that goes to a component.
-fn buffer_to(buffers: &[Component], id: u32) -> Option<&Component>
-    ensures { option_copied result ≡ find (λ b. is_end (sink_by b.unit) id) buffers.now }
-{
-    buffers
-        .iter()
-        .find(|buffer| is_at(sink_in(&buffer.unit), id))
-}
-
-/// The buffers into a component that it looks at; one that chooses looks at those whose source is Active and that hold a frame.
-pub(crate) fn looked_of(
+/// The buffers that a component may look at come behind the ids that are there: all into it, or where it chooses those whose source
+/// is Active.
+pub(crate) fn add_inlets(
     registry: &Registry,
     spots: &Spots,
     id: u32,
     chooses: bool,
-) -> ArrayVec<u32, 128>
+    inlets: &mut ArrayVec<u32, 128>,
+)
     requires spots { AreSpots registry.now spots.now }
     requires chooses { chooses ≡ is_choosing (view_by registry.now) id }
-    ensures { result.items ≡ looked_at (view_by registry.now) (λ b. length (frames_at registry.now b)) id }
+    requires room { length inlets.old.items + length (inlets_of (view_by registry.now) id) ≤ 128 }
+    ensures { inlets.new.items ≡ inlets.old.items ++ inlets_of (view_by registry.now) id }
 {
     let buffers = registry.buffers();
-    let mut looked: ArrayVec<u32, 128> = ArrayVec::new();
     for buffer in buffers {
-        if is_looked(registry, spots, buffer, id, chooses) {
-            looked.push(buffer.id);
+        if is_inlet(registry, spots, buffer, id, chooses) {
+            inlets.push(buffer.id);
         }
     }
-    looked
 }
 
-// Whether a component looks at a buffer.
-fn is_looked(registry: &Registry, spots: &Spots, buffer: &Component, id: u32, chooses: bool) -> bool
-    requires spots { AreSpots registry.now spots.now }
-    requires there { has_id registry.now.buffers buffer.now.id ≡ true }
-    ensures { result ≡ (is_end (sink_by buffer.now.unit) id && (not chooses || (active_end (view_by registry.now) (source_by buffer.now.unit) && nat_le 1 (length (frames_at registry.now buffer.now.id))))) }
+// Whether a component may look at a buffer.
+fn is_inlet(registry: &Registry, spots: &Spots, buffer: &Component, id: u32, chooses: bool) -> bool
+    requires { AreSpots registry.now spots.now }
+    ensures { result ≡ (is_end (sink_by buffer.now.unit) id && (not chooses || active_end (view_by registry.now) (source_by buffer.now.unit))) }
 {
     is_at(sink_in(&buffer.unit), id)
-        && (!chooses
-            || is_active_end(registry, spots, source_in(&buffer.unit))
-                && 1 <= registry.held(buffer.id))
+        && (!chooses || is_active_end(registry, spots, source_in(&buffer.unit)))
 }
 
 // Whether an end of a buffer is there and Active.

@@ -1,7 +1,6 @@
 //! A tick over the registry: each Active component whose pipeline runs moves its frames once, in order.
 #![tactic(auto)]
 
-mod dues;
 mod endpoints;
 mod ends;
 mod ordering;
@@ -9,8 +8,10 @@ mod samples;
 mod schedules;
 mod scratch;
 mod spots;
+mod steps;
 mod ticking;
 mod units;
 
 pub use schedules::Schedule;
+pub use scratch::Scratch;
 pub use ticking::{tick, tick_by};

@@ -1,5 +1,6 @@
-// Samples one after the other, between their bytes and words.
+// Samples one after the other, between their bytes and words: a loop for each format.
 ghost use Rattle.std.specs.Prelude.{◌≡◌, ◌*◌, length};
+ghost use Rattle.sof_base.specs.declared.format.Format.TheVariants.{S16, S24, S32};
 ghost use Rattle.sof_base.specs.Samples.{width, frame_in, frame_out};
 
 use sof_base::{Format, Sample, sample_in, sample_out};
@@ -9,11 +10,43 @@ pub(crate) fn read_samples(format: Format, bytes: &[u8], words: &mut [Sample])
     requires { length bytes.now ≡ length words.old * width format }
     ensures { words.new ≡ frame_in format (length words.old) bytes.now 0 }
 {
-    let width = format.width();
+    match format {
+        Format::S16 => read_16(bytes, words),
+        Format::S24 => read_24(bytes, words),
+        Format::S32 => read_32(bytes, words),
+    }
+}
+
+fn read_16(bytes: &[u8], words: &mut [Sample])
+    requires { length bytes.now ≡ length words.old * 2 }
+    ensures { words.new ≡ frame_in S16 (length words.old) bytes.now 0 }
+{
     let mut at = 0;
     for word in words.iter_mut() {
-        *word = sample_in(format, &bytes[at..at + width]);
-        at += width;
+        *word = sample_in(Format::S16, &bytes[at..at + 2]);
+        at += 2;
+    }
+}
+
+fn read_24(bytes: &[u8], words: &mut [Sample])
+    requires { length bytes.now ≡ length words.old * 4 }
+    ensures { words.new ≡ frame_in S24 (length words.old) bytes.now 0 }
+{
+    let mut at = 0;
+    for word in words.iter_mut() {
+        *word = sample_in(Format::S24, &bytes[at..at + 4]);
+        at += 4;
+    }
+}
+
+fn read_32(bytes: &[u8], words: &mut [Sample])
+    requires { length bytes.now ≡ length words.old * 4 }
+    ensures { words.new ≡ frame_in S32 (length words.old) bytes.now 0 }
+{
+    let mut at = 0;
+    for word in words.iter_mut() {
+        *word = sample_in(Format::S32, &bytes[at..at + 4]);
+        at += 4;
     }
 }
 
@@ -22,10 +55,42 @@ pub(crate) fn write_samples(format: Format, words: &[Sample], bytes: &mut [u8])
     requires { length bytes.old ≡ length words.now * width format }
     ensures { bytes.new ≡ frame_out format words.now }
 {
-    let width = format.width();
+    match format {
+        Format::S16 => write_16(words, bytes),
+        Format::S24 => write_24(words, bytes),
+        Format::S32 => write_32(words, bytes),
+    }
+}
+
+fn write_16(words: &[Sample], bytes: &mut [u8])
+    requires { length bytes.old ≡ length words.now * 2 }
+    ensures { bytes.new ≡ frame_out S16 words.now }
+{
     let mut at = 0;
     for word in words {
-        sample_out(format, *word, &mut bytes[at..at + width]);
-        at += width;
+        sample_out(Format::S16, *word, &mut bytes[at..at + 2]);
+        at += 2;
+    }
+}
+
+fn write_24(words: &[Sample], bytes: &mut [u8])
+    requires { length bytes.old ≡ length words.now * 4 }
+    ensures { bytes.new ≡ frame_out S24 words.now }
+{
+    let mut at = 0;
+    for word in words {
+        sample_out(Format::S24, *word, &mut bytes[at..at + 4]);
+        at += 4;
+    }
+}
+
+fn write_32(words: &[Sample], bytes: &mut [u8])
+    requires { length bytes.old ≡ length words.now * 4 }
+    ensures { bytes.new ≡ frame_out S32 words.now }
+{
+    let mut at = 0;
+    for word in words {
+        sample_out(Format::S32, *word, &mut bytes[at..at + 4]);
+        at += 4;
     }
 }

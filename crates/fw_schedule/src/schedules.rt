@@ -1,16 +1,27 @@
 // What a tick works out from a registry before anything moves.
-ghost use Rattle.fw_schedule.specs.Schedules.{IsScheduleOf};
+ghost use Rattle.std.specs.Prelude.{◌≡◌, ◌+◌, ◌<◌, ◌≤◌, ◌++◌, length, slice_index};
+ghost use Rattle.std.specs.Option.{option_map_or};
+ghost use Rattle.stream_law.specs.Ways.{components};
+ghost use Rattle.fw_components.specs.Tables.{graph_of, view_by};
+ghost use Rattle.fw_schedule.specs.Spots.{AreSpots};
+ghost use Rattle.fw_schedule.specs.Schedules.{IsScheduleOf, IsStepOf, inlets_of};
 
+use crate::ends::{add_inlets, fed_of};
 use crate::ordering::order;
 use crate::spots::Spots;
+use crate::steps::Step;
+use crate::units::{chooses, format_in, period_in};
 use arrayvec::ArrayVec;
 use fw_components::Registry;
+use fw_walks::kind_of;
+use sof_base::Params;
 
-/// What is Live and Active in a registry, and the places of its components in the order in which they move. It takes no memory.
+/// A step for each component of a registry, in the order in which they move, and the ids of the buffers that they take frames
+/// from. A tick goes by it, and searches nothing. It takes no memory.
 #[derive(Drop)]
 pub struct Schedule {
-    pub(crate) spots: Spots,
-    pub(crate) order: ArrayVec<u16, 128>,
+    pub(crate) steps: ArrayVec<Step, 128>,
+    pub(crate) inlets: ArrayVec<u32, 128>,
 }
 
 impl Schedule {
@@ -20,6 +31,64 @@ impl Schedule {
     {
         let spots = Spots::of(registry);
         let order = order(registry);
-        Schedule { spots, order }
+        let places = order.as_slice();
+        let _buffers = registry.buffers();
+        let mut steps: ArrayVec<Step, 128> = ArrayVec::new();
+        let mut inlets: ArrayVec<u32, 128> = ArrayVec::new();
+        for i in 0..places.len() {
+            let step = step_at(registry, &spots, usize::from(places[i]), &mut inlets);
+            steps.push(step);
+        }
+        Schedule { steps, inlets }
+    }
+}
+
+// The step of the component at a place, whose inlets come behind those that are there.
+fn step_at(registry: &Registry, spots: &Spots, at: usize, inlets: &mut ArrayVec<u32, 128>) -> Step
+    requires there { at < length registry.now.comps }
+    requires spots { AreSpots registry.now spots.now }
+    requires room { length inlets.old.items + length (inlets_of (view_by registry.now) (slice_index (components (graph_of registry.now)) at)) ≤ 128 }
+    ensures id { result.id ≡ slice_index (components (graph_of registry.now)) at }
+    ensures inlets { inlets.new.items ≡ inlets.old.items ++ inlets_of (view_by registry.now) result.id }
+    ensures step { IsStepOf (view_by registry.now) inlets.new.items result }
+{
+    let comps = registry.comps();
+    let comp = &comps[at];
+    let kind = kind_of(&comp.unit);
+    let first = inlets.len();
+    add_inlets(registry, spots, comp.id, chooses(kind), inlets);
+    let spot = spots.at(comp.id);
+    let period = period_in(registry.pipes(), comp.pipe) / 1000;
+    Step {
+        id: comp.id,
+        kind,
+        format: format_in(&comp.unit),
+        active: spot.active,
+        channels: channels_in(spot.params),
+        period,
+        quota: period * rate_in(spot.params) / 1000,
+        fed: fed_of(registry, spots, comp.id),
+        first,
+        past: inlets.len(),
+    }
+}
+
+// How many channels frames have; 0 without parameters.
+fn channels_in(params: Option<Params>) -> u8
+    ensures { result ≡ option_map_or (λ p. p.channels) params 0 }
+{
+    match params {
+        Some(params) => params.channels,
+        None => 0,
+    }
+}
+
+// Frames a second; 0 without parameters.
+fn rate_in(params: Option<Params>) -> u32
+    ensures { result ≡ option_map_or (λ p. p.rate) params 0 }
+{
+    match params {
+        Some(params) => params.rate,
+        None => 0,
     }
 }

@@ -1,24 +1,25 @@
 // Room that the frames of an endpoint pass through.
 use sof_base::Sample;
 
-/// The most samples that pass at once: 64 frames of 8 channels, or more of fewer.
-pub(crate) const MOST: usize = 512;
+/// The most samples that pass at once: 192 frames of 8 channels, or more of fewer.
+pub(crate) const MOST: usize = 1536;
 
-/// The most zeros that pass at once: the bytes of so many samples.
-pub(crate) const ZEROS: usize = 2048;
+/// The most zeros that pass at once.
+pub(crate) const ZEROS: usize = 256;
 
-/// Room for so many samples, and for their bytes.
+/// Room for the samples that pass at once, and for their bytes. What stands there means nothing between two moves.
 #[derive(Drop)]
-pub(crate) struct Scratch {
-    pub(crate) samples: [Sample; 512],
-    pub(crate) bytes: [u8; 2048],
+pub struct Scratch {
+    pub(crate) samples: [Sample; 1536],
+    pub(crate) bytes: [u8; 6144],
 }
 
 impl Scratch {
-    pub(crate) fn new() -> Scratch {
+    /// New room.
+    pub fn new() -> Scratch {
         Scratch {
-            samples: [0; 512],
-            bytes: [0; 2048],
+            samples: [0; 1536],
+            bytes: [0; 6144],
         }
     }
 }

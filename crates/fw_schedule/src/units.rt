@@ -4,7 +4,7 @@ ghost use Rattle.std.specs.Option.{option_map_or};
 ghost use Rattle.stream_law.specs.Moves.{is_choosy};
 ghost use Rattle.fw_components.specs.Tables.{period_by};
 ghost use Rattle.stream_law.specs.Endpoints.{is_input};
-ghost use Rattle.fw_schedule.specs.Dues.{is_output, least_by};
+ghost use Rattle.fw_schedule.specs.Outputs.{is_output, least_by};
 ghost use Rattle.fw_schedule.specs.Units.{stream_by, unit_format};
 
 use fw_components::{Component, Unit};

@@ -5,8 +5,8 @@ use Rattle.fw_schedule.proofs.endpoints.drain_frames.Given as goal
 abbrev pub invariant-loop-drained : goal.invariant-loop-drained
 invariant-loop-drained l = record {
   within : l.drained ≤ l.n;
-  scratch : (512 ≤ length l.samples) × (2048 ≤ length l.bytes);
-  so_far : IsDrained l.id l.channels l.format l.drained l.fn.registry l.fn.out l.registry l.out;
+  scratch : (1536 ≤ length l.samples) × (6144 ≤ length l.bytes);
+  so_far : IsDrained l.id l.buffer l.channels l.format l.drained l.fn.registry l.fn.out l.registry l.out;
 }
 
 abbrev pub decreases-loop-drained : goal.decreases-loop-drained

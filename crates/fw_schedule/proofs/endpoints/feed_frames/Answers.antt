@@ -11,23 +11,23 @@ loop-fed-init c = record {
 
 pub feed_some-requires-in-loop-fed-clause-there : goal.feed_some-requires-in-loop-fed-clause-there
 feed_some-requires-in-loop-fed-clause-there c =
-    let id = c.args.id in let channels = c.args.channels in let n = c.args.n in let t = c.args.registry.now in let a = c.loop-fed.fed in let k = c.min-more.result in
-    let can : CanFeed id channels n t = record { there = c.requires.there; shape = c.requires.shape; fit = c.requires.fit } in
-    let on = can-feed-on id channels c.args.format a k t c.loop-fed.registry c.args.io.now c.loop-fed.io c.loop-fed.invariant.so_far (can-feed-less id channels n (a + k) t (omega (arith, c.min-more.ensures, c.loop-fed.invariant.within)) can) in
+    let id = c.args.id in let b = c.args.buffer in let channels = c.args.channels in let n = c.args.n in let t = c.args.registry.now in let a = c.loop-fed.fed in let k = c.min-more.result in
+    let can : CanFeed b channels n t = record { there = c.requires.there; shape = c.requires.shape; fit = c.requires.fit } in
+    let on = can-feed-on id b channels c.args.format a k t c.loop-fed.registry c.args.io.now c.loop-fed.io c.loop-fed.invariant.so_far (can-feed-less b channels n (a + k) t (omega (arith, c.min-more.ensures, c.loop-fed.invariant.within)) can) in
     on.there
 
 pub feed_some-requires-in-loop-fed-clause-shape : goal.feed_some-requires-in-loop-fed-clause-shape
 feed_some-requires-in-loop-fed-clause-shape c =
-    let id = c.args.id in let channels = c.args.channels in let n = c.args.n in let t = c.args.registry.now in let a = c.loop-fed.fed in let k = c.min-more.result in
-    let can : CanFeed id channels n t = record { there = c.requires.there; shape = c.requires.shape; fit = c.requires.fit } in
-    let on = can-feed-on id channels c.args.format a k t c.loop-fed.registry c.args.io.now c.loop-fed.io c.loop-fed.invariant.so_far (can-feed-less id channels n (a + k) t (omega (arith, c.min-more.ensures, c.loop-fed.invariant.within)) can) in
+    let id = c.args.id in let b = c.args.buffer in let channels = c.args.channels in let n = c.args.n in let t = c.args.registry.now in let a = c.loop-fed.fed in let k = c.min-more.result in
+    let can : CanFeed b channels n t = record { there = c.requires.there; shape = c.requires.shape; fit = c.requires.fit } in
+    let on = can-feed-on id b channels c.args.format a k t c.loop-fed.registry c.args.io.now c.loop-fed.io c.loop-fed.invariant.so_far (can-feed-less b channels n (a + k) t (omega (arith, c.min-more.ensures, c.loop-fed.invariant.within)) can) in
     on.shape
 
 pub feed_some-requires-in-loop-fed-clause-fit : goal.feed_some-requires-in-loop-fed-clause-fit
 feed_some-requires-in-loop-fed-clause-fit c =
-    let id = c.args.id in let channels = c.args.channels in let n = c.args.n in let t = c.args.registry.now in let a = c.loop-fed.fed in let k = c.min-more.result in
-    let can : CanFeed id channels n t = record { there = c.requires.there; shape = c.requires.shape; fit = c.requires.fit } in
-    let on = can-feed-on id channels c.args.format a k t c.loop-fed.registry c.args.io.now c.loop-fed.io c.loop-fed.invariant.so_far (can-feed-less id channels n (a + k) t (omega (arith, c.min-more.ensures, c.loop-fed.invariant.within)) can) in
+    let id = c.args.id in let b = c.args.buffer in let channels = c.args.channels in let n = c.args.n in let t = c.args.registry.now in let a = c.loop-fed.fed in let k = c.min-more.result in
+    let can : CanFeed b channels n t = record { there = c.requires.there; shape = c.requires.shape; fit = c.requires.fit } in
+    let on = can-feed-on id b channels c.args.format a k t c.loop-fed.registry c.args.io.now c.loop-fed.io c.loop-fed.invariant.so_far (can-feed-less b channels n (a + k) t (omega (arith, c.min-more.ensures, c.loop-fed.invariant.within)) can) in
     on.fit
 
 pub loop-fed-preserved : goal.loop-fed-preserved
@@ -37,7 +37,7 @@ loop-fed-preserved c =
       within = omega (arith, c.min-more.ensures, c.loop-fed.invariant.within);
       scratch = (omega (arith, next.auto.samples, c.loop-fed.invariant.scratch.0), omega (arith, next.auto.bytes, c.loop-fed.invariant.scratch.1));
       so_far =
-          fed-more c.args.id c.args.channels c.args.format c.loop-fed.fed c.min-more.result c.args.registry.now c.loop-fed.registry c.args.io.now c.loop-fed.io c.loop-fed.invariant.so_far
+          fed-more c.args.id c.args.buffer c.args.channels c.args.format c.loop-fed.fed c.min-more.result c.args.registry.now c.loop-fed.registry c.args.io.now c.loop-fed.io c.loop-fed.invariant.so_far
           next.new.registry next.new.io
           (record { tables = next.ensures.tables; inputs = next.ensures.inputs });
     }
@@ -45,9 +45,9 @@ loop-fed-preserved c =
 pub returns-clause-tables : goal.returns-clause-tables
 returns-clause-tables c =
     let all : c.loop-fed.fed ≡ c.args.n = omega (arith, c.loop-fed-test.false, c.loop-fed.invariant.within) in
-    (subst (λ k. IsFed c.args.id c.args.channels c.args.format k c.args.registry.now c.args.io.now c.loop-fed.registry c.loop-fed.io) all c.loop-fed.invariant.so_far).tables
+    (subst (λ k. IsFed c.args.id c.args.buffer c.args.channels c.args.format k c.args.registry.now c.args.io.now c.loop-fed.registry c.loop-fed.io) all c.loop-fed.invariant.so_far).tables
 
 pub returns-clause-inputs : goal.returns-clause-inputs
 returns-clause-inputs c =
     let all : c.loop-fed.fed ≡ c.args.n = omega (arith, c.loop-fed-test.false, c.loop-fed.invariant.within) in
-    (subst (λ k. IsFed c.args.id c.args.channels c.args.format k c.args.registry.now c.args.io.now c.loop-fed.registry c.loop-fed.io) all c.loop-fed.invariant.so_far).inputs
+    (subst (λ k. IsFed c.args.id c.args.buffer c.args.channels c.args.format k c.args.registry.now c.args.io.now c.loop-fed.registry c.loop-fed.io) all c.loop-fed.invariant.so_far).inputs

@@ -4,8 +4,8 @@ use Rattle.fw_components.specs.declared.component.Component.{Component}
 use Rattle.fw_schedule.proofs.KeptEnds.{is_fed, first-fed}
 use Rattle.fw_schedule.proofs.ends.fed_of.Goals as goal
 
-pub returns-in-Some-clause-fed : goal.returns-in-Some-clause-fed
-returns-in-Some-clause-fed c = first-fed c.args.registry.now c.args.id _ c.buffers-buffers.ensures.kept.named.buffers (c.in-Some.ensures ∙ ap (λ (bs : List Component). find (is_fed c.args.registry.now c.args.id) bs) c.buffers-buffers.ensures.items)
+pub returns-in-Some : goal.returns-in-Some
+returns-in-Some c = first-fed c.args.registry.now c.args.id _ c.buffers-buffers.ensures.kept.named.buffers (c.in-Some.ensures ∙ ap (λ (bs : List Component). find (is_fed c.args.registry.now c.args.id) bs) c.buffers-buffers.ensures.items)
 
-pub returns-in-None-clause-fed : goal.returns-in-None-clause-fed
-returns-in-None-clause-fed c = first-fed c.args.registry.now c.args.id _ c.buffers-buffers.ensures.kept.named.buffers (c.in-None.ensures ∙ ap (λ (bs : List Component). find (is_fed c.args.registry.now c.args.id) bs) c.buffers-buffers.ensures.items)
+pub returns-in-None : goal.returns-in-None
+returns-in-None c = first-fed c.args.registry.now c.args.id _ c.buffers-buffers.ensures.kept.named.buffers (c.in-None.ensures ∙ ap (λ (bs : List Component). find (is_fed c.args.registry.now c.args.id) bs) c.buffers-buffers.ensures.items)

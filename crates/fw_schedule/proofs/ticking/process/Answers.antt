@@ -1,124 +1,73 @@
-use Rattle.std.proofs.Common.{◌≡◌, refl, sym, ap, ◌∙◌, subst, ℕ, min, map, List, [], ◌∷◌, length, false, ◌==◌, false, arith}
-use Rattle.std.proofs.lemmas.Bool.{eqb-true, true≢false}
-use Rattle.std.proofs.lemmas.List.{nil_from_length}
-use Rattle.stream_law.specs.Moves.{looked_at, least, is_empty}
-use Rattle.fw_components.specs.Tables.{Tables, graph_of, view_by, frames_at, rings_of, histories_of, staging_of}
-use Rattle.fw_components.specs.Frames.{words_at, staged_in}
-use Rattle.fw_components.specs.Processed.{made_at, numbers_at, processed, with_numbers}
-use Rattle.fw_schedule.specs.Stages.{bare_of}
-use Rattle.fw_schedule.proofs.DueRuns.{runs-active}
-use Rattle.fw_schedule.proofs.Still.{bare-processed}
+use Rattle.std.proofs.Common.{◌≡◌, sym, ap, ◌∙◌, subst, filter, length, nat_le, true, arith}
+use Rattle.std.specs.List.{AllByRecursion}
+use Rattle.stream_law.specs.Ways.{comp_of}
+use Rattle.fw_components.specs.Changes.{has_id}
+use Rattle.fw_components.specs.Tables.{graph_of, view_by, frames_at}
+use Rattle.fw_schedule.specs.Schedules.{inlets_of}
+use Rattle.fw_schedule.proofs.AtPlaces.{kind-passes, chooses-by}
+use Rattle.fw_schedule.proofs.Looking.{plain-looked, chosen-looked}
 use Rattle.fw_schedule.proofs.Along.{there-is}
-use Rattle.fw_schedule.proofs.Processed.{is_maker, fed-at, looked-distinct, looked-one, moves, wide, inlets, outlet, looked-there, unfed, unlooked, processed-stage}
+use Rattle.fw_schedule.proofs.Processed.{is_maker, inlets-few, inlets-there, unfed}
 use Rattle.fw_schedule.proofs.ticking.process.Goals as goal
 
-not-empty : (xs : List ℕ) → (length xs == 0) ≡ false → is_empty xs ≡ false
-not-empty [] e = absurd (true≢false e)
-not-empty (x ∷ xs) e = refl
-
-pub free-requires : goal.free-requires
-free-requires c =
-    let t = c.args.registry.now in let id = c.args.due.id in let d = c.requires.due in let can = c.requires.can in
-    let kept = c.fed_of.ensures.kept in
-    let there = there-is (graph_of t) id is_maker c.requires.kind in
-    let now = runs-active (view_by t) d.0 id d.1.0 in
-    let b = c.in-Some.buffer in let is = sym c.fed_of.ensures.fed ∙ c.in-Some.is in
-    (fed-at t kept can id there now b is).there
-
 pub returns-in_default-clause-moved : goal.returns-in_default-clause-moved
-returns-in_default-clause-moved c = λ clock inputs outputs due began start a ends stage.
-    let t = c.args.registry.now in let id = c.args.due.id in let can = c.requires.can in
-    let kept = c.fed_of.ensures.kept in
-    let there = there-is (graph_of t) id is_maker c.requires.kind in
-    unfed t kept can id there (runs-active (view_by t) clock id due.0) began start inputs outputs a ends stage clock due.0 (sym c.fed_of.ensures.fed ∙ c.in_default.is)
+returns-in_default-clause-moved c = λ clock inputs outputs run began start a ends stage.
+    let t = c.args.registry.now in let s = c.args.step.now in let id = s.id in let is = c.requires.step in
+    let kept = c.comps-comps.ensures.kept in let can = c.requires.can in let now = c.requires.active in
+    let there = there-is (graph_of t) id is_maker (kind-passes is_maker (comp_of (graph_of t) id) s.kind is.kind ∙ c.requires.kind) in
+    unfed t kept can id there now began start inputs outputs a ends stage clock run (sym is.fed ∙ c.in_default.is)
 
-pub returns-then-is_empty-clause-moved : goal.returns-then-is_empty-clause-moved
-returns-then-is_empty-clause-moved c = λ clock inputs outputs due began start a ends stage.
-    let t = c.args.registry.now in let id = c.args.due.id in let can = c.requires.can in
-    let kept = c.fed_of.ensures.kept in
-    let there = there-is (graph_of t) id is_maker c.requires.kind in
-    unlooked t kept can id there (runs-active (view_by t) clock id due.0) began start inputs outputs a ends stage clock due.0 c.in-Some.buffer (sym c.fed_of.ensures.fed ∙ c.in-Some.is) (sym c.looked_of-looked.ensures ∙ nil_from_length c.looked_of-looked.result.items (eqb-true (length c.looked_of-looked.result.items) 0 (sym c.is_empty.ensures ∙ c.if-is_empty.true)))
+pub holding-looked-requires-clause-there : goal.holding-looked-requires-clause-there
+holding-looked-requires-clause-there c =
+    let t = c.args.registry.now in let s = c.args.step.now in let id = s.id in let is = c.requires.step in
+    let kept = c.comps-comps.ensures.kept in let can = c.requires.can in let now = c.requires.active in
+    let there = there-is (graph_of t) id is_maker (kind-passes is_maker (comp_of (graph_of t) id) s.kind is.kind ∙ c.requires.kind) in
+    let own : c.inlets-own.result.now ≡ inlets_of (view_by t) id = c.inlets-own.ensures ∙ is.inlets in
+    subst (AllByRecursion (λ b. has_id t.buffers b ≡ true)) (sym own) (inlets-there t kept can id there now)
 
-pub least_held-n-requires : goal.least_held-n-requires
-least_held-n-requires c =
-    let t = c.args.registry.now in let id = c.args.due.id in let d = c.requires.due in let can = c.requires.can in
-    let kept = c.fed_of.ensures.kept in
-    let there = there-is (graph_of t) id is_maker c.requires.kind in
-    let now = runs-active (view_by t) d.0 id d.1.0 in
-    let b = c.in-Some.buffer in let is = sym c.fed_of.ensures.fed ∙ c.in-Some.is in
-    looked-there t kept can id there now c.as_slice.result.now (c.as_slice.ensures.value ∙ c.looked_of-looked.ensures)
+pub holding-looked-requires-clause-few : goal.holding-looked-requires-clause-few
+holding-looked-requires-clause-few c =
+    let t = c.args.registry.now in let s = c.args.step.now in let id = s.id in let is = c.requires.step in
+    let kept = c.comps-comps.ensures.kept in let can = c.requires.can in let now = c.requires.active in
+    let there = there-is (graph_of t) id is_maker (kind-passes is_maker (comp_of (graph_of t) id) s.kind is.kind ∙ c.requires.kind) in
+    let own : c.inlets-own.result.now ≡ inlets_of (view_by t) id = c.inlets-own.ensures ∙ is.inlets in
+    let few = inlets-few t kept can id there now in omega (arith, few, ap length own)
 
-pub process-requires-clause-unit : goal.process-requires-clause-unit
-process-requires-clause-unit c =
-    let t = c.args.registry.now in let id = c.args.due.id in let d = c.requires.due in let can = c.requires.can in
-    let kept = c.fed_of.ensures.kept in
-    let there = there-is (graph_of t) id is_maker c.requires.kind in
-    let now = runs-active (view_by t) d.0 id d.1.0 in
-    let b = c.in-Some.buffer in let is = sym c.fed_of.ensures.fed ∙ c.in-Some.is in
-    let looked = c.as_slice-2.result.now in let n = c.least_held-n.result in let most = c.min-most.result in
-    let are : looked ≡ looked_at (view_by t) (λ b. length (frames_at t b)) id = c.as_slice-2.ensures.value ∙ c.looked_of-looked.ensures in
-    moves t kept can id there now (length looked) (λ plain. ap length are ∙ looked-one t kept can id there now (λ b. length (frames_at t b)) plain)
+pub pass-requires-clause-kind : goal.pass-requires-clause-kind
+pass-requires-clause-kind c =
+    let t = c.args.registry.now in let s = c.args.step.now in
+    kind-passes is_maker (comp_of (graph_of t) s.id) s.kind c.requires.step.kind ∙ c.requires.kind
 
-pub process-requires-clause-single : goal.process-requires-clause-single
-process-requires-clause-single c =
-    let t = c.args.registry.now in let id = c.args.due.id in let d = c.requires.due in let can = c.requires.can in
-    let kept = c.fed_of.ensures.kept in
-    let there = there-is (graph_of t) id is_maker c.requires.kind in
-    let now = runs-active (view_by t) d.0 id d.1.0 in
-    let b = c.in-Some.buffer in let is = sym c.fed_of.ensures.fed ∙ c.in-Some.is in
-    let looked = c.as_slice-2.result.now in let n = c.least_held-n.result in let most = c.min-most.result in
-    let are : looked ≡ looked_at (view_by t) (λ b. length (frames_at t b)) id = c.as_slice-2.ensures.value ∙ c.looked_of-looked.ensures in
-    looked-distinct t kept can id there now looked b are is
+pub pass-requires-clause-most : goal.pass-requires-clause-most
+pass-requires-clause-most c =
+    c.requires.step.quota
 
-pub process-requires-clause-looked : goal.process-requires-clause-looked
-process-requires-clause-looked c =
-    let t = c.args.registry.now in let id = c.args.due.id in let d = c.requires.due in let can = c.requires.can in
-    let kept = c.fed_of.ensures.kept in
-    let there = there-is (graph_of t) id is_maker c.requires.kind in
-    let now = runs-active (view_by t) d.0 id d.1.0 in
-    let b = c.in-Some.buffer in let is = sym c.fed_of.ensures.fed ∙ c.in-Some.is in
-    let looked = c.as_slice-2.result.now in let n = c.least_held-n.result in let most = c.min-most.result in
-    let are : looked ≡ looked_at (view_by t) (λ b. length (frames_at t b)) id = c.as_slice-2.ensures.value ∙ c.looked_of-looked.ensures in
-    let count : n ≡ least most (map (λ b. length (frames_at t b)) looked) = c.least_held-n.ensures ∙ ap (λ (xs : List ℕ). least most (map (λ b. length (frames_at t b)) xs)) (c.as_slice.ensures.value ∙ sym c.as_slice-2.ensures.value) in
-    inlets t kept can id there now looked most n are count
+pub pass-requires-clause-fed : goal.pass-requires-clause-fed
+pass-requires-clause-fed c =
+    sym c.requires.step.fed ∙ c.in-Some.is
 
-pub process-requires-clause-fed : goal.process-requires-clause-fed
-process-requires-clause-fed c =
-    let t = c.args.registry.now in let id = c.args.due.id in let d = c.requires.due in let can = c.requires.can in
-    let kept = c.fed_of.ensures.kept in
-    let there = there-is (graph_of t) id is_maker c.requires.kind in
-    let now = runs-active (view_by t) d.0 id d.1.0 in
-    let b = c.in-Some.buffer in let is = sym c.fed_of.ensures.fed ∙ c.in-Some.is in
-    let looked = c.as_slice-2.result.now in let n = c.least_held-n.result in let most = c.min-most.result in
-    let are : looked ≡ looked_at (view_by t) (λ b. length (frames_at t b)) id = c.as_slice-2.ensures.value ∙ c.looked_of-looked.ensures in
-    let count : n ≡ least most (map (λ b. length (frames_at t b)) looked) = c.least_held-n.ensures ∙ ap (λ (xs : List ℕ). least most (map (λ b. length (frames_at t b)) xs)) (c.as_slice.ensures.value ∙ sym c.as_slice-2.ensures.value) in
-    (outlet t kept can id there now b most n looked is (omega (arith, c.min-most.ensures, c.free.ensures)) count, tt)
+pub pass-requires-else-chooses-clause-kind : goal.pass-requires-else-chooses-clause-kind
+pass-requires-else-chooses-clause-kind c =
+    let t = c.args.registry.now in let s = c.args.step.now in
+    kind-passes is_maker (comp_of (graph_of t) s.id) s.kind c.requires.step.kind ∙ c.requires.kind
 
-pub returns-clause-bare : goal.returns-clause-bare
-returns-clause-bare c =
-    let t = c.args.registry.now in let id = c.args.due.id in let b = c.in-Some.buffer in let looked = c.as_slice-2.result.now in let n = c.least_held-n.result in
-    let u = c.process.new.self in
-    ap bare_of c.process.ensures.tables ∙ bare-processed id n b looked (made_at t id looked n) (words_at u b) (words_at u id) t
+pub pass-requires-else-chooses-clause-most : goal.pass-requires-else-chooses-clause-most
+pass-requires-else-chooses-clause-most c =
+    c.requires.step.quota
 
-pub returns-clause-moved : goal.returns-clause-moved
-returns-clause-moved c = λ clock inputs outputs due began start a ends stage.
-    let t = c.args.registry.now in let id = c.args.due.id in let can = c.requires.can in
-    let kept = c.fed_of.ensures.kept in
-    let there = there-is (graph_of t) id is_maker c.requires.kind in
-    let now = runs-active (view_by t) clock id due.0 in
-    let b = c.in-Some.buffer in let is = sym c.fed_of.ensures.fed ∙ c.in-Some.is in
-    let looked = c.as_slice-2.result.now in let n = c.least_held-n.result in let most = c.min-most.result in
-    let are : looked ≡ looked_at (view_by t) (λ b. length (frames_at t b)) id = c.as_slice-2.ensures.value ∙ c.looked_of-looked.ensures in
-    let count : n ≡ least most (map (λ b. length (frames_at t b)) looked) = c.least_held-n.ensures ∙ ap (λ (xs : List ℕ). least most (map (λ b. length (frames_at t b)) xs)) (c.as_slice.ensures.value ∙ sym c.as_slice-2.ensures.value) in
-    let u = c.process.new.self in let fs = made_at t id looked n in let w = words_at u b in let o = words_at u id in
-    let tables : u ≡ processed id looked n b fs w o t = c.process.ensures.tables in
-    let able = moves t kept can id there now (length looked) (λ plain. ap length are ∙ looked-one t kept can id there now (λ b. length (frames_at t b)) plain) in
-    let shape = sym (wide t kept can id there now) in
-    let some : is_empty looked ≡ false = not-empty looked (ap (λ (xs : List ℕ). length xs == 0) c.as_slice-2.ensures.value ∙ sym c.is_empty.ensures ∙ c.if-is_empty.false) in
-    processed-stage t kept can id there now began start inputs outputs a ends stage clock due.0 b is looked are some n c.free.result most c.free.ensures (c.min-most.ensures ∙ ap (λ q. min q c.free.result) due.3) count u
-    (ap bare_of tables ∙ bare-processed id n b looked fs w o t)
-    (ap rings_of tables ∙ c.moves_are_seen.ensures.rings id b n looked fs w o t kept)
-    (subst (λ (u : Tables). histories_of u ≡ map (with_numbers id (numbers_at u id)) (histories_of t)) (sym tables) (c.moves_are_seen.ensures.histories id b n looked fs w o t kept))
-    (ap staging_of tables ∙ c.moves_are_seen.ensures.staging id b n looked fs w o t kept (subst (λ (u : Tables). staged_in u.comps id ≡ staged_in t.comps id) tables c.process.ensures.staged))
-    (λ read. c.moves_are_ticks.ensures.frames id n looked read t able shape)
-    (λ kind. c.moves_are_ticks.ensures.numbers id n looked t kind shape ∙ sym c.process.ensures.numbers)
+pub pass-requires-else-chooses-clause-fed : goal.pass-requires-else-chooses-clause-fed
+pass-requires-else-chooses-clause-fed c =
+    sym c.requires.step.fed ∙ c.in-Some.is
+
+pub pass-requires-clause-looked : goal.pass-requires-clause-looked
+pass-requires-clause-looked c =
+    let t = c.args.registry.now in let v = view_by t in let s = c.args.step.now in let is = c.requires.step in
+    c.as_slice.ensures.value ∙ c.holding-looked.ensures
+    ∙ ap (filter (λ b. nat_le 1 (length (frames_at t b)))) (c.inlets-own.ensures ∙ is.inlets)
+    ∙ sym (chosen-looked v s.id (λ b. length (frames_at t b)) (chooses-by v s.id s.kind is.kind ∙ sym c.chooses.ensures ∙ c.if-chooses.true))
+
+pub pass-requires-else-chooses-clause-looked : goal.pass-requires-else-chooses-clause-looked
+pass-requires-else-chooses-clause-looked c =
+    let t = c.args.registry.now in let v = view_by t in let s = c.args.step.now in let is = c.requires.step in
+    c.inlets-own.ensures ∙ is.inlets
+    ∙ sym (plain-looked v s.id (λ b. length (frames_at t b)) (chooses-by v s.id s.kind is.kind ∙ sym c.chooses.ensures ∙ c.if-chooses.false))

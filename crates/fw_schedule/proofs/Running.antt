@@ -1,15 +1,16 @@
 -- When a component runs, and how many frames it may move then.
-use Rattle.std.proofs.Common.{◌≡◌, refl, sym, ap, ◌∙◌, ℕ, zero, suc, ◌*◌, ◌/◌, ◌%◌, ◌<◌, ◌≤◌, List, [], ◌∷◌, length, map, get_or, Bool, true, false, cond, inl, inr, ◌==◌, ◌&&◌, Option, Some, None, option_map, arith}
-use Rattle.std.proofs.lemmas.Bool.{true≢false, and_parts, and_from, false_from_ne_true, leb-true}
+use Rattle.std.proofs.Common.{◌≡◌, refl, sym, ap, ◌∙◌, subst, ℕ, ◌*◌, ◌/◌, ◌%◌, ◌≤◌, List, [], ◌∷◌, Bool, true, false, cond, ◌==◌, ◌&&◌, Option, Some, None, option_map, arith}
+use Rattle.std.proofs.lemmas.Bool.{true≢false, and_parts, leb-true, eqb-true}
 use Rattle.std.proofs.Math.Nat.{mul-le-mul_right}
-use Rattle.std.specs.Prelude.{find, option_and_then, slice_index, nat_le}
+use Rattle.std.specs.Prelude.{find, option_and_then, nat_le}
 use Rattle.std.specs.Option.{option_map_or}
 use Rattle.std.specs.List.{AllByRecursion}
 use Rattle.sof_base.specs.declared.format.Format.{Format}
 use Rattle.sof_base.specs.declared.format.Params.{Params}
 use Rattle.sof_base.specs.Samples.{width}
-use Rattle.row_laws.specs.Wired.{IsWired}
+use Rattle.row_laws.specs.Wired.{IsWired, IsLinked}
 use Rattle.fw_schedule.proofs.Parts.{width-most}
+use Rattle.stream_law.specs.declared.graph.Kind.{Kind}
 use Rattle.stream_law.specs.declared.graph.Comp.{Comp}
 use Rattle.stream_law.specs.declared.graph.Pipe.{Pipe}
 use Rattle.stream_law.specs.declared.graph.Graph.{Graph}
@@ -17,17 +18,11 @@ use Rattle.stream_law.specs.declared.stream.StreamView.{StreamView}
 use Rattle.stream_law.specs.State.{View}
 use Rattle.stream_law.specs.Ways.{comp_of, pipe_of, live, active, live_params, channels_of, rate_of, on_way, is_live_phase}
 use Rattle.stream_law.specs.Moves.{period, runs, quota}
-use Rattle.stream_law.proofs.Members.{IsIn}
+use Rattle.stream_law.proofs.Members.{find-in}
 use Rattle.row_laws.specs.Played.{IsPlayable, IsSet, IsSetBy, is_idle}
 use Rattle.row_laws.proofs.Stays.{all-of, find-some, find-any, live-idle}
-use Rattle.row_laws.proofs.Playing.{active-live, comp-at, active-period}
+use Rattle.row_laws.proofs.Playing.{active-period}
 use Rattle.ipc3_codec.specs.Allowed.{is_period}
-use Rattle.fw_components.specs.declared.component.Component.{Component}
-use Rattle.fw_components.specs.Tables.{Tables, graph_of, view_by, comp_by, pipe_by, period_by}
-use Rattle.fw_walks.proofs.Naming.{find-map}
-use Rattle.fw_schedule.specs.declared.dues.Due.{Due}
-use Rattle.fw_schedule.specs.Ticks.{CanTick}
-use Rattle.fw_schedule.specs.Dues.{IsDue}
 
 -- ---- bounds of streams and pipelines
 
@@ -110,77 +105,24 @@ bytes-most q channels format few wide =
     let all : q * (channels * width format) ≤ 1920 * (channels * width format) = mul-le-mul_right (channels * width format) few in
     omega (arith, all, frame)
 
--- ---- the component at a place
+-- ---- the component of an id
 
-pub id-at : (cs : List Component) (i : ℕ) (d : Component) → i < length cs → slice_index (map (λ (x : Comp). x.id) (map comp_by cs)) i ≡ (get_or cs i d).id
-id-at [] i d lt = absurd (omega (arith, lt))
-id-at (x ∷ xs) zero d lt = refl
-id-at (x ∷ xs) (suc i) d lt = id-at xs i d (omega (arith, lt))
-
-pub in-shown : (cs : List Component) (i : ℕ) (d : Component) → i < length cs → IsIn (comp_by (get_or cs i d)) (map comp_by cs)
-in-shown [] i d lt = absurd (omega (arith, lt))
-in-shown (x ∷ xs) zero d lt = inl refl
-in-shown (x ∷ xs) (suc i) d lt = inr (in-shown xs i d (omega (arith, lt)))
-
-module _ (t : Tables) (can : CanTick t) (k : ℕ) (d : Component) (low : k < length t.comps) where
-  abbrev c : Component
-  c = get_or t.comps k d
-
-  abbrev v : View
-  v = view_by t
-
-  pub comp-is : comp_of (graph_of t) c.id ≡ Some (comp_by c)
-  comp-is = comp-at v can.wired can.linked can.played (comp_by c) (in-shown t.comps k d low)
-
-  -- the period of its pipeline, in ticks
-  pub period-is : option_map_or (λ p. period_by p.unit) (find (λ p. p.pipe == c.pipe) t.pipes) 0 / 1000 ≡ period v c.id
-  period-is =
-      ap (λ n. n / 1000) (by (find (λ p. p.pipe == c.pipe) t.pipes) ∙ ap (λ (o : Option Pipe). option_map_or (λ p. p.period) o 0) (sym (find-map (λ (p : Pipe). p.index == c.pipe) pipe_by t.pipes)))
-      ∙ sym (ap (λ (o : Option Comp). option_map_or (λ x. option_map_or (λ p. p.period) (pipe_of (graph_of t) x.pipe) 0) o 0 / 1000) comp-is)
+module _ (v : View) (wired : IsWired v.graph) (linked : IsLinked v.graph) (played : IsPlayable v) (id : ℕ) (kind : Kind) (is : option_map (λ x. x.kind) (comp_of v.graph id) ≡ Some kind) where
+  -- one that is Active has a pipeline with a period
+  pub period-some : active v id ≡ true → 1 ≤ period v id
+  period-some now = by (comp_of v.graph id) refl is
     where
-      by : (o : Option Component) → option_map_or (λ p. period_by p.unit) o 0 ≡ option_map_or (λ p. p.period) (option_map pipe_by o) 0
-      by None = refl
-      by (Some p) = refl
+      by : (o : Option Comp) → comp_of v.graph id ≡ o → option_map (λ x. x.kind) o ≡ Some kind → 1 ≤ period v id
+      by None found e = absurd (cc e)
+      by (Some x) found e =
+          let at = find-in (λ (x : Comp). x.id == id) v.graph.comps x found in
+          let same : x.id ≡ id = eqb-true x.id id at.1 in
+          subst (λ n. 1 ≤ period v n) same (active-period v wired linked played wired.periods x at.0 (ap (active v) same ∙ now))
 
-  pub period-few : period v c.id ≤ 10
-  period-few = period-most (graph_of t) c.id can.wired.periods
-
-  pub period-some : active v c.id ≡ true → 1 ≤ period v c.id
-  period-some now = active-period v can.wired can.linked can.played can.wired.periods (comp_by c) (in-shown t.comps k d low) now
-
-  pub live-now : active v c.id ≡ true → live v c.id ≡ true
-  live-now now = active-live v can.wired can.linked can.played c.id now
-
-  -- one that is not Active does not run
-  pub idle-not : (clock : ℕ) → active v c.id ≡ false → runs v clock c.id ≡ false
-  unfolding runs
-  idle-not clock idle = ap (λ h. h && clock % period v c.id == 0) idle
-
-  -- nor does one without parameters
-  pub bare-not : (clock : ℕ) → live_params v c.id ≡ None → runs v clock c.id ≡ false
-  bare-not clock none = idle-not clock (false_from_ne_true (active v c.id) (λ now. let p = params-are v can.played c.id (live-now now) in no (sym none ∙ p.1)))
-    where
-      no : {p : Params} → None ≡ Some p → ⊥
-      no e = cc
-
-  pub untimely-not : (clock : ℕ) → (clock % period v c.id == 0) ≡ false → runs v clock c.id ≡ false
-  unfolding runs
-  untimely-not clock off = by (active v c.id) (clock % period v c.id == 0) off
-    where
-      by : (h k : Bool) → k ≡ false → (h && k) ≡ false
-      by true k e = e
-      by false k e = refl
-
-  pub due-is : (clock : ℕ) (p : Params) (due : Due) → active v c.id ≡ true → live_params v c.id ≡ Some p → (clock % period v c.id == 0) ≡ true → due.id ≡ c.id → due.channels ≡ p.channels → due.quota ≡ period v c.id * p.rate / 1000 → IsDue v clock c.id (Some due)
-  unfolding runs quota channels_of rate_of
-  due-is clock p due now has on id channels quota = (
-    and_from (active v c.id) (clock % period v c.id == 0) now on,
-    id,
-    channels ∙ ap (λ (o : Option Params). option_map_or (λ p. p.channels) o 0) (sym has),
-    quota ∙ ap (λ (o : Option Params). period v c.id * option_map_or (λ p. p.rate) o 0 / 1000) (sym has),
-  )
-
--- ---- what is due
+-- whether it runs, by what a step says
+pub runs-is : (v : View) (clock id n : ℕ) (on : Bool) → on ≡ active v id → n ≡ period v id → (on && clock % n == 0) ≡ runs v clock id
+unfolding runs
+runs-is v clock id n on now is = λ i. now i && clock % is i == 0
 
 -- a component that runs is Active
 pub runs-active : (v : View) (clock c : ℕ) → runs v clock c ≡ true → active v c ≡ true

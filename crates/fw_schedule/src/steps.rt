@@ -1,0 +1,58 @@
+// What each component does at a tick.
+ghost use Rattle.std.specs.Prelude.{◌≡◌, ◌≤◌, ◌%◌, ◌==◌, ◌&&◌, true, length, slice_range};
+
+use sof_base::Format;
+use stream_law::Kind;
+
+/// A component that moves: its id and kind, the format of its samples where it is an endpoint, whether it is Active, how many
+/// channels it moves, the period of its pipeline in ticks, the most frames that it moves at a tick, the buffer that it feeds, and
+/// where the ids of its inlets begin and end among those of all.
+#[derive(Clone, Copy)]
+pub(crate) struct Step {
+    pub(crate) id: u32,
+    pub(crate) kind: Kind,
+    pub(crate) format: Format,
+    pub(crate) active: bool,
+    pub(crate) channels: u8,
+    pub(crate) period: u32,
+    pub(crate) quota: u32,
+    pub(crate) fed: Option<u32>,
+    pub(crate) first: usize,
+    pub(crate) past: usize,
+}
+
+impl Step {
+    /// Whether it runs at this clock.
+    pub(crate) fn runs(&self, clock: u32) -> bool
+        requires { self.now.active ≡ true → 1 ≤ self.now.period }
+        ensures { result ≡ (self.now.active && clock % self.now.period == 0) }
+    {
+        self.active && clock % self.period == 0
+    }
+
+    /// Its inlets, of those of all.
+    pub(crate) fn inlets<'a>(&self, all: &'a [u32]) -> &'a [u32]
+        requires { (self.now.first ≤ self.now.past) × (self.now.past ≤ length all.now) }
+        ensures { result.now ≡ slice_range all.now self.now.first self.now.past }
+    {
+        &all[self.first..self.past]
+    }
+}
+
+impl Default for Step {
+    /// One that does nothing.
+    fn default() -> Step {
+        Step {
+            id: 0,
+            kind: Kind::Mixer,
+            format: Format::S32,
+            active: false,
+            channels: 0,
+            period: 0,
+            quota: 0,
+            fed: None,
+            first: 0,
+            past: 0,
+        }
+    }
+}

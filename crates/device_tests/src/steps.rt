@@ -70,6 +70,35 @@ pub(crate) fn silent(times: u8, output: u32) -> Step {
     }
 }
 
+/// The greatest heap of a device here, in bytes: 128 components or buffers of the least size fit.
+const ROOM: u32 = 16384;
+
+/// Which of these messages is answered first with another error than stands in the front beside it, on a device with a heap of so
+/// many bytes that has done the messages of a state.
+pub(crate) fn answers(
+    alloc: Global,
+    heap: u32,
+    state: &[Message],
+    rows: &[(Message, [u8; 12])],
+) -> Result<Option<usize>, Fail>
+    requires { heap ≤ 16384 }
+{
+    let mut firmware = Firmware::new(alloc, ROOM)?;
+    firmware.boot(heap);
+    for message in state {
+        if front_of(&reply(alloc, &mut firmware, message)?) != DONE {
+            Err("no such state")?;
+        }
+    }
+    for (place, (message, front)) in rows.iter().enumerate() {
+        let said = front_of(&reply(alloc, &mut firmware, message)?);
+        if said[8..] != front[8..] {
+            return Ok(Some(place));
+        }
+    }
+    Ok(None)
+}
+
 /// Which of the steps comes to something else first, on a device with a heap of so many bytes that has done the messages of a
 /// graph.
 pub(crate) fn play(

@@ -3,3 +3,4 @@ pub mod Rooms
 pub mod Steps
 pub mod FateLaws
 pub mod LinkCalls
+pub mod PartRows

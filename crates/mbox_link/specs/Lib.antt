@@ -1,3 +1,4 @@
+pub mod BlobParts
 pub mod Step
 pub mod Exchange
 pub mod Calls

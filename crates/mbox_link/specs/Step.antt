@@ -1,11 +1,14 @@
 -- The firmware's step for a message: one row for each, its tests in the order -19, -16, -22, -12.
-use Rattle.std.specs.Prelude.{ℕ, ◌+◌, ◌&&◌, ◌||◌, Bool, true, false, not, List, [], ◌∷◌, map, length, replicate, filter, Option, Some, None, Result, Ok, Err, ℤ, pos, negsuc, find, nat_le, is_some, option_map, option_and_then, ◌==◌, if◌then◌else◌}
+use Rattle.std.specs.Prelude.{ℕ, ◌+◌, ◌&&◌, ◌||◌, Bool, true, false, not, List, [], ◌∷◌, ◌++◌, map, length, take, replicate, filter, Option, Some, None, Result, Ok, Err, ℤ, pos, negsuc, find, nat_le, nat_lt, is_some, option_map, option_and_then, ◌==◌, if◌then◌else◌}
 use Rattle.std.specs.List.{list_any, list_all}
 use Rattle.std.specs.Option.{option_map_or}
+use Rattle.std.specs.Str.{bytes_eq}
 use Rattle.sof_base.specs.declared.format.Format.{Format}
 use Rattle.sof_base.specs.declared.format.Format.TheVariants.{S16, S24, S32}
 use Rattle.sof_base.specs.declared.hole.Hole.{Hole}
 pub use Rattle.sof_base.specs.Rates.{is_rate}
+use Rattle.sof_base.specs.declared.part.Part.{Part}
+use Rattle.sof_base.specs.BlobFaults.{is_blob}
 use Rattle.sof_base.specs.Holes.{rounded, usable_of, fresh_holes, fits, first_fit, carved, given}
 use Rattle.stream_law.specs.declared.graph.Kind.{Kind}
 use Rattle.stream_law.specs.declared.graph.Kind.TheVariants.{HostPlay, HostCapture, DaiPlay, DaiCapture, Volume, Mixer, Mux, Eq}
@@ -20,10 +23,10 @@ use Rattle.stream_law.specs.declared.stream.StreamView.{StreamView}
 use Rattle.sof_base.specs.declared.format.Params.{Params}
 use Rattle.stream_law.specs.declared.stream.Phase.{Phase}
 use Rattle.stream_law.specs.declared.stream.Phase.TheVariants.{Idle, Prepared, Running, Paused}
-use Rattle.stream_law.specs.State.{FwState, HeapView, PieceView, View}
+use Rattle.stream_law.specs.State.{FwState, HeapView, PieceView, Staging, View}
 use Rattle.stream_law.specs.Ways.{comp_of, edge_of, source_of, sink_of, ins, outs, on_way, agree}
 use Rattle.stream_law.specs.Placed.{placed}
-use Rattle.stream_law.specs.Seen.{seen}
+use Rattle.stream_law.specs.Seen.{seen, is_equaliser}
 use Rattle.stream_law.specs.Joins.{kind_ins, kind_outs, fits_kind, would_cycle, would_reach, would_grow, with_join}
 use Rattle.ipc3_codec.specs.declared.message.Message.{Message}
 use Rattle.ipc3_codec.specs.declared.message.Message.TheVariants as messages
@@ -34,6 +37,7 @@ use Rattle.ipc3_codec.specs.declared.reply.Body.TheVariants as bodies
 use Rattle.ipc3_codec.specs.declared.fault.CodecFault.{CodecFault}
 use Rattle.ipc3_codec.specs.Messages.{decoded}
 use Rattle.ipc3_codec.specs.Replies.{reply_spelling}
+use Rattle.mbox_link.specs.BlobParts.{parts, part_of}
 
 -- ---- error numbers
 
@@ -200,6 +204,10 @@ is_joined g source sink =
 abbrev pub kind_at : Graph → ℕ → Option Kind
 kind_at g id = option_map (λ c. c.kind) (comp_of g id)
 
+abbrev pub has_kind : (Kind → Bool) → Option Kind → Bool
+has_kind test None = false
+has_kind test (Some kind) = test kind
+
 abbrev pub has_free_out : Graph → ℕ → Option Kind → Bool
 has_free_out g id None = false
 has_free_out g id (Some kind) = nat_le (length (outs g id) + 1) (kind_outs kind)
@@ -357,10 +365,74 @@ get_value f id command =
     else if not (is_some (values_at f.graph id command)) then Err invalid
     else Ok f
 
--- ---- SET_DATA and GET_DATA: no equaliser takes or gives a blob so far
+-- ---- SET_DATA and GET_DATA: a blob comes in parts, each with the header and at most 260 bytes of those behind it
 
-abbrev pub data_part : FwState → ℕ → Result FwState ℤ
-data_part f id = if is_used f.graph id then Err invalid else Err no_device
+-- what is staged at an equaliser
+abbrev pub staging_at : FwState → ℕ → Option Staging
+staging_at f id = find (λ s. s.eq == id) f.staging
+
+-- how many bytes come with a part and behind it
+abbrev pub bytes_left : Part → ℕ
+bytes_left part = length part.bytes + part.remaining
+
+-- a part is the next one of what is staged: its number, its header, and what remains
+abbrev pub is_next : Part → Staging → Bool
+is_next part s = part.index == s.next && bytes_eq part.header (take 32 s.bytes) && bytes_left part == s.remaining
+
+-- part 0 begins anew, with at most 992 bytes in all, and any other part is the next one; all but the last carry 260 bytes
+abbrev pub keeps_order : Option Staging → Part → Bool
+keeps_order staged part =
+    (if part.index == 0 then nat_le (bytes_left part) 992 else option_map_or (is_next part) staged false)
+    && (part.remaining == 0 || length part.bytes == 260)
+
+-- what is staged once a part has come: part 0 begins with its header, and any other is joined to those before it
+abbrev pub staged_bytes : Option Staging → Part → List ℕ
+staged_bytes staged part =
+    if part.index == 0 then part.header ++ part.bytes else option_map_or (λ s. s.bytes) staged [] ++ part.bytes
+
+abbrev pub unstaged : ℕ → List Staging → List Staging
+unstaged id staging = filter (λ s. not (s.eq == id)) staging
+
+-- bytes are staged, and more are to come
+abbrev pub with_staged : ℕ → List ℕ → Part → FwState → FwState
+with_staged id bytes part f = record f {
+  staging = placed (λ s. s.eq) (record { eq = id; bytes = bytes; next = part.index + 1; remaining = part.remaining }) (unstaged id f.staging);
+}
+
+-- a blob is in force, an epoch begins with it, and nothing is staged
+abbrev pub with_blob_at : FwState → ℕ → List ℕ → View
+with_blob_at f id bytes = record { graph = with_comps (map (with_setting id (Blob bytes)) f.graph.comps) f.graph; streams = f.streams }
+
+abbrev pub blob_installed : ℕ → List ℕ → FwState → FwState
+blob_installed id bytes f = record (seen (with_blob_at f id bytes) (Some id) f) { staging = unstaged id f.staging }
+
+-- a part is staged with those before it; with the last one they have to be a blob
+abbrev pub part_staged : FwState → ℕ → List ℕ → Part → Result FwState ℤ
+part_staged f id bytes part =
+    if not (part.remaining == 0) then Ok (with_staged id bytes part f)
+    else if not (is_blob bytes) then Err invalid
+    else Ok (blob_installed id bytes f)
+
+abbrev pub set_data : FwState → ℕ → Part → Result FwState ℤ
+set_data f id part =
+    if not (is_used f.graph id) then Err no_device
+    else if not (has_kind is_equaliser (kind_at f.graph id)) || not (keeps_order (staging_at f id) part) then Err invalid
+    else part_staged f id (staged_bytes (staging_at f id) part) part
+
+-- the part of this number of the blob in force
+abbrev pub part_by : Kind → Setting → ℕ → Option Part
+part_by Eq (Blob blob) index = if nat_lt index (parts blob) then Some (part_of blob index) else None
+part_by kind setting index = None
+
+abbrev pub part_at : Graph → ℕ → ℕ → Option Part
+part_at g id index = option_and_then (λ c. part_by c.kind c.setting index) (comp_of g id)
+
+-- the state stays, and the reply carries the part
+abbrev pub get_data : FwState → ℕ → ℕ → Result FwState ℤ
+get_data f id index =
+    if not (is_used f.graph id) then Err no_device
+    else if not (is_some (part_at f.graph id index)) then Err invalid
+    else Ok f
 
 -- ---- PCM_PARAMS
 
@@ -404,10 +476,6 @@ set_stream host phase params s = if s.host == host then record { host = s.host; 
 
 abbrev pub with_params : FwState → ℕ → Params → View
 with_params f host p = record { graph = f.graph; streams = map (set_stream host Prepared (Some p)) f.streams }
-
-abbrev pub has_kind : (Kind → Bool) → Option Kind → Bool
-has_kind test None = false
-has_kind test (Some kind) = test kind
 
 abbrev pub has_phase : (Phase → Bool) → Option Phase → Bool
 has_phase test None = false
@@ -464,8 +532,8 @@ row f (messages.Connect source sink) = connect f source sink
 row f (messages.PipeComplete id) = pipe_complete f id
 row f (messages.SetValue id command values) = set_value f id command values
 row f (messages.GetValue id command) = get_value f id command
-row f (messages.SetData id part) = data_part f id
-row f (messages.GetData id index) = data_part f id
+row f (messages.SetData id part) = set_data f id part
+row f (messages.GetData id index) = get_data f id index
 row f (messages.PcmParams host direction params) = pcm_params f host direction params
 row f (messages.PcmFree id) = pcm_free f id
 row f (messages.TrigStart id) = trigger f id is_prepared Running
@@ -474,13 +542,18 @@ row f (messages.TrigPause id) = trigger f id is_running Paused
 row f (messages.TrigRelease id) = trigger f id is_paused Running
 row f messages.CtxSave = Ok f
 
--- the body of the reply to a message that is done: the values that were asked for
+-- the body of the reply to a message that is done: the values, or the part, that were asked for
 abbrev pub values_body : Option (List ℕ) → Body
 values_body None = bodies.Nothing
 values_body (Some values) = bodies.Values values
 
+abbrev pub part_body : Option Part → Body
+part_body None = bodies.Nothing
+part_body (Some part) = bodies.Part part
+
 abbrev pub body : FwState → Message → Body
 body f (messages.GetValue id command) = values_body (values_at f.graph id command)
+body f (messages.GetData id index) = part_body (part_at f.graph id index)
 body f m = bodies.Nothing
 
 -- bytes that are no message are answered -22

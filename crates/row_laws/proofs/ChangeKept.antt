@@ -81,9 +81,9 @@ module _ (f : FwState) (kept : IsKept f) where
       staging = staged-all f.graph joined_view.graph f.staging (λ n. refl) kept.staging;
     }
 
-  -- ---- a setting of what is no equaliser
+  -- ---- a setting
 
-  module _ (id : ℕ) (setting : Setting) (other : option_map_or (λ x. is_equaliser x.kind) (comp_of f.graph id) false ≡ false) (fits : (c : Comp) → comp_of f.graph id ≡ Some c → IsSettingOf c.kind setting) where
+  module _ (id : ℕ) (setting : Setting) where
     abbrev set_view : View
     set_view = record { graph = with_comps (map (with_setting id setting) f.graph.comps) f.graph; streams = f.streams }
 
@@ -93,45 +93,47 @@ module _ (f : FwState) (kept : IsKept f) where
     pub set-flows : (b : ℕ) → flows set_view b ≡ flows view b
     set-flows b = same-streams (λ ss. flows (record { graph = set_view.graph; streams = ss }) b ≡ flows view b) (flows-same f.graph set_view.graph (λ s. true) f.streams kept.played (bare-set id setting f.graph f.streams) (ways-set id setting f.graph f.streams) b refl refl)
 
-    set-live : (x : ℕ) → live set_view x ≡ live view x
+    pub set-live : (x : ℕ) → live set_view x ≡ live view x
     set-live x = same-streams (λ ss. live (record { graph = set_view.graph; streams = ss }) x ≡ live view x) (live-same f.graph set_view.graph (λ s. true) f.streams kept.played (bare-set id setting f.graph f.streams) (ways-set id setting f.graph f.streams) x)
 
     pub set-channels : (x : ℕ) → channels_of set_view x ≡ channels_of view x
     set-channels x = same-streams (λ ss. channels_of (record { graph = set_view.graph; streams = ss }) x ≡ channels_of view x) (channels-same f.graph set_view.graph (λ s. true) f.streams kept.played (bare-set id setting f.graph f.streams) (ways-set id setting f.graph f.streams) x)
 
-    set-played : IsPlayable set_view
+    pub set-played : IsPlayable set_view
     set-played = same-streams (λ ss. IsPlayable (record { graph = set_view.graph; streams = ss })) (played-same f.graph set_view.graph (λ s. true) f.streams kept.played (bare-set id setting f.graph f.streams) (ways-set id setting f.graph f.streams) (nodes-set id setting f.graph) (owned-set id setting f.graph f.streams kept.played.owned) (readies-set id setting f.graph f.streams kept.played.each))
 
-    -- an equaliser keeps its blob
-    set-held : (n : ℕ) → IsIn n (filter (equalises view) (components f.graph)) → numbers_held set_view n ≡ numbers_held view n
-    set-held n there = held-same view set_view n (ap (λ o. option_map_or (λ x. blob x.setting) o []) (by (n == id) refl)) (set-channels n)
-      where
-        is : option_map_or (λ x. is_equaliser x.kind) (comp_of f.graph n) false ≡ true
-        is = (and_parts (live view n) (option_map_or (λ x. is_equaliser x.kind) (comp_of f.graph n) false) (kept-in (equalises view) (components f.graph) n there).1).1
+    -- of what is no equaliser
+    module _ (other : option_map_or (λ x. is_equaliser x.kind) (comp_of f.graph id) false ≡ false) (fits : (c : Comp) → comp_of f.graph id ≡ Some c → IsSettingOf c.kind setting) where
+      -- an equaliser keeps its blob
+      set-held : (n : ℕ) → IsIn n (filter (equalises view) (components f.graph)) → numbers_held set_view n ≡ numbers_held view n
+      set-held n there = held-same view set_view n (ap (λ o. option_map_or (λ x. blob x.setting) o []) (by (n == id) refl)) (set-channels n)
+        where
+          is : option_map_or (λ x. is_equaliser x.kind) (comp_of f.graph n) false ≡ true
+          is = (and_parts (live view n) (option_map_or (λ x. is_equaliser x.kind) (comp_of f.graph n) false) (kept-in (equalises view) (components f.graph) n there).1).1
 
-        by : (h : Bool) → (n == id) ≡ h → comp_of set_view.graph n ≡ comp_of f.graph n
-        by true e = absurd (true≢false (sym is ∙ ap (λ m. option_map_or (λ x. is_equaliser x.kind) (comp_of f.graph m) false) (eqb-true n id e) ∙ other))
-        by false e = find-apart id setting n e f.graph.comps
+          by : (h : Bool) → (n == id) ≡ h → comp_of set_view.graph n ≡ comp_of f.graph n
+          by true e = absurd (true≢false (sym is ∙ ap (λ m. option_map_or (λ x. is_equaliser x.kind) (comp_of f.graph m) false) (eqb-true n id e) ∙ other))
+          by false e = find-apart id setting n e f.graph.comps
 
-    pub kept-setting : IsKept (record f { graph = with_comps (map (with_setting id setting) f.graph.comps) f.graph })
-    kept-setting = record {
-      comps = omega (arith, kept.comps, length-map f.graph.comps (with_setting id setting));
-      edges = kept.edges;
-      pipes = kept.pipes;
-      joins = kept.joins;
-      streams = omega (arith, kept.streams, length-map f.graph.comps (with_setting id setting));
-      ascending = record { comps = ascends-keys (λ (c : Comp). c.id) (λ (c : Comp). c.id) f.graph.comps (map (with_setting id setting) f.graph.comps) (sym (ids-set id setting f.graph.comps)) kept.ascending.comps; edges = kept.ascending.edges; pipes = kept.ascending.pipes; streams = kept.ascending.streams; pieces = kept.ascending.pieces; staging = kept.ascending.staging };
-      indices = kept.indices;
-      sizes = kept.sizes;
-      settings = all-set id setting f.graph.comps kept.wired.ids fits kept.settings;
-      pieces = pieces-set id setting f.graph f.heap (length-map f.graph.comps (with_setting id setting)) kept.pieces;
-      tiled = kept.tiled;
-      wired = wired-set id setting f.graph kept.wired;
-      linked = linked-set id setting f.graph kept.linked;
-      played = set-played;
-      rings = kept.rings;
-      seen = seen-same view set_view f.rings (each-key (λ (r : RingView). r.buffer) set-flows f.rings) kept.seen;
-      histories = histories-by view set_view f.histories (equalisers-set id setting view set_view refl set-live)
-          (in-each (λ n. numbers_held set_view n ≡ numbers_held view n) (filter (equalises view) (components f.graph)) set-held) kept.histories;
-      staging = staged-all f.graph set_view.graph f.staging (kind-set id setting f.graph) kept.staging;
-    }
+      pub kept-setting : IsKept (record f { graph = with_comps (map (with_setting id setting) f.graph.comps) f.graph })
+      kept-setting = record {
+        comps = omega (arith, kept.comps, length-map f.graph.comps (with_setting id setting));
+        edges = kept.edges;
+        pipes = kept.pipes;
+        joins = kept.joins;
+        streams = omega (arith, kept.streams, length-map f.graph.comps (with_setting id setting));
+        ascending = record { comps = ascends-keys (λ (c : Comp). c.id) (λ (c : Comp). c.id) f.graph.comps (map (with_setting id setting) f.graph.comps) (sym (ids-set id setting f.graph.comps)) kept.ascending.comps; edges = kept.ascending.edges; pipes = kept.ascending.pipes; streams = kept.ascending.streams; pieces = kept.ascending.pieces; staging = kept.ascending.staging };
+        indices = kept.indices;
+        sizes = kept.sizes;
+        settings = all-set id setting f.graph.comps kept.wired.ids fits kept.settings;
+        pieces = pieces-set id setting f.graph f.heap (length-map f.graph.comps (with_setting id setting)) kept.pieces;
+        tiled = kept.tiled;
+        wired = wired-set id setting f.graph kept.wired;
+        linked = linked-set id setting f.graph kept.linked;
+        played = set-played;
+        rings = kept.rings;
+        seen = seen-same view set_view f.rings (each-key (λ (r : RingView). r.buffer) set-flows f.rings) kept.seen;
+        histories = histories-by view set_view f.histories (equalisers-set id setting view set_view refl set-live)
+            (in-each (λ n. numbers_held set_view n ≡ numbers_held view n) (filter (equalises view) (components f.graph)) set-held) kept.histories;
+        staging = staged-all f.graph set_view.graph f.staging (kind-set id setting f.graph) kept.staging;
+      }

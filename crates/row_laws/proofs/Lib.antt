@@ -20,6 +20,8 @@ pub mod Linking
 pub mod Longer
 pub mod Near
 pub mod NewKept
+pub mod PartBytes
+pub mod PartKept
 pub mod Pieced
 pub mod Playing
 pub mod RingViews

@@ -1,10 +1,14 @@
 -- A row that is done keeps what every state keeps.
-use Rattle.std.proofs.Common.{◌≡◌, refl, sym, ap, ◌∙◌, subst, ℕ, ◌≤◌, List, [], ◌∷◌, map, length, Option, Some, None, Bool, true, false, cond, not, ◌==◌, ◌&&◌, ◌||◌, Result, Ok, Err, ℤ}
+use Rattle.std.proofs.Common.{◌≡◌, refl, sym, ap, ◌∙◌, subst, ℕ, ◌+◌, ◌≤◌, List, [], ◌∷◌, map, length, Option, Some, None, Bool, true, false, cond, not, ◌==◌, ◌&&◌, ◌||◌, Result, Ok, Err, ℤ}
 use Rattle.std.proofs.lemmas.Bool.{true≢false, and_parts, or_parts, leb-true, leb-false}
-use Rattle.std.specs.Prelude.{nat_le, find, is_some, option_and_then}
+use Rattle.std.specs.Prelude.{nat_le, find, is_some, is_none, option_and_then}
 use Rattle.std.specs.Option.{option_map_or}
 use Rattle.std.specs.List.{list_any}
 use Rattle.sof_base.specs.declared.format.Params.{Params}
+use Rattle.sof_base.specs.declared.part.Part.{Part}
+use Rattle.sof_base.specs.BlobFaults.{blob_fault, is_blob}
+use Rattle.sof_base.proofs.BlobLaws.{blob-from_no_fault}
+use Rattle.sof_base.proofs.FieldLaws.{IsBytes}
 use Rattle.stream_law.specs.declared.graph.Kind.{Kind}
 use Rattle.stream_law.specs.declared.graph.Kind.TheVariants.{HostPlay, HostCapture, DaiPlay, DaiCapture, Volume, Mixer, Mux, Eq}
 use Rattle.stream_law.specs.declared.graph.Setting.{Setting}
@@ -14,7 +18,7 @@ use Rattle.stream_law.specs.declared.graph.Join.{Join}
 use Rattle.stream_law.specs.declared.stream.Phase.{Phase}
 use Rattle.stream_law.specs.declared.stream.Phase.TheVariants.{Idle, Prepared, Running, Paused}
 use Rattle.stream_law.specs.declared.stream.StreamView.{StreamView}
-use Rattle.stream_law.specs.State.{FwState}
+use Rattle.stream_law.specs.State.{FwState, Staging}
 use Rattle.stream_law.specs.Ways.{comp_of, agree}
 use Rattle.stream_law.specs.Joins.{would_cycle, would_reach, would_grow, with_join}
 use Rattle.stream_law.specs.Seen.{is_equaliser, seen}
@@ -23,15 +27,19 @@ use Rattle.ipc3_codec.specs.declared.message.Message.{Message}
 use Rattle.ipc3_codec.specs.declared.message.Message.TheVariants as messages
 use Rattle.ipc3_codec.specs.declared.fault.CodecFault.{CodecFault}
 use Rattle.ipc3_codec.specs.Messages.{decoded, IsMessage, IsAllowed, Means}
-use Rattle.mbox_link.specs.Step.{row, row_of, body, body_of, replied, step, kind_of, first_setting, no_memory, busy, no_device, invalid, is_used, is_complete, has_index, has_comp, has_edge, has_hole, comp_bytes, buffer_bytes, pipe_bytes, with_comp, comp_new, with_buffer, buffer_new, with_pipe, pipe_new, with_pipes, completed, complete_pipe, pipe_complete, is_joined, takes_join, is_refused_join, connect, has_complete_pipe, touches, is_held, is_index_held, without_comp, comp_free, without_buffer, buffer_free, without_pipe, free_pipe, pipe_free, new_setting, with_comps, with_setting, value_set, set_value, values_at, get_value, data_part, has_kind, has_phase, is_host, goes, is_rate, is_way_ready, kind_at, phase_at, is_moving, is_prepared, is_running, is_paused, set_stream, set_phase, with_params, pcm_params, changed, pcm_free, trigger}
+use Rattle.mbox_link.specs.Step.{row, row_of, body, body_of, replied, step, kind_of, first_setting, no_memory, busy, no_device, invalid, is_used, is_complete, has_index, has_comp, has_edge, has_hole, comp_bytes, buffer_bytes, pipe_bytes, with_comp, comp_new, with_buffer, buffer_new, with_pipe, pipe_new, with_pipes, completed, complete_pipe, pipe_complete, is_joined, takes_join, is_refused_join, connect, has_complete_pipe, touches, is_held, is_index_held, without_comp, comp_free, without_buffer, buffer_free, without_pipe, free_pipe, pipe_free, new_setting, with_comps, with_setting, value_set, set_value, values_at, get_value, staging_at, keeps_order, staged_bytes, with_staged, blob_installed, part_staged, set_data, part_at, get_data, has_kind, has_phase, is_host, goes, is_rate, is_way_ready, kind_at, phase_at, is_moving, is_prepared, is_running, is_paused, set_stream, set_phase, with_params, pcm_params, changed, pcm_free, trigger}
 use Rattle.row_laws.specs.Played.{is_idle}
-use Rattle.row_laws.specs.Kept.{IsKept, IsSettingOf}
+use Rattle.row_laws.specs.Kept.{IsKept, IsSettingOf, IsStaged}
+use Rattle.row_laws.specs.RowLaws.{IsPart, HasBytes}
 use Rattle.row_laws.proofs.Fewer.{not-false}
 use Rattle.row_laws.proofs.Fitting.{first-fits, values-fit}
 use Rattle.row_laws.proofs.StreamLaws.{keeps-phase, played-phase, keeps-free, played-free, keeps-params, played-params, params-pass}
 use Rattle.row_laws.proofs.NewKept.{kept-comp, kept-buffer, kept-pipe, kept-complete}
 use Rattle.row_laws.proofs.FreeKept.{kept-comp_free, kept-buffer_free, kept-pipe_free}
 use Rattle.row_laws.proofs.ChangeKept.{kept-join, kept-setting}
+use Rattle.row_laws.proofs.PartBytes.{means-bytes}
+use Rattle.row_laws.proofs.PartKept.{kept-staged, kept-blob}
+use Rattle.row_laws.proofs.Stagings.{staged-found, staged-bytes, staged-more}
 use Rattle.row_laws.proofs.StreamsKept.{kept-streams}
 
 -- ---- tests
@@ -170,12 +178,38 @@ get_value-kept id command f g kept is =
     let used = pass (not (is_used f.graph id)) no_device (cond (not (is_some (values_at f.graph id command))) (Err invalid) (Ok f)) g is in
     done f g (pass (not (is_some (values_at f.graph id command))) invalid (Ok f) g used.1).1 kept
 
-pub data-kept : (id : ℕ) (f g : FwState) → IsKept f → data_part f id ≡ Ok g → IsKept g
-data-kept id f g kept is = by (is_used f.graph id) is
+-- a last part whose bytes are a blob
+none-of : {X : Type 0} (o : Option X) → is_none o ≡ true → o ≡ None
+none-of None is = refl
+none-of (Some x) is = absurd (true≢false (sym is))
+
+pub part_staged-kept : (id : ℕ) (part : Part) → IsPart part → (f g : FwState) → IsKept f → has_kind is_equaliser (kind_at f.graph id) ≡ true → keeps_order (staging_at f id) part ≡ true → part_staged f id (staged_bytes (staging_at f id) part) part ≡ Ok g → IsKept g
+part_staged-kept id part are f g kept equaliser order is = by (part.remaining == 0) refl is
   where
-    by : (h : Bool) → cond h (Err invalid) (Err no_device) ≡ Ok g → IsKept g
-    by true e = absurd (cc e)
-    by false e = absurd (cc e)
+    found : (s : Staging) → staging_at f id ≡ Some s → IsStaged f.graph s
+    found s is = staged-found f.graph id f.staging kept.staging s is
+
+    by : (h : Bool) → (part.remaining == 0) ≡ h → cond (not h) (Ok (with_staged id (staged_bytes (staging_at f id) part) part f)) (cond (not (is_blob (staged_bytes (staging_at f id) part))) (Err invalid) (Ok (blob_installed id (staged_bytes (staging_at f id) part) f))) ≡ Ok g → IsKept g
+    by true last e =
+        let whole = pass (not (is_blob (staged_bytes (staging_at f id) part))) invalid (Ok (blob_installed id (staged_bytes (staging_at f id) part) f)) g e in
+        done (blob_installed id (staged_bytes (staging_at f id) part) f) g whole.1
+        (kept-blob f kept id (staged_bytes (staging_at f id) part) equaliser
+        (blob-from_no_fault (staged_bytes (staging_at f id) part) (staged-bytes f.graph id part are (staging_at f id) found) (none-of (blob_fault (staged_bytes (staging_at f id) part)) (not-false (is_blob (staged_bytes (staging_at f id) part)) whole.0))))
+    by false more e = done (with_staged id (staged_bytes (staging_at f id) part) part f) g e (kept-staged f kept (record { eq = id; bytes = staged_bytes (staging_at f id) part; next = part.index + 1; remaining = part.remaining }) (staged-more f.graph id part are (staging_at f id) found equaliser order more))
+
+pub set_data-kept : (id : ℕ) (part : Part) → IsPart part → (f g : FwState) → IsKept f → set_data f id part ≡ Ok g → IsKept g
+set_data-kept id part are f g kept is =
+    let rest : Result FwState ℤ = part_staged f id (staged_bytes (staging_at f id) part) part in
+    let wrong : Bool = not (has_kind is_equaliser (kind_at f.graph id)) || not (keeps_order (staging_at f id) part) in
+    let used = pass (not (is_used f.graph id)) no_device (cond wrong (Err invalid) rest) g is in
+    let right = pass wrong invalid rest g used.1 in
+    let tests = or_parts (not (has_kind is_equaliser (kind_at f.graph id))) (not (keeps_order (staging_at f id) part)) right.0 in
+    part_staged-kept id part are f g kept (not-false (has_kind is_equaliser (kind_at f.graph id)) tests.0) (not-false (keeps_order (staging_at f id) part) tests.1) right.1
+
+pub get_data-kept : (id index : ℕ) (f g : FwState) → IsKept f → get_data f id index ≡ Ok g → IsKept g
+get_data-kept id index f g kept is =
+    let used = pass (not (is_used f.graph id)) no_device (cond (not (is_some (part_at f.graph id index))) (Err invalid) (Ok f)) g is in
+    done f g (pass (not (is_some (part_at f.graph id index))) invalid (Ok f) g used.1).1 kept
 
 -- ---- PCM_PARAMS, PCM_FREE and the triggers
 
@@ -242,36 +276,36 @@ leaves-paused Paused e = refl
 pub ctx_save-kept : (f g : FwState) → IsKept f → ◌≡◌ {A = Result FwState ℤ} (Ok f) (Ok g) → IsKept g
 ctx_save-kept f g kept is = done f g is kept
 
-pub row-kept : (m : Message) → IsAllowed m → (f g : FwState) → IsKept f → row f m ≡ Ok g → IsKept g
-row-kept (messages.CompNew id pipe periods_sink periods_source frame_fmt kind) allowed f g kept is = comp_new-kept id pipe (kind_of kind frame_fmt) (first_setting kind) (first-fits kind frame_fmt allowed) f g kept is
-row-kept (messages.CompFree id) allowed f g kept is = comp_free-kept id f g kept is
-row-kept (messages.BufferNew id pipe size caps) allowed f g kept is = buffer_new-kept id pipe size allowed f g kept is
-row-kept (messages.BufferFree id) allowed f g kept is = buffer_free-kept id f g kept is
-row-kept (messages.PipeNew id pipe sched period priority mips frames time_domain) allowed f g kept is = pipe_new-kept id pipe sched period allowed f g kept is
-row-kept (messages.PipeFree id) allowed f g kept is = pipe_free-kept id f g kept is
-row-kept (messages.Connect source sink) allowed f g kept is = connect-kept source sink f g kept is
-row-kept (messages.PipeComplete id) allowed f g kept is = pipe_complete-kept id f g kept is
-row-kept (messages.SetValue id command values) allowed f g kept is = set_value-kept id command values f g kept is
-row-kept (messages.GetValue id command) allowed f g kept is = get_value-kept id command f g kept is
-row-kept (messages.SetData id part) allowed f g kept is = data-kept id f g kept is
-row-kept (messages.GetData id index) allowed f g kept is = data-kept id f g kept is
-row-kept (messages.PcmParams host direction params) allowed f g kept is = pcm_params-kept host direction params allowed.1 f g kept is
-row-kept (messages.PcmFree id) allowed f g kept is = pcm_free-kept id f g kept is
-row-kept (messages.TrigStart id) allowed f g kept is = trigger-kept id is_prepared Running leaves-prepared refl f g kept is
-row-kept (messages.TrigStop id) allowed f g kept is = trigger-kept id is_moving Prepared leaves-moving refl f g kept is
-row-kept (messages.TrigPause id) allowed f g kept is = trigger-kept id is_running Paused leaves-running refl f g kept is
-row-kept (messages.TrigRelease id) allowed f g kept is = trigger-kept id is_paused Running leaves-paused refl f g kept is
-row-kept messages.CtxSave allowed f g kept is = ctx_save-kept f g kept is
+pub row-kept : (m : Message) → IsAllowed m → HasBytes m → (f g : FwState) → IsKept f → row f m ≡ Ok g → IsKept g
+row-kept (messages.CompNew id pipe periods_sink periods_source frame_fmt kind) allowed bytes f g kept is = comp_new-kept id pipe (kind_of kind frame_fmt) (first_setting kind) (first-fits kind frame_fmt allowed) f g kept is
+row-kept (messages.CompFree id) allowed bytes f g kept is = comp_free-kept id f g kept is
+row-kept (messages.BufferNew id pipe size caps) allowed bytes f g kept is = buffer_new-kept id pipe size allowed f g kept is
+row-kept (messages.BufferFree id) allowed bytes f g kept is = buffer_free-kept id f g kept is
+row-kept (messages.PipeNew id pipe sched period priority mips frames time_domain) allowed bytes f g kept is = pipe_new-kept id pipe sched period allowed f g kept is
+row-kept (messages.PipeFree id) allowed bytes f g kept is = pipe_free-kept id f g kept is
+row-kept (messages.Connect source sink) allowed bytes f g kept is = connect-kept source sink f g kept is
+row-kept (messages.PipeComplete id) allowed bytes f g kept is = pipe_complete-kept id f g kept is
+row-kept (messages.SetValue id command values) allowed bytes f g kept is = set_value-kept id command values f g kept is
+row-kept (messages.GetValue id command) allowed bytes f g kept is = get_value-kept id command f g kept is
+row-kept (messages.SetData id part) allowed bytes f g kept is = set_data-kept id part (record { long = allowed.0; header = bytes.0; bytes = bytes.1 }) f g kept is
+row-kept (messages.GetData id index) allowed bytes f g kept is = get_data-kept id index f g kept is
+row-kept (messages.PcmParams host direction params) allowed bytes f g kept is = pcm_params-kept host direction params allowed.1 f g kept is
+row-kept (messages.PcmFree id) allowed bytes f g kept is = pcm_free-kept id f g kept is
+row-kept (messages.TrigStart id) allowed bytes f g kept is = trigger-kept id is_prepared Running leaves-prepared refl f g kept is
+row-kept (messages.TrigStop id) allowed bytes f g kept is = trigger-kept id is_moving Prepared leaves-moving refl f g kept is
+row-kept (messages.TrigPause id) allowed bytes f g kept is = trigger-kept id is_running Paused leaves-running refl f g kept is
+row-kept (messages.TrigRelease id) allowed bytes f g kept is = trigger-kept id is_paused Running leaves-paused refl f g kept is
+row-kept messages.CtxSave allowed bytes f g kept is = ctx_save-kept f g kept is
 
 -- the step of bytes that are decoded to messages none of whose words is refused
-pub step-kept : (f : FwState) (request : List ℕ) → ((m : Message) → decoded request ≡ Ok m → IsMessage m × Means request m) → IsKept f → IsKept (step f request).0
+pub step-kept : (f : FwState) (request : List ℕ) → IsBytes request → ((m : Message) → decoded request ≡ Ok m → IsMessage m × Means request m) → IsKept f → IsKept (step f request).0
 unfolding step
-step-kept f request means kept = by (decoded request) refl
+step-kept f request bytes means kept = by (decoded request) refl
   where
-    after : (m : Message) → IsAllowed m → (o : Result FwState ℤ) → row f m ≡ o → IsKept (replied f (body f m) o).0
-    after m allowed (Ok g) is = row-kept m allowed f g kept is
-    after m allowed (Err e) is = kept
+    after : (m : Message) → IsAllowed m → HasBytes m → (o : Result FwState ℤ) → row f m ≡ o → IsKept (replied f (body f m) o).0
+    after m allowed carried (Ok g) is = row-kept m allowed carried f g kept is
+    after m allowed carried (Err e) is = kept
 
     by : (d : Result Message CodecFault) → decoded request ≡ d → IsKept (replied f (body_of f d) (row_of f d)).0
-    by (Ok m) is = after m (means m is).0.1 (row f m) refl
+    by (Ok m) is = after m (means m is).0.1 (means-bytes request m bytes (means m is).1) (row f m) refl
     by (Err fault) is = kept

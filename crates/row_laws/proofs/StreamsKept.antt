@@ -36,14 +36,19 @@ found-held v c (h ∷ hs) all there = by (h.comp == c) refl there (found-held v 
     by true e is rest = all.0 ∙ ap (numbers_held v) (eqb-true h.comp c e)
     by false e is rest = rest is
 
--- histories that are made anew for ids
-comps-seen : (f : FwState) (v : View) (ids : List ℕ) → map (λ (h : History). h.comp) (map (history_seen f v None) ids) ≡ ids
-comps-seen f v [] = refl
-comps-seen f v (c ∷ ids) = ap (λ (ns : List ℕ). c ∷ ns) (comps-seen f v ids)
+-- a Live equaliser has its numbers
+pub numbers-now : (f : FwState) → IsKept f → (c : ℕ) → is_among (components f.graph) c ≡ true → equalises (view_of f) c ≡ true → length (numbers_in f c) ≡ numbers_held (view_of f) c
+numbers-now f kept c there is = found-held (view_of f) c f.histories kept.histories.numbers
+    (ap (λ (ns : List ℕ). is_among ns c) kept.histories.comps ∙ is_among-filter (equalises (view_of f)) (components f.graph) c ∙ and_from (equalises (view_of f) c) (is_among (components f.graph) c) is there)
 
-all-seen : (f : FwState) (v : View) (ids : List ℕ) → AllByRecursion (λ c. length (history_seen f v None c).numbers ≡ numbers_held v c) ids → AllByRecursion (λ h. length h.numbers ≡ numbers_held v h.comp) (map (history_seen f v None) ids)
-all-seen f v [] all = tt
-all-seen f v (c ∷ ids) all = (all.0, all-seen f v ids all.1)
+-- histories that are made anew for ids
+pub comps-seen : (f : FwState) (v : View) (fresh : Option ℕ) (ids : List ℕ) → map (λ (h : History). h.comp) (map (history_seen f v fresh) ids) ≡ ids
+comps-seen f v fresh [] = refl
+comps-seen f v fresh (c ∷ ids) = ap (λ (ns : List ℕ). c ∷ ns) (comps-seen f v fresh ids)
+
+pub all-seen : (f : FwState) (v : View) (fresh : Option ℕ) (ids : List ℕ) → AllByRecursion (λ c. length (history_seen f v fresh c).numbers ≡ numbers_held v c) ids → AllByRecursion (λ h. length h.numbers ≡ numbers_held v h.comp) (map (history_seen f v fresh) ids)
+all-seen f v fresh [] all = tt
+all-seen f v fresh (c ∷ ids) all = (all.0, all-seen f v fresh ids all.1)
 
 module _ (f : FwState) (kept : IsKept f) (to : StreamView → StreamView) (keeps : KeepsLive to f.streams) (played : IsPlayable (record { graph = f.graph; streams = map to f.streams })) where
   abbrev old : View
@@ -55,12 +60,7 @@ module _ (f : FwState) (kept : IsKept f) (to : StreamView → StreamView) (keeps
   abbrev ids : List ℕ
   ids = filter (equalises new) (components f.graph)
 
-  -- a Live equaliser has its numbers
-  numbers-now : (c : ℕ) → is_among (components f.graph) c ≡ true → equalises old c ≡ true → length (numbers_in f c) ≡ numbers_held old c
-  numbers-now c there is = found-held old c f.histories kept.histories.numbers
-      (ap (λ (ns : List ℕ). is_among ns c) kept.histories.comps ∙ is_among-filter (equalises old) (components f.graph) c ∙ and_from (equalises old c) (is_among (components f.graph) c) is there)
-
-  -- and so it has in the new view
+  -- a Live equaliser has its numbers in the new view
   numbers-then : (c : ℕ) → IsIn c ids → length (history_seen f new None c).numbers ≡ numbers_held new c
   numbers-then c here = by (live old c) refl
     where
@@ -73,7 +73,7 @@ module _ (f : FwState) (kept : IsKept f) (to : StreamView → StreamView) (keeps
       by : (h : Bool) → live old c ≡ h → length (cond (goes_on old new None c) (numbers_in f c) (fresh_numbers (blob_in new c) (channels_of new c))) ≡ numbers_held new c
       by true e =
           ap (λ (p : Bool × Bool). length (cond ((p.0 && p.1) && true) (numbers_in f c) (fresh_numbers (blob_in new c) (channels_of new c)))) (λ i. (e i, is.0 i))
-          ∙ numbers-now c there (and_from (live old c) _ e is.1)
+          ∙ numbers-now f kept c there (and_from (live old c) _ e is.1)
           ∙ sym (held-same old new c refl (channels-stay f.graph f.streams to keeps kept.played played c (among-left (components f.graph) (buffers f.graph) c there) e is.0))
       by false e = ap (λ h. length (cond ((h && live new c) && true) (numbers_in f c) (fresh_numbers (blob_in new c) (channels_of new c)))) e
 
@@ -95,6 +95,6 @@ module _ (f : FwState) (kept : IsKept f) (to : StreamView → StreamView) (keeps
     played = played;
     rings = buffers-seen new f.rings ∙ kept.rings;
     seen = seen-twice new f.rings;
-    histories = record { comps = comps-seen f new ids; numbers = all-seen f new ids (in-each (λ c. length (history_seen f new None c).numbers ≡ numbers_held new c) ids numbers-then) };
+    histories = record { comps = comps-seen f new None ids; numbers = all-seen f new None ids (in-each (λ c. length (history_seen f new None c).numbers ≡ numbers_held new c) ids numbers-then) };
     staging = kept.staging;
   }

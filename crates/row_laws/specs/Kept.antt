@@ -1,5 +1,5 @@
 -- What is so of every state of a device that is on.
-use Rattle.std.specs.Prelude.{◌≡◌, ◌⊎◌, ℕ, ◌+◌, ◌*◌, ◌≤◌, List, [], map, length, filter, Bool, true, ◌==◌}
+use Rattle.std.specs.Prelude.{◌≡◌, ◌⊎◌, ℕ, ◌+◌, ◌*◌, ◌<◌, ◌≤◌, List, [], map, length, filter, Bool, true, ◌==◌, slice_index}
 use Rattle.std.specs.List.{list_any, AllByRecursion}
 use Rattle.sof_base.specs.Blob.{IsBlob}
 use Rattle.stream_law.specs.declared.graph.Kind.{Kind}
@@ -63,6 +63,7 @@ pub record IsStaged (g : Graph) (s : Staging) : Type 0 where
   pub equaliser : has_kind is_equaliser (kind_at g s.eq) ≡ true
   pub came : 1 ≤ s.next
   pub bytes : length s.bytes ≡ 32 + 260 * s.next
+  pub each : (i : ℕ) → slice_index s.bytes i < 256
   pub missing : 1 ≤ s.remaining
   pub within : 260 * s.next + s.remaining ≤ 992
 

@@ -1,15 +1,17 @@
 -- The laws of the rows that public calls state.
-use Rattle.std.specs.Prelude.{◌≡◌, ℕ, ◌<◌, List, true, Result, Ok, ℤ, slice_index}
+use Rattle.std.specs.Prelude.{◌≡◌, ℕ, ◌<◌, List, length, true, Result, Ok, ℤ, slice_index}
 use Rattle.sof_base.specs.declared.format.Params.{Params}
+use Rattle.sof_base.specs.declared.part.Part.{Part}
 use Rattle.sof_base.specs.Ports.{Io}
 use Rattle.stream_law.specs.declared.graph.Kind.{Kind}
 use Rattle.stream_law.specs.declared.graph.Setting.{Setting}
 use Rattle.stream_law.specs.declared.stream.Phase.TheVariants.{Prepared, Running, Paused}
 use Rattle.stream_law.specs.State.{FwState}
 use Rattle.ipc3_codec.specs.declared.message.Message.{Message}
+use Rattle.ipc3_codec.specs.declared.message.Message.TheVariants.{SetData}
 use Rattle.ipc3_codec.specs.Allowed.{is_buffer_size, is_period, is_channels}
 use Rattle.ipc3_codec.specs.Messages.{IsAllowed}
-use Rattle.mbox_link.specs.Step.{comp_new, comp_free, buffer_new, buffer_free, pipe_new, pipe_free, connect, pipe_complete, set_value, get_value, data_part, pcm_params, pcm_free, trigger, is_prepared, is_moving, is_running, is_paused, row, step, fresh}
+use Rattle.mbox_link.specs.Step.{comp_new, comp_free, buffer_new, buffer_free, pipe_new, pipe_free, connect, pipe_complete, set_value, get_value, set_data, get_data, pcm_params, pcm_free, trigger, is_prepared, is_moving, is_running, is_paused, row, step, fresh}
 use Rattle.mbox_link.specs.Exchange.{ticked}
 use Rattle.row_laws.specs.Kept.{IsKept, IsSettingOf}
 
@@ -49,8 +51,17 @@ SetValueKeeps = (id command : ℕ) (values : List ℕ) → Keeps (λ f. set_valu
 abbrev pub GetValueKeeps : Type 0
 GetValueKeeps = (id command : ℕ) → Keeps (λ f. get_value f id command)
 
-abbrev pub DataKeeps : Type 0
-DataKeeps = (id : ℕ) → Keeps (λ f. data_part f id)
+-- a part has 32 header bytes, and what it carries are bytes
+pub record IsPart (part : Part) : Type 0 where
+  pub long : length part.header ≡ 32
+  pub header : (i : ℕ) → slice_index part.header i < 256
+  pub bytes : (i : ℕ) → slice_index part.bytes i < 256
+
+abbrev pub SetDataKeeps : Type 0
+SetDataKeeps = (id : ℕ) (part : Part) → IsPart part → Keeps (λ f. set_data f id part)
+
+abbrev pub GetDataKeeps : Type 0
+GetDataKeeps = (id index : ℕ) → Keeps (λ f. get_data f id index)
 
 abbrev pub PcmParamsKeeps : Type 0
 PcmParamsKeeps = (host direction : ℕ) (params : Params) → is_channels params.channels ≡ true → Keeps (λ f. pcm_params f host direction params)
@@ -75,9 +86,14 @@ CtxSaveKeeps = Keeps (λ f. Ok f)
 
 -- ---- all rows, and what else changes a state
 
+-- what a message carries are bytes
+abbrev pub HasBytes : Message → Type 0
+HasBytes (SetData id part) = ((i : ℕ) → slice_index part.header i < 256) × ((i : ℕ) → slice_index part.bytes i < 256)
+HasBytes m = Unit {0}
+
 -- the row of a message none of whose words is refused
 abbrev pub RowKeeps : Type 0
-RowKeeps = (m : Message) → IsAllowed m → Keeps (λ f. row f m)
+RowKeeps = (m : Message) → IsAllowed m → HasBytes m → Keeps (λ f. row f m)
 
 -- the step of any bytes
 abbrev pub StepKeeps : Type 0

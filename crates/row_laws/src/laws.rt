@@ -53,14 +53,14 @@ pub fn get_value_law()
     ensures { law.GetValueKeeps }
 {}
 
-/// SET_DATA: no part is taken so far.
+/// SET_DATA: a part that is staged, or a blob that is in force, with an epoch of its own and nothing staged.
 pub fn set_data_law()
-    ensures { law.DataKeeps }
+    ensures { law.SetDataKeeps }
 {}
 
-/// GET_DATA: no part is given so far.
+/// GET_DATA: the state stays.
 pub fn get_data_law()
-    ensures { law.DataKeeps }
+    ensures { law.GetDataKeeps }
 {}
 
 /// PCM_PARAMS: a stream that is Prepared with its parameters.

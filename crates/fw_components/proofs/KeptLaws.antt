@@ -70,7 +70,7 @@ new-streaming (Dai capture format piece) fresh = tt
 new-streaming (Volume gains piece) fresh = tt
 new-streaming (Mixer piece) fresh = tt
 new-streaming (Mux choice piece) fresh = tt
-new-streaming (Eq eq next remaining) fresh = tt
+new-streaming (Eq eq next remaining) fresh = omega (arith, fresh.0, fresh.1)
 new-streaming (Buffer size ring source sink) fresh = tt
 new-streaming (Pipeline sched period complete piece) fresh = tt
 

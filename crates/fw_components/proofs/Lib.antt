@@ -13,6 +13,8 @@ mod Linked
 mod MadeLaws
 mod MoveAgain
 mod MovedLaws
+mod PartKept
+mod PartLaws
 mod Positions
 mod ProcessLaws
 mod Putting

@@ -1,12 +1,12 @@
 -- What is so of the tables of a registry.
-use Rattle.std.specs.Prelude.{◌≡◌, ℕ, ◌+◌, ◌/◌, ◌%◌, ◌≤◌, List, [], ◌∷◌, length, filter, Bool, true, false, ◌||◌, ◌&&◌, not, Option, None, Some}
+use Rattle.std.specs.Prelude.{◌≡◌, ℕ, ◌+◌, ◌*◌, ◌/◌, ◌%◌, ◌≤◌, List, [], ◌∷◌, length, filter, Bool, true, false, ◌||◌, ◌&&◌, not, Option, None, Some}
 use Rattle.std.specs.List.{AllByRecursion}
 use Rattle.sof_base.specs.declared.format.Params.{Params}
 use Rattle.sof_base.specs.Rates.{is_rate}
 use Rattle.stream_law.specs.declared.graph.Join.{Join}
 use Rattle.stream_law.specs.Placed.{Ascends}
 use Rattle.fw_components.specs.declared.component.Unit as units
-use Rattle.fw_components.specs.declared.component.Unit.TheVariants.{Host, Buffer, Pipeline}
+use Rattle.fw_components.specs.declared.component.Unit.TheVariants.{Host, Eq, Buffer, Pipeline}
 use Rattle.fw_components.specs.declared.component.Component.{Component}
 use Rattle.fw_components.specs.Tables.{Tables, is_buffer, is_pipeline, source_by, sink_by}
 use Rattle.fw_components.specs.Changes.{has_id, touches, is_idle}
@@ -78,13 +78,14 @@ abbrev pub IsStreamOf : Bool → Option Params → Type 0
 IsStreamOf idle None = idle ≡ true
 IsStreamOf idle (Some p) = (idle ≡ false) × ((1 ≤ p.channels) × (p.channels ≤ 8)) × (is_rate p.rate ≡ true)
 
--- the stream of a host is; no other unit has one
+-- the stream of a host is; what is staged at an equaliser, and what remains of its blob, are at most 992 bytes behind the header
 abbrev pub IsStreaming : units.Unit → Type 0
 IsStreaming (Host capture phase params piece) = IsStreamOf (is_idle phase) params
+IsStreaming (Eq eq next remaining) = 260 * next + remaining ≤ 992
 IsStreaming unit = Unit {0}
 
--- there is no more than the limits say, each table holds what is its own, no id is that of two, joins have sides of buffers, and a
--- host has parameters exactly where its stream is not Idle
+-- There is no more than the limits say, each table holds what is its own, no id is that of two, joins have sides of buffers, a host
+-- has parameters exactly where its stream is not Idle, and what is staged of a blob is within its bytes.
 pub record IsKept (t : Tables) : Type 0 where
   pub comps : length t.comps ≤ 128
   pub buffers : length t.buffers ≤ 128

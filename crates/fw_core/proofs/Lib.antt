@@ -8,6 +8,8 @@ pub mod Histories
 pub mod Streams
 pub mod Changed
 pub mod Values
+pub mod PartStaging
+pub mod Parts
 pub mod Freed
 pub mod Made
 pub mod Gains

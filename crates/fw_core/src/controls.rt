@@ -1,15 +1,15 @@
-// The rows of messages that set and get values.
+// The rows of messages that set and get values and parts of blobs.
 ghost use Rattle.std.specs.Prelude.{ℕ, ◌≡◌, IfOk};
-ghost use Rattle.mbox_link.specs.Step.{set_value as set_value_row, get_value as get_value_row, data_part as data_row, values_body, values_at};
+ghost use Rattle.mbox_link.specs.Step.{set_value as set_value_row, get_value as get_value_row, set_data, get_data, values_body, values_at, part_body, part_at};
+ghost use Rattle.row_laws.specs.RowLaws.{IsPart};
 ghost use Rattle.fw_components.specs.Tables.{graph_of};
 ghost use Rattle.fw_core.specs.Held.{IsHeld};
 ghost use Rattle.fw_core.specs.Answers.{IsRow};
 
 use fw_components::Registry;
 use fw_heap::Region;
-use fw_walks::is_used;
 use ipc3_codec::Body;
-use sof_base::{Bounded, Errno};
+use sof_base::{Bounded, Errno, Part};
 
 /// Sets the gains of a volume by command 0, and the choice of a mux by command 1.
 pub(crate) fn set_value(
@@ -42,14 +42,33 @@ pub(crate) fn get_value(
     }
 }
 
-/// A part of a blob: no equaliser takes or gives one so far. Nothing changes.
-pub(crate) fn data_part(registry: &mut Registry, _region: &mut Region, id: u32) -> Result<(), Errno>
-    requires { IsHeld registry.old _region.old }
-    ensures { IsRow (λ f. data_row f id) registry.old registry.new _region.old _region.new result }
+/// Stages a part of an equaliser's blob; the last one puts the blob in force.
+pub(crate) fn set_part(
+    registry: &mut Registry,
+    _region: &mut Region,
+    id: u32,
+    part: &Part,
+) -> Result<(), Errno>
+    requires held { IsHeld registry.old _region.old }
+    requires part { IsPart part.now }
+    ensures { IsRow (λ f. set_data f id part.now) registry.old registry.new _region.old _region.new result }
 {
-    if is_used(registry, id) {
-        Err(Errno::INVALID)
-    } else {
-        Err(Errno::NO_DEVICE)
+    registry.set_part(id, part)
+}
+
+/// The part of this number of the blob in force at an equaliser. Nothing changes.
+pub(crate) fn get_part(
+    registry: &mut Registry,
+    _region: &mut Region,
+    id: u32,
+    index: u32,
+) -> Result<Body, Errno>
+    requires { IsHeld registry.old _region.old }
+    ensures row { IsRow (λ f. get_data f id index) registry.old registry.new _region.old _region.new result }
+    ensures body { IfOk result (λ said. said ≡ part_body (part_at (graph_of registry.old) id index)) }
+{
+    match registry.part(id, index) {
+        Ok(part) => Ok(Body::Part(part)),
+        Err(error) => Err(error),
     }
 }

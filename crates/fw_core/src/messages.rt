@@ -2,10 +2,11 @@
 ghost use Rattle.std.specs.Prelude.{◌≡◌, ℕ, IfOk, Err};
 ghost use Rattle.ipc3_codec.specs.Messages.{decoded, IsAllowed};
 ghost use Rattle.mbox_link.specs.Step.{row, row_of, body, body_of};
+ghost use Rattle.row_laws.specs.RowLaws.{HasBytes};
 ghost use Rattle.fw_core.specs.Held.{IsHeld, state_in};
 ghost use Rattle.fw_core.specs.Answers.{IsRow};
 
-use crate::controls::{data_part, get_value, set_value};
+use crate::controls::{get_part, get_value, set_part, set_value};
 use crate::making::{buffer_new, comp_new, pipe_new};
 use crate::rows::{connect, free_row, pcm_params, pipe_complete, trigger_row};
 use fw_components::Registry;
@@ -30,15 +31,19 @@ pub(crate) fn answer(
     }
 }
 
-// The same for a message. Values alone are the body of a reply.
+// The same for a message. Values and parts alone are the body of a reply.
 fn handle(registry: &mut Registry, region: &mut Region, message: &Message) -> Result<Body, Errno>
     requires allowed { IsAllowed message.now }
+    requires bytes { HasBytes message.now }
     requires held { IsHeld registry.old region.old }
     ensures row { IsRow (λ f. row f message.now) registry.old registry.new region.old region.new result }
     ensures body { IfOk result (λ said. (clock : ℕ) → said ≡ body (state_in registry.old region.old clock) message.now) }
 {
     if let Message::GetValue { id, command } = *message {
         return get_value(registry, region, id, command);
+    }
+    if let Message::GetData { id, index } = *message {
+        return get_part(registry, region, id, index);
     }
     act(registry, region, message)?;
     Ok(Body::Nothing)
@@ -47,6 +52,7 @@ fn handle(registry: &mut Registry, region: &mut Region, message: &Message) -> Re
 // Does what a message says, or tells why not.
 fn act(registry: &mut Registry, region: &mut Region, message: &Message) -> Result<(), Errno>
     requires allowed { IsAllowed message.now }
+    requires bytes { HasBytes message.now }
     requires held { IsHeld registry.old region.old }
     ensures { IsRow (λ f. row f message.now) registry.old registry.new region.old region.new result }
 {
@@ -82,9 +88,11 @@ fn act(registry: &mut Registry, region: &mut Region, message: &Message) -> Resul
             Ok(_) => Ok(()),
             Err(error) => Err(error),
         },
-        Message::SetData { id, .. } | Message::GetData { id, .. } => {
-            data_part(registry, region, *id)
-        }
+        Message::SetData { id, part } => set_part(registry, region, *id, part),
+        Message::GetData { id, index } => match get_part(registry, region, *id, *index) {
+            Ok(_) => Ok(()),
+            Err(error) => Err(error),
+        },
         Message::PcmParams {
             host,
             direction,

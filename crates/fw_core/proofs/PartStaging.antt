@@ -1,0 +1,177 @@
+-- What is staged at the equalisers of a table once a part came.
+use Rattle.std.proofs.Common.{◌≡◌, refl, sym, ap, ◌∙◌, subst, ℕ, ◌+◌, ◌*◌, ◌<◌, List, [], ◌∷◌, map, filter, take, Bool, true, false, cond, not, ◌==◌, Option, Some, None, ℤ, find, arith}
+use Rattle.std.specs.Prelude.{nat_lt}
+use Rattle.std.proofs.lemmas.Bool.{true≢false, false≢true, eqb-true, eqb-false, eq-eqb, lt-ltb, le-ltb, false_from_ne_true}
+use Rattle.sof_base.specs.declared.part.Part.{Part}
+use Rattle.eq_biquad.specs.EqState.{staged_of}
+use Rattle.stream_law.specs.State.{Staging}
+use Rattle.stream_law.proofs.Members.{find-in}
+use Rattle.stream_law.specs.Placed.{placed, AreAbove, Ascends}
+use Rattle.mbox_link.specs.Step.{unstaged}
+use Rattle.fw_components.specs.declared.component.Component.{Component}
+use Rattle.fw_components.specs.declared.component.Unit as units
+use Rattle.fw_components.specs.declared.component.Unit.TheVariants.{Host, Dai, Volume, Mixer, Mux, Eq, Buffer, Pipeline}
+use Rattle.fw_components.specs.Tables.{staging_by, with_staging_by}
+use Rattle.fw_components.specs.Parts.{staging_in, staging_one, parted_by, parted_at}
+
+-- ---- one after the other
+
+-- in front of others, where there is one
+abbrev pub in_front : Option Staging → List Staging → List Staging
+in_front None ss = ss
+in_front (Some s) ss = s ∷ ss
+
+-- what is staged under an id, if anything is
+abbrev pub IsUnder : ℕ → Option Staging → Type 0
+IsUnder id None = Unit {0}
+IsUnder id (Some s) = s.eq ≡ id
+
+-- put in its place, where there is one
+abbrev pub put : Option Staging → List Staging → List Staging
+put None ss = ss
+put (Some s) ss = placed (λ s. s.eq) s ss
+
+front-is : (id : ℕ) (u : units.Unit) (ss : List Staging) → with_staging_by id u ss ≡ in_front (staging_one id u) ss
+front-is id (Host capture phase params piece) ss = refl
+front-is id (Dai capture format piece) ss = refl
+front-is id (Volume gains piece) ss = refl
+front-is id (Mixer piece) ss = refl
+front-is id (Mux choice piece) ss = refl
+front-is id (Eq eq next remaining) ss = by (remaining == 0)
+  where
+    by : (h : Bool) → cond h ss (record { eq = id; bytes = take (32 + 260 * next) (staged_of eq); next = next; remaining = remaining } ∷ ss) ≡ in_front (cond h None (Some (record { eq = id; bytes = take (32 + 260 * next) (staged_of eq); next = next; remaining = remaining }))) ss
+    by true = refl
+    by false = refl
+front-is id (Buffer size ring source sink) ss = refl
+front-is id (Pipeline sched period complete piece) ss = refl
+
+pub under-own : (id : ℕ) (u : units.Unit) → IsUnder id (staging_one id u)
+under-own id (Host capture phase params piece) = tt
+under-own id (Dai capture format piece) = tt
+under-own id (Volume gains piece) = tt
+under-own id (Mixer piece) = tt
+under-own id (Mux choice piece) = tt
+under-own id (Eq eq next remaining) = by (remaining == 0)
+  where
+    by : (h : Bool) → IsUnder id (cond h None (Some (record { eq = id; bytes = take (32 + 260 * next) (staged_of eq); next = next; remaining = remaining })))
+    by true = tt
+    by false = refl
+under-own id (Buffer size ring source sink) = tt
+under-own id (Pipeline sched period complete piece) = tt
+
+-- all that is staged is above what the components are above
+staged-above : (n : ℕ) (cs : List Component) → AreAbove (λ c. c.id) n cs → AreAbove (λ s. s.eq) n (staging_by cs)
+unfolding AreAbove
+staged-above n [] all = tt
+staged-above n (c ∷ cs) all = subst (AreAbove (λ (s : Staging). s.eq) n) (sym (front-is c.id c.unit (staging_by cs))) (by (staging_one c.id c.unit) (under-own c.id c.unit) (staged-above n cs all.1))
+  where
+    by : (o : Option Staging) → IsUnder c.id o → AreAbove (λ s. s.eq) n (staging_by cs) → AreAbove (λ s. s.eq) n (in_front o (staging_by cs))
+    by None under rest = rest
+    by (Some s) under rest = (subst (λ m. n < m) (sym under) all.0, rest)
+
+-- ---- what is under an id
+
+none-under : (id : ℕ) (ss : List Staging) → AreAbove (λ s. s.eq) id ss → find (λ s. s.eq == id) ss ≡ None
+unfolding AreAbove
+none-under id [] all = refl
+none-under id (s ∷ ss) all =
+    let far : (s.eq == id) ≡ false = false_from_ne_true (s.eq == id) (λ e. omega (arith, all.0, eqb-true s.eq id e)) in
+    ap (λ h. cond h (Some s) (find (λ s. s.eq == id) ss)) far ∙ none-under id ss all.1
+
+all-kept : (id : ℕ) (ss : List Staging) → AreAbove (λ s. s.eq) id ss → unstaged id ss ≡ ss
+unfolding AreAbove
+all-kept id [] all = refl
+all-kept id (s ∷ ss) all =
+    let far : (s.eq == id) ≡ false = false_from_ne_true (s.eq == id) (λ e. omega (arith, all.0, eqb-true s.eq id e)) in
+    ap (λ h. cond (not h) (s ∷ unstaged id ss) (unstaged id ss)) far ∙ ap (λ (xs : List Staging). s ∷ xs) (all-kept id ss all.1)
+
+none-changed : (id : ℕ) (part : Part) (words : List ℤ) (cs : List Component) → AreAbove (λ c. c.id) id cs → map (parted_at id part words) cs ≡ cs
+unfolding AreAbove
+none-changed id part words [] all = refl
+none-changed id part words (c ∷ cs) all =
+    let far : (c.id == id) ≡ false = false_from_ne_true (c.id == id) (λ e. omega (arith, all.0, eqb-true c.id id e)) in
+    ap (λ h. cond {A = Component} h (parted_by part words c) c ∷ map (parted_at id part words) cs) far ∙ ap (λ (xs : List Component). c ∷ xs) (none-changed id part words cs all.1)
+
+-- a staging under this id is put in front, where it is the least
+placed-first : (id : ℕ) (o : Option Staging) (ss : List Staging) → IsUnder id o → AreAbove (λ s. s.eq) id ss → put o ss ≡ in_front o ss
+unfolding AreAbove
+placed-first id None ss under all = refl
+placed-first id (Some s) [] under all = refl
+placed-first id (Some s) (x ∷ ss) under all = ap (λ h. cond h (s ∷ x ∷ ss) (x ∷ placed (λ (s : Staging). s.eq) s ss)) (lt-ltb s.eq x.eq (omega (arith, under, all.0)))
+
+-- what is found there, and a component that is above another
+found-above : (n id : ℕ) (cs : List Component) (c : Component) → AreAbove (λ c. c.id) n cs → find (λ c. c.id == id) cs ≡ Some c → n < id
+unfolding AreAbove
+found-above n id [] c all at = absurd (cc at)
+found-above n id (d ∷ cs) c all at = by (d.id == id) refl at (found-above n id cs c all.1)
+  where
+    by : (h : Bool) → (d.id == id) ≡ h → cond h (Some d) (find (λ c. c.id == id) cs) ≡ Some c → (find (λ c. c.id == id) cs ≡ Some c → n < id) → n < id
+    by true is at rest = omega (arith, all.0, eqb-true d.id id is)
+    by false is at rest = rest at
+
+pub staging-found : (id : ℕ) (cs : List Component) (c : Component) → Ascends (λ c. c.id) cs → find (λ c. c.id == id) cs ≡ Some c → find (λ s. s.eq == id) (staging_by cs) ≡ staging_one c.id c.unit
+unfolding Ascends
+staging-found id [] c all at = absurd (cc at)
+staging-found id (d ∷ cs) c all at = ap (find (λ (s : Staging). s.eq == id)) (front-is d.id d.unit (staging_by cs)) ∙ by (d.id == id) refl at (staging-found id cs c all.1)
+  where
+    first : (o : Option Staging) → IsUnder d.id o → d.id ≡ id → AreAbove (λ s. s.eq) id (staging_by cs) → find (λ s. s.eq == id) (in_front o (staging_by cs)) ≡ o
+    first None under same above = none-under id (staging_by cs) above
+    first (Some s) under same above = ap (λ h. cond h (Some s) (find (λ s. s.eq == id) (staging_by cs))) (eq-eqb s.eq id (under ∙ same))
+
+    past : (o : Option Staging) → IsUnder d.id o → (d.id == id) ≡ false → find (λ s. s.eq == id) (in_front o (staging_by cs)) ≡ find (λ s. s.eq == id) (staging_by cs)
+    past None under far = refl
+    past (Some s) under far = ap (λ h. cond h (Some s) (find (λ s. s.eq == id) (staging_by cs))) (ap (λ n. n == id) under ∙ far)
+
+    by : (h : Bool) → (d.id == id) ≡ h → cond h (Some d) (find (λ c. c.id == id) cs) ≡ Some c → (find (λ c. c.id == id) cs ≡ Some c → find (λ s. s.eq == id) (staging_by cs) ≡ staging_one c.id c.unit) → find (λ s. s.eq == id) (in_front (staging_one d.id d.unit) (staging_by cs)) ≡ staging_one c.id c.unit
+    by true is at rest =
+        let same : d ≡ c = cc at in
+        let id_is = eqb-true d.id id is in
+        first (staging_one d.id d.unit) (under-own d.id d.unit) id_is (subst (λ n. AreAbove (λ (s : Staging). s.eq) n (staging_by cs)) id_is (staged-above d.id cs all.0))
+        ∙ ap (λ (x : Component). staging_one x.id x.unit) same
+    by false is at rest = past (staging_one d.id d.unit) (under-own d.id d.unit) is ∙ rest at
+
+-- ---- what is staged after a part
+
+pub staging-parted : (id : ℕ) (part : Part) (words : List ℤ) (cs : List Component) (c : Component) → Ascends (λ c. c.id) cs → find (λ c. c.id == id) cs ≡ Some c
+    → put (staging_one c.id (parted_by part words c).unit) (unstaged id (staging_by cs)) ≡ staging_by (map (parted_at id part words) cs)
+unfolding Ascends
+staging-parted id part words [] c all at = absurd (cc at)
+staging-parted id part words (d ∷ cs) c all at = ap (λ (ss : List Staging). put o (unstaged id ss)) (front-is d.id d.unit (staging_by cs)) ∙ by (d.id == id) refl at (staging-parted id part words cs c all.1)
+  where
+    o : Option Staging
+    o = staging_one c.id (parted_by part words c).unit
+
+    -- the first goes
+    gone : (p : Option Staging) → IsUnder d.id p → d.id ≡ id → AreAbove (λ s. s.eq) id (staging_by cs) → unstaged id (in_front p (staging_by cs)) ≡ staging_by cs
+    gone None under same above = all-kept id (staging_by cs) above
+    gone (Some s) under same above = ap (λ h. cond (not h) (s ∷ unstaged id (staging_by cs)) (unstaged id (staging_by cs))) (eq-eqb s.eq id (under ∙ same)) ∙ all-kept id (staging_by cs) above
+
+    -- or stays
+    stays : (p : Option Staging) → IsUnder d.id p → (d.id == id) ≡ false → unstaged id (in_front p (staging_by cs)) ≡ in_front p (unstaged id (staging_by cs))
+    stays None under far = refl
+    stays (Some s) under far = ap (λ h. cond (not h) (s ∷ unstaged id (staging_by cs)) (unstaged id (staging_by cs))) (ap (λ n. n == id) under ∙ far)
+
+    -- and what is put behind it
+    behind : (q p : Option Staging) (ss : List Staging) → IsUnder id q → IsUnder d.id p → d.id < id → put q (in_front p ss) ≡ in_front p (put q ss)
+    behind None p ss under own less = refl
+    behind (Some s) None ss under own less = refl
+    behind (Some s) (Some x) ss under own less = ap (λ h. cond h (s ∷ x ∷ ss) (x ∷ placed (λ (s : Staging). s.eq) s ss)) (le-ltb s.eq x.eq (omega (arith, under, own, less)))
+
+    by : (h : Bool) → (d.id == id) ≡ h → cond h (Some d) (find (λ c. c.id == id) cs) ≡ Some c → (find (λ c. c.id == id) cs ≡ Some c → put o (unstaged id (staging_by cs)) ≡ staging_by (map (parted_at id part words) cs)) → put o (unstaged id (in_front (staging_one d.id d.unit) (staging_by cs))) ≡ with_staging_by (cond {A = Component} h (parted_by part words d) d).id (cond {A = Component} h (parted_by part words d) d).unit (staging_by (map (parted_at id part words) cs))
+    by true is at rest =
+        let same : d ≡ c = cc at in
+        let id_is = eqb-true d.id id is in
+        let above = subst (λ n. AreAbove (λ (s : Staging). s.eq) n (staging_by cs)) id_is (staged-above d.id cs all.0) in
+        let under : IsUnder id o = subst (λ n. IsUnder n o) (ap (λ (x : Component). x.id) (sym same) ∙ id_is) (under-own c.id (parted_by part words c).unit) in
+        ap (put o) (gone (staging_one d.id d.unit) (under-own d.id d.unit) id_is above)
+        ∙ placed-first id o (staging_by cs) under above
+        ∙ ap (λ (x : Component). in_front (staging_one x.id (parted_by part words x).unit) (staging_by cs)) (sym same)
+        ∙ sym (front-is d.id (parted_by part words d).unit (staging_by cs))
+        ∙ ap (λ (xs : List Component). with_staging_by d.id (parted_by part words d).unit (staging_by xs)) (sym (none-changed id part words cs (subst (λ n. AreAbove (λ (c : Component). c.id) n cs) id_is all.0)))
+    by false is at rest =
+        let more : d.id < id = found-above d.id id cs c all.0 at in
+        let own : IsUnder id o = subst (λ n. IsUnder n o) (eqb-true c.id id (find-in (λ c. c.id == id) cs c at).1) (under-own c.id (parted_by part words c).unit) in
+        ap (put o) (stays (staging_one d.id d.unit) (under-own d.id d.unit) is)
+        ∙ behind o (staging_one d.id d.unit) (unstaged id (staging_by cs)) own (under-own d.id d.unit) more
+        ∙ ap (in_front (staging_one d.id d.unit)) (rest at)
+        ∙ sym (front-is d.id d.unit (staging_by (map (parted_at id part words) cs)))

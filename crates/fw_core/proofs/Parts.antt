@@ -1,0 +1,583 @@
+-- The rows of parts of a blob.
+use Rattle.std.proofs.Common.{◌≡◌, refl, sym, ap, ◌∙◌, subst, ℕ, ◌+◌, List, [], ◌∷◌, ◌++◌, map, filter, length, Bool, true, false, cond, not, ◌&&◌, ◌||◌, ◌==◌, Option, Some, None, Result, Ok, Err, ℤ, negsuc, find, option_map, inl, inr}
+use Rattle.std.specs.Prelude.{OnErr, OnOk, IfOk, is_some, option_and_then}
+use Rattle.std.specs.List.{AllByRecursion}
+use Rattle.std.specs.Option.{option_map_or}
+use Rattle.std.proofs.lemmas.Bool.{true≢false, false≢true, eqb-true, eq-eqb, and_parts, false_from_ne_true}
+use Rattle.sof_base.specs.declared.errno.Errno.{Errno}
+use Rattle.sof_base.specs.declared.part.Part.{Part}
+use Rattle.sof_base.specs.BlobFaults.{is_blob}
+use Rattle.eq_biquad.specs.EqState.{staged_of}
+use Rattle.stream_law.specs.declared.graph.Comp.{Comp}
+use Rattle.stream_law.specs.declared.graph.Graph.{Graph}
+use Rattle.stream_law.specs.declared.graph.Kind.{Kind}
+use Rattle.stream_law.specs.declared.graph.Setting.{Setting}
+use Rattle.stream_law.specs.declared.graph.Setting.TheVariants.{Blob}
+use Rattle.stream_law.specs.declared.stream.StreamView.{StreamView}
+use Rattle.stream_law.specs.State.{FwState, View, RingView, Staging, History, view_of}
+use Rattle.stream_law.specs.Made.{blob}
+use Rattle.stream_law.specs.Placed.{Ascends}
+use Rattle.stream_law.specs.Seen.{flows, ring_seen, is_equaliser, equalises, goes_on, blob_in, fresh_numbers, numbers_in, history_seen, seen}
+use Rattle.stream_law.specs.Ways.{comp_of, components, live, channels_of}
+use Rattle.stream_law.proofs.Members.{IsIn, find-in, in-all}
+use Rattle.mbox_link.specs.Step as rows
+use Rattle.row_laws.specs.Tiled.{heap_bytes}
+use Rattle.row_laws.specs.RowLaws.{Keeps}
+use Rattle.row_laws.proofs.Ascending.{ascends-keys}
+use Rattle.row_laws.proofs.Fewer.{filter-every}
+use Rattle.row_laws.proofs.Found.{found-each}
+use Rattle.row_laws.proofs.SameWays.{flows-same}
+use Rattle.row_laws.proofs.Settings.{ways-set, bare-set}
+use Rattle.fw_heap.specs.Regions.{RegionState}
+use Rattle.fw_components.specs.declared.component.Component.{Component}
+use Rattle.fw_components.specs.declared.component.Unit as units
+use Rattle.fw_components.specs.declared.component.Unit.TheVariants.{Host, Dai, Volume, Mixer, Mux, Eq, Buffer, Pipeline}
+use Rattle.fw_components.specs.Tables.{Tables, all_of, graph_of, view_by, comp_by, kind_by, setting_by, streams_by, streams_of, staging_by, staging_of, rings_of, histories_of, numbers_by, piece_of, with_stream_by}
+use Rattle.fw_components.specs.Values.{left_with}
+use Rattle.fw_components.specs.Parts.{part_or, part_got, staging_in, staging_one, joined_bytes, fits_behind, takes_part, parted_unit, parted_by, parted_at, parted, part_set, staging_after, IsParted, IsPartedBy}
+use Rattle.fw_walks.proofs.Naming.{find-map}
+use Rattle.fw_pipeline.specs.States.{AreOf}
+use Rattle.fw_pipeline.proofs.StateAfter.{histories-each}
+use Rattle.fw_core.specs.Held.{state_in, HasChannels, IsHeld}
+use Rattle.fw_core.specs.Answers.{answer_of, IsRow}
+use Rattle.fw_core.proofs.RowLaws.{row-is, on-ok, pass}
+use Rattle.fw_core.proofs.Seats.{seat, seats-pieces, seats-homes, map-kept, map-both, in-map}
+use Rattle.fw_core.proofs.Histories.{history, one-key}
+use Rattle.fw_core.proofs.Changed.{state-is, comps-distinct}
+use Rattle.fw_core.proofs.Streams.{err-same}
+use Rattle.fw_core.proofs.Values.{there-used, comp-found}
+use Rattle.fw_core.proofs.Channels.{Fits, moves, frames, IsSame, channels-are, fits-map, set_value-same}
+use Rattle.fw_core.proofs.PartStaging.{put, IsUnder, under-own, staging-found, staging-parted}
+
+-- ---- GET_DATA
+
+-- what a call told is what the row answers, and the part is that of the row
+pub record IsPartGot (f : FwState) (id index : ℕ) (o : Result Part ℤ) : Type 0 where
+  pub done : (part : Part) → o ≡ Ok part → (rows.get_data f id index ≡ Ok f) × (rows.part_at f.graph id index ≡ Some part)
+  pub refused : (e : ℤ) → o ≡ Err e → rows.get_data f id index ≡ Err e
+
+pub part-got : (t : Tables) (r : RegionState) (clock id index : ℕ) → IsPartGot (state_in t r clock) id index (part_got t id index)
+part-got t r clock id index = subst (λ (h : Bool). IsPartGot (state_in t r clock) id index (cond (not h) (Err (negsuc 18)) (part_or (rows.part_at (graph_of t) id index)))) (sym (there-used t id)) (by (rows.is_used (graph_of t) id) refl (rows.part_at (graph_of t) id index) refl)
+  where
+    f : FwState
+    f = state_in t r clock
+
+    row_by : Bool → Option Part → Result FwState ℤ
+    row_by used o = cond (not used) (Err rows.no_device) (cond (not (is_some o)) (Err rows.invalid) (Ok (state_in t r clock)))
+
+    by : (used : Bool) → rows.is_used (graph_of t) id ≡ used → (o : Option Part) → rows.part_at (graph_of t) id index ≡ o → IsPartGot (state_in t r clock) id index (cond (not used) (Err (negsuc 18)) (part_or o))
+    by false is o at = record {
+      done = λ part e. cc e;
+      refused = λ e same. ap (λ h. row_by h (rows.part_at (graph_of t) id index)) is ∙ out e same;
+    }
+      where
+        out : (e : ℤ) → ◌≡◌ {A = Result Part ℤ} (Err (negsuc 18)) (Err e) → ◌≡◌ {A = Result FwState ℤ} (Err rows.no_device) (Err e)
+        out e same = cc
+    by true is None at = record {
+      done = λ part e. cc e;
+      refused = λ e same. (λ i. row_by (is i) (at i)) ∙ out e same;
+    }
+      where
+        out : (e : ℤ) → ◌≡◌ {A = Result Part ℤ} (Err (negsuc 21)) (Err e) → ◌≡◌ {A = Result FwState ℤ} (Err rows.invalid) (Err e)
+        out e same = cc
+    by true is (Some x) at = record {
+      done = λ part e. ((λ i. row_by (is i) (at i)), at ∙ some part e);
+      refused = λ e same. cc same;
+    }
+      where
+        some : (part : Part) → ◌≡◌ {A = Result Part ℤ} (Ok x) (Ok part) → Some x ≡ Some part
+        some part e = cc
+
+-- ---- what a part leaves of a unit
+
+module _ (id : ℕ) (part : Part) (words : List ℤ) where
+  parted-kind : (u : units.Unit) → kind_by (parted_unit id part words u) ≡ kind_by u
+  parted-kind (Host capture phase params piece) = refl
+  parted-kind (Dai capture format piece) = refl
+  parted-kind (Volume gains piece) = refl
+  parted-kind (Mixer piece) = refl
+  parted-kind (Mux choice piece) = refl
+  parted-kind (Eq eq next remaining) = refl
+  parted-kind (Buffer size ring source sink) = refl
+  parted-kind (Pipeline sched period complete piece) = refl
+
+  parted-stream : (u : units.Unit) (ss : List StreamView) → with_stream_by id (parted_unit id part words u) ss ≡ with_stream_by id u ss
+  parted-stream (Host capture phase params piece) ss = refl
+  parted-stream (Dai capture format piece) ss = refl
+  parted-stream (Volume gains piece) ss = refl
+  parted-stream (Mixer piece) ss = refl
+  parted-stream (Mux choice piece) ss = refl
+  parted-stream (Eq eq next remaining) ss = refl
+  parted-stream (Buffer size ring source sink) ss = refl
+  parted-stream (Pipeline sched period complete piece) ss = refl
+
+  parted-seat : (pipe channels : ℕ) (u : units.Unit) → seat (record { id = id; pipe = pipe; channels = channels; unit = parted_unit id part words u }) ≡ seat (record { id = id; pipe = pipe; channels = channels; unit = u })
+  parted-seat pipe channels (Host capture phase params piece) = refl
+  parted-seat pipe channels (Dai capture format piece) = refl
+  parted-seat pipe channels (Volume gains piece) = refl
+  parted-seat pipe channels (Mixer piece) = refl
+  parted-seat pipe channels (Mux choice piece) = refl
+  parted-seat pipe channels (Eq eq next remaining) = refl
+  parted-seat pipe channels (Buffer size ring source sink) = refl
+  parted-seat pipe channels (Pipeline sched period complete piece) = refl
+
+  -- the blob in force is that of the last part, and stays with any other
+  parted-setting : (u : units.Unit) → takes_part id u part ≡ true → setting_by (parted_unit id part words u) ≡ cond (part.remaining == 0) (Blob (joined_bytes id u part)) (setting_by u)
+  parted-setting (Eq eq next remaining) taken = by (part.remaining == 0)
+    where
+      by : (h : Bool) → Blob (cond h (rows.staged_bytes (staging_in id (staged_of eq) next remaining) part) eq.blob) ≡ cond h (Blob (rows.staged_bytes (staging_in id (staged_of eq) next remaining) part)) (Blob eq.blob)
+      by true = refl
+      by false = refl
+  parted-setting (Host capture phase params piece) taken = absurd (false≢true taken)
+  parted-setting (Dai capture format piece) taken = absurd (false≢true taken)
+  parted-setting (Volume gains piece) taken = absurd (false≢true taken)
+  parted-setting (Mixer piece) taken = absurd (false≢true taken)
+  parted-setting (Mux choice piece) taken = absurd (false≢true taken)
+  parted-setting (Buffer size ring source sink) taken = absurd (false≢true taken)
+  parted-setting (Pipeline sched period complete piece) taken = absurd (false≢true taken)
+
+-- which parts a unit takes is what the row asks of its kind and of what is staged
+takes-row : (id : ℕ) (u : units.Unit) (part : Part) → takes_part id u part ≡ (is_equaliser (kind_by u) && fits_behind (staging_one id u) part)
+takes-row id (Host true phase params piece) part = refl
+takes-row id (Host false phase params piece) part = refl
+takes-row id (Dai true format piece) part = refl
+takes-row id (Dai false format piece) part = refl
+takes-row id (Volume gains piece) part = refl
+takes-row id (Mixer piece) part = refl
+takes-row id (Mux choice piece) part = refl
+takes-row id (Eq eq next remaining) part = refl
+takes-row id (Buffer size ring source sink) part = refl
+takes-row id (Pipeline sched period complete piece) part = refl
+
+-- ---- and of lists of components
+
+module _ (id : ℕ) (part : Part) (words : List ℤ) where
+  parted-id : (c : Component) → (parted_at id part words c).id ≡ c.id
+  parted-id c = by (c.id == id)
+    where
+      by : (h : Bool) → (cond {A = Component} h (parted_by part words c) c).id ≡ c.id
+      by true = refl
+      by false = refl
+
+  parted-moves : (c : Component) → moves (parted_at id part words c) ≡ moves c
+  parted-moves c = by (c.id == id)
+    where
+      by : (h : Bool) → moves (cond h (parted_by part words c) c) ≡ moves c
+      by true = refl
+      by false = refl
+
+  seat-parted : (c : Component) → seat (parted_at id part words c) ≡ seat c
+  seat-parted c = by (c.id == id)
+    where
+      by : (h : Bool) → seat (cond h (parted_by part words c) c) ≡ seat c
+      by true = parted-seat c.id part words c.pipe c.channels c.unit
+      by false = refl
+
+  parted-streams : (cs : List Component) → streams_by (map (parted_at id part words) cs) ≡ streams_by cs
+  parted-streams [] = refl
+  parted-streams (c ∷ cs) = by (c.id == id) (parted-streams cs)
+    where
+      by : (h : Bool) → streams_by (map (parted_at id part words) cs) ≡ streams_by cs → streams_by (cond h (parted_by part words c) c ∷ map (parted_at id part words) cs) ≡ with_stream_by c.id c.unit (streams_by cs)
+      by true rest = parted-stream c.id part words c.unit (streams_by (map (parted_at id part words) cs)) ∙ ap (with_stream_by c.id c.unit) rest
+      by false rest = ap (with_stream_by c.id c.unit) rest
+
+  -- the component of the id has another setting
+  parted-comps : (c : Component) (setting : Setting) → setting_by (parted_by part words c).unit ≡ setting → (cs : List Component) → ((d : Component) → IsIn d cs → d.id ≡ id → d ≡ c) → map comp_by (map (parted_at id part words) cs) ≡ map (rows.with_setting id setting) (map comp_by cs)
+  parted-comps c setting is [] one = refl
+  parted-comps c setting is (d ∷ cs) one = ap (λ (p : Comp × List Comp). p.0 ∷ p.1) (λ i. (at (d.id == id) refl i, parted-comps c setting is cs (λ e there. one e (inr there)) i))
+    where
+      at : (h : Bool) → (d.id == id) ≡ h → comp_by (cond h (parted_by part words d) d) ≡ cond h (record { id = d.id; kind = kind_by d.unit; pipe = d.pipe; setting = setting }) (comp_by d)
+      at true same = λ i. record { id = d.id; kind = parted-kind d.id part words d.unit i; pipe = d.pipe; setting = (ap (λ (e : Component). setting_by (parted_by part words e).unit) (one d (inl refl) (eqb-true d.id id same)) ∙ is) i }
+      at false same = refl
+
+  -- or none has, where it keeps its own
+  same-settings : (c : Component) → setting_by (parted_by part words c).unit ≡ setting_by c.unit → (cs : List Component) → ((d : Component) → IsIn d cs → d.id ≡ id → d ≡ c) → map comp_by (map (parted_at id part words) cs) ≡ map comp_by cs
+  same-settings c is [] one = refl
+  same-settings c is (d ∷ cs) one = ap (λ (p : Comp × List Comp). p.0 ∷ p.1) (λ i. (at (d.id == id) refl i, same-settings c is cs (λ e there. one e (inr there)) i))
+    where
+      at : (h : Bool) → (d.id == id) ≡ h → comp_by (cond h (parted_by part words d) d) ≡ comp_by d
+      at true same = λ i. record { id = d.id; kind = parted-kind d.id part words d.unit i; pipe = d.pipe; setting = (ap (λ (e : Component). setting_by (parted_by part words e).unit) (one d (inl refl) (eqb-true d.id id same)) ∙ is ∙ ap (λ (e : Component). setting_by e.unit) (sym (one d (inl refl) (eqb-true d.id id same)))) i }
+      at false same = refl
+
+-- numbers of components that pass, where a change leaves ids and numbers
+histories-kept : (q : ℕ → Bool) (f : Component → Component) (cs : List Component) → ((c : Component) → (f c).id ≡ c.id) → ((c : Component) → IsIn c cs → history (f c) ≡ history c) → map history (filter (λ c. q c.id) (map f cs)) ≡ map history (filter (λ c. q c.id) cs)
+histories-kept q f [] ids same = refl
+histories-kept q f (c ∷ cs) ids same = ap (λ h. map history (cond h (f c ∷ filter (λ c. q c.id) (map f cs)) (filter (λ c. q c.id) (map f cs)))) (ap q (ids c)) ∙ by (q c.id) (histories-kept q f cs ids (λ d there. same d (inr there)))
+  where
+    by : (h : Bool) → map history (filter (λ c. q c.id) (map f cs)) ≡ map history (filter (λ c. q c.id) cs) → map history (cond h (f c ∷ filter (λ c. q c.id) (map f cs)) (filter (λ c. q c.id) (map f cs))) ≡ map history (cond h (c ∷ filter (λ c. q c.id) cs) (filter (λ c. q c.id) cs))
+    by true rest = ap (λ (p : History × List History). p.0 ∷ p.1) (λ i. (same c (inl refl) i, rest i))
+    by false rest = rest
+
+find-filter : (p q : Component → Bool) (cs : List Component) (c : Component) → find p cs ≡ Some c → q c ≡ true → find p (filter q cs) ≡ Some c
+find-filter p q [] c at e = absurd (cc at)
+find-filter p q (d ∷ cs) c at e = by (p d) refl at (q d) refl (find-filter p q cs c)
+  where
+    by : (h : Bool) → p d ≡ h → cond h (Some d) (find p cs) ≡ Some c → (k : Bool) → q d ≡ k → (find p cs ≡ Some c → q c ≡ true → find p (filter q cs) ≡ Some c) → find p (cond k (d ∷ filter q cs) (filter q cs)) ≡ Some c
+    by true is at true so rest = ap (λ h. cond h (Some d) (find p (filter q cs))) is ∙ at
+    by true is at false so rest = let same : d ≡ c = cc at in absurd (true≢false (sym e ∙ ap q (sym same) ∙ so))
+    by false is at true so rest = ap (λ h. cond h (Some d) (find p (filter q cs))) is ∙ rest at e
+    by false is at false so rest = rest at e
+
+rings-alike : (v w : View) → ((b : ℕ) → flows w b ≡ flows v b) → (rs : List RingView) → map (ring_seen w) rs ≡ map (ring_seen v) rs
+rings-alike v w same [] = refl
+rings-alike v w same (r ∷ rs) = ap (λ (p : Bool × List RingView). let x : RingView = record { buffer = r.buffer; frames = cond p.0 r.frames [] } in x ∷ p.1) (λ i. (same r.buffer i, rings-alike v w same rs i))
+
+-- ---- SET_DATA
+
+module _ (id : ℕ) (part : Part) (words : List ℤ) where
+  -- who is found before and after
+  found-map : (n : ℕ) (cs : List Component) → find (λ c. c.id == n) (map (parted_at id part words) cs) ≡ option_map (parted_at id part words) (find (λ c. c.id == n) cs)
+  found-map n [] = refl
+  found-map n (c ∷ cs) = ap (λ m. cond (m == n) (Some (parted_at id part words c)) (find (λ c. c.id == n) (map (parted_at id part words) cs))) (parted-id id part words c) ∙ by (c.id == n) (found-map n cs)
+    where
+      by : (h : Bool) → find (λ c. c.id == n) (map (parted_at id part words) cs) ≡ option_map (parted_at id part words) (find (λ c. c.id == n) cs) → cond h (Some (parted_at id part words c)) (find (λ c. c.id == n) (map (parted_at id part words) cs)) ≡ option_map (parted_at id part words) (cond h (Some c) (find (λ c. c.id == n) cs))
+      by true rest = refl
+      by false rest = rest
+
+  at-kind : (c : Component) → kind_by (parted_at id part words c).unit ≡ kind_by c.unit
+  at-kind c = by (c.id == id)
+    where
+      by : (h : Bool) → kind_by (cond {A = Component} h (parted_by part words c) c).unit ≡ kind_by c.unit
+      by true = parted-kind c.id part words c.unit
+      by false = refl
+
+  same-kinds : (t : Tables) (n : ℕ) → option_map_or (λ x. is_equaliser x.kind) (comp_of (graph_of (parted id part words t)) n) false ≡ option_map_or (λ x. is_equaliser x.kind) (comp_of (graph_of t) n) false
+  same-kinds t n =
+      ap (λ (o : Option Comp). option_map_or (λ x. is_equaliser x.kind) o false) (comp-found (parted id part words t) n ∙ ap (option_map comp_by) (found-map n t.comps))
+      ∙ by (find (λ c. c.id == n) t.comps)
+      ∙ sym (ap (λ (o : Option Comp). option_map_or (λ x. is_equaliser x.kind) o false) (comp-found t n))
+    where
+      by : (o : Option Component) → option_map_or (λ (x : Comp). is_equaliser x.kind) (option_map comp_by (option_map (parted_at id part words) o)) false ≡ option_map_or (λ (x : Comp). is_equaliser x.kind) (option_map comp_by o) false
+      by None = refl
+      by (Some c) = ap is_equaliser (at-kind c)
+
+module _ (t : Tables) (r : RegionState) (id : ℕ) (part : Part) (words : List ℤ) (held : IsHeld t r) (c : Component) (at : find (λ c. c.id == id) t.comps ≡ Some c) (taken : takes_part c.id c.unit part ≡ true) where
+  abbrev after : Tables
+  after = parted id part words t
+
+  abbrev bytes : List ℕ
+  bytes = joined_bytes c.id c.unit part
+
+  there : IsIn c t.comps × ((c.id == id) ≡ true)
+  there = find-in (λ c. c.id == id) t.comps c at
+
+  id-is : c.id ≡ id
+  id-is = eqb-true c.id id there.1
+
+  one : (d : Component) → IsIn d t.comps → d.id ≡ id → d ≡ c
+  one d in_d same = one-key (λ (c : Component). c.id) t.comps (comps-distinct t r held) c d there.0 in_d (same ∙ sym id-is)
+
+  ascends : Ascends (λ c. c.id) t.comps
+  ascends = ascends-keys (λ (x : Comp). x.id) (λ (c : Component). c.id) (map comp_by t.comps) t.comps (ids t.comps) (held.kept 0).ascending.comps
+    where
+      ids : (cs : List Component) → map (λ (x : Comp). x.id) (map comp_by cs) ≡ map (λ (c : Component). c.id) cs
+      ids [] = refl
+      ids (c ∷ cs) = ap (λ ns. c.id ∷ ns) (ids cs)
+
+  seats : map seat (all_of after) ≡ map seat (all_of t)
+  seats = map-both seat t.comps (t.buffers ++ t.pipes) (map (parted_at id part words) t.comps) (t.buffers ++ t.pipes) (map-kept seat (parted_at id part words) (seat-parted id part words) t.comps) refl
+
+  -- the view with the blob in force
+  abbrev w : View
+  w = record { graph = rows.with_comps (map (rows.with_setting id (Blob bytes)) (graph_of t).comps) (graph_of t); streams = streams_of t }
+
+  same : (x : ℕ) → IsSame (view_by t) w x
+  same x = set_value-same id (Blob bytes) (state_in t r 0) (record (state_in t r 0) { graph = rows.with_comps (map (rows.with_setting id (Blob bytes)) (graph_of t).comps) (graph_of t) }) (held.kept 0) refl x
+
+  last-view : (part.remaining == 0) ≡ true → w ≡ view_by after
+  last-view last = λ i. record {
+    graph = record { comps = sym (parted-comps id part words c (Blob bytes) (parted-setting c.id part words c.unit taken ∙ ap (λ h. cond h (Blob bytes) (setting_by c.unit)) last) t.comps one) i; edges = (graph_of t).edges; pipes = (graph_of t).pipes; joins = t.joins };
+    streams = sym (parted-streams id part words t.comps) i;
+  }
+
+  staged-view : (part.remaining == 0) ≡ false → view_by t ≡ view_by after
+  staged-view more = λ i. record {
+    graph = record { comps = sym (same-settings id part words c (parted-setting c.id part words c.unit taken ∙ ap (λ h. cond h (Blob bytes) (setting_by c.unit)) more) t.comps one) i; edges = (graph_of t).edges; pipes = (graph_of t).pipes; joins = t.joins };
+    streams = sym (parted-streams id part words t.comps) i;
+  }
+
+  pub after-same : (x : ℕ) → IsSame (view_by t) (view_by after) x
+  after-same x = by (part.remaining == 0) refl
+    where
+      by : (h : Bool) → (part.remaining == 0) ≡ h → IsSame (view_by t) (view_by after) x
+      by true last = subst (λ (v : View). IsSame (view_by t) v x) (last-view last) (same x)
+      by false more = subst (λ (v : View). IsSame (view_by t) v x) (staged-view more) (record { lives = refl; channels = refl })
+
+  -- ---- what its words say
+
+  module _ (seen_part : IsParted part c.id c.unit (parted_by part words c).unit) (clock : ℕ) where
+    abbrev f : FwState
+    f = state_in t r clock
+
+    -- a part that is staged
+
+    history-same : (part.remaining == 0) ≡ false → (d : Component) → IsIn d t.comps → history (parted_at id part words d) ≡ history d
+    history-same more d in_d = by (d.id == id) refl
+      where
+        by : (h : Bool) → (d.id == id) ≡ h → history (cond {A = Component} h (parted_by part words d) d) ≡ history d
+        by true is =
+            let own = one d in_d (eqb-true d.id id is) in
+            λ i. record {
+              comp = d.id;
+              numbers = (
+                  ap (λ (e : Component). numbers_by (parted_by part words e).unit e.channels) own
+                  ∙ seen_part.numbers c.channels
+                  ∙ ap (λ h. cond h (fresh_numbers bytes c.channels) (numbers_by c.unit c.channels)) more
+                  ∙ ap (λ (e : Component). numbers_by e.unit e.channels) (sym own)) i;
+            }
+        by false is = refl
+
+    pub staged-state : (part.remaining == 0) ≡ false → rows.with_staged id bytes part f ≡ state_in after r clock
+    staged-state more =
+        let s : Staging = record { eq = id; bytes = bytes; next = part.index + 1; remaining = part.remaining } in
+        let is : staging_one c.id (parted_by part words c).unit ≡ Some s =
+        seen_part.staged
+        ∙ ap (λ h. cond {A = Option Staging} h None (Some (record { eq = c.id; bytes = bytes; next = part.index + 1; remaining = part.remaining }))) more
+        ∙ ap (λ (n : ℕ). let x : Option Staging = Some (record { eq = n; bytes = bytes; next = part.index + 1; remaining = part.remaining }) in x) id-is in
+        state-is after r clock (rows.with_staged id bytes part f)
+        refl
+        (sym (seats-pieces (all_of t) (all_of after) seats))
+        refl
+        (staged-view more)
+        refl
+        (sym (histories-kept (equalises (view_by t)) (parted_at id part words) t.comps (parted-id id part words) (history-same more)) ∙ ap (λ (v : View). map history (filter (λ c. equalises v c.id) after.comps)) (staged-view more))
+        (sym (ap (λ (o : Option Staging). put o (rows.unstaged id (staging_by t.comps))) is) ∙ staging-parted id part words t.comps c ascends at)
+
+    -- and a blob that comes in force
+
+    numbers-own : (e : Component) → IsIn e t.comps → equalises (view_by t) e.id ≡ true → numbers_in f e.id ≡ numbers_by e.unit e.channels
+    numbers-own e in_e on =
+        ap (λ (o : Option History). option_map_or (λ (h : History). h.numbers) o []) (
+        find-map (λ (h : History). h.comp == e.id) history (filter (λ c. equalises (view_by t) c.id) t.comps)
+        ∙ ap (option_map history) (find-filter (λ x. x.id == e.id) (λ c. equalises (view_by t) c.id) t.comps e (in-all (λ (c : Component). find (λ x. x.id == c.id) t.comps ≡ Some c) t.comps e (found-each (λ (c : Component). c.id) t.comps (comps-distinct t r held)) in_e) on))
+
+    abbrev Right : Component → Type 0
+    Right d = numbers_by d.unit d.channels ≡ cond (goes_on (view_by t) (view_by after) (Some id) d.id) (numbers_in f d.id) (fresh_numbers (blob_in (view_by after) d.id) (channels_of (view_by after) d.id))
+
+    -- the epoch of this one begins
+    begins : (part.remaining == 0) ≡ true → equalises (view_by after) c.id ≡ true → Right (parted_by part words c)
+    begins last on =
+        let lives = and_parts (live (view_by after) c.id) (option_map_or (λ x. is_equaliser x.kind) (comp_of (view_by after).graph c.id) false) on in
+        let alike = after-same c.id in
+        let was : live (view_by t) c.id ≡ true = sym alike.lives ∙ lives.0 in
+        let channels : c.channels ≡ channels_of (view_by after) c.id = in-all (λ (c : Component). live (view_by t) c.id ≡ true → c.channels ≡ channels_of (view_by t) c.id) t.comps c held.channels.comps there.0 was ∙ sym alike.channels in
+        let find_is : comp_of (graph_of after) c.id ≡ Some (comp_by (parted_at id part words c)) = comp-found after c.id ∙ ap (option_map comp_by) (found-map id part words c.id t.comps ∙ ap (option_map (parted_at id part words)) (ap (λ n. find (λ (x : Component). x.id == n) t.comps) id-is ∙ at)) in
+        let set_is : setting_by (parted_at id part words c).unit ≡ Blob bytes = ap (λ h. setting_by (cond {A = Component} h (parted_by part words c) c).unit) there.1 ∙ parted-setting c.id part words c.unit taken ∙ ap (λ h. cond h (Blob bytes) (setting_by c.unit)) last in
+        let blob_is : blob_in (view_by after) c.id ≡ bytes = ap (λ (o : Option Comp). option_map_or (λ x. blob x.setting) o []) find_is ∙ ap blob set_is in
+        seen_part.numbers c.channels
+        ∙ ap (λ h. cond h (fresh_numbers bytes c.channels) (numbers_by c.unit c.channels)) last
+        ∙ (λ i. fresh_numbers (sym blob_is i) (channels i))
+        ∙ sym (ap (λ h. cond ((live (view_by t) c.id && live (view_by after) c.id) && not h) (numbers_in f c.id) (fresh_numbers (blob_in (view_by after) c.id) (channels_of (view_by after) c.id))) (eq-eqb id c.id (sym id-is)) ∙ none (live (view_by t) c.id && live (view_by after) c.id))
+      where
+        none : (h : Bool) → cond (h && false) (numbers_in f c.id) (fresh_numbers (blob_in (view_by after) c.id) (channels_of (view_by after) c.id)) ≡ fresh_numbers (blob_in (view_by after) c.id) (channels_of (view_by after) c.id)
+        none true = refl
+        none false = refl
+
+    -- and those of others go on
+    goes-on : (e : Component) → IsIn e t.comps → (e.id == id) ≡ false → equalises (view_by after) e.id ≡ true → Right e
+    goes-on e in_e far on =
+        let lives = and_parts (live (view_by after) e.id) (option_map_or (λ x. is_equaliser x.kind) (comp_of (view_by after).graph e.id) false) on in
+        let alike = after-same e.id in
+        let was : live (view_by t) e.id ≡ true = sym alike.lives ∙ lives.0 in
+        let before : equalises (view_by t) e.id ≡ true = (λ i. was i && (sym (same-kinds id part words t e.id) ∙ lives.1) i) in
+        let other : (id == e.id) ≡ false = false_from_ne_true (id == e.id) (λ q. true≢false (sym (eq-eqb e.id id (sym (eqb-true id e.id q))) ∙ far)) in
+        sym (numbers-own e in_e before)
+        ∙ sym (λ i. cond ((was i && lives.0 i) && not (other i)) (numbers_in f e.id) (fresh_numbers (blob_in (view_by after) e.id) (channels_of (view_by after) e.id)))
+
+    numbers-left : (part.remaining == 0) ≡ true → (d : Component) → IsIn d after.comps → equalises (view_by after) d.id ≡ true → Right d
+    numbers-left last d in_d on =
+        let from = in-map (parted_at id part words) t.comps d in_d in
+        subst Right (sym from.2) (by from.0 from.1 (from.0.id == id) refl (ap (λ (x : Component). equalises (view_by after) x.id) (sym from.2) ∙ on))
+      where
+        by : (e : Component) → IsIn e t.comps → (h : Bool) → (e.id == id) ≡ h → equalises (view_by after) (parted_at id part words e).id ≡ true → Right (parted_at id part words e)
+        by e in_e true is on =
+            let own = one e in_e (eqb-true e.id id is) in
+            let now : parted_at id part words e ≡ parted_by part words c = ap (λ h. cond {A = Component} h (parted_by part words e) e) is ∙ ap (parted_by part words) own in
+            subst Right (sym now) (begins last (ap (λ (x : Component). equalises (view_by after) x.id) (sym now) ∙ on))
+        by e in_e false is on =
+            let now : parted_at id part words e ≡ e = ap (λ h. cond {A = Component} h (parted_by part words e) e) is in
+            subst Right (sym now) (goes-on e in_e is (ap (λ (x : Component). equalises (view_by after) x.id) (sym now) ∙ on))
+
+    flows-set : (b : ℕ) → flows w b ≡ flows (view_by t) b
+    flows-set b =
+        subst (λ (ss : List StreamView). flows (record { graph = w.graph; streams = ss }) b ≡ flows (view_by t) b) (filter-every (streams_of t))
+        (flows-same (graph_of t) w.graph (λ s. true) (streams_of t) (held.kept 0).played (bare-set id (Blob bytes) (graph_of t) (streams_of t)) (ways-set id (Blob bytes) (graph_of t) (streams_of t)) b refl refl)
+
+    pub installed-state : (part.remaining == 0) ≡ true → rows.blob_installed id bytes f ≡ state_in after r clock
+    installed-state last =
+        let is : staging_one c.id (parted_by part words c).unit ≡ None =
+        seen_part.staged ∙ ap (λ h. cond {A = Option Staging} h None (Some (record { eq = c.id; bytes = bytes; next = part.index + 1; remaining = part.remaining }))) last in
+        state-is after r clock (rows.blob_installed id bytes f)
+        refl
+        (sym (seats-pieces (all_of t) (all_of after) seats))
+        refl
+        (last-view last)
+        (rings-alike (view_by t) w flows-set (rings_of t) ∙ (held.kept 0).seen)
+        (ap (λ (v : View). map (history_seen f v (Some id)) (filter (equalises v) (components v.graph))) (last-view last)
+        ∙ sym (histories-each (equalises (view_by after)) (λ x. cond (goes_on (view_by t) (view_by after) (Some id) x) (numbers_in f x) (fresh_numbers (blob_in (view_by after) x) (channels_of (view_by after) x))) after.comps (numbers-left last)))
+        (sym (ap (λ (o : Option Staging). put o (rows.unstaged id (staging_by t.comps))) is) ∙ staging-parted id part words t.comps c ascends at)
+
+-- ---- the row's tests
+
+module _ (f : FwState) (id : ℕ) (part : Part) where
+  row_by : Bool → Option Kind → Option Staging → Result FwState ℤ
+  row_by used kind s = cond (not used) (Err rows.no_device) (cond (not (rows.has_kind is_equaliser kind) || not (rows.keeps_order s part)) (Err rows.invalid) (rows.part_staged f id (rows.staged_bytes s part) part))
+
+  row-is-by : rows.set_data f id part ≡ row_by (rows.is_used f.graph id) (rows.kind_at f.graph id) (rows.staging_at f id)
+  unfolding row_by
+  row-is-by = refl
+
+  abbrev leads-to : List ℕ → FwState
+  leads-to bytes = cond (part.remaining == 0) (rows.blob_installed id bytes f) (rows.with_staged id bytes part f)
+
+  -- what is taken is done, and all else refused
+  decided : (eq keeps last right : Bool) (a b : FwState) → ((eq && (keeps && (not last || right))) ≡ true → cond (not eq || not keeps) (Err rows.invalid) (cond (not last) (Ok b) (cond (not right) (Err rows.invalid) (Ok a))) ≡ Ok (cond last a b)) × ((eq && (keeps && (not last || right))) ≡ false → cond (not eq || not keeps) (Err rows.invalid) (cond (not last) (Ok b) (cond (not right) (Err rows.invalid) (Ok a))) ≡ Err rows.invalid)
+  decided false keeps last right a b = ((λ e. absurd (false≢true e)), (λ e. refl))
+  decided true false last right a b = ((λ e. absurd (false≢true e)), (λ e. refl))
+  decided true true false right a b = ((λ e. refl), (λ e. absurd (true≢false e)))
+  decided true true true true a b = ((λ e. refl), (λ e. absurd (true≢false e)))
+  decided true true true false a b = ((λ e. absurd (false≢true e)), (λ e. refl))
+
+  row-taken : (u : units.Unit) (s : Option Staging) → (is_equaliser (kind_by u) && fits_behind s part) ≡ true → row_by true (Some (kind_by u)) s ≡ Ok (leads-to (rows.staged_bytes s part))
+  unfolding row_by
+  row-taken u s e = (decided (is_equaliser (kind_by u)) (rows.keeps_order s part) (part.remaining == 0) (is_blob (rows.staged_bytes s part)) (rows.blob_installed id (rows.staged_bytes s part) f) (rows.with_staged id (rows.staged_bytes s part) part f)).0 e
+
+  row-refused : (u : units.Unit) (s : Option Staging) → (is_equaliser (kind_by u) && fits_behind s part) ≡ false → row_by true (Some (kind_by u)) s ≡ Err rows.invalid
+  unfolding row_by
+  row-refused u s e = (decided (is_equaliser (kind_by u)) (rows.keeps_order s part) (part.remaining == 0) (is_blob (rows.staged_bytes s part)) (rows.blob_installed id (rows.staged_bytes s part) f) (rows.with_staged id (rows.staged_bytes s part) part f)).1 e
+
+  row-gone : (kind : Option Kind) (s : Option Staging) → row_by false kind s ≡ Err rows.no_device
+  unfolding row_by
+  row-gone kind s = refl
+
+  row-other : (s : Option Staging) → row_by true None s ≡ Err rows.invalid
+  unfolding row_by
+  row-other s = refl
+
+-- ---- what a call did
+
+-- a component took the part
+pub record IsDone (t u : Tables) (id : ℕ) (part : Part) (words : List ℤ) : Type 0 where
+  pub taker : Component
+  pub found : find (λ c. c.id == id) t.comps ≡ Some taker
+  pub takes : takes_part taker.id taker.unit part ≡ true
+  pub tables : u ≡ parted id part words t
+
+module _ (t u : Tables) (r : RegionState) (id : ℕ) (part : Part) (words : List ℤ) (held : IsHeld t r) where
+  abbrev tables-by : Bool → Option Component → Result Tables ℤ
+  tables-by h o = cond (not h) (Err (negsuc 18)) (cond (option_map_or (λ c. takes_part c.id c.unit part) o false) (Ok (parted id part words t)) (Err (negsuc 21)))
+
+  is-done : ◌≡◌ {A = Result Tables ℤ} (Ok u) (part_set t id part words) → IsDone t u id part words
+  is-done is = by (rows.is_used (graph_of t) id) (find (λ c. c.id == id) t.comps) refl (is ∙ ap (λ h. tables-by h (find (λ c. c.id == id) t.comps)) (there-used t id))
+    where
+      by : (h : Bool) (o : Option Component) → find (λ c. c.id == id) t.comps ≡ o → ◌≡◌ {A = Result Tables ℤ} (Ok u) (tables-by h o) → IsDone t u id part words
+      by false o at e = absurd (cc e)
+      by true None at e = absurd (cc e)
+      by true (Some c) at e = as_taken (takes_part c.id c.unit part) refl e
+        where
+          as_taken : (k : Bool) → takes_part c.id c.unit part ≡ k → ◌≡◌ {A = Result Tables ℤ} (Ok u) (cond k (Ok (parted id part words t)) (Err (negsuc 21))) → IsDone t u id part words
+          as_taken true taken e = record { taker = c; found = at; takes = taken; tables = cc e }
+          as_taken false taken e = absurd (cc e)
+
+  -- the words of the taker say what is staged and its numbers
+  seen-of : (done : IsDone t u id part words) → IsPartedBy part (find (λ c. c.id == id) t.comps) (find (λ c. c.id == id) u.comps) → IsParted part done.taker.id done.taker.unit (parted_by part words done.taker).unit
+  seen-of done seen =
+      let c = done.taker in
+      let here = find-in (λ c. c.id == id) t.comps c done.found in
+      let now : find (λ c. c.id == id) u.comps ≡ Some (parted_by part words c) =
+      ap (λ (x : Tables). find (λ (c : Component). c.id == id) x.comps) done.tables
+      ∙ found-map id part words id t.comps
+      ∙ ap (option_map (parted_at id part words)) done.found
+      ∙ ap (λ h. Some (cond {A = Component} h (parted_by part words c) c)) here.1 in
+      subst (λ (p : Option Component × Option Component). IsPartedBy part p.0 p.1) (λ i. (done.found i, now i)) seen
+
+  -- the row where a component is found
+  row-at : (clock : ℕ) (c : Component) → find (λ c. c.id == id) t.comps ≡ Some c → rows.is_used (graph_of t) id ≡ true → rows.set_data (state_in t r clock) id part ≡ row_by (state_in t r clock) id part true (Some (kind_by c.unit)) (staging_one c.id c.unit)
+  row-at clock c at used =
+      row-is-by (state_in t r clock) id part
+      ∙ (λ i. row_by (state_in t r clock) id part (used i)
+      ((ap (option_map (λ (x : Comp). x.kind)) (comp-found t id ∙ ap (option_map comp_by) at)) i)
+      (staging-found id t.comps c comps-ascend at i))
+    where
+      comps-ascend : Ascends (λ c. c.id) t.comps
+      comps-ascend = ascends-keys (λ (x : Comp). x.id) (λ (c : Component). c.id) (map comp_by t.comps) t.comps (ids t.comps) (held.kept 0).ascending.comps
+        where
+          ids : (cs : List Component) → map (λ (x : Comp). x.id) (map comp_by cs) ≡ map (λ (c : Component). c.id) cs
+          ids [] = refl
+          ids (c ∷ cs) = ap (λ ns. c.id ∷ ns) (ids cs)
+
+  told-set : (clock : ℕ) (answer : Result Unit Errno) → left_with u answer ≡ part_set t id part words → OnOk answer (IsPartedBy part (find (λ c. c.id == id) t.comps) (find (λ c. c.id == id) u.comps)) → answer_of (state_in u r clock) answer ≡ rows.set_data (state_in t r clock) id part
+  told-set clock (Ok tt) is seen = all-done (is-done is)
+    where
+      f : FwState
+      f = state_in t r clock
+
+      all-done : IsDone t u id part words → ◌≡◌ {A = Result FwState ℤ} (Ok (state_in u r clock)) (rows.set_data f id part)
+      all-done done =
+          let c = done.taker in
+          ap (λ (x : Tables). let y : Result FwState ℤ = Ok (state_in x r clock) in y) done.tables
+          ∙ ap (λ (x : FwState). let y : Result FwState ℤ = Ok x in y) (sym (by (part.remaining == 0) refl))
+          ∙ sym (row-at clock c done.found (used (rows.is_used (graph_of t) id) refl (is ∙ ap (λ h. tables-by h (find (λ c. c.id == id) t.comps)) (there-used t id))) ∙ row-taken f id part c.unit (staging_one c.id c.unit) (sym (takes-row c.id c.unit part) ∙ done.takes))
+        where
+          used : (h : Bool) → rows.is_used (graph_of t) id ≡ h → ◌≡◌ {A = Result Tables ℤ} (Ok u) (tables-by h (find (λ c. c.id == id) t.comps)) → rows.is_used (graph_of t) id ≡ true
+          used true at e = at
+          used false at e = absurd (cc e)
+
+          by : (h : Bool) → (part.remaining == 0) ≡ h → leads-to f id part (joined_bytes done.taker.id done.taker.unit part) ≡ state_in (parted id part words t) r clock
+          by true last = ap (λ h. cond h (rows.blob_installed id (joined_bytes done.taker.id done.taker.unit part) f) (rows.with_staged id (joined_bytes done.taker.id done.taker.unit part) part f)) last ∙ installed-state t r id part words held done.taker done.found done.takes (seen-of done seen) clock last
+          by false more = ap (λ h. cond h (rows.blob_installed id (joined_bytes done.taker.id done.taker.unit part) f) (rows.with_staged id (joined_bytes done.taker.id done.taker.unit part) part f)) more ∙ staged-state t r id part words held done.taker done.found done.takes (seen-of done seen) clock more
+  told-set clock (Err error) is seen = by (rows.is_used (graph_of t) id) (find (λ c. c.id == id) t.comps) refl refl (is ∙ ap (λ h. tables-by h (find (λ c. c.id == id) t.comps)) (there-used t id))
+    where
+      f : FwState
+      f = state_in t r clock
+
+      out : (e : ℤ) → ◌≡◌ {A = Result Tables ℤ} (Err error.0) (Err e) → ◌≡◌ {A = Result FwState ℤ} (Err error.0) (Err e)
+      out e same = cc
+
+      by : (h : Bool) (o : Option Component) → rows.is_used (graph_of t) id ≡ h → find (λ c. c.id == id) t.comps ≡ o → ◌≡◌ {A = Result Tables ℤ} (Err error.0) (tables-by h o) → ◌≡◌ {A = Result FwState ℤ} (Err error.0) (rows.set_data f id part)
+      by false o used at e =
+          out (negsuc 18) e
+          ∙ sym (row-is-by f id part ∙ ap (λ h. row_by f id part h (rows.kind_at f.graph id) (rows.staging_at f id)) used ∙ row-gone f id part (rows.kind_at f.graph id) (rows.staging_at f id))
+      by true None used at e =
+          out (negsuc 21) e
+          ∙ sym (row-is-by f id part
+          ∙ (λ i. row_by f id part (used i) ((ap (option_map (λ (x : Comp). x.kind)) (comp-found t id ∙ ap (option_map comp_by) at)) i) (rows.staging_at f id))
+          ∙ row-other f id part (rows.staging_at f id))
+      by true (Some c) used at e = as_taken (takes_part c.id c.unit part) refl e
+        where
+          as_taken : (k : Bool) → takes_part c.id c.unit part ≡ k → ◌≡◌ {A = Result Tables ℤ} (Err error.0) (cond k (Ok (parted id part words t)) (Err (negsuc 21))) → ◌≡◌ {A = Result FwState ℤ} (Err error.0) (rows.set_data f id part)
+          as_taken true taken e = absurd (cc e)
+          as_taken false free e = out (negsuc 21) e ∙ sym (row-at clock c at used ∙ row-refused f id part c.unit (staging_one c.id c.unit) (sym (takes-row c.id c.unit part) ∙ free))
+
+  set-heap : (f g : FwState) → rows.set_data f id part ≡ Ok g → heap_bytes g.heap ≡ heap_bytes f.heap
+  set-heap f g is = by (rows.is_used f.graph id) (rows.has_kind is_equaliser (rows.kind_at f.graph id)) (rows.keeps_order (rows.staging_at f id) part) (part.remaining == 0) (is_blob (rows.staged_bytes (rows.staging_at f id) part)) is
+    where
+      by : (used eq keeps last right : Bool) → cond (not used) (Err rows.no_device) (cond (not eq || not keeps) (Err rows.invalid) (cond (not last) (Ok (rows.with_staged id (rows.staged_bytes (rows.staging_at f id) part) part f)) (cond (not right) (Err rows.invalid) (Ok (rows.blob_installed id (rows.staged_bytes (rows.staging_at f id) part) f))))) ≡ Ok g → heap_bytes g.heap ≡ heap_bytes f.heap
+      by false eq keeps last right is = absurd (cc is)
+      by true false keeps last right is = absurd (cc is)
+      by true true false last right is = absurd (cc is)
+      by true true true false right is = let same : rows.with_staged id (rows.staged_bytes (rows.staging_at f id) part) part f ≡ g = cc is in ap (λ (x : FwState). heap_bytes x.heap) (sym same)
+      by true true true true false is = absurd (cc is)
+      by true true true true true is = let same : rows.blob_installed id (rows.staged_bytes (rows.staging_at f id) part) f ≡ g = cc is in ap (λ (x : FwState). heap_bytes x.heap) (sym same)
+
+  done-homes : IsDone t u id part words → AreOf r.home u
+  done-homes done = seats-homes r.home (all_of t) (all_of u) (ap (λ (x : Tables). map seat (all_of x)) done.tables ∙ seats t r id part words held done.taker done.found done.takes) held.homes
+
+  done-channels : IsDone t u id part words → HasChannels u
+  done-channels done =
+      channels-are t u (λ c there. same c.id) (λ c there. same c.id)
+      (subst (λ (x : Tables). AllByRecursion (Fits (view_by t) moves) x.comps) (sym done.tables) (fits-map (view_by t) moves (parted_at id part words) (parted-id id part words) (parted-moves id part words) t.comps held.channels.comps))
+      (subst (λ (x : Tables). AllByRecursion (Fits (view_by t) frames) x.buffers) (sym done.tables) held.channels.buffers)
+    where
+      same : (x : ℕ) → IsSame (view_by t) (view_by u) x
+      same x = subst (λ (y : Tables). IsSame (view_by t) (view_by y) x) (sym done.tables) (after-same t r id part words held done.taker done.found done.takes x)
+
+  on-done : {X : Type 0} (answer : Result Unit Errno) → left_with u answer ≡ part_set t id part words → (IsDone t u id part words → X) → OnOk answer X
+  on-done (Ok tt) is to = to (is-done is)
+  on-done (Err error) is to = tt
+
+  pub part-set-is : Keeps (λ f. rows.set_data f id part) → (answer : Result Unit Errno) → left_with u answer ≡ part_set t id part words → OnErr answer (u ≡ t) → OnOk answer (IsPartedBy part (find (λ c. c.id == id) t.comps) (find (λ c. c.id == id) u.comps)) → IsRow (λ f. rows.set_data f id part) t u r r answer
+  part-set-is keeps answer is kept seen =
+      row-is (λ f. rows.set_data f id part) t u r r answer held
+      (λ clock. told-set clock answer is seen) keeps (λ f g kept is. set-heap f g is)
+      (on-done answer is done-homes) (on-done answer is (λ done row. done-channels done)) refl refl (err-same t u r answer kept)

@@ -6,6 +6,8 @@ mod errors;
 #[cfg(test)]
 mod messages;
 #[cfg(test)]
+mod parts;
+#[cfg(test)]
 mod rows;
 #[cfg(test)]
 mod steps;

@@ -2,8 +2,9 @@
 ghost use Rattle.std.specs.Prelude.{◌≤◌};
 
 use fw_core::Firmware;
-use ipc3_codec::{Message, encode};
+use ipc3_codec::{Body, Message, decode_reply, encode};
 use mbox_link::Dsp;
+use sof_base::Part;
 use sof_io::{Inputs, Outputs};
 use std::alloc::Global;
 use std::test::Fail;
@@ -32,6 +33,8 @@ pub(crate) enum Step {
     Bytes([u8; 20], [u8; 12]),
     /// The volume of this id has these gains, each behind its channel, as a reply carries those of two channels.
     Gains(u32, [u8; 16]),
+    /// The equaliser of this id gives this part of its blob, by the part's number.
+    Part(u32, Part),
     /// So many bytes of the heap are carved, and so many components, buffers and pipelines are there.
     Holds(u32, u16),
     /// Each of so many ticks writes so many bytes to an output, and these come first.
@@ -108,9 +111,9 @@ pub(crate) fn play(
     io: &mut Inputs,
     steps: &[Step],
 ) -> Result<Option<usize>, Fail>
-    requires { heap ≤ 4096 }
+    requires { heap ≤ 16384 }
 {
-    let mut firmware = Firmware::new(alloc, 4096)?;
+    let mut firmware = Firmware::new(alloc, ROOM)?;
     firmware.boot(heap);
     made_and_played(alloc, &mut firmware, graph, io, steps)
 }
@@ -147,6 +150,7 @@ fn comes_to(
         Step::Told(message, front) => Ok(front_of(&reply(alloc, firmware, message)?) == *front),
         Step::Bytes(request, front) => Ok(front_of(&reply_to(alloc, firmware, request)?) == *front),
         Step::Gains(id, gains) => Ok(gains_of(alloc, firmware, *id)? == *gains),
+        Step::Part(id, part) => gives(alloc, firmware, *id, part),
         Step::Holds(bytes, things) => Ok(holds(firmware, *bytes, *things)),
         Step::Ticks {
             times,
@@ -191,6 +195,25 @@ fn gains_of(alloc: Global, firmware: &mut Firmware, id: u32) -> Result<[u8; 16],
     let mut gains = [0; 16];
     gains.copy_from_slice(&reply[92..108]);
     Ok(gains)
+}
+
+// Whether an equaliser gives this part of its blob.
+fn gives(alloc: Global, firmware: &mut Firmware, id: u32, part: &Part) -> Result<bool, Fail> {
+    let index = part.index;
+    let reply = reply(alloc, firmware, &Message::GetData { id, index })?;
+    let Ok(said) = decode_reply(&reply) else {
+        return Ok(false);
+    };
+    match said.body {
+        Body::Nothing => Ok(false),
+        Body::Values(_) => Ok(false),
+        Body::Part(given) => Ok(
+            given.header == part.header
+                && given.remaining == part.remaining
+                && given.index == index
+                && given.bytes.items() == part.bytes.items(),
+        ),
+    }
 }
 
 fn holds(firmware: &Firmware, bytes: u32, things: u16) -> bool {

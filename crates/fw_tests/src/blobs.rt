@@ -56,7 +56,7 @@ fn each_fault_is_told_by_its_number(rt: HostRuntime) -> Result<(), Fail> {
 
 /// Three responses of 8, 8 and 4 sections over two channels, both with the first response. Each section passes its input, but
 /// the first section of the first response halves it.
-fn three_responses() -> [u8; 700] {
+pub(crate) fn three_responses() -> [u8; 700] {
     let mut blob = [0; 700];
     for (at, word) in [(0, 0x0046_4F53), (8, 668), (32, 668), (36, 2), (40, 3)] {
         put(&mut blob, at, word);

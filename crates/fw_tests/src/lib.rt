@@ -10,4 +10,6 @@ mod heap;
 #[cfg(test)]
 mod kernels;
 #[cfg(test)]
+mod parts;
+#[cfg(test)]
 mod registry;

@@ -1,5 +1,5 @@
 -- The acts of a call on a stream, where no test fails: the law of one act holds of each, in every sound plan.
-use Rattle.std.proofs.Common.{◌≡◌, refl, sym, ap, subst, ◌∙◌, ℕ, ◌<◌, Bool, true, false, ◌==◌, List, [], ◌∷◌, length, Option, Some, None, Ok, unwrap_or}
+use Rattle.std.proofs.Common.{◌≡◌, refl, sym, ap, ◌∙◌, ℕ, ◌<◌, Bool, true, false, List, [], ◌∷◌, length, Option, Some, None, Ok, unwrap_or}
 use Rattle.std.specs.Prelude.{if◌then◌else◌}
 use Rattle.tplg_plan.specs.declared.plans.Plan.{Plan}
 use Rattle.tplg_plan.specs.declared.plans.StreamPlan.{StreamPlan}
@@ -17,12 +17,11 @@ use Rattle.host_widgets.specs.Kept.{changed}
 use Rattle.host_widgets.specs.HostActs.{Act, Prepare, Trig, Free, after, triggered}
 use Rattle.host_widgets.specs.ActLists.{close_by}
 use Rattle.host_widgets.specs.Host.{IsRecordOf}
-use Rattle.host_widgets.specs.Orders.{Order}
 use Rattle.host_widgets.proofs.ReadyWays.{has_host}
 use Rattle.host_widgets.proofs.StreamRows.{AllAt}
 use Rattle.host_widgets.proofs.StreamPlaces.{place-has, place-all}
-use Rattle.host_widgets.proofs.OneActLaws.{IsStreamAct, stream-taken}
-use Rattle.host_widgets.proofs.WalksHold.{AreTaken}
+use Rattle.host_widgets.proofs.OneActLaws.{IsPlain, IsStreamAct, stream-taken}
+use Rattle.host_widgets.proofs.WalksHold.{AreTaken, none-taken, plainly-taken}
 use Rattle.host_pcm.specs.declared.asking.Ask.{Ask}
 use Rattle.host_pcm.specs.declared.asking.Ask.TheVariants.{Opening, Preparing, Triggering, Closing}
 use Rattle.host_pcm.specs.Asks.{stream_at, stream_place, caps_at, takes_trigger, takes_params, early_fault, named_fault}
@@ -43,8 +42,8 @@ ends is = absurd (cc is)
 
 module _ (plan : Plan) (sound : IsSound plan) (kept : Record) (is : IsRecordOf plan kept) where
   -- an act alone
-  alone : (act : Act) → IsStreamAct plan kept act → AreTaken plan false kept (act ∷ [])
-  alone act stream = (stream-taken plan kept act stream, λ now. tt, ends)
+  alone : (act : Act) → IsPlain act → IsStreamAct plan kept act → AreTaken plan false kept (act ∷ [])
+  alone act plain stream = plainly-taken plan false kept (act ∷ []) (plain, tt) (stream-taken plan kept act stream, λ now. tt, ends)
 
   module _ (k : ℕ) (within : k < length plan.streams) where
     abbrev host : ℕ
@@ -58,7 +57,7 @@ module _ (plan : Plan) (sound : IsSound plan) (kept : Record) (is : IsRecordOf p
 
     -- a stream that moves is stopped and freed
     both-taken : takes_trigger Stop (stream_at kept k).found ≡ true → AreTaken plan false kept (Trig host Stop ∷ Free host ∷ [])
-    both-taken takes = (
+    both-taken takes = plainly-taken plan false kept (Trig host Stop ∷ Free host ∷ []) (tt, (tt, tt)) (
       stream-taken plan kept (Trig host Stop) (trig-is plan sound kept is host some Stop (at-host (λ r. takes_trigger Stop r.found ≡ true) takes)),
       λ now.
           let stopped = after plan (Trig host Stop) kept in
@@ -67,27 +66,27 @@ module _ (plan : Plan) (sound : IsSound plan) (kept : Record) (is : IsRecordOf p
     )
 
     close-taken : (found : Found) → (stream_at kept k).found ≡ found → AreTaken plan false kept (close_by host found)
-    close-taken Closed found = tt
-    close-taken Open found = tt
-    close-taken Found_On found = tt
-    close-taken Prepared found = alone (Free host) (free-is plan sound kept is host some (at-host (λ r. r.found ≡ Prepared) found))
+    close-taken Closed found = none-taken plan false kept
+    close-taken Open found = none-taken plan false kept
+    close-taken Found_On found = none-taken plan false kept
+    close-taken Prepared found = alone (Free host) tt (free-is plan sound kept is host some (at-host (λ r. r.found ≡ Prepared) found))
     close-taken Running found = both-taken (ap (takes_trigger Stop) found)
     close-taken Paused found = both-taken (ap (takes_trigger Stop) found)
 
     -- by what is asked, and the power
     ask-taken : (ask : Ask) (power : Power) → Stood (caps_at plan k) ask (stream_at kept k).found kept.power → AreTaken plan false kept (asking_order plan (record { power = power; streams = kept.streams; controls = kept.controls }) host (stream_at kept k).found ask).acts
-    ask-taken Opening powers.On stood = tt
-    ask-taken Opening powers.Off stood = tt
-    ask-taken Opening powers.Unloaded stood = tt
-    ask-taken (Preparing p) powers.On stood = alone (Prepare host p) (prepare-is plan sound kept is host some p (ranges (caps_at plan k) p stood.range) (at-host (λ r. takes_params r.found ≡ true) stood.takes_it))
-    ask-taken (Preparing p) powers.Off stood = tt
-    ask-taken (Preparing p) powers.Unloaded stood = tt
-    ask-taken (Triggering what) powers.On stood = alone (Trig host what) (trig-is plan sound kept is host some what (at-host (λ r. takes_trigger what r.found ≡ true) stood.takes_it))
-    ask-taken (Triggering what) powers.Off stood = tt
-    ask-taken (Triggering what) powers.Unloaded stood = tt
+    ask-taken Opening powers.On stood = none-taken plan false kept
+    ask-taken Opening powers.Off stood = none-taken plan false kept
+    ask-taken Opening powers.Unloaded stood = none-taken plan false kept
+    ask-taken (Preparing p) powers.On stood = alone (Prepare host p) tt (prepare-is plan sound kept is host some p (ranges (caps_at plan k) p stood.range) (at-host (λ r. takes_params r.found ≡ true) stood.takes_it))
+    ask-taken (Preparing p) powers.Off stood = none-taken plan false kept
+    ask-taken (Preparing p) powers.Unloaded stood = none-taken plan false kept
+    ask-taken (Triggering what) powers.On stood = alone (Trig host what) tt (trig-is plan sound kept is host some what (at-host (λ r. takes_trigger what r.found ≡ true) stood.takes_it))
+    ask-taken (Triggering what) powers.Off stood = none-taken plan false kept
+    ask-taken (Triggering what) powers.Unloaded stood = none-taken plan false kept
     ask-taken Closing powers.On stood = close-taken (stream_at kept k).found refl
-    ask-taken Closing powers.Off stood = tt
-    ask-taken Closing powers.Unloaded stood = tt
+    ask-taken Closing powers.Off stood = none-taken plan false kept
+    ask-taken Closing powers.Unloaded stood = none-taken plan false kept
 
   module _ (name : List ℕ) (ask : Ask) (none : early_fault plan kept name ask ≡ None) where
     no-place : (power : Power) → loaded_fault power (Some (NoSuch name)) ≡ None → ⊥

@@ -15,7 +15,6 @@ use Rattle.host_widgets.specs.declared.kept.Power.{Power}
 use Rattle.host_widgets.specs.declared.kept.Power.TheVariants as powers
 use Rattle.host_widgets.specs.declared.kept.Power.TheVariants.{On}
 use Rattle.host_widgets.specs.declared.kept.Record.{Record}
-use Rattle.host_widgets.specs.Controls.{IsLoadable}
 use Rattle.host_widgets.specs.Kept.{went_down, with_power}
 use Rattle.host_widgets.specs.Expected.{phase_of}
 use Rattle.host_widgets.specs.Host.{Outcome, Agrees, IsRecordOf, Sides}
@@ -161,13 +160,13 @@ module _ {D : Type 0} (means : Meaning D) (plan : Plan) (heap : ℕ) where
 
   -- ---- a resume
 
-  module _ (loadable : IsLoadable plan) (kept : Record) (is : IsRecordOf plan kept) (still : list_any (λ r. is_live_phase (phase_of r.found)) kept.streams ≡ false) where
+  module _ (sound : IsSound plan) (kept : Record) (is : IsRecordOf plan kept) (still : list_any (λ r. is_live_phase (phase_of r.found)) kept.streams ≡ false) where
     abbrev prepares : List Act
     prepares = flat_map prepare_acts (zip plan.streams kept.streams)
 
     -- all that bring it back leave the record
     pub back-leaves : AllByRecursion (λ (act : Act). after plan act kept ≡ kept) (bring_back plan kept)
-    back-leaves = all-both (λ (act : Act). after plan act kept ≡ kept) (bring_up plan kept) prepares (bring-leaves plan kept loadable is.controls) (prepares-stay plan heap loadable.sound kept is plan.streams kept.streams (all-were plan heap loadable.sound kept is))
+    back-leaves = all-both (λ (act : Act). after plan act kept ≡ kept) (bring_up plan kept) prepares (bring-leaves plan kept sound) (prepares-stay plan heap sound kept is plan.streams kept.streams (all-were plan heap sound kept is))
 
     -- a bring-up that failed is the end
     pub back-failed : (mid : Record) (w v : World D) (fault : HostFault) (result : Outcome) → ActsCame means plan heap false (bring_up plan kept) kept mid w v (Err fault) → result ≡ Err fault → ActsCame means plan heap false (bring_back plan kept) kept kept w v result
@@ -178,10 +177,10 @@ module _ {D : Type 0} (means : Meaning D) (plan : Plan) (heap : ℕ) where
     module _ (mid : Record) (w m v : World D) (result : Outcome) (x : ActsCame means plan heap false (bring_up plan kept) kept mid w m (Ok tt)) (n : ℕ) (on : means.on m.device ≡ Some (state_by plan kept heap n)) (turn : InTurn means plan false prepares m v result) where
       prepared-so : Came plan heap false (λ v. v ≡ view_by plan kept) (IsFine plan heap) means (state_by plan kept heap n) kept prepares m v result
       prepared-so = turns-come plan heap false (λ v. v ≡ view_by plan kept) (IsFine plan heap) means prepares kept (view_by plan (bare_from plan plan.streams kept)) m v result
-          (state_by plan kept heap n, on, sym (bare-view plan kept is)) (coming-back plan heap loadable.sound kept is still) turn
+          (state_by plan kept heap n, on, sym (bare-view plan kept is)) (coming-back plan heap sound kept is still) turn
 
       same-mid : (walked kept x.meetings (bring_up plan kept)).kept ≡ kept
-      same-mid = walk-stays kept (bring_up plan kept) x.meetings (bring-leaves plan kept loadable is.controls)
+      same-mid = walk-stays kept (bring_up plan kept) x.meetings (bring-leaves plan kept sound)
 
       pub back-came : ActsCame means plan heap false (bring_back plan kept) kept kept w v result
       back-came =

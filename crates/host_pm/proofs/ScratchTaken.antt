@@ -19,7 +19,6 @@ use Rattle.host_widgets.specs.declared.trigger.Trigger.{Trigger}
 use Rattle.host_widgets.specs.declared.trigger.Trigger.TheVariants.{Start, Pause}
 use Rattle.host_widgets.specs.ActLists.{bring_up, bring_back, prepare_acts, prepare_by}
 use Rattle.host_widgets.specs.ActMessages.{message_of}
-use Rattle.host_widgets.specs.Controls.{IsLoadable}
 use Rattle.host_widgets.specs.Host.{Fits, IsRecordOf}
 use Rattle.host_widgets.specs.HostActs.{Act, Trig, after, triggered}
 use Rattle.host_widgets.specs.HostRecord.{halted, halted_found, is_in_range}
@@ -299,7 +298,7 @@ empty-buffers : (es : List Edge) → map (λ (r : RingView). r.buffer) (map (λ 
 empty-buffers [] = refl
 empty-buffers (e ∷ es) = λ i. e.buffer ∷ empty-buffers es i
 
-module _ (plan : Plan) (heap : ℕ) (kept : Record) (loadable : IsLoadable plan) (is : IsRecordOf plan kept) (fits : Fits plan heap) where
+module _ (plan : Plan) (heap : ℕ) (kept : Record) (sound : IsSound plan) (is : IsRecordOf plan kept) (fits : Fits plan heap) where
   -- the record with each stream prepared that runs or is paused
   abbrev down : Record
   down = went_down kept
@@ -316,7 +315,7 @@ module _ (plan : Plan) (heap : ℕ) (kept : Record) (loadable : IsLoadable plan)
   -- the list that brings the device up
   first-taken : TakesActs plan (fresh heap) (bring_up plan down) (state_by plan down heap 0)
   first-taken =
-      let b = brings plan heap down loadable down-is.controls in
+      let b = brings plan heap down sound down-is.controls in
       subst (λ (s : FwState). TakesActs plan (fresh heap) (bring_up plan down) (at s 0)) b.state (takes-brought plan heap down fits (bring_up plan down) (fresh heap) b.follow)
 
   -- the streams' parameters
@@ -325,20 +324,20 @@ module _ (plan : Plan) (heap : ℕ) (kept : Record) (loadable : IsLoadable plan)
 
   then-taken : Taken (state_by plan down heap 0) prepares (view_by plan down)
   then-taken = met-taken plan heap (view_by plan down) prepares down (view_by plan (bare_from plan plan.streams down)) (state_by plan down heap 0) (sym (bare-view plan down down-is))
-      (coming-back plan heap loadable.sound down down-is (down-rests kept.streams))
-      (prepares-free plan heap loadable.sound down down-is plan.streams down.streams (streams-ascend plan loadable.sound) (all-were plan heap loadable.sound down down-is) down-is.each)
+      (coming-back plan heap sound down down-is (down-rests kept.streams))
+      (prepares-free plan heap sound down down-is plan.streams down.streams (streams-ascend plan sound) (all-were plan heap sound down down-is) down-is.each)
       (record { pieces = refl; clock = refl; rings = refl })
 
   -- the triggers
-  all-halted : halted_from plan heap loadable.sound kept plan.streams ≡ record { power = kept.power; streams = down.streams; controls = kept.controls }
-  all-halted = λ i. record { power = kept.power; streams = halts-all plan.streams kept.streams is.streams (streams-ascend plan loadable.sound) i; controls = kept.controls }
+  all-halted : halted_from plan heap sound kept plan.streams ≡ record { power = kept.power; streams = down.streams; controls = kept.controls }
+  all-halted = λ i. record { power = kept.power; streams = halts-all plan.streams kept.streams is.streams (streams-ascend plan sound) i; controls = kept.controls }
 
-  goes : GoesOn plan heap loadable.sound kept (halted_from plan heap loadable.sound kept plan.streams) starts
-  goes = starting plan heap loadable.sound kept plan.streams kept.streams (streams-ascend plan loadable.sound) (all-were plan heap loadable.sound kept is)
+  goes : GoesOn plan heap sound kept (halted_from plan heap sound kept plan.streams) starts
+  goes = starting plan heap sound kept plan.streams kept.streams (streams-ascend plan sound) (all-were plan heap sound kept is)
       (subst (IsRecordOf plan) (sym all-halted) (record { streams = down-is.streams; controls = down-is.controls; each = down-is.each; shapes = down-is.shapes }))
 
   last-taken : Taken then-taken.0 starts (view_by plan kept)
-  last-taken = met-taken plan heap (view_by plan kept) starts (halted_from plan heap loadable.sound kept plan.streams) (view_by plan (halted_from plan heap loadable.sound kept plan.streams)) then-taken.0
+  last-taken = met-taken plan heap (view_by plan kept) starts (halted_from plan heap sound kept plan.streams) (view_by plan (halted_from plan heap sound kept plan.streams)) then-taken.0
       (then-taken.2 ∙ ap (view_by plan) (sym all-halted)) goes.0 goes.1 then-taken.3
 
   last-keeps : Keeps plan heap kept last-taken.0

@@ -13,7 +13,7 @@ use Rattle.host_widgets.specs.declared.kept.Record.{Record}
 use Rattle.host_widgets.specs.declared.trigger.Trigger.TheVariants.{Start, Pause}
 use Rattle.host_widgets.specs.ActLists.{bring_back}
 use Rattle.host_widgets.specs.ActMessages.{message_of}
-use Rattle.host_widgets.specs.Controls.{IsLoadable}
+use Rattle.tplg_plan.specs.Sound.{IsSound}
 use Rattle.host_widgets.specs.Host.{Fits, IsRecordOf}
 use Rattle.host_widgets.specs.HostActs.{Act, Trig}
 use Rattle.host_widgets.specs.Keeps.{Keeps}
@@ -45,6 +45,6 @@ pub record IsFromScratch (plan : Plan) (heap : ℕ) (kept : Record) : Type 0 whe
   pub keeps : Keeps plan heap kept state
   pub same : (g : FwState) → Keeps plan heap kept g → (view_of g ≡ view_of state) × (g.heap ≡ state.heap)
 
--- so it is of every record of a plan that is loaded, where the stated sizes fit
+-- so it is of every record of a sound plan, where the stated sizes fit
 abbrev pub EachFromScratch : Type 0
-EachFromScratch = (plan : Plan) (heap : ℕ) (kept : Record) → IsLoadable plan → IsRecordOf plan kept → Fits plan heap → IsFromScratch plan heap kept
+EachFromScratch = (plan : Plan) (heap : ℕ) (kept : Record) → IsSound plan → IsRecordOf plan kept → Fits plan heap → IsFromScratch plan heap kept

@@ -9,7 +9,7 @@ ghost use Rattle.mbox_link.specs.Calls.{world};
 ghost use Rattle.mbox_link.specs.Step.{fresh};
 ghost use Rattle.host_widgets.specs.ActLists.{prepare_by, prepare_acts, bring_back};
 ghost use Rattle.host_widgets.specs.Acts.{direction_of};
-ghost use Rattle.host_widgets.specs.Controls.{IsLoadable};
+ghost use Rattle.tplg_plan.specs.Sound.{IsSound};
 ghost use Rattle.host_widgets.specs.Expected.{phase_of};
 ghost use Rattle.host_widgets.specs.Host.{Agrees, IsRecordOf};
 ghost use Rattle.host_widgets.specs.Orders.{ActsCame, Carried, Tested, resuming};
@@ -65,7 +65,7 @@ fn prepare_all<P: Dsp>(
     io: &mut Inputs,
     out: &mut Outputs,
 ) -> Result<(), HostFault>
-    requires plan { IsLoadable plan.now }
+    requires plan { IsSound plan.now }
     requires streams { length kept.now.streams ≡ length plan.now.streams }
     requires on { is_some (P.means.on dsp.old) ≡ true }
     requires room { HasRoom (61440 * P.means.pending dsp.old) out.old }
@@ -88,7 +88,7 @@ fn bring_back<P: Dsp>(
     io: &mut Inputs,
     out: &mut Outputs,
 ) -> Result<(), HostFault>
-    requires plan { IsLoadable plan.now }
+    requires plan { IsSound plan.now }
     requires kept { IsRecordOf plan.now kept.old }
     requires rests { list_any (λ r. is_live_phase (phase_of r.found)) kept.old.streams ≡ false }
     requires booted { P.means.on dsp.old ≡ Some (fresh heap) }
@@ -111,7 +111,7 @@ fn power_up<P: Dsp>(
     io: &mut Inputs,
     out: &mut Outputs,
 ) -> Result<(), HostFault>
-    requires plan { IsLoadable plan.now }
+    requires plan { IsSound plan.now }
     requires agree { Agrees P.means plan.now kept.old dsp.old }
     requires heap { heap ≤ P.means.most dsp.old }
     requires room { HasRoom (61440 * P.means.pending dsp.old) out.old }
@@ -143,7 +143,7 @@ pub fn resume<P: Dsp>(
     io: &mut Inputs,
     out: &mut Outputs,
 ) -> Result<(), HostFault>
-    requires plan { IsLoadable plan.now }
+    requires plan { IsSound plan.now }
     requires agree { Agrees P.means plan.now kept.old dsp.old }
     requires heap { heap ≤ P.means.most dsp.old }
     requires room { HasRoom (61440 * P.means.pending dsp.old) out.old }

@@ -1,5 +1,5 @@
 -- An act that the firmware takes, over any device: what it leaves, and that what stood goes on standing.
-use Rattle.std.proofs.Common.{◌≡◌, refl, sym, ap, ◌∙◌, subst, ⊎_elim, ℕ, ◌-◌, List, [], ◌∷◌, ◌++◌, Option, Some, Ok, Err, replicate, arith}
+use Rattle.std.proofs.Common.{◌≡◌, refl, sym, ap, ◌∙◌, subst, ⊎_elim, ℕ, ◌-◌, Bool, true, List, [], ◌∷◌, ◌++◌, Option, Some, Ok, Err, replicate, arith}
 use Rattle.std.proofs.lemmas.List.{append-nil}
 use Rattle.sof_base.specs.Ports.{Io, InputView}
 use Rattle.stream_law.specs.State.{FwState}
@@ -22,13 +22,14 @@ use Rattle.host_widgets.specs.OneAct.{own, outcome_by}
 use Rattle.host_widgets.specs.ActCalls.{ActDid, came_to}
 use Rattle.host_widgets.proofs.Exchanges.{came, verdict-number}
 use Rattle.host_widgets.proofs.Effects.{row-decoded}
-use Rattle.host_widgets.proofs.OneActLaws.{IsTaken}
+use Rattle.host_widgets.proofs.OneActLaws.{AreReady, IsTaken}
 
-module _ {D : Type 0} (means : Meaning D) (plan : Plan) (heap : ℕ) (kept : Record) (act : Act) (is : IsTaken plan kept act) (m : Meeting) (w v : World D)
-    (did : ActDid means plan heap kept act m w v) (quiet : means.pending w.device ≡ 0) (f : FwState) (on : means.on w.device ≡ Some f) (keeps : Keeps plan heap kept f) where
-  -- the device keeps this record, and stands these moments later
-  pub record Holds (now : Record) (moments : List Moment) : Type 0 where
+module _ {D : Type 0} (means : Meaning D) (plan : Plan) (heap : ℕ) (goes_on : Bool) (kept : Record) (act : Act) (is : IsTaken plan kept act) (acts : List Act) (m : Meeting) (w v : World D)
+    (did : ActDid means plan heap kept act m w v) (quiet : means.pending w.device ≡ 0) (f : FwState) (on : means.on w.device ≡ Some f) (keeps : Keeps plan heap kept f) (ready : AreReady plan goes_on (act ∷ acts) f) where
+  -- the device keeps this record, and stands these moments later; and this is so of its state
+  pub record Holds (So : FwState → Type 0) (now : Record) (moments : List Moment) : Type 0 where
     pub state : FwState
+    pub so : So state
     pub is_on : means.on v.device ≡ Some state
     pub record_now : IsRecordOf plan now
     pub keeps_now : Keeps plan heap now state
@@ -36,11 +37,18 @@ module _ {D : Type 0} (means : Meaning D) (plan : Plan) (heap : ℕ) (kept : Rec
     pub stands : (whole : List (ℕ × List ℕ)) (inputs : List InputView) (before : List Moment) (stood : Stands (Some f) whole inputs before) →
         (after : Stands (Some state) whole inputs (before ++ moments)) × Leads whole stood.past moments after.past
 
+  -- the acts behind it find staged what they ask
+  abbrev pub IsReadyThen : FwState → Type 0
+  IsReadyThen g = AreReady plan goes_on acts g
+
+  abbrev pub IsReadyWhereOn : FwState → Type 0
+  IsReadyWhereOn g = goes_on ≡ true → AreReady plan goes_on acts g
+
   -- after a link that failed the device is cut, and nothing is said of it
   abbrev pub Then : Outcome → Type 0
-  Then (Ok done) = Holds (after plan act kept) (replicate m.lag Tick ++ Now (view_by plan (after plan act kept)) (fresh_in act) ∷ [])
+  Then (Ok done) = Holds IsReadyThen (after plan act kept) (replicate m.lag Tick ++ Now (view_by plan (after plan act kept)) (fresh_in act) ∷ [])
   Then (Err LinkDown) = Unit {0}
-  Then (Err fault) = Holds kept (replicate m.lag Tick)
+  Then (Err fault) = Holds IsReadyWhereOn kept (replicate m.lag Tick)
 
   no-lag : m.lag ≡ 0
   no-lag = did.lag ∙ omega (arith, quiet)
@@ -52,9 +60,10 @@ module _ {D : Type 0} (means : Meaning D) (plan : Plan) (heap : ℕ) (kept : Rec
   request = message_spelling (message_of plan act)
 
   -- one that was refused
-  stays : means.on v.device ≡ Some f → v.io ≡ w.io → Holds kept (replicate m.lag Tick)
-  stays is_on io = subst (λ (n : ℕ). Holds kept (replicate n Tick)) (sym no-lag) record {
+  stays : means.on v.device ≡ Some f → v.io ≡ w.io → Holds IsReadyWhereOn kept (replicate m.lag Tick)
+  stays is_on io = subst (λ (n : ℕ). Holds IsReadyWhereOn kept (replicate n Tick)) (sym no-lag) record {
     state = f;
+    so = ready.2;
     is_on = is_on;
     record_now = is.record_is;
     keeps_now = keeps;
@@ -64,11 +73,12 @@ module _ {D : Type 0} (means : Meaning D) (plan : Plan) (heap : ℕ) (kept : Rec
 
   -- one that passed
   passes : (next : FwState) → means.on v.device ≡ Some next → v.io ≡ w.io → row f (message_of plan act) ≡ Ok next →
-      Holds (after plan act kept) (replicate m.lag Tick ++ Now (view_by plan (after plan act kept)) (fresh_in act) ∷ [])
+      Holds IsReadyThen (after plan act kept) (replicate m.lag Tick ++ Now (view_by plan (after plan act kept)) (fresh_in act) ∷ [])
   passes next is_on io done =
-      let l = is.leaves f next keeps.view keeps.rings done in
-      subst (λ (n : ℕ). Holds (after plan act kept) (replicate n Tick ++ Now (view_by plan (after plan act kept)) (fresh_in act) ∷ [])) (sym no-lag) record {
+      let l = is.leaves f next keeps.view keeps.rings ready.0 done in
+      subst (λ (n : ℕ). Holds IsReadyThen (after plan act kept) (replicate n Tick ++ Now (view_by plan (after plan act kept)) (fresh_in act) ∷ [])) (sym no-lag) record {
         state = next;
+        so = ready.1 next done;
         is_on = is_on;
         record_now = l.record_now;
         keeps_now = record { view = l.shows_now; pieces = l.heap ∙ keeps.pieces; rings = l.rings };

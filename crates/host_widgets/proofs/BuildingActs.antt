@@ -15,17 +15,18 @@ use Rattle.host_widgets.specs.declared.answers.HostFault.TheVariants as faults
 use Rattle.host_widgets.specs.declared.answers.HostFault.TheVariants.{NotLoaded, Loaded, NoSuch, State, Off, Range, Refused, LinkDown}
 use Rattle.host_widgets.specs.declared.kept.ControlRec.{ControlRec}
 use Rattle.host_widgets.specs.declared.kept.Record.{Record}
-use Rattle.host_widgets.specs.Controls.{IsLoadable}
-use Rattle.host_widgets.specs.Kept.{changed, controls_of, control_at}
-use Rattle.host_widgets.specs.HostActs.{Act, Make, Join, Put, Finish, after, with_values}
+use Rattle.mbox_link.specs.BlobParts.{is_last, part_numbers}
+use Rattle.tplg_plan.specs.Sound.{IsSound}
+use Rattle.host_widgets.specs.Kept.{changed, controls_of, control_at, with_control}
+use Rattle.host_widgets.specs.HostActs.{Act, Make, Join, Put, Part, Finish, after, with_values, with_blob}
 use Rattle.host_widgets.specs.Acts.{ids_of}
-use Rattle.host_widgets.specs.ActLists.{part_acts, control_acts_by, control_acts, bring_up}
-use Rattle.host_widgets.specs.Host.{Outcome, AreControls}
+use Rattle.host_widgets.specs.ActLists.{control_acts_by, control_acts, bring_up}
+use Rattle.host_widgets.specs.Host.{Outcome}
 use Rattle.host_widgets.specs.OneAct.{own, outcome_by, lag_of, came}
 use Rattle.host_widgets.specs.Walk.{goes_past, joined, walk}
 use Rattle.host_widgets.specs.ActCalls.{next_of}
 use Rattle.host_widgets.proofs.LookedUp.{each-found}
-use Rattle.host_widgets.proofs.ControlLists.{Pair, comp_at, Takes, all-take, zip-ascends, no-blobs}
+use Rattle.host_widgets.proofs.ControlLists.{Pair, comp_at, zip-ascends}
 
 -- nothing goes on after a fault
 pub ends-at : (fault : HostFault) → goes_past false (Err fault) ≡ false
@@ -54,22 +55,22 @@ module _ (plan : Plan) (kept : Record) where
 
   -- ---- a control that is set to what it has
 
-  stays : (comp : ℕ) (values : List ℕ) (ks : List ControlPlan) (rs : List ControlRec) → AllByRecursion (λ (p : Pair). (p.0.comp == comp) ≡ true → p.1.values ≡ values) (zip ks rs) → changed (λ (k : ControlPlan). k.comp) comp (with_values values) ks rs ≡ rs
-  stays comp values [] rs same = refl
-  stays comp values (k ∷ ks) [] same = refl
-  stays comp values (k ∷ ks) (r ∷ rs) same = λ i. by (k.comp == comp) refl i ∷ stays comp values ks rs same.1 i
+  stays : (comp : ℕ) (f : ControlRec → ControlRec) (ks : List ControlPlan) (rs : List ControlRec) → AllByRecursion (λ (p : Pair). (p.0.comp == comp) ≡ true → f p.1 ≡ p.1) (zip ks rs) → changed (λ (k : ControlPlan). k.comp) comp f ks rs ≡ rs
+  stays comp f [] rs same = refl
+  stays comp f (k ∷ ks) [] same = refl
+  stays comp f (k ∷ ks) (r ∷ rs) same = λ i. by (k.comp == comp) refl i ∷ stays comp f ks rs same.1 i
     where
-      by : (b : Bool) → (k.comp == comp) ≡ b → (if b then with_values values r else r) ≡ r
-      by true is = λ i. record { values = sym (same.0 is) i; blob = r.blob }
+      by : (b : Bool) → (k.comp == comp) ≡ b → (if b then f r else r) ≡ r
+      by true is = same.0 is
       by false is = refl
 
   abbrev IsThere : Pair → Type 0
   IsThere p = control_at plan kept p.0.comp ≡ Some p
 
   -- no other control has its component
-  alone : (p : Pair) → IsThere p → (ps : List Pair) → AllByRecursion IsThere ps → AllByRecursion (λ (q : Pair). (q.0.comp == p.0.comp) ≡ true → q.1.values ≡ p.1.values) ps
-  alone p there [] all = tt
-  alone p there (q ∷ qs) all = ((λ is. ap (λ (x : Pair). x.1.values) (same is)), alone p there qs all.1)
+  alone : (p : Pair) → IsThere p → (f : ControlRec → ControlRec) → f p.1 ≡ p.1 → (ps : List Pair) → AllByRecursion IsThere ps → AllByRecursion (λ (q : Pair). (q.0.comp == p.0.comp) ≡ true → f q.1 ≡ q.1) ps
+  alone p there f keeps [] all = tt
+  alone p there f keeps (q ∷ qs) all = ((λ is. subst (λ (x : Pair). f x.1 ≡ x.1) (sym (same is)) keeps), alone p there f keeps qs all.1)
     where
       same : (q.0.comp == p.0.comp) ≡ true → q ≡ p
       same is =
@@ -77,38 +78,47 @@ module _ (plan : Plan) (kept : Record) where
           cc one
 
   module _ (all : AllByRecursion IsThere (controls_of plan kept)) where
-    put-leaves : (p : Pair) → IsThere p → Leaves (Put p.0.comp p.1.values)
-    put-leaves p there = λ i. record {
+    same-control : (p : Pair) → IsThere p → (f : ControlRec → ControlRec) → f p.1 ≡ p.1 → with_control plan p.0.comp f kept ≡ kept
+    same-control p there f keeps = λ i. record {
       power = kept.power;
       streams = kept.streams;
-      controls = stays p.0.comp p.1.values plan.controls kept.controls (alone p there (controls_of plan kept) all) i;
+      controls = stays p.0.comp f plan.controls kept.controls (alone p there f keeps (controls_of plan kept) all) i;
     }
 
-    one-leaves : (id : ℕ) (kind : ControlKind) (r : ControlRec) → Takes kind r → Leaves (Put id r.values) → AllByRecursion Leaves (control_acts_by id kind r)
-    one-leaves id (Volume min max channels lowest step mute) r takes put = (put, tt)
-    one-leaves id (Choice items) r takes put = (put, tt)
-    one-leaves id (Blob most initial) r takes put = subst (λ (bytes : List ℕ). AllByRecursion Leaves (part_acts id bytes)) (sym takes) tt
+    put-leaves : (p : Pair) → IsThere p → Leaves (Put p.0.comp p.1.values)
+    put-leaves p there = same-control p there (with_values p.1.values) refl
 
-    puts-leave : (ps : List Pair) → AllByRecursion IsThere ps → AllByRecursion (λ (p : Pair). Takes p.0.kind p.1) ps → AllByRecursion Leaves (flat_map control_acts ps)
-    puts-leave [] there takes = tt
-    puts-leave (p ∷ ps) there takes =
+    part-leaves : (p : Pair) → IsThere p → (k : ℕ) → Leaves (Part p.0.comp p.1.blob k)
+    part-leaves p there k = by (is_last p.1.blob k)
+      where
+        by : (b : Bool) → (if b then with_control plan p.0.comp (with_blob p.1.blob) kept else kept) ≡ kept
+        by true = same-control p there (with_blob p.1.blob) refl
+        by false = refl
+
+    one-leaves : (id : ℕ) (kind : ControlKind) (r : ControlRec) → Leaves (Put id r.values) → ((k : ℕ) → Leaves (Part id r.blob k)) → AllByRecursion Leaves (control_acts_by id kind r)
+    one-leaves id (Volume min max channels lowest step mute) r put parts = (put, tt)
+    one-leaves id (Choice items) r put parts = (put, tt)
+    one-leaves id (Blob most initial) r put parts = all-mapped Leaves (Part id r.blob) parts (part_numbers r.blob)
+
+    puts-leave : (ps : List Pair) → AllByRecursion IsThere ps → AllByRecursion Leaves (flat_map control_acts ps)
+    puts-leave [] there = tt
+    puts-leave (p ∷ ps) there =
         all-both Leaves (control_acts p) (flat_map control_acts ps)
-        (one-leaves p.0.comp p.0.kind p.1 takes.0 (put-leaves p there.0))
-        (puts-leave ps there.1 takes.1)
+        (one-leaves p.0.comp p.0.kind p.1 (put-leaves p there.0) (part-leaves p there.0))
+        (puts-leave ps there.1)
 
   -- ---- all of them
 
-  pub bring-leaves : IsLoadable plan → AreControls plan.controls kept.controls → AllByRecursion Leaves (bring_up plan kept)
-  bring-leaves loadable are =
+  pub bring-leaves : IsSound plan → AllByRecursion Leaves (bring_up plan kept)
+  bring-leaves sound =
       let makes : List Act = map Make (ids_of plan) in
       let joins : List Act = map (λ (j : Joined). Join j.source j.sink) plan.graph.joins in
       let puts : List Act = flat_map control_acts (controls_of plan kept) in
       let finishes : List Act = map (λ (p : Pipe). Finish p.id) plan.graph.pipes in
-      let there : AllByRecursion IsThere (controls_of plan kept) = each-found comp_at (controls_of plan kept) (zip-ascends plan.controls kept.controls loadable.sound.controls_ascend) in
-      let take : AllByRecursion (λ (p : Pair). Takes p.0.kind p.1) (controls_of plan kept) = all-take plan.graph plan.controls kept.controls loadable.sound.live (no-blobs plan.controls loadable.blobs) are in
+      let there : AllByRecursion IsThere (controls_of plan kept) = each-found comp_at (controls_of plan kept) (zip-ascends plan.controls kept.controls sound.controls_ascend) in
       all-both Leaves makes (joins ++ (puts ++ finishes)) (all-mapped Leaves Make (λ (id : ℕ). refl) (ids_of plan))
       (all-both Leaves joins (puts ++ finishes) (all-mapped Leaves (λ (j : Joined). Join j.source j.sink) (λ (j : Joined). refl) plan.graph.joins)
-      (all-both Leaves puts finishes (puts-leave there (controls_of plan kept) there take)
+      (all-both Leaves puts finishes (puts-leave there (controls_of plan kept) there)
       (all-mapped Leaves (λ (p : Pipe). Finish p.id) (λ (p : Pipe). refl) plan.graph.pipes)))
 
   -- a walk of such acts leaves the record, wherever it ends

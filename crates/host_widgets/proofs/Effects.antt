@@ -1,8 +1,9 @@
 -- What each message does to a firmware that takes it, and the acts that it takes one after the other.
-use Rattle.std.proofs.Common.{◌≡◌, ◌⊎◌, inl, inr, ℕ, ◌<◌, pos, List, [], ◌∷◌, map, length, Option, Some, None, unwrap_or, Ok, Err, refl, sym, ap, ◌∙◌, append-nil}
+use Rattle.std.proofs.Common.{◌≡◌, ◌⊎◌, inl, inr, ℕ, ◌<◌, pos, List, [], ◌∷◌, map, length, Bool, true, false, cond, ◌==◌, Option, Some, None, unwrap_or, Ok, Err, refl, sym, ap, ◌∙◌, append-nil}
 use Rattle.std.specs.Prelude.{option_and_then}
 use Rattle.std.specs.Option.{option_map}
 use Rattle.sof_base.specs.declared.errno.Errno.{Errno}
+use Rattle.sof_base.specs.declared.part.Part.{Part as Carried}
 use Rattle.stream_law.specs.declared.graph.Setting.{Setting}
 use Rattle.stream_law.specs.declared.graph.Graph.{Graph}
 use Rattle.stream_law.specs.declared.graph.Comp.{Comp}
@@ -17,7 +18,7 @@ use Rattle.ipc3_codec.specs.declared.reply.Body.{Body}
 use Rattle.ipc3_codec.specs.declared.reply.Body.TheVariants.{Nothing}
 use Rattle.ipc3_codec.specs.Messages.{message_spelling, decoded, IsMessage}
 use Rattle.ipc3_codec.proofs.Spelled.{decoded-spelling}
-use Rattle.mbox_link.specs.Step.{row, row_of, body, body_of, kind_of, first_setting, new_setting, with_setting, with_comps, with_comp, with_buffer, with_pipe, with_pipes, completed, no_memory}
+use Rattle.mbox_link.specs.Step.{row, row_of, body, body_of, kind_of, first_setting, new_setting, with_setting, with_comps, with_comp, with_buffer, with_pipe, with_pipes, with_staged, blob_installed, staged_bytes, staging_at, completed, no_memory}
 use Rattle.tplg_plan.specs.declared.plans.Plan.{Plan}
 use Rattle.tplg_plan.specs.declared.plans.WidgetPlan.{WidgetPlan}
 use Rattle.tplg_plan.specs.declared.plans.ControlPlan.{ControlPlan}
@@ -35,6 +36,7 @@ use Rattle.host_widgets.specs.declared.trigger.Trigger.TheVariants.{Start, Stop,
 use Rattle.host_widgets.proofs.ReplyErrors.{reply_with, done_reply}
 use Rattle.host_widgets.proofs.Exchanges.{verdict-zero}
 use Rattle.host_widgets.proofs.SilentTicks.{at, IsStill}
+use Rattle.host_widgets.proofs.PartRows.{part_effect}
 
 -- a graph with this set at a component, where it can be set
 abbrev pub set_at : ℕ → Option Setting → Graph → Graph
@@ -50,7 +52,15 @@ effect (Connect source sink) f = record f { graph = with_join f.graph (record { 
 effect (SetValue id command values) f =
     record f { graph = set_at id (option_and_then (λ c. new_setting c.kind c.setting command values) (comp_of f.graph id)) f.graph }
 effect (PipeComplete id) f = record f { graph = with_pipes (map (completed id) f.graph.pipes) f.graph }
+effect (SetData id part) f = part_effect id (staged_bytes (staging_at f id) part) part f
 effect m f = f
+
+part-at : (id : ℕ) (bytes : List ℕ) (p : Carried) (g : FwState) (t : ℕ) → part_effect id bytes p (at g t) ≡ at (part_effect id bytes p g) t
+part-at id bytes p g t = by (p.remaining == 0)
+  where
+    by : (b : Bool) → cond b (blob_installed id bytes (at g t)) (with_staged id bytes p (at g t)) ≡ at (cond b (blob_installed id bytes g) (with_staged id bytes p g)) t
+    by true = refl
+    by false = refl
 
 -- no effect looks at the clock
 pub effect-at : (m : Message) (g : FwState) (t : ℕ) → effect m (at g t) ≡ at (effect m g) t
@@ -65,7 +75,7 @@ effect-at (BufferFree id) g t = refl
 effect-at CtxSave g t = refl
 effect-at (SetValue id command values) g t = refl
 effect-at (GetValue id command) g t = refl
-effect-at (SetData id part) g t = refl
+effect-at (SetData id part) g t = part-at id (staged_bytes (staging_at g id) part) part g t
 effect-at (GetData id index) g t = refl
 effect-at (PcmParams host direction params) g t = refl
 effect-at (PcmFree id) g t = refl

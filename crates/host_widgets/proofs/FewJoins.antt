@@ -1,5 +1,5 @@
 -- How many joins a plan has, and so how many messages bring it up.
-use Rattle.std.proofs.Common.{◌≡◌, refl, sym, ap, subst, ◌∙◌, ℕ, ◌+◌, ◌*◌, ◌≤◌, Bool, true, false, cond, List, [], ◌∷◌, ◌++◌, map, length, ◌==◌, ⊎_elim, inl, inr, arith}
+use Rattle.std.proofs.Common.{◌≡◌, refl, sym, ap, ◌∙◌, ℕ, ◌+◌, ◌*◌, ◌≤◌, Bool, true, false, cond, List, [], ◌∷◌, ◌++◌, map, length, ◌==◌, ⊎_elim, inl, inr, arith}
 use Rattle.std.specs.Prelude.{◌||◌}
 use Rattle.std.specs.List.{AllByRecursion, list_any, count_by, flat_map, zip}
 use Rattle.std.proofs.lemmas.Bool.{cases_Bool, eq-eqb, eqb-true, or_left, or_right}
@@ -13,18 +13,20 @@ use Rattle.tplg_plan.specs.declared.plans.Plan.{Plan}
 use Rattle.tplg_plan.specs.declared.plans.ControlPlan.{ControlPlan}
 use Rattle.tplg_plan.specs.declared.plans.ControlKind.{ControlKind}
 use Rattle.tplg_plan.specs.declared.plans.ControlKind.TheVariants.{Volume, Choice, Blob}
+use Rattle.mbox_link.specs.BlobParts.{parts, part_numbers}
+use Rattle.tplg_plan.specs.Ranges.{is_initial}
 use Rattle.tplg_plan.specs.Sound.{IsSound, IsSideOf, IsPassed}
 use Rattle.host_widgets.specs.declared.kept.ControlRec.{ControlRec}
 use Rattle.host_widgets.specs.declared.kept.Record.{Record}
-use Rattle.host_widgets.specs.Controls.{IsLoadable}
 use Rattle.host_widgets.specs.Kept.{controls_of}
 use Rattle.host_widgets.specs.Host.{AreControls}
-use Rattle.host_widgets.proofs.ControlLists.{Pair, Takes, all-take, no-blobs}
-use Rattle.host_widgets.specs.HostActs.{Act, Make, Join as Joins, Finish}
+use Rattle.host_widgets.proofs.ControlLists.{Pair, Takes, all-take}
+use Rattle.host_widgets.specs.HostActs.{Act, Make, Join as Joins, Part, Finish}
 use Rattle.host_widgets.specs.Acts.{ids_of}
 use Rattle.host_widgets.specs.ActLists.{part_acts, control_acts_by, control_acts, bring_up}
 use Rattle.host_widgets.proofs.LookedUp.{any-found}
 use Rattle.host_widgets.proofs.NamedIds.{few-widgets}
+use Rattle.host_widgets.proofs.PartFacts.{few-parts}
 
 -- joins into a buffer, and out of it
 abbrev into : Edge → List Join → ℕ
@@ -116,19 +118,23 @@ few-joins plan sound =
     let g = plan.graph in
     omega (arith, all-counted g.edges g.joins (all-meet g g.joins sound.joins), two-each g g.edges sound.passed, sound.edges)
 
-few-by : (kind : ControlKind) (comp : ℕ) (r : ControlRec) → Takes kind r → length (control_acts_by comp kind r) ≤ 1
+few-by : (kind : ControlKind) (comp : ℕ) (r : ControlRec) → Takes kind r → length (control_acts_by comp kind r) ≤ 4
 few-by (Volume min max channels lowest step mute) comp r takes = omega arith
 few-by (Choice items) comp r takes = omega arith
-few-by (Blob most initial) comp r takes = subst (λ (bytes : List ℕ). length (part_acts comp bytes) ≤ 1) (sym takes) (omega arith)
+few-by (Blob most initial) comp r takes = by r.blob takes
+  where
+    by : (bytes : List ℕ) → is_initial bytes ≡ true → length (part_acts comp bytes) ≤ 4
+    by [] is = omega arith
+    by (b ∷ bytes) is = omega (arith, length-map (part_numbers (b ∷ bytes)) (Part comp (b ∷ bytes)), length-range_with_len 0 (parts (b ∷ bytes)), (few-parts (b ∷ bytes) is).1)
 
-few-puts : (ks : List ControlPlan) (rs : List ControlRec) → AllByRecursion (λ (p : Pair). Takes p.0.kind p.1) (zip ks rs) → length (flat_map control_acts (zip ks rs)) ≤ length ks
+few-puts : (ks : List ControlPlan) (rs : List ControlRec) → AllByRecursion (λ (p : Pair). Takes p.0.kind p.1) (zip ks rs) → length (flat_map control_acts (zip ks rs)) ≤ 4 * length ks
 few-puts [] rs takes = omega arith
 few-puts (k ∷ ks) [] takes = omega arith
 few-puts (k ∷ ks) (r ∷ rs) takes = omega (arith, few-by k.kind k.comp r takes.0, few-puts ks rs takes.1, length-append (control_acts (k, r)) (flat_map control_acts (zip ks rs)))
 
--- 288 widgets, 256 joins, 64 controls and 32 pipelines
-pub few-brought : (plan : Plan) (kept : Record) → IsLoadable plan → AreControls plan.controls kept.controls → length (bring_up plan kept) ≤ 640
-few-brought plan kept loadable are =
+-- 288 widgets, 256 joins, 32 pipelines, and at most 4 parts for each control
+pub few-by-controls : (plan : Plan) (kept : Record) → IsSound plan → AreControls plan.controls kept.controls → length (bring_up plan kept) ≤ 576 + 4 * length plan.controls
+few-by-controls plan kept sound are =
     let makes : List Act = map Make (ids_of plan) in
     let joins : List Act = map (λ j. Joins j.source j.sink) plan.graph.joins in
     let puts : List Act = flat_map control_acts (controls_of plan kept) in
@@ -142,13 +148,16 @@ few-brought plan kept loadable are =
       length-range_with_len 0 (length plan.widgets),
       length-map plan.graph.joins (λ j. Joins j.source j.sink),
       length-map plan.graph.pipes (λ p. Finish p.id),
-      few-puts plan.controls kept.controls (all-take plan.graph plan.controls kept.controls loadable.sound.live (no-blobs plan.controls loadable.blobs) are),
-      few-widgets plan loadable.sound,
-      few-joins plan loadable.sound,
-      loadable.sound.controls,
-      loadable.sound.pipes,
+      few-puts plan.controls kept.controls (all-take plan.graph plan.controls kept.controls sound.live are),
+      few-widgets plan sound,
+      few-joins plan sound,
+      sound.pipes,
     )
 
+-- of which there are 64
+pub few-brought : (plan : Plan) (kept : Record) → IsSound plan → AreControls plan.controls kept.controls → length (bring_up plan kept) ≤ 832
+few-brought plan kept sound are = omega (arith, few-by-controls plan kept sound are, sound.controls)
+
 -- no more than a command may send
-pub few-acts : (plan : Plan) (kept : Record) → IsLoadable plan → AreControls plan.controls kept.controls → length (bring_up plan kept) ≤ 900
-few-acts plan kept loadable are = omega (arith, few-brought plan kept loadable are)
+pub few-acts : (plan : Plan) (kept : Record) → IsSound plan → AreControls plan.controls kept.controls → length (bring_up plan kept) ≤ 900
+few-acts plan kept sound are = omega (arith, few-brought plan kept sound are)

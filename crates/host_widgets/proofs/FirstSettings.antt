@@ -1,5 +1,5 @@
 -- First values, and the acts that set a control.
-use Rattle.std.proofs.Common.{◌≡◌, refl, sym, ap, ◌∙◌, ℕ, List, [], ◌∷◌, length, replicate, Some}
+use Rattle.std.proofs.Common.{◌≡◌, refl, sym, ap, ℕ, List, [], ◌∷◌, length, replicate, Some}
 use Rattle.std.proofs.lemmas.List.{length-replicate}
 use Rattle.tplg_plan.specs.declared.plans.Plan.{Plan}
 use Rattle.tplg_plan.specs.declared.plans.ControlPlan.{ControlPlan}
@@ -27,12 +27,12 @@ one-put (Blob most initial) comp r other = absurd (other most initial refl)
 pub put-acts : (k : ControlPlan) (r : ControlRec) → ((most : ℕ) (initial : List ℕ) → k.kind ≡ Blob most initial → ⊥) → control_acts (k, r) ≡ Put k.comp r.values ∷ []
 put-acts k r other = one-put k.kind k.comp r other
 
--- one that is and has no bytes by none
-none-put : (kind : ControlKind) (comp : ℕ) (r : ControlRec) (most : ℕ) (initial : List ℕ) → kind ≡ Blob most initial → r.blob ≡ [] → control_acts_by comp kind r ≡ []
-none-put kind comp r most initial is bare = ap (λ (q : ControlKind). control_acts_by comp q r) is ∙ ap (part_acts comp) bare
+-- one that is by the parts of its blob
+blob-put : (kind : ControlKind) (comp : ℕ) (r : ControlRec) (most : ℕ) (initial : List ℕ) → kind ≡ Blob most initial → control_acts_by comp kind r ≡ part_acts comp r.blob
+blob-put kind comp r most initial is = ap (λ (q : ControlKind). control_acts_by comp q r) is
 
-pub no-acts : (k : ControlPlan) (r : ControlRec) (most : ℕ) (initial : List ℕ) → k.kind ≡ Blob most initial → r.blob ≡ [] → control_acts (k, r) ≡ []
-no-acts k r most initial is bare = none-put k.kind k.comp r most initial is bare
+pub blob-acts : (k : ControlPlan) (r : ControlRec) (most : ℕ) (initial : List ℕ) → k.kind ≡ Blob most initial → control_acts (k, r) ≡ part_acts k.comp r.blob
+blob-acts k r most initial is = blob-put k.kind k.comp r most initial is
 
 pub put-message : (plan : Plan) (k : ControlPlan) (values : List ℕ) → control_of plan k.comp ≡ Some k → set_message k.comp values k.kind ≡ message_of plan (Put k.comp values)
 put-message plan k values first = ap (put_message k.comp values) (sym first)

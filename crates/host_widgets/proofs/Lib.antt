@@ -1,6 +1,8 @@
 pub mod ReplyErrors
 pub mod Exchanges
 pub mod Walks
+pub mod PartFacts
+pub mod PartRows
 pub mod SilentTicks
 pub mod Carving
 pub mod Effects
@@ -21,6 +23,7 @@ pub mod StandingStill
 pub mod JoinRows
 pub mod JoinsTaken
 pub mod ControlLists
+pub mod PartsTaken
 pub mod PutsTaken
 pub mod FinishesTaken
 pub mod RestTaken
@@ -48,6 +51,8 @@ pub mod LoadEnds
 pub mod ActHolds
 pub mod WalksHold
 pub mod WalksStill
+pub mod PartsCome
+pub mod PartsReady
 pub mod BuildingMoments
 pub mod SoundPlays
 pub mod OneMessage
@@ -55,3 +60,5 @@ pub mod ActSteps
 pub mod PlainOrders
 pub mod OneOrder
 pub mod ChangedPlaces
+pub mod ActReasons
+pub mod Consequences

@@ -18,7 +18,7 @@ use Rattle.host_widgets.specs.declared.answers.HostFault.{HostFault}
 use Rattle.host_widgets.specs.declared.kept.Power.TheVariants.{On}
 use Rattle.host_widgets.specs.declared.kept.Record.{Record}
 use Rattle.host_widgets.specs.Kept.{first_record, with_power}
-use Rattle.host_widgets.specs.Controls.{IsLoadable}
+use Rattle.tplg_plan.specs.Sound.{IsSound}
 use Rattle.host_widgets.specs.HostActs.{Act}
 use Rattle.host_widgets.specs.ActMessages.{message_of}
 use Rattle.host_widgets.specs.ActLists.{bring_up}
@@ -90,9 +90,9 @@ module _ {D : Type 0} (means : Meaning D) (plan : Plan) (heap : ℕ) (kept : Rec
 
   -- ---- a load that was carried out
 
-  module _ (loadable : IsLoadable plan) (are : AreControls plan.controls kept.controls) (kept' : Record) (w v : World D) (result : Outcome) (c : Carried means plan heap (loading plan kept) kept kept' w v result) where
+  module _ (sound : IsSound plan) (are : AreControls plan.controls kept.controls) (kept' : Record) (w v : World D) (result : Outcome) (c : Carried means plan heap (loading plan kept) kept kept' w v result) where
     leaves : AllByRecursion (Leaves plan kept) (bring_up plan kept)
-    leaves = bring-leaves plan kept loadable are
+    leaves = bring-leaves plan kept sound
 
     before : Steady means w.device c.begun.device
     before = Led-steady means (calls_of heap (past.Boot ∷ [])) w c.begun c.first
@@ -103,9 +103,9 @@ module _ {D : Type 0} (means : Meaning D) (plan : Plan) (heap : ℕ) (kept : Rec
     pub load-exactly : SucceedsExactly means plan heap w.device result v.device
     load-exactly = record {
       fit = λ fits faults refusals.
-          c.came ∙ all-pass (bring_up plan kept) c.meetings c.begun c.sent (fresh heap) leaves (brings plan heap kept loadable are).follow c.walked fits
+          c.came ∙ all-pass (bring_up plan kept) c.meetings c.begun c.sent (fresh heap) leaves (brings plan heap kept sound are).follow c.walked fits
           (calm-within w.device c.begun.device c.sent.device v.device before later record { faults = faults; refusals = refusals });
-      unfit = λ passed. (brings plan heap kept loadable are).fits (all-free (bring_up plan kept) c.meetings c.begun c.sent leaves c.walked (sym c.came ∙ passed));
+      unfit = λ passed. (brings plan heap kept sound are).fits (all-free (bring_up plan kept) c.meetings c.begun c.sent leaves c.walked (sym c.came ∙ passed));
     }
 
     abbrev EndsSo : Record → Outcome → Type 0

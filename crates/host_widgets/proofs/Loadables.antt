@@ -1,5 +1,5 @@
--- What is so of plans that are loaded.
-use Rattle.std.proofs.Common.{◌≡◌, refl, sym, ap, subst, ◌∙◌, ℕ, zero, suc, ◌<◌, ◌≤◌, ◌^◌, Bool, true, cond, List, [], ◌∷◌, length, get_or, Option, Some, None, ◌==◌, inl, inr, arith}
+-- What is so of plans that are loaded, and of their records.
+use Rattle.std.proofs.Common.{◌≡◌, refl, sym, ap, subst, ◌∙◌, ℕ, zero, suc, ◌<◌, ◌≤◌, ◌^◌, Bool, true, cond, List, [], ◌∷◌, length, get_or, Option, Some, None, ◌==◌, ◌⊎◌, inl, inr, arith}
 use Rattle.std.specs.Prelude.{find, is_none}
 use Rattle.std.specs.List.{AllByRecursion}
 use Rattle.std.proofs.lemmas.Bool.{cases_Bool, eq-eqb, eqb-true}
@@ -17,12 +17,12 @@ use Rattle.tplg_plan.specs.Sound.{IsControlOf, IsLive, IsSound}
 use Rattle.host_widgets.proofs.NamedIds.{few-widgets as at-most}
 use Rattle.host_widgets.specs.declared.kept.ControlRec.{ControlRec}
 use Rattle.host_widgets.specs.declared.kept.Record.{Record}
-use Rattle.host_widgets.specs.Host.{AreControls}
-use Rattle.host_widgets.specs.Controls.{IsLoadable, HasFew, control_of, first_blob}
-use Rattle.host_widgets.proofs.ControlLists.{no-blobs, bare-one}
+use Rattle.host_widgets.specs.Host.{AreControls, IsSet}
+use Rattle.host_widgets.specs.Controls.{HasFew, control_of, first_values, first_blob}
+use Rattle.host_widgets.proofs.ControlLists.{takes-by}
 
-pub few-widgets : (plan : Plan) → IsLoadable plan → length plan.widgets < 2 ^ 32
-few-widgets plan loadable = omega (arith, at-most plan loadable.sound)
+pub few-widgets : (plan : Plan) → IsSound plan → length plan.widgets < 2 ^ 32
+few-widgets plan sound = omega (arith, at-most plan sound)
 
 -- ---- the control at a place
 
@@ -95,14 +95,21 @@ module _ (plan : Plan) (sound : IsSound plan) (ks : List ControlPlan) (same : ks
   pub is-first : control_of plan here.comp ≡ Some here
   is-first = subst (λ (k : ControlPlan). control_of plan k.comp ≡ Some k) (sym here-is) (first-at plan.controls i d inside sound.controls_ascend)
 
--- the record of one has no blob so far
-bare-by : (g : Graph) (ks : List ControlPlan) (rs : List ControlRec) (i : ℕ) (d : ControlRec) → i < length rs → AllByRecursion (IsLive g) ks → AllByRecursion (λ (k : ControlPlan). first_blob k.kind ≡ []) ks → AreControls ks rs → (get_or rs i d).blob ≡ []
-bare-by g [] [] i d within live none are = absurd (omega (arith, within))
-bare-by g [] (r ∷ rs) i d within live none are = absurd are
-bare-by g (k ∷ ks) [] i d within live none are = absurd are
-bare-by g (k ∷ ks) (r ∷ rs) zero d within live none are = bare-one k.kind r none.0 are.0
-bare-by g (k ∷ ks) (r ∷ rs) (suc i) d within live none are = bare-by g ks rs i d (omega (arith, within)) live.1 none.1 are.1
+-- the blob of a record is none or a blob
+initial-one : (kind : ControlKind) (of : Kind) (r : ControlRec) → IsControlOf kind of → ((r ≡ record { values = first_values kind; blob = first_blob kind }) ⊎ IsSet kind r) → is_initial r.blob ≡ true
+initial-one (Volume min max channels lowest step mute) of r is (inl e) = ap (λ (x : ControlRec). is_initial x.blob) e
+initial-one (Volume min max channels lowest step mute) of r is (inr s) = ap is_initial s.2
+initial-one (Choice items) of r is (inl e) = ap (λ (x : ControlRec). is_initial x.blob) e
+initial-one (Choice items) of r is (inr s) = ap is_initial s.3
+initial-one (Blob most initial) of r is was = takes-by (Blob most initial) of r is was
 
-pub no-blob : (plan : Plan) (kept : Record) → IsLoadable plan → AreControls plan.controls kept.controls → (rs : List ControlRec) → rs ≡ kept.controls → (i : ℕ) (d : ControlRec) → i < length rs → (get_or rs i d).blob ≡ []
-no-blob plan kept loadable are rs same i d within =
-    bare-by plan.graph plan.controls rs i d within loadable.sound.live (no-blobs plan.controls loadable.blobs) (subst (AreControls plan.controls) (sym same) are)
+initial-by : (g : Graph) (ks : List ControlPlan) (rs : List ControlRec) (i : ℕ) (d : ControlRec) → i < length rs → AllByRecursion (IsLive g) ks → AreControls ks rs → is_initial (get_or rs i d).blob ≡ true
+initial-by g [] [] i d within live are = absurd (omega (arith, within))
+initial-by g [] (r ∷ rs) i d within live are = absurd are
+initial-by g (k ∷ ks) [] i d within live are = absurd (omega (arith, within))
+initial-by g (k ∷ ks) (r ∷ rs) zero d within live are = initial-one k.kind live.0.comp.kind r live.0.kind are.0
+initial-by g (k ∷ ks) (r ∷ rs) (suc i) d within live are = initial-by g ks rs i d (omega (arith, within)) live.1 are.1
+
+pub initial-here : (plan : Plan) (kept : Record) → IsSound plan → AreControls plan.controls kept.controls → (rs : List ControlRec) → rs ≡ kept.controls → (i : ℕ) (d : ControlRec) → i < length rs → is_initial (get_or rs i d).blob ≡ true
+initial-here plan kept sound are rs same i d within =
+    initial-by plan.graph plan.controls rs i d within sound.live (subst (AreControls plan.controls) (sym same) are)

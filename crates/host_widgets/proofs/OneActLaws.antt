@@ -1,5 +1,6 @@
 -- The laws of one act that the firmware takes: what its row leaves, in every plan.
-use Rattle.std.proofs.Common.{map, ◌≡◌, refl, sym, ap, ◌∙◌, subst, ℕ, List, [], ◌∷◌, ◌++◌, Option, Some, None, Ok}
+use Rattle.std.proofs.Common.{map, ◌≡◌, refl, sym, ap, ◌∙◌, subst, ℕ, Bool, true, List, [], ◌∷◌, ◌++◌, Option, Some, None, Ok}
+use Rattle.std.specs.List.{AllByRecursion}
 use Rattle.sof_base.specs.Ports.{InputView}
 use Rattle.stream_law.specs.State.{FwState, view_of}
 use Rattle.stream_law.specs.Ways.{buffers}
@@ -16,13 +17,46 @@ use Rattle.host_widgets.specs.declared.kept.StreamRec.{StreamRec}
 use Rattle.host_widgets.specs.declared.kept.Record.{Record}
 use Rattle.host_widgets.specs.Host.{IsRecordOf, verdict}
 use Rattle.host_widgets.specs.Kept.{with_stream}
-use Rattle.host_widgets.specs.HostActs.{Act, after, fresh_in}
+use Rattle.host_widgets.specs.HostActs.{Act, Make, Join, Put, Part, Finish, Prepare, Trig, Free, Save, Ask, after, fresh_in}
 use Rattle.host_widgets.specs.ActMessages.{message_of}
 use Rattle.host_widgets.specs.ViewOf.{view_by}
 use Rattle.host_widgets.specs.ActCalls.{came_to}
 use Rattle.host_widgets.proofs.ReplyErrors.{done_reply}
 use Rattle.host_widgets.proofs.Exchanges.{verdict-zero}
 use Rattle.host_widgets.proofs.ActsStand.{KeepsWhereLive, stream-stands}
+use Rattle.host_widgets.proofs.PartRows.{HasStaged}
+
+-- what an act asks of what is staged: a part behind the first of a blob, that those before it are
+abbrev pub IsReady : Act → FwState → Type 0
+IsReady (Part comp blob k) f = HasStaged comp blob k f
+IsReady act f = Unit {0}
+
+-- and acts, one after another, as the firmware takes them, or refuses them where they go on
+abbrev pub AreReady : Plan → Bool → List Act → FwState → Type 0
+AreReady plan goes_on [] f = Unit {0}
+AreReady plan goes_on (act ∷ acts) f =
+    IsReady act f × ((f' : FwState) → row f (message_of plan act) ≡ Ok f' → AreReady plan goes_on acts f') × (goes_on ≡ true → AreReady plan goes_on acts f)
+
+-- an act that asks nothing
+abbrev pub IsPlain : Act → Type 0
+IsPlain (Part comp blob k) = ⊥
+IsPlain act = Unit {0}
+
+plain-asks : (act : Act) → IsPlain act → (f : FwState) → IsReady act f
+plain-asks (Make id) is f = tt
+plain-asks (Join source sink) is f = tt
+plain-asks (Put comp values) is f = tt
+plain-asks (Part comp blob k) is f = absurd is
+plain-asks (Finish id) is f = tt
+plain-asks (Prepare host params) is f = tt
+plain-asks (Trig host what) is f = tt
+plain-asks (Free host) is f = tt
+plain-asks Save is f = tt
+plain-asks (Ask comp k) is f = tt
+
+pub plain-ready : (plan : Plan) (goes_on : Bool) (acts : List Act) → AllByRecursion IsPlain acts → (f : FwState) → AreReady plan goes_on acts f
+plain-ready plan goes_on [] all f = tt
+plain-ready plan goes_on (act ∷ acts) all f = (plain-asks act all.0 f, (λ f' done. plain-ready plan goes_on acts all.1 f'), λ on. plain-ready plan goes_on acts all.1 f)
 
 -- What a row that was done leaves: a record of the plan, which the state shows, in the same heap, with a ring for each buffer; and
 -- what stood stands a moment later.
@@ -37,12 +71,13 @@ pub record LeavesSo (plan : Plan) (act : Act) (f f' : FwState) (now : Record) : 
 abbrev pub Leaves : Plan → Record → Act → FwState → FwState → Type 0
 Leaves plan kept act f f' = LeavesSo plan act f f' (after plan act kept)
 
--- The law of one act: its message fits, the reply of one that is done passes, and a row that was done leaves all of this.
+-- The law of one act: its message fits, the reply of one that is done passes, and a row that was done leaves all of this, where the
+-- act found staged what it asks.
 pub record IsTaken (plan : Plan) (kept : Record) (act : Act) : Type 0 where
   pub message : IsMessage (message_of plan act)
   pub passes : (f : FwState) → came_to (verdict (Some (done_reply (body_of f (decoded (message_spelling (message_of plan act))))))) ≡ Ok tt
   pub record_is : IsRecordOf plan kept
-  pub leaves : (f f' : FwState) → view_of f ≡ view_by plan kept → map (λ r. r.buffer) f.rings ≡ buffers plan.graph → row f (message_of plan act) ≡ Ok f' → Leaves plan kept act f f'
+  pub leaves : (f f' : FwState) → view_of f ≡ view_by plan kept → map (λ r. r.buffer) f.rings ≡ buffers plan.graph → IsReady act f → row f (message_of plan act) ≡ Ok f' → Leaves plan kept act f f'
 
 -- a reply without a body passes
 pub bare-passes : (said : Body) → said ≡ Nothing → came_to (verdict (Some (done_reply said))) ≡ Ok tt
@@ -74,7 +109,7 @@ stream-taken plan kept act is = record {
   message = is.message;
   passes = λ f. bare-passes (body_of f (decoded (message_spelling (message_of plan act)))) (is.bare f);
   record_is = is.record_is;
-  leaves = λ f f' shows rings done.
+  leaves = λ f f' shows rings ready done.
       let will = is.record_will f f' shows done in
       let v = view_by plan (with_stream plan is.host is.change kept) in
       let seen_is : f' ≡ seen v None f = is.sees f f' shows done ∙ ap (λ (now : Record). seen (view_by plan now) None f) is.changes in

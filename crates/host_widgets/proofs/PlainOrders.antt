@@ -33,7 +33,7 @@ ends-at LinkDown = refl
 ends-at (Blob n) = refl
 
 -- what a fault leaves does not hang on what all would have left
-same-end : (done : Record → Record) (kept : Record) (fault : HostFault) → plain_end (λ now. now) kept (Err fault) ≡ plain_end done kept (Err fault)
+pub same-end : (done : Record → Record) (kept : Record) (fault : HostFault) → plain_end (λ now. now) kept (Err fault) ≡ plain_end done kept (Err fault)
 same-end done kept NotLoaded = refl
 same-end done kept Loaded = refl
 same-end done kept (NoSuch name) = refl
@@ -45,7 +45,7 @@ same-end done kept LinkDown = refl
 same-end done kept (Blob n) = refl
 
 module _ {D : Type 0} (means : Meaning D) (plan : Plan) (heap : ℕ) where
-  abbrev CarriedBy : List Act → (Record → Record) → Record → Record → World D → World D → Outcome → Type 0
+  abbrev pub CarriedBy : List Act → (Record → Record) → Record → Record → World D → World D → Outcome → Type 0
   CarriedBy acts done kept kept' w v result = Carried means plan heap (plain acts done) kept kept' w v result
 
   -- no act

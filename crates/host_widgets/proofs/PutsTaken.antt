@@ -4,6 +4,7 @@ use Rattle.std.specs.Prelude.{option_and_then, nat_le}
 use Rattle.std.specs.List.{list_any, list_all, flat_map, AllByRecursion}
 use Rattle.std.proofs.lemmas.Bool.{eqb-true, eq-eqb, or_left, and_from}
 use Rattle.std.proofs.lemmas.List.{length-map, length-replicate}
+use Rattle.sof_base.specs.BlobFaults.{is_blob}
 use Rattle.stream_law.specs.declared.graph.Kind.{Kind}
 use Rattle.stream_law.specs.declared.graph.Kind.TheVariants as kinds
 use Rattle.stream_law.specs.declared.graph.Setting.{Setting}
@@ -24,9 +25,10 @@ use Rattle.tplg_plan.specs.declared.plans.ControlPlan.{ControlPlan}
 use Rattle.tplg_plan.specs.declared.plans.ControlKind.{ControlKind}
 use Rattle.tplg_plan.specs.declared.plans.ControlKind.TheVariants.{Volume, Choice, Blob}
 use Rattle.tplg_plan.specs.GainOf.{control_gain}
+use Rattle.tplg_plan.specs.Ranges.{is_initial}
 use Rattle.tplg_plan.specs.Sound.{IsControlOf, IsLive, IsSound}
 use Rattle.host_widgets.specs.declared.kept.Record.{Record}
-use Rattle.host_widgets.specs.Controls.{control_of, first_value, first_values, has_no_blobs}
+use Rattle.host_widgets.specs.Controls.{control_of, first_value, first_values}
 use Rattle.host_widgets.specs.ViewOf.{setting_by}
 use Rattle.host_widgets.specs.HostActs.{Act, Put}
 use Rattle.host_widgets.specs.ActLists.{part_acts, control_acts_by, control_acts}
@@ -35,14 +37,15 @@ use Rattle.host_widgets.specs.Acts.{widget_words, component_words}
 use Rattle.host_widgets.specs.declared.kept.ControlRec.{ControlRec}
 use Rattle.host_widgets.specs.Kept.{control_at, controls_of}
 use Rattle.host_widgets.specs.Host.{AreControls}
-use Rattle.host_widgets.proofs.ControlLists.{Pair, comp_at, Takes, all-first, all-take, zip-ascends, any-zip, no-blobs}
+use Rattle.host_widgets.proofs.ControlLists.{Pair, comp_at, Takes, all-first, all-take, zip-ascends, any-zip}
 use Rattle.host_widgets.proofs.Stages.{made_comp, begun}
 use Rattle.host_widgets.proofs.SilentTicks.{at}
 use Rattle.host_widgets.proofs.Effects.{set_at, effect}
 use Rattle.host_widgets.proofs.Making.{plainly_follows}
 use Rattle.host_widgets.proofs.LookedUp.{found-is, found-map, any-found, lost-any, map-all, map-twice, all-of, first-apart, rest-ascends, each-found}
 use Rattle.host_widgets.proofs.NamedIds.{component-found, each-comp, id-fits}
-use Rattle.host_widgets.proofs.OneAfterAnother.{Goes, goes-nowhere, goes-on}
+use Rattle.host_widgets.proofs.OneAfterAnother.{Goes, goes-nowhere, goes-on, goes-both}
+use Rattle.host_widgets.proofs.PartsTaken.{parts-go}
 use Rattle.host_widgets.proofs.Joined.{standing, joined_graph, all-joined}
 use Rattle.host_widgets.proofs.StandingStill.{stands-still}
 use Rattle.host_widgets.proofs.GreatestGains.{AreGains, gains-are, gains-pass, set-message}
@@ -227,9 +230,26 @@ put-one plan sound heap kept id (Choice items) r ks live there set takes apart t
     new =
         ap (λ (kind : Kind). new_setting kind (first_setting (component_words kind (Some (with_kind id (Choice items))) (widget_words plan live.comp.id))) 1 r.values) live.kind.0
         ∙ subst (λ (vs : List ℕ). new_setting kinds.Mux (settings.Choice 0) 1 vs ≡ Some (settings.Choice (get_or vs 0 0))) (sym takes.1) refl
-put-one plan sound heap kept id (Blob most initial) r ks live there set takes apart then h more =
-    subst (λ (bytes : List ℕ). Goes plan heap kept (standing plan heap (put_graph plan kept ((with_kind id (Blob most initial), r) ∷ ks))) (part_acts id bytes ++ then) h) (sym takes)
-    (subst (λ (g : Graph). Goes plan heap kept (standing plan heap g) then h) (sym (kept-graph plan sound kept id (Blob most initial) r live there set ks apart (λ w kind is. ap (λ (x : Kind). first_setting (component_words x (Some (with_kind id (Blob most initial))) w)) is.0 ∙ ap settings.Blob (sym takes)))) more)
+put-one plan sound heap kept id (Blob most initial) r ks live there set takes apart then h more = by r.blob refl takes
+  where
+    before : Graph
+    before = put_graph plan kept ((with_kind id (Blob most initial), r) ∷ ks)
+
+    -- one without a blob is told nothing
+    none : r.blob ≡ [] → Goes plan heap kept (standing plan heap before) then h
+    none bare = subst (λ (g : Graph). Goes plan heap kept (standing plan heap g) then h)
+        (sym (kept-graph plan sound kept id (Blob most initial) r live there set ks apart (λ w kind is. ap (λ (x : Kind). first_setting (component_words x (Some (with_kind id (Blob most initial))) w)) is.0 ∙ ap settings.Blob (sym bare)))) more
+
+    some : is_blob r.blob ≡ true → Goes plan heap kept (standing plan heap before) (part_acts id r.blob ++ then) h
+    some is = goes-both plan heap kept (standing plan heap before) (part_acts id r.blob) (standing plan heap (put_graph plan kept ks)) then h
+        (subst (λ (g : Graph). Goes plan heap kept (standing plan heap before) (part_acts id r.blob) (standing plan heap g)) (put-graph plan sound kept id (Blob most initial) r live there set ks apart)
+        (parts-go plan sound heap kept before id (comp_while plan kept ((with_kind id (Blob most initial), r) ∷ ks) live.comp) (now-comp plan sound kept id (Blob most initial) r live there set ks apart) live.kind.0
+        (id-fits plan sound id (component-found plan sound id live.comp live.there).low) r.blob is))
+        more
+
+    by : (bytes : List ℕ) → r.blob ≡ bytes → is_initial bytes ≡ true → Goes plan heap kept (standing plan heap before) (part_acts id r.blob ++ then) h
+    by [] e is = subst (λ (bytes : List ℕ). Goes plan heap kept (standing plan heap before) (part_acts id bytes ++ then) h) (sym e) (none e)
+    by (b ∷ bytes) e is = some (ap is_blob e ∙ is)
 
 -- ---- all of them
 
@@ -239,12 +259,12 @@ puts-go plan sound heap kept (p ∷ ps) up live there set takes =
     put-one plan sound heap kept p.0.comp p.0.kind p.1 ps live.0 there.0 set.0 takes.0 (first-apart comp_at p ps up) (flat_map control_acts ps) (standing plan heap (put_graph plan kept []))
     (puts-go plan sound heap kept ps (rest-ascends comp_at p ps up) live.1 there.1 set.1 takes.1)
 
-pub all-put : (plan : Plan) (sound : IsSound plan) (heap : ℕ) (kept : Record) → has_no_blobs plan ≡ true → AreControls plan.controls kept.controls → Goes plan heap kept (standing plan heap (put_graph plan kept (controls_of plan kept))) (flat_map control_acts (controls_of plan kept)) (standing plan heap (put_graph plan kept []))
-all-put plan sound heap kept bare are =
+pub all-put : (plan : Plan) (sound : IsSound plan) (heap : ℕ) (kept : Record) → AreControls plan.controls kept.controls → Goes plan heap kept (standing plan heap (put_graph plan kept (controls_of plan kept))) (flat_map control_acts (controls_of plan kept)) (standing plan heap (put_graph plan kept []))
+all-put plan sound heap kept are =
     puts-go plan sound heap kept (controls_of plan kept) up (all-first (IsLive plan.graph) plan.controls kept.controls sound.live)
     (all-first (λ (k : ControlPlan). control_of plan k.comp ≡ Some k) plan.controls kept.controls (each-found (λ (k : ControlPlan). k.comp) plan.controls sound.controls_ascend))
     (each-found comp_at (controls_of plan kept) up)
-    (all-take plan.graph plan.controls kept.controls sound.live (no-blobs plan.controls bare) are)
+    (all-take plan.graph plan.controls kept.controls sound.live are)
   where
     up : Ascends comp_at (controls_of plan kept)
     up = zip-ascends plan.controls kept.controls sound.controls_ascend

@@ -1,12 +1,11 @@
 -- What follows once all widgets of a sound plan are made: joins, first values and completions are all taken, to the plan.
-use Rattle.std.proofs.Common.{◌≡◌, sym, subst, refl, ℕ, true, List, [], ◌++◌, map}
+use Rattle.std.proofs.Common.{◌≡◌, sym, subst, refl, ℕ, List, [], ◌++◌, map}
 use Rattle.std.specs.List.{flat_map}
 use Rattle.stream_law.specs.State.{FwState}
 use Rattle.stream_law.specs.declared.graph.Graph.{Graph}
 use Rattle.tplg_plan.specs.declared.plans.Plan.{Plan}
 use Rattle.tplg_plan.specs.Sound.{IsSound}
 use Rattle.host_widgets.specs.declared.kept.Record.{Record}
-use Rattle.host_widgets.specs.Controls.{has_no_blobs}
 use Rattle.host_widgets.specs.Kept.{controls_of}
 use Rattle.host_widgets.specs.Host.{AreControls}
 use Rattle.host_widgets.specs.HostActs.{Act, Make}
@@ -29,7 +28,7 @@ rest_acts plan kept = join_acts plan.graph.joins ++ (flat_map control_acts (cont
 pub rest-behind : (plan : Plan) (kept : Record) → bring_up plan kept ≡ map Make (ids_of plan) ++ rest_acts plan kept
 rest-behind plan kept = refl
 
-module _ (plan : Plan) (heap : ℕ) (kept : Record) (sound : IsSound plan) (bare : has_no_blobs plan ≡ true) (are : AreControls plan.controls kept.controls) where
+module _ (plan : Plan) (heap : ℕ) (kept : Record) (sound : IsSound plan) (are : AreControls plan.controls kept.controls) where
   abbrev stood : Graph → FwState
   stood g = standing plan heap g
 
@@ -41,7 +40,7 @@ module _ (plan : Plan) (heap : ℕ) (kept : Record) (sound : IsSound plan) (bare
   puts-part : Goes plan heap kept (stood (put_graph plan kept (controls_of plan kept))) (flat_map control_acts (controls_of plan kept)) (stood (finish_graph plan kept plan.graph.pipes))
   puts-part =
       subst (λ (g : Graph). Goes plan heap kept (stood (put_graph plan kept (controls_of plan kept))) (flat_map control_acts (controls_of plan kept)) (stood g)) (finishes-none plan sound kept)
-      (all-put plan sound heap kept bare are)
+      (all-put plan sound heap kept are)
 
   finishes-part : Goes plan heap kept (stood (finish_graph plan kept plan.graph.pipes)) (finish_acts plan.graph.pipes) (state_by plan kept heap 0)
   finishes-part =

@@ -1,5 +1,6 @@
 -- Acts over any device, one after another: the device keeps the record so far, and what stood goes on standing.
 use Rattle.std.proofs.Common.{◌≡◌, refl, sym, ap, ◌∙◌, subst, ℕ, Bool, true, false, List, [], ◌∷◌, ◌++◌, Some, Ok, Err, arith}
+use Rattle.std.specs.List.{AllByRecursion}
 use Rattle.std.proofs.lemmas.List.{append-nil, append_assoc}
 use Rattle.sof_base.specs.Ports.{InputView}
 use Rattle.stream_law.specs.State.{FwState}
@@ -18,7 +19,7 @@ use Rattle.host_widgets.specs.Walk.{Walked, walk, joined, goes_past, first_of}
 use Rattle.host_widgets.specs.ActCalls.{ActDid, ActsDid, Onwards, next_of}
 use Rattle.host_widgets.specs.Host.{IsRecordOf}
 use Rattle.host_widgets.specs.Keeps.{Keeps}
-use Rattle.host_widgets.proofs.OneActLaws.{IsTaken}
+use Rattle.host_widgets.proofs.OneActLaws.{AreReady, IsPlain, IsTaken, plain-ready}
 use Rattle.host_widgets.proofs.ActHolds.{Holds, Then, act-holds}
 
 -- moments behind moments
@@ -40,11 +41,23 @@ WhereUp (Err (Refused e)) X = X
 WhereUp (Err (Blob n)) X = X
 
 -- Each has the law of one act, by the record so far; after a refusal too, where acts go on.
-abbrev pub AreTaken : Plan → Bool → Record → List Act → Type 0
-AreTaken plan goes_on kept [] = Unit {0}
-AreTaken plan goes_on kept (act ∷ acts) =
-    IsTaken plan kept act × (IsRecordOf plan (after plan act kept) → AreTaken plan goes_on (after plan act kept) acts)
-    × (goes_on ≡ true → AreTaken plan goes_on kept acts)
+abbrev pub HaveLaw : Plan → Bool → Record → List Act → Type 0
+HaveLaw plan goes_on kept [] = Unit {0}
+HaveLaw plan goes_on kept (act ∷ acts) =
+    IsTaken plan kept act × (IsRecordOf plan (after plan act kept) → HaveLaw plan goes_on (after plan act kept) acts)
+    × (goes_on ≡ true → HaveLaw plan goes_on kept acts)
+
+-- And each finds staged what it asks, whatever was staged before the first.
+pub record AreTaken (plan : Plan) (goes_on : Bool) (kept : Record) (acts : List Act) : Type 0 where
+  pub each : HaveLaw plan goes_on kept acts
+  pub ready : (f : FwState) → AreReady plan goes_on acts f
+
+pub none-taken : (plan : Plan) (goes_on : Bool) (kept : Record) → AreTaken plan goes_on kept []
+none-taken plan goes_on kept = record { each = tt; ready = λ f. tt }
+
+-- acts that ask nothing of what is staged
+pub plainly-taken : (plan : Plan) (goes_on : Bool) (kept : Record) (acts : List Act) → AllByRecursion IsPlain acts → HaveLaw plan goes_on kept acts → AreTaken plan goes_on kept acts
+plainly-taken plan goes_on kept acts plain each = record { each = each; ready = plain-ready plan goes_on acts plain }
 
 module _ {D : Type 0} (means : Meaning D) (plan : Plan) (heap : ℕ) (goes_on : Bool) where
   -- the device keeps this record, and stands these moments later
@@ -139,46 +152,50 @@ module _ {D : Type 0} (means : Meaning D) (plan : Plan) (heap : ℕ) (goes_on : 
   -- ---- a walk
 
   -- what one act left, as a part of a walk
-  module _ (kept : Record) (act : Act) (is : IsTaken plan kept act) (m : Meeting) (w mid : World D) (did : ActDid means plan heap kept act m w mid) (quiet : means.pending w.device ≡ 0) (f : FwState) (on : means.on w.device ≡ Some f) (keeps : Keeps plan heap kept f) where
-    abbrev HoldsOf : Record → List Moment → Type 0
-    HoldsOf now moments = Holds means plan heap kept act is m w mid did quiet f on keeps now moments
+  module _ (kept : Record) (act : Act) (is : IsTaken plan kept act) (acts : List Act) (m : Meeting) (w mid : World D) (did : ActDid means plan heap kept act m w mid) (quiet : means.pending w.device ≡ 0) (f : FwState) (on : means.on w.device ≡ Some f) (keeps : Keeps plan heap kept f) (ready : AreReady plan goes_on (act ∷ acts) f) where
+    abbrev HoldsOf : (FwState → Type 0) → Record → List Moment → Type 0
+    HoldsOf So now moments = Holds means plan heap goes_on kept act is acts m w mid did quiet f on keeps ready So now moments
 
-    held : (now : Record) (moments : List Moment) → HoldsOf now moments → Held f w mid now moments
-    held now moments h = record { state = h.state; is_on = h.is_on; record_now = h.record_now; keeps_now = h.keeps_now; io = h.io; stands = h.stands }
+    abbrev held : (So : FwState → Type 0) (now : Record) (moments : List Moment) → HoldsOf So now moments → Held f w mid now moments
+    held So now moments h = record { state = h.state; is_on = h.is_on; record_now = h.record_now; keeps_now = h.keeps_now; io = h.io; stands = h.stands }
 
     abbrev ThenOf : Outcome → Type 0
-    ThenOf o = Then means plan heap kept act is m w mid did quiet f on keeps o
+    ThenOf o = Then means plan heap goes_on kept act is acts m w mid did quiet f on keeps ready o
 
     -- a walk from here, by a state that is on and keeps a record
-    abbrev Goes : World D → List Meeting → List Act → Record → Type 0
-    Goes v ms acts now = ActsDid means plan heap goes_on now acts ms mid v → (g : FwState) → means.on mid.device ≡ Some g → IsRecordOf plan now → Keeps plan heap now g → HeldBy g mid v (met_walk now ms acts)
+    abbrev Goes : World D → List Meeting → Record → Type 0
+    Goes v ms now = ActsDid means plan heap goes_on now acts ms mid v → (g : FwState) → means.on mid.device ≡ Some g → IsRecordOf plan now → Keeps plan heap now g → AreReady plan goes_on acts g → HeldBy g mid v (met_walk now ms acts)
 
-    by_outcome : (v : World D) (ms : List Meeting) (acts : List Act) → Goes v ms acts (after plan act kept) → (goes_on ≡ true → Goes v ms acts kept) → (o : Outcome) → ThenOf o →
+    by_outcome : (v : World D) (ms : List Meeting) → Goes v ms (after plan act kept) → (goes_on ≡ true → Goes v ms kept) → (o : Outcome) → ThenOf o →
         Behind act acts kept ms (lag_of m) f w mid v (came plan act kept (lag_of m) o) (goes_past goes_on (came plan act kept (lag_of m) o).outcome) →
         Left act acts kept ms (lag_of m) f w mid v (came plan act kept (lag_of m) o) (goes_past goes_on (came plan act kept (lag_of m) o).outcome)
-    by_outcome v ms acts on_passed on_refused (Ok done) h more =
-        let first = held (after plan act kept) (lag_of m ++ Now (view_by plan (after plan act kept)) (fresh_in act) ∷ []) h in
-        passed act acts kept ms (lag_of m) f w mid v (after plan act kept) (lag_of m ++ Now (view_by plan (after plan act kept)) (fresh_in act) ∷ []) first more (λ did. on_passed did first.state first.is_on first.record_now first.keeps_now)
-    by_outcome v ms acts on_passed on_refused (Err (Refused e)) h more =
-        let first = held kept (lag_of m) h in
-        refused act acts kept ms (lag_of m) f w mid v e goes_on first more (λ goes did. on_refused goes did first.state first.is_on first.record_now first.keeps_now)
-    by_outcome v ms acts on_passed on_refused (Err LinkDown) h more = tt
-    by_outcome v ms acts on_passed on_refused (Err NotLoaded) h more = subst (λ (x : World D). Held f w x kept (lag_of m)) (sym more.1) (held kept (lag_of m) h)
-    by_outcome v ms acts on_passed on_refused (Err Loaded) h more = subst (λ (x : World D). Held f w x kept (lag_of m)) (sym more.1) (held kept (lag_of m) h)
-    by_outcome v ms acts on_passed on_refused (Err (NoSuch name)) h more = subst (λ (x : World D). Held f w x kept (lag_of m)) (sym more.1) (held kept (lag_of m) h)
-    by_outcome v ms acts on_passed on_refused (Err (State found)) h more = subst (λ (x : World D). Held f w x kept (lag_of m)) (sym more.1) (held kept (lag_of m) h)
-    by_outcome v ms acts on_passed on_refused (Err Off) h more = subst (λ (x : World D). Held f w x kept (lag_of m)) (sym more.1) (held kept (lag_of m) h)
-    by_outcome v ms acts on_passed on_refused (Err (Range n)) h more = subst (λ (x : World D). Held f w x kept (lag_of m)) (sym more.1) (held kept (lag_of m) h)
-    by_outcome v ms acts on_passed on_refused (Err (Blob n)) h more = subst (λ (x : World D). Held f w x kept (lag_of m)) (sym more.1) (held kept (lag_of m) h)
+    by_outcome v ms on_passed on_refused (Ok done) h more =
+        let first = held (λ g. AreReady plan goes_on acts g) (after plan act kept) (lag_of m ++ Now (view_by plan (after plan act kept)) (fresh_in act) ∷ []) h in
+        passed act acts kept ms (lag_of m) f w mid v (after plan act kept) (lag_of m ++ Now (view_by plan (after plan act kept)) (fresh_in act) ∷ []) first more (λ did. on_passed did first.state first.is_on first.record_now first.keeps_now h.so)
+    by_outcome v ms on_passed on_refused (Err (Refused e)) h more =
+        let first = held (λ g. goes_on ≡ true → AreReady plan goes_on acts g) kept (lag_of m) h in
+        refused act acts kept ms (lag_of m) f w mid v e goes_on first more (λ goes did. on_refused goes did first.state first.is_on first.record_now first.keeps_now (h.so goes))
+    by_outcome v ms on_passed on_refused (Err LinkDown) h more = tt
+    by_outcome v ms on_passed on_refused (Err NotLoaded) h more = subst (λ (x : World D). Held f w x kept (lag_of m)) (sym more.1) (held (λ g. goes_on ≡ true → AreReady plan goes_on acts g) kept (lag_of m) h)
+    by_outcome v ms on_passed on_refused (Err Loaded) h more = subst (λ (x : World D). Held f w x kept (lag_of m)) (sym more.1) (held (λ g. goes_on ≡ true → AreReady plan goes_on acts g) kept (lag_of m) h)
+    by_outcome v ms on_passed on_refused (Err (NoSuch name)) h more = subst (λ (x : World D). Held f w x kept (lag_of m)) (sym more.1) (held (λ g. goes_on ≡ true → AreReady plan goes_on acts g) kept (lag_of m) h)
+    by_outcome v ms on_passed on_refused (Err (State found)) h more = subst (λ (x : World D). Held f w x kept (lag_of m)) (sym more.1) (held (λ g. goes_on ≡ true → AreReady plan goes_on acts g) kept (lag_of m) h)
+    by_outcome v ms on_passed on_refused (Err Off) h more = subst (λ (x : World D). Held f w x kept (lag_of m)) (sym more.1) (held (λ g. goes_on ≡ true → AreReady plan goes_on acts g) kept (lag_of m) h)
+    by_outcome v ms on_passed on_refused (Err (Range n)) h more = subst (λ (x : World D). Held f w x kept (lag_of m)) (sym more.1) (held (λ g. goes_on ≡ true → AreReady plan goes_on acts g) kept (lag_of m) h)
+    by_outcome v ms on_passed on_refused (Err (Blob n)) h more = subst (λ (x : World D). Held f w x kept (lag_of m)) (sym more.1) (held (λ g. goes_on ≡ true → AreReady plan goes_on acts g) kept (lag_of m) h)
+
+  walk-by : (acts : List Act) (ms : List Meeting) (kept : Record) (w v : World D) → ActsDid means plan heap goes_on kept acts ms w v → HaveLaw plan goes_on kept acts → IsRecordOf plan kept →
+      means.pending w.device ≡ 0 → (f : FwState) → means.on w.device ≡ Some f → Keeps plan heap kept f → AreReady plan goes_on acts f → HeldBy f w v (met_walk kept ms acts)
+  walk-by [] ms kept w v did are is quiet f on keeps ready = none kept f w v on is keeps did.1
+  walk-by (act ∷ acts) [] kept w v did are is quiet f on keeps ready = absurd did
+  walk-by (act ∷ acts) (m ∷ ms) kept w v did are is quiet f on keeps ready =
+      let less = did.1.exchanged.steady.pending in
+      let still : means.pending did.0.device ≡ 0 = omega (arith, quiet, less) in
+      by_outcome kept act are.0 acts m w did.0 did.1 quiet f on keeps ready v ms
+      (λ more g g_on g_is g_keeps g_ready. walk-by acts ms (after plan act kept) did.0 v more (are.1 g_is) g_is still g g_on g_keeps g_ready)
+      (λ goes more g g_on g_is g_keeps g_ready. walk-by acts ms kept did.0 v more (are.2 goes) g_is still g g_on g_keeps g_ready)
+      (outcome_by m.fate (own plan heap kept act)) (act-holds means plan heap goes_on kept act are.0 acts m w did.0 did.1 quiet f on keeps ready) did.2
 
   pub walk-holds : (acts : List Act) (ms : List Meeting) (kept : Record) (w v : World D) → ActsDid means plan heap goes_on kept acts ms w v → AreTaken plan goes_on kept acts → IsRecordOf plan kept →
       means.pending w.device ≡ 0 → (f : FwState) → means.on w.device ≡ Some f → Keeps plan heap kept f → HeldBy f w v (met_walk kept ms acts)
-  walk-holds [] ms kept w v did are is quiet f on keeps = none kept f w v on is keeps did.1
-  walk-holds (act ∷ acts) [] kept w v did are is quiet f on keeps = absurd did
-  walk-holds (act ∷ acts) (m ∷ ms) kept w v did are is quiet f on keeps =
-      let less = did.1.exchanged.steady.pending in
-      let still : means.pending did.0.device ≡ 0 = omega (arith, quiet, less) in
-      by_outcome kept act are.0 m w did.0 did.1 quiet f on keeps v ms acts
-      (λ more g g_on g_is g_keeps. walk-holds acts ms (after plan act kept) did.0 v more (are.1 g_is) g_is still g g_on g_keeps)
-      (λ goes more g g_on g_is g_keeps. walk-holds acts ms kept did.0 v more (are.2 goes) g_is still g g_on g_keeps)
-      (outcome_by m.fate (own plan heap kept act)) (act-holds means plan heap kept act are.0 m w did.0 did.1 quiet f on keeps) did.2
+  walk-holds acts ms kept w v did are is quiet f on keeps = walk-by acts ms kept w v did are.each is quiet f on keeps (are.ready f)

@@ -14,15 +14,14 @@ use Rattle.host_widgets.specs.declared.trigger.Trigger.TheVariants.{Stop}
 use Rattle.host_widgets.specs.Acts.{ids_of}
 use Rattle.host_widgets.specs.declared.kept.Record.{Record}
 use Rattle.host_widgets.specs.declared.kept.ControlRec.{ControlRec}
-use Rattle.host_widgets.specs.BlobParts.{part_numbers}
+use Rattle.mbox_link.specs.BlobParts.{part_numbers}
 use Rattle.host_widgets.specs.HostActs.{Act, Make, Join, Put, Part, Finish, Prepare, Trig, Free, Save}
 
 -- ---- bringing up
 
--- a blob in its parts: none where it is empty
+-- a blob in its parts, in their order: none where it is empty
 abbrev pub part_acts : ℕ → List ℕ → List Act
-part_acts comp [] = []
-part_acts comp (b ∷ blob) = map (λ k. Part comp (b ∷ blob) k) (part_numbers (b ∷ blob))
+part_acts comp blob = map (Part comp blob) (part_numbers blob)
 
 -- a live control has what the record says
 abbrev pub control_acts_by : ℕ → ControlKind → ControlRec → List Act

@@ -9,7 +9,7 @@ use Rattle.tplg_plan.specs.declared.plans.ControlKind.TheVariants as controls
 use Rattle.tplg_plan.specs.GainOf.{control_gain}
 use Rattle.host_widgets.specs.Controls.{control_of}
 use Rattle.host_widgets.specs.Acts.{make_message, widget_words, direction_of, trigger_message}
-use Rattle.host_widgets.specs.BlobParts.{part_of}
+use Rattle.mbox_link.specs.BlobParts.{part_of}
 use Rattle.host_widgets.specs.HostActs.{Act, Make, Join, Put, Part, Finish, Prepare, Trig, Free, Save, Ask}
 
 -- SET_VALUE: a volume's gains by command 0, a mux's choice by command 1; no other component is set so

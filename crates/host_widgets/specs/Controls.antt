@@ -1,12 +1,11 @@
 -- The live controls of a plan, and their first values.
-use Rattle.std.specs.Prelude.{◌≡◌, ℕ, suc, ◌-◌, ◌≤◌, ℤ, pos, negsuc, Bool, true, false, not, ◌&&◌, ◌==◌, List, [], ◌∷◌, length, replicate, find, Option, unwrap_or}
-use Rattle.std.specs.List.{list_all, range_with_len}
+use Rattle.std.specs.Prelude.{ℕ, suc, ◌-◌, ◌≤◌, ℤ, pos, negsuc, Bool, true, false, not, ◌&&◌, ◌==◌, List, [], ◌∷◌, replicate, find, Option, unwrap_or}
+use Rattle.std.specs.List.{range_with_len}
 use Rattle.stream_law.specs.Gain.{half_decibels}
 use Rattle.tplg_plan.specs.declared.plans.Plan.{Plan}
 use Rattle.tplg_plan.specs.declared.plans.ControlPlan.{ControlPlan}
 use Rattle.tplg_plan.specs.declared.plans.ControlKind.{ControlKind}
 use Rattle.tplg_plan.specs.declared.plans.ControlKind.TheVariants.{Volume, Choice, Blob}
-use Rattle.tplg_plan.specs.Sound.{IsSound}
 
 -- the live control of a component
 abbrev pub control_of : Plan → ℕ → Option ControlPlan
@@ -44,18 +43,9 @@ abbrev pub first_blob : ControlKind → List ℕ
 first_blob (Blob most initial) = initial
 first_blob kind = []
 
--- no equaliser begins with a blob
-abbrev pub has_no_blobs : Plan → Bool
-has_no_blobs plan = list_all (λ k. length (first_blob k.kind) == 0) plan.controls
-
 -- ---- what is so of controls
 
 -- a volume has at most 8 channels and values of at most 65535
 abbrev pub HasFew : ControlKind → Type 0
 HasFew (Volume min max channels lowest step mute) = (max ≤ 65535) × (channels ≤ 8)
 HasFew kind = Unit {0}
-
--- what is so of the plans that are loaded: they are those of well-formed topologies, and so far no equaliser begins with a blob
-pub record IsLoadable (plan : Plan) : Type 0 where
-  pub sound : IsSound plan
-  pub blobs : has_no_blobs plan ≡ true

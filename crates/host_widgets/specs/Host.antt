@@ -2,6 +2,7 @@
 use Rattle.std.specs.Prelude.{◌≡◌, ◌⊎◌, ◌↔◌, ℕ, ◌-◌, ◌%◌, ◌^◌, ◌<◌, ◌≤◌, ℤ, pos, negsuc, Bool, true, false, List, [], ◌∷◌, length, nat_le, Option, Some, None, is_some, Result, Ok, Err, if◌then◌else◌, ◌==◌, ◌&&◌, not}
 use Rattle.std.specs.List.{list_any, list_all}
 use Rattle.std.specs.Option.{option_map}
+use Rattle.sof_base.specs.BlobFaults.{is_blob}
 use Rattle.sof_base.specs.declared.errno.Errno.{Errno}
 use Rattle.sof_base.specs.declared.format.Params.{Params}
 use Rattle.stream_law.specs.declared.stream.Phase.TheVariants.{Idle}
@@ -122,13 +123,13 @@ Sides means plan kept device Unloaded = (kept ≡ first_record plan) × (means.o
 Sides means plan kept device On = option_map view_of (means.on device) ≡ Some (view_by plan kept)
 Sides means plan kept device Off = (list_any (λ s. is_live_phase (phase_of s.found)) kept.streams ≡ false) × (means.on device ≡ None)
 
--- values that a command may set: one for each channel of a volume, in its range, and the number of one of a mux's items; no
--- blob is set so far
+-- what a command may set: a value for each channel of a volume, in its range; the number of one of a mux's items; and a blob that is
+-- not longer than an equaliser takes
 abbrev pub IsSet : ControlKind → ControlRec → Type 0
 IsSet (Volume min max channels lowest step mute) c =
     (length c.values ≡ channels) × (list_all (λ v. nat_le min v && nat_le v max) c.values ≡ true) × (c.blob ≡ [])
 IsSet (Choice items) c = (v : ℕ) × (c.values ≡ v ∷ []) × (v < items) × (c.blob ≡ [])
-IsSet (Blob most initial) c = ⊥
+IsSet (Blob most initial) c = (c.values ≡ []) × (length c.blob ≤ most) × (is_blob c.blob ≡ true)
 
 -- a record for each live control, which is as it begins or was set
 abbrev pub AreControls : List ControlPlan → List ControlRec → Type 0

@@ -11,7 +11,7 @@ use Rattle.host_widgets.specs.HostRecord.{closed}
 use Rattle.host_widgets.specs.declared.kept.Record.{Record}
 use Rattle.host_widgets.specs.declared.kept.ControlRec.{ControlRec}
 use Rattle.host_widgets.specs.Kept.{with_stream, with_control}
-use Rattle.host_widgets.specs.BlobParts.{is_last}
+use Rattle.mbox_link.specs.BlobParts.{is_last}
 
 -- an act, by the ids that it is about; a stream by that of its host component, a control by that of its component
 pub data Act : Type 0 where

@@ -2,7 +2,6 @@ pub mod HostRecord
 pub mod Controls
 pub mod Acts
 pub mod Kept
-pub mod BlobParts
 pub mod HostActs
 pub mod ActMessages
 pub mod ActLists

@@ -1,10 +1,12 @@
 // The messages that bring a device up.
-ghost use Rattle.std.specs.Prelude.{◌≡◌, ◌<◌, ◌^◌, ◌*◌, is_some, true, false, Some, [], length, map};
+ghost use Rattle.std.specs.Prelude.{◌≡◌, ◌<◌, ◌^◌, ◌*◌, is_some, true, false, Some, length, map};
 ghost use Rattle.std.specs.List.{flat_map};
 ghost use Rattle.sof_base.specs.Ports.{HasRoom};
 ghost use Rattle.mbox_link.specs.Step.{fresh};
 ghost use Rattle.mbox_link.specs.Calls.{world};
-ghost use Rattle.host_widgets.specs.Controls.{IsLoadable, control_of};
+ghost use Rattle.host_widgets.specs.Controls.{control_of};
+ghost use Rattle.tplg_plan.specs.Ranges.{is_initial};
+ghost use Rattle.tplg_plan.specs.Sound.{IsSound};
 ghost use Rattle.host_widgets.specs.Kept.{controls_of};
 ghost use Rattle.host_widgets.specs.HostActs.{Make, Join, Finish};
 ghost use Rattle.host_widgets.specs.Acts.{ids_of};
@@ -17,6 +19,7 @@ use crate::answers::HostFault;
 use crate::controls::set_message;
 use crate::kept::{ControlRec, Record};
 use crate::messages::make_message;
+use crate::parts::send_parts;
 use crate::sending::send;
 use ipc3_codec::Message;
 use mbox_link::Dsp;
@@ -72,7 +75,7 @@ fn put_controls<P: Dsp>(
     io: &mut Inputs,
     out: &mut Outputs,
 ) -> Result<(), HostFault>
-    requires plan { IsLoadable plan.now }
+    requires plan { IsSound plan.now }
     requires kept { IsRecordOf plan.now kept.now }
     requires on { is_some (P.means.on dsp.old) ≡ true }
     requires room { HasRoom (61440 * P.means.pending dsp.old) out.old }
@@ -86,7 +89,7 @@ fn put_controls<P: Dsp>(
     Ok(())
 }
 
-// Sets a live control. One that has a blob has none to send so far.
+// Sets a live control: by its values, or by the parts of its blob where it has one.
 fn put_control<P: Dsp>(
     plan: &Plan,
     control: &ControlPlan,
@@ -96,13 +99,19 @@ fn put_control<P: Dsp>(
     out: &mut Outputs,
 ) -> Result<(), HostFault>
     requires first { control_of plan.now control.now.comp ≡ Some control.now }
-    requires bare { kept.now.blob ≡ [] }
+    requires blob { is_initial kept.now.blob ≡ true }
     requires on { is_some (P.means.on dsp.old) ≡ true }
     requires room { HasRoom (61440 * P.means.pending dsp.old) out.old }
     ensures { ActsSent P.means plan.now (control_acts (control.now, kept.now)) (world dsp.old io.old out.old) (world dsp.new io.new out.new) result }
 {
     match control.kind {
-        ControlKind::Blob { .. } => Ok(()),
+        ControlKind::Blob { .. } => {
+            let blob = kept.blob.items();
+            if blob.is_empty() {
+                return Ok(());
+            }
+            send_parts(control.comp, blob, dsp, io, out)
+        }
         _ => {
             let setting = set_message(control.comp, &control.kind, &kept.values);
             send(&setting, dsp, io, out)?;
@@ -136,7 +145,7 @@ fn send_list<P: Dsp>(
     io: &mut Inputs,
     out: &mut Outputs,
 ) -> Result<(), HostFault>
-    requires plan { IsLoadable plan.now }
+    requires plan { IsSound plan.now }
     requires kept { IsRecordOf plan.now kept.now }
     requires few { length plan.now.widgets < 2 ^ 32 }
     requires on { is_some (P.means.on dsp.old) ≡ true }
@@ -150,8 +159,8 @@ fn send_list<P: Dsp>(
 }
 
 /// Sends the messages that bring a freshly booted device up to what the record says, one exchange each, up to the first that
-/// does not pass: each widget is made by id, then each join is made in the graph's order, then each live control that has
-/// values is set to those of the record, by component, then each pipeline is complete by id. The record stays as it is, and
+/// does not pass: each widget is made by id, then each join is made in the graph's order, then each live control is set to what
+/// the record says, by component, a blob in its parts, then each pipeline is complete by id. The record stays as it is, and
 /// nothing is cut. `heap` is the device's heap in bytes.
 ///
 /// Ok: the device keeps the plan, with what the record sets. `Refused(e)`: a message was answered with the negative error e. `LinkDown`: an exchange
@@ -164,7 +173,7 @@ pub fn bring_up<P: Dsp>(
     io: &mut Inputs,
     out: &mut Outputs,
 ) -> Result<(), HostFault>
-    requires plan { IsLoadable plan.now }
+    requires plan { IsSound plan.now }
     requires kept { IsRecordOf plan.now kept.old }
     requires booted { P.means.on dsp.old ≡ Some (fresh heap) }
     requires room { HasRoom (61440 * P.means.pending dsp.old) out.old }

@@ -2,7 +2,7 @@
 ghost use Rattle.std.specs.Prelude.{◌≡◌, ◌≤◌, ◌*◌, None};
 ghost use Rattle.sof_base.specs.Ports.{HasRoom};
 ghost use Rattle.mbox_link.specs.Calls.{world};
-ghost use Rattle.host_widgets.specs.Controls.{IsLoadable};
+ghost use Rattle.tplg_plan.specs.Sound.{IsSound};
 ghost use Rattle.host_widgets.specs.Kept.{first_record, with_power};
 ghost use Rattle.host_widgets.specs.Host.{Agrees, BroughtUp, SucceedsExactly};
 ghost use Rattle.host_widgets.specs.Orders.{Carried, Tested, brought_end, load_fault, loading};
@@ -23,7 +23,7 @@ fn power_up<P: Dsp>(
     io: &mut Inputs,
     out: &mut Outputs,
 ) -> Result<(), HostFault>
-    requires plan { IsLoadable plan.now }
+    requires plan { IsSound plan.now }
     requires kept { kept.old ≡ first_record plan.now }
     requires off { P.means.on dsp.old ≡ None }
     requires heap { heap ≤ P.means.most dsp.old }
@@ -57,7 +57,7 @@ pub fn load<P: Dsp>(
     io: &mut Inputs,
     out: &mut Outputs,
 ) -> Result<(), HostFault>
-    requires plan { IsLoadable plan.now }
+    requires plan { IsSound plan.now }
     requires agree { Agrees P.means plan.now kept.old dsp.old }
     requires heap { heap ≤ P.means.most dsp.old }
     requires room { HasRoom (61440 * P.means.pending dsp.old) out.old }

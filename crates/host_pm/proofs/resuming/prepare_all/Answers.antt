@@ -29,7 +29,7 @@ prepare-requires-clause-goes g c =
     let i = c.loop-place.place in
     let s = c.index-items-place.result in
     let low : i < length plan.streams = omega (arith, c.loop-place-test.true, ap length c.items-count.ensures) in
-    subst (λ (x : StreamPlan). direction_of plan x.host ≡ (if x.capture then 1 else 0)) (sym (c.index-items-place.is ∙ place-stream plan i low c.items.result.now s c.items.ensures)) (place-goes plan c.requires.plan.sound i low)
+    subst (λ (x : StreamPlan). direction_of plan x.host ≡ (if x.capture then 1 else 0)) (sym (c.index-items-place.is ∙ place-stream plan i low c.items.result.now s c.items.ensures)) (place-goes plan c.requires.plan i low)
 
 pub returns-in_err-prepare : goal.returns-in_err-prepare
 returns-in_err-prepare g c =

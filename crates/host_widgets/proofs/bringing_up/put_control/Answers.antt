@@ -1,16 +1,16 @@
-use Rattle.std.proofs.Common.{◌≡◌, List, Result, Ok, Err, subst, sym, ◌∙◌}
+use Rattle.std.proofs.Common.{◌≡◌, List, Result, Ok, Err, subst, sym, ap, ◌∙◌}
 use Rattle.ipc3_codec.specs.declared.message.Message.{Message}
 use Rattle.ipc3_codec.specs.declared.reply.Reply.{Reply}
 use Rattle.ipc3_codec.specs.Messages.{message_spelling}
 use Rattle.mbox_link.specs.Calls.{world}
 use Rattle.host_widgets.specs.declared.answers.HostFault.{HostFault}
 use Rattle.host_widgets.specs.HostActs.{Act, Put}
-use Rattle.host_widgets.specs.ActLists.{control_acts}
+use Rattle.host_widgets.specs.ActLists.{part_acts, control_acts}
 use Rattle.host_widgets.specs.ActMessages.{message_of}
 use Rattle.host_widgets.specs.Host.{Outcome, Sent}
 use Rattle.host_widgets.specs.ActCalls.{ActsSent}
 use Rattle.host_widgets.proofs.Walks.{passing, failing, sent-one, handed_on}
-use Rattle.host_widgets.proofs.FirstSettings.{put-acts, put-message}
+use Rattle.host_widgets.proofs.FirstSettings.{put-acts, put-message, blob-acts}
 use Rattle.host_widgets.proofs.bringing_up.put_control.Goals as goal
 
 pub returns-in_err-send-in_default : goal.returns-in_err-send-in_default
@@ -40,3 +40,13 @@ returns-in_ok-send-in_default g c =
     let sent = subst (λ (m : Message). Sent means (message_spelling m) w v c.send.result) message c.send.ensures in
     let passed = subst (λ (r : Result Reply HostFault). Sent means (message_spelling (message_of plan (Put control.comp kept.values))) w v r) c.in_ok-send-in_default.was sent in
     subst (λ (acts : List Act). ActsSent means plan acts w v passing) (sym (put-acts control kept c.in_default.not-Blob)) (sent-one means plan (Put control.comp kept.values) (Ok c.in_ok-send-in_default.field-0) w v passed)
+
+pub returns-else-is_empty : goal.returns-else-is_empty
+returns-else-is_empty g c =
+    let plan = c.args.plan.now in
+    let control = c.args.control.now in
+    let kept = c.args.kept.now in
+    let w = world c.args.dsp.now c.args.io.now c.args.out.now in
+    let v = world c.send_parts.new.dsp c.send_parts.new.io c.send_parts.new.out in
+    let same : part_acts control.comp c.items-blob.result.now ≡ control_acts (control, kept) = ap (part_acts control.comp) c.items-blob.ensures.value ∙ sym (blob-acts control kept _ _ c.in-Blob.is) in
+    subst (λ (acts : List Act). ActsSent g.P.Dsp.means plan acts w v c.send_parts.result) same (c.send_parts.ensures plan)

@@ -2,6 +2,7 @@ use Rattle.std.proofs.Common.{◌≡◌, ◌<◌, ◌≤◌, ◌∙◌, List, So
 use Rattle.std.specs.List.{flat_map}
 use Rattle.std.proofs.lemmas.List.{take_all}
 use Rattle.mbox_link.specs.Calls.{world}
+use Rattle.tplg_plan.specs.Ranges.{is_initial}
 use Rattle.tplg_plan.specs.declared.plans.ControlPlan.{ControlPlan}
 use Rattle.host_widgets.specs.declared.kept.ControlRec.{ControlRec}
 use Rattle.host_widgets.specs.Controls.{control_of}
@@ -10,7 +11,7 @@ use Rattle.host_widgets.specs.Kept.{controls_of}
 use Rattle.host_widgets.specs.ActCalls.{ActsSent}
 use Rattle.host_widgets.proofs.ControlLists.{Pair, same-length, pairs-long, pair-at}
 use Rattle.host_widgets.proofs.Walks.{passing, sent-on, sent-room, sent-all, sent-stops, handed_on}
-use Rattle.host_widgets.proofs.Loadables.{is-first, no-blob}
+use Rattle.host_widgets.proofs.Loadables.{is-first, initial-here}
 use Rattle.host_widgets.proofs.bringing_up.put_controls.Goals as goal
 
 pub bounds-items-place-in-loop-place : goal.bounds-items-place-in-loop-place
@@ -20,12 +21,12 @@ bounds-items-place-in-loop-place g c =
 pub put_control-requires-clause-first : goal.put_control-requires-clause-first
 put_control-requires-clause-first g c =
     subst (λ (k : ControlPlan). control_of c.args.plan.now k.comp ≡ Some k) (sym c.index-items-place.is)
-    (is-first c.args.plan.now c.requires.plan.sound c.items.result.now c.items.ensures c.loop-place.place c.index-items-place.result (omega (arith, c.loop-place-test.true, ap length c.items.ensures, ap length c.items-count.ensures)))
+    (is-first c.args.plan.now c.requires.plan c.items.result.now c.items.ensures c.loop-place.place c.index-items-place.result (omega (arith, c.loop-place-test.true, ap length c.items.ensures, ap length c.items-count.ensures)))
 
-pub put_control-requires-clause-bare : goal.put_control-requires-clause-bare
-put_control-requires-clause-bare g c =
-    ap (λ (r : ControlRec). r.blob) c.index-items-place-in-loop-place.is
-    ∙ no-blob c.args.plan.now c.args.kept.now c.requires.plan c.requires.kept.controls c.items-in-loop-place.result.now c.items-in-loop-place.ensures c.loop-place.place c.index-items-place-in-loop-place.result
+pub put_control-requires-clause-blob : goal.put_control-requires-clause-blob
+put_control-requires-clause-blob g c =
+    ap (λ (r : ControlRec). is_initial r.blob) c.index-items-place-in-loop-place.is
+    ∙ initial-here c.args.plan.now c.args.kept.now c.requires.plan c.requires.kept.controls c.items-in-loop-place.result.now c.items-in-loop-place.ensures c.loop-place.place c.index-items-place-in-loop-place.result
     (omega (arith, c.loop-place-test.true, ap length c.items-count.ensures, ap length c.items-in-loop-place.ensures, same-length c.args.plan.now.controls c.args.kept.now.controls c.requires.kept.controls))
 
 pub put_control-requires-clause-on : goal.put_control-requires-clause-on

@@ -69,7 +69,7 @@ put-taken plan kept is comp values x there k c at of are live controls read = re
   message = read.0;
   passes = λ f. bare-passes (body_of f (decoded (message_spelling (message_of plan (Put comp values))))) (ap (body_of f) read.1 ∙ ap (λ (o : Option ControlPlan). body f (put_message comp values o)) of ∙ set-bare f comp values k);
   record_is = is;
-  leaves = λ f f' shows rings done.
+  leaves = λ f f' shows rings ready done.
       let view = put-shows plan kept f f' shows comp values x there k c at of are live done in
       let rest = rest-kind f f' comp values k (ap (λ (o : Option ControlPlan). row f (put_message comp values o)) (sym of) ∙ done) in
       record {
@@ -83,7 +83,7 @@ put-taken plan kept is comp values x there k c at of are live controls read = re
 
 -- ---- what changes nothing
 
-same-controls : (ks : List ControlPlan) (cs : List ControlRec) → changed (λ (k : ControlPlan). k.comp) 0 (λ c. c) ks cs ≡ cs
+pub same-controls : (ks : List ControlPlan) (cs : List ControlRec) → changed (λ (k : ControlPlan). k.comp) 0 (λ c. c) ks cs ≡ cs
 same-controls [] cs = refl
 same-controls (k ∷ ks) [] = refl
 same-controls (k ∷ ks) (c ∷ cs) = λ i. by (k.comp == 0) i ∷ same-controls ks cs i
@@ -99,7 +99,7 @@ still-taken plan kept act is same none read passes stays = record {
   message = read.0;
   passes = passes;
   record_is = is;
-  leaves = λ f f' shows rings done.
+  leaves = λ f f' shows rings ready done.
       let unchanged : with_control plan 0 (λ c. c) kept ≡ kept = (λ i. record { power = kept.power; streams = kept.streams; controls = same-controls plan.controls kept.controls i }) in
       let shows' = shows ∙ ap (view_by plan) (sym unchanged) in
       subst (λ (x : FwState × Record). LeavesSo plan act f x.0 x.1) (λ i. (sym (stays f f' done) i, (unchanged ∙ sym same) i)) record {

@@ -14,20 +14,18 @@ use Rattle.host_widgets.specs.declared.kept.Power.TheVariants.{Unloaded, On, Off
 use Rattle.host_widgets.specs.declared.kept.Record.{Record}
 use Rattle.host_widgets.specs.declared.kept.ControlRec.{ControlRec}
 use Rattle.host_widgets.specs.Kept.{changed, control_at, with_control}
-use Rattle.host_widgets.specs.Controls.{first_blob, has_no_blobs}
 use Rattle.host_widgets.specs.HostActs.{Act, Put, Ask, with_values}
 use Rattle.host_widgets.specs.Host.{Outcome, Agrees, Sides}
-use Rattle.host_widgets.specs.Orders.{Order, Carried, quiet, sends}
+use Rattle.host_widgets.specs.Orders.{Carried, quiet, sends}
 use Rattle.host_widgets.specs.ActCarried.{PlainEnd, ActCarried}
 use Rattle.host_widgets.specs.OneAct.{came}
-use Rattle.host_widgets.proofs.ControlLists.{bare-one, no-blobs}
 use Rattle.host_widgets.proofs.PlainOrders.{plain, no-acts}
 use Rattle.host_widgets.proofs.OneOrder.{one-order, answering}
 use Rattle.host_ctl.specs.ControlAsks.{named_control}
-use Rattle.host_ctl.specs.ControlOrders.{MaySet, put_order, setting_order, set_order, ask_acts, reading_order, read_order, named_at, command_of}
+use Rattle.host_ctl.specs.ControlOrders.{MaySet, put_order, setting_order, set_order, installing_order, bytes_order, ask_acts, reading_order, read_order, named_at, command_of}
 use Rattle.host_ctl.specs.ControlPlaces.{control_here, record_here, with_place}
 use Rattle.host_ctl.proofs.PutStands.{put-record}
-use Rattle.host_ctl.proofs.ControlsThere.{all-of-here, at-here, was-here, place-changed}
+use Rattle.host_ctl.proofs.ControlsThere.{at-here, place-changed}
 use Rattle.host_ctl.proofs.ControlsTaken.{set-all}
 
 -- values that are put twice are put
@@ -94,23 +92,14 @@ module _ {D : Type 0} (means : Meaning D) (plan : Plan) (sound : IsSound plan) (
   ask-carried (Choice items) command at answer kept' v result on x = one-order means plan heap (Ask k.comp 0) (λ now. now) answer kept kept' w v result on x (λ passed. refl)
   ask-carried (Blob most initial) command at answer kept' v result on x = absurd (cc at)
 
-  -- no equaliser begins with a blob, and none is set so far
-  pub bare-here : has_no_blobs plan ≡ true → r.blob ≡ []
-  bare-here none =
-      bare-one k.kind r (all-of-here plan sound kept agrees.record_is i low (λ (x : ControlPlan). first_blob x.kind ≡ []) (no-blobs plan.controls none)) (was-here plan sound kept agrees.record_is i low)
-
-  -- of an equaliser without a blob nothing is asked
-  pub none-asked : (q : ControlKind) (most : ℕ) (initial : List ℕ) → q ≡ Blob most initial → r.blob ≡ [] → kept.power ≡ On → (answer : Answer) → Carried means plan heap (sends kept.power (ask_acts k.comp q r) (λ now. now) answer) kept kept w w (Ok tt)
-  none-asked q most initial is bare on answer =
-      subst (λ (o : Order). Carried means plan heap o kept kept w w (Ok tt))
-      (sym ((λ j. sends (on j) (ask_acts k.comp (is j) r) (λ now. now) answer) ∙ ap (λ (blob : List ℕ). sends On (ask_acts k.comp (Blob most initial) (record { values = r.values; blob = blob })) (λ now. now) answer) bare))
-      (quiet-carried means plan heap answer kept w)
-
   -- ---- the control of a name
 
   module _ (name : List ℕ) (named : named_control plan name ≡ Some k) where
     pub set-named : (values : List ℕ) → setting_order plan kept values (Some k) ≡ set_order plan kept name values
     set-named values = ap (setting_order plan kept values) (sym named)
+
+    pub bytes-named : (blob : List ℕ) → installing_order plan kept blob (Some k) ≡ bytes_order plan kept name blob
+    bytes-named blob = ap (installing_order plan kept blob) (sym named)
 
     pub at-named : named_at plan kept name ≡ Some (k, r)
     at-named = ap (option_and_then (λ (x : ControlPlan). control_at plan kept x.comp)) named ∙ at-here plan sound kept agrees.record_is i low

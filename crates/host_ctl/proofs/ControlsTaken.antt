@@ -14,7 +14,7 @@ use Rattle.ipc3_codec.specs.declared.reply.Reply.{Reply}
 use Rattle.ipc3_codec.specs.Messages.{message_spelling, decoded, IsMessage}
 use Rattle.ipc3_codec.specs.Replies.{decoded_reply}
 use Rattle.mbox_link.specs.Step as fw
-use Rattle.mbox_link.specs.Step.{row, body, body_of, no_device, invalid}
+use Rattle.mbox_link.specs.Step.{row, body_of, no_device, invalid}
 use Rattle.tplg_plan.specs.declared.plans.Plan.{Plan}
 use Rattle.tplg_plan.specs.declared.plans.ControlPlan.{ControlPlan}
 use Rattle.tplg_plan.specs.declared.plans.ControlKind.{ControlKind}
@@ -33,6 +33,7 @@ use Rattle.host_widgets.specs.ViewOf.{view_by, set_comp, setting_by}
 use Rattle.host_widgets.specs.ActCalls.{came_to}
 use Rattle.host_widgets.proofs.ActsCome.{IsAnswered}
 use Rattle.host_widgets.proofs.ControlLists.{bare-one}
+use Rattle.host_widgets.proofs.PartFacts.{none-empty}
 use Rattle.host_widgets.proofs.Effects.{decoded-message}
 use Rattle.host_widgets.proofs.GreatestGains.{AreGains, gains-are, set-message}
 use Rattle.host_widgets.proofs.LookedUp.{found-is, each-found}
@@ -77,7 +78,7 @@ put-fits id (Volume min max channels lowest step mute) values fits may few =
 put-fits id (Choice items) values fits may few =
     let s = may [] refl in
     set-message id 1 values fits (omega arith) few.0 few.1 (subst AreGains (sym s.1) (omega (arith, s.2, few.2 items refl), tt))
-put-fits id (Blob most initial) values fits may few = absurd (may [] refl)
+put-fits id (Blob most initial) values fits may few = absurd (none-empty (may [] refl).2)
 
 -- values that may be set are as many as a message takes
 few-values : (q : ControlKind) (values : List ℕ) → MaySet q values → (kind : _) → IsControlOf q kind → (1 ≤ length values) × (length values ≤ 8) × ((items : ℕ) → q ≡ Choice items → items ≤ 16)
@@ -86,10 +87,10 @@ few-values (Volume min max channels lowest step mute) values may kind of =
 few-values (Choice items) values may kind of =
     let long : length values ≡ 1 = ap length (may [] refl).1 in
     (omega (arith, long), omega (arith, long), λ n is. (let same : items ≡ n = cc is in omega (arith, same, of.2)))
-few-values (Blob most initial) values may kind of = absurd (may [] refl)
+few-values (Blob most initial) values may kind of = absurd (none-empty (may [] refl).2)
 
 -- a reply with error 0 passes, whatever its body
-done-passes : (said : Body) → came_to (verdict (Some (done_reply said))) ≡ Ok tt
+pub done-passes : (said : Body) → came_to (verdict (Some (done_reply said))) ≡ Ok tt
 done-passes said = by (decoded_reply (done_reply said)) refl
   where
     by : (d : Result Reply CodecFault) → decoded_reply (done_reply said) ≡ d → came_to (judged d) ≡ Ok tt
@@ -117,7 +118,7 @@ module _ (plan : Plan) (sound : IsSound plan) (kept : Record) (is : IsRecordOf p
   abbrev here : IsLive plan.graph k
   here = live plan sound kept is i low
 
-  id-low : k.comp < 2 ^ 32
+  pub id-low : k.comp < 2 ^ 32
   id-low = id-fits plan sound k.comp (component-found plan sound k.comp here.comp here.there).low
 
   -- what a firmware that shows the record has there
@@ -136,9 +137,9 @@ module _ (plan : Plan) (sound : IsSound plan) (kept : Record) (is : IsRecordOf p
 
   module _ (values : List ℕ) (may : MaySet k.kind values) where
     no-blob : (q : ControlKind) → MaySet q values → (c : ControlRec) → Was (control k.comp q) c → c.blob ≡ []
-    no-blob (Volume min max channels lowest step mute) may c was = bare-one (Volume min max channels lowest step mute) c refl was
-    no-blob (Choice items) may c was = bare-one (Choice items) c refl was
-    no-blob (Blob most initial) may c was = absurd (may [] refl)
+    no-blob (Volume min max channels lowest step mute) may c was = bare-one (Volume min max channels lowest step mute) c (λ m n e. cc e) was
+    no-blob (Choice items) may c was = bare-one (Choice items) c (λ m n e. cc e) was
+    no-blob (Blob most initial) may c was = absurd (none-empty (may [] refl).2)
 
     pub set-all : AreControls plan.controls (with_control plan k.comp (with_values values) kept).controls
     set-all = controls-with k.comp (with_values values) plan.controls kept.controls (all plan.controls (each-found (λ (x : ControlPlan). x.comp) plan.controls sound.controls_ascend)) is.controls

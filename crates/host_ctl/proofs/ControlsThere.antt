@@ -16,7 +16,7 @@ use Rattle.host_widgets.specs.declared.kept.Record.{Record}
 use Rattle.host_widgets.specs.declared.kept.ControlRec.{ControlRec}
 use Rattle.host_widgets.specs.Controls.{control_of}
 use Rattle.host_widgets.specs.Kept.{first_control, control_at, changed, with_control}
-use Rattle.host_widgets.specs.HostActs.{with_values}
+use Rattle.host_widgets.specs.HostActs.{with_values, with_blob}
 use Rattle.host_widgets.specs.Host.{AreControls, IsSet, IsRecordOf}
 use Rattle.host_widgets.proofs.ChangedPlaces.{changed-at}
 use Rattle.host_widgets.proofs.ControlLists.{same-length}
@@ -24,7 +24,7 @@ use Rattle.host_widgets.proofs.LookedUp.{each-found}
 use Rattle.host_widgets.proofs.NamedIds.{each-comp}
 use Rattle.host_widgets.specs.Named.{is_named}
 use Rattle.host_ctl.specs.ControlAsks.{named_control}
-use Rattle.host_ctl.specs.ControlPlaces.{no_control, no_values, control_place, control_here, record_here, with_place}
+use Rattle.host_ctl.specs.ControlPlaces.{no_control, no_values, control_place, control_here, record_here, with_place, with_blob_here}
 use Rattle.host_ctl.proofs.PutShows.{AreKind}
 
 -- ---- as lists
@@ -122,6 +122,11 @@ module _ (plan : Plan) (sound : IsSound plan) (kept : Record) (is : IsRecordOf p
         λ same. (let one : Some c ≡ Some live.comp = sym all.0 ∙ ap (comp_of plan.graph) (eqb-true c.id k.comp same) ∙ live.there in let x : c ≡ live.comp = cc one in ap (λ (y : Comp). y.kind) x),
         by cs all.1,
       )
+
+  pub blob-changed : (blob : List ℕ) → with_blob_here i blob kept ≡ with_control plan k.comp (with_blob blob) kept
+  blob-changed blob =
+      ap (λ (rs : List ControlRec). record { power = kept.power; streams = kept.streams; controls = rs })
+      (changed-at (λ (x : ControlPlan). x.comp) (with_blob blob) no_control no_values plan.controls sound.controls_ascend kept.controls i low within)
 
   pub place-changed : (values : List ℕ) → with_place i values kept ≡ with_control plan k.comp (with_values values) kept
   place-changed values =

@@ -8,3 +8,9 @@ pub mod ControlCalls
 pub mod ControlTests
 pub mod ControlOrdered
 pub mod OrdersTaken
+pub mod BlobTaken
+pub mod PartsSent
+pub mod BlobCalls
+pub mod BlobTests
+pub mod ControlParts
+pub mod PartsTold

@@ -27,6 +27,7 @@ use Rattle.host_widgets.specs.ViewOf.{setting_by}
 use Rattle.host_widgets.proofs.ControlLists.{takes-by}
 use Rattle.host_widgets.proofs.GreatestGains.{AreGains, gains-are, gains-pass}
 use Rattle.host_widgets.proofs.LookedUp.{any-found}
+use Rattle.host_widgets.proofs.PartFacts.{none-empty}
 use Rattle.host_ctl.specs.ControlOrders.{MaySet, command_of, said_by, set_at}
 use Rattle.host_ctl.proofs.ControlsThere.{Was}
 
@@ -34,7 +35,7 @@ use Rattle.host_ctl.proofs.ControlsThere.{Was}
 abbrev pub control : ℕ → ControlKind → ControlPlan
 control id q = record { comp = id; kind = q }
 
-used-comp : (g : Graph) (id : ℕ) (x : Comp) → comp_of g id ≡ Some x → is_used g id ≡ true
+pub used-comp : (g : Graph) (id : ℕ) (x : Comp) → comp_of g id ≡ Some x → is_used g id ≡ true
 used-comp g id x there = or_left (has_comp g id || has_edge g id) (has_pipe g id) (or_left (has_comp g id) (has_edge g id) (any-found (λ (c : Comp). c.id == id) g.comps x there))
 
 -- what is read of a volume or a mux
@@ -79,7 +80,7 @@ module _ (f : FwState) (id : ℕ) (x : Comp) (there : comp_of f.graph id ≡ Som
       old = map (control_gain q) c.values
 
       long : length gains ≡ length old
-      long = length-map values (control_gain q) ∙ (may [] refl).0 ∙ sym (takes-by q x.kind c of refl was) ∙ sym (length-map c.values (control_gain q))
+      long = length-map values (control_gain q) ∙ (may [] refl).0 ∙ sym (takes-by q x.kind c of was) ∙ sym (length-map c.values (control_gain q))
 
       new : fw.new_setting x.kind x.setting 0 gains ≡ Some (settings.Gains gains)
       new =
@@ -93,7 +94,7 @@ module _ (f : FwState) (id : ℕ) (x : Comp) (there : comp_of f.graph id ≡ Som
         set-answers f id 1 values x (settings.Choice v) there
             (ap (λ (kind : Kind). fw.new_setting kind x.setting 1 values) of.0 ∙ ap (λ (vs : List ℕ). fw.new_setting kinds.Mux x.setting 1 vs) one),
       )
-  put-answers (Blob most initial) values shown may = absurd (may [] refl)
+  put-answers (Blob most initial) values shown may = absurd (none-empty (may [] refl).2)
 
   -- ---- GET_VALUE
 
@@ -113,7 +114,7 @@ module _ (f : FwState) (id : ℕ) (x : Comp) (there : comp_of f.graph id ≡ Som
       let one_is : 1 ≡ command = cc at in
       subst (λ (n : ℕ). fw.values_at f.graph id n ≡ Some c.values) one_is
       (read-by 1 c.values
-      (ap (λ (s : Setting). fw.values_by x.kind s 1) is ∙ ap (λ (kind : Kind). fw.values_by kind (setting_by kind (Some (control id (Choice items), c))) 1) of.0 ∙ ap Some (one-value c.values (takes-by (Choice items) x.kind c of refl was))))
+      (ap (λ (s : Setting). fw.values_by x.kind s 1) is ∙ ap (λ (kind : Kind). fw.values_by kind (setting_by kind (Some (control id (Choice items), c))) 1) of.0 ∙ ap Some (one-value c.values (takes-by (Choice items) x.kind c of was))))
   values-at (Blob most initial) command shown at = absurd (cc at)
 
   -- one that asks leaves the state
@@ -127,10 +128,10 @@ module _ (f : FwState) (id : ℕ) (x : Comp) (there : comp_of f.graph id ≡ Som
   pub values-fit : (q : ControlKind) (command : ℕ) → Shown q → command_of q ≡ Some command → AreGains (values_by c q) × (1 ≤ length (values_by c q)) × (length (values_by c q) ≤ 8)
   values-fit (Volume min max channels lowest step mute) command (of, is, was) at =
       let q : ControlKind = Volume min max channels lowest step mute in
-      let long : length (values_by c q) ≡ channels = length-map c.values (control_gain q) ∙ takes-by q x.kind c of refl was in
+      let long : length (values_by c q) ≡ channels = length-map c.values (control_gain q) ∙ takes-by q x.kind c of was in
       (gains-are q c.values, omega (arith, long, of.3), omega (arith, long, of.4))
   values-fit (Choice items) command (of, is, was) at =
-      let t = takes-by (Choice items) x.kind c of refl was in
+      let t = takes-by (Choice items) x.kind c of was in
       let long : length c.values ≡ 1 = ap length t.1 in
       (subst AreGains (sym t.1) (t.2, tt), omega (arith, long), omega (arith, long))
   values-fit (Blob most initial) command shown at = absurd (cc at)
@@ -140,5 +141,5 @@ module _ (f : FwState) (id : ℕ) (x : Comp) (there : comp_of f.graph id ≡ Som
   set-said (Volume min max channels lowest step mute) (of, is, was) = ap set_at (is ∙ ap (λ (kind : Kind). setting_by kind (Some (control id (Volume min max channels lowest step mute), c))) of.0)
   set-said (Choice items) (of, is, was) =
       ap set_at (is ∙ ap (λ (kind : Kind). setting_by kind (Some (control id (Choice items), c))) of.0)
-      ∙ ap answers.Values (one-value c.values (takes-by (Choice items) x.kind c of refl was))
+      ∙ ap answers.Values (one-value c.values (takes-by (Choice items) x.kind c of was))
   set-said (Blob most initial) (of, is, was) = ap set_at (is ∙ ap (λ (kind : Kind). setting_by kind (Some (control id (Blob most initial), c))) of.0)

@@ -12,7 +12,7 @@ use Rattle.stream_law.specs.declared.graph.Comp.{Comp}
 use Rattle.stream_law.specs.State.{FwState, View, view_of}
 use Rattle.stream_law.specs.Ways.{comp_of}
 use Rattle.mbox_link.specs.Step as fw
-use Rattle.mbox_link.specs.Step.{row, with_setting, with_comps, invalid, no_device}
+use Rattle.mbox_link.specs.Step.{row, with_setting, with_comps, no_device}
 use Rattle.tplg_plan.specs.declared.plans.Plan.{Plan}
 use Rattle.tplg_plan.specs.declared.plans.ControlPlan.{ControlPlan}
 use Rattle.tplg_plan.specs.declared.plans.ControlKind.{ControlKind}

@@ -43,7 +43,7 @@ module _ (plan : Plan) (kept : Record) where
       ap (λ (b : Bool). if b then reaches plan.graph x host else reaches plan.graph host x)
       (ap (λ (o : Option Comp). option_map_or (λ (c : Comp). is_capture c.kind) o false) (found-set plan kept host plan.graph.comps) ∙ captures (comp_of plan.graph host))
 
-  kinds-by : (c : ℕ) → option_map (λ (x : Comp). x.kind) (comp_of (graph_by plan kept) c) ≡ option_map (λ (x : Comp). x.kind) (comp_of plan.graph c)
+  pub kinds-by : (c : ℕ) → option_map (λ (x : Comp). x.kind) (comp_of (graph_by plan kept) c) ≡ option_map (λ (x : Comp). x.kind) (comp_of plan.graph c)
   kinds-by c = ap (option_map (λ (x : Comp). x.kind)) (found-set plan kept c plan.graph.comps) ∙ by (comp_of plan.graph c)
     where
       by : (o : Option Comp) → option_map (λ (x : Comp). x.kind) (option_map (set_comp plan kept) o) ≡ option_map (λ (x : Comp). x.kind) o
@@ -54,9 +54,9 @@ module _ (plan : Plan) (kept : Record) where
   ids-by [] = refl
   ids-by (c ∷ comps) = λ i. c.id ∷ ids-by comps i
 
--- ---- a control is changed, with its blob kept
+-- ---- a control is changed
 
-module _ (plan : Plan) (kept : Record) (comp : ℕ) (g : ControlRec → ControlRec) (keeps_blob : (c : ControlRec) → (g c).blob ≡ c.blob) where
+module _ (plan : Plan) (kept : Record) (comp : ℕ) (g : ControlRec → ControlRec) where
   abbrev pub now : Record
   now = with_control plan comp g kept
 
@@ -84,40 +84,13 @@ module _ (plan : Plan) (kept : Record) (comp : ℕ) (g : ControlRec → ControlR
       same-ids : components new_view.graph ≡ components old_view.graph
       same-ids = ids-by plan now plan.graph.comps ∙ sym (ids-by plan kept plan.graph.comps)
 
-  -- blobs stay
-  blob-by : (kind : Kind) (o : Option (ControlPlan × ControlRec)) → blob (setting_by kind (option_map (λ (p : ControlPlan × ControlRec). (p.0, g p.1)) o)) ≡ blob (setting_by kind o)
-  blob-by kinds.Eq (Some (k, c)) = keeps_blob c
-  blob-by kinds.Eq None = refl
-  blob-by kinds.Volume (Some (k, c)) = refl
-  blob-by kinds.Volume None = refl
-  blob-by kinds.Mux (Some (k, c)) = refl
-  blob-by kinds.Mux None = refl
-  blob-by kinds.HostPlay o = refl
-  blob-by kinds.HostCapture o = refl
-  blob-by (kinds.DaiPlay format) o = refl
-  blob-by (kinds.DaiCapture format) o = refl
-  blob-by kinds.Mixer o = refl
+  -- the record stays one of the plan, where its controls do
+  pub record-with : IsRecordOf plan kept → AreControls plan.controls now.controls → IsRecordOf plan now
+  record-with is are = record { streams = is.streams; controls = are; each = is.each; shapes = same-agree ∙ is.shapes }
 
-  blob-set : (kind : Kind) (id : ℕ) → blob (setting_by kind (control_at plan now id)) ≡ blob (setting_by kind (control_at plan kept id))
-  blob-set kind id = by (id == comp) refl
-    where
-      by : (b : Bool) → (id == comp) ≡ b → blob (setting_by kind (control_at plan now id)) ≡ blob (setting_by kind (control_at plan kept id))
-      by true is = subst (λ (x : ℕ). blob (setting_by kind (control_at plan now x)) ≡ blob (setting_by kind (control_at plan kept x))) (sym (eqb-true id comp is))
-          (ap (λ (o : Option (ControlPlan × ControlRec)). blob (setting_by kind o)) (there-at comp g plan.controls kept.controls) ∙ blob-by kind (control_at plan kept comp))
-      by false is = ap (λ (o : Option (ControlPlan × ControlRec)). blob (setting_by kind o)) (elsewhere-at comp g id is plan.controls kept.controls)
-
-  blobs : (c : ℕ) → blob_in new_view c ≡ blob_in old_view c
-  blobs c =
-      ap (λ (o : Option Comp). option_map_or (λ (x : Comp). blob x.setting) o []) (found-set plan now c plan.graph.comps)
-      ∙ by (comp_of plan.graph c)
-      ∙ sym (ap (λ (o : Option Comp). option_map_or (λ (x : Comp). blob x.setting) o []) (found-set plan kept c plan.graph.comps))
-    where
-      by : (o : Option Comp) → option_map_or (λ (x : Comp). blob x.setting) (option_map (set_comp plan now) o) [] ≡ option_map_or (λ (x : Comp). blob x.setting) (option_map (set_comp plan kept) o) []
-      by None = refl
-      by (Some x) = blob-set x.kind x.id
-
-  shape : IsRecordOf plan kept → KeepsShape old_view new_view None
-  shape is = record {
+  -- what the views have in common, where the blobs of others than a fresh equaliser stay
+  pub shape-with : (fresh : Option ℕ) → ((c : ℕ) → option_map_or (λ x. x == c) fresh false ≡ false → blob_in new_view c ≡ blob_in old_view c) → IsRecordOf plan kept → KeepsShape old_view new_view fresh
+  shape-with fresh stay is = record {
     keeps = record {
       ways = record { joins = refl; kinds = λ c. kinds-by plan kept c ∙ sym (kinds-by plan now c) };
       params = λ s there live. (s, there, refl, refl);
@@ -126,65 +99,103 @@ module _ (plan : Plan) (kept : Record) (comp : ℕ) (g : ControlRec → ControlR
       agrees = same-agree ∙ is.shapes;
     };
     edges = refl;
-    blobs = λ c none. blobs c;
+    blobs = stay;
   }
 
-  equalises-same : (c : ℕ) → equalises new_view c ≡ equalises old_view c
-  equalises-same c = λ i. same-live i c && kind_same i
-    where
-      by : (o : Option Comp) → option_map_or (λ (x : Comp). is_equaliser x.kind) (option_map (set_comp plan now) o) false ≡ option_map_or (λ (x : Comp). is_equaliser x.kind) (option_map (set_comp plan kept) o) false
-      by None = refl
-      by (Some x) = refl
+  -- ---- with its blob kept
 
-      kind_same : option_map_or (λ (x : Comp). is_equaliser x.kind) (comp_of new_view.graph c) false ≡ option_map_or (λ (x : Comp). is_equaliser x.kind) (comp_of old_view.graph c) false
-      kind_same =
-          ap (λ (o : Option Comp). option_map_or (λ (x : Comp). is_equaliser x.kind) o false) (found-set plan now c plan.graph.comps)
-          ∙ by (comp_of plan.graph c)
-          ∙ sym (ap (λ (o : Option Comp). option_map_or (λ (x : Comp). is_equaliser x.kind) o false) (found-set plan kept c plan.graph.comps))
+  module _ (keeps_blob : (c : ControlRec) → (g c).blob ≡ c.blob) where
+    -- blobs stay
+    blob-by : (kind : Kind) (o : Option (ControlPlan × ControlRec)) → blob (setting_by kind (option_map (λ (p : ControlPlan × ControlRec). (p.0, g p.1)) o)) ≡ blob (setting_by kind o)
+    blob-by kinds.Eq (Some (k, c)) = keeps_blob c
+    blob-by kinds.Eq None = refl
+    blob-by kinds.Volume (Some (k, c)) = refl
+    blob-by kinds.Volume None = refl
+    blob-by kinds.Mux (Some (k, c)) = refl
+    blob-by kinds.Mux None = refl
+    blob-by kinds.HostPlay o = refl
+    blob-by kinds.HostCapture o = refl
+    blob-by (kinds.DaiPlay format) o = refl
+    blob-by (kinds.DaiCapture format) o = refl
+    blob-by kinds.Mixer o = refl
 
-  -- the firmware that shows the record then, with all but its graph as it was
-  module _ (is : IsRecordOf plan kept) (f f' : FwState) (shows : view_of f ≡ old_view) (shows' : view_of f' ≡ new_view) (clock : f'.clock ≡ f.clock) (rings : f'.rings ≡ f.rings) (histories : f'.histories ≡ f.histories)
-      (whole : List (ℕ × List ℕ)) (inputs : List InputView) (moments : List Moment) (before : Stands (Some f) whole inputs moments) where
-    abbrev p : Past
-    p = before.past
+    blob-set : (kind : Kind) (id : ℕ) → blob (setting_by kind (control_at plan now id)) ≡ blob (setting_by kind (control_at plan kept id))
+    blob-set kind id = by (id == comp) refl
+      where
+        by : (b : Bool) → (id == comp) ≡ b → blob (setting_by kind (control_at plan now id)) ≡ blob (setting_by kind (control_at plan kept id))
+        by true is = subst (λ (x : ℕ). blob (setting_by kind (control_at plan now x)) ≡ blob (setting_by kind (control_at plan kept x))) (sym (eqb-true id comp is))
+            (ap (λ (o : Option (ControlPlan × ControlRec)). blob (setting_by kind o)) (there-at comp g plan.controls kept.controls) ∙ blob-by kind (control_at plan kept comp))
+        by false is = ap (λ (o : Option (ControlPlan × ControlRec)). blob (setting_by kind o)) (elsewhere-at comp g id is plan.controls kept.controls)
 
-    past-view : p.view ≡ old_view
-    past-view = sym before.holds.view ∙ shows
+    blobs : (c : ℕ) → blob_in new_view c ≡ blob_in old_view c
+    blobs c =
+        ap (λ (o : Option Comp). option_map_or (λ (x : Comp). blob x.setting) o []) (found-set plan now c plan.graph.comps)
+        ∙ by (comp_of plan.graph c)
+        ∙ sym (ap (λ (o : Option Comp). option_map_or (λ (x : Comp). blob x.setting) o []) (found-set plan kept c plan.graph.comps))
+      where
+        by : (o : Option Comp) → option_map_or (λ (x : Comp). blob x.setting) (option_map (set_comp plan now) o) [] ≡ option_map_or (λ (x : Comp). blob x.setting) (option_map (set_comp plan kept) o) []
+        by None = refl
+        by (Some x) = blob-set x.kind x.id
 
-    -- a ring in which no frame may lie is empty
-    empty-ring : (b : ℕ) → flows new_view b ≡ false → ring_frames f b ≡ []
-    empty-ring b none =
-        let same : number_of p.counts.taken b ≡ number_of p.counts.put b = before.kept.empty b (ap (λ (v : View). flows v b) past-view ∙ sym (same-flows b) ∙ none) in
-        before.holds.rings b
-        ∙ ap (λ (n : ℕ). part_of (list_of p.made b) (number_of p.counts.taken b) n) (let zero_is : number_of p.counts.put b - number_of p.counts.taken b ≡ 0 = omega (arith, same) in zero_is)
+    shape : IsRecordOf plan kept → KeepsShape old_view new_view None
+    shape is = shape-with None (λ c none. blobs c) is
 
-    ring-seen : (b : ℕ) (t : Bool) → flows new_view b ≡ t → ring_frames f b ≡ (if t then ring_frames f b else [])
-    ring-seen b true flow = refl
-    ring-seen b false flow = empty-ring b flow
+    equalises-same : (c : ℕ) → equalises new_view c ≡ equalises old_view c
+    equalises-same c = λ i. same-live i c && kind_same i
+      where
+        by : (o : Option Comp) → option_map_or (λ (x : Comp). is_equaliser x.kind) (option_map (set_comp plan now) o) false ≡ option_map_or (λ (x : Comp). is_equaliser x.kind) (option_map (set_comp plan kept) o) false
+        by None = refl
+        by (Some x) = refl
 
-    was-live : (c : ℕ) → equalises new_view c ≡ true → goes_on (view_of f) new_view None c ≡ true
-    was-live c there =
-        let live_now : live new_view c ≡ true = (and_parts (live new_view c) (option_map_or (λ (x : Comp). is_equaliser x.kind) (comp_of new_view.graph c) false) there).0 in
-        (λ i. live (shows i) c && live new_view c && true) ∙ (λ i. sym same-live i c && live new_view c && true) ∙ (λ i. live_now i && live_now i && true)
+        kind_same : option_map_or (λ (x : Comp). is_equaliser x.kind) (comp_of new_view.graph c) false ≡ option_map_or (λ (x : Comp). is_equaliser x.kind) (comp_of old_view.graph c) false
+        kind_same =
+            ap (λ (o : Option Comp). option_map_or (λ (x : Comp). is_equaliser x.kind) o false) (found-set plan now c plan.graph.comps)
+            ∙ by (comp_of plan.graph c)
+            ∙ sym (ap (λ (o : Option Comp). option_map_or (λ (x : Comp). is_equaliser x.kind) o false) (found-set plan kept c plan.graph.comps))
 
-    sees : Sees f new_view None f'
-    sees = record {
-      clock = clock;
-      view = shows';
-      buffers = ap (map (λ r. r.buffer)) rings ∙ before.holds.buffers ∙ ap (λ (v : View). buffers v.graph) shows ∙ sym (ap (λ (v : View). buffers v.graph) shows');
-      rings = λ b. ap (λ rs. option_map_or (λ r. r.frames) (find (λ r. r.buffer == b) rs) []) rings ∙ ring-seen b (flows new_view b) refl;
-      equalisers = λ c there. ap (λ hs. list_any (λ id. id == c) (map (λ h. h.comp) hs)) histories ∙ before.holds.equalisers c (ap (λ (v : View). equalises v c) past-view ∙ sym (equalises-same c) ∙ there);
-      histories = λ c there. ap (λ hs. option_map_or (λ h. h.numbers) (find (λ h. h.comp == c) hs) []) histories
-          ∙ sym (ap (λ (t : Bool). if t then numbers_in f c else history_of (blob_in new_view c) (channels_of new_view c) []) (was-live c there));
-    }
+    -- the firmware that shows the record then, with all but its graph as it was
+    module _ (is : IsRecordOf plan kept) (f f' : FwState) (shows : view_of f ≡ old_view) (shows' : view_of f' ≡ new_view) (clock : f'.clock ≡ f.clock) (rings : f'.rings ≡ f.rings) (histories : f'.histories ≡ f.histories)
+        (whole : List (ℕ × List ℕ)) (inputs : List InputView) (moments : List Moment) (before : Stands (Some f) whole inputs moments) where
+      abbrev p : Past
+      p = before.past
 
-    pub put-stands : (after : Stands (Some f') whole inputs (moments ++ Now new_view None ∷ [])) × Leads whole before.past (Now new_view None ∷ []) after.past
-    unfolding Stands-now
-    put-stands = (
-      Stands-now f f' new_view None whole inputs moments before sees (same-agree ∙ is.shapes) (subst (λ (v : View). StaysAsLive v new_view None) (sym shows) (live-stays old_view new_view None (shape is))),
-      (after_now new_view None before.past, refl, refl),
-    )
+      past-view : p.view ≡ old_view
+      past-view = sym before.holds.view ∙ shows
 
-  -- and the record stays one of the plan, where its controls do
-  pub put-record : IsRecordOf plan kept → AreControls plan.controls now.controls → IsRecordOf plan now
-  put-record is are = record { streams = is.streams; controls = are; each = is.each; shapes = same-agree ∙ is.shapes }
+      -- a ring in which no frame may lie is empty
+      empty-ring : (b : ℕ) → flows new_view b ≡ false → ring_frames f b ≡ []
+      empty-ring b none =
+          let same : number_of p.counts.taken b ≡ number_of p.counts.put b = before.kept.empty b (ap (λ (v : View). flows v b) past-view ∙ sym (same-flows b) ∙ none) in
+          before.holds.rings b
+          ∙ ap (λ (n : ℕ). part_of (list_of p.made b) (number_of p.counts.taken b) n) (let zero_is : number_of p.counts.put b - number_of p.counts.taken b ≡ 0 = omega (arith, same) in zero_is)
+
+      ring-seen : (b : ℕ) (t : Bool) → flows new_view b ≡ t → ring_frames f b ≡ (if t then ring_frames f b else [])
+      ring-seen b true flow = refl
+      ring-seen b false flow = empty-ring b flow
+
+      was-live : (c : ℕ) → equalises new_view c ≡ true → goes_on (view_of f) new_view None c ≡ true
+      was-live c there =
+          let live_now : live new_view c ≡ true = (and_parts (live new_view c) (option_map_or (λ (x : Comp). is_equaliser x.kind) (comp_of new_view.graph c) false) there).0 in
+          (λ i. live (shows i) c && live new_view c && true) ∙ (λ i. sym same-live i c && live new_view c && true) ∙ (λ i. live_now i && live_now i && true)
+
+      sees : Sees f new_view None f'
+      sees = record {
+        clock = clock;
+        view = shows';
+        buffers = ap (map (λ r. r.buffer)) rings ∙ before.holds.buffers ∙ ap (λ (v : View). buffers v.graph) shows ∙ sym (ap (λ (v : View). buffers v.graph) shows');
+        rings = λ b. ap (λ rs. option_map_or (λ r. r.frames) (find (λ r. r.buffer == b) rs) []) rings ∙ ring-seen b (flows new_view b) refl;
+        equalisers = λ c there. ap (λ hs. list_any (λ id. id == c) (map (λ h. h.comp) hs)) histories ∙ before.holds.equalisers c (ap (λ (v : View). equalises v c) past-view ∙ sym (equalises-same c) ∙ there);
+        histories = λ c there. ap (λ hs. option_map_or (λ h. h.numbers) (find (λ h. h.comp == c) hs) []) histories
+            ∙ sym (ap (λ (t : Bool). if t then numbers_in f c else history_of (blob_in new_view c) (channels_of new_view c) []) (was-live c there));
+      }
+
+      pub put-stands : (after : Stands (Some f') whole inputs (moments ++ Now new_view None ∷ [])) × Leads whole before.past (Now new_view None ∷ []) after.past
+      unfolding Stands-now
+      put-stands = (
+        Stands-now f f' new_view None whole inputs moments before sees (same-agree ∙ is.shapes) (subst (λ (v : View). StaysAsLive v new_view None) (sym shows) (live-stays old_view new_view None (shape is))),
+        (after_now new_view None before.past, refl, refl),
+      )
+
+    -- and the record stays one of the plan, where its controls do
+    pub put-record : IsRecordOf plan kept → AreControls plan.controls now.controls → IsRecordOf plan now
+    put-record is are = record-with is are

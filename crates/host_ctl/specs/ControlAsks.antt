@@ -1,6 +1,7 @@
 -- What may be asked of a control: which control a name means, and when it is refused before any message.
 use Rattle.std.specs.Prelude.{ℕ, nat_le, nat_lt, List, [], ◌∷◌, length, replicate, find, Bool, false, not, ◌&&◌, ◌||◌, ◌==◌, Option, Some, None, if◌then◌else◌}
 use Rattle.std.specs.Option.{option_map}
+use Rattle.sof_base.specs.BlobFaults.{blob_fault, fault_number}
 use Rattle.tplg_plan.specs.declared.plans.Plan.{Plan}
 use Rattle.tplg_plan.specs.declared.plans.ControlPlan.{ControlPlan}
 use Rattle.tplg_plan.specs.declared.plans.ControlKind.{ControlKind}
@@ -53,6 +54,25 @@ setting_fault name values (Some k) = kind_fault name k.kind (channels_of k.kind)
 
 abbrev pub set_fault : Plan → Record → List ℕ → List ℕ → Option HostFault
 set_fault plan kept name values = loaded_fault kept.power (setting_fault name values (named_control plan name))
+
+-- ---- bytes
+
+-- more bytes than an equaliser takes; or the number of the first fault of bytes that are no blob. Volumes and muxes are not set by
+-- bytes
+abbrev pub bytes_fault_by : List ℕ → List ℕ → ControlKind → Option HostFault
+bytes_fault_by name bytes (Blob most initial) =
+    if nat_lt most (length bytes) then Some (faults.Range (length bytes)) else option_map (λ fault. faults.Blob (fault_number fault)) (blob_fault bytes)
+bytes_fault_by name bytes kind = Some (faults.NoSuch name)
+
+-- the tests before any message: NotLoaded, NoSuch, Range, Blob
+abbrev pub installing_fault : List ℕ → List ℕ → Option ControlPlan → Option HostFault
+installing_fault name bytes None = Some (faults.NoSuch name)
+installing_fault name bytes (Some k) = bytes_fault_by name bytes k.kind
+
+abbrev pub bytes_fault : Plan → Record → List ℕ → List ℕ → Option HostFault
+bytes_fault plan kept name bytes = loaded_fault kept.power (installing_fault name bytes (named_control plan name))
+
+-- ---- what is told
 
 -- a control of any kind is known by its name
 abbrev pub name_fault : List ℕ → Option ControlPlan → Option HostFault → Option HostFault

@@ -1,5 +1,7 @@
 -- What is done with a control, and what is told of it.
-use Rattle.std.specs.Prelude.{◌≡◌, ℕ, List, [], ◌∷◌, map, unwrap_or, Option, Some, None, Ok, Err, Result}
+use Rattle.std.specs.Prelude.{◌≡◌, ◌≤◌, ℕ, List, [], ◌∷◌, ◌++◌, length, map, unwrap_or, Bool, true, false, Option, Some, None, Ok, Err, Result}
+use Rattle.sof_base.specs.BlobFaults.{is_blob}
+use Rattle.sof_base.specs.declared.part.Part.{Part}
 use Rattle.std.specs.Option.{option_map, option_and_then}
 use Rattle.stream_law.specs.declared.graph.Comp.{Comp}
 use Rattle.stream_law.specs.declared.graph.Setting.{Setting}
@@ -16,13 +18,18 @@ use Rattle.tplg_plan.specs.GainOf.{control_gain}
 use Rattle.host_widgets.specs.declared.answers.Answer.{Answer}
 use Rattle.host_widgets.specs.declared.answers.Answer.TheVariants as answers
 use Rattle.host_widgets.specs.declared.answers.HostFault.{HostFault}
+use Rattle.host_widgets.specs.declared.answers.HostFault.TheVariants.{LinkDown}
 use Rattle.host_widgets.specs.declared.kept.Record.{Record}
 use Rattle.host_widgets.specs.declared.kept.ControlRec.{ControlRec}
 use Rattle.host_widgets.specs.Kept.{control_at, with_control}
-use Rattle.host_widgets.specs.BlobParts.{part_numbers}
-use Rattle.host_widgets.specs.HostActs.{Act, Put, Ask, with_values}
+use Rattle.mbox_link.specs.BlobParts.{part_numbers}
+use Rattle.host_widgets.specs.HostActs.{Act, Put, Ask, with_values, with_blob}
+use Rattle.host_widgets.specs.ActLists.{part_acts}
 use Rattle.host_widgets.specs.Host.{Outcome, IsSet}
 use Rattle.host_widgets.specs.Orders.{Order, quiet, sends}
+use Rattle.host_widgets.specs.ActCalls.{ActsSent}
+use Rattle.host_widgets.specs.ActCarried.{PlainEnd}
+use Rattle.mbox_link.specs.Calls.{World, Meaning}
 use Rattle.host_ctl.specs.ControlAsks.{channels_of, spread, named_control}
 
 -- ---- set: a volume's or a mux's values
@@ -36,6 +43,18 @@ setting_order plan kept values (Some k) = put_order plan kept k.comp (spread (un
 
 abbrev pub set_order : Plan → Record → List ℕ → List ℕ → Order
 set_order plan kept name values = setting_order plan kept values (named_control plan name)
+
+-- ---- bytes: an equaliser's blob, in its parts
+
+abbrev pub bytes_order_at : Plan → Record → ℕ → List ℕ → Order
+bytes_order_at plan kept comp blob = sends kept.power (part_acts comp blob) (with_control plan comp (with_blob blob)) answers.Done
+
+abbrev pub installing_order : Plan → Record → List ℕ → Option ControlPlan → Order
+installing_order plan kept blob None = quiet answers.Done
+installing_order plan kept blob (Some k) = bytes_order_at plan kept k.comp blob
+
+abbrev pub bytes_order : Plan → Record → List ℕ → List ℕ → Order
+bytes_order plan kept name blob = installing_order plan kept blob (named_control plan name)
 
 -- ---- get: what the record says
 
@@ -84,6 +103,11 @@ abbrev pub carried_by : Body → Answer
 carried_by (bodies.Values values) = answers.Values values
 carried_by body = answers.Done
 
+-- the bytes of the parts so far with those of one more behind them; the first brings the header
+abbrev pub with_part : List ℕ → Part → List ℕ
+with_part [] part = part.header ++ part.bytes
+with_part (b ∷ bytes) part = (b ∷ bytes) ++ part.bytes
+
 -- what is set at a component of the firmware
 abbrev pub set_at : Setting → Answer
 set_at settings.Nothing = answers.Done
@@ -110,3 +134,25 @@ outcome_of (Err fault) = Err fault
 -- a record with them is one that is set; no blob goes with them
 abbrev pub MaySet : ControlKind → List ℕ → Type 0
 MaySet kind values = (blob : List ℕ) → blob ≡ [] → IsSet kind (record { values = values; blob = blob })
+
+-- ---- bytes that a call may set: a blob that is not longer than an equaliser takes
+
+abbrev pub MayInstall : ControlKind → List ℕ → Type 0
+MayInstall (Blob most initial) blob = (length blob ≤ most) × (is_blob blob ≡ true)
+MayInstall kind blob = ⊥
+
+-- whether the link failed
+abbrev pub is_lost : Outcome → Bool
+is_lost (Err LinkDown) = true
+is_lost outcome = false
+
+-- the parts of a blob were sent, up to the first that did not pass; a failed link takes the record down and cuts the device
+pub record PartsPass {D : Type 0} (means : Meaning D) (plan : Plan) (heap comp : ℕ) (blob : List ℕ) (kept kept' : Record) (w v : World D) (result : Outcome) : Type 0 where
+  pub sent : World D
+  pub parts : ActsSent means plan (part_acts comp blob) w sent result
+  pub ends : PlainEnd means heap result kept kept' sent v
+
+-- an equaliser's control
+abbrev pub HasBlob : ControlKind → Type 0
+HasBlob (Blob most initial) = Unit {0}
+HasBlob kind = ⊥

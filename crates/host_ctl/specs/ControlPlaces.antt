@@ -5,7 +5,7 @@ use Rattle.tplg_plan.specs.declared.plans.ControlPlan.{ControlPlan}
 use Rattle.tplg_plan.specs.declared.plans.ControlKind.TheVariants.{Choice}
 use Rattle.host_widgets.specs.declared.kept.Record.{Record}
 use Rattle.host_widgets.specs.declared.kept.ControlRec.{ControlRec}
-use Rattle.host_widgets.specs.HostActs.{with_values}
+use Rattle.host_widgets.specs.HostActs.{with_values, with_blob}
 use Rattle.host_widgets.specs.Named.{is_named}
 
 -- no control
@@ -29,3 +29,8 @@ record_here kept place = get_or kept.controls place no_values
 abbrev pub with_place : ℕ → List ℕ → Record → Record
 with_place place values kept =
     record { power = kept.power; streams = kept.streams; controls = set kept.controls place (with_values values (record_here kept place)) }
+
+-- and with another blob there
+abbrev pub with_blob_here : ℕ → List ℕ → Record → Record
+with_blob_here place blob kept =
+    record { power = kept.power; streams = kept.streams; controls = set kept.controls place (with_blob blob (record_here kept place)) }

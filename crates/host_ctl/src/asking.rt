@@ -3,6 +3,7 @@ ghost use Rattle.std.specs.Prelude.{◌≡◌, ◌<◌, ◌^◌, IfOk, IfErr, So
 ghost use Rattle.host_ctl.specs.ControlAsks as asks;
 ghost use Rattle.host_ctl.specs.ControlPlaces.{control_place};
 
+use eq_biquad::check;
 use host_widgets::{HostFault, Power, Record, is_named};
 use sof_base::Name44;
 use tplg_plan::{ControlKind, Plan};
@@ -94,6 +95,42 @@ pub fn settable_place(
         return Err(HostFault::NoSuch(name.copied()));
     };
     match values_fault(kind, channels, values) {
+        Some(fault) => Err(fault),
+        None => Ok(place),
+    }
+}
+
+// Whether a control may be set to these bytes.
+fn bytes_fault(name: &Name44, kind: &ControlKind, bytes: &[u8]) -> Option<HostFault>
+    requires few { length bytes.now < 2 ^ 32 }
+    ensures { result ≡ asks.bytes_fault_by name.now bytes.now kind.now }
+{
+    let ControlKind::Blob { max, .. } = kind else {
+        return Some(HostFault::NoSuch(name.copied()));
+    };
+    if bytes.len() > *max as usize {
+        return Some(HostFault::Range(bytes.len() as u32));
+    }
+    match check(bytes) {
+        Ok(()) => None,
+        Err(fault) => Some(HostFault::Blob(fault.number())),
+    }
+}
+
+/// The place of an equaliser's control that may be set to these bytes.
+pub fn installable_place(
+    plan: &Plan,
+    kept: &Record,
+    name: &Name44,
+    bytes: &[u8],
+) -> Result<usize, HostFault>
+    requires few { length bytes.now < 2 ^ 32 }
+    ensures place { IfOk result (λ k. control_place plan.now name.now ≡ Some k) }
+    ensures none { IfOk result (λ k. asks.bytes_fault plan.now kept.now name.now bytes.now ≡ None) }
+    ensures fault { IfErr result (λ f. asks.bytes_fault plan.now kept.now name.now bytes.now ≡ Some f) }
+{
+    let place = named_place(plan, kept, name)?;
+    match bytes_fault(name, &plan.controls.items()[place].kind, bytes) {
         Some(fault) => Err(fault),
         None => Ok(place),
     }

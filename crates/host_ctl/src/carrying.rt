@@ -1,26 +1,32 @@
 // What each call does once its tests have passed, for the control at a place: the record changes after the reply.
-ghost use Rattle.std.specs.Prelude.{◌≡◌, ◌<◌, ◌≤◌, ◌*◌, unwrap_or, length, IfOk, Some};
+ghost use Rattle.std.specs.Prelude.{◌≡◌, ◌<◌, ◌≤◌, ◌+◌, ◌*◌, ◌++◌, [], unwrap_or, length, IfOk, Some, is_some, true};
 ghost use Rattle.sof_base.specs.Ports.{HasRoom};
 ghost use Rattle.mbox_link.specs.Calls.{world};
+ghost use Rattle.mbox_link.specs.BlobParts.{parts};
+ghost use Rattle.tplg_plan.specs.Ranges.{is_initial};
 ghost use Rattle.tplg_plan.specs.Sound.{IsSound};
-ghost use Rattle.host_widgets.specs.Controls.{IsLoadable};
-ghost use Rattle.host_widgets.specs.Host.{Agrees};
+ghost use Rattle.sof_base.specs.BlobFaults.{is_blob};
+ghost use Rattle.ipc3_codec.specs.declared.reply.Body.TheVariants as bodies;
+ghost use Rattle.host_widgets.specs.declared.answers.Answer.TheVariants as answers;
+ghost use Rattle.host_widgets.specs.Host.{Agrees, IsRecordOf};
 ghost use Rattle.host_widgets.specs.HostActs.{Put};
 ghost use Rattle.host_widgets.specs.HostActs as acts;
 ghost use Rattle.host_widgets.specs.Orders.{Carried};
 ghost use Rattle.host_widgets.specs.ActCarried.{ActCarried};
 ghost use Rattle.host_ctl.specs.ControlAsks as asks;
 ghost use Rattle.host_ctl.specs.ControlOrders as orders;
-ghost use Rattle.host_ctl.specs.ControlOrders.{MaySet};
-ghost use Rattle.host_ctl.specs.ControlPlaces.{control_here, record_here, with_place};
+ghost use Rattle.host_ctl.specs.ControlOrders.{MaySet, MayInstall, HasBlob, PartsPass, is_lost};
+ghost use Rattle.host_ctl.specs.ControlPlaces.{control_here, record_here, with_place, with_blob_here};
 
 use crate::asking::channels_of;
+use arrayvec::ArrayVec;
 use host_widgets::{
-    Answer, ControlRec, HostFault, Power, Record, hear, pass, same_numbers, set_message,
+    Answer, ControlRec, HostFault, Power, Record, hear, link_down, part_count, pass, same_numbers,
+    send_parts, set_message,
 };
 use ipc3_codec::{Body, Message};
 use mbox_link::Dsp;
-use sof_base::Bounded;
+use sof_base::{Bounded, Part};
 use sof_io::{Inputs, Outputs};
 use tplg_plan::{ControlKind, Plan};
 
@@ -125,6 +131,110 @@ pub fn set<P: Dsp>(
     }
 }
 
+// The control at a place has this blob in the record.
+fn keep_blob(kept: &mut Record, place: usize, blob: &[u8])
+    requires place { place < length kept.old.controls }
+    requires few { length blob.now ≤ 1024 }
+    ensures { kept.new ≡ with_blob_here place blob.now kept.old }
+{
+    let values = kept.controls.items()[place].values.copied();
+    let blob = match Bounded::new(blob) {
+        Some(bytes) => bytes,
+        // Never so: there are at most 1024.
+        None => Bounded::empty(),
+    };
+    kept.controls.put(place, ControlRec { values, blob });
+}
+
+// Whether the link failed.
+fn is_lost(passed: &Result<(), HostFault>) -> bool
+    ensures { result ≡ is_lost passed.now }
+{
+    matches!(passed, Err(HostFault::LinkDown))
+}
+
+// Sends a blob to an equaliser in its parts. A failed link cuts the device and takes the record down.
+fn pass_parts<P: Dsp>(
+    comp: u32,
+    blob: &[u8],
+    plan: &Plan,
+    kept: &mut Record,
+    heap: u32,
+    dsp: &mut P,
+    io: &mut Inputs,
+    out: &mut Outputs,
+) -> Result<(), HostFault>
+    requires blob { is_blob blob.now ≡ true }
+    requires kept { IsRecordOf plan.now kept.old }
+    requires on { is_some (P.means.on dsp.old) ≡ true }
+    requires room { HasRoom (61440 * P.means.pending dsp.old) out.old }
+    ensures { PartsPass P.means plan.now heap comp blob.now kept.old kept.new
+        (world dsp.old io.old out.old) (world dsp.new io.new out.new) result }
+{
+    let passed = send_parts(comp, blob, dsp, io, out);
+    if is_lost(&passed) {
+        link_down(plan, kept, heap, dsp, io, out);
+    }
+    passed
+}
+
+// An equaliser gets a blob while the power is on. The record changes once its last part has passed.
+fn install<P: Dsp>(
+    plan: &Plan,
+    kept: &mut Record,
+    heap: u32,
+    dsp: &mut P,
+    io: &mut Inputs,
+    out: &mut Outputs,
+    place: usize,
+    blob: &[u8],
+) -> Result<(), HostFault>
+    requires plan { IsSound plan.now }
+    requires agree { Agrees P.means plan.now kept.old dsp.old }
+    requires room { HasRoom (61440 * P.means.pending dsp.old) out.old }
+    requires power { kept.old.power ≡ Power.On }
+    requires place { place < length plan.now.controls }
+    requires blob { MayInstall (control_here plan.now place).kind blob.now }
+    ensures carried { Carried P.means plan.now heap (orders.bytes_order_at plan.now kept.old (control_here plan.now place).comp blob.now) kept.old kept.new
+        (world dsp.old io.old out.old) (world dsp.new io.new out.new) result }
+    ensures agree { Agrees P.means plan.now kept.new dsp.new }
+{
+    let comp = plan.controls.items()[place].comp;
+    pass_parts(comp, blob, plan, kept, heap, dsp, io, out)?;
+    keep_blob(kept, place, blob);
+    Ok(())
+}
+
+/// An equaliser gets a blob: where the power is off, the record alone changes.
+pub fn set_bytes<P: Dsp>(
+    plan: &Plan,
+    kept: &mut Record,
+    heap: u32,
+    dsp: &mut P,
+    io: &mut Inputs,
+    out: &mut Outputs,
+    place: usize,
+    blob: &[u8],
+) -> Result<(), HostFault>
+    requires plan { IsSound plan.now }
+    requires agree { Agrees P.means plan.now kept.old dsp.old }
+    requires room { HasRoom (61440 * P.means.pending dsp.old) out.old }
+    requires loaded { kept.old.power ≡ Power.Unloaded → ⊥ }
+    requires place { place < length plan.now.controls }
+    requires blob { MayInstall (control_here plan.now place).kind blob.now }
+    ensures carried { Carried P.means plan.now heap (orders.bytes_order_at plan.now kept.old (control_here plan.now place).comp blob.now) kept.old kept.new
+        (world dsp.old io.old out.old) (world dsp.new io.new out.new) result }
+    ensures agree { Agrees P.means plan.now kept.new dsp.new }
+{
+    match kept.power {
+        Power::On => install(plan, kept, heap, dsp, io, out, place, blob),
+        Power::Unloaded | Power::Off => {
+            keep_blob(kept, place, blob);
+            Ok(())
+        }
+    }
+}
+
 // The values that a reply carries.
 fn values_of(body: Body) -> Answer
     ensures { result ≡ orders.carried_by body }
@@ -167,7 +277,126 @@ fn ask<P: Dsp>(
     Ok(values_of(reply.body))
 }
 
-/// What the firmware says of a control: its values are asked for. An equaliser has no blob so far, so that none is asked for.
+// How many parts there are of a blob, or of none.
+fn parts_of(blob: &[u8]) -> u32
+    requires { is_initial blob.now ≡ true }
+    ensures { result ≡ parts blob.now }
+{
+    if blob.is_empty() {
+        return 0;
+    }
+    part_count(blob)
+}
+
+// Puts bytes behind those so far.
+fn append(told: &mut ArrayVec<u8, 1024>, bytes: &[u8])
+    ensures { length told.old.items + length bytes.now ≤ 1024 → told.new.items ≡ told.old.items ++ bytes.now }
+{
+    match told.try_extend_from_slice(bytes) {
+        // Never an error of a blob's bytes: there are at most 1024.
+        Ok(()) | Err(_) => {}
+    }
+}
+
+// Puts the bytes of a part behind those of the parts before it. The first brings the header.
+fn append_part(told: &mut ArrayVec<u8, 1024>, part: &Part)
+    ensures { length (orders.with_part told.old.items part.now) ≤ 1024 → told.new.items ≡ orders.with_part told.old.items part.now }
+{
+    if told.is_empty() {
+        append(told, &part.header);
+    }
+    append(told, part.bytes.items());
+}
+
+// The same for the part that a reply carries.
+fn append_reply(told: &mut ArrayVec<u8, 1024>, body: &Body)
+    ensures { (part : Part) → body.now ≡ bodies.Part part → length (orders.with_part told.old.items part) ≤ 1024 → told.new.items ≡ orders.with_part told.old.items part }
+{
+    match body {
+        Body::Part(part) => append_part(told, part),
+        // Never so of the reply to GET_DATA.
+        Body::Nothing | Body::Values(_) => {}
+    }
+}
+
+// The firmware is asked for each part of the blob that an equaliser has by the record, of which there are so many. What the
+// replies carry is put together.
+fn ask_all<P: Dsp>(
+    plan: &Plan,
+    kept: &mut Record,
+    heap: u32,
+    dsp: &mut P,
+    io: &mut Inputs,
+    out: &mut Outputs,
+    place: usize,
+    count: u32,
+    told: &mut ArrayVec<u8, 1024>,
+) -> Result<(), HostFault>
+    requires plan { IsSound plan.now }
+    requires agree { Agrees P.means plan.now kept.old dsp.old }
+    requires room { HasRoom (61440 * P.means.pending dsp.old) out.old }
+    requires power { kept.old.power ≡ Power.On }
+    requires place { place < length plan.now.controls }
+    requires kind { HasBlob (control_here plan.now place).kind }
+    requires count { count ≡ parts (record_here kept.old place).blob }
+    requires empty { told.old.items ≡ [] }
+    ensures carried { Carried P.means plan.now heap (orders.reading_order kept.old (Some (control_here plan.now place, record_here kept.old place))) kept.old kept.new
+        (world dsp.old io.old out.old) (world dsp.new io.new out.new) result }
+    ensures told { IfOk result (λ done. told.new.items ≡ (record_here kept.old place).blob) }
+    ensures still { IfOk result (λ done. kept.new ≡ kept.old) }
+    ensures agree { Agrees P.means plan.now kept.new dsp.new }
+{
+    for index in 0..count {
+        let message = Message::GetData {
+            id: plan.controls.items()[place].comp,
+            index,
+        };
+        let reply = hear(&message, plan, kept, heap, dsp, io, out)?;
+        append_reply(told, &reply.body);
+    }
+    Ok(())
+}
+
+// These bytes as an answer.
+fn bytes_answer(told: &ArrayVec<u8, 1024>) -> Answer
+    ensures { result ≡ answers.Bytes told.now.items }
+{
+    match Bounded::new(told.as_slice()) {
+        Some(bytes) => Answer::Bytes(bytes),
+        // Never so: there are at most 1024.
+        None => Answer::Done,
+    }
+}
+
+// What the firmware says of an equaliser: each part of its blob is asked for.
+fn ask_parts<P: Dsp>(
+    plan: &Plan,
+    kept: &mut Record,
+    heap: u32,
+    dsp: &mut P,
+    io: &mut Inputs,
+    out: &mut Outputs,
+    place: usize,
+) -> Result<Answer, HostFault>
+    requires plan { IsSound plan.now }
+    requires agree { Agrees P.means plan.now kept.old dsp.old }
+    requires room { HasRoom (61440 * P.means.pending dsp.old) out.old }
+    requires power { kept.old.power ≡ Power.On }
+    requires place { place < length plan.now.controls }
+    requires kind { HasBlob (control_here plan.now place).kind }
+    ensures carried { Carried P.means plan.now heap (orders.reading_order kept.old (Some (control_here plan.now place, record_here kept.old place))) kept.old kept.new
+        (world dsp.old io.old out.old) (world dsp.new io.new out.new) (orders.outcome_of result) }
+    ensures answered { IfOk result (λ a. a ≡ orders.said_by (control_here plan.now place).kind (record_here kept.old place)) }
+    ensures still { IfOk result (λ a. kept.new ≡ kept.old) }
+    ensures agree { Agrees P.means plan.now kept.new dsp.new }
+{
+    let count = parts_of(kept.controls.items()[place].blob.items());
+    let mut told: ArrayVec<u8, 1024> = ArrayVec::new();
+    ask_all(plan, kept, heap, dsp, io, out, place, count, &mut told)?;
+    Ok(bytes_answer(&told))
+}
+
+/// What the firmware says of a control: its values are asked for, or each part of its blob.
 pub fn read<P: Dsp>(
     plan: &Plan,
     kept: &mut Record,
@@ -177,7 +406,7 @@ pub fn read<P: Dsp>(
     out: &mut Outputs,
     place: usize,
 ) -> Result<Answer, HostFault>
-    requires plan { IsLoadable plan.now }
+    requires plan { IsSound plan.now }
     requires agree { Agrees P.means plan.now kept.old dsp.old }
     requires room { HasRoom (61440 * P.means.pending dsp.old) out.old }
     requires power { kept.old.power ≡ Power.On }
@@ -191,6 +420,6 @@ pub fn read<P: Dsp>(
     match plan.controls.items()[place].kind {
         ControlKind::Volume { .. } => ask(plan, kept, heap, dsp, io, out, place, 0),
         ControlKind::Choice { .. } => ask(plan, kept, heap, dsp, io, out, place, 1),
-        ControlKind::Blob { .. } => Ok(Answer::Bytes(kept.controls.items()[place].blob.copied())),
+        ControlKind::Blob { .. } => ask_parts(plan, kept, heap, dsp, io, out, place),
     }
 }

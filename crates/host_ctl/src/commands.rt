@@ -8,13 +8,12 @@ ghost use Rattle.std.specs.Prelude.{◌≡◌, ◌≤◌, ◌<◌, ◌^◌, ◌*
 ghost use Rattle.sof_base.specs.Ports.{HasRoom};
 ghost use Rattle.mbox_link.specs.Calls.{world};
 ghost use Rattle.tplg_plan.specs.Sound.{IsSound};
-ghost use Rattle.host_widgets.specs.Controls.{IsLoadable};
 ghost use Rattle.host_widgets.specs.Host.{Agrees};
 ghost use Rattle.host_widgets.specs.Orders.{Tested};
-ghost use Rattle.host_ctl.specs.ControlAsks.{set_fault, get_fault, read_fault};
-ghost use Rattle.host_ctl.specs.ControlOrders.{set_order, get_order, read_order, outcome_of, told_by, Shows};
+ghost use Rattle.host_ctl.specs.ControlAsks.{set_fault, bytes_fault, get_fault, read_fault};
+ghost use Rattle.host_ctl.specs.ControlOrders.{set_order, bytes_order, get_order, read_order, outcome_of, told_by, Shows};
 
-use crate::asking::{named_place, readable_place, settable_place};
+use crate::asking::{installable_place, named_place, readable_place, settable_place};
 use crate::carrying;
 use crate::carrying::all_values;
 use host_widgets::{Answer, ControlRec, HostFault, Record};
@@ -52,13 +51,44 @@ pub fn set<P: Dsp>(
     carrying::set(plan, kept, heap, dsp, io, out, place, &all)
 }
 
+/// An equaliser has this blob: the firmware from the next tick on where the power is on, once the last of its parts has passed,
+/// and the record after that. A part that is refused or lost leaves the record, and a refused one the blob in force too. Where the
+/// power is off, the record alone changes.
+///
+/// `Range(n)`: there are n bytes, more than the equaliser takes. `Blob(n)`: the bytes are no blob, by the fault of this number.
+/// Volumes and muxes are not set so: their names are `NoSuch`.
+pub fn set_bytes<P: Dsp>(
+    plan: &Plan,
+    kept: &mut Record,
+    heap: u32,
+    dsp: &mut P,
+    io: &mut Inputs,
+    out: &mut Outputs,
+    name: &Name44,
+    blob: &[u8],
+) -> Result<(), HostFault>
+    requires plan { IsSound plan.now }
+    requires agree { Agrees P.means plan.now kept.old dsp.old }
+    requires heap { heap ≤ P.means.most dsp.old }
+    requires room { HasRoom (61440 * P.means.pending dsp.old) out.old }
+    requires few { length blob.now < 2 ^ 32 }
+    ensures asked { Tested P.means plan.now heap (bytes_fault plan.now kept.old name.now blob.now) (bytes_order plan.now kept.old name.now blob.now) kept.old kept.new
+        (world dsp.old io.old out.old) (world dsp.new io.new out.new) result }
+    ensures agree { Agrees P.means plan.now kept.new dsp.new }
+{
+    let place = installable_place(plan, kept, name, blob)?;
+    carrying::set_bytes(plan, kept, heap, dsp, io, out, place, blob)
+}
+
 // What the record says of a control.
 fn told(control: &ControlPlan, kept: &ControlRec) -> Answer
     ensures { result ≡ told_by control.now.kind kept.now }
 {
     match control.kind {
         ControlKind::Blob { .. } => Answer::Bytes(kept.blob.copied()),
-        _ => Answer::Values(kept.values.copied()),
+        ControlKind::Volume { .. } | ControlKind::Choice { .. } => {
+            Answer::Values(kept.values.copied())
+        }
     }
 }
 
@@ -84,8 +114,8 @@ pub fn get<P: Dsp>(
 }
 
 /// What the firmware says of a control: a volume's gains by channel, of which 65536 is 1, or a mux's choice, by one message; or
-/// an equaliser's blob. So far no equaliser has one, and of an empty blob nothing is asked. It is what the record says, which
-/// stays. `Off`: the power is off.
+/// an equaliser's blob, by a message for each of its parts. Of an equaliser without a blob nothing is asked. It is what the record
+/// says, which stays. `Off`: the power is off.
 pub fn read<P: Dsp>(
     plan: &Plan,
     kept: &mut Record,
@@ -95,7 +125,7 @@ pub fn read<P: Dsp>(
     out: &mut Outputs,
     name: &Name44,
 ) -> Result<Answer, HostFault>
-    requires plan { IsLoadable plan.now }
+    requires plan { IsSound plan.now }
     requires agree { Agrees P.means plan.now kept.old dsp.old }
     requires heap { heap ≤ P.means.most dsp.old }
     requires room { HasRoom (61440 * P.means.pending dsp.old) out.old }

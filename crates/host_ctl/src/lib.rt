@@ -6,4 +6,4 @@ mod asking;
 mod carrying;
 mod commands;
 
-pub use commands::{get, read, set};
+pub use commands::{get, read, set, set_bytes};

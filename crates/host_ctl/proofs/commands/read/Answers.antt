@@ -21,10 +21,10 @@ returns-clause-asked g c =
     let i = c.in_ok-place.place in
     let at = c.in_ok-place.ensures.place in
     let low = place-low plan c.args.name.now i at in
-    let named = named-here plan c.requires.plan.sound kept c.requires.agree.record_is i low c.args.name.now at in
+    let named = named-here plan c.requires.plan kept c.requires.agree.record_is i low c.args.name.now at in
     let v = world c.read.new.dsp c.read.new.io c.read.new.out in
     tested-late means plan c.args.heap (read_fault plan kept c.args.name.now) (read_order plan kept c.args.name.now) kept w c.read.new.kept v (outcome_of c.read.result) c.in_ok-place.ensures.none
-    (subst (λ (o : Order). Carried means plan c.args.heap o kept c.read.new.kept w v (outcome_of c.read.result)) (read-named means plan c.requires.plan.sound c.args.heap i low kept w c.requires.agree c.args.name.now named) c.read.ensures.carried)
+    (subst (λ (o : Order). Carried means plan c.args.heap o kept c.read.new.kept w v (outcome_of c.read.result)) (read-named means plan c.requires.plan c.args.heap i low kept w c.requires.agree c.args.name.now named) c.read.ensures.carried)
 
 pub returns-clause-answered : goal.returns-clause-answered
 returns-clause-answered g c =
@@ -35,11 +35,11 @@ returns-clause-answered g c =
     let i = c.in_ok-place.place in
     let at = c.in_ok-place.ensures.place in
     let low = place-low plan c.args.name.now i at in
-    let named = named-here plan c.requires.plan.sound kept c.requires.agree.record_is i low c.args.name.now at in
+    let named = named-here plan c.requires.plan kept c.requires.agree.record_is i low c.args.name.now at in
     let k = control_here plan i in
     let r = record_here kept i in
     subst (λ (x : Answer). IfOk c.read.result (λ a. a ≡ x))
-    (sym (sends-answer kept.power (ask_acts k.comp k.kind r) (λ now. now) (said_by k.kind r)) ∙ ap (λ (o : Order). o.answer) (read-named means plan c.requires.plan.sound c.args.heap i low kept w c.requires.agree c.args.name.now named))
+    (sym (sends-answer kept.power (ask_acts k.comp k.kind r) (λ now. now) (said_by k.kind r)) ∙ ap (λ (o : Order). o.answer) (read-named means plan c.requires.plan c.args.heap i low kept w c.requires.agree c.args.name.now named))
     c.read.ensures.answered
 
 pub returns-clause-shown : goal.returns-clause-shown
@@ -51,10 +51,10 @@ returns-clause-shown g c =
     let i = c.in_ok-place.place in
     let at = c.in_ok-place.ensures.place in
     let low = place-low plan c.args.name.now i at in
-    let named = named-here plan c.requires.plan.sound kept c.requires.agree.record_is i low c.args.name.now at in
+    let named = named-here plan c.requires.plan kept c.requires.agree.record_is i low c.args.name.now at in
     let v = world c.read.new.dsp c.read.new.io c.read.new.out in
     let k = control_here plan i in
     let on = read-powered plan kept c.args.name.now k named c.in_ok-place.ensures.none in
     answered-so c.read.result (said_by k.kind (record_here kept i)) (c.read.new.kept ≡ kept) (λ (a : Answer). Shows plan c.args.name.now a (means.on c.read.new.dsp)) c.read.ensures.answered c.read.ensures.still
     (λ same. subst (λ (y : Record). Shows plan c.args.name.now (said_by k.kind (record_here y i)) (means.on c.read.new.dsp)) same
-    (said-shown means plan c.requires.plan.sound c.args.heap i low c.read.new.kept v c.read.ensures.agree (ap (λ (y : Record). y.power) same ∙ on) c.args.name.now named))
+    (said-shown means plan c.requires.plan c.args.heap i low c.read.new.kept v c.read.ensures.agree (ap (λ (y : Record). y.power) same ∙ on) c.args.name.now named))

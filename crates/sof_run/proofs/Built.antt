@@ -4,7 +4,6 @@ use Rattle.std.specs.List.{list_all}
 use Rattle.std.proofs.lemmas.Bool.{and_parts}
 use Rattle.tplg_plan.specs.declared.plans.Plan.{Plan}
 use Rattle.tplg_plan.specs.Sound.{IsSound}
-use Rattle.host_widgets.specs.Controls.{has_no_blobs}
 use Rattle.sof_script.specs.Commands.{Read}
 use Rattle.sof_script.specs.declared.script.Numbered.{Numbered}
 use Rattle.sof_session.specs.CommandRanges.{is_built}
@@ -19,13 +18,11 @@ all_built (c ∷ cs) built =
 
 module _ (plan : Plan) where
   -- a script of right bindings that asks for what is built
-  pub carriable : IsSound plan → (read : Read) → wrong_binding plan read.bindings ≡ None → is_built_script plan read ≡ true → IsCarriable plan read
-  carriable sound read right built =
-      let parts = and_parts (has_no_blobs plan) (list_all (λ n. is_built n.command) read.commands) built in
-      record { loadable = record { sound = sound; blobs = parts.0 }; right = right; built = all_built read.commands parts.1 }
+  pub carriable : IsSound plan → (read : Read) → wrong_binding plan read.bindings ≡ None → is_built_script read ≡ true → IsCarriable plan read
+  carriable sound read right built = record { sound = sound; right = right; built = all_built read.commands built }
 
   -- which make a run
-  pub ready_over : (read : Read) → wrong_binding plan read.bindings ≡ None → is_built_script plan read ≡ true → prepared_bindings plan read (wrong_binding plan read.bindings) ≡ Ready plan read
+  pub ready_over : (read : Read) → wrong_binding plan read.bindings ≡ None → is_built_script read ≡ true → prepared_bindings plan read (wrong_binding plan read.bindings) ≡ Ready plan read
   ready_over read right built = rw (right, built) refl
 
 -- the command at a place

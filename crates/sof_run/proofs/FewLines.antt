@@ -9,12 +9,11 @@ use Rattle.std.proofs.lemmas.Option.{slice_get_within}
 use Rattle.stream_law.specs.declared.graph.Comp.{Comp}
 use Rattle.tplg_plan.specs.declared.plans.Plan.{Plan}
 use Rattle.tplg_plan.specs.declared.plans.StreamPlan.{StreamPlan}
-use Rattle.tplg_plan.specs.Sound.{host_of}
+use Rattle.tplg_plan.specs.Sound.{IsSound, host_of}
 use Rattle.host_widgets.specs.declared.kept.Power.{Power}
 use Rattle.host_widgets.specs.declared.kept.Power.TheVariants.{Unloaded, On, Off}
 use Rattle.host_widgets.specs.declared.kept.Record.{Record}
 use Rattle.host_widgets.specs.Kept.{controls_of}
-use Rattle.host_widgets.specs.Controls.{IsLoadable}
 use Rattle.host_widgets.proofs.NamedIds.{few-widgets}
 use Rattle.sof_session.specs.Show as show
 
@@ -37,11 +36,11 @@ few_hosts (c ∷ cs) = by_tail (one_more (host_of c) (filter_map host_of cs)) (f
     by_tail : length (filter_map host_of (c ∷ cs)) ≤ suc (length (filter_map host_of cs)) → length (filter_map host_of cs) ≤ length cs → length (filter_map host_of (c ∷ cs)) ≤ suc (length cs)
     by_tail more few = omega (arith, more, few)
 
-module _ (plan : Plan) (loadable : IsLoadable plan) (kept : Record) where
+module _ (plan : Plan) (sound : IsSound plan) (kept : Record) where
   few_streams : length plan.streams ≤ 128
   few_streams =
       let ends : StreamPlan → ℕ × Bool = λ s. (s.host, s.capture) in
-      omega (arith, length-map plan.streams ends, ap length loadable.sound.hosts, few_hosts plan.graph.comps, loadable.sound.comps)
+      omega (arith, length-map plan.streams ends, ap length sound.hosts, few_hosts plan.graph.comps, sound.comps)
 
   some_streams : length (show.stream_lines plan kept) ≤ 128
   some_streams =
@@ -61,9 +60,9 @@ module _ (plan : Plan) (loadable : IsLoadable plan) (kept : Record) where
         length-map (controls_of plan kept) (show.control_line plan),
         length-zip plan.controls kept.controls,
         min-le_left (length plan.controls) (length kept.controls),
-        few-widgets plan loadable.sound,
-        loadable.sound.edges,
-        loadable.sound.controls,
+        few-widgets plan sound,
+        sound.edges,
+        sound.controls,
         some_streams,
       )
 

@@ -154,6 +154,6 @@ module _ {D P : Type 0} (means : DeskMeaning D) (dsp : Meaning P) (words : List 
       let next : Next means (play run.form) turns status old new = record { calls = gave.ran.played.calls; goes = subst (λ x. Goes x turns gave.ran.played.calls status) same goes; led = gave.ran.played.led } in
       let sound = script_sound run.script run.read (omega (arith, run.fit.1)) run.make_run.lines.0 in
       (elim (play_goes means run.form run.topology run.script plan run.read ready turns status old new run.is_topology run.is_script run.fit.0 run.fit.1 run.given next) as (λ w. Plays means dsp (ground_in run) (rounds_of run.read.commands) old new status p gave.last ⊎ Unbegun means (ground_in run).slots old new status p gave.last) [
-        | inl b ↦ inl (plays means dsp run.form run.topology run.script plan run.read ready turns status old new p gave.last gave.ran.turned off carries.loadable carries.built sound.few b)
+        | inl b ↦ inl (plays means dsp run.form run.topology run.script plan run.read ready turns status old new p gave.last gave.ran.turned off carries.sound carries.built sound.few b)
         | inr b ↦ inr (before_begun means dsp run.form run.topology run.script plan run.read ready turns status old new p gave.last gave.ran.turned b)
       ])

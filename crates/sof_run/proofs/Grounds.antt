@@ -9,7 +9,7 @@ use Rattle.stream_law.specs.Table.{list_of}
 use Rattle.stream_law.specs.Past.{start}
 use Rattle.stream_law.specs.Stands.{HasRead, position_of, left_of}
 use Rattle.tplg_plan.specs.declared.plans.Plan.{Plan}
-use Rattle.host_widgets.specs.Controls.{IsLoadable}
+use Rattle.tplg_plan.specs.Sound.{IsSound}
 use Rattle.sof_script.specs.Commands.{Bound}
 use Rattle.sof_script.specs.declared.script.Command.{Command}
 use Rattle.sof_script.specs.declared.script.Numbered.{Numbered}
@@ -69,9 +69,9 @@ built_rounds : (commands : List Numbered) → AreBuilt commands → AllBuilt (ro
 built_rounds [] all = tt
 built_rounds (numbered ∷ commands) all = built_after (earlier numbered.command) numbered (rounds_of commands) all.0 (built_rounds commands all.1)
 
-pub few_all : (g : Ground) → IsLoadable g.plan → (rounds : List Round) → AllBuilt rounds → AllByRecursion (HasFew g) (commands_of rounds)
-few_all g loadable [] built = tt
-few_all g loadable (round ∷ rounds) built = (few-order g.plan loadable round.numbered.command built.0, few_all g loadable rounds built.1)
+pub few_all : (g : Ground) → IsSound g.plan → (rounds : List Round) → AllBuilt rounds → AllByRecursion (HasFew g) (commands_of rounds)
+few_all g sound [] built = tt
+few_all g sound (round ∷ rounds) built = (few-order g.plan sound round.numbered.command built.0, few_all g sound rounds built.1)
 
 front_few : (g : Ground) (k : ℕ) (commands : List Command) → AllByRecursion (HasFew g) commands → AllByRecursion (HasFew g) (take k commands)
 front_few g zero commands few = tt
@@ -79,8 +79,8 @@ front_few g (suc k) [] few = tt
 front_few g (suc k) (command ∷ commands) few = (few.0, front_few g k commands few.1)
 
 -- the commands of a front of the units have few acts each
-pub few_front : (g : Ground) → IsLoadable g.plan → (commands : List Numbered) → AreBuilt commands → (k : ℕ) → AllByRecursion (HasFew g) (take k (commands_of (rounds_of commands)))
-few_front g loadable commands built k = front_few g k (commands_of (rounds_of commands)) (few_all g loadable (rounds_of commands) (built_rounds commands built))
+pub few_front : (g : Ground) → IsSound g.plan → (commands : List Numbered) → AreBuilt commands → (k : ℕ) → AllByRecursion (HasFew g) (take k (commands_of (rounds_of commands)))
+few_front g sound commands built k = front_few g k (commands_of (rounds_of commands)) (few_all g sound (rounds_of commands) (built_rounds commands built))
 
 messages_front : (k : ℕ) (commands : List Command) → messages (take k commands) ≤ messages commands
 messages_front zero commands = omega arith

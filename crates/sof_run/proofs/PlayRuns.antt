@@ -6,7 +6,7 @@ use Rattle.sof_io.specs.Bound.{has_slot}
 use Rattle.sof_desk.specs.Desk.{DeskMeaning, DeskCall, DeskLed, with_more}
 use Rattle.mbox_link.specs.Calls.{Meaning}
 use Rattle.tplg_plan.specs.declared.plans.Plan.{Plan}
-use Rattle.host_widgets.specs.Controls.{IsLoadable}
+use Rattle.tplg_plan.specs.Sound.{IsSound}
 use Rattle.sof_script.specs.Commands.{Read}
 use Rattle.sof_script.specs.declared.script.Command.{Command}
 use Rattle.sof_session.specs.Written.{Out, Ground, Leg}
@@ -90,7 +90,7 @@ module _ {D P : Type 0} (means : DeskMeaning D) (dsp : Meaning P) (form : Form) 
   pub before_begun : Before means g.slots turns status old new → Unbegun means g.slots old new status p last
   before_begun b = record { ended = b.ended; wrote = b.wrote; device = subst (λ ts. Turns dsp (Bare p) ts last) b.none turned }
 
-  module _ (off : dsp.on p ≡ None) (loadable : IsLoadable plan) (built : AreBuilt read.commands) (few : length read.commands < 2 ^ 32) (b : Begun means form topology script plan read ready turns status old new) where
+  module _ (off : dsp.on p ≡ None) (sound : IsSound plan) (built : AreBuilt read.commands) (few : length read.commands < 2 ^ 32) (b : Begun means form topology script plan read ready turns status old new) where
     abbrev commands_made : List Command
     commands_made = take (length b.others) (commands_of (rounds_of read.commands))
 
@@ -98,7 +98,7 @@ module _ {D P : Type 0} (means : DeskMeaning D) (dsp : Meaning P) (form : Form) 
     over =
         run-over dsp g (bound_inputs plan (means.holds old) read.bindings) p commands_made b.begins b.others last off
         (none_read (bound_inputs plan (means.holds old) read.bindings) (are_whole plan (means.holds old) read.bindings))
-        b.task b.made.carried (few_front g loadable read.commands built (length b.others))
+        b.task b.made.carried (few_front g sound read.commands built (length b.others))
         (omega (arith, messages_few read.commands (length b.others), few))
         (subst (λ ts. Turns dsp (Bare p) ts last) b.are turned)
 

@@ -20,7 +20,7 @@ module _ (plan : Plan) (read : Read) where
 
   by_bindings : (p : Plan) (r : Read) (wrong : Option ℕ) → prepared_bindings p r wrong ≡ Ready plan read → r ≡ read
   by_bindings p r (Some line) is = absurd (cc is)
-  by_bindings p r None is = by_commands p r (is_built_script p r) is
+  by_bindings p r None is = by_commands p r (is_built_script r) is
 
   by_rules : (t : Topology) (r : Read) (ruling : Option (ℕ × ℕ)) → prepared_rules t r ruling ≡ Ready plan read → r ≡ read
   by_rules t r (Some fault) is = absurd (cc is)

@@ -2,7 +2,7 @@
 use Rattle.std.proofs.Common.{◌≡◌, ◌⊎◌, inl, inr, ℕ, Bool, true, false, List, [], ◌∷◌, map, Option, Some, None, refl, sym, ◌∙◌, subst, if◌then◌else◌}
 use Rattle.sof_desk.specs.Desk.{DeskMeaning, DeskCall}
 use Rattle.mbox_link.specs.Calls.{Meaning}
-use Rattle.host_widgets.specs.Controls.{IsLoadable}
+use Rattle.tplg_plan.specs.Sound.{IsSound}
 use Rattle.sof_session.specs.Written.{Out}
 use Rattle.sof_session.specs.Lives.{Bare, Turn, Carry}
 use Rattle.sof_stress.specs.declared.counts.Counts.{Counts}
@@ -70,7 +70,7 @@ module _ {D P : Type 0} (means : DeskMeaning D) (dsp : Meaning P) where
           };
         };
         is_sent = refl;
-        loadable = inr s.loadable;
+        sound = inr s.sound;
       }
 
   -- memory was wanting
@@ -84,7 +84,7 @@ module _ {D P : Type 0} (means : DeskMeaning D) (dsp : Meaning P) where
       ran = record { turns = []; turned = refl; played = free_off means (Step (stress_begins (dsp.most p) seed) (λ out. counted_todo (dai_slot (streams_of seed)) (stress_turns seed) no_counts (told_todo 0))) status old new played };
     };
     is_sent = refl;
-    loadable = inl refl;
+    sound = inl refl;
   }
 
   -- ---- by the words
@@ -103,7 +103,7 @@ module _ {D P : Type 0} (means : DeskMeaning D) (dsp : Meaning P) where
               sent = given.sent;
               gave = given.gave;
               is_sent = given.is_sent;
-              loadable = λ other is_other. let one : other ≡ seed = cc (sym is_other ∙ is) in subst (λ m. (given.gave.ran.turns ≡ []) ⊎ IsLoadable (stress_plan m)) (sym one) given.loadable;
+              sound = λ other is_other. let one : other ≡ seed = cc (sym is_other ∙ is) in subst (λ m. (given.gave.ran.turns ≡ []) ⊎ IsSound (stress_plan m)) (sym one) given.sound;
             }
 
     -- what was done on the desk alone
@@ -112,7 +112,7 @@ module _ {D P : Type 0} (means : DeskMeaning D) (dsp : Meaning P) where
       sent = 0;
       gave = record { last = Bare p; is = refl; exit = refl; ran = record { turns = []; turned = refl; played = played } };
       is_sent = refl;
-      loadable = λ seed is. inl refl;
+      sound = λ seed is. inl refl;
     }
 
     -- what was done with no number of messages
@@ -121,7 +121,7 @@ module _ {D P : Type 0} (means : DeskMeaning D) (dsp : Meaning P) where
       sent = sent_in given.last;
       gave = given;
       is_sent = refl;
-      loadable = λ seed is. absurd (cc (sym none ∙ is));
+      sound = λ seed is. absurd (cc (sym none ∙ is));
     }
 
     -- the words of `play` are not those of `stress`

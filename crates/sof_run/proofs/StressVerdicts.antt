@@ -7,7 +7,7 @@ use Rattle.std.proofs.lemmas.Bool.Decides.{nat_tests}
 use Rattle.std.proofs.lemmas.Slice.Eq.{bytes_eq-Decides}
 use Rattle.sof_desk.specs.Desk.{DeskMeaning, Spoken, Slot, DeskCall, Load, Did, DeskLed}
 use Rattle.mbox_link.specs.Calls.{Meaning}
-use Rattle.host_widgets.specs.Controls.{IsLoadable}
+use Rattle.tplg_plan.specs.Sound.{IsSound}
 use Rattle.stream_law.specs.Past.{Moment}
 use Rattle.sof_session.specs.Commands.{Known}
 use Rattle.sof_session.specs.Written.{Out, Ground, At, first_at, end_of, moments_of}
@@ -115,7 +115,7 @@ sent_at : {P : Type 0} (dsp : Meaning P) (g : Ground) (life : Life P) (moments :
 sent_at dsp g (Bare p) moments at ends = absurd ends
 sent_at dsp g (Seated seat inputs slots) moments at ends = ap (λ (k : Known). k.queue.sent) ends.known_is
 
-module _ {D P : Type 0} (means : DeskMeaning D) (dsp : Meaning P) (seed : ℕ) (small_is : seed ≤ 1000) (old new : D) (status : ℕ) (p : P) (last : Life P) (off : dsp.on p ≡ None) (loadable : IsLoadable (stress_plan seed)) where
+module _ {D P : Type 0} (means : DeskMeaning D) (dsp : Meaning P) (seed : ℕ) (small_is : seed ≤ 1000) (old new : D) (status : ℕ) (p : P) (last : Life P) (off : dsp.on p ≡ None) (sound : IsSound (stress_plan seed)) where
   abbrev g : Ground
   g = stress_ground (dsp.most p) seed
 
@@ -125,7 +125,7 @@ module _ {D P : Type 0} (means : DeskMeaning D) (dsp : Meaning P) (seed : ℕ) (
   stress_ran sent is_sent begins turns calls begun goes turned led =
       let slot = dai_slot (streams_of seed) in
       let made = counted_off slot (stress_turns seed) no_counts (told_todo sent) turns calls status (λ c ts cs n said. lines_turnless (stress_lines (record c { messages = sent })) ts cs n said) goes in
-      let over = stress-over dsp seed small_is p last off loadable begins turns begun made.0 turned in
+      let over = stress-over dsp seed small_is p last off sound begins turns begun made.0 turned in
       let lines : List Out → ℕ → List (List ℕ) = λ outs n. stress_lines (stress_counts seed n outs) in
       let parted = lines_parted means (lines (map (λ (turn : Turn). turn.out) turns) sent) [] calls old new status made.1 led in
       let same : concat (map with_newline (lines (map (λ (turn : Turn). turn.out) turns) sent)) ≡ stress_text seed g over.0 =
@@ -169,13 +169,13 @@ module _ {D P : Type 0} (means : DeskMeaning D) (dsp : Meaning P) (words : List 
 
   pub stresses : StressesWhole means dsp words old new status p last
   stresses seed is =
-      by given.gave.ran.turns given.gave.ran.played.calls (given.loadable seed is) given.gave.ran.turned given.gave.ran.played.led
+      by given.gave.ran.turns given.gave.ran.played.calls (given.sound seed is) given.gave.ran.turned given.gave.ran.played.led
       (subst (λ todo. Goes todo given.gave.ran.turns given.gave.ran.played.calls status) (stress_alone (dsp.most p) given.sent words seed is) given.gave.ran.played.goes)
     where
-      by : (turns : List Turn) (calls : List DeskCall) → (turns ≡ []) ⊎ IsLoadable (stress_plan seed) → Turns dsp (Bare p) turns last → DeskLed means old calls new → Goes (stress (dsp.most p) given.sent seed) turns calls status →
+      by : (turns : List Turn) (calls : List DeskCall) → (turns ≡ []) ⊎ IsSound (stress_plan seed) → Turns dsp (Bare p) turns last → DeskLed means old calls new → Goes (stress (dsp.most p) given.sent seed) turns calls status →
           StressRan means dsp (stress_ground (dsp.most p) seed) seed old new status p last ⊎ Unbegun means [] old new status p last
       by turns calls planned turned led (inr says) = inr (wanted turns calls says led turned)
       by [] calls planned turned led (inl goes) = absurd goes
       by (begins ∷ turns) calls (inl none) turned led (inl goes) = absurd (cc none)
-      by (begins ∷ turns) calls (inr loadable) turned led (inl goes) =
-          inl (stress_ran means dsp seed (small words seed is) old new status p last off loadable given.sent given.is_sent begins turns calls goes.0 goes.1 turned led)
+      by (begins ∷ turns) calls (inr sound) turned led (inl goes) =
+          inl (stress_ran means dsp seed (small words seed is) old new status p last off sound given.sent given.is_sent begins turns calls goes.0 goes.1 turned led)

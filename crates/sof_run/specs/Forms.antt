@@ -3,7 +3,7 @@ use Rattle.std.specs.Prelude.{◌≡◌, ◌⊎◌, ℕ, List, [], Option, Some,
 use Rattle.sof_run.specs.Words.{Form, play_of}
 use Rattle.sof_desk.specs.Desk.{DeskMeaning}
 use Rattle.mbox_link.specs.Calls.{Meaning}
-use Rattle.host_widgets.specs.Controls.{IsLoadable}
+use Rattle.tplg_plan.specs.Sound.{IsSound}
 use Rattle.sof_session.specs.Lives.{Turn}
 use Rattle.sof_stress.specs.StressRun.{sent_in, stress_plan}
 use Rattle.sof_run.specs.Todo.{Todo, Stop, Gave}
@@ -25,20 +25,20 @@ todo_for room sent None None None None = Stop (codes "words\n") 1
 abbrev pub todo_of : ℕ → ℕ → List (List ℕ) → Todo
 todo_of room sent words = todo_for room sent (play_of room words) (check_of words) (compile_of words) (stress_of words)
 
--- a plan that a stress begins a session over can be loaded
-abbrev pub BeginsLoadable : List (List ℕ) → List Turn → Type 0
-BeginsLoadable words turns = (seed : ℕ) → stress_of words ≡ Some seed → (turns ≡ []) ⊎ IsLoadable (stress_plan seed)
+-- a plan that a stress begins a session over is sound
+abbrev pub BeginsSound : List (List ℕ) → List Turn → Type 0
+BeginsSound words turns = (seed : ℕ) → stress_of words ≡ Some seed → (turns ≡ []) ⊎ IsSound (stress_plan seed)
 
 -- It was done, and the session at its end has sent so many messages.
 pub record GaveSent {D P : Type 0} (means : DeskMeaning D) (dsp : Meaning P) (words : List (List ℕ)) (todo : ℕ → Todo) (old : D) (p : P) (status : ℕ) (new : D) (q : P) : Type 0 where
   pub sent : ℕ
   pub gave : Gave means dsp (todo sent) old p status new q
   pub is_sent : sent ≡ sent_in gave.last
-  pub loadable : BeginsLoadable words gave.ran.turns
+  pub sound : BeginsSound words gave.ran.turns
 
 -- the same of a stress alone
 pub record StressGave {D P : Type 0} (means : DeskMeaning D) (dsp : Meaning P) (seed : ℕ) (old : D) (p : P) (status : ℕ) (new : D) (q : P) : Type 0 where
   pub sent : ℕ
   pub gave : Gave means dsp (stress (dsp.most p) sent seed) old p status new q
   pub is_sent : sent ≡ sent_in gave.last
-  pub loadable : (gave.ran.turns ≡ []) ⊎ IsLoadable (stress_plan seed)
+  pub sound : (gave.ran.turns ≡ []) ⊎ IsSound (stress_plan seed)

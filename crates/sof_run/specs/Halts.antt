@@ -6,7 +6,7 @@ use Rattle.tplg_model.specs.declared.fault.TplgFault.TheVariants.{OutOfMemory}
 use Rattle.tplg_model.specs.declared.block.Topology.{Topology}
 use Rattle.tplg_plan.specs.declared.plans.Plan.{Plan}
 use Rattle.sof_script.specs.Commands.{Read}
-use Rattle.host_widgets.specs.Controls.{IsLoadable}
+use Rattle.tplg_plan.specs.Sound.{IsSound}
 use Rattle.sof_script.specs.declared.script.Numbered.{Numbered}
 use Rattle.sof_session.specs.CommandRanges.{is_built, is_in_range}
 use Rattle.sof_run.specs.declared.prepare.Halt.{Halt}
@@ -46,9 +46,9 @@ HaltsAtCheck why bytes = bytes ≡ Err why
 abbrev pub AreBuilt : List Numbered → Type 0
 AreBuilt commands = AllByRecursion (λ n. is_built n.command ≡ true) commands
 
--- a plan can be loaded, a script's bindings are right over it, and each of its commands is carried out
+-- a plan is sound, a script's bindings are right over it, and each of its commands is carried out
 pub record IsCarriable (plan : Plan) (read : Read) : Type 0 where
-  pub loadable : IsLoadable plan
+  pub sound : IsSound plan
   pub right : wrong_binding plan read.bindings ≡ None
   pub built : AreBuilt read.commands
 

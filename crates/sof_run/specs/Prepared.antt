@@ -1,5 +1,5 @@
 -- What the bytes of a topology and of a script come to.
-use Rattle.std.specs.Prelude.{ℕ, Bool, true, false, ◌&&◌, nat_lt, List, Option, Some, None, Result, Ok, Err}
+use Rattle.std.specs.Prelude.{ℕ, Bool, true, false, nat_lt, List, Option, Some, None, Result, Ok, Err}
 use Rattle.std.specs.List.{list_all, sum_by}
 use Rattle.tplg_model.specs.declared.fault.TplgFault.{TplgFault}
 use Rattle.tplg_model.specs.declared.block.Topology.{Topology}
@@ -7,7 +7,6 @@ use Rattle.tplg_model.specs.Reading.{topology_of}
 use Rattle.tplg_plan.specs.declared.plans.Plan.{Plan}
 use Rattle.tplg_rules.specs.RuleTest.{ruling_of}
 use Rattle.tplg_graph.specs.PlanOf.{plan_of}
-use Rattle.host_widgets.specs.Controls.{has_no_blobs}
 use Rattle.sof_script.specs.declared.script.Numbered.{Numbered}
 use Rattle.sof_script.specs.declared.reading.ScriptFault.{ScriptFault}
 use Rattle.sof_script.specs.declared.reading.ScriptFault.TheVariants as scripts
@@ -23,9 +22,9 @@ pub data Prepared : Type 0 where
   Ready : (plan : Plan) (read : Read) → Prepared
   Halted : (why : Halt) → Prepared
 
--- each command is one that is carried out so far, and no equaliser of the plan begins with a blob
-abbrev pub is_built_script : Plan → Read → Bool
-is_built_script plan read = has_no_blobs plan && list_all (λ n. is_built n.command) read.commands
+-- each command is one that is carried out so far
+abbrev pub is_built_script : Read → Bool
+is_built_script read = list_all (λ n. is_built n.command) read.commands
 
 -- what is not built so far comes last
 abbrev pub prepared_commands : Plan → Read → Bool → Prepared
@@ -35,7 +34,7 @@ prepared_commands plan read false = Halted halts.NotYet
 -- each binding is to be right
 abbrev pub prepared_bindings : Plan → Read → Option ℕ → Prepared
 prepared_bindings plan read (Some line) = Halted (halts.Binding line)
-prepared_bindings plan read None = prepared_commands plan read (is_built_script plan read)
+prepared_bindings plan read None = prepared_commands plan read (is_built_script read)
 
 -- the first rule that it breaks comes before all that is over its plan
 abbrev pub prepared_rules : Topology → Read → Option (ℕ × ℕ) → Prepared

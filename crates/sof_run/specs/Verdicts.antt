@@ -24,22 +24,22 @@ Fit topology script = (length topology ≤ 1048576) × (length script ≤ 104857
 abbrev pub IsScript : List ℕ → Read → Type 0
 IsScript script read = (script_of script ≡ Ok read) × (ticks_of read.commands ≤ 60000)
 
--- the files make a run: the topology keeps all rules, the bindings are right, and all that the script asks for is built
+-- the files make a run: the topology keeps all rules, the bindings are right, and each command of the script is built
 pub record MakeRun (topology script : List ℕ) (t : Topology) (read : Read) : Type 0 where
   pub lines : IsScript script read
   pub file : IsFile topology t
   pub whole : IsWellFormed t
   pub right : wrong_binding (plan_of t) read.bindings ≡ None
-  pub built : is_built_script (plan_of t) read ≡ true
+  pub built : is_built_script read ≡ true
 
--- the topology keeps all rules, and over right bindings something that the script asks for is not built
+-- the topology keeps all rules, and over right bindings a command of the script is not built
 abbrev pub IsUnbuilt : Topology → Read → Type 0
 IsUnbuilt t read =
-    IsWellFormed t × (wrong_binding (plan_of t) read.bindings ≡ None) × (is_built_script (plan_of t) read ≡ false)
+    IsWellFormed t × (wrong_binding (plan_of t) read.bindings ≡ None) × (is_built_script read ≡ false)
 
 -- Why the files make no run: a line of the script is at fault; its ticks are too many; no topology has the bytes, and this is
 -- their first fault; the topology that has them breaks this rule first, with this least item; it keeps all rules and a binding
--- is wrong, the first on this line; or it keeps them and something is not built yet.
+-- is wrong, the first on this line; or it keeps them and a command is not built yet.
 abbrev pub IsHalt : List ℕ → List ℕ → Halt → Type 0
 IsHalt topology script (halts.Script line cause) = script_of script ≡ Err (Line line cause)
 IsHalt topology script (halts.Ticks sum) = (read : Read) × (script_of script ≡ Ok read) × (sum ≡ ticks_of read.commands) × (60000 < sum)

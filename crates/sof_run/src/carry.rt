@@ -3,7 +3,7 @@ ghost use Rattle.std.specs.Prelude.{◌≡◌, ◌+◌, ◌<◌, ◌≤◌, ◌^
 ghost use Rattle.std.specs.List.{list_all};
 ghost use Rattle.sof_base.specs.Ports.{drained};
 ghost use Rattle.sof_io.specs.Bound.{output_slots};
-ghost use Rattle.host_widgets.specs.Controls.{IsLoadable};
+ghost use Rattle.tplg_plan.specs.Sound.{IsSound};
 ghost use Rattle.sof_script.specs.Text.{answer_line};
 ghost use Rattle.sof_session.specs.Show.{show_lines, shown_by};
 ghost use Rattle.sof_session.specs.CommandRanges.{is_built, is_in_range, most_sent};
@@ -33,7 +33,7 @@ fn write_line(number: u32, answer: &Answer, line: &mut Line)
 
 // Says how everything stands, line by line.
 fn say_shown<D: Desk, P: Dsp>(desk: &mut D, session: &Session<P>, line: &mut Line) -> bool
-    requires { IsLoadable session.now.plan }
+    requires { IsSound session.now.plan }
     ensures phase { DeskPhase D.means (lines_todo (show_lines session.now.plan session.now.kept)) result desk.old desk.new }
     ensures created { SameCreated D.means desk.old desk.new }
 {
@@ -63,7 +63,7 @@ fn say_lines<D: Desk, P: Dsp>(
     session: &Session<P>,
     line: &mut Line,
 ) -> bool
-    requires plan { IsLoadable session.now.plan }
+    requires plan { IsSound session.now.plan }
     ensures phase { DeskPhase D.means (lines_todo (answer_line numbered.now.line answer.now ∷ shown_by numbered.now.command session.now.plan session.now.kept)) result desk.old desk.new }
     ensures created { SameCreated D.means desk.old desk.new }
 {
@@ -91,7 +91,7 @@ fn do_round<D: Desk, P: Dsp>(
     requires built { is_built numbered.now.command ≡ true }
     requires numbers { is_in_range numbered.now.command ≡ true }
     requires few { session.old.link.sent < 2 ^ 63 }
-    requires plan { IsLoadable session.old.plan }
+    requires plan { IsSound session.old.plan }
     requires created { AreCreated D.means (output_slots outputs.old) desk.old }
     requires empty { drained outputs.old ≡ outputs.old }
     ensures phase { Phase D.means P.means (round_todo (record { numbered = numbered.now; last = last })) result
@@ -136,7 +136,7 @@ fn do_command<D: Desk, P: Dsp>(
     requires built { is_built numbered.now.command ≡ true }
     requires numbers { is_in_range numbered.now.command ≡ true }
     requires few { session.old.link.sent < 2 ^ 63 }
-    requires plan { IsLoadable session.old.plan }
+    requires plan { IsSound session.old.plan }
     requires created { AreCreated D.means (output_slots outputs.old) desk.old }
     requires empty { drained outputs.old ≡ outputs.old }
     ensures phase { Phase D.means P.means (rounds_todo (command_rounds numbered.now)) result
@@ -167,7 +167,7 @@ pub fn do_commands<D: Desk, P: Dsp>(
     requires numbers { list_all (λ n. is_in_range n.command) commands.now ≡ true }
     requires few { length commands.now < 2 ^ 32 }
     requires first { session.old.link.sent ≡ 0 }
-    requires plan { IsLoadable session.old.plan }
+    requires plan { IsSound session.old.plan }
     requires created { AreCreated D.means (output_slots outputs.old) desk.old }
     requires empty { drained outputs.old ≡ outputs.old }
     ensures { Phase D.means P.means (commands_todo commands.now) result

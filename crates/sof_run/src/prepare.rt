@@ -1,12 +1,11 @@
 // What the files of a run come to.
-ghost use Rattle.std.specs.Prelude.{◌≡◌, ◌<◌, ◌-◌, ◌^◌, ◌==◌, length, None, Ok, IfOk, MatchResult};
+ghost use Rattle.std.specs.Prelude.{◌≡◌, ◌<◌, ◌-◌, ◌^◌, length, None, Ok, IfOk, MatchResult};
 ghost use Rattle.tplg_model.specs.Reading.{topology_of};
 ghost use Rattle.tplg_rules.specs.RuleTest.{ruling_of};
 ghost use Rattle.tplg_plan.specs.HeapNeed.{IsSmall, need_on};
 ghost use Rattle.tplg_plan.specs.Sound.{IsSound};
 ghost use Rattle.tplg_graph.specs.TopologyNeed.{need_of};
 ghost use Rattle.tplg_graph.specs.PlanOf.{plan_of};
-ghost use Rattle.host_widgets.specs.Controls.{first_blob, has_no_blobs};
 ghost use Rattle.sof_script.specs.Commands.{script_read};
 ghost use Rattle.std.specs.List.{list_all};
 ghost use Rattle.sof_run.specs.Bindings.{wrong_binding as wrong_of};
@@ -17,7 +16,7 @@ ghost use Rattle.sof_run.specs.Halts.{Halts, HaltsFor, HaltsAtTopology, HaltsAtR
 use crate::bindings::wrong_binding;
 use sof_script::{Command, Numbered, Script, ScriptFault, parse, ticks};
 use std::alloc::Global;
-use tplg_graph::{ControlKind, ControlPlan, Plan, PlanFault, plan};
+use tplg_graph::{Plan, PlanFault, plan};
 use tplg_model::Topology;
 use tplg_read::{TplgFault, read};
 
@@ -44,7 +43,7 @@ pub enum Halt {
     Rule { rule: u8, item: u32 },
     /// The binding of this line is wrong.
     Binding { line: u32 },
-    /// Something that the script asks for over the topology is not built yet.
+    /// A command of the script is not built yet.
     NotYet,
     /// Memory was wanting.
     OutOfMemory,
@@ -100,8 +99,9 @@ fn is_built(command: &Command) -> bool
         Command::Start(_) | Command::Stop(_) => true,
         Command::Pause(_) | Command::Release(_) => true,
         Command::Refuse(_, _) | Command::Drop(_) | Command::Lose(_) => true,
-        Command::Set(_, _) | Command::Get(_) | Command::Read(_) => true,
-        Command::Bytes(_, _) | Command::Lag(_, _) => false,
+        Command::Set(_, _) | Command::Bytes(_, _) => true,
+        Command::Get(_) | Command::Read(_) => true,
+        Command::Lag(_, _) => false,
     }
 }
 
@@ -111,28 +111,11 @@ fn are_built(commands: &[Numbered]) -> bool
     commands.iter().all(|numbered| is_built(&numbered.command))
 }
 
-// Whether a control has no first blob.
-fn is_bare(control: &ControlPlan) -> bool
-    ensures { result ≡ (length (first_blob control.now.kind) == 0) }
+// Whether each command of a script is built.
+fn asks_for_built(script: &Script) -> bool
+    ensures { result ≡ is_built_script (script_read script.now) }
 {
-    match &control.kind {
-        ControlKind::Blob { initial, .. } => initial.items().len() == 0,
-        _ => true,
-    }
-}
-
-// Whether no equaliser of a plan begins with a blob.
-fn is_without_blobs(plan: &Plan) -> bool
-    ensures { result ≡ has_no_blobs plan.now }
-{
-    plan.controls.items().iter().all(|control| is_bare(control))
-}
-
-// Whether all that a script asks for over a plan is built.
-fn asks_for_built(plan: &Plan, script: &Script) -> bool
-    ensures { result ≡ is_built_script plan.now (script_read script.now) }
-{
-    is_without_blobs(plan) && are_built(script.commands.items())
+    are_built(script.commands.items())
 }
 
 // A plan with a script of right bindings, of which all is built.
@@ -145,7 +128,7 @@ fn ready_for(plan: Plan, script: Script) -> Result<Ready, Halt>
     if let Some(line) = wrong_binding(&plan, script.bindings.items()) {
         return Err(Halt::Binding { line });
     }
-    if !asks_for_built(&plan, &script) {
+    if !asks_for_built(&script) {
         return Err(Halt::NotYet);
     }
     Ok(Ready { plan, script })

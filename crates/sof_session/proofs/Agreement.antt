@@ -11,7 +11,7 @@ use Rattle.tplg_plan.specs.declared.plans.Plan.{Plan}
 use Rattle.host_widgets.specs.declared.kept.Power.{Power}
 use Rattle.host_widgets.specs.declared.kept.Power.TheVariants.{Unloaded, On, Off}
 use Rattle.host_widgets.specs.declared.kept.Record.{Record}
-use Rattle.host_widgets.specs.Controls.{IsLoadable}
+use Rattle.tplg_plan.specs.Sound.{IsSound}
 use Rattle.host_widgets.specs.Host.{Agrees, Sides}
 use Rattle.host_widgets.specs.Keeps.{Keeps}
 use Rattle.host_widgets.specs.ViewOf.{view_by}
@@ -42,7 +42,7 @@ module _ {P : Type 0} (means : Meaning P) (old : Seat P) (wire : Wire P) (io io'
     room = omega (arith, agreed.room, calls.steady.most);
     pending = omega (arith, agreed.pending, calls.steady.pending);
     fated = calls.fated;
-    loadable = agreed.loadable;
+    sound = agreed.sound;
   }
 
   -- ---- a device that shows what the record says
@@ -85,12 +85,12 @@ module _ {P : Type 0} (means : Meaning P) (old : Seat P) (wire : Wire P) (io io'
         agreed-with calls kept (record { record_is = agree.record_is; sides = sides }) (powered-by here kept.power sides)
 
 -- before the first command nothing is loaded, and the device is off
-pub AreAgreed-new : {P : Type 0} (means : Meaning P) (plan : Plan) (heap : ℕ) (dsp : P) → means.on dsp ≡ None → means.pending dsp ≡ 0 → heap ≤ means.most dsp → IsLoadable plan → AreAgreed means (new_seat plan heap dsp)
-AreAgreed-new means plan heap dsp off pending room loadable = record {
+pub AreAgreed-new : {P : Type 0} (means : Meaning P) (plan : Plan) (heap : ℕ) (dsp : P) → means.on dsp ≡ None → means.pending dsp ≡ 0 → heap ≤ means.most dsp → IsSound plan → AreAgreed means (new_seat plan heap dsp)
+AreAgreed-new means plan heap dsp off pending room sound = record {
   agree = record { record_is = closed-record Unloaded plan; sides = (refl, off) };
   powered = off;
   room = room;
   pending = pending;
   fated = record { meant = tt; dropped = omega arith; refused = omega arith; counted = omega arith };
-  loadable = loadable;
+  sound = sound;
 }

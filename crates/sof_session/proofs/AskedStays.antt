@@ -54,12 +54,12 @@ module _ {P : Type 0} (means : Meaning P) (old : Seat P) (wire : Wire P) (io io'
         ∙ ap (λ (x : World (Wire P)). x.io) c.first
 
   -- by a test, and such an order where none fails
-  pub sent-io : (test : Option HostFault) (o : Order) → IsSent old.kept o → Tested (link means) old.plan old.heap test o old.kept kept w v result → io' ≡ io
+  pub sent-io : (test : Option HostFault) (o : Order) → (test ≡ None → IsSent old.kept o) → Tested (link means) old.plan old.heap test o old.kept kept w v result → io' ≡ io
   sent-io test o sent tested = by test refl
     where
       by : (t : Option HostFault) → test ≡ t → io' ≡ io
       by (Some fault) is = ap (λ (x : World (Wire P)). x.io) (tested.early fault is).1
-      by None is = by-power sent.acts sent.done sent.answer old.kept.power agreed.powered (subst (CarriedSo sent.acts sent.done sent.answer) sent.is (tested.late is))
+      by None is = let s : IsSent old.kept o = sent is in by-power s.acts s.done s.answer old.kept.power agreed.powered (subst (CarriedSo s.acts s.done s.answer) s.is (tested.late is))
 
   pub asked-io : (name : List ℕ) (ask : Ask) → Asked (link means) old.plan old.heap name ask old.kept kept w v result → io' ≡ io
-  asked-io name ask asked = sent-io (early_fault old.plan old.kept name ask) (stream_order old.plan old.kept name ask) (sent-stream old.plan old.kept name ask) (record { early = asked.early; late = asked.late })
+  asked-io name ask asked = sent-io (early_fault old.plan old.kept name ask) (stream_order old.plan old.kept name ask) (λ none. sent-stream old.plan old.kept name ask) (record { early = asked.early; late = asked.late })

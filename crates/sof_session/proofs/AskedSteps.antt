@@ -52,13 +52,13 @@ pub stream_stepped : {P : Type 0} (means : Meaning P) (old new : Seat P) (io io'
 stream_stepped means old new io io' agreed few same none command name ask call answer ran =
     sent_stepped means old new io io' agreed few same none command (early_fault old.plan old.kept name ask) (stream_order old.plan old.kept name ask)
     (record { nexts = call.nexts old.plan old.heap; plans = call.plans; tests = call.tests old.plan old.kept; orders = call.orders old.plan old.kept })
-    (sent-stream old.plan old.kept name ask) (asked-taken old.plan agreed.loadable.sound old.kept agreed.agree.record_is name ask) answer ran.outcome (record { early = ran.asked.early; late = ran.asked.late })
+    (λ none. sent-stream old.plan old.kept name ask) (asked-taken old.plan agreed.sound old.kept agreed.agree.record_is name ask) answer ran.outcome (record { early = ran.asked.early; late = ran.asked.late })
     (ran.said ∙ ap (λ (a : Answer). answer_by a ran.outcome) (sym (stream-done old.plan old.kept name ask)))
 
 -- it sends at most 900 messages
 pub stream_few : {P : Type 0} (means : Meaning P) (old new : Seat P) (io io' : Io) (name : List ℕ) (ask : Ask) (answer : Answer) → StreamRan means name ask old new io io' answer → new.link.sent ≤ old.link.sent + 900
 stream_few means old new io io' name ask answer ran =
-    sent_few means old new io io' (early_fault old.plan old.kept name ask) (stream_order old.plan old.kept name ask) (sent-stream old.plan old.kept name ask) ran.outcome (record { early = ran.asked.early; late = ran.asked.late })
+    sent_few means old new io io' (early_fault old.plan old.kept name ask) (stream_order old.plan old.kept name ask) (λ none. sent-stream old.plan old.kept name ask) ran.outcome (record { early = ran.asked.early; late = ran.asked.late })
 
 -- by what the command is, with endpoints that stayed
 pub asked_step : {P : Type 0} (means : Meaning P) (old new : Seat P) (inputs inputs' : List InputView) (outputs outputs' : List OutputView) → AreAgreed means old → old.link.sent < 2 ^ 63 → inputs' ≡ inputs → outputs' ≡ outputs →

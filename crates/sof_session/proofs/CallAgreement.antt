@@ -72,7 +72,7 @@ module _ {P : Type 0} (means : Meaning P) (old : Seat P) (wire : Wire P) (io io'
       let no_ticks : ticks_put (link means) old.link wire ≡ 0 = omega (arith, none) in
       kept-here means old wire io io' agreed kept agree shows (all_closed On old.plan) (loaded_state old.plan old.heap 0) (left ∙ ap (λ (n : ℕ). Some (loaded_state old.plan old.heap n)) no_ticks) (Keeps-loaded old.plan old.heap)
   left-found c (Err fault) is left shows =
-      off-found (failed-off (link means) old.plan old.heap old.kept agreed.loadable agreed.agree.record_is.controls kept (at old.link io) (at wire io') result c fault is) shows
+      off-found (failed-off (link means) old.plan old.heap old.kept agreed.sound agreed.agree.record_is.controls kept (at old.link io) (at wire io') result c fault is) shows
 
   pub AreAgreed-loaded : Tested (link means) old.plan old.heap (load_fault old.kept.power) (loading old.plan old.kept) old.kept kept (at old.link io) (at wire io') result → BroughtUp (link means) old.plan old.heap (first_record old.plan) old.link result wire → AreAgreed means new
   AreAgreed-loaded tested left = by-test (load_fault old.kept.power) (loading old.plan old.kept) tested (λ none c. left-found c result refl left)
@@ -117,11 +117,13 @@ module _ {P : Type 0} (means : Meaning P) (old : Seat P) (wire : Wire P) (io io'
         (λ u. kept-here means old wire io io' agreed kept agree shows _ u.state u.is_on u.keeps_now)
         (sent-left means old.heap old.plan acts done answer old.kept kept (at old.link io) (at wire io') result c agreed.pending powered.0 powered.1 agreed.agree.record_is powered.2 taken)
 
-  pub AreAgreed-sent : (test : Option HostFault) (o : Order) → IsSent old.kept o → (test ≡ None → AreTaken old.plan false old.kept o.acts) → Tested (link means) old.plan old.heap test o old.kept kept (at old.link io) (at wire io') result → AreAgreed means new
-  AreAgreed-sent test o s taken tested = by-test test o tested
-      (λ none c. sent-found s.acts s.done s.answer old.kept.power agreed.powered (subst CarriedSo s.is c) (subst (λ (x : Order). AreTaken old.plan false old.kept x.acts) s.is (taken none)))
+  pub AreAgreed-sent : (test : Option HostFault) (o : Order) → (test ≡ None → IsSent old.kept o) → (test ≡ None → AreTaken old.plan false old.kept o.acts) → Tested (link means) old.plan old.heap test o old.kept kept (at old.link io) (at wire io') result → AreAgreed means new
+  AreAgreed-sent test o sent taken tested = by-test test o tested (λ none c. found (sent none) c (taken none))
+    where
+      found : (s : IsSent old.kept o) → CarriedSo o → AreTaken old.plan false old.kept o.acts → Found
+      found s c are = sent-found s.acts s.done s.answer old.kept.power agreed.powered (subst CarriedSo s.is c) (subst (λ (x : Order). AreTaken old.plan false old.kept x.acts) s.is are)
 
   -- one on a stream, in every sound plan
   pub AreAgreed-asked : (name : List ℕ) (ask : Ask) → Asked (link means) old.plan old.heap name ask old.kept kept (at old.link io) (at wire io') result → AreAgreed means new
-  AreAgreed-asked name ask asked = AreAgreed-sent (early_fault old.plan old.kept name ask) (stream_order old.plan old.kept name ask) (sent-stream old.plan old.kept name ask)
-      (asked-taken old.plan agreed.loadable.sound old.kept agreed.agree.record_is name ask) (record { early = asked.early; late = asked.late })
+  AreAgreed-asked name ask asked = AreAgreed-sent (early_fault old.plan old.kept name ask) (stream_order old.plan old.kept name ask) (λ none. sent-stream old.plan old.kept name ask)
+      (asked-taken old.plan agreed.sound old.kept agreed.agree.record_is name ask) (record { early = asked.early; late = asked.late })

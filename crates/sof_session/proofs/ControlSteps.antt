@@ -1,7 +1,8 @@
--- What a call on a control does to a session: values that are set, told by the record, or asked of the firmware.
+-- What a call on a control does to a session: values or a blob that are set, told by the record, or asked of the firmware.
 use Rattle.std.proofs.Common.{◌≡◌, refl, sym, ap, subst, ◌∙◌, ℕ, ◌+◌, ◌<◌, ◌≤◌, ◌^◌, false, List, [], ◌∷◌, map, length, Option, Some, None, Result, Ok, Err, unwrap_or, arith}
 use Rattle.std.specs.Prelude.{IfOk}
 use Rattle.std.specs.Option.{option_and_then}
+use Rattle.std.proofs.lemmas.List.{length-map}
 use Rattle.sof_base.specs.Ports.{Io, InputView, OutputView, drained}
 use Rattle.mbox_link.specs.Calls.{Meaning}
 use Rattle.tplg_plan.specs.declared.plans.Plan.{Plan}
@@ -15,26 +16,30 @@ use Rattle.host_widgets.specs.declared.kept.Power.{Power}
 use Rattle.host_widgets.specs.declared.kept.Power.TheVariants.{Unloaded, On, Off}
 use Rattle.host_widgets.specs.declared.kept.Record.{Record}
 use Rattle.host_widgets.specs.declared.kept.ControlRec.{ControlRec}
-use Rattle.host_widgets.specs.BlobParts.{part_numbers}
-use Rattle.host_widgets.specs.Controls.{IsLoadable, first_blob}
+use Rattle.mbox_link.specs.BlobParts.{part_numbers}
+use Rattle.tplg_plan.specs.Sound.{IsSound}
 use Rattle.host_widgets.specs.Host.{IsRecordOf}
-use Rattle.host_widgets.specs.HostActs.{Put, Ask, with_values}
+use Rattle.host_widgets.specs.ActLists.{part_acts}
+use Rattle.host_widgets.specs.HostActs.{Put, Part, Ask, with_values, with_blob}
 use Rattle.host_widgets.specs.Kept.{control_at, with_control}
 use Rattle.host_widgets.specs.Named.{is_named}
 use Rattle.host_widgets.specs.Orders.{Order, quiet, sends}
-use Rattle.host_widgets.proofs.ControlLists.{bare-one, no-blobs}
-use Rattle.host_widgets.proofs.WalksHold.{AreTaken}
-use Rattle.host_ctl.specs.ControlAsks.{channels_of, spread, named_control, set_fault, get_fault, read_fault}
-use Rattle.host_ctl.specs.ControlOrders.{setting_order, set_order, told, named_at, get_order, said_by, ask_acts, reading_order, read_order, outcome_of}
+use Rattle.host_widgets.proofs.ControlLists.{Takes, takes-by}
+use Rattle.host_widgets.proofs.WalksHold.{AreTaken, none-taken}
+use Rattle.host_ctl.specs.ControlAsks.{channels_of, spread, named_control, set_fault, installing_fault, bytes_fault, get_fault, read_fault}
+use Rattle.host_ctl.specs.ControlOrders.{MayInstall, setting_order, set_order, installing_order, bytes_order, told, named_at, get_order, said_by, ask_acts, reading_order, read_order, outcome_of}
 use Rattle.host_ctl.specs.ControlPlaces.{control_place, control_here, record_here}
-use Rattle.host_ctl.proofs.ControlTests.{place-low}
-use Rattle.host_ctl.proofs.ControlsThere.{all-of-here, at-here, was-here, named-here, lost-here}
+use Rattle.host_ctl.proofs.ControlTests.{loaded, place-low}
+use Rattle.host_ctl.proofs.ControlsThere.{live, at-here, was-here, named-here, lost-here}
+use Rattle.host_ctl.proofs.BlobTaken.{bytes-taken}
+use Rattle.host_ctl.proofs.BlobTests.{installable}
 use Rattle.host_ctl.proofs.OrdersTaken.{set-taken, read-taken}
 use Rattle.sof_script.specs.declared.script.Command.{Command}
 use Rattle.sof_session.specs.Agreement.{AreAgreed}
 use Rattle.sof_session.specs.Commands.{answer_by}
 use Rattle.sof_session.specs.Seat.{Seat}
 use Rattle.sof_session.specs.SessionCalls.{ControlRan, ports, told_answer}
+use Rattle.sof_session.proofs.PartCounts.{few-numbers, few-kept}
 use Rattle.sof_session.proofs.SentOrders.{IsSent, sends-answer}
 use Rattle.sof_session.proofs.SentSteps.{IsCarriedBy, sent_stepped, sent_few}
 use Rattle.sof_session.proofs.Stepping.{SteppedIn, same-ports}
@@ -57,17 +62,42 @@ sent-setting plan kept values (Some k) =
     let all = spread (unwrap_or (channels_of k.kind) 0) values in
     record { acts = Put k.comp all ∷ []; done = with_control plan k.comp (with_values all); answer = Done; is = refl; few = omega arith }
 
-few-asks : (comp : ℕ) (kind : ControlKind) (c : ControlRec) → c.blob ≡ [] → length (ask_acts comp kind c) ≤ 900
-few-asks comp (Volume min max channels lowest step mute) c bare = omega arith
-few-asks comp (Choice items) c bare = omega arith
-few-asks comp (Blob most initial) c bare = subst (λ (b : List ℕ). length (map (Ask comp) (part_numbers b)) ≤ 900) (sym bare) (omega arith)
+pub sent-set : (plan : Plan) (kept : Record) (name values : List ℕ) → IsSent kept (set_order plan kept name values)
+sent-set plan kept name values = sent-setting plan kept values (named_control plan name)
 
-sent-asks : (kept : Record) (k : ControlPlan) (c : ControlRec) → c.blob ≡ [] → IsSent kept (reading_order kept (Some (k, c)))
-sent-asks kept k c bare = record { acts = ask_acts k.comp k.kind c; done = λ now. now; answer = said_by k.kind c; is = refl; few = few-asks k.comp k.kind c bare }
+pub sent-get : (plan : Plan) (kept : Record) (name : List ℕ) → IsSent kept (get_order plan kept name)
+sent-get plan kept name = sent-quiet kept (told (named_at plan kept name))
 
--- no equaliser has a blob so far
-sent-reading : (plan : Plan) → IsLoadable plan → (kept : Record) → IsRecordOf plan kept → (name : List ℕ) → IsSent kept (read_order plan kept name)
-sent-reading plan loadable kept is name = by (control_place plan name) refl
+-- bytes that may be installed have few parts
+few-installed : (kind : ControlKind) (blob : List ℕ) → MayInstall kind blob → length (part_numbers blob) ≤ 4
+few-installed (Volume min max channels lowest step mute) blob may = absurd may
+few-installed (Choice items) blob may = absurd may
+few-installed (Blob most initial) blob may = few-numbers blob may.1
+
+sent-installing : (plan : Plan) (kept : Record) (name blob : List ℕ) (o : Option ControlPlan) → installing_fault name blob o ≡ None → IsSent kept (installing_order plan kept blob o)
+sent-installing plan kept name blob None none = sent-quiet kept Done
+sent-installing plan kept name blob (Some k) none = record {
+  acts = part_acts k.comp blob;
+  done = with_control plan k.comp (with_blob blob);
+  answer = Done;
+  is = refl;
+  few = omega (arith, few-installed k.kind blob (installable name k.kind blob none), length-map (part_numbers blob) (Part k.comp blob));
+}
+
+pub sent-bytes : (plan : Plan) (kept : Record) (name blob : List ℕ) → bytes_fault plan kept name blob ≡ None → IsSent kept (bytes_order plan kept name blob)
+sent-bytes plan kept name blob none =
+    sent-installing plan kept name blob (named_control plan name) (loaded kept.power (installing_fault name blob (named_control plan name)) none).1
+
+few-asks : (comp : ℕ) (kind : ControlKind) (c : ControlRec) → Takes kind c → length (ask_acts comp kind c) ≤ 900
+few-asks comp (Volume min max channels lowest step mute) c takes = omega arith
+few-asks comp (Choice items) c takes = omega arith
+few-asks comp (Blob most initial) c takes = omega (arith, few-kept c.blob takes, length-map (part_numbers c.blob) (Ask comp))
+
+sent-asks : (kept : Record) (k : ControlPlan) (c : ControlRec) → Takes k.kind c → IsSent kept (reading_order kept (Some (k, c)))
+sent-asks kept k c takes = record { acts = ask_acts k.comp k.kind c; done = λ now. now; answer = said_by k.kind c; is = refl; few = few-asks k.comp k.kind c takes }
+
+pub sent-read : (plan : Plan) → IsSound plan → (kept : Record) → IsRecordOf plan kept → (name : List ℕ) → IsSent kept (read_order plan kept name)
+sent-read plan sound kept is name = by (control_place plan name) refl
   where
     by : (place : Option ℕ) → control_place plan name ≡ place → IsSent kept (read_order plan kept name)
     by None at =
@@ -77,26 +107,30 @@ sent-reading plan loadable kept is name = by (control_place plan name) refl
         let low = place-low plan name i at in
         let k = control_here plan i in
         let r = record_here kept i in
-        let there : named_at plan kept name ≡ Some (k, r) = ap (option_and_then (λ (x : ControlPlan). control_at plan kept x.comp)) (named-here plan loadable.sound kept is i low name at) ∙ at-here plan loadable.sound kept is i low in
+        let there : named_at plan kept name ≡ Some (k, r) = ap (option_and_then (λ (x : ControlPlan). control_at plan kept x.comp)) (named-here plan sound kept is i low name at) ∙ at-here plan sound kept is i low in
+        let on = live plan sound kept is i low in
         subst (λ (o : Option (ControlPlan × ControlRec)). IsSent kept (reading_order kept o)) (sym there)
-        (sent-asks kept k r (bare-one k.kind r (all-of-here plan loadable.sound kept is i low (λ (x : ControlPlan). first_blob x.kind ≡ []) (no-blobs plan.controls loadable.blobs)) (was-here plan loadable.sound kept is i low)))
+        (sent-asks kept k r (takes-by k.kind on.comp.kind r on.kind (was-here plan sound kept is i low)))
 
--- ---- the three calls
+-- ---- the calls
 
--- an order of acts that are taken where no test fails
+-- where no test fails, an order of few acts, and of acts that are taken
 pub record IsControlCall (plan : Plan) (kept : Record) (test : Option HostFault) (o : Order) : Type 0 where
-  pub sent : IsSent kept o
+  pub sent : test ≡ None → IsSent kept o
   pub taken : test ≡ None → AreTaken plan false kept o.acts
 
-module _ (plan : Plan) (loadable : IsLoadable plan) (kept : Record) (is : IsRecordOf plan kept) (name : List ℕ) where
+module _ (plan : Plan) (sound : IsSound plan) (kept : Record) (is : IsRecordOf plan kept) (name : List ℕ) where
   pub set-call : (values : List ℕ) → IsControlCall plan kept (set_fault plan kept name values) (set_order plan kept name values)
-  set-call values = record { sent = sent-setting plan kept values (named_control plan name); taken = set-taken plan loadable.sound kept is name values }
+  set-call values = record { sent = λ none. sent-set plan kept name values; taken = set-taken plan sound kept is name values }
+
+  pub bytes-call : (blob : List ℕ) → IsControlCall plan kept (bytes_fault plan kept name blob) (bytes_order plan kept name blob)
+  bytes-call blob = record { sent = sent-bytes plan kept name blob; taken = bytes-taken plan sound kept is name blob }
 
   pub get-call : IsControlCall plan kept (get_fault plan kept name) (get_order plan kept name)
-  get-call = record { sent = sent-quiet kept (told (named_at plan kept name)); taken = λ none. tt }
+  get-call = record { sent = λ none. sent-get plan kept name; taken = λ none. none-taken plan false kept }
 
   pub read-call : IsControlCall plan kept (read_fault plan kept name) (read_order plan kept name)
-  read-call = record { sent = sent-reading plan loadable kept is name; taken = read-taken plan loadable.sound kept is name loadable.blobs }
+  read-call = record { sent = λ none. sent-read plan sound kept is name; taken = read-taken plan sound kept is name }
 
 -- ---- what they answer once they are done
 
@@ -112,6 +146,13 @@ set-answers plan kept name values = setting-answers plan kept values (named_cont
 pub told-answers : (asked : Result Answer HostFault) (answer : Answer) → IfOk asked (λ a. a ≡ answer) → told_answer asked ≡ answer_by answer (outcome_of asked)
 told-answers (Ok a) answer is = is
 told-answers (Err fault) answer is = refl
+
+installing-answers : (plan : Plan) (kept : Record) (blob : List ℕ) (o : Option ControlPlan) → (installing_order plan kept blob o).answer ≡ Done
+installing-answers plan kept blob None = refl
+installing-answers plan kept blob (Some k) = sends-answer kept.power (part_acts k.comp blob) (with_control plan k.comp (with_blob blob)) Done
+
+pub bytes-answers : (plan : Plan) (kept : Record) (name blob : List ℕ) → (bytes_order plan kept name blob).answer ≡ Done
+bytes-answers plan kept name blob = installing-answers plan kept blob (named_control plan name)
 
 -- ---- a step
 

@@ -1,34 +1,46 @@
--- How many acts the order of a command has at most.
-use Rattle.std.proofs.Common.{◌≡◌, ℕ, ◌≤◌, true, List, length, Option, Some, None, arith}
+-- How many acts of a command are due at most.
+use Rattle.std.proofs.Common.{◌≡◌, refl, ℕ, ◌≤◌, true, List, length, Option, Some, None, arith}
 use Rattle.tplg_plan.specs.declared.plans.Plan.{Plan}
 use Rattle.host_widgets.specs.declared.kept.Record.{Record}
-use Rattle.host_widgets.specs.Controls.{IsLoadable}
+use Rattle.tplg_plan.specs.Sound.{IsSound}
 use Rattle.host_widgets.specs.Host.{IsRecordOf}
+use Rattle.host_widgets.specs.declared.answers.HostFault.{HostFault}
+use Rattle.host_widgets.specs.Orders.{Order}
 use Rattle.host_widgets.proofs.FewJoins.{few-acts}
 use Rattle.host_pcm.specs.declared.asking.Ask.{Ask}
-use Rattle.host_ctl.specs.ControlOrders.{set_order, get_order, read_order}
+use Rattle.host_ctl.specs.ControlOrders.{bytes_order}
 use Rattle.sof_script.specs.declared.script.Command.{Command}
 use Rattle.sof_script.specs.declared.script.Command.TheVariants as commands
-use Rattle.sof_session.specs.CommandTests.{asking}
+use Rattle.sof_session.specs.CommandTests.{asking, fault_of}
 use Rattle.sof_session.specs.Commands.{asked_order, order_of}
 use Rattle.sof_session.specs.CommandRanges.{is_built, most_sent}
 use Rattle.sof_session.proofs.SentOrders.{few-sent, few-stream}
-use Rattle.sof_session.proofs.ControlSteps.{set-call, get-call, read-call}
+use Rattle.sof_session.proofs.ControlSteps.{sent-set, sent-get, sent-read, sent-bytes}
 use Rattle.sof_session.proofs.PowerSteps.{few-down}
 use Rattle.sof_session.proofs.ResumeSteps.{few-back}
+use Rattle.sof_session.proofs.SameNext.{due, acts_due}
 
 few-asked : (plan : Plan) (kept : Record) (asked : Option (List ℕ × Ask)) → length (asked_order plan kept asked).acts ≤ 900
 few-asked plan kept None = omega arith
 few-asked plan kept (Some (name, ask)) = few-stream plan kept name ask
 
-pub few-order : (plan : Plan) → IsLoadable plan → (command : Command) → is_built command ≡ true → (kept : Record) → IsRecordOf plan kept → length (order_of plan kept command).acts ≤ most_sent command
-few-order plan loadable commands.Load built kept is = few-acts plan kept loadable is.controls
-few-order plan loadable commands.Unload built kept is = omega arith
-few-order plan loadable commands.Show built kept is = omega arith
-few-order plan loadable commands.Suspend built kept is = few-down plan kept loadable.sound
-few-order plan loadable commands.Resume built kept is = few-back plan kept loadable is.controls
-few-order plan loadable (commands.Tick n) built kept is = omega arith
-few-order plan loadable (commands.Set name values) built kept is = few-sent kept (set_order plan kept name values) (set-call plan loadable kept is name values).sent
-few-order plan loadable (commands.Get name) built kept is = few-sent kept (get_order plan kept name) (get-call plan loadable kept is name).sent
-few-order plan loadable (commands.Read name) built kept is = few-sent kept (read_order plan kept name) (read-call plan loadable kept is name).sent
-few-order plan loadable command built kept is = few-asked plan kept (asking command)
+-- those of an order that has few where no test fails
+few-due : (o : Order) (fault : Option HostFault) (most : ℕ) → (fault ≡ None → length o.acts ≤ most) → length (due o fault) ≤ most
+few-due o (Some fault) most few = omega arith
+few-due o None most few = few refl
+
+pub few-order : (plan : Plan) → IsSound plan → (command : Command) → is_built command ≡ true → (kept : Record) → IsRecordOf plan kept → length (acts_due plan kept command) ≤ most_sent command
+few-order plan sound command built kept is = few-due (order_of plan kept command) (fault_of plan kept command) (most_sent command) (few command)
+  where
+    few : (command : Command) → fault_of plan kept command ≡ None → length (order_of plan kept command).acts ≤ most_sent command
+    few commands.Load none = few-acts plan kept sound is.controls
+    few commands.Unload none = omega arith
+    few commands.Show none = omega arith
+    few commands.Suspend none = few-down plan kept sound
+    few commands.Resume none = few-back plan kept sound is.controls
+    few (commands.Tick n) none = omega arith
+    few (commands.Set name values) none = few-sent kept (order_of plan kept (commands.Set name values)) (sent-set plan kept name values)
+    few (commands.Bytes name blob) none = few-sent kept (bytes_order plan kept name blob) (sent-bytes plan kept name blob none)
+    few (commands.Get name) none = few-sent kept (order_of plan kept (commands.Get name)) (sent-get plan kept name)
+    few (commands.Read name) none = few-sent kept (order_of plan kept (commands.Read name)) (sent-read plan sound kept is name)
+    few command none = few-asked plan kept (asking command)

@@ -27,6 +27,8 @@ pub mod PowerSteps
 pub mod ResumeSteps
 pub mod PlanSteps
 pub mod TickSteps
+pub mod PlanCounts
+pub mod PartCounts
 pub mod SentOrders
 pub mod SentSteps
 pub mod ControlSteps

@@ -66,7 +66,7 @@ module _ {P : Type 0} (means : Meaning P) (old new : Seat P) (io io' : Io) (agre
     first = (subst (λ (x : Power). Sides means old.plan old.kept old.link.device x) unloaded agreed.agree.sides).0
 
     pub few-messages : old.link.sent + length c.meetings < 2 ^ 64 - 1
-    few-messages = omega (arith, few, few-meetings (link means) old.plan old.heap false order.acts c.meetings old.kept c.begun c.sent c.walked, few-acts old.plan old.kept agreed.loadable agreed.agree.record_is.controls)
+    few-messages = omega (arith, few, few-meetings (link means) old.plan old.heap false order.acts c.meetings old.kept c.begun c.sent c.walked, few-acts old.plan old.kept agreed.sound agreed.agree.record_is.controls)
 
     abbrev met : Walked (List Meeting)
     met = walk old.plan old.heap false next_of old.kept c.meetings order.acts
@@ -81,7 +81,7 @@ module _ {P : Type 0} (means : Meaning P) (old new : Seat P) (io io' : Io) (agre
     views : AllOf (view_by old.plan (first_record old.plan)) met.moments
     views = subst (λ (r : Record). AllOf (view_by old.plan r) met.moments) first
         (build-views (link means) old.plan old.heap old.kept order.acts c.meetings old.kept refl c.begun c.sent c.walked
-        (bring-leaves old.plan old.kept agreed.loadable agreed.agree.record_is.controls)
+        (bring-leaves old.plan old.kept agreed.sound)
         (begun-quiet means old.heap old.plan order old.kept new.kept w v outcome c agreed.pending agreed.fated few-messages))
 
     loaded : met.outcome ≡ Ok tt → means.on new.link.device ≡ Some (loaded_state old.plan old.heap 0)
@@ -94,7 +94,7 @@ module _ {P : Type 0} (means : Meaning P) (old new : Seat P) (io io' : Io) (agre
     empty : met.outcome ≡ Ok tt → met.moments ≡ [] → Bare old.plan
     empty passed none =
         let no_acts : order.acts ≡ [] = passed-some old.plan old.heap order.acts c.meetings old.kept passed none in
-        bare old.plan agreed.loadable.sound (ap (λ (r : Record). length (bring_up old.plan r)) (sym first) ∙ ap length no_acts)
+        bare old.plan agreed.sound (ap (λ (r : Record). length (bring_up old.plan r)) (sym first) ∙ ap length no_acts)
 
     abbrev Leads : Type 0
     Leads = LeadsOn (means.on old.link.device) (means.on new.link.device) written
@@ -136,4 +136,4 @@ module _ {P : Type 0} (means : Meaning P) (old new : Seat P) (io io' : Io) (agre
     where
       by : (test : Option HostFault) → load_fault old.kept.power ≡ test → new.link.sent ≤ old.link.sent + 900
       by (Some fault) is = let same : new.link.sent ≡ old.link.sent = ap (λ (x : World (Wire P)). x.device.sent) (ran.tested.early fault is).1 in omega (arith, same)
-      by None is = omega (arith, carried-sent means old.plan old.heap order old.kept new.kept w v ran.outcome (ran.tested.late is), few-acts old.plan old.kept agreed.loadable agreed.agree.record_is.controls)
+      by None is = omega (arith, carried-sent means old.plan old.heap order old.kept new.kept w v ran.outcome (ran.tested.late is), few-acts old.plan old.kept agreed.sound agreed.agree.record_is.controls)

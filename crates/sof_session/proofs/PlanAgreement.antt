@@ -45,7 +45,7 @@ module _ {P : Type 0} (means : Meaning P) (old : Seat P) (k : ℕ) (fate : Fate)
           refused = agreed.fated.refused;
           counted = agreed.fated.counted;
         };
-        loadable = agreed.loadable;
+        sound = agreed.sound;
       }
 
   pub AreAgreed-planned : AreAgreed means old → IsMeant fate → (wire : Wire P) (outcome : Result (Unit {0}) PlanFull) → Planned k fate old.link outcome wire → AreAgreed means (seat_by wire)

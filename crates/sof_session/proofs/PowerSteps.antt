@@ -124,7 +124,7 @@ module _ {P : Type 0} (means : Meaning P) (old new : Seat P) (io io' : Io) (agre
           early-stepped means old.plan old.heap commands.Suspend old.kept new.kept w v answer (λ doing known. refl) refl fault is (ran.said ∙ ap (answer_by Done) e.0) e.1 e.2 none
       by None is =
           let c = ran.tested.late is in
-          let fewer : old.link.sent + length c.meetings < 2 ^ 64 - 1 = omega (arith, few, few-meetings (link means) old.plan old.heap true o.acts c.meetings old.kept c.begun c.sent c.walked, few-down old.plan old.kept agreed.loadable.sound) in
+          let fewer : old.link.sent + length c.meetings < 2 ^ 64 - 1 = omega (arith, few, few-meetings (link means) old.plan old.heap true o.acts c.meetings old.kept c.begun c.sent c.walked, few-down old.plan old.kept agreed.sound) in
           let written = after_order.written means old.heap old.plan o old.kept new.kept w v ran.outcome c agreed.pending agreed.fated fewer in
           late-stepped means old.plan old.heap commands.Suspend old.kept new.kept w v answer (λ doing known. refl) refl is ran.outcome c agreed.pending agreed.fated fewer
           ran.said
@@ -137,4 +137,4 @@ module _ {P : Type 0} (means : Meaning P) (old new : Seat P) (io io' : Io) (agre
     where
       by : (test : Option HostFault) → suspend_fault old.kept.power ≡ test → new.link.sent ≤ old.link.sent + 900
       by (Some fault) is = let same : new.link.sent ≡ old.link.sent = ap (λ (x : World (Wire P)). x.device.sent) (ran.tested.early fault is).1 in omega (arith, same)
-      by None is = omega (arith, carried-sent means old.plan old.heap o old.kept new.kept w v ran.outcome (ran.tested.late is), few-down old.plan old.kept agreed.loadable.sound)
+      by None is = omega (arith, carried-sent means old.plan old.heap o old.kept new.kept w v ran.outcome (ran.tested.late is), few-down old.plan old.kept agreed.sound)

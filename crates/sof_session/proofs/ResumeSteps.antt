@@ -25,7 +25,7 @@ use Rattle.host_widgets.specs.declared.kept.Record.{Record}
 use Rattle.host_widgets.specs.declared.kept.StreamRec.{StreamRec}
 use Rattle.host_widgets.specs.ActCalls.{ActsDid, calls_of, next_of}
 use Rattle.host_widgets.specs.ActLists.{bring_up, bring_back, prepare_acts, prepare_by}
-use Rattle.host_widgets.specs.Controls.{IsLoadable}
+use Rattle.tplg_plan.specs.Sound.{IsSound}
 use Rattle.host_widgets.specs.Expected.{phase_of}
 use Rattle.host_widgets.specs.Host.{AreControls, Outcome}
 use Rattle.host_widgets.specs.HostActs.{Act}
@@ -35,7 +35,7 @@ use Rattle.host_widgets.specs.ViewOf.{view_by}
 use Rattle.host_widgets.specs.Walk.{Walked, walk}
 use Rattle.host_widgets.proofs.BuildingActs.{Leaves}
 use Rattle.host_widgets.proofs.BuildingMoments.{AllOf, build-views, passed-some}
-use Rattle.host_widgets.proofs.FewJoins.{few-brought}
+use Rattle.host_widgets.proofs.FewJoins.{few-by-controls}
 use Rattle.host_widgets.proofs.WalksStill.{AllStill}
 use Rattle.host_pm.specs.PowerTests.{resume_fault}
 use Rattle.host_pm.specs.Resumed.{Resumed, ResumeLeft}
@@ -54,7 +54,7 @@ use Rattle.sof_session.proofs.FewMeetings.{few-meetings}
 use Rattle.sof_session.proofs.OrderCalls.{carried-sent}
 use Rattle.sof_session.proofs.OrderStands.{LeadsOn, moments-are, order-still, cut-leads}
 use Rattle.sof_session.proofs.OrderStands as after_order
-use Rattle.sof_session.proofs.PowerSteps.{few-streams}
+use Rattle.sof_session.proofs.PlanCounts.{few-streams_and_controls}
 use Rattle.sof_session.proofs.Stepping.{early-stepped, late-stepped, still-standing}
 
 -- the power was off
@@ -79,10 +79,10 @@ few-prepares [] rs = omega arith
 few-prepares (s ∷ ss) [] = omega arith
 few-prepares (s ∷ ss) (r ∷ rs) = omega (arith, few-prepare s.host r.found r.params, few-prepares ss rs, length-append (prepare_by s.host r.found r.params) (flat_map prepare_acts (zip ss rs)))
 
--- 640 messages that bring a device up, and those of 128 streams
-pub few-back : (plan : Plan) (kept : Record) → IsLoadable plan → AreControls plan.controls kept.controls → length (bring_back plan kept) ≤ 900
-few-back plan kept loadable are =
-    omega (arith, few-brought plan kept loadable are, few-streams plan loadable.sound, few-prepares plan.streams kept.streams, length-append (bring_up plan kept) (flat_map prepare_acts (zip plan.streams kept.streams)))
+-- 576 messages that bring a device up but for its controls, and 4 for each control, and one for each stream
+pub few-back : (plan : Plan) (kept : Record) → IsSound plan → AreControls plan.controls kept.controls → length (bring_back plan kept) ≤ 900
+few-back plan kept sound are =
+    omega (arith, few-by-controls plan kept sound are, few-streams_and_controls plan sound, sound.controls, few-prepares plan.streams kept.streams, length-append (bring_up plan kept) (flat_map prepare_acts (zip plan.streams kept.streams)))
 
 -- ---- a resume that was carried out
 
@@ -128,7 +128,7 @@ module _ {P : Type 0} (means : Meaning P) (old : Seat P) (wire : Wire P) (io io'
 
     module _ (few : old.link.sent < 2 ^ 63) (off : old.kept.power ≡ Off) (left : ResumeLeft (link means) old.plan old.heap old.kept old.link result wire) where
       pub few-sent : old.link.sent + length c.meetings < 2 ^ 64 - 1
-      few-sent = omega (arith, few, few-meetings (link means) old.plan old.heap false order.acts c.meetings old.kept c.begun c.sent c.walked, few-back old.plan old.kept agreed.loadable agreed.agree.record_is.controls)
+      few-sent = omega (arith, few, few-meetings (link means) old.plan old.heap false order.acts c.meetings old.kept c.begun c.sent c.walked, few-back old.plan old.kept agreed.sound agreed.agree.record_is.controls)
 
       abbrev pub written : List Moment
       written = after_order.written means old.heap old.plan order old.kept kept w v result c agreed.pending agreed.fated few-sent
@@ -138,7 +138,7 @@ module _ {P : Type 0} (means : Meaning P) (old : Seat P) (wire : Wire P) (io io'
       still = rests-off means old.plan old.heap old.kept old.link.device agreed.agree off
 
       leaves : AllByRecursion (Leaves old.plan old.kept) order.acts
-      leaves = back-leaves means old.plan old.heap agreed.loadable old.kept agreed.agree.record_is still
+      leaves = back-leaves means old.plan old.heap agreed.sound old.kept agreed.agree.record_is still
 
       -- each that passed left the view of the record
       views : AllOf (view_by old.plan old.kept) met.moments
@@ -210,4 +210,4 @@ module _ {P : Type 0} (means : Meaning P) (old new : Seat P) (io io' : Io) (agre
     where
       by : (test : Option HostFault) → resume_fault old.kept.power ≡ test → new.link.sent ≤ old.link.sent + 900
       by (Some fault) is = let same : new.link.sent ≡ old.link.sent = ap (λ (x : World (Wire P)). x.device.sent) (ran.tested.early fault is).1 in omega (arith, same)
-      by None is = omega (arith, carried-sent means old.plan old.heap (resuming old.plan old.kept) old.kept new.kept a b ran.outcome (ran.tested.late is), few-back old.plan old.kept agreed.loadable agreed.agree.record_is.controls)
+      by None is = omega (arith, carried-sent means old.plan old.heap (resuming old.plan old.kept) old.kept new.kept a b ran.outcome (ran.tested.late is), few-back old.plan old.kept agreed.sound agreed.agree.record_is.controls)

@@ -20,7 +20,7 @@ use Rattle.sof_script.specs.declared.script.Command.{Command}
 use Rattle.sof_session.specs.Seat.{Seat, new_seat}
 use Rattle.sof_session.specs.Show.{shown_by}
 use Rattle.sof_session.specs.CommandRanges.{most_sent}
-use Rattle.sof_session.specs.Commands.{Known, Came, order_of, next}
+use Rattle.sof_session.specs.Commands.{Known, Came, next}
 use Rattle.sof_session.specs.Written.{Out, Ground, At, Leg, IsLeg, IsRun, came_at, first_at, end_of, moments_of, boots_in, raised, empty_outputs, written_in, written_between}
 use Rattle.sof_session.specs.SessionStep.{Calm, StandsAt, known_of}
 use Rattle.sof_session.specs.Lives.{Life, Bare, Seated, Turn, Task, Begin, Carry, Carries, Turned, Turns, device_of}
@@ -28,7 +28,7 @@ use Rattle.sof_session.specs.RunOver.{IsAt, EndsAt, RunOver}
 use Rattle.sof_session.proofs.LinkFates.{Steady-none}
 use Rattle.sof_session.proofs.RunBoots.{boots-append}
 use Rattle.sof_session.proofs.SameDoings.{then_by, first-same, later-same}
-use Rattle.sof_session.proofs.SameNext.{next-within, next-same}
+use Rattle.sof_session.proofs.SameNext.{acts_due, next-within, next-same}
 use Rattle.sof_session.proofs.StepCounts.{Calm-between, step-inside, step-boots}
 
 -- these turns carry out these commands
@@ -44,13 +44,13 @@ messages [] = 0
 messages (command ∷ commands) = most_sent command + messages commands
 
 module _ (g : Ground) where
-  -- over each record a command has no more acts than messages
+  -- over each record no more acts of a command are due than messages
   abbrev pub HasFew : Command → Type 0
-  HasFew command = (kept : Record) → IsRecordOf g.plan kept → length (order_of g.plan kept command).acts ≤ most_sent command
+  HasFew command = (kept : Record) → IsRecordOf g.plan kept → length (acts_due g.plan kept command) ≤ most_sent command
 
   -- the acts at a place have numbers that a link counts
   abbrev IsCounted : Command → At → Type 0
-  IsCounted command at = at.known.queue.sent + length (order_of g.plan at.known.kept command).acts < 2 ^ 64 - 1
+  IsCounted command at = at.known.queue.sent + length (acts_due g.plan at.known.kept command) < 2 ^ 64 - 1
 
   abbrev AreCounted : List Command → At → List Leg → Type 0
   AreCounted [] old legs = Unit {0}

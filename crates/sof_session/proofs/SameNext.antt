@@ -1,12 +1,14 @@
 -- What a command comes to: by its tests and its order, or by what it plans. By doings that are one at the numbers of its
--- messages it comes to the same, and numbers go up by no more than its messages.
-use Rattle.std.proofs.Common.{◌≡◌, refl, sym, ap, ◌∙◌, subst, ℕ, ◌+◌, ◌<◌, ◌≤◌, ◌^◌, ◌-◌, ◌++◌, length, Bool, true, false, List, Option, Some, None, inl, inr, arith}
+-- messages it comes to the same, and numbers go up by no more than the acts that are due.
+use Rattle.std.proofs.Common.{◌≡◌, refl, sym, ap, ◌∙◌, subst, ℕ, ◌+◌, ◌<◌, ◌≤◌, ◌^◌, ◌-◌, ◌++◌, length, Bool, true, false, List, [], Option, Some, None, inl, inr, arith}
 use Rattle.std.proofs.lemmas.Bool.{cases_Bool}
 use Rattle.mbox_link.specs.Meetings.{Entry, Doing}
 use Rattle.tplg_plan.specs.declared.plans.Plan.{Plan}
 use Rattle.host_widgets.specs.declared.answers.Answer.{Answer}
 use Rattle.host_widgets.specs.declared.answers.Answer.TheVariants as answers
 use Rattle.host_widgets.specs.declared.answers.HostFault.{HostFault}
+use Rattle.host_widgets.specs.declared.kept.Record.{Record}
+use Rattle.host_widgets.specs.HostActs.{Act}
 use Rattle.mbox_link.specs.Meetings.{Queue}
 use Rattle.host_widgets.specs.Walk.{Walked}
 use Rattle.host_widgets.specs.Orders.{Order, goes_on, end_by}
@@ -15,6 +17,15 @@ use Rattle.sof_script.specs.declared.script.Command.TheVariants as commands
 use Rattle.sof_session.specs.CommandTests.{fault_of}
 use Rattle.sof_session.specs.Commands.{Known, Came, came, is_plan, order_of, carried, tested, planned, next, answer_by}
 use Rattle.sof_session.proofs.SameDoings.{walk-up, walk-few, same-walk}
+
+-- the acts of an order that are due: none where a test fails
+abbrev pub due : Order → Option HostFault → List Act
+due o (Some fault) = []
+due o None = o.acts
+
+-- those of a command
+abbrev pub acts_due : Plan → Record → Command → List Act
+acts_due plan kept command = due (order_of plan kept command) (fault_of plan kept command)
 
 -- what is planned has no moments, and sends nothing
 pub record IsPlan (plan : Plan) (heap : ℕ) (known : Known) (command : Command) : Type 0 where
@@ -50,13 +61,13 @@ module _ (plan : Plan) (heap : ℕ) (known : Known) where
   abbrev Within : ℕ → Came → Type 0
   Within most c = (known.queue.sent ≤ c.known.queue.sent) × (c.known.queue.sent ≤ known.queue.sent + most)
 
-  tested-within : (doing : Doing) (o : Order) (fault : Option HostFault) → known.queue.sent + length o.acts < 2 ^ 64 - 1 → Within (length o.acts) (tested plan heap doing known o fault)
+  tested-within : (doing : Doing) (o : Order) (fault : Option HostFault) → known.queue.sent + length (due o fault) < 2 ^ 64 - 1 → Within (length (due o fault)) (tested plan heap doing known o fault)
   tested-within doing o (Some fault) few = (omega arith, omega arith)
   tested-within doing o None few = (walk-up plan heap (goes_on o.manner) doing o.acts known.kept known.queue few, walk-few plan heap (goes_on o.manner) doing o.acts known.kept known.queue)
 
-  pub next-within : (doing : Doing) (command : Command) → known.queue.sent + length (order_of plan known.kept command).acts < 2 ^ 64 - 1 → Within (length (order_of plan known.kept command).acts) (next plan heap doing known command)
+  pub next-within : (doing : Doing) (command : Command) → known.queue.sent + length (acts_due plan known.kept command) < 2 ^ 64 - 1 → Within (length (acts_due plan known.kept command)) (next plan heap doing known command)
   next-within doing command few =
-      let most = length (order_of plan known.kept command).acts in
+      let most = length (acts_due plan known.kept command) in
       elim (cases_Bool (is_plan command)) [
         | inl is ↦ let p = is-planned command is in subst (Within most) (sym (p.is doing)) (omega (arith, p.sent), omega (arith, p.sent))
         | inr is ↦ subst (Within most) (sym (is-tested doing command is)) (tested-within doing (order_of plan known.kept command) (fault_of plan known.kept command) few)
@@ -77,11 +88,11 @@ module _ (plan : Plan) (heap : ℕ) (known : Known) where
         c)
         (same-walk plan heap (goes_on o.manner) d e o.acts known.kept known.queue few same)
 
-    tested-same : (o : Order) (fault : Option HostFault) → known.queue.sent + length o.acts < 2 ^ 64 - 1 → SameTo (tested plan heap d known o fault).known.queue.sent → tested plan heap d known o fault ≡ tested plan heap e known o fault
+    tested-same : (o : Order) (fault : Option HostFault) → known.queue.sent + length (due o fault) < 2 ^ 64 - 1 → SameTo (tested plan heap d known o fault).known.queue.sent → tested plan heap d known o fault ≡ tested plan heap e known o fault
     tested-same o (Some fault) few same = refl
     tested-same o None few same = carried-same o few same
 
-    pub next-same : (command : Command) → known.queue.sent + length (order_of plan known.kept command).acts < 2 ^ 64 - 1 → SameTo (next plan heap d known command).known.queue.sent → next plan heap d known command ≡ next plan heap e known command
+    pub next-same : (command : Command) → known.queue.sent + length (acts_due plan known.kept command) < 2 ^ 64 - 1 → SameTo (next plan heap d known command).known.queue.sent → next plan heap d known command ≡ next plan heap e known command
     next-same command few same =
         elim (cases_Bool (is_plan command)) [
           | inl is ↦ let p = is-planned command is in p.is d ∙ sym (p.is e)

@@ -80,7 +80,7 @@ module _ {P : Type 0} (means : Meaning P) (old new : Seat P) (io io' : Io) (agre
     sent-good : (o : Order) → IsSent old.kept o → Good o
     sent-good o s = subst Good (sym s.is) (good s.acts s.done s.answer s.few old.kept.power agreed.powered)
 
-  module _ (command : Command) (test : Option HostFault) (o : Order) (by_these : IsCarriedBy old.plan old.heap old.kept command test o) (s : IsSent old.kept o) (taken : test ≡ None → AreTaken old.plan false old.kept o.acts) where
+  module _ (command : Command) (test : Option HostFault) (o : Order) (by_these : IsCarriedBy old.plan old.heap old.kept command test o) (sent : test ≡ None → IsSent old.kept o) (taken : test ≡ None → AreTaken old.plan false old.kept o.acts) where
     pub sent_stepped : (answer : Answer) (outcome : Outcome) → Tested (link means) old.plan old.heap test o old.kept new.kept w v outcome → answer ≡ answer_by o.answer outcome → Stepped means old.plan old.heap command old.kept new.kept w v answer
     sent_stepped answer outcome ran said = by test refl
       where
@@ -93,17 +93,17 @@ module _ {P : Type 0} (means : Meaning P) (old new : Seat P) (io io' : Io) (agre
             early-stepped means old.plan old.heap command old.kept new.kept w v answer by_these.nexts by_these.plans fault (by_these.tests ∙ is) (said ∙ ap (answer_by o.answer) e.0) e.1 e.2 none
         by None is =
             let c = subst (CarriedSo outcome) orders (ran.late is) in
-            let stands = sent-good outcome (order_of old.plan old.kept command) (subst (IsSent old.kept) orders s) c (subst (λ (x : Order). AreTaken old.plan false old.kept x.acts) orders (taken is)) in
+            let stands = sent-good outcome (order_of old.plan old.kept command) (subst (IsSent old.kept) orders (sent is)) c (subst (λ (x : Order). AreTaken old.plan false old.kept x.acts) orders (taken is)) in
             late-stepped means old.plan old.heap command old.kept new.kept w v answer by_these.nexts by_these.plans (by_these.tests ∙ is) outcome c agreed.pending agreed.fated stands.0
             (said ∙ ap (λ (x : Order). answer_by x.answer outcome) orders) stands.1
 
 -- it sends at most 900 messages
-pub sent_few : {P : Type 0} (means : Meaning P) (old new : Seat P) (io io' : Io) (test : Option HostFault) (o : Order) → IsSent old.kept o → (outcome : Outcome) → Tested (link means) old.plan old.heap test o old.kept new.kept (at old.link io) (at new.link io') outcome →
+pub sent_few : {P : Type 0} (means : Meaning P) (old new : Seat P) (io io' : Io) (test : Option HostFault) (o : Order) → (test ≡ None → IsSent old.kept o) → (outcome : Outcome) → Tested (link means) old.plan old.heap test o old.kept new.kept (at old.link io) (at new.link io') outcome →
     new.link.sent ≤ old.link.sent + 900
-sent_few means old new io io' test o s outcome ran = by test refl
+sent_few means old new io io' test o sent outcome ran = by test refl
   where
     by : (t : Option HostFault) → test ≡ t → new.link.sent ≤ old.link.sent + 900
     by (Some fault) is = let same : new.link.sent ≡ old.link.sent = ap (λ (x : World (Wire _)). x.device.sent) (ran.early fault is).1 in omega (arith, same)
     by None is =
         let few = carried-sent means old.plan old.heap o old.kept new.kept (at old.link io) (at new.link io') outcome (ran.late is) in
-        omega (arith, few, few-sent old.kept o s)
+        omega (arith, few, few-sent old.kept o (sent is))

@@ -105,7 +105,7 @@ module _ {P : Type 0} (means : Meaning P) (old new : Seat P) (io io' : Io) (empt
       let c = carries ran.kept old.kept.power ran.calls in
       late-stepped means old.plan old.heap (commands.Tick n) old.kept new.kept w v answer (λ doing known. refl) refl refl (Ok tt) c agreed.pending agreed.fated
       (fewer c) ran.said
-      (subst (Standing means w v) (sym (append-nil (where_on old.kept.power (Tick ∷ [])))) (stands agreed.loadable.sound old.kept.power ran.calls agreed.powered))
+      (subst (Standing means w v) (sym (append-nil (where_on old.kept.power (Tick ∷ [])))) (stands agreed.sound old.kept.power ran.calls agreed.powered))
     where
       fewer : (c : CarriedSo old.kept.power) → old.link.sent + length c.meetings < 2 ^ 64 - 1
       fewer c = omega (arith, few, few-meetings (link means) old.plan old.heap false [] c.meetings old.kept c.begun c.sent c.walked)

@@ -6,7 +6,7 @@ use Rattle.mbox_link.specs.Wire.{Wire}
 use Rattle.mbox_link.specs.Fates.{AllMeant}
 use Rattle.host_widgets.specs.declared.kept.Power.{Power}
 use Rattle.host_widgets.specs.declared.kept.Power.TheVariants.{Unloaded, On, Off}
-use Rattle.host_widgets.specs.Controls.{IsLoadable}
+use Rattle.tplg_plan.specs.Sound.{IsSound}
 use Rattle.host_widgets.specs.Keeps.{Keeps}
 use Rattle.host_widgets.specs.Host.{Agrees}
 use Rattle.sof_session.specs.Seat.{Seat}
@@ -32,4 +32,4 @@ pub record AreAgreed {P : Type 0} (means : Meaning P) (seat : Seat P) : Type 0 w
   pub room : seat.heap ≤ means.most seat.link.device
   pub pending : means.pending seat.link.device ≡ 0
   pub fated : IsFated seat.link
-  pub loadable : IsLoadable seat.plan
+  pub sound : IsSound seat.plan

@@ -1,25 +1,12 @@
 -- Which commands are carried out so far, and which numbers they may have.
-use Rattle.std.specs.Prelude.{ℕ, nat_le, nat_lt, Bool, true, false, ◌&&◌, ℤ, pos, negsuc, is_some}
+use Rattle.std.specs.Prelude.{ℕ, nat_le, nat_lt, Bool, true, false, ◌&&◌, ℤ, pos, negsuc}
 use Rattle.sof_script.specs.declared.script.Command.{Command}
 use Rattle.sof_script.specs.declared.script.Command.TheVariants as commands
-use Rattle.sof_session.specs.CommandTests.{asking}
 
--- the commands that are carried out so far: a load, an unload, a suspend, a resume, a show, a tick, a planned fate, values of
--- controls, which are set, told and read, and the calls on streams
+-- all commands are carried out so far, but for a lag
 abbrev pub is_built : Command → Bool
-is_built commands.Load = true
-is_built commands.Unload = true
-is_built commands.Suspend = true
-is_built commands.Resume = true
-is_built commands.Show = true
-is_built (commands.Tick n) = true
-is_built (commands.Refuse k e) = true
-is_built (commands.Drop k) = true
-is_built (commands.Lose k) = true
-is_built (commands.Set name values) = true
-is_built (commands.Get name) = true
-is_built (commands.Read name) = true
-is_built command = is_some (asking command)
+is_built (commands.Lag k ticks) = false
+is_built command = true
 
 -- how far ahead a fate is planned: 1 to 100000 messages
 abbrev pub is_ahead : ℕ → Bool

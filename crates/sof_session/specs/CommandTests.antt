@@ -9,7 +9,7 @@ use Rattle.host_pcm.specs.declared.asking.Ask.{Ask}
 use Rattle.host_pcm.specs.declared.asking.Ask.TheVariants.{Opening, Preparing, Triggering, Closing}
 use Rattle.host_pcm.specs.Asks.{early_fault}
 use Rattle.host_pm.specs.PowerTests.{suspend_fault, resume_fault}
-use Rattle.host_ctl.specs.ControlAsks.{set_fault, get_fault, read_fault}
+use Rattle.host_ctl.specs.ControlAsks.{set_fault, bytes_fault, get_fault, read_fault}
 use Rattle.sof_script.specs.declared.script.Command.{Command}
 use Rattle.sof_script.specs.declared.script.Command.TheVariants as commands
 
@@ -35,6 +35,7 @@ fault_of plan kept commands.Unload = unload_fault kept.power
 fault_of plan kept commands.Suspend = suspend_fault kept.power
 fault_of plan kept commands.Resume = resume_fault kept.power
 fault_of plan kept (commands.Set name values) = set_fault plan kept name values
+fault_of plan kept (commands.Bytes name blob) = bytes_fault plan kept name blob
 fault_of plan kept (commands.Get name) = get_fault plan kept name
 fault_of plan kept (commands.Read name) = read_fault plan kept name
 fault_of plan kept command = stream_fault plan kept (asking command)

@@ -15,7 +15,7 @@ use Rattle.host_widgets.specs.Walk.{walk}
 use Rattle.host_widgets.specs.Orders.{Order, goes_on, end_by, quiet, loading, unloading, suspending, resuming, ticking}
 use Rattle.host_pcm.specs.declared.asking.Ask.{Ask}
 use Rattle.host_pcm.specs.StreamOrders.{stream_order}
-use Rattle.host_ctl.specs.ControlOrders.{set_order, get_order, read_order}
+use Rattle.host_ctl.specs.ControlOrders.{set_order, bytes_order, get_order, read_order}
 use Rattle.sof_script.specs.declared.script.Command.{Command}
 use Rattle.sof_script.specs.declared.script.Command.TheVariants as commands
 use Rattle.sof_session.specs.CommandTests.{asking, fault_of}
@@ -44,6 +44,7 @@ order_of plan kept commands.Resume = resuming plan kept
 order_of plan kept commands.Show = quiet answers.Show
 order_of plan kept (commands.Tick n) = ticking kept
 order_of plan kept (commands.Set name values) = set_order plan kept name values
+order_of plan kept (commands.Bytes name blob) = bytes_order plan kept name blob
 order_of plan kept (commands.Get name) = get_order plan kept name
 order_of plan kept (commands.Read name) = read_order plan kept name
 order_of plan kept command = asked_order plan kept (asking command)

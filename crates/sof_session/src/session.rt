@@ -3,9 +3,9 @@ ghost use Rattle.std.specs.Prelude.{◌≡◌, ◌+◌, ◌<◌, ◌≤◌, ◌^
 ghost use Rattle.sof_base.specs.Ports.{HasRoom, drained};
 ghost use Rattle.mbox_link.specs.Calls.{world};
 ghost use Rattle.mbox_link.specs.Fates.{IsMeant};
-ghost use Rattle.host_widgets.specs.Controls.{IsLoadable};
-ghost use Rattle.host_ctl.specs.ControlAsks.{set_fault, get_fault, read_fault};
-ghost use Rattle.host_ctl.specs.ControlOrders.{set_order, get_order, read_order};
+ghost use Rattle.tplg_plan.specs.Sound.{IsSound};
+ghost use Rattle.host_ctl.specs.ControlAsks.{set_fault, bytes_fault, get_fault, read_fault};
+ghost use Rattle.host_ctl.specs.ControlOrders.{set_order, bytes_order, get_order, read_order};
 ghost use Rattle.sof_io.specs.Bound.{output_slots};
 ghost use Rattle.sof_session.specs.Agreement.{AreAgreed};
 ghost use Rattle.sof_session.specs.CommandRanges.{is_built, is_in_range, is_tick, most_sent};
@@ -17,7 +17,7 @@ ghost use Rattle.sof_session.specs.Show.{show_lines, IsLineAt};
 
 use crate::show::show_line;
 use crate::streams::ask_stream;
-use host_ctl::{get, read, set};
+use host_ctl::{get, read, set, set_bytes};
 use host_pcm::Ask;
 use host_pm::{resume, suspend};
 use host_widgets::{Answer, HostFault, Power, Record, Trigger, load, unload};
@@ -85,7 +85,7 @@ impl<P: Dsp> Session<P> {
         requires off { P.means.on dsp ≡ None }
         requires pending { P.means.pending dsp ≡ 0 }
         requires room { heap ≤ P.means.most dsp }
-        requires plan { IsLoadable plan }
+        requires plan { IsSound plan }
         ensures { MatchResult result
             (λ session. session ≡ new_seat plan heap dsp)
             (λ refused. refused.dsp ≡ dsp) }
@@ -109,14 +109,15 @@ impl<P: Dsp> Session<P> {
         self.link.into_dsp()
     }
 
-    /// Carries out a command that is built so far: `Load`, `Unload`, `Suspend`, `Resume`, `Show`, `Tick`, a planned fate, which
-    /// are `Refuse`, `Drop` and `Lose`, a call on a control, which are `Set`, `Get` and `Read`, or a call on a stream, which are
-    /// `Open`, `Params`, `Start`, `Stop`, `Pause`, `Release` and `Close`.
+    /// Carries out a command that is built so far, as all are but `Lag`: `Load`, `Unload`, `Suspend`, `Resume`, `Show`, `Tick`, a
+    /// planned fate, which are `Refuse`, `Drop` and `Lose`, a call on a control, which are `Set`, `Bytes`, `Get` and `Read`, or a call
+    /// on a stream, which are `Open`, `Params`, `Start`, `Stop`, `Pause`, `Release` and `Close`.
     /// `Load` boots the device and loads the plan where it is not loaded; `Unload` cuts the device and forgets what was
     /// loaded; `Suspend` stops what moves and cuts the device, and `Resume` brings it back; `Show` changes nothing, and its lines are
-    /// those of `show_line`; `Tick` makes one tick, whatever its number; `Set` puts a control's values, `Get` tells them by the record,
-    /// and `Read` by the device; a planned fate is that of the K-th message from now, and the answer is `PlanFull` where no more can
-    /// be planned. It answers as the host's call does. The outputs are empty before it, and hold what it wrote after it.
+    /// those of `show_line`; `Tick` makes one tick, whatever its number; `Set` puts a control's values and `Bytes` an equaliser's blob,
+    /// `Get` tells them by the record, and `Read` by the device; a planned fate is that of the K-th message from now, and the answer is
+    /// `PlanFull` where no more can be planned. It answers as the host's call does. The outputs are empty before it, and hold what it
+    /// wrote after it.
     pub fn step(&mut self, command: &Command, io: &mut Inputs, out: &mut Outputs) -> Answer
         requires built { is_built command.now ≡ true }
         requires numbers { is_in_range command.now ≡ true }
@@ -147,9 +148,12 @@ impl<P: Dsp> Session<P> {
             Command::Release(name) => self.ask(name, Ask::Triggering(Trigger::Release), io, out),
             Command::Close(name) => self.ask(name, Ask::Closing, io, out),
             Command::Set(name, values) => self.set(name, values, io, out),
+            Command::Bytes(name, blob) => self.set_bytes(name, blob, io, out),
             Command::Get(name) => self.get(name, io, out),
             Command::Read(name) => self.read(name, io, out),
-            _ => self.show(),
+            Command::Show => self.show(),
+            // Never so: no lag is built.
+            Command::Lag(_, _) => self.show(),
         }
     }
 
@@ -277,6 +281,36 @@ impl<P: Dsp> Session<P> {
             out,
             name,
             values.items(),
+        );
+        answer_of(done)
+    }
+
+    // The equaliser of this name has this blob.
+    fn set_bytes(
+        &mut self,
+        name: &Name44,
+        blob: &Bounded<u8, 1024>,
+        io: &mut Inputs,
+        out: &mut Outputs,
+    ) -> Answer
+        requires { HasRoom 0 out.old }
+        ensures ran { ControlRan P.means (bytes_fault self.old.plan self.old.kept name.now blob.now) (bytes_order self.old.plan self.old.kept name.now blob.now) self.old self.new (ports io.old out.old) (ports io.new out.new) result }
+        ensures agreed { AreAgreed P.means self.old }
+        ensures later { AreAgreed P.means self.new }
+        ensures plan { self.new.plan ≡ self.old.plan }
+        ensures heap { self.new.heap ≡ self.old.heap }
+        ensures inputs { io.new ≡ io.old }
+        ensures outputs { out.new ≡ out.old }
+    {
+        let done = set_bytes(
+            &self.plan,
+            &mut self.kept,
+            self.heap,
+            &mut self.link,
+            io,
+            out,
+            name,
+            blob.items(),
         );
         answer_of(done)
     }

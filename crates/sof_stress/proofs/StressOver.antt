@@ -7,7 +7,7 @@ use Rattle.stream_law.specs.Table.{list_of}
 use Rattle.stream_law.specs.Past.{start}
 use Rattle.stream_law.specs.Stands.{HasRead, position_of, left_of}
 use Rattle.mbox_link.specs.Calls.{Meaning}
-use Rattle.host_widgets.specs.Controls.{IsLoadable}
+use Rattle.tplg_plan.specs.Sound.{IsSound}
 use Rattle.sof_script.specs.declared.script.Command.{Command}
 use Rattle.sof_session.specs.Written.{Ground, Leg}
 use Rattle.sof_session.specs.Lives.{Life, Bare, Turn, Turns, Carry}
@@ -52,13 +52,13 @@ none-read seed room =
 
 -- ---- the commands
 
-few-after : (g : Ground) → IsLoadable g.plan → (n : ℕ) (command : Command) (rest : List CommandTurn) → IsDue command → AllByRecursion (HasFew g) (commands_of rest) → AllByRecursion (HasFew g) (commands_of (turns_after n command ++ rest))
-few-after g loadable zero command rest due few = (few-order g.plan loadable command due.built, few)
-few-after g loadable (suc n) command rest due few = (few-order g.plan loadable command due.built, few-after g loadable n command rest due few)
+few-after : (g : Ground) → IsSound g.plan → (n : ℕ) (command : Command) (rest : List CommandTurn) → IsDue command → AllByRecursion (HasFew g) (commands_of rest) → AllByRecursion (HasFew g) (commands_of (turns_after n command ++ rest))
+few-after g sound zero command rest due few = (few-order g.plan sound command due.built, few)
+few-after g sound (suc n) command rest due few = (few-order g.plan sound command due.built, few-after g sound n command rest due few)
 
-few-all : (g : Ground) → IsLoadable g.plan → (cs : List Command) → AllByRecursion IsDue cs → AllByRecursion (HasFew g) (commands_of (turns_of cs))
-few-all g loadable [] due = tt
-few-all g loadable (c ∷ cs) due = few-after g loadable (earlier_turns c) c (turns_of cs) due.0 (few-all g loadable cs due.1)
+few-all : (g : Ground) → IsSound g.plan → (cs : List Command) → AllByRecursion IsDue cs → AllByRecursion (HasFew g) (commands_of (turns_of cs))
+few-all g sound [] due = tt
+few-all g sound (c ∷ cs) due = few-after g sound (earlier_turns c) c (turns_of cs) due.0 (few-all g sound cs due.1)
 
 messages-few : (turns : List CommandTurn) → messages (commands_of turns) ≤ 900 * length turns
 messages-few [] = omega arith
@@ -83,7 +83,7 @@ are-carried (t ∷ todo) (turn ∷ turns) same =
     let rest : map (λ (turn : Turn). turn.task) turns ≡ tasks_of todo = cc in
     (first, are-carried todo turns rest)
 
-module _ {P : Type 0} (means : Meaning P) (seed : ℕ) (small : seed ≤ 1000) (p : P) (last : Life P) (off : means.on p ≡ None) (loadable : IsLoadable (stress_plan seed)) where
+module _ {P : Type 0} (means : Meaning P) (seed : ℕ) (small : seed ≤ 1000) (p : P) (last : Life P) (off : means.on p ≡ None) (sound : IsSound (stress_plan seed)) where
   abbrev g : Ground
   g = stress_ground (means.most p) seed
 
@@ -93,5 +93,5 @@ module _ {P : Type 0} (means : Meaning P) (seed : ℕ) (small : seed ≤ 1000) (
   stress-over begins turns begun tasks turned =
       run-over means g (stress_inputs (streams_of seed)) p (commands_of (stress_turns seed)) begins turns last off
       (none-read seed (means.most p)) begun (are-carried (stress_turns seed) turns tasks)
-      (few-all g loadable (stress_commands seed) (all-due seed))
+      (few-all g sound (stress_commands seed) (all-due seed))
       (omega (arith, messages-few (stress_turns seed), turns-few (stress_commands seed) (all-due seed), few-commands seed small)) turned

@@ -20,8 +20,6 @@ use Rattle.tplg_rules.specs.declared.rule_name.RuleName.TheVariants as rule
 use Rattle.tplg_rules.specs.RuleTest.{Test, first_failing, ruled, ruling, rule_names, test_by}
 use Rattle.tplg_rules.specs.WellFormed.{IsWellFormed}
 use Rattle.tplg_rules.proofs.RuleLaws.{first-found}
-use Rattle.tplg_graph.specs.PlanOf.{plan_of}
-use Rattle.host_widgets.specs.Controls.{has_no_blobs}
 use Rattle.sof_stress.specs.StressGraph.{stress_topology}
 
 -- ---- rule 14: each edge leads to a greater id, and no host captures
@@ -129,25 +127,3 @@ by-number P (suc (suc (suc (suc (suc n))))) low high one two three four = absurd
 -- all rules are kept
 pub stress-kept : (streams : ℕ) → 1 ≤ streams → streams ≤ 4 → IsWellFormed (stress_topology streams)
 stress-kept streams low high = by-number (λ n. IsWellFormed (stress_topology n)) streams low high kept-1 kept-2 kept-3 kept-4
-
--- ---- no blobs
-
-blobs-1 : has_no_blobs (plan_of (stress_topology 1)) ≡ true
-unfolding number_of text_of until_zero placed by_token stress_topology
-blobs-1 = refl
-
-blobs-2 : has_no_blobs (plan_of (stress_topology 2)) ≡ true
-unfolding number_of text_of until_zero placed by_token stress_topology
-blobs-2 = refl
-
-blobs-3 : has_no_blobs (plan_of (stress_topology 3)) ≡ true
-unfolding number_of text_of until_zero placed by_token stress_topology
-blobs-3 = refl
-
-blobs-4 : has_no_blobs (plan_of (stress_topology 4)) ≡ true
-unfolding number_of text_of until_zero placed by_token stress_topology
-blobs-4 = refl
-
--- no equaliser begins with a blob
-pub stress-bare : (streams : ℕ) → 1 ≤ streams → streams ≤ 4 → has_no_blobs (plan_of (stress_topology streams)) ≡ true
-stress-bare streams low high = by-number (λ n. has_no_blobs (plan_of (stress_topology n)) ≡ true) streams low high blobs-1 blobs-2 blobs-3 blobs-4

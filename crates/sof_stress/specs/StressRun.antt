@@ -3,7 +3,7 @@ use Rattle.std.specs.Prelude.{◌≡◌, ℕ, min, List, ◌∷◌, map}
 use Rattle.sof_base.specs.Ports.{InputView}
 use Rattle.mbox_link.specs.Calls.{Meaning}
 use Rattle.tplg_plan.specs.declared.plans.Plan.{Plan}
-use Rattle.host_widgets.specs.Controls.{IsLoadable}
+use Rattle.tplg_plan.specs.Sound.{IsSound}
 use Rattle.tplg_graph.specs.PlanOf.{plan_of}
 use Rattle.tplg_graph.specs.TopologyNeed.{need_of}
 use Rattle.sof_script.specs.declared.script.Command.{Command}
@@ -59,12 +59,12 @@ stress_counts seed sent outs = record (all_counted (dai_slot (streams_of seed)) 
 -- ---- over a device
 
 -- The device was handed in bare and is handed back after the turns of the stress, in their order and no others; the numbers are
--- those of what each came to. Each plan that is begun can be loaded.
+-- those of what each came to. The plan is sound.
 pub record Stresses {P : Type 0} (means : Meaning P) (seed : ℕ) (p : P) (counts : Counts) (q : P) : Type 0 where
   pub last : Life P
   pub is : device_of last ≡ q
   pub exit : Exit means p last
-  pub loadable : IsLoadable (stress_plan seed)
+  pub sound : IsSound (stress_plan seed)
   pub begun : Out
   pub turns : List Turn
   pub turned : Turns means (Bare p) (record { task = stress_begins (means.most p) seed; out = begun } ∷ turns) last

@@ -1,6 +1,6 @@
 // A whole stress.
 ghost use Rattle.std.specs.Prelude.{◌≡◌, ◌≤◌, ◌∷◌, [], min, None, IfOk, MatchResult};
-ghost use Rattle.host_widgets.specs.Controls.{IsLoadable};
+ghost use Rattle.tplg_plan.specs.Sound.{IsSound};
 ghost use Rattle.sof_io.specs.Puts.{new_output};
 ghost use Rattle.tplg_plan.specs.HeapNeed.{IsSmall, need_on};
 ghost use Rattle.tplg_graph.specs.PlanOf.{plan_of};
@@ -43,7 +43,7 @@ fn plan_over(alloc: Global, streams: u32) -> Result<Plan, NoMemory>
     requires some { 1 ≤ streams }
     requires few { streams ≤ 4 }
     ensures plan { IfOk result (λ p. p ≡ plan_of (stress_topology streams)) }
-    ensures loadable { IfOk result IsLoadable }
+    ensures sound { IfOk result IsSound }
     ensures small { IfOk result (λ p. IsSmall p.graph) }
     ensures need { IfOk result (λ p. need_on p.graph ≡ need_of (stress_topology streams)) }
 {
@@ -58,7 +58,7 @@ fn plan_over(alloc: Global, streams: u32) -> Result<Plan, NoMemory>
 fn make(alloc: Global, seed: u32) -> Result<Made, NoMemory>
     requires { seed ≤ 1000 }
     ensures plan { IfOk result (λ made. made.plan ≡ stress_plan seed) }
-    ensures loadable { IfOk result (λ made. IsLoadable made.plan) }
+    ensures sound { IfOk result (λ made. IsSound made.plan) }
     ensures small { IfOk result (λ made. IsSmall made.plan.graph) }
     ensures need { IfOk result (λ made. need_on made.plan.graph ≡ need_of (stress_topology (draws.streams_of seed))) }
     ensures commands { IfOk result (λ made. made.commands ≡ draws.stress_commands seed) }

@@ -1,5 +1,5 @@
 use Rattle.std.proofs.Common.{◌∙◌, subst, sym, arith}
-use Rattle.host_widgets.specs.Controls.{IsLoadable}
+use Rattle.tplg_plan.specs.Sound.{IsSound}
 use Rattle.sof_run.specs.Rounds.{earlier as units_before}
 use Rattle.sof_run.proofs.Commands.{rounds_on, rounds_off, rounds_last}
 use Rattle.sof_run.proofs.FewMessages.{none_before, at_most}
@@ -39,10 +39,10 @@ pub do_round-requires-clause-built : goal.do_round-requires-clause-built
 do_round-requires-clause-built g c = c.requires.built
 
 pub do_round-requires-clause-plan : goal.do_round-requires-clause-plan
-do_round-requires-clause-plan g c = subst IsLoadable (sym c.loop.invariant.plan) c.requires.plan
+do_round-requires-clause-plan g c = subst IsSound (sym c.loop.invariant.plan) c.requires.plan
 
 pub do_round-requires-2-clause-built : goal.do_round-requires-2-clause-built
 do_round-requires-2-clause-built g c = c.requires.built
 
 pub do_round-requires-2-clause-plan : goal.do_round-requires-2-clause-plan
-do_round-requires-2-clause-plan g c = subst IsLoadable (sym c.loop.invariant.plan) c.requires.plan
+do_round-requires-2-clause-plan g c = subst IsSound (sym c.loop.invariant.plan) c.requires.plan

@@ -1,7 +1,7 @@
 use Rattle.std.proofs.Common.{◌≡◌, true, ◌≤◌, length, sym, subst, ◌∙◌, arith}
 use Rattle.std.proofs.lemmas.List.{drop_all}
 use Rattle.sof_io.specs.Bound.{output_slots}
-use Rattle.host_widgets.specs.Controls.{IsLoadable}
+use Rattle.tplg_plan.specs.Sound.{IsSound}
 use Rattle.sof_script.specs.declared.script.Numbered.{Numbered}
 use Rattle.sof_session.specs.CommandRanges.{is_built}
 use Rattle.sof_run.proofs.Built.{built_at}
@@ -43,4 +43,4 @@ do_command-requires-clause-built g c =
     subst (λ (n : Numbered). is_built n.command ≡ true) (sym c.numbered-item.is) here
 
 pub do_command-requires-clause-plan : goal.do_command-requires-clause-plan
-do_command-requires-clause-plan g c = subst IsLoadable (sym c.loop-numbered.invariant.plan) c.requires.plan
+do_command-requires-clause-plan g c = subst IsSound (sym c.loop-numbered.invariant.plan) c.requires.plan

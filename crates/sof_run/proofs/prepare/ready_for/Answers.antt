@@ -10,5 +10,5 @@ returns c =
     let plan = c.args.plan in
     let read = script_read c.args.script in
     let right : wrong_of plan read.bindings ≡ None = ap (λ bs. wrong_of plan (bounds_of bs)) (sym c.items.ensures) ∙ sym c.wrong_binding.ensures ∙ c.in_default.is in
-    let built : is_built_script plan read ≡ true = sym c.if-not-asks_for_built.ensures in
+    let built : is_built_script read ≡ true = sym c.if-not-asks_for_built.ensures in
     (refl, carriable plan c.requires read right built, ready_over plan read right built)

@@ -14,7 +14,7 @@ pub invariant_of-self : goal.invariant_of-self
 invariant_of-self g c =
     let inside = c.self.inside in
     let done = c.set-done in
-    let call = set-call inside.plan c.self.invariant.loadable inside.kept c.self.invariant.agree.record_is c.args.name.now c.items.result.now in
+    let call = set-call inside.plan c.self.invariant.sound inside.kept c.self.invariant.agree.record_is c.args.name.now c.items.result.now in
     AreAgreed-sent g.P.Dsp.means (record { link = inside.link; kept = inside.kept; plan = inside.plan; heap = inside.heap }) done.new.dsp (ports c.args.io.now c.args.out.now) (ports done.new.io done.new.out) c.self.invariant done.new.kept done.ensures.agree done.result
     (set_fault inside.plan inside.kept c.args.name.now c.items.result.now) (set_order inside.plan inside.kept c.args.name.now c.items.result.now) call.sent call.taken done.ensures.asked
 
@@ -22,7 +22,7 @@ pub returns-clause-later : goal.returns-clause-later
 returns-clause-later g c =
     let inside = c.self.inside in
     let done = c.set-done in
-    let call = set-call inside.plan c.self.invariant.loadable inside.kept c.self.invariant.agree.record_is c.args.name.now c.items.result.now in
+    let call = set-call inside.plan c.self.invariant.sound inside.kept c.self.invariant.agree.record_is c.args.name.now c.items.result.now in
     AreAgreed-sent g.P.Dsp.means (record { link = inside.link; kept = inside.kept; plan = inside.plan; heap = inside.heap }) done.new.dsp (ports c.args.io.now c.args.out.now) (ports done.new.io done.new.out) c.self.invariant done.new.kept done.ensures.agree done.result
     (set_fault inside.plan inside.kept c.args.name.now c.items.result.now) (set_order inside.plan inside.kept c.args.name.now c.items.result.now) call.sent call.taken done.ensures.asked
 
@@ -30,7 +30,7 @@ pub returns-clause-inputs : goal.returns-clause-inputs
 returns-clause-inputs g c =
     let inside = c.self.inside in
     let done = c.set-done in
-    let call = set-call inside.plan c.self.invariant.loadable inside.kept c.self.invariant.agree.record_is c.args.name.now c.items.result.now in
+    let call = set-call inside.plan c.self.invariant.sound inside.kept c.self.invariant.agree.record_is c.args.name.now c.items.result.now in
     ap (λ (io : Io). io.inputs)
     (sent-io g.P.Dsp.means (record { link = inside.link; kept = inside.kept; plan = inside.plan; heap = inside.heap }) done.new.dsp (ports c.args.io.now c.args.out.now) (ports done.new.io done.new.out) c.self.invariant done.new.kept done.ensures.agree done.result
     (set_fault inside.plan inside.kept c.args.name.now c.items.result.now) (set_order inside.plan inside.kept c.args.name.now c.items.result.now) call.sent done.ensures.asked)
@@ -39,7 +39,7 @@ pub returns-clause-outputs : goal.returns-clause-outputs
 returns-clause-outputs g c =
     let inside = c.self.inside in
     let done = c.set-done in
-    let call = set-call inside.plan c.self.invariant.loadable inside.kept c.self.invariant.agree.record_is c.args.name.now c.items.result.now in
+    let call = set-call inside.plan c.self.invariant.sound inside.kept c.self.invariant.agree.record_is c.args.name.now c.items.result.now in
     ap (λ (io : Io). io.outputs)
     (sent-io g.P.Dsp.means (record { link = inside.link; kept = inside.kept; plan = inside.plan; heap = inside.heap }) done.new.dsp (ports c.args.io.now c.args.out.now) (ports done.new.io done.new.out) c.self.invariant done.new.kept done.ensures.agree done.result
     (set_fault inside.plan inside.kept c.args.name.now c.items.result.now) (set_order inside.plan inside.kept c.args.name.now c.items.result.now) call.sent done.ensures.asked)

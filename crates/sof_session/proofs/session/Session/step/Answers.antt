@@ -4,17 +4,17 @@ use Rattle.mbox_link.specs.Fates.{IsError}
 use Rattle.host_widgets.specs.declared.answers.Answer.{Answer}
 use Rattle.host_widgets.specs.declared.trigger.Trigger.TheVariants as triggers
 use Rattle.host_pcm.specs.declared.asking.Ask.TheVariants.{Opening, Preparing, Triggering, Closing}
-use Rattle.host_ctl.specs.ControlAsks.{set_fault, get_fault, read_fault}
-use Rattle.host_ctl.specs.ControlOrders.{set_order, get_order, read_order}
+use Rattle.host_ctl.specs.ControlAsks.{set_fault, bytes_fault, get_fault, read_fault}
+use Rattle.host_ctl.specs.ControlOrders.{set_order, bytes_order, get_order, read_order}
 use Rattle.sof_script.specs.declared.script.Command.{Command}
 use Rattle.sof_script.specs.declared.script.Command.TheVariants as commands
 use Rattle.sof_session.specs.SessionCalls.{PlanRan, ports}
 use Rattle.sof_session.proofs.AskedSteps.{calls-by, asked_step, stream_few}
-use Rattle.sof_session.proofs.ControlSteps.{set-call, get-call, read-call, control_step, control_few}
+use Rattle.sof_session.proofs.ControlSteps.{set-call, bytes-call, get-call, read-call, control_step, control_few}
 use Rattle.sof_session.proofs.LoadSteps.{load_stepped, load_few}
 use Rattle.sof_session.proofs.PlanAgreement.{is-error}
 use Rattle.sof_session.proofs.PlanSteps.{plan_stepped, plan_few, show_stepped}
-use Rattle.sof_session.proofs.StepCommands.{in-range-of, ahead-in, refuse-in, as-is, few-by, is-show}
+use Rattle.sof_session.proofs.StepCommands.{in-range-of, ahead-in, refuse-in, as-is, few-by, no-lag}
 use Rattle.sof_session.proofs.PowerSteps.{suspend_stepped, suspend_few}
 use Rattle.sof_session.proofs.ResumeSteps.{resume_stepped, resume_few}
 use Rattle.sof_session.proofs.Stepping.{SteppedIn, same-ports}
@@ -77,6 +77,9 @@ ask-requires-in-Close g c = all-room c.args.out.now c.requires.empty 0 (omega ar
 
 pub set-requires : goal.set-requires
 set-requires g c = all-room c.args.out.now c.requires.empty 0 (omega arith)
+
+pub set_bytes-requires : goal.set_bytes-requires
+set_bytes-requires g c = all-room c.args.out.now c.requires.empty 0 (omega arith)
 
 pub read-requires : goal.read-requires
 read-requires g c = all-room c.args.out.now c.requires.empty 0 (omega arith)
@@ -201,13 +204,15 @@ returns-in-Close-clause-stepped g c =
     let done = c.ask-in-Close in
     asked_step g.P.Dsp.means c.args.self.now done.new.self c.args.io.now done.new.io c.args.out.now done.new.out done.ensures.agreed c.requires.few done.ensures.inputs done.ensures.outputs c.requires.empty c.args.command.now (commands.Close c.in-Close.name) c.in-Close.is c.in-Close.name Closing (calls-by (commands.Close c.in-Close.name)) done.result done.ensures.ran
 
-pub returns-in_default-clause-stepped : goal.returns-in_default-clause-stepped
-returns-in_default-clause-stepped g c =
+pub returns-in-Show-clause-stepped : goal.returns-in-Show-clause-stepped
+returns-in-Show-clause-stepped g c =
     let old = c.args.self.now in
     let io = ports c.args.io.now c.args.out.now in
-    let arm = c.in_default in
-    let is = is-show c.args.command.now c.requires.built arm.not-Load arm.not-Unload arm.not-Suspend arm.not-Resume arm.not-Refuse arm.not-Drop arm.not-Lose arm.not-Tick arm.not-Open arm.not-Params arm.not-Start arm.not-Stop arm.not-Pause arm.not-Release arm.not-Close arm.not-Set arm.not-Get arm.not-Read in
-    subst (λ (x : Command × Answer). SteppedIn g.P.Dsp.means old old io io x.1 x.0) (λ i. (sym is i, sym c.show.ensures.shown i)) (show_stepped g.P.Dsp.means old io (none-written c.args.out.now c.requires.empty))
+    subst (λ (x : Command × Answer). SteppedIn g.P.Dsp.means old old io io x.1 x.0) (λ i. (sym c.in-Show.is i, sym c.show.ensures.shown i)) (show_stepped g.P.Dsp.means old io (none-written c.args.out.now c.requires.empty))
+
+-- no lag is built
+pub returns-in-Lag : goal.returns-in-Lag
+returns-in-Lag g c = absurd (no-lag c.args.command.now c.in-Lag.field-0 c.in-Lag.field-1 c.in-Lag.is c.requires.built)
 
 -- ---- the messages that were sent
 
@@ -318,7 +323,7 @@ returns-in-Set-clause-stepped g c =
     let agreed = done.ensures.agreed in
     control_step g.P.Dsp.means old done.new.self c.args.io.now done.new.io c.args.out.now done.new.out agreed c.requires.few done.ensures.inputs done.ensures.outputs c.requires.empty c.args.command.now (commands.Set c.in-Set.name c.in-Set.values) c.in-Set.is
     (set_fault old.plan old.kept c.in-Set.name c.in-Set.values) (set_order old.plan old.kept c.in-Set.name c.in-Set.values) (record { nexts = λ doing known. refl; plans = refl; tests = refl; orders = refl })
-    (set-call old.plan agreed.loadable old.kept agreed.agree.record_is c.in-Set.name c.in-Set.values) done.result done.ensures.ran
+    (set-call old.plan agreed.sound old.kept agreed.agree.record_is c.in-Set.name c.in-Set.values) done.result done.ensures.ran
 
 pub returns-in-Set-clause-sent : goal.returns-in-Set-clause-sent
 returns-in-Set-clause-sent g c =
@@ -327,7 +332,25 @@ returns-in-Set-clause-sent g c =
     let agreed = done.ensures.agreed in
     few-by c.args.command.now (commands.Set c.in-Set.name c.in-Set.values) old.link.sent done.new.self.link.sent c.in-Set.is refl
     (control_few g.P.Dsp.means old done.new.self (ports c.args.io.now c.args.out.now) (ports done.new.io done.new.out) (set_fault old.plan old.kept c.in-Set.name c.in-Set.values) (set_order old.plan old.kept c.in-Set.name c.in-Set.values)
-    (set-call old.plan agreed.loadable old.kept agreed.agree.record_is c.in-Set.name c.in-Set.values) done.result done.ensures.ran)
+    (set-call old.plan agreed.sound old.kept agreed.agree.record_is c.in-Set.name c.in-Set.values) done.result done.ensures.ran)
+
+pub returns-in-Bytes-clause-stepped : goal.returns-in-Bytes-clause-stepped
+returns-in-Bytes-clause-stepped g c =
+    let old = c.args.self.now in
+    let done = c.set_bytes in
+    let agreed = done.ensures.agreed in
+    control_step g.P.Dsp.means old done.new.self c.args.io.now done.new.io c.args.out.now done.new.out agreed c.requires.few done.ensures.inputs done.ensures.outputs c.requires.empty c.args.command.now (commands.Bytes c.in-Bytes.name c.in-Bytes.blob) c.in-Bytes.is
+    (bytes_fault old.plan old.kept c.in-Bytes.name c.in-Bytes.blob) (bytes_order old.plan old.kept c.in-Bytes.name c.in-Bytes.blob) (record { nexts = λ doing known. refl; plans = refl; tests = refl; orders = refl })
+    (bytes-call old.plan agreed.sound old.kept agreed.agree.record_is c.in-Bytes.name c.in-Bytes.blob) done.result done.ensures.ran
+
+pub returns-in-Bytes-clause-sent : goal.returns-in-Bytes-clause-sent
+returns-in-Bytes-clause-sent g c =
+    let old = c.args.self.now in
+    let done = c.set_bytes in
+    let agreed = done.ensures.agreed in
+    few-by c.args.command.now (commands.Bytes c.in-Bytes.name c.in-Bytes.blob) old.link.sent done.new.self.link.sent c.in-Bytes.is refl
+    (control_few g.P.Dsp.means old done.new.self (ports c.args.io.now c.args.out.now) (ports done.new.io done.new.out) (bytes_fault old.plan old.kept c.in-Bytes.name c.in-Bytes.blob) (bytes_order old.plan old.kept c.in-Bytes.name c.in-Bytes.blob)
+    (bytes-call old.plan agreed.sound old.kept agreed.agree.record_is c.in-Bytes.name c.in-Bytes.blob) done.result done.ensures.ran)
 
 pub returns-in-Get-clause-stepped : goal.returns-in-Get-clause-stepped
 returns-in-Get-clause-stepped g c =
@@ -336,7 +359,7 @@ returns-in-Get-clause-stepped g c =
     let agreed = done.ensures.agreed in
     control_step g.P.Dsp.means old done.new.self c.args.io.now done.new.io c.args.out.now done.new.out agreed c.requires.few done.ensures.inputs done.ensures.outputs c.requires.empty c.args.command.now (commands.Get c.in-Get.name) c.in-Get.is
     (get_fault old.plan old.kept c.in-Get.name) (get_order old.plan old.kept c.in-Get.name) (record { nexts = λ doing known. refl; plans = refl; tests = refl; orders = refl })
-    (get-call old.plan agreed.loadable old.kept agreed.agree.record_is c.in-Get.name) done.result done.ensures.ran
+    (get-call old.plan agreed.sound old.kept agreed.agree.record_is c.in-Get.name) done.result done.ensures.ran
 
 pub returns-in-Get-clause-sent : goal.returns-in-Get-clause-sent
 returns-in-Get-clause-sent g c =
@@ -345,7 +368,7 @@ returns-in-Get-clause-sent g c =
     let agreed = done.ensures.agreed in
     few-by c.args.command.now (commands.Get c.in-Get.name) old.link.sent done.new.self.link.sent c.in-Get.is refl
     (control_few g.P.Dsp.means old done.new.self (ports c.args.io.now c.args.out.now) (ports done.new.io done.new.out) (get_fault old.plan old.kept c.in-Get.name) (get_order old.plan old.kept c.in-Get.name)
-    (get-call old.plan agreed.loadable old.kept agreed.agree.record_is c.in-Get.name) done.result done.ensures.ran)
+    (get-call old.plan agreed.sound old.kept agreed.agree.record_is c.in-Get.name) done.result done.ensures.ran)
 
 pub returns-in-Read-clause-stepped : goal.returns-in-Read-clause-stepped
 returns-in-Read-clause-stepped g c =
@@ -354,7 +377,7 @@ returns-in-Read-clause-stepped g c =
     let agreed = done.ensures.agreed in
     control_step g.P.Dsp.means old done.new.self c.args.io.now done.new.io c.args.out.now done.new.out agreed c.requires.few done.ensures.inputs done.ensures.outputs c.requires.empty c.args.command.now (commands.Read c.in-Read.name) c.in-Read.is
     (read_fault old.plan old.kept c.in-Read.name) (read_order old.plan old.kept c.in-Read.name) (record { nexts = λ doing known. refl; plans = refl; tests = refl; orders = refl })
-    (read-call old.plan agreed.loadable old.kept agreed.agree.record_is c.in-Read.name) done.result done.ensures.ran
+    (read-call old.plan agreed.sound old.kept agreed.agree.record_is c.in-Read.name) done.result done.ensures.ran
 
 pub returns-in-Read-clause-sent : goal.returns-in-Read-clause-sent
 returns-in-Read-clause-sent g c =
@@ -363,4 +386,4 @@ returns-in-Read-clause-sent g c =
     let agreed = done.ensures.agreed in
     few-by c.args.command.now (commands.Read c.in-Read.name) old.link.sent done.new.self.link.sent c.in-Read.is refl
     (control_few g.P.Dsp.means old done.new.self (ports c.args.io.now c.args.out.now) (ports done.new.io done.new.out) (read_fault old.plan old.kept c.in-Read.name) (read_order old.plan old.kept c.in-Read.name)
-    (read-call old.plan agreed.loadable old.kept agreed.agree.record_is c.in-Read.name) done.result done.ensures.ran)
+    (read-call old.plan agreed.sound old.kept agreed.agree.record_is c.in-Read.name) done.result done.ensures.ran)

@@ -1,0 +1,56 @@
+use Rattle.std.proofs.Common.{◌≡◌, ◌*◌, ◌∙◌, ℕ, ap, subst, sym, arith}
+use Rattle.sof_base.specs.Ports.{HasRoom, Io}
+use Rattle.host_widgets.specs.declared.answers.Answer.{Answer}
+use Rattle.host_ctl.specs.ControlAsks.{bytes_fault}
+use Rattle.host_ctl.specs.ControlOrders.{bytes_order}
+use Rattle.sof_session.specs.Commands.{answer_by}
+use Rattle.sof_session.specs.SessionCalls.{ports}
+use Rattle.sof_session.proofs.AskedStays.{sent-io}
+use Rattle.sof_session.proofs.CallAgreement.{AreAgreed-sent}
+use Rattle.sof_session.proofs.ControlSteps.{bytes-call, bytes-answers}
+use Rattle.sof_session.proofs.session.Session.set_bytes.Goals as goal
+
+pub invariant_of-self : goal.invariant_of-self
+invariant_of-self g c =
+    let inside = c.self.inside in
+    let done = c.set_bytes-done in
+    let call = bytes-call inside.plan c.self.invariant.sound inside.kept c.self.invariant.agree.record_is c.args.name.now c.items.result.now in
+    AreAgreed-sent g.P.Dsp.means (record { link = inside.link; kept = inside.kept; plan = inside.plan; heap = inside.heap }) done.new.dsp (ports c.args.io.now c.args.out.now) (ports done.new.io done.new.out) c.self.invariant done.new.kept done.ensures.agree done.result
+    (bytes_fault inside.plan inside.kept c.args.name.now c.items.result.now) (bytes_order inside.plan inside.kept c.args.name.now c.items.result.now) call.sent call.taken done.ensures.asked
+
+pub returns-clause-later : goal.returns-clause-later
+returns-clause-later g c =
+    let inside = c.self.inside in
+    let done = c.set_bytes-done in
+    let call = bytes-call inside.plan c.self.invariant.sound inside.kept c.self.invariant.agree.record_is c.args.name.now c.items.result.now in
+    AreAgreed-sent g.P.Dsp.means (record { link = inside.link; kept = inside.kept; plan = inside.plan; heap = inside.heap }) done.new.dsp (ports c.args.io.now c.args.out.now) (ports done.new.io done.new.out) c.self.invariant done.new.kept done.ensures.agree done.result
+    (bytes_fault inside.plan inside.kept c.args.name.now c.items.result.now) (bytes_order inside.plan inside.kept c.args.name.now c.items.result.now) call.sent call.taken done.ensures.asked
+
+pub returns-clause-inputs : goal.returns-clause-inputs
+returns-clause-inputs g c =
+    let inside = c.self.inside in
+    let done = c.set_bytes-done in
+    let call = bytes-call inside.plan c.self.invariant.sound inside.kept c.self.invariant.agree.record_is c.args.name.now c.items.result.now in
+    ap (λ (io : Io). io.inputs)
+    (sent-io g.P.Dsp.means (record { link = inside.link; kept = inside.kept; plan = inside.plan; heap = inside.heap }) done.new.dsp (ports c.args.io.now c.args.out.now) (ports done.new.io done.new.out) c.self.invariant done.new.kept done.ensures.agree done.result
+    (bytes_fault inside.plan inside.kept c.args.name.now c.items.result.now) (bytes_order inside.plan inside.kept c.args.name.now c.items.result.now) call.sent done.ensures.asked)
+
+pub returns-clause-outputs : goal.returns-clause-outputs
+returns-clause-outputs g c =
+    let inside = c.self.inside in
+    let done = c.set_bytes-done in
+    let call = bytes-call inside.plan c.self.invariant.sound inside.kept c.self.invariant.agree.record_is c.args.name.now c.items.result.now in
+    ap (λ (io : Io). io.outputs)
+    (sent-io g.P.Dsp.means (record { link = inside.link; kept = inside.kept; plan = inside.plan; heap = inside.heap }) done.new.dsp (ports c.args.io.now c.args.out.now) (ports done.new.io done.new.out) c.self.invariant done.new.kept done.ensures.agree done.result
+    (bytes_fault inside.plan inside.kept c.args.name.now c.items.result.now) (bytes_order inside.plan inside.kept c.args.name.now c.items.result.now) call.sent done.ensures.asked)
+
+pub set_bytes-done-requires-clause-room : goal.set_bytes-done-requires-clause-room
+set_bytes-done-requires-clause-room g c =
+    let none : 61440 * g.P.Dsp.means.pending c.self.inside.link.device ≡ 0 = omega (arith, c.self.invariant.pending) in
+    subst (λ (n : ℕ). HasRoom n c.args.out.now) (sym none) c.requires
+
+pub returns-clause-ran : goal.returns-clause-ran
+returns-clause-ran g c =
+    let inside = c.self.inside in
+    let done = c.set_bytes-done in
+    rw (← c.self.view_is, ← c.items.ensures.value) record { outcome = done.result; tested = done.ensures.asked; said = c.answer_of.ensures ∙ ap (λ (a : Answer). answer_by a done.result) (sym (bytes-answers inside.plan inside.kept c.args.name.now c.items.result.now)) }

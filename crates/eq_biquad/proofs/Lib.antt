@@ -3,6 +3,7 @@ pub mod ByteLaws
 pub mod Cases
 pub mod LaneLaws
 pub mod Lookups
+pub mod NearLaws
 pub mod NumberLaws
 pub mod PartLaws
 pub mod PassLaws

@@ -1,5 +1,5 @@
 -- The sections of a channel, as the bytes of a blob have them.
-use Rattle.std.specs.Prelude.{◌≡◌, ℕ, zero, suc, ◌+◌, ◌*◌, ◌<◌, ◌≤◌, List, [], ◌∷◌, length, Option, true}
+use Rattle.std.specs.Prelude.{◌≡◌, ℕ, zero, suc, ◌+◌, ◌-◌, ◌*◌, ◌^◌, ◌<◌, ◌≤◌, List, [], ◌∷◌, length, Option, true, ℤ, nat_abs}
 use Rattle.std.specs.Option.{option_map_or}
 use Rattle.sof_base.specs.Equations as law
 use Rattle.sof_base.specs.Blob.{signed_at, is_shift, section_at}
@@ -23,3 +23,11 @@ pub record AreWithin (blob : List ℕ) (f : Found) : Type 0 where
   pub few : f.count ≤ 8
   pub bytes : 4 * f.place + 28 * f.count ≤ length blob
   pub shifts : (s : ℕ) → s < f.count → is_shift (signed_at blob (4 * f.place + 28 * s + 20)) ≡ true
+
+-- a section with two numbers whose sums stay below 7 * 2 ^ 61 in size, and the parts of its numbers within 64 bits
+pub record IsNarrow (s : law.Section) (first second : ℤ) : Type 0 where
+  pub ahead : nat_abs s.b1 + (nat_abs s.b2 + nat_abs s.a2) < 2 ^ 32
+  pub all : nat_abs s.b0 + nat_abs s.a1 + (nat_abs s.b1 + (nat_abs s.b2 + nat_abs s.a2)) < 7 * 2 ^ 30
+  pub input : nat_abs s.b0 ≤ 2 ^ 31
+  pub first_within : nat_abs first ≤ 2 ^ 63 - 2 ^ 30
+  pub second_within : nat_abs second ≤ (nat_abs s.b2 + nat_abs s.a2) * 2 ^ 31

@@ -11,8 +11,8 @@ overflow_cast-sum c = inner-fits c.times.result c.from.result c.args.first c.fro
 pub returns : goal.returns
 returns c =
     let fit : FitsSigned w32 c.sat32.result = search rules in
-    let coefficient : FitsSigned w32 c.args.section.now.b0 = search rules in
+    let coefficient : FitsSigned w32 c.args.section.b0 = search rules in
     to_z-of_z w32 c.sat32.result fit ∙ c.sat32.ensures
     ∙ ap (sat 32) (inner-is c.times.result c.from.result c.args.first c.from.ensures c.times.ensures.within c.requires)
     ∙ ap (λ z. sat 32 (int_div_euclid ((z +ℤ c.args.first) +ℤ pos 536870912) (pos 1073741824)))
-    (c.times.ensures.value ∙ (λ i. to_z-of_z w32 c.args.section.now.b0 coefficient i *ℤ to_z-of_z w32 c.args.x c.ranges.x i))
+    (c.times.ensures.value ∙ (λ i. to_z-of_z w32 c.args.section.b0 coefficient i *ℤ to_z-of_z w32 c.args.x c.ranges.x i))

@@ -5,8 +5,8 @@ use Rattle.sof_base.specs.Samples.{sat}
 use Rattle.eq_biquad.proofs.ArithLaws.{out-is}
 use Rattle.eq_biquad.proofs.arithmetic.scaled.Goals as goal
 
-pub returns : goal.returns
-returns c =
+pub returns-else-gain-eq16384 : goal.returns-else-gain-eq16384
+returns-else-gain-eq16384 c =
     let fit : FitsSigned w32 c.sat32.result = search rules in
     to_z-of_z w32 c.sat32.result fit ∙ c.sat32.ensures
     ∙ ap (sat 32) (out-is c.times.result c.half.result c.args.bits (2 ^ (c.args.bits - 1)) c.times.ensures.within c.half.ensures.value c.half.ensures.within)

@@ -1,6 +1,6 @@
 -- A gain of 1 leaves a sample as it is.
-use Rattle.std.proofs.Common.{◌≡◌, refl, sym, ap, ◌∙◌, ℕ, zero, suc, ◌+◌, ◌*◌, ◌/◌, ◌%◌, ◌-◌, ◌^◌, ◌<◌, ◌≤◌, List, [], ◌∷◌, length, get_or, min, arith, ℤ, pos, negsuc, ◌+ℤ◌, ◌*ℤ◌, w32, FitsSigned}
-use Rattle.std.specs.Prelude.{Bool, true, ◌&&◌, ◌==◌, not}
+use Rattle.std.proofs.Common.{◌≡◌, sym, ap, ◌∙◌, ℕ, zero, suc, ◌+◌, ◌*◌, ◌/◌, ◌%◌, ◌-◌, ◌^◌, ◌<◌, List, [], ◌∷◌, length, get_or, min, arith, ℤ, pos, negsuc, ◌+ℤ◌, ◌*ℤ◌, w32, FitsSigned}
+use Rattle.std.specs.Prelude.{true, ◌==◌, not}
 use Rattle.std.specs.List.{list_all}
 use Rattle.std.specs.Int.{int_div_euclid}
 use Rattle.std.proofs.Math.Nat.{mod-add-div, mod-lt}

@@ -1,12 +1,12 @@
 -- Walks that leave each place once.
 use Rattle.std.proofs.Common.{◌≡◌, ◌≢◌, refl, sym, ap, ◌∙◌, ℕ, zero, suc, ◌+◌, ◌<◌, ◌≤◌, List, [], ◌∷◌, ◌++◌, Bool, true, false, cond, length, get_or, set, take, replicate, ltb, ◌==◌, ◌||◌, arith, below_more, get_or-set_other, get_or-set_same, length-append}
 use Rattle.std.proofs.lemmas.Bool.{true≢false, false≢true, or_left, or_right, eqb-true, eq-eqb, ltb-true, ltb-false}
-use Rattle.std.proofs.lemmas.List.{length-set}
+use Rattle.std.proofs.lemmas.List.{length-set, length-replicate}
 use Rattle.std.proofs.lemmas.List.Folds.{list_any-append}
 use Rattle.stream_law.specs.declared.graph.Join.{Join}
 use Rattle.fw_walks.specs.Walks.{near_of, far_of, unmarked, is_listed, place_in, IsClosed}
 use Rattle.fw_walks.specs.Leaving.{no_join, last_from, AreFound, GoOn}
-use Rattle.fw_walks.proofs.Marking.{unmarked-set, each-at}
+use Rattle.fw_walks.proofs.Marking.{unmarked-set, unmarked-most, each-at, none-marked}
 use Rattle.fw_walks.proofs.Reaching.{at-place}
 
 -- ---- the joins that leave a place
@@ -196,6 +196,13 @@ first-all marks found k are end whole is = record {
   marked = are.marked;
   all = λ m e. are.all m (omega (arith, marked-low marks m e, is)) e;
 }
+
+-- where none is marked nothing is found, and then the one that is marked alone
+found-none : (n : ℕ) → AreFound (replicate n false) []
+found-none n = record { room = omega (arith, unmarked-most (replicate n false)); marked = λ j low. absurd (omega (arith, low)); all = λ k is. absurd (false≢true (sym (none-marked n k) ∙ is)) }
+
+pub found-first : (n x : ℕ) → x < n → AreFound (set (replicate n false) x true) (x ∷ [])
+found-first n x low = found-one (replicate n false) [] x (found-none n) (omega (arith, low, length-replicate n false)) (none-marked n x)
 
 -- ---- all joins are gone along
 

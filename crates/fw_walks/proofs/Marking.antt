@@ -1,5 +1,5 @@
 -- Lists of marks.
-use Rattle.std.proofs.Common.{◌≡◌, refl, ap, ℕ, zero, suc, ◌<◌, List, [], ◌∷◌, Bool, true, false, length, get_or, set, replicate, arith}
+use Rattle.std.proofs.Common.{◌≡◌, refl, ap, ℕ, zero, suc, ◌<◌, ◌≤◌, List, [], ◌∷◌, Bool, true, false, length, get_or, set, replicate, arith}
 use Rattle.std.proofs.lemmas.Bool.{true≢false}
 use Rattle.std.specs.List.{AllByRecursion}
 use Rattle.fw_walks.specs.Walks.{unmarked}
@@ -11,6 +11,12 @@ unmarked-set (true ∷ marks) zero low is = absurd (true≢false is)
 unmarked-set (false ∷ marks) zero low is = refl
 unmarked-set (true ∷ marks) (suc k) low is = unmarked-set marks k (omega (arith, low)) is
 unmarked-set (false ∷ marks) (suc k) low is = ap suc (unmarked-set marks k (omega (arith, low)) is)
+
+-- no more are not marked than there are
+pub unmarked-most : (marks : List Bool) → unmarked marks ≤ length marks
+unmarked-most [] = omega arith
+unmarked-most (true ∷ marks) = omega (arith, unmarked-most marks)
+unmarked-most (false ∷ marks) = omega (arith, unmarked-most marks)
 
 -- what is so of all is so at each place
 pub all-at : {X : Type 0} (P : X → Type 0) (xs : List X) (k : ℕ) (d : X) → k < length xs → AllByRecursion P xs → P (get_or xs k d)

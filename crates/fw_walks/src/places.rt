@@ -5,8 +5,9 @@ ghost use Rattle.arrayvec.specs.ArrayVec.{array_vec_len};
 ghost use Rattle.fw_components.specs.Kept.{IsKept};
 ghost use Rattle.fw_walks.specs.Walks.{is_listed, place_in, by_places, leads_by, is_marked, is_reached};
 ghost use Rattle.fw_walks.specs.Charts.{ids_of};
+ghost use Rattle.fw_walks.specs.Leaving.{AreFound};
 
-use crate::walk::spread;
+use crate::walk::{find_marked, spread};
 use arrayvec::ArrayVec;
 use fw_components::{Component, Registry};
 use std::marker::Model;
@@ -71,9 +72,12 @@ impl Places {
         ensures { (x : ℕ) → is_listed self.now.ids x ≡ true → is_marked self.now.ids result x ≡ leads_by back self.now.joins id x }
     {
         let _ = &self.ids;
+        let place = self.place(id);
         let mut marks = [false; 257];
-        self.mark(&mut marks, id);
-        self.spread(&mut marks, back);
+        marks[place] = true;
+        let mut found = ArrayVec::new();
+        found.push(place as u16);
+        self.spread_from(&mut marks, &mut found, back);
         marks
     }
 
@@ -108,7 +112,20 @@ impl Places {
         ensures past { slice_index_or marks.old (length self.now.ids) false ≡ false → slice_index_or marks.new (length self.now.ids) false ≡ false }
         ensures reached { (x : ℕ) → is_listed self.now.ids x ≡ true → is_marked self.now.ids marks.new x ≡ is_reached back self.now.ids self.now.joins marks.old x }
     {
-        spread(marks, &self.ends[..self.count], back);
+        let _ = &self.ids;
+        let mut found = ArrayVec::new();
+        find_marked(marks, &mut found);
+        self.spread_from(marks, &mut found, back);
+    }
+
+    // The same from what is marked and found.
+    fn spread_from(&self, marks: &mut [bool], found: &mut ArrayVec<u16, 257>, back: bool)
+        requires size { length marks.old ≡ 257 }
+        requires found { AreFound marks.old found.old.items }
+        ensures past { slice_index_or marks.old (length self.now.ids) false ≡ false → slice_index_or marks.new (length self.now.ids) false ≡ false }
+        ensures reached { (x : ℕ) → is_listed self.now.ids x ≡ true → is_marked self.now.ids marks.new x ≡ is_reached back self.now.ids self.now.joins marks.old x }
+    {
+        spread(marks, found, &self.ends[..self.count], back);
     }
 }
 

@@ -1,5 +1,5 @@
 // Walks along joins between places: what is marked is what they reach.
-ghost use Rattle.std.specs.Prelude.{◌≡◌, ◌<◌, ◌≤◌, ℕ, Bool, true, false, length, slice_index_or};
+ghost use Rattle.std.specs.Prelude.{◌≡◌, ◌<◌, ◌≤◌, ℕ, [], Bool, true, false, length, slice_index_or};
 ghost use Rattle.std.specs.List.{AllByRecursion};
 ghost use Rattle.fw_walks.specs.Walks.{near_of, far_of, IsClosed, IsWithin};
 ghost use Rattle.fw_walks.specs.Leaving.{no_join, last_from, HasLinks, AreFound, GoOn};
@@ -7,12 +7,31 @@ ghost use Rattle.fw_walks.specs.Leaving.{no_join, last_from, HasLinks, AreFound,
 use arrayvec::ArrayVec;
 use stream_law::Join;
 
-/// Marks all places that walks reach along joins from those that are marked, or against them where they go back. Each place is left
-/// once, along each join that leaves it.
-pub(crate) fn spread(marks: &mut [bool], joins: &[Join], back: bool)
+/// Marks all places that walks reach along joins from those that are marked, or against them where they go back. Those that are marked
+/// are those that are found so far.
+pub(crate) fn spread(marks: &mut [bool], found: &mut ArrayVec<u16, 257>, joins: &[Join], back: bool)
     requires size { length marks.old ≡ 257 }
     requires few { length joins.now ≤ 256 }
     requires within { AllByRecursion (IsWithin 257) joins.now }
+    requires found { AreFound marks.old found.old.items }
+    ensures kept { (k : ℕ) → slice_index_or marks.old k false ≡ true → slice_index_or marks.new k false ≡ true }
+    ensures closed { IsClosed back joins.now (λ k. slice_index_or marks.new k false) }
+    ensures least { (p : ℕ → Bool) → IsClosed back joins.now p → ((k : ℕ) → slice_index_or marks.old k false ≡ true → p k ≡ true) → (k : ℕ) → slice_index_or marks.new k false ≡ true → p k ≡ true }
+{
+    if joins.is_empty() {
+        return;
+    }
+    leave_all(marks, found, joins, back);
+}
+
+// The same by tables of the joins: each place that is found is left once, along each join that leaves it. Not inlined, since the caller
+// would zero the tables even where there are no joins.
+#[inline(never)]
+fn leave_all(marks: &mut [bool], found: &mut ArrayVec<u16, 257>, joins: &[Join], back: bool)
+    requires size { length marks.old ≡ 257 }
+    requires few { length joins.now ≤ 256 }
+    requires within { AllByRecursion (IsWithin 257) joins.now }
+    requires found { AreFound marks.old found.old.items }
     ensures kept { (k : ℕ) → slice_index_or marks.old k false ≡ true → slice_index_or marks.new k false ≡ true }
     ensures closed { IsClosed back joins.now (λ k. slice_index_or marks.new k false) }
     ensures least { (p : ℕ → Bool) → IsClosed back joins.now p → ((k : ℕ) → slice_index_or marks.old k false ≡ true → p k ≡ true) → (k : ℕ) → slice_index_or marks.new k false ≡ true → p k ≡ true }
@@ -20,19 +39,18 @@ pub(crate) fn spread(marks: &mut [bool], joins: &[Join], back: bool)
     let mut last = [0; 257];
     let mut before = [0; 256];
     link(joins, back, &mut last, &mut before);
-    let mut found = marked(marks);
     let mut i = 0;
     while i < found.len() {
         let place = found.as_slice()[i];
         let first = last[place as usize];
-        leave(marks, &mut found, joins, back, place, first, &before);
+        leave(marks, found, joins, back, place, first, &before);
         i += 1;
     }
 }
 
 // Of each place the number of the last join that leaves it, from 1, and of each join that of the one before it that leaves the same
 // place; 0 where there is none.
-fn link(joins: &[Join], back: bool, last: &mut [u32], before: &mut [u32])
+fn link(joins: &[Join], back: bool, last: &mut [u16], before: &mut [u16])
     requires few { length joins.now ≤ 256 }
     requires room { length joins.now ≤ length before.old }
     requires within { AllByRecursion (IsWithin (length last.old)) joins.now }
@@ -43,33 +61,32 @@ fn link(joins: &[Join], back: bool, last: &mut [u32], before: &mut [u32])
     for k in 0..joins.len() {
         let from = near(joins[k], back) as usize;
         before[k] = last[from];
-        last[from] = k as u32 + 1;
+        last[from] = k as u16 + 1;
     }
 }
 
-// The places that are marked.
-fn marked(marks: &[bool]) -> ArrayVec<u32, 257>
-    requires { length marks.now ≡ 257 }
-    ensures { AreFound marks.now result.items }
+/// Finds the places that are marked.
+pub(crate) fn find_marked(marks: &[bool], found: &mut ArrayVec<u16, 257>)
+    requires size { length marks.now ≡ 257 }
+    requires none { found.old.items ≡ [] }
+    ensures { AreFound marks.now found.new.items }
 {
-    let mut found = ArrayVec::new();
     for k in 0..marks.len() {
         if marks[k] {
-            found.push(k as u32);
+            found.push(k as u16);
         }
     }
-    found
 }
 
 // Marks where the joins lead that leave a place.
 fn leave(
     marks: &mut [bool],
-    found: &mut ArrayVec<u32, 257>,
+    found: &mut ArrayVec<u16, 257>,
     joins: &[Join],
     back: bool,
-    place: u32,
-    first: u32,
-    before: &[u32],
+    place: u16,
+    first: u16,
+    before: &[u16],
 )
     requires size { length marks.old ≡ 257 }
     requires room { length joins.now ≤ length before.now }
@@ -92,7 +109,7 @@ fn leave(
 }
 
 // Marks a place, which is found then, unless it is marked.
-fn find(marks: &mut [bool], found: &mut ArrayVec<u32, 257>, place: u32)
+fn find(marks: &mut [bool], found: &mut ArrayVec<u16, 257>, place: u32)
     requires size { length marks.old ≡ 257 }
     requires place { place < 257 }
     requires found { AreFound marks.old found.old.items }
@@ -103,7 +120,7 @@ fn find(marks: &mut [bool], found: &mut ArrayVec<u32, 257>, place: u32)
 {
     if !marks[place as usize] {
         marks[place as usize] = true;
-        found.push(place);
+        found.push(place as u16);
     }
 }
 

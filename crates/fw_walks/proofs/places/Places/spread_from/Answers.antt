@@ -5,13 +5,14 @@ use Rattle.fw_walks.specs.Walks.{IsWithin, IsClosed, is_listed, is_marked, is_re
 use Rattle.fw_walks.specs.Charts.{Chart}
 use Rattle.fw_walks.proofs.Charts.{places-within, none-past, take-few}
 use Rattle.fw_walks.proofs.Reaching.{marks-reach}
-use Rattle.fw_walks.proofs.places.Places.spread.Goals as goal
+use Rattle.fw_walks.proofs.places.Places.spread_from.Goals as goal
 
 pub spread-requires : goal.spread-requires
 spread-requires c = record {
-  size = c.requires;
+  size = c.requires.size;
   few = omega (arith, take-few c.self.inside.count c.self.inside.ends, c.self.invariant.within);
   within = subst (λ (js : List Join). AllByRecursion (IsWithin 257) js) (sym c.self.invariant.places) (places-within c.self.inside.ids.items 257 (omega (arith, c.self.invariant.few)) _);
+  found = c.requires.found;
 }
 
 pub returns-clause-reached : goal.returns-clause-reached

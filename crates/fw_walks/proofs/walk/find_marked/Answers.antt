@@ -1,7 +1,10 @@
 use Rattle.std.proofs.Common.{sym, ap, ◌∙◌, subst, ℕ, ◌+◌, List}
-use Rattle.fw_walks.proofs.Leaves.{AreFirst, first-found, first-passed}
-use Rattle.fw_walks.proofs.walk.marked.Goals as goal
-use Rattle.fw_walks.proofs.walk.marked.Goals.{then-marks-k, else-marks-k}
+use Rattle.fw_walks.proofs.Leaves.{AreFirst, first-none, first-found, first-passed}
+use Rattle.fw_walks.proofs.walk.find_marked.Goals as goal
+use Rattle.fw_walks.proofs.walk.find_marked.Goals.{then-marks-k, else-marks-k}
+
+pub loop-k-init : goal.loop-k-init
+loop-k-init c = subst (λ (xs : List ℕ). AreFirst c.args.marks.now xs 0) (sym c.requires.none) (first-none c.args.marks.now)
 
 pub loop-k-preserved : goal.loop-k-preserved
 loop-k-preserved c = elim c.if-marks-k.branch [

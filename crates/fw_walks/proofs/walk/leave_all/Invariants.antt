@@ -1,7 +1,7 @@
 use Rattle.std.proofs.Common.{◌≡◌, ◌<◌, ◌≤◌, ◌-◌, ℕ, Bool, true, false, length, get_or}
 use Rattle.fw_walks.specs.Walks.{near_of, far_of, IsClosed}
 use Rattle.fw_walks.specs.Leaving.{no_join, AreFound}
-use Rattle.fw_walks.proofs.walk.spread.Given as goal
+use Rattle.fw_walks.proofs.walk.leave_all.Given as goal
 
 abbrev pub invariant-loop-i : goal.invariant-loop-i
 invariant-loop-i l = record {

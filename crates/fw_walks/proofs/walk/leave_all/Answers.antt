@@ -3,7 +3,7 @@ use Rattle.stream_law.specs.declared.graph.Join.{Join}
 use Rattle.fw_walks.specs.Walks.{near_of, far_of}
 use Rattle.fw_walks.specs.Leaving.{no_join}
 use Rattle.fw_walks.proofs.Leaves.{zeros, all-left}
-use Rattle.fw_walks.proofs.walk.spread.Goals as goal
+use Rattle.fw_walks.proofs.walk.leave_all.Goals as goal
 
 pub link-requires-clause-none : goal.link-requires-clause-none
 link-requires-clause-none c = λ x. zeros 257 x

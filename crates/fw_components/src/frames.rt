@@ -195,5 +195,7 @@ pub(crate) fn copy_both(front: &[Sample], back: &[Sample], samples: &mut [Sample
 {
     let (near, far) = samples.split_at_mut(front.len());
     near.copy_from_slice(front);
-    far.copy_from_slice(back);
+    if !back.is_empty() {
+        far.copy_from_slice(back);
+    }
 }

@@ -118,8 +118,8 @@ fn looked_at(looked: &[u32], chosen: Option<u32>) -> Option<u32>
     }
 }
 
-// The samples of the first `n` frames of the buffer of this id, in two parts of whole frames.
-fn spans<'a>(
+/// The samples of the first `n` frames of the buffer of this id, in two parts of whole frames.
+pub(crate) fn spans<'a>(
     hints: &Hints,
     buffers: &'a [Component],
     inlet: u32,

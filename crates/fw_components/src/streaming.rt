@@ -1,12 +1,13 @@
 // What begins with a stream, and frames that endpoints feed and pull.
-ghost use Rattle.std.specs.Prelude.{◌≡◌, ◌+◌, ◌/◌, ◌%◌, ◌≤◌, true, length, take};
+ghost use Rattle.std.specs.Prelude.{◌≡◌, ◌+◌, ◌*◌, ◌/◌, ◌%◌, ◌≤◌, ◌++◌, true, length, take};
 ghost use Rattle.std.specs.List.{list_any};
 ghost use Rattle.sof_base.specs.Samples.{frames_of, samples_of};
 ghost use Rattle.fw_components.specs.Tables.{frames_at, capacity_at};
 ghost use Rattle.fw_components.specs.Changes.{found, is_there, has_id};
 ghost use Rattle.fw_components.specs.Frames.{begun, words_at, IsFreshBy, staged_at, channels_at, comes_from, goes_to, out_of as out_id, in_of as in_id, taken, pushed};
 
-use crate::places::{begin_at, in_of, out_of, pull_in, push_in};
+use crate::making::spans;
+use crate::places::{begin_at, in_of, out_of, pull_in, push_in, shorten_in};
 use crate::registry::Registry;
 use crate::table::place_of;
 use sof_base::{Params, Sample};
@@ -51,6 +52,26 @@ impl Registry {
         ensures samples { samples.new ≡ samples_of (take (length samples.old / channels_at self.old buffer) (frames_at self.old buffer)) }
     {
         pull_in(&self.buffer_hints, &mut self.buffers, buffer, samples);
+    }
+
+    /// The samples of the first `n` frames of this buffer, which holds them, in two parts of whole frames. This takes no memory.
+    pub fn spans(&self, buffer: u32, n: u32) -> (&[Sample], &[Sample])
+        requires there { has_id self.now.buffers buffer ≡ true }
+        requires held { n ≤ length (frames_at self.now buffer) }
+        ensures samples { result.0.now ++ result.1.now ≡ samples_of (take n (frames_at self.now buffer)) }
+        ensures whole { length result.0.now % channels_at self.now buffer ≡ 0 }
+        ensures size { length result.0.now + length result.1.now ≡ n * channels_at self.now buffer }
+    {
+        spans(&self.buffer_hints, self.buffers.as_slice(), buffer, n)
+    }
+
+    /// Takes the first `n` frames from this buffer, which holds them. This takes no memory.
+    pub fn shorten(&mut self, buffer: u32, n: u32)
+        requires there { has_id self.old.buffers buffer ≡ true }
+        requires held { n ≤ length (frames_at self.old buffer) }
+        ensures { self.new ≡ taken buffer n self.old }
+    {
+        shorten_in(&self.buffer_hints, &mut self.buffers, buffer, n);
     }
 
     /// Puts the frames of these samples behind those of the buffer that comes from this component; it has room for them.

@@ -7,7 +7,7 @@ ghost use Rattle.fw_components.specs.Tables.{frames_at, capacity_at};
 ghost use Rattle.fw_components.specs.Changes.{has_id};
 ghost use Rattle.fw_components.specs.Frames.{words_at, channels_at, taken, pushed};
 
-use crate::samples::{read_samples, write_samples};
+use crate::samples::{read_samples, write_both};
 use crate::scratch::{MOST, ZEROS};
 use fw_components::Registry;
 use sof_base::{Format, Sample};
@@ -80,7 +80,6 @@ fn feed_some(
 pub(crate) fn drain_frames(
     registry: &mut Registry,
     out: &mut Outputs,
-    samples: &mut [Sample],
     bytes: &mut [u8],
     id: u32,
     buffer: u32,
@@ -88,7 +87,7 @@ pub(crate) fn drain_frames(
     format: Format,
     n: u32,
 )
-    requires scratch { (1536 ≤ length samples.old) × (6144 ≤ length bytes.old) }
+    requires scratch { 6144 ≤ length bytes.old }
     requires channels { (1 ≤ channels) × (channels ≤ 8) }
     requires there { has_id registry.old.buffers buffer ≡ true }
     requires shape { channels_at registry.old buffer ≡ channels }
@@ -100,14 +99,10 @@ pub(crate) fn drain_frames(
 {
     let most = (MOST / usize::from(channels)) as u32;
     let mut drained = n.min(most);
-    drain_some(
-        registry, out, samples, bytes, id, buffer, channels, format, drained,
-    );
+    drain_some(registry, out, bytes, id, buffer, channels, format, drained);
     while drained < n {
         let more = (n - drained).min(most);
-        drain_some(
-            registry, out, samples, bytes, id, buffer, channels, format, more,
-        );
+        drain_some(registry, out, bytes, id, buffer, channels, format, more);
         drained += more;
     }
 }
@@ -116,7 +111,6 @@ pub(crate) fn drain_frames(
 fn drain_some(
     registry: &mut Registry,
     out: &mut Outputs,
-    samples: &mut [Sample],
     bytes: &mut [u8],
     id: u32,
     buffer: u32,
@@ -124,7 +118,7 @@ fn drain_some(
     format: Format,
     n: u32,
 )
-    requires scratch { (1536 ≤ length samples.old) × (6144 ≤ length bytes.old) }
+    requires scratch { 6144 ≤ length bytes.old }
     requires channels { (1 ≤ channels) × (channels ≤ 8) }
     requires few { n * channels ≤ 1536 }
     requires there { has_id registry.old.buffers buffer ≡ true }
@@ -135,12 +129,12 @@ fn drain_some(
     ensures size { length (frames_out format (take n (frames_at registry.old buffer))) ≡ n * (channels * width format) }
     ensures outputs { out.new ≡ with_piece id (frames_out format (take n (frames_at registry.old buffer))) out.old }
 {
-    let count = n as usize * usize::from(channels);
-    let frames = &mut samples[..count];
-    registry.draw(buffer, frames);
-    let written = &mut bytes[..count * format.width()];
-    write_samples(format, frames, written);
+    let size = n as usize * usize::from(channels) * format.width();
+    let written = &mut bytes[..size];
+    let (front, back) = registry.spans(buffer, n);
+    write_both(format, front, back, written);
     out.put(id, written);
+    registry.shorten(buffer, n);
 }
 
 /// An output gets so many zeros.

@@ -1,5 +1,5 @@
 // Samples one after the other, between their bytes and words: a loop for each format.
-ghost use Rattle.std.specs.Prelude.{◌≡◌, ◌*◌, length};
+ghost use Rattle.std.specs.Prelude.{◌≡◌, ◌+◌, ◌*◌, ◌++◌, length};
 ghost use Rattle.sof_base.specs.declared.format.Format.TheVariants.{S16, S24, S32};
 ghost use Rattle.sof_base.specs.Samples.{width, frame_in, frame_out};
 
@@ -51,7 +51,7 @@ fn read_32(bytes: &[u8], words: &mut [Sample])
 }
 
 /// Writes the samples of words in a format.
-pub(crate) fn write_samples(format: Format, words: &[Sample], bytes: &mut [u8])
+fn write_samples(format: Format, words: &[Sample], bytes: &mut [u8])
     requires { length bytes.old ≡ length words.now * width format }
     ensures { bytes.new ≡ frame_out format words.now }
 {
@@ -59,6 +59,18 @@ pub(crate) fn write_samples(format: Format, words: &[Sample], bytes: &mut [u8])
         Format::S16 => write_16(words, bytes),
         Format::S24 => write_24(words, bytes),
         Format::S32 => write_32(words, bytes),
+    }
+}
+
+/// Writes the samples of words and of those behind them.
+pub(crate) fn write_both(format: Format, front: &[Sample], back: &[Sample], bytes: &mut [u8])
+    requires { length bytes.old ≡ (length front.now + length back.now) * width format }
+    ensures { bytes.new ≡ frame_out format (front.now ++ back.now) }
+{
+    let (near, far) = bytes.split_at_mut(front.len() * format.width());
+    write_samples(format, front, near);
+    if !back.is_empty() {
+        write_samples(format, back, far);
     }
 }
 

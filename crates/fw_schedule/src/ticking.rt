@@ -213,7 +213,6 @@ fn drain_from(
     drain_frames(
         registry,
         out,
-        &mut scratch.samples,
         &mut scratch.bytes,
         step.id,
         buffer,

@@ -5,7 +5,7 @@ use Rattle.fw_schedule.proofs.endpoints.drain_frames.Goals as goal
 pub loop-drained-init : goal.loop-drained-init
 loop-drained-init c = record {
   within = omega (arith, c.min-drained.ensures);
-  scratch = (omega (arith, c.drain_some.auto.samples, c.requires.scratch.0), omega (arith, c.drain_some.auto.bytes, c.requires.scratch.1));
+  scratch = omega (arith, c.drain_some.auto.bytes, c.requires.scratch);
   so_far = record { tables = c.drain_some.ensures.tables; size = c.drain_some.ensures.size; outputs = c.drain_some.ensures.outputs };
 }
 
@@ -47,7 +47,7 @@ loop-drained-preserved c =
     let next = c.drain_some-in-loop-drained in
     record {
       within = omega (arith, c.min-more.ensures, c.loop-drained.invariant.within);
-      scratch = (omega (arith, next.auto.samples, c.loop-drained.invariant.scratch.0), omega (arith, next.auto.bytes, c.loop-drained.invariant.scratch.1));
+      scratch = omega (arith, next.auto.bytes, c.loop-drained.invariant.scratch);
       so_far =
           drained-more c.args.id c.args.buffer c.args.channels c.args.format c.loop-drained.drained c.min-more.result c.args.registry.now c.loop-drained.registry c.args.out.now c.loop-drained.out c.loop-drained.invariant.so_far
           next.new.registry next.new.out

@@ -5,7 +5,7 @@ use Rattle.fw_schedule.proofs.endpoints.drain_frames.Given as goal
 abbrev pub invariant-loop-drained : goal.invariant-loop-drained
 invariant-loop-drained l = record {
   within : l.drained ≤ l.n;
-  scratch : (1536 ≤ length l.samples) × (6144 ≤ length l.bytes);
+  scratch : 6144 ≤ length l.bytes;
   so_far : IsDrained l.id l.buffer l.channels l.format l.drained l.fn.registry l.fn.out l.registry l.out;
 }
 

@@ -1,1 +1,2 @@
 mod AloneLaws
+mod FilledLaws

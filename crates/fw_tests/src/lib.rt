@@ -6,6 +6,8 @@ mod blobs;
 #[cfg(test)]
 mod equaliser;
 #[cfg(test)]
+mod filled;
+#[cfg(test)]
 mod heap;
 #[cfg(test)]
 mod kernels;

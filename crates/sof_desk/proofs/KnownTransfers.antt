@@ -1,7 +1,9 @@
 -- Reads and writes one after another, where the bytes are known.
-use Rattle.std.proofs.Common.{◌≡◌, ◌<◌, ℕ, List, [], ◌++◌, length, Option, Some, None, refl, sym, ◌∙◌, ap, take, drop, ◌-◌, append_assoc, append-nil, length-append, take-append-drop, arith}
+use Rattle.std.proofs.Common.{◌≡◌, ◌<◌, ℕ, Bool, true, false, List, [], ◌++◌, length, Option, Some, None, refl, sym, ◌∙◌, ap, take, drop, ◌-◌, append_assoc, append-nil, length-append, take-append-drop, arith}
 use Rattle.std.proofs.lemmas.List.{take_rest}
 use Rattle.std.specs.Io.KnownBytes.{Keeps, Appends, Consumes, IsAtEnd}
+use Rattle.sof_desk.specs.Desk.{Part}
+use Rattle.sof_desk.specs.Transfers.{Writes}
 
 pub consumes_none : (a : Option (List ℕ)) → Consumes a a []
 consumes_none None = tt
@@ -45,3 +47,16 @@ appends_kept (Some xs) (Some ys) (Some zs) bs first kept = kept ∙ first
 pub write_step : (piece rest part : List ℕ) (n : ℕ) (a b c : Option (List ℕ)) → part ++ rest ≡ piece → Appends a b part → Appends b c (take n rest) → (more : List ℕ) × ((more ++ take (length rest - n) (drop n rest) ≡ piece) × Appends a c more)
 write_step piece rest part n a b c parts first second =
     (part ++ take n rest, (rw take_rest (append_assoc part (take n rest) (drop n rest) ∙ ap (λ t. part ++ t) (take-append-drop n rest) ∙ parts), appends_more a b c part (take n rest) first second))
+
+-- a piece behind one that was written whole
+pub part_behind : (done : Bool) (near far part : List ℕ) → Part done part far → Part done (near ++ part) (near ++ far)
+part_behind true near far part takes = ap (λ t. near ++ t) takes
+part_behind false near far part takes = (takes.0, append_assoc near part takes.0 ∙ ap (λ t. near ++ t) takes.1)
+
+pub writes_more : (near far : List ℕ) (done : Bool) (a b c : Option (List ℕ)) → Writes near true a b → Writes far done b c → Writes (near ++ far) done a c
+writes_more near far done a b c first second =
+    record {
+      part = near ++ second.part;
+      takes = part_behind done near far second.part second.takes;
+      appends = appends_more a b c near second.part (rw first.takes at first.appends) second.appends;
+    }

@@ -4,7 +4,7 @@ ghost use Rattle.std.specs.Io.KnownBytes.{Keeps};
 ghost use Rattle.sof_desk.specs.OutFiles.{slots_of, given_at, SameBeside, SameGiven, NoneKept};
 ghost use Rattle.sof_desk.specs.Transfers.{Writes};
 
-use crate::transfer::write_all;
+use crate::transfer::write_filling;
 use crate::trouble::{Subject, Trouble};
 use std::alloc::Global;
 use std::io;
@@ -12,7 +12,7 @@ use std::io::{BufWriter, ErrorKind, Write};
 use std::marker::Model;
 
 /// The most bytes that are kept for a file.
-const KEPT: usize = 65536;
+const KEPT: usize = 262144;
 
 /// A file that is open for writing, its slot and its name. Appended bytes are kept until there is no room for more or they are to be
 /// written.
@@ -55,7 +55,7 @@ impl<F: Write + Drop> OutFile<F> {
         ensures slot { self.new.slot ≡ self.old.slot }
         ensures given { Writes piece.now (is_ok result) self.old.given self.new.given }
     {
-        match write_all(&mut self.file, piece) {
+        match write_filling(&mut self.file, piece) {
             Ok(()) => Ok(()),
             Err(reason) => Err(self.trouble(reason)),
         }

@@ -1,11 +1,12 @@
 // Whole transfers by readers and writers that may move fewer bytes than they are asked to.
 ghost use Rattle.std.specs.Prelude.{MatchResult, is_ok};
+ghost use Rattle.std.specs.Io.Buffered.{writer_contents};
 ghost use Rattle.sof_desk.specs.Desk.{Answers};
 ghost use Rattle.sof_desk.specs.Transfers.{Writes, load_fault};
 
 use std::alloc::Global;
 use std::io;
-use std::io::{ErrorKind, Read, Write};
+use std::io::{BufWriter, ErrorKind, Read, Write};
 
 /// Why a reader's bytes were not all read.
 #[derive(Drop)]
@@ -19,7 +20,7 @@ pub enum ReadFault {
 }
 
 /// The most bytes that one read asks for.
-const CHUNK: usize = 4096;
+const CHUNK: usize = 65536;
 
 /// The bytes that a reader gives until its end, where they are at most `limit`.
 ///
@@ -63,4 +64,21 @@ pub fn write_all<W: Write>(to: &mut W, piece: &[u8]) -> io::Result<()>
         }
     }
     Ok(())
+}
+
+/// Writes a piece whole, or a prefix of it up to a failure. A piece that does not fit fills the buffer before its rest is written.
+///
+/// `BufWriter` alone writes its buffer before it is full, and the system takes whole blocks at less cost.
+pub fn write_filling<W: Write + Drop>(to: &mut BufWriter<W>, piece: &[u8]) -> io::Result<()>
+    ensures { Writes piece.now (is_ok result)
+        (writer_contents W.contents to.old) (writer_contents W.contents to.new) }
+{
+    let mut rest = piece;
+    let room = to.capacity().saturating_sub(to.buffer().len());
+    if rest.len() > room {
+        let (near, far) = rest.split_at(room);
+        write_all(to, near)?;
+        rest = far;
+    }
+    write_all(to, rest)
 }

@@ -1,5 +1,5 @@
 -- Room in the outputs.
-use Rattle.std.proofs.Common.{ℕ, ◌+◌, ◌≤◌, List, [], ◌∷◌, sym, subst, arith, add-zero}
+use Rattle.std.proofs.Common.{◌≡◌, ℕ, ◌+◌, ◌*◌, ◌≤◌, List, [], ◌∷◌, sym, subst, arith, add-zero}
 use Rattle.sof_base.specs.Ports.{OutputView, HasRoom, drained}
 
 pub HasRoom-less : (outputs : List OutputView) (m n : ℕ) → n ≤ m → HasRoom m outputs → HasRoom n outputs
@@ -13,3 +13,10 @@ HasRoom-now p q old new keeps room = subst (λ n. HasRoom n new) (add-zero q) (k
 pub HasRoom-drained : (n : ℕ) (outputs : List OutputView) → n ≤ 1048576 → HasRoom n (drained outputs)
 HasRoom-drained n [] le = tt
 HasRoom-drained n (output ∷ outputs) le = (omega arith, HasRoom-drained n outputs le)
+
+-- room for what is held behind a message, from room for its ticks
+pub room-held : (all left lag a b : ℕ) (old new : List OutputView) → left + lag ≡ all → ((n : ℕ) → HasRoom (61440 * (lag + a) + n) old → HasRoom (61440 * b + n) new) →
+    (n : ℕ) → HasRoom (61440 * (all + a) + n) old → HasRoom (61440 * (left + b) + n) new
+room-held all left lag a b old new is keeps n room =
+    HasRoom-less new (61440 * b + (61440 * left + n)) (61440 * (left + b) + n) (omega arith)
+    (keeps (61440 * left + n) (HasRoom-less old (61440 * (all + a) + n) (61440 * (lag + a) + (61440 * left + n)) (omega (arith, is)) room))

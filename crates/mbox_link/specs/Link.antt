@@ -1,12 +1,13 @@
--- A link over a device, whose messages meet their planned fates.
-use Rattle.std.specs.Prelude.{◌≡◌, ℕ, ◌+◌, Bool, true, false, List, ◌∷◌, Option, Some, None, Result, Ok, Err}
+-- A link over a device, whose messages meet their planned lags and fates.
+use Rattle.std.specs.Prelude.{◌≡◌, ℕ, ◌+◌, Bool, true, false, List, ◌∷◌, replicate, Option, Some, None, Result, Ok, Err}
 use Rattle.mbox_link.specs.Step.{error_reply}
 use Rattle.mbox_link.specs.Exchange.{more}
-use Rattle.mbox_link.specs.Calls.{World, Meaning, Booted, CutOff, Exchanged, Ticked}
+use Rattle.mbox_link.specs.Calls.{World, Meaning, Booted, CutOff, Exchanged, Ticked, Tick, Led}
+use Rattle.mbox_link.specs.declared.fates.Entry.{Entry}
 use Rattle.mbox_link.specs.declared.fates.Fate.{Fate}
 use Rattle.mbox_link.specs.declared.fates.Fate.TheVariants.{Pass, Refuse, Drop, Lose}
 use Rattle.mbox_link.specs.declared.fates.PlanFull.{PlanFull}
-use Rattle.mbox_link.specs.Fates.{planned, without, with_fate, has_room}
+use Rattle.mbox_link.specs.Meetings.{planned, without, with_fate, with_lag, has_room, has_lag_room, lags}
 use Rattle.mbox_link.specs.Wire.{Wire}
 
 -- the device behind the link, with the endpoints' bytes
@@ -19,6 +20,10 @@ Met means Pass request answer w v = Exchanged means request answer w v
 Met means (Refuse e) request answer w v = (answer ≡ Some (error_reply e)) × (v ≡ w)
 Met means Drop request answer w v = (answer ≡ None) × (v ≡ w)
 Met {P} means Lose request answer w v = (answer ≡ None) × (lost : Option (List ℕ)) × Exchanged means request lost w v
+
+-- what a message of this lag and fate does: so many ticks of the device come first, one after another
+abbrev pub MetLate : {P : Type 0} → Meaning P → ℕ → Fate → List ℕ → Option (List ℕ) → World P → World P → Type 0
+MetLate {P} means lag fate request answer w v = (m : World P) × Led means w (replicate lag Tick) m × Met means fate request answer m v
 
 -- the counts of the link's own failures
 abbrev pub dropped_after : Fate → ℕ → ℕ
@@ -37,9 +42,12 @@ refused_after Lose count = count
 abbrev pub over : {P : Type 0} → Wire P → P → Wire P
 over link dsp = record { device = dsp; entries = link.entries; sent = link.sent; dropped = link.dropped; refused = link.refused }
 
--- the fate of the message that comes next
+-- the fate and the lag of the message that comes next
 abbrev pub next_fate : {P : Type 0} → Wire P → Fate
-next_fate link = planned link.entries (more link.sent)
+next_fate link = (planned link.entries (more link.sent)).fate
+
+abbrev pub next_lag : {P : Type 0} → Wire P → ℕ
+next_lag link = (planned link.entries (more link.sent)).lag
 
 -- the link after a message
 abbrev pub after_message : {P : Type 0} → Wire P → P → Wire P
@@ -51,24 +59,24 @@ after_message link dsp = record {
   refused = refused_after (next_fate link) link.refused;
 }
 
--- the link once the k-th message from now has a fate
-abbrev pub with_plan : {P : Type 0} → ℕ → Fate → Wire P → Wire P
-with_plan k fate link = record {
-  device = link.device;
-  entries = with_fate (link.sent + k) fate link.entries;
-  sent = link.sent;
-  dropped = link.dropped;
-  refused = link.refused;
-}
+-- the link with other entries, and all else the same
+abbrev pub holding : {P : Type 0} → Wire P → List Entry → Wire P
+holding link entries = record { device = link.device; entries = entries; sent = link.sent; dropped = link.dropped; refused = link.refused }
 
--- there is room for a fate of the k-th message from now
-abbrev pub can_plan : {P : Type 0} → ℕ → Wire P → Bool
-can_plan k link = has_room (link.sent + k) link.entries
+-- what planning came to: these entries are held, or there was no room and nothing changed
+abbrev pub PlannedSo : {P : Type 0} → Bool → List Entry → Wire P → Result (Unit {0}) PlanFull → Wire P → Type 0
+PlannedSo room entries old (Ok done) new = (room ≡ true) × (new ≡ holding old entries)
+PlannedSo room entries old (Err full) new = (room ≡ false) × (new ≡ old)
 
--- what planning that fate came to: it is planned, or there was no room and nothing changed
+-- what planning a fate of the k-th message from now came to
 abbrev pub Planned : {P : Type 0} → ℕ → Fate → Wire P → Result (Unit {0}) PlanFull → Wire P → Type 0
-Planned k fate old (Ok done) new = (can_plan k old ≡ true) × (new ≡ with_plan k fate old)
-Planned k fate old (Err full) new = (can_plan k old ≡ false) × (new ≡ old)
+Planned k fate old result new =
+    let n = old.sent + k in PlannedSo (has_room n old.entries) (with_fate n fate old.entries) old result new
+
+-- what planning so many ticks before it came to
+abbrev pub LagPlanned : {P : Type 0} → ℕ → ℕ → Wire P → Result (Unit {0}) PlanFull → Wire P → Type 0
+LagPlanned k ticks old result new =
+    let n = old.sent + k in PlannedSo (has_lag_room n ticks old.entries) (with_lag n ticks old.entries) old result new
 
 abbrev pub link : {P : Type 0} → Meaning P → Meaning (Wire P)
 link means =
@@ -77,12 +85,12 @@ link means =
       faults = λ l. l.dropped ∷ means.faults l.device;
       refusals = λ l. l.refused ∷ means.refusals l.device;
       boots = λ l. means.boots l.device;
-      pending = λ l. means.pending l.device;
+      pending = λ l. lags l.entries + means.pending l.device;
       most = λ l. means.most l.device;
       boot = λ heap w v. Booted means heap w.device v.device × (v ≡ over w v.device);
       cut = λ w v. CutOff means w.device v.device × (v ≡ over w v.device);
       exchange = λ request answer w v.
-          Met means (next_fate w.device) request answer (inner w) (inner v)
+          MetLate means (next_lag w.device) (next_fate w.device) request answer (inner w) (inner v)
           × (v.device ≡ after_message w.device v.device.device);
       tick = λ w v. Ticked means (inner w) (inner v) × (v.device ≡ over w.device v.device.device);
     }

@@ -2,7 +2,7 @@
 use Rattle.std.specs.Prelude.{ℕ, List, []}
 use Rattle.mbox_link.specs.declared.fates.Entry.{Entry}
 
--- a link: its device, the planned fates that are held, the messages so far, and how many of them it lost and refused
+-- a link: its device, the planned fates and lags that are held, the messages so far, and how many of them it lost and refused
 pub record Wire (P : Type 0) : Type 0 where
   pub device : P
   pub entries : List Entry

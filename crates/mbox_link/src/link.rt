@@ -1,7 +1,10 @@
 // A link over a device.
-ghost use Rattle.std.specs.Prelude.{◌≡◌, ◌≤◌, ◌<◌, ◌^◌, length};
+ghost use Rattle.std.specs.Prelude.{◌≡◌, ◌+◌, ◌≤◌, ◌<◌, ◌*◌, ◌^◌, length, replicate, is_some, true};
+ghost use Rattle.sof_base.specs.Ports.{HasRoom};
+ghost use Rattle.sof_base.specs.declared.limits.TheConstants.{TURN_BYTES};
+ghost use Rattle.mbox_link.specs.Calls.{Tick, Led, world};
 ghost use Rattle.mbox_link.specs.Fates.{IsMeant};
-ghost use Rattle.mbox_link.specs.Link.{link, Planned};
+ghost use Rattle.mbox_link.specs.Link.{link, Planned, LagPlanned};
 ghost use Rattle.mbox_link.specs.Wire.{new_link};
 
 use crate::device::{Dsp, LinkFault};
@@ -16,7 +19,8 @@ pub struct NoRoom<P: Dsp> {
     pub dsp: P,
 }
 
-/// A device behind a link that plans the fates of its messages. It counts those that it loses and those that it refuses.
+/// A device behind a link that plans the fates of its messages, and ticks before them. It counts the messages that it loses
+/// and those that it refuses.
 #[derive(Drop)]
 pub struct FaultLink<P: Dsp> {
     dsp: P,
@@ -68,16 +72,16 @@ impl<P: Dsp> FaultLink<P> {
         self.sent
     }
 
-    /// How many planned fates are held, at most 64. One is held until its message comes.
+    /// How many messages something is planned for, at most 64. It is held until its message comes.
     pub fn held(&self) -> u32
         ensures { result ≡ length self.now.entries }
     {
         self.fates.len()
     }
 
-    /// Gives the k-th message from now this fate, in place of one that it had. It takes no memory.
+    /// Gives the k-th message from now this fate, in place of one that it had, and leaves its lag. It takes no memory.
     ///
-    /// `PlanFull`: 64 fates of other messages are held, and nothing changes.
+    /// `PlanFull`: entries of 64 other messages are held, and nothing changes.
     pub fn plan(&mut self, k: u32, fate: Fate) -> Result<(), PlanFull>
         requires some { 1 ≤ k }
         requires meant { IsMeant fate }
@@ -85,6 +89,33 @@ impl<P: Dsp> FaultLink<P> {
         ensures { Planned k fate self.old result self.new }
     {
         self.fates.put(self.sent + u64::from(k), fate)
+    }
+
+    /// Lets so many ticks of the device come before the k-th message from now, whatever its fate, in place of those that it
+    /// had. It takes no memory.
+    ///
+    /// `PlanFull`: entries of 64 other messages are held, or their lags and this one are more than 16 ticks, and nothing
+    /// changes.
+    pub fn lag(&mut self, k: u32, ticks: u32) -> Result<(), PlanFull>
+        requires some { 1 ≤ k }
+        requires short { ticks ≤ 16 }
+        requires few { self.old.sent < 2 ^ 63 }
+        ensures { LagPlanned k ticks self.old result self.new }
+    {
+        self.fates.put_lag(self.sent + u64::from(k), ticks)
+    }
+}
+
+// So many ticks of a device that is on, one after another.
+fn pass_ticks<P: Dsp>(dsp: &mut P, ticks: u32, io: &mut Inputs, out: &mut Outputs)
+    requires on { is_some (P.means.on dsp.old) ≡ true }
+    requires room { HasRoom (TURN_BYTES * (ticks + P.means.pending dsp.old)) out.old }
+    ensures came { Led P.means (world dsp.old io.old out.old) (replicate ticks Tick) (world dsp.new io.new out.new) }
+    ensures on { is_some (P.means.on dsp.new) ≡ true }
+    ensures room { HasRoom (TURN_BYTES * P.means.pending dsp.new) out.new }
+{
+    for _ in 0..ticks {
+        dsp.tick(io, out);
     }
 }
 
@@ -114,8 +145,11 @@ impl<P: Dsp> Dsp for FaultLink<P> {
         io: &mut Inputs,
         out: &mut Outputs,
     ) -> Result<usize, LinkFault> {
-        self.sent = self.sent.saturating_add(1);
-        match self.fates.take(self.sent) {
+        let number = self.sent.saturating_add(1);
+        let met = self.fates.take(number);
+        pass_ticks(&mut self.dsp, met.lag, io, out);
+        self.sent = number;
+        match met.fate {
             Fate::Pass => self.dsp.exchange(request, reply, io, out),
             Fate::Refuse(error) => {
                 self.refused = self.refused.saturating_add(1);

@@ -1,9 +1,12 @@
-use Rattle.mbox_link.proofs.FateLaws.{Kept-none, Kept-pass-at, Kept-push-at, Kept-end}
+use Rattle.std.proofs.Common.{◌≡◌, sym, subst}
+use Rattle.mbox_link.specs.Meetings.{without}
+use Rattle.mbox_link.specs.Fates.{AreHeld}
+use Rattle.mbox_link.proofs.FateLaws.{Kept-none, Kept-pass-at, Kept-push-at, Kept-end, AreHeld-without}
 use Rattle.mbox_link.proofs.fates.others.Goals.{then-entry-number, else-entry-number}
 use Rattle.mbox_link.proofs.fates.others.Goals as goal
 
 pub loop-entry-init : goal.loop-entry-init
-loop-entry-init c = rw c.new-left.ensures (Kept-none c.args.number c.args.entries.now c.requires.meant)
+loop-entry-init c = rw c.new-left.ensures (Kept-none c.args.number c.args.entries.now)
 
 pub loop-entry-preserved : goal.loop-entry-preserved
 loop-entry-preserved c = elim c.if-entry-number.branch [
@@ -12,7 +15,9 @@ loop-entry-preserved c = elim c.if-entry-number.branch [
 ]
 
 pub returns : goal.returns
-returns c = record {
-  left = Kept-end c.args.number c.loop-entry.left.items c.args.entries.now c.loop-entry.entry-index c.loop-entry-test.false c.loop-entry.invariant;
-  left_meant = c.loop-entry.invariant.left_meant;
-}
+returns c =
+    let left : c.loop-entry.left.items ≡ without c.args.number c.args.entries.now = Kept-end c.args.number c.loop-entry.left.items c.args.entries.now c.loop-entry.entry-index c.loop-entry-test.false c.loop-entry.invariant in
+    record {
+      left = left;
+      left_held = subst AreHeld (sym left) (AreHeld-without c.args.number c.args.entries.now c.requires.held);
+    }

@@ -1,6 +1,7 @@
 use Rattle.std.proofs.Common.{◌≡◌, drop}
-use Rattle.mbox_link.specs.Fates.{planned, AllMeant}
-use Rattle.mbox_link.proofs.fates.fate_of.Given as goal
+use Rattle.mbox_link.specs.Meetings.{planned}
+use Rattle.mbox_link.specs.Fates.{AllMeant}
+use Rattle.mbox_link.proofs.fates.entry_of.Given as goal
 
 abbrev pub invariant-loop-entry : goal.invariant-loop-entry
 invariant-loop-entry l =

@@ -21,13 +21,13 @@ use Rattle.host_widgets.proofs.WalksHold.{AreTaken, HaveLaw, none-taken, plainly
 use Rattle.host_ctl.proofs.ControlParts.{part-is}
 use Rattle.host_widgets.specs.Kept.{control_at, with_control}
 use Rattle.std.specs.Option.{option_and_then}
-use Rattle.host_ctl.specs.ControlAsks.{named_control, channels_of, spread, setting_fault, set_fault, name_fault, off_fault, read_fault}
+use Rattle.host_ctl.specs.ControlAsks.{named_control, channels_of, spread, setting_fault, set_fault, name_fault, read_fault}
 use Rattle.host_ctl.specs.ControlOrders.{command_of, setting_order, set_order, reading_order, read_order, ask_acts, said_by}
 use Rattle.host_ctl.specs.ControlPlaces.{control_place, control_here, record_here}
 use Rattle.host_ctl.proofs.ControlsThere.{live, at-here, named-here, lost-here}
 use Rattle.host_ctl.proofs.ControlsTaken.{put-is, ask-is}
 use Rattle.host_ctl.proofs.ControlTests.{loaded, place-low, settable, set-passes}
-use Rattle.host_widgets.specs.Named.{is_named}
+use Rattle.host_widgets.specs.Named.{is_named, off_fault}
 
 -- no act goes on after a refusal
 ends : {X : Type 0} → false ≡ true → X

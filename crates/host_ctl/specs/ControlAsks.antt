@@ -8,10 +8,8 @@ use Rattle.tplg_plan.specs.declared.plans.ControlKind.{ControlKind}
 use Rattle.tplg_plan.specs.declared.plans.ControlKind.TheVariants.{Volume, Choice, Blob}
 use Rattle.host_widgets.specs.declared.answers.HostFault.{HostFault}
 use Rattle.host_widgets.specs.declared.answers.HostFault.TheVariants as faults
-use Rattle.host_widgets.specs.declared.kept.Power.{Power}
-use Rattle.host_widgets.specs.declared.kept.Power.TheVariants as powers
 use Rattle.host_widgets.specs.declared.kept.Record.{Record}
-use Rattle.host_widgets.specs.Named.{is_named, loaded_fault}
+use Rattle.host_widgets.specs.Named.{is_named, loaded_fault, off_fault}
 
 -- the live control of the component of this name
 abbrev pub named_control : Plan → List ℕ → Option ControlPlan
@@ -83,9 +81,5 @@ abbrev pub get_fault : Plan → Record → List ℕ → Option HostFault
 get_fault plan kept name = loaded_fault kept.power (name_fault name (named_control plan name) None)
 
 -- what is asked of the firmware asks for the power
-abbrev pub off_fault : Power → Option HostFault
-off_fault powers.Off = Some faults.Off
-off_fault power = None
-
 abbrev pub read_fault : Plan → Record → List ℕ → Option HostFault
 read_fault plan kept name = loaded_fault kept.power (name_fault name (named_control plan name) (off_fault kept.power))

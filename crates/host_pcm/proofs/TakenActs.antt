@@ -95,7 +95,7 @@ or_true false false true d = refl
 or_true false false false true = refl
 or_true false false false false = refl
 
-last-test : (x a b c d g : Bool) (e i : ℤ) (y f : FwState) → (if x then Err e else if a || b || c || d || not g then Err i else Ok y) ≡ Ok f → (g ≡ true) × (y ≡ f)
+pub last-test : (x a b c d g : Bool) (e i : ℤ) (y f : FwState) → (if x then Err e else if a || b || c || d || not g then Err i else Ok y) ≡ Ok f → (g ≡ true) × (y ≡ f)
 last-test true a b c d g e i y f is = absurd (cc is)
 last-test false a b c d false e i y f is = absurd (cc (sym (ap (λ (t : Bool). if t then Err i else Ok y) (or_true a b c d)) ∙ is))
 last-test false a b c d true e i y f is = (refl, by (a || b || c || d || false) is)

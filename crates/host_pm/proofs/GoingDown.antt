@@ -1,12 +1,15 @@
 -- The acts before a cut, in every plan: the firmware takes each, whatever became of those before it, and no act changes what the
 -- record is once the power is off.
-use Rattle.std.proofs.Common.{◌≡◌, refl, sym, ap, subst, ◌∙◌, ℕ, suc, ◌<◌, List, [], ◌∷◌, ◌++◌, map, length, zip, get_or, Bool, true, false, ◌==◌, Ok, Err, arith}
+use Rattle.std.proofs.Common.{◌≡◌, refl, sym, ap, subst, ◌∙◌, ℕ, suc, ◌<◌, List, [], ◌∷◌, ◌++◌, map, length, zip, get_or, Bool, true, false, ◌==◌, Some, None, Ok, Err, arith}
 use Rattle.std.specs.Prelude.{if◌then◌else◌}
 use Rattle.std.specs.List.{AllByRecursion, flat_map}
 use Rattle.std.proofs.lemmas.Bool.{eqb-true}
+use Rattle.std.proofs.lemmas.List.{append_assoc}
 use Rattle.sof_base.specs.Slots.{AreSlots, IsSlot}
 use Rattle.stream_law.specs.Placed.{AreAbove, Ascends}
-use Rattle.stream_law.specs.State.{FwState, view_of}
+use Rattle.stream_law.specs.State.{FwState, View, view_of}
+use Rattle.stream_law.specs.Past.{Now, Leads}
+use Rattle.stream_law.specs.Stands.{Stands}
 use Rattle.ipc3_codec.specs.Messages.{IsMessage, decoded, message_spelling}
 use Rattle.ipc3_codec.specs.declared.message.Message.TheVariants.{CtxSave}
 use Rattle.mbox_link.specs.Step.{body_of, fresh}
@@ -32,10 +35,12 @@ use Rattle.host_widgets.specs.ViewOf.{view_by}
 use Rattle.host_widgets.specs.Walk.{walk, joined, goes_past}
 use Rattle.host_widgets.specs.ActCalls.{next_of}
 use Rattle.host_widgets.proofs.Effects.{decoded-message}
-use Rattle.host_widgets.proofs.OneActLaws.{bare-passes}
+use Rattle.host_widgets.proofs.OneActLaws.{IsPlain, IsTaken, LeavesSo, bare-passes, plain-ready, stream-taken}
 use Rattle.host_widgets.proofs.ReadyWays.{has_host}
 use Rattle.host_widgets.proofs.StreamPlaces.{streams-ascend, place-has, place-all}
 use Rattle.host_widgets.proofs.StreamRows.{AllAt}
+use Rattle.host_widgets.proofs.StandingOn.{same-now}
+use Rattle.host_widgets.proofs.WalksHold.{AreTaken, HaveLaw}
 use Rattle.host_pcm.specs.Asks.{takes_trigger}
 use Rattle.host_pcm.proofs.StreamAnswers.{all-at}
 use Rattle.host_pcm.proofs.StreamsTaken.{trig-is, trig-comes}
@@ -80,6 +85,7 @@ save-fits = ((tt, (omega arith, tt)), tt)
 module _ (plan : Plan) (heap : ℕ) where
   -- an act that the firmware takes, and that leaves what the record is once the power is off
   pub record IsDown (now : Record) (act : Act) : Type 0 where
+    pub taken : IsTaken plan now act
     pub met : IsMet plan heap (λ f. Unit {0}) now (view_by plan now) (view_by plan (after plan act now)) act
     pub halts : went_down (after plan act now) ≡ went_down now
 
@@ -87,6 +93,11 @@ module _ (plan : Plan) (heap : ℕ) where
   abbrev pub AreDown : Record → List Act → Type 0
   AreDown now [] = Unit {0}
   AreDown now (act ∷ acts) = IsDown now act × AreDown (after plan act now) acts × AreDown now acts
+
+  -- so each has the law of one act
+  have-law : (acts : List Act) (now : Record) → AreDown now acts → HaveLaw plan true now acts
+  have-law [] now are = tt
+  have-law (act ∷ acts) now are = (are.0.taken, (λ will. have-law acts (after plan act now) are.1), λ on. have-law acts now are.2)
 
   pub are-met : (acts : List Act) (now : Record) → AreDown now acts → AreMet plan heap true (λ v. Unit {0}) (λ f. Unit {0}) now (view_by plan now) acts
   are-met [] now are = tt
@@ -130,9 +141,28 @@ module _ (plan : Plan) (heap : ℕ) where
     abbrev AllHere : List StreamPlan → Type 0
     AllHere ss = AllByRecursion (λ (s : StreamPlan). has_host plan.streams s.host ≡ true) ss
 
-    save-down : (now : Record) → AreDown now (Save ∷ [])
-    save-down now = (
+    -- the firmware goes on as it is
+    save-taken : (now : Record) → IsRecordOf plan now → IsTaken plan now Save
+    save-taken now is = record {
+      message = save-fits;
+      passes = λ f. bare-passes (body_of f (decoded (message_spelling (message_of plan Save)))) (ap (body_of f) (decoded-message CtxSave save-fits));
+      record_is = is;
+      leaves = λ f f' shows rings ready done.
+          let same : f ≡ f' = cc done in
+          subst (λ (g : FwState). LeavesSo plan Save f g now) same record {
+            record_now = is;
+            shows_now = shows;
+            heap = refl;
+            rings = rings;
+            stands = λ whole inputs before stood.
+                subst (λ (v : View). (after_it : Stands (Some f) whole inputs (before ++ Now v None ∷ [])) × Leads whole stood.past (Now v None ∷ []) after_it.past) shows (same-now f whole inputs before stood);
+          };
+    }
+
+    save-down : (now : Record) → IsRecordOf plan now → AreDown now (Save ∷ [])
+    save-down now is = (
       record {
+        taken = save-taken now is;
         met = record {
           message = save-fits;
           passes = λ f. bare-passes (body_of f (decoded (message_spelling (message_of plan Save)))) (ap (body_of f) (decoded-message CtxSave save-fits));
@@ -161,6 +191,7 @@ module _ (plan : Plan) (heap : ℕ) where
           let s = trig-is plan sound now is host some Stop takes in
           let a = trig-comes plan sound now is host some heap Stop takes in
           record {
+            taken = stream-taken plan now (Trig host Stop) s;
             met = record {
               message = a.message;
               passes = a.passes;
@@ -180,8 +211,8 @@ module _ (plan : Plan) (heap : ℕ) where
 
     downwards : (ss : List StreamPlan) (rs : List StreamRec) (now : Record) → IsRecordOf plan now → Ascends (λ (s : StreamPlan). s.host) ss → AllHere ss → AllStand now ss rs → AreDown now (flat_map stop_acts (zip ss rs) ++ Save ∷ [])
     unfolding Ascends
-    downwards [] rs now is up here stand = save-down now
-    downwards (s ∷ ss) [] now is up here stand = save-down now
+    downwards [] rs now is up here stand = save-down now is
+    downwards (s ∷ ss) [] now is up here stand = save-down now is
     downwards (s ∷ ss) (r ∷ rs) now is up here stand = by r.found refl (downwards ss rs now is up.1 here.1 stand.1) (λ will. downwards ss rs (after plan (Trig s.host Stop) now) will up.1 here.1 (others-stand now s.host ss rs up.0 stand.1))
       where
         rest : List Act
@@ -216,3 +247,26 @@ module _ (plan : Plan) (heap : ℕ) where
     pub going-down : (kept : Record) → IsRecordOf plan kept → AreDown kept (go_down plan kept)
     going-down kept is = downwards plan.streams kept.streams kept is (streams-ascend plan sound) (here-by plan.streams (place-has plan sound))
         (stand-by kept plan.streams kept.streams (λ k low. place-all plan sound k low (λ x. x.found ≡ (get_or kept.streams k closed).found) kept.streams refl))
+
+    -- they ask nothing of what is staged
+    plain-one : (host : ℕ) (found : Found) (rest : List Act) → AllByRecursion IsPlain rest → AllByRecursion IsPlain (stop_by host found ++ rest)
+    plain-one host Running rest all = (tt, all)
+    plain-one host Paused rest all = (tt, all)
+    plain-one host Closed rest all = all
+    plain-one host Open rest all = all
+    plain-one host Prepared rest all = all
+    plain-one host Found_On rest all = all
+
+    plain-down : (ss : List StreamPlan) (rs : List StreamRec) → AllByRecursion IsPlain (flat_map stop_acts (zip ss rs) ++ Save ∷ [])
+    plain-down [] rs = (tt, tt)
+    plain-down (s ∷ ss) [] = (tt, tt)
+    plain-down (s ∷ ss) (r ∷ rs) =
+        subst (AllByRecursion IsPlain) (sym (append_assoc (stop_by s.host r.found) (flat_map stop_acts (zip ss rs)) (Save ∷ [])))
+        (plain-one s.host r.found (flat_map stop_acts (zip ss rs) ++ Save ∷ []) (plain-down ss rs))
+
+    -- so the firmware takes them all, whatever becomes of each
+    pub down-taken : (kept : Record) → IsRecordOf plan kept → AreTaken plan true kept (go_down plan kept)
+    down-taken kept is = record {
+      each = have-law (go_down plan kept) kept (going-down kept is);
+      ready = plain-ready plan true (go_down plan kept) (plain-down plan.streams kept.streams);
+    }

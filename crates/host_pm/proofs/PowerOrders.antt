@@ -1,8 +1,7 @@
 -- A suspend and a resume are orders that are carried out.
-use Rattle.std.proofs.Common.{◌≡◌, map, refl, sym, ap, subst, ◌∙◌, ℕ, List, [], ◌∷◌, ◌++◌, zip, Bool, true, false, Some, None, Ok, Err, arith}
+use Rattle.std.proofs.Common.{◌≡◌, map, refl, sym, ap, subst, ◌∙◌, ℕ, ◌+◌, ◌-◌, ◌≤◌, ◌%◌, ◌^◌, List, [], ◌∷◌, ◌++◌, zip, Bool, true, false, Some, None, Ok, Err, arith}
 use Rattle.std.specs.List.{AllByRecursion, flat_map, list_any}
 use Rattle.std.specs.Option.{option_map}
-use Rattle.stream_law.specs.declared.graph.Edge.{Edge}
 use Rattle.stream_law.specs.State.{RingView, FwState, view_of}
 use Rattle.stream_law.specs.Ways.{is_live_phase}
 use Rattle.mbox_link.specs.Meetings.{Meeting}
@@ -17,7 +16,7 @@ use Rattle.host_widgets.specs.declared.kept.Power.TheVariants.{On}
 use Rattle.host_widgets.specs.declared.kept.Record.{Record}
 use Rattle.host_widgets.specs.Kept.{went_down, with_power}
 use Rattle.host_widgets.specs.Expected.{phase_of}
-use Rattle.host_widgets.specs.Host.{Outcome, Agrees, IsRecordOf, Sides}
+use Rattle.host_widgets.specs.Host.{Outcome, Agrees, IsRecordOf, Sides, ticks_put}
 use Rattle.host_widgets.specs.HostActs.{Act, after}
 use Rattle.host_widgets.specs.ActLists.{go_down, bring_up, bring_back, prepare_acts}
 use Rattle.host_widgets.specs.OneAct.{own, outcome_by, lag_of, came}
@@ -27,11 +26,13 @@ use Rattle.host_widgets.specs.Orders.{ActsCame, Carried, suspending, resuming, b
 use Rattle.host_widgets.specs.StateOf.{state_by}
 use Rattle.host_widgets.specs.ViewOf.{view_by}
 use Rattle.host_widgets.proofs.BuildingActs.{bring-leaves}
+use Rattle.host_widgets.proofs.SilentTicks.{AreInputs}
 use Rattle.host_pm.specs.InTurn.{InTurn}
 use Rattle.host_pm.specs.Resumed.{Resumed}
 use Rattle.host_pm.proofs.TurnsCome.{Came, turns-come}
 use Rattle.host_pm.proofs.GoingDown.{are-met, walk-down, going-down}
-use Rattle.host_pm.proofs.Unprepared.{IsFine, bare_from, bare-view, coming-back, prepares-stay, all-were}
+use Rattle.host_pm.proofs.Unprepared.{IsFine, bare_from, bare-view, coming-back, empty-buffers, prepares-stay, all-were}
+use Rattle.host_pm.proofs.StillTurns.{IsRested, Rests, rests, all-prepare, brought-rested}
 
 -- ---- walks that end at the first failure
 
@@ -109,20 +110,18 @@ module _ {D : Type 0} (means : Meaning D) (plan : Plan) (heap : ℕ) where
       by (Err (Range n)) on is go = (on, refl)
       by (Err (Blob n)) on is go = (on, refl)
 
-  -- where no tick is pending, none is after them
-  acts-quiet : (acts : List Act) (ms : List Meeting) (kept : Record) (w v : World D) → did_acts kept acts ms w v → means.pending w.device ≡ 0 → means.pending v.device ≡ 0
-  acts-quiet [] ms kept w v did quiet = ap (λ (x : World D). means.pending x.device) did.1 ∙ quiet
-  acts-quiet (act ∷ acts) [] kept w v did quiet = absurd did
-  acts-quiet (act ∷ acts) (one ∷ ms) kept w v (mid, did, onwards) quiet =
+  -- no more ticks are pending after them
+  acts-fewer : (acts : List Act) (ms : List Meeting) (kept : Record) (w v : World D) → did_acts kept acts ms w v → means.pending v.device ≤ means.pending w.device
+  acts-fewer [] ms kept w v did = let same : means.pending v.device ≡ means.pending w.device = ap (λ (x : World D). means.pending x.device) did.1 in omega (arith, same)
+  acts-fewer (act ∷ acts) [] kept w v did = absurd did
+  acts-fewer (act ∷ acts) (one ∷ ms) kept w v (mid, did, onwards) =
       let a = came plan act kept (lag_of one) (outcome_by one.fate (own plan heap kept act)) in
-      by (goes_past false a.outcome) (did_acts a.kept acts ms mid v) onwards (λ more. acts-quiet acts ms a.kept mid v more still-quiet)
+      let first = did.exchanged.steady.pending in
+      let rest = by (goes_past false a.outcome) (did_acts a.kept acts ms mid v) onwards (λ more. acts-fewer acts ms a.kept mid v more) in omega (arith, first, rest)
     where
-      still-quiet : means.pending mid.device ≡ 0
-      still-quiet = let less = did.exchanged.steady.pending in omega (arith, quiet, less)
-
-      by : (b : Bool) (Rest : Type 0) → Onwards b ms mid v Rest → (Rest → means.pending v.device ≡ 0) → means.pending v.device ≡ 0
+      by : (b : Bool) (Rest : Type 0) → Onwards b ms mid v Rest → (Rest → means.pending v.device ≤ means.pending mid.device) → means.pending v.device ≤ means.pending mid.device
       by true Rest rest go = go rest
-      by false Rest ended go = ap (λ (x : World D). means.pending x.device) ended.1 ∙ still-quiet
+      by false Rest ended go = let same : means.pending v.device ≡ means.pending mid.device = ap (λ (x : World D). means.pending x.device) ended.1 in omega (arith, same)
 
   -- acts that leave the record do so wherever they end
   pub walk-stays : (kept : Record) (acts : List Act) (ms : List Meeting) → AllByRecursion (λ (act : Act). after plan act kept ≡ kept) acts → (walked kept ms acts).kept ≡ kept
@@ -175,7 +174,7 @@ module _ {D : Type 0} (means : Meaning D) (plan : Plan) (heap : ℕ) where
         record { meetings = x.meetings; did = e.did; came = so ∙ x.came ∙ sym e.outcome; left = sym (walk-stays kept (bring_back plan kept) x.meetings back-leaves) }
 
     module _ (mid : Record) (w m v : World D) (result : Outcome) (x : ActsCame means plan heap false (bring_up plan kept) kept mid w m (Ok tt)) (n : ℕ) (on : means.on m.device ≡ Some (state_by plan kept heap n)) (turn : InTurn means plan false prepares m v result) where
-      prepared-so : Came plan heap false (λ v. v ≡ view_by plan kept) (IsFine plan heap) means (state_by plan kept heap n) kept prepares m v result
+      prepared-so : Came plan heap false (λ v. v ≡ view_by plan kept) (IsFine plan heap) means kept prepares m v result
       prepared-so = turns-come plan heap false (λ v. v ≡ view_by plan kept) (IsFine plan heap) means prepares kept (view_by plan (bare_from plan plan.streams kept)) m v result
           (state_by plan kept heap n, on, sym (bare-view plan kept is)) (coming-back plan heap sound kept is still) turn
 
@@ -196,22 +195,35 @@ module _ {D : Type 0} (means : Meaning D) (plan : Plan) (heap : ℕ) where
       pub back-shows : result ≡ Ok tt → option_map view_of (means.on v.device) ≡ Some (view_by plan kept)
       back-shows ok = let e = prepared-so.ends ok in ap (option_map view_of) e.1 ∙ ap Some e.2
 
-      empty-buffers : (es : List Edge) → map (λ (r : RingView). r.buffer) (map (λ (e : Edge). record { buffer = e.buffer; frames = [] }) es) ≡ map (λ (e : Edge). e.buffer) es
-      empty-buffers [] = refl
-      empty-buffers (e ∷ es) = λ i. e.buffer ∷ empty-buffers es i
+      -- no audio was moved
+      module _ (counted : n ≡ ticks_put means w.device m.device) (are : AreInputs m.io.inputs) where
+        abbrev t : ℕ
+        t = means.pending w.device - means.pending m.device
 
-      -- no audio was moved where no tick was pending
-      pub back-left : n ≡ 0 → result ≡ Ok tt → means.pending w.device ≡ 0 → Resumed means plan heap kept v.device
-      back-left zero_is ok quiet =
-          let e = prepared-so.ends ok in
-          let fine = e.3 (acts-quiet (bring_up plan kept) x.meetings kept w m x.did quiet) (record { pieces = refl; clock = zero_is; rings = refl }) in
-          record {
-            state = e.0;
-            on = e.1;
-            keeps = record { view = e.2; pieces = fine.pieces; rings = ap (map (λ (r : RingView). r.buffer)) fine.rings ∙ empty-buffers plan.graph.edges };
-            clock = fine.clock;
-            rings = fine.rings;
-          }
+        rested-so : Rests plan heap sound (λ v. v ≡ view_by plan kept) (IsFine plan heap) means m v t (walked kept prepared-so.meetings prepares).outcome
+        rested-so = rests plan heap sound (λ v. v ≡ view_by plan kept) (IsFine plan heap) means prepares prepared-so.meetings kept (view_by plan (bare_from plan plan.streams kept)) m v
+            (coming-back plan heap sound kept is still) (all-prepare plan.streams kept.streams) prepared-so.did are t (state_by plan kept heap n) on
+            (subst (λ (k : ℕ). IsRested plan heap t (state_by plan kept heap k)) (sym counted) (brought-rested plan heap kept t))
+
+        pub back-io : v.io ≡ m.io
+        back-io = rested-so.io
+
+        pub back-left : result ≡ Ok tt → Resumed means plan heap kept (ticks_put means w.device v.device) v.device
+        back-left ok =
+            let e = prepared-so.ends ok in
+            let r = rested-so.on (sym prepared-so.is ∙ ok) in
+            let one : Some r.0 ≡ Some e.0 = sym r.1 ∙ e.1 in
+            let same : r.0 ≡ e.0 = cc one in
+            let rested = subst (IsRested plan heap (t + (means.pending m.device - means.pending v.device))) same r.2 in
+            let first = acts-fewer (bring_up plan kept) x.meetings kept w m x.did in
+            let all : t + (means.pending m.device - means.pending v.device) ≡ means.pending w.device - means.pending v.device = omega (arith, first, rested-so.fewer) in
+            record {
+              state = e.0;
+              on = e.1;
+              keeps = record { view = e.2; pieces = rested.pieces; rings = ap (map (λ (x : RingView). x.buffer)) rested.rings ∙ empty-buffers plan.graph.edges };
+              clock = rested.clock ∙ ap (λ (k : ℕ). k % 2 ^ 32) all;
+              rings = rested.rings;
+            }
 
   module _ (kept kept' mid : Record) (w b s : World D) (result : Outcome) (boot : Did means (Boot heap) w b) (x : ActsCame means plan heap false (bring_back plan kept) kept mid b s result) where
     abbrev EndsSo : World D → Record → Outcome → Type 0

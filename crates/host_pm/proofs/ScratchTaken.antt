@@ -4,7 +4,6 @@ use Rattle.std.specs.Prelude.{if◌then◌else◌}
 use Rattle.std.specs.List.{flat_map, list_all}
 use Rattle.std.proofs.lemmas.Bool.{and_parts, cases_Bool, eq-eqb, eqb-true, false≢true}
 use Rattle.sof_base.specs.declared.format.Params.{Params}
-use Rattle.stream_law.specs.declared.graph.Edge.{Edge}
 use Rattle.stream_law.specs.Placed.{AreAbove, Ascends}
 use Rattle.stream_law.specs.State.{FwState, RingView, View, view_of}
 use Rattle.mbox_link.specs.Step.{fresh, row}
@@ -42,7 +41,7 @@ use Rattle.host_pcm.proofs.StreamsTaken.{trig-is, trig-comes}
 use Rattle.host_pm.specs.FromScratch.{IsFromScratch, TakesActs, start_acts, start_by}
 use Rattle.host_pm.proofs.GoingDown.{elsewhere}
 use Rattle.host_pm.proofs.TurnsCome.{AreMet}
-use Rattle.host_pm.proofs.Unprepared.{AllWere, IsFine, all-were, bare_from, bare-view, coming-back, fine-seen, own-none, same-kept, takes-kept}
+use Rattle.host_pm.proofs.Unprepared.{AllWere, IsFine, all-were, bare_from, bare-view, coming-back, empty-buffers, fine-seen, own-none, same-kept, takes-kept}
 
 -- ---- one list behind another
 
@@ -293,10 +292,6 @@ module _ (plan : Plan) (heap : ℕ) (sound : IsSound plan) (kept : Record) where
       by Found_On is_so go = idle (stays Found_On refl is_so) go
 
 -- ---- all of them
-
-empty-buffers : (es : List Edge) → map (λ (r : RingView). r.buffer) (map (λ (e : Edge). record { buffer = e.buffer; frames = [] }) es) ≡ map (λ (e : Edge). e.buffer) es
-empty-buffers [] = refl
-empty-buffers (e ∷ es) = λ i. e.buffer ∷ empty-buffers es i
 
 module _ (plan : Plan) (heap : ℕ) (kept : Record) (sound : IsSound plan) (is : IsRecordOf plan kept) (fits : Fits plan heap) where
   -- the record with each stream prepared that runs or is paused

@@ -1,5 +1,5 @@
 -- Acts that were sent one after another to a device that shows what it should: by what their messages met, they are a walk.
-use Rattle.std.proofs.Common.{◌≡◌, ⊎_elim, refl, sym, ap, subst, ◌∙◌, ℕ, ◌-◌, List, [], ◌∷◌, Bool, true, false, Option, Some, Ok, Err, arith}
+use Rattle.std.proofs.Common.{◌≡◌, ⊎_elim, refl, sym, ap, subst, ◌∙◌, ℕ, ◌-◌, List, [], ◌∷◌, Bool, true, false, Option, Some, Ok, Err}
 use Rattle.sof_base.specs.Ports.{Io}
 use Rattle.sof_base.specs.declared.errno.Errno.{Errno}
 use Rattle.stream_law.specs.State.{FwState, View, view_of}
@@ -56,20 +56,20 @@ module _ (plan : Plan) (heap : ℕ) (goes_on : Bool) (End : View → Type 0) (So
     abbrev Shows : World D → View → Type 0
     Shows v view = (g : FwState) × (means.on v.device ≡ Some g) × (view_of g ≡ view)
 
-    -- where all passed: what is shown then, and where no tick was pending, what stayed so
-    abbrev Ending : FwState → World D → World D → Type 0
-    Ending f w v = (g : FwState) × (means.on v.device ≡ Some g) × End (view_of g) × (means.pending w.device ≡ 0 → So f → So g)
+    -- what is shown where all passed
+    abbrev Ending : World D → Type 0
+    Ending v = (g : FwState) × (means.on v.device ≡ Some g) × End (view_of g)
 
     -- what the messages met, what the walk makes of it, and what the device shows where all passed
-    pub record Came (f : FwState) (kept : Record) (acts : List Act) (w v : World D) (result : Outcome) : Type 0 where
+    pub record Came (kept : Record) (acts : List Act) (w v : World D) (result : Outcome) : Type 0 where
       pub meetings : List Meeting
       pub did : ActsDid means plan heap goes_on kept acts meetings w v
       pub is : result ≡ (walk plan heap goes_on next_of kept meetings acts).outcome
-      pub ends : result ≡ Ok tt → Ending f w v
+      pub ends : result ≡ Ok tt → Ending v
 
-    pub turns-come : (acts : List Act) (kept : Record) (shown : View) (w v : World D) (result : Outcome) → (there : Shows w shown) → AreMet kept shown acts → InTurn means plan goes_on acts w v result → Came there.0 kept acts w v result
+    pub turns-come : (acts : List Act) (kept : Record) (shown : View) (w v : World D) (result : Outcome) → Shows w shown → AreMet kept shown acts → InTurn means plan goes_on acts w v result → Came kept acts w v result
     turns-come [] kept shown w v result (f, on, shows) met turn =
-        record { meetings = []; did = (refl, turn.0); is = turn.1; ends = λ ok. (f, ap (λ (x : World D). means.on x.device) turn.0 ∙ on, subst End (sym shows) met, λ quiet so. so) }
+        record { meetings = []; did = (refl, turn.0); is = turn.1; ends = λ ok. (f, ap (λ (x : World D). means.on x.device) turn.0 ∙ on, subst End (sym shows) met) }
     turns-come (act ∷ acts) kept shown w v result (f, on, shows) (later, law, behind-it, same) (answer, mid, x, behind) =
         let r = by o (subst After said-is after-it) (subst (λ (p : Outcome). Behind (goes_past goes_on p) p More (v ≡ mid) result) said-is behind)
         (λ there rest more. turns-come acts (after plan act kept) later mid v rest there behind-it more)
@@ -85,12 +85,6 @@ module _ (plan : Plan) (heap : ℕ) (goes_on : Bool) (End : View → Type 0) (So
 
         before-shows : view_of before.0 ≡ shown
         before-shows = still n (f, w.io) ∙ shows
-
-        before-is : means.pending w.device ≡ 0 → before ≡ (f, w.io)
-        before-is quiet = ap (λ (k : ℕ). ticks k (f, w.io)) (let none : n ≡ 0 = omega (arith, quiet) in none)
-
-        still-quiet : means.pending w.device ≡ 0 → means.pending mid.device ≡ 0
-        still-quiet quiet = let less = x.steady.pending in omega (arith, quiet, less)
 
         met : Did means plan heap kept act w mid f on answer x
         met = let a = law.answers before.0 before-shows in act-did means plan heap kept act w mid f on answer x law.message law.passes a.0 a.1
@@ -108,17 +102,15 @@ module _ (plan : Plan) (heap : ℕ) (goes_on : Bool) (End : View → Type 0) (So
         More rest = InTurn means plan goes_on acts mid v rest
 
         After : Outcome → Type 0
-        After (Ok done) = (there : Shows mid later) × (means.pending w.device ≡ 0 → So f → So there.0)
+        After (Ok done) = Shows mid later
         After (Err (Refused e)) = Shows mid shown
         After (Err fault) = Unit {0}
 
         after-it : After c
         after-it = ⊎_elim
             (λ took. subst After (sym (ap (λ (a : Option (List ℕ)). came_to (verdict a)) took.said ∙ law.passes before.0))
-            (let done : row before.0 (message_of plan act) ≡ Ok took.next = sym (row-decoded before.0 (message_of plan act) law.message) ∙ took.row in (
-              (took.next, took.on, law.shows before.0 took.next before-shows done),
-              λ quiet so. law.stays before.0 took.next before-shows done (subst (λ (p : FwState × Io). So p.0) (sym (before-is quiet)) so),
-            )))
+            (let done : row before.0 (message_of plan act) ≡ Ok took.next = sym (row-decoded before.0 (message_of plan act) law.message) ∙ took.row in
+            (took.next, took.on, law.shows before.0 took.next before-shows done)))
             (λ rest. ⊎_elim
             (λ it. subst After (sym (ap came_to (ap verdict it.said ∙ verdict-number it.error it.number))) (before.0, it.on, before-shows))
             (λ rest. ⊎_elim
@@ -132,13 +124,13 @@ module _ (plan : Plan) (heap : ℕ) (goes_on : Bool) (End : View → Type 0) (So
         Left p b =
             let a = came plan act kept (lag_of met.0) p in
             (ms : List Meeting) × Onwards b ms mid v (ActsDid means plan heap goes_on a.kept acts ms mid v)
-            × (result ≡ (joined act a ms b (walk plan heap goes_on next_of a.kept ms acts)).outcome) × (result ≡ Ok tt → Ending f w v)
+            × (result ≡ (joined act a ms b (walk plan heap goes_on next_of a.kept ms acts)).outcome) × (result ≡ Ok tt → Ending v)
 
         OnPassed : Type 0
-        OnPassed = (there : Shows mid later) → (rest : Outcome) → More rest → Came there.0 (after plan act kept) acts mid v rest
+        OnPassed = Shows mid later → (rest : Outcome) → More rest → Came (after plan act kept) acts mid v rest
 
         OnRefused : Type 0
-        OnRefused = goes_on ≡ true → (there : Shows mid shown) → (rest : Outcome) → More rest → Came there.0 kept acts mid v rest
+        OnRefused = goes_on ≡ true → Shows mid shown → (rest : Outcome) → More rest → Came kept acts mid v rest
 
         refused : (e : Errno) (b : Bool) → goes_on ≡ b → Shows mid shown → Behind b (Err (Refused e)) More (v ≡ mid) result → OnRefused → Left (Err (Refused e)) b
         refused e true goes there (rest, more, is) on_refused =
@@ -150,9 +142,9 @@ module _ (plan : Plan) (heap : ℕ) (goes_on : Bool) (End : View → Type 0) (So
         stopped fault (none, is) = ([], (refl, none), is, λ ok. absurd (let no : Err fault ≡ Ok tt = sym is ∙ ok in cc no))
 
         by : (p : Outcome) → After p → Behind (goes_past goes_on p) p More (v ≡ mid) result → OnPassed → OnRefused → Left p (goes_past goes_on (came plan act kept (lag_of met.0) p).outcome)
-        by (Ok done) (there, carry) (rest, more, is) on_passed on_refused =
+        by (Ok done) there (rest, more, is) on_passed on_refused =
             let r = on_passed there rest more in
-            (r.meetings, r.did, is ∙ r.is, λ ok. (let e = r.ends (sym is ∙ ok) in (e.0, e.1, e.2, λ quiet so. e.3 (still-quiet quiet) (carry quiet so))))
+            (r.meetings, r.did, is ∙ r.is, λ ok. r.ends (sym is ∙ ok))
         by (Err (Refused e)) there behind on_passed on_refused = refused e goes_on refl there behind on_refused
         by (Err LinkDown) there behind on_passed on_refused = stopped LinkDown behind
         by (Err NotLoaded) there behind on_passed on_refused = stopped NotLoaded behind

@@ -122,6 +122,22 @@ all-bare (s ∷ ss) (r ∷ rs) same all =
     let is = all.0.0 (eq-eqb s.host s.host refl) in
     λ i. stream_view (s, is i) ∷ all-bare ss rs (let rest : length rs ≡ length ss = omega (arith, same) in rest) (behind-set ss s ss r rs all.1) i
 
+-- ---- rings without frames
+
+-- a view leaves them empty
+pub empty-seen : (v : View) (es : List Edge) → map (ring_seen v) (map (λ (e : Edge). record { buffer = e.buffer; frames = [] }) es) ≡ map (λ (e : Edge). record { buffer = e.buffer; frames = [] }) es
+empty-seen v [] = refl
+empty-seen v (e ∷ es) = λ i. by (flows v e.buffer) i ∷ empty-seen v es i
+  where
+    by : (b : Bool) → ◌≡◌ {A = RingView} (record { buffer = e.buffer; frames = if b then [] else [] }) (record { buffer = e.buffer; frames = [] })
+    by true = refl
+    by false = refl
+
+-- they are those of the graph's buffers
+pub empty-buffers : (es : List Edge) → map (λ (r : RingView). r.buffer) (map (λ (e : Edge). record { buffer = e.buffer; frames = [] }) es) ≡ map (λ (e : Edge). e.buffer) es
+empty-buffers [] = refl
+empty-buffers (e ∷ es) = λ i. e.buffer ∷ empty-buffers es i
+
 -- ---- records
 
 module _ (plan : Plan) where
@@ -173,15 +189,7 @@ module _ (plan : Plan) where
 
   -- a change of its streams leaves it so
   pub fine-seen : (heap : ℕ) (v : View) (f : FwState) → IsFine heap f → IsFine heap (seen v None f)
-  fine-seen heap v f fine = record { pieces = fine.pieces; clock = fine.clock; rings = ap (map (ring_seen v)) fine.rings ∙ all-empty plan.graph.edges }
-    where
-      none : (b : Bool) (id : ℕ) → ◌≡◌ {A = RingView} (record { buffer = id; frames = if b then [] else [] }) (record { buffer = id; frames = [] })
-      none true id = refl
-      none false id = refl
-
-      all-empty : (es : List Edge) → map (ring_seen v) (map (λ (e : Edge). record { buffer = e.buffer; frames = [] }) es) ≡ map (λ (e : Edge). record { buffer = e.buffer; frames = [] }) es
-      all-empty [] = refl
-      all-empty (e ∷ es) = λ i. none (flows v e.buffer) e.buffer i ∷ all-empty es i
+  fine-seen heap v f fine = record { pieces = fine.pieces; clock = fine.clock; rings = ap (map (ring_seen v)) fine.rings ∙ empty-seen v plan.graph.edges }
 
   -- ---- one that is prepared
 

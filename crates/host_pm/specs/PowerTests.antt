@@ -5,19 +5,16 @@ use Rattle.host_widgets.specs.declared.answers.HostFault.{HostFault}
 use Rattle.host_widgets.specs.declared.answers.HostFault.TheVariants as faults
 use Rattle.host_widgets.specs.declared.kept.Found.TheVariants as founds
 use Rattle.host_widgets.specs.declared.kept.Power.{Power}
-use Rattle.host_widgets.specs.declared.kept.Power.TheVariants.{On, Off}
+use Rattle.host_widgets.specs.declared.kept.Power.TheVariants.{On}
+use Rattle.host_widgets.specs.Named.{off_fault}
 use Rattle.host_widgets.specs.Orders.{unload_fault}
 
--- a suspend asks for the power, and a resume that it is off
-abbrev pub off_fault : Power → Option HostFault
-off_fault Off = Some faults.Off
-off_fault power = None
-
+-- a resume asks that the power is off
 abbrev pub on_fault : Power → Option HostFault
 on_fault On = Some (faults.State founds.On)
 on_fault power = None
 
--- and both that something is loaded
+-- a suspend asks for the power, and both that something is loaded
 abbrev pub suspend_fault : Power → Option HostFault
 suspend_fault power = option_or (unload_fault power) (off_fault power)
 

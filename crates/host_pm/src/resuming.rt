@@ -97,7 +97,11 @@ fn bring_back<P: Dsp>(
     ensures kept { kept.new ≡ kept.old }
     ensures shows { result ≡ Ok tt → option_map view_of (P.means.on dsp.new) ≡ Some (view_by plan.now kept.old) }
     ensures left { ResumeLeft P.means plan.now heap kept.old dsp.old result dsp.new }
+    ensures inputs { io.new ≡ io.old }
+    ensures outputs { out.new ≡ out.old }
 {
+    // That no two inputs have one slot, and no position is out of range, is what keeps a silent tick silent.
+    let _inputs = io.len();
     bring_up(plan, kept, heap, dsp, io, out)?;
     prepare_all(plan, kept, dsp, io, out)
 }
@@ -119,6 +123,8 @@ fn power_up<P: Dsp>(
     ensures carried { Carried P.means plan.now heap (resuming plan.now kept.old) kept.old kept.new (world dsp.old io.old out.old) (world dsp.new io.new out.new) result }
     ensures agree { Agrees P.means plan.now kept.new dsp.new }
     ensures left { ResumeLeft P.means plan.now heap kept.old dsp.old result dsp.new }
+    ensures inputs { io.new ≡ io.old }
+    ensures outputs { out.new ≡ out.old }
 {
     dsp.boot(heap);
     if let Err(fault) = bring_back(plan, kept, heap, dsp, io, out) {
@@ -131,7 +137,8 @@ fn power_up<P: Dsp>(
 
 /// Resumes the device: it is booted with a heap of so many bytes and brought up to what the record says, also to what was set
 /// while the power was off; then each stream that is prepared has its parameters again, in the order of the plan. It takes no
-/// memory, and the record changes only once every message has passed.
+/// memory, and the record changes only once every message has passed. Nothing moves meanwhile: ticks before its messages count on
+/// the clock alone.
 ///
 /// `NotLoaded`: nothing is loaded, and `State(On)`: the power is on; then nothing changes. `Refused(e)`: a message was
 /// answered with the negative error e, and `LinkDown`: an exchange failed; then the device is off, and the record is as it was.
@@ -150,6 +157,8 @@ pub fn resume<P: Dsp>(
     ensures carried { Tested P.means plan.now heap (resume_fault kept.old.power) (resuming plan.now kept.old) kept.old kept.new (world dsp.old io.old out.old) (world dsp.new io.new out.new) result }
     ensures agree { Agrees P.means plan.now kept.new dsp.new }
     ensures left { ResumeLeft P.means plan.now heap kept.old dsp.old result dsp.new }
+    ensures inputs { io.new ≡ io.old }
+    ensures outputs { out.new ≡ out.old }
 {
     match kept.power {
         Power::Unloaded => Err(HostFault::NotLoaded),

@@ -48,13 +48,13 @@ pub mod OneActLaws
 pub mod BuildingActs
 pub mod LoadOrders
 pub mod LoadEnds
+pub mod SoundPlays
+pub mod StandingOn
 pub mod ActHolds
 pub mod WalksHold
-pub mod WalksStill
 pub mod PartsCome
 pub mod PartsReady
 pub mod BuildingMoments
-pub mod SoundPlays
 pub mod OneMessage
 pub mod ActSteps
 pub mod PlainOrders

@@ -31,11 +31,13 @@ abbrev pub IsReady : Act → FwState → Type 0
 IsReady (Part comp blob k) f = HasStaged comp blob k f
 IsReady act f = Unit {0}
 
--- and acts, one after another, as the firmware takes them, or refuses them where they go on
+-- and acts, one after another, as the firmware takes them, or refuses them where they go on; ticks before a message leave what
+-- is staged
 abbrev pub AreReady : Plan → Bool → List Act → FwState → Type 0
 AreReady plan goes_on [] f = Unit {0}
 AreReady plan goes_on (act ∷ acts) f =
-    IsReady act f × ((f' : FwState) → row f (message_of plan act) ≡ Ok f' → AreReady plan goes_on acts f') × (goes_on ≡ true → AreReady plan goes_on acts f)
+    (g : FwState) → g.staging ≡ f.staging →
+    IsReady act g × ((f' : FwState) → row g (message_of plan act) ≡ Ok f' → AreReady plan goes_on acts f') × (goes_on ≡ true → AreReady plan goes_on acts g)
 
 -- an act that asks nothing
 abbrev pub IsPlain : Act → Type 0
@@ -56,7 +58,7 @@ plain-asks (Ask comp k) is f = tt
 
 pub plain-ready : (plan : Plan) (goes_on : Bool) (acts : List Act) → AllByRecursion IsPlain acts → (f : FwState) → AreReady plan goes_on acts f
 plain-ready plan goes_on [] all f = tt
-plain-ready plan goes_on (act ∷ acts) all f = (plain-asks act all.0 f, (λ f' done. plain-ready plan goes_on acts all.1 f'), λ on. plain-ready plan goes_on acts all.1 f)
+plain-ready plan goes_on (act ∷ acts) all f = λ g same. (plain-asks act all.0 g, (λ f' done. plain-ready plan goes_on acts all.1 f'), λ on. plain-ready plan goes_on acts all.1 g)
 
 -- What a row that was done leaves: a record of the plan, which the state shows, in the same heap, with a ring for each buffer; and
 -- what stood stands a moment later.

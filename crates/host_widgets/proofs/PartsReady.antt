@@ -1,9 +1,10 @@
 -- Each part of a blob finds staged those before it, whatever was staged before the first.
 use Rattle.std.proofs.Common.{◌≡◌, refl, sym, ap, subst, ◌∙◌, ℕ, zero, suc, ◌+◌, ◌<◌, Bool, true, false, not, cond, ◌==◌, ◌||◌, List, map, Ok, Err, arith}
+use Rattle.std.specs.Prelude.{find}
 use Rattle.std.specs.List.{range_with_len}
 use Rattle.sof_base.specs.BlobFaults.{is_blob}
 use Rattle.sof_base.specs.declared.part.Part.{Part as Carried}
-use Rattle.stream_law.specs.State.{FwState}
+use Rattle.stream_law.specs.State.{FwState, Staging}
 use Rattle.stream_law.specs.Seen.{is_equaliser}
 use Rattle.ipc3_codec.specs.declared.message.Message.TheVariants.{SetData}
 use Rattle.mbox_link.specs.BlobParts.{part_of, is_last, parts}
@@ -52,15 +53,20 @@ module _ (id : ℕ) (blob : List ℕ) (is : is_blob blob ≡ true) where
   module _ (plan : Plan) where
     ready-from : (n k : ℕ) → k + n ≡ parts blob → (f : FwState) → HasStaged id blob k f → AreReady plan false (map (Part id blob) (range_with_len k n)) f
     ready-from zero k all f staged = tt
-    ready-from (suc n) k all f staged =
-        (staged, (λ f' done. by (is_last blob k) refl (omega (arith, all)) f' done (ready-from n (k + 1) (omega (arith, all)) f')), λ on. absurd (cc on))
+    ready-from (suc n) k all f staged = λ g same.
+        let there = has-staged f g same staged in
+        (there, (λ f' done. by g there (is_last blob k) refl (omega (arith, all)) f' done (ready-from n (k + 1) (omega (arith, all)) f')), λ on. absurd (cc on))
       where
-        by : (b : Bool) → is_last blob k ≡ b → k < parts blob → (f' : FwState) → row f (SetData id (part_of blob k)) ≡ Ok f' →
+        -- what is staged at one state is staged at another that has the same staged
+        has-staged : (f g : FwState) → g.staging ≡ f.staging → HasStaged id blob k f → HasStaged id blob k g
+        has-staged f g same staged some = ap (λ (all : List Staging). find (λ (s : Staging). s.eq == id) all) same ∙ staged some
+
+        by : (g : FwState) → HasStaged id blob k g → (b : Bool) → is_last blob k ≡ b → k < parts blob → (f' : FwState) → row g (SetData id (part_of blob k)) ≡ Ok f' →
             (HasStaged id blob (k + 1) f' → AreReady plan false (map (Part id blob) (range_with_len (k + 1) n)) f') → AreReady plan false (map (Part id blob) (range_with_len (k + 1) n)) f'
-        by true last low f' done go =
+        by g there true last low f' done go =
             let none : 0 ≡ n = (let end = none-behind blob is k low last in omega (arith, all, end)) in
             subst (λ (m : ℕ). AreReady plan false (map (Part id blob) (range_with_len (k + 1) m)) f') none tt
-        by false more low f' done go = go (subst (HasStaged id blob (k + 1)) (sym (made-more k low f f' staged more done)) (staged-then id blob k f))
+        by g there false more low f' done go = go (subst (HasStaged id blob (k + 1)) (sym (made-more k low g f' there more done)) (staged-then id blob k g))
 
     pub parts-ready : (f : FwState) → AreReady plan false (part_acts id blob) f
     parts-ready f = ready-from (parts blob) 0 (let all : 0 + parts blob ≡ parts blob = omega arith in all) f (λ some. absurd (cc some))

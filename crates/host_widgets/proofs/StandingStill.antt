@@ -26,11 +26,11 @@ pub no-params : (test : StreamView → Bool) (ss : List StreamPlan) → list_any
 no-params test [] = refl
 no-params test (s ∷ ss) = no-params test ss
 
-none-live : (ss : List StreamPlan) → list_any (λ (s : StreamView). is_live_phase s.phase) (first_streams ss) ≡ false
+pub none-live : (ss : List StreamPlan) → list_any (λ (s : StreamView). is_live_phase s.phase) (first_streams ss) ≡ false
 none-live [] = refl
 none-live (s ∷ ss) = none-live ss
 
-rings-distinct : (plan : Plan) → IsSound plan → HasDistinct (λ (r : RingView). r.buffer) (empty_rings plan.graph)
+pub rings-distinct : (plan : Plan) → IsSound plan → HasDistinct (λ (r : RingView). r.buffer) (empty_rings plan.graph)
 rings-distinct plan sound =
     subst (IsDistinct (λ (m n : ℕ). m == n)) (sym (map-twice (λ (r : RingView). r.buffer) (λ (e : Edge). record { buffer = e.buffer; frames = [] }) (λ (e : Edge). e.buffer) plan.graph.edges (all-of (λ (e : Edge). e.buffer ≡ e.buffer) (λ (e : Edge). refl) plan.graph.edges)))
     (Ascends-distinct (λ (e : Edge). e.buffer) plan.graph.edges sound.edges_ascend)

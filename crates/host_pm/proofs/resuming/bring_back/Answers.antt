@@ -1,13 +1,15 @@
-use Rattle.std.proofs.Common.{◌≡◌, arith, ap, subst, sym, ◌∙◌, is_some, length, zip, false}
+use Rattle.std.proofs.Common.{refl, ap, subst, sym, ◌∙◌, is_some, length, zip, false}
 use Rattle.std.specs.List.{flat_map}
+use Rattle.sof_base.specs.Ports.{Io}
 use Rattle.mbox_link.specs.Calls.{world}
 use Rattle.host_widgets.specs.ActLists.{bring_up, bring_back, prepare_acts}
 use Rattle.host_widgets.specs.Host.{BroughtUp, Outcome, ticks_put}
 use Rattle.host_widgets.specs.Orders.{ActsCame}
 use Rattle.host_widgets.specs.declared.kept.Record.{Record}
+use Rattle.host_widgets.proofs.SilentTicks.{AreInputs}
 use Rattle.host_widgets.proofs.Walks.{did-on, did-room, handed_on}
 use Rattle.host_pm.specs.InTurn.{InTurn}
-use Rattle.host_pm.proofs.PowerOrders.{back-failed, back-came, back-shows, back-left}
+use Rattle.host_pm.proofs.PowerOrders.{back-failed, back-came, back-shows, back-io, back-left}
 use Rattle.host_pm.proofs.resuming.bring_back.Goals as goal
 
 pub prepare_all-requires-clause-streams : goal.prepare_all-requires-clause-streams
@@ -69,7 +71,7 @@ pub returns-in_err-bring_up-clause-left : goal.returns-in_err-bring_up-clause-le
 returns-in_err-bring_up-clause-left g c ok = absurd (cc (sym (handed_on c.from_residual.result c.in_err-bring_up.field-0.0 c.from_residual.ensures) ∙ ok))
 
 pub returns-clause-left : goal.returns-clause-left
-returns-clause-left g c ok quiet =
+returns-clause-left g c ok =
     let means = g.P.Dsp.means in
     let plan = c.args.plan.now in
     let kept = c.args.kept.now in
@@ -79,5 +81,42 @@ returns-clause-left g c ok quiet =
     let x = subst (λ (o : Outcome). ActsCame means plan c.args.heap false (bring_up plan kept) kept c.bring_up.new.kept w m o) c.in_ok-bring_up.was c.bring_up.ensures.acts in
     let left = subst (λ (o : Outcome). BroughtUp means plan c.args.heap kept c.args.dsp.now o c.bring_up.new.dsp) c.in_ok-bring_up.was c.bring_up.ensures.left in
     let turn = subst (λ (r : Record). InTurn means plan false (flat_map prepare_acts (zip plan.streams r.streams)) m v c.prepare_all.result) c.bring_up.ensures.kept c.prepare_all.ensures in
-    let no_ticks : ticks_put means c.args.dsp.now c.bring_up.new.dsp ≡ 0 = omega (arith, quiet) in
-    back-left means plan c.args.heap c.requires.plan kept c.requires.kept c.requires.rests c.bring_up.new.kept w m v c.prepare_all.result x (ticks_put means c.args.dsp.now c.bring_up.new.dsp) left turn no_ticks ok quiet
+    let are : AreInputs c.args.io.now = record { distinct = c.len-inputs.ensures.distinct; positions = c.len-inputs.ensures.within } in
+    back-left means plan c.args.heap c.requires.plan kept c.requires.kept c.requires.rests c.bring_up.new.kept w m v c.prepare_all.result x (ticks_put means c.args.dsp.now c.bring_up.new.dsp) left turn refl
+    (subst AreInputs (sym c.bring_up.ensures.inputs) are) ok
+
+-- ---- the endpoints
+
+pub returns-clause-inputs : goal.returns-clause-inputs
+returns-clause-inputs g c =
+    let means = g.P.Dsp.means in
+    let plan = c.args.plan.now in
+    let kept = c.args.kept.now in
+    let w = world c.args.dsp.now c.args.io.now c.args.out.now in
+    let m = world c.bring_up.new.dsp c.bring_up.new.io c.bring_up.new.out in
+    let v = world c.prepare_all.new.dsp c.prepare_all.new.io c.prepare_all.new.out in
+    let x = subst (λ (o : Outcome). ActsCame means plan c.args.heap false (bring_up plan kept) kept c.bring_up.new.kept w m o) c.in_ok-bring_up.was c.bring_up.ensures.acts in
+    let left = subst (λ (o : Outcome). BroughtUp means plan c.args.heap kept c.args.dsp.now o c.bring_up.new.dsp) c.in_ok-bring_up.was c.bring_up.ensures.left in
+    let turn = subst (λ (r : Record). InTurn means plan false (flat_map prepare_acts (zip plan.streams r.streams)) m v c.prepare_all.result) c.bring_up.ensures.kept c.prepare_all.ensures in
+    let are : AreInputs c.args.io.now = record { distinct = c.len-inputs.ensures.distinct; positions = c.len-inputs.ensures.within } in
+    ap (λ (io : Io). io.inputs)
+    (back-io means plan c.args.heap c.requires.plan kept c.requires.kept c.requires.rests c.bring_up.new.kept w m v c.prepare_all.result x (ticks_put means c.args.dsp.now c.bring_up.new.dsp) left turn refl
+    (subst AreInputs (sym c.bring_up.ensures.inputs) are))
+    ∙ c.bring_up.ensures.inputs
+
+pub returns-clause-outputs : goal.returns-clause-outputs
+returns-clause-outputs g c =
+    let means = g.P.Dsp.means in
+    let plan = c.args.plan.now in
+    let kept = c.args.kept.now in
+    let w = world c.args.dsp.now c.args.io.now c.args.out.now in
+    let m = world c.bring_up.new.dsp c.bring_up.new.io c.bring_up.new.out in
+    let v = world c.prepare_all.new.dsp c.prepare_all.new.io c.prepare_all.new.out in
+    let x = subst (λ (o : Outcome). ActsCame means plan c.args.heap false (bring_up plan kept) kept c.bring_up.new.kept w m o) c.in_ok-bring_up.was c.bring_up.ensures.acts in
+    let left = subst (λ (o : Outcome). BroughtUp means plan c.args.heap kept c.args.dsp.now o c.bring_up.new.dsp) c.in_ok-bring_up.was c.bring_up.ensures.left in
+    let turn = subst (λ (r : Record). InTurn means plan false (flat_map prepare_acts (zip plan.streams r.streams)) m v c.prepare_all.result) c.bring_up.ensures.kept c.prepare_all.ensures in
+    let are : AreInputs c.args.io.now = record { distinct = c.len-inputs.ensures.distinct; positions = c.len-inputs.ensures.within } in
+    ap (λ (io : Io). io.outputs)
+    (back-io means plan c.args.heap c.requires.plan kept c.requires.kept c.requires.rests c.bring_up.new.kept w m v c.prepare_all.result x (ticks_put means c.args.dsp.now c.bring_up.new.dsp) left turn refl
+    (subst AreInputs (sym c.bring_up.ensures.inputs) are))
+    ∙ c.bring_up.ensures.outputs

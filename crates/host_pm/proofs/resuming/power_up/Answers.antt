@@ -1,4 +1,4 @@
-use Rattle.std.proofs.Common.{refl, ◌∙◌}
+use Rattle.std.proofs.Common.{refl, ap, ◌∙◌, ℕ, ◌-◌, ◌%◌, ◌^◌}
 use Rattle.mbox_link.specs.Calls.{world}
 use Rattle.host_widgets.specs.declared.kept.Power.TheVariants.{On}
 use Rattle.host_widgets.specs.Kept.{with_power}
@@ -31,7 +31,10 @@ pub returns-clause-agree : goal.returns-clause-agree
 returns-clause-agree g c =
     resumed-agrees g.P.Dsp.means c.args.plan.now c.args.heap c.args.kept.now c.bring_back.new.kept c.requires.agree.record_is c.in_default.ensures.kept c.bring_back.new.dsp (c.in_default.ensures.shows refl)
 
+-- a boot puts no tick
 pub returns-clause-left : goal.returns-clause-left
-returns-clause-left g c ok quiet =
-    let r = c.in_default.ensures.left refl (c.boot.ensures.quiet.pending ∙ quiet) in
-    record { state = r.state; on = r.on; keeps = r.keeps; clock = r.clock; rings = r.rings }
+returns-clause-left g c ok =
+    let means = g.P.Dsp.means in
+    let r = c.in_default.ensures.left refl in
+    let clock = ap (λ (n : ℕ). (n - means.pending c.bring_back.new.dsp) % 2 ^ 32) c.boot.ensures.quiet.pending in
+    record { state = r.state; on = r.on; keeps = r.keeps; clock = r.clock ∙ clock; rings = r.rings }

@@ -1,6 +1,7 @@
 -- Acts over a device, one after another: their calls, how many messages they send over a link, and that endpoints stay.
 use Rattle.std.proofs.Common.{◌≡◌, ap, ◌∙◌, ℕ, ◌+◌, ◌-◌, ◌≤◌, Bool, true, false, List, [], ◌∷◌, length, Option, Some, arith}
 use Rattle.sof_base.specs.Ports.{Io}
+use Rattle.sof_io.specs.Bound.{output_slots}
 use Rattle.stream_law.specs.State.{FwState}
 use Rattle.ipc3_codec.specs.Messages.{message_spelling}
 use Rattle.mbox_link.specs.Exchange.{ticks}
@@ -17,6 +18,7 @@ use Rattle.host_widgets.specs.Walk.{goes_past}
 use Rattle.host_widgets.specs.ActCalls.{ActsDid, Onwards}
 use Rattle.host_widgets.proofs.Exchanges as exchanges
 use Rattle.sof_session.proofs.LinkFates.{exchange_sent, more-few}
+use Rattle.sof_session.proofs.Writings.{ticks-slots}
 
 module _ {D : Type 0} (means : Meaning D) (plan : Plan) (heap : ℕ) (on_refusal : Bool) where
   abbrev Did : Record → List Act → List Meeting → World D → World D → Type 0
@@ -56,6 +58,25 @@ module _ {D : Type 0} (means : Meaning D) (plan : Plan) (heap : ℕ) (on_refusal
       by : (b : Bool) → (Did (one_act plan heap kept act m).kept acts ms did.0 v → v.io ≡ did.0.io) → Onwards b ms did.0 v (Did (one_act plan heap kept act m).kept acts ms did.0 v) → v.io ≡ did.0.io
       by true rest on = rest on
       by false rest on = ap (λ (x : World D). x.io) on.1
+
+  -- and the slots of the outputs stay, whatever ticks come
+  keeps-slots : (request : List ℕ) (answer : Option (List ℕ)) (w v : World D) → Exchanged means request answer w v → (s : FwState) → means.on w.device ≡ Some s → (output_slots v.io.outputs ≡ output_slots w.io.outputs) × ((t : FwState) × (means.on v.device ≡ Some t))
+  keeps-slots request answer w v x s on =
+      let c = exchanges.came means request answer w v s on x in
+      let n = means.pending w.device - means.pending v.device in
+      (ap (λ (io : Io). output_slots io.outputs) c.endpoints ∙ ticks-slots n s w.io, exchanges.state_of (means.on v.device) (exchanges.Came-on means request answer w v (ticks n (s, w.io)) c))
+
+  pub acts-slots : (acts : List Act) (ms : List Meeting) (kept : Record) (w v : World D) → Did kept acts ms w v → (s : FwState) → means.on w.device ≡ Some s → output_slots v.io.outputs ≡ output_slots w.io.outputs
+  acts-slots [] ms kept w v did s on = ap (λ (x : World D). output_slots x.io.outputs) did.1
+  acts-slots (act ∷ acts) [] kept w v did s on = absurd did
+  acts-slots (act ∷ acts) (m ∷ ms) kept w v did s on =
+      let a = one_act plan heap kept act m in
+      let here = keeps-slots (message_spelling (message_of plan act)) did.1.answer w did.0 did.1.exchanged s on in
+      by (goes_past on_refusal a.outcome) (λ more. acts-slots acts ms a.kept did.0 v more here.1.0 here.1.1) did.2 ∙ here.0
+    where
+      by : (b : Bool) → (Did (one_act plan heap kept act m).kept acts ms did.0 v → output_slots v.io.outputs ≡ output_slots did.0.io.outputs) → Onwards b ms did.0 v (Did (one_act plan heap kept act m).kept acts ms did.0 v) → output_slots v.io.outputs ≡ output_slots did.0.io.outputs
+      by true rest on = rest on
+      by false rest on = ap (λ (x : World D). output_slots x.io.outputs) on.1
 
 -- ---- over a link
 

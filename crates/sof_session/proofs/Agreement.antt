@@ -1,12 +1,13 @@
 -- When the two sides of a session agree: before its first call, and after one that left the device in a state that keeps the plan.
-use Rattle.std.proofs.Common.{◌≡◌, ℕ, ◌≤◌, List, Some, None, refl, sym, ap, ◌∙◌, arith}
+use Rattle.std.proofs.Common.{◌≡◌, ℕ, ◌*◌, ◌≤◌, List, Some, None, refl, sym, ap, ◌∙◌, arith}
 use Rattle.std.specs.Option.{option_map}
-use Rattle.sof_base.specs.Ports.{Io}
+use Rattle.sof_base.specs.Ports.{Io, OutputView, HasRoom}
 use Rattle.stream_law.specs.State.{FwState, view_of}
 use Rattle.mbox_link.specs.Calls.{World, Meaning, Call, Led, Steady}
 use Rattle.mbox_link.specs.Link.{link}
 use Rattle.mbox_link.specs.Wire.{Wire}
 use Rattle.mbox_link.proofs.Led.{Led-steady}
+use Rattle.mbox_link.proofs.Rooms.{HasRoom-less}
 use Rattle.tplg_plan.specs.declared.plans.Plan.{Plan}
 use Rattle.host_widgets.specs.declared.kept.Power.{Power}
 use Rattle.host_widgets.specs.declared.kept.Power.TheVariants.{Unloaded, On, Off}
@@ -18,7 +19,7 @@ use Rattle.host_widgets.specs.ViewOf.{view_by}
 use Rattle.host_widgets.proofs.Records.{closed-record}
 use Rattle.sof_session.specs.Agreement.{AreAgreed, IsFated, Powered}
 use Rattle.sof_session.specs.Seat.{Seat, new_seat}
-use Rattle.sof_session.proofs.LinkFates.{Led-fated}
+use Rattle.sof_session.proofs.LinkFates.{Led-fated, Led-inside}
 
 abbrev pub at : {D : Type 0} → D → Io → World D
 at device io = record { device = device; io = io }
@@ -30,17 +31,18 @@ module _ {P : Type 0} (means : Meaning P) (old : Seat P) (wire : Wire P) (io io'
   -- what calls keep
   pub record Kept : Type 0 where
     pub steady : Steady (link means) old.link wire
+    pub inside : Steady means old.link.device wire.device
     pub fated : IsFated wire
 
   pub kept-by : (calls : List Call) → Led (link means) (at old.link io) calls (at wire io') → Kept
-  kept-by calls led = record { steady = Led-steady (link means) calls (at old.link io) (at wire io') led; fated = Led-fated means calls (at old.link io) (at wire io') agreed.fated led }
+  kept-by calls led = record { steady = Led-steady (link means) calls (at old.link io) (at wire io') led; inside = Led-inside means calls (at old.link io) (at wire io') led; fated = Led-fated means calls (at old.link io) (at wire io') agreed.fated led }
 
   pub agreed-with : Kept → (kept : Record) → Agrees means old.plan kept wire.device → Powered means (seat_with kept) kept.power → AreAgreed means (seat_with kept)
   agreed-with calls kept agree powered = record {
     agree = agree;
     powered = powered;
     room = omega (arith, agreed.room, calls.steady.most);
-    pending = omega (arith, agreed.pending, calls.steady.pending);
+    pending = omega (arith, agreed.pending, calls.inside.pending);
     fated = calls.fated;
     sound = agreed.sound;
   }
@@ -91,6 +93,17 @@ AreAgreed-new means plan heap dsp off pending room sound = record {
   powered = off;
   room = room;
   pending = pending;
-  fated = record { meant = tt; dropped = omega arith; refused = omega arith; counted = omega arith };
+  fated = record { held = record { meant = tt; apart = tt; few = omega arith }; dropped = omega arith; refused = omega arith; counted = omega arith };
   sound = sound;
 }
+
+-- ---- room
+
+module _ {P : Type 0} (means : Meaning P) (seat : Seat P) (agreed : AreAgreed means seat) where
+  -- at most 16 ticks come before messages
+  few-pending : (link means).pending seat.link ≤ 16
+  few-pending = let few = agreed.fated.held.few in omega (arith, few, agreed.pending)
+
+  -- for which outputs have room that are empty
+  pub pending-room : (outputs : List OutputView) → HasRoom 983040 outputs → HasRoom (61440 * (link means).pending seat.link) outputs
+  pending-room outputs room = HasRoom-less outputs 983040 (61440 * (link means).pending seat.link) (omega (arith, few-pending)) room

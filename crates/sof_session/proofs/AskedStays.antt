@@ -1,6 +1,7 @@
--- A call that sends acts alone leaves the endpoints as they are: one on a stream is so.
+-- A call that sends acts alone leaves the endpoints as they are where no tick is pending, and else their slots: one on a stream is so.
 use Rattle.std.proofs.Common.{◌≡◌, ⊎_elim, ℕ, false, List, [], ◌∷◌, Option, Some, None, refl, ap, subst, ◌∙◌}
 use Rattle.sof_base.specs.Ports.{Io}
+use Rattle.sof_io.specs.Bound.{output_slots}
 use Rattle.stream_law.specs.Past.{Moment, Cut}
 use Rattle.mbox_link.specs.Calls.{World, Meaning, Led}
 use Rattle.mbox_link.specs.Link.{link}
@@ -13,14 +14,14 @@ use Rattle.host_widgets.specs.declared.kept.Record.{Record}
 use Rattle.host_widgets.specs.HostActs.{Act}
 use Rattle.host_widgets.specs.ActCalls.{calls_of}
 use Rattle.host_widgets.specs.Host.{Outcome, Agrees}
-use Rattle.host_widgets.specs.Orders.{Order, Carried, Tested, sends}
+use Rattle.host_widgets.specs.Orders.{Order, Carried, Tested, quiet, sends}
 use Rattle.host_pcm.specs.declared.asking.Ask.{Ask}
 use Rattle.host_pcm.specs.Asks.{early_fault}
 use Rattle.host_pcm.specs.StreamOrders.{Asked, stream_order}
 use Rattle.sof_session.specs.Agreement.{AreAgreed, Powered}
 use Rattle.sof_session.specs.Seat.{Seat}
 use Rattle.sof_session.proofs.Agreement.{at}
-use Rattle.sof_session.proofs.ActsLed.{acts-io}
+use Rattle.sof_session.proofs.ActsLed.{acts-io, acts-slots}
 use Rattle.sof_session.proofs.OrderStands.{sending, last, plain-cuts}
 use Rattle.sof_session.proofs.SentOrders.{IsSent, sent-stream}
 
@@ -42,24 +43,55 @@ module _ {P : Type 0} (means : Meaning P) (old : Seat P) (wire : Wire P) (io io'
     none-io : (s : World (Wire P)) (ms : List Moment) → Led (link means) s (calls_of old.heap ms) v → ms ≡ [] → v.io ≡ s.io
     none-io s ms led is = ap (λ (x : World (Wire P)). x.io) (subst (λ (x : List Moment). Led (link means) s (calls_of old.heap x) v) is led)
 
-    by-power : (power : Power) → Powered means old power → CarriedSo (sends power acts done answer) → v.io ≡ w.io
-    by-power Unloaded off c = ap (λ (x : World (Wire P)). x.io) (c.ends.1 ∙ c.walked.1 ∙ c.first)
-    by-power Off off c = ap (λ (x : World (Wire P)). x.io) (c.ends.1 ∙ c.walked.1 ∙ c.first)
-    by-power On powered c =
-        let o = sending acts done answer in
-        let ms = last means old.heap old.plan o old.kept kept w v result c in
+    last-io : (c : CarriedSo (sending acts done answer)) → v.io ≡ c.sent.io
+    last-io c =
+        let ms = last means old.heap old.plan (sending acts done answer) old.kept kept w v result c in
         ⊎_elim (λ cut. end-io c.sent ms c.ends.1 cut) (λ no_more. none-io c.sent ms c.ends.1 no_more) (plain-cuts done _ _)
+
+    by-power : (link means).pending old.link ≡ 0 → (power : Power) → Powered means old power → CarriedSo (sends power acts done answer) → v.io ≡ w.io
+    by-power none Unloaded off c = ap (λ (x : World (Wire P)). x.io) (c.ends.1 ∙ c.walked.1 ∙ c.first)
+    by-power none Off off c = ap (λ (x : World (Wire P)). x.io) (c.ends.1 ∙ c.walked.1 ∙ c.first)
+    by-power none On powered c =
+        last-io c
         ∙ acts-io (link means) old.plan old.heap false acts c.meetings old.kept c.begun c.sent c.walked
-        (ap (λ (x : World (Wire P)). means.pending x.device.device) c.first ∙ agreed.pending) powered.0 (ap (λ (x : World (Wire P)). means.on x.device.device) c.first ∙ powered.1)
+        (ap (λ (x : World (Wire P)). (link means).pending x.device) c.first ∙ none) powered.0 (ap (λ (x : World (Wire P)). means.on x.device.device) c.first ∙ powered.1)
         ∙ ap (λ (x : World (Wire P)). x.io) c.first
 
+    slots-by : (power : Power) → Powered means old power → CarriedSo (sends power acts done answer) → output_slots v.io.outputs ≡ output_slots w.io.outputs
+    slots-by Unloaded off c = ap (λ (x : World (Wire P)). output_slots x.io.outputs) (c.ends.1 ∙ c.walked.1 ∙ c.first)
+    slots-by Off off c = ap (λ (x : World (Wire P)). output_slots x.io.outputs) (c.ends.1 ∙ c.walked.1 ∙ c.first)
+    slots-by On powered c =
+        ap (λ (x : Io). output_slots x.outputs) (last-io c)
+        ∙ acts-slots (link means) old.plan old.heap false acts c.meetings old.kept c.begun c.sent c.walked powered.0 (ap (λ (x : World (Wire P)). means.on x.device.device) c.first ∙ powered.1)
+        ∙ ap (λ (x : World (Wire P)). output_slots x.io.outputs) c.first
+
   -- by a test, and such an order where none fails
-  pub sent-io : (test : Option HostFault) (o : Order) → (test ≡ None → IsSent old.kept o) → Tested (link means) old.plan old.heap test o old.kept kept w v result → io' ≡ io
-  sent-io test o sent tested = by test refl
+  module _ (test : Option HostFault) (o : Order) (sent : test ≡ None → IsSent old.kept o) (tested : Tested (link means) old.plan old.heap test o old.kept kept w v result) where
+    pub sent-io : (link means).pending old.link ≡ 0 → io' ≡ io
+    sent-io none = by test refl
+      where
+        by : (t : Option HostFault) → test ≡ t → io' ≡ io
+        by (Some fault) is = ap (λ (x : World (Wire P)). x.io) (tested.early fault is).1
+        by None is = let s : IsSent old.kept o = sent is in by-power s.acts s.done s.answer none old.kept.power agreed.powered (subst (CarriedSo s.acts s.done s.answer) s.is (tested.late is))
+
+    pub sent-slots : output_slots io'.outputs ≡ output_slots io.outputs
+    sent-slots = by test refl
+      where
+        by : (t : Option HostFault) → test ≡ t → output_slots io'.outputs ≡ output_slots io.outputs
+        by (Some fault) is = ap (λ (x : World (Wire P)). output_slots x.io.outputs) (tested.early fault is).1
+        by None is = let s : IsSent old.kept o = sent is in slots-by s.acts s.done s.answer old.kept.power agreed.powered (subst (CarriedSo s.acts s.done s.answer) s.is (tested.late is))
+
+  -- one without acts always does
+  pub quiet-io : (test : Option HostFault) (answer : Answer) → Tested (link means) old.plan old.heap test (quiet answer) old.kept kept w v result → io' ≡ io
+  quiet-io test answer tested = by test refl
     where
       by : (t : Option HostFault) → test ≡ t → io' ≡ io
       by (Some fault) is = ap (λ (x : World (Wire P)). x.io) (tested.early fault is).1
-      by None is = let s : IsSent old.kept o = sent is in by-power s.acts s.done s.answer old.kept.power agreed.powered (subst (CarriedSo s.acts s.done s.answer) s.is (tested.late is))
+      by None is = let c = tested.late is in ap (λ (x : World (Wire P)). x.io) (c.ends.1 ∙ c.walked.1 ∙ c.first)
 
-  pub asked-io : (name : List ℕ) (ask : Ask) → Asked (link means) old.plan old.heap name ask old.kept kept w v result → io' ≡ io
-  asked-io name ask asked = sent-io (early_fault old.plan old.kept name ask) (stream_order old.plan old.kept name ask) (λ none. sent-stream old.plan old.kept name ask) (record { early = asked.early; late = asked.late })
+  module _ (name : List ℕ) (ask : Ask) (asked : Asked (link means) old.plan old.heap name ask old.kept kept w v result) where
+    pub asked-io : (link means).pending old.link ≡ 0 → io' ≡ io
+    asked-io none = sent-io (early_fault old.plan old.kept name ask) (stream_order old.plan old.kept name ask) (λ none. sent-stream old.plan old.kept name ask) (record { early = asked.early; late = asked.late }) none
+
+    pub asked-slots : output_slots io'.outputs ≡ output_slots io.outputs
+    asked-slots = sent-slots (early_fault old.plan old.kept name ask) (stream_order old.plan old.kept name ask) (λ none. sent-stream old.plan old.kept name ask) (record { early = asked.early; late = asked.late })

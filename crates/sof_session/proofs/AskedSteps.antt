@@ -1,5 +1,5 @@
 -- What a call on a stream does to a session.
-use Rattle.std.proofs.Common.{◌≡◌, false, refl, sym, ap, ◌∙◌, subst, ℕ, ◌+◌, ◌<◌, ◌≤◌, ◌^◌, List, []}
+use Rattle.std.proofs.Common.{◌≡◌, false, refl, sym, ap, ◌∙◌, subst, ℕ, ◌+◌, ◌<◌, ◌≤◌, ◌^◌, List}
 use Rattle.std.specs.Prelude.{MatchOption}
 use Rattle.sof_base.specs.Ports.{Io, InputView, OutputView, drained}
 use Rattle.mbox_link.specs.Calls.{Meaning}
@@ -19,12 +19,10 @@ use Rattle.sof_session.specs.Commands.{Known, answer_by, is_plan, next, order_of
 use Rattle.sof_session.specs.Seat.{Seat}
 use Rattle.sof_session.specs.SessionStep.{Stepped}
 use Rattle.sof_session.specs.SessionCalls.{StreamRan, ports}
-use Rattle.sof_session.specs.Written.{written_in}
 use Rattle.sof_session.proofs.Agreement.{at}
 use Rattle.sof_session.proofs.SentOrders.{sent-stream, stream-done}
 use Rattle.sof_session.proofs.SentSteps.{sent_stepped, sent_few}
-use Rattle.sof_session.proofs.Stepping.{SteppedIn, same-ports}
-use Rattle.sof_session.proofs.Writings.{none-written}
+use Rattle.sof_session.proofs.Stepping.{SteppedIn}
 
 -- ---- commands that are calls
 
@@ -47,10 +45,10 @@ calls-by command = tt
 
 -- ---- a call
 
-pub stream_stepped : {P : Type 0} (means : Meaning P) (old new : Seat P) (io io' : Io) → AreAgreed means old → old.link.sent < 2 ^ 63 → io' ≡ io → written_in io.outputs ≡ [] → (command : Command) (name : List ℕ) (ask : Ask) → IsCall command name ask →
+pub stream_stepped : {P : Type 0} (means : Meaning P) (old new : Seat P) (io io' : Io) → AreAgreed means old → old.link.sent < 2 ^ 63 → drained io.outputs ≡ io.outputs → (command : Command) (name : List ℕ) (ask : Ask) → IsCall command name ask →
     (answer : Answer) → StreamRan means name ask old new io io' answer → Stepped means old.plan old.heap command old.kept new.kept (at old.link io) (at new.link io') answer
-stream_stepped means old new io io' agreed few same none command name ask call answer ran =
-    sent_stepped means old new io io' agreed few same none command (early_fault old.plan old.kept name ask) (stream_order old.plan old.kept name ask)
+stream_stepped means old new io io' agreed few empty command name ask call answer ran =
+    sent_stepped means old new io io' agreed few empty command (early_fault old.plan old.kept name ask) (stream_order old.plan old.kept name ask)
     (record { nexts = call.nexts old.plan old.heap; plans = call.plans; tests = call.tests old.plan old.kept; orders = call.orders old.plan old.kept })
     (λ none. sent-stream old.plan old.kept name ask) (asked-taken old.plan agreed.sound old.kept agreed.agree.record_is name ask) answer ran.outcome (record { early = ran.asked.early; late = ran.asked.late })
     (ran.said ∙ ap (λ (a : Answer). answer_by a ran.outcome) (sym (stream-done old.plan old.kept name ask)))
@@ -60,10 +58,10 @@ pub stream_few : {P : Type 0} (means : Meaning P) (old new : Seat P) (io io' : I
 stream_few means old new io io' name ask answer ran =
     sent_few means old new io io' (early_fault old.plan old.kept name ask) (stream_order old.plan old.kept name ask) (λ none. sent-stream old.plan old.kept name ask) ran.outcome (record { early = ran.asked.early; late = ran.asked.late })
 
--- by what the command is, with endpoints that stayed
-pub asked_step : {P : Type 0} (means : Meaning P) (old new : Seat P) (inputs inputs' : List InputView) (outputs outputs' : List OutputView) → AreAgreed means old → old.link.sent < 2 ^ 63 → inputs' ≡ inputs → outputs' ≡ outputs →
+-- by what the command is
+pub asked_step : {P : Type 0} (means : Meaning P) (old new : Seat P) (inputs inputs' : List InputView) (outputs outputs' : List OutputView) → AreAgreed means old → old.link.sent < 2 ^ 63 →
     drained outputs ≡ outputs → (command other : Command) → command ≡ other → (name : List ℕ) (ask : Ask) → IsCall other name ask → (answer : Answer) → StreamRan means name ask old new (ports inputs outputs) (ports inputs' outputs') answer →
     SteppedIn means old new (ports inputs outputs) (ports inputs' outputs') answer command
-asked_step means old new inputs inputs' outputs outputs' agreed few same_in same_out empty command other is name ask call answer ran =
+asked_step means old new inputs inputs' outputs outputs' agreed few empty command other is name ask call answer ran =
     subst (SteppedIn means old new (ports inputs outputs) (ports inputs' outputs') answer) (sym is)
-    (stream_stepped means old new (ports inputs outputs) (ports inputs' outputs') agreed few (same-ports inputs inputs' outputs outputs' same_in same_out) (none-written outputs empty) other name ask call answer ran)
+    (stream_stepped means old new (ports inputs outputs) (ports inputs' outputs') agreed few empty other name ask call answer ran)

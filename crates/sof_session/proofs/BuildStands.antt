@@ -1,19 +1,22 @@
--- What stood stands after a load or a resume of which all acts passed: a boot, and moments of one view in which nothing is Live.
-use Rattle.std.proofs.Common.{◌≡◌, ◌∙◌, ◌⊎◌, inl, inr, refl, sym, ap, subst, ℕ, Bool, true, false, not, cond, ◌==◌, List, [], ◌∷◌, ◌++◌, map, zip, Option, Some}
+-- What stood stands after a load or a resume: a boot, and moments in which nothing is Live, with the ticks that come between.
+use Rattle.std.proofs.Common.{◌≡◌, ◌∙◌, refl, sym, ap, subst, ℕ, min, ◌^◌, ◌-◌, Bool, true, false, not, cond, ◌==◌, List, [], ◌∷◌, ◌++◌, drop, map, zip, Option, Some}
 use Rattle.std.specs.Prelude.{IsTrue, find, ◌||◌}
 use Rattle.std.specs.List.{list_any}
 use Rattle.std.specs.Option.{option_map_or}
 use Rattle.std.proofs.lemmas.Bool.{or_parts}
 use Rattle.std.proofs.lemmas.List.{append-nil, append_assoc}
-use Rattle.sof_base.specs.Ports.{InputView}
+use Rattle.sof_base.specs.Ports.{Io, InputView}
 use Rattle.stream_law.specs.declared.graph.Edge.{Edge}
 use Rattle.stream_law.specs.declared.stream.StreamView.{StreamView}
 use Rattle.stream_law.specs.State.{FwState, View, RingView, view_of}
-use Rattle.stream_law.specs.Ways.{agree, buffers, is_live_phase, is_silent}
-use Rattle.stream_law.specs.Past.{Moment, Boot, Cut, Now, Tick, Past, Leads, empty_view, new_life, after_now}
-use Rattle.stream_law.specs.Stands.{Stands, StandsBuilding, SeesSilent, SameView, ring_frames}
+use Rattle.stream_law.specs.Table.{list_of, table, updated}
+use Rattle.stream_law.specs.Ways.{agree, buffers, components, is_live_phase, is_silent}
+use Rattle.stream_law.specs.Move.{next_clock}
+use Rattle.stream_law.specs.Past.{Moment, Boot, Cut, Now, Tick, Past, Leads, start, empty_view, new_life, after_now}
+use Rattle.stream_law.specs.Stands.{Stands, StandsBuilding, SameView, ring_frames}
 use Rattle.stream_law.proofs.Standing.{Stands-boot, Stands-reads, Leads-push}
-use Rattle.stream_law.proofs.Building.{Stands-building, Stands-now_building, Stands-built}
+use Rattle.stream_law.proofs.Building.{Stands-building, Stands-now_building, Stands-built, silent-flows, lying-empty, dead-equaliser, silent_ticks, silent_kept, position_kept, bytes_kept}
+use Rattle.stream_law.proofs.Rounds.{counts_by, ticked_by}
 use Rattle.mbox_link.specs.Calls.{Meaning}
 use Rattle.mbox_link.specs.Step.{fresh}
 use Rattle.tplg_plan.specs.declared.plans.Plan.{Plan}
@@ -26,12 +29,11 @@ use Rattle.host_widgets.specs.Host.{IsRecordOf}
 use Rattle.host_widgets.specs.Kept.{first_record}
 use Rattle.host_widgets.specs.ViewOf.{view_by}
 use Rattle.host_widgets.specs.StateOf.{loaded_state}
-use Rattle.host_widgets.proofs.BarePlans.{Bare}
-use Rattle.host_widgets.proofs.BuildingMoments.{AllOf}
+use Rattle.host_widgets.proofs.BuildingMoments.{AllOf, view_from, clock_from}
 use Rattle.host_widgets.proofs.Records.{closed-agrees, closed-silent}
+use Rattle.host_widgets.proofs.StandingOn.{StandsOn, ReadsOn, gained-none}
 use Rattle.host_pm.specs.Resumed.{Resumed}
 use Rattle.sof_session.proofs.Keeping.{Keeps-loaded}
-use Rattle.sof_session.proofs.OrderStands.{LeadsOn}
 
 -- ---- rings without frames
 
@@ -46,34 +48,95 @@ rings-empty (e ∷ edges) b = by_first (e.buffer == b) (rings-empty edges b)
     by_first true rest = refl
     by_first false rest = rest
 
+-- ---- a tick while nothing is Live
+
+abbrev no_moves : Past → List (ℕ × ℕ)
+no_moves p = table (components p.view.graph) (λ _. 0)
+
+abbrev ticked_past : List (ℕ × List ℕ) → Past → Past
+ticked_past whole p = ticked_by whole p (no_moves p) (counts_by p.view p.counts (no_moves p)) (updated (buffers p.view.graph) (λ b. list_of p.made b ++ []) p.made)
+
 -- ---- a device that is brought to a state
 
--- one that moved no audio, with this view, in which nothing is Live
-pub record AtRest (v : View) (f : FwState) : Type 0 where
+-- one that moved no audio, with this view, in which nothing is Live, and this clock
+pub record AtRest (v : View) (clock_now : ℕ) (f : FwState) : Type 0 where
   pub view : view_of f ≡ v
-  pub clock : f.clock ≡ 0
+  pub clock : f.clock ≡ clock_now
   pub buffers_are : map (λ (r : RingView). r.buffer) f.rings ≡ buffers v.graph
   pub rings : (b : ℕ) → ring_frames f b ≡ []
   pub silent : IsTrue (is_silent v)
   pub agrees : agree v ≡ true
 
-module _ (heap : ℕ) (v : View) (f : FwState) (rests : AtRest v f) where
-  sees : (g : FwState) → g.clock ≡ 0 → SeesSilent g f
-  sees g clock = record {
-    clock = rests.clock ∙ sym clock;
-    silent = subst (λ (x : View). IsTrue (is_silent x)) (sym rests.view) rests.silent;
-    buffers = rests.buffers_are ∙ ap (λ (x : View). buffers x.graph) (sym rests.view);
-    rings = rests.rings;
-  }
+-- Nothing is Live in a view that is silent, and streams agree in it.
+pub record IsQuiet (v : View) : Type 0 where
+  pub silent : IsTrue (is_silent v)
+  pub agrees : agree v ≡ true
 
-  module _ (device : Option FwState) (whole : List (ℕ × List ℕ)) (inputs : List InputView) (before : List Moment) (stood : Stands device whole inputs before) where
-    -- a graph that is being built these moments later, with this view
-    record Builds (g : FwState) (w : View) (since : List Moment) : Type 0 where
-      after : StandsBuilding (Some g) whole inputs (before ++ since)
-      led : Leads whole stood.past since after.past
-      view_is : after.past.view ≡ w
+module _ (heap : ℕ) where
+  -- a fresh firmware that has counted so many ticks stands for one whose graph is being built: nothing is Live in either
+  abbrev empty_at : ℕ → FwState
+  empty_at t = record (fresh heap) { clock = t }
 
-    boots : Builds (fresh heap) empty_view (Boot ∷ [])
+  -- a tick moves its clock alone
+  empty-ticks : (t : ℕ) (whole : List (ℕ × List ℕ)) (inputs : List InputView) (moments : List Moment) → StandsBuilding (Some (empty_at t)) whole inputs moments → StandsBuilding (Some (empty_at (next_clock t))) whole inputs (moments ++ Tick ∷ [])
+  empty-ticks t whole inputs moments stood =
+      let p = stood.past in
+      let quiet = stood.holds.view.1 in
+      let q = ticked_past whole p in
+      record {
+        past = q;
+        led = Leads-push whole start p q moments Tick stood.led (no_moves p, silent_ticks whole p stood.kept quiet);
+        read = record {
+          positions = λ slot there. stood.read.positions slot there ∙ ap (λ (k : ℕ). min k (2 ^ 64 - 1)) (sym (position_kept whole p stood.kept quiet slot));
+          left = λ slot. stood.read.left slot ∙ ap (λ (k : ℕ). drop k (list_of whole slot)) (sym (position_kept whole p stood.kept quiet slot));
+        };
+        kept = silent_kept whole p stood.kept quiet;
+        holds = record {
+          on = stood.holds.on;
+          clock = ap next_clock stood.holds.clock;
+          view = stood.holds.view;
+          buffers = refl;
+          rings = λ b. sym (lying-empty q b (silent_kept whole p stood.kept quiet) (silent-flows p.view b quiet));
+          equalisers = λ c there. absurd (dead-equaliser p.view c quiet there);
+          histories = λ c there. absurd (dead-equaliser p.view c quiet there);
+        };
+        agrees = stood.agrees;
+      }
+
+  -- another device at rest stands in its place
+  in-place : (t : ℕ) (v : View) (f : FwState) → AtRest v t f → (whole : List (ℕ × List ℕ)) (inputs : List InputView) (moments : List Moment) (stood : StandsBuilding (Some (empty_at t)) whole inputs moments) →
+      (after : StandsBuilding (Some f) whole inputs moments) × (after.past ≡ stood.past)
+  in-place t v f rests whole inputs moments stood =
+      let p = stood.past in
+      let quiet = stood.holds.view.1 in (
+        record {
+          past = p;
+          led = stood.led;
+          read = stood.read;
+          kept = stood.kept;
+          holds = record {
+            on = stood.holds.on;
+            clock = rests.clock ∙ stood.holds.clock;
+            view = (subst (λ (x : View). IsTrue (is_silent x)) (sym rests.view) rests.silent, quiet);
+            buffers = rests.buffers_are ∙ ap (λ (x : View). buffers x.graph) (sym rests.view);
+            rings = λ b. rests.rings b ∙ sym (lying-empty p b stood.kept (silent-flows p.view b quiet));
+            equalisers = λ c there. absurd (dead-equaliser p.view c quiet there);
+            histories = λ c there. absurd (dead-equaliser p.view c quiet there);
+          };
+          agrees = stood.agrees;
+        },
+        refl,
+      )
+
+  module _ (v : View) (quiet : IsQuiet v) (device : Option FwState) (whole : List (ℕ × List ℕ)) (inputs : List InputView) (before : List Moment) (stood : Stands device whole inputs before) where
+    -- a graph that is being built these moments later, with this view, and to whose outputs nothing came
+    pub record Builds (t : ℕ) (w : View) (since : List Moment) : Type 0 where
+      pub after : StandsBuilding (Some (empty_at t)) whole inputs (before ++ since)
+      pub led : Leads whole stood.past since after.past
+      pub view_is : after.past.view ≡ w
+      pub bytes : (slot : ℕ) → list_of after.past.bytes slot ≡ list_of stood.past.bytes slot
+
+    boots : Builds 0 empty_view (Boot ∷ [])
     unfolding Stands-boot Stands-building
     boots =
         let r = Stands-reads SameView device whole inputs before stood in
@@ -82,83 +145,101 @@ module _ (heap : ℕ) (v : View) (f : FwState) (rests : AtRest v f) where
               (Stands-boot (fresh heap) whole inputs before r.0 record { clock = refl; view = refl; rings = refl; histories = refl; staging = refl }) refl;
           led = (new_life true r.0.past, ap (new_life true) r.1, refl);
           view_is = refl;
+          bytes = λ slot. ap (λ (p : Past). list_of p.bytes slot) r.1;
         }
 
-    passes : (g : FwState) (w : View) (since : List Moment) (fresh_is : Option ℕ) → g.clock ≡ 0 → Builds g w since → Builds f v (since ++ Now v fresh_is ∷ [])
+    -- an act passes
+    passes : (t : ℕ) (w : View) (since : List Moment) (fresh_is : Option ℕ) → Builds t w since → Builds t v (since ++ Now v fresh_is ∷ [])
     unfolding Stands-now_building
-    passes g w since fresh_is clock b =
+    passes t w since fresh_is b =
         let m : Moment = Now v fresh_is in
         let p = after_now v fresh_is b.after.past in
-        let s = Stands-now_building g f v fresh_is whole inputs (before ++ since) b.after (sees g clock) rests.silent rests.agrees in
-        let moved = subst (λ (ms : List Moment). (x : StandsBuilding (Some f) whole inputs ms) × (x.past ≡ p)) (append_assoc before since (m ∷ [])) (s, refl) in
+        let g = empty_at t in
+        let s = Stands-now_building g g v fresh_is whole inputs (before ++ since) b.after record { clock = refl; silent = refl; buffers = refl; rings = λ b. refl } quiet.silent quiet.agrees in
+        let moved = subst (λ (ms : List Moment). (x : StandsBuilding (Some g) whole inputs ms) × (x.past ≡ p)) (append_assoc before since (m ∷ [])) (s, refl) in
         record {
           after = moved.0;
           led = subst (Leads whole stood.past (since ++ m ∷ [])) (sym moved.1) (Leads-push whole stood.past b.after.past p since m b.led refl);
           view_is = ap (λ (x : Past). x.view) moved.1;
+          bytes = λ slot. ap (λ (x : Past). list_of x.bytes slot) moved.1 ∙ b.bytes slot;
         }
 
-    -- more acts that pass
-    pass-more : (ms : List Moment) → AllOf v ms → (since : List Moment) → Builds f v since → Builds f v (since ++ ms)
-    pass-more [] all since b = subst (Builds f v) (sym (append-nil since)) b
-    pass-more (Now w fresh_is ∷ ms) all since b =
+    -- a tick comes
+    counts : (t : ℕ) (w : View) (since : List Moment) → Builds t w since → Builds (next_clock t) w (since ++ Tick ∷ [])
+    unfolding empty-ticks
+    counts t w since b =
+        let p = b.after.past in
+        let still = b.after.holds.view.1 in
+        let q = ticked_past whole p in
+        let s = empty-ticks t whole inputs (before ++ since) b.after in
+        let moved = subst (λ (ms : List Moment). (x : StandsBuilding (Some (empty_at (next_clock t))) whole inputs ms) × (x.past ≡ q)) (append_assoc before since (Tick ∷ [])) (s, refl) in
+        record {
+          after = moved.0;
+          led = subst (Leads whole stood.past (since ++ Tick ∷ [])) (sym moved.1) (Leads-push whole stood.past p q since Tick b.led (no_moves p, silent_ticks whole p b.after.kept still));
+          view_is = ap (λ (x : Past). x.view) moved.1 ∙ b.view_is;
+          bytes = λ slot. ap (λ (x : Past). list_of x.bytes slot) moved.1 ∙ bytes_kept whole p b.after.kept still slot ∙ b.bytes slot;
+        }
+
+    -- all of them
+    build-more : (ms : List Moment) → AllOf v ms → (t : ℕ) (w : View) (since : List Moment) → Builds t w since → Builds (clock_from t ms) (view_from w ms) (since ++ ms)
+    build-more [] all t w since b = subst (Builds t w) (sym (append-nil since)) b
+    build-more (Now x fresh_is ∷ ms) all t w since b =
         let m : Moment = Now v fresh_is in
-        subst (λ (x : View). Builds f v (since ++ Now x fresh_is ∷ ms)) (sym all.0)
-        (subst (Builds f v) (append_assoc since (m ∷ []) ms) (pass-more ms all.1 (since ++ m ∷ []) (passes f v since fresh_is rests.clock b)))
-    pass-more (Boot ∷ ms) all since b = absurd all
-    pass-more (Cut ∷ ms) all since b = absurd all
-    pass-more (Tick ∷ ms) all since b = absurd all
+        subst (λ (y : View). Builds (clock_from t ms) (view_from y ms) (since ++ Now y fresh_is ∷ ms)) (sym all.0)
+        (subst (Builds (clock_from t ms) (view_from v ms)) (append_assoc since (m ∷ []) ms) (build-more ms all.1 t v (since ++ m ∷ []) (passes t w since fresh_is b)))
+    build-more (Tick ∷ ms) all t w since b =
+        subst (Builds (clock_from (next_clock t) ms) (view_from w ms)) (append_assoc since (Tick ∷ []) ms) (build-more ms all (next_clock t) w (since ++ Tick ∷ []) (counts t w since b))
+    build-more (Boot ∷ ms) all t w since b = absurd all
+    build-more (Cut ∷ ms) all t w since b = absurd all
 
-    pass-all : (ms : List Moment) → AllOf v ms → (ms ≡ []) ⊎ Builds f v (Boot ∷ ms)
-    pass-all [] all = inl refl
-    pass-all (Now w fresh_is ∷ ms) all =
-        let m : Moment = Now v fresh_is in
-        inr (subst (λ (x : View). Builds f v (Boot ∷ Now x fresh_is ∷ ms)) (sym all.0) (pass-more ms all.1 (Boot ∷ m ∷ []) (passes (fresh heap) empty_view (Boot ∷ []) fresh_is refl boots)))
-    pass-all (Boot ∷ ms) all = absurd all
-    pass-all (Cut ∷ ms) all = absurd all
-    pass-all (Tick ∷ ms) all = absurd all
+    pub build-all : (ms : List Moment) → AllOf v ms → Builds (clock_from 0 ms) (view_from empty_view ms) (Boot ∷ ms)
+    build-all ms all = build-more ms all 0 empty_view (Boot ∷ []) boots
 
-    -- the whole graph
-    abbrev StandsSo : FwState → List Moment → Type 0
-    StandsSo g since = (after : Stands (Some g) whole inputs (before ++ since)) × Leads whole stood.past since after.past
-
-    built : (g : FwState) (w : View) → view_of g ≡ w → (since : List Moment) → Builds g w since → StandsSo g since
+    -- the whole graph, at whose clock and view the moments end
+    pub built : (ms : List Moment) → AllOf v ms → (u : View) (f : FwState) → AtRest u (clock_from 0 ms) f → view_from empty_view ms ≡ u →
+        (after : Stands (Some f) whole inputs (before ++ Boot ∷ ms)) × Leads whole stood.past (Boot ∷ ms) after.past × ((slot : ℕ) → list_of after.past.bytes slot ≡ list_of stood.past.bytes slot)
     unfolding Stands-built
-    built g w shows since b = (Stands-built g whole inputs (before ++ since) b.after (shows ∙ sym b.view_is), b.led)
+    built ms all u f rests ends =
+        let b = build-all ms all in
+        let i = in-place (clock_from 0 ms) u f rests whole inputs (before ++ Boot ∷ ms) b.after in
+        let view : view_of f ≡ i.0.past.view = rests.view ∙ sym ends ∙ sym b.view_is ∙ ap (λ (p : Past). p.view) (sym i.1) in (
+          Stands-built f whole inputs (before ++ Boot ∷ ms) i.0 view,
+          subst (Leads whole stood.past (Boot ∷ ms)) (sym i.1) b.led,
+          λ slot. ap (λ (p : Past). list_of p.bytes slot) i.1 ∙ b.bytes slot,
+        )
 
-    built-all : (ms : List Moment) → AllOf v ms → (ms ≡ [] → fresh heap ≡ f) → StandsSo f (Boot ∷ ms)
-    built-all ms all booted = by (pass-all ms all)
-      where
-        by : (ms ≡ []) ⊎ Builds f v (Boot ∷ ms) → StandsSo f (Boot ∷ ms)
-        by (inr b) = built f v rests.view (Boot ∷ ms) b
-        by (inl none) = subst (λ (x : FwState × List Moment). StandsSo x.0 (Boot ∷ x.1)) (λ i. (booted none i, sym none i)) (built (fresh heap) empty_view refl (Boot ∷ []) boots)
+  -- with endpoints that stay
+  pub brought-stands : (v : View) → IsQuiet v → (device : Option FwState) (io : Io) (ms : List Moment) → AllOf v ms → (u : View) (f : FwState) → AtRest u (clock_from 0 ms) f → view_from empty_view ms ≡ u →
+      StandsOn device io (Some f) io (Boot ∷ ms)
+  brought-stands v quiet device io ms all u f rests ends whole before stood =
+      let s = built v quiet device whole io.inputs before stood ms all u f rests ends in
+      (s.0, s.1, gained-none io.outputs stood.past s.0.past s.2)
 
-  -- where no act came, it is as it was booted
-  pub brought-leads : (device : Option FwState) (ms : List Moment) → AllOf v ms → (ms ≡ [] → fresh heap ≡ f) → LeadsOn device (Some f) (Boot ∷ ms)
-  brought-leads device ms all booted whole inputs before stood = built-all device whole inputs before stood ms all booted
+  -- wherever it ends
+  pub brought-reads : (v : View) → IsQuiet v → (device : Option FwState) (io : Io) (ms : List Moment) → AllOf v ms → ReadsOn device io io (Boot ∷ ms)
+  brought-reads v quiet device io ms all whole before stood =
+      let b = build-all v quiet device whole io.inputs before stood ms all in
+      (record { past = b.after.past; led = b.after.led; read = b.after.read }, b.led, gained-none io.outputs stood.past b.after.past b.bytes)
 
 -- ---- a load
 
 module _ (plan : Plan) (heap : ℕ) where
-  abbrev loaded : FwState
-  loaded = loaded_state plan heap 0
-
   -- the view of each act that passes: no stream runs or is paused
   abbrev pub rest_view : View
   rest_view = view_by plan (first_record plan)
 
-  loaded-rests : AtRest rest_view loaded
-  loaded-rests = record {
+  pub rest-quiet : IsQuiet rest_view
+  rest-quiet = record { silent = closed-silent Unloaded plan; agrees = closed-agrees Unloaded plan }
+
+  pub loaded-rests : (clock : ℕ) → AtRest rest_view clock (loaded_state plan heap clock)
+  loaded-rests clock = record {
     view = refl;
     clock = refl;
-    buffers_are = (Keeps-loaded plan heap).rings;
+    buffers_are = (Keeps-loaded plan heap clock).rings;
     rings = λ b. rings-empty plan.graph.edges b;
     silent = closed-silent Unloaded plan;
     agrees = closed-agrees Unloaded plan;
   }
-
-  -- a load of which all acts passed; of an empty plan there is none
-  pub load-leads : (device : Option FwState) (ms : List Moment) → AllOf rest_view ms → (ms ≡ [] → Bare plan) → LeadsOn device (Some loaded) (Boot ∷ ms)
-  load-leads device ms all bare = brought-leads heap rest_view loaded loaded-rests device ms all (λ none. (bare none).state heap)
 
 -- ---- a resume
 
@@ -169,9 +250,13 @@ views-rest (s ∷ ss) (r ∷ rs) rest =
     let parts = or_parts (is_live_phase (phase_of r.found)) (list_any (λ (x : StreamRec). is_live_phase (phase_of x.found)) rs) rest in
     ap (λ (b : Bool). b || list_any (λ (x : StreamView). is_live_phase x.phase) (map stream_view (zip ss rs))) parts.0 ∙ views-rest ss rs parts.1
 
--- what a resume that was done leaves, where no stream runs or is paused
-pub resumed-rests : {D : Type 0} (means : Meaning D) (plan : Plan) (heap : ℕ) (kept : Record) (device : D) (r : Resumed means plan heap kept device) → list_any (λ s. is_live_phase (phase_of s.found)) kept.streams ≡ false → IsRecordOf plan kept → AtRest (view_by plan kept) r.state
-resumed-rests means plan heap kept device r still is = record {
+-- a record in which no stream runs or is paused
+pub record-quiet : (plan : Plan) (kept : Record) → list_any (λ s. is_live_phase (phase_of s.found)) kept.streams ≡ false → IsRecordOf plan kept → IsQuiet (view_by plan kept)
+record-quiet plan kept still is = record { silent = ap not (views-rest plan.streams kept.streams still); agrees = is.shapes }
+
+-- what a resume that was done leaves of it
+pub resumed-rests : {D : Type 0} (means : Meaning D) (plan : Plan) (heap : ℕ) (kept : Record) (clock : ℕ) (device : D) (r : Resumed means plan heap kept clock device) → list_any (λ s. is_live_phase (phase_of s.found)) kept.streams ≡ false → IsRecordOf plan kept → AtRest (view_by plan kept) clock r.state
+resumed-rests means plan heap kept clock device r still is = record {
   view = r.keeps.view;
   clock = r.clock;
   buffers_are = r.keeps.rings;

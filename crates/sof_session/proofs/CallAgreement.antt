@@ -1,5 +1,5 @@
 -- After a load, an unload, a suspend, a resume and a call that sends acts alone, as one on a stream, the two sides agree again.
-use Rattle.std.proofs.Common.{◌≡◌, ⊎_elim, ℕ, false, List, [], Option, Some, None, Ok, Err, refl, sym, ap, subst, ◌∙◌, arith}
+use Rattle.std.proofs.Common.{◌≡◌, ⊎_elim, ℕ, false, List, [], Option, Some, None, Ok, Err, refl, sym, ap, subst, ◌∙◌}
 use Rattle.sof_base.specs.Ports.{Io}
 use Rattle.mbox_link.specs.Calls.{World, Meaning}
 use Rattle.mbox_link.specs.Link.{link}
@@ -68,9 +68,8 @@ module _ {P : Type 0} (means : Meaning P) (old : Seat P) (wire : Wire P) (io io'
 
   left-found : CarriedSo (loading old.plan old.kept) → (o : Outcome) → result ≡ o → BroughtUp (link means) old.plan old.heap (first_record old.plan) old.link o wire → Found
   left-found c (Ok done) is left shows =
-      let none : means.pending old.link.device ≡ 0 = agreed.pending in
-      let no_ticks : ticks_put (link means) old.link wire ≡ 0 = omega (arith, none) in
-      kept-here means old wire io io' agreed kept agree shows (all_closed On old.plan) (loaded_state old.plan old.heap 0) (left ∙ ap (λ (n : ℕ). Some (loaded_state old.plan old.heap n)) no_ticks) (Keeps-loaded old.plan old.heap)
+      let count = ticks_put (link means) old.link wire in
+      kept-here means old wire io io' agreed kept agree shows (all_closed On old.plan) (loaded_state old.plan old.heap count) left (Keeps-loaded old.plan old.heap count)
   left-found c (Err fault) is left shows =
       off-found (failed-off (link means) old.plan old.heap old.kept agreed.sound agreed.agree.record_is.controls kept (at old.link io) (at wire io') result c fault is) shows
 
@@ -96,7 +95,7 @@ module _ {P : Type 0} (means : Meaning P) (old : Seat P) (wire : Wire P) (io io'
   -- ---- a resume: what it leaves where it was done, and else it ends with a cut
 
   resumed-found : CarriedSo (resuming old.plan old.kept) → (o : Outcome) → result ≡ o → ResumeLeft (link means) old.plan old.heap old.kept old.link o wire → Found
-  resumed-found c (Ok done) is left shows = let r = left refl agreed.pending in kept-here means old wire io io' agreed kept agree shows old.kept r.state r.on r.keeps
+  resumed-found c (Ok done) is left shows = let r = left refl in kept-here means old wire io io' agreed kept agree shows old.kept r.state r.on r.keeps
   resumed-found c (Err fault) is left shows =
       let o = resuming old.plan old.kept in
       let now = (met means old.heap old.plan o old.kept kept (at old.link io) (at wire io') result c).kept in
@@ -113,9 +112,9 @@ module _ {P : Type 0} (means : Meaning P) (old : Seat P) (wire : Wire P) (io io'
     sent-found Unloaded off c taken shows = off-found (ap (λ (x : World (Wire P)). means.on x.device.device) (c.ends.1 ∙ c.walked.1 ∙ c.first) ∙ off) shows
     sent-found Off off c taken shows = off-found (ap (λ (x : World (Wire P)). means.on x.device.device) (c.ends.1 ∙ c.walked.1 ∙ c.first) ∙ off) shows
     sent-found On powered c taken shows = ⊎_elim
-        (λ cut. off-found (cut-off means old.heap old.plan (sending acts done answer) old.kept kept (at old.link io) (at wire io') result c cut) shows)
+        (λ cut. off-found (cut-off means old.heap old.plan (sending acts done answer) old.kept kept (at old.link io) (at wire io') result c cut.0) shows)
         (λ u. kept-here means old wire io io' agreed kept agree shows _ u.state u.is_on u.keeps_now)
-        (sent-left means old.heap old.plan acts done answer old.kept kept (at old.link io) (at wire io') result c agreed.pending powered.0 powered.1 agreed.agree.record_is powered.2 taken)
+        (sent-left means old.heap old.plan agreed.sound acts done answer old.kept kept (at old.link io) (at wire io') result c powered.0 powered.1 agreed.agree.record_is powered.2 taken)
 
   pub AreAgreed-sent : (test : Option HostFault) (o : Order) → (test ≡ None → IsSent old.kept o) → (test ≡ None → AreTaken old.plan false old.kept o.acts) → Tested (link means) old.plan old.heap test o old.kept kept (at old.link io) (at wire io') result → AreAgreed means new
   AreAgreed-sent test o sent taken tested = by-test test o tested (λ none c. found (sent none) c (taken none))

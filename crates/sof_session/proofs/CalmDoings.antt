@@ -2,11 +2,10 @@
 use Rattle.std.proofs.Common.{◌≡◌, refl, ap, ◌∙◌, subst, ℕ, ◌+◌, ◌<◌, ◌-◌, ◌^◌, Bool, true, false, ◌==◌, List, [], ◌∷◌, length, arith}
 use Rattle.std.specs.Prelude.{if◌then◌else◌}
 use Rattle.ipc3_codec.specs.Messages.{message_spelling}
-use Rattle.mbox_link.specs.declared.fates.Entry.{Entry as Planned}
+use Rattle.mbox_link.specs.declared.fates.Entry.{Entry}
 use Rattle.mbox_link.specs.declared.fates.Fate.{Fate}
 use Rattle.mbox_link.specs.declared.fates.Fate.TheVariants.{Pass, Refuse, Drop, Lose}
 use Rattle.mbox_link.specs.Exchange.{more, Rose}
-use Rattle.mbox_link.specs.Fates as link_fates
 use Rattle.mbox_link.specs.Calls.{World, Meaning, Steady}
 use Rattle.mbox_link.specs.Wire.{Wire}
 use Rattle.mbox_link.specs.Link.{link, next_fate, dropped_after, refused_after}
@@ -15,7 +14,7 @@ use Rattle.sof_session.specs.Agreement.{IsFated}
 use Rattle.sof_session.proofs.ActsLed.{acts-led}
 use Rattle.sof_session.proofs.LinkFates.{Led-inside, Steady-none, exchange_steady, exchange_fated, exchange_sent, exchange_entries, more-few}
 use Rattle.sof_session.proofs.StayedCounts.{Stayed, Stayed-between, none-rose}
-use Rattle.mbox_link.specs.Meetings.{Meeting}
+use Rattle.mbox_link.specs.Meetings.{Meeting, without}
 use Rattle.host_widgets.specs.declared.kept.Record.{Record}
 use Rattle.host_widgets.specs.HostActs.{Act}
 use Rattle.host_widgets.specs.ActMessages.{message_of}
@@ -94,9 +93,9 @@ module _ {P : Type 0} (means : Meaning P) (plan : Plan) (heap : ℕ) where
       let none = Steady-none means w.device.device w.device.device refl in
       let still = Steady-none means v.device.device v.device.device refl in
       let fewer : mid.device.sent + length ms < 2 ^ 64 - 1 = omega (arith, few, sent_is, more-few w.device.sent) in
-      either (number == more w.device.sent) (own_fate (next_fate w.device) m.fate) (doing_by (more w.device.sent) (link_fates.without (more w.device.sent) w.device.entries) ms number)
+      either (number == more w.device.sent) (own_fate (next_fate w.device) m.fate) (doing_by (more w.device.sent) (without (more w.device.sent) w.device.entries) ms number)
       (own-calm kept act m w mid did.1 fated (omega (arith, few)) (Stayed-between means w.device.device w.device.device mid.device.device v.device.device none rest stayed) (next_fate w.device) refl)
-      (subst (λ (x : ℕ × List Planned). doing_by x.0 x.1 ms number ≡ Pass) (λ i. (sent_is i, entries_is i))
+      (subst (λ (x : ℕ × List Entry). doing_by x.0 x.1 ms number ≡ Pass) (λ i. (sent_is i, entries_is i))
       (calm-behind goes_on acts ms a.kept mid v number (goes_past goes_on a.outcome) did.2
       (λ on. doing-calm goes_on acts ms a.kept mid v on (exchange_fated means request did.1.answer w mid did.1.exchanged fated) fewer
       (Stayed-between means w.device.device mid.device.device v.device.device v.device.device first still stayed) number)))

@@ -73,7 +73,7 @@ module _ {P : Type 0} (means : Meaning P) (heap : ℕ) where
     few-begun = omega (arith, few, first.sent)
 
     agreed : Agreed means plan heap (goes_on o.manner) doing kept c.meetings o.acts c.begun c.sent
-    agreed = walks-agree means plan heap (goes_on o.manner) doing o.acts c.meetings kept c.begun c.sent c.walked (first.pending ∙ none) begun-fated.meant
+    agreed = walks-agree means plan heap (goes_on o.manner) doing o.acts c.meetings kept c.begun c.sent c.walked (first.pending ∙ none) begun-fated.held
         (doing-so c.begun.device.sent c.begun.device.entries c.meetings (omega (arith, few-begun)))
 
     abbrev pub written : Walked Queue

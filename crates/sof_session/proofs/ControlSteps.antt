@@ -1,5 +1,5 @@
 -- What a call on a control does to a session: values or a blob that are set, told by the record, or asked of the firmware.
-use Rattle.std.proofs.Common.{◌≡◌, refl, sym, ap, subst, ◌∙◌, ℕ, ◌+◌, ◌<◌, ◌≤◌, ◌^◌, false, List, [], ◌∷◌, map, length, Option, Some, None, Result, Ok, Err, unwrap_or, arith}
+use Rattle.std.proofs.Common.{◌≡◌, refl, sym, ap, subst, ◌∙◌, ℕ, ◌+◌, ◌<◌, ◌≤◌, ◌^◌, false, List, [], ◌∷◌, length, Option, Some, None, Result, Ok, Err, unwrap_or, arith}
 use Rattle.std.specs.Prelude.{IfOk}
 use Rattle.std.specs.Option.{option_and_then}
 use Rattle.std.proofs.lemmas.List.{length-map}
@@ -42,8 +42,7 @@ use Rattle.sof_session.specs.SessionCalls.{ControlRan, ports, told_answer}
 use Rattle.sof_session.proofs.PartCounts.{few-numbers, few-kept}
 use Rattle.sof_session.proofs.SentOrders.{IsSent, sends-answer}
 use Rattle.sof_session.proofs.SentSteps.{IsCarriedBy, sent_stepped, sent_few}
-use Rattle.sof_session.proofs.Stepping.{SteppedIn, same-ports}
-use Rattle.sof_session.proofs.Writings.{none-written}
+use Rattle.sof_session.proofs.Stepping.{SteppedIn}
 
 -- ---- their orders send few acts, or none
 
@@ -156,13 +155,13 @@ bytes-answers plan kept name blob = installing-answers plan kept blob (named_con
 
 -- ---- a step
 
--- by what the command is, with endpoints that stayed
-pub control_step : {P : Type 0} (means : Meaning P) (old new : Seat P) (inputs inputs' : List InputView) (outputs outputs' : List OutputView) → AreAgreed means old → old.link.sent < 2 ^ 63 → inputs' ≡ inputs → outputs' ≡ outputs →
+-- by what the command is
+pub control_step : {P : Type 0} (means : Meaning P) (old new : Seat P) (inputs inputs' : List InputView) (outputs outputs' : List OutputView) → AreAgreed means old → old.link.sent < 2 ^ 63 →
     drained outputs ≡ outputs → (command other : Command) → command ≡ other → (test : Option HostFault) (o : Order) → IsCarriedBy old.plan old.heap old.kept other test o → IsControlCall old.plan old.kept test o →
     (answer : Answer) → ControlRan means test o old new (ports inputs outputs) (ports inputs' outputs') answer → SteppedIn means old new (ports inputs outputs) (ports inputs' outputs') answer command
-control_step means old new inputs inputs' outputs outputs' agreed few same_in same_out empty command other is test o by_these call answer ran =
+control_step means old new inputs inputs' outputs outputs' agreed few empty command other is test o by_these call answer ran =
     subst (SteppedIn means old new (ports inputs outputs) (ports inputs' outputs') answer) (sym is)
-    (sent_stepped means old new (ports inputs outputs) (ports inputs' outputs') agreed few (same-ports inputs inputs' outputs outputs' same_in same_out) (none-written outputs empty) other test o by_these call.sent call.taken answer ran.outcome ran.tested ran.said)
+    (sent_stepped means old new (ports inputs outputs) (ports inputs' outputs') agreed few empty other test o by_these call.sent call.taken answer ran.outcome ran.tested ran.said)
 
 -- it sends at most 900 messages
 pub control_few : {P : Type 0} (means : Meaning P) (old new : Seat P) (io io' : Io) (test : Option HostFault) (o : Order) → IsControlCall old.plan old.kept test o → (answer : Answer) → ControlRan means test o old new io io' answer → new.link.sent ≤ old.link.sent + 900

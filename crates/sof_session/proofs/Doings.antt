@@ -4,17 +4,16 @@ use Rattle.std.specs.Prelude.{if◌then◌else◌}
 use Rattle.std.specs.Cmp.{nat_eq_equiv}
 use Rattle.ipc3_codec.specs.declared.reply.Reply.{Reply}
 use Rattle.ipc3_codec.specs.declared.fault.CodecFault.{CodecFault}
-use Rattle.mbox_link.specs.declared.fates.Entry.{Entry as Planned}
+use Rattle.mbox_link.specs.declared.fates.Entry.{Entry}
 use Rattle.mbox_link.specs.declared.fates.Fate.{Fate}
 use Rattle.mbox_link.specs.declared.fates.Fate.TheVariants.{Pass, Refuse, Drop, Lose}
 use Rattle.mbox_link.specs.Step.{error_reply}
 use Rattle.mbox_link.specs.Exchange.{more}
-use Rattle.mbox_link.specs.Fates as link_fates
 use Rattle.mbox_link.specs.Fates.{IsError}
 use Rattle.host_widgets.specs.declared.answers.HostFault.TheVariants.{Refused}
 use Rattle.host_widgets.specs.Host.{errno, judged, verdict}
 use Rattle.host_widgets.proofs.ReplyErrors.{decoded-error, negative-fits}
-use Rattle.mbox_link.specs.Meetings.{Meeting, Doing, met_by}
+use Rattle.mbox_link.specs.Meetings.{Meeting, Doing, met_by, planned, without}
 use Rattle.host_widgets.specs.OneAct.{own}
 use Rattle.host_widgets.specs.ActCalls.{came_to}
 
@@ -28,11 +27,11 @@ refused_so e meant = subst (λ (x : ℤ). came_to (verdict (Some (error_reply x)
 -- ---- what the device itself did, by message number
 
 -- A message that was planned to pass had this fate from it, and any other what was planned, by these numbers and entries.
-abbrev pub DidSo : Doing → ℕ → List Planned → List Meeting → Type 0
+abbrev pub DidSo : Doing → ℕ → List Entry → List Meeting → Type 0
 DidSo doing sent entries [] = Unit {0}
 DidSo doing sent entries (m ∷ ms) =
-    let fate = link_fates.planned entries (more sent) in
-    (met_by fate (doing (more sent)) ≡ met_by fate m.fate) × DidSo doing (more sent) (link_fates.without (more sent) entries) ms
+    let fate = (planned entries (more sent)).fate in
+    (met_by fate (doing (more sent)) ≡ met_by fate m.fate) × DidSo doing (more sent) (without (more sent) entries) ms
 
 -- what it did where a message was planned to pass
 abbrev pub own_fate : Fate → Fate → Fate
@@ -48,30 +47,30 @@ met-own Drop own = refl
 met-own Lose own = refl
 
 -- its doings in a walk, and none besides
-abbrev pub doing_by : ℕ → List Planned → List Meeting → Doing
+abbrev pub doing_by : ℕ → List Entry → List Meeting → Doing
 doing_by sent entries [] number = Pass
 doing_by sent entries (m ∷ ms) number =
-    if number == more sent then own_fate (link_fates.planned entries (more sent)) m.fate
-    else doing_by (more sent) (link_fates.without (more sent) entries) ms number
+    if number == more sent then own_fate (planned entries (more sent)).fate m.fate
+    else doing_by (more sent) (without (more sent) entries) ms number
 
 -- only later numbers count
-same-later : (d e : Doing) (sent : ℕ) (entries : List Planned) (ms : List Meeting) → sent + length ms < 2 ^ 64 - 1 → ((number : ℕ) → sent < number → d number ≡ e number) → DidSo e sent entries ms → DidSo d sent entries ms
+same-later : (d e : Doing) (sent : ℕ) (entries : List Entry) (ms : List Meeting) → sent + length ms < 2 ^ 64 - 1 → ((number : ℕ) → sent < number → d number ≡ e number) → DidSo e sent entries ms → DidSo d sent entries ms
 same-later d e sent entries [] few same so = tt
 same-later d e sent entries (m ∷ ms) few same so =
     let one_more : more sent ≡ sent + 1 = omega (arith, few) in (
-      ap (met_by (link_fates.planned entries (more sent))) (same (more sent) (omega (arith, one_more))) ∙ so.0,
-      same-later d e (more sent) (link_fates.without (more sent) entries) ms (omega (arith, few, one_more)) (λ number later. same number (omega (arith, later, one_more))) so.1,
+      ap (met_by (planned entries (more sent)).fate) (same (more sent) (omega (arith, one_more))) ∙ so.0,
+      same-later d e (more sent) (without (more sent) entries) ms (omega (arith, few, one_more)) (λ number later. same number (omega (arith, later, one_more))) so.1,
     )
 
-pub doing-so : (sent : ℕ) (entries : List Planned) (ms : List Meeting) → sent + length ms < 2 ^ 64 - 1 → DidSo (doing_by sent entries ms) sent entries ms
+pub doing-so : (sent : ℕ) (entries : List Entry) (ms : List Meeting) → sent + length ms < 2 ^ 64 - 1 → DidSo (doing_by sent entries ms) sent entries ms
 doing-so sent entries [] few = tt
 doing-so sent entries (m ∷ ms) few =
     let one_more : more sent ≡ sent + 1 = omega (arith, few) in
-    let fate = link_fates.planned entries (more sent) in (
-      ap (λ (b : Bool). met_by fate (if b then own_fate fate m.fate else doing_by (more sent) (link_fates.without (more sent) entries) ms (more sent))) (nat_eq_equiv.refl (more sent)) ∙ met-own fate m.fate,
-      same-later (doing_by sent entries (m ∷ ms)) (doing_by (more sent) (link_fates.without (more sent) entries) ms) (more sent) (link_fates.without (more sent) entries) ms (omega (arith, few, one_more))
-          (λ number later. ap (λ (b : Bool). if b then own_fate fate m.fate else doing_by (more sent) (link_fates.without (more sent) entries) ms number) (other number later))
-          (doing-so (more sent) (link_fates.without (more sent) entries) ms (omega (arith, few, one_more))),
+    let fate = (planned entries (more sent)).fate in (
+      ap (λ (b : Bool). met_by fate (if b then own_fate fate m.fate else doing_by (more sent) (without (more sent) entries) ms (more sent))) (nat_eq_equiv.refl (more sent)) ∙ met-own fate m.fate,
+      same-later (doing_by sent entries (m ∷ ms)) (doing_by (more sent) (without (more sent) entries) ms) (more sent) (without (more sent) entries) ms (omega (arith, few, one_more))
+          (λ number later. ap (λ (b : Bool). if b then own_fate fate m.fate else doing_by (more sent) (without (more sent) entries) ms number) (other number later))
+          (doing-so (more sent) (without (more sent) entries) ms (omega (arith, few, one_more))),
     )
   where
     other : (number : ℕ) → more sent < number → (number == more sent) ≡ false

@@ -1,5 +1,5 @@
 -- How many acts of a command are due at most.
-use Rattle.std.proofs.Common.{◌≡◌, refl, ℕ, ◌≤◌, true, List, length, Option, Some, None, arith}
+use Rattle.std.proofs.Common.{◌≡◌, refl, ℕ, ◌≤◌, List, length, Option, Some, None, arith}
 use Rattle.tplg_plan.specs.declared.plans.Plan.{Plan}
 use Rattle.host_widgets.specs.declared.kept.Record.{Record}
 use Rattle.tplg_plan.specs.Sound.{IsSound}
@@ -13,7 +13,7 @@ use Rattle.sof_script.specs.declared.script.Command.{Command}
 use Rattle.sof_script.specs.declared.script.Command.TheVariants as commands
 use Rattle.sof_session.specs.CommandTests.{asking, fault_of}
 use Rattle.sof_session.specs.Commands.{asked_order, order_of}
-use Rattle.sof_session.specs.CommandRanges.{is_built, most_sent}
+use Rattle.sof_session.specs.CommandRanges.{most_sent}
 use Rattle.sof_session.proofs.SentOrders.{few-sent, few-stream}
 use Rattle.sof_session.proofs.ControlSteps.{sent-set, sent-get, sent-read, sent-bytes}
 use Rattle.sof_session.proofs.PowerSteps.{few-down}
@@ -29,8 +29,8 @@ few-due : (o : Order) (fault : Option HostFault) (most : ℕ) → (fault ≡ Non
 few-due o (Some fault) most few = omega arith
 few-due o None most few = few refl
 
-pub few-order : (plan : Plan) → IsSound plan → (command : Command) → is_built command ≡ true → (kept : Record) → IsRecordOf plan kept → length (acts_due plan kept command) ≤ most_sent command
-few-order plan sound command built kept is = few-due (order_of plan kept command) (fault_of plan kept command) (most_sent command) (few command)
+pub few-order : (plan : Plan) → IsSound plan → (command : Command) (kept : Record) → IsRecordOf plan kept → length (acts_due plan kept command) ≤ most_sent command
+few-order plan sound command kept is = few-due (order_of plan kept command) (fault_of plan kept command) (most_sent command) (few command)
   where
     few : (command : Command) → fault_of plan kept command ≡ None → length (order_of plan kept command).acts ≤ most_sent command
     few commands.Load none = few-acts plan kept sound is.controls

@@ -30,8 +30,8 @@ empty-rings (e ∷ edges) = λ i. e.buffer ∷ empty-rings edges i
 
 -- ---- after a load
 
-pub Keeps-loaded : (plan : Plan) (heap : ℕ) → Keeps plan heap (all_closed On plan) (loaded_state plan heap 0)
-Keeps-loaded plan heap = record { view = refl; pieces = refl; rings = empty-rings plan.graph.edges }
+pub Keeps-loaded : (plan : Plan) (heap clock : ℕ) → Keeps plan heap (all_closed On plan) (loaded_state plan heap clock)
+Keeps-loaded plan heap clock = record { view = refl; pieces = refl; rings = empty-rings plan.graph.edges }
 
 -- ---- after a tick
 

@@ -11,9 +11,7 @@ pub mod RunBoots
 pub mod StepCounts
 pub mod FewOrders
 pub mod RunLegs
-pub mod StillMoments
 pub mod Doings
-pub mod Lagless
 pub mod LinkWalks
 pub mod CalmDoings
 pub mod Carrying

@@ -1,37 +1,18 @@
 -- What the calls on a link do to its device, and to what it holds.
-use Rattle.std.proofs.Common.{◌≡◌, ℕ, ◌+◌, ◌≤◌, ◌<◌, ◌^◌, Bool, true, false, cond, not, List, [], ◌∷◌, Option, refl, sym, ap, subst, arith}
-use Rattle.std.specs.Prelude.{◌==◌}
-use Rattle.mbox_link.specs.declared.fates.Entry.{Entry}
+use Rattle.std.proofs.Common.{◌≡◌, ℕ, ◌+◌, ◌≤◌, ◌<◌, ◌^◌, replicate, List, [], ◌∷◌, Option, refl, sym, ap, subst, arith}
 use Rattle.mbox_link.specs.declared.fates.Fate.{Fate}
 use Rattle.mbox_link.specs.declared.fates.Fate.TheVariants.{Pass, Refuse, Drop, Lose}
-use Rattle.mbox_link.specs.Fates.{planned, without, IsMeant, AllMeant}
+use Rattle.mbox_link.specs.Meetings.{without}
 use Rattle.mbox_link.specs.Exchange.{more}
 use Rattle.mbox_link.specs.Calls.{World, Meaning, Call, Boot, Cut, Exchange, Tick, Did, Led, Exchanged, Steady}
 use Rattle.mbox_link.specs.Wire.{Wire}
-use Rattle.mbox_link.specs.Link.{link, inner, over, Met, after_message, next_fate, dropped_after, refused_after}
+use Rattle.mbox_link.specs.Link.{link, inner, over, Met, MetLate, after_message, next_fate, next_lag, dropped_after, refused_after}
+use Rattle.mbox_link.proofs.FateLaws.{AreHeld-without}
 use Rattle.mbox_link.proofs.Steps.{NoneFell-same}
 use Rattle.mbox_link.proofs.Led.{Steady-by, Led-steady}
 use Rattle.sof_session.specs.Agreement.{IsFated}
 
 -- ---- what is held
-
-meant_if : (b : Bool) (entry : Entry) (left : List Entry) → IsMeant entry.fate → AllMeant left → AllMeant (cond b (entry ∷ left) left)
-meant_if true entry left first rest = (first, rest)
-meant_if false entry left first rest = rest
-
-pub AllMeant-without : (number : ℕ) (entries : List Entry) → AllMeant entries → AllMeant (without number entries)
-AllMeant-without number [] meant = tt
-AllMeant-without number (entry ∷ entries) meant =
-    meant_if (not (entry.number == number)) entry (without number entries) meant.0 (AllMeant-without number entries meant.1)
-
-meant_of : (b : Bool) (fate other : Fate) → IsMeant fate → IsMeant other → IsMeant (cond b fate other)
-meant_of true fate other first rest = first
-meant_of false fate other first rest = rest
-
-pub planned-meant : (number : ℕ) (entries : List Entry) → AllMeant entries → IsMeant (planned entries number)
-planned-meant number [] meant = tt
-planned-meant number (entry ∷ entries) meant =
-    meant_of (entry.number == number) entry.fate (planned entries number) meant.0 (planned-meant number entries meant.1)
 
 dropped-few : (fate : Fate) (count sent : ℕ) → count ≤ sent → count < 2 ^ 64 → dropped_after fate count ≤ more sent
 dropped-few Pass count sent few below = grind (arith, few, below)
@@ -53,11 +34,11 @@ more-few count = grind arith
 
 -- the link with another device, and after a message
 over_fated : {P : Type 0} (wire : Wire P) (dsp : P) (after : Wire P) → IsFated wire → after ≡ over wire dsp → IsFated after
-over_fated wire dsp after fated is = subst IsFated (sym is) record { meant = fated.meant; dropped = fated.dropped; refused = fated.refused; counted = fated.counted }
+over_fated wire dsp after fated is = subst IsFated (sym is) record { held = fated.held; dropped = fated.dropped; refused = fated.refused; counted = fated.counted }
 
 message_fated : {P : Type 0} (wire : Wire P) (dsp : P) (after : Wire P) → IsFated wire → after ≡ after_message wire dsp → IsFated after
 message_fated wire dsp after fated is = subst IsFated (sym is) record {
-  meant = AllMeant-without (more wire.sent) wire.entries fated.meant;
+  held = AreHeld-without (more wire.sent) wire.entries fated.held;
   dropped = dropped-few (next_fate wire) wire.dropped wire.sent fated.dropped (omega (arith, fated.dropped, fated.counted));
   refused = refused-few (next_fate wire) wire.refused wire.sent fated.refused (omega (arith, fated.refused, fated.counted));
   counted = more-counted wire.sent;
@@ -75,10 +56,15 @@ module _ {P : Type 0} (means : Meaning P) where
   met_steady Drop request answer w v met = Steady-none w.device v.device (ap (λ (x : World P). x.device) met.1)
   met_steady Lose request answer w v met = met.2.steady
 
+  -- the ticks before it, and then what its fate says
+  late_steady : (lag : ℕ) (fate : Fate) (request : List ℕ) (answer : Option (List ℕ)) (w v : World P) → MetLate means lag fate request answer w v → Steady means w.device v.device
+  late_steady lag fate request answer w v (m, led, met) =
+      Steady-by means w.device m.device v.device (Led-steady means (replicate lag Tick) w m led) (met_steady fate request answer m v met)
+
   -- a message
   module _ (request : List ℕ) (answer : Option (List ℕ)) (w v : World (Wire P)) (x : Exchanged (link means) request answer w v) where
     pub exchange_steady : Steady means w.device.device v.device.device
-    exchange_steady = met_steady (next_fate w.device) request answer (inner w) (inner v) x.did.0
+    exchange_steady = late_steady (next_lag w.device) (next_fate w.device) request answer (inner w) (inner v) x.did.0
 
     pub exchange_fated : IsFated w.device → IsFated v.device
     exchange_fated fated = message_fated w.device v.device.device v.device fated x.did.1

@@ -1,29 +1,26 @@
 -- A walk over a link is the written walk, by the planned fates and by what the device itself did.
-use Rattle.std.proofs.Common.{◌≡◌, refl, sym, ap, ◌∙◌, subst, ℕ, Bool, true, false, List, [], ◌∷◌, ◌++◌, Option, replicate, arith}
-use Rattle.stream_law.specs.Past.{Moment, Tick}
+use Rattle.std.proofs.Common.{◌≡◌, refl, sym, ap, ◌∙◌, subst, ℕ, Bool, true, false, List, [], ◌∷◌, ◌++◌, Option, arith}
+use Rattle.stream_law.specs.Past.{Moment}
 use Rattle.ipc3_codec.specs.Messages.{message_spelling}
 use Rattle.mbox_link.specs.declared.fates.Fate.{Fate}
 use Rattle.mbox_link.specs.declared.fates.Fate.TheVariants.{Pass, Refuse, Drop, Lose}
 use Rattle.mbox_link.specs.Exchange.{more}
-use Rattle.mbox_link.specs.Fates.{IsMeant, AllMeant}
+use Rattle.mbox_link.specs.Fates.{IsMeant, AreHeld}
 use Rattle.mbox_link.specs.Calls.{World, Meaning}
 use Rattle.mbox_link.specs.Wire.{Wire}
-use Rattle.mbox_link.specs.Link.{link, inner, Met, next_fate, after_message}
+use Rattle.mbox_link.specs.Link.{link, inner, Met, next_fate, next_lag, after_message}
+use Rattle.mbox_link.proofs.FateLaws.{AreHeld-without, lags-planned, planned-meant}
 use Rattle.tplg_plan.specs.declared.plans.Plan.{Plan}
 use Rattle.host_widgets.specs.Host.{verdict}
-use Rattle.mbox_link.specs.Meetings.{Meeting, Queue, Doing, met_by, next_meeting, queue_of}
+use Rattle.mbox_link.specs.Meetings.{Meeting, Queue, Doing, lags, met_by, next_meeting, queue_of, without}
 use Rattle.host_widgets.specs.declared.kept.Record.{Record}
 use Rattle.host_widgets.specs.HostActs.{Act}
 use Rattle.host_widgets.specs.ActMessages.{message_of}
-use Rattle.host_widgets.specs.OneAct.{Acted, own, outcome_by, one_act, came}
+use Rattle.host_widgets.specs.OneAct.{Acted, own, outcome_by, lag_of, one_act, came}
 use Rattle.host_widgets.specs.Walk.{Walked, walk, joined, goes_past, first_of}
 use Rattle.host_widgets.specs.ActCalls.{ActDid, ActsDid, Onwards, next_of, came_to}
-use Rattle.sof_session.proofs.LinkFates.{planned-meant, AllMeant-without}
-use Rattle.sof_session.proofs.Lagless.{planned-lagless, without-lagless}
+use Rattle.sof_session.proofs.LinkFates.{exchange_steady}
 use Rattle.sof_session.proofs.Doings.{refused_so, DidSo}
-
-abbrev ticks_of : ℕ → List Moment
-ticks_of n = replicate n Tick
 
 -- ---- walks
 
@@ -35,37 +32,44 @@ pub record Same {Q R : Type 0} (a : Walked Q) (b : Walked R) : Type 0 where
   pub sent : a.sent ≡ b.sent
 
 module _ {P : Type 0} (means : Meaning P) (plan : Plan) (heap : ℕ) (kept : Record) (act : Act) (m : Meeting) (w v : World (Wire P)) (did : ActDid (link means) plan heap kept act m w v)
-    (quiet : means.pending w.device.device ≡ 0) (meant : AllMeant w.device.entries) where
+    (quiet : means.pending w.device.device ≡ 0) (held : AreHeld w.device.entries) where
   abbrev number : ℕ
   number = more w.device.sent
 
-  no-lag : m.lag ≡ 0
-  no-lag = did.lag ∙ omega (arith, quiet)
-
-  by_fate : (fate : Fate) → IsMeant fate → Met means fate (message_spelling (message_of plan act)) did.answer (inner w) (inner v) →
-      outcome_by m.fate (own plan heap kept act) ≡ outcome_by (met_by fate m.fate) (own plan heap kept act)
-  by_fate Pass meant met = refl
-  by_fate (Refuse e) meant met = sym did.came ∙ ap (λ (a : Option (List ℕ)). came_to (verdict a)) met.0 ∙ refused_so e meant
-  by_fate Drop meant met = sym did.came ∙ ap (λ (a : Option (List ℕ)). came_to (verdict a)) met.0
-  by_fate Lose meant met = sym did.came ∙ ap (λ (a : Option (List ℕ)). came_to (verdict a)) met.0
+  abbrev request : List ℕ
+  request = message_spelling (message_of plan act)
 
   after_is : v.device ≡ after_message w.device v.device.device
   after_is = did.exchanged.did.1
 
-  -- the queue goes on as the link does
-  next-is : (doing : Doing) → met_by (next_fate w.device) (doing number) ≡ met_by (next_fate w.device) m.fate → next_meeting doing (queue_of w.device) ≡ (record { lag = 0; fate = met_by (next_fate w.device) m.fate }, queue_of v.device)
-  next-is doing is =
-      (λ i. (record { lag = (planned-lagless w.device.entries number i).lag; fate = met_by (planned-lagless w.device.entries number i).fate (doing number) }, record { sent = number; entries = without-lagless number w.device.entries i }))
-      ∙ (λ i. (record { lag = 0; fate = is i }, queue_of (sym after_is i)))
-
-  same-act : one_act plan heap kept act m ≡ one_act plan heap kept act (record { lag = 0; fate = met_by (next_fate w.device) m.fate })
-  same-act = λ i. came plan act kept (ticks_of (no-lag i)) (by_fate (next_fate w.device) (planned-meant number w.device.entries meant) did.exchanged.did.0 i)
-
   still-quiet : means.pending v.device.device ≡ 0
-  still-quiet = let less = did.exchanged.steady.pending in omega (arith, quiet, less)
+  still-quiet = let less = (exchange_steady means request did.answer w v did.exchanged).pending in omega (arith, quiet, less)
 
-  still-meant : AllMeant v.device.entries
-  still-meant = subst (λ (l : Wire P). AllMeant l.entries) (sym after_is) (AllMeant-without number w.device.entries meant)
+  still-held : AreHeld v.device.entries
+  still-held = subst (λ (l : Wire P). AreHeld l.entries) (sym after_is) (AreHeld-without number w.device.entries held)
+
+  -- the ticks that `pending` fell by are those that were planned
+  lag-is : m.lag ≡ next_lag w.device
+  lag-is =
+      let own = lags-planned number w.device.entries held.apart in
+      let left : lags v.device.entries ≡ lags (without number w.device.entries) = ap (λ (l : Wire P). lags l.entries) after_is in
+      omega (arith, did.lag, quiet, still-quiet, own, left)
+
+  by_fate : (fate : Fate) → IsMeant fate → (u : World P) → Met means fate request did.answer u (inner v) →
+      outcome_by m.fate (own plan heap kept act) ≡ outcome_by (met_by fate m.fate) (own plan heap kept act)
+  by_fate Pass meant u met = refl
+  by_fate (Refuse e) meant u met = sym did.came ∙ ap (λ (a : Option (List ℕ)). came_to (verdict a)) met.0 ∙ refused_so e meant
+  by_fate Drop meant u met = sym did.came ∙ ap (λ (a : Option (List ℕ)). came_to (verdict a)) met.0
+  by_fate Lose meant u met = sym did.came ∙ ap (λ (a : Option (List ℕ)). came_to (verdict a)) met.0
+
+  -- the queue goes on as the link does
+  next-is : (doing : Doing) → met_by (next_fate w.device) (doing number) ≡ met_by (next_fate w.device) m.fate → next_meeting doing (queue_of w.device) ≡ (record { lag = m.lag; fate = met_by (next_fate w.device) m.fate }, queue_of v.device)
+  next-is doing is = λ i. (record { lag = sym lag-is i; fate = is i }, queue_of (sym after_is i))
+
+  same-act : one_act plan heap kept act m ≡ one_act plan heap kept act (record { lag = m.lag; fate = met_by (next_fate w.device) m.fate })
+  same-act =
+      let late = did.exchanged.did.0 in
+      λ i. came plan act kept (lag_of m) (by_fate (next_fate w.device) (planned-meant number w.device.entries held.meant) late.0 late.2 i)
 
 module _ {P : Type 0} (means : Meaning P) (plan : Plan) (heap : ℕ) (goes_on : Bool) (doing : Doing) where
   abbrev met_walk : Record → List Meeting → List Act → Walked (List Meeting)
@@ -97,19 +101,19 @@ module _ {P : Type 0} (means : Meaning P) (plan : Plan) (heap : ℕ) (goes_on : 
   behind act a acts ms mid v false rest did = record { same = record { outcome = refl; left = refl; moments = refl; sent = refl }; queue = ap (λ (x : World (Wire P)). queue_of x.device) (sym did.1) }
 
   pub walks-agree : (acts : List Act) (ms : List Meeting) (kept : Record) (w v : World (Wire P)) → ActsDid (link means) plan heap goes_on kept acts ms w v →
-      means.pending w.device.device ≡ 0 → AllMeant w.device.entries → DidSo doing w.device.sent w.device.entries ms → Agreed kept ms acts w v
-  walks-agree [] ms kept w v did quiet meant so = record { same = record { outcome = refl; left = refl; moments = refl; sent = refl }; queue = ap (λ (x : World (Wire P)). queue_of x.device) (sym did.1) }
-  walks-agree (act ∷ acts) [] kept w v did quiet meant so = absurd did
-  walks-agree (act ∷ acts) (m ∷ ms) kept w v did quiet meant so =
+      means.pending w.device.device ≡ 0 → AreHeld w.device.entries → DidSo doing w.device.sent w.device.entries ms → Agreed kept ms acts w v
+  walks-agree [] ms kept w v did quiet held so = record { same = record { outcome = refl; left = refl; moments = refl; sent = refl }; queue = ap (λ (x : World (Wire P)). queue_of x.device) (sym did.1) }
+  walks-agree (act ∷ acts) [] kept w v did quiet held so = absurd did
+  walks-agree (act ∷ acts) (m ∷ ms) kept w v did quiet held so =
       let mid = did.0 in
       let a = one_act plan heap kept act m in
       let r = behind act a acts ms mid v (goes_past goes_on a.outcome)
       (λ more_did. walks-agree acts ms a.kept mid v more_did
-      (still-quiet means plan heap kept act m w mid did.1 quiet meant) (still-meant means plan heap kept act m w mid did.1 quiet meant)
-      (subst (λ (l : Wire P). DidSo doing l.sent l.entries ms) (sym (after_is means plan heap kept act m w mid did.1 quiet meant)) so.1))
+      (still-quiet means plan heap kept act m w mid did.1 quiet held) (still-held means plan heap kept act m w mid did.1 quiet held)
+      (subst (λ (l : Wire P). DidSo doing l.sent l.entries ms) (sym (after_is means plan heap kept act m w mid did.1 quiet held)) so.1))
       did.2 in
       let whole = subst (λ (p : Acted × Queue). AgreedOf (joined act a ms (goes_past goes_on a.outcome) (met_walk a.kept ms acts)) (joined act p.0 p.1 (goes_past goes_on p.0.outcome) (walk plan heap goes_on (next_meeting doing) p.0.kept p.1 acts)) (queue_of v.device))
-      (λ i. (same-act means plan heap kept act m w mid did.1 quiet meant i, queue_of mid.device)) r in
+      (λ i. (same-act means plan heap kept act m w mid did.1 quiet held i, queue_of mid.device)) r in
       let named = subst (λ (p : Meeting × Queue). AgreedOf (joined act a ms (goes_past goes_on a.outcome) (met_walk a.kept ms acts)) (joined act (one_act plan heap kept act p.0) p.1 (goes_past goes_on (one_act plan heap kept act p.0).outcome) (walk plan heap goes_on (next_meeting doing) (one_act plan heap kept act p.0).kept p.1 acts)) (queue_of v.device))
-      (sym (next-is means plan heap kept act m w mid did.1 quiet meant doing so.0)) whole in
+      (sym (next-is means plan heap kept act m w mid did.1 quiet held doing so.0)) whole in
       record { same = named.same; queue = named.queue }

@@ -1,10 +1,10 @@
 -- What a load does to a session.
-use Rattle.std.proofs.Common.{◌≡◌, false, refl, sym, ap, ◌∙◌, subst, ℕ, ◌+◌, ◌<◌, ◌≤◌, ◌-◌, ◌^◌, List, [], ◌∷◌, ◌++◌, length, Option, Some, None, Ok, Err, arith}
+use Rattle.std.proofs.Common.{◌≡◌, ⊎_elim, false, refl, sym, ap, ◌∙◌, subst, zero-add, ℕ, ◌+◌, ◌<◌, ◌≤◌, ◌-◌, ◌%◌, ◌^◌, List, [], ◌∷◌, ◌++◌, length, Option, Some, None, Ok, Err, arith}
 use Rattle.std.proofs.lemmas.List.{append-nil}
-use Rattle.sof_base.specs.Ports.{Io}
+use Rattle.sof_base.specs.Ports.{Io, drained}
 use Rattle.stream_law.specs.State.{FwState}
-use Rattle.stream_law.specs.Past.{Moment, Boot}
-use Rattle.mbox_link.specs.Calls.{World, Meaning}
+use Rattle.stream_law.specs.Past.{Moment, Boot, empty_view}
+use Rattle.mbox_link.specs.Calls.{World, Meaning, Led}
 use Rattle.mbox_link.specs.Meetings.{Meeting}
 use Rattle.mbox_link.specs.Wire.{Wire}
 use Rattle.mbox_link.specs.Link.{link}
@@ -16,32 +16,30 @@ use Rattle.host_widgets.specs.declared.kept.Power.TheVariants.{Unloaded, On, Off
 use Rattle.host_widgets.specs.declared.kept.Record.{Record}
 use Rattle.host_widgets.specs.Kept.{first_record, with_power}
 use Rattle.host_widgets.specs.ActLists.{bring_up}
-use Rattle.host_widgets.specs.ActCalls.{next_of}
+use Rattle.host_widgets.specs.ActCalls.{calls_of, next_of}
 use Rattle.host_widgets.specs.StateOf.{loaded_state}
 use Rattle.host_widgets.specs.ViewOf.{view_by}
 use Rattle.host_widgets.specs.Host.{Outcome, BroughtUp, Sides, ticks_put}
 use Rattle.host_widgets.specs.Walk.{Walked, walk}
 use Rattle.host_widgets.specs.Orders.{Order, Carried, brought_end, load_fault, loading}
-use Rattle.host_widgets.proofs.BarePlans.{Bare, bare}
+use Rattle.host_widgets.proofs.BarePlans.{bare}
 use Rattle.host_widgets.proofs.BuildingActs.{bring-leaves}
-use Rattle.host_widgets.proofs.BuildingMoments.{AllOf, build-views, passed-some}
+use Rattle.host_widgets.proofs.BuildingMoments.{AllOf, view_from, clock_from, build-views, passed-view, none-came, acts-clocked}
 use Rattle.host_widgets.proofs.FewJoins.{few-acts}
-use Rattle.host_widgets.proofs.WalksStill.{AllStill}
+use Rattle.host_widgets.proofs.StandingOn.{StandsOn, ReadsOn}
 use Rattle.sof_script.specs.declared.script.Command.TheVariants as commands
 use Rattle.sof_session.specs.Agreement.{AreAgreed}
 use Rattle.sof_session.specs.Commands.{answer_by}
 use Rattle.sof_session.specs.Seat.{Seat}
 use Rattle.sof_session.specs.SessionStep.{Stepped}
 use Rattle.sof_session.specs.SessionCalls.{LoadRan}
-use Rattle.sof_session.specs.Written.{written_in}
 use Rattle.sof_session.proofs.Agreement.{at}
-use Rattle.sof_session.proofs.BuildStands.{load-leads}
-use Rattle.sof_session.proofs.Carrying.{begun-quiet}
+use Rattle.sof_session.proofs.BuildStands.{AtRest, rest_view, rest-quiet, loaded-rests, brought-stands, brought-reads}
 use Rattle.sof_session.proofs.FewMeetings.{few-meetings}
 use Rattle.sof_session.proofs.OrderCalls.{carried-sent}
-use Rattle.sof_session.proofs.OrderStands.{LeadsOn, moments-are, order-still, cut-leads}
+use Rattle.sof_session.proofs.OrderStands.{moments-are, cut-leads}
 use Rattle.sof_session.proofs.OrderStands as after_order
-use Rattle.sof_session.proofs.Stepping.{early-stepped, late-stepped, still-standing}
+use Rattle.sof_session.proofs.Stepping.{early-stepped, late-stepped, standing-by}
 
 -- nothing was loaded
 was-unloaded : (power : Power) → load_fault power ≡ None → power ≡ Unloaded
@@ -80,55 +78,66 @@ module _ {P : Type 0} (means : Meaning P) (old new : Seat P) (io io' : Io) (agre
     -- each that passed left the view of the record
     views : AllOf (view_by old.plan (first_record old.plan)) met.moments
     views = subst (λ (r : Record). AllOf (view_by old.plan r) met.moments) first
-        (build-views (link means) old.plan old.heap old.kept order.acts c.meetings old.kept refl c.begun c.sent c.walked
-        (bring-leaves old.plan old.kept agreed.sound)
-        (begun-quiet means old.heap old.plan order old.kept new.kept w v outcome c agreed.pending agreed.fated few-messages))
+        (build-views (link means) old.plan old.heap old.kept order.acts c.meetings old.kept refl c.begun c.sent c.walked (bring-leaves old.plan old.kept agreed.sound))
 
-    loaded : met.outcome ≡ Ok tt → means.on new.link.device ≡ Some (loaded_state old.plan old.heap 0)
-    loaded passed =
-        let stands = subst (λ (o : Outcome). BroughtUp (link means) old.plan old.heap (first_record old.plan) old.link o new.link) (c.came ∙ passed) left in
-        let none : means.pending old.link.device ≡ 0 = agreed.pending in
-        let no_ticks : ticks_put (link means) old.link new.link ≡ 0 = omega (arith, none) in
-        stands ∙ ap (λ (n : ℕ). Some (loaded_state old.plan old.heap n)) no_ticks
+    -- the ticks that the link put
+    abbrev count : ℕ
+    count = ticks_put (link means) old.link new.link
 
-    empty : met.outcome ≡ Ok tt → met.moments ≡ [] → Bare old.plan
-    empty passed none =
-        let no_acts : order.acts ≡ [] = passed-some old.plan old.heap order.acts c.meetings old.kept passed none in
-        bare old.plan agreed.sound (ap (λ (r : Record). length (bring_up old.plan r)) (sym first) ∙ ap length no_acts)
+    -- the clock counts them, where all passed
+    counted : met.outcome ≡ Ok tt → clock_from 0 met.moments ≡ count
+    counted passed =
+        let k = acts-clocked (link means) old.plan old.heap order.acts c.meetings old.kept c.begun c.sent c.walked in
+        let begun : (link means).pending c.begun.device ≡ (link means).pending old.link = ap (λ (x : World (Wire P)). (link means).pending x.device) c.first.2 ∙ c.first.1.0.quiet.pending in
+        let last_is : v ≡ c.sent = subst (λ (o : Outcome). Led (link means) c.sent (calls_of old.heap (brought_end (with_power On) (first_record old.plan) met.kept o).1) v) passed c.ends.1 in
+        k.clock 0 ∙ ap (λ (n : ℕ). n % 2 ^ 32) (zero-add ((link means).pending c.begun.device - (link means).pending c.sent.device)) ∙ (λ i. ((begun i) - (link means).pending (sym last_is i).device) % 2 ^ 32)
+
+    loaded : met.outcome ≡ Ok tt → means.on new.link.device ≡ Some (loaded_state old.plan old.heap count)
+    loaded passed = subst (λ (o : Outcome). BroughtUp (link means) old.plan old.heap (first_record old.plan) old.link o new.link) (c.came ∙ passed) left
+
+    -- of an empty plan there is no act, and the device is as it was booted
+    empty-view : order.acts ≡ [] → view_from empty_view met.moments ≡ view_by old.plan (first_record old.plan)
+    empty-view none =
+        let no_acts = bare old.plan agreed.sound (ap (λ (r : Record). length (bring_up old.plan r)) (sym first) ∙ ap length none) in
+        ap (view_from empty_view) (none-came old.plan old.heap order.acts c.meetings old.kept none) ∙ sym no_acts.view
+
+    ends-so : met.outcome ≡ Ok tt → view_from empty_view met.moments ≡ view_by old.plan (first_record old.plan)
+    ends-so passed = ⊎_elim empty-view (λ ends. ends empty_view) (passed-view old.plan old.heap (view_by old.plan (first_record old.plan)) order.acts c.meetings old.kept passed views)
 
     abbrev Leads : Type 0
-    Leads = LeadsOn (means.on old.link.device) (means.on new.link.device) written
+    Leads = StandsOn (means.on old.link.device) io (means.on new.link.device) io' written
 
-    by : (o : Outcome) → met.outcome ≡ o → Leads
-    by (Ok passed) is =
+    by : io' ≡ io → (o : Outcome) → met.outcome ≡ o → Leads
+    by same (Ok passed) is =
         let all : Boot ∷ met.moments ≡ written = (λ i. Boot ∷ sym (append-nil met.moments) i) ∙ (λ i. Boot ∷ (met.moments ++ (brought_end (with_power On) (first_record old.plan) met.kept (sym is i)).1))
         ∙ moments-are means old.heap old.plan order old.kept new.kept w v outcome c agreed.pending agreed.fated few-messages in
-        subst (λ (x : Option FwState × List Moment). LeadsOn (means.on old.link.device) x.0 x.1) (λ i. (sym (loaded is) i, all i))
-        (load-leads old.plan old.heap (means.on old.link.device) met.moments views (empty is))
-    by (Err fault) is = cut-leads means old.heap old.plan order old.kept new.kept w v outcome c agreed.pending agreed.fated few-messages tt
-        (ap (λ (o : Outcome). (brought_end (with_power On) (first_record old.plan) met.kept o).1) is) (means.on old.link.device)
+        subst (λ (x : Option FwState × Io × List Moment). StandsOn (means.on old.link.device) io x.0 x.1 x.2) (λ i. (sym (loaded is) i, sym same i, all i))
+        (brought-stands old.heap (rest_view old.plan old.heap) (rest-quiet old.plan old.heap) (means.on old.link.device) io met.moments views (rest_view old.plan old.heap) (loaded_state old.plan old.heap count)
+        (subst (λ (t : ℕ). AtRest (rest_view old.plan old.heap) t (loaded_state old.plan old.heap count)) (sym (counted is)) (loaded-rests old.plan old.heap count)) (ends-so is))
+    by same (Err fault) is =
+        let cuts = ap (λ (o : Outcome). (brought_end (with_power On) (first_record old.plan) met.kept o).1) is in
+        let sent_io : io ≡ c.sent.io = sym same ∙ after_order.cut-io means old.heap old.plan order old.kept new.kept w v outcome c cuts in
+        cut-leads means old.heap old.plan order old.kept new.kept w v outcome c agreed.pending agreed.fated few-messages (means.on old.link.device) cuts
+        (subst (λ (x : Io). ReadsOn (means.on old.link.device) io x (Boot ∷ met.moments)) sent_io (brought-reads old.heap (rest_view old.plan old.heap) (rest-quiet old.plan old.heap) (means.on old.link.device) io met.moments views))
 
-    pub load-leads-on : Leads
-    load-leads-on = by met.outcome refl
-
-    pub load-still : AllStill written
-    load-still = order-still means old.heap old.plan order old.kept new.kept w v outcome c agreed.pending agreed.fated few-messages tt
+    pub load-leads-on : io' ≡ io → Leads
+    load-leads-on same = by same met.outcome refl
 
   -- ---- the load
 
-  pub load_stepped : io' ≡ io → written_in io.outputs ≡ [] → (answer : Answer) → LoadRan means old new io io' answer → Stepped means old.plan old.heap commands.Load old.kept new.kept w v answer
-  load_stepped same none answer ran = by (load_fault old.kept.power) refl
+  pub load_stepped : io' ≡ io → drained io.outputs ≡ io.outputs → (answer : Answer) → LoadRan means old new io io' answer → Stepped means old.plan old.heap commands.Load old.kept new.kept w v answer
+  load_stepped same empty answer ran = by (load_fault old.kept.power) refl
     where
       by : (test : Option HostFault) → load_fault old.kept.power ≡ test → Stepped means old.plan old.heap commands.Load old.kept new.kept w v answer
       by (Some fault) is =
           let e = ran.tested.early fault is in
-          early-stepped means old.plan old.heap commands.Load old.kept new.kept w v answer (λ doing known. refl) refl fault is (ran.said ∙ ap (answer_by Done) e.0) e.1 e.2 none
+          early-stepped means old.plan old.heap commands.Load old.kept new.kept w v answer (λ doing known. refl) refl fault is (ran.said ∙ ap (answer_by Done) e.0) e.1 e.2 empty
       by None is =
           let c = ran.tested.late is in
           let unloaded = was-unloaded old.kept.power is in
           late-stepped means old.plan old.heap commands.Load old.kept new.kept w v answer (λ doing known. refl) refl is ran.outcome c agreed.pending agreed.fated (few-messages unloaded ran.outcome c ran.left)
           ran.said
-          (still-standing means w v (written unloaded ran.outcome c ran.left) (load-still unloaded ran.outcome c ran.left) (load-leads-on unloaded ran.outcome c ran.left) same none)
+          (standing-by means w v (written unloaded ran.outcome c ran.left) (load-leads-on unloaded ran.outcome c ran.left same) empty)
 
   -- it sends at most 900 messages
   pub load_few : (answer : Answer) → LoadRan means old new io io' answer → new.link.sent ≤ old.link.sent + 900

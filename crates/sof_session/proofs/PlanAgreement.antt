@@ -1,53 +1,73 @@
--- After a fate was planned the two sides agree again.
-use Rattle.std.proofs.Common.{◌≡◌, ℕ, ◌+◌, true, ℤ, pos, negsuc, Result, Ok, Err, refl, sym, subst, arith}
-use Rattle.std.proofs.lemmas.Bool.{false≢true, ltb-true}
+-- After a fate or a lag was planned the two sides agree again.
+use Rattle.std.proofs.Common.{◌≡◌, ℕ, ◌+◌, List, Bool, true, ℤ, pos, negsuc, Result, Ok, Err, refl, sym, subst, arith}
+use Rattle.std.specs.Prelude.{nat_le}
+use Rattle.std.proofs.lemmas.Bool.{and_parts, false≢true, leb-true, ltb-true}
+use Rattle.mbox_link.specs.declared.fates.Entry.{Entry}
 use Rattle.mbox_link.specs.declared.fates.Fate.{Fate}
 use Rattle.mbox_link.specs.declared.fates.PlanFull.{PlanFull}
-use Rattle.mbox_link.specs.Fates.{without, IsMeant, IsError}
+use Rattle.mbox_link.specs.Fates.{IsMeant, IsError, AreHeld}
+use Rattle.mbox_link.specs.Meetings.{has_room, has_lag_room, lags, planned, with_fate, with_lag, without}
 use Rattle.mbox_link.specs.Calls.{Meaning}
 use Rattle.mbox_link.specs.Wire.{Wire}
-use Rattle.mbox_link.specs.Link.{Planned, with_plan}
-use Rattle.mbox_link.proofs.FateLaws.{AllMeant-push}
+use Rattle.mbox_link.specs.Link.{Planned, LagPlanned, PlannedSo, holding}
+use Rattle.mbox_link.proofs.FateLaws.{AreHeld-with, lags-planned, planned-meant}
 use Rattle.host_widgets.specs.declared.kept.Power.{Power}
 use Rattle.host_widgets.specs.declared.kept.Power.TheVariants.{Unloaded, On, Off}
 use Rattle.sof_session.specs.Agreement.{AreAgreed, Powered}
 use Rattle.sof_session.specs.CommandRanges.{is_refusal}
 use Rattle.sof_session.specs.Seat.{Seat}
-use Rattle.sof_session.proofs.LinkFates.{AllMeant-without}
 
 -- an error of a script is one of a refusal
 pub is-error : (e : ℤ) → is_refusal e ≡ true → IsError e
 is-error (pos n) is = absurd (false≢true is)
 is-error (negsuc n) is = record { code = n; small = omega (arith, ltb-true n 4095 is); is = refl }
 
+-- ---- what is held
+
+-- a fate leaves the lag
+held-fate : (number : ℕ) (fate : Fate) (entries : List Entry) → AreHeld entries → IsMeant fate → AreHeld (with_fate number fate entries)
+held-fate number fate entries held meant =
+    let lag = (planned entries number).lag in
+    AreHeld-with (record { number = number; fate = fate; lag = lag }) entries held meant (omega (arith, held.few, lags-planned number entries held.apart))
+
+-- and a lag the fate, where there is room for it
+held-lag : (number ticks : ℕ) (entries : List Entry) → AreHeld entries → has_lag_room number ticks entries ≡ true → AreHeld (with_lag number ticks entries)
+held-lag number ticks entries held room =
+    let fits = (and_parts (has_room number entries) (nat_le (lags (without number entries) + ticks) 16) room).1 in
+    AreHeld-with (record { number = number; fate = (planned entries number).fate; lag = ticks }) entries held (planned-meant number entries held.meant) (leb-true (lags (without number entries) + ticks) 16 fits)
+
 -- ---- both sides
 
-module _ {P : Type 0} (means : Meaning P) (old : Seat P) (k : ℕ) (fate : Fate) where
+module _ {P : Type 0} (means : Meaning P) (old : Seat P) where
   abbrev pub seat_by : Wire P → Seat P
   seat_by wire = record { link = wire; kept = old.kept; plan = old.plan; heap = old.heap }
 
-  powered-with : (power : Power) → Powered means old power → Powered means (seat_by (with_plan k fate old.link)) power
-  powered-with Unloaded powered = powered
-  powered-with On powered = powered
-  powered-with Off powered = powered
+  module _ (agreed : AreAgreed means old) where
+    powered-with : (entries : List Entry) (power : Power) → Powered means old power → Powered means (seat_by (holding old.link entries)) power
+    powered-with entries Unloaded powered = powered
+    powered-with entries On powered = powered
+    powered-with entries Off powered = powered
 
-  agreed-with : AreAgreed means old → IsMeant fate → AreAgreed means (seat_by (with_plan k fate old.link))
-  agreed-with agreed meant =
-      let number = old.link.sent + k in
-      record {
-        agree = agreed.agree;
-        powered = powered-with old.kept.power agreed.powered;
-        room = agreed.room;
-        pending = agreed.pending;
-        fated = record {
-          meant = AllMeant-push (without number old.link.entries) (record { number = number; fate = fate }) (AllMeant-without number old.link.entries agreed.fated.meant) meant;
-          dropped = agreed.fated.dropped;
-          refused = agreed.fated.refused;
-          counted = agreed.fated.counted;
-        };
-        sound = agreed.sound;
-      }
+    agreed-with : (entries : List Entry) → AreHeld entries → AreAgreed means (seat_by (holding old.link entries))
+    agreed-with entries held = record {
+      agree = agreed.agree;
+      powered = powered-with entries old.kept.power agreed.powered;
+      room = agreed.room;
+      pending = agreed.pending;
+      fated = record { held = held; dropped = agreed.fated.dropped; refused = agreed.fated.refused; counted = agreed.fated.counted };
+      sound = agreed.sound;
+    }
 
-  pub AreAgreed-planned : AreAgreed means old → IsMeant fate → (wire : Wire P) (outcome : Result (Unit {0}) PlanFull) → Planned k fate old.link outcome wire → AreAgreed means (seat_by wire)
-  AreAgreed-planned agreed meant wire (Ok done) planned = subst (λ (l : Wire P). AreAgreed means (seat_by l)) (sym planned.1) (agreed-with agreed meant)
-  AreAgreed-planned agreed meant wire (Err full) planned = subst (λ (l : Wire P). AreAgreed means (seat_by l)) (sym planned.1) agreed
+    agreed-so : (room : Bool) (entries : List Entry) → (room ≡ true → AreHeld entries) → (wire : Wire P) (outcome : Result (Unit {0}) PlanFull) → PlannedSo room entries old.link outcome wire → AreAgreed means (seat_by wire)
+    agreed-so room entries held wire (Ok done) plan = subst (λ (l : Wire P). AreAgreed means (seat_by l)) (sym plan.1) (agreed-with entries (held plan.0))
+    agreed-so room entries held wire (Err full) plan = subst (λ (l : Wire P). AreAgreed means (seat_by l)) (sym plan.1) agreed
+
+    pub AreAgreed-planned : (k : ℕ) (fate : Fate) → IsMeant fate → (wire : Wire P) (outcome : Result (Unit {0}) PlanFull) → Planned k fate old.link outcome wire → AreAgreed means (seat_by wire)
+    AreAgreed-planned k fate meant wire outcome plan =
+        let n = old.link.sent + k in
+        agreed-so (has_room n old.link.entries) (with_fate n fate old.link.entries) (λ room. held-fate n fate old.link.entries agreed.fated.held meant) wire outcome plan
+
+    pub AreAgreed-lagged : (k ticks : ℕ) (wire : Wire P) (outcome : Result (Unit {0}) PlanFull) → LagPlanned k ticks old.link outcome wire → AreAgreed means (seat_by wire)
+    AreAgreed-lagged k ticks wire outcome plan =
+        let n = old.link.sent + k in
+        agreed-so (has_lag_room n ticks old.link.entries) (with_lag n ticks old.link.entries) (held-lag n ticks old.link.entries agreed.fated.held) wire outcome plan

@@ -1,8 +1,10 @@
 -- What a suspend does to a session.
-use Rattle.std.proofs.Common.{◌≡◌, refl, ap, ◌∙◌, ℕ, Bool, suc, ◌+◌, ◌<◌, ◌≤◌, ◌^◌, ◌-◌, true, List, [], ◌∷◌, zip, length, Option, Some, None, arith}
+use Rattle.std.proofs.Common.{◌≡◌, refl, ap, ◌∙◌, ℕ, Bool, suc, ◌+◌, ◌<◌, ◌≤◌, ◌^◌, ◌-◌, true, sym, subst, List, [], ◌∷◌, zip, length, Option, Some, None, arith}
 use Rattle.std.specs.List.{filter_map, cons_option, flat_map}
 use Rattle.std.proofs.lemmas.List.{length-map, length-append}
-use Rattle.sof_base.specs.Ports.{Io}
+use Rattle.sof_base.specs.Ports.{Io, drained}
+use Rattle.sof_io.specs.Bound.{output_slots}
+use Rattle.stream_law.specs.State.{FwState}
 use Rattle.mbox_link.specs.Calls.{World, Meaning}
 use Rattle.mbox_link.specs.Wire.{Wire}
 use Rattle.mbox_link.specs.Link.{link}
@@ -22,21 +24,23 @@ use Rattle.host_widgets.specs.HostActs.{Save}
 use Rattle.host_widgets.specs.ActLists.{go_down, stop_acts, stop_by}
 use Rattle.host_widgets.specs.Host.{Outcome}
 use Rattle.host_widgets.specs.Orders.{Carried, Order, Tested, suspending}
+use Rattle.host_widgets.proofs.StandingOn.{ReadsOn, reads-of}
+use Rattle.host_widgets.proofs.WalksHold.{Held, HeldBy, walk-holds}
 use Rattle.host_pm.specs.PowerTests.{suspend_fault}
+use Rattle.host_pm.proofs.GoingDown.{down-taken}
 use Rattle.sof_script.specs.declared.script.Command.TheVariants as commands
 use Rattle.sof_session.specs.Agreement.{AreAgreed, Powered}
 use Rattle.sof_session.specs.Commands.{answer_by}
 use Rattle.sof_session.specs.Seat.{Seat}
 use Rattle.sof_session.specs.SessionStep.{Stepped}
 use Rattle.sof_session.specs.SessionCalls.{SuspendRan}
-use Rattle.sof_session.specs.Written.{written_in}
-use Rattle.sof_session.proofs.ActsLed.{acts-io}
+use Rattle.sof_session.proofs.ActsLed.{acts-io, acts-slots}
 use Rattle.sof_session.proofs.Agreement.{at}
 use Rattle.sof_session.proofs.FewMeetings.{few-meetings}
 use Rattle.sof_session.proofs.OrderCalls.{carried-sent}
-use Rattle.sof_session.proofs.OrderStands.{order-still, cut-leads}
+use Rattle.sof_session.proofs.OrderStands.{by-down, cut-leads}
 use Rattle.sof_session.proofs.OrderStands as after_order
-use Rattle.sof_session.proofs.Stepping.{early-stepped, late-stepped, still-standing}
+use Rattle.sof_session.proofs.Stepping.{early-stepped, late-stepped, standing-by}
 
 -- the power was on
 was-on : (power : Power) → suspend_fault power ≡ None → power ≡ On
@@ -84,22 +88,44 @@ module _ {P : Type 0} (means : Meaning P) (old : Seat P) (wire : Wire P) (io io'
   abbrev CarriedSo : Type 0
   CarriedSo = Carried (link means) old.plan old.heap order old.kept kept (at old.link io) (at wire io') result
 
-  -- it leaves the endpoints as they are
-  cut-io : (power : Power) → power ≡ On → Powered means old power → CarriedSo → io' ≡ io
-  cut-io On is powered c =
+  -- of a device that is on
+  abbrev On-so : Type 0
+  On-so = (f : FwState) × (means.on old.link.device ≡ Some f)
+
+  was-powered : (power : Power) → power ≡ On → Powered means old power → On-so
+  was-powered On is powered = (powered.0, powered.1)
+  was-powered Unloaded is powered = absurd (cc is)
+  was-powered Off is powered = absurd (cc is)
+
+  -- it leaves the endpoints as they are where no tick is pending
+  cut-still : (link means).pending old.link ≡ 0 → On-so → CarriedSo → io' ≡ io
+  cut-still none on c =
       ap (λ (x : World (Wire P)). x.io) c.ends.1.2 ∙ c.ends.1.1.1
       ∙ acts-io (link means) old.plan old.heap true order.acts c.meetings old.kept c.begun c.sent c.walked
-      (ap (λ (x : World (Wire P)). means.pending x.device.device) c.first ∙ agreed.pending) powered.0 (ap (λ (x : World (Wire P)). means.on x.device.device) c.first ∙ powered.1)
+      (ap (λ (x : World (Wire P)). (link means).pending x.device) c.first ∙ none) on.0 (ap (λ (x : World (Wire P)). means.on x.device.device) c.first ∙ on.1)
       ∙ ap (λ (x : World (Wire P)). x.io) c.first
-  cut-io Unloaded is powered c = absurd (cc is)
-  cut-io Off is powered c = absurd (cc is)
 
-  pub suspend-io : Tested (link means) old.plan old.heap (suspend_fault old.kept.power) order old.kept kept (at old.link io) (at wire io') result → io' ≡ io
-  suspend-io tested = by (suspend_fault old.kept.power) refl
-    where
-      by : (test : Option HostFault) → suspend_fault old.kept.power ≡ test → io' ≡ io
-      by (Some fault) is = ap (λ (x : World (Wire P)). x.io) (tested.early fault is).1
-      by None is = cut-io old.kept.power (was-on old.kept.power is) agreed.powered (tested.late is)
+  -- and the slots
+  cut-slots : On-so → CarriedSo → output_slots io'.outputs ≡ output_slots io.outputs
+  cut-slots on c =
+      ap (λ (x : World (Wire P)). output_slots x.io.outputs) c.ends.1.2 ∙ ap (λ (x : Io). output_slots x.outputs) c.ends.1.1.1
+      ∙ acts-slots (link means) old.plan old.heap true order.acts c.meetings old.kept c.begun c.sent c.walked on.0 (ap (λ (x : World (Wire P)). means.on x.device.device) c.first ∙ on.1)
+      ∙ ap (λ (x : World (Wire P)). output_slots x.io.outputs) c.first
+
+  module _ (tested : Tested (link means) old.plan old.heap (suspend_fault old.kept.power) order old.kept kept (at old.link io) (at wire io') result) where
+    pub suspend-io : (link means).pending old.link ≡ 0 → io' ≡ io
+    suspend-io none = by (suspend_fault old.kept.power) refl
+      where
+        by : (test : Option HostFault) → suspend_fault old.kept.power ≡ test → io' ≡ io
+        by (Some fault) is = ap (λ (x : World (Wire P)). x.io) (tested.early fault is).1
+        by None is = cut-still none (was-powered old.kept.power (was-on old.kept.power is) agreed.powered) (tested.late is)
+
+    pub suspend-slots : output_slots io'.outputs ≡ output_slots io.outputs
+    suspend-slots = by (suspend_fault old.kept.power) refl
+      where
+        by : (test : Option HostFault) → suspend_fault old.kept.power ≡ test → output_slots io'.outputs ≡ output_slots io.outputs
+        by (Some fault) is = ap (λ (x : World (Wire P)). output_slots x.io.outputs) (tested.early fault is).1
+        by None is = cut-slots (was-powered old.kept.power (was-on old.kept.power is) agreed.powered) (tested.late is)
 
 module _ {P : Type 0} (means : Meaning P) (old new : Seat P) (io io' : Io) (agreed : AreAgreed means old) (few : old.link.sent < 2 ^ 63) where
   abbrev w : World (Wire P)
@@ -114,22 +140,37 @@ module _ {P : Type 0} (means : Meaning P) (old new : Seat P) (io io' : Io) (agre
   abbrev Ran : Answer → Type 0
   Ran answer = SuspendRan means old new io io' answer
 
-  -- all ends with the cut, whatever its acts came to
-  pub suspend_stepped : io' ≡ io → written_in io.outputs ≡ [] → (answer : Answer) → Ran answer → Stepped means old.plan old.heap commands.Suspend old.kept new.kept w v answer
-  suspend_stepped same none answer ran = by (suspend_fault old.kept.power) refl
+  -- its acts came to a device that keeps the record, which they leave so or whose link failed
+  acts-read : (power : Power) → power ≡ On → Powered means old power → (result : Outcome) (c : Carried (link means) old.plan old.heap o old.kept new.kept w v result) → ReadsOn (means.on old.link.device) io c.sent.io (after_order.met means old.heap old.plan o old.kept new.kept w v result c).moments
+  acts-read Unloaded is powered result c = absurd (cc is)
+  acts-read Off is powered result c = absurd (cc is)
+  acts-read On is powered result c =
+      let f = powered.0 in
+      let met = after_order.met means old.heap old.plan o old.kept new.kept w v result c in
+      let held = subst (λ (x : World (Wire P)). HeldBy (link means) old.plan old.heap true agreed.sound f x c.sent met) c.first
+      (walk-holds (link means) old.plan old.heap true agreed.sound o.acts c.meetings old.kept c.begun c.sent c.walked (down-taken old.plan old.heap agreed.sound old.kept agreed.agree.record_is) agreed.agree.record_is f
+      (ap (λ (x : World (Wire P)). means.on x.device.device) c.first ∙ powered.1) powered.2) in
+      subst (λ (d : Option FwState). ReadsOn d io c.sent.io met.moments) (sym powered.1)
+      (by-down met.outcome (Held (link means) old.plan old.heap true agreed.sound f w c.sent met.kept met.moments) (ReadsOn (Some f) io c.sent.io met.moments)
+      (λ h. reads-of (Some f) (Some h.state) io c.sent.io met.moments h.stands) held)
+
+  -- all ends with the cut, whatever they came to
+  pub suspend_stepped : drained io.outputs ≡ io.outputs → (answer : Answer) → Ran answer → Stepped means old.plan old.heap commands.Suspend old.kept new.kept w v answer
+  suspend_stepped empty answer ran = by (suspend_fault old.kept.power) refl
     where
       by : (test : Option HostFault) → suspend_fault old.kept.power ≡ test → Stepped means old.plan old.heap commands.Suspend old.kept new.kept w v answer
       by (Some fault) is =
           let e = ran.tested.early fault is in
-          early-stepped means old.plan old.heap commands.Suspend old.kept new.kept w v answer (λ doing known. refl) refl fault is (ran.said ∙ ap (answer_by Done) e.0) e.1 e.2 none
+          early-stepped means old.plan old.heap commands.Suspend old.kept new.kept w v answer (λ doing known. refl) refl fault is (ran.said ∙ ap (answer_by Done) e.0) e.1 e.2 empty
       by None is =
           let c = ran.tested.late is in
           let fewer : old.link.sent + length c.meetings < 2 ^ 64 - 1 = omega (arith, few, few-meetings (link means) old.plan old.heap true o.acts c.meetings old.kept c.begun c.sent c.walked, few-down old.plan old.kept agreed.sound) in
           let written = after_order.written means old.heap old.plan o old.kept new.kept w v ran.outcome c agreed.pending agreed.fated fewer in
           late-stepped means old.plan old.heap commands.Suspend old.kept new.kept w v answer (λ doing known. refl) refl is ran.outcome c agreed.pending agreed.fated fewer
           ran.said
-          (still-standing means w v written (order-still means old.heap old.plan o old.kept new.kept w v ran.outcome c agreed.pending agreed.fated fewer tt)
-          (cut-leads means old.heap old.plan o old.kept new.kept w v ran.outcome c agreed.pending agreed.fated fewer tt refl (means.on old.link.device)) same none)
+          (standing-by means w v written
+          (cut-leads means old.heap old.plan o old.kept new.kept w v ran.outcome c agreed.pending agreed.fated fewer (means.on old.link.device) refl
+          (acts-read old.kept.power (was-on old.kept.power is) agreed.powered ran.outcome c)) empty)
 
   -- it sends at most 900 messages
   pub suspend_few : (answer : Answer) → Ran answer → new.link.sent ≤ old.link.sent + 900

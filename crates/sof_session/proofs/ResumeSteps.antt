@@ -1,12 +1,12 @@
 -- What a resume does to a session.
-use Rattle.std.proofs.Common.{◌≡◌, refl, sym, ap, ◌∙◌, subst, ℕ, false, ◌+◌, ◌<◌, ◌≤◌, ◌^◌, ◌-◌, List, [], ◌∷◌, ◌++◌, zip, length, Option, Some, None, Ok, Err, arith}
+use Rattle.std.proofs.Common.{◌≡◌, ⊎_elim, refl, sym, ap, ◌∙◌, subst, zero-add, ℕ, false, ◌+◌, ◌<◌, ◌≤◌, ◌^◌, ◌-◌, ◌%◌, List, [], ◌∷◌, ◌++◌, zip, length, Option, Some, None, Ok, Err, arith}
 use Rattle.std.specs.List.{AllByRecursion, flat_map, list_any}
 use Rattle.std.proofs.lemmas.List.{append-nil, length-append}
-use Rattle.sof_base.specs.Ports.{Io}
+use Rattle.sof_base.specs.Ports.{Io, drained}
 use Rattle.sof_base.specs.declared.format.Params.{Params}
-use Rattle.stream_law.specs.State.{FwState}
+use Rattle.stream_law.specs.State.{FwState, View, view_of}
 use Rattle.stream_law.specs.Ways.{is_live_phase}
-use Rattle.stream_law.specs.Past.{Moment, Boot}
+use Rattle.stream_law.specs.Past.{Moment, Boot, empty_view}
 use Rattle.mbox_link.specs.Calls.{World, Meaning, Led}
 use Rattle.mbox_link.specs.Meetings.{Meeting}
 use Rattle.mbox_link.specs.Step.{fresh}
@@ -27,16 +27,16 @@ use Rattle.host_widgets.specs.ActCalls.{ActsDid, calls_of, next_of}
 use Rattle.host_widgets.specs.ActLists.{bring_up, bring_back, prepare_acts, prepare_by}
 use Rattle.tplg_plan.specs.Sound.{IsSound}
 use Rattle.host_widgets.specs.Expected.{phase_of}
-use Rattle.host_widgets.specs.Host.{AreControls, Outcome}
+use Rattle.host_widgets.specs.Host.{AreControls, Outcome, ticks_put}
 use Rattle.host_widgets.specs.HostActs.{Act}
 use Rattle.host_widgets.specs.Kept.{with_power}
-use Rattle.host_widgets.specs.Orders.{Carried, Order, Tested, brought_end, resuming}
+use Rattle.host_widgets.specs.Orders.{Carried, Order, brought_end, resuming}
 use Rattle.host_widgets.specs.ViewOf.{view_by}
 use Rattle.host_widgets.specs.Walk.{Walked, walk}
 use Rattle.host_widgets.proofs.BuildingActs.{Leaves}
-use Rattle.host_widgets.proofs.BuildingMoments.{AllOf, build-views, passed-some}
+use Rattle.host_widgets.proofs.BuildingMoments.{AllOf, view_from, clock_from, build-views, passed-view, none-came, acts-clocked}
 use Rattle.host_widgets.proofs.FewJoins.{few-by-controls}
-use Rattle.host_widgets.proofs.WalksStill.{AllStill}
+use Rattle.host_widgets.proofs.StandingOn.{StandsOn, ReadsOn}
 use Rattle.host_pm.specs.PowerTests.{resume_fault}
 use Rattle.host_pm.specs.Resumed.{Resumed, ResumeLeft}
 use Rattle.host_pm.proofs.PowerOrders.{back-leaves, rests-off}
@@ -46,16 +46,14 @@ use Rattle.sof_session.specs.Commands.{answer_by}
 use Rattle.sof_session.specs.Seat.{Seat}
 use Rattle.sof_session.specs.SessionStep.{Stepped}
 use Rattle.sof_session.specs.SessionCalls.{ResumeRan}
-use Rattle.sof_session.specs.Written.{written_in}
-use Rattle.sof_session.proofs.ActsLed.{acts-io}
 use Rattle.sof_session.proofs.Agreement.{at}
-use Rattle.sof_session.proofs.BuildStands.{brought-leads, resumed-rests}
+use Rattle.sof_session.proofs.BuildStands.{AtRest, IsQuiet, brought-stands, brought-reads, record-quiet, resumed-rests}
 use Rattle.sof_session.proofs.FewMeetings.{few-meetings}
 use Rattle.sof_session.proofs.OrderCalls.{carried-sent}
-use Rattle.sof_session.proofs.OrderStands.{LeadsOn, moments-are, order-still, cut-leads}
+use Rattle.sof_session.proofs.OrderStands.{moments-are, cut-leads}
 use Rattle.sof_session.proofs.OrderStands as after_order
 use Rattle.sof_session.proofs.PlanCounts.{few-streams_and_controls}
-use Rattle.sof_session.proofs.Stepping.{early-stepped, late-stepped, still-standing}
+use Rattle.sof_session.proofs.Stepping.{early-stepped, late-stepped, standing-by}
 
 -- the power was off
 was-off : (power : Power) → resume_fault power ≡ None → power ≡ Off
@@ -103,30 +101,10 @@ module _ {P : Type 0} (means : Meaning P) (old : Seat P) (wire : Wire P) (io io'
     abbrev met : Walked (List Meeting)
     met = walk old.plan old.heap false next_of old.kept c.meetings order.acts
 
-    -- it began with a boot
-    begun-on : means.on c.begun.device.device ≡ Some (fresh old.heap)
-    begun-on = ap (λ (x : World (Wire P)). means.on x.device.device) c.first.2 ∙ c.first.1.0.on
-
-    begun-quiet : means.pending c.begun.device.device ≡ 0
-    begun-quiet = ap (λ (x : World (Wire P)). means.pending x.device.device) c.first.2 ∙ c.first.1.0.quiet.pending ∙ agreed.pending
-
     abbrev EndsSo : Outcome → Type 0
     EndsSo o = Led (link means) c.sent (calls_of old.heap (brought_end (with_power On) old.kept met.kept o).1) v
 
-    -- it leaves the endpoints as they are
-    sent-io : c.sent.io ≡ io
-    sent-io =
-        acts-io (link means) old.plan old.heap false order.acts c.meetings old.kept c.begun c.sent c.walked begun-quiet (fresh old.heap) begun-on
-        ∙ ap (λ (x : World (Wire P)). x.io) c.first.2 ∙ c.first.1.1
-
-    ends-io : (o : Outcome) → EndsSo o → io' ≡ io
-    ends-io (Ok done) led = ap (λ (x : World (Wire P)). x.io) led ∙ sent-io
-    ends-io (Err fault) led = ap (λ (x : World (Wire P)). x.io) led.2 ∙ led.1.1 ∙ sent-io
-
-    pub carried-io : io' ≡ io
-    carried-io = ends-io met.outcome c.ends.1
-
-    module _ (few : old.link.sent < 2 ^ 63) (off : old.kept.power ≡ Off) (left : ResumeLeft (link means) old.plan old.heap old.kept old.link result wire) where
+    module _ (few : old.link.sent < 2 ^ 63) (off : old.kept.power ≡ Off) (left : ResumeLeft (link means) old.plan old.heap old.kept old.link result wire) (same : io' ≡ io) where
       pub few-sent : old.link.sent + length c.meetings < 2 ^ 64 - 1
       few-sent = omega (arith, few, few-meetings (link means) old.plan old.heap false order.acts c.meetings old.kept c.begun c.sent c.walked, few-back old.plan old.kept agreed.sound agreed.agree.record_is.controls)
 
@@ -140,46 +118,65 @@ module _ {P : Type 0} (means : Meaning P) (old : Seat P) (wire : Wire P) (io io'
       leaves : AllByRecursion (Leaves old.plan old.kept) order.acts
       leaves = back-leaves means old.plan old.heap agreed.sound old.kept agreed.agree.record_is still
 
-      -- each that passed left the view of the record
-      views : AllOf (view_by old.plan old.kept) met.moments
-      views = build-views (link means) old.plan old.heap old.kept order.acts c.meetings old.kept refl c.begun c.sent c.walked leaves begun-quiet
+      -- the view of the record
+      abbrev shown : View
+      shown = view_by old.plan old.kept
+
+      quiet : IsQuiet shown
+      quiet = record-quiet old.plan old.kept still agreed.agree.record_is
+
+      -- each that passed left it
+      views : AllOf shown met.moments
+      views = build-views (link means) old.plan old.heap old.kept order.acts c.meetings old.kept refl c.begun c.sent c.walked leaves
+
+      -- the ticks that the link put
+      abbrev count : ℕ
+      count = ticks_put (link means) old.link wire
+
+      last_is : met.outcome ≡ Ok tt → v ≡ c.sent
+      last_is passed = subst EndsSo passed c.ends.1
+
+      -- the clock counts them, where all passed
+      counted : met.outcome ≡ Ok tt → clock_from 0 met.moments ≡ count
+      counted passed =
+          let k = acts-clocked (link means) old.plan old.heap order.acts c.meetings old.kept c.begun c.sent c.walked in
+          let begun : (link means).pending c.begun.device ≡ (link means).pending old.link = ap (λ (x : World (Wire P)). (link means).pending x.device) c.first.2 ∙ c.first.1.0.quiet.pending in
+          k.clock 0 ∙ ap (λ (n : ℕ). n % 2 ^ 32) (zero-add ((link means).pending c.begun.device - (link means).pending c.sent.device)) ∙ (λ i. ((begun i) - (link means).pending (sym (last_is passed) i).device) % 2 ^ 32)
 
       -- where no act came, the device is as it was booted
-      booted : met.outcome ≡ Ok tt → (r : Resumed (link means) old.plan old.heap old.kept wire) → met.moments ≡ [] → fresh old.heap ≡ r.state
-      booted passed r none =
-          let no_acts : order.acts ≡ [] = passed-some old.plan old.heap order.acts c.meetings old.kept passed none in
-          let walked = subst (λ (acts : List Act). ActsDid (link means) old.plan old.heap false old.kept acts c.meetings c.begun c.sent) no_acts c.walked in
-          let later : v ≡ c.begun = subst EndsSo passed c.ends.1 ∙ walked.1 in
-          let same : Some (fresh old.heap) ≡ Some r.state = sym begun-on ∙ sym (ap (λ (x : World (Wire P)). means.on x.device.device) later) ∙ r.on in
-          cc same
+      begun-on : means.on c.begun.device.device ≡ Some (fresh old.heap)
+      begun-on = ap (λ (x : World (Wire P)). means.on x.device.device) c.first.2 ∙ c.first.1.0.on
+
+      empty-ends : met.outcome ≡ Ok tt → (r : Resumed (link means) old.plan old.heap old.kept count wire) → order.acts ≡ [] → view_from empty_view met.moments ≡ shown
+      empty-ends passed r none =
+          let walked = subst (λ (acts : List Act). ActsDid (link means) old.plan old.heap false old.kept acts c.meetings c.begun c.sent) none c.walked in
+          let later : v ≡ c.begun = last_is passed ∙ walked.1 in
+          let one : Some (fresh old.heap) ≡ Some r.state = sym begun-on ∙ sym (ap (λ (x : World (Wire P)). means.on x.device.device) later) ∙ r.on in
+          let booted : fresh old.heap ≡ r.state = cc one in
+          ap (view_from empty_view) (none-came old.plan old.heap order.acts c.meetings old.kept none) ∙ ap view_of booted ∙ r.keeps.view
+
+      ends-so : met.outcome ≡ Ok tt → Resumed (link means) old.plan old.heap old.kept count wire → view_from empty_view met.moments ≡ shown
+      ends-so passed r = ⊎_elim (empty-ends passed r) (λ ends. ends empty_view) (passed-view old.plan old.heap shown order.acts c.meetings old.kept passed views)
 
       abbrev Leads : Type 0
-      Leads = LeadsOn (means.on old.link.device) (means.on wire.device) written
+      Leads = StandsOn (means.on old.link.device) io (means.on wire.device) io' written
 
       by : (o : Outcome) → met.outcome ≡ o → Leads
       by (Ok passed) is =
-          let r = left (c.came ∙ is) agreed.pending in
+          let r = left (c.came ∙ is) in
           let all : Boot ∷ met.moments ≡ written = (λ i. Boot ∷ sym (append-nil met.moments) i) ∙ (λ i. Boot ∷ (met.moments ++ (brought_end (with_power On) old.kept met.kept (sym is i)).1))
           ∙ moments-are means old.heap old.plan order old.kept kept w v result c agreed.pending agreed.fated few-sent in
-          subst (λ (x : Option FwState × List Moment). LeadsOn (means.on old.link.device) x.0 x.1) (λ i. (sym r.on i, all i))
-          (brought-leads old.heap (view_by old.plan old.kept) r.state (resumed-rests (link means) old.plan old.heap old.kept wire r still agreed.agree.record_is) (means.on old.link.device) met.moments views (booted is r))
-      by (Err fault) is = cut-leads means old.heap old.plan order old.kept kept w v result c agreed.pending agreed.fated few-sent tt
-          (ap (λ (o : Outcome). (brought_end (with_power On) old.kept met.kept o).1) is) (means.on old.link.device)
+          subst (λ (x : Option FwState × Io × List Moment). StandsOn (means.on old.link.device) io x.0 x.1 x.2) (λ i. (sym r.on i, sym same i, all i))
+          (brought-stands old.heap shown quiet (means.on old.link.device) io met.moments views shown r.state
+          (subst (λ (t : ℕ). AtRest shown t r.state) (sym (counted is)) (resumed-rests (link means) old.plan old.heap old.kept count wire r still agreed.agree.record_is)) (ends-so is r))
+      by (Err fault) is =
+          let cuts = ap (λ (o : Outcome). (brought_end (with_power On) old.kept met.kept o).1) is in
+          let sent_io : io ≡ c.sent.io = sym same ∙ after_order.cut-io means old.heap old.plan order old.kept kept w v result c cuts in
+          cut-leads means old.heap old.plan order old.kept kept w v result c agreed.pending agreed.fated few-sent (means.on old.link.device) cuts
+          (subst (λ (x : Io). ReadsOn (means.on old.link.device) io x (Boot ∷ met.moments)) sent_io (brought-reads old.heap shown quiet (means.on old.link.device) io met.moments views))
 
       pub resume-leads : Leads
       resume-leads = by met.outcome refl
-
-      pub resume-still : AllStill written
-      resume-still = order-still means old.heap old.plan order old.kept kept w v result c agreed.pending agreed.fated few-sent tt
-
-  -- ---- the call
-
-  pub resume-io : Tested (link means) old.plan old.heap (resume_fault old.kept.power) order old.kept kept w v result → io' ≡ io
-  resume-io tested = by (resume_fault old.kept.power) refl
-    where
-      by : (test : Option HostFault) → resume_fault old.kept.power ≡ test → io' ≡ io
-      by (Some fault) is = ap (λ (x : World (Wire P)). x.io) (tested.early fault is).1
-      by None is = carried-io (tested.late is)
 
 module _ {P : Type 0} (means : Meaning P) (old new : Seat P) (io io' : Io) (agreed : AreAgreed means old) (few : old.link.sent < 2 ^ 63) where
   abbrev a : World (Wire P)
@@ -188,21 +185,20 @@ module _ {P : Type 0} (means : Meaning P) (old new : Seat P) (io io' : Io) (agre
   abbrev b : World (Wire P)
   b = at new.link io'
 
-  pub resume_stepped : io' ≡ io → written_in io.outputs ≡ [] → (answer : Answer) → ResumeRan means old new io io' answer → Stepped means old.plan old.heap commands.Resume old.kept new.kept a b answer
-  resume_stepped same none answer ran = by (resume_fault old.kept.power) refl
+  pub resume_stepped : io' ≡ io → drained io.outputs ≡ io.outputs → (answer : Answer) → ResumeRan means old new io io' answer → Stepped means old.plan old.heap commands.Resume old.kept new.kept a b answer
+  resume_stepped same empty answer ran = by (resume_fault old.kept.power) refl
     where
       by : (test : Option HostFault) → resume_fault old.kept.power ≡ test → Stepped means old.plan old.heap commands.Resume old.kept new.kept a b answer
       by (Some fault) is =
           let e = ran.tested.early fault is in
-          early-stepped means old.plan old.heap commands.Resume old.kept new.kept a b answer (λ doing known. refl) refl fault is (ran.said ∙ ap (answer_by Done) e.0) e.1 e.2 none
+          early-stepped means old.plan old.heap commands.Resume old.kept new.kept a b answer (λ doing known. refl) refl fault is (ran.said ∙ ap (answer_by Done) e.0) e.1 e.2 empty
       by None is =
           let c = ran.tested.late is in
           let off = was-off old.kept.power is in
-          late-stepped means old.plan old.heap commands.Resume old.kept new.kept a b answer (λ doing known. refl) refl is ran.outcome c agreed.pending agreed.fated (few-sent means old new.link io io' agreed new.kept ran.outcome c few off ran.left)
+          late-stepped means old.plan old.heap commands.Resume old.kept new.kept a b answer (λ doing known. refl) refl is ran.outcome c agreed.pending agreed.fated (few-sent means old new.link io io' agreed new.kept ran.outcome c few off ran.left same)
           ran.said
-          (still-standing means a b (written means old new.link io io' agreed new.kept ran.outcome c few off ran.left)
-          (resume-still means old new.link io io' agreed new.kept ran.outcome c few off ran.left)
-          (resume-leads means old new.link io io' agreed new.kept ran.outcome c few off ran.left) same none)
+          (standing-by means a b (written means old new.link io io' agreed new.kept ran.outcome c few off ran.left same)
+          (resume-leads means old new.link io io' agreed new.kept ran.outcome c few off ran.left same) empty)
 
   -- it sends at most 900 messages
   pub resume_few : (answer : Answer) → ResumeRan means old new io io' answer → new.link.sent ≤ old.link.sent + 900

@@ -1,6 +1,6 @@
 -- What a command does to a session that sends acts alone, where no test fails.
 use Rattle.std.proofs.Common.{◌≡◌, false, refl, sym, ap, ◌∙◌, subst, ℕ, ◌+◌, ◌<◌, ◌≤◌, ◌-◌, ◌^◌, List, [], length, Option, Some, None, arith}
-use Rattle.sof_base.specs.Ports.{Io}
+use Rattle.sof_base.specs.Ports.{Io, drained}
 use Rattle.stream_law.specs.State.{FwState}
 use Rattle.mbox_link.specs.Calls.{World, Meaning}
 use Rattle.mbox_link.specs.Meetings.{Doing}
@@ -15,6 +15,7 @@ use Rattle.host_widgets.specs.declared.kept.Record.{Record}
 use Rattle.host_widgets.specs.HostActs.{Act}
 use Rattle.host_widgets.specs.Host.{Outcome}
 use Rattle.host_widgets.specs.Orders.{Order, Carried, Tested, sends}
+use Rattle.host_widgets.proofs.StandingOn.{StandsOn}
 use Rattle.host_widgets.proofs.WalksHold.{AreTaken}
 use Rattle.sof_script.specs.declared.script.Command.{Command}
 use Rattle.sof_session.specs.Agreement.{AreAgreed, Powered}
@@ -22,15 +23,14 @@ use Rattle.sof_session.specs.CommandTests.{fault_of}
 use Rattle.sof_session.specs.Commands.{Known, answer_by, carried, is_plan, next, order_of, tested}
 use Rattle.sof_session.specs.Seat.{Seat}
 use Rattle.sof_session.specs.SessionStep.{Stepped, known_of}
-use Rattle.sof_session.specs.Written.{written_in}
 use Rattle.sof_session.proofs.Agreement.{at}
 use Rattle.sof_session.proofs.Carrying.{doing}
 use Rattle.sof_session.proofs.FewMeetings.{few-meetings}
 use Rattle.sof_session.proofs.OrderCalls.{carried-sent}
-use Rattle.sof_session.proofs.OrderStands.{LeadsOn, sending, order-still, sent-leads}
+use Rattle.sof_session.proofs.OrderStands.{sending, sent-leads}
 use Rattle.sof_session.proofs.OrderStands as after_order
 use Rattle.sof_session.proofs.SentOrders.{IsSent, few-sent}
-use Rattle.sof_session.proofs.Stepping.{Standing, early-stepped, late-stepped, still-standing, stays-standing}
+use Rattle.sof_session.proofs.Stepping.{Standing, early-stepped, late-stepped, standing-by, stays-standing}
 
 -- a command that plans nothing has this test and this order
 pub record IsCarriedBy (plan : Plan) (heap : ℕ) (kept : Record) (command : Command) (test : Option HostFault) (o : Order) : Type 0 where
@@ -39,7 +39,7 @@ pub record IsCarriedBy (plan : Plan) (heap : ℕ) (kept : Record) (command : Com
   pub tests : fault_of plan kept command ≡ test
   pub orders : order_of plan kept command ≡ o
 
-module _ {P : Type 0} (means : Meaning P) (old new : Seat P) (io io' : Io) (agreed : AreAgreed means old) (few : old.link.sent < 2 ^ 63) (same : io' ≡ io) (none : written_in io.outputs ≡ []) where
+module _ {P : Type 0} (means : Meaning P) (old new : Seat P) (io io' : Io) (agreed : AreAgreed means old) (few : old.link.sent < 2 ^ 63) (empty : drained io.outputs ≡ io.outputs) where
   abbrev w : World (Wire P)
   w = at old.link io
 
@@ -61,7 +61,7 @@ module _ {P : Type 0} (means : Meaning P) (old new : Seat P) (io io' : Io) (agre
       rests o is = subst Good (sym is) (λ c taken.
           let still : v ≡ w = c.ends.1 ∙ c.walked.1 ∙ c.first in (
             omega (arith, few, few-meetings (link means) old.plan old.heap false [] c.meetings old.kept c.begun c.sent c.walked),
-            stays-standing means w v (ap (λ (x : World (Wire P)). means.on x.device.device) still) same none,
+            stays-standing means w v (ap (λ (x : World (Wire P)). means.on x.device.device) still) (ap (λ (x : World (Wire P)). x.io) still) empty,
           ))
 
       good : (power : Power) → Powered means old power → Good (sends power acts done answer)
@@ -71,10 +71,10 @@ module _ {P : Type 0} (means : Meaning P) (old new : Seat P) (io io' : Io) (agre
           let fewer : old.link.sent + length c.meetings < 2 ^ 64 - 1 = omega (arith, few, short, few-meetings (link means) old.plan old.heap false acts c.meetings old.kept c.begun c.sent c.walked) in
           let written = after_order.written means old.heap old.plan (sending acts done answer) old.kept new.kept w v outcome c agreed.pending agreed.fated fewer in (
             fewer,
-            still-standing means w v written (order-still means old.heap old.plan (sending acts done answer) old.kept new.kept w v outcome c agreed.pending agreed.fated fewer tt)
-                (subst (λ (d : Option FwState). LeadsOn d (means.on new.link.device) written) (sym powered.1)
-                (sent-leads means old.heap old.plan acts done answer old.kept new.kept w v outcome c agreed.pending powered.0 powered.1 agreed.agree.record_is powered.2 taken agreed.fated fewer))
-                same none,
+            standing-by means w v written
+                (subst (λ (d : Option FwState). StandsOn d io (means.on new.link.device) io' written) (sym powered.1)
+                (sent-leads means old.heap old.plan agreed.sound acts done answer old.kept new.kept w v outcome c powered.0 powered.1 agreed.agree.record_is powered.2 taken agreed.pending agreed.fated fewer))
+                empty,
           )
 
     sent-good : (o : Order) → IsSent old.kept o → Good o
@@ -90,7 +90,7 @@ module _ {P : Type 0} (means : Meaning P) (old new : Seat P) (io io' : Io) (agre
         by : (t : Option HostFault) → test ≡ t → Stepped means old.plan old.heap command old.kept new.kept w v answer
         by (Some fault) is =
             let e = ran.early fault is in
-            early-stepped means old.plan old.heap command old.kept new.kept w v answer by_these.nexts by_these.plans fault (by_these.tests ∙ is) (said ∙ ap (answer_by o.answer) e.0) e.1 e.2 none
+            early-stepped means old.plan old.heap command old.kept new.kept w v answer by_these.nexts by_these.plans fault (by_these.tests ∙ is) (said ∙ ap (answer_by o.answer) e.0) e.1 e.2 empty
         by None is =
             let c = subst (CarriedSo outcome) orders (ran.late is) in
             let stands = sent-good outcome (order_of old.plan old.kept command) (subst (IsSent old.kept) orders (sent is)) c (subst (λ (x : Order). AreTaken old.plan false old.kept x.acts) orders (taken is)) in

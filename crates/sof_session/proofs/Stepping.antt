@@ -1,10 +1,8 @@
 -- What a command does to a session, from what it did on its link.
 use Rattle.std.proofs.Common.{◌≡◌, refl, sym, ap, ◌∙◌, subst, ℕ, ◌+◌, ◌<◌, ◌-◌, ◌^◌, Bool, false, List, [], ◌++◌, map, length, Option, Some, None}
-use Rattle.std.proofs.lemmas.List.{append-nil}
-use Rattle.sof_base.specs.Ports.{Io, InputView, OutputView}
+use Rattle.sof_base.specs.Ports.{Io, InputView, OutputView, drained}
 use Rattle.stream_law.specs.State.{FwState}
 use Rattle.stream_law.specs.Past.{Moment, Past, Leads}
-use Rattle.stream_law.specs.Stands.{Stands}
 use Rattle.mbox_link.specs.Calls.{World, Meaning}
 use Rattle.mbox_link.specs.Wire.{Wire}
 use Rattle.mbox_link.specs.Link.{link}
@@ -16,7 +14,7 @@ use Rattle.host_widgets.specs.declared.answers.HostFault.{HostFault}
 use Rattle.host_widgets.specs.declared.kept.Record.{Record}
 use Rattle.host_widgets.specs.Host.{Outcome}
 use Rattle.host_widgets.specs.Orders.{Carried}
-use Rattle.host_widgets.proofs.WalksStill.{AllStill}
+use Rattle.host_widgets.proofs.StandingOn.{StandsOn, Gained, stands-none}
 use Rattle.sof_script.specs.declared.script.Command.{Command}
 use Rattle.sof_session.specs.Agreement.{IsFated}
 use Rattle.sof_session.specs.CommandTests.{fault_of}
@@ -26,9 +24,8 @@ use Rattle.sof_session.specs.SessionStep.{Stepped, StandsAt, CallsBy, known_of}
 use Rattle.sof_session.specs.SessionCalls.{ports}
 use Rattle.sof_session.specs.Written.{written_between, written_in}
 use Rattle.sof_session.proofs.Agreement.{at}
-use Rattle.sof_session.proofs.StillMoments.{still-bytes, none-between}
 use Rattle.sof_session.proofs.Carrying.{doing, carried-known, carried-answer, carried-calm}
-use Rattle.sof_session.proofs.OrderStands.{LeadsOn}
+use Rattle.sof_session.proofs.Writings.{gained-written}
 
 module _ {P : Type 0} (means : Meaning P) (w v : World (Wire P)) where
   -- what stood stands these moments later, and the outputs hold what was written
@@ -37,22 +34,16 @@ module _ {P : Type 0} (means : Meaning P) (w v : World (Wire P)) where
       (past' : Past) × Leads whole past moments past' × StandsAt means whole (before ++ moments) past' v
       × (written_in v.io.outputs ≡ written_between (map (λ o. o.slot) w.io.outputs) past past')
 
-  -- where no tick comes, nothing is read or written
-  pub still-standing : (ms : List Moment) → AllStill ms → LeadsOn (means.on w.device.device) (means.on v.device.device) ms → v.io ≡ w.io → written_in w.io.outputs ≡ [] → Standing ms
-  still-standing ms still leads io none whole before past stood =
-      let s = leads whole w.io.inputs before stood.0 in
-      let led : Leads whole past ms s.0.past = subst (λ (p : Past). Leads whole p ms s.0.past) stood.1 s.1 in (
-        s.0.past,
-        led,
-        subst (λ (x : Io). (stands : Stands (means.on v.device.device) whole x.inputs (before ++ ms)) × (stands.past ≡ s.0.past)) (sym io) (s.0, refl),
-        ap (λ (x : Io). written_in x.outputs) io ∙ none ∙ sym (none-between (map (λ o. o.slot) w.io.outputs) past s.0.past (still-bytes whole ms still past s.0.past led)),
-      )
+  -- from outputs to which nothing was written yet
+  pub standing-by : (ms : List Moment) → StandsOn (means.on w.device.device) w.io (means.on v.device.device) v.io ms → drained w.io.outputs ≡ w.io.outputs → Standing ms
+  standing-by ms on empty whole before past stood =
+      let s = on whole before stood.0 in
+      let so = subst (λ (p : Past). Leads whole p ms s.0.past × Gained w.io.outputs v.io.outputs p s.0.past) stood.1 (s.1, s.2) in
+      (s.0.past, so.0, (s.0, refl), gained-written w.io.outputs v.io.outputs past s.0.past so.1 empty)
 
   -- where the device stays as it is, so does what stands
-  pub stays-standing : means.on v.device.device ≡ means.on w.device.device → v.io ≡ w.io → written_in w.io.outputs ≡ [] → Standing []
-  stays-standing same io none = still-standing [] tt
-      (λ whole inputs before stood. subst (λ (x : Option FwState × List Moment). (after : Stands x.0 whole inputs x.1) × Leads whole stood.past [] after.past) (λ i. (sym same i, sym (append-nil before) i)) (stood, refl))
-      io none
+  pub stays-standing : means.on v.device.device ≡ means.on w.device.device → v.io ≡ w.io → drained w.io.outputs ≡ w.io.outputs → Standing []
+  stays-standing same io empty = standing-by [] (subst (λ (x : Option FwState × Io). StandsOn (means.on w.device.device) w.io x.0 x.1 []) (λ i. (sym same i, sym io i)) (stands-none (means.on w.device.device) w.io)) empty
 
 module _ {P : Type 0} (means : Meaning P) (plan : Plan) (heap : ℕ) (command : Command) (kept kept' : Record) (w v : World (Wire P)) (answer : Answer) where
   abbrev old : Known
@@ -67,8 +58,8 @@ module _ {P : Type 0} (means : Meaning P) (plan : Plan) (heap : ℕ) (command : 
     CallsSo planned fault = CallsBy means plan heap (order_of plan kept command) kept kept' w v answer planned fault
 
     -- a test failed
-    pub early-stepped : (fault : HostFault) → fault_of plan kept command ≡ Some fault → answer ≡ Fault fault → v ≡ w → kept' ≡ kept → written_in w.io.outputs ≡ [] → SteppedSo
-    early-stepped fault fails said same stays none =
+    pub early-stepped : (fault : HostFault) → fault_of plan kept command ≡ Some fault → answer ≡ Fault fault → v ≡ w → kept' ≡ kept → drained w.io.outputs ≡ w.io.outputs → SteppedSo
+    early-stepped fault fails said same stays empty =
         let next-is : next plan heap calm old command ≡ came old (Fault fault) = nexts calm old ∙ ap (tested plan heap calm old (order_of plan kept command)) fails in
         record {
           doing = calm;
@@ -76,7 +67,7 @@ module _ {P : Type 0} (means : Meaning P) (plan : Plan) (heap : ℕ) (command : 
           known_is = (λ i. known_of (same i).device (stays i)) ∙ ap (λ (c : Came). c.known) (sym next-is);
           answer_is = said ∙ ap (λ (c : Came). c.answer) (sym next-is);
           calls = subst (λ (x : Bool × Option HostFault). CallsSo x.0 x.1) (λ i. (sym plans i, sym fails i)) same;
-          stands = subst (Standing means w v) (ap (λ (c : Came). c.moments) (sym next-is)) (stays-standing means w v (ap (λ (x : World (Wire P)). means.on x.device.device) same) (ap (λ (x : World (Wire P)). x.io) same) none);
+          stands = subst (Standing means w v) (ap (λ (c : Came). c.moments) (sym next-is)) (stays-standing means w v (ap (λ (x : World (Wire P)). means.on x.device.device) same) (ap (λ (x : World (Wire P)). x.io) same) empty);
         }
 
     -- no test failed

@@ -1,5 +1,5 @@
--- After a tick the two sides agree again, and the outputs have the same slots.
-use Rattle.std.proofs.Common.{◌≡◌, List, [], ◌∷◌, ◌++◌, Some, refl, ap, ◌∙◌}
+-- A tick by its call on the link. After it the two sides agree again and the outputs have the same slots.
+use Rattle.std.proofs.Common.{◌≡◌, ◌⊎◌, ⊎_elim, List, [], ◌∷◌, ◌++◌, Some, refl, ap, ◌∙◌}
 use Rattle.std.specs.Option.{option_map}
 use Rattle.sof_base.specs.Ports.{Io, OutputView}
 use Rattle.sof_io.specs.Bound.{output_slots}
@@ -7,7 +7,7 @@ use Rattle.stream_law.specs.State.{view_of}
 use Rattle.stream_law.specs.Table.{list_of}
 use Rattle.stream_law.specs.Move.{Audio, audio_after}
 use Rattle.mbox_link.specs.Exchange.{ticked}
-use Rattle.mbox_link.specs.Calls.{Meaning, Call, Tick, Led}
+use Rattle.mbox_link.specs.Calls.{Meaning, Call, Tick, Did, Led}
 use Rattle.mbox_link.specs.Link.{link}
 use Rattle.mbox_link.specs.Wire.{Wire}
 use Rattle.mbox_link.proofs.Led.{Led-one}
@@ -16,12 +16,22 @@ use Rattle.host_widgets.specs.declared.kept.Power.TheVariants.{Unloaded, On, Off
 use Rattle.host_widgets.specs.Host.{Sides}
 use Rattle.sof_session.specs.Agreement.{AreAgreed, Powered}
 use Rattle.sof_session.specs.Seat.{Seat}
-use Rattle.sof_session.specs.SessionCalls.{TickedBy}
 use Rattle.sof_session.proofs.Agreement.{at, seat_with, kept-by, agreed-with}
 use Rattle.sof_session.proofs.Keeping.{Keeps-moved}
 use Rattle.sof_session.proofs.Writings.{same-slots}
 
--- the calls of a tick, none where the power is not on
+-- a tick of a device that is on, by its one call on the link; one that is off is not called
+abbrev pub TickedBy : {P : Type 0} → Meaning P → Power → Wire P → Wire P → Io → Io → Type 0
+TickedBy means On old new io io' = Did (link means) Tick (at old io) (at new io')
+TickedBy means Unloaded old new io io' = (new ≡ old) × (io' ≡ io)
+TickedBy means Off old new io io' = (new ≡ old) × (io' ≡ io)
+
+pub off-ticked : {P : Type 0} (means : Meaning P) (power : Power) (wire : Wire P) (io : Io) → (power ≡ Unloaded) ⊎ (power ≡ Off) → TickedBy means power wire wire io io
+off-ticked means Unloaded wire io off = (refl, refl)
+off-ticked means Off wire io off = (refl, refl)
+off-ticked means On wire io off = absurd (⊎_elim (λ (is : On ≡ Unloaded). cc is) (λ (is : On ≡ Off). cc is) off)
+
+-- its calls, none where the power is not on
 Ticked-led : {P : Type 0} (means : Meaning P) (power : Power) (old new : Wire P) (io io' : Io) → TickedBy means power old new io io' → (calls : List Call) × Led (link means) (at old io) calls (at new io')
 Ticked-led means On old new io io' tick = (Tick ∷ [], Led-one (link means) (at old io) (at new io') Tick tick)
 Ticked-led means Unloaded old new io io' same = ([], λ i. at (same.0 i) (same.1 i))

@@ -1,11 +1,9 @@
 -- What an unload does to a session.
-use Rattle.std.proofs.Common.{◌≡◌, false, refl, sym, ap, ◌∙◌, subst, ◌+◌, ◌<◌, ◌≤◌, ◌-◌, ◌^◌, List, [], ◌∷◌, ◌++◌, length, Option, Some, None, arith}
+use Rattle.std.proofs.Common.{◌≡◌, false, refl, sym, ap, ◌∙◌, subst, ◌+◌, ◌<◌, ◌≤◌, ◌-◌, ◌^◌, List, [], ◌∷◌, length, Option, Some, None, arith}
 use Rattle.std.proofs.lemmas.List.{append-nil}
-use Rattle.sof_base.specs.Ports.{Io}
+use Rattle.sof_base.specs.Ports.{Io, drained}
 use Rattle.stream_law.specs.State.{FwState}
-use Rattle.stream_law.specs.Past.{Moment, Cut, Past, Leads}
-use Rattle.stream_law.specs.Stands.{Stands, SameView}
-use Rattle.stream_law.proofs.Standing.{Stands-reads}
+use Rattle.stream_law.specs.Past.{Moment, Cut}
 use Rattle.mbox_link.specs.Calls.{World, Meaning}
 use Rattle.mbox_link.specs.Wire.{Wire}
 use Rattle.mbox_link.specs.Link.{link}
@@ -17,20 +15,19 @@ use Rattle.host_widgets.specs.declared.kept.Power.TheVariants.{Unloaded, On, Off
 use Rattle.host_widgets.specs.Host.{Outcome}
 use Rattle.host_widgets.specs.Orders.{Carried, unload_fault, unloading}
 use Rattle.host_widgets.proofs.LoadOrders.{unloading_at}
+use Rattle.host_widgets.proofs.StandingOn.{StandsOn, stands-none, reads-of, cut-stands}
 use Rattle.sof_script.specs.declared.script.Command.TheVariants as commands
 use Rattle.sof_session.specs.Agreement.{AreAgreed}
 use Rattle.sof_session.specs.Seat.{Seat}
 use Rattle.sof_session.specs.SessionStep.{Stepped}
 use Rattle.sof_session.specs.SessionCalls.{UnloadRan}
 use Rattle.sof_session.specs.Commands.{answer_by}
-use Rattle.sof_session.specs.Written.{written_in}
 use Rattle.sof_session.proofs.Agreement.{at}
-use Rattle.sof_session.proofs.StillMoments.{cut-still}
 use Rattle.sof_session.proofs.FewMeetings.{few-meetings}
 use Rattle.sof_session.proofs.OrderCalls.{carried-sent}
-use Rattle.sof_session.proofs.Stepping.{Standing, early-stepped, late-stepped, still-standing, stays-standing}
+use Rattle.sof_session.proofs.Stepping.{Standing, early-stepped, late-stepped, standing-by, stays-standing}
 
-module _ {P : Type 0} (means : Meaning P) (old new : Seat P) (io io' : Io) (agreed : AreAgreed means old) (few : old.link.sent < 2 ^ 63) (same : io' ≡ io) (none : written_in io.outputs ≡ []) where
+module _ {P : Type 0} (means : Meaning P) (old new : Seat P) (io io' : Io) (agreed : AreAgreed means old) (few : old.link.sent < 2 ^ 63) (empty : drained io.outputs ≡ io.outputs) where
   abbrev w : World (Wire P)
   w = at old.link io
 
@@ -49,14 +46,13 @@ module _ {P : Type 0} (means : Meaning P) (old new : Seat P) (io io' : Io) (agre
       let cut = c.first.1 in
       let later : v ≡ c.first.0 = c.ends.1 ∙ c.walked.1 ∙ c.first.2 in
       let off : means.on v.device.device ≡ None = ap (λ (x : World (Wire P)). means.on x.device.device) later ∙ cut.0.on in
-      still-standing means w v (Cut ∷ []) tt
-      (λ whole inputs before stood.
-      let r = Stands-reads SameView (means.on old.link.device) whole inputs before stood in
-      let s = cut-still whole inputs [] tt before r.0 in
-      subst (λ (x : Option FwState × Past). (after : Stands x.0 whole inputs (before ++ Cut ∷ [])) × Leads whole x.1 (Cut ∷ []) after.past) (λ i. (sym off i, r.1 i)) s)
-      same none
-  stands Unloaded outcome c = let still : v ≡ w = c.ends.1 ∙ c.walked.1 ∙ c.first in stays-standing means w v (ap (λ (x : World (Wire P)). means.on x.device.device) still) same none
-  stands Off outcome c = let still : v ≡ w = c.ends.1 ∙ c.walked.1 ∙ c.first in stays-standing means w v (ap (λ (x : World (Wire P)). means.on x.device.device) still) same none
+      let still : v.io ≡ io = ap (λ (x : World (Wire P)). x.io) later ∙ cut.1 in
+      standing-by means w v (Cut ∷ [])
+      (subst (λ (x : Option FwState × Io). StandsOn (means.on old.link.device) io x.0 x.1 (Cut ∷ [])) (λ i. (sym off i, sym still i))
+      (cut-stands (means.on old.link.device) io io [] (reads-of (means.on old.link.device) (means.on old.link.device) io io [] (stands-none (means.on old.link.device) io))))
+      empty
+  stands Unloaded outcome c = let still : v ≡ w = c.ends.1 ∙ c.walked.1 ∙ c.first in stays-standing means w v (ap (λ (x : World (Wire P)). means.on x.device.device) still) (ap (λ (x : World (Wire P)). x.io) still) empty
+  stands Off outcome c = let still : v ≡ w = c.ends.1 ∙ c.walked.1 ∙ c.first in stays-standing means w v (ap (λ (x : World (Wire P)). means.on x.device.device) still) (ap (λ (x : World (Wire P)). x.io) still) empty
 
   pub unload_stepped : (answer : Answer) → UnloadRan means old new io io' answer → Stepped means old.plan old.heap commands.Unload old.kept new.kept w v answer
   unload_stepped answer ran = by (unload_fault old.kept.power) refl
@@ -64,7 +60,7 @@ module _ {P : Type 0} (means : Meaning P) (old new : Seat P) (io io' : Io) (agre
       by : (test : Option HostFault) → unload_fault old.kept.power ≡ test → Stepped means old.plan old.heap commands.Unload old.kept new.kept w v answer
       by (Some fault) is =
           let e = ran.tested.early fault is in
-          early-stepped means old.plan old.heap commands.Unload old.kept new.kept w v answer (λ doing known. refl) refl fault is (ran.said ∙ ap (answer_by Done) e.0) e.1 e.2 none
+          early-stepped means old.plan old.heap commands.Unload old.kept new.kept w v answer (λ doing known. refl) refl fault is (ran.said ∙ ap (answer_by Done) e.0) e.1 e.2 empty
       by None is =
           let c = ran.tested.late is in
           let fewer : old.link.sent + length c.meetings < 2 ^ 64 - 1 = omega (arith, few, few-meetings (link means) old.plan old.heap false [] c.meetings old.kept c.begun c.sent c.walked) in

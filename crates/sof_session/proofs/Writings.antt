@@ -1,8 +1,15 @@
 -- Outputs to which nothing was written yet.
-use Rattle.std.proofs.Common.{◌≡◌, ℕ, ◌≤◌, List, [], ◌∷◌, map, refl, sym, ap, subst, ◌∙◌, arith}
-use Rattle.sof_base.specs.Ports.{OutputView, HasRoom, drained}
+use Rattle.std.proofs.Common.{◌≡◌, ℕ, zero, suc, ◌≤◌, List, [], ◌∷◌, ◌++◌, map, drop, length, refl, sym, ap, subst, ◌∙◌, arith}
+use Rattle.std.proofs.Math.Seq.{drop-append_seam}
+use Rattle.sof_base.specs.Ports.{Io, OutputView, HasRoom, drained}
 use Rattle.sof_io.specs.Bound.{output_slots}
-use Rattle.sof_session.specs.Written.{empty_outputs, written_in}
+use Rattle.stream_law.specs.State.{FwState}
+use Rattle.stream_law.specs.Table.{list_of}
+use Rattle.stream_law.specs.Past.{Past}
+use Rattle.stream_law.specs.Move.{audio_after}
+use Rattle.mbox_link.specs.Exchange.{ticked, ticks}
+use Rattle.host_widgets.proofs.StandingOn.{Gained, with_more}
+use Rattle.sof_session.specs.Written.{bytes_between, empty_outputs, with_bytes, written_between, written_in}
 
 drained-written : (outputs : List OutputView) → written_in (drained outputs) ≡ []
 drained-written [] = refl
@@ -20,6 +27,27 @@ drained-room n fits (output ∷ outputs) = (omega (arith, fits), drained-room n 
 pub same-slots : (change : OutputView → OutputView) → ((output : OutputView) → (change output).slot ≡ output.slot) → (outputs : List OutputView) → output_slots (map change outputs) ≡ output_slots outputs
 same-slots change same [] = refl
 same-slots change same (output ∷ outputs) = λ i. same output i ∷ same-slots change same outputs i
+
+-- so many ticks leave the slots
+pub ticks-slots : (n : ℕ) (f : FwState) (io : Io) → output_slots (ticks n (f, io)).1.outputs ≡ output_slots io.outputs
+ticks-slots zero f io = refl
+ticks-slots (suc n) f io =
+    let next = ticked (f, io) in
+    ticks-slots n next.0 next.1 ∙ same-slots (λ (o : OutputView). record { slot = o.slot; bytes = o.bytes ++ list_of (audio_after f io).written o.slot }) (λ o. refl) io.outputs
+
+-- outputs that were empty hold what they gained
+module _ (outputs new : List OutputView) (p q : Past) (gained : Gained outputs new p q) where
+  between : (slot : ℕ) → bytes_between p q slot ≡ gained.more slot
+  between slot = ap (drop (length (list_of p.bytes slot))) (gained.bytes slot) ∙ drop-append_seam (list_of p.bytes slot) (gained.more slot)
+
+  more-written : (os : List OutputView) → written_in (map (with_more gained.more) (drained os)) ≡ written_between (map (λ (o : OutputView). o.slot) (drained os)) p q
+  more-written [] = refl
+  more-written (o ∷ os) = λ i. with_bytes o.slot (sym (between o.slot) i) (more-written os i)
+
+  pub gained-written : drained outputs ≡ outputs → written_in new ≡ written_between (map (λ (o : OutputView). o.slot) outputs) p q
+  gained-written empty =
+      ap written_in gained.outputs
+      ∙ subst (λ (os : List OutputView). written_in (map (with_more gained.more) os) ≡ written_between (map (λ (o : OutputView). o.slot) os) p q) empty (more-written outputs)
 
 module _ (outputs : List OutputView) (empty : drained outputs ≡ outputs) where
   -- nothing

@@ -3,7 +3,7 @@ use Rattle.std.specs.Prelude.{◌≡◌, ◌<◌, ◌≤◌, ◌^◌, Some, None
 use Rattle.stream_law.specs.State.{FwState}
 use Rattle.mbox_link.specs.Calls.{Meaning}
 use Rattle.mbox_link.specs.Wire.{Wire}
-use Rattle.mbox_link.specs.Fates.{AllMeant}
+use Rattle.mbox_link.specs.Fates.{AreHeld}
 use Rattle.host_widgets.specs.declared.kept.Power.{Power}
 use Rattle.host_widgets.specs.declared.kept.Power.TheVariants.{Unloaded, On, Off}
 use Rattle.tplg_plan.specs.Sound.{IsSound}
@@ -17,15 +17,15 @@ Powered means seat On = (f : FwState) × (means.on seat.link.device ≡ Some f) 
 Powered means seat Off = means.on seat.link.device ≡ None
 Powered means seat Unloaded = means.on seat.link.device ≡ None
 
--- each planned refusal has a negative error, and the link has lost and refused no more messages than were sent
+-- what is planned has a meaning, all lags are at most 16 ticks, and the link has lost and refused no more messages than were sent
 pub record IsFated {P : Type 0} (wire : Wire P) : Type 0 where
-  pub meant : AllMeant wire.entries
+  pub held : AreHeld wire.entries
   pub dropped : wire.dropped ≤ wire.sent
   pub refused : wire.refused ≤ wire.sent
   pub counted : wire.sent < 2 ^ 64
 
--- The two sides agree: the device is on with the view that the record says, or off; no tick is pending, and what is planned has
--- a meaning.
+-- The two sides agree: the device is on with the view that the record says, or off; the device itself has no tick pending, and
+-- what is planned has a meaning.
 pub record AreAgreed {P : Type 0} (means : Meaning P) (seat : Seat P) : Type 0 where
   pub agree : Agrees means seat.plan seat.kept seat.link.device
   pub powered : Powered means seat seat.kept.power

@@ -1,14 +1,9 @@
--- Which commands are carried out so far, and which numbers they may have.
+-- Which numbers a command may have, whether it makes ticks, and how many messages it sends.
 use Rattle.std.specs.Prelude.{ℕ, nat_le, nat_lt, Bool, true, false, ◌&&◌, ℤ, pos, negsuc}
 use Rattle.sof_script.specs.declared.script.Command.{Command}
 use Rattle.sof_script.specs.declared.script.Command.TheVariants as commands
 
--- all commands are carried out so far, but for a lag
-abbrev pub is_built : Command → Bool
-is_built (commands.Lag k ticks) = false
-is_built command = true
-
--- how far ahead a fate is planned: 1 to 100000 messages
+-- how far ahead a fate or a lag is planned: 1 to 100000 messages
 abbrev pub is_ahead : ℕ → Bool
 is_ahead k = nat_le 1 k && nat_le k 100000
 
@@ -17,14 +12,19 @@ abbrev pub is_refusal : ℤ → Bool
 is_refusal (pos n) = false
 is_refusal (negsuc n) = nat_lt n 4095
 
--- the numbers of a planned fate are in their ranges
+-- how many ticks a lag has: 1 to 16
+abbrev pub is_lag : ℕ → Bool
+is_lag ticks = nat_le 1 ticks && nat_le ticks 16
+
+-- the numbers of a planned fate or lag are in their ranges
 abbrev pub is_in_range : Command → Bool
 is_in_range (commands.Refuse k e) = is_ahead k && is_refusal e
 is_in_range (commands.Drop k) = is_ahead k
 is_in_range (commands.Lose k) = is_ahead k
+is_in_range (commands.Lag k ticks) = is_ahead k && is_lag ticks
 is_in_range command = true
 
--- whether a command makes ticks
+-- whether a command itself is ticks
 abbrev pub is_tick : Command → Bool
 is_tick (commands.Tick n) = true
 is_tick command = false

@@ -2,7 +2,8 @@
 use Rattle.std.specs.Prelude.{ℕ, ◌+◌, List, [], ◌++◌, Bool, true, false, Option, Some, None, Ok, Err}
 use Rattle.stream_law.specs.Past.{Moment}
 use Rattle.mbox_link.specs.declared.fates.Fate.TheVariants as fates
-use Rattle.mbox_link.specs.Meetings.{Queue, Entry, Doing, next_meeting, with_fate, with_lag, has_room, has_lag_room}
+use Rattle.mbox_link.specs.declared.fates.Entry.{Entry}
+use Rattle.mbox_link.specs.Meetings.{Queue, Doing, next_meeting, with_fate, with_lag, has_room, has_lag_room}
 use Rattle.tplg_plan.specs.declared.plans.Plan.{Plan}
 use Rattle.host_widgets.specs.declared.answers.Answer.{Answer}
 use Rattle.host_widgets.specs.declared.answers.Answer.TheVariants as answers

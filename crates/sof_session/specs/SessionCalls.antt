@@ -1,16 +1,13 @@
 -- What the calls of a session do, each by its own test and calls on the link.
 use Rattle.std.specs.Prelude.{◌≡◌, ℕ, List, Option, Result, Ok, Err}
 use Rattle.sof_base.specs.Ports.{Io, InputView, OutputView}
-use Rattle.mbox_link.specs.Calls.{Meaning, Tick, Did}
-use Rattle.mbox_link.specs.Wire.{Wire}
+use Rattle.mbox_link.specs.Calls.{Meaning}
 use Rattle.mbox_link.specs.declared.fates.Fate.{Fate}
 use Rattle.mbox_link.specs.declared.fates.PlanFull.{PlanFull}
-use Rattle.mbox_link.specs.Link.{link, Planned}
+use Rattle.mbox_link.specs.Link.{link, Planned, LagPlanned}
 use Rattle.host_widgets.specs.declared.answers.Answer.{Answer}
 use Rattle.host_widgets.specs.declared.answers.Answer.TheVariants as answers
 use Rattle.host_widgets.specs.declared.answers.HostFault.{HostFault}
-use Rattle.host_widgets.specs.declared.kept.Power.{Power}
-use Rattle.host_widgets.specs.declared.kept.Power.TheVariants.{On}
 use Rattle.host_widgets.specs.Host.{Outcome, BroughtUp}
 use Rattle.host_widgets.specs.Kept.{first_record}
 use Rattle.host_widgets.specs.Orders.{Order, Tested, load_fault, loading, unload_fault, unloading, suspending, resuming}
@@ -62,7 +59,7 @@ abbrev pub told_answer : Result Answer HostFault → Answer
 told_answer (Ok answer) = answer
 told_answer (Err fault) = answers.Fault fault
 
--- the answer where a fate was planned, or where there was no room for it
+-- the answer where a fate or a lag was planned, or where there was no room for it
 abbrev pub plan_answer : Result (Unit {0}) PlanFull → Answer
 plan_answer (Ok done) = answers.Done
 plan_answer (Err full) = answers.PlanFull
@@ -74,19 +71,15 @@ pub record PlanRan {P : Type 0} (k : ℕ) (fate : Fate) (old new : Seat P) (answ
   pub kept : new.kept ≡ old.kept
   pub said : answer ≡ plan_answer outcome
 
+-- what planning ticks before a message did: the link alone changes, with no call on its device
+pub record LagRan {P : Type 0} (k ticks : ℕ) (old new : Seat P) (answer : Answer) : Type 0 where
+  pub outcome : Result (Unit {0}) PlanFull
+  pub planned : LagPlanned k ticks old.link outcome new.link
+  pub kept : new.kept ≡ old.kept
+  pub said : answer ≡ plan_answer outcome
+
 -- what a call on the stream of a name did: its calls on the link, and what it came to
 pub record StreamRan {P : Type 0} (means : Meaning P) (name : List ℕ) (ask : Ask) (old new : Seat P) (before after : Io) (answer : Answer) : Type 0 where
   pub outcome : Outcome
   pub asked : Asked (link means) old.plan old.heap name ask old.kept new.kept (record { device = old.link; io = before }) (record { device = new.link; io = after }) outcome
   pub said : answer ≡ answer_by answers.Done outcome
-
--- a tick of a device that is on, by its one call on the link; one that is off is not called
-abbrev pub TickedBy : {P : Type 0} → Meaning P → Power → Wire P → Wire P → Io → Io → Type 0
-TickedBy means On old new io io' = Did (link means) Tick (record { device = old; io = io }) (record { device = new; io = io' })
-TickedBy means power old new io io' = (new ≡ old) × (io' ≡ io)
-
--- what a tick did; the host's record stays as it is
-pub record TickRan {P : Type 0} (means : Meaning P) (old new : Seat P) (before after : Io) (answer : Answer) : Type 0 where
-  pub calls : TickedBy means old.kept.power old.link new.link before after
-  pub kept : new.kept ≡ old.kept
-  pub said : answer ≡ answers.Done

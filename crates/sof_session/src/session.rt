@@ -1,17 +1,18 @@
 // A host with its device behind a link.
-ghost use Rattle.std.specs.Prelude.{◌≡◌, ◌+◌, ◌<◌, ◌≤◌, ◌^◌, true, false, length, MatchResult};
+ghost use Rattle.std.specs.Prelude.{◌≡◌, ℕ, ◌+◌, ◌<◌, ◌≤◌, ◌^◌, true, false, length, MatchResult};
 ghost use Rattle.sof_base.specs.Ports.{HasRoom, drained};
 ghost use Rattle.mbox_link.specs.Calls.{world};
 ghost use Rattle.mbox_link.specs.Fates.{IsMeant};
+ghost use Rattle.mbox_link.specs.Link.{link};
 ghost use Rattle.tplg_plan.specs.Sound.{IsSound};
 ghost use Rattle.host_ctl.specs.ControlAsks.{set_fault, bytes_fault, get_fault, read_fault};
 ghost use Rattle.host_ctl.specs.ControlOrders.{set_order, bytes_order, get_order, read_order};
 ghost use Rattle.sof_io.specs.Bound.{output_slots};
 ghost use Rattle.sof_session.specs.Agreement.{AreAgreed};
-ghost use Rattle.sof_session.specs.CommandRanges.{is_built, is_in_range, is_tick, most_sent};
+ghost use Rattle.sof_session.specs.CommandRanges.{is_in_range, is_tick, most_sent};
 ghost use Rattle.sof_session.specs.Commands.{answer_by};
 ghost use Rattle.sof_session.specs.Seat.{new_seat};
-ghost use Rattle.sof_session.specs.SessionCalls.{LoadRan, UnloadRan, SuspendRan, ResumeRan, ControlRan, told_answer, PlanRan, plan_answer, StreamRan, TickRan, ports};
+ghost use Rattle.sof_session.specs.SessionCalls.{LoadRan, UnloadRan, SuspendRan, ResumeRan, ControlRan, told_answer, PlanRan, LagRan, plan_answer, StreamRan, ports};
 ghost use Rattle.sof_session.specs.SessionStep.{Stepped};
 ghost use Rattle.sof_session.specs.Show.{show_lines, IsLineAt};
 
@@ -46,7 +47,7 @@ fn told_answer(asked: Result<Answer, HostFault>) -> Answer
     asked.unwrap_or_else(Answer::Fault)
 }
 
-// The answer where a fate was planned, or where there was no room for it.
+// The answer where a fate or a lag was planned, or where there was no room for it.
 fn plan_answer(planned: Result<(), PlanFull>) -> Answer
     ensures { result ≡ plan_answer planned }
 {
@@ -109,17 +110,16 @@ impl<P: Dsp> Session<P> {
         self.link.into_dsp()
     }
 
-    /// Carries out a command that is built so far, as all are but `Lag`: `Load`, `Unload`, `Suspend`, `Resume`, `Show`, `Tick`, a
-    /// planned fate, which are `Refuse`, `Drop` and `Lose`, a call on a control, which are `Set`, `Bytes`, `Get` and `Read`, or a call
-    /// on a stream, which are `Open`, `Params`, `Start`, `Stop`, `Pause`, `Release` and `Close`.
+    /// Carries out a command: `Load`, `Unload`, `Suspend`, `Resume`, `Show`, `Tick`, a planned fate, which are `Refuse`, `Drop` and
+    /// `Lose`, a planned `Lag`, a call on a control, which are `Set`, `Bytes`, `Get` and `Read`, or a call on a stream, which are
+    /// `Open`, `Params`, `Start`, `Stop`, `Pause`, `Release` and `Close`.
     /// `Load` boots the device and loads the plan where it is not loaded; `Unload` cuts the device and forgets what was
     /// loaded; `Suspend` stops what moves and cuts the device, and `Resume` brings it back; `Show` changes nothing, and its lines are
     /// those of `show_line`; `Tick` makes one tick, whatever its number; `Set` puts a control's values and `Bytes` an equaliser's blob,
-    /// `Get` tells them by the record, and `Read` by the device; a planned fate is that of the K-th message from now, and the answer is
-    /// `PlanFull` where no more can be planned. It answers as the host's call does. The outputs are empty before it, and hold what it
-    /// wrote after it.
+    /// `Get` tells them by the record, and `Read` by the device; a planned fate is that of the K-th message from now, and a lag is the
+    /// ticks that come before that message, in the command that sends it. The answer is `PlanFull` where no more can be planned. It
+    /// answers as the host's call does. The outputs are empty before it, and hold what it wrote after it.
     pub fn step(&mut self, command: &Command, io: &mut Inputs, out: &mut Outputs) -> Answer
-        requires built { is_built command.now ≡ true }
         requires numbers { is_in_range command.now ≡ true }
         requires few { self.old.link.sent < 2 ^ 63 }
         requires empty { drained out.old ≡ out.old }
@@ -129,7 +129,7 @@ impl<P: Dsp> Session<P> {
         ensures heap { self.new.heap ≡ self.old.heap }
         ensures slots { output_slots out.new ≡ output_slots out.old }
         ensures sent { self.new.link.sent ≤ self.old.link.sent + most_sent command.now }
-        ensures still { is_tick command.now ≡ false → (io.new ≡ io.old) × (out.new ≡ out.old) }
+        ensures still { is_tick command.now ≡ false → (link P.means).pending self.old.link ≡ 0 → (io.new ≡ io.old) × (out.new ≡ out.old) }
     {
         match command {
             Command::Load => self.load(io, out),
@@ -139,7 +139,10 @@ impl<P: Dsp> Session<P> {
             Command::Refuse(k, error) => self.plan_fate(*k, Fate::Refuse(*error)),
             Command::Drop(k) => self.plan_fate(*k, Fate::Drop),
             Command::Lose(k) => self.plan_fate(*k, Fate::Lose),
-            Command::Tick(_) => self.tick(io, out),
+            Command::Tick(_) => {
+                self.tick(io, out);
+                Answer::Done
+            }
             Command::Open(name) => self.ask(name, Ask::Opening, io, out),
             Command::Params(name, params) => self.ask(name, Ask::Preparing(*params), io, out),
             Command::Start(name) => self.ask(name, Ask::Triggering(Trigger::Start), io, out),
@@ -151,9 +154,26 @@ impl<P: Dsp> Session<P> {
             Command::Bytes(name, blob) => self.set_bytes(name, blob, io, out),
             Command::Get(name) => self.get(name, io, out),
             Command::Read(name) => self.read(name, io, out),
+            Command::Lag(k, ticks) => self.plan_lag(*k, *ticks),
             Command::Show => self.show(),
-            // Never so: no lag is built.
-            Command::Lag(_, _) => self.show(),
+        }
+    }
+
+    /// One tick of a device that is on; one that is off is not called. It is what `step` does for `Tick`, whatever its number, without
+    /// an answer. The outputs are empty before it, and hold what it wrote after it.
+    pub fn tick(&mut self, io: &mut Inputs, out: &mut Outputs)
+        requires few { self.old.link.sent < 2 ^ 63 }
+        requires empty { drained out.old ≡ out.old }
+        ensures stepped { (number : ℕ) → Stepped P.means self.old.plan self.old.heap (Command.Tick number) self.old.kept self.new.kept (world self.old.link io.old out.old) (world self.new.link io.new out.new) Answer.Done }
+        ensures agreed { AreAgreed P.means self.new }
+        ensures plan { self.new.plan ≡ self.old.plan }
+        ensures heap { self.new.heap ≡ self.old.heap }
+        ensures slots { output_slots out.new ≡ output_slots out.old }
+        ensures sent { self.new.link.sent ≡ self.old.link.sent }
+    {
+        match self.kept.power {
+            Power::On => self.link.tick(io, out),
+            Power::Unloaded | Power::Off => {}
         }
     }
 
@@ -169,7 +189,7 @@ impl<P: Dsp> Session<P> {
 
     // Boots the device and loads the plan, where it is not loaded.
     fn load(&mut self, io: &mut Inputs, out: &mut Outputs) -> Answer
-        requires { HasRoom 0 out.old }
+        requires { HasRoom 983040 out.old }
         ensures ran { LoadRan P.means self.old self.new (ports io.old out.old) (ports io.new out.new) result }
         ensures agreed { AreAgreed P.means self.old }
         ensures later { AreAgreed P.means self.new }
@@ -191,7 +211,7 @@ impl<P: Dsp> Session<P> {
 
     // Cuts the device and forgets what was loaded.
     fn unload(&mut self, io: &mut Inputs, out: &mut Outputs) -> Answer
-        requires { HasRoom 0 out.old }
+        requires { HasRoom 983040 out.old }
         ensures ran { UnloadRan P.means self.old self.new (ports io.old out.old) (ports io.new out.new) result }
         ensures agreed { AreAgreed P.means self.old }
         ensures later { AreAgreed P.means self.new }
@@ -213,14 +233,14 @@ impl<P: Dsp> Session<P> {
 
     // Stops all that moves, and cuts the device.
     fn suspend(&mut self, io: &mut Inputs, out: &mut Outputs) -> Answer
-        requires { HasRoom 0 out.old }
+        requires { HasRoom 983040 out.old }
         ensures ran { SuspendRan P.means self.old self.new (ports io.old out.old) (ports io.new out.new) result }
         ensures agreed { AreAgreed P.means self.old }
         ensures later { AreAgreed P.means self.new }
         ensures plan { self.new.plan ≡ self.old.plan }
         ensures heap { self.new.heap ≡ self.old.heap }
-        ensures inputs { io.new ≡ io.old }
-        ensures outputs { out.new ≡ out.old }
+        ensures slots { output_slots out.new ≡ output_slots out.old }
+        ensures still { (link P.means).pending self.old.link ≡ 0 → (io.new ≡ io.old) × (out.new ≡ out.old) }
     {
         let suspended = suspend(
             &self.plan,
@@ -235,7 +255,7 @@ impl<P: Dsp> Session<P> {
 
     // Boots the device and brings it back to what the record says.
     fn resume(&mut self, io: &mut Inputs, out: &mut Outputs) -> Answer
-        requires { HasRoom 0 out.old }
+        requires { HasRoom 983040 out.old }
         ensures ran { ResumeRan P.means self.old self.new (ports io.old out.old) (ports io.new out.new) result }
         ensures agreed { AreAgreed P.means self.old }
         ensures later { AreAgreed P.means self.new }
@@ -263,14 +283,14 @@ impl<P: Dsp> Session<P> {
         io: &mut Inputs,
         out: &mut Outputs,
     ) -> Answer
-        requires { HasRoom 0 out.old }
+        requires { HasRoom 983040 out.old }
         ensures ran { ControlRan P.means (set_fault self.old.plan self.old.kept name.now values.now) (set_order self.old.plan self.old.kept name.now values.now) self.old self.new (ports io.old out.old) (ports io.new out.new) result }
         ensures agreed { AreAgreed P.means self.old }
         ensures later { AreAgreed P.means self.new }
         ensures plan { self.new.plan ≡ self.old.plan }
         ensures heap { self.new.heap ≡ self.old.heap }
-        ensures inputs { io.new ≡ io.old }
-        ensures outputs { out.new ≡ out.old }
+        ensures slots { output_slots out.new ≡ output_slots out.old }
+        ensures still { (link P.means).pending self.old.link ≡ 0 → (io.new ≡ io.old) × (out.new ≡ out.old) }
     {
         let done = set(
             &self.plan,
@@ -293,14 +313,14 @@ impl<P: Dsp> Session<P> {
         io: &mut Inputs,
         out: &mut Outputs,
     ) -> Answer
-        requires { HasRoom 0 out.old }
+        requires { HasRoom 983040 out.old }
         ensures ran { ControlRan P.means (bytes_fault self.old.plan self.old.kept name.now blob.now) (bytes_order self.old.plan self.old.kept name.now blob.now) self.old self.new (ports io.old out.old) (ports io.new out.new) result }
         ensures agreed { AreAgreed P.means self.old }
         ensures later { AreAgreed P.means self.new }
         ensures plan { self.new.plan ≡ self.old.plan }
         ensures heap { self.new.heap ≡ self.old.heap }
-        ensures inputs { io.new ≡ io.old }
-        ensures outputs { out.new ≡ out.old }
+        ensures slots { output_slots out.new ≡ output_slots out.old }
+        ensures still { (link P.means).pending self.old.link ≡ 0 → (io.new ≡ io.old) × (out.new ≡ out.old) }
     {
         let done = set_bytes(
             &self.plan,
@@ -339,14 +359,14 @@ impl<P: Dsp> Session<P> {
 
     // What the firmware says of the control of this name.
     fn read(&mut self, name: &Name44, io: &mut Inputs, out: &mut Outputs) -> Answer
-        requires { HasRoom 0 out.old }
+        requires { HasRoom 983040 out.old }
         ensures ran { ControlRan P.means (read_fault self.old.plan self.old.kept name.now) (read_order self.old.plan self.old.kept name.now) self.old self.new (ports io.old out.old) (ports io.new out.new) result }
         ensures agreed { AreAgreed P.means self.old }
         ensures later { AreAgreed P.means self.new }
         ensures plan { self.new.plan ≡ self.old.plan }
         ensures heap { self.new.heap ≡ self.old.heap }
-        ensures inputs { io.new ≡ io.old }
-        ensures outputs { out.new ≡ out.old }
+        ensures slots { output_slots out.new ≡ output_slots out.old }
+        ensures still { (link P.means).pending self.old.link ≡ 0 → (io.new ≡ io.old) × (out.new ≡ out.old) }
     {
         let told = read(
             &self.plan,
@@ -374,34 +394,30 @@ impl<P: Dsp> Session<P> {
         plan_answer(planned)
     }
 
-    // One tick of a device that is on.
-    fn tick(&mut self, io: &mut Inputs, out: &mut Outputs) -> Answer
-        requires { HasRoom 61440 out.old }
-        ensures ran { TickRan P.means self.old self.new (ports io.old out.old) (ports io.new out.new) result }
-        ensures agreed { AreAgreed P.means self.old }
+    // So many ticks are to come before the k-th message from now.
+    fn plan_lag(&mut self, k: u32, ticks: u32) -> Answer
+        requires ahead { 1 ≤ k }
+        requires short { ticks ≤ 16 }
+        requires few { self.old.link.sent < 2 ^ 63 }
+        ensures ran { LagRan k ticks self.old self.new result }
         ensures later { AreAgreed P.means self.new }
         ensures plan { self.new.plan ≡ self.old.plan }
         ensures heap { self.new.heap ≡ self.old.heap }
     {
-        match self.kept.power {
-            Power::On => {
-                self.link.tick(io, out);
-                Answer::Done
-            }
-            Power::Unloaded | Power::Off => Answer::Done,
-        }
+        let planned = self.link.lag(k, ticks);
+        plan_answer(planned)
     }
 
     // Makes the host's call for what is asked of the stream of this name.
     fn ask(&mut self, name: &Name44, ask: Ask, io: &mut Inputs, out: &mut Outputs) -> Answer
-        requires { HasRoom 0 out.old }
+        requires { HasRoom 983040 out.old }
         ensures ran { StreamRan P.means name.now ask self.old self.new (ports io.old out.old) (ports io.new out.new) result }
         ensures agreed { AreAgreed P.means self.old }
         ensures later { AreAgreed P.means self.new }
         ensures plan { self.new.plan ≡ self.old.plan }
         ensures heap { self.new.heap ≡ self.old.heap }
-        ensures inputs { io.new ≡ io.old }
-        ensures outputs { out.new ≡ out.old }
+        ensures slots { output_slots out.new ≡ output_slots out.old }
+        ensures still { (link P.means).pending self.old.link ≡ 0 → (io.new ≡ io.old) × (out.new ≡ out.old) }
     {
         let asked = ask_stream(
             &self.plan,

@@ -1,7 +1,8 @@
 use Rattle.std.proofs.Common.{ap}
 use Rattle.sof_base.specs.Ports.{Io}
 use Rattle.sof_session.specs.SessionCalls.{ports}
-use Rattle.sof_session.proofs.AskedStays.{asked-io}
+use Rattle.sof_session.proofs.Agreement.{pending-room}
+use Rattle.sof_session.proofs.AskedStays.{asked-io, asked-slots}
 use Rattle.sof_session.proofs.CallAgreement.{AreAgreed-asked}
 use Rattle.sof_session.proofs.session.Session.ask.Goals as goal
 
@@ -17,16 +18,21 @@ returns-clause-later g c =
     let done = c.ask_stream-asked in
     AreAgreed-asked g.P.Dsp.means (record { link = inside.link; kept = inside.kept; plan = inside.plan; heap = inside.heap }) done.new.dsp (ports c.args.io.now c.args.out.now) (ports done.new.io done.new.out) c.self.invariant done.new.kept done.ensures.agree done.result c.args.name.now c.args.ask done.ensures.asked
 
-pub returns-clause-inputs : goal.returns-clause-inputs
-returns-clause-inputs g c =
+pub returns-clause-slots : goal.returns-clause-slots
+returns-clause-slots g c =
     let inside = c.self.inside in
     let done = c.ask_stream-asked in
-    ap (λ (io : Io). io.inputs)
-    (asked-io g.P.Dsp.means (record { link = inside.link; kept = inside.kept; plan = inside.plan; heap = inside.heap }) done.new.dsp (ports c.args.io.now c.args.out.now) (ports done.new.io done.new.out) c.self.invariant done.new.kept done.ensures.agree done.result c.args.name.now c.args.ask done.ensures.asked)
+    asked-slots g.P.Dsp.means (record { link = inside.link; kept = inside.kept; plan = inside.plan; heap = inside.heap }) done.new.dsp (ports c.args.io.now c.args.out.now) (ports done.new.io done.new.out) c.self.invariant done.new.kept done.ensures.agree done.result c.args.name.now c.args.ask done.ensures.asked
 
-pub returns-clause-outputs : goal.returns-clause-outputs
-returns-clause-outputs g c =
+-- where no tick is pending, none came
+pub returns-clause-still : goal.returns-clause-still
+returns-clause-still g c none =
     let inside = c.self.inside in
     let done = c.ask_stream-asked in
-    ap (λ (io : Io). io.outputs)
-    (asked-io g.P.Dsp.means (record { link = inside.link; kept = inside.kept; plan = inside.plan; heap = inside.heap }) done.new.dsp (ports c.args.io.now c.args.out.now) (ports done.new.io done.new.out) c.self.invariant done.new.kept done.ensures.agree done.result c.args.name.now c.args.ask done.ensures.asked)
+    let same = asked-io g.P.Dsp.means (record { link = inside.link; kept = inside.kept; plan = inside.plan; heap = inside.heap }) done.new.dsp (ports c.args.io.now c.args.out.now) (ports done.new.io done.new.out) c.self.invariant done.new.kept done.ensures.agree done.result c.args.name.now c.args.ask done.ensures.asked (rw (← c.self.view_is) at none) in
+    (ap (λ (io : Io). io.inputs) same, ap (λ (io : Io). io.outputs) same)
+
+pub ask_stream-asked-requires-clause-room : goal.ask_stream-asked-requires-clause-room
+ask_stream-asked-requires-clause-room g c =
+    let inside = c.self.inside in
+    pending-room g.P.Dsp.means (record { link = inside.link; kept = inside.kept; plan = inside.plan; heap = inside.heap }) c.self.invariant c.args.out.now c.requires

@@ -6,13 +6,13 @@ pub invariant_of-self : goal.invariant_of-self
 invariant_of-self g c =
     let inside = c.self.inside in
     let done = c.plan-planned in
-    AreAgreed-planned g.P.Dsp.means (record { link = inside.link; kept = inside.kept; plan = inside.plan; heap = inside.heap }) c.args.k c.args.fate c.self.invariant c.requires.meant done.new.self done.result done.ensures
+    AreAgreed-planned g.P.Dsp.means (record { link = inside.link; kept = inside.kept; plan = inside.plan; heap = inside.heap }) c.self.invariant c.args.k c.args.fate c.requires.meant done.new.self done.result done.ensures
 
 pub returns-clause-later : goal.returns-clause-later
 returns-clause-later g c =
     let inside = c.self.inside in
     let done = c.plan-planned in
-    AreAgreed-planned g.P.Dsp.means (record { link = inside.link; kept = inside.kept; plan = inside.plan; heap = inside.heap }) c.args.k c.args.fate c.self.invariant c.requires.meant done.new.self done.result done.ensures
+    AreAgreed-planned g.P.Dsp.means (record { link = inside.link; kept = inside.kept; plan = inside.plan; heap = inside.heap }) c.self.invariant c.args.k c.args.fate c.requires.meant done.new.self done.result done.ensures
 
 pub returns-clause-ran : goal.returns-clause-ran
 returns-clause-ran g c =

@@ -1,9 +1,10 @@
-use Rattle.std.proofs.Common.{◌≡◌, ◌*◌, ◌∙◌, ℕ, ap, subst, sym, arith}
-use Rattle.sof_base.specs.Ports.{HasRoom, Io}
+use Rattle.std.proofs.Common.{◌∙◌, ap}
+use Rattle.sof_base.specs.Ports.{Io}
 use Rattle.host_ctl.specs.ControlAsks.{read_fault}
 use Rattle.host_ctl.specs.ControlOrders.{read_order, outcome_of}
 use Rattle.sof_session.specs.SessionCalls.{ports}
-use Rattle.sof_session.proofs.AskedStays.{sent-io}
+use Rattle.sof_session.proofs.Agreement.{pending-room}
+use Rattle.sof_session.proofs.AskedStays.{sent-io, sent-slots}
 use Rattle.sof_session.proofs.CallAgreement.{AreAgreed-sent}
 use Rattle.sof_session.proofs.ControlSteps.{read-call, told-answers}
 use Rattle.sof_session.proofs.session.Session.read.Goals as goal
@@ -24,28 +25,28 @@ returns-clause-later g c =
     AreAgreed-sent g.P.Dsp.means (record { link = inside.link; kept = inside.kept; plan = inside.plan; heap = inside.heap }) done.new.dsp (ports c.args.io.now c.args.out.now) (ports done.new.io done.new.out) c.self.invariant done.new.kept done.ensures.agree (outcome_of done.result)
     (read_fault inside.plan inside.kept c.args.name.now) (read_order inside.plan inside.kept c.args.name.now) call.sent call.taken done.ensures.asked
 
-pub returns-clause-inputs : goal.returns-clause-inputs
-returns-clause-inputs g c =
+pub returns-clause-slots : goal.returns-clause-slots
+returns-clause-slots g c =
     let inside = c.self.inside in
     let done = c.read-told in
     let call = read-call inside.plan c.self.invariant.sound inside.kept c.self.invariant.agree.record_is c.args.name.now in
-    ap (λ (io : Io). io.inputs)
-    (sent-io g.P.Dsp.means (record { link = inside.link; kept = inside.kept; plan = inside.plan; heap = inside.heap }) done.new.dsp (ports c.args.io.now c.args.out.now) (ports done.new.io done.new.out) c.self.invariant done.new.kept done.ensures.agree (outcome_of done.result)
-    (read_fault inside.plan inside.kept c.args.name.now) (read_order inside.plan inside.kept c.args.name.now) call.sent done.ensures.asked)
+    sent-slots g.P.Dsp.means (record { link = inside.link; kept = inside.kept; plan = inside.plan; heap = inside.heap }) done.new.dsp (ports c.args.io.now c.args.out.now) (ports done.new.io done.new.out) c.self.invariant done.new.kept done.ensures.agree (outcome_of done.result)
+    (read_fault inside.plan inside.kept c.args.name.now) (read_order inside.plan inside.kept c.args.name.now) call.sent done.ensures.asked
 
-pub returns-clause-outputs : goal.returns-clause-outputs
-returns-clause-outputs g c =
+-- where no tick is pending, none came
+pub returns-clause-still : goal.returns-clause-still
+returns-clause-still g c none =
     let inside = c.self.inside in
     let done = c.read-told in
     let call = read-call inside.plan c.self.invariant.sound inside.kept c.self.invariant.agree.record_is c.args.name.now in
-    ap (λ (io : Io). io.outputs)
-    (sent-io g.P.Dsp.means (record { link = inside.link; kept = inside.kept; plan = inside.plan; heap = inside.heap }) done.new.dsp (ports c.args.io.now c.args.out.now) (ports done.new.io done.new.out) c.self.invariant done.new.kept done.ensures.agree (outcome_of done.result)
-    (read_fault inside.plan inside.kept c.args.name.now) (read_order inside.plan inside.kept c.args.name.now) call.sent done.ensures.asked)
+    let same = sent-io g.P.Dsp.means (record { link = inside.link; kept = inside.kept; plan = inside.plan; heap = inside.heap }) done.new.dsp (ports c.args.io.now c.args.out.now) (ports done.new.io done.new.out) c.self.invariant done.new.kept done.ensures.agree (outcome_of done.result)
+    (read_fault inside.plan inside.kept c.args.name.now) (read_order inside.plan inside.kept c.args.name.now) call.sent done.ensures.asked (rw (← c.self.view_is) at none) in
+    (ap (λ (io : Io). io.inputs) same, ap (λ (io : Io). io.outputs) same)
 
 pub read-told-requires-clause-room : goal.read-told-requires-clause-room
 read-told-requires-clause-room g c =
-    let none : 61440 * g.P.Dsp.means.pending c.self.inside.link.device ≡ 0 = omega (arith, c.self.invariant.pending) in
-    subst (λ (n : ℕ). HasRoom n c.args.out.now) (sym none) c.requires
+    let inside = c.self.inside in
+    pending-room g.P.Dsp.means (record { link = inside.link; kept = inside.kept; plan = inside.plan; heap = inside.heap }) c.self.invariant c.args.out.now c.requires
 
 pub returns-clause-ran : goal.returns-clause-ran
 returns-clause-ran g c =

@@ -1,7 +1,5 @@
-use Rattle.std.proofs.Common.{◌≡◌, ◌*◌, ℕ, ap, subst, sym, arith}
-use Rattle.sof_base.specs.Ports.{HasRoom, Io}
 use Rattle.sof_session.specs.SessionCalls.{ports}
-use Rattle.sof_session.proofs.ResumeSteps.{resume-io}
+use Rattle.sof_session.proofs.Agreement.{pending-room}
 use Rattle.sof_session.proofs.CallAgreement.{AreAgreed-resumed}
 use Rattle.sof_session.proofs.session.Session.resume.Goals as goal
 
@@ -17,24 +15,10 @@ returns-clause-later g c =
     let done = c.resume-resumed in
     AreAgreed-resumed g.P.Dsp.means (record { link = inside.link; kept = inside.kept; plan = inside.plan; heap = inside.heap }) done.new.dsp (ports c.args.io.now c.args.out.now) (ports done.new.io done.new.out) c.self.invariant done.new.kept done.ensures.agree done.result done.ensures.carried done.ensures.left
 
-pub returns-clause-inputs : goal.returns-clause-inputs
-returns-clause-inputs g c =
-    let inside = c.self.inside in
-    let done = c.resume-resumed in
-    ap (λ (io : Io). io.inputs)
-    (resume-io g.P.Dsp.means (record { link = inside.link; kept = inside.kept; plan = inside.plan; heap = inside.heap }) done.new.dsp (ports c.args.io.now c.args.out.now) (ports done.new.io done.new.out) c.self.invariant done.new.kept done.result done.ensures.carried)
-
-pub returns-clause-outputs : goal.returns-clause-outputs
-returns-clause-outputs g c =
-    let inside = c.self.inside in
-    let done = c.resume-resumed in
-    ap (λ (io : Io). io.outputs)
-    (resume-io g.P.Dsp.means (record { link = inside.link; kept = inside.kept; plan = inside.plan; heap = inside.heap }) done.new.dsp (ports c.args.io.now c.args.out.now) (ports done.new.io done.new.out) c.self.invariant done.new.kept done.result done.ensures.carried)
-
 pub resume-resumed-requires-clause-room : goal.resume-resumed-requires-clause-room
 resume-resumed-requires-clause-room g c =
-    let none : 61440 * g.P.Dsp.means.pending c.self.inside.link.device ≡ 0 = omega (arith, c.self.invariant.pending) in
-    subst (λ (n : ℕ). HasRoom n c.args.out.now) (sym none) c.requires
+    let inside = c.self.inside in
+    pending-room g.P.Dsp.means (record { link = inside.link; kept = inside.kept; plan = inside.plan; heap = inside.heap }) c.self.invariant c.args.out.now c.requires
 
 pub returns-clause-ran : goal.returns-clause-ran
 returns-clause-ran g c =

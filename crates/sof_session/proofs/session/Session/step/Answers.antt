@@ -2,6 +2,7 @@ use Rattle.std.proofs.Common.{ℤ, refl, subst, sym, arith}
 use Rattle.mbox_link.specs.declared.fates.Fate.TheVariants.{Refuse, Drop, Lose}
 use Rattle.mbox_link.specs.Fates.{IsError}
 use Rattle.host_widgets.specs.declared.answers.Answer.{Answer}
+use Rattle.host_widgets.specs.declared.answers.Answer.TheVariants.{Done}
 use Rattle.host_widgets.specs.declared.trigger.Trigger.TheVariants as triggers
 use Rattle.host_pcm.specs.declared.asking.Ask.TheVariants.{Opening, Preparing, Triggering, Closing}
 use Rattle.host_ctl.specs.ControlAsks.{set_fault, bytes_fault, get_fault, read_fault}
@@ -13,31 +14,26 @@ use Rattle.sof_session.proofs.AskedSteps.{calls-by, asked_step, stream_few}
 use Rattle.sof_session.proofs.ControlSteps.{set-call, bytes-call, get-call, read-call, control_step, control_few}
 use Rattle.sof_session.proofs.LoadSteps.{load_stepped, load_few}
 use Rattle.sof_session.proofs.PlanAgreement.{is-error}
-use Rattle.sof_session.proofs.PlanSteps.{plan_stepped, plan_few, show_stepped}
-use Rattle.sof_session.proofs.StepCommands.{in-range-of, ahead-in, refuse-in, as-is, few-by, no-lag}
+use Rattle.sof_session.proofs.PlanSteps.{plan_stepped, plan_few, lag_stepped, lag_few, show_stepped}
+use Rattle.sof_session.proofs.StepCommands.{in-range-of, ahead-in, refuse-in, lag-in, as-is, few-by}
 use Rattle.sof_session.proofs.PowerSteps.{suspend_stepped, suspend_few}
 use Rattle.sof_session.proofs.ResumeSteps.{resume_stepped, resume_few}
 use Rattle.sof_session.proofs.Stepping.{SteppedIn, same-ports}
-use Rattle.sof_session.proofs.TickAgreement.{ticked-slots}
-use Rattle.sof_session.proofs.TickSteps.{tick_stepped}
 use Rattle.sof_session.proofs.UnloadSteps.{unload_stepped, unload_few}
-use Rattle.sof_session.proofs.Writings.{none-written, all-room}
+use Rattle.sof_session.proofs.Writings.{all-room}
 use Rattle.sof_session.proofs.session.Session.step.Goals as goal
 
 pub load-requires : goal.load-requires
-load-requires g c = all-room c.args.out.now c.requires.empty 0 (omega arith)
-
-pub tick-requires : goal.tick-requires
-tick-requires g c = all-room c.args.out.now c.requires.empty 61440 (omega arith)
+load-requires g c = all-room c.args.out.now c.requires.empty 983040 (omega arith)
 
 pub unload-requires : goal.unload-requires
-unload-requires g c = all-room c.args.out.now c.requires.empty 0 (omega arith)
+unload-requires g c = all-room c.args.out.now c.requires.empty 983040 (omega arith)
 
 pub suspend-requires : goal.suspend-requires
-suspend-requires g c = all-room c.args.out.now c.requires.empty 0 (omega arith)
+suspend-requires g c = all-room c.args.out.now c.requires.empty 983040 (omega arith)
 
 pub resume-requires : goal.resume-requires
-resume-requires g c = all-room c.args.out.now c.requires.empty 0 (omega arith)
+resume-requires g c = all-room c.args.out.now c.requires.empty 983040 (omega arith)
 
 pub plan_fate-requires-clause-ahead : goal.plan_fate-requires-clause-ahead
 plan_fate-requires-clause-ahead g c = ahead-in c.in-Refuse.k (refuse-in c.in-Refuse.k c.in-Refuse.error (in-range-of c.args.command.now (commands.Refuse c.in-Refuse.k c.in-Refuse.error) c.in-Refuse.is c.requires.numbers)).0
@@ -55,40 +51,34 @@ pub plan_fate-requires-in-Lose-clause-ahead : goal.plan_fate-requires-in-Lose-cl
 plan_fate-requires-in-Lose-clause-ahead g c = ahead-in c.in-Lose.k (in-range-of c.args.command.now (commands.Lose c.in-Lose.k) c.in-Lose.is c.requires.numbers)
 
 pub ask-requires : goal.ask-requires
-ask-requires g c = all-room c.args.out.now c.requires.empty 0 (omega arith)
+ask-requires g c = all-room c.args.out.now c.requires.empty 983040 (omega arith)
 
 pub ask-requires-in-Params : goal.ask-requires-in-Params
-ask-requires-in-Params g c = all-room c.args.out.now c.requires.empty 0 (omega arith)
+ask-requires-in-Params g c = all-room c.args.out.now c.requires.empty 983040 (omega arith)
 
 pub ask-requires-in-Start : goal.ask-requires-in-Start
-ask-requires-in-Start g c = all-room c.args.out.now c.requires.empty 0 (omega arith)
+ask-requires-in-Start g c = all-room c.args.out.now c.requires.empty 983040 (omega arith)
 
 pub ask-requires-in-Stop : goal.ask-requires-in-Stop
-ask-requires-in-Stop g c = all-room c.args.out.now c.requires.empty 0 (omega arith)
+ask-requires-in-Stop g c = all-room c.args.out.now c.requires.empty 983040 (omega arith)
 
 pub ask-requires-in-Pause : goal.ask-requires-in-Pause
-ask-requires-in-Pause g c = all-room c.args.out.now c.requires.empty 0 (omega arith)
+ask-requires-in-Pause g c = all-room c.args.out.now c.requires.empty 983040 (omega arith)
 
 pub ask-requires-in-Release : goal.ask-requires-in-Release
-ask-requires-in-Release g c = all-room c.args.out.now c.requires.empty 0 (omega arith)
+ask-requires-in-Release g c = all-room c.args.out.now c.requires.empty 983040 (omega arith)
 
 pub ask-requires-in-Close : goal.ask-requires-in-Close
-ask-requires-in-Close g c = all-room c.args.out.now c.requires.empty 0 (omega arith)
+ask-requires-in-Close g c = all-room c.args.out.now c.requires.empty 983040 (omega arith)
 
 pub set-requires : goal.set-requires
-set-requires g c = all-room c.args.out.now c.requires.empty 0 (omega arith)
+set-requires g c = all-room c.args.out.now c.requires.empty 983040 (omega arith)
 
 pub set_bytes-requires : goal.set_bytes-requires
-set_bytes-requires g c = all-room c.args.out.now c.requires.empty 0 (omega arith)
+set_bytes-requires g c = all-room c.args.out.now c.requires.empty 983040 (omega arith)
 
 pub read-requires : goal.read-requires
-read-requires g c = all-room c.args.out.now c.requires.empty 0 (omega arith)
-
-pub returns-in-Tick-clause-slots : goal.returns-in-Tick-clause-slots
-returns-in-Tick-clause-slots g c =
-    let old = c.args.self.now in
-    let done = c.tick in
-    ticked-slots g.P.Dsp.means old done.new.self.link (ports c.args.io.now c.args.out.now) (ports done.new.io done.new.out) done.ensures.agreed done.ensures.ran.calls
+read-requires g c = all-room c.args.out.now c.requires.empty 983040 (omega arith)
 
 -- ---- the step
 
@@ -100,7 +90,7 @@ returns-in-Load-clause-stepped g c =
     let before = ports c.args.io.now c.args.out.now in
     let after = ports done.new.io done.new.out in
     subst (SteppedIn means old done.new.self before after done.result) (sym c.in-Load.is)
-    (load_stepped means old done.new.self before after done.ensures.agreed c.requires.few (same-ports c.args.io.now done.new.io c.args.out.now done.new.out done.ensures.inputs done.ensures.outputs) (none-written c.args.out.now c.requires.empty) done.result done.ensures.ran)
+    (load_stepped means old done.new.self before after done.ensures.agreed c.requires.few (same-ports c.args.io.now done.new.io c.args.out.now done.new.out done.ensures.inputs done.ensures.outputs) c.requires.empty done.result done.ensures.ran)
 
 pub returns-in-Suspend-clause-stepped : goal.returns-in-Suspend-clause-stepped
 returns-in-Suspend-clause-stepped g c =
@@ -110,7 +100,7 @@ returns-in-Suspend-clause-stepped g c =
     let before = ports c.args.io.now c.args.out.now in
     let after = ports done.new.io done.new.out in
     subst (SteppedIn means old done.new.self before after done.result) (sym c.in-Suspend.is)
-    (suspend_stepped means old done.new.self before after done.ensures.agreed c.requires.few (same-ports c.args.io.now done.new.io c.args.out.now done.new.out done.ensures.inputs done.ensures.outputs) (none-written c.args.out.now c.requires.empty) done.result done.ensures.ran)
+    (suspend_stepped means old done.new.self before after done.ensures.agreed c.requires.few c.requires.empty done.result done.ensures.ran)
 
 pub returns-in-Resume-clause-stepped : goal.returns-in-Resume-clause-stepped
 returns-in-Resume-clause-stepped g c =
@@ -120,7 +110,7 @@ returns-in-Resume-clause-stepped g c =
     let before = ports c.args.io.now c.args.out.now in
     let after = ports done.new.io done.new.out in
     subst (SteppedIn means old done.new.self before after done.result) (sym c.in-Resume.is)
-    (resume_stepped means old done.new.self before after done.ensures.agreed c.requires.few (same-ports c.args.io.now done.new.io c.args.out.now done.new.out done.ensures.inputs done.ensures.outputs) (none-written c.args.out.now c.requires.empty) done.result done.ensures.ran)
+    (resume_stepped means old done.new.self before after done.ensures.agreed c.requires.few (same-ports c.args.io.now done.new.io c.args.out.now done.new.out done.ensures.inputs done.ensures.outputs) c.requires.empty done.result done.ensures.ran)
 
 pub returns-in-Unload-clause-stepped : goal.returns-in-Unload-clause-stepped
 returns-in-Unload-clause-stepped g c =
@@ -130,7 +120,7 @@ returns-in-Unload-clause-stepped g c =
     let before = ports c.args.io.now c.args.out.now in
     let after = ports done.new.io done.new.out in
     subst (SteppedIn means old done.new.self before after done.result) (sym c.in-Unload.is)
-    (unload_stepped means old done.new.self before after done.ensures.agreed c.requires.few (same-ports c.args.io.now done.new.io c.args.out.now done.new.out done.ensures.inputs done.ensures.outputs) (none-written c.args.out.now c.requires.empty) done.result done.ensures.ran)
+    (unload_stepped means old done.new.self before after done.ensures.agreed c.requires.few c.requires.empty done.result done.ensures.ran)
 
 pub returns-in-Refuse-clause-stepped : goal.returns-in-Refuse-clause-stepped
 returns-in-Refuse-clause-stepped g c =
@@ -140,7 +130,7 @@ returns-in-Refuse-clause-stepped g c =
     let error = c.in-Refuse.error in
     let meant = is-error error (refuse-in c.in-Refuse.k error (in-range-of c.args.command.now (commands.Refuse c.in-Refuse.k error) c.in-Refuse.is c.requires.numbers)).1 in
     subst (SteppedIn g.P.Dsp.means old done.new.self io io done.result) (sym c.in-Refuse.is)
-    (plan_stepped g.P.Dsp.means old done.new.self io (none-written c.args.out.now c.requires.empty) c.in-Refuse.k (Refuse error) (commands.Refuse c.in-Refuse.k error) (λ doing. refl) refl done.result
+    (plan_stepped g.P.Dsp.means old done.new.self io c.requires.empty c.in-Refuse.k (Refuse error) (commands.Refuse c.in-Refuse.k error) (λ doing. refl) refl done.result
     (subst (λ (e : ℤ). PlanRan c.in-Refuse.k (Refuse e) old done.new.self done.result) (as-is error meant) done.ensures.ran))
 
 pub returns-in-Drop-clause-stepped : goal.returns-in-Drop-clause-stepped
@@ -149,7 +139,7 @@ returns-in-Drop-clause-stepped g c =
     let done = c.plan_fate-in-Drop in
     let io = ports c.args.io.now c.args.out.now in
     subst (SteppedIn g.P.Dsp.means old done.new.self io io done.result) (sym c.in-Drop.is)
-    (plan_stepped g.P.Dsp.means old done.new.self io (none-written c.args.out.now c.requires.empty) c.in-Drop.k Drop (commands.Drop c.in-Drop.k) (λ doing. refl) refl done.result done.ensures.ran)
+    (plan_stepped g.P.Dsp.means old done.new.self io c.requires.empty c.in-Drop.k Drop (commands.Drop c.in-Drop.k) (λ doing. refl) refl done.result done.ensures.ran)
 
 pub returns-in-Lose-clause-stepped : goal.returns-in-Lose-clause-stepped
 returns-in-Lose-clause-stepped g c =
@@ -157,7 +147,7 @@ returns-in-Lose-clause-stepped g c =
     let done = c.plan_fate-in-Lose in
     let io = ports c.args.io.now c.args.out.now in
     subst (SteppedIn g.P.Dsp.means old done.new.self io io done.result) (sym c.in-Lose.is)
-    (plan_stepped g.P.Dsp.means old done.new.self io (none-written c.args.out.now c.requires.empty) c.in-Lose.k Lose (commands.Lose c.in-Lose.k) (λ doing. refl) refl done.result done.ensures.ran)
+    (plan_stepped g.P.Dsp.means old done.new.self io c.requires.empty c.in-Lose.k Lose (commands.Lose c.in-Lose.k) (λ doing. refl) refl done.result done.ensures.ran)
 
 pub returns-in-Tick-clause-stepped : goal.returns-in-Tick-clause-stepped
 returns-in-Tick-clause-stepped g c =
@@ -166,53 +156,97 @@ returns-in-Tick-clause-stepped g c =
     let done = c.tick in
     let before = ports c.args.io.now c.args.out.now in
     let after = ports done.new.io done.new.out in
-    subst (SteppedIn means old done.new.self before after done.result) (sym c.in-Tick.is)
-    (tick_stepped means old done.new.self before after c.requires.empty done.ensures.agreed c.requires.few c.in-Tick.field-0 done.result done.ensures.ran)
+    subst (SteppedIn means old done.new.self before after Done) (sym c.in-Tick.is) (done.ensures.stepped c.in-Tick.field-0)
 
 pub returns-in-Open-clause-stepped : goal.returns-in-Open-clause-stepped
 returns-in-Open-clause-stepped g c =
     let done = c.ask in
-    asked_step g.P.Dsp.means c.args.self.now done.new.self c.args.io.now done.new.io c.args.out.now done.new.out done.ensures.agreed c.requires.few done.ensures.inputs done.ensures.outputs c.requires.empty c.args.command.now (commands.Open c.in-Open.name) c.in-Open.is c.in-Open.name Opening (calls-by (commands.Open c.in-Open.name)) done.result done.ensures.ran
+    asked_step g.P.Dsp.means c.args.self.now done.new.self c.args.io.now done.new.io c.args.out.now done.new.out done.ensures.agreed c.requires.few c.requires.empty c.args.command.now (commands.Open c.in-Open.name) c.in-Open.is c.in-Open.name Opening (calls-by (commands.Open c.in-Open.name)) done.result done.ensures.ran
 
 pub returns-in-Params-clause-stepped : goal.returns-in-Params-clause-stepped
 returns-in-Params-clause-stepped g c =
     let done = c.ask-in-Params in
-    asked_step g.P.Dsp.means c.args.self.now done.new.self c.args.io.now done.new.io c.args.out.now done.new.out done.ensures.agreed c.requires.few done.ensures.inputs done.ensures.outputs c.requires.empty c.args.command.now (commands.Params c.in-Params.name c.in-Params.params) c.in-Params.is c.in-Params.name (Preparing c.in-Params.params) (calls-by (commands.Params c.in-Params.name c.in-Params.params)) done.result done.ensures.ran
+    asked_step g.P.Dsp.means c.args.self.now done.new.self c.args.io.now done.new.io c.args.out.now done.new.out done.ensures.agreed c.requires.few c.requires.empty c.args.command.now (commands.Params c.in-Params.name c.in-Params.params) c.in-Params.is c.in-Params.name (Preparing c.in-Params.params) (calls-by (commands.Params c.in-Params.name c.in-Params.params)) done.result done.ensures.ran
 
 pub returns-in-Start-clause-stepped : goal.returns-in-Start-clause-stepped
 returns-in-Start-clause-stepped g c =
     let done = c.ask-in-Start in
-    asked_step g.P.Dsp.means c.args.self.now done.new.self c.args.io.now done.new.io c.args.out.now done.new.out done.ensures.agreed c.requires.few done.ensures.inputs done.ensures.outputs c.requires.empty c.args.command.now (commands.Start c.in-Start.name) c.in-Start.is c.in-Start.name (Triggering triggers.Start) (calls-by (commands.Start c.in-Start.name)) done.result done.ensures.ran
+    asked_step g.P.Dsp.means c.args.self.now done.new.self c.args.io.now done.new.io c.args.out.now done.new.out done.ensures.agreed c.requires.few c.requires.empty c.args.command.now (commands.Start c.in-Start.name) c.in-Start.is c.in-Start.name (Triggering triggers.Start) (calls-by (commands.Start c.in-Start.name)) done.result done.ensures.ran
 
 pub returns-in-Stop-clause-stepped : goal.returns-in-Stop-clause-stepped
 returns-in-Stop-clause-stepped g c =
     let done = c.ask-in-Stop in
-    asked_step g.P.Dsp.means c.args.self.now done.new.self c.args.io.now done.new.io c.args.out.now done.new.out done.ensures.agreed c.requires.few done.ensures.inputs done.ensures.outputs c.requires.empty c.args.command.now (commands.Stop c.in-Stop.name) c.in-Stop.is c.in-Stop.name (Triggering triggers.Stop) (calls-by (commands.Stop c.in-Stop.name)) done.result done.ensures.ran
+    asked_step g.P.Dsp.means c.args.self.now done.new.self c.args.io.now done.new.io c.args.out.now done.new.out done.ensures.agreed c.requires.few c.requires.empty c.args.command.now (commands.Stop c.in-Stop.name) c.in-Stop.is c.in-Stop.name (Triggering triggers.Stop) (calls-by (commands.Stop c.in-Stop.name)) done.result done.ensures.ran
 
 pub returns-in-Pause-clause-stepped : goal.returns-in-Pause-clause-stepped
 returns-in-Pause-clause-stepped g c =
     let done = c.ask-in-Pause in
-    asked_step g.P.Dsp.means c.args.self.now done.new.self c.args.io.now done.new.io c.args.out.now done.new.out done.ensures.agreed c.requires.few done.ensures.inputs done.ensures.outputs c.requires.empty c.args.command.now (commands.Pause c.in-Pause.name) c.in-Pause.is c.in-Pause.name (Triggering triggers.Pause) (calls-by (commands.Pause c.in-Pause.name)) done.result done.ensures.ran
+    asked_step g.P.Dsp.means c.args.self.now done.new.self c.args.io.now done.new.io c.args.out.now done.new.out done.ensures.agreed c.requires.few c.requires.empty c.args.command.now (commands.Pause c.in-Pause.name) c.in-Pause.is c.in-Pause.name (Triggering triggers.Pause) (calls-by (commands.Pause c.in-Pause.name)) done.result done.ensures.ran
 
 pub returns-in-Release-clause-stepped : goal.returns-in-Release-clause-stepped
 returns-in-Release-clause-stepped g c =
     let done = c.ask-in-Release in
-    asked_step g.P.Dsp.means c.args.self.now done.new.self c.args.io.now done.new.io c.args.out.now done.new.out done.ensures.agreed c.requires.few done.ensures.inputs done.ensures.outputs c.requires.empty c.args.command.now (commands.Release c.in-Release.name) c.in-Release.is c.in-Release.name (Triggering triggers.Release) (calls-by (commands.Release c.in-Release.name)) done.result done.ensures.ran
+    asked_step g.P.Dsp.means c.args.self.now done.new.self c.args.io.now done.new.io c.args.out.now done.new.out done.ensures.agreed c.requires.few c.requires.empty c.args.command.now (commands.Release c.in-Release.name) c.in-Release.is c.in-Release.name (Triggering triggers.Release) (calls-by (commands.Release c.in-Release.name)) done.result done.ensures.ran
 
 pub returns-in-Close-clause-stepped : goal.returns-in-Close-clause-stepped
 returns-in-Close-clause-stepped g c =
     let done = c.ask-in-Close in
-    asked_step g.P.Dsp.means c.args.self.now done.new.self c.args.io.now done.new.io c.args.out.now done.new.out done.ensures.agreed c.requires.few done.ensures.inputs done.ensures.outputs c.requires.empty c.args.command.now (commands.Close c.in-Close.name) c.in-Close.is c.in-Close.name Closing (calls-by (commands.Close c.in-Close.name)) done.result done.ensures.ran
+    asked_step g.P.Dsp.means c.args.self.now done.new.self c.args.io.now done.new.io c.args.out.now done.new.out done.ensures.agreed c.requires.few c.requires.empty c.args.command.now (commands.Close c.in-Close.name) c.in-Close.is c.in-Close.name Closing (calls-by (commands.Close c.in-Close.name)) done.result done.ensures.ran
 
 pub returns-in-Show-clause-stepped : goal.returns-in-Show-clause-stepped
 returns-in-Show-clause-stepped g c =
     let old = c.args.self.now in
     let io = ports c.args.io.now c.args.out.now in
-    subst (λ (x : Command × Answer). SteppedIn g.P.Dsp.means old old io io x.1 x.0) (λ i. (sym c.in-Show.is i, sym c.show.ensures.shown i)) (show_stepped g.P.Dsp.means old io (none-written c.args.out.now c.requires.empty))
+    subst (λ (x : Command × Answer). SteppedIn g.P.Dsp.means old old io io x.1 x.0) (λ i. (sym c.in-Show.is i, sym c.show.ensures.shown i)) (show_stepped g.P.Dsp.means old io c.requires.empty)
 
--- no lag is built
-pub returns-in-Lag : goal.returns-in-Lag
-returns-in-Lag g c = absurd (no-lag c.args.command.now c.in-Lag.field-0 c.in-Lag.field-1 c.in-Lag.is c.requires.built)
+pub plan_lag-requires-clause-ahead : goal.plan_lag-requires-clause-ahead
+plan_lag-requires-clause-ahead g c = (lag-in c.in-Lag.k c.in-Lag.ticks (in-range-of c.args.command.now (commands.Lag c.in-Lag.k c.in-Lag.ticks) c.in-Lag.is c.requires.numbers)).0
+
+pub plan_lag-requires-clause-short : goal.plan_lag-requires-clause-short
+plan_lag-requires-clause-short g c = (lag-in c.in-Lag.k c.in-Lag.ticks (in-range-of c.args.command.now (commands.Lag c.in-Lag.k c.in-Lag.ticks) c.in-Lag.is c.requires.numbers)).1
+
+pub returns-in-Lag-clause-stepped : goal.returns-in-Lag-clause-stepped
+returns-in-Lag-clause-stepped g c =
+    let old = c.args.self.now in
+    let done = c.plan_lag in
+    let io = ports c.args.io.now c.args.out.now in
+    subst (SteppedIn g.P.Dsp.means old done.new.self io io done.result) (sym c.in-Lag.is)
+    (lag_stepped g.P.Dsp.means old done.new.self io c.requires.empty c.in-Lag.k c.in-Lag.ticks done.result done.ensures.ran)
+
+-- ---- the endpoints
+
+pub returns-in-Suspend-clause-still : goal.returns-in-Suspend-clause-still
+returns-in-Suspend-clause-still g c other none = c.suspend.ensures.still none
+
+pub returns-in-Open-clause-still : goal.returns-in-Open-clause-still
+returns-in-Open-clause-still g c other none = c.ask.ensures.still none
+
+pub returns-in-Params-clause-still : goal.returns-in-Params-clause-still
+returns-in-Params-clause-still g c other none = c.ask-in-Params.ensures.still none
+
+pub returns-in-Start-clause-still : goal.returns-in-Start-clause-still
+returns-in-Start-clause-still g c other none = c.ask-in-Start.ensures.still none
+
+pub returns-in-Stop-clause-still : goal.returns-in-Stop-clause-still
+returns-in-Stop-clause-still g c other none = c.ask-in-Stop.ensures.still none
+
+pub returns-in-Pause-clause-still : goal.returns-in-Pause-clause-still
+returns-in-Pause-clause-still g c other none = c.ask-in-Pause.ensures.still none
+
+pub returns-in-Release-clause-still : goal.returns-in-Release-clause-still
+returns-in-Release-clause-still g c other none = c.ask-in-Release.ensures.still none
+
+pub returns-in-Close-clause-still : goal.returns-in-Close-clause-still
+returns-in-Close-clause-still g c other none = c.ask-in-Close.ensures.still none
+
+pub returns-in-Set-clause-still : goal.returns-in-Set-clause-still
+returns-in-Set-clause-still g c other none = c.set.ensures.still none
+
+pub returns-in-Bytes-clause-still : goal.returns-in-Bytes-clause-still
+returns-in-Bytes-clause-still g c other none = c.set_bytes.ensures.still none
+
+pub returns-in-Read-clause-still : goal.returns-in-Read-clause-still
+returns-in-Read-clause-still g c other none = c.read.ensures.still none
 
 -- ---- the messages that were sent
 
@@ -248,21 +282,28 @@ pub returns-in-Refuse-clause-sent : goal.returns-in-Refuse-clause-sent
 returns-in-Refuse-clause-sent g c =
     let old = c.args.self.now in
     let done = c.plan_fate in
-    let few = plan_few g.P.Dsp.means old done.new.self (ports c.args.io.now c.args.out.now) (none-written c.args.out.now c.requires.empty) c.in-Refuse.k _ done.result done.ensures.ran in
+    let few = plan_few g.P.Dsp.means old done.new.self (ports c.args.io.now c.args.out.now) c.requires.empty c.in-Refuse.k _ done.result done.ensures.ran in
     omega (arith, few)
 
 pub returns-in-Drop-clause-sent : goal.returns-in-Drop-clause-sent
 returns-in-Drop-clause-sent g c =
     let old = c.args.self.now in
     let done = c.plan_fate-in-Drop in
-    let few = plan_few g.P.Dsp.means old done.new.self (ports c.args.io.now c.args.out.now) (none-written c.args.out.now c.requires.empty) c.in-Drop.k _ done.result done.ensures.ran in
+    let few = plan_few g.P.Dsp.means old done.new.self (ports c.args.io.now c.args.out.now) c.requires.empty c.in-Drop.k _ done.result done.ensures.ran in
     omega (arith, few)
 
 pub returns-in-Lose-clause-sent : goal.returns-in-Lose-clause-sent
 returns-in-Lose-clause-sent g c =
     let old = c.args.self.now in
     let done = c.plan_fate-in-Lose in
-    let few = plan_few g.P.Dsp.means old done.new.self (ports c.args.io.now c.args.out.now) (none-written c.args.out.now c.requires.empty) c.in-Lose.k _ done.result done.ensures.ran in
+    let few = plan_few g.P.Dsp.means old done.new.self (ports c.args.io.now c.args.out.now) c.requires.empty c.in-Lose.k _ done.result done.ensures.ran in
+    omega (arith, few)
+
+pub returns-in-Lag-clause-sent : goal.returns-in-Lag-clause-sent
+returns-in-Lag-clause-sent g c =
+    let old = c.args.self.now in
+    let done = c.plan_lag in
+    let few = lag_few g.P.Dsp.means old done.new.self (ports c.args.io.now c.args.out.now) c.requires.empty c.in-Lag.k c.in-Lag.ticks done.result done.ensures.ran in
     omega (arith, few)
 
 pub returns-in-Open-clause-sent : goal.returns-in-Open-clause-sent
@@ -321,7 +362,7 @@ returns-in-Set-clause-stepped g c =
     let old = c.args.self.now in
     let done = c.set in
     let agreed = done.ensures.agreed in
-    control_step g.P.Dsp.means old done.new.self c.args.io.now done.new.io c.args.out.now done.new.out agreed c.requires.few done.ensures.inputs done.ensures.outputs c.requires.empty c.args.command.now (commands.Set c.in-Set.name c.in-Set.values) c.in-Set.is
+    control_step g.P.Dsp.means old done.new.self c.args.io.now done.new.io c.args.out.now done.new.out agreed c.requires.few c.requires.empty c.args.command.now (commands.Set c.in-Set.name c.in-Set.values) c.in-Set.is
     (set_fault old.plan old.kept c.in-Set.name c.in-Set.values) (set_order old.plan old.kept c.in-Set.name c.in-Set.values) (record { nexts = λ doing known. refl; plans = refl; tests = refl; orders = refl })
     (set-call old.plan agreed.sound old.kept agreed.agree.record_is c.in-Set.name c.in-Set.values) done.result done.ensures.ran
 
@@ -339,7 +380,7 @@ returns-in-Bytes-clause-stepped g c =
     let old = c.args.self.now in
     let done = c.set_bytes in
     let agreed = done.ensures.agreed in
-    control_step g.P.Dsp.means old done.new.self c.args.io.now done.new.io c.args.out.now done.new.out agreed c.requires.few done.ensures.inputs done.ensures.outputs c.requires.empty c.args.command.now (commands.Bytes c.in-Bytes.name c.in-Bytes.blob) c.in-Bytes.is
+    control_step g.P.Dsp.means old done.new.self c.args.io.now done.new.io c.args.out.now done.new.out agreed c.requires.few c.requires.empty c.args.command.now (commands.Bytes c.in-Bytes.name c.in-Bytes.blob) c.in-Bytes.is
     (bytes_fault old.plan old.kept c.in-Bytes.name c.in-Bytes.blob) (bytes_order old.plan old.kept c.in-Bytes.name c.in-Bytes.blob) (record { nexts = λ doing known. refl; plans = refl; tests = refl; orders = refl })
     (bytes-call old.plan agreed.sound old.kept agreed.agree.record_is c.in-Bytes.name c.in-Bytes.blob) done.result done.ensures.ran
 
@@ -357,7 +398,7 @@ returns-in-Get-clause-stepped g c =
     let old = c.args.self.now in
     let done = c.get in
     let agreed = done.ensures.agreed in
-    control_step g.P.Dsp.means old done.new.self c.args.io.now done.new.io c.args.out.now done.new.out agreed c.requires.few done.ensures.inputs done.ensures.outputs c.requires.empty c.args.command.now (commands.Get c.in-Get.name) c.in-Get.is
+    control_step g.P.Dsp.means old done.new.self c.args.io.now done.new.io c.args.out.now done.new.out agreed c.requires.few c.requires.empty c.args.command.now (commands.Get c.in-Get.name) c.in-Get.is
     (get_fault old.plan old.kept c.in-Get.name) (get_order old.plan old.kept c.in-Get.name) (record { nexts = λ doing known. refl; plans = refl; tests = refl; orders = refl })
     (get-call old.plan agreed.sound old.kept agreed.agree.record_is c.in-Get.name) done.result done.ensures.ran
 
@@ -375,7 +416,7 @@ returns-in-Read-clause-stepped g c =
     let old = c.args.self.now in
     let done = c.read in
     let agreed = done.ensures.agreed in
-    control_step g.P.Dsp.means old done.new.self c.args.io.now done.new.io c.args.out.now done.new.out agreed c.requires.few done.ensures.inputs done.ensures.outputs c.requires.empty c.args.command.now (commands.Read c.in-Read.name) c.in-Read.is
+    control_step g.P.Dsp.means old done.new.self c.args.io.now done.new.io c.args.out.now done.new.out agreed c.requires.few c.requires.empty c.args.command.now (commands.Read c.in-Read.name) c.in-Read.is
     (read_fault old.plan old.kept c.in-Read.name) (read_order old.plan old.kept c.in-Read.name) (record { nexts = λ doing known. refl; plans = refl; tests = refl; orders = refl })
     (read-call old.plan agreed.sound old.kept agreed.agree.record_is c.in-Read.name) done.result done.ensures.ran
 

@@ -1,7 +1,8 @@
-use Rattle.std.proofs.Common.{◌≡◌, ◌*◌, ℕ, ap, subst, sym, arith}
-use Rattle.sof_base.specs.Ports.{HasRoom, Io}
+use Rattle.std.proofs.Common.{ap}
+use Rattle.sof_base.specs.Ports.{Io}
 use Rattle.sof_session.specs.SessionCalls.{ports}
-use Rattle.sof_session.proofs.PowerSteps.{suspend-io}
+use Rattle.sof_session.proofs.Agreement.{pending-room}
+use Rattle.sof_session.proofs.PowerSteps.{suspend-io, suspend-slots}
 use Rattle.sof_session.proofs.CallAgreement.{AreAgreed-suspended}
 use Rattle.sof_session.proofs.session.Session.suspend.Goals as goal
 
@@ -17,24 +18,24 @@ returns-clause-later g c =
     let done = c.suspend-suspended in
     AreAgreed-suspended g.P.Dsp.means (record { link = inside.link; kept = inside.kept; plan = inside.plan; heap = inside.heap }) done.new.dsp (ports c.args.io.now c.args.out.now) (ports done.new.io done.new.out) c.self.invariant done.new.kept done.ensures.agree done.result done.ensures.carried
 
-pub returns-clause-inputs : goal.returns-clause-inputs
-returns-clause-inputs g c =
+pub returns-clause-slots : goal.returns-clause-slots
+returns-clause-slots g c =
     let inside = c.self.inside in
     let done = c.suspend-suspended in
-    ap (λ (io : Io). io.inputs)
-    (suspend-io g.P.Dsp.means (record { link = inside.link; kept = inside.kept; plan = inside.plan; heap = inside.heap }) done.new.dsp (ports c.args.io.now c.args.out.now) (ports done.new.io done.new.out) c.self.invariant done.new.kept done.result done.ensures.carried)
+    suspend-slots g.P.Dsp.means (record { link = inside.link; kept = inside.kept; plan = inside.plan; heap = inside.heap }) done.new.dsp (ports c.args.io.now c.args.out.now) (ports done.new.io done.new.out) c.self.invariant done.new.kept done.result done.ensures.carried
 
-pub returns-clause-outputs : goal.returns-clause-outputs
-returns-clause-outputs g c =
+-- where no tick is pending, none came
+pub returns-clause-still : goal.returns-clause-still
+returns-clause-still g c none =
     let inside = c.self.inside in
     let done = c.suspend-suspended in
-    ap (λ (io : Io). io.outputs)
-    (suspend-io g.P.Dsp.means (record { link = inside.link; kept = inside.kept; plan = inside.plan; heap = inside.heap }) done.new.dsp (ports c.args.io.now c.args.out.now) (ports done.new.io done.new.out) c.self.invariant done.new.kept done.result done.ensures.carried)
+    let same = suspend-io g.P.Dsp.means (record { link = inside.link; kept = inside.kept; plan = inside.plan; heap = inside.heap }) done.new.dsp (ports c.args.io.now c.args.out.now) (ports done.new.io done.new.out) c.self.invariant done.new.kept done.result done.ensures.carried (rw (← c.self.view_is) at none) in
+    (ap (λ (io : Io). io.inputs) same, ap (λ (io : Io). io.outputs) same)
 
 pub suspend-suspended-requires-clause-room : goal.suspend-suspended-requires-clause-room
 suspend-suspended-requires-clause-room g c =
-    let none : 61440 * g.P.Dsp.means.pending c.self.inside.link.device ≡ 0 = omega (arith, c.self.invariant.pending) in
-    subst (λ (n : ℕ). HasRoom n c.args.out.now) (sym none) c.requires
+    let inside = c.self.inside in
+    pending-room g.P.Dsp.means (record { link = inside.link; kept = inside.kept; plan = inside.plan; heap = inside.heap }) c.self.invariant c.args.out.now c.requires
 
 pub returns-clause-ran : goal.returns-clause-ran
 returns-clause-ran g c =

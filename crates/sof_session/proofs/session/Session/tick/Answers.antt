@@ -1,8 +1,13 @@
-use Rattle.std.proofs.Common.{sym, subst}
+use Rattle.std.proofs.Common.{sym, subst, refl, arith}
 use Rattle.host_widgets.specs.declared.kept.Power.{Power}
-use Rattle.sof_session.specs.SessionCalls.{TickedBy, ports}
-use Rattle.sof_session.proofs.TickAgreement.{AreAgreed-ticked}
+use Rattle.sof_session.specs.SessionCalls.{ports}
+use Rattle.sof_session.proofs.TickAgreement.{TickedBy, off-ticked, AreAgreed-ticked, ticked-slots}
+use Rattle.sof_session.proofs.TickSteps.{tick_stepped}
+use Rattle.sof_session.proofs.Writings.{all-room}
 use Rattle.sof_session.proofs.session.Session.tick.Goals as goal
+
+pub tick-requires : goal.tick-requires
+tick-requires g c = record { room = all-room c.args.out.now c.requires.empty 61440 (omega arith) }
 
 pub invariant_of-self : goal.invariant_of-self
 invariant_of-self g c =
@@ -11,15 +16,48 @@ invariant_of-self g c =
     let done = c.tick in
     let before = ports c.args.io.now c.args.out.now in
     let after = ports done.new.io done.new.out in
-    AreAgreed-ticked means (record { link = inside.link; kept = inside.kept; plan = inside.plan; heap = inside.heap }) done.new.self before after c.self.invariant
-    (subst (λ (power : Power). TickedBy means power inside.link done.new.self before after) (sym c.in-On.is) done.ensures)
+    let tick = subst (λ (power : Power). TickedBy means power inside.link done.new.self before after) (sym c.in-On.is) done.ensures in
+    AreAgreed-ticked means (record { link = inside.link; kept = inside.kept; plan = inside.plan; heap = inside.heap }) done.new.self before after c.self.invariant tick
 
-pub returns-in-On-clause-later : goal.returns-in-On-clause-later
-returns-in-On-clause-later g c =
+-- ---- a device that is on
+
+pub returns-in-On-clause-stepped : goal.returns-in-On-clause-stepped
+returns-in-On-clause-stepped g c =
     let means = g.P.Dsp.means in
     let inside = c.self.inside in
     let done = c.tick in
     let before = ports c.args.io.now c.args.out.now in
     let after = ports done.new.io done.new.out in
-    AreAgreed-ticked means (record { link = inside.link; kept = inside.kept; plan = inside.plan; heap = inside.heap }) done.new.self before after c.self.invariant
-    (subst (λ (power : Power). TickedBy means power inside.link done.new.self before after) (sym c.in-On.is) done.ensures)
+    let tick = subst (λ (power : Power). TickedBy means power inside.link done.new.self before after) (sym c.in-On.is) done.ensures in
+    rw (← c.self.view_is)
+    (tick_stepped means (record { link = inside.link; kept = inside.kept; plan = inside.plan; heap = inside.heap }) (record { link = done.new.self; kept = inside.kept; plan = inside.plan; heap = inside.heap }) before after c.requires.empty c.self.invariant (rw (← c.self.view_is) at c.requires.few) refl tick)
+
+pub returns-in-On-clause-agreed : goal.returns-in-On-clause-agreed
+returns-in-On-clause-agreed g c =
+    let means = g.P.Dsp.means in
+    let inside = c.self.inside in
+    let done = c.tick in
+    let before = ports c.args.io.now c.args.out.now in
+    let after = ports done.new.io done.new.out in
+    let tick = subst (λ (power : Power). TickedBy means power inside.link done.new.self before after) (sym c.in-On.is) done.ensures in
+    AreAgreed-ticked means (record { link = inside.link; kept = inside.kept; plan = inside.plan; heap = inside.heap }) done.new.self before after c.self.invariant tick
+
+pub returns-in-On-clause-slots : goal.returns-in-On-clause-slots
+returns-in-On-clause-slots g c =
+    let means = g.P.Dsp.means in
+    let inside = c.self.inside in
+    let done = c.tick in
+    let before = ports c.args.io.now c.args.out.now in
+    let after = ports done.new.io done.new.out in
+    let tick = subst (λ (power : Power). TickedBy means power inside.link done.new.self before after) (sym c.in-On.is) done.ensures in
+    ticked-slots means (record { link = inside.link; kept = inside.kept; plan = inside.plan; heap = inside.heap }) done.new.self before after c.self.invariant tick
+
+-- ---- one that is off
+
+pub returns-in-Unloaded-clause-stepped : goal.returns-in-Unloaded-clause-stepped
+returns-in-Unloaded-clause-stepped g c =
+    let means = g.P.Dsp.means in
+    let inside = c.self.inside in
+    let io = ports c.args.io.now c.args.out.now in
+    rw (← c.self.view_is)
+    (tick_stepped means (record { link = inside.link; kept = inside.kept; plan = inside.plan; heap = inside.heap }) (record { link = inside.link; kept = inside.kept; plan = inside.plan; heap = inside.heap }) io io c.requires.empty c.self.invariant (rw (← c.self.view_is) at c.requires.few) refl (off-ticked means inside.kept.power inside.link io c.in-Unloaded.is))

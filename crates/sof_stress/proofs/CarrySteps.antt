@@ -1,7 +1,7 @@
 -- Turns of a session, one after another, and what is counted of them.
-use Rattle.std.proofs.Common.{◌≡◌, ℕ, zero, suc, ◌+◌, ◌-◌, ◌*◌, ◌<◌, ◌≤◌, Bool, true, false, not, ◌&&◌, List, [], ◌∷◌, ◌++◌, map, length, drop, get_or, refl, sym, ◌∙◌, ap, subst, append_assoc, arith, eq-eqb, Option, Some}
-use Rattle.std.proofs.lemmas.List.{append-nil, drop_more, drop_all}
-use Rattle.std.specs.List.{AllByRecursion, slice_get}
+use Rattle.std.proofs.Common.{◌≡◌, ℕ, suc, ◌+◌, ◌-◌, ◌*◌, ◌<◌, ◌≤◌, true, false, List, [], ◌∷◌, ◌++◌, map, length, length-append, refl, sym, ◌∙◌, ap, subst, append_assoc, arith, eq-eqb, Some}
+use Rattle.std.proofs.lemmas.List.{append-nil}
+use Rattle.std.specs.List.{slice_get}
 use Rattle.sof_base.specs.Ports.{InputView, OutputView, HasRoom, drained}
 use Rattle.sof_io.specs.Bound.{output_slots}
 use Rattle.mbox_link.specs.Calls.{Meaning, world}
@@ -15,7 +15,7 @@ use Rattle.sof_session.specs.Written.{Out, with_bytes, written_in}
 use Rattle.sof_session.specs.Lives.{Life, Seated, Turn, Turned, Carry}
 use Rattle.sof_session.proofs.Writings.{empty-outputs}
 use Rattle.sof_stress.specs.declared.counts.Counts.{Counts}
-use Rattle.sof_stress.specs.CommandTurns.{CommandTurn, bytes_to, earlier_turns, turns_after, command_turns, turns_of, counted, all_counted, CarriedOut, CarriesOn, CarriedFirst, AreCountsOf, IsDue}
+use Rattle.sof_stress.specs.CommandTurns.{CommandTurn, bytes_to, turns_after, command_turns, turns_of, no_counts, counted, all_counted, CarriedOut, CarriesOn, CarriedFirst, CommandsCarried, AreCountsOf, IsUnderWay}
 
 -- a session's step is a turn
 pub carries-on : {P : Type 0} (means : Meaning P) (command : Command) (seat seat' : Seat P) (inputs inputs' : List InputView) (outputs outputs' : List OutputView) (answer : Answer) →
@@ -53,12 +53,6 @@ one-held (o ∷ []) slot held is there room =
 
 -- ---- commands
 
--- the command at a place
-pub due-at : (cs : List Command) (i : ℕ) (d : Command) → i < length cs → AllByRecursion IsDue cs → IsDue (get_or cs i d)
-due-at [] i d within all = absurd (omega (arith, within))
-due-at (c ∷ cs) zero d within all = all.0
-due-at (c ∷ cs) (suc i) d within all = due-at cs i d (omega (arith, within)) all.1
-
 -- the counts of some turns are those of more
 pub counts-mono : (m n : ℕ) (counts : Counts) → m ≤ n → AreCountsOf m counts → AreCountsOf n counts
 counts-mono m n counts le are = record {
@@ -67,6 +61,23 @@ counts-mono m n counts le are = record {
   done = omega (arith, are.done, le);
   refused = omega (arith, are.refused, le);
   bytes = omega (arith, are.bytes, le);
+}
+
+-- the turns of commands and of others behind them
+turns-append : (xs ys : List Command) (rest : List CommandTurn) → turns_of (xs ++ ys) ++ rest ≡ turns_of xs ++ (turns_of ys ++ rest)
+turns-append [] ys rest = refl
+turns-append (x ∷ xs) ys rest =
+    append_assoc (command_turns x) (turns_of (xs ++ ys)) rest
+    ∙ ap (λ ts. command_turns x ++ ts) (turns-append xs ys rest)
+    ∙ sym (append_assoc (command_turns x) (turns_of xs) (turns_of ys ++ rest))
+
+-- before the first command
+pub first-under-way : {P : Type 0} (slot : ℕ) (seat : Seat P) (outputs : List OutputView) (counts : Counts) → seat.link.sent ≡ 0 → output_slots outputs ≡ slot ∷ [] → drained outputs ≡ outputs → counts ≡ no_counts → IsUnderWay slot 0 seat outputs counts
+first-under-way slot seat outputs counts sent slots empty none = record {
+  sent = omega (arith, sent);
+  slots = slots;
+  empty = empty;
+  counted = subst (λ (c : Counts). AreCountsOf 0 c) (sym none) (record { messages = refl; ticks = omega arith; done = omega arith; refused = omega arith; bytes = omega arith });
 }
 
 module _ {P : Type 0} (means : Meaning P) (slot : ℕ) where
@@ -100,15 +111,59 @@ module _ {P : Type 0} (means : Meaning P) (slot : ℕ) where
         let left : CarriesOn means slot (turns_after n command ++ rest) (turns_after 0 command ++ rest) old before m mid = subst (λ k. CarriesOn means slot (turns_after n command ++ rest) (turns_after k command ++ rest) old before m mid) none (so_far rest) in
         left end last (here rest end last done)
 
-  -- the turns of commands: those of one more
-  pub commands-on : (commands : List Command) (i : ℕ) (command : Command) (old m new : Life P) (before mid after : Counts) → i < length commands → command ≡ get_or commands i command →
-      CarriesOn means slot (turns_of commands) (turns_of (drop i commands)) old before m mid → CarriedFirst means slot (command_turns command) m mid new after → CarriesOn means slot (turns_of commands) (turns_of (drop (i + 1) commands)) old before new after
-  commands-on commands i command old m new before mid after below is so_far here end last done =
-      let here_is : drop i commands ≡ command ∷ drop (i + 1) commands = drop_more commands i command below ∙ ap (λ c. c ∷ drop (i + 1) commands) (sym is) in
-      let left : CarriesOn means slot (turns_of commands) (turns_of (command ∷ drop (i + 1) commands)) old before m mid = subst (λ (cs : List Command). CarriesOn means slot (turns_of commands) (turns_of cs) old before m mid) here_is so_far in
-      left end last (here (turns_of (drop (i + 1) commands)) end last done)
+  -- ---- many commands
 
-  pub commands-all : (commands : List Command) (i : ℕ) (old new : Life P) (before after : Counts) → length commands ≤ i → CarriesOn means slot (turns_of commands) (turns_of (drop i commands)) old before new after → CarriedOut means slot (turns_of commands) old before new after
-  commands-all commands i old new before after past so_far =
-      let left : CarriesOn means slot (turns_of commands) (turns_of []) old before new after = subst (λ (cs : List Command). CarriesOn means slot (turns_of commands) (turns_of cs) old before new after) (drop_all i commands past) so_far in
-      left new after (none-carried new after)
+  -- none yet
+  pub none-yet : (seat : Seat P) (inputs : List InputView) (outputs : List OutputView) (counts : Counts) → drained outputs ≡ outputs → CommandsCarried means slot [] seat inputs outputs counts seat inputs outputs counts
+  none-yet seat inputs outputs counts empty = record {
+    carried = λ rest end last done. done;
+    sent = omega arith;
+    slots = refl;
+    empty = empty;
+    counted = λ n are. counts-mono n (n + 10 * 0) counts (omega arith) are;
+  }
+
+  module _ {seat seat' : Seat P} {inputs inputs' : List InputView} {outputs outputs' : List OutputView} {counts counts' : Counts} where
+    -- one
+    pub one-carried : (made command : Command) → made ≡ command →
+        CarriedFirst means slot (command_turns made) (Seated seat inputs (output_slots outputs)) counts (Seated seat' inputs' (output_slots outputs')) counts' → seat'.link.sent ≤ seat.link.sent + 9000 →
+        output_slots outputs' ≡ output_slots outputs → drained outputs' ≡ outputs' → ((n : ℕ) → AreCountsOf n counts → AreCountsOf (n + 10) counts') →
+        CommandsCarried means slot (command ∷ []) seat inputs outputs counts seat' inputs' outputs' counts'
+    one-carried made command is carried sent slots empty counted = record {
+      carried = subst (λ (ts : List CommandTurn). CarriedFirst means slot ts (Seated seat inputs (output_slots outputs)) counts (Seated seat' inputs' (output_slots outputs')) counts') (ap command_turns is ∙ sym (append-nil (command_turns command))) carried;
+      sent = omega (arith, sent);
+      slots = slots;
+      empty = empty;
+      counted = λ n are. counts-mono (n + 10) (n + 10 * 1) counts' (omega arith) (counted n are);
+    }
+
+    -- what stands after them
+    pub stays-under-way : (commands : List Command) (n m : ℕ) → n + length commands ≤ m → IsUnderWay slot n seat outputs counts → CommandsCarried means slot commands seat inputs outputs counts seat' inputs' outputs' counts' → IsUnderWay slot m seat' outputs' counts'
+    stays-under-way commands n m within before here = record {
+      sent = omega (arith, within, before.sent, here.sent);
+      slots = here.slots ∙ before.slots;
+      empty = here.empty;
+      counted = counts-mono (10 * n + 10 * length commands) (10 * m) counts' (omega (arith, within)) (here.counted (10 * n) before.counted);
+    }
+
+    -- others behind them
+    pub and-then : (first second : List Command) {seat'' : Seat P} {inputs'' : List InputView} {outputs'' : List OutputView} {counts'' : Counts} →
+        CommandsCarried means slot first seat inputs outputs counts seat' inputs' outputs' counts' → CommandsCarried means slot second seat' inputs' outputs' counts' seat'' inputs'' outputs'' counts'' → CommandsCarried means slot (first ++ second) seat inputs outputs counts seat'' inputs'' outputs'' counts''
+    and-then first second {seat''} {inputs''} {outputs''} {counts''} here there = record {
+      carried = λ rest end last done.
+          subst (λ (ts : List CommandTurn). CarriedOut means slot ts (Seated seat inputs (output_slots outputs)) counts end last) (sym (turns-append first second rest))
+          (here.carried (turns_of second ++ rest) end last (there.carried rest end last done));
+      sent = omega (arith, here.sent, there.sent, length-append first second);
+      slots = there.slots ∙ here.slots;
+      empty = there.empty;
+      counted = λ n are.
+          counts-mono (n + 10 * length first + 10 * length second) (n + 10 * length (first ++ second)) counts'' (omega (arith, length-append first second))
+          (there.counted (n + 10 * length first) (here.counted n are));
+    }
+
+    -- all that there are
+    pub all-carried : (commands : List Command) → CommandsCarried means slot commands seat inputs outputs counts seat' inputs' outputs' counts' →
+        CarriedOut means slot (turns_of commands) (Seated seat inputs (output_slots outputs)) counts (Seated seat' inputs' (output_slots outputs')) counts'
+    all-carried commands here =
+        subst (λ (ts : List CommandTurn). CarriedOut means slot ts (Seated seat inputs (output_slots outputs)) counts (Seated seat' inputs' (output_slots outputs')) counts') (append-nil (turns_of commands))
+        (here.carried [] (Seated seat' inputs' (output_slots outputs')) counts' (none-carried (Seated seat' inputs' (output_slots outputs')) counts'))

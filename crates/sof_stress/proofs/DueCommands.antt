@@ -1,5 +1,5 @@
 -- Each command of a stress is one that is carried out, and they are few.
-use Rattle.std.proofs.Common.{◌≡◌, ℕ, ◌+◌, ◌*◌, ◌/◌, ◌%◌, ◌<◌, ◌≤◌, ◌^◌, ◌==◌, Bool, true, false, List, [], ◌∷◌, ◌++◌, map, length, refl, arith, length-append, lit≤, if◌then◌else◌}
+use Rattle.std.proofs.Common.{◌≡◌, ℕ, ◌+◌, ◌*◌, ◌/◌, ◌%◌, ◌≤◌, ◌==◌, Bool, true, false, List, [], ◌∷◌, ◌++◌, map, length, refl, arith, length-append, lit≤, if◌then◌else◌}
 use Rattle.std.specs.List.{AllByRecursion, flat_map, range_with_len}
 use Rattle.std.proofs.lemmas.List.FromFn.{length-range_with_len, length-map-range_with_len}
 use Rattle.sof_script.specs.declared.script.Command.{Command}
@@ -80,22 +80,22 @@ due-either true x y first second = first
 due-either false x y first second = second
 
 -- the command that a number makes
-due-by : (streams r : ℕ) → IsDue (command_by streams r)
+pub due-by : (streams r : ℕ) → IsDue (command_by streams r)
 due-by streams r =
     let amount : 1 + (r / 8) % 10 ≤ 10 = omega arith in
-    due-either (r % 8 == 0) _ _ (record { built = refl; numbers = refl; ticks = amount })
-    (due-either (r % 8 == 1) _ _ (record { built = refl; numbers = refl; ticks = omega arith })
-    (due-either (r % 8 == 2) _ _ (record { built = refl; numbers = refl; ticks = omega arith })
-    (due-either (r % 8 == 3) _ _ (record { built = refl; numbers = refl; ticks = omega arith })
-    (due-either (r % 8 == 4) _ _ (record { built = refl; numbers = refl; ticks = omega arith })
-    (due-either (r % 8 == 5) _ _ (record { built = refl; numbers = refl; ticks = omega arith })
-    (due-either (r % 8 == 6) _ _ (record { built = refl; numbers = refl; ticks = omega arith })
-    (record { built = refl; numbers = refl; ticks = omega arith })))))))
+    due-either (r % 8 == 0) _ _ (record { numbers = refl; ticks = amount })
+    (due-either (r % 8 == 1) _ _ (record { numbers = refl; ticks = omega arith })
+    (due-either (r % 8 == 2) _ _ (record { numbers = refl; ticks = omega arith })
+    (due-either (r % 8 == 3) _ _ (record { numbers = refl; ticks = omega arith })
+    (due-either (r % 8 == 4) _ _ (record { numbers = refl; ticks = omega arith })
+    (due-either (r % 8 == 5) _ _ (record { numbers = refl; ticks = omega arith })
+    (due-either (r % 8 == 6) _ _ (record { numbers = refl; ticks = omega arith })
+    (record { numbers = refl; ticks = omega arith })))))))
 
 due-opening : (i : ℕ) → AllByRecursion IsDue (opening i)
 due-opening i = (
-  record { built = refl; numbers = refl; ticks = omega arith },
-  (record { built = refl; numbers = refl; ticks = omega arith }, (record { built = refl; numbers = refl; ticks = omega arith }, tt)),
+  record { numbers = refl; ticks = omega arith },
+  (record { numbers = refl; ticks = omega arith }, (record { numbers = refl; ticks = omega arith }, tt)),
 )
 
 -- all are carried out
@@ -103,13 +103,13 @@ pub all-due : (seed : ℕ) → AllByRecursion IsDue (stress_commands seed)
 all-due seed =
     all-append (commands.Load ∷ [] ++ openings (streams_of seed) ++ drawn_commands seed) (commands.Tick 4 ∷ [])
     (all-append (commands.Load ∷ [] ++ openings (streams_of seed)) (drawn_commands seed)
-    (all-append (commands.Load ∷ []) (openings (streams_of seed)) (record { built = refl; numbers = refl; ticks = omega arith }, tt) (all-flat opening due-opening (range_with_len 0 (streams_of seed))))
+    (all-append (commands.Load ∷ []) (openings (streams_of seed)) (record { numbers = refl; ticks = omega arith }, tt) (all-flat opening due-opening (range_with_len 0 (streams_of seed))))
     (all-map (λ k. command_by (streams_of seed) (drawn seed k)) (λ k. due-by (streams_of seed) (drawn seed k)) (range_with_len 1 seed)))
-    (record { built = refl; numbers = refl; ticks = omega arith }, tt)
+    (record { numbers = refl; ticks = omega arith }, tt)
 
 -- ---- how many
 
-opened-length : (ks : List ℕ) → length (flat_map opening ks) ≡ 3 * length ks
+pub opened-length : (ks : List ℕ) → length (flat_map opening ks) ≡ 3 * length ks
 opened-length [] = omega arith
 opened-length (k ∷ ks) = omega (arith, opened-length ks)
 

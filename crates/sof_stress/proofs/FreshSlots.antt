@@ -1,11 +1,10 @@
 -- The slot of each stream is new.
-use Rattle.std.proofs.Common.{◌≡◌, ℕ, zero, suc, ◌+◌, ◌*◌, ◌<◌, ◌≤◌, Bool, true, false, eqb, ◌||◌, List, [], ◌∷◌, ◌++◌, map, refl, sym, ◌∙◌, ap, subst, arith, zero-add, add-one}
-use Rattle.std.specs.List.{range_with_len}
+use Rattle.std.proofs.Common.{◌≡◌, ℕ, zero, suc, ◌+◌, ◌*◌, ◌≤◌, Bool, true, false, eqb, ◌||◌, List, [], ◌∷◌, ◌++◌, refl, sym, subst, arith, zero-add, add-one}
 use Rattle.std.proofs.lemmas.List.FromFn.{map-range_with_len_more}
 use Rattle.std.proofs.lemmas.Bool.Decides.{nat_tests}
 use Rattle.sof_base.specs.Ports.{InputView}
 use Rattle.sof_io.specs.Bound.{input_slots, has_slot}
-use Rattle.sof_stress.specs.StressPorts.{host_slot, stream_input, stress_inputs}
+use Rattle.sof_stress.specs.StressPorts.{stream_input, stress_inputs}
 
 -- one input more
 pub inputs-more : (n : ℕ) → stress_inputs (n + 1) ≡ stress_inputs n ++ stream_input n ∷ []

@@ -1,5 +1,5 @@
 -- The turns of a stress make the written run.
-use Rattle.std.proofs.Common.{◌≡◌, ℕ, zero, suc, ◌+◌, ◌*◌, ◌-◌, ◌<◌, ◌≤◌, ◌^◌, Bool, true, false, eqb, List, [], ◌∷◌, ◌++◌, map, length, None, refl, sym, ◌∙◌, ap, subst, inl, inr, arith}
+use Rattle.std.proofs.Common.{◌≡◌, ℕ, zero, suc, ◌+◌, ◌*◌, ◌≤◌, eqb, List, [], ◌∷◌, ◌++◌, map, length, None, refl, inl, inr, arith}
 use Rattle.std.proofs.lemmas.Bool.{cases_Bool}
 use Rattle.std.specs.List.{AllByRecursion, range_with_len}
 use Rattle.sof_base.specs.Ports.{InputView}
@@ -52,13 +52,13 @@ none-read seed room =
 
 -- ---- the commands
 
-few-after : (g : Ground) → IsSound g.plan → (n : ℕ) (command : Command) (rest : List CommandTurn) → IsDue command → AllByRecursion (HasFew g) (commands_of rest) → AllByRecursion (HasFew g) (commands_of (turns_after n command ++ rest))
-few-after g sound zero command rest due few = (few-order g.plan sound command due.built, few)
-few-after g sound (suc n) command rest due few = (few-order g.plan sound command due.built, few-after g sound n command rest due few)
+few-after : (g : Ground) → IsSound g.plan → (n : ℕ) (command : Command) (rest : List CommandTurn) → AllByRecursion (HasFew g) (commands_of rest) → AllByRecursion (HasFew g) (commands_of (turns_after n command ++ rest))
+few-after g sound zero command rest few = (few-order g.plan sound command, few)
+few-after g sound (suc n) command rest few = (few-order g.plan sound command, few-after g sound n command rest few)
 
-few-all : (g : Ground) → IsSound g.plan → (cs : List Command) → AllByRecursion IsDue cs → AllByRecursion (HasFew g) (commands_of (turns_of cs))
-few-all g sound [] due = tt
-few-all g sound (c ∷ cs) due = few-after g sound (earlier_turns c) c (turns_of cs) due.0 (few-all g sound cs due.1)
+few-all : (g : Ground) → IsSound g.plan → (cs : List Command) → AllByRecursion (HasFew g) (commands_of (turns_of cs))
+few-all g sound [] = tt
+few-all g sound (c ∷ cs) = few-after g sound (earlier_turns c) c (turns_of cs) (few-all g sound cs)
 
 messages-few : (turns : List CommandTurn) → messages (commands_of turns) ≤ 900 * length turns
 messages-few [] = omega arith
@@ -93,5 +93,5 @@ module _ {P : Type 0} (means : Meaning P) (seed : ℕ) (small : seed ≤ 1000) (
   stress-over begins turns begun tasks turned =
       run-over means g (stress_inputs (streams_of seed)) p (commands_of (stress_turns seed)) begins turns last off
       (none-read seed (means.most p)) begun (are-carried (stress_turns seed) turns tasks)
-      (few-all g sound (stress_commands seed) (all-due seed))
+      (few-all g sound (stress_commands seed))
       (omega (arith, messages-few (stress_turns seed), turns-few (stress_commands seed) (all-due seed), few-commands seed small)) turned

@@ -1,7 +1,7 @@
 -- The topology of a stress keeps all rules, and its equaliser begins without a blob, over each number of streams.
-use Rattle.std.proofs.Common.{◌≡◌, ◌⊎◌, inl, inr, ℕ, zero, suc, ◌+◌, ◌<◌, ◌≤◌, Bool, true, false, not, ◌&&◌, ◌||◌, eqb, List, [], ◌∷◌, map, Option, Some, None, refl, sym, ◌∙◌, ap, subst, arith}
+use Rattle.std.proofs.Common.{◌≡◌, ◌⊎◌, inl, inr, ℕ, zero, suc, ◌<◌, ◌≤◌, Bool, true, false, not, ◌&&◌, ◌||◌, eqb, List, [], ◌∷◌, map, Option, Some, None, refl, sym, subst, arith}
 use Rattle.std.specs.Prelude.{nat_lt}
-use Rattle.std.specs.List.{list_all, list_any}
+use Rattle.std.specs.List.{list_all}
 use Rattle.std.proofs.lemmas.Bool.{and_parts, cases_Bool}
 use Rattle.std.proofs.lemmas.Bool.Decides.{nat_tests}
 use Rattle.sof_base.specs.Slots.{until_zero}
@@ -15,7 +15,7 @@ use Rattle.tplg_widgets.specs.Entries.{entries_of, interpreted}
 use Rattle.tplg_widgets.specs.WiringValue.{WiringValue, wiring_of}
 use Rattle.tplg_widgets.specs.GraphLists.{components_on, edges_on}
 use Rattle.tplg_rules.specs.Rules.{item_test, HoldsAll}
-use Rattle.tplg_rules.specs.Cycles.{are_joined, captures_at, EdgeWalk, Reaches, ReachesCapture}
+use Rattle.tplg_rules.specs.Cycles.{are_joined, captures_at, EdgeWalk, Reaches}
 use Rattle.tplg_rules.specs.declared.rule_name.RuleName.TheVariants as rule
 use Rattle.tplg_rules.specs.RuleTest.{Test, first_failing, ruled, ruling, rule_names, test_by}
 use Rattle.tplg_rules.specs.WellFormed.{IsWellFormed}

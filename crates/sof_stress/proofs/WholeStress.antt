@@ -1,27 +1,25 @@
 -- All of a stress, put together from its session.
-use Rattle.std.proofs.Common.{◌≡◌, ℕ, List, [], refl, sym, ◌∙◌, subst}
+use Rattle.std.proofs.Common.{◌≡◌, ℕ, List, [], sym, ◌∙◌, subst}
 use Rattle.sof_base.specs.Ports.{InputView}
 use Rattle.mbox_link.specs.Calls.{Meaning}
 use Rattle.tplg_plan.specs.declared.plans.Plan.{Plan}
 use Rattle.host_widgets.specs.declared.answers.Answer.TheVariants as answers
 use Rattle.tplg_plan.specs.Sound.{IsSound}
-use Rattle.sof_script.specs.declared.script.Command.{Command}
 use Rattle.sof_session.specs.Agreement.{AreAgreed}
 use Rattle.sof_session.specs.Seat.{Seat, new_seat}
 use Rattle.sof_session.specs.Lives.{Seated}
 use Rattle.sof_stress.specs.declared.counts.Counts.{Counts}
-use Rattle.sof_stress.specs.Draws.{streams_of, stress_commands}
+use Rattle.sof_stress.specs.Draws.{streams_of}
 use Rattle.sof_stress.specs.StressPorts.{dai_slot, stress_inputs, stress_slots}
-use Rattle.sof_stress.specs.CommandTurns.{CarriedOut, no_counts, turns_of}
-use Rattle.sof_stress.specs.StressRun.{Stresses, stress_heap, stress_plan}
+use Rattle.sof_stress.specs.CommandTurns.{CarriedOut, no_counts}
+use Rattle.sof_stress.specs.StressRun.{Stresses, stress_heap, stress_plan, stress_turns}
 
-module _ {P : Type 0} (means : Meaning P) (seed : ℕ) (p q : P) (plan : Plan) (heap slot sent : ℕ) (inputs inputs' : List InputView) (slots slots' : List ℕ) (commands : List Command) (seat seat' : Seat P) (counts : Counts) where
+module _ {P : Type 0} (means : Meaning P) (seed : ℕ) (p q : P) (plan : Plan) (heap slot sent : ℕ) (inputs inputs' : List InputView) (slots slots' : List ℕ) (seat seat' : Seat P) (counts : Counts) where
   pub whole : IsSound plan → plan ≡ stress_plan seed → heap ≡ stress_heap (means.most p) seed → slot ≡ dai_slot (streams_of seed) → inputs ≡ stress_inputs (streams_of seed) → slots ≡ stress_slots (streams_of seed) →
-      commands ≡ stress_commands seed → seat ≡ new_seat plan heap p → CarriedOut means slot (turns_of commands) (Seated seat inputs slots) no_counts (Seated seat' inputs' slots') counts →
+      seat ≡ new_seat plan heap p → CarriedOut means slot (stress_turns seed) (Seated seat inputs slots) no_counts (Seated seat' inputs' slots') counts →
       q ≡ seat'.link.device → AreAgreed means seat' → sent ≡ seat'.link.sent → Stresses means seed p (record counts { messages = sent }) q
-  whole sound plan_is heap_is slot_is inputs_are slots_are commands_are seat_is carried device agreed sent_is =
-      let by_slot = subst (λ (s : ℕ). CarriedOut means s (turns_of commands) (Seated seat inputs slots) no_counts (Seated seat' inputs' slots') counts) slot_is carried in
-      let made = subst (λ (cs : List Command). CarriedOut means (dai_slot (streams_of seed)) (turns_of cs) (Seated seat inputs slots) no_counts (Seated seat' inputs' slots') counts) commands_are by_slot in
+  whole sound plan_is heap_is slot_is inputs_are slots_are seat_is carried device agreed sent_is =
+      let made = subst (λ (s : ℕ). CarriedOut means s (stress_turns seed) (Seated seat inputs slots) no_counts (Seated seat' inputs' slots') counts) slot_is carried in
       record {
         last = Seated seat' inputs' slots';
         is = sym device;

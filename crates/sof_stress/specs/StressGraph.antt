@@ -2,8 +2,6 @@
 use Rattle.std.specs.Prelude.{ℕ, ◌+◌, ◌*◌, List, [], ◌∷◌, ◌++◌, pos, negsuc, map, codes, Some, None}
 use Rattle.std.specs.List.{flat_map, range_with_len}
 use Rattle.tplg_model.specs.declared.token_number.TheConstants.{BUFFER_SIZE, SCHED_PERIOD, COMP_FORMAT, PROCESS_TYPE}
-use Rattle.tplg_model.specs.declared.tokens.NumberTuple.{NumberTuple}
-use Rattle.tplg_model.specs.declared.tokens.TextTuple.{TextTuple}
 use Rattle.tplg_model.specs.declared.block.Topology.{Topology}
 use Rattle.tplg_build.specs.declared.source.WidgetKind.{WidgetKind}
 use Rattle.tplg_build.specs.declared.source.WidgetKind.TheVariants as kind

@@ -1,6 +1,5 @@
 // The commands of a stress, turn by turn.
-ghost use Rattle.std.specs.Prelude.{◌≡◌, ◌+◌, ◌*◌, ◌<◌, ◌≤◌, ◌^◌, ◌∷◌, [], ℕ, false, length};
-ghost use Rattle.std.specs.List.{AllByRecursion};
+ghost use Rattle.std.specs.Prelude.{◌≡◌, ◌+◌, ◌*◌, ◌<◌, ◌≤◌, ◌^◌, ◌∷◌, [], ℕ, false};
 ghost use Rattle.sof_base.specs.Ports.{drained};
 ghost use Rattle.sof_io.specs.Bound.{output_slots};
 ghost use Rattle.sof_session.specs.CommandRanges.{most_sent};
@@ -8,11 +7,15 @@ ghost use Rattle.sof_session.specs.CommandRanges as ranges;
 ghost use Rattle.sof_session.specs.Lives.{Seated};
 ghost use Rattle.sof_session.specs.Written.{written_in};
 ghost use Rattle.sof_stress.specs.CommandTurns as law;
-ghost use Rattle.sof_stress.specs.CommandTurns.{AreCountsOf, CarriedFirst, CarriedOut, IsDue, command_turns, turns_of};
+ghost use Rattle.sof_stress.specs.CommandTurns.{AreCountsOf, CarriedFirst, CarriedOut, CommandsCarried, IsDue, IsUnderWay, command_turns, turns_of};
+ghost use Rattle.sof_stress.specs.Draws as draws;
 
+use crate::commands::{command_by, next_state, streams_of};
 use crate::counts::Counts;
+use crate::names::host_name;
 use host_widgets::Answer;
 use mbox_link::Dsp;
+use sof_base::{Format, Params};
 use sof_io::{Inputs, Outputs};
 use sof_script::Command;
 use sof_session::Session;
@@ -130,25 +133,101 @@ fn carry_command<P: Dsp>(
     carry_turn(command, true, slot, session, inputs, outputs, counts);
 }
 
-/// Carries out each command in turn, and counts what came of it. The outputs are one, of this slot, and empty.
+// What starts a stream.
+fn carry_opening<P: Dsp>(
+    i: u32,
+    slot: u32,
+    session: &mut Session<P>,
+    inputs: &mut Inputs,
+    outputs: &mut Outputs,
+    counts: &mut Counts,
+)
+    requires stream { i < 4 }
+    requires under_way { IsUnderWay slot (2 ^ 20) session.old outputs.old counts.old }
+    ensures { CommandsCarried P.means slot (draws.opening i) session.old inputs.old outputs.old counts.old session.new inputs.new outputs.new counts.new }
+{
+    let params = Params {
+        rate: 48000,
+        channels: 2,
+        format: Format::S16,
+    };
+    let open = Command::Open(host_name(i));
+    carry_command(&open, slot, session, inputs, outputs, counts);
+    let params = Command::Params(host_name(i), params);
+    carry_command(&params, slot, session, inputs, outputs, counts);
+    let start = Command::Start(host_name(i));
+    carry_command(&start, slot, session, inputs, outputs, counts);
+}
+
+// What starts each stream.
+fn carry_openings<P: Dsp>(
+    streams: u32,
+    slot: u32,
+    session: &mut Session<P>,
+    inputs: &mut Inputs,
+    outputs: &mut Outputs,
+    counts: &mut Counts,
+)
+    requires few { streams ≤ 4 }
+    requires under_way { IsUnderWay slot (2 ^ 16) session.old outputs.old counts.old }
+    ensures { CommandsCarried P.means slot (draws.openings streams) session.old inputs.old outputs.old counts.old session.new inputs.new outputs.new counts.new }
+{
+    for i in 0..streams {
+        carry_opening(i, slot, session, inputs, outputs, counts);
+    }
+}
+
+// The commands that are drawn, each made when its turn comes.
+fn carry_drawn<P: Dsp>(
+    seed: u32,
+    slot: u32,
+    session: &mut Session<P>,
+    inputs: &mut Inputs,
+    outputs: &mut Outputs,
+    counts: &mut Counts,
+)
+    requires few { seed ≤ 1000 }
+    requires under_way { IsUnderWay slot (2 ^ 16) session.old outputs.old counts.old }
+    ensures { CommandsCarried P.means slot (draws.drawn_commands seed) session.old inputs.old outputs.old counts.old session.new inputs.new outputs.new counts.new }
+{
+    let streams = streams_of(seed);
+    let mut state = seed;
+    for _ in 0..seed {
+        state = next_state(state);
+        let command = command_by(streams, state / 65536);
+        carry_command(&command, slot, session, inputs, outputs, counts);
+    }
+}
+
+/// Carries out the commands of a stress: a load, what starts each stream, as many drawn ones as the seed says, and four ticks;
+/// and counts what came of them. The outputs are one, of this slot, and empty.
 pub fn carry_all<P: Dsp>(
-    commands: &[Command],
+    seed: u32,
     slot: u32,
     session: &mut Session<P>,
     inputs: &mut Inputs,
     outputs: &mut Outputs,
 ) -> Counts
-    requires due { AllByRecursion IsDue commands.now }
-    requires few { length commands.now < 2 ^ 20 }
+    requires few { seed ≤ 1000 }
     requires first { session.old.link.sent ≡ 0 }
     requires slots { output_slots outputs.old ≡ slot ∷ [] }
     requires empty { drained outputs.old ≡ outputs.old }
-    ensures { CarriedOut P.means slot (turns_of commands.now)
+    ensures { CarriedOut P.means slot (turns_of (draws.stress_commands seed))
         (Seated session.old inputs.old (output_slots outputs.old)) law.no_counts (Seated session.new inputs.new (output_slots outputs.new)) result }
 {
     let mut counts = Counts::none();
-    for command in commands {
-        carry_command(command, slot, session, inputs, outputs, &mut counts);
-    }
+    let load = Command::Load;
+    carry_command(&load, slot, session, inputs, outputs, &mut counts);
+    carry_openings(
+        streams_of(seed),
+        slot,
+        session,
+        inputs,
+        outputs,
+        &mut counts,
+    );
+    carry_drawn(seed, slot, session, inputs, outputs, &mut counts);
+    let ticks = Command::Tick(4);
+    carry_command(&ticks, slot, session, inputs, outputs, &mut counts);
     counts
 }

@@ -97,9 +97,9 @@ fn put_up_to_volume(
 {
     let number = digit(i);
     let caps = [b'S', number];
-    let host = plain(alloc, WidgetKind::AifIn, host_name(i)?, &caps, i + 1)?;
+    let host = plain(alloc, WidgetKind::AifIn, host_name(i), &caps, i + 1)?;
     let before = buffer(alloc, named(&[b'A', number])?, 1536, i + 1)?;
-    let volume = volume(alloc, volume_name(i)?, i + 1)?;
+    let volume = volume(alloc, volume_name(i), i + 1)?;
     widgets.push(host)?;
     widgets.push(before)?;
     widgets.push(volume)

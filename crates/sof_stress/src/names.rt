@@ -1,5 +1,5 @@
 // The names of widgets.
-ghost use Rattle.std.specs.Prelude.{◌≡◌, ◌+◌, ◌<◌, IfOk};
+ghost use Rattle.std.specs.Prelude.{◌≡◌, ◌+◌, ◌<◌, ◌≤◌, ◌∷◌, [], IfOk};
 ghost use Rattle.sof_stress.specs.Draws as law;
 
 use sof_base::{Name44, NoMemory};
@@ -22,18 +22,30 @@ pub fn digit(i: u32) -> u8
     b'0' + i as u8
 }
 
-/// The name of a stream's host.
-pub fn host_name(i: u32) -> Result<Name44, NoMemory>
-    requires { i < 4 }
-    ensures { IfOk result (λ name. name ≡ law.host_name i) }
+// The name of a letter and a stream's digit.
+fn numbered(letter: u8, i: u32) -> Name44
+    requires letter { 1 ≤ letter }
+    requires stream { i < 4 }
+    ensures { result ≡ law.numbered_name (letter ∷ []) i }
 {
-    named(&[b'H', digit(i)])
+    match Name44::new(&[letter, digit(i)]) {
+        Some(name) => name,
+        None => unreachable!(),
+    }
+}
+
+/// The name of a stream's host.
+pub fn host_name(i: u32) -> Name44
+    requires { i < 4 }
+    ensures { result ≡ law.host_name i }
+{
+    numbered(b'H', i)
 }
 
 /// The name of a stream's volume.
-pub fn volume_name(i: u32) -> Result<Name44, NoMemory>
+pub fn volume_name(i: u32) -> Name44
     requires { i < 4 }
-    ensures { IfOk result (λ name. name ≡ law.volume_name i) }
+    ensures { result ≡ law.volume_name i }
 {
-    named(&[b'V', digit(i)])
+    numbered(b'V', i)
 }

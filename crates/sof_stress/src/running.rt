@@ -11,14 +11,13 @@ ghost use Rattle.sof_stress.specs.StressPorts.{dai_slot as slot_of, stress_input
 ghost use Rattle.sof_stress.specs.StressRun.{Stresses, stress_heap, stress_plan};
 
 use crate::carry::carry_all;
-use crate::commands::{commands_of, streams_of};
+use crate::commands::streams_of;
 use crate::counts::Counts;
 use crate::graph::topology_of;
 use crate::ports::{dai_slot, inputs_of, outputs_of};
 use mbox_link::{Dsp, NoRoom};
-use sof_base::{Items, NoMemory};
+use sof_base::NoMemory;
 use sof_io::{Inputs, Outputs};
-use sof_script::Command;
 use sof_session::Session;
 use std::alloc::Global;
 use tplg_graph::{Plan, PlanFault, need, plan};
@@ -33,7 +32,6 @@ pub struct Stressed<P: Dsp> {
 // All that a stress makes before its session.
 struct Made {
     plan: Plan,
-    commands: Items<Command>,
     inputs: Inputs,
     outputs: Outputs,
 }
@@ -56,19 +54,16 @@ fn plan_over(alloc: Global, streams: u32) -> Result<Plan, NoMemory>
 }
 
 fn make(alloc: Global, seed: u32) -> Result<Made, NoMemory>
-    requires { seed ≤ 1000 }
     ensures plan { IfOk result (λ made. made.plan ≡ stress_plan seed) }
     ensures sound { IfOk result (λ made. IsSound made.plan) }
     ensures small { IfOk result (λ made. IsSmall made.plan.graph) }
     ensures need { IfOk result (λ made. need_on made.plan.graph ≡ need_of (stress_topology (draws.streams_of seed))) }
-    ensures commands { IfOk result (λ made. made.commands ≡ draws.stress_commands seed) }
     ensures inputs { IfOk result (λ made. made.inputs ≡ stress_inputs (draws.streams_of seed)) }
     ensures outputs { IfOk result (λ made. made.outputs ≡ new_output (slot_of (draws.streams_of seed)) ∷ []) }
 {
     let streams = streams_of(seed);
     Ok(Made {
         plan: plan_over(alloc, streams)?,
-        commands: commands_of(alloc, seed)?,
         inputs: inputs_of(alloc, streams)?,
         outputs: outputs_of(alloc, streams)?,
     })
@@ -98,20 +93,13 @@ pub fn stress<P: Dsp>(alloc: Global, seed: u32, dsp: P) -> Result<Stressed<P>, N
     };
     let Made {
         plan,
-        commands,
         mut inputs,
         mut outputs,
     } = made;
     let heap = heap_for(&plan, dsp.room());
     let mut session = Session::new(alloc, plan, heap, dsp)?;
     let slot = dai_slot(streams_of(seed));
-    let mut counts = carry_all(
-        commands.items(),
-        slot,
-        &mut session,
-        &mut inputs,
-        &mut outputs,
-    );
+    let mut counts = carry_all(seed, slot, &mut session, &mut inputs, &mut outputs);
     counts.messages = session.sent();
     Ok(Stressed {
         counts,

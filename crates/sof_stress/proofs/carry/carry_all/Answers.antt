@@ -1,31 +1,59 @@
-use Rattle.std.proofs.Common.{◌≤◌, ◌+◌, ◌*◌, ◌^◌, ◌∙◌, length, sym, subst, arith}
-use Rattle.sof_script.specs.declared.script.Command.{Command}
-use Rattle.sof_stress.specs.CommandTurns.{IsDue}
-use Rattle.sof_stress.proofs.CarrySteps.{counts-mono, commands-on, commands-all, due-at}
+use Rattle.std.proofs.Common.{◌+◌, ◌*◌, ◌^◌, ◌∷◌, [], ◌++◌, length, refl, subst, arith}
+use Rattle.std.specs.List.{range_with_len}
+use Rattle.std.proofs.lemmas.List.FromFn.{length-range_with_len, length-map-range_with_len}
+use Rattle.sof_io.specs.Bound.{output_slots}
+use Rattle.sof_script.specs.declared.script.Command.TheVariants as commands
+use Rattle.sof_session.specs.Lives.{Seated}
+use Rattle.sof_stress.specs.declared.counts.Counts.{Counts}
+use Rattle.sof_stress.specs.CommandTurns.{CarriedOut, turns_of}
+use Rattle.sof_stress.specs.Draws.{streams_of, openings, drawn, command_by, drawn_commands, stress_commands}
+use Rattle.sof_stress.proofs.CarrySteps.{counts-mono, first-under-way, one-carried, stays-under-way, and-then, all-carried}
+use Rattle.sof_stress.proofs.DueCommands.{opened-length}
 use Rattle.sof_stress.proofs.carry.carry_all.Goals as goal
 
-pub carry_command-requires-clause-due : goal.carry_command-requires-clause-due
-carry_command-requires-clause-due g c =
-    subst IsDue (sym c.command-item.is) (due-at c.args.commands.now c.loop-command.command-index c.command-item.result c.loop-command-test.true c.requires.due)
+pub carry_drawn-requires-clause-under_way : goal.carry_drawn-requires-clause-under_way
+carry_drawn-requires-clause-under_way g c =
+    let streams = c.streams_of.result in
+    let begun = first-under-way c.args.slot c.args.session.now c.args.outputs.now c.none-counts.result c.requires.first c.requires.slots c.requires.empty c.none-counts.ensures in
+    let load = one-carried g.P.Dsp.means c.args.slot _ commands.Load refl c.carry_command.ensures.carried c.carry_command.ensures.sent c.carry_command.ensures.slots c.carry_command.ensures.empty c.carry_command.ensures.counts in
+    stays-under-way g.P.Dsp.means c.args.slot (openings streams) 1 (2 ^ 16) (omega (arith, opened-length (range_with_len 0 streams), length-range_with_len 0 streams, c.streams_of.ensures.few.1))
+    (stays-under-way g.P.Dsp.means c.args.slot (commands.Load ∷ []) 0 1 (omega arith) begun load) c.carry_openings.ensures
 
-pub carry_command-requires-clause-few : goal.carry_command-requires-clause-few
-carry_command-requires-clause-few g c = omega (arith, c.loop-command.invariant.sent, c.requires.few, c.loop-command-test.true)
+pub carry_command-requires-2-clause-few : goal.carry_command-requires-2-clause-few
+carry_command-requires-2-clause-few g c =
+    let streams = c.streams_of.result in
+    let drawn_length = length-map-range_with_len (λ k. command_by (streams_of c.args.seed) (drawn c.args.seed k)) 1 c.args.seed in
+    omega (
+      arith,
+      c.carry_drawn.ensures.sent,
+      drawn_length,
+      c.requires.few,
+      c.carry_openings.ensures.sent,
+      opened-length (range_with_len 0 streams),
+      length-range_with_len 0 streams,
+      c.streams_of.ensures.few.1,
+      c.carry_command.ensures.sent,
+      c.requires.first,
+    )
 
-pub carry_command-requires-clause-slots : goal.carry_command-requires-clause-slots
-carry_command-requires-clause-slots g c = c.loop-command.invariant.slots ∙ c.requires.slots
-
-pub carry_command-requires-clause-counts : goal.carry_command-requires-clause-counts
-carry_command-requires-clause-counts g c =
-    counts-mono (10 * c.loop-command.command-index) (2 ^ 30) _ (omega (arith, c.requires.few, c.loop-command-test.true)) c.loop-command.invariant.counts
-
-pub loop-command-preserved : goal.loop-command-preserved
-loop-command-preserved g c = record {
-  sent = omega (arith, c.carry_command.ensures.sent, c.loop-command.invariant.sent);
-  slots = c.carry_command.ensures.slots ∙ c.loop-command.invariant.slots;
-  empty = c.carry_command.ensures.empty;
-  counts = counts-mono (10 * c.loop-command.command-index + 10) (10 * (c.loop-command.command-index + 1)) _ (omega arith) (c.carry_command.ensures.counts (10 * c.loop-command.command-index) c.loop-command.invariant.counts);
-  so_far = commands-on g.P.Dsp.means c.args.slot c.args.commands.now c.loop-command.command-index c.command-item.result _ _ _ _ _ _ c.loop-command-test.true c.command-item.is c.loop-command.invariant.so_far c.carry_command.ensures.carried;
-}
+pub carry_command-requires-2-clause-counts : goal.carry_command-requires-2-clause-counts
+carry_command-requires-2-clause-counts g c =
+    let streams = c.streams_of.result in
+    let drawn_length = length-map-range_with_len (λ k. command_by (streams_of c.args.seed) (drawn c.args.seed k)) 1 c.args.seed in
+    let begun = first-under-way c.args.slot c.args.session.now c.args.outputs.now c.none-counts.result c.requires.first c.requires.slots c.requires.empty c.none-counts.ensures in
+    counts-mono (0 + 10 + 10 * length (openings streams) + 10 * length (drawn_commands c.args.seed)) (2 ^ 30) _ (omega (arith, drawn_length, c.requires.few, opened-length (range_with_len 0 streams), length-range_with_len 0 streams, c.streams_of.ensures.few.1))
+    (c.carry_drawn.ensures.counted (0 + 10 + 10 * length (openings streams)) (c.carry_openings.ensures.counted (0 + 10) (c.carry_command.ensures.counts 0 begun.counted)))
 
 pub returns : goal.returns
-returns g c = commands-all g.P.Dsp.means c.args.slot c.args.commands.now c.loop-command.command-index _ _ _ _ c.loop-command-test.false c.loop-command.invariant.so_far
+returns g c =
+    let seed = c.args.seed in
+    let opened = rw c.streams_of.ensures.streams at c.carry_openings.ensures in
+    let load = one-carried g.P.Dsp.means c.args.slot _ commands.Load refl c.carry_command.ensures.carried c.carry_command.ensures.sent c.carry_command.ensures.slots c.carry_command.ensures.empty c.carry_command.ensures.counts in
+    let ticks = one-carried g.P.Dsp.means c.args.slot _ (commands.Tick 4) refl c.carry_command-2.ensures.carried c.carry_command-2.ensures.sent c.carry_command-2.ensures.slots c.carry_command-2.ensures.empty c.carry_command-2.ensures.counts in
+    let all =
+    and-then g.P.Dsp.means c.args.slot (commands.Load ∷ [] ++ openings (streams_of seed) ++ drawn_commands seed) (commands.Tick 4 ∷ [])
+    (and-then g.P.Dsp.means c.args.slot (commands.Load ∷ [] ++ openings (streams_of seed)) (drawn_commands seed)
+    (and-then g.P.Dsp.means c.args.slot (commands.Load ∷ []) (openings (streams_of seed)) load opened) c.carry_drawn.ensures) ticks
+    in
+    subst (λ (n : Counts). CarriedOut g.P.Dsp.means c.args.slot (turns_of (stress_commands seed)) (Seated c.args.session.now c.args.inputs.now (output_slots c.args.outputs.now)) n (Seated c.carry_command-2.new.session c.carry_command-2.new.inputs (output_slots c.carry_command-2.new.outputs)) c.carry_command-2.new.counts)
+    c.none-counts.ensures (all-carried g.P.Dsp.means c.args.slot (stress_commands seed) all)

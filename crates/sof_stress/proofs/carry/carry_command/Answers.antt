@@ -1,4 +1,4 @@
-use Rattle.std.proofs.Common.{◌≤◌, ◌+◌, ◌^◌, ◌∙◌, arith}
+use Rattle.std.proofs.Common.{◌+◌, ◌^◌, ◌∙◌, arith}
 use Rattle.sof_stress.specs.CommandTurns.{earlier_turns}
 use Rattle.sof_stress.proofs.CarrySteps.{counts-mono, turns-on, turns-last}
 use Rattle.sof_stress.proofs.DueCommands.{at-most, earlier-few}

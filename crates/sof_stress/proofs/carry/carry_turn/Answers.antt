@@ -8,9 +8,6 @@ use Rattle.sof_stress.specs.CommandTurns.{CommandTurn, counted_by, CarriedFirst}
 use Rattle.sof_stress.proofs.CarrySteps.{carries-on, one-first}
 use Rattle.sof_stress.proofs.carry.carry_turn.Goals as goal
 
-pub step-answer-requires-clause-built : goal.step-answer-requires-clause-built
-step-answer-requires-clause-built g c = c.requires.due.built
-
 pub step-answer-requires-clause-numbers : goal.step-answer-requires-clause-numbers
 step-answer-requires-clause-numbers g c = c.requires.due.numbers
 

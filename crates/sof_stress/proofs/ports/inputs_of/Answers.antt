@@ -1,4 +1,4 @@
-use Rattle.std.proofs.Common.{ap, sym, ◌∙◌, subst, ◌≡◌, false, arith, ◌*◌, ◌++◌, ◌∷◌, []}
+use Rattle.std.proofs.Common.{sym, ◌∙◌, subst, ◌≡◌, false, arith, ◌*◌, ◌++◌, ◌∷◌, []}
 use Rattle.sof_stress.proofs.FreshSlots.{fresh-slot, inputs-more}
 use Rattle.sof_io.specs.Takes.{new_input}
 use Rattle.sof_io.specs.Bound.{input_slots, has_slot}

@@ -36,7 +36,6 @@ Statuses:
   6  an argument is no text in UTF-8
   7  memory was wanting
   8  the ticks of SCRIPT sum to more than 60000
-  9  SCRIPT or TOPOLOGY asks for what is not built yet
 ";
 
 const VERSION: &str = "sof 0.1.0\n";

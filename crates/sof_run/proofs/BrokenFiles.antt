@@ -20,5 +20,4 @@ halted bytes fault (halt.Ticks sum) is for = absurd for
 halted bytes fault (halt.Broken other) is for = subst (λ f. topology_of bytes ≡ Err f) (sym for.0) (broken bytes fault is for.1)
 halted bytes fault (halt.Rule rule item) is for = absurd for
 halted bytes fault (halt.Binding line) is for = absurd for
-halted bytes fault halt.NotYet is for = absurd for
 halted bytes fault halt.OutOfMemory is for = tt

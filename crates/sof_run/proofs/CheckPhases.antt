@@ -53,5 +53,4 @@ module _ {D : Type 0} (means : DeskMeaning D) where
     halted (halt.Broken fault) status is played = told (halt.Broken fault) status is played
     halted (halt.Rule rule item) status is played = told (halt.Rule rule item) status is played
     halted (halt.Binding line) status is played = told (halt.Binding line) status is played
-    halted halt.NotYet status is played = told halt.NotYet status is played
     halted halt.OutOfMemory status is played = after status (free_off means (checked_todo (checked bytes)) status m new played)

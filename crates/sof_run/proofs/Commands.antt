@@ -162,6 +162,13 @@ module _ {D : Type 0} (means : DeskMeaning D) where
           step_on means dsp (record { task = Carry round.numbered.command; out = out }) (after rest) 3 old new p q q turned
           (beside_failed means dsp (flush_todo written) old new q failed (lines_todo lines rest))
 
+    -- one that is not the last of its command has no lines
+    pub earlier_said : (numbered : Numbered) (answer : Answer) (shown : List (List ℕ)) (written : List Written) (done : Bool) (old new : D) (p q : Life P) →
+        Turned dsp (Carry numbered.command) (record { answer = answer; shown = shown; written = written }) p q → DeskPhase means (flush_todo written) done old new →
+        Phase means dsp (round_todo (record { numbered = numbered; last = false })) done old p new q
+    earlier_said numbered answer shown written true old new p q turned flushed = round_said (record { numbered = numbered; last = false }) answer shown written true old new new p q turned flushed (none_said new)
+    earlier_said numbered answer shown written false old new p q turned failed = round_cut (record { numbered = numbered; last = false }) answer shown written old new p q turned failed
+
     -- ---- the units of a command
 
     left : (n i : ℕ) → i < n → n - i ≡ suc (n - (i + 1))

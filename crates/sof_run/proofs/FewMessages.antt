@@ -1,33 +1,37 @@
--- How many messages the commands of a run send.
-use Rattle.std.proofs.Common.{◌≡◌, refl, ℕ, ◌<◌, ◌≤◌, arith}
+-- Which commands have earlier units, and how many messages the commands of a run send.
+use Rattle.std.proofs.Common.{◌≡◌, refl, ap, ℕ, ◌<◌, ◌≤◌, arith}
 use Rattle.sof_script.specs.declared.script.Command.{Command}
 use Rattle.sof_script.specs.declared.script.Command.TheVariants as commands
 use Rattle.sof_session.specs.CommandRanges.{most_sent}
 use Rattle.sof_run.specs.Rounds.{earlier}
 
--- a command of more than one unit makes ticks, and sends none
+-- a command of more than one unit is ticks
+pub tick_before : (command : Command) (n : ℕ) → n < earlier command → (ticks : ℕ) × (command ≡ commands.Tick ticks)
+tick_before commands.Load n below = absurd (omega (arith, below))
+tick_before commands.Unload n below = absurd (omega (arith, below))
+tick_before commands.Suspend n below = absurd (omega (arith, below))
+tick_before commands.Resume n below = absurd (omega (arith, below))
+tick_before commands.Show n below = absurd (omega (arith, below))
+tick_before (commands.Open name) n below = absurd (omega (arith, below))
+tick_before (commands.Start name) n below = absurd (omega (arith, below))
+tick_before (commands.Stop name) n below = absurd (omega (arith, below))
+tick_before (commands.Pause name) n below = absurd (omega (arith, below))
+tick_before (commands.Release name) n below = absurd (omega (arith, below))
+tick_before (commands.Close name) n below = absurd (omega (arith, below))
+tick_before (commands.Get name) n below = absurd (omega (arith, below))
+tick_before (commands.Read name) n below = absurd (omega (arith, below))
+tick_before (commands.Params name p) n below = absurd (omega (arith, below))
+tick_before (commands.Set name v) n below = absurd (omega (arith, below))
+tick_before (commands.Bytes name b) n below = absurd (omega (arith, below))
+tick_before (commands.Tick t) n below = (t, refl)
+tick_before (commands.Refuse k e) n below = absurd (omega (arith, below))
+tick_before (commands.Drop k) n below = absurd (omega (arith, below))
+tick_before (commands.Lose k) n below = absurd (omega (arith, below))
+tick_before (commands.Lag k t) n below = absurd (omega (arith, below))
+
+-- and sends no message
 pub none_before : (command : Command) (n : ℕ) → n < earlier command → most_sent command ≡ 0
-none_before commands.Load n below = absurd (omega (arith, below))
-none_before commands.Unload n below = absurd (omega (arith, below))
-none_before commands.Suspend n below = absurd (omega (arith, below))
-none_before commands.Resume n below = absurd (omega (arith, below))
-none_before commands.Show n below = absurd (omega (arith, below))
-none_before (commands.Open name) n below = absurd (omega (arith, below))
-none_before (commands.Start name) n below = absurd (omega (arith, below))
-none_before (commands.Stop name) n below = absurd (omega (arith, below))
-none_before (commands.Pause name) n below = absurd (omega (arith, below))
-none_before (commands.Release name) n below = absurd (omega (arith, below))
-none_before (commands.Close name) n below = absurd (omega (arith, below))
-none_before (commands.Get name) n below = absurd (omega (arith, below))
-none_before (commands.Read name) n below = absurd (omega (arith, below))
-none_before (commands.Params name p) n below = absurd (omega (arith, below))
-none_before (commands.Set name v) n below = absurd (omega (arith, below))
-none_before (commands.Bytes name b) n below = absurd (omega (arith, below))
-none_before (commands.Tick t) n below = refl
-none_before (commands.Refuse k e) n below = absurd (omega (arith, below))
-none_before (commands.Drop k) n below = absurd (omega (arith, below))
-none_before (commands.Lose k) n below = absurd (omega (arith, below))
-none_before (commands.Lag k t) n below = absurd (omega (arith, below))
+none_before command n below = ap most_sent (tick_before command n below).1
 
 -- no command sends more than this
 pub at_most : (command : Command) → most_sent command ≤ 900

@@ -13,7 +13,7 @@ use Rattle.sof_run.specs.Words.{Form, play_of}
 use Rattle.sof_run.specs.Todo.{Todo, Goes}
 use Rattle.sof_run.specs.Throughout.{Throughout}
 use Rattle.sof_run.specs.Rounds.{rounds_of}
-use Rattle.sof_run.specs.Prepared.{Ready, ticks_of, prepared, prepared_script, prepared_ticks, prepared_topology, prepared_rules, prepared_bindings, prepared_commands}
+use Rattle.sof_run.specs.Prepared.{Ready, ticks_of, prepared, prepared_script, prepared_ticks, prepared_topology, prepared_rules, prepared_bindings}
 use Rattle.sof_run.specs.Play.{play}
 use Rattle.sof_run.specs.Checking.{check, check_of}
 use Rattle.sof_run.specs.Compiling.{CompileNames, compile, compile_of}
@@ -27,7 +27,6 @@ use Rattle.sof_run.specs.Run.{Left}
 use Rattle.sof_run.specs.Calls.{Follows}
 use Rattle.sof_run.proofs.Judging.{judge}
 use Rattle.sof_run.proofs.PlanWords.{sound_plan}
-use Rattle.sof_run.proofs.Built.{carriable}
 use Rattle.sof_run.proofs.ScriptRanges.{script_sound}
 use Rattle.sof_run.proofs.OpenedFiles.{Next}
 use Rattle.sof_run.proofs.Courses.{follows}
@@ -46,17 +45,15 @@ not_late status (inr (inr (inr (inl is)))) (inl late) = cc (sym is ∙ late)
 not_late status (inr (inr (inr (inl is)))) (inr late) = cc (sym is ∙ late)
 not_late status (inr (inr (inr (inr (inl is))))) (inl late) = cc (sym is ∙ late)
 not_late status (inr (inr (inr (inr (inl is))))) (inr late) = cc (sym is ∙ late)
-not_late status (inr (inr (inr (inr (inr (inl is)))))) (inl late) = cc (sym is ∙ late)
-not_late status (inr (inr (inr (inr (inr (inl is)))))) (inr late) = cc (sym is ∙ late)
-not_late status (inr (inr (inr (inr (inr (inr is)))))) (inl late) = cc (sym is ∙ late)
-not_late status (inr (inr (inr (inr (inr (inr is)))))) (inr late) = cc (sym is ∙ late)
+not_late status (inr (inr (inr (inr (inr is))))) (inl late) = cc (sym is ∙ late)
+not_late status (inr (inr (inr (inr (inr is))))) (inr late) = cc (sym is ∙ late)
 
 pub words_other : (room sent : ℕ) (o : Option Form) (c : Option (List ℕ)) (s : Option CompileNames) (n : Option ℕ) → Throughout (λ n. n ≡ 3 → ⊥) (λ name. Unit {0}) (todo_for room sent o c s n)
 words_other room sent None None None None = λ e. cc e
 words_other room sent None None None (Some seed) = stress_all (λ n. n ≡ 3 → ⊥) (λ name. Unit {0}) room sent seed (λ e. cc e) (λ e. cc e)
 words_other room sent None None (Some names) n = compile_all (λ n. n ≡ 3 → ⊥) (λ name. Unit {0}) names (λ e. cc e) (λ e. cc e) (λ e. cc e) (λ e. cc e) tt
 words_other room sent None (Some name) s n = check_all (λ n. n ≡ 3 → ⊥) (λ name. Unit {0}) name (λ e. cc e) (λ e. cc e) (λ e. cc e) (λ e. cc e) tt
-words_other room sent (Some form) c s n = play_all (λ n. n ≡ 3 → ⊥) (λ name. Unit {0}) form (λ e. cc e) (λ e. cc e) (λ e. cc e) (λ e. cc e) (λ e. cc e) (λ e. cc e) (λ e. cc e) (λ name. tt)
+words_other room sent (Some form) c s n = play_all (λ n. n ≡ 3 → ⊥) (λ name. Unit {0}) form (λ e. cc e) (λ e. cc e) (λ e. cc e) (λ e. cc e) (λ e. cc e) (λ e. cc e) (λ name. tt)
 
 -- status 1 is that of words without a form
 one_only : (room sent : ℕ) (o : Option Form) (c : Option (List ℕ)) (s : Option CompileNames) (n : Option ℕ) (turns : List Turn) (calls : List DeskCall) (status : ℕ) → Goes (todo_for room sent o c s n) turns calls status → status ≡ 1 → (o ≡ None) × (c ≡ None) × (s ≡ None) × (n ≡ None)
@@ -68,7 +65,7 @@ one_only room sent None None (Some names) n turns calls status goes one =
 one_only room sent None (Some name) s n turns calls status goes one =
     absurd (ends (λ n. n ≡ 1 → ⊥) (λ name. Unit {0}) (check name) turns calls status goes (check_all (λ n. n ≡ 1 → ⊥) (λ name. Unit {0}) name (λ e. cc e) (λ e. cc e) (λ e. cc e) (λ e. cc e) tt) (λ e. cc e) one)
 one_only room sent (Some form) c s n turns calls status goes one =
-    absurd (ends (λ n. n ≡ 1 → ⊥) (λ name. Unit {0}) (play form) turns calls status goes (play_all (λ n. n ≡ 1 → ⊥) (λ name. Unit {0}) form (λ e. cc e) (λ e. cc e) (λ e. cc e) (λ e. cc e) (λ e. cc e) (λ e. cc e) (λ e. cc e) (λ name. tt)) (λ e. cc e) one)
+    absurd (ends (λ n. n ≡ 1 → ⊥) (λ name. Unit {0}) (play form) turns calls status goes (play_all (λ n. n ≡ 1 → ⊥) (λ name. Unit {0}) form (λ e. cc e) (λ e. cc e) (λ e. cc e) (λ e. cc e) (λ e. cc e) (λ e. cc e) (λ name. tt)) (λ e. cc e) one)
 
 one_each : (room sent : ℕ) (o : Option Form) (c : Option (List ℕ)) (s : Option CompileNames) (n : Option ℕ) (turns : List Turn) (calls : List DeskCall) (status : ℕ) → Goes (todo_for room sent o c s n) turns calls status → o ≡ None → c ≡ None → s ≡ None → n ≡ None → (status ≡ 1) ⊎ (status ≡ 3)
 one_each room sent None None None None turns [] status goes no_play no_check no_compile no_stress = absurd goes
@@ -99,7 +96,6 @@ files_ready topology script t read is =
     ∙ ap (prepared_topology read) (topology_again topology t is.file.0 is.file.1)
     ∙ ap (prepared_rules t read) (whole_none t is.whole)
     ∙ ap (prepared_bindings (plan_of t) read) is.right
-    ∙ ap (prepared_commands (plan_of t) read) is.built
 
 -- ---- all
 
@@ -149,11 +145,11 @@ module _ {D P : Type 0} (means : DeskMeaning D) (dsp : Meaning P) (words : List 
       let plan = plan_of run.t in
       let turns = gave.ran.turns in
       let ready = files_ready run.topology run.script run.t run.read run.make_run in
-      let carries = carriable plan (sound_plan run.t run.make_run.file.0 run.make_run.whole) run.read run.make_run.right run.make_run.built in
+      let whole = sound_plan run.t run.make_run.file.0 run.make_run.whole in
       let same : todo ≡ play run.form = ap (λ o. todo_for (dsp.most p) sent o (check_of words) (compile_of words) (stress_of words)) run.is_form in
       let next : Next means (play run.form) turns status old new = record { calls = gave.ran.played.calls; goes = subst (λ x. Goes x turns gave.ran.played.calls status) same goes; led = gave.ran.played.led } in
       let sound = script_sound run.script run.read (omega (arith, run.fit.1)) run.make_run.lines.0 in
       (elim (play_goes means run.form run.topology run.script plan run.read ready turns status old new run.is_topology run.is_script run.fit.0 run.fit.1 run.given next) as (λ w. Plays means dsp (ground_in run) (rounds_of run.read.commands) old new status p gave.last ⊎ Unbegun means (ground_in run).slots old new status p gave.last) [
-        | inl b ↦ inl (plays means dsp run.form run.topology run.script plan run.read ready turns status old new p gave.last gave.ran.turned off carries.sound carries.built sound.few b)
+        | inl b ↦ inl (plays means dsp run.form run.topology run.script plan run.read ready turns status old new p gave.last gave.ran.turned off whole sound.few b)
         | inr b ↦ inr (before_begun means dsp run.form run.topology run.script plan run.read ready turns status old new p gave.last gave.ran.turned b)
       ])

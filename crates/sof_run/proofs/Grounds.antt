@@ -1,5 +1,4 @@
--- What a run is over, before its first command: inputs of which nothing was read, and commands that are carried out and send few
--- messages.
+-- What a run is over, before its first command: inputs of which nothing was read, and commands that send few messages.
 use Rattle.std.proofs.Common.{◌≡◌, ℕ, ◌+◌, ◌*◌, ◌<◌, ◌≤◌, zero, suc, Bool, true, false, eqb, if◌then◌else◌, List, [], ◌∷◌, ◌++◌, take, length, Option, unwrap_or, refl, inl, inr, arith}
 use Rattle.std.proofs.lemmas.Bool.{cases_Bool}
 use Rattle.std.specs.List.{AllByRecursion}
@@ -13,11 +12,10 @@ use Rattle.tplg_plan.specs.Sound.{IsSound}
 use Rattle.sof_script.specs.Commands.{Bound}
 use Rattle.sof_script.specs.declared.script.Command.{Command}
 use Rattle.sof_script.specs.declared.script.Numbered.{Numbered}
-use Rattle.sof_session.specs.CommandRanges.{is_built, most_sent}
+use Rattle.sof_session.specs.CommandRanges.{most_sent}
 use Rattle.sof_session.specs.Written.{Ground}
 use Rattle.sof_session.proofs.FewOrders.{few-order}
 use Rattle.sof_session.proofs.RunLegs.{HasFew, messages}
-use Rattle.sof_run.specs.Halts.{AreBuilt}
 use Rattle.sof_run.specs.Bindings.{bound_slot, bound_inputs}
 use Rattle.sof_run.specs.Rounds.{Round, earlier, rounds_after, rounds_of}
 use Rattle.sof_run.specs.Plays.{files_of}
@@ -58,20 +56,9 @@ none_read inputs all = record { positions = λ slot bound. at_zero inputs slot a
 
 -- ---- the commands
 
-abbrev AllBuilt : List Round → Type 0
-AllBuilt rounds = AllByRecursion (λ (round : Round). is_built round.numbered.command ≡ true) rounds
-
-built_after : (n : ℕ) (numbered : Numbered) (rest : List Round) → is_built numbered.command ≡ true → AllBuilt rest → AllBuilt (rounds_after n numbered ++ rest)
-built_after zero numbered rest built all = (built, all)
-built_after (suc n) numbered rest built all = (built, built_after n numbered rest built all)
-
-built_rounds : (commands : List Numbered) → AreBuilt commands → AllBuilt (rounds_of commands)
-built_rounds [] all = tt
-built_rounds (numbered ∷ commands) all = built_after (earlier numbered.command) numbered (rounds_of commands) all.0 (built_rounds commands all.1)
-
-pub few_all : (g : Ground) → IsSound g.plan → (rounds : List Round) → AllBuilt rounds → AllByRecursion (HasFew g) (commands_of rounds)
-few_all g sound [] built = tt
-few_all g sound (round ∷ rounds) built = (few-order g.plan sound round.numbered.command built.0, few_all g sound rounds built.1)
+pub few_all : (g : Ground) → IsSound g.plan → (rounds : List Round) → AllByRecursion (HasFew g) (commands_of rounds)
+few_all g sound [] = tt
+few_all g sound (round ∷ rounds) = (few-order g.plan sound round.numbered.command, few_all g sound rounds)
 
 front_few : (g : Ground) (k : ℕ) (commands : List Command) → AllByRecursion (HasFew g) commands → AllByRecursion (HasFew g) (take k commands)
 front_few g zero commands few = tt
@@ -79,8 +66,8 @@ front_few g (suc k) [] few = tt
 front_few g (suc k) (command ∷ commands) few = (few.0, front_few g k commands few.1)
 
 -- the commands of a front of the units have few acts each
-pub few_front : (g : Ground) → IsSound g.plan → (commands : List Numbered) → AreBuilt commands → (k : ℕ) → AllByRecursion (HasFew g) (take k (commands_of (rounds_of commands)))
-few_front g sound commands built k = front_few g k (commands_of (rounds_of commands)) (few_all g sound (rounds_of commands) (built_rounds commands built))
+pub few_front : (g : Ground) → IsSound g.plan → (commands : List Numbered) (k : ℕ) → AllByRecursion (HasFew g) (take k (commands_of (rounds_of commands)))
+few_front g sound commands k = front_few g k (commands_of (rounds_of commands)) (few_all g sound (rounds_of commands))
 
 messages_front : (k : ℕ) (commands : List Command) → messages (take k commands) ≤ messages commands
 messages_front zero commands = omega arith

@@ -25,7 +25,7 @@ use Rattle.sof_script.specs.declared.script.Numbered.{Numbered}
 use Rattle.sof_base.specs.Ports.{InputView, OutputView}
 use Rattle.sof_run.specs.Todo.{Todo, Ask, Free, Says, Goes}
 use Rattle.sof_run.specs.Lines.{no_memory_line, halt_line, halt_status}
-use Rattle.sof_run.specs.Prepared.{Prepared, ticks_of, is_built_script, prepared, prepared_script, prepared_ticks, prepared_topology, prepared_rules, prepared_bindings, prepared_commands}
+use Rattle.sof_run.specs.Prepared.{Prepared, ticks_of, prepared, prepared_script, prepared_ticks, prepared_topology, prepared_rules, prepared_bindings}
 use Rattle.sof_run.specs.Play.{prepared_todo, session_todo, play}
 use Rattle.sof_run.specs.TopologyBytes.{AreBytes, IsLong, IsFile, IsBroken}
 use Rattle.sof_run.specs.Verdicts.{Fit, IsScript, MakeRun, IsHalt, last_call, Verdict}
@@ -101,15 +101,11 @@ module _ (holds : List ℕ → Option (List ℕ)) (topology script : List ℕ) w
       abbrev Judges : Prepared → Type 0
       Judges files = Goes (prepared_todo heap files) turns calls status → Verdict holds topology script calls status
 
-      by_commands : (t : Topology) (read : Read) (built : Bool) → IsScript script read → IsFile topology t → IsWellFormed t → wrong_binding (plan_of t) read.bindings ≡ None → is_built_script read ≡ built → Judges (prepared_commands (plan_of t) read built)
-      by_commands t read true lines file whole right built goes =
-          runs t read calls status record { lines = lines; file = file; whole = whole; right = right; built = built }
-          (opened holds means (plan_of t) turns status e (λ i o. Free (session_todo heap (plan_of t) read.commands i o)) (ended (plan_of t) read.commands) read.bindings [] [] calls d held led goes)
-      by_commands t read false lines file whole right built goes = stops halts.NotYet turns calls status (read, t, lines, file, (whole, right, built)) goes
-
       by_bindings : (t : Topology) (read : Read) (wrong : Option ℕ) → IsScript script read → IsFile topology t → IsWellFormed t → wrong_binding (plan_of t) read.bindings ≡ wrong → Judges (prepared_bindings (plan_of t) read wrong)
       by_bindings t read (Some line) lines file whole is goes = stops (halts.Binding line) turns calls status (read, t, lines, file, whole, is) goes
-      by_bindings t read None lines file whole is goes = by_commands t read (is_built_script read) lines file whole is refl goes
+      by_bindings t read None lines file whole is goes =
+          runs t read calls status record { lines = lines; file = file; whole = whole; right = is }
+          (opened holds means (plan_of t) turns status e (λ i o. Free (session_todo heap (plan_of t) read.commands i o)) (ended (plan_of t) read.commands) read.bindings [] [] calls d held led goes)
 
       by_rules : (t : Topology) (read : Read) (ruling : Option (ℕ × ℕ)) → IsScript script read → IsFile topology t → ruling_of t ≡ ruling → Judges (prepared_rules t read ruling)
       by_rules t read (Some (rule, item)) lines file is goes = stops (halts.Rule rule item) turns calls status (read, t, lines, file, some_breaks t rule item is) goes

@@ -24,7 +24,6 @@ pub mod SlotOrder
 pub mod ScriptRanges
 pub mod PreparedReads
 pub mod FewMessages
-pub mod Built
 pub mod FewLines
 pub mod WrittenPieces
 pub mod OpenedFiles

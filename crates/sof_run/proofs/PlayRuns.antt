@@ -14,7 +14,6 @@ use Rattle.sof_session.specs.Lives.{Life, Bare, Begin, Turn, Turns}
 use Rattle.sof_session.specs.RunOver.{RunOver}
 use Rattle.sof_session.proofs.RunLegs.{run-over}
 use Rattle.sof_run.specs.Words.{Form}
-use Rattle.sof_run.specs.Halts.{AreBuilt}
 use Rattle.sof_run.specs.Todo.{Todo, Ask, Free, Goes}
 use Rattle.sof_run.specs.Bindings.{bound_inputs, bound_outputs, bound_slots}
 use Rattle.sof_run.specs.Rounds.{rounds_of}
@@ -90,7 +89,7 @@ module _ {D P : Type 0} (means : DeskMeaning D) (dsp : Meaning P) (form : Form) 
   pub before_begun : Before means g.slots turns status old new → Unbegun means g.slots old new status p last
   before_begun b = record { ended = b.ended; wrote = b.wrote; device = subst (λ ts. Turns dsp (Bare p) ts last) b.none turned }
 
-  module _ (off : dsp.on p ≡ None) (sound : IsSound plan) (built : AreBuilt read.commands) (few : length read.commands < 2 ^ 32) (b : Begun means form topology script plan read ready turns status old new) where
+  module _ (off : dsp.on p ≡ None) (sound : IsSound plan) (few : length read.commands < 2 ^ 32) (b : Begun means form topology script plan read ready turns status old new) where
     abbrev commands_made : List Command
     commands_made = take (length b.others) (commands_of (rounds_of read.commands))
 
@@ -98,7 +97,7 @@ module _ {D P : Type 0} (means : DeskMeaning D) (dsp : Meaning P) (form : Form) 
     over =
         run-over dsp g (bound_inputs plan (means.holds old) read.bindings) p commands_made b.begins b.others last off
         (none_read (bound_inputs plan (means.holds old) read.bindings) (are_whole plan (means.holds old) read.bindings))
-        b.task b.made.carried (few_front g sound read.commands built (length b.others))
+        b.task b.made.carried (few_front g sound read.commands (length b.others))
         (omega (arith, messages_few read.commands (length b.others), few))
         (subst (λ ts. Turns dsp (Bare p) ts last) b.are turned)
 

@@ -37,7 +37,6 @@ module _ {D : Type 0} (means : DeskMeaning D) where
   halted_todo heap files (halt.Broken fault) status old new is played = told_todo heap files (halt.Broken fault) status old new is played
   halted_todo heap files (halt.Rule rule item) status old new is played = told_todo heap files (halt.Rule rule item) status old new is played
   halted_todo heap files (halt.Binding line) status old new is played = told_todo heap files (halt.Binding line) status old new is played
-  halted_todo heap files halt.NotYet status old new is played = told_todo heap files halt.NotYet status old new is played
   halted_todo heap files halt.OutOfMemory status old new is played = free_off means (prepared_todo heap files) status old new played
 
 module _ {D P : Type 0} (means : DeskMeaning D) (dsp : Meaning P) where

@@ -11,16 +11,12 @@ use Rattle.sof_script.specs.declared.reading.ScriptFault.TheVariants.{Line, OutO
 use Rattle.sof_script.specs.Commands.{Read, script_of}
 use Rattle.std.specs.Prelude.{nat_lt}
 use Rattle.sof_run.specs.Bindings.{wrong_binding}
-use Rattle.sof_run.specs.Prepared.{Ready, ticks_of, is_built_script, prepared, prepared_script, prepared_ticks, prepared_topology, prepared_rules, prepared_bindings, prepared_commands}
+use Rattle.sof_run.specs.Prepared.{Ready, ticks_of, prepared, prepared_script, prepared_ticks, prepared_topology, prepared_rules, prepared_bindings}
 
 module _ (plan : Plan) (read : Read) where
-  by_commands : (p : Plan) (r : Read) (built : Bool) → prepared_commands p r built ≡ Ready plan read → r ≡ read
-  by_commands p r true is = cc is
-  by_commands p r false is = absurd (cc is)
-
   by_bindings : (p : Plan) (r : Read) (wrong : Option ℕ) → prepared_bindings p r wrong ≡ Ready plan read → r ≡ read
   by_bindings p r (Some line) is = absurd (cc is)
-  by_bindings p r None is = by_commands p r (is_built_script r) is
+  by_bindings p r None is = cc is
 
   by_rules : (t : Topology) (r : Read) (ruling : Option (ℕ × ℕ)) → prepared_rules t r ruling ≡ Ready plan read → r ≡ read
   by_rules t r (Some fault) is = absurd (cc is)

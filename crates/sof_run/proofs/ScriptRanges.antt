@@ -16,7 +16,7 @@ use Rattle.sof_script.specs.Splitting.{before_line, with_byte, lines_of, without
 use Rattle.sof_script.specs.ValueForms.{byte_cause, count_cause, number_cause, name_value, file_value, format_value, hex_value, in_range, decimal_value, number_value, negative, error_value}
 use Rattle.sof_script.specs.Words.{word_named}
 use Rattle.sof_script.specs.Commands.{◌⊛◌, any_number, message_number, number_values, one_name, one_number, alone, bound, params_item, values_item, hex_item, error_item, lag_item, said_by, behind_word, item_of, line_item, Read, with_item, lines_read, script_of}
-use Rattle.sof_session.specs.CommandRanges.{is_ahead, is_refusal, is_in_range}
+use Rattle.sof_session.specs.CommandRanges.{is_ahead, is_lag, is_refusal, is_in_range}
 use Rattle.sof_run.specs.Halts.{IsInRange}
 
 -- ---- one line
@@ -143,7 +143,11 @@ lag_fine : (args : List (List ℕ)) → Fine (lag_item args)
 lag_fine [] = tt
 lag_fine (message ∷ []) = tt
 lag_fine (message ∷ ticks ∷ []) =
-    let make : ℕ → ℕ → Item = λ k n. Do (commands.Lag k n) in always_two make (message_number message) (number_value 1 16 ticks) (λ k n. refl)
+    let make : ℕ → ℕ → Item = λ k n. Do (commands.Lag k n) in
+    applied (λ (n : ℕ). is_lag n ≡ true) Ranged (Ok make ⊛ message_number message) (number_value 1 16 ticks)
+    (applied (λ (k : ℕ). is_ahead k ≡ true) (λ (f : ℕ → Item). (n : ℕ) → is_lag n ≡ true → Ranged (f n)) (Ok make) (message_number message)
+    (λ k ahead n short. and_from (is_ahead k) (is_lag n) ahead short) (in_between 1 100000 (decimal_value message)))
+    (in_between 1 16 (decimal_value ticks))
 lag_fine (message ∷ ticks ∷ other ∷ args) = tt
 
 said_fine : (word : Word) (args : List (List ℕ)) → Fine (said_by word args)

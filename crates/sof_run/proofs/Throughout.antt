@@ -63,23 +63,22 @@ module _ (P : ℕ → Type 0) (A : List ℕ → Type 0) where
   bindings_all plan (b ∷ bs) inputs outputs rest names five seven all =
       binding_all b.input (bound_slot plan b) b.file inputs outputs (λ i o. bindings_todo plan bs i o rest) names five seven (λ i o. bindings_all plan bs i o rest names five seven all)
 
-  halts_all : (why : Halt) → P 2 → P 4 → P 7 → P 8 → P 9 → P (halt_status why)
-  halts_all (halt.Script line cause) two four seven eight nine = four
-  halts_all (halt.Ticks sum) two four seven eight nine = eight
-  halts_all (halt.Broken fault) two four seven eight nine = two
-  halts_all (halt.Rule rule item) two four seven eight nine = two
-  halts_all (halt.Binding line) two four seven eight nine = four
-  halts_all halt.NotYet two four seven eight nine = nine
-  halts_all halt.OutOfMemory two four seven eight nine = seven
+  halts_all : (why : Halt) → P 2 → P 4 → P 7 → P 8 → P (halt_status why)
+  halts_all (halt.Script line cause) two four seven eight = four
+  halts_all (halt.Ticks sum) two four seven eight = eight
+  halts_all (halt.Broken fault) two four seven eight = two
+  halts_all (halt.Rule rule item) two four seven eight = two
+  halts_all (halt.Binding line) two four seven eight = four
+  halts_all halt.OutOfMemory two four seven eight = seven
 
-  prepared_all : (heap : ℕ) (files : Prepared) → ((name : List ℕ) → A name) → P 0 → P 2 → P 4 → P 5 → P 7 → P 8 → P 9 → Throughout P A (prepared_todo heap files)
-  prepared_all heap (Ready plan read) names done two four five seven eight nine =
+  prepared_all : (heap : ℕ) (files : Prepared) → ((name : List ℕ) → A name) → P 0 → P 2 → P 4 → P 5 → P 7 → P 8 → Throughout P A (prepared_todo heap files)
+  prepared_all heap (Ready plan read) names done two four five seven eight =
       bindings_all plan read.bindings [] [] (λ i o. Free (session_todo heap plan read.commands i o)) names five seven (λ i o. session_all heap plan read.commands i o done seven)
-  prepared_all heap (Halted why) names done two four five seven eight nine = halts_all why two four seven eight nine
+  prepared_all heap (Halted why) names done two four five seven eight = halts_all why two four seven eight
 
-  pub play_all : (form : Form) → P 0 → P 2 → P 4 → P 5 → P 7 → P 8 → P 9 → ((name : List ℕ) → A name) → Throughout P A (play form)
-  play_all form done two four five seven eight nine names =
-      (names form.topology, five, seven, λ topology. (names form.script, five, seven, λ script. (seven, prepared_all form.heap (prepared topology script) names done two four five seven eight nine)))
+  pub play_all : (form : Form) → P 0 → P 2 → P 4 → P 5 → P 7 → P 8 → ((name : List ℕ) → A name) → Throughout P A (play form)
+  play_all form done two four five seven eight names =
+      (names form.topology, five, seven, λ topology. (names form.script, five, seven, λ script. (seven, prepared_all form.heap (prepared topology script) names done two four five seven eight)))
 
   checked_all : (t : Topology) (ruling : Option (ℕ × ℕ)) → P 0 → P 2 → Throughout P A (checked_todo (checked_rules t ruling))
   checked_all t (Some (rule, item)) done two = two

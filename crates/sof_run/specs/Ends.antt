@@ -21,7 +21,7 @@ AreOpening (Did act done ∷ calls) = IsCreate act × AreOpening calls
 
 -- a status that comes before any command: not 0, and not that of a desk that failed
 abbrev pub IsEarly : ℕ → Type 0
-IsEarly status = (status ≡ 1) ⊎ (status ≡ 2) ⊎ (status ≡ 4) ⊎ (status ≡ 5) ⊎ (status ≡ 7) ⊎ (status ≡ 8) ⊎ (status ≡ 9)
+IsEarly status = (status ≡ 1) ⊎ (status ≡ 2) ⊎ (status ≡ 4) ⊎ (status ≡ 5) ⊎ (status ≡ 7) ⊎ (status ≡ 8)
 
 -- ---- the words
 

@@ -1,14 +1,13 @@
 -- Why files make no run, or that they make one, as each step of preparing it may tell.
-use Rattle.std.specs.Prelude.{◌≡◌, ℕ, ◌<◌, ◌^◌, true, List, length, Option, Some, None, Result, Err}
-use Rattle.std.specs.List.{list_all, AllByRecursion}
+use Rattle.std.specs.Prelude.{◌≡◌, ℕ, ◌<◌, ◌^◌, true, length, Option, Some, None, Result, Err}
+use Rattle.std.specs.List.{list_all}
 use Rattle.tplg_model.specs.declared.fault.TplgFault.{TplgFault}
 use Rattle.tplg_model.specs.declared.fault.TplgFault.TheVariants.{OutOfMemory}
 use Rattle.tplg_model.specs.declared.block.Topology.{Topology}
 use Rattle.tplg_plan.specs.declared.plans.Plan.{Plan}
 use Rattle.sof_script.specs.Commands.{Read}
 use Rattle.tplg_plan.specs.Sound.{IsSound}
-use Rattle.sof_script.specs.declared.script.Numbered.{Numbered}
-use Rattle.sof_session.specs.CommandRanges.{is_built, is_in_range}
+use Rattle.sof_session.specs.CommandRanges.{is_in_range}
 use Rattle.sof_run.specs.declared.prepare.Halt.{Halt}
 use Rattle.sof_run.specs.declared.prepare.Halt.TheVariants as halts
 use Rattle.sof_run.specs.Bindings.{wrong_binding}
@@ -42,15 +41,10 @@ abbrev pub HaltsAtCheck : Halt → Result Topology Halt → Type 0
 HaltsAtCheck halts.OutOfMemory bytes = Unit {0}
 HaltsAtCheck why bytes = bytes ≡ Err why
 
--- each command is carried out
-abbrev pub AreBuilt : List Numbered → Type 0
-AreBuilt commands = AllByRecursion (λ n. is_built n.command ≡ true) commands
-
--- a plan is sound, a script's bindings are right over it, and each of its commands is carried out
+-- a plan is sound, and a script's bindings are right over it
 pub record IsCarriable (plan : Plan) (read : Read) : Type 0 where
   pub sound : IsSound plan
   pub right : wrong_binding plan read.bindings ≡ None
-  pub built : AreBuilt read.commands
 
 -- the numbers of a script's commands are in their ranges, and there are fewer than 2^32 of them
 pub record IsInRange (read : Read) : Type 0 where

@@ -60,7 +60,6 @@ halt_line (halts.Ticks sum) = with_newline (codes "ticks " ++ decimal sum)
 halt_line (halts.Broken fault) = fault_line fault
 halt_line (halts.Rule rule item) = rule_line rule item
 halt_line (halts.Binding line) = script_line line (codes "binding")
-halt_line halts.NotYet = codes "not yet\n"
 halt_line halts.OutOfMemory = no_memory_line
 
 -- and the status
@@ -70,7 +69,6 @@ halt_status (halts.Ticks sum) = 8
 halt_status (halts.Broken fault) = 2
 halt_status (halts.Rule rule item) = 2
 halt_status (halts.Binding line) = 4
-halt_status halts.NotYet = 9
 halt_status halts.OutOfMemory = 7
 
 -- whether a command shows how everything stands

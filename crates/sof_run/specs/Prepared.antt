@@ -1,6 +1,6 @@
 -- What the bytes of a topology and of a script come to.
 use Rattle.std.specs.Prelude.{ℕ, Bool, true, false, nat_lt, List, Option, Some, None, Result, Ok, Err}
-use Rattle.std.specs.List.{list_all, sum_by}
+use Rattle.std.specs.List.{sum_by}
 use Rattle.tplg_model.specs.declared.fault.TplgFault.{TplgFault}
 use Rattle.tplg_model.specs.declared.block.Topology.{Topology}
 use Rattle.tplg_model.specs.Reading.{topology_of}
@@ -12,7 +12,6 @@ use Rattle.sof_script.specs.declared.reading.ScriptFault.{ScriptFault}
 use Rattle.sof_script.specs.declared.reading.ScriptFault.TheVariants as scripts
 use Rattle.sof_script.specs.Commands.{Read, script_of}
 use Rattle.sof_script.specs.Ticks.{line_ticks}
-use Rattle.sof_session.specs.CommandRanges.{is_built}
 use Rattle.sof_run.specs.declared.prepare.Halt.{Halt}
 use Rattle.sof_run.specs.declared.prepare.Halt.TheVariants as halts
 use Rattle.sof_run.specs.Bindings.{wrong_binding}
@@ -22,19 +21,10 @@ pub data Prepared : Type 0 where
   Ready : (plan : Plan) (read : Read) → Prepared
   Halted : (why : Halt) → Prepared
 
--- each command is one that is carried out so far
-abbrev pub is_built_script : Read → Bool
-is_built_script read = list_all (λ n. is_built n.command) read.commands
-
--- what is not built so far comes last
-abbrev pub prepared_commands : Plan → Read → Bool → Prepared
-prepared_commands plan read true = Ready plan read
-prepared_commands plan read false = Halted halts.NotYet
-
--- each binding is to be right
+-- each binding is to be right, which comes last
 abbrev pub prepared_bindings : Plan → Read → Option ℕ → Prepared
 prepared_bindings plan read (Some line) = Halted (halts.Binding line)
-prepared_bindings plan read None = prepared_commands plan read (is_built_script read)
+prepared_bindings plan read None = Ready plan read
 
 -- the first rule that it breaks comes before all that is over its plan
 abbrev pub prepared_rules : Topology → Read → Option (ℕ × ℕ) → Prepared
@@ -45,7 +35,7 @@ abbrev pub prepared_topology : Read → Result Topology TplgFault → Prepared
 prepared_topology read (Err fault) = Halted (halts.Broken fault)
 prepared_topology read (Ok topology) = prepared_rules topology read (ruling_of topology)
 
--- the sum of a script's ticks
+-- the sum of a script's ticks and lags
 abbrev pub ticks_of : List Numbered → ℕ
 ticks_of commands = sum_by line_ticks commands
 

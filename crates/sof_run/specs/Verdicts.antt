@@ -1,5 +1,5 @@
 -- The status of `play` by the bytes of its files.
-use Rattle.std.specs.Prelude.{◌≡◌, ◌⊎◌, ℕ, ◌<◌, ◌≤◌, List, [], ◌∷◌, length, Option, Some, None, Ok, Err, true, false}
+use Rattle.std.specs.Prelude.{◌≡◌, ◌⊎◌, ℕ, ◌<◌, ◌≤◌, List, [], ◌∷◌, length, Option, Some, None, Ok, Err, true}
 use Rattle.std.specs.List.{AllByRecursion}
 use Rattle.sof_desk.specs.Desk.{DeskMeaning, Put, Spoken, DeskCall, Did}
 use Rattle.tplg_model.specs.declared.block.Topology.{Topology}
@@ -14,7 +14,7 @@ use Rattle.sof_run.specs.Words.{Form, play_of}
 use Rattle.sof_run.specs.TopologyBytes.{AreBytes, IsLong, IsFile, IsBroken}
 use Rattle.sof_run.specs.Bindings.{wrong_binding}
 use Rattle.sof_run.specs.Lines.{halt_line, halt_status}
-use Rattle.sof_run.specs.Prepared.{ticks_of, is_built_script}
+use Rattle.sof_run.specs.Prepared.{ticks_of}
 
 -- neither file has
 abbrev pub Fit : List ℕ → List ℕ → Type 0
@@ -24,22 +24,16 @@ Fit topology script = (length topology ≤ 1048576) × (length script ≤ 104857
 abbrev pub IsScript : List ℕ → Read → Type 0
 IsScript script read = (script_of script ≡ Ok read) × (ticks_of read.commands ≤ 60000)
 
--- the files make a run: the topology keeps all rules, the bindings are right, and each command of the script is built
+-- the files make a run: the topology keeps all rules, and the bindings are right
 pub record MakeRun (topology script : List ℕ) (t : Topology) (read : Read) : Type 0 where
   pub lines : IsScript script read
   pub file : IsFile topology t
   pub whole : IsWellFormed t
   pub right : wrong_binding (plan_of t) read.bindings ≡ None
-  pub built : is_built_script read ≡ true
-
--- the topology keeps all rules, and over right bindings a command of the script is not built
-abbrev pub IsUnbuilt : Topology → Read → Type 0
-IsUnbuilt t read =
-    IsWellFormed t × (wrong_binding (plan_of t) read.bindings ≡ None) × (is_built_script read ≡ false)
 
 -- Why the files make no run: a line of the script is at fault; its ticks are too many; no topology has the bytes, and this is
--- their first fault; the topology that has them breaks this rule first, with this least item; it keeps all rules and a binding
--- is wrong, the first on this line; or it keeps them and a command is not built yet.
+-- their first fault; the topology that has them breaks this rule first, with this least item; or it keeps all rules and a binding
+-- is wrong, the first on this line.
 abbrev pub IsHalt : List ℕ → List ℕ → Halt → Type 0
 IsHalt topology script (halts.Script line cause) = script_of script ≡ Err (Line line cause)
 IsHalt topology script (halts.Ticks sum) = (read : Read) × (script_of script ≡ Ok read) × (sum ≡ ticks_of read.commands) × (60000 < sum)
@@ -48,7 +42,6 @@ IsHalt topology script (halts.Rule rule item) = (read : Read) × (t : Topology) 
 IsHalt topology script (halts.Binding line) =
     (read : Read) × (t : Topology)
     × IsScript script read × IsFile topology t × IsWellFormed t × (wrong_binding (plan_of t) read.bindings ≡ Some line)
-IsHalt topology script halts.NotYet = (read : Read) × (t : Topology) × IsScript script read × IsFile topology t × IsUnbuilt t read
 IsHalt topology script halts.OutOfMemory = ⊥
 
 -- the last of the calls
@@ -75,7 +68,7 @@ abbrev pub RunVerdict : (List ℕ → Option (List ℕ)) → List Bound → ℕ 
 RunVerdict holds bs status = ((status ≡ 5) × SomeLongInput holds bs) ⊎ ((status ≡ 0) × AllByRecursion (FitsInput holds) bs)
 
 -- The status by the bytes of the files, whose cases exclude each other where the desk tells the inputs' files too: a desk that
--- failed or want of memory; 5 where topology or script is too long; 4, 8, 2 or 9 where they make no run, and then the line for
+-- failed or want of memory; 5 where topology or script is too long; 4, 8 or 2 where they make no run, and then the line for
 -- it was said; 5 or 0 by the inputs where they make one.
 abbrev pub Verdict : (List ℕ → Option (List ℕ)) → List ℕ → List ℕ → List DeskCall → ℕ → Type 0
 Verdict holds topology script calls status =

@@ -1,18 +1,19 @@
 // The commands, one by one.
-ghost use Rattle.std.specs.Prelude.{◌≡◌, ◌+◌, ◌<◌, ◌≤◌, ◌^◌, ◌∷◌, length, true};
+ghost use Rattle.std.specs.Prelude.{◌≡◌, ◌+◌, ◌<◌, ◌≤◌, ◌^◌, ◌∷◌, ℕ, length, true, false};
 ghost use Rattle.std.specs.List.{list_all};
 ghost use Rattle.sof_base.specs.Ports.{drained};
 ghost use Rattle.sof_io.specs.Bound.{output_slots};
 ghost use Rattle.tplg_plan.specs.Sound.{IsSound};
 ghost use Rattle.sof_script.specs.Text.{answer_line};
+ghost use Rattle.sof_script.specs.declared.script.Command.TheVariants.{Tick};
+ghost use Rattle.sof_script.specs.declared.script.Numbered.{Numbered};
 ghost use Rattle.sof_session.specs.Show.{show_lines, shown_by};
-ghost use Rattle.sof_session.specs.CommandRanges.{is_built, is_in_range, most_sent};
+ghost use Rattle.sof_session.specs.CommandRanges.{is_in_range, most_sent};
 ghost use Rattle.sof_session.specs.Lives.{Seated};
 ghost use Rattle.sof_run.specs.Todo.{DeskPhase, Phase};
 ghost use Rattle.sof_run.specs.Rounds.{earlier as units_before, command_rounds};
 ghost use Rattle.sof_run.specs.Lines.{is_show, with_newline};
 ghost use Rattle.sof_run.specs.Play.{lines_todo, round_todo, rounds_todo, commands_todo};
-ghost use Rattle.sof_run.specs.Halts.{AreBuilt};
 ghost use Rattle.sof_run.specs.Opening.{AreCreated, SameCreated};
 
 use crate::files::write_outputs;
@@ -78,23 +79,45 @@ fn say_lines<D: Desk, P: Dsp>(
     }
 }
 
-// One unit: a turn of the session, the bytes that it wrote, and the lines of the command where it is the last of it.
+// A tick that is not the last of its command: a turn of the session, and the bytes that it wrote.
+fn do_earlier_tick<D: Desk, P: Dsp>(
+    desk: &mut D,
+    session: &mut Session<P>,
+    inputs: &mut Inputs,
+    outputs: &mut Outputs,
+) -> bool
+    requires few { session.old.link.sent < 2 ^ 63 }
+    requires created { AreCreated D.means (output_slots outputs.old) desk.old }
+    requires empty { drained outputs.old ≡ outputs.old }
+    ensures phase { (numbered : Numbered) (n : ℕ) → numbered.command ≡ Tick n → Phase D.means P.means (round_todo (record { numbered = numbered; last = false })) result
+        desk.old (Seated session.old inputs.old (output_slots outputs.old)) desk.new (Seated session.new inputs.new (output_slots outputs.new)) }
+    ensures plan { session.new.plan ≡ session.old.plan }
+    ensures sent { session.new.link.sent ≡ session.old.link.sent }
+    ensures created { AreCreated D.means (output_slots outputs.new) desk.new }
+    ensures empty { drained outputs.new ≡ outputs.new }
+{
+    session.tick(inputs, outputs);
+    let done = write_outputs(desk, outputs);
+    outputs.drain();
+    done
+}
+
+// The last unit of a command: a turn of the session, the bytes that it wrote, those of ticks before its messages too, and the
+// lines of the command.
 fn do_round<D: Desk, P: Dsp>(
     numbered: &Numbered,
-    last: bool,
     desk: &mut D,
     session: &mut Session<P>,
     inputs: &mut Inputs,
     outputs: &mut Outputs,
     line: &mut Line,
 ) -> bool
-    requires built { is_built numbered.now.command ≡ true }
     requires numbers { is_in_range numbered.now.command ≡ true }
     requires few { session.old.link.sent < 2 ^ 63 }
     requires plan { IsSound session.old.plan }
     requires created { AreCreated D.means (output_slots outputs.old) desk.old }
     requires empty { drained outputs.old ≡ outputs.old }
-    ensures phase { Phase D.means P.means (round_todo (record { numbered = numbered.now; last = last })) result
+    ensures phase { Phase D.means P.means (round_todo (record { numbered = numbered.now; last = true })) result
         desk.old (Seated session.old inputs.old (output_slots outputs.old)) desk.new (Seated session.new inputs.new (output_slots outputs.new)) }
     ensures plan { session.new.plan ≡ session.old.plan }
     ensures sent { session.new.link.sent ≤ session.old.link.sent + most_sent numbered.now.command }
@@ -104,13 +127,10 @@ fn do_round<D: Desk, P: Dsp>(
     let answer = session.step(&numbered.command, inputs, outputs);
     let written = write_outputs(desk, outputs);
     outputs.drain();
-    if !written {
-        return false;
-    }
-    if last {
+    if written {
         say_lines(numbered, &answer, desk, session, line)
     } else {
-        true
+        false
     }
 }
 
@@ -133,7 +153,6 @@ fn do_command<D: Desk, P: Dsp>(
     outputs: &mut Outputs,
     line: &mut Line,
 ) -> bool
-    requires built { is_built numbered.now.command ≡ true }
     requires numbers { is_in_range numbered.now.command ≡ true }
     requires few { session.old.link.sent < 2 ^ 63 }
     requires plan { IsSound session.old.plan }
@@ -147,11 +166,11 @@ fn do_command<D: Desk, P: Dsp>(
     ensures empty { drained outputs.new ≡ outputs.new }
 {
     for _ in 0..earlier(&numbered.command) {
-        if !do_round(numbered, false, desk, session, inputs, outputs, line) {
+        if !do_earlier_tick(desk, session, inputs, outputs) {
             return false;
         }
     }
-    do_round(numbered, true, desk, session, inputs, outputs, line)
+    do_round(numbered, desk, session, inputs, outputs, line)
 }
 
 /// Each command in turn, up to a failure of the desk; answers whether all were done. The outputs are empty before it, and
@@ -163,7 +182,6 @@ pub fn do_commands<D: Desk, P: Dsp>(
     inputs: &mut Inputs,
     outputs: &mut Outputs,
 ) -> bool
-    requires built { AreBuilt commands.now }
     requires numbers { list_all (λ n. is_in_range n.command) commands.now ≡ true }
     requires few { length commands.now < 2 ^ 32 }
     requires first { session.old.link.sent ≡ 0 }

@@ -134,10 +134,6 @@ pub fn write_halt(halt: Halt, line: &mut Line)
         Halt::Broken(fault) => write_fault(fault, line),
         Halt::Rule { rule, item } => write_rule(b"topology rule ", rule, item, line),
         Halt::Binding { line: number } => write_script(number, b"binding", line),
-        Halt::NotYet => {
-            line.clear();
-            line.say(b"not yet\n");
-        }
         Halt::OutOfMemory => {
             line.clear();
             line.say(b"no memory\n");
@@ -197,7 +193,6 @@ impl Halt {
             Halt::Script { .. } | Halt::Binding { .. } => 4,
             Halt::Ticks(_) => 8,
             Halt::Broken(_) | Halt::Rule { .. } => 2,
-            Halt::NotYet => 9,
             Halt::OutOfMemory => 7,
         }
     }

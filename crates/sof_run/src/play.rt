@@ -180,8 +180,7 @@ fn do_words<D: Desk, P: Dsp>(alloc: Global, words: &[String], desk: &mut D, dsp:
 /// appended, and then the command's lines are said. The statuses: 0 all commands were carried out, the topology is right, or
 /// the source's file was made; 1 the words are of no form; 2 the topology file is broken, or the topology breaks a rule; 3 the
 /// desk failed; 4 a line of the script is at fault, or binds what it may not, or the source is refused; 5 a file is too long;
-/// 7 memory was wanting; 8 the script has more than 60000 ticks; 9 the topology or something that the script asks for is not
-/// built yet.
+/// 7 memory was wanting; 8 the script has more than 60000 ticks, with those of its lags.
 pub fn run<D: Desk, P: Dsp>(alloc: Global, words: &[String], desk: &mut D, dsp: P) -> Ended<P>
     requires off { P.means.on dsp ≡ None }
     requires pending { P.means.pending dsp ≡ 0 }

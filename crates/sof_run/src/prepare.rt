@@ -7,20 +7,18 @@ ghost use Rattle.tplg_plan.specs.Sound.{IsSound};
 ghost use Rattle.tplg_graph.specs.TopologyNeed.{need_of};
 ghost use Rattle.tplg_graph.specs.PlanOf.{plan_of};
 ghost use Rattle.sof_script.specs.Commands.{script_read};
-ghost use Rattle.std.specs.List.{list_all};
 ghost use Rattle.sof_run.specs.Bindings.{wrong_binding as wrong_of};
-ghost use Rattle.sof_session.specs.CommandRanges.{is_built as is_carried_out};
-ghost use Rattle.sof_run.specs.Prepared.{Ready as IsReady, is_built_script, prepared, prepared_bindings, prepared_rules, prepared_script};
+ghost use Rattle.sof_run.specs.Prepared.{Ready as IsReady, prepared, prepared_bindings, prepared_rules, prepared_script};
 ghost use Rattle.sof_run.specs.Halts.{Halts, HaltsFor, HaltsAtTopology, HaltsAtRules, IsCarriable};
 
 use crate::bindings::wrong_binding;
-use sof_script::{Command, Numbered, Script, ScriptFault, parse, ticks};
+use sof_script::{Script, ScriptFault, parse, ticks};
 use std::alloc::Global;
 use tplg_graph::{Plan, PlanFault, plan};
 use tplg_model::Topology;
 use tplg_read::{TplgFault, read};
 
-/// The most ticks of a script.
+/// The most ticks of a script, with those of its lags.
 const MOST_TICKS: u64 = 60000;
 
 /// A plan, and the commands to be carried out over it.
@@ -35,7 +33,7 @@ pub struct Ready {
 pub enum Halt {
     /// A line of the script is at fault; the causes are those of `ScriptFault`.
     Script { line: u32, cause: u8 },
-    /// The script's ticks sum to so many, which are too many.
+    /// The script's ticks and lags sum to so many, which are too many.
     Ticks(u64),
     /// The topology file has this fault.
     Broken(TplgFault),
@@ -43,8 +41,6 @@ pub enum Halt {
     Rule { rule: u8, item: u32 },
     /// The binding of this line is wrong.
     Binding { line: u32 },
-    /// A command of the script is not built yet.
-    NotYet,
     /// Memory was wanting.
     OutOfMemory,
 }
@@ -88,37 +84,7 @@ pub fn ruled_plan(alloc: Global, topology: &Topology) -> Result<Plan, Halt>
     }
 }
 
-// Whether a command is carried out so far.
-fn is_built(command: &Command) -> bool
-    ensures { result ≡ is_carried_out command.now }
-{
-    match command {
-        Command::Load | Command::Unload | Command::Suspend | Command::Resume => true,
-        Command::Show | Command::Tick(_) => true,
-        Command::Open(_) | Command::Close(_) | Command::Params(_, _) => true,
-        Command::Start(_) | Command::Stop(_) => true,
-        Command::Pause(_) | Command::Release(_) => true,
-        Command::Refuse(_, _) | Command::Drop(_) | Command::Lose(_) => true,
-        Command::Set(_, _) | Command::Bytes(_, _) => true,
-        Command::Get(_) | Command::Read(_) => true,
-        Command::Lag(_, _) => false,
-    }
-}
-
-fn are_built(commands: &[Numbered]) -> bool
-    ensures { result ≡ list_all (λ n. is_carried_out n.command) commands.now }
-{
-    commands.iter().all(|numbered| is_built(&numbered.command))
-}
-
-// Whether each command of a script is built.
-fn asks_for_built(script: &Script) -> bool
-    ensures { result ≡ is_built_script (script_read script.now) }
-{
-    are_built(script.commands.items())
-}
-
-// A plan with a script of right bindings, of which all is built.
+// A plan with a script of right bindings.
 fn ready_for(plan: Plan, script: Script) -> Result<Ready, Halt>
     requires { IsSound plan }
     ensures { MatchResult result
@@ -127,9 +93,6 @@ fn ready_for(plan: Plan, script: Script) -> Result<Ready, Halt>
 {
     if let Some(line) = wrong_binding(&plan, script.bindings.items()) {
         return Err(Halt::Binding { line });
-    }
-    if !asks_for_built(&script) {
-        return Err(Halt::NotYet);
     }
     Ok(Ready { plan, script })
 }
@@ -160,7 +123,7 @@ fn prepare_script(alloc: Global, topology: &[u8], script: Script) -> Result<Read
 }
 
 /// What the bytes of a topology and of a script come to. The script's lines are looked at first, then its ticks, then the
-/// topology and its rules, then the bindings, and last whether all is built.
+/// topology and its rules, and last the bindings.
 pub fn prepare(alloc: Global, topology: &[u8], script: &[u8]) -> Result<Ready, Halt>
     requires { length script.now < 2 ^ 32 - 1 }
     ensures { MatchResult result

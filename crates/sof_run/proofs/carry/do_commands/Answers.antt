@@ -2,9 +2,6 @@ use Rattle.std.proofs.Common.{◌≡◌, true, ◌≤◌, length, sym, subst, �
 use Rattle.std.proofs.lemmas.List.{drop_all}
 use Rattle.sof_io.specs.Bound.{output_slots}
 use Rattle.tplg_plan.specs.Sound.{IsSound}
-use Rattle.sof_script.specs.declared.script.Numbered.{Numbered}
-use Rattle.sof_session.specs.CommandRanges.{is_built}
-use Rattle.sof_run.proofs.Built.{built_at}
 use Rattle.sof_session.specs.Lives.{Seated}
 use Rattle.sof_run.specs.Rounds.{command_rounds}
 use Rattle.sof_run.specs.Todo.{Phase}
@@ -36,11 +33,6 @@ pub returns : goal.returns
 returns g c =
     let past : length c.args.commands.now ≤ c.loop-numbered.numbered-index = c.loop-numbered-test.false in
     rw drop_all at c.loop-numbered.invariant.so_far
-
-pub do_command-requires-clause-built : goal.do_command-requires-clause-built
-do_command-requires-clause-built g c =
-    let here = built_at c.args.commands.now c.loop-numbered.numbered-index c.numbered-item.result c.loop-numbered-test.true c.requires.built in
-    subst (λ (n : Numbered). is_built n.command ≡ true) (sym c.numbered-item.is) here
 
 pub do_command-requires-clause-plan : goal.do_command-requires-clause-plan
 do_command-requires-clause-plan g c = subst IsSound (sym c.loop-numbered.invariant.plan) c.requires.plan

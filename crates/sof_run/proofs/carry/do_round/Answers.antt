@@ -8,25 +8,12 @@ use Rattle.sof_run.specs.Rounds.{Round}
 use Rattle.sof_run.specs.Todo.{DeskPhase}
 use Rattle.sof_run.specs.Play.{lines_todo, round_todo}
 use Rattle.sof_run.specs.Opening.{AreCreated}
-use Rattle.sof_run.proofs.Commands.{round_said, round_cut, same_slots, shown_same, show_stays, carries_on, none_said}
+use Rattle.sof_run.proofs.Commands.{round_said, round_cut, same_slots, shown_same, show_stays, carries_on}
 use Rattle.sof_run.proofs.Openings.{created_same}
 use Rattle.sof_run.proofs.carry.do_round.Goals as goal
 
-pub step-answer-requires-clause-built : goal.step-answer-requires-clause-built
-step-answer-requires-clause-built g c = c.requires.built
-
-pub returns-then-not-written-clause-phase : goal.returns-then-not-written-clause-phase
-returns-then-not-written-clause-phase g c =
-    let means = g.D.Desk.means in
-    let device = g.P.Dsp.means in
-    let round : Round = record { numbered = c.args.numbered.now; last = c.args.last } in
-    let slots = ap output_slots c.drain.ensures ∙ slots-drained c.step-answer.new.out ∙ c.step-answer.ensures.slots in
-    same_slots means device (round_todo round) false _ _ _ _ _ (output_slots c.args.outputs.now) (output_slots c.drain.new.self) slots
-    (round_cut means device round c.step-answer.result (shown_by c.args.numbered.now.command c.args.session.now.plan c.args.session.now.kept) (written_in c.step-answer.new.out) _ _ _ _ (carries_on device _ _ _ _ _ _ _ _ c.requires.empty c.step-answer.ensures.stepped c.step-answer.ensures.plan c.step-answer.ensures.heap c.step-answer.ensures.agreed)
-    (rw c.if-not-written.true at c.write_outputs-written.ensures.phase))
-
-pub returns-then-last-clause-phase : goal.returns-then-last-clause-phase
-returns-then-last-clause-phase g c =
+pub returns-then-written-clause-phase : goal.returns-then-written-clause-phase
+returns-then-written-clause-phase g c =
     let means = g.D.Desk.means in
     let device = g.P.Dsp.means in
     let numbered = c.args.numbered.now in
@@ -35,44 +22,34 @@ returns-then-last-clause-phase g c =
     let slots = ap output_slots c.drain.ensures ∙ slots-drained c.step-answer.new.out ∙ c.step-answer.ensures.slots in
     let same = shown_same numbered.command c.args.session.now.plan c.step-answer.new.self.plan c.args.session.now.kept c.step-answer.new.self.kept c.step-answer.ensures.plan (show_stays device _ _ numbered.command _ _ _ _ _ c.step-answer.ensures.stepped) in
     let said = subst (λ (xs : List (List ℕ)). DeskPhase means (lines_todo xs) c.say_lines.result c.write_outputs-written.new.desk c.say_lines.new.desk) (ap (λ (xs : List (List ℕ)). answer_line numbered.line c.step-answer.result ∷ xs) same) c.say_lines.ensures.phase in
-    rw c.if-last.true (same_slots means device (round_todo round) c.say_lines.result _ _ _ _ _ (output_slots c.args.outputs.now) (output_slots c.drain.new.self) slots
+    same_slots means device (round_todo round) c.say_lines.result _ _ _ _ _ (output_slots c.args.outputs.now) (output_slots c.drain.new.self) slots
     (round_said means device round c.step-answer.result shown (written_in c.step-answer.new.out) c.say_lines.result _ _ _ _ _ (carries_on device _ _ _ _ _ _ _ _ c.requires.empty c.step-answer.ensures.stepped c.step-answer.ensures.plan c.step-answer.ensures.heap c.step-answer.ensures.agreed)
-    (rw c.if-not-written.false at c.write_outputs-written.ensures.phase) said))
+    (rw c.if-written.true at c.write_outputs-written.ensures.phase) said)
 
-pub returns-else-last-clause-phase : goal.returns-else-last-clause-phase
-returns-else-last-clause-phase g c =
+pub returns-else-written-clause-phase : goal.returns-else-written-clause-phase
+returns-else-written-clause-phase g c =
     let means = g.D.Desk.means in
     let device = g.P.Dsp.means in
-    let round : Round = record { numbered = c.args.numbered.now; last = false } in
-    let shown = shown_by c.args.numbered.now.command c.args.session.now.plan c.args.session.now.kept in
+    let round : Round = record { numbered = c.args.numbered.now; last = true } in
     let slots = ap output_slots c.drain.ensures ∙ slots-drained c.step-answer.new.out ∙ c.step-answer.ensures.slots in
-    rw c.if-last.false (same_slots means device (round_todo round) true _ _ _ _ _ (output_slots c.args.outputs.now) (output_slots c.drain.new.self) slots
-    (round_said means device round c.step-answer.result shown (written_in c.step-answer.new.out) true _ _ _ _ _ (carries_on device _ _ _ _ _ _ _ _ c.requires.empty c.step-answer.ensures.stepped c.step-answer.ensures.plan c.step-answer.ensures.heap c.step-answer.ensures.agreed)
-    (rw c.if-not-written.false at c.write_outputs-written.ensures.phase) (none_said means c.write_outputs-written.new.desk)))
+    same_slots means device (round_todo round) false _ _ _ _ _ (output_slots c.args.outputs.now) (output_slots c.drain.new.self) slots
+    (round_cut means device round c.step-answer.result (shown_by c.args.numbered.now.command c.args.session.now.plan c.args.session.now.kept) (written_in c.step-answer.new.out) _ _ _ _ (carries_on device _ _ _ _ _ _ _ _ c.requires.empty c.step-answer.ensures.stepped c.step-answer.ensures.plan c.step-answer.ensures.heap c.step-answer.ensures.agreed)
+    (rw c.if-written.false at c.write_outputs-written.ensures.phase))
 
-pub returns-then-not-written-clause-created : goal.returns-then-not-written-clause-created
-returns-then-not-written-clause-created g c =
-    let slots = ap output_slots c.drain.ensures ∙ slots-drained c.step-answer.new.out ∙ c.step-answer.ensures.slots in
-    subst (λ (xs : List ℕ). AreCreated g.D.Desk.means xs c.write_outputs-written.new.desk) (sym slots)
-    (created_same g.D.Desk.means (output_slots c.args.outputs.now) _ _ c.write_outputs-written.ensures.created c.requires.created)
-
-pub returns-then-last-clause-created : goal.returns-then-last-clause-created
-returns-then-last-clause-created g c =
+pub returns-then-written-clause-created : goal.returns-then-written-clause-created
+returns-then-written-clause-created g c =
     let slots = ap output_slots c.drain.ensures ∙ slots-drained c.step-answer.new.out ∙ c.step-answer.ensures.slots in
     subst (λ (xs : List ℕ). AreCreated g.D.Desk.means xs c.say_lines.new.desk) (sym slots)
     (created_same g.D.Desk.means (output_slots c.args.outputs.now) _ _ (λ slot. c.say_lines.ensures.created slot ∙ c.write_outputs-written.ensures.created slot) c.requires.created)
 
-pub returns-else-last-clause-created : goal.returns-else-last-clause-created
-returns-else-last-clause-created g c =
+pub returns-else-written-clause-created : goal.returns-else-written-clause-created
+returns-else-written-clause-created g c =
     let slots = ap output_slots c.drain.ensures ∙ slots-drained c.step-answer.new.out ∙ c.step-answer.ensures.slots in
     subst (λ (xs : List ℕ). AreCreated g.D.Desk.means xs c.write_outputs-written.new.desk) (sym slots)
     (created_same g.D.Desk.means (output_slots c.args.outputs.now) _ _ c.write_outputs-written.ensures.created c.requires.created)
 
-pub returns-then-not-written-clause-empty : goal.returns-then-not-written-clause-empty
-returns-then-not-written-clause-empty g c = rw c.drain.ensures (drained-drained c.step-answer.new.out)
+pub returns-then-written-clause-empty : goal.returns-then-written-clause-empty
+returns-then-written-clause-empty g c = rw c.drain.ensures (drained-drained c.step-answer.new.out)
 
-pub returns-then-last-clause-empty : goal.returns-then-last-clause-empty
-returns-then-last-clause-empty g c = rw c.drain.ensures (drained-drained c.step-answer.new.out)
-
-pub returns-else-last-clause-empty : goal.returns-else-last-clause-empty
-returns-else-last-clause-empty g c = rw c.drain.ensures (drained-drained c.step-answer.new.out)
+pub returns-else-written-clause-empty : goal.returns-else-written-clause-empty
+returns-else-written-clause-empty g c = rw c.drain.ensures (drained-drained c.step-answer.new.out)

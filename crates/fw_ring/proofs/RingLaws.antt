@@ -6,9 +6,9 @@ use borrow.Rule.Slice.PartMut.{put_mid}
 use Rattle.sof_base.specs.Samples.{Frame, sample_of, frames_of}
 use Rattle.fw_ring.specs.declared.ring.Ring.TheInside.{Inside}
 use Rattle.fw_ring.specs.declared.window.Window.{Window}
-use Rattle.fw_ring.specs.RingState.{RingState, IsRing, moved_on}
+use Rattle.fw_ring.specs.RingState.{RingState, IsRing, place_after}
 use Rattle.fw_ring.specs.RingWords.{IsWindow, window_frames, round_from, wrapped}
-use Rattle.fw_ring.specs.RingLaid.{own_words, ring_state, IsLaid}
+use Rattle.fw_ring.specs.RingLaid.{own_words, ring_state, IsRingLaid}
 use Rattle.fw_ring.proofs.RoundLaws.{by_less, wrapped-low, wrapped-high, wrapped-inside, get-round}
 use Rattle.fw_ring.proofs.FrameLaws.{length-frames, get-frame}
 use Rattle.fw_ring.proofs.WindowLaws.{length-window, window-whole}
@@ -23,12 +23,12 @@ unfolding own_words
 own-put n ws part fits long =
     ap (take n) (drop_at (take 8 ws) (part ++ drop n (drop 8 ws)) 8 (omega (arith, length-take 8 ws))) ∙ take_at part (drop n (drop 8 ws)) n long
 
-moved-some : (m start n : ℕ) → 0 < m → moved_on m start n ≡ (start + n) % m
+moved-some : (m start n : ℕ) → 0 < m → place_after m start n ≡ (start + n) % m
 moved-some zero start n some = absurd (omega arith)
 moved-some (suc m) start n some = refl
 
 -- a place in the round of words is one in the round of frames
-pub place-words : (cap c start j k : ℕ) → start < cap → j ≤ cap → k < c → moved_on (cap * c) (start * c) (j * c + k) ≡ wrapped cap start j * c + k
+pub place-words : (cap c start j k : ℕ) → start < cap → j ≤ cap → k < c → place_after (cap * c) (start * c) (j * c + k) ≡ wrapped cap start j * c + k
 place-words cap c start j k inside le low =
     let one : (0 + 1) * c ≤ cap * c = mul-le-mul_right c (let l : 0 + 1 ≤ cap = omega arith in l) in
     let some : 0 < cap * c = omega (arith, one) in
@@ -48,22 +48,22 @@ place-words cap c start j k inside le low =
     ap (λ p. p % (cap * c)) sum ∙ add-mod_left (cap * c) (q * c + k) ∙ mod-eq_of_lt under ∙ ap (λ p. p * c + k) (sym (wrapped-high cap start j far)))
 
 -- the start in words
-pub start-words : (w : Window) (n : ℕ) → IsWindow w → n ≤ w.held → moved_on (w.words / w.channels * w.channels) (w.start * w.channels) (n * w.channels) ≡ wrapped w.capacity w.start n * w.channels
+pub start-words : (w : Window) (n : ℕ) → IsWindow w → n ≤ w.held → place_after (w.words / w.channels * w.channels) (w.start * w.channels) (n * w.channels) ≡ wrapped w.capacity w.start n * w.channels
 start-words w n is few =
-    ap (λ m. moved_on (m * w.channels) (w.start * w.channels) (n * w.channels)) (sym is.capacity) ∙ by_less 0 w.capacity
+    ap (λ m. place_after (m * w.channels) (w.start * w.channels) (n * w.channels)) (sym is.capacity) ∙ by_less 0 w.capacity
     (λ some.
-    ap (moved_on (w.capacity * w.channels) (w.start * w.channels)) (let e : n * w.channels ≡ n * w.channels + 0 = omega arith in e)
+    ap (place_after (w.capacity * w.channels) (w.start * w.channels)) (let e : n * w.channels ≡ n * w.channels + 0 = omega arith in e)
     ∙ place-words w.capacity w.channels w.start n 0 (is.start.1 some) (omega (arith, is.held)) (omega (arith, is.channels))
     ∙ (let e : wrapped w.capacity w.start n * w.channels + 0 ≡ wrapped w.capacity w.start n * w.channels = omega arith in e))
     (λ none.
     let empty : w.capacity ≡ 0 = omega arith in let few' : n ≡ 0 = omega (arith, is.held) in let first : w.start ≡ 0 = omega (arith, is.start) in
-    ap (λ m. moved_on (m * w.channels) (w.start * w.channels) (n * w.channels)) empty
-    ∙ ap (λ m. moved_on m (w.start * w.channels) (n * w.channels)) (let e : 0 * w.channels ≡ 0 = omega arith in e)
+    ap (λ m. place_after (m * w.channels) (w.start * w.channels) (n * w.channels)) empty
+    ∙ ap (λ m. place_after m (w.start * w.channels) (n * w.channels)) (let e : 0 * w.channels ≡ 0 = omega arith in e)
     ∙ sym (ap (λ p. p * w.channels) (wrapped-high w.capacity w.start n (omega arith)) ∙ (let e : (w.start + n - w.capacity) * w.channels ≡ 0 * w.channels = ap (λ p. p * w.channels) (let z : w.start + n - w.capacity ≡ 0 = omega arith in z) in e ∙ (let e : 0 * w.channels ≡ 0 = omega arith in e))))
 
 -- where the samples of a frame lie
 pub sample-words : (w : Window) (ws : List ℤ) (j k : ℕ) → IsWindow w → 8 + w.words ≤ length ws → w.capacity * w.channels ≤ w.words → j < w.held → k < w.channels
-    → sample_of (get_or (window_frames w (own_words w.words ws)) j []) k ≡ get_or ws (8 + moved_on (w.words / w.channels * w.channels) (w.start * w.channels) (j * w.channels + k)) (pos 0)
+    → sample_of (get_or (window_frames w (own_words w.words ws)) j []) k ≡ get_or ws (8 + place_after (w.words / w.channels * w.channels) (w.start * w.channels) (j * w.channels + k)) (pos 0)
 unfolding window_frames own_words
 sample-words w ws j k is fits room lt low =
     let own = take w.words (drop 8 ws) in let all = frames_of w.channels w.capacity own in
@@ -80,7 +80,7 @@ sample-words w ws j k is fits room lt low =
     ∙ get_or-drop (p * w.channels) own k (pos 0)
     ∙ get_or-take w.words (drop 8 ws) (p * w.channels + k) (pos 0) (omega (arith, most, room))
     ∙ get_or-drop 8 ws (p * w.channels + k) (pos 0)
-    ∙ ap (λ q. get_or ws (8 + q) (pos 0)) (sym (ap (λ m. moved_on (m * w.channels) (w.start * w.channels) (j * w.channels + k)) (sym is.capacity) ∙ place-words w.capacity w.channels w.start j k (is.start.1 some) (omega (arith, is.held)) low))
+    ∙ ap (λ q. get_or ws (8 + q) (pos 0)) (sym (ap (λ m. place_after (m * w.channels) (w.start * w.channels) (j * w.channels + k)) (sym is.capacity) ∙ place-words w.capacity w.channels w.start j k (is.start.1 some) (omega (arith, is.held)) low))
 
 -- ---- what the invariant tells
 
@@ -92,7 +92,7 @@ pub own-slice : (n : ℕ) (ws : List ℤ) → take (8 + n - 8) (drop 8 ws) ≡ o
 unfolding own_words
 own-slice n ws = ap (λ k. take k (drop 8 ws)) (let e : 8 + n - 8 ≡ n = omega arith in e)
 
-module _ (r : Inside) (v : IsLaid r) where
+module _ (r : Inside) (v : IsRingLaid r) where
   pub held : length (window_frames r.window (own_words r.window.words r.piece.words)) ≡ r.window.held
   held = length-window r.window (own_words r.window.words r.piece.words) v.window
 

@@ -17,7 +17,7 @@ ring_state r = record {
   piece = r.piece;
 }
 
-pub record IsLaid (r : Inside) : Type 0 where
+pub record IsRingLaid (r : Inside) : Type 0 where
   pub window : IsWindow r.window
   pub within : 8 + r.window.words ≤ length r.piece.words
   pub size : (length r.piece.words * 4 ≡ r.piece.size) × (r.piece.size < 2 ^ 32)

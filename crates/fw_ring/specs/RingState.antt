@@ -17,9 +17,9 @@ abbrev pub capacity_of : RingState → ℕ
 capacity_of r = r.words / r.channels
 
 -- the place n past a start, among so many places in a round; 0 where there is no place
-abbrev pub moved_on : ℕ → ℕ → ℕ → ℕ
-moved_on zero start n = 0
-moved_on (suc m) start n = (start + n) % suc m
+abbrev pub place_after : ℕ → ℕ → ℕ → ℕ
+place_after zero start n = 0
+place_after (suc m) start n = (start + n) % suc m
 
 -- what is so of a ring: a frame has 1 to 8 samples, each frame has as many, and there is room for all
 pub record IsRing (r : RingState) : Type 0 where

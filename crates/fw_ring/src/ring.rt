@@ -1,7 +1,7 @@
 // A ring over a piece.
 ghost use Rattle.std.specs.Prelude.{◌≡◌, ℕ, ℤ, pos, [], ◌+◌, ◌*◌, ◌/◌, ◌%◌, ◌<◌, ◌≤◌, ◌^◌, ◌++◌, length, take, drop, slice_index_or};
 ghost use Rattle.sof_base.specs.Samples.{sample_of, frames_of, samples_of};
-ghost use Rattle.fw_ring.specs.RingState.{capacity_of, moved_on, IsRing, SameRing};
+ghost use Rattle.fw_ring.specs.RingState.{capacity_of, place_after, IsRing, SameRing};
 ghost use Rattle.fw_ring.specs.RingWords.{IsWindow, window_frames};
 ghost use Rattle.fw_ring.specs.RingLaid.{own_words};
 
@@ -21,11 +21,11 @@ impl Model for Ring {
 
     ghost Value = { RingState };
 
-    ghost use Rattle.fw_ring.specs.RingLaid.{ring_state, IsLaid};
+    ghost use Rattle.fw_ring.specs.RingLaid.{ring_state, IsRingLaid};
 
     ghost view = { ring_state };
 
-    ghost invariant = { IsLaid };
+    ghost invariant = { IsRingLaid };
 }
 
 impl Ring {
@@ -118,7 +118,7 @@ impl Ring {
     /// Drops the first `n` frames.
     pub fn take(&mut self, n: u32)
         requires { n ≤ length self.old.frames }
-        ensures { self.new ≡ record { frames = drop n self.old.frames; words = self.old.words; channels = self.old.channels; start = moved_on (capacity_of self.old * self.old.channels) self.old.start (n * self.old.channels); piece = self.old.piece } }
+        ensures { self.new ≡ record { frames = drop n self.old.frames; words = self.old.words; channels = self.old.channels; start = place_after (capacity_of self.old * self.old.channels) self.old.start (n * self.old.channels); piece = self.old.piece } }
     {
         self.window = self.window.shortened(n as usize);
     }
@@ -126,7 +126,7 @@ impl Ring {
     /// The piece that the ring was made over.
     pub fn piece(&self) -> &Piece
         ensures piece { result.now ≡ self.now.piece }
-        ensures words { (j k : ℕ) → j < length self.now.frames → k < self.now.channels → sample_of (slice_index_or self.now.frames j []) k ≡ slice_index_or result.now.words (8 + moved_on (capacity_of self.now * self.now.channels) self.now.start (j * self.now.channels + k)) (pos 0) }
+        ensures words { (j k : ℕ) → j < length self.now.frames → k < self.now.channels → sample_of (slice_index_or self.now.frames j []) k ≡ slice_index_or result.now.words (8 + place_after (capacity_of self.now * self.now.channels) self.now.start (j * self.now.channels + k)) (pos 0) }
     {
         &self.piece
     }
@@ -148,6 +148,18 @@ fn extend(words: &mut [Sample], window: Window, samples: &[Sample]) -> Window
     ensures window { result ≡ record window { held = window.held + length samples.now / window.channels } }
     ensures frames { window_frames result (own_words result.words words.new) ≡ window_frames window (own_words window.words words.old) ++ frames_of window.channels (length samples.now / window.channels) samples.now }
 {
-    let count = samples.len() / window.channels;
+    let count = frames_in(samples.len(), window.channels);
     window.extended(&mut words[8..8 + window.words], count, samples)
+}
+
+// How many frames so many samples are: one or two channels, as most streams have, take no division.
+fn frames_in(samples: usize, channels: usize) -> usize
+    requires { 1 ≤ channels }
+    ensures { result ≡ samples / channels }
+{
+    match channels {
+        1 => samples,
+        2 => samples / 2,
+        _ => samples / channels,
+    }
 }

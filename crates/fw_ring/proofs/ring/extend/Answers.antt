@@ -1,4 +1,4 @@
-use Rattle.std.proofs.Common.{◌≡◌, ap, ◌∙◌, ℕ, ℤ, List, ◌+◌, ◌-◌, ◌/◌, ◌++◌, length, drop, arith, length-take, length-drop}
+use Rattle.std.proofs.Common.{◌≡◌, ap, ◌∙◌, ℕ, ◌+◌, ◌-◌, ◌++◌, length, drop, arith, length-take, length-drop}
 use borrow.Rule.Slice.PartMut.{put_mid}
 use Rattle.fw_ring.specs.declared.window.Window.{Window}
 use Rattle.sof_base.specs.Samples.{frames_of}
@@ -13,7 +13,8 @@ returns-clause-frames c =
     let e : 8 + n - 8 ≡ n = omega arith in
     let long : length new ≡ n = omega (arith, c.extended.auto.words, length-take (8 + n - 8) (drop 8 ws), length-drop 8 ws, c.requires.words) in
     let same : c.extended.result.words ≡ n = ap (λ (x : Window). x.words) c.extended.ensures.window in
+    let count = c.frames_in-count.ensures in
     (λ i. window_frames c.extended.result (own_words (same i) (put_mid 8 (e i) ws new)))
     ∙ ap (window_frames c.extended.result) (own-put n ws new c.requires.words long)
     ∙ c.extended.ensures.frames
-    ∙ ap (λ (l : List ℤ). window_frames w l ++ frames_of w.channels (length c.args.samples.now / w.channels) c.args.samples.now) (own-slice n ws)
+    ∙ (λ i. window_frames w (own-slice n ws i) ++ frames_of w.channels (count i) c.args.samples.now)

@@ -1,0 +1,5 @@
+-- Lemmas on places, marks and walks.
+pub mod Marking
+pub mod Reaching
+pub mod Charts
+pub mod Leaves

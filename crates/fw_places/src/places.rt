@@ -1,0 +1,174 @@
+// Ids by places, and joins between these.
+ghost use Rattle.std.specs.Prelude.{◌≡◌, ◌==◌, ◌&&◌, ◌≤◌, ℕ, true, false, length, map, take, position, slice_set, slice_index_or};
+ghost use Rattle.std.specs.List.{list_any, AllByRecursion};
+ghost use Rattle.fw_places.specs.Walks.{is_listed, IsListed, place_in, by_places, leads_by, is_marked, is_reached};
+ghost use Rattle.fw_places.specs.Leaving.{AreFound};
+
+use crate::walk::{find_marked, spread};
+use arrayvec::ArrayVec;
+use std::marker::Model;
+use stream_law::Join;
+
+/// At most 256 ids, each at a place, and joins of these by the places of their ends. Contracts see the joins by ids.
+#[derive(Drop)]
+pub struct Places {
+    ids: ArrayVec<u32, 256>,
+    ends: [Join; 256],
+    count: usize,
+}
+
+impl Model for Places {
+    ghost use Rattle.fw_places.specs.Charts.{Chart, chart_of, IsChart};
+
+    ghost Value = { Chart };
+
+    ghost view = { λ p. chart_of p.ids.items p.ends p.count };
+
+    ghost invariant = { λ p. IsChart p.ids.items p.ends p.count };
+}
+
+impl Places {
+    /// Those of these ids and of joins of these.
+    pub fn of(ids: ArrayVec<u32, 256>, joins: &[Join]) -> Places
+        requires listed { AllByRecursion (IsListed ids.items) joins.now }
+        requires few { length joins.now ≤ 256 }
+        ensures ids { result.ids ≡ ids.items }
+        ensures joins { result.joins ≡ joins.now }
+    {
+        let mut ends = [Join { source: 0, sink: 0 }; 256];
+        resolve(joins, ids.as_slice(), &mut ends);
+        Places {
+            ids,
+            ends,
+            count: joins.len(),
+        }
+    }
+
+    /// The ids, in the order of their places.
+    pub fn ids(&self) -> &[u32]
+        ensures ids { result.now ≡ self.now.ids }
+        ensures few { length self.now.ids ≤ 256 }
+    {
+        self.ids.as_slice()
+    }
+
+    /// The place of an id; where it is not listed, the place behind the last.
+    pub fn place(&self, id: u32) -> usize
+        ensures place { result ≡ place_in self.now.ids id }
+        ensures within { result ≤ 256 }
+    {
+        place_of(self.ids.as_slice(), id)
+    }
+
+    /// What walks lead to from one id, or from what walks lead to it where they go back.
+    pub fn reached(&self, id: u32, back: bool) -> [bool; 257]
+        ensures { (x : ℕ) → is_listed self.now.ids x ≡ true → is_marked self.now.ids result x ≡ leads_by back self.now.joins id x }
+    {
+        let _ = &self.ids;
+        let place = self.place(id);
+        let mut marks = [false; 257];
+        marks[place] = true;
+        let mut found = ArrayVec::new();
+        found.push(place as u16);
+        self.spread_from(&mut marks, &mut found, back);
+        marks
+    }
+
+    /// Marks an id.
+    pub fn mark(&self, marks: &mut [bool], id: u32)
+        requires { length marks.old ≡ 257 }
+        ensures { marks.new ≡ slice_set marks.old (place_in self.now.ids id) true }
+    {
+        marks[place_of(self.ids.as_slice(), id)] = true;
+    }
+
+    /// Whether an id is marked.
+    pub fn has(&self, marks: &[bool], id: u32) -> bool
+        requires { length marks.now ≡ 257 }
+        ensures { result ≡ is_marked self.now.ids marks.now id }
+    {
+        marks[place_of(self.ids.as_slice(), id)]
+    }
+
+    /// Whether an id is marked in both.
+    pub fn share(&self, first: &[bool], second: &[bool]) -> bool
+        requires first { length first.now ≡ 257 }
+        requires second { length second.now ≡ 257 }
+        ensures { result ≡ list_any (λ x. is_marked self.now.ids first.now x && is_marked self.now.ids second.now x) self.now.ids }
+    {
+        share(self.ids.as_slice(), first, second)
+    }
+
+    /// Marks all that walks lead to from what is marked, or against joins where they go back.
+    pub fn spread(&self, marks: &mut [bool], back: bool)
+        requires { length marks.old ≡ 257 }
+        ensures past { slice_index_or marks.old (length self.now.ids) false ≡ false → slice_index_or marks.new (length self.now.ids) false ≡ false }
+        ensures reached { (x : ℕ) → is_listed self.now.ids x ≡ true → is_marked self.now.ids marks.new x ≡ is_reached back self.now.ids self.now.joins marks.old x }
+    {
+        let _ = &self.ids;
+        let mut found = ArrayVec::new();
+        find_marked(marks, &mut found);
+        self.spread_from(marks, &mut found, back);
+    }
+
+    // The same from what is marked and found.
+    fn spread_from(&self, marks: &mut [bool], found: &mut ArrayVec<u16, 257>, back: bool)
+        requires size { length marks.old ≡ 257 }
+        requires found { AreFound marks.old found.old.items }
+        ensures past { slice_index_or marks.old (length self.now.ids) false ≡ false → slice_index_or marks.new (length self.now.ids) false ≡ false }
+        ensures reached { (x : ℕ) → is_listed self.now.ids x ≡ true → is_marked self.now.ids marks.new x ≡ is_reached back self.now.ids self.now.joins marks.old x }
+    {
+        spread(marks, found, &self.ends[..self.count], back);
+    }
+}
+
+// Whether one of these ids is marked in both.
+fn share(ids: &[u32], first: &[bool], second: &[bool]) -> bool
+    requires ids { length ids.now ≤ 256 }
+    requires first { length first.now ≡ 257 }
+    requires second { length second.now ≡ 257 }
+    ensures { result ≡ list_any (λ x. is_marked ids.now first.now x && is_marked ids.now second.now x) ids.now }
+{
+    ids.iter().any(|id| in_both(ids, first, second, *id))
+}
+
+// Whether an id is.
+fn in_both(ids: &[u32], first: &[bool], second: &[bool], id: u32) -> bool
+    requires ids { length ids.now ≤ 256 }
+    requires first { length first.now ≡ 257 }
+    requires second { length second.now ≡ 257 }
+    ensures { result ≡ (is_marked ids.now first.now id && is_marked ids.now second.now id) }
+{
+    let at = place_of(ids, id);
+    first[at] && second[at]
+}
+
+// Writes each join by the places of its ends.
+fn resolve(joins: &[Join], ids: &[u32], ends: &mut [Join])
+    requires room { length joins.now ≤ length ends.old }
+    requires few { length ids.now ≤ 256 }
+    ensures { take (length joins.now) ends.new ≡ map (by_places ids.now) joins.now }
+{
+    for i in 0..joins.len() {
+        ends[i] = Join {
+            source: place_of(ids, joins[i].source) as u32,
+            sink: place_of(ids, joins[i].sink) as u32,
+        };
+    }
+}
+
+// The place of an id; where it is not there, the place behind the last.
+fn place_of(ids: &[u32], id: u32) -> usize
+    ensures place { result ≡ place_in ids.now id }
+    ensures within { result ≤ length ids.now }
+{
+    let end = ids.len();
+    first_of(ids, id).unwrap_or(end)
+}
+
+// The first place of an id.
+fn first_of(ids: &[u32], id: u32) -> Option<usize>
+    ensures { result ≡ position (λ y. y == id) ids.now }
+{
+    ids.iter().position(|x| *x == id)
+}

@@ -8,12 +8,12 @@ use Rattle.fw_components.specs.declared.component.Unit as units
 use Rattle.fw_components.specs.declared.component.Unit.TheVariants.{Host, Dai, Volume, Mixer, Mux, Eq, Buffer, Pipeline}
 use Rattle.fw_components.specs.Tables.{Tables}
 use Rattle.fw_components.specs.Kept.{IsKept, IsBuffering, IsPiping, IsStreaming, is_plain, sides_by}
-use Rattle.fw_components.specs.Frames.{with_words, begun_unit, begun_by, begun_at, taken_unit, taken_by, taken_at, pushed_ring, pushed_unit, pushed_by, pushed_at}
+use Rattle.fw_components.specs.Frames.{piece_with_words, begun_unit, begun_by, begun_at, taken_unit, taken_by, taken_at, pushed_ring, pushed_unit, pushed_by, pushed_at}
 use Rattle.fw_components.proofs.KeptLaws.{comps-changed, buffers-changed, pipes-changed}
 
 -- ---- equalisers and rings with other words
 
-pub only-is : (old new : EqState) → OnlyNumbers old new → new ≡ record { blob = old.blob; piece = with_words new.piece.words old.piece }
+pub only-is : (old new : EqState) → OnlyNumbers old new → new ≡ record { blob = old.blob; piece = piece_with_words new.piece.words old.piece }
 only-is old new only = λ i. record { blob = only.blob i; piece = record { home = only.home i; place = only.place i; size = only.size i; words = new.piece.words } }
 
 pub pushed-is : (old new : RingState) (frames : List Frame) → new.frames ≡ old.frames ++ frames → SameRing old new → new ≡ pushed_ring frames new.piece.words old

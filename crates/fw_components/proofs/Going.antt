@@ -7,9 +7,10 @@ use Rattle.std.specs.List.{list_any, AllByRecursion}
 use Rattle.sof_base.specs.declared.hole.Hole.{Hole}
 use Rattle.stream_law.specs.declared.graph.Join.{Join}
 use Rattle.fw_components.specs.declared.component.Component.{Component}
-use Rattle.fw_components.specs.Tables.{Tables, frames_by, frames_at, capacity_by, capacity_at}
+use Rattle.fw_components.specs.Tables.{Tables, unit_frames, held_frames, capacity_by, capacity_at}
 use Rattle.std.specs.Option.{option_map_or}
-use Rattle.fw_components.specs.Changes.{is_there, has_id, found, touches, without, without_by, given_by, given_all}
+use Rattle.mbox_link.specs.Step.{touches}
+use Rattle.fw_components.specs.Changes.{is_there, has_id, found, tables_without, without_by, given_by, given_all}
 use Rattle.fw_components.proofs.Positions.{first, first-is}
 
 -- ---- what a place says
@@ -75,17 +76,17 @@ module _ (t : Tables) (id : ℕ) where
       ∙ list_any-append (λ (c : Component). c.id == id) t.buffers t.pipes
       ∙ ap (λ h. h || has_id t.pipes id) far ∙ never
 
-  pub without-comp : (new : List Component) → has_id t.comps id ≡ true → new ≡ filter (λ c. not (c.id == id)) t.comps → record { comps = new; buffers = t.buffers; pipes = t.pipes; joins = t.joins } ≡ without id t
+  pub without-comp : (new : List Component) → has_id t.comps id ≡ true → new ≡ filter (λ c. not (c.id == id)) t.comps → record { comps = new; buffers = t.buffers; pipes = t.pipes; joins = t.joins } ≡ tables_without id t
   without-comp new there is =
       ap (λ (cs : List Component). record { comps = cs; buffers = t.buffers; pipes = t.pipes; joins = t.joins }) is
       ∙ ap (λ h. without_by h (has_id t.buffers id) id t) (sym there)
 
-  pub without-buffer : (new : List Component) (joins : List Join) → has_id t.comps id ≡ false → has_id t.buffers id ≡ true → new ≡ filter (λ c. not (c.id == id)) t.buffers → joins ≡ filter (λ j. not (touches id j)) t.joins → record { comps = t.comps; buffers = new; pipes = t.pipes; joins = joins } ≡ without id t
+  pub without-buffer : (new : List Component) (joins : List Join) → has_id t.comps id ≡ false → has_id t.buffers id ≡ true → new ≡ filter (λ c. not (c.id == id)) t.buffers → joins ≡ filter (λ j. not (touches id j)) t.joins → record { comps = t.comps; buffers = new; pipes = t.pipes; joins = joins } ≡ tables_without id t
   without-buffer new joins gone there is left =
       ap (λ (p : List Component × List Join). record { comps = t.comps; buffers = p.0; pipes = t.pipes; joins = p.1 }) (λ i. (is i, left i))
       ∙ ap (λ (p : Bool × Bool). without_by p.0 p.1 id t) (λ i. (sym gone i, sym there i))
 
-  pub without-pipe : (new : List Component) → has_id t.comps id ≡ false → has_id t.buffers id ≡ false → new ≡ filter (λ c. not (c.id == id)) t.pipes → record { comps = t.comps; buffers = t.buffers; pipes = new; joins = t.joins } ≡ without id t
+  pub without-pipe : (new : List Component) → has_id t.comps id ≡ false → has_id t.buffers id ≡ false → new ≡ filter (λ c. not (c.id == id)) t.pipes → record { comps = t.comps; buffers = t.buffers; pipes = new; joins = t.joins } ≡ tables_without id t
   without-pipe new gone far is =
       ap (λ (cs : List Component). record { comps = t.comps; buffers = t.buffers; pipes = cs; joins = t.joins }) is
       ∙ ap (λ (p : Bool × Bool). without_by p.0 p.1 id t) (λ i. (sym gone i, sym far i))
@@ -106,8 +107,8 @@ all-rest P (x ∷ xs) ys all = all-rest P xs ys all.1
 
 -- ---- what is at a place
 
-pub buffer-at : (t : Tables) (id at : ℕ) (c : Component) → Some c ≡ find (λ x. x.id == id) t.buffers → (frames_by c.unit ≡ frames_at t id) × (capacity_by c.unit ≡ capacity_at t id)
-buffer-at t id at c e = (ap (λ (o : Option Component). option_map_or (λ x. frames_by x.unit) o []) e, ap (λ (o : Option Component). option_map_or (λ x. capacity_by x.unit) o 0) e)
+pub buffer-at : (t : Tables) (id at : ℕ) (c : Component) → Some c ≡ find (λ x. x.id == id) t.buffers → (unit_frames c.unit ≡ held_frames t id) × (capacity_by c.unit ≡ capacity_at t id)
+buffer-at t id at c e = (ap (λ (o : Option Component). option_map_or (λ x. unit_frames x.unit) o []) e, ap (λ (o : Option Component). option_map_or (λ x. capacity_by x.unit) o 0) e)
 
 pub empty-first : (xs ys : List Component) → length (xs ++ ys) ≡ 0 → (length xs ≡ 0) × (length ys ≡ 0)
 empty-first [] ys e = (refl, e)

@@ -6,7 +6,8 @@ use Rattle.stream_law.proofs.Placing.{Ascends-filter}
 use Rattle.fw_components.specs.declared.component.Component.{Component}
 use Rattle.fw_components.specs.Tables.{Tables}
 use Rattle.fw_components.specs.Kept.{IsKept, IsBuffering, IsPiping, IsStreaming, is_plain}
-use Rattle.fw_components.specs.Changes.{has_id, touches}
+use Rattle.mbox_link.specs.Step.{touches}
+use Rattle.fw_components.specs.Changes.{has_id}
 use Rattle.fw_components.proofs.Ids.{all-left, apart-left_first}
 use Rattle.fw_components.proofs.Linked.{comp-unlinked, buffer-unlinked}
 

@@ -6,7 +6,7 @@ use Rattle.std.specs.List.{list_any, AllByRecursion}
 use Rattle.stream_law.specs.Placed.{placed}
 use Rattle.fw_components.specs.declared.component.Component.{Component}
 use Rattle.fw_components.specs.Changes.{has_id}
-use Rattle.fw_components.specs.Kept.{AreApart}
+use Rattle.fw_components.specs.Kept.{AreIdsApart}
 
 -- ---- what is so of all
 
@@ -91,24 +91,24 @@ has-more id c cs is = has-placed id c cs ∙ or_right (c.id == id) (has_id cs id
 
 -- ---- tables with no id in common
 
-pub apart-placed_first : (c : Component) (cs ds : List Component) → has_id ds c.id ≡ false → AreApart cs ds → AreApart (placed (λ x. x.id) c cs) ds
+pub apart-placed_first : (c : Component) (cs ds : List Component) → has_id ds c.id ≡ false → AreIdsApart cs ds → AreIdsApart (placed (λ x. x.id) c cs) ds
 apart-placed_first c cs [] gone all = tt
 apart-placed_first c cs (d ∷ ds) gone all =
     let parts = or_parts (d.id == c.id) (has_id ds c.id) gone in
     (has-placed d.id c cs ∙ ap (λ h. h || has_id cs d.id) (other-way d.id c.id parts.0) ∙ all.0, apart-placed_first c cs ds parts.1 all.1)
 
-pub apart-left_first : (keep : Component → Bool) (cs ds : List Component) → AreApart cs ds → AreApart (filter keep cs) ds
+pub apart-left_first : (keep : Component → Bool) (cs ds : List Component) → AreIdsApart cs ds → AreIdsApart (filter keep cs) ds
 apart-left_first keep cs ds all = all-by (λ d. has_id cs d.id ≡ false) (λ d. has_id (filter keep cs) d.id ≡ false) (λ d. none-left keep d.id cs) ds all
 
-pub apart-map_first : (f : Component → Component) → ((c : Component) → (f c).id ≡ c.id) → (cs ds : List Component) → AreApart cs ds → AreApart (map f cs) ds
+pub apart-map_first : (f : Component → Component) → ((c : Component) → (f c).id ≡ c.id) → (cs ds : List Component) → AreIdsApart cs ds → AreIdsApart (map f cs) ds
 apart-map_first f same cs ds all = all-by (λ d. has_id cs d.id ≡ false) (λ d. has_id (map f cs) d.id ≡ false) (λ d none. has-map f same d.id cs ∙ none) ds all
 
-pub apart-map_second : (f : Component → Component) → ((c : Component) → (f c).id ≡ c.id) → (cs ds : List Component) → AreApart cs ds → AreApart cs (map f ds)
+pub apart-map_second : (f : Component → Component) → ((c : Component) → (f c).id ≡ c.id) → (cs ds : List Component) → AreIdsApart cs ds → AreIdsApart cs (map f ds)
 apart-map_second f same cs [] all = tt
 apart-map_second f same cs (d ∷ ds) all = (ap (has_id cs) (same d) ∙ all.0, apart-map_second f same cs ds all.1)
 
 -- what is in the second table is not in the first
-pub not-first : (id : ℕ) (cs ds : List Component) → AreApart cs ds → has_id ds id ≡ true → has_id cs id ≡ false
+pub not-first : (id : ℕ) (cs ds : List Component) → AreIdsApart cs ds → has_id ds id ≡ true → has_id cs id ≡ false
 not-first id cs [] all there = absurd (true≢false (sym there))
 not-first id cs (d ∷ ds) all there = by (d.id == id) refl there (not-first id cs ds all.1)
   where
@@ -117,5 +117,5 @@ not-first id cs (d ∷ ds) all there = by (d.id == id) refl there (not-first id 
     by false is e rest = rest e
 
 -- and what is in the first is not in the second
-pub not-second : (id : ℕ) (cs ds : List Component) → AreApart cs ds → has_id cs id ≡ true → has_id ds id ≡ false
+pub not-second : (id : ℕ) (cs ds : List Component) → AreIdsApart cs ds → has_id cs id ≡ true → has_id ds id ≡ false
 not-second id cs ds all there = false_from_ne_true (has_id ds id) (λ e. true≢false (sym there ∙ not-first id cs ds all e))

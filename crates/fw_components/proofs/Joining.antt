@@ -9,8 +9,9 @@ use Rattle.fw_components.specs.declared.component.Component.{Component}
 use Rattle.fw_components.specs.declared.component.Unit as units
 use Rattle.fw_components.specs.declared.component.Unit.TheVariants.{Host, Dai, Volume, Mixer, Mux, Eq, Buffer, Pipeline}
 use Rattle.fw_components.specs.Tables.{is_buffer, source_by, sink_by}
-use Rattle.fw_components.specs.Changes.{has_id, touches, has_free_source, has_free_sink, joined_at, sourced_unit, sunk_unit}
-use Rattle.fw_components.specs.Kept.{AreApart, side, sides_by, sides, joins_at, is_between, IsLinked, IsBuffering}
+use Rattle.mbox_link.specs.Step.{touches}
+use Rattle.fw_components.specs.Changes.{has_id, has_free_source, has_free_sink, joined_at, sourced_unit, sunk_unit}
+use Rattle.fw_components.specs.Kept.{AreIdsApart, side, sides_by, sides, joins_at, is_between, IsLinked, IsBuffering}
 use Rattle.fw_components.proofs.Ids.{all-with, has-map, other-way}
 use Rattle.fw_components.proofs.Linked.{between-all}
 
@@ -191,7 +192,7 @@ module _ (j : Join) where
   all-end P [] all one = (one, tt)
   all-end P (k ∷ joins) all one = (all.0, all-end P joins all.1 one)
 
-  module _ (cs bs : List Component) (joins : List Join) (buffering : AllByRecursion (λ c. IsBuffering c.unit) bs) (apart : AreApart cs bs) where
+  module _ (cs bs : List Component) (joins : List Join) (buffering : AllByRecursion (λ c. IsBuffering c.unit) bs) (apart : AreIdsApart cs bs) where
     all-apart : AllByRecursion (IsApart cs) bs
     all-apart = all-with (λ (c : Component). has_id cs c.id ≡ false) (λ c. IsBuffering c.unit) (IsApart cs) (λ c a b. (a, b.0)) bs apart buffering
 

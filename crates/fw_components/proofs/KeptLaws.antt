@@ -12,9 +12,9 @@ use Rattle.fw_components.specs.declared.component.Component.{Component}
 use Rattle.fw_components.specs.declared.component.Unit as units
 use Rattle.fw_components.specs.declared.component.Unit.TheVariants.{Host, Dai, Volume, Mixer, Mux, Eq, Buffer, Pipeline}
 use Rattle.fw_components.specs.Tables.{Tables, is_buffer, is_pipeline}
-use Rattle.fw_components.specs.Kept.{IsKept, IsNamed, IsSound, IsBuffering, IsPiping, IsStreamOf, IsStreaming, is_plain, sides, sides_by}
+use Rattle.fw_components.specs.Kept.{IsKept, IsNamed, IsUnitSound, IsBuffering, IsPiping, IsStreamOf, IsStreaming, is_plain, sides, sides_by}
 use Rattle.fw_components.specs.Values.{valued_unit, valued_at}
-use Rattle.fw_components.specs.Changes.{is_there, IsNew, completed_unit, completed_at, is_idle, ended_unit, ended_at, set_unit, set_at, joined_at, can_join, sourced_unit, sunk_unit}
+use Rattle.fw_components.specs.Changes.{is_there, IsNew, completed_unit, completed_at, is_idle_phase, ended_unit, with_ended, set_unit, set_at, joined_at, can_join, sourced_unit, sunk_unit}
 use Rattle.fw_components.proofs.Ids.{apart-placed_first, apart-map_first, apart-map_second}
 use Rattle.fw_components.proofs.Linked.{sides-most, comp-linked, buffer-linked, comps-linked, buffers-linked, each-placed}
 use Rattle.fw_components.proofs.Joining.{joined-id, joined_by, one-more, joined-linked}
@@ -54,7 +54,7 @@ length-changed f (c ∷ cs) = ap suc (length-changed f cs)
 
 -- ---- what is added
 
-pub new-sound : (u : units.Unit) → IsNew u → IsSound u
+pub new-sound : (u : units.Unit) → IsNew u → IsUnitSound u
 new-sound (Host capture phase params piece) fresh = tt
 new-sound (Dai capture format piece) fresh = tt
 new-sound (Volume gains piece) fresh = tt
@@ -65,7 +65,7 @@ new-sound (Buffer size ring source sink) fresh = fresh.3
 new-sound (Pipeline sched period complete piece) fresh = fresh
 
 pub new-streaming : (u : units.Unit) → IsNew u → IsStreaming u
-new-streaming (Host capture phase params piece) fresh = subst (λ (o : Option Params). IsStreamOf (is_idle phase) o) (sym fresh.1) fresh.0
+new-streaming (Host capture phase params piece) fresh = subst (λ (o : Option Params). IsStreamOf (is_idle_phase phase) o) (sym fresh.1) fresh.0
 new-streaming (Dai capture format piece) fresh = tt
 new-streaming (Volume gains piece) fresh = tt
 new-streaming (Mixer piece) fresh = tt
@@ -296,7 +296,7 @@ set-plain phase params (Eq eq next remaining) e = e
 set-plain phase params (Buffer size ring source sink) e = e
 set-plain phase params (Pipeline sched period complete piece) e = e
 
-set-streaming : (phase : Phase) (params : Option Params) → IsStreamOf (is_idle phase) params → (u : units.Unit) → IsStreaming u → IsStreaming (set_unit phase params u)
+set-streaming : (phase : Phase) (params : Option Params) → IsStreamOf (is_idle_phase phase) params → (u : units.Unit) → IsStreaming u → IsStreaming (set_unit phase params u)
 set-streaming phase params right (Host capture was before piece) e = right
 set-streaming phase params right (Dai capture format piece) e = e
 set-streaming phase params right (Volume gains piece) e = e
@@ -334,7 +334,7 @@ at-sides f id same c = by (c.id == id)
 pub completed-kept : (t : Tables) → IsKept t → (id : ℕ) (new : List Component) → new ≡ map (completed_at id) t.pipes → IsKept (record { comps = t.comps; buffers = t.buffers; pipes = new; joins = t.joins })
 completed-kept t kept id new is = pipes-changed t kept (completed_at id) new (at-id completed_unit id) (at-unit IsPiping completed_unit id completed-pipeline) is
 
-pub stream-kept : (t : Tables) → IsKept t → (id : ℕ) (phase : Phase) (params : Option Params) → IsStreamOf (is_idle phase) params → (new : List Component) → new ≡ map (set_at id phase params) t.comps → IsKept (record { comps = new; buffers = t.buffers; pipes = t.pipes; joins = t.joins })
+pub stream-kept : (t : Tables) → IsKept t → (id : ℕ) (phase : Phase) (params : Option Params) → IsStreamOf (is_idle_phase phase) params → (new : List Component) → new ≡ map (set_at id phase params) t.comps → IsKept (record { comps = new; buffers = t.buffers; pipes = t.pipes; joins = t.joins })
 stream-kept t kept id phase params right new is = comps-changed t kept (set_at id phase params) new (at-id (set_unit phase params) id) (at-unit (λ u. is_plain u ≡ true) (set_unit phase params) id (set-plain phase params)) (at-unit IsStreaming (set_unit phase params) id (set-streaming phase params right)) is
 
 ended-buffer : (u : units.Unit) → IsBuffering u → IsBuffering (ended_unit u)
@@ -357,8 +357,8 @@ ended-sides (Mux choice piece) = refl
 ended-sides (Eq eq next remaining) = refl
 ended-sides (Buffer size ring source sink) = refl
 
-pub ended-kept : (t : Tables) → IsKept t → (id : ℕ) (new : List Component) → new ≡ map (ended_at id) t.buffers → IsKept (record { comps = t.comps; buffers = new; pipes = t.pipes; joins = t.joins })
-ended-kept t kept id new is = buffers-changed t kept (ended_at id) new (at-id ended_unit id) (at-sides ended_unit id ended-sides) (at-unit IsBuffering ended_unit id ended-buffer) is
+pub ended-kept : (t : Tables) → IsKept t → (id : ℕ) (new : List Component) → new ≡ map (with_ended id) t.buffers → IsKept (record { comps = t.comps; buffers = new; pipes = t.pipes; joins = t.joins })
+ended-kept t kept id new is = buffers-changed t kept (with_ended id) new (at-id ended_unit id) (at-sides ended_unit id ended-sides) (at-unit IsBuffering ended_unit id ended-buffer) is
 
 valued-plain : (values : List ℕ) (u : units.Unit) → is_plain u ≡ true → is_plain (valued_unit values u) ≡ true
 valued-plain values (Host capture phase params piece) e = e

@@ -5,11 +5,13 @@ mod Going
 mod GoneKept
 mod Hinted
 mod Ids
+pub mod HostWays
 mod InTurn
 mod Inserting
 mod Joining
 mod KeptLaws
 mod Linked
+pub mod Listed
 mod MadeLaws
 mod MoveAgain
 mod MovedLaws
@@ -25,5 +27,8 @@ mod SeenMoves
 mod Standing
 mod Started
 mod StepLaws
+mod Summing
 mod Taking
+mod TallyKept
+mod Tallying
 mod Told

@@ -8,8 +8,9 @@ use Rattle.stream_law.specs.declared.graph.Join.{Join}
 use Rattle.stream_law.specs.Placed.{placed, AreAbove, Ascends}
 use Rattle.fw_components.specs.declared.component.Component.{Component}
 use Rattle.fw_components.specs.Tables.{source_by, sink_by}
-use Rattle.fw_components.specs.Changes.{has_id, touches}
-use Rattle.fw_components.specs.Kept.{AreApart, side, sides_by, sides, joins_at, is_between, IsLinked}
+use Rattle.mbox_link.specs.Step.{touches}
+use Rattle.fw_components.specs.Changes.{has_id}
+use Rattle.fw_components.specs.Kept.{AreIdsApart, side, sides_by, sides, joins_at, is_between, IsLinked}
 use Rattle.fw_components.proofs.Ids.{all-by, all-with, all-left, all-passed, all-fail, has-map, has-left, has-more, not-first}
 use Rattle.fw_components.proofs.Taking.{none-above}
 
@@ -122,14 +123,14 @@ module _ (id : ℕ) (cs bs : List Component) (joins : List Join) where
   fewer = filter (λ j. not (touches id j)) joins
 
   -- a buffer of another id keeps its joins
-  each-left : AreApart cs bs → has_id cs id ≡ false → AllByRecursion (λ j. is_between cs bs j ≡ true) joins → AllByRecursion (λ c. sides_by c.unit ≤ joins_at c.id joins) bs → AllByRecursion (λ c. sides_by c.unit ≤ joins_at c.id fewer) left
+  each-left : AreIdsApart cs bs → has_id cs id ≡ false → AllByRecursion (λ j. is_between cs bs j ≡ true) joins → AllByRecursion (λ c. sides_by c.unit ≤ joins_at c.id joins) bs → AllByRecursion (λ c. sides_by c.unit ≤ joins_at c.id fewer) left
   each-left apart gone between each =
       all-with (λ (c : Component). not (c.id == id) ≡ true) (λ c. (has_id cs c.id ≡ false) × (sides_by c.unit ≤ joins_at c.id joins)) (λ c. sides_by c.unit ≤ joins_at c.id fewer)
       (λ c other both. subst (λ n. sides_by c.unit ≤ n) (sym (joins-left id cs gone c.id bs both.0 (not-true (c.id == id) other) joins between)) both.1)
       left (all-passed (λ (c : Component). not (c.id == id)) bs)
       (all-left (λ (c : Component). (has_id cs c.id ≡ false) × (sides_by c.unit ≤ joins_at c.id joins)) (λ c. not (c.id == id)) bs (all-with (λ (c : Component). has_id cs c.id ≡ false) (λ c. sides_by c.unit ≤ joins_at c.id joins) (λ c. (has_id cs c.id ≡ false) × (sides_by c.unit ≤ joins_at c.id joins)) (λ c a b. (a, b)) bs apart each))
 
-  pub buffer-unlinked : (pipes : List Component) → Ascends (λ c. c.id) bs → AreApart cs bs → has_id bs id ≡ true → IsLinked (record { comps = cs; buffers = bs; pipes = pipes; joins = joins }) → IsLinked (record { comps = cs; buffers = left; pipes = pipes; joins = fewer })
+  pub buffer-unlinked : (pipes : List Component) → Ascends (λ c. c.id) bs → AreIdsApart cs bs → has_id bs id ≡ true → IsLinked (record { comps = cs; buffers = bs; pipes = pipes; joins = joins }) → IsLinked (record { comps = cs; buffers = left; pipes = pipes; joins = fewer })
   buffer-unlinked pipes ascends apart there linked =
       let gone : has_id cs id ≡ false = not-first id cs bs apart there in
       record {

@@ -16,7 +16,7 @@ use Rattle.stream_law.specs.Equaliser.{passed_frames}
 use Rattle.fw_gain.specs.Kernels.{all_amplified, held}
 use Rattle.fw_ring.proofs.FrameLaws.{whole-take}
 use Rattle.fw_components.specs.declared.component.Component.{Component}
-use Rattle.fw_components.specs.Frames.{frames_in, channels_in}
+use Rattle.fw_components.specs.Frames.{buffer_frames, channels_in}
 use Rattle.fw_components.specs.Processed.{IsInlet, slices_in}
 use Rattle.fw_components.specs.Moving.{samples_in, all_summed, IsWhole, looked_choice}
 use Rattle.fw_components.proofs.FrameLaws.{Enough, length-first, length-taken, frames-back, frames-taken, volume-whole, amplified-samples, frames-mixed, frames-silence}
@@ -53,27 +53,27 @@ all-among P b (id ∷ ids) among all = by (id == b) (eqb-true id b) among (λ mo
     by false same among rest = rest among
 
 -- two parts of the samples of a buffer have as many as they should
-pub parts : (front back : List ℤ) (cs : List Component) (n b size : ℕ) → front ++ back ≡ samples_in cs n b → IsWhole cs b → n ≤ length (frames_in cs b) → size ≡ n * channels_in cs b → length front + length back ≡ size
+pub parts : (front back : List ℤ) (cs : List Component) (n b size : ℕ) → front ++ back ≡ samples_in cs n b → IsWhole cs b → n ≤ length (buffer_frames cs b) → size ≡ n * channels_in cs b → length front + length back ≡ size
 parts front back cs n b size is whole held long =
-    sym (length-append front back) ∙ ap length is ∙ length-taken (channels_in cs b) n (frames_in cs b) whole held ∙ sym long
+    sym (length-append front back) ∙ ap length is ∙ length-taken (channels_in cs b) n (buffer_frames cs b) whole held ∙ sym long
 
 module _ (cs : List Component) (channels n : ℕ) where
-  enough : (b : ℕ) → IsInlet cs channels n b → IsWhole cs b → Enough channels n (frames_in cs b)
-  enough b inlet whole = record { whole = subst (λ k. AreFrames k (frames_in cs b)) inlet.shape whole; some = inlet.held }
+  enough : (b : ℕ) → IsInlet cs channels n b → IsWhole cs b → Enough channels n (buffer_frames cs b)
+  enough b inlet whole = record { whole = subst (λ k. AreFrames k (buffer_frames cs b)) inlet.shape whole; some = inlet.held }
 
   -- the frames of the samples of a buffer
-  pub inlet-frames : (b : ℕ) → IsInlet cs channels n b → IsWhole cs b → frames_of channels n (samples_in cs n b) ≡ take n (frames_in cs b)
-  inlet-frames b inlet whole = let e = enough b inlet whole in frames-taken channels n (frames_in cs b) e.whole e.some
+  pub inlet-frames : (b : ℕ) → IsInlet cs channels n b → IsWhole cs b → frames_of channels n (samples_in cs n b) ≡ take n (buffer_frames cs b)
+  inlet-frames b inlet whole = let e = enough b inlet whole in frames-taken channels n (buffer_frames cs b) e.whole e.some
 
   -- ---- a volume and an equaliser look at one buffer
 
-  pub only : (looked : List ℕ) → length looked ≡ 1 → take n (frames_in cs (get_or looked 0 0)) ≡ only_slice (slices_in cs looked n)
+  pub only : (looked : List ℕ) → length looked ≡ 1 → take n (buffer_frames cs (get_or looked 0 0)) ≡ only_slice (slices_in cs looked n)
   only [] one = absurd (omega (arith, one))
   only (b ∷ rest) one = refl
 
   pub made-amplified : (gains looked : List ℕ) → 1 ≤ channels → length looked ≡ 1 → IsInlet cs channels n (get_or looked 0 0) → IsWhole cs (get_or looked 0 0) → frames_of channels n (all_amplified channels gains (samples_in cs n (get_or looked 0 0))) ≡ map (volume_of channels gains) (only_slice (slices_in cs looked n))
   made-amplified gains looked wide one inlet whole =
-      let all = frames_in cs (get_or looked 0 0) in
+      let all = buffer_frames cs (get_or looked 0 0) in
       let e = enough (get_or looked 0 0) inlet whole in
       let fs = take n all in
       ap (frames_of channels n) (amplified-samples channels gains fs wide (whole-take channels n all e.whole))
@@ -95,12 +95,12 @@ module _ (cs : List Component) (channels n : ℕ) where
   made-equalised blob numbers fs long = frames-back channels n (passed_frames blob channels numbers fs) (are-frames blob channels numbers fs) (length-frames blob channels numbers fs ∙ long)
 
   pub only-long : (looked : List ℕ) → length looked ≡ 1 → IsInlet cs channels n (get_or looked 0 0) → length (only_slice (slices_in cs looked n)) ≡ n
-  only-long looked one inlet = ap length (sym (only looked one)) ∙ length-first n (frames_in cs (get_or looked 0 0)) inlet.held
+  only-long looked one inlet = ap length (sym (only looked one)) ∙ length-first n (buffer_frames cs (get_or looked 0 0)) inlet.held
 
   -- ---- a mixer and a mux look at any number
 
   pub made-mixed : (looked : List ℕ) → AllByRecursion (IsInlet cs channels n) looked → AllByRecursion (IsWhole cs) looked → frames_of channels n (held (all_summed (replicate (n * channels) (pos 0)) (map (samples_in cs n) looked))) ≡ map (λ j. mixed channels (frames_of_each (slices_in cs looked n) j)) (range_with_len 0 n)
-  made-mixed looked inlets wholes = frames-mixed channels n (frames_in cs) looked (all-with (IsInlet cs channels n) (IsWhole cs) (λ b. Enough channels n (frames_in cs b)) enough looked inlets wholes)
+  made-mixed looked inlets wholes = frames-mixed channels n (buffer_frames cs) looked (all-with (IsInlet cs channels n) (IsWhole cs) (λ b. Enough channels n (buffer_frames cs b)) enough looked inlets wholes)
 
   -- the slice of a buffer that is looked at, and of one that is not
   found : {X : Type 0} (b : ℕ) (ids : List ℕ) (f : ℕ → X) (d : X) → is_among ids b ≡ true → option_map_or (λ entry. entry.1) (find (λ entry. entry.0 == b) (table ids f)) d ≡ f b
@@ -139,7 +139,7 @@ module _ (cs : List Component) (channels n : ℕ) where
   made-chosen looked b chosen e all whole =
       let is = chosen-among looked b chosen e in
       inlet-frames b (all-among (IsInlet cs channels n) b looked is.1 all) whole
-      ∙ sym (found b looked (λ b. take n (frames_in cs b)) (replicate n (silence channels)) is.1)
+      ∙ sym (found b looked (λ b. take n (buffer_frames cs b)) (replicate n (silence channels)) is.1)
       ∙ ap (chosen_slice (slices_in cs looked n) channels n) (sym is.0)
 
   pub made-missed : (looked : List ℕ) (chosen : Option ℕ) → None ≡ looked_choice looked chosen → frames_of channels n (replicate (n * channels) (pos 0)) ≡ chosen_slice (slices_in cs looked n) channels n chosen
@@ -148,4 +148,4 @@ module _ (cs : List Component) (channels n : ℕ) where
     where
       by : (h : Bool) → is_among looked k ≡ h → None ≡ cond h (Some k) None → frames_of channels n (replicate (n * channels) (pos 0)) ≡ chosen_slice (slices_in cs looked n) channels n (Some k)
       by true is e = absurd (cc e)
-      by false is e = frames-silence channels n ∙ sym (missed k looked (λ b. take n (frames_in cs b)) (replicate n (silence channels)) is)
+      by false is e = frames-silence channels n ∙ sym (missed k looked (λ b. take n (buffer_frames cs b)) (replicate n (silence channels)) is)

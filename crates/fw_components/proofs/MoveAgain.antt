@@ -8,7 +8,7 @@ use Rattle.stream_law.specs.Order.{is_among}
 use Rattle.stream_law.specs.Table.{table}
 use Rattle.fw_components.specs.declared.component.Component.{Component}
 use Rattle.fw_components.specs.Tables.{numbers_by}
-use Rattle.fw_components.specs.Frames.{words_of, words_by, staged_by, frames_in, pushed_at}
+use Rattle.fw_components.specs.Frames.{words_of, words_by, staged_by, buffer_frames, pushed_at}
 use Rattle.fw_components.specs.Processed.{IsInlet, slices_in, made_frames, made_numbers, drained_at, run_unit, run_by}
 use Rattle.fw_components.specs.Moving.{CanMove, frames_now, IsMoved}
 use Rattle.fw_components.proofs.Ids.{all-by, all-with}
@@ -30,9 +30,9 @@ module _ (chosen : Option ℕ) (looked : List ℕ) (fed a m : ℕ) (bs : List Co
   abbrev left : List ℤ → List Component
   left v = map (pushed_at fed made v) (map (drained_at looked a) bs)
 
-  slices-left : (v : List ℤ) → slices_in (left v) looked m ≡ table looked (λ b. take m (drop a (frames_in bs b)))
-  slices-left v = table-same (λ b. take m (frames_in (left v) b)) (λ b. take m (drop a (frames_in bs b))) looked
-      (all-by (λ b. is_among looked b ≡ true) (λ b. take m (frames_in (left v) b) ≡ take m (drop a (frames_in bs b))) (λ b among. ap (take m) (frames-left looked fed can.apart a made v bs b among)) looked (own-among looked))
+  slices-left : (v : List ℤ) → slices_in (left v) looked m ≡ table looked (λ b. take m (drop a (buffer_frames bs b)))
+  slices-left v = table-same (λ b. take m (buffer_frames (left v) b)) (λ b. take m (drop a (buffer_frames bs b))) looked
+      (all-by (λ b. is_among looked b ≡ true) (λ b. take m (buffer_frames (left v) b) ≡ take m (drop a (buffer_frames bs b))) (λ b among. ap (take m) (frames-left looked fed can.apart a made v bs b among)) looked (own-among looked))
 
   can-left : (v w : List ℤ) → length made ≡ a → CanMove (left v) looked fed m (run_by w c)
   can-left v w count = record {
@@ -48,16 +48,16 @@ module _ (chosen : Option ℕ) (looked : List ℕ) (fed a m : ℕ) (bs : List Co
   -- two moves in a row
   again : (v w : List ℤ) (bs' : List Component) (c' : Component) → numbers_by (run_unit w c.unit) c.channels ≡ made_numbers c.unit c.channels (slices_in bs looked a) → staged_by (run_unit w c.unit) ≡ staged_by c.unit → length made ≡ a → IsMoved chosen looked fed m (left v) (run_by w c) bs' c' → IsMoved chosen looked fed (a + m) bs c bs' c'
   again v w bs' c' numbers staged count next =
-      let rest = table looked (λ b. take m (drop a (frames_in bs b))) in
+      let rest = table looked (λ b. take m (drop a (buffer_frames bs b))) in
       let behind : frames_now chosen (left v) looked m (run_by w c) ≡ made_frames (run_unit w c.unit) c.channels m chosen rest = ap (made_frames (run_unit w c.unit) c.channels m chosen) (slices-left v) in
       let all : frames_now chosen bs looked (a + m) c ≡ made ++ frames_now chosen (left v) looked m (run_by w c) =
-      made-more (frames_in bs) a m c.unit w c.channels chosen looked numbers ∙ ap (λ (fs : List Frame). made ++ fs) (sym behind) in
+      made-more (buffer_frames bs) a m c.unit w c.channels chosen looked numbers ∙ ap (λ (fs : List Frame). made ++ fs) (sym behind) in
       record {
         component = next.component ∙ ap (λ u. record { id = c.id; pipe = c.pipe; channels = c.channels; unit = u }) (run-twice w (words_of c') c.unit);
         numbers =
             next.numbers
             ∙ ap (made_numbers (run_unit w c.unit) c.channels) (slices-left v)
-            ∙ sym (numbers-more (frames_in bs) a m c.unit w c.channels looked numbers);
+            ∙ sym (numbers-more (buffer_frames bs) a m c.unit w c.channels looked numbers);
         staged = next.staged ∙ staged;
         count = ap length all ∙ length-append made (frames_now chosen (left v) looked m (run_by w c)) ∙ (λ i. count i + next.count i);
         table =

@@ -8,21 +8,21 @@ use Rattle.std.specs.Prelude.{find, option_map}
 use Rattle.std.specs.List.{AllByRecursion}
 use Rattle.std.specs.Option.{option_map_or}
 use Rattle.sof_base.specs.Samples.{Frame}
-use Rattle.fw_ring.specs.RingState.{RingState, capacity_of, moved_on}
+use Rattle.fw_ring.specs.RingState.{RingState, capacity_of, place_after}
 use Rattle.stream_law.specs.Order.{is_among}
 use Rattle.stream_law.specs.Table.{table}
 use Rattle.fw_components.specs.declared.component.Unit as units
 use Rattle.fw_components.specs.declared.component.Unit.TheVariants.{Host, Dai, Volume, Mixer, Mux, Eq, Buffer, Pipeline}
 use Rattle.fw_components.specs.declared.component.Component.{Component}
-use Rattle.fw_components.specs.Tables.{frames_by, capacity_by}
-use Rattle.fw_components.specs.Frames.{channels_by, frames_in, taken_ring, taken_unit, taken_by, pushed_unit, pushed_by, pushed_at}
+use Rattle.fw_components.specs.Tables.{unit_frames, capacity_by}
+use Rattle.fw_components.specs.Frames.{channels_by, buffer_frames, taken_ring, taken_unit, taken_by, pushed_unit, pushed_by, pushed_at}
 use Rattle.fw_components.specs.Processed.{moves_of, IsInlet, IsOutlet, drained_at, run_unit}
 use Rattle.fw_components.proofs.Ids.{has-map}
 
 -- ---- one unit
 
 -- a start that goes round twice
-on-twice : (places start a b : ℕ) → moved_on places (moved_on places start a) b ≡ moved_on places start (a + b)
+on-twice : (places start a b : ℕ) → place_after places (place_after places start a) b ≡ place_after places start (a + b)
 on-twice zero start a b = refl
 on-twice (suc m) start a b =
     let whole : start + (a + b) ≡ (start + a) % suc m + b + suc m * ((start + a) / suc m) = omega (arith, mod-add-div (start + a) (suc m)) in
@@ -35,7 +35,7 @@ taken-twice a m r =
       frames = drop-drop m a r.frames i;
       words = r.words;
       channels = r.channels;
-      start = (on-twice (capacity_of r * r.channels) r.start (a * r.channels) (m * r.channels) ∙ ap (moved_on (capacity_of r * r.channels) r.start) at) i;
+      start = (on-twice (capacity_of r * r.channels) r.start (a * r.channels) (m * r.channels) ∙ ap (place_after (capacity_of r * r.channels) r.start) at) i;
       piece = r.piece;
     })
 
@@ -130,7 +130,7 @@ keeps-channels = record { taken = taken-channels; pushed = pushed-channels }
 keeps-capacity : Keeps capacity_by
 keeps-capacity = record { taken = taken-capacity; pushed = pushed-capacity }
 
-pub taken-frames : (n : ℕ) (u : units.Unit) → frames_by (taken_unit n u) ≡ drop n (frames_by u)
+pub taken-frames : (n : ℕ) (u : units.Unit) → unit_frames (taken_unit n u) ≡ drop n (unit_frames u)
 taken-frames n (Host capture phase params piece) = sym (drop-nil n)
 taken-frames n (Dai capture format piece) = sym (drop-nil n)
 taken-frames n (Volume gains piece) = sym (drop-nil n)
@@ -140,7 +140,7 @@ taken-frames n (Eq eq next remaining) = sym (drop-nil n)
 taken-frames n (Buffer size ring source sink) = refl
 taken-frames n (Pipeline sched period complete piece) = sym (drop-nil n)
 
-pushed-most : (fs : List Frame) (w : List ℤ) (u : units.Unit) → length (frames_by (pushed_unit fs w u)) ≤ length (frames_by u) + length fs
+pushed-most : (fs : List Frame) (w : List ℤ) (u : units.Unit) → length (unit_frames (pushed_unit fs w u)) ≤ length (unit_frames u) + length fs
 pushed-most fs w (Host capture phase params piece) = omega arith
 pushed-most fs w (Dai capture format piece) = omega arith
 pushed-most fs w (Volume gains piece) = omega arith
@@ -263,15 +263,15 @@ module _ (looked : List ℕ) (fed : ℕ) (apart : is_among looked fed ≡ false)
         by (Some c) = kept-at g keeps c
 
     -- the frames of a buffer that is looked at
-    pub frames-left : (b : ℕ) → is_among looked b ≡ true → frames_in (tables n fs w cs) b ≡ drop n (frames_in cs b)
-    frames-left b looks = ap (λ (o : Option Component). option_map_or (λ c. frames_by c.unit) o []) (find-after n fs w b cs) ∙ by (find (λ c. c.id == b) cs) refl
+    pub frames-left : (b : ℕ) → is_among looked b ≡ true → buffer_frames (tables n fs w cs) b ≡ drop n (buffer_frames cs b)
+    frames-left b looks = ap (λ (o : Option Component). option_map_or (λ c. unit_frames c.unit) o []) (find-after n fs w b cs) ∙ by (find (λ c. c.id == b) cs) refl
       where
-        by : (o : Option Component) → find (λ c. c.id == b) cs ≡ o → option_map_or (λ c. frames_by c.unit) (option_map (after n fs w) o) [] ≡ drop n (option_map_or (λ c. frames_by c.unit) o [])
+        by : (o : Option Component) → find (λ c. c.id == b) cs ≡ o → option_map_or (λ c. unit_frames c.unit) (option_map (after n fs w) o) [] ≡ drop n (option_map_or (λ c. unit_frames c.unit) o [])
         by None is = sym (drop-nil n)
         by (Some c) is =
             let id = found-id b cs c is in
             let looks_there : is_among looked c.id ≡ true = ap (is_among looked) id ∙ looks in
-            ap (λ (x : Component). frames_by x.unit) (is-looked n fs w c looks_there (other c looks_there)) ∙ taken-frames n c.unit
+            ap (λ (x : Component). unit_frames x.unit) (is-looked n fs w c looks_there (other c looks_there)) ∙ taken-frames n c.unit
           where
             other : (c : Component) → is_among looked c.id ≡ true → (c.id == fed) ≡ false
             other c looks = test (c.id == fed) refl
@@ -281,14 +281,14 @@ module _ (looked : List ℕ) (fed : ℕ) (apart : is_among looked fed ≡ false)
                 test false it = it
 
     -- and of the one that is fed
-    frames-most : length (frames_in (tables n fs w cs) fed) ≤ length (frames_in cs fed) + length fs
-    frames-most = subst (λ (o : Option Component). length (option_map_or (λ c. frames_by c.unit) o []) ≤ length (frames_in cs fed) + length fs) (sym (find-after n fs w fed cs)) (by (find (λ c. c.id == fed) cs) refl)
+    frames-most : length (buffer_frames (tables n fs w cs) fed) ≤ length (buffer_frames cs fed) + length fs
+    frames-most = subst (λ (o : Option Component). length (option_map_or (λ c. unit_frames c.unit) o []) ≤ length (buffer_frames cs fed) + length fs) (sym (find-after n fs w fed cs)) (by (find (λ c. c.id == fed) cs) refl)
       where
-        by : (o : Option Component) → find (λ c. c.id == fed) cs ≡ o → length (option_map_or (λ c. frames_by c.unit) (option_map (after n fs w) o) []) ≤ length (option_map_or (λ c. frames_by c.unit) o []) + length fs
+        by : (o : Option Component) → find (λ c. c.id == fed) cs ≡ o → length (option_map_or (λ c. unit_frames c.unit) (option_map (after n fs w) o) []) ≤ length (option_map_or (λ c. unit_frames c.unit) o []) + length fs
         by None is = omega arith
         by (Some c) is =
             let id = found-id fed cs c is in
-            subst (λ (x : Component). length (frames_by x.unit) ≤ length (frames_by c.unit) + length fs) (sym (is-fed n fs w c (ap (is_among looked) id ∙ apart) (eq-eqb c.id fed id))) (pushed-most fs w c.unit)
+            subst (λ (x : Component). length (unit_frames x.unit) ≤ length (unit_frames c.unit) + length fs) (sym (is-fed n fs w c (ap (is_among looked) id ∙ apart) (eq-eqb c.id fed id))) (pushed-most fs w c.unit)
 
     -- ---- what the component can still move
 
@@ -296,7 +296,7 @@ module _ (looked : List ℕ) (fed : ℕ) (apart : is_among looked fed ≡ false)
     inlet-left channels m b looks inlet = record {
       there = has-map (pushed_at fed fs w) (pushed-id fs w) b (map (drained_at looked n) cs) ∙ has-map (drained_at looked n) (drained-id n) b cs ∙ inlet.there;
       shape = kept-in channels_by 1 keeps-channels b ∙ inlet.shape;
-      held = omega (arith, inlet.held, ap length (frames-left b looks), length-drop n (frames_in cs b));
+      held = omega (arith, inlet.held, ap length (frames-left b looks), length-drop n (buffer_frames cs b));
     }
 
     pub outlet-left : (channels m : ℕ) → length fs ≡ n → IsOutlet cs channels (n + m) fed → IsOutlet (tables n fs w cs) channels m fed

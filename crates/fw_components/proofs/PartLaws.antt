@@ -11,9 +11,9 @@ use Rattle.sof_base.specs.Blob.{IsBlob}
 use Rattle.sof_base.specs.BlobFaults.{is_blob}
 use Rattle.eq_biquad.specs.EqState.{EqState}
 use Rattle.stream_law.specs.State.{Staging}
-use Rattle.mbox_link.specs.BlobParts.{parts, part_of, left_behind}
+use Rattle.mbox_link.specs.BlobParts.{parts, blob_part, left_behind}
 use Rattle.mbox_link.specs.Step.{bytes_left, is_next, keeps_order, staged_bytes}
-use Rattle.fw_components.specs.Frames.{with_words}
+use Rattle.fw_components.specs.Frames.{piece_with_words}
 use Rattle.fw_components.specs.Parts.{staging_in, fits_behind, AreJoined}
 
 -- what is staged where something remains
@@ -164,7 +164,7 @@ joined-wrong id staged next remaining part bytes order wrong is =
 
 -- ---- an equaliser with other words
 
-pub eq-put : (old new : EqState) (blob : List ℕ) → new.blob ≡ blob → new.piece.home ≡ old.piece.home → new.piece.place ≡ old.piece.place → new.piece.size ≡ old.piece.size → new ≡ record { blob = blob; piece = with_words new.piece.words old.piece }
+pub eq-put : (old new : EqState) (blob : List ℕ) → new.blob ≡ blob → new.piece.home ≡ old.piece.home → new.piece.place ≡ old.piece.place → new.piece.size ≡ old.piece.size → new ≡ record { blob = blob; piece = piece_with_words new.piece.words old.piece }
 eq-put old new blob is home place size = λ i. record { blob = is i; piece = record { home = home i; place = place i; size = size i; words = new.piece.words } }
 
 -- bytes that are staged from the first on stand in front
@@ -177,16 +177,16 @@ parts-is : (blob : List ℕ) → parts blob ≡ (length blob - 32 + 259) / 260
 parts-is blob = ap (λ n. (n + 259) / 260) (length-drop 32 blob)
 
 cut-by : List ℕ → ℕ → Bool → Option Part
-cut-by blob index h = cond h (Some (part_of blob index)) None
+cut-by blob index h = cond h (Some (blob_part blob index)) None
 
 -- none past the last
-pub cut-none : (blob : List ℕ) (index n : ℕ) → n ≡ (length blob - 32 + 259) / 260 → n ≤ index → None ≡ cond (nat_lt index (parts blob)) (Some (part_of blob index)) None
+pub cut-none : (blob : List ℕ) (index n : ℕ) → n ≡ (length blob - 32 + 259) / 260 → n ≤ index → None ≡ cond (nat_lt index (parts blob)) (Some (blob_part blob index)) None
 unfolding cut-by
 cut-none blob index n is past = sym (ap (cut-by blob index) (le-ltb index (parts blob) (omega (arith, past, is, parts-is blob))))
 
 -- and before that each has its bytes
 pub cut-some : (blob header bytes : List ℕ) (index remaining n : ℕ) → n ≡ (length blob - 32 + 259) / 260 → index < n → header ≡ take 32 blob → bytes ≡ take 260 (drop (260 * index) (drop 32 blob)) → remaining ≡ left_behind blob index
-    → Some (record { header = header; remaining = remaining; index = index; bytes = bytes }) ≡ cond (nat_lt index (parts blob)) (Some (part_of blob index)) None
+    → Some (record { header = header; remaining = remaining; index = index; bytes = bytes }) ≡ cond (nat_lt index (parts blob)) (Some (blob_part blob index)) None
 unfolding cut-by
 cut-some blob header bytes index remaining n is before head_is bytes_are left_is =
     (λ i. Some (record { header = head_is i; remaining = left_is i; index = index; bytes = bytes_are i }))
@@ -215,7 +215,7 @@ some-whole o xs most few is = is ∙ ap (λ h. cond {A = Option (List ℕ)} h (S
 
 -- a part is cut out of the bytes behind the header
 pub cut-told : (blob header behind rest bytes : List ℕ) (index len n : ℕ) → n ≡ (length blob - 32 + 259) / 260 → index < n → header ≡ take 32 blob → behind ≡ drop 32 blob → rest ≡ take (length behind - 260 * index) (drop (260 * index) behind) → len ≡ min (length rest) 260 → bytes ≡ take len rest
-    → Some (record { header = header; remaining = length rest - len; index = index; bytes = bytes }) ≡ cond (nat_lt index (parts blob)) (Some (part_of blob index)) None
+    → Some (record { header = header; remaining = length rest - len; index = index; bytes = bytes }) ≡ cond (nat_lt index (parts blob)) (Some (blob_part blob index)) None
 cut-told blob header behind rest bytes index len n n_is before header_is behind_is rest_is len_is bytes_are =
     let whole : rest ≡ drop (260 * index) (drop 32 blob) = rest_is ∙ take_all (length behind - 260 * index) (drop (260 * index) behind) (omega (arith, length-drop (260 * index) behind)) ∙ ap (drop (260 * index)) behind_is in
     let most : len ≡ min (length (drop (260 * index) (drop 32 blob))) 260 = len_is ∙ ap (λ (xs : List ℕ). min (length xs) 260) whole in

@@ -14,7 +14,7 @@ use Rattle.fw_components.specs.Tables.{Tables, numbers_by}
 use Rattle.fw_components.specs.Changes.{has_id}
 use Rattle.fw_components.specs.Frames.{words_by, words_at, staged_of_one, staged_in, taken_by, pushed_by, pushed_at}
 use Rattle.fw_components.specs.Kept.{IsKept, IsBuffering, IsStreaming, is_plain, sides_by}
-use Rattle.fw_components.specs.Processed.{moves_of, moves_at, channels_moved, IsInlet, IsOutlet, slices_in, chosen_by, made_frames, made_numbers, made_at, numbers_at, numbers_made_at, drained_at, run_unit, run_by, run_at, processed}
+use Rattle.fw_components.specs.Processed.{moves_of, moves_at, channels_moved, IsInlet, IsOutlet, slices_in, chosen_by, made_frames, made_numbers, made_at, eq_numbers_at, numbers_made_at, drained_at, run_unit, run_by, run_at, processed}
 use Rattle.fw_components.specs.Moving.{CanMove, IsMoved}
 use Rattle.fw_components.proofs.Begun.{at-id, at-unit, at-sides, taken-sides, taken-buffering, pushed-sides, pushed-buffering}
 use Rattle.fw_components.proofs.Going.{find-first, find-past}
@@ -171,7 +171,7 @@ module _ (t : Tables) (id : ℕ) (c : Component) (it : Some c ≡ find (λ x. x.
           joins = t.joins;
         })
 
-    pub now-numbers : numbers_at now id ≡ numbers_made_at t id looked n
+    pub now-numbers : eq_numbers_at now id ≡ numbers_made_at t id looked n
     now-numbers =
         ap (λ (o : Option Component). option_map_or (λ x. numbers_by x.unit x.channels) o []) (sym it')
         ∙ moved.numbers

@@ -7,12 +7,12 @@ use Rattle.stream_law.specs.declared.graph.Edge.{Edge}
 use Rattle.stream_law.specs.declared.graph.Join.{Join}
 use Rattle.stream_law.specs.declared.graph.Pipe.{Pipe}
 use Rattle.stream_law.specs.declared.stream.StreamView.{StreamView}
-use Rattle.stream_law.specs.Joins.{joined}
+use Rattle.stream_law.specs.Joins.{joined_edge}
 use Rattle.fw_components.specs.declared.component.Component.{Component}
 use Rattle.fw_components.specs.declared.component.Unit as units
 use Rattle.fw_components.specs.declared.component.Unit.TheVariants.{Host, Dai, Volume, Mixer, Mux, Eq, Buffer, Pipeline}
-use Rattle.fw_components.specs.Tables.{comp_by, edge_by, pipe_by, ring_by, streams_by, with_stream_by, frames_by, kind_by, setting_by, size_by, source_by, sink_by, sched_by, period_by, complete_by, is_buffer}
-use Rattle.fw_components.specs.Changes.{joined_at, sunk_unit, sourced_unit, ended_unit, ended_at}
+use Rattle.fw_components.specs.Tables.{comp_by, edge_by, pipe_by, ring_by, streams_by, with_stream_by, unit_frames, kind_by, setting_by, size_by, source_by, sink_by, sched_by, period_by, complete_by, is_buffer}
+use Rattle.fw_components.specs.Changes.{joined_at, sunk_unit, sourced_unit, ended_unit, with_ended}
 use Rattle.fw_components.specs.Frames.{begun_unit, begun_by, begun_at, with_frames}
 use Rattle.fw_components.proofs.Joining.{joined_by}
 
@@ -37,7 +37,7 @@ edge_of_unit id pipe u = record { buffer = id; pipe = pipe; size = size_by u; so
 abbrev pipe_of_unit : ℕ → ℕ → units.Unit → Pipe
 pipe_of_unit id pipe u = record { id = id; index = pipe; sched = sched_by u; period = period_by u; complete = complete_by u }
 
-sunk-frames : (id : ℕ) → (u : units.Unit) → frames_by (sunk_unit id u) ≡ frames_by u
+sunk-frames : (id : ℕ) → (u : units.Unit) → unit_frames (sunk_unit id u) ≡ unit_frames u
 sunk-frames id (Host capture phase params piece) = refl
 sunk-frames id (Dai capture format piece) = refl
 sunk-frames id (Volume gains piece) = refl
@@ -47,7 +47,7 @@ sunk-frames id (Eq eq next remaining) = refl
 sunk-frames id (Buffer size ring source sink) = refl
 sunk-frames id (Pipeline sched period complete piece) = refl
 
-sourced-frames : (id : ℕ) → (u : units.Unit) → frames_by (sourced_unit id u) ≡ frames_by u
+sourced-frames : (id : ℕ) → (u : units.Unit) → unit_frames (sourced_unit id u) ≡ unit_frames u
 sourced-frames id (Host capture phase params piece) = refl
 sourced-frames id (Dai capture format piece) = refl
 sourced-frames id (Volume gains piece) = refl
@@ -77,7 +77,7 @@ begun-setting channels words (Eq eq next remaining) = refl
 begun-setting channels words (Buffer size ring source sink) = refl
 begun-setting channels words (Pipeline sched period complete piece) = refl
 
-begun-frames : (channels : ℕ) → (words : List ℤ) → (u : units.Unit) → frames_by (begun_unit channels words u) ≡ []
+begun-frames : (channels : ℕ) → (words : List ℤ) → (u : units.Unit) → unit_frames (begun_unit channels words u) ≡ []
 begun-frames channels words (Host capture phase params piece) = refl
 begun-frames channels words (Dai capture format piece) = refl
 begun-frames channels words (Volume gains piece) = refl
@@ -117,7 +117,7 @@ begun-stream id channels words rest (Eq eq next remaining) = refl
 begun-stream id channels words rest (Buffer size ring source sink) = refl
 begun-stream id channels words rest (Pipeline sched period complete piece) = refl
 
-ended-frames : (u : units.Unit) → frames_by (ended_unit u) ≡ []
+ended-frames : (u : units.Unit) → unit_frames (ended_unit u) ≡ []
 ended-frames (Host capture phase params piece) = refl
 ended-frames (Dai capture format piece) = refl
 ended-frames (Volume gains piece) = refl
@@ -140,7 +140,7 @@ ended-edge id pipe (Pipeline sched period complete piece) = refl
 -- ---- joins
 
 module _ (j : Join) where
-  edge-joined : (c : Component) → is_buffer c.unit ≡ true → edge_by (joined_at j c) ≡ joined j (edge_by c)
+  edge-joined : (c : Component) → is_buffer c.unit ≡ true → edge_by (joined_at j c) ≡ joined_edge j (edge_by c)
   edge-joined c e = by (c.id == j.source) (c.id == j.sink) c.unit e
     where
       by : (h k : Bool) (u : units.Unit) → is_buffer u ≡ true → edge_by (joined_by h k j (record { id = c.id; pipe = c.pipe; channels = c.channels; unit = u })) ≡ cond h (record { buffer = c.id; pipe = c.pipe; size = size_by u; source = source_by u; sink = Some j.sink }) (cond k (record { buffer = c.id; pipe = c.pipe; size = size_by u; source = Some j.source; sink = sink_by u }) (record { buffer = c.id; pipe = c.pipe; size = size_by u; source = source_by u; sink = sink_by u }))
@@ -155,8 +155,8 @@ module _ (j : Join) where
       by false true (Buffer size ring source sink) e = refl
       by false false (Buffer size ring source sink) e = refl
 
-  pub edges-joined : (cs : List Component) → AllByRecursion (λ c. is_buffer c.unit ≡ true) cs → map edge_by (map (joined_at j) cs) ≡ map (joined j) (map edge_by cs)
-  edges-joined cs all = map-seen (λ (c : Component). is_buffer c.unit ≡ true) edge_by (joined j) (joined_at j) edge-joined cs all
+  pub edges-joined : (cs : List Component) → AllByRecursion (λ c. is_buffer c.unit ≡ true) cs → map edge_by (map (joined_at j) cs) ≡ map (joined_edge j) (map edge_by cs)
+  edges-joined cs all = map-seen (λ (c : Component). is_buffer c.unit ≡ true) edge_by (joined_edge j) (joined_at j) edge-joined cs all
 
   ring-joined : (c : Component) → ring_by (joined_at j c) ≡ ring_by c
   ring-joined c = by (c.id == j.source) (c.id == j.sink)
@@ -223,22 +223,22 @@ module _ (id channels : ℕ) (words : List ℤ) where
 -- ---- endings
 
 module _ (id : ℕ) where
-  edge-ended : (c : Component) → edge_by (ended_at id c) ≡ edge_by c
+  edge-ended : (c : Component) → edge_by (with_ended id c) ≡ edge_by c
   edge-ended c = by (c.id == id)
     where
       by : (h : Bool) → edge_by (cond {A = Component} h (record { id = c.id; pipe = c.pipe; channels = c.channels; unit = ended_unit c.unit }) c) ≡ edge_by c
       by true = ended-edge c.id c.pipe c.unit
       by false = refl
 
-  ring-ended : (c : Component) → ring_by (ended_at id c) ≡ with_frames (λ fs. []) id (ring_by c)
+  ring-ended : (c : Component) → ring_by (with_ended id c) ≡ with_frames (λ fs. []) id (ring_by c)
   ring-ended c = by (c.id == id)
     where
       by : (h : Bool) → ring_by (cond {A = Component} h (record { id = c.id; pipe = c.pipe; channels = c.channels; unit = ended_unit c.unit }) c) ≡ cond h (record { buffer = c.id; frames = [] }) (ring_by c)
       by true = ap (λ (fs : List Frame). record { buffer = c.id; frames = fs }) (ended-frames c.unit)
       by false = refl
 
-  pub edges-ended : (cs : List Component) → map edge_by (map (ended_at id) cs) ≡ map edge_by cs
-  edges-ended cs = map-same edge_by (ended_at id) edge-ended cs
+  pub edges-ended : (cs : List Component) → map edge_by (map (with_ended id) cs) ≡ map edge_by cs
+  edges-ended cs = map-same edge_by (with_ended id) edge-ended cs
 
-  pub rings-ended : (cs : List Component) → map ring_by (map (ended_at id) cs) ≡ map (with_frames (λ fs. []) id) (map ring_by cs)
-  rings-ended cs = map-after ring_by (with_frames (λ fs. []) id) (ended_at id) ring-ended cs
+  pub rings-ended : (cs : List Component) → map ring_by (map (with_ended id) cs) ≡ map (with_frames (λ fs. []) id) (map ring_by cs)
+  rings-ended cs = map-after ring_by (with_frames (λ fs. []) id) (with_ended id) ring-ended cs

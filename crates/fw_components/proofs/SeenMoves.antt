@@ -20,10 +20,10 @@ use Rattle.stream_law.specs.Equaliser.{passed_frames, numbers_after}
 use Rattle.fw_components.specs.declared.component.Component.{Component}
 use Rattle.fw_components.specs.declared.component.Unit as units
 use Rattle.fw_components.specs.declared.component.Unit.TheVariants.{Host, Dai, Volume, Mixer, Mux, Eq, Buffer, Pipeline}
-use Rattle.fw_components.specs.Tables.{Tables, comp_by, edge_by, pipe_by, ring_by, streams_by, with_stream_by, staging_by, with_staging_by, kind_by, setting_by, frames_by, numbers_by, is_buffer, graph_of, view_by, streams_of, histories_of}
+use Rattle.fw_components.specs.Tables.{Tables, comp_by, edge_by, pipe_by, ring_by, streams_by, with_stream_by, staging_by, with_staging_by, kind_by, setting_by, unit_frames, numbers_by, is_buffer, graph_of, view_by, streams_of, histories_of}
 use Rattle.fw_components.specs.Frames.{staged_by, staged_in, staged_of_one, taken_unit, taken_by, pushed_unit, pushed_by, pushed_at, with_frames}
 use Rattle.fw_components.specs.Kept.{IsKept, IsBuffering}
-use Rattle.fw_components.specs.Processed.{moves_of, moves_at, channels_moved, slices_in, chosen_by, made_frames, made_numbers, made_at, numbers_at, numbers_made_at, drained_at, run_unit, run_by, run_at, processed, drained_ring, moved_rings, with_numbers}
+use Rattle.fw_components.specs.Processed.{moves_of, moves_at, channels_moved, slices_in, chosen_by, made_frames, made_numbers, made_at, eq_numbers_at, numbers_made_at, drained_at, run_unit, run_by, run_at, processed, drained_ring, moved_rings, with_numbers}
 use Rattle.fw_components.proofs.Begun.{at-id}
 use Rattle.fw_components.proofs.MovedLaws.{taken-frames}
 use Rattle.fw_components.proofs.SeenFrames.{map-same, edge_of_unit}
@@ -91,7 +91,7 @@ taken-buffer n (Eq eq next remaining) = refl
 taken-buffer n (Buffer size ring source sink) = refl
 taken-buffer n (Pipeline sched period complete piece) = refl
 
-pushed-frames : (fs : List Frame) (w : List ℤ) (u : units.Unit) → is_buffer u ≡ true → frames_by (pushed_unit fs w u) ≡ frames_by u ++ fs
+pushed-frames : (fs : List Frame) (w : List ℤ) (u : units.Unit) → is_buffer u ≡ true → unit_frames (pushed_unit fs w u) ≡ unit_frames u ++ fs
 pushed-frames fs w (Host capture phase params piece) e = absurd (false≢true e)
 pushed-frames fs w (Dai capture format piece) e = absurd (false≢true e)
 pushed-frames fs w (Volume gains piece) e = absurd (false≢true e)
@@ -210,7 +210,7 @@ module _ (looked : List ℕ) (n fed : ℕ) (frames : List Frame) (w : List ℤ) 
   ring-drained : (c : Component) → ring_by (drained_at looked n c) ≡ drained_ring looked n (ring_by c)
   ring-drained c = by (is_among looked c.id)
     where
-      by : (h : Bool) → ring_by (cond {A = Component} h (taken_by n c) c) ≡ cond h (record { buffer = c.id; frames = drop n (frames_by c.unit) }) (ring_by c)
+      by : (h : Bool) → ring_by (cond {A = Component} h (taken_by n c) c) ≡ cond h (record { buffer = c.id; frames = drop n (unit_frames c.unit) }) (ring_by c)
       by true = ap (λ (fs : List Frame). record { buffer = c.id; frames = fs }) (taken-frames n c.unit)
       by false = refl
 
@@ -224,7 +224,7 @@ module _ (looked : List ℕ) (n fed : ℕ) (frames : List Frame) (w : List ℤ) 
   ring-fed : (c : Component) → is_buffer c.unit ≡ true → ring_by (pushed_at fed frames w c) ≡ with_frames (λ own. own ++ frames) fed (ring_by c)
   ring-fed c e = by (c.id == fed)
     where
-      by : (h : Bool) → ring_by (cond {A = Component} h (pushed_by frames w c) c) ≡ cond h (record { buffer = c.id; frames = frames_by c.unit ++ frames }) (ring_by c)
+      by : (h : Bool) → ring_by (cond {A = Component} h (pushed_by frames w c) c) ≡ cond h (record { buffer = c.id; frames = unit_frames c.unit ++ frames }) (ring_by c)
       by true = ap (λ (fs : List Frame). record { buffer = c.id; frames = fs }) (pushed-frames frames w c.unit e)
       by false = refl
 
@@ -249,7 +249,7 @@ module _ (id fed n : ℕ) (looked : List ℕ) (frames : List Frame) (words own :
   view-moved : view_by after ≡ view_by t
   view-moved = (λ i. record { graph = graph-moved i; streams = streams-moved i })
 
-  pub histories-moved : IsKept t → histories_of after ≡ map (with_numbers id (numbers_at after id)) (histories_of t)
+  pub histories-moved : IsKept t → histories_of after ≡ map (with_numbers id (eq_numbers_at after id)) (histories_of t)
   histories-moved kept =
       ap (λ (v : View). map (history id own) (filter (λ c. equalises v c.id) (map (run_at id own) t.comps))) view-moved
       ∙ histories-run id own t.comps (equalises (view_by t)) kept.named.comps
@@ -266,9 +266,9 @@ find-comp id (c ∷ cs) = by (c.id == id) (find-comp id cs)
 
 -- an equaliser's numbers after them
 module _ (id n : ℕ) (looked : List ℕ) (t : Tables) (wide : channels_of (view_by t) id ≡ channels_moved t id) where
-  pub tick-numbers : option_map_or (λ x. is_equaliser x.kind) (comp_of (graph_of t) id) false ≡ true → numbers_after (blob_of (view_by t) id) (channels_of (view_by t) id) (numbers_at t id) (only_slice (slices_in t.buffers looked n)) ≡ numbers_made_at t id looked n
+  pub tick-numbers : option_map_or (λ x. is_equaliser x.kind) (comp_of (graph_of t) id) false ≡ true → numbers_after (blob_of (view_by t) id) (channels_of (view_by t) id) (eq_numbers_at t id) (only_slice (slices_in t.buffers looked n)) ≡ numbers_made_at t id looked n
   tick-numbers kind =
-      subst (λ (o : Option Comp). option_map_or (λ x. is_equaliser x.kind) o false ≡ true → numbers_after (option_map_or (λ x. made.blob x.setting) o []) (channels_of (view_by t) id) (numbers_at t id) (only_slice (slices_in t.buffers looked n)) ≡ numbers_made_at t id looked n)
+      subst (λ (o : Option Comp). option_map_or (λ x. is_equaliser x.kind) o false ≡ true → numbers_after (option_map_or (λ x. made.blob x.setting) o []) (channels_of (view_by t) id) (eq_numbers_at t id) (only_slice (slices_in t.buffers looked n)) ≡ numbers_made_at t id looked n)
       (sym (find-comp id t.comps)) (found (find (λ c. c.id == id) t.comps) wide) kind
     where
       by : (u : units.Unit) (channels : ℕ) → channels_of (view_by t) id ≡ channels → is_equaliser (kind_by u) ≡ true → numbers_after (made.blob (setting_by u)) (channels_of (view_by t) id) (numbers_by u channels) (only_slice (slices_in t.buffers looked n)) ≡ made_numbers u channels (slices_in t.buffers looked n)
@@ -311,10 +311,10 @@ module _ (id n : ℕ) (looked : List ℕ) (read : List Frame) (t : Tables) (wide
       by (Buffer size ring source sink) e = absurd (false≢true e)
       by (Pipeline sched period complete piece) e = absurd (false≢true e)
 
-  pub tick-made : moves_at t id (length looked) ≡ true → frames_made (view_by t) id n read slices (λ blob channels frames. passed_frames blob channels (numbers_at t id) frames) ≡ made_at t id looked n
+  pub tick-made : moves_at t id (length looked) ≡ true → frames_made (view_by t) id n read slices (λ blob channels frames. passed_frames blob channels (eq_numbers_at t id) frames) ≡ made_at t id looked n
   unfolding frames_made
   tick-made kind =
-      ap (λ o. option_map_or (λ x. made.frames_by x.kind x.setting (view_by t) id n read slices (λ blob channels frames. passed_frames blob channels (numbers_at t id) frames)) o []) (find-comp id t.comps)
+      ap (λ o. option_map_or (λ x. made.frames_by x.kind x.setting (view_by t) id n read slices (λ blob channels frames. passed_frames blob channels (eq_numbers_at t id) frames)) o []) (find-comp id t.comps)
       ∙ found (find (λ c. c.id == id) t.comps) kind wide
     where
       found : (o : Option Component) → option_map_or (λ c. moves_of c.unit (length looked)) o false ≡ true → channels_of (view_by t) id ≡ option_map_or (λ c. c.channels) o 0 →

@@ -5,12 +5,12 @@ use Rattle.std.proofs.Math.Nat.{mul_comm}
 use Rattle.std.specs.Prelude.{find}
 use Rattle.std.specs.Option.{option_map_or}
 use Rattle.fw_components.specs.declared.component.Component.{Component}
-use Rattle.fw_components.specs.Tables.{frames_by, capacity_by}
-use Rattle.fw_components.specs.Frames.{channels_by, frames_in, channels_in, capacity_in}
+use Rattle.fw_components.specs.Tables.{unit_frames, capacity_by}
+use Rattle.fw_components.specs.Frames.{channels_by, buffer_frames, channels_in, capacity_in}
 
 module _ (id : ℕ) (cs : List Component) (c : Component) (it : Some c ≡ find (λ x. x.id == id) cs) where
-  pub frames-is : frames_by c.unit ≡ frames_in cs id
-  frames-is = ap (λ (o : Option Component). option_map_or (λ x. frames_by x.unit) o []) it
+  pub frames-is : unit_frames c.unit ≡ buffer_frames cs id
+  frames-is = ap (λ (o : Option Component). option_map_or (λ x. unit_frames x.unit) o []) it
 
   pub channels-is : channels_by c.unit ≡ channels_in cs id
   channels-is = ap (λ (o : Option Component). option_map_or (λ x. channels_by x.unit) o 1) it

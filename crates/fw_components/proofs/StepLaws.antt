@@ -9,9 +9,9 @@ use Rattle.sof_base.specs.Samples.{Frame, frames_of}
 use Rattle.stream_law.specs.Order.{is_among}
 use Rattle.stream_law.specs.Placed.{AreAbove, Ascends}
 use Rattle.fw_components.specs.declared.component.Component.{Component}
-use Rattle.fw_components.specs.Tables.{frames_by, capacity_by}
+use Rattle.fw_components.specs.Tables.{unit_frames, capacity_by}
 use Rattle.fw_components.specs.Changes.{has_id}
-use Rattle.fw_components.specs.Frames.{words_by, channels_by, frames_in, channels_in, capacity_in, taken_by, pushed_at}
+use Rattle.fw_components.specs.Frames.{words_by, channels_by, buffer_frames, channels_in, capacity_in, taken_by, pushed_at}
 use Rattle.fw_components.specs.Processed.{drained_at}
 use Rattle.fw_components.specs.Moving.{CanMove}
 use Rattle.fw_components.proofs.Ids.{has-map}
@@ -78,9 +78,9 @@ module _ (bs : List Component) (looked : List ℕ) (fed n : ℕ) (c : Component)
     pub mid-whole : length samples % channels_in mid fed ≡ 0
     mid-whole = (λ i. long i % mid-channels i) ∙ mul-mod_left n c.channels
 
-    pub mid-fit : length (frames_in mid fed) + length samples / channels_in mid fed ≤ capacity_in mid fed
+    pub mid-fit : length (buffer_frames mid fed) + length samples / channels_in mid fed ≤ capacity_in mid fed
     mid-fit =
-        let same : length (frames_in mid fed) ≡ length (frames_in bs fed) = ap (λ (o : Option Component). length (option_map_or (λ x. frames_by x.unit) o [])) found-fed in
+        let same : length (buffer_frames mid fed) ≡ length (buffer_frames bs fed) = ap (λ (o : Option Component). length (option_map_or (λ x. unit_frames x.unit) o [])) found-fed in
         let room : capacity_in mid fed ≡ capacity_in bs fed = ap (λ (o : Option Component). option_map_or (λ x. capacity_by x.unit) o 0) found-fed in
         omega (arith, same, room, mid-count, can.outlet.room)
 

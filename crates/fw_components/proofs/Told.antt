@@ -5,7 +5,7 @@ use Rattle.std.specs.Prelude.{position, find, is_none, option_and_then}
 use Rattle.fw_components.specs.declared.component.Component.{Component}
 use Rattle.fw_components.specs.Tables.{Tables}
 use Rattle.fw_components.specs.Changes.{is_there, has_id}
-use Rattle.fw_components.specs.Values.{values_by, values_or, values_at, takes, valued, values_set}
+use Rattle.fw_components.specs.Values.{unit_values, values_or, unit_values_at, takes_values, valued, values_set}
 use Rattle.std.specs.Option.{option_map_or}
 use Rattle.fw_components.proofs.Going.{placed-there, never-there}
 
@@ -20,26 +20,26 @@ module _ (id : ℕ) (cs : List Component) where
 
 module _ (t : Tables) (id command : ℕ) where
   row : Bool → Option Component → Result (List ℕ) ℤ
-  row h o = cond (not h) (Err (negsuc 18)) (values_or (option_and_then (λ c. values_by c.unit command) o))
+  row h o = cond (not h) (Err (negsuc 18)) (values_or (option_and_then (λ c. unit_values c.unit command) o))
 
-  pub values-none : is_there t id ≡ false → Err (negsuc 18) ≡ values_at t id command
+  pub values-none : is_there t id ≡ false → Err (negsuc 18) ≡ unit_values_at t id command
   unfolding row
   values-none gone = ap (λ h. row h (find (λ c. c.id == id) t.comps)) (sym gone)
 
-  pub values-past : is_there t id ≡ true → find (λ c. c.id == id) t.comps ≡ None → Err (negsuc 21) ≡ values_at t id command
+  pub values-past : is_there t id ≡ true → find (λ c. c.id == id) t.comps ≡ None → Err (negsuc 21) ≡ unit_values_at t id command
   unfolding row
   values-past there none = ap (λ (p : Bool × Option Component). row p.0 p.1) (λ i. (sym there i, sym none i))
 
-  pub values-found : (c : Component) (values : Option (List ℕ)) → is_there t id ≡ true → Some c ≡ find (λ c. c.id == id) t.comps → values ≡ values_by c.unit command → values_or values ≡ values_at t id command
+  pub values-found : (c : Component) (values : Option (List ℕ)) → is_there t id ≡ true → Some c ≡ find (λ c. c.id == id) t.comps → values ≡ unit_values c.unit command → values_or values ≡ unit_values_at t id command
   unfolding row
   values-found c values there it is = ap values_or is ∙ ap (λ (p : Bool × Option Component). row p.0 p.1) (λ i. (sym there i, it i))
 
 module _ (t : Tables) (id command : ℕ) (values : List ℕ) where
   abbrev takes-it : Option Component → Bool
-  takes-it o = option_map_or (λ c. takes c.unit command values) o false
+  takes-it o = option_map_or (λ c. takes_values c.unit command values) o false
 
   set-row : Bool → Bool → Result Tables ℤ
-  set-row there takes = cond (not there) (Err (negsuc 18)) (cond takes (Ok (valued id values t)) (Err (negsuc 21)))
+  set-row there takes_values = cond (not there) (Err (negsuc 18)) (cond takes_values (Ok (valued id values t)) (Err (negsuc 21)))
 
   pub set-none : is_there t id ≡ false → Err (negsuc 18) ≡ values_set t id command values
   unfolding set-row

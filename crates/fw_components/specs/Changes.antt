@@ -5,6 +5,7 @@ use Rattle.sof_base.specs.declared.format.Params.{Params}
 use Rattle.stream_law.specs.Placed.{placed}
 use Rattle.stream_law.specs.declared.stream.Phase.{Phase}
 use Rattle.stream_law.specs.declared.stream.Phase.TheVariants.{Idle}
+use Rattle.mbox_link.specs.Step.{touches}
 use Rattle.fw_components.specs.declared.component.Unit as units
 use Rattle.fw_components.specs.declared.component.Unit.TheVariants.{Host, Volume, Eq, Buffer, Pipeline}
 use Rattle.fw_components.specs.declared.component.Component.{Component}
@@ -43,14 +44,14 @@ is_there t id = list_any (λ c. c.id == id) (all_of t)
 
 -- ---- what is so of a unit that is added
 
-abbrev pub is_idle : Phase → Bool
-is_idle Idle = true
-is_idle phase = false
+abbrev pub is_idle_phase : Phase → Bool
+is_idle_phase Idle = true
+is_idle_phase phase = false
 
 -- a buffer is joined to nothing, and its ring is empty and has the words of its bytes; a host is Idle and without parameters; of
 -- an equaliser's blob nothing is staged; a volume has 1 to 8 gains of at most 16777216; a period is that of a message
 abbrev pub IsNew : units.Unit → Type 0
-IsNew (Host capture phase params piece) = (is_idle phase ≡ true) × (params ≡ None)
+IsNew (Host capture phase params piece) = (is_idle_phase phase ≡ true) × (params ≡ None)
 IsNew (Volume gains piece) = (1 ≤ length gains) × (length gains ≤ 8) × (list_all (λ g. nat_le g 16777216) gains ≡ true)
 IsNew (Eq eq next remaining) = (next ≡ 0) × (remaining ≡ 0)
 IsNew (Buffer size ring source sink) = (source ≡ None) × (sink ≡ None) × (ring.frames ≡ []) × (ring.words ≡ size / 4)
@@ -77,8 +78,8 @@ abbrev pub ended_unit : units.Unit → units.Unit
 ended_unit (Buffer size ring source sink) = Buffer size (emptied ring) source sink
 ended_unit unit = unit
 
-abbrev pub ended_at : ℕ → Component → Component
-ended_at id c = if c.id == id then record { id = c.id; pipe = c.pipe; channels = c.channels; unit = ended_unit c.unit } else c
+abbrev pub with_ended : ℕ → Component → Component
+with_ended id c = if c.id == id then record { id = c.id; pipe = c.pipe; channels = c.channels; unit = ended_unit c.unit } else c
 
 abbrev pub set_unit : Phase → Option Params → units.Unit → units.Unit
 set_unit phase params (Host capture was before piece) = Host capture phase params piece
@@ -116,14 +117,14 @@ joined_at j c =
     else c
 
 -- the tables with one more join, the last in order
-abbrev pub with_join : Join → Tables → Tables
-with_join j t = record { comps = t.comps; buffers = map (joined_at j) t.buffers; pipes = t.pipes; joins = t.joins ++ j ∷ [] }
+abbrev pub tables_with_join : Join → Tables → Tables
+tables_with_join j t = record { comps = t.comps; buffers = map (joined_at j) t.buffers; pipes = t.pipes; joins = t.joins ++ j ∷ [] }
 
 -- ---- what goes, and what pieces leave
 
 -- a piece is of this region
-abbrev pub IsOf : Home → Component → Type 0
-IsOf home c = (piece_of c.unit).home ≡ home
+abbrev pub IsOfHome : Home → Component → Type 0
+IsOfHome home c = (piece_of c.unit).home ≡ home
 
 -- the holes once a component's piece is given back
 abbrev pub given_by : Component → List Hole → List Hole
@@ -144,11 +145,7 @@ given_found (Some c) holes = given_by c holes
 -- what is found of this id is of this region
 abbrev pub IsFoundOf : Home → Option Component → Type 0
 IsFoundOf home None = Unit {0}
-IsFoundOf home (Some c) = IsOf home c
-
--- a join is at this id
-abbrev pub touches : ℕ → Join → Bool
-touches id j = j.source == id || j.sink == id
+IsFoundOf home (Some c) = IsOfHome home c
 
 -- the tables without a component, a buffer with its joins, or a pipeline
 abbrev pub without_by : Bool → Bool → ℕ → Tables → Tables
@@ -156,5 +153,5 @@ without_by true buffer id t = record { comps = filter (λ c. not (c.id == id)) t
 without_by false true id t = record { comps = t.comps; buffers = filter (λ c. not (c.id == id)) t.buffers; pipes = t.pipes; joins = filter (λ j. not (touches id j)) t.joins }
 without_by false false id t = record { comps = t.comps; buffers = t.buffers; pipes = filter (λ c. not (c.id == id)) t.pipes; joins = t.joins }
 
-abbrev pub without : ℕ → Tables → Tables
-without id t = without_by (has_id t.comps id) (has_id t.buffers id) id t
+abbrev pub tables_without : ℕ → Tables → Tables
+tables_without id t = without_by (has_id t.comps id) (has_id t.buffers id) id t

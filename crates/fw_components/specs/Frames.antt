@@ -3,7 +3,7 @@ use Rattle.std.specs.Prelude.{◌≡◌, ℕ, ◌*◌, List, [], ◌++◌, drop,
 use Rattle.std.specs.Option.{option_map_or}
 use Rattle.sof_base.specs.Samples.{Frame}
 use Rattle.fw_heap.specs.Pieces.{PieceState}
-use Rattle.fw_ring.specs.RingState.{RingState, capacity_of, moved_on}
+use Rattle.fw_ring.specs.RingState.{RingState, capacity_of, place_after}
 use Rattle.eq_biquad.specs.EqState.{staged_of, numbers_of}
 use Rattle.stream_law.specs.Seen.{fresh_numbers}
 use Rattle.stream_law.specs.State.{RingView}
@@ -11,7 +11,7 @@ use Rattle.stream_law.specs.Ways.{is_end}
 use Rattle.fw_components.specs.declared.component.Unit as units
 use Rattle.fw_components.specs.declared.component.Unit.TheVariants.{Eq, Buffer}
 use Rattle.fw_components.specs.declared.component.Component.{Component}
-use Rattle.fw_components.specs.Tables.{Tables, piece_of, frames_by, capacity_by, source_by, sink_by}
+use Rattle.fw_components.specs.Tables.{Tables, piece_of, unit_frames, capacity_by, source_by, sink_by}
 use Rattle.fw_components.specs.Changes.{found}
 
 -- the words of a component's piece, and those of the one of an id
@@ -25,14 +25,14 @@ abbrev pub words_at : Tables → ℕ → List ℤ
 words_at t id = words_by (found t id)
 
 -- a piece with other words
-abbrev pub with_words : List ℤ → PieceState → PieceState
-with_words words p = record { home = p.home; place = p.place; size = p.size; words = words }
+abbrev pub piece_with_words : List ℤ → PieceState → PieceState
+piece_with_words words p = record { home = p.home; place = p.place; size = p.size; words = words }
 
 -- ---- what begins
 
 -- a ring that is empty, for frames of so many channels; an equaliser with these words
 abbrev pub begun_unit : ℕ → List ℤ → units.Unit → units.Unit
-begun_unit channels words (Eq eq next remaining) = Eq (record { blob = eq.blob; piece = with_words words eq.piece }) next remaining
+begun_unit channels words (Eq eq next remaining) = Eq (record { blob = eq.blob; piece = piece_with_words words eq.piece }) next remaining
 begun_unit channels words (Buffer size ring source sink) = Buffer size (record { frames = []; words = ring.words; channels = channels; start = 0; piece = ring.piece }) source sink
 begun_unit channels words unit = unit
 
@@ -85,8 +85,8 @@ channels_by unit = 1
 abbrev pub channels_in : List Component → ℕ → ℕ
 channels_in cs id = option_map_or (λ c. channels_by c.unit) (find (λ c. c.id == id) cs) 1
 
-abbrev pub frames_in : List Component → ℕ → List Frame
-frames_in cs id = option_map_or (λ c. frames_by c.unit) (find (λ c. c.id == id) cs) []
+abbrev pub buffer_frames : List Component → ℕ → List Frame
+buffer_frames cs id = option_map_or (λ c. unit_frames c.unit) (find (λ c. c.id == id) cs) []
 
 abbrev pub capacity_in : List Component → ℕ → ℕ
 capacity_in cs id = option_map_or (λ c. capacity_by c.unit) (find (λ c. c.id == id) cs) 0
@@ -100,7 +100,7 @@ taken_ring n r = record {
   frames = drop n r.frames;
   words = r.words;
   channels = r.channels;
-  start = moved_on (capacity_of r * r.channels) r.start (n * r.channels);
+  start = place_after (capacity_of r * r.channels) r.start (n * r.channels);
   piece = r.piece;
 }
 
@@ -116,7 +116,7 @@ taken_at id n c = if c.id == id then taken_by n c else c
 
 -- a ring with more frames behind its own, and with these words of its piece
 abbrev pub pushed_ring : List Frame → List ℤ → RingState → RingState
-pushed_ring frames words r = record { frames = r.frames ++ frames; words = r.words; channels = r.channels; start = r.start; piece = with_words words r.piece }
+pushed_ring frames words r = record { frames = r.frames ++ frames; words = r.words; channels = r.channels; start = r.start; piece = piece_with_words words r.piece }
 
 abbrev pub pushed_unit : List Frame → List ℤ → units.Unit → units.Unit
 pushed_unit frames words (Buffer size ring source sink) = Buffer size (pushed_ring frames words ring) source sink
@@ -137,15 +137,15 @@ abbrev pub goes_to : ℕ → Component → Bool
 goes_to id c = is_end (sink_by c.unit) id
 
 -- the id of the first buffer out of a component, and of the first into it
-abbrev pub out_of : Tables → ℕ → ℕ
-out_of t id = option_map_or (λ c. c.id) (find (comes_from id) t.buffers) 0
+abbrev pub buffer_out_of : Tables → ℕ → ℕ
+buffer_out_of t id = option_map_or (λ c. c.id) (find (comes_from id) t.buffers) 0
 
 abbrev pub in_of : Tables → ℕ → ℕ
 in_of t id = option_map_or (λ c. c.id) (find (goes_to id) t.buffers) 0
 
 -- the tables once a buffer lost its first frames, or got more behind its own, with the words of its piece after that
-abbrev pub taken : ℕ → ℕ → Tables → Tables
-taken id n t = record { comps = t.comps; buffers = map (taken_at id n) t.buffers; pipes = t.pipes; joins = t.joins }
+abbrev pub with_taken : ℕ → ℕ → Tables → Tables
+with_taken id n t = record { comps = t.comps; buffers = map (taken_at id n) t.buffers; pipes = t.pipes; joins = t.joins }
 
 abbrev pub pushed : ℕ → List Frame → List ℤ → Tables → Tables
 pushed id frames words t = record { comps = t.comps; buffers = map (pushed_at id frames words) t.buffers; pipes = t.pipes; joins = t.joins }

@@ -9,7 +9,8 @@ use Rattle.fw_components.specs.declared.component.Unit as units
 use Rattle.fw_components.specs.declared.component.Unit.TheVariants.{Host, Eq, Buffer, Pipeline}
 use Rattle.fw_components.specs.declared.component.Component.{Component}
 use Rattle.fw_components.specs.Tables.{Tables, is_buffer, is_pipeline, source_by, sink_by}
-use Rattle.fw_components.specs.Changes.{has_id, touches, is_idle}
+use Rattle.mbox_link.specs.Step.{touches}
+use Rattle.fw_components.specs.Changes.{has_id, is_idle_phase}
 
 -- neither a buffer nor a pipeline
 abbrev pub is_plain : units.Unit → Bool
@@ -18,17 +19,17 @@ is_plain unit = not (is_buffer unit || is_pipeline unit)
 -- ---- ids
 
 -- no component of the second list has the id of one of the first
-abbrev pub AreApart : List Component → List Component → Type 0
-AreApart cs ds = AllByRecursion (λ d. has_id cs d.id ≡ false) ds
+abbrev pub AreIdsApart : List Component → List Component → Type 0
+AreIdsApart cs ds = AllByRecursion (λ d. has_id cs d.id ≡ false) ds
 
 -- no id is that of two
 pub record IsNamed (t : Tables) : Type 0 where
   pub comps : Ascends (λ c. c.id) t.comps
   pub buffers : Ascends (λ c. c.id) t.buffers
   pub pipes : Ascends (λ c. c.id) t.pipes
-  pub comps_buffers : AreApart t.comps t.buffers
-  pub comps_pipes : AreApart t.comps t.pipes
-  pub buffers_pipes : AreApart t.buffers t.pipes
+  pub comps_buffers : AreIdsApart t.comps t.buffers
+  pub comps_pipes : AreIdsApart t.comps t.pipes
+  pub buffers_pipes : AreIdsApart t.buffers t.pipes
 
 -- ---- joins
 
@@ -58,20 +59,28 @@ pub record IsLinked (t : Tables) : Type 0 where
   pub each : AllByRecursion (λ c. sides_by c.unit ≤ joins_at c.id t.joins) t.buffers
   pub all : length t.joins ≤ sides t.buffers
 
+-- at most 128 components by ascending id, at most 128 buffers, and at most 256 joins between these
+pub record AreJoined (comps buffers : List Component) (joins : List Join) : Type 0 where
+  pub few_comps : length comps ≤ 128
+  pub few_buffers : length buffers ≤ 128
+  pub few_joins : length joins ≤ 256
+  pub between : AllByRecursion (λ j. is_between comps buffers j ≡ true) joins
+  pub named : Ascends (λ c. c.id) comps
+
 -- ---- all of it
 
 -- a ring has the words of its bytes; a period is a multiple of 1000 µs from 1000 to 10000
-abbrev pub IsSound : units.Unit → Type 0
-IsSound (Buffer size ring source sink) = ring.words ≡ size / 4
-IsSound (Pipeline sched period complete piece) = (1000 ≤ period) × (period ≤ 10000) × (period % 1000 ≡ 0)
-IsSound unit = Unit {0}
+abbrev pub IsUnitSound : units.Unit → Type 0
+IsUnitSound (Buffer size ring source sink) = ring.words ≡ size / 4
+IsUnitSound (Pipeline sched period complete piece) = (1000 ≤ period) × (period ≤ 10000) × (period % 1000 ≡ 0)
+IsUnitSound unit = Unit {0}
 
 -- a buffer's unit, and a pipeline's
 abbrev pub IsBuffering : units.Unit → Type 0
-IsBuffering unit = (is_buffer unit ≡ true) × IsSound unit
+IsBuffering unit = (is_buffer unit ≡ true) × IsUnitSound unit
 
 abbrev pub IsPiping : units.Unit → Type 0
-IsPiping unit = (is_pipeline unit ≡ true) × IsSound unit
+IsPiping unit = (is_pipeline unit ≡ true) × IsUnitSound unit
 
 -- a stream is Idle and without parameters, or has 1 to 8 channels and a right rate
 abbrev pub IsStreamOf : Bool → Option Params → Type 0
@@ -80,7 +89,7 @@ IsStreamOf idle (Some p) = (idle ≡ false) × ((1 ≤ p.channels) × (p.channel
 
 -- the stream of a host is; what is staged at an equaliser, and what remains of its blob, are at most 992 bytes behind the header
 abbrev pub IsStreaming : units.Unit → Type 0
-IsStreaming (Host capture phase params piece) = IsStreamOf (is_idle phase) params
+IsStreaming (Host capture phase params piece) = IsStreamOf (is_idle_phase phase) params
 IsStreaming (Eq eq next remaining) = 260 * next + remaining ≤ 992
 IsStreaming unit = Unit {0}
 

@@ -7,14 +7,14 @@ use Rattle.stream_law.specs.Placed.{Ascends}
 use Rattle.stream_law.specs.Order.{is_among}
 use Rattle.fw_components.specs.declared.component.Component.{Component}
 use Rattle.fw_components.specs.Tables.{numbers_by}
-use Rattle.fw_components.specs.Frames.{words_of, words_by, staged_by, frames_in, channels_in, pushed_at}
+use Rattle.fw_components.specs.Frames.{words_of, words_by, staged_by, buffer_frames, channels_in, pushed_at}
 use Rattle.fw_components.specs.Processed.{moves_of, IsInlet, IsOutlet, slices_in, made_frames, made_numbers, drained_at, run_by}
 
 -- ---- samples
 
 -- the samples of the first n frames of a buffer
 abbrev pub samples_in : List Component → (n b : ℕ) → List ℤ
-samples_in buffers n b = samples_of (take n (frames_in buffers b))
+samples_in buffers n b = samples_of (take n (buffer_frames buffers b))
 
 -- samples are added to sums, list after list
 abbrev pub all_summed : List ℤ → List (List ℤ) → List ℤ
@@ -23,7 +23,7 @@ all_summed sums (xs ∷ xss) = all_summed (summed sums xs) xss
 
 -- each frame of a buffer has a sample of each channel
 abbrev pub IsWhole : List Component → ℕ → Type 0
-IsWhole buffers b = AreFrames (channels_in buffers b) (frames_in buffers b)
+IsWhole buffers b = AreFrames (channels_in buffers b) (buffer_frames buffers b)
 
 -- the chosen buffer where it is looked at
 abbrev pub looked_choice : List ℕ → Option ℕ → Option ℕ

@@ -14,7 +14,7 @@ use Rattle.fw_components.specs.declared.component.Unit as units
 use Rattle.fw_components.specs.declared.component.Unit.TheVariants.{Eq}
 use Rattle.fw_components.specs.Tables.{Tables, graph_of, numbers_by}
 use Rattle.fw_components.specs.Changes.{is_there}
-use Rattle.fw_components.specs.Frames.{with_words, words_by}
+use Rattle.fw_components.specs.Frames.{piece_with_words, words_by}
 
 -- ---- parts of the blob in force
 
@@ -59,7 +59,7 @@ takes_part id unit part = false
 -- the last part puts the blob in force, and then nothing is staged; any other is staged, and the one behind it is next
 abbrev pub parted_unit : ℕ → Part → List ℤ → units.Unit → units.Unit
 parted_unit id part words (Eq eq next remaining) =
-    Eq (record { blob = if part.remaining == 0 then staged_bytes (staging_in id (staged_of eq) next remaining) part else eq.blob; piece = with_words words eq.piece })
+    Eq (record { blob = if part.remaining == 0 then staged_bytes (staging_in id (staged_of eq) next remaining) part else eq.blob; piece = piece_with_words words eq.piece })
     (if part.remaining == 0 then 0 else part.index + 1)
     part.remaining
 parted_unit id part words unit = unit

@@ -16,7 +16,7 @@ use Rattle.fw_components.specs.declared.component.Unit.TheVariants.{Volume, Mixe
 use Rattle.fw_components.specs.declared.component.Component.{Component}
 use Rattle.fw_components.specs.Tables.{Tables, numbers_by}
 use Rattle.fw_components.specs.Changes.{has_id}
-use Rattle.fw_components.specs.Frames.{with_words, frames_in, channels_in, capacity_in, taken_by, pushed_at, with_frames}
+use Rattle.fw_components.specs.Frames.{piece_with_words, buffer_frames, channels_in, capacity_in, taken_by, pushed_at, with_frames}
 
 -- ---- what can be moved
 
@@ -40,19 +40,19 @@ channels_moved t id = option_map_or (λ c. c.channels) (find (λ c. c.id == id) 
 pub record IsInlet (buffers : List Component) (channels n b : ℕ) : Type 0 where
   pub there : has_id buffers b ≡ true
   pub shape : channels_in buffers b ≡ channels
-  pub held : n ≤ length (frames_in buffers b)
+  pub held : n ≤ length (buffer_frames buffers b)
 
 -- and one has room for n more
 pub record IsOutlet (buffers : List Component) (channels n b : ℕ) : Type 0 where
   pub there : has_id buffers b ≡ true
   pub shape : channels_in buffers b ≡ channels
-  pub room : length (frames_in buffers b) + n ≤ capacity_in buffers b
+  pub room : length (buffer_frames buffers b) + n ≤ capacity_in buffers b
 
 -- ---- what is made
 
 -- the first n frames of each buffer that is looked at
 abbrev pub slices_in : List Component → List ℕ → ℕ → List (ℕ × List Frame)
-slices_in buffers looked n = table looked (λ b. take n (frames_in buffers b))
+slices_in buffers looked n = table looked (λ b. take n (buffer_frames buffers b))
 
 -- the input of a mux by its choice, from 0, in the order in which its inputs were joined
 abbrev pub chosen_by : units.Unit → ℕ → List Join → Option ℕ
@@ -76,8 +76,8 @@ made_numbers unit channels slices = []
 abbrev pub made_at : Tables → (id : ℕ) → List ℕ → ℕ → List Frame
 made_at t id looked n = option_map_or (λ c. made_frames c.unit c.channels n (chosen_by c.unit id t.joins) (slices_in t.buffers looked n)) (find (λ c. c.id == id) t.comps) []
 
-abbrev pub numbers_at : Tables → ℕ → List ℤ
-numbers_at t id = option_map_or (λ c. numbers_by c.unit c.channels) (find (λ c. c.id == id) t.comps) []
+abbrev pub eq_numbers_at : Tables → ℕ → List ℤ
+eq_numbers_at t id = option_map_or (λ c. numbers_by c.unit c.channels) (find (λ c. c.id == id) t.comps) []
 
 abbrev pub numbers_made_at : Tables → (id : ℕ) → List ℕ → ℕ → List ℤ
 numbers_made_at t id looked n = option_map_or (λ c. made_numbers c.unit c.channels (slices_in t.buffers looked n)) (find (λ c. c.id == id) t.comps) []
@@ -90,7 +90,7 @@ drained_at looked n c = if is_among looked c.id then taken_by n c else c
 
 -- an equaliser has other words in its piece
 abbrev pub run_unit : List ℤ → units.Unit → units.Unit
-run_unit words (Eq eq next remaining) = Eq (record { blob = eq.blob; piece = with_words words eq.piece }) next remaining
+run_unit words (Eq eq next remaining) = Eq (record { blob = eq.blob; piece = piece_with_words words eq.piece }) next remaining
 run_unit words unit = unit
 
 abbrev pub run_by : List ℤ → Component → Component

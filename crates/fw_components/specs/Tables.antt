@@ -16,6 +16,7 @@ use Rattle.stream_law.specs.declared.graph.Join.{Join}
 use Rattle.stream_law.specs.declared.graph.Graph.{Graph}
 use Rattle.stream_law.specs.declared.stream.StreamView.{StreamView}
 use Rattle.stream_law.specs.State.{PieceView, RingView, History, Staging, View}
+use Rattle.stream_law.specs.Ways.{components, buffers}
 use Rattle.stream_law.specs.Seen.{equalises}
 use Rattle.stream_law.specs.Placed.{placed}
 use Rattle.fw_components.specs.declared.component.Unit.{Unit}
@@ -120,6 +121,10 @@ pipe_by c = record { id = c.id; index = c.pipe; sched = sched_by c.unit; period 
 abbrev pub graph_of : Tables → Graph
 graph_of t = record { comps = map comp_by t.comps; edges = map edge_by t.buffers; pipes = map pipe_by t.pipes; joins = t.joins }
 
+-- the ids of all components and buffers
+abbrev pub ids_of : Tables → List ℕ
+ids_of t = components (graph_of t) ++ buffers (graph_of t)
+
 -- ---- streams, rings, histories, staged bytes and pieces
 
 abbrev pub with_stream_by : ℕ → Unit → List StreamView → List StreamView
@@ -136,9 +141,9 @@ streams_of t = streams_by t.comps
 abbrev pub view_by : Tables → View
 view_by t = record { graph = graph_of t; streams = streams_of t }
 
-abbrev pub frames_by : Unit → List (List ℤ)
-frames_by (Buffer size ring source sink) = ring.frames
-frames_by unit = []
+abbrev pub unit_frames : Unit → List (List ℤ)
+unit_frames (Buffer size ring source sink) = ring.frames
+unit_frames unit = []
 
 -- how many frames it has room for
 abbrev pub capacity_by : Unit → ℕ
@@ -146,7 +151,7 @@ capacity_by (Buffer size ring source sink) = capacity_of ring
 capacity_by unit = 0
 
 abbrev pub ring_by : Component → RingView
-ring_by c = record { buffer = c.id; frames = frames_by c.unit }
+ring_by c = record { buffer = c.id; frames = unit_frames c.unit }
 
 abbrev pub rings_of : Tables → List RingView
 rings_of t = map ring_by t.buffers
@@ -181,12 +186,12 @@ pieces_by [] = []
 pieces_by (c ∷ cs) = placed (λ p. p.id) (piece_by c) (pieces_by cs)
 
 -- the pieces by ascending id
-abbrev pub pieces_of : Tables → List PieceView
-pieces_of t = pieces_by (all_of t)
+abbrev pub carved_pieces : Tables → List PieceView
+carved_pieces t = pieces_by (all_of t)
 
 -- a buffer's frames, and how many it has room for
-abbrev pub frames_at : Tables → ℕ → List (List ℤ)
-frames_at t id = option_map_or (λ c. frames_by c.unit) (find (λ c. c.id == id) t.buffers) []
+abbrev pub held_frames : Tables → ℕ → List (List ℤ)
+held_frames t id = option_map_or (λ c. unit_frames c.unit) (find (λ c. c.id == id) t.buffers) []
 
 abbrev pub capacity_at : Tables → ℕ → ℕ
 capacity_at t id = option_map_or (λ c. capacity_by c.unit) (find (λ c. c.id == id) t.buffers) 0

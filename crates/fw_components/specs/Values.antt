@@ -10,33 +10,33 @@ use Rattle.fw_components.specs.Tables.{Tables}
 use Rattle.fw_components.specs.Changes.{is_there}
 
 -- the gains of a volume by command 0, and the choice of a mux by command 1
-abbrev pub values_by : units.Unit → ℕ → Option (List ℕ)
-values_by (Volume gains piece) command = if command == 0 then Some gains else None
-values_by (Mux choice piece) command = if command == 1 then Some (choice ∷ []) else None
-values_by unit command = None
+abbrev pub unit_values : units.Unit → ℕ → Option (List ℕ)
+unit_values (Volume gains piece) command = if command == 0 then Some gains else None
+unit_values (Mux choice piece) command = if command == 1 then Some (choice ∷ []) else None
+unit_values unit command = None
 
 abbrev pub values_or : Option (List ℕ) → Result (List ℕ) ℤ
 values_or None = Err (negsuc 21)
 values_or (Some values) = Ok values
 
 -- the values of a component; -19 where the id names nothing, and -22 where there are none by this command
-abbrev pub values_at : Tables → ℕ → ℕ → Result (List ℕ) ℤ
-values_at t id command =
+abbrev pub unit_values_at : Tables → ℕ → ℕ → Result (List ℕ) ℤ
+unit_values_at t id command =
     if not (is_there t id) then Err (negsuc 18)
-    else values_or (option_and_then (λ c. values_by c.unit command) (find (λ c. c.id == id) t.comps))
+    else values_or (option_and_then (λ c. unit_values c.unit command) (find (λ c. c.id == id) t.comps))
 
 -- an error by its number
-abbrev pub told : Result (List ℕ) Errno → Result (List ℕ) ℤ
-told (Ok values) = Ok values
-told (Err e) = Err e.0
+abbrev pub answer_told : Result (List ℕ) Errno → Result (List ℕ) ℤ
+answer_told (Ok values) = Ok values
+answer_told (Err e) = Err e.0
 
 -- ---- what values set
 
 -- a volume takes as many gains as it has, of at most 16777216, by command 0; and a mux a choice by command 1
-abbrev pub takes : units.Unit → ℕ → List ℕ → Bool
-takes (Volume gains piece) command values = command == 0 && (length values == length gains && list_all (λ v. nat_le v 16777216) values)
-takes (Mux choice piece) command values = command == 1 && length values == 1
-takes unit command values = false
+abbrev pub takes_values : units.Unit → ℕ → List ℕ → Bool
+takes_values (Volume gains piece) command values = command == 0 && (length values == length gains && list_all (λ v. nat_le v 16777216) values)
+takes_values (Mux choice piece) command values = command == 1 && length values == 1
+takes_values unit command values = false
 
 -- the gains of a volume, where they are as many, and the choice of a mux, where there is one
 abbrev pub choice_of : List ℕ → ℕ → ℕ
@@ -58,7 +58,7 @@ valued id values t = record { comps = map (valued_at id values) t.comps; buffers
 abbrev pub values_set : Tables → ℕ → ℕ → List ℕ → Result Tables ℤ
 values_set t id command values =
     if not (is_there t id) then Err (negsuc 18)
-    else if option_map_or (λ c. takes c.unit command values) (find (λ c. c.id == id) t.comps) false then Ok (valued id values t)
+    else if option_map_or (λ c. takes_values c.unit command values) (find (λ c. c.id == id) t.comps) false then Ok (valued id values t)
     else Err (negsuc 21)
 
 abbrev pub left_with : Tables → Result Unit Errno → Result Tables ℤ

@@ -1,7 +1,7 @@
 // Changes of what stands under one id.
 ghost use Rattle.std.specs.Prelude.{◌≡◌, ◌==◌, length, if◌then◌else◌};
 ghost use Rattle.fw_components.specs.Values.{valued_unit, valued_at};
-ghost use Rattle.fw_components.specs.Changes.{completed_unit, completed_at, ended_unit, ended_at, set_unit, set_at, sourced_unit, sunk_unit, joined_at};
+ghost use Rattle.fw_components.specs.Changes.{completed_unit, completed_at, ended_unit, with_ended, set_unit, set_at, sourced_unit, sunk_unit, joined_at};
 
 use crate::component::{Component, Unit};
 use sof_base::{Bounded, Params};
@@ -115,7 +115,7 @@ impl Unit {
 impl Component {
     /// The buffer's ring is empty if it has this id.
     pub(crate) fn end(&mut self, id: u32)
-        ensures { self.new ≡ ended_at id self.old }
+        ensures { self.new ≡ with_ended id self.old }
     {
         if self.id == id {
             self.unit.end();

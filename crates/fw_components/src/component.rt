@@ -1,7 +1,7 @@
 // What stands in a registry.
 ghost use Rattle.std.specs.Prelude.{◌≡◌, ◌+◌, length, nat_le};
-ghost use Rattle.fw_components.specs.Tables.{is_buffer, is_pipeline, piece_of, frames_by, capacity_by};
-ghost use Rattle.fw_components.specs.Values.{values_by, takes};
+ghost use Rattle.fw_components.specs.Tables.{is_buffer, is_pipeline, piece_of, unit_frames, capacity_by};
+ghost use Rattle.fw_components.specs.Values.{unit_values, takes_values};
 ghost use Rattle.std.specs.List.{list_all};
 
 use eq_biquad::Eq;
@@ -142,7 +142,7 @@ impl Component {
 
     /// How many frames a buffer holds.
     pub(crate) fn held(&self) -> u32
-        ensures { result ≡ length (frames_by self.now.unit) }
+        ensures { result ≡ length (unit_frames self.now.unit) }
     {
         match &self.unit {
             Unit::Host { .. } => 0,
@@ -158,7 +158,7 @@ impl Component {
 
     /// How many more frames a buffer has room for.
     pub(crate) fn room(&self) -> u32
-        ensures { result + length (frames_by self.now.unit) ≡ capacity_by self.now.unit }
+        ensures { result + length (unit_frames self.now.unit) ≡ capacity_by self.now.unit }
     {
         match &self.unit {
             Unit::Host { .. } => 0,
@@ -174,7 +174,7 @@ impl Component {
 
     /// The values of a volume by command 0, and of a mux by command 1.
     pub(crate) fn values(&self, command: u32) -> Option<Bounded<u32, 8>>
-        ensures { result ≡ values_by self.now.unit command }
+        ensures { result ≡ unit_values self.now.unit command }
     {
         match &self.unit {
             Unit::Host { .. } => None,
@@ -202,7 +202,7 @@ impl Component {
 
     /// Whether values can be set by a command.
     pub(crate) fn takes(&self, command: u32, values: &[u32]) -> bool
-        ensures { result ≡ takes self.now.unit command values.now }
+        ensures { result ≡ takes_values self.now.unit command values.now }
     {
         match &self.unit {
             Unit::Host { .. } => false,

@@ -2,7 +2,7 @@
 ghost use Rattle.std.specs.Prelude.{◌≡◌, ◌+◌, ◌*◌, ◌/◌, ◌%◌, ◌≤◌, ◌++◌, length, take};
 ghost use Rattle.sof_base.specs.Samples.{frames_of, samples_of, AreFrames};
 ghost use Rattle.stream_law.specs.Ways.{is_end};
-ghost use Rattle.fw_components.specs.Tables.{piece_of, frames_by, capacity_by};
+ghost use Rattle.fw_components.specs.Tables.{piece_of, unit_frames, capacity_by};
 ghost use Rattle.fw_components.specs.Frames.{words_of, begun_unit, begun_by, IsFresh, staged_by, channels_by, taken_unit, taken_by, pushed_unit, pushed_by, comes_from, goes_to};
 
 use crate::component::{Component, Unit};
@@ -33,7 +33,7 @@ impl Unit {
 
     // A ring loses its first frames.
     fn take(&mut self, n: u32)
-        requires { n ≤ length (frames_by self.old) }
+        requires { n ≤ length (unit_frames self.old) }
         ensures { self.new ≡ taken_unit n self.old }
     {
         match self {
@@ -51,7 +51,7 @@ impl Unit {
     // A ring has the frames of these samples behind its own.
     fn push(&mut self, samples: &[Sample])
         requires whole { length samples.now % channels_by self.old ≡ 0 }
-        requires fit { length (frames_by self.old) + length samples.now / channels_by self.old ≤ capacity_by self.old }
+        requires fit { length (unit_frames self.old) + length samples.now / channels_by self.old ≤ capacity_by self.old }
         ensures { self.new ≡ pushed_unit (frames_of (channels_by self.old) (length samples.now / channels_by self.old) samples.now) (piece_of self.new).words self.old }
     {
         match self {
@@ -81,7 +81,7 @@ impl Component {
 
     /// The ring of a buffer loses its first frames.
     pub(crate) fn take(&mut self, n: u32)
-        requires { n ≤ length (frames_by self.old.unit) }
+        requires { n ≤ length (unit_frames self.old.unit) }
         ensures { self.new ≡ taken_by n self.old }
     {
         self.unit.take(n);
@@ -90,7 +90,7 @@ impl Component {
     /// The ring of a buffer has the frames of these samples behind its own.
     pub(crate) fn push(&mut self, samples: &[Sample])
         requires whole { length samples.now % channels_by self.old.unit ≡ 0 }
-        requires fit { length (frames_by self.old.unit) + length samples.now / channels_by self.old.unit ≤ capacity_by self.old.unit }
+        requires fit { length (unit_frames self.old.unit) + length samples.now / channels_by self.old.unit ≤ capacity_by self.old.unit }
         ensures { self.new ≡ pushed_by (frames_of (channels_by self.old.unit) (length samples.now / channels_by self.old.unit) samples.now) (words_of self.new) self.old }
     {
         self.unit.push(samples);
@@ -148,10 +148,10 @@ impl Component {
 
     /// The samples of the first `n` frames of a buffer, in two parts of whole frames.
     pub(crate) fn spans(&self, n: u32) -> (&[Sample], &[Sample])
-        requires { n ≤ length (frames_by self.now.unit) }
-        ensures samples { result.0.now ++ result.1.now ≡ samples_of (take n (frames_by self.now.unit)) }
+        requires { n ≤ length (unit_frames self.now.unit) }
+        ensures samples { result.0.now ++ result.1.now ≡ samples_of (take n (unit_frames self.now.unit)) }
         ensures whole { length result.0.now % channels_by self.now.unit ≡ 0 }
-        ensures frames { AreFrames (channels_by self.now.unit) (frames_by self.now.unit) }
+        ensures frames { AreFrames (channels_by self.now.unit) (unit_frames self.now.unit) }
     {
         match &self.unit {
             Unit::Host { .. } => (&[], &[]),
@@ -170,9 +170,9 @@ impl Component {
 
     /// Writes the samples of the first `n` frames of a buffer.
     pub(crate) fn copy(&self, n: u32, samples: &mut [Sample])
-        requires held { n ≤ length (frames_by self.now.unit) }
+        requires held { n ≤ length (unit_frames self.now.unit) }
         requires size { length samples.old ≡ n * channels_by self.now.unit }
-        ensures { samples.new ≡ samples_of (take n (frames_by self.now.unit)) }
+        ensures { samples.new ≡ samples_of (take n (unit_frames self.now.unit)) }
     {
         let (front, back) = self.spans(n);
         copy_both(front, back, samples);

@@ -6,7 +6,7 @@ ghost use Rattle.sof_base.specs.declared.format.Params.{Params};
 ghost use Rattle.sof_base.specs.Samples.{Frame};
 ghost use Rattle.stream_law.specs.declared.stream.Phase.{Phase};
 ghost use Rattle.stream_law.specs.Placed.{placed};
-ghost use Rattle.stream_law.specs.Joins.{joined};
+ghost use Rattle.stream_law.specs.Joins.{joined_edge};
 ghost use Rattle.stream_law.specs.declared.graph.Join.{Join};
 ghost use Rattle.stream_law.specs.Ways.{comp_of, channels_of};
 ghost use Rattle.stream_law.specs.Made.{frames_made, only_slice};
@@ -18,8 +18,8 @@ ghost use Rattle.fw_components.specs.declared.component.Component.{Component};
 ghost use Rattle.fw_components.specs.Tables.{Tables, comp_by, edge_by, pipe_by, ring_by, streams_by, is_buffer, is_pipeline, graph_of, view_by, streams_of, rings_of, histories_of, staging_of};
 ghost use Rattle.fw_components.specs.Frames.{begun_at, with_frames, staged_in};
 ghost use Rattle.fw_components.specs.Kept.{IsKept};
-ghost use Rattle.fw_components.specs.Processed.{moves_at, channels_moved, slices_in, made_at, numbers_at, numbers_made_at, processed, moved_rings, with_numbers};
-ghost use Rattle.fw_components.specs.Changes.{completed_at, set_at, joined_at, ended_at};
+ghost use Rattle.fw_components.specs.Processed.{moves_at, channels_moved, slices_in, made_at, eq_numbers_at, numbers_made_at, processed, moved_rings, with_numbers};
+ghost use Rattle.fw_components.specs.Changes.{completed_at, set_at, joined_at, with_ended};
 
 /// What is placed in a table is placed in the graph and among the rings.
 pub fn additions_are_seen()
@@ -50,7 +50,7 @@ pub fn settings_are_seen()
 
 /// A join in the table of buffers is one in the graph, and leaves the rings.
 pub fn joins_are_seen()
-    ensures edges { (j : Join) (cs : List Component) → AllByRecursion (λ c. is_buffer c.unit ≡ true) cs → map edge_by (map (joined_at j) cs) ≡ map (joined j) (map edge_by cs) }
+    ensures edges { (j : Join) (cs : List Component) → AllByRecursion (λ c. is_buffer c.unit ≡ true) cs → map edge_by (map (joined_at j) cs) ≡ map (joined_edge j) (map edge_by cs) }
     ensures rings { (j : Join) (cs : List Component) → map ring_by (map (joined_at j) cs) ≡ map ring_by cs }
 {}
 
@@ -65,8 +65,8 @@ pub fn beginnings_are_seen()
 
 /// A buffer that ends is as it was in the graph, and its ring is empty.
 pub fn endings_are_seen()
-    ensures edges { (id : ℕ) (cs : List Component) → map edge_by (map (ended_at id) cs) ≡ map edge_by cs }
-    ensures rings { (id : ℕ) (cs : List Component) → map ring_by (map (ended_at id) cs) ≡ map (with_frames (λ frames. []) id) (map ring_by cs) }
+    ensures edges { (id : ℕ) (cs : List Component) → map edge_by (map (with_ended id) cs) ≡ map edge_by cs }
+    ensures rings { (id : ℕ) (cs : List Component) → map ring_by (map (with_ended id) cs) ≡ map (with_frames (λ frames. []) id) (map ring_by cs) }
 {}
 
 /// What a component moves is seen in the rings and among the histories alone.
@@ -75,7 +75,7 @@ pub fn moves_are_seen()
     ensures streams { (id fed n : ℕ) (looked : List ℕ) (frames : List Frame) (words own : List ℤ) (t : Tables) → streams_of (processed id looked n fed frames words own t) ≡ streams_of t }
     ensures rings { (id fed n : ℕ) (looked : List ℕ) (frames : List Frame) (words own : List ℤ) (t : Tables) → IsKept t → rings_of (processed id looked n fed frames words own t) ≡ moved_rings looked n fed frames (rings_of t) }
     ensures histories { (id fed n : ℕ) (looked : List ℕ) (frames : List Frame) (words own : List ℤ) (t : Tables) → IsKept t → let u = processed id looked n fed frames words own t in
-        histories_of u ≡ map (with_numbers id (numbers_at u id)) (histories_of t) }
+        histories_of u ≡ map (with_numbers id (eq_numbers_at u id)) (histories_of t) }
     ensures staging { (id fed n : ℕ) (looked : List ℕ) (frames : List Frame) (words own : List ℤ) (t : Tables) → IsKept t → let u = processed id looked n fed frames words own t in
         staged_in u.comps id ≡ staged_in t.comps id → staging_of u ≡ staging_of t }
 {}
@@ -84,7 +84,7 @@ pub fn moves_are_seen()
 /// way it is have its channels.
 pub fn moves_are_ticks()
     ensures frames { (id n : ℕ) (looked : List ℕ) (read : List Frame) (t : Tables) → moves_at t id (length looked) ≡ true → channels_of (view_by t) id ≡ channels_moved t id →
-        frames_made (view_by t) id n read (slices_in t.buffers looked n) (λ blob channels frames. passed_frames blob channels (numbers_at t id) frames) ≡ made_at t id looked n }
+        frames_made (view_by t) id n read (slices_in t.buffers looked n) (λ blob channels frames. passed_frames blob channels (eq_numbers_at t id) frames) ≡ made_at t id looked n }
     ensures numbers { (id n : ℕ) (looked : List ℕ) (t : Tables) → option_map_or (λ x. is_equaliser x.kind) (comp_of (graph_of t) id) false ≡ true → channels_of (view_by t) id ≡ channels_moved t id →
-        numbers_after (blob_of (view_by t) id) (channels_of (view_by t) id) (numbers_at t id) (only_slice (slices_in t.buffers looked n)) ≡ numbers_made_at t id looked n }
+        numbers_after (blob_of (view_by t) id) (channels_of (view_by t) id) (eq_numbers_at t id) (only_slice (slices_in t.buffers looked n)) ≡ numbers_made_at t id looked n }
 {}

@@ -6,14 +6,14 @@ ghost use Rattle.stream_law.specs.Placed.{Ascends};
 ghost use Rattle.fw_gain.specs.Kernels.{all_amplified, summed, held};
 ghost use Rattle.fw_components.specs.Tables.{numbers_by};
 ghost use Rattle.fw_components.specs.Changes.{has_id};
-ghost use Rattle.fw_components.specs.Frames.{words_of, staged_by, frames_in, channels_in};
+ghost use Rattle.fw_components.specs.Frames.{words_of, staged_by, buffer_frames, channels_in};
 ghost use Rattle.fw_components.specs.Processed.{moves_of, IsInlet, slices_in, chosen_by, made_numbers, run_by};
 ghost use Rattle.fw_components.specs.Moving.{samples_in, all_summed, IsWhole, looked_choice, frames_now};
 
 use crate::component::{Component, Unit};
 use crate::frames::copy_both;
 use crate::hints::Hints;
-use fw_gain::{mix_add, mix_begin, mix_end, select, volume};
+use fw_gain::{mix_add, mix_begin, mix_end, mix_first, select, volume};
 use sof_base::Sample;
 use stream_law::Join;
 
@@ -127,7 +127,7 @@ pub(crate) fn spans<'a>(
 ) -> (&'a [Sample], &'a [Sample])
     requires ascends { Ascends (λ c. c.id) buffers.now }
     requires there { has_id buffers.now inlet ≡ true }
-    requires held { n ≤ length (frames_in buffers.now inlet) }
+    requires held { n ≤ length (buffer_frames buffers.now inlet) }
     ensures samples { result.0.now ++ result.1.now ≡ samples_in buffers.now n inlet }
     ensures whole { length result.0.now % channels_in buffers.now inlet ≡ 0 }
     ensures frames { IsWhole buffers.now inlet }
@@ -142,7 +142,7 @@ pub(crate) fn spans<'a>(
 fn copy(inlet: u32, n: u32, hints: &Hints, buffers: &[Component], samples: &mut [Sample])
     requires ascends { Ascends (λ c. c.id) buffers.now }
     requires there { has_id buffers.now inlet ≡ true }
-    requires held { n ≤ length (frames_in buffers.now inlet) }
+    requires held { n ≤ length (buffer_frames buffers.now inlet) }
     requires size { length samples.old ≡ n * channels_in buffers.now inlet }
     ensures samples { samples.new ≡ samples_in buffers.now n inlet }
     ensures frames { IsWhole buffers.now inlet }
@@ -163,7 +163,7 @@ fn amplify(
 )
     requires ascends { Ascends (λ c. c.id) buffers.now }
     requires there { has_id buffers.now inlet ≡ true }
-    requires held { n ≤ length (frames_in buffers.now inlet) }
+    requires held { n ≤ length (buffer_frames buffers.now inlet) }
     requires shape { channels_in buffers.now inlet ≡ channels }
     requires channels { (1 ≤ channels) × (channels ≤ 8) }
     requires size { length samples.old ≡ n * channels }
@@ -173,7 +173,9 @@ fn amplify(
     let (front, back) = spans(hints, buffers, inlet, n);
     let (near, far) = samples.split_at_mut(front.len());
     volume(front, near, channels, gains);
-    volume(back, far, channels, gains);
+    if !back.is_empty() {
+        volume(back, far, channels, gains);
+    }
 }
 
 // Writes the sums of the samples of the first `n` frames of each of these buffers, held once.
@@ -188,24 +190,46 @@ fn mix(
     requires few { length looked.now ≤ 128 }
     requires ascends { Ascends (λ c. c.id) buffers.now }
     requires there { AllByRecursion (λ b. has_id buffers.now b ≡ true) looked.now }
-    requires held { AllByRecursion (λ b. n ≤ length (frames_in buffers.now b)) looked.now }
+    requires held { AllByRecursion (λ b. n ≤ length (buffer_frames buffers.now b)) looked.now }
     requires sums { AllByRecursion (λ b. length sums.old ≡ n * channels_in buffers.now b) looked.now }
     requires samples { length samples.old ≡ length sums.old }
     ensures samples { samples.new ≡ held (all_summed (replicate (length sums.old) (pos 0)) (map (samples_in buffers.now n) looked.now)) }
     ensures frames { AllByRecursion (IsWhole buffers.now) looked.now }
 {
-    mix_begin(sums);
-    for inlet in looked {
-        add(*inlet, n, hints, buffers, sums);
+    if looked.is_empty() {
+        mix_begin(sums);
+    }
+    for (i, inlet) in looked.iter().enumerate() {
+        if i == 0 {
+            begin(*inlet, n, hints, buffers, sums);
+        } else {
+            add(*inlet, n, hints, buffers, sums);
+        }
     }
     mix_end(sums, samples);
+}
+
+// Begins sums with the samples of the first `n` frames of a buffer.
+fn begin(inlet: u32, n: u32, hints: &Hints, buffers: &[Component], sums: &mut [i64])
+    requires ascends { Ascends (λ c. c.id) buffers.now }
+    requires there { has_id buffers.now inlet ≡ true }
+    requires held { n ≤ length (buffer_frames buffers.now inlet) }
+    requires size { length sums.old ≡ n * channels_in buffers.now inlet }
+    ensures sums { sums.new ≡ summed (replicate (length sums.old) (pos 0)) (samples_in buffers.now n inlet) }
+    ensures within { AllByRecursion (λ sum. nat_abs sum ≤ 2 ^ 31) sums.new }
+    ensures frames { IsWhole buffers.now inlet }
+{
+    let (front, back) = spans(hints, buffers, inlet, n);
+    let (near, far) = sums.split_at_mut(front.len());
+    mix_first(near, front);
+    mix_first(far, back);
 }
 
 // Adds the samples of the first `n` frames of a buffer to sums.
 fn add(inlet: u32, n: u32, hints: &Hints, buffers: &[Component], sums: &mut [i64])
     requires ascends { Ascends (λ c. c.id) buffers.now }
     requires there { has_id buffers.now inlet ≡ true }
-    requires held { n ≤ length (frames_in buffers.now inlet) }
+    requires held { n ≤ length (buffer_frames buffers.now inlet) }
     requires size { length sums.old ≡ n * channels_in buffers.now inlet }
     requires within { AllByRecursion (λ sum. nat_abs sum ≤ 2 ^ 38) sums.old }
     ensures sums { sums.new ≡ summed sums.old (samples_in buffers.now n inlet) }

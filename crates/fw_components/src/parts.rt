@@ -7,10 +7,10 @@ ghost use Rattle.sof_base.specs.BlobFaults.{is_blob};
 ghost use Rattle.eq_biquad.specs.EqState.{staged_of, numbers_of};
 ghost use Rattle.stream_law.specs.Placed.{Ascends};
 ghost use Rattle.stream_law.specs.Seen.{fresh_numbers};
-ghost use Rattle.mbox_link.specs.BlobParts.{parts, part_of};
+ghost use Rattle.mbox_link.specs.BlobParts.{parts, blob_part};
 ghost use Rattle.mbox_link.specs.Step.{bytes_left, keeps_order, is_next as is_next_of, staged_bytes, part_by};
 ghost use Rattle.fw_components.specs.Tables.{kind_by, setting_by};
-ghost use Rattle.fw_components.specs.Frames.{with_words, words_of};
+ghost use Rattle.fw_components.specs.Frames.{piece_with_words, words_of};
 ghost use Rattle.fw_components.specs.Kept.{IsStreaming};
 ghost use Rattle.fw_components.specs.Values.{left_with};
 ghost use Rattle.fw_components.specs.Parts.{part_got, part_told, staging_in, joined_bytes, fits_behind, takes_part, parted_by, words_in, parted_at, part_set, IsParted, IsPartedBy, AreJoined, IsTakenBy};
@@ -33,7 +33,7 @@ fn count_of(len: usize) -> u32
 // The part of this number of a blob, if there is one.
 fn cut(blob: &[u8], index: u32) -> Option<Part>
     requires { length blob.now ≤ 1024 }
-    ensures { result ≡ (if nat_lt index (parts blob.now) then Some (part_of blob.now index) else None) }
+    ensures { result ≡ (if nat_lt index (parts blob.now) then Some (blob_part blob.now index) else None) }
 {
     if index >= count_of(blob.len()) {
         return None;
@@ -56,7 +56,7 @@ fn cut(blob: &[u8], index: u32) -> Option<Part>
 
 // The part of this number of the blob in force, if there is one.
 fn part_in(eq: &Eq, index: u32) -> Option<Part>
-    ensures { result ≡ (if nat_lt index (parts eq.now.blob) then Some (part_of eq.now.blob index) else None) }
+    ensures { result ≡ (if nat_lt index (parts eq.now.blob) then Some (blob_part eq.now.blob index) else None) }
 {
     let mut bytes = [0; 1024];
     let len = eq.blob(&mut bytes) as usize;
@@ -191,7 +191,7 @@ fn joined(eq: &Eq, next: u32, remaining: u32, part: &Part) -> Option<Bounded<u8,
 // Stages these bytes, or puts them in force if a part is the last.
 fn put(eq: &mut Eq, next: &mut u32, remaining: &mut u32, part: &Part, bytes: &[u8])
     requires { AreJoined part.now bytes.now }
-    ensures equaliser { eq.new ≡ record { blob = if part.now.remaining == 0 then bytes.now else eq.old.blob; piece = with_words eq.new.piece.words eq.old.piece } }
+    ensures equaliser { eq.new ≡ record { blob = if part.now.remaining == 0 then bytes.now else eq.old.blob; piece = piece_with_words eq.new.piece.words eq.old.piece } }
     ensures next { next.new ≡ (if part.now.remaining == 0 then 0 else part.now.index + 1) }
     ensures remaining { remaining.new ≡ part.now.remaining }
     ensures staged { (part.now.remaining == 0) ≡ false → take (292 + 260 * part.now.index) (staged_of eq.new) ≡ bytes.now }

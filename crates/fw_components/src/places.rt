@@ -3,7 +3,7 @@ ghost use Rattle.std.specs.Prelude.{◌≡◌, ◌+◌, ◌/◌, ◌%◌, ◌≤
 ghost use Rattle.sof_base.specs.Samples.{frames_of, samples_of};
 ghost use Rattle.stream_law.specs.Placed.{Ascends};
 ghost use Rattle.fw_components.specs.Changes.{has_id};
-ghost use Rattle.fw_components.specs.Frames.{words_by, begun_at, IsFreshBy, staged_in, channels_in, frames_in, capacity_in, pushed_at, taken_at, comes_from, goes_to};
+ghost use Rattle.fw_components.specs.Frames.{words_by, begun_at, IsFreshBy, staged_in, channels_in, buffer_frames, capacity_in, pushed_at, taken_at, comes_from, goes_to};
 
 use crate::component::Component;
 use crate::hints::Hints;
@@ -26,7 +26,7 @@ pub(crate) fn begin_at(components: &mut Vec<Component>, at: usize, id: u32, chan
 fn shorten_at(components: &mut Vec<Component>, at: usize, id: u32, n: u32)
     requires place { Some at ≡ position (λ c. c.id == id) components.old.items }
     requires ascends { Ascends (λ c. c.id) components.old.items }
-    requires held { n ≤ length (frames_in components.old.items id) }
+    requires held { n ≤ length (buffer_frames components.old.items id) }
     ensures items { components.new.items ≡ map (taken_at id n) components.old.items }
     ensures capacity { vec_capacity components.new ≡ vec_capacity components.old }
 {
@@ -38,7 +38,7 @@ fn push_at(components: &mut Vec<Component>, at: usize, id: u32, samples: &[Sampl
     requires place { Some at ≡ position (λ c. c.id == id) components.old.items }
     requires ascends { Ascends (λ c. c.id) components.old.items }
     requires whole { length samples.now % channels_in components.old.items id ≡ 0 }
-    requires fit { length (frames_in components.old.items id) + length samples.now / channels_in components.old.items id ≤ capacity_in components.old.items id }
+    requires fit { length (buffer_frames components.old.items id) + length samples.now / channels_in components.old.items id ≤ capacity_in components.old.items id }
     ensures items { components.new.items ≡ map (pushed_at id (frames_of (channels_in components.old.items id) (length samples.now / channels_in components.old.items id) samples.now) (words_by (find (λ c. c.id == id) components.new.items))) components.old.items }
     ensures capacity { vec_capacity components.new ≡ vec_capacity components.old }
 {
@@ -49,7 +49,7 @@ fn push_at(components: &mut Vec<Component>, at: usize, id: u32, samples: &[Sampl
 pub(crate) fn shorten_in(hints: &Hints, components: &mut Vec<Component>, id: u32, n: u32)
     requires there { has_id components.old.items id ≡ true }
     requires ascends { Ascends (λ c. c.id) components.old.items }
-    requires held { n ≤ length (frames_in components.old.items id) }
+    requires held { n ≤ length (buffer_frames components.old.items id) }
     ensures items { components.new.items ≡ map (taken_at id n) components.old.items }
     ensures capacity { vec_capacity components.new ≡ vec_capacity components.old }
 {
@@ -64,7 +64,7 @@ pub(crate) fn push_in(hints: &Hints, components: &mut Vec<Component>, id: u32, s
     requires there { has_id components.old.items id ≡ true }
     requires ascends { Ascends (λ c. c.id) components.old.items }
     requires whole { length samples.now % channels_in components.old.items id ≡ 0 }
-    requires fit { length (frames_in components.old.items id) + length samples.now / channels_in components.old.items id ≤ capacity_in components.old.items id }
+    requires fit { length (buffer_frames components.old.items id) + length samples.now / channels_in components.old.items id ≤ capacity_in components.old.items id }
     ensures items { components.new.items ≡ map (pushed_at id (frames_of (channels_in components.old.items id) (length samples.now / channels_in components.old.items id) samples.now) (words_by (find (λ c. c.id == id) components.new.items))) components.old.items }
     ensures capacity { vec_capacity components.new ≡ vec_capacity components.old }
 {
@@ -84,9 +84,9 @@ pub(crate) fn pull_in(
     requires there { has_id components.old.items id ≡ true }
     requires ascends { Ascends (λ c. c.id) components.old.items }
     requires whole { length samples.old % channels_in components.old.items id ≡ 0 }
-    requires held { length samples.old / channels_in components.old.items id ≤ length (frames_in components.old.items id) }
+    requires held { length samples.old / channels_in components.old.items id ≤ length (buffer_frames components.old.items id) }
     ensures items { components.new.items ≡ map (taken_at id (length samples.old / channels_in components.old.items id)) components.old.items }
-    ensures samples { samples.new ≡ samples_of (take (length samples.old / channels_in components.old.items id) (frames_in components.old.items id)) }
+    ensures samples { samples.new ≡ samples_of (take (length samples.old / channels_in components.old.items id) (buffer_frames components.old.items id)) }
     ensures capacity { vec_capacity components.new ≡ vec_capacity components.old }
 {
     match hints.place_of(components.as_slice(), id) {

@@ -1,11 +1,11 @@
 // A volume, a mixer, a mux or an equaliser moves frames.
-ghost use Rattle.std.specs.Prelude.{◌≡◌, ◌+◌, ◌*◌, ◌≤◌, ◌++◌, [], true, map, length, nat_eq, slice_index, vec_capacity};
+ghost use Rattle.std.specs.Prelude.{◌≡◌, ◌+◌, ◌*◌, ◌/◌, ◌≤◌, ◌++◌, [], true, map, length, nat_eq, slice_index, vec_capacity};
 ghost use Rattle.std.specs.List.{AllByRecursion, IsDistinct};
 ghost use Rattle.stream_law.specs.Order.{is_among};
 ghost use Rattle.stream_law.specs.Placed.{Ascends};
 ghost use Rattle.fw_components.specs.Changes.{has_id};
-ghost use Rattle.fw_components.specs.Frames.{channels_in, frames_in, words_at, staged_in};
-ghost use Rattle.fw_components.specs.Processed.{moves_at, channels_moved, IsInlet, IsOutlet, chosen_by, made_at, numbers_at, numbers_made_at, drained_at, processed};
+ghost use Rattle.fw_components.specs.Frames.{channels_in, buffer_frames, words_at, staged_in};
+ghost use Rattle.fw_components.specs.Processed.{moves_at, channels_moved, IsInlet, IsOutlet, chosen_by, made_at, eq_numbers_at, numbers_made_at, drained_at, processed};
 ghost use Rattle.fw_components.specs.Moving.{CanMove, IsMoved};
 
 use crate::component::Component;
@@ -28,7 +28,7 @@ impl Registry {
         requires one { length fed.now ≡ 1 }
         ensures tables { let buffer = slice_index fed.now 0 in
             self.new ≡ processed id looked.now n buffer (made_at self.old id looked.now n) (words_at self.new buffer) (words_at self.new id) self.old }
-        ensures numbers { numbers_at self.new id ≡ numbers_made_at self.old id looked.now n }
+        ensures numbers { eq_numbers_at self.new id ≡ numbers_made_at self.old id looked.now n }
         ensures staged { staged_in self.new.comps id ≡ staged_in self.old.comps id }
     {
         match self.comp_hints.place_of(self.comps.as_slice(), id) {
@@ -92,7 +92,7 @@ impl Component {
         ensures moved { IsMoved chosen looked.now fed n buffers.old.items self.old buffers.new.items self.new }
         ensures capacity { vec_capacity buffers.new ≡ vec_capacity buffers.old }
     {
-        let most = (MOST / width_of(hints, buffers.as_slice(), fed)) as u32;
+        let most = most_frames(width_of(hints, buffers.as_slice(), fed));
         let mut moved = n.min(most);
         self.step(chosen, hints, buffers, looked, fed, moved, sums, samples);
         while moved < n {
@@ -136,6 +136,18 @@ impl Component {
     }
 }
 
+// How many frames of so many samples there is room for: one or two channels, as most streams have, take no division.
+fn most_frames(width: usize) -> u32
+    requires { (1 ≤ width) × (width ≤ 8) }
+    ensures { result ≡ 2048 / width }
+{
+    match width {
+        1 => MOST as u32,
+        2 => MOST as u32 / 2,
+        _ => (MOST / width) as u32,
+    }
+}
+
 // How many samples a frame of a buffer has, 1 to 8.
 fn width_of(hints: &Hints, buffers: &[Component], id: u32) -> usize
     requires ascends { Ascends (λ c. c.id) buffers.now }
@@ -154,7 +166,7 @@ fn drain_in(hints: &Hints, components: &mut Vec<Component>, looked: &[u32], n: u
     requires ascends { Ascends (λ c. c.id) components.old.items }
     requires single { IsDistinct nat_eq looked.now }
     requires there { AllByRecursion (λ b. has_id components.old.items b ≡ true) looked.now }
-    requires held { AllByRecursion (λ b. n ≤ length (frames_in components.old.items b)) looked.now }
+    requires held { AllByRecursion (λ b. n ≤ length (buffer_frames components.old.items b)) looked.now }
     ensures items { components.new.items ≡ map (drained_at looked.now n) components.old.items }
     ensures capacity { vec_capacity components.new ≡ vec_capacity components.old }
 {

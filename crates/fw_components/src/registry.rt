@@ -1,18 +1,20 @@
 // All components, buffers and pipelines, and their joins.
 ghost use Rattle.std.specs.Prelude.{OnErr, find, ◌≡◌, ◌+◌, ◌==◌, ◌&&◌, ◌<◌, ◌≤◌, ◌++◌, ◌∷◌, [], length, position, IfOk, vec_len, vec_capacity, filter, not, OnOk, IfErr, IsErr, ◌↔◌, true, false, map, slice_index_or, slice_get, option_copied};
 ghost use Rattle.fw_components.specs.declared.component.Component.{Component};
-ghost use Rattle.fw_components.specs.Tables.{all_of, is_host_unit, frames_at, capacity_at};
+ghost use Rattle.fw_components.specs.Tables.{all_of, is_host_unit, held_frames, capacity_at};
 ghost use Rattle.std.specs.Option.{option_map_or};
 ghost use Rattle.std.specs.List.{list_any, AllByRecursion};
-ghost use Rattle.fw_components.specs.Values.{takes, values_set, left_with, values_at, told};
+ghost use Rattle.fw_components.specs.Values.{takes_values, values_set, left_with, unit_values_at, answer_told};
 ghost use Rattle.fw_components.specs.Kept.{IsStreamOf};
-ghost use Rattle.fw_components.specs.Changes.{added, is_idle, is_full, is_there, IsNew, has_new_index, completed_at, ended_at, set_at, found, IsFoundOf, IsOf, given_found, given_all, has_id, touches, without, can_join, with_join};
+ghost use Rattle.mbox_link.specs.Step.{touches};
+ghost use Rattle.fw_components.specs.Changes.{added, is_idle_phase, is_full, is_there, IsNew, has_new_index, completed_at, with_ended, set_at, found, IsFoundOf, IsOfHome, given_found, given_all, has_id, tables_without, can_join, tables_with_join};
 
 use crate::component::Component;
 use crate::hints::Hints;
 use crate::table::{
     complete_in, end_in, give_all, join_in, place, place_of, set_stream_in, take_at, value_in,
 };
+use crate::tallies::Tallies;
 use crate::workspace::Workspace;
 use fw_heap::Region;
 use sof_base::{Bounded, Errno, NoMemory, Params};
@@ -29,6 +31,7 @@ pub struct Registry {
     pub(crate) joins: Vec<Join>,
     pub(crate) comp_hints: Hints,
     pub(crate) buffer_hints: Hints,
+    pub(crate) tallies: Tallies,
     pub(crate) workspace: Workspace,
 }
 
@@ -42,11 +45,11 @@ impl Model for Registry {
 
     ghost Value = { Tables };
 
-    ghost use Rattle.fw_components.specs.Laid.{tables_of, IsLaid};
+    ghost use Rattle.fw_components.specs.Laid.{tables_of, IsRegistryLaid};
 
     ghost view = { tables_of };
 
-    ghost invariant = { IsLaid };
+    ghost invariant = { IsRegistryLaid };
 }
 
 impl Registry {
@@ -80,6 +83,7 @@ impl Registry {
             joins,
             comp_hints: Hints::new(),
             buffer_hints: Hints::new(),
+            tallies: Tallies::new(),
             workspace,
         })
     }
@@ -145,6 +149,8 @@ impl Registry {
             }
             place(&mut self.buffers, component);
             self.buffer_hints.renew(self.buffers.as_slice());
+            self.tallies
+                .recount(&self.comps, &self.buffers, &self.joins);
             return Ok(());
         }
         if component.unit.is_pipeline() {
@@ -159,17 +165,21 @@ impl Registry {
         }
         place(&mut self.comps, component);
         self.comp_hints.renew(self.comps.as_slice());
+        self.tallies
+            .recount(&self.comps, &self.buffers, &self.joins);
         Ok(())
     }
 
     /// Joins a component and a buffer, whose side is not joined yet, last in order. This takes no memory.
     pub fn join(&mut self, source: u32, sink: u32)
         requires { can_join self.old (record { source = source; sink = sink }) ≡ true }
-        ensures { self.new ≡ with_join (record { source = source; sink = sink }) self.old }
+        ensures { self.new ≡ tables_with_join (record { source = source; sink = sink }) self.old }
     {
         let join = Join { source, sink };
         join_in(&mut self.buffers, join);
         put_join(&mut self.joins, join);
+        self.tallies
+            .recount(&self.comps, &self.buffers, &self.joins);
     }
 
     /// The pipeline of this id is complete.
@@ -183,10 +193,12 @@ impl Registry {
     /// The host of this id has this phase and these parameters: none where it is Idle, and else 1 to 8 channels and a right rate.
     pub fn set_stream(&mut self, host: u32, phase: Phase, params: Option<Params>)
         requires host { list_any (λ c. c.id == host && is_host_unit c.unit) self.old.comps ≡ true }
-        requires stream { IsStreamOf (is_idle phase) params }
+        requires stream { IsStreamOf (is_idle_phase phase) params }
         ensures { self.new ≡ record { comps = map (set_at host phase params) self.old.comps; buffers = self.old.buffers; pipes = self.old.pipes; joins = self.old.joins } }
     {
         set_stream_in(&mut self.comps, host, phase, params);
+        self.tallies
+            .recount(&self.comps, &self.buffers, &self.joins);
     }
 
     /// The one of this id is gone, a buffer with its joins, and its piece is given back.
@@ -194,18 +206,22 @@ impl Registry {
         requires there { is_there self.old id ≡ true }
         requires region { IsFoundOf region.old.home (found self.old id) }
         requires alone { has_id self.old.buffers id ≡ false → list_any (touches id) self.old.joins ≡ false }
-        ensures tables { self.new ≡ without id self.old }
+        ensures tables { self.new ≡ tables_without id self.old }
         ensures holes { region.new.holes ≡ given_found (found self.old id) region.old.holes }
         ensures same { (region.new.home ≡ region.old.home) × (region.new.size ≡ region.old.size) × (region.new.usable ≡ region.old.usable) }
     {
         if let Some(at) = self.comp_hints.place_of(self.comps.as_slice(), id) {
             let component = take_at(&mut self.comps, at, id);
             self.comp_hints.renew(self.comps.as_slice());
+            self.tallies
+                .recount(&self.comps, &self.buffers, &self.joins);
             region.give(component.into_piece());
         } else if let Some(at) = self.buffer_hints.place_of(self.buffers.as_slice(), id) {
             let component = take_at(&mut self.buffers, at, id);
             self.buffer_hints.renew(self.buffers.as_slice());
             remove_joins(&mut self.joins, id);
+            self.tallies
+                .recount(&self.comps, &self.buffers, &self.joins);
             region.give(component.into_piece());
         } else if let Some(at) = place_of(self.pipes.as_slice(), id) {
             let component = take_at(&mut self.pipes, at, id);
@@ -215,7 +231,7 @@ impl Registry {
 
     /// Nothing is there any more, and all pieces are given back.
     pub fn remove_all(&mut self, region: &mut Region)
-        requires { AllByRecursion (IsOf region.old.home) (all_of self.old) }
+        requires { AllByRecursion (IsOfHome region.old.home) (all_of self.old) }
         ensures tables { self.new ≡ record { comps = []; buffers = []; pipes = []; joins = [] } }
         ensures holes { region.new.holes ≡ given_all (all_of self.old) region.old.holes }
         ensures same { (region.new.home ≡ region.old.home) × (region.new.size ≡ region.old.size) × (region.new.usable ≡ region.old.usable) }
@@ -224,12 +240,14 @@ impl Registry {
         give_all(&mut self.buffers, region);
         give_all(&mut self.pipes, region);
         self.joins.clear();
+        self.tallies
+            .recount(&self.comps, &self.buffers, &self.joins);
     }
 
     /// The ring of this buffer is empty.
     pub fn end(&mut self, buffer: u32)
         requires { has_id self.old.buffers buffer ≡ true }
-        ensures { self.new ≡ record { comps = self.old.comps; buffers = map (ended_at buffer) self.old.buffers; pipes = self.old.pipes; joins = self.old.joins } }
+        ensures { self.new ≡ record { comps = self.old.comps; buffers = map (with_ended buffer) self.old.buffers; pipes = self.old.pipes; joins = self.old.joins } }
     {
         end_in(&mut self.buffers, buffer);
     }
@@ -237,7 +255,7 @@ impl Registry {
     /// How many frames a buffer holds.
     pub fn held(&self, buffer: u32) -> u32
         requires { has_id self.now.buffers buffer ≡ true }
-        ensures { result ≡ length (frames_at self.now buffer) }
+        ensures { result ≡ length (held_frames self.now buffer) }
     {
         match self.buffer_hints.place_of(self.buffers.as_slice(), buffer) {
             Some(at) => self.buffers[at].held(),
@@ -248,7 +266,7 @@ impl Registry {
     /// How many more frames a buffer has room for.
     pub fn free(&self, buffer: u32) -> u32
         requires { has_id self.now.buffers buffer ≡ true }
-        ensures { result + length (frames_at self.now buffer) ≡ capacity_at self.now buffer }
+        ensures { result + length (held_frames self.now buffer) ≡ capacity_at self.now buffer }
     {
         match self.buffer_hints.place_of(self.buffers.as_slice(), buffer) {
             Some(at) => self.buffers[at].room(),
@@ -258,7 +276,7 @@ impl Registry {
 
     /// The values of a volume by command 0, and of a mux by command 1.
     pub fn values(&self, id: u32, command: u32) -> Result<Bounded<u32, 8>, Errno>
-        ensures { told result ≡ values_at self.now id command }
+        ensures { answer_told result ≡ unit_values_at self.now id command }
     {
         if self.find(id).is_none() {
             return Err(Errno::NO_DEVICE);
@@ -289,7 +307,7 @@ impl Registry {
 
     // Whether a component takes values by a command.
     fn takes(&self, id: u32, command: u32, values: &[u32]) -> bool
-        ensures { result ≡ option_map_or (λ c. takes c.unit command values.now) (find (λ c. c.id == id) self.now.comps) false }
+        ensures { result ≡ option_map_or (λ c. takes_values c.unit command values.now) (find (λ c. c.id == id) self.now.comps) false }
     {
         match self.comp_hints.place_of(self.comps.as_slice(), id) {
             Some(at) => self.comps[at].takes(command, values),
@@ -308,6 +326,7 @@ impl Registry {
             joins: _,
             comp_hints: _,
             buffer_hints: _,
+            tallies: _,
             workspace: _,
         } = self;
         comps.destroy_empty();

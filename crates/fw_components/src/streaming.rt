@@ -2,9 +2,9 @@
 ghost use Rattle.std.specs.Prelude.{◌≡◌, ◌+◌, ◌*◌, ◌/◌, ◌%◌, ◌≤◌, ◌++◌, true, length, take};
 ghost use Rattle.std.specs.List.{list_any};
 ghost use Rattle.sof_base.specs.Samples.{frames_of, samples_of};
-ghost use Rattle.fw_components.specs.Tables.{frames_at, capacity_at};
+ghost use Rattle.fw_components.specs.Tables.{held_frames, capacity_at};
 ghost use Rattle.fw_components.specs.Changes.{found, is_there, has_id};
-ghost use Rattle.fw_components.specs.Frames.{begun, words_at, IsFreshBy, staged_at, channels_at, comes_from, goes_to, out_of as out_id, in_of as in_id, taken, pushed};
+ghost use Rattle.fw_components.specs.Frames.{begun, words_at, IsFreshBy, staged_at, channels_at, comes_from, goes_to, buffer_out_of as out_id, in_of as in_id, with_taken, pushed};
 
 use crate::making::spans;
 use crate::places::{begin_at, in_of, out_of, pull_in, push_in, shorten_in};
@@ -35,7 +35,7 @@ impl Registry {
     pub fn push(&mut self, buffer: u32, samples: &[Sample])
         requires there { has_id self.old.buffers buffer ≡ true }
         requires whole { length samples.now % channels_at self.old buffer ≡ 0 }
-        requires fit { length (frames_at self.old buffer) + length samples.now / channels_at self.old buffer ≤ capacity_at self.old buffer }
+        requires fit { length (held_frames self.old buffer) + length samples.now / channels_at self.old buffer ≤ capacity_at self.old buffer }
         ensures { let channels = channels_at self.old buffer in
             self.new ≡ pushed buffer (frames_of channels (length samples.now / channels) samples.now) (words_at self.new buffer) self.old }
     {
@@ -47,9 +47,9 @@ impl Registry {
     pub fn draw(&mut self, buffer: u32, samples: &mut [Sample])
         requires there { has_id self.old.buffers buffer ≡ true }
         requires whole { length samples.old % channels_at self.old buffer ≡ 0 }
-        requires held { length samples.old / channels_at self.old buffer ≤ length (frames_at self.old buffer) }
-        ensures tables { self.new ≡ taken buffer (length samples.old / channels_at self.old buffer) self.old }
-        ensures samples { samples.new ≡ samples_of (take (length samples.old / channels_at self.old buffer) (frames_at self.old buffer)) }
+        requires held { length samples.old / channels_at self.old buffer ≤ length (held_frames self.old buffer) }
+        ensures tables { self.new ≡ with_taken buffer (length samples.old / channels_at self.old buffer) self.old }
+        ensures samples { samples.new ≡ samples_of (take (length samples.old / channels_at self.old buffer) (held_frames self.old buffer)) }
     {
         pull_in(&self.buffer_hints, &mut self.buffers, buffer, samples);
     }
@@ -57,8 +57,8 @@ impl Registry {
     /// The samples of the first `n` frames of this buffer, which holds them, in two parts of whole frames. This takes no memory.
     pub fn spans(&self, buffer: u32, n: u32) -> (&[Sample], &[Sample])
         requires there { has_id self.now.buffers buffer ≡ true }
-        requires held { n ≤ length (frames_at self.now buffer) }
-        ensures samples { result.0.now ++ result.1.now ≡ samples_of (take n (frames_at self.now buffer)) }
+        requires held { n ≤ length (held_frames self.now buffer) }
+        ensures samples { result.0.now ++ result.1.now ≡ samples_of (take n (held_frames self.now buffer)) }
         ensures whole { length result.0.now % channels_at self.now buffer ≡ 0 }
         ensures size { length result.0.now + length result.1.now ≡ n * channels_at self.now buffer }
     {
@@ -68,8 +68,8 @@ impl Registry {
     /// Takes the first `n` frames from this buffer, which holds them. This takes no memory.
     pub fn shorten(&mut self, buffer: u32, n: u32)
         requires there { has_id self.old.buffers buffer ≡ true }
-        requires held { n ≤ length (frames_at self.old buffer) }
-        ensures { self.new ≡ taken buffer n self.old }
+        requires held { n ≤ length (held_frames self.old buffer) }
+        ensures { self.new ≡ with_taken buffer n self.old }
     {
         shorten_in(&self.buffer_hints, &mut self.buffers, buffer, n);
     }
@@ -78,7 +78,7 @@ impl Registry {
     pub fn feed(&mut self, id: u32, samples: &[Sample])
         requires there { list_any (comes_from id) self.old.buffers ≡ true }
         requires whole { length samples.now % channels_at self.old (out_id self.old id) ≡ 0 }
-        requires fit { length (frames_at self.old (out_id self.old id)) + length samples.now / channels_at self.old (out_id self.old id) ≤ capacity_at self.old (out_id self.old id) }
+        requires fit { length (held_frames self.old (out_id self.old id)) + length samples.now / channels_at self.old (out_id self.old id) ≤ capacity_at self.old (out_id self.old id) }
         ensures { let buffer = out_id self.old id in
             let channels = channels_at self.old buffer in
             self.new ≡ pushed buffer (frames_of channels (length samples.now / channels) samples.now) (words_at self.new buffer) self.old }
@@ -94,11 +94,11 @@ impl Registry {
     pub fn pull(&mut self, id: u32, samples: &mut [Sample])
         requires there { list_any (goes_to id) self.old.buffers ≡ true }
         requires whole { length samples.old % channels_at self.old (in_id self.old id) ≡ 0 }
-        requires held { length samples.old / channels_at self.old (in_id self.old id) ≤ length (frames_at self.old (in_id self.old id)) }
+        requires held { length samples.old / channels_at self.old (in_id self.old id) ≤ length (held_frames self.old (in_id self.old id)) }
         ensures tables { let buffer = in_id self.old id in
-            self.new ≡ taken buffer (length samples.old / channels_at self.old buffer) self.old }
+            self.new ≡ with_taken buffer (length samples.old / channels_at self.old buffer) self.old }
         ensures samples { let buffer = in_id self.old id in
-            samples.new ≡ samples_of (take (length samples.old / channels_at self.old buffer) (frames_at self.old buffer)) }
+            samples.new ≡ samples_of (take (length samples.old / channels_at self.old buffer) (held_frames self.old buffer)) }
     {
         match in_of(self.buffers(), id) {
             Some(buffer) => self.draw(buffer, samples),

@@ -3,7 +3,7 @@ ghost use Rattle.std.specs.Prelude.{◌≡◌, ◌==◌, ◌<◌, ◌≤◌, [],
 ghost use Rattle.stream_law.specs.Placed.{placed, Ascends};
 ghost use Rattle.std.specs.List.{AllByRecursion};
 ghost use Rattle.fw_components.specs.Values.{valued_at};
-ghost use Rattle.fw_components.specs.Changes.{completed_at, ended_at, set_at, joined_at, IsOf, given_all};
+ghost use Rattle.fw_components.specs.Changes.{completed_at, with_ended, set_at, joined_at, IsOfHome, given_all};
 
 use crate::component::Component;
 use fw_heap::Region;
@@ -90,7 +90,7 @@ pub(crate) fn take_at(components: &mut Vec<Component>, at: usize, id: u32) -> Co
 
 /// Gives back the pieces of all components.
 pub(crate) fn give_all(components: &mut Vec<Component>, region: &mut Region)
-    requires { AllByRecursion (IsOf region.old.home) components.old.items }
+    requires { AllByRecursion (IsOfHome region.old.home) components.old.items }
     ensures items { components.new.items ≡ [] }
     ensures capacity { vec_capacity components.new ≡ vec_capacity components.old }
     ensures holes { region.new.holes ≡ given_all components.old.items region.old.holes }
@@ -104,7 +104,7 @@ pub(crate) fn give_all(components: &mut Vec<Component>, region: &mut Region)
 
 /// The ring of the buffer of this id is empty.
 fn end_all(components: &mut [Component], id: u32)
-    ensures { components.new ≡ map (ended_at id) components.old }
+    ensures { components.new ≡ map (with_ended id) components.old }
 {
     for i in 0..components.len() {
         components[i].end(id);
@@ -113,7 +113,7 @@ fn end_all(components: &mut [Component], id: u32)
 
 /// The ring of the buffer of this id is empty.
 pub(crate) fn end_in(components: &mut Vec<Component>, id: u32)
-    ensures items { components.new.items ≡ map (ended_at id) components.old.items }
+    ensures items { components.new.items ≡ map (with_ended id) components.old.items }
     ensures capacity { vec_capacity components.new ≡ vec_capacity components.old }
 {
     end_all(components, id);

@@ -8,14 +8,14 @@ use Rattle.sof_base.specs.Holes.{total, fresh_holes, Spaced}
 use Rattle.stream_law.specs.State.{PieceView, HeapView}
 use Rattle.stream_law.specs.Placed.{placed, HasDistinct}
 use Rattle.stream_law.proofs.Placing.{find-placed_there, list_any-placed}
-use Rattle.mbox_link.specs.Step.{without_piece, freed}
+use Rattle.mbox_link.specs.Step.{without_piece, holes_after_free}
 use Rattle.row_laws.specs.Tiled.{IsTiled}
 use Rattle.row_laws.proofs.Tiling.{give-tiled}
 use Rattle.fw_heap.specs.Regions.{RegionState}
 use Rattle.fw_components.specs.declared.component.Component.{Component}
-use Rattle.fw_components.specs.Tables.{Tables, all_of, pieces_of, pieces_by, piece_by}
+use Rattle.fw_components.specs.Tables.{Tables, all_of, carved_pieces, pieces_by, piece_by}
 use Rattle.fw_components.specs.Changes.{given_all, given_by}
-use Rattle.fw_core.specs.Held.{IsHeld}
+use Rattle.fw_core.specs.Held.{IsPieceHeld}
 
 -- ---- what is placed among keys that come once
 
@@ -77,7 +77,7 @@ given-tiled usable (c ∷ cs) holes tiled =
     let none = placed-apart key (piece_by c) (pieces_by cs) tiled.ids in
     let heap : HeapView = record { holes = holes; pieces = pieces_by (c ∷ cs) } in
     let found : find (λ (p : PieceView). p.id == c.id) (pieces_by (c ∷ cs)) ≡ Some (piece_by c) = find-placed_there (λ p. p.id == c.id) key (piece_by c) (pieces_by cs) (eq-eqb c.id c.id refl) none in
-    let left : without_piece c.id heap ≡ record { holes = given_by c holes; pieces = pieces_by cs } = λ i. record { holes = freed (found i) holes; pieces = placed-others key (piece_by c) (pieces_by cs) none i } in
+    let left : without_piece c.id heap ≡ record { holes = given_by c holes; pieces = pieces_by cs } = λ i. record { holes = holes_after_free (found i) holes; pieces = placed-others key (piece_by c) (pieces_by cs) none i } in
     given-tiled usable cs (given_by c holes) (subst (IsTiled usable) left (give-tiled usable c.id heap tiled))
 
 -- ---- one hole
@@ -111,8 +111,8 @@ whole-hole usable (h ∷ k ∷ hs) spaced whole =
     absurd (omega arith)
 
 -- all pieces of tables are given back
-pub all-back : (t : Tables) (r : RegionState) → IsHeld t r → given_all (all_of t) r.holes ≡ fresh_holes r.usable
+pub all-back : (t : Tables) (r : RegionState) → IsPieceHeld t r → given_all (all_of t) r.holes ≡ fresh_holes r.usable
 all-back t r held =
-    let tiled = given-tiled r.usable (all_of t) r.holes (subst (λ n. IsTiled n (record { holes = r.holes; pieces = pieces_of t })) held.whole (held.kept 0).tiled) in
+    let tiled = given-tiled r.usable (all_of t) r.holes (subst (λ n. IsTiled n (record { holes = r.holes; pieces = carved_pieces t })) held.whole (held.kept 0).tiled) in
     let whole = tiled.whole in
     whole-hole r.usable (given_all (all_of t) r.holes) tiled.holes (omega arith)

@@ -13,18 +13,18 @@ use Rattle.stream_law.proofs.Members.{IsIn}
 use Rattle.stream_law.proofs.Placing.{Ascends-distinct}
 use Rattle.mbox_link.specs.Step.{no_device, busy, invalid, is_used, has_comp, is_joined, is_refused_join, connect, completed, complete_pipe, pipe_complete, with_pipes}
 use Rattle.row_laws.specs.Tiled.{heap_bytes}
-use Rattle.row_laws.specs.Kept.{IsKept}
+use Rattle.row_laws.specs.Kept.{IsKeptState}
 use Rattle.row_laws.proofs.RowKept.{connect-kept, pipe_complete-kept}
 use Rattle.fw_heap.specs.Regions.{RegionState}
 use Rattle.fw_components.specs.declared.component.Component.{Component}
 use Rattle.fw_components.specs.declared.component.Unit as units
 use Rattle.fw_components.specs.declared.component.Unit.TheVariants.{Host, Dai, Volume, Mixer, Mux, Eq, Buffer, Pipeline}
 use Rattle.fw_components.specs.Frames.{channels_by}
-use Rattle.fw_components.specs.Tables.{Tables, all_of, view_by, graph_of, ring_by, rings_of, histories_of, staging_of, pieces_of, comp_by}
-use Rattle.fw_components.specs.Changes.{joined_at, sunk_unit, sourced_unit, with_join, completed_at}
+use Rattle.fw_components.specs.Tables.{Tables, all_of, view_by, graph_of, ring_by, rings_of, histories_of, staging_of, carved_pieces, comp_by}
+use Rattle.fw_components.specs.Changes.{joined_at, sunk_unit, sourced_unit, tables_with_join, completed_at}
 use Rattle.fw_pipeline.specs.Rows as rows
 use Rattle.fw_pipeline.specs.States.{AreOf}
-use Rattle.fw_core.specs.Held.{state_in, HasChannels, IsHeld}
+use Rattle.fw_core.specs.Held.{state_in, HasChannels, IsPieceHeld}
 use Rattle.fw_core.specs.Answers.{answer_of, IsRow}
 use Rattle.fw_core.proofs.RowLaws.{told-by, row-is, on-ok}
 use Rattle.fw_core.proofs.Seats.{seat, seats-pieces, seats-homes, seat-joined, seat-completed, map-kept, map-both, in-map}
@@ -33,7 +33,7 @@ use Rattle.fw_core.proofs.Streams.{err-same}
 use Rattle.fw_core.proofs.Channels.{Fits, moves, frames, IsSame, channels-are, fits-map, pipes-same, connect-same, comp-among, buffer-among}
 
 -- a state is that of tables and a region where each part is
-pub state-is : (u : Tables) (s : RegionState) (clock : ℕ) (g : FwState) → g.heap.holes ≡ s.holes → g.heap.pieces ≡ pieces_of u → g.clock ≡ clock → view_of g ≡ view_by u → g.rings ≡ rings_of u → g.histories ≡ histories_of u → g.staging ≡ staging_of u → g ≡ state_in u s clock
+pub state-is : (u : Tables) (s : RegionState) (clock : ℕ) (g : FwState) → g.heap.holes ≡ s.holes → g.heap.pieces ≡ carved_pieces u → g.clock ≡ clock → view_of g ≡ view_by u → g.rings ≡ rings_of u → g.histories ≡ histories_of u → g.staging ≡ staging_of u → g ≡ state_in u s clock
 state-is u s clock g holes pieces at view rings histories staging = λ i. record {
   heap = record { holes = holes i; pieces = pieces i };
   clock = at i;
@@ -52,7 +52,7 @@ three-tests false false true e n m h g is = cc
 three-tests false false false e n m h g is = cc
 
 -- no two components have one id
-pub comps-distinct : (t : Tables) (r : RegionState) → IsHeld t r → HasDistinct (λ (c : Component). c.id) t.comps
+pub comps-distinct : (t : Tables) (r : RegionState) → IsPieceHeld t r → HasDistinct (λ (c : Component). c.id) t.comps
 comps-distinct t r held = subst (λ (ns : List ℕ). IsDistinct (λ m n. m == n) ns) (map-map t.comps) (held.kept 0).wired.ids
   where
     map-map : (cs : List Component) → map (λ (x : Comp). x.id) (map comp_by cs) ≡ map (λ (c : Component). c.id) cs
@@ -60,7 +60,7 @@ comps-distinct t r held = subst (λ (ns : List ℕ). IsDistinct (λ m n. m == n)
     map-map (c ∷ cs) = ap (λ ns. c.id ∷ ns) (map-map cs)
 
 -- components that stay keep their histories
-pub same-comps : (t : Tables) (r : RegionState) → IsHeld t r → (c d : Component) → IsIn c t.comps → IsIn d t.comps → d.id ≡ c.id → history d ≡ history c
+pub same-comps : (t : Tables) (r : RegionState) → IsPieceHeld t r → (c d : Component) → IsIn c t.comps → IsIn d t.comps → d.id ≡ c.id → history d ≡ history c
 same-comps t r held c d in_c in_d same = ap history (one-key (λ (c : Component). c.id) t.comps (comps-distinct t r held) c d in_c in_d same)
 
 -- ---- CONNECT
@@ -105,14 +105,14 @@ joined-frames j c = by (c.id == j.source) (c.id == j.sink)
 connect-done : (f g : FwState) (source sink : ℕ) → connect f source sink ≡ Ok g → record f { graph = graph_with_join f.graph (record { source = source; sink = sink }) } ≡ g
 connect-done f g source sink is = three-tests (not (is_used f.graph source && is_used f.graph sink)) (is_joined f.graph source sink) (is_refused_join f source sink) no_device busy invalid _ g is
 
-module _ (t u : Tables) (r : RegionState) (source sink : ℕ) (held : IsHeld t r) where
-  joined-seats : u ≡ with_join (record { source = source; sink = sink }) t → map seat (all_of u) ≡ map seat (all_of t)
+module _ (t u : Tables) (r : RegionState) (source sink : ℕ) (held : IsPieceHeld t r) where
+  joined-seats : u ≡ tables_with_join (record { source = source; sink = sink }) t → map seat (all_of u) ≡ map seat (all_of t)
   joined-seats done =
       let j : Join = record { source = source; sink = sink } in
       ap (λ (x : Tables). map seat (all_of x)) done
       ∙ map-both seat t.comps (t.buffers ++ t.pipes) t.comps (map (joined_at j) t.buffers ++ t.pipes) refl (map-both seat t.buffers t.pipes (map (joined_at j) t.buffers) t.pipes (map-kept seat (joined_at j) (seat-joined j) t.buffers) refl)
 
-  connect-leads : ((j : Join) (cs : List Component) → map ring_by (map (joined_at j) cs) ≡ map ring_by cs) → (clock : ℕ) (g : FwState) → connect (state_in t r clock) source sink ≡ Ok g → view_of g ≡ view_by u → u ≡ with_join (record { source = source; sink = sink }) t → g ≡ state_in u r clock
+  connect-leads : ((j : Join) (cs : List Component) → map ring_by (map (joined_at j) cs) ≡ map ring_by cs) → (clock : ℕ) (g : FwState) → connect (state_in t r clock) source sink ≡ Ok g → view_of g ≡ view_by u → u ≡ tables_with_join (record { source = source; sink = sink }) t → g ≡ state_in u r clock
   connect-leads rings clock g is view done =
       let j : Join = record { source = source; sink = sink } in
       let f = state_in t r clock in
@@ -129,7 +129,7 @@ module _ (t u : Tables) (r : RegionState) (source sink : ℕ) (held : IsHeld t r
       (histories-are g u kept view (subst (AreThere u.comps) (sym histories) (subst (λ (ds : List Component). AreThere ds (histories_of t)) (sym comps) (there-all t.comps t.comps _ (same-comps t r held)))))
       (ap (λ (x : FwState). x.staging) (sym own) ∙ sym (ap (λ (x : Tables). staging_of x) done))
 
-  connect-channels : u ≡ with_join (record { source = source; sink = sink }) t → connect (state_in t r 0) source sink ≡ Ok (state_in u r 0) → HasChannels u
+  connect-channels : u ≡ tables_with_join (record { source = source; sink = sink }) t → connect (state_in t r 0) source sink ≡ Ok (state_in u r 0) → HasChannels u
   connect-channels done row =
       let j : Join = record { source = source; sink = sink } in
       let same = connect-same source sink (state_in t r 0) (state_in u r 0) (held.kept 0) row in
@@ -140,7 +140,7 @@ module _ (t u : Tables) (r : RegionState) (source sink : ℕ) (held : IsHeld t r
       (subst (λ (x : Tables). AllByRecursion (Fits (view_by t) moves) x.comps) (sym done) held.channels.comps)
       (subst (λ (x : Tables). AllByRecursion (Fits (view_by t) frames) x.buffers) (sym done) (fits-map (view_by t) frames (joined_at j) (joined-id j) (joined-frames j) t.buffers held.channels.buffers))
 
-  pub connect-is : {X : Type 0} (answer : Result X Errno) → ((j : Join) (cs : List Component) → map ring_by (map (joined_at j) cs) ≡ map ring_by cs) → ((f : FwState) → rows.answer_of (view_by u) answer ≡ rows.view_after (connect (rows.with_view (view_by t) f) source sink)) → OnOk answer (u ≡ with_join (record { source = source; sink = sink }) t) → OnErr answer (u ≡ t) → IsRow (λ f. connect f source sink) t u r r answer
+  pub connect-is : {X : Type 0} (answer : Result X Errno) → ((j : Join) (cs : List Component) → map ring_by (map (joined_at j) cs) ≡ map ring_by cs) → ((f : FwState) → rows.view_answer (view_by u) answer ≡ rows.view_after (connect (rows.with_view (view_by t) f) source sink)) → OnOk answer (u ≡ tables_with_join (record { source = source; sink = sink }) t) → OnErr answer (u ≡ t) → IsRow (λ f. connect f source sink) t u r r answer
   connect-is answer rings views done kept =
       row-is (λ f. connect f source sink) t u r r answer held
       (λ clock. told-by answer (connect (state_in t r clock) source sink) (view_by u) (state_in u r clock) (views (state_in t r clock)) (λ g is view. on-ok answer done (connect-leads rings clock g is view)))
@@ -163,7 +163,7 @@ complete-done f g id is = used (not (is_used f.graph id)) is
 abbrev complete_tables : ℕ → Tables → Tables
 complete_tables id t = record { comps = t.comps; buffers = t.buffers; pipes = map (completed_at id) t.pipes; joins = t.joins }
 
-module _ (t u : Tables) (r : RegionState) (id : ℕ) (held : IsHeld t r) where
+module _ (t u : Tables) (r : RegionState) (id : ℕ) (held : IsPieceHeld t r) where
   completed-seats : u ≡ complete_tables id t → map seat (all_of u) ≡ map seat (all_of t)
   completed-seats done =
       ap (λ (x : Tables). map seat (all_of x)) done
@@ -192,7 +192,7 @@ module _ (t u : Tables) (r : RegionState) (id : ℕ) (held : IsHeld t r) where
       (subst (λ (x : Tables). AllByRecursion (Fits (view_by t) moves) x.comps) (sym done) held.channels.comps)
       (subst (λ (x : Tables). AllByRecursion (Fits (view_by t) frames) x.buffers) (sym done) held.channels.buffers)
 
-  pub complete-is : {X : Type 0} (answer : Result X Errno) → ((f : FwState) → rows.answer_of (view_by u) answer ≡ rows.view_after (pipe_complete (rows.with_view (view_by t) f) id)) → OnOk answer (u ≡ complete_tables id t) → OnErr answer (u ≡ t) → IsRow (λ f. pipe_complete f id) t u r r answer
+  pub complete-is : {X : Type 0} (answer : Result X Errno) → ((f : FwState) → rows.view_answer (view_by u) answer ≡ rows.view_after (pipe_complete (rows.with_view (view_by t) f) id)) → OnOk answer (u ≡ complete_tables id t) → OnErr answer (u ≡ t) → IsRow (λ f. pipe_complete f id) t u r r answer
   complete-is answer views done kept =
       row-is (λ f. pipe_complete f id) t u r r answer held
       (λ clock. told-by answer (pipe_complete (state_in t r clock) id) (view_by u) (state_in u r clock) (views (state_in t r clock)) (λ g is view. on-ok answer done (complete-leads clock g is view)))

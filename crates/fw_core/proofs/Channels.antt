@@ -22,8 +22,8 @@ use Rattle.stream_law.specs.Seen.{seen}
 use Rattle.stream_law.proofs.Members.{IsIn, in-all, in-each, in-any}
 use Rattle.mbox_link.specs.Step as rows
 use Rattle.row_laws.specs.Wired.{is_node}
-use Rattle.row_laws.specs.Played.{IsPlayable, KeepsLive}
-use Rattle.row_laws.specs.Kept.{IsKept}
+use Rattle.row_laws.specs.Played.{AreStreamsPlayable, KeepsLive}
+use Rattle.row_laws.specs.Kept.{IsKeptState}
 use Rattle.row_laws.proofs.Fewer.{all-filter, filter-every}
 use Rattle.row_laws.proofs.FreeKept.{comp_free-live, comp_free-channels, buffer_free-live, buffer_free-channels}
 use Rattle.row_laws.proofs.Growing.{all-placed, hosts-apart, live-wider, channels-wider}
@@ -72,7 +72,7 @@ fits-map v size to ids sizes [] fits = tt
 fits-map v size to ids sizes (c ∷ cs) fits = ((λ on. sizes c ∙ fits.0 (ap (live v) (sym (ids c)) ∙ on) ∙ ap (channels_of v) (sym (ids c))), fits-map v size to ids sizes cs fits.1)
 
 -- what no node names is not Live
-pub unlit : (f : FwState) (id : ℕ) → IsKept f → is_node f.graph id ≡ false → live (view_of f) id ≡ false
+pub unlit : (f : FwState) (id : ℕ) → IsKeptState f → is_node f.graph id ≡ false → live (view_of f) id ≡ false
 unfolding live
 unlit f id kept gone = none f.streams (hosts-apart f.graph id (or_parts (rows.has_comp f.graph id) (rows.has_edge f.graph id) gone).0 f.streams kept.played.owned)
   where
@@ -86,30 +86,30 @@ unlit f id kept gone = none f.streams (hosts-apart f.graph id (or_parts (rows.ha
 
 -- ---- rows of the graph
 
-pub comp_new-same : (id pipe : ℕ) (kind : Kind) (setting : Setting) (f g : FwState) → IsKept f → rows.comp_new f id pipe kind setting ≡ Ok g → (x : ℕ) → IsSame (view_of f) (view_of g) x
+pub comp_new-same : (id pipe : ℕ) (kind : Kind) (setting : Setting) (f g : FwState) → IsKeptState f → rows.comp_new f id pipe kind setting ≡ Ok g → (x : ℕ) → IsSame (view_of f) (view_of g) x
 comp_new-same id pipe kind setting f g kept is x =
     let tests = new-tests (rows.is_used f.graph id) (rows.is_complete f.graph pipe) (nat_le 128 (length f.graph.comps)) (rows.has_hole f (rows.comp_bytes kind)) (rows.with_comp id pipe kind setting f) g is in
     let c : Comp = record { id = id; kind = kind; pipe = pipe; setting = setting } in
     let gone = unused-node f.graph id tests.0 in
     subst (λ (g : FwState). IsSame (view_of f) (view_of g) x) tests.2 record { lives = live-wider f.graph c gone kept.wired f.streams kept.played x; channels = channels-wider f.graph c gone kept.wired f.streams kept.played x }
 
-pub buffer_new-same : (id pipe size : ℕ) (f g : FwState) → IsKept f → rows.buffer_new f id pipe size ≡ Ok g → (x : ℕ) → IsSame (view_of f) (view_of g) x
+pub buffer_new-same : (id pipe size : ℕ) (f g : FwState) → IsKeptState f → rows.buffer_new f id pipe size ≡ Ok g → (x : ℕ) → IsSame (view_of f) (view_of g) x
 buffer_new-same id pipe size f g kept is x =
     let tests = new-tests (rows.is_used f.graph id) (rows.is_complete f.graph pipe) (nat_le 128 (length f.graph.edges)) (rows.has_hole f (rows.buffer_bytes size)) (rows.with_buffer id pipe size f) g is in
     let gone = unused-node f.graph id tests.0 in
     subst (λ (g : FwState). IsSame (view_of f) (view_of g) x) tests.2 record { lives = live-longer f.graph id pipe size gone kept.wired f.streams kept.played x; channels = channels-longer f.graph id pipe size gone kept.wired f.streams kept.played x }
 
 -- other pipelines change nothing
-pub pipes-same : (f g : FwState) (pipes : List Pipe) → IsKept f → view_of g ≡ record { graph = rows.with_pipes pipes f.graph; streams = f.streams } → (x : ℕ) → IsSame (view_of f) (view_of g) x
+pub pipes-same : (f g : FwState) (pipes : List Pipe) → IsKeptState f → view_of g ≡ record { graph = rows.with_pipes pipes f.graph; streams = f.streams } → (x : ℕ) → IsSame (view_of f) (view_of g) x
 pipes-same f g pipes kept is x = subst (λ (v : View). IsSame (view_of f) v x) (sym is) record { lives = live-other f.graph pipes f.streams kept.played x; channels = channels-other f.graph pipes f.streams kept.played x }
 
-pub comp_free-same : (id : ℕ) (f g : FwState) → IsKept f → list_any (rows.touches id) f.graph.joins ≡ false → rows.has_comp f.graph id ≡ true → rows.without_comp id f ≡ g → (x : ℕ) → IsSame (view_of f) (view_of g) x
+pub comp_free-same : (id : ℕ) (f g : FwState) → IsKeptState f → list_any (rows.touches id) f.graph.joins ≡ false → rows.has_comp f.graph id ≡ true → rows.without_comp id f ≡ g → (x : ℕ) → IsSame (view_of f) (view_of g) x
 comp_free-same id f g kept free there is x = subst (λ (g : FwState). IsSame (view_of f) (view_of g) x) is record { lives = comp_free-live f kept id there free x; channels = comp_free-channels f kept id there free x }
 
-pub buffer_free-same : (id : ℕ) (f g : FwState) → IsKept f → rows.has_edge f.graph id ≡ true → rows.is_held f.graph f.streams id ≡ false → rows.without_buffer id f ≡ g → (x : ℕ) → IsSame (view_of f) (view_of g) x
+pub buffer_free-same : (id : ℕ) (f g : FwState) → IsKeptState f → rows.has_edge f.graph id ≡ true → rows.is_held f.graph f.streams id ≡ false → rows.without_buffer id f ≡ g → (x : ℕ) → IsSame (view_of f) (view_of g) x
 buffer_free-same id f g kept there free is x = subst (λ (g : FwState). IsSame (view_of f) (view_of g) x) is record { lives = buffer_free-live f kept id there free x; channels = buffer_free-channels f kept id there free x }
 
-pub set_value-same : (id : ℕ) (setting : Setting) (f g : FwState) → IsKept f → record f { graph = rows.with_comps (map (rows.with_setting id setting) f.graph.comps) f.graph } ≡ g → (x : ℕ) → IsSame (view_of f) (view_of g) x
+pub set_value-same : (id : ℕ) (setting : Setting) (f g : FwState) → IsKeptState f → record f { graph = rows.with_comps (map (rows.with_setting id setting) f.graph.comps) f.graph } ≡ g → (x : ℕ) → IsSame (view_of f) (view_of g) x
 set_value-same id setting f g kept is x =
     subst (λ (g : FwState). IsSame (view_of f) (view_of g) x) is record {
       lives = subst (λ ss. live (record { graph = after; streams = ss }) x ≡ live (view_of f) x) (filter-every f.streams) (live-same f.graph after (λ s. true) f.streams kept.played (bare-set id setting f.graph f.streams) (ways-set id setting f.graph f.streams) x);
@@ -120,7 +120,7 @@ set_value-same id setting f g kept is x =
     after = rows.with_comps (map (rows.with_setting id setting) f.graph.comps) f.graph
 
 -- a join leaves what is there
-pub connect-same : (source sink : ℕ) (f g : FwState) → IsKept f → rows.connect f source sink ≡ Ok g → (x : ℕ) → is_among (components f.graph ++ buffers f.graph) x ≡ true → IsSame (view_of f) (view_of g) x
+pub connect-same : (source sink : ℕ) (f g : FwState) → IsKeptState f → rows.connect f source sink ≡ Ok g → (x : ℕ) → is_among (components f.graph ++ buffers f.graph) x ≡ true → IsSame (view_of f) (view_of g) x
 connect-same source sink f g kept is x there =
     let j : Join = record { source = source; sink = sink } in
     let new : FwState = record f { graph = with_join f.graph j } in
@@ -144,10 +144,10 @@ pub record IsChange (f g : FwState) (to : StreamView → StreamView) : Type 0 wh
   pub keeps : KeepsLive to f.streams
 
 -- what is Live before and after has the same channels
-pub change-channels : (f g : FwState) (to : StreamView → StreamView) → IsKept f → IsKept g → IsChange f g to → (x : ℕ) → is_among (components f.graph ++ buffers f.graph) x ≡ true → live (view_of f) x ≡ true → live (view_of g) x ≡ true → channels_of (view_of g) x ≡ channels_of (view_of f) x
+pub change-channels : (f g : FwState) (to : StreamView → StreamView) → IsKeptState f → IsKeptState g → IsChange f g to → (x : ℕ) → is_among (components f.graph ++ buffers f.graph) x ≡ true → live (view_of f) x ≡ true → live (view_of g) x ≡ true → channels_of (view_of g) x ≡ channels_of (view_of f) x
 change-channels f g to kept after change x there was now =
     ap (λ (v : View). channels_of v x) change.view
-    ∙ channels-stay f.graph f.streams to change.keeps kept.played (subst IsPlayable change.view after.played) x there was (ap (λ (v : View). live v x) (sym change.view) ∙ now)
+    ∙ channels-stay f.graph f.streams to change.keeps kept.played (subst AreStreamsPlayable change.view after.played) x there was (ap (λ (v : View). live v x) (sym change.view) ∙ now)
 
 -- where none becomes Live
 pub change-lives : (f g : FwState) (to : StreamView → StreamView) → IsChange f g to → ((s : StreamView) → is_live_phase (to s).phase ≡ true → ((to s).host ≡ s.host) × (is_live_phase s.phase ≡ true)) → (x : ℕ) → live (view_of g) x ≡ true → live (view_of f) x ≡ true
@@ -169,10 +169,10 @@ change-lives f g to change less x now = back f.streams (sym (ap (λ (v : View). 
         by (inr e) rest = or_right (is_live_phase s.phase && on_way f.graph s.host x) (list_any (λ s. is_live_phase s.phase && on_way f.graph s.host x) ss) (rest e)
 
 -- PCM_PARAMS
-pub params-change : (host direction : ℕ) (p : Params) (f g : FwState) → IsKept f → rows.pcm_params f host direction p ≡ Ok g → IsChange f g (rows.set_stream host Prepared (Some p))
+pub params-change : (host direction : ℕ) (p : Params) (f g : FwState) → IsKeptState f → rows.pcm_params f host direction p ≡ Ok g → IsChange f g (rows.set_stream host Prepared (Some p))
 params-change host direction p f g kept is =
     let new : FwState = seen (rows.with_params f host p) None f in
-    let moving : Bool = rows.has_phase rows.is_moving (rows.phase_at f host) in
+    let moving : Bool = rows.is_stream_phase rows.is_moving (rows.phase_at f host) in
     let kind : Bool = not (rows.has_kind (λ kind. rows.goes kind direction) (rows.kind_at f.graph host)) in
     let wrong : Bool = (((kind || moving) || not (rows.is_rate p.rate)) || not (rows.is_way_ready f.graph host)) || not (agree (rows.with_params f host p)) in
     let a = pass (not (rows.is_used f.graph host)) rows.no_device (cond wrong (Err rows.invalid) (Ok new)) g is in
@@ -191,16 +191,16 @@ params-less host p s e = by (s.host == host) e
     by false e = (refl, e)
 
 -- the triggers
-changed-is : (f g : FwState) (host : ℕ) (from : Phase → Bool) (to : StreamView → StreamView) → rows.changed f host from to ≡ Ok g → (view_of g ≡ record { graph = f.graph; streams = map to f.streams }) × (rows.has_phase from (rows.phase_at f host) ≡ true)
+changed-is : (f g : FwState) (host : ℕ) (from : Phase → Bool) (to : StreamView → StreamView) → rows.stream_changed f host from to ≡ Ok g → (view_of g ≡ record { graph = f.graph; streams = map to f.streams }) × (rows.is_stream_phase from (rows.phase_at f host) ≡ true)
 changed-is f g host from to is =
     let new : FwState = seen (record { graph = f.graph; streams = map to f.streams }) None f in
     let kind : Bool = rows.has_kind rows.is_host (rows.kind_at f.graph host) in
-    let phase : Bool = rows.has_phase from (rows.phase_at f host) in
+    let phase : Bool = rows.is_stream_phase from (rows.phase_at f host) in
     let a = pass (not (rows.is_used f.graph host)) rows.no_device (cond (not (kind && phase)) (Err rows.invalid) (Ok new)) g is in
     let right = not-false (kind && phase) (passed (not (kind && phase)) rows.invalid (Ok new) g a) in
     (ap view_of (sym (same-ok new g (pass (not (kind && phase)) rows.invalid (Ok new) g a))), (and_parts kind phase right).1)
 
-pub triggered-change : (t : Trigger) (host : ℕ) (f g : FwState) → IsKept f → triggered t f host ≡ Ok g → (to : StreamView → StreamView) × IsChange f g to
+pub triggered-change : (t : Trigger) (host : ℕ) (f g : FwState) → IsKeptState f → triggered t f host ≡ Ok g → (to : StreamView → StreamView) × IsChange f g to
 triggered-change what.Start host f g kept is = (rows.set_phase host Running, record { view = (changed-is f g host rows.is_prepared (rows.set_phase host Running) is).0; keeps = keeps-phase host Running f.streams })
 triggered-change what.Stop host f g kept is = (rows.set_phase host Prepared, record { view = (changed-is f g host rows.is_moving (rows.set_phase host Prepared) is).0; keeps = keeps-phase host Prepared f.streams })
 triggered-change what.Pause host f g kept is = (rows.set_phase host Paused, record { view = (changed-is f g host rows.is_running (rows.set_phase host Paused) is).0; keeps = keeps-phase host Paused f.streams })

@@ -14,8 +14,8 @@ use Rattle.mbox_link.specs.Step.{no_device, busy, invalid, is_used, has_comp, ha
 use Rattle.mbox_link.specs.Step as step
 use Rattle.row_laws.specs.Tiled.{heap_bytes}
 use Rattle.row_laws.specs.Wired.{is_node}
-use Rattle.row_laws.specs.Kept.{IsKept}
-use Rattle.row_laws.specs.RowLaws.{Keeps}
+use Rattle.row_laws.specs.Kept.{IsKeptState}
+use Rattle.row_laws.specs.RowLaws.{RowIsKept}
 use Rattle.row_laws.proofs.RowKept.{comp_free-kept, buffer_free-kept, pipe_free-kept}
 use Rattle.row_laws.proofs.FreeKept.{no-buffer, no-comp, free-whole}
 use Rattle.row_laws.proofs.Fewer.{all-filter, distinct-filter}
@@ -25,15 +25,15 @@ use Rattle.fw_heap.specs.Regions.{RegionState}
 use Rattle.fw_components.specs.declared.component.Component.{Component}
 use Rattle.fw_components.specs.declared.component.Unit as units
 use Rattle.fw_components.specs.declared.component.Unit.TheVariants.{Host, Dai, Volume, Mixer, Mux, Eq, Buffer, Pipeline}
-use Rattle.fw_components.specs.Tables.{Tables, all_of, view_by, graph_of, ring_by, rings_of, histories_of, staging_by, staging_of, pieces_of, pieces_by, piece_by, with_staging_by}
-use Rattle.fw_components.specs.Changes.{has_id, without, without_by, given_found, given_by, found, IsOf}
+use Rattle.fw_components.specs.Tables.{Tables, all_of, view_by, graph_of, ring_by, rings_of, histories_of, staging_by, staging_of, carved_pieces, pieces_by, piece_by, with_staging_by}
+use Rattle.fw_components.specs.Changes.{has_id, tables_without, without_by, given_found, given_by, found, IsOfHome}
 use Rattle.fw_walks.proofs.Naming.{comp-named, edge-named, pipe-named}
 use Rattle.fw_pipeline.specs.declared.freeing.Item.{Item}
 use Rattle.fw_pipeline.specs.declared.freeing.Item.TheVariants as items
 use Rattle.fw_pipeline.specs.Rows as rows
 use Rattle.fw_pipeline.specs.States.{AreOf}
 use Rattle.fw_pipeline.proofs.FreeRows.{comp-left, buffer-left, pipe-left}
-use Rattle.fw_core.specs.Held.{state_in, HasChannels, IsHeld}
+use Rattle.fw_core.specs.Held.{state_in, HasChannels, IsPieceHeld}
 use Rattle.fw_core.specs.Answers.{answer_of, IsRow}
 use Rattle.fw_core.proofs.RowLaws.{told-by, row-is, on-ok, pass, passed, same-ok, not-false}
 use Rattle.fw_core.proofs.Back.{placed-apart, placed-others, filter-apart}
@@ -102,7 +102,7 @@ find-piece id (c ∷ cs) distinct =
     by true rest = refl
     by false rest = rest
 
-holes-found : (o : Option Component) (holes : List Hole) → given_found o holes ≡ step.freed (option_map piece_by o) holes
+holes-found : (o : Option Component) (holes : List Hole) → given_found o holes ≡ step.holes_after_free (option_map piece_by o) holes
 holes-found None holes = refl
 holes-found (Some c) holes = refl
 
@@ -122,10 +122,10 @@ all-left id xs bs cs ds es fs a b c =
     ∙ sym (filter-split (λ c. not (c.id == id)) xs (bs ++ cs) ∙ ap (λ zs. filter (λ c. not (c.id == id)) xs ++ zs) (filter-split (λ c. not (c.id == id)) bs cs))
 
 -- a pipeline's id is that of no component and of no buffer
-no-pipe : (f : FwState) (id : ℕ) → IsKept f → is_node f.graph id ≡ true → has_pipe f.graph id ≡ false
+no-pipe : (f : FwState) (id : ℕ) → IsKeptState f → is_node f.graph id ≡ true → has_pipe f.graph id ≡ false
 no-pipe f id kept node = false_from_ne_true (has_pipe f.graph id) (λ e. let p = any-in (λ p. p.id == id) f.graph.pipes e in true≢false (sym node ∙ ap (is_node f.graph) (sym (eqb-true p.0.id id p.2)) ∙ in-all (λ (p : Pipe). is_node f.graph p.id ≡ false) f.graph.pipes p.0 kept.wired.alone p.1))
 
-no-node : (f : FwState) (id : ℕ) → IsKept f → has_pipe f.graph id ≡ true → is_node f.graph id ≡ false
+no-node : (f : FwState) (id : ℕ) → IsKeptState f → has_pipe f.graph id ≡ true → is_node f.graph id ≡ false
 no-node f id kept pipe = let p = any-in (λ p. p.id == id) f.graph.pipes pipe in ap (is_node f.graph) (sym (eqb-true p.0.id id p.2)) ∙ in-all (λ (p : Pipe). is_node f.graph p.id ≡ false) f.graph.pipes p.0 kept.wired.alone p.1
 
 -- ---- what is staged
@@ -189,12 +189,12 @@ pipe-tests f g id is = by (find (λ p. p.id == id) f.graph.pipes) refl (pass (no
 
 -- ---- what is left
 
-module _ (t u : Tables) (r s : RegionState) (id : ℕ) (held : IsHeld t r) where
+module _ (t u : Tables) (r s : RegionState) (id : ℕ) (held : IsPieceHeld t r) where
   abbrev key : PieceView → ℕ
   key p = p.id
 
   -- all that is left is what has another id
-  all-gone : (has_id t.comps id ≡ true) ⊎ ((has_id t.buffers id ≡ true) ⊎ (has_id t.pipes id ≡ true)) → u ≡ without id t → all_of u ≡ filter (λ c. not (c.id == id)) (all_of t)
+  all-gone : (has_id t.comps id ≡ true) ⊎ ((has_id t.buffers id ≡ true) ⊎ (has_id t.pipes id ≡ true)) → u ≡ tables_without id t → all_of u ≡ filter (λ c. not (c.id == id)) (all_of t)
   all-gone (inl there) done =
       let f = state_in t r 0 in let kept = held.kept 0 in
       let comp = sym (comp-named t id) ∙ there in
@@ -217,17 +217,17 @@ module _ (t u : Tables) (r s : RegionState) (id : ℕ) (held : IsHeld t r) where
       ap all_of (done ∙ pipe-left t id no_comp no_edge) ∙ all-left id t.comps t.buffers t.pipes _ _ _ (sym (filter-apart (λ (c : Component). c.id) id t.comps no_comp)) (sym (filter-apart (λ (c : Component). c.id) id t.buffers no_edge)) refl
 
   -- its pieces
-  pieces-gone : all_of u ≡ filter (λ c. not (c.id == id)) (all_of t) → filter (λ p. not (p.id == id)) (pieces_of t) ≡ pieces_of u
+  pieces-gone : all_of u ≡ filter (λ c. not (c.id == id)) (all_of t) → filter (λ p. not (p.id == id)) (carved_pieces t) ≡ carved_pieces u
   pieces-gone all = sym (ap pieces_by all ∙ pieces-left id (all_of t) (held.kept 0).tiled.ids (held.kept 0).ascending.pieces)
 
-  holes-gone : s.holes ≡ given_found (found t id) r.holes → step.freed (find (λ p. p.id == id) (pieces_of t)) r.holes ≡ s.holes
-  holes-gone holes = sym (holes ∙ holes-found (found t id) r.holes ∙ ap (λ o. step.freed o r.holes) (sym (find-piece id (all_of t) (held.kept 0).tiled.ids)))
+  holes-gone : s.holes ≡ given_found (found t id) r.holes → step.holes_after_free (find (λ p. p.id == id) (carved_pieces t)) r.holes ≡ s.holes
+  holes-gone holes = sym (holes ∙ holes-found (found t id) r.holes ∙ ap (λ o. step.holes_after_free o r.holes) (sym (find-piece id (all_of t) (held.kept 0).tiled.ids)))
 
   -- the histories of what is left
   gone-there : (g : FwState) → ((d : Component) → IsIn d u.comps → IsIn d t.comps) → AreThere u.comps (histories_of t)
   gone-there g within = there-all t.comps u.comps _ (λ c d in_c in_d same. same-comps t r held c d in_c (within d in_d) same)
 
-  comp-leads : (clock : ℕ) (g : FwState) → comp_free (state_in t r clock) id ≡ Ok g → view_of g ≡ view_by u → u ≡ without id t → s.holes ≡ given_found (found t id) r.holes → g ≡ state_in u s clock
+  comp-leads : (clock : ℕ) (g : FwState) → comp_free (state_in t r clock) id ≡ Ok g → view_of g ≡ view_by u → u ≡ tables_without id t → s.holes ≡ given_found (found t id) r.holes → g ≡ state_in u s clock
   comp-leads clock g is view done holes =
       let tests = comp-tests (state_in t r clock) g id is in
       let there = comp-named t id ∙ tests.0 in
@@ -242,7 +242,7 @@ module _ (t u : Tables) (r s : RegionState) (id : ℕ) (held : IsHeld t r) where
       (histories-are g u (comp_free-kept id (state_in t r clock) g (held.kept clock) is) view (subst (AreThere u.comps) (ap (λ (x : FwState). x.histories) tests.1) (there-less u.comps (λ h. not (h.comp == id)) (histories_of t) (gone-there g (λ d in_d. (kept-in (λ c. not (c.id == id)) t.comps d (subst (λ (cs : List Component). IsIn d cs) (ap (λ (x : Tables). x.comps) left) in_d)).0)))))
       (ap (λ (x : FwState). x.staging) own ∙ sym (ap staging_of left ∙ stages-gone id t.comps))
 
-  buffer-leads : ((id : ℕ) (cs : List Component) → map ring_by (filter (λ x. not (x.id == id)) cs) ≡ filter (λ x. not (x.buffer == id)) (map ring_by cs)) → (clock : ℕ) (g : FwState) → buffer_free (state_in t r clock) id ≡ Ok g → view_of g ≡ view_by u → u ≡ without id t → s.holes ≡ given_found (found t id) r.holes → g ≡ state_in u s clock
+  buffer-leads : ((id : ℕ) (cs : List Component) → map ring_by (filter (λ x. not (x.id == id)) cs) ≡ filter (λ x. not (x.buffer == id)) (map ring_by cs)) → (clock : ℕ) (g : FwState) → buffer_free (state_in t r clock) id ≡ Ok g → view_of g ≡ view_by u → u ≡ tables_without id t → s.holes ≡ given_found (found t id) r.holes → g ≡ state_in u s clock
   buffer-leads rings clock g is view done holes =
       let tests = buffer-tests (state_in t r clock) g id is in
       let there = edge-named t id ∙ tests.0 in
@@ -257,7 +257,7 @@ module _ (t u : Tables) (r s : RegionState) (id : ℕ) (held : IsHeld t r) where
       (histories-are g u (buffer_free-kept id (state_in t r clock) g (held.kept clock) is) view (subst (AreThere u.comps) (ap (λ (x : FwState). x.histories) tests.1) (gone-there g (λ d in_d. subst (λ (cs : List Component). IsIn d cs) (ap (λ (x : Tables). x.comps) left) in_d))))
       (ap (λ (x : FwState). x.staging) own ∙ sym (ap staging_of left))
 
-  pipe-leads : (clock : ℕ) (g : FwState) → pipe_free (state_in t r clock) id ≡ Ok g → view_of g ≡ view_by u → u ≡ without id t → s.holes ≡ given_found (found t id) r.holes → g ≡ state_in u s clock
+  pipe-leads : (clock : ℕ) (g : FwState) → pipe_free (state_in t r clock) id ≡ Ok g → view_of g ≡ view_by u → u ≡ tables_without id t → s.holes ≡ given_found (found t id) r.holes → g ≡ state_in u s clock
   pipe-leads clock g is view done holes =
       let tests = pipe-tests (state_in t r clock) g id is in
       let there = pipe-named t id ∙ tests.0 in
@@ -275,7 +275,7 @@ module _ (t u : Tables) (r s : RegionState) (id : ℕ) (held : IsHeld t r) where
 
 -- ---- and what is Live
 
-module _ (t u : Tables) (r s : RegionState) (id : ℕ) (held : IsHeld t r) (done : u ≡ without id t) where
+module _ (t u : Tables) (r s : RegionState) (id : ℕ) (held : IsPieceHeld t r) (done : u ≡ tables_without id t) where
   left-channels : ((x : ℕ) → IsSame (view_by t) (view_by u) x) → HasChannels u
   left-channels same = channels-are t u (λ c there. same c.id) (λ c there. same c.id)
       (subst (λ (x : Tables). AllByRecursion (Fits (view_by t) moves) x.comps) (sym done) (comps (has_id t.comps id) (has_id t.buffers id)))
@@ -291,7 +291,7 @@ module _ (t u : Tables) (r s : RegionState) (id : ℕ) (held : IsHeld t r) (done
       buffers false true = all-filter (λ c. not (c.id == id)) (Fits (view_by t) frames) t.buffers held.channels.buffers
       buffers false false = held.channels.buffers
 
-  freed-channels : (what : Item) → rows.freed what (state_in t r 0) id ≡ Ok (state_in u s 0) → HasChannels u
+  freed-channels : (what : Item) → rows.row_of_free what (state_in t r 0) id ≡ Ok (state_in u s 0) → HasChannels u
   freed-channels items.Component row =
       let tests = comp-tests (state_in t r 0) (state_in u s 0) id row in
       left-channels (comp_free-same id (state_in t r 0) (state_in u s 0) (held.kept 0) tests.2 tests.0 tests.1)
@@ -304,47 +304,47 @@ module _ (t u : Tables) (r s : RegionState) (id : ℕ) (held : IsHeld t r) (done
 
 -- ---- all three
 
-freed-kept : (what : Item) (id : ℕ) → Keeps (λ f. rows.freed what f id)
+freed-kept : (what : Item) (id : ℕ) → RowIsKept (λ f. rows.row_of_free what f id)
 freed-kept items.Component id f g kept is = comp_free-kept id f g kept is
 freed-kept items.Buffer id f g kept is = buffer_free-kept id f g kept is
 freed-kept items.Pipeline id f g kept is = pipe_free-kept id f g kept is
 
-freed-whole : (what : Item) (id : ℕ) (f g : FwState) → IsKept f → rows.freed what f id ≡ Ok g → heap_bytes g.heap ≡ heap_bytes f.heap
+freed-whole : (what : Item) (id : ℕ) (f g : FwState) → IsKeptState f → rows.row_of_free what f id ≡ Ok g → heap_bytes g.heap ≡ heap_bytes f.heap
 freed-whole items.Component id f g kept is = ap (λ (x : FwState). heap_bytes x.heap) (sym (comp-tests f g id is).1) ∙ free-whole f kept id
 freed-whole items.Buffer id f g kept is = ap (λ (x : FwState). heap_bytes x.heap) (sym (buffer-tests f g id is).1) ∙ free-whole f kept id
 freed-whole items.Pipeline id f g kept is = ap (λ (x : FwState). heap_bytes x.heap) (sym (pipe-tests f g id is).1) ∙ free-whole f kept id
 
-freed-leads : (what : Item) (t u : Tables) (r s : RegionState) (id : ℕ) → IsHeld t r → ((id : ℕ) (cs : List Component) → map ring_by (filter (λ x. not (x.id == id)) cs) ≡ filter (λ x. not (x.buffer == id)) (map ring_by cs)) → (clock : ℕ) (g : FwState) → rows.freed what (state_in t r clock) id ≡ Ok g → view_of g ≡ view_by u → u ≡ without id t → s.holes ≡ given_found (found t id) r.holes → g ≡ state_in u s clock
+freed-leads : (what : Item) (t u : Tables) (r s : RegionState) (id : ℕ) → IsPieceHeld t r → ((id : ℕ) (cs : List Component) → map ring_by (filter (λ x. not (x.id == id)) cs) ≡ filter (λ x. not (x.buffer == id)) (map ring_by cs)) → (clock : ℕ) (g : FwState) → rows.row_of_free what (state_in t r clock) id ≡ Ok g → view_of g ≡ view_by u → u ≡ tables_without id t → s.holes ≡ given_found (found t id) r.holes → g ≡ state_in u s clock
 freed-leads items.Component t u r s id held rings clock g is view done holes = comp-leads t u r s id held clock g is view done holes
 freed-leads items.Buffer t u r s id held rings clock g is view done holes = buffer-leads t u r s id held rings clock g is view done holes
 freed-leads items.Pipeline t u r s id held rings clock g is view done holes = pipe-leads t u r s id held clock g is view done holes
 
 -- what is left is of the region
-left-homes : (home : Home) (t : Tables) (id : ℕ) → AreOf home t → AreOf home (without id t)
+left-homes : (home : Home) (t : Tables) (id : ℕ) → AreOf home t → AreOf home (tables_without id t)
 left-homes home t id all = by (has_id t.comps id) (has_id t.buffers id)
   where
-    parts : (xs ys : List Component) → AllByRecursion (IsOf home) (xs ++ ys) → AllByRecursion (IsOf home) xs × AllByRecursion (IsOf home) ys
+    parts : (xs ys : List Component) → AllByRecursion (IsOfHome home) (xs ++ ys) → AllByRecursion (IsOfHome home) xs × AllByRecursion (IsOfHome home) ys
     parts [] ys all = (tt, all)
     parts (x ∷ xs) ys all = let rest = parts xs ys all.1 in ((all.0, rest.0), rest.1)
 
-    both : (xs ys : List Component) → AllByRecursion (IsOf home) xs → AllByRecursion (IsOf home) ys → AllByRecursion (IsOf home) (xs ++ ys)
+    both : (xs ys : List Component) → AllByRecursion (IsOfHome home) xs → AllByRecursion (IsOfHome home) ys → AllByRecursion (IsOfHome home) (xs ++ ys)
     both [] ys a b = b
     both (x ∷ xs) ys a b = (a.0, both xs ys a.1 b)
 
-    less : (xs : List Component) → AllByRecursion (IsOf home) xs → AllByRecursion (IsOf home) (filter (λ c. not (c.id == id)) xs)
-    less xs a = all-filter (λ c. not (c.id == id)) (IsOf home) xs a
+    less : (xs : List Component) → AllByRecursion (IsOfHome home) xs → AllByRecursion (IsOfHome home) (filter (λ c. not (c.id == id)) xs)
+    less xs a = all-filter (λ c. not (c.id == id)) (IsOfHome home) xs a
 
     by : (h k : Bool) → AreOf home (without_by h k id t)
     by true k = let a = parts t.comps (t.buffers ++ t.pipes) all in both _ _ (less t.comps a.0) a.1
     by false true = let a = parts t.comps (t.buffers ++ t.pipes) all in let b = parts t.buffers t.pipes a.1 in both _ _ a.0 (both _ _ (less t.buffers b.0) b.1)
     by false false = let a = parts t.comps (t.buffers ++ t.pipes) all in let b = parts t.buffers t.pipes a.1 in both _ _ a.0 (both _ _ b.0 (less t.pipes b.1))
 
-pub freed-is : (what : Item) (t u : Tables) (r s : RegionState) (id : ℕ) → IsHeld t r → {X : Type 0} (answer : Result X Errno) → ((id : ℕ) (cs : List Component) → map ring_by (filter (λ x. not (x.id == id)) cs) ≡ filter (λ x. not (x.buffer == id)) (map ring_by cs))
-    → ((f : FwState) → rows.answer_of (view_by u) answer ≡ rows.view_after (rows.freed what (rows.with_view (view_by t) f) id)) → OnOk answer (u ≡ without id t) → OnOk answer (s.holes ≡ given_found (found t id) r.holes)
-    → ((s.home ≡ r.home) × (s.size ≡ r.size) × (s.usable ≡ r.usable)) → OnErr answer ((u ≡ t) × (s ≡ r)) → IsRow (λ f. rows.freed what f id) t u r s answer
+pub freed-is : (what : Item) (t u : Tables) (r s : RegionState) (id : ℕ) → IsPieceHeld t r → {X : Type 0} (answer : Result X Errno) → ((id : ℕ) (cs : List Component) → map ring_by (filter (λ x. not (x.id == id)) cs) ≡ filter (λ x. not (x.buffer == id)) (map ring_by cs))
+    → ((f : FwState) → rows.view_answer (view_by u) answer ≡ rows.view_after (rows.row_of_free what (rows.with_view (view_by t) f) id)) → OnOk answer (u ≡ tables_without id t) → OnOk answer (s.holes ≡ given_found (found t id) r.holes)
+    → ((s.home ≡ r.home) × (s.size ≡ r.size) × (s.usable ≡ r.usable)) → OnErr answer ((u ≡ t) × (s ≡ r)) → IsRow (λ f. rows.row_of_free what f id) t u r s answer
 freed-is what t u r s id held answer rings views done holes same kept =
-    row-is (λ f. rows.freed what f id) t u r s answer held
-    (λ clock. told-by answer (rows.freed what (state_in t r clock) id) (view_by u) (state_in u s clock) (views (state_in t r clock)) (λ g is view. on-both answer done holes (λ d h. freed-leads what t u r s id held rings clock g is view d h)))
+    row-is (λ f. rows.row_of_free what f id) t u r s answer held
+    (λ clock. told-by answer (rows.row_of_free what (state_in t r clock) id) (view_by u) (state_in u s clock) (views (state_in t r clock)) (λ g is view. on-both answer done holes (λ d h. freed-leads what t u r s id held rings clock g is view d h)))
     (freed-kept what id) (λ f g kept is. freed-whole what id f g kept is)
     (on-ok answer done (λ d. subst (λ home. AreOf home u) (sym same.0) (subst (AreOf r.home) (sym d) (left-homes r.home t id held.homes)))) (on-ok answer done (λ d. freed-channels t u r s id held d what)) same.2 same.1 kept
   where

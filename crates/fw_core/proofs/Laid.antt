@@ -6,21 +6,21 @@ use Rattle.sof_base.specs.Holes.{total, usable_of, fresh_holes}
 use Rattle.stream_law.specs.State.{FwState}
 use Rattle.mbox_link.specs.Step.{fresh}
 use Rattle.row_laws.specs.Tiled.{carved_bytes}
-use Rattle.row_laws.specs.Kept.{IsKept}
+use Rattle.row_laws.specs.Kept.{IsKeptState}
 use Rattle.row_laws.proofs.HoleLists.{total-fresh}
 use Rattle.row_laws.proofs.BootKept.{boot-kept}
 use Rattle.fw_heap.specs.Regions.{RegionState}
-use Rattle.fw_components.specs.Tables.{Tables, all_of, pieces_of}
+use Rattle.fw_components.specs.Tables.{Tables, all_of, carved_pieces}
 use Rattle.fw_components.specs.Changes.{given_all}
 use Rattle.fw_pipeline.specs.States.{AreOf, with_tables}
 use Rattle.fw_core.specs.declared.firmware.Firmware.TheInside.{Inside}
-use Rattle.fw_core.specs.Held.{state_in, IsHeld}
+use Rattle.fw_core.specs.Held.{state_in, IsPieceHeld}
 use Rattle.fw_core.specs.Device.{Chip, used_of}
-use Rattle.fw_core.specs.Laid.{no_tables, chip_of, IsLaid}
+use Rattle.fw_core.specs.Laid.{no_tables, chip_of, IsDeviceLaid}
 use Rattle.fw_core.proofs.Back.{all-back}
 
 -- a state is kept at any clock
-pub kept-clock : (f : FwState) (n : ℕ) → IsKept f → IsKept (record f { clock = n })
+pub kept-clock : (f : FwState) (n : ℕ) → IsKeptState f → IsKeptState (record f { clock = n })
 kept-clock f n kept = record {
   comps = kept.comps;
   edges = kept.edges;
@@ -44,7 +44,7 @@ kept-clock f n kept = record {
 
 -- ---- at any time
 
-module _ (f : Inside) (laid : IsLaid f) where
+module _ (f : Inside) (laid : IsDeviceLaid f) where
   pub laid-homes : AreOf f.region.home f.registry
   laid-homes = by f.on refl
     where
@@ -92,9 +92,9 @@ is-on f d was some = by f.on (ap (λ (d : Chip). is_some d.state) was ∙ some)
 -- ---- a boot
 
 -- nothing is there, and the heap is one hole
-pub fresh-held : (heap : ℕ) (r : RegionState) → r.holes ≡ fresh_holes (usable_of heap) → r.usable ≡ usable_of heap → IsHeld no_tables r
+pub fresh-held : (heap : ℕ) (r : RegionState) → r.holes ≡ fresh_holes (usable_of heap) → r.usable ≡ usable_of heap → IsPieceHeld no_tables r
 fresh-held heap r holes usable = record {
-  kept = λ clock. subst (λ hs. IsKept (state_in no_tables (record { home = r.home; size = r.size; usable = r.usable; holes = hs }) clock)) (sym holes) (kept-clock (fresh heap) clock (boot-kept heap));
+  kept = λ clock. subst (λ hs. IsKeptState (state_in no_tables (record { home = r.home; size = r.size; usable = r.usable; holes = hs }) clock)) (sym holes) (kept-clock (fresh heap) clock (boot-kept heap));
   homes = tt;
   whole = let all : total r.holes ≡ usable_of heap = ap total holes ∙ total-fresh (usable_of heap) in zero-add (total r.holes) ∙ all ∙ sym usable;
   channels = record { comps = tt; buffers = tt };

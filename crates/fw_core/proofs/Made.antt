@@ -21,11 +21,11 @@ use Rattle.stream_law.specs.Placed.{placed, AreAbove, Ascends, HasDistinct}
 use Rattle.stream_law.proofs.Members.{IsIn, in-any}
 use Rattle.stream_law.proofs.Placing.{AreAbove-below, map-placed}
 use Rattle.mbox_link.specs.Step as rows
-use Rattle.ipc3_codec.specs.Allowed.{is_buffer_size, is_period}
+use Rattle.ipc3_codec.specs.Allowed.{is_buffer_size, is_period_allowed}
 use Rattle.row_laws.specs.Tiled.{heap_bytes}
 use Rattle.row_laws.specs.Wired.{is_node}
-use Rattle.row_laws.specs.Kept.{IsKept, IsSettingOf}
-use Rattle.row_laws.specs.RowLaws.{Keeps}
+use Rattle.row_laws.specs.Kept.{IsKeptState, IsSettingOf}
+use Rattle.row_laws.specs.RowLaws.{RowIsKept}
 use Rattle.row_laws.proofs.RowKept.{comp_new-kept, buffer_new-kept, pipe_new-kept}
 use Rattle.row_laws.proofs.Growing.{all-placed}
 use Rattle.row_laws.proofs.NewKept.{unused-node}
@@ -38,12 +38,12 @@ use Rattle.fw_ring.specs.RingState.{RingState}
 use Rattle.fw_components.specs.declared.component.Component.{Component}
 use Rattle.fw_components.specs.declared.component.Unit as units
 use Rattle.fw_components.specs.declared.component.Unit.TheVariants.{Host, Dai, Volume, Mixer, Mux, Eq, Buffer, Pipeline}
-use Rattle.fw_components.specs.Tables.{Tables, all_of, view_by, graph_of, comp_by, edge_by, pipe_by, kind_by, setting_by, piece_of, piece_by, pieces_by, pieces_of, ring_by, rings_of, streams_by, streams_of, staging_by, staging_of, histories_of, with_stream_by, with_staging_by, is_buffer, is_pipeline}
-use Rattle.fw_components.specs.Changes.{has_id, IsOf, IsNew, is_idle, added, added_by, is_there}
+use Rattle.fw_components.specs.Tables.{Tables, all_of, view_by, graph_of, comp_by, edge_by, pipe_by, kind_by, setting_by, piece_of, piece_by, pieces_by, carved_pieces, ring_by, rings_of, streams_by, streams_of, staging_by, staging_of, histories_of, with_stream_by, with_staging_by, is_buffer, is_pipeline}
+use Rattle.fw_components.specs.Changes.{has_id, IsOfHome, IsNew, is_idle_phase, added, added_by, is_there}
 use Rattle.fw_components.specs.Kept.{IsNamed}
 use Rattle.fw_walks.proofs.Naming.{comp-named, edge-named, pipe-named}
 use Rattle.fw_pipeline.specs.States.{AreOf}
-use Rattle.fw_core.specs.Held.{state_in, HasChannels, IsHeld}
+use Rattle.fw_core.specs.Held.{state_in, HasChannels, IsPieceHeld}
 use Rattle.fw_core.specs.Making.{IsIn as LiesIn}
 use Rattle.fw_core.specs.Answers.{answer_of, IsRow}
 use Rattle.fw_core.proofs.RowLaws.{row-is, new-tests}
@@ -203,10 +203,10 @@ streams-more c s (y ∷ ys) host one up = by (nat_lt c.id y.id) refl (streams-mo
     by true e rest = one (streams_by (y ∷ ys)) ∙ sym (placed-first (λ (s : StreamView). s.host) s (streams_by (y ∷ ys)) (subst (λ n. AreAbove (λ (s : StreamView). s.host) n (streams_by (y ∷ ys))) (sym host) (above-streams c.id (y ∷ ys) (let h = ltb-true c.id y.id e in (h, AreAbove-below (λ (x : Component). x.id) c.id y.id ys h up.0)))))
     by false e rest = ap (with_stream_by y.id y.unit) rest ∙ later e y.unit (streams_by ys)
 
-streams-new : (c : Component) (cs : List Component) → IsNew c.unit → is_buffer c.unit ≡ false → is_pipeline c.unit ≡ false → Ascends (λ (x : Component). x.id) cs → streams_by (placed (λ (x : Component). x.id) c cs) ≡ rows.with_stream c.id (kind_by c.unit) (streams_by cs)
+streams-new : (c : Component) (cs : List Component) → IsNew c.unit → is_buffer c.unit ≡ false → is_pipeline c.unit ≡ false → Ascends (λ (x : Component). x.id) cs → streams_by (placed (λ (x : Component). x.id) c cs) ≡ rows.with_host_stream c.id (kind_by c.unit) (streams_by cs)
 streams-new c cs new plain other up = by c.unit refl new plain other
   where
-    idle : (p : Phase) → is_idle p ≡ true → p ≡ Idle
+    idle : (p : Phase) → is_idle_phase p ≡ true → p ≡ Idle
     idle Idle e = refl
     idle Prepared e = cc
     idle Running e = cc
@@ -218,7 +218,7 @@ streams-new c cs new plain other up = by c.unit refl new plain other
     host : (capture : Bool) (phase : Phase) (params : Option Params) (piece : PieceState) → c.unit ≡ Host capture phase params piece → phase ≡ Idle → params ≡ None → streams_by (placed (λ (x : Component). x.id) c cs) ≡ placed (λ (s : StreamView). s.host) fresh (streams_by cs)
     host capture phase params piece is at none = streams-more c fresh cs refl (λ ss. ap (λ (u : units.Unit). with_stream_by c.id u ss) is ∙ (λ i. record { host = c.id; phase = at i; params = none i } ∷ ss)) up
 
-    by : (u : units.Unit) → c.unit ≡ u → IsNew u → is_buffer u ≡ false → is_pipeline u ≡ false → streams_by (placed (λ (x : Component). x.id) c cs) ≡ rows.with_stream c.id (kind_by u) (streams_by cs)
+    by : (u : units.Unit) → c.unit ≡ u → IsNew u → is_buffer u ≡ false → is_pipeline u ≡ false → streams_by (placed (λ (x : Component). x.id) c cs) ≡ rows.with_host_stream c.id (kind_by u) (streams_by cs)
     by (Host true phase params piece) is new plain other = host true phase params piece is (idle phase new.0) new.1
     by (Host false phase params piece) is new plain other = host false phase params piece is (idle phase new.0) new.1
     by (Dai true format piece) is new plain other = streams-same c cs (λ ss. ap (λ (u : units.Unit). with_stream_by c.id u ss) is)
@@ -257,7 +257,7 @@ new-row : (used other full hole : Bool) (h : FwState) → used ≡ false → oth
 new-row used other full hole h a b c d = λ i. cond (a i || b i) (Err rows.busy) (cond (c i || not (d i)) (Err rows.no_memory) (Ok h))
 
 -- a carved heap has as many bytes
-carve-whole : (f : FwState) (id bytes : ℕ) → IsKept f → 0 < bytes → rows.has_hole f bytes ≡ true → rows.is_used f.graph id ≡ false → heap_bytes (rows.with_piece id bytes f.heap) ≡ heap_bytes f.heap
+carve-whole : (f : FwState) (id bytes : ℕ) → IsKeptState f → 0 < bytes → rows.has_hole f bytes ≡ true → rows.is_used f.graph id ≡ false → heap_bytes (rows.heap_with_piece id bytes f.heap) ≡ heap_bytes f.heap
 carve-whole f id bytes kept some hole unused = (carve-tiled (heap_bytes f.heap) id bytes f.heap kept.tiled some hole (no-piece f.graph f.heap id kept.pieces unused)).whole
 
 some-bytes : (k : Kind) → 0 < rows.comp_bytes k
@@ -270,11 +270,11 @@ some-bytes kinds.Mixer = omega arith
 some-bytes kinds.Mux = omega arith
 some-bytes kinds.Eq = omega arith
 
-homes-parts : (home : Home) (xs ys : List Component) → AllByRecursion (IsOf home) (xs ++ ys) → AllByRecursion (IsOf home) xs × AllByRecursion (IsOf home) ys
+homes-parts : (home : Home) (xs ys : List Component) → AllByRecursion (IsOfHome home) (xs ++ ys) → AllByRecursion (IsOfHome home) xs × AllByRecursion (IsOfHome home) ys
 homes-parts home [] ys all = (tt, all)
 homes-parts home (x ∷ xs) ys all = let rest = homes-parts home xs ys all.1 in ((all.0, rest.0), rest.1)
 
-homes-both : (home : Home) (xs ys : List Component) → AllByRecursion (IsOf home) xs → AllByRecursion (IsOf home) ys → AllByRecursion (IsOf home) (xs ++ ys)
+homes-both : (home : Home) (xs ys : List Component) → AllByRecursion (IsOfHome home) xs → AllByRecursion (IsOfHome home) ys → AllByRecursion (IsOfHome home) (xs ++ ys)
 homes-both home [] ys a b = b
 homes-both home (x ∷ xs) ys a b = (a.0, homes-both home xs ys a.1 b)
 
@@ -296,7 +296,7 @@ pub record IsCarved (bytes : ℕ) (r s : RegionState) (c : Component) : Type 0 w
   pub room : fits (rounded bytes) r.holes ≡ true
   pub left : s ≡ carves (rounded bytes) r
 
-module _ (t : Tables) (r s : RegionState) (c : Component) (bytes : ℕ) (held : IsHeld t r) (carved_so : IsCarved bytes r s c) (unused : rows.is_used (graph_of t) c.id ≡ false) where
+module _ (t : Tables) (r s : RegionState) (c : Component) (bytes : ℕ) (held : IsPieceHeld t r) (carved_so : IsCarved bytes r s c) (unused : rows.is_used (graph_of t) c.id ≡ false) where
   no-comp : has_id t.comps c.id ≡ false
   no-comp = comp-named t c.id ∙ (or_parts (rows.has_comp (graph_of t) c.id) (rows.has_edge (graph_of t) c.id) (or_parts (rows.has_comp (graph_of t) c.id || rows.has_edge (graph_of t) c.id) (rows.has_pipe (graph_of t) c.id) unused).0).0
 
@@ -310,35 +310,35 @@ module _ (t : Tables) (r s : RegionState) (c : Component) (bytes : ℕ) (held : 
   carved-holes : carved (rounded bytes) r.holes ≡ s.holes
   carved-holes = sym (ap (λ (x : RegionState). x.holes) carved_so.left)
 
-  carved-piece : (u : Tables) → pieces_of u ≡ put c (pieces_of t) → placed (λ (p : PieceView). p.id) (record { id = c.id; place = first_fit (rounded bytes) r.holes; size = rounded bytes }) (pieces_of t) ≡ pieces_of u
-  carved-piece u is = sym (is ∙ (λ i. placed (λ (p : PieceView). p.id) (record { id = c.id; place = carved_so.place i; size = carved_so.size i }) (pieces_of t)))
+  carved-piece : (u : Tables) → carved_pieces u ≡ put c (carved_pieces t) → placed (λ (p : PieceView). p.id) (record { id = c.id; place = first_fit (rounded bytes) r.holes; size = rounded bytes }) (carved_pieces t) ≡ carved_pieces u
+  carved-piece u is = sym (is ∙ (λ i. placed (λ (p : PieceView). p.id) (record { id = c.id; place = carved_so.place i; size = carved_so.size i }) (carved_pieces t)))
 
-  own-home : IsOf s.home c
+  own-home : IsOfHome s.home c
   own-home = carved_so.home ∙ sym (ap (λ (x : RegionState). x.home) carved_so.left)
 
   old-homes : AreOf s.home t
   old-homes = subst (λ home. AreOf home t) (sym (ap (λ (x : RegionState). x.home) carved_so.left)) held.homes
 
   comp-homes : AreOf s.home (with_component c t)
-  comp-homes = let a = homes-parts s.home t.comps (t.buffers ++ t.pipes) old-homes in homes-both s.home (placed (λ (x : Component). x.id) c t.comps) (t.buffers ++ t.pipes) (all-placed (IsOf s.home) (λ (x : Component). x.id) c t.comps own-home a.0) a.1
+  comp-homes = let a = homes-parts s.home t.comps (t.buffers ++ t.pipes) old-homes in homes-both s.home (placed (λ (x : Component). x.id) c t.comps) (t.buffers ++ t.pipes) (all-placed (IsOfHome s.home) (λ (x : Component). x.id) c t.comps own-home a.0) a.1
 
   buffer-homes : AreOf s.home (with_buffer c t)
   buffer-homes =
       let a = homes-parts s.home t.comps (t.buffers ++ t.pipes) old-homes in let b = homes-parts s.home t.buffers t.pipes a.1 in
-      homes-both s.home t.comps (placed (λ (x : Component). x.id) c t.buffers ++ t.pipes) a.0 (homes-both s.home (placed (λ (x : Component). x.id) c t.buffers) t.pipes (all-placed (IsOf s.home) (λ (x : Component). x.id) c t.buffers own-home b.0) b.1)
+      homes-both s.home t.comps (placed (λ (x : Component). x.id) c t.buffers ++ t.pipes) a.0 (homes-both s.home (placed (λ (x : Component). x.id) c t.buffers) t.pipes (all-placed (IsOfHome s.home) (λ (x : Component). x.id) c t.buffers own-home b.0) b.1)
 
   pipe-homes : AreOf s.home (with_pipeline c t)
   pipe-homes =
       let a = homes-parts s.home t.comps (t.buffers ++ t.pipes) old-homes in let b = homes-parts s.home t.buffers t.pipes a.1 in
-      homes-both s.home t.comps (t.buffers ++ placed (λ (x : Component). x.id) c t.pipes) a.0 (homes-both s.home t.buffers (placed (λ (x : Component). x.id) c t.pipes) b.0 (all-placed (IsOf s.home) (λ (x : Component). x.id) c t.pipes own-home b.1))
+      homes-both s.home t.comps (t.buffers ++ placed (λ (x : Component). x.id) c t.pipes) a.0 (homes-both s.home t.buffers (placed (λ (x : Component). x.id) c t.pipes) b.0 (all-placed (IsOfHome s.home) (λ (x : Component). x.id) c t.pipes own-home b.1))
 
-  comp-pieces : pieces_of (with_component c t) ≡ put c (pieces_of t)
+  comp-pieces : carved_pieces (with_component c t) ≡ put c (carved_pieces t)
   comp-pieces = pieces-first c t.comps (t.buffers ++ t.pipes) no-comp
 
-  buffer-pieces : pieces_of (with_buffer c t) ≡ put c (pieces_of t)
+  buffer-pieces : carved_pieces (with_buffer c t) ≡ put c (carved_pieces t)
   buffer-pieces = pieces-behind c t.comps (t.buffers ++ t.pipes) (placed (λ (x : Component). x.id) c t.buffers ++ t.pipes) no-comp (pieces-first c t.buffers t.pipes no-buffer)
 
-  pipe-pieces : pieces_of (with_pipeline c t) ≡ put c (pieces_of t)
+  pipe-pieces : carved_pieces (with_pipeline c t) ≡ put c (carved_pieces t)
   pipe-pieces = pieces-behind c t.comps (t.buffers ++ t.pipes) (t.buffers ++ placed (λ (x : Component). x.id) c t.pipes) no-comp (pieces-behind c t.buffers t.pipes (placed (λ (x : Component). x.id) c t.pipes) no-buffer (pieces-last c t.pipes no-pipeline))
 
   -- the histories of those that were there
@@ -357,12 +357,12 @@ module _ (t : Tables) (r s : RegionState) (c : Component) (bytes : ℕ) (held : 
       streams = sym (streams-new c t.comps new plain other up) i;
     }
 
-    comp-state : (clock : ℕ) → IsKept (rows.with_comp c.id c.pipe (kind_by c.unit) (setting_by c.unit) (state_in t r clock)) → rows.with_comp c.id c.pipe (kind_by c.unit) (setting_by c.unit) (state_in t r clock) ≡ state_in (with_component c t) s clock
+    comp-state : (clock : ℕ) → IsKeptState (rows.with_comp c.id c.pipe (kind_by c.unit) (setting_by c.unit) (state_in t r clock)) → rows.with_comp c.id c.pipe (kind_by c.unit) (setting_by c.unit) (state_in t r clock) ≡ state_in (with_component c t) s clock
     comp-state clock kept =
         let g = rows.with_comp c.id c.pipe (kind_by c.unit) (setting_by c.unit) (state_in t r clock) in
         state-is (with_component c t) s clock g
         (ap (λ n. carved (rounded n) r.holes) (sym size) ∙ carved-holes)
-        (ap (λ n. placed (λ (p : PieceView). p.id) (record { id = c.id; place = first_fit (rounded n) r.holes; size = rounded n }) (pieces_of t)) (sym size) ∙ carved-piece (with_component c t) comp-pieces)
+        (ap (λ n. placed (λ (p : PieceView). p.id) (record { id = c.id; place = first_fit (rounded n) r.holes; size = rounded n }) (carved_pieces t)) (sym size) ∙ carved-piece (with_component c t) comp-pieces)
         refl comp-view refl
         (histories-are g (with_component c t) kept comp-view comp-there)
         (sym (stages-new c t.comps new))
@@ -373,7 +373,7 @@ same-usable : (r s : RegionState) (n : ℕ) → s ≡ carves n r → (s.usable �
 same-usable r s n is = (ap (λ (x : RegionState). x.usable) is, ap (λ (x : RegionState). x.size) is)
 
 -- COMP_NEW
-pub comp-is : (t u : Tables) (r s : RegionState) (c : Component) (bytes : ℕ) → IsHeld t r → IsCarved bytes r s c → rows.is_used (graph_of t) c.id ≡ false → Ascends (λ (x : Component). x.id) t.comps → IsNew c.unit → is_buffer c.unit ≡ false → is_pipeline c.unit ≡ false → bytes ≡ rows.comp_bytes (kind_by c.unit)
+pub comp-is : (t u : Tables) (r s : RegionState) (c : Component) (bytes : ℕ) → IsPieceHeld t r → IsCarved bytes r s c → rows.is_used (graph_of t) c.id ≡ false → Ascends (λ (x : Component). x.id) t.comps → IsNew c.unit → is_buffer c.unit ≡ false → is_pipeline c.unit ≡ false → bytes ≡ rows.comp_bytes (kind_by c.unit)
     → rows.is_complete (graph_of t) c.pipe ≡ false → nat_le 128 (length (graph_of t).comps) ≡ false → IsSettingOf (kind_by c.unit) (setting_by c.unit) → u ≡ added c t → IsRow {X = Unit {0}} (λ f. rows.comp_new f c.id c.pipe (kind_by c.unit) (setting_by c.unit)) t u r s (Ok tt)
 comp-is t u r s c bytes held so unused up new plain other size still few right done =
     row-is (λ f. rows.comp_new f c.id c.pipe (kind_by c.unit) (setting_by c.unit)) t u r s (Ok tt) held
@@ -406,7 +406,7 @@ comp-is t u r s c bytes held so unused up new plain other size still few right d
 abbrev pub new_buffer : ℕ → ℕ → ℕ → RingState → Component
 new_buffer id pipe size ring = record { id = id; pipe = pipe; channels = 1; unit = Buffer size ring None None }
 
-pub buffer-is : (t u : Tables) (r s : RegionState) (id pipe size : ℕ) (ring : RingState) → IsHeld t r → IsCarved (rows.buffer_bytes size) r s (new_buffer id pipe size ring) → rows.is_used (graph_of t) id ≡ false → ring.frames ≡ []
+pub buffer-is : (t u : Tables) (r s : RegionState) (id pipe size : ℕ) (ring : RingState) → IsPieceHeld t r → IsCarved (rows.buffer_bytes size) r s (new_buffer id pipe size ring) → rows.is_used (graph_of t) id ≡ false → ring.frames ≡ []
     → rows.is_complete (graph_of t) pipe ≡ false → nat_le 128 (length (graph_of t).edges) ≡ false → is_buffer_size size ≡ true → u ≡ added (new_buffer id pipe size ring) t → IsRow {X = Unit {0}} (λ f. rows.buffer_new f id pipe size) t u r s (Ok tt)
 buffer-is t u r s id pipe size ring held so unused empty still few right done =
     row-is (λ f. rows.buffer_new f id pipe size) t u r s (Ok tt) held
@@ -452,8 +452,8 @@ buffer-is t u r s id pipe size ring held so unused empty still few right done =
 abbrev pub new_pipeline : ℕ → ℕ → ℕ → ℕ → PieceState → Component
 new_pipeline id index sched period piece = record { id = id; pipe = index; channels = 1; unit = Pipeline sched period false piece }
 
-pub pipe-is : (t u : Tables) (r s : RegionState) (id index sched period : ℕ) (piece : PieceState) → IsHeld t r → IsCarved rows.pipe_bytes r s (new_pipeline id index sched period piece) → rows.is_used (graph_of t) id ≡ false
-    → rows.has_index (graph_of t) index ≡ false → nat_le 32 (length (graph_of t).pipes) ≡ false → is_period period ≡ true → u ≡ added (new_pipeline id index sched period piece) t → IsRow {X = Unit {0}} (λ f. rows.pipe_new f id index sched period) t u r s (Ok tt)
+pub pipe-is : (t u : Tables) (r s : RegionState) (id index sched period : ℕ) (piece : PieceState) → IsPieceHeld t r → IsCarved rows.pipe_bytes r s (new_pipeline id index sched period piece) → rows.is_used (graph_of t) id ≡ false
+    → rows.has_index (graph_of t) index ≡ false → nat_le 32 (length (graph_of t).pipes) ≡ false → is_period_allowed period ≡ true → u ≡ added (new_pipeline id index sched period piece) t → IsRow {X = Unit {0}} (λ f. rows.pipe_new f id index sched period) t u r s (Ok tt)
 pipe-is t u r s id index sched period piece held so unused still few right done =
     row-is (λ f. rows.pipe_new f id index sched period) t u r s (Ok tt) held
     (λ clock. sym (made clock ∙ ap (λ (f : FwState). let o : Result FwState ℤ = Ok f in o) (state clock ∙ ap (λ (x : Tables). state_in x s clock) (sym done))))

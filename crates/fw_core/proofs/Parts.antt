@@ -22,7 +22,7 @@ use Rattle.stream_law.specs.Ways.{comp_of, components, live, channels_of}
 use Rattle.stream_law.proofs.Members.{IsIn, find-in, in-all}
 use Rattle.mbox_link.specs.Step as rows
 use Rattle.row_laws.specs.Tiled.{heap_bytes}
-use Rattle.row_laws.specs.RowLaws.{Keeps}
+use Rattle.row_laws.specs.RowLaws.{RowIsKept}
 use Rattle.row_laws.proofs.Ascending.{ascends-keys}
 use Rattle.row_laws.proofs.Fewer.{filter-every}
 use Rattle.row_laws.proofs.Found.{found-each}
@@ -38,7 +38,7 @@ use Rattle.fw_components.specs.Parts.{part_or, part_got, staging_in, staging_one
 use Rattle.fw_walks.proofs.Naming.{find-map}
 use Rattle.fw_pipeline.specs.States.{AreOf}
 use Rattle.fw_pipeline.proofs.StateAfter.{histories-each}
-use Rattle.fw_core.specs.Held.{state_in, HasChannels, IsHeld}
+use Rattle.fw_core.specs.Held.{state_in, HasChannels, IsPieceHeld}
 use Rattle.fw_core.specs.Answers.{answer_of, IsRow}
 use Rattle.fw_core.proofs.RowLaws.{row-is, on-ok, pass}
 use Rattle.fw_core.proofs.Seats.{seat, seats-pieces, seats-homes, map-kept, map-both, in-map}
@@ -251,7 +251,7 @@ module _ (id : ℕ) (part : Part) (words : List ℤ) where
       by None = refl
       by (Some c) = ap is_equaliser (at-kind c)
 
-module _ (t : Tables) (r : RegionState) (id : ℕ) (part : Part) (words : List ℤ) (held : IsHeld t r) (c : Component) (at : find (λ c. c.id == id) t.comps ≡ Some c) (taken : takes_part c.id c.unit part ≡ true) where
+module _ (t : Tables) (r : RegionState) (id : ℕ) (part : Part) (words : List ℤ) (held : IsPieceHeld t r) (c : Component) (at : find (λ c. c.id == id) t.comps ≡ Some c) (taken : takes_part c.id c.unit part ≡ true) where
   abbrev after : Tables
   after = parted id part words t
 
@@ -463,7 +463,7 @@ pub record IsDone (t u : Tables) (id : ℕ) (part : Part) (words : List ℤ) : T
   pub takes : takes_part taker.id taker.unit part ≡ true
   pub tables : u ≡ parted id part words t
 
-module _ (t u : Tables) (r : RegionState) (id : ℕ) (part : Part) (words : List ℤ) (held : IsHeld t r) where
+module _ (t u : Tables) (r : RegionState) (id : ℕ) (part : Part) (words : List ℤ) (held : IsPieceHeld t r) where
   abbrev tables-by : Bool → Option Component → Result Tables ℤ
   tables-by h o = cond (not h) (Err (negsuc 18)) (cond (option_map_or (λ c. takes_part c.id c.unit part) o false) (Ok (parted id part words t)) (Err (negsuc 21)))
 
@@ -576,7 +576,7 @@ module _ (t u : Tables) (r : RegionState) (id : ℕ) (part : Part) (words : List
   on-done (Ok tt) is to = to (is-done is)
   on-done (Err error) is to = tt
 
-  pub part-set-is : Keeps (λ f. rows.set_data f id part) → (answer : Result Unit Errno) → left_with u answer ≡ part_set t id part words → OnErr answer (u ≡ t) → OnOk answer (IsPartedBy part (find (λ c. c.id == id) t.comps) (find (λ c. c.id == id) u.comps)) → IsRow (λ f. rows.set_data f id part) t u r r answer
+  pub part-set-is : RowIsKept (λ f. rows.set_data f id part) → (answer : Result Unit Errno) → left_with u answer ≡ part_set t id part words → OnErr answer (u ≡ t) → OnOk answer (IsPartedBy part (find (λ c. c.id == id) t.comps) (find (λ c. c.id == id) u.comps)) → IsRow (λ f. rows.set_data f id part) t u r r answer
   part-set-is keeps answer is kept seen =
       row-is (λ f. rows.set_data f id part) t u r r answer held
       (λ clock. told-set clock answer is seen) keeps (λ f g kept is. set-heap f g is)

@@ -12,7 +12,7 @@ use Rattle.stream_law.specs.Order.{is_among}
 use Rattle.stream_law.specs.Seen.{flows}
 use Rattle.stream_law.proofs.Members.{IsIn, in-all, in-each}
 use Rattle.mbox_link.specs.Step as rows
-use Rattle.row_laws.specs.Kept.{IsKept}
+use Rattle.row_laws.specs.Kept.{IsKeptState}
 use Rattle.fw_heap.specs.Regions.{RegionState}
 use Rattle.fw_ring.specs.RingState.{RingState}
 use Rattle.fw_components.specs.declared.component.Component.{Component}
@@ -25,7 +25,7 @@ use Rattle.fw_components.specs.Frames.{channels_by, begun_by, begun_unit}
 use Rattle.fw_pipeline.specs.declared.phases.Trigger.{Trigger}
 use Rattle.fw_pipeline.specs.Triggers.{triggered, phase_after, params_after, params_of, begins, begun_in, settled_in, IsBegun, BecomeEach, IsTriggered}
 use Rattle.fw_pipeline.proofs.StateAfter.{set-id}
-use Rattle.fw_core.specs.Held.{state_in, HasChannels, IsHeld}
+use Rattle.fw_core.specs.Held.{state_in, HasChannels, IsPieceHeld}
 use Rattle.fw_core.proofs.Seats.{in-map}
 use Rattle.fw_core.proofs.Channels.{Fits, moves, frames, fits-map, IsChange, change-channels, change-lives, params-change, params-less, triggered-change, comp-among, buffer-among}
 
@@ -36,14 +36,14 @@ set-moves host phase params c = by (c.id == host)
     by true = refl
     by false = refl
 
-module _ (t u : Tables) (r : RegionState) (held : IsHeld t r) (after : IsKept (state_in u r 0)) (to : StreamView → StreamView) (change : IsChange (state_in t r 0) (state_in u r 0) to) where
+module _ (t u : Tables) (r : RegionState) (held : IsPieceHeld t r) (after : IsKeptState (state_in u r 0)) (to : StreamView → StreamView) (change : IsChange (state_in t r 0) (state_in u r 0) to) where
   -- what was Live and still is
   still-fits : (size : Component → ℕ) (c : Component) → is_among (components (graph_of t) ++ buffers (graph_of t)) c.id ≡ true → Fits (view_by t) size c → live (view_by t) c.id ≡ true → live (view_by u) c.id ≡ true → size c ≡ channels_of (view_by u) c.id
   still-fits size c there fits was now = fits was ∙ sym (change-channels (state_in t r 0) (state_in u r 0) to (held.kept 0) after change c.id there was now)
 
 -- ---- PCM_PARAMS
 
-module _ (t u : Tables) (r : RegionState) (host direction : ℕ) (p : Params) (held : IsHeld t r) (after : IsKept (state_in u r 0)) where
+module _ (t u : Tables) (r : RegionState) (host direction : ℕ) (p : Params) (held : IsPieceHeld t r) (after : IsKeptState (state_in u r 0)) where
   pub params-channels : u ≡ record { comps = map (set_at host Prepared (Some p)) t.comps; buffers = t.buffers; pipes = t.pipes; joins = t.joins } → rows.pcm_params (state_in t r 0) host direction p ≡ Ok (state_in u r 0) → HasChannels u
   params-channels done row = record {
     comps = in-each (Fits (view_by u) moves) u.comps (λ d there on.
@@ -98,7 +98,7 @@ settled-id w c = by (flows w c.id)
     by true = refl
     by false = refl
 
-module _ (t u : Tables) (r : RegionState) (what : Trigger) (host : ℕ) (held : IsHeld t r) (after : IsKept (state_in u r 0)) (own : tables.IsKept t) where
+module _ (t u : Tables) (r : RegionState) (what : Trigger) (host : ℕ) (held : IsPieceHeld t r) (after : IsKeptState (state_in u r 0)) (own : tables.IsKept t) where
   pub triggered-channels : IsTriggered what host t u → triggered what (state_in t r 0) host ≡ Ok (state_in u r 0) → HasChannels u
   triggered-channels done row = record {
     comps = each (map to t.comps) u.comps (fits-map (view_by t) moves to (set-id host phase params) (set-moves host phase params) t.comps held.channels.comps) among done.comps;

@@ -6,13 +6,13 @@ use Rattle.sof_base.specs.declared.errno.Errno.{Errno}
 use Rattle.stream_law.specs.State.{FwState, View, view_of}
 use Rattle.mbox_link.specs.Step.{busy, no_memory}
 use Rattle.row_laws.specs.Tiled.{heap_bytes}
-use Rattle.row_laws.specs.Kept.{IsKept}
-use Rattle.row_laws.specs.RowLaws.{Keeps}
+use Rattle.row_laws.specs.Kept.{IsKeptState}
+use Rattle.row_laws.specs.RowLaws.{RowIsKept}
 use Rattle.fw_heap.specs.Regions.{RegionState}
 use Rattle.fw_components.specs.Tables.{Tables}
 use Rattle.fw_pipeline.specs.Rows as rows
 use Rattle.fw_pipeline.specs.States.{AreOf}
-use Rattle.fw_core.specs.Held.{state_in, HasChannels, IsHeld}
+use Rattle.fw_core.specs.Held.{state_in, HasChannels, IsPieceHeld}
 use Rattle.fw_core.specs.Answers.{answer_of, IsRow}
 
 -- a row that is done passes each of its tests
@@ -42,7 +42,7 @@ new-tests used other full hole h g is =
     )
 
 -- What a call answers is what its row tells, where the views agree, and the state is the row's where it is done.
-pub told-by : {X : Type 0} (answer : Result X Errno) (o : Result FwState ℤ) (v : View) (s : FwState) → rows.answer_of v answer ≡ rows.view_after o → ((g : FwState) → o ≡ Ok g → view_of g ≡ v → OnOk answer (g ≡ s)) → answer_of s answer ≡ o
+pub told-by : {X : Type 0} (answer : Result X Errno) (o : Result FwState ℤ) (v : View) (s : FwState) → rows.view_answer v answer ≡ rows.view_after o → ((g : FwState) → o ≡ Ok g → view_of g ≡ v → OnOk answer (g ≡ s)) → answer_of s answer ≡ o
 told-by (Ok done) (Ok g) v s is leads = ap (λ (f : FwState). let r : Result FwState ℤ = Ok f in r) (sym (leads g refl (same-view g v is)))
   where
     same-view : (g : FwState) (v : View) → ◌≡◌ {A = Result View ℤ} (Ok v) (Ok (view_of g)) → view_of g ≡ v
@@ -55,23 +55,23 @@ told-by (Err error) (Err e) v s is leads = ap (λ (n : ℤ). let r : Result FwSt
     same-error m n is = cc
 
 -- all that is said of a row, by what it tells
-pub row-is : {X : Type 0} (row : FwState → Result FwState ℤ) (t u : Tables) (r s : RegionState) (answer : Result X Errno) → IsHeld t r
+pub row-is : {X : Type 0} (row : FwState → Result FwState ℤ) (t u : Tables) (r s : RegionState) (answer : Result X Errno) → IsPieceHeld t r
     → ((clock : ℕ) → answer_of (state_in u s clock) answer ≡ row (state_in t r clock))
-    → Keeps row → ((f g : FwState) → IsKept f → row f ≡ Ok g → heap_bytes g.heap ≡ heap_bytes f.heap)
+    → RowIsKept row → ((f g : FwState) → IsKeptState f → row f ≡ Ok g → heap_bytes g.heap ≡ heap_bytes f.heap)
     → OnOk answer (AreOf s.home u) → OnOk answer (row (state_in t r 0) ≡ Ok (state_in u s 0) → HasChannels u) → s.usable ≡ r.usable → s.size ≡ r.size → OnErr answer ((u ≡ t) × (s ≡ r)) → IsRow row t u r s answer
 row-is {X} row t u r s answer held told keeps whole homes channels usable size kept = record { told = told; held = by answer told homes channels kept; size = size; kept = kept }
   where
-    by : (answer : Result X Errno) → ((clock : ℕ) → answer_of (state_in u s clock) answer ≡ row (state_in t r clock)) → OnOk answer (AreOf s.home u) → OnOk answer (row (state_in t r 0) ≡ Ok (state_in u s 0) → HasChannels u) → OnErr answer ((u ≡ t) × (s ≡ r)) → IsHeld u s
+    by : (answer : Result X Errno) → ((clock : ℕ) → answer_of (state_in u s clock) answer ≡ row (state_in t r clock)) → OnOk answer (AreOf s.home u) → OnOk answer (row (state_in t r 0) ≡ Ok (state_in u s 0) → HasChannels u) → OnErr answer ((u ≡ t) × (s ≡ r)) → IsPieceHeld u s
     by (Ok done) told homes channels kept = record {
       kept = λ clock. keeps (state_in t r clock) (state_in u s clock) (held.kept clock) (sym (told clock));
       homes = homes;
       whole = whole (state_in t r 0) (state_in u s 0) (held.kept 0) (sym (told 0)) ∙ held.whole ∙ sym usable;
       channels = channels (sym (told 0));
     }
-    by (Err error) told homes channels kept = subst (λ (p : Tables × RegionState). IsHeld p.0 p.1) (λ i. (sym kept.0 i, sym kept.1 i)) held
+    by (Err error) told homes channels kept = subst (λ (p : Tables × RegionState). IsPieceHeld p.0 p.1) (λ i. (sym kept.0 i, sym kept.1 i)) held
 
 -- where nothing changes
-pub row-stays : {X : Type 0} (row : FwState → Result FwState ℤ) (t : Tables) (r : RegionState) (answer : Result X Errno) → IsHeld t r → ((clock : ℕ) → answer_of (state_in t r clock) answer ≡ row (state_in t r clock)) → IsRow row t t r r answer
+pub row-stays : {X : Type 0} (row : FwState → Result FwState ℤ) (t : Tables) (r : RegionState) (answer : Result X Errno) → IsPieceHeld t r → ((clock : ℕ) → answer_of (state_in t r clock) answer ≡ row (state_in t r clock)) → IsRow row t t r r answer
 row-stays {X} row t r answer held told = record { told = told; held = held; size = refl; kept = by answer }
   where
     by : (answer : Result X Errno) → OnErr answer ((t ≡ t) × (r ≡ r))

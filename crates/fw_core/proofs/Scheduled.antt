@@ -8,7 +8,7 @@ use Rattle.ipc3_codec.specs.declared.message.Message.{Message}
 use Rattle.ipc3_codec.specs.declared.message.Message.TheVariants.{GetValue, GetData}
 use Rattle.ipc3_codec.specs.declared.fault.CodecFault.{CodecFault}
 use Rattle.stream_law.specs.State.{FwState, view_of}
-use Rattle.mbox_link.specs.Step.{row, row_of, body, body_of, no_device, invalid, is_used, values_at, part_at}
+use Rattle.mbox_link.specs.Step.{row, row_of, body, body_of, no_device, invalid, is_used, control_values_at, part_at}
 use Rattle.fw_heap.specs.Regions.{RegionState}
 use Rattle.fw_components.specs.Tables.{Tables, view_by}
 use Rattle.fw_schedule.specs.declared.schedules.Schedule.{Schedule}
@@ -25,7 +25,7 @@ two-tests false false e n h g is = cc
 
 -- a message that tells something leaves the state
 told-same : (f g : FwState) (m : Message) → tells (body f m) ≡ true → row f m ≡ Ok g → f ≡ g
-told-same f g (GetValue id command) told is = two-tests (not (is_used f.graph id)) (not (is_some (values_at f.graph id command))) no_device invalid f g is
+told-same f g (GetValue id command) told is = two-tests (not (is_used f.graph id)) (not (is_some (control_values_at f.graph id command))) no_device invalid f g is
 told-same f g (GetData id index) told is = two-tests (not (is_used f.graph id)) (not (is_some (part_at f.graph id index))) no_device invalid f g is
 told-same f g m told is = absurd (false≢true told)
 

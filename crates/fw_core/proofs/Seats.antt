@@ -10,7 +10,7 @@ use Rattle.fw_components.specs.declared.component.Component.{Component}
 use Rattle.fw_components.specs.declared.component.Unit as units
 use Rattle.fw_components.specs.declared.component.Unit.TheVariants.{Host, Dai, Volume, Mixer, Mux, Eq, Buffer, Pipeline}
 use Rattle.fw_components.specs.Tables.{piece_of, piece_by, pieces_by, numbers_by}
-use Rattle.fw_components.specs.Changes.{IsOf, joined_at, sunk_unit, sourced_unit, completed_at, completed_unit}
+use Rattle.fw_components.specs.Changes.{IsOfHome, joined_at, sunk_unit, sourced_unit, completed_at, completed_unit}
 use Rattle.fw_components.specs.Values.{valued_at, valued_unit}
 
 -- the piece of a component, and its region
@@ -31,15 +31,15 @@ seats-pieces cs ds same = pieces-gathered ds ∙ ap gathered same ∙ sym (piece
 abbrev AreFrom : Home → List (PieceView × Home) → Type 0
 AreFrom home ps = AllByRecursion (λ p. p.1 ≡ home) ps
 
-homes-from : (home : Home) (cs : List Component) → AllByRecursion (IsOf home) cs → AreFrom home (map seat cs)
+homes-from : (home : Home) (cs : List Component) → AllByRecursion (IsOfHome home) cs → AreFrom home (map seat cs)
 homes-from home [] all = tt
 homes-from home (c ∷ cs) all = (all.0, homes-from home cs all.1)
 
-from-homes : (home : Home) (cs : List Component) → AreFrom home (map seat cs) → AllByRecursion (IsOf home) cs
+from-homes : (home : Home) (cs : List Component) → AreFrom home (map seat cs) → AllByRecursion (IsOfHome home) cs
 from-homes home [] all = tt
 from-homes home (c ∷ cs) all = (all.0, from-homes home cs all.1)
 
-pub seats-homes : (home : Home) (cs ds : List Component) → map seat ds ≡ map seat cs → AllByRecursion (IsOf home) cs → AllByRecursion (IsOf home) ds
+pub seats-homes : (home : Home) (cs ds : List Component) → map seat ds ≡ map seat cs → AllByRecursion (IsOfHome home) cs → AllByRecursion (IsOfHome home) ds
 seats-homes home cs ds same all = from-homes home ds (subst (AreFrom home) (sym same) (homes-from home cs all))
 
 -- ---- lists that change alike

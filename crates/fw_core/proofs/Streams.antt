@@ -9,8 +9,8 @@ use Rattle.stream_law.specs.Seen.{ring_seen}
 use Rattle.ipc3_codec.specs.Allowed.{is_channels}
 use Rattle.mbox_link.specs.Step.{is_moving, pcm_params, is_prepared, is_running, is_paused, no_device, invalid}
 use Rattle.row_laws.specs.Tiled.{heap_bytes}
-use Rattle.row_laws.specs.Kept.{IsKept}
-use Rattle.row_laws.specs.RowLaws.{Keeps}
+use Rattle.row_laws.specs.Kept.{IsKeptState}
+use Rattle.row_laws.specs.RowLaws.{RowIsKept}
 use Rattle.row_laws.proofs.RowKept.{pcm_params-kept, pcm_free-kept, trigger-kept, leaves-prepared, leaves-moving, leaves-running, leaves-paused}
 use Rattle.fw_heap.specs.Regions.{RegionState}
 use Rattle.fw_components.specs.Tables.{Tables, view_by, rings_of}
@@ -18,13 +18,13 @@ use Rattle.fw_pipeline.specs.declared.phases.Trigger.{Trigger}
 use Rattle.fw_pipeline.specs.declared.phases.Trigger.TheVariants as what
 use Rattle.fw_pipeline.specs.States.{AreOf, with_tables, told_state}
 use Rattle.fw_pipeline.specs.Triggers.{triggered}
-use Rattle.fw_core.specs.Held.{state_in, IsHeld}
+use Rattle.fw_core.specs.Held.{state_in, IsPieceHeld}
 use Rattle.fw_core.specs.Answers.{answer_of, IsRow}
 use Rattle.fw_core.proofs.RowLaws.{row-is, pass}
 
 -- ---- what they keep
 
-pub triggered-kept : (t : Trigger) (host : ℕ) → Keeps (λ f. triggered t f host)
+pub triggered-kept : (t : Trigger) (host : ℕ) → RowIsKept (λ f. triggered t f host)
 triggered-kept what.Start host f g kept is = trigger-kept host is_prepared Running leaves-prepared refl f g kept is
 triggered-kept what.Stop host f g kept is = trigger-kept host is_moving Prepared leaves-moving refl f g kept is
 triggered-kept what.Pause host f g kept is = trigger-kept host is_running Paused leaves-running refl f g kept is

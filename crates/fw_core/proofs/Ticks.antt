@@ -5,16 +5,16 @@ use Rattle.stream_law.specs.State.{FwState, HeapView}
 use Rattle.stream_law.specs.Move.{Move, next_clock}
 use Rattle.mbox_link.specs.Exchange.{ticked}
 use Rattle.row_laws.specs.Tiled.{heap_bytes}
-use Rattle.row_laws.specs.Kept.{IsKept}
+use Rattle.row_laws.specs.Kept.{IsKeptState}
 use Rattle.row_laws.proofs.TickKept.{tick-kept}
 use Rattle.fw_heap.specs.Regions.{RegionState}
 use Rattle.fw_components.specs.Tables.{Tables}
 use Rattle.fw_pipeline.specs.States.{AreOf}
 use Rattle.fw_schedule.specs.Ticks.{CanTick}
-use Rattle.fw_core.specs.Held.{state_in, IsHeld}
+use Rattle.fw_core.specs.Held.{state_in, IsPieceHeld}
 use Rattle.fw_core.proofs.Laid.{kept-clock}
 
-pub can-tick : (t : Tables) (r : RegionState) → IsHeld t r → CanTick t
+pub can-tick : (t : Tables) (r : RegionState) → IsPieceHeld t r → CanTick t
 can-tick t r held = record {
   wired = (held.kept 0).wired;
   linked = (held.kept 0).linked;
@@ -24,9 +24,9 @@ can-tick t r held = record {
 }
 
 -- what is so between messages is so after a tick
-pub tick-held : (t u : Tables) (r : RegionState) (clock : ℕ) (io after : Io) → IsHeld t r → Move (state_in t r clock) io (state_in u r (next_clock clock)) after → CanTick u → AreOf r.home u → IsHeld u r
+pub tick-held : (t u : Tables) (r : RegionState) (clock : ℕ) (io after : Io) → IsPieceHeld t r → Move (state_in t r clock) io (state_in u r (next_clock clock)) after → CanTick u → AreOf r.home u → IsPieceHeld u r
 tick-held t u r clock io after held moved can homes = record {
-  kept = λ n. kept-clock (state_in u r (next_clock clock)) n (subst IsKept (sym moved.state) (tick-kept (state_in t r clock) io (held.kept clock)));
+  kept = λ n. kept-clock (state_in u r (next_clock clock)) n (subst IsKeptState (sym moved.state) (tick-kept (state_in t r clock) io (held.kept clock)));
   homes = homes;
   whole = ap (λ (f : FwState). heap_bytes f.heap) moved.state ∙ held.whole;
   channels = record { comps = can.channels; buffers = can.frames };

@@ -21,10 +21,10 @@ use Rattle.fw_components.specs.declared.component.Unit as units
 use Rattle.fw_components.specs.declared.component.Unit.TheVariants.{Host, Dai, Volume, Mixer, Mux, Eq, Buffer, Pipeline}
 use Rattle.fw_components.specs.Tables.{Tables, all_of, graph_of, view_by, comp_by, kind_by, setting_by, streams_by, streams_of, staging_by, staging_of, rings_of, histories_of, numbers_by, with_stream_by, with_staging_by}
 use Rattle.fw_components.specs.Changes.{has_id, is_there}
-use Rattle.fw_components.specs.Values.{values_by, values_or, values_at, told, takes, valued_unit, valued_at, valued, values_set, left_with}
+use Rattle.fw_components.specs.Values.{unit_values, values_or, unit_values_at, answer_told, takes_values, valued_unit, valued_at, valued, values_set, left_with}
 use Rattle.fw_walks.proofs.Naming.{used-named, find-map}
 use Rattle.fw_walks.proofs.OnWays.{any-map}
-use Rattle.fw_core.specs.Held.{state_in, HasChannels, IsHeld}
+use Rattle.fw_core.specs.Held.{state_in, HasChannels, IsPieceHeld}
 use Rattle.fw_core.specs.Answers.{answer_of, IsRow}
 use Rattle.fw_core.proofs.RowLaws.{row-is, row-stays, on-ok}
 use Rattle.fw_core.proofs.Seats.{seat, seats-pieces, seats-homes, seat-valued, map-kept, map-both, in-map}
@@ -60,7 +60,7 @@ comp-found t id = find-map (λ (x : Comp). x.id == id) comp_by t.comps
 
 -- ---- GET_VALUE
 
-same-values : (u : units.Unit) (command : ℕ) → values_by u command ≡ rows.values_by (kind_by u) (setting_by u) command
+same-values : (u : units.Unit) (command : ℕ) → unit_values u command ≡ rows.control_values (kind_by u) (setting_by u) command
 same-values (Host true phase params piece) command = refl
 same-values (Host false phase params piece) command = refl
 same-values (Dai true format piece) command = refl
@@ -72,20 +72,20 @@ same-values (Eq eq next remaining) command = refl
 same-values (Buffer size ring source sink) command = refl
 same-values (Pipeline sched period complete piece) command = refl
 
-pub values-found : (t : Tables) (id command : ℕ) → rows.values_at (graph_of t) id command ≡ option_and_then (λ c. values_by c.unit command) (find (λ c. c.id == id) t.comps)
-values-found t id command = ap (λ (o : Option Comp). option_and_then (λ c. rows.values_by c.kind c.setting command) o) (comp-found t id) ∙ by (find (λ c. c.id == id) t.comps)
+pub values-found : (t : Tables) (id command : ℕ) → rows.control_values_at (graph_of t) id command ≡ option_and_then (λ c. unit_values c.unit command) (find (λ c. c.id == id) t.comps)
+values-found t id command = ap (λ (o : Option Comp). option_and_then (λ c. rows.control_values c.kind c.setting command) o) (comp-found t id) ∙ by (find (λ c. c.id == id) t.comps)
   where
-    by : (o : Option Component) → option_and_then (λ (c : Comp). rows.values_by c.kind c.setting command) (option_map comp_by o) ≡ option_and_then (λ c. values_by c.unit command) o
+    by : (o : Option Component) → option_and_then (λ (c : Comp). rows.control_values c.kind c.setting command) (option_map comp_by o) ≡ option_and_then (λ c. unit_values c.unit command) o
     by None = refl
     by (Some c) = sym (same-values c.unit command)
 
 -- what a call told is what the row answers, and the values are those of the row
 pub record IsGot (f : FwState) (id command : ℕ) (o : Result (List ℕ) ℤ) : Type 0 where
-  pub done : (values : List ℕ) → o ≡ Ok values → (rows.get_value f id command ≡ Ok f) × (rows.values_at f.graph id command ≡ Some values)
+  pub done : (values : List ℕ) → o ≡ Ok values → (rows.get_value f id command ≡ Ok f) × (rows.control_values_at f.graph id command ≡ Some values)
   pub refused : (e : ℤ) → o ≡ Err e → rows.get_value f id command ≡ Err e
 
-pub got : (t : Tables) (r : RegionState) (clock id command : ℕ) → IsGot (state_in t r clock) id command (values_at t id command)
-got t r clock id command = subst (λ (p : Bool × Option (List ℕ)). IsGot (state_in t r clock) id command (cond (not p.0) (Err (negsuc 18)) (values_or p.1))) (λ i. (sym (there-used t id) i, values-found t id command i)) (by (rows.is_used (graph_of t) id) refl (rows.values_at (graph_of t) id command) refl)
+pub got : (t : Tables) (r : RegionState) (clock id command : ℕ) → IsGot (state_in t r clock) id command (unit_values_at t id command)
+got t r clock id command = subst (λ (p : Bool × Option (List ℕ)). IsGot (state_in t r clock) id command (cond (not p.0) (Err (negsuc 18)) (values_or p.1))) (λ i. (sym (there-used t id) i, values-found t id command i)) (by (rows.is_used (graph_of t) id) refl (rows.control_values_at (graph_of t) id command) refl)
   where
     f : FwState
     f = state_in t r clock
@@ -93,10 +93,10 @@ got t r clock id command = subst (λ (p : Bool × Option (List ℕ)). IsGot (sta
     row_by : Bool → Option (List ℕ) → Result FwState ℤ
     row_by used o = cond (not used) (Err rows.no_device) (cond (not (is_some o)) (Err rows.invalid) (Ok (state_in t r clock)))
 
-    by : (used : Bool) → rows.is_used (graph_of t) id ≡ used → (o : Option (List ℕ)) → rows.values_at (graph_of t) id command ≡ o → IsGot (state_in t r clock) id command (cond (not used) (Err (negsuc 18)) (values_or o))
+    by : (used : Bool) → rows.is_used (graph_of t) id ≡ used → (o : Option (List ℕ)) → rows.control_values_at (graph_of t) id command ≡ o → IsGot (state_in t r clock) id command (cond (not used) (Err (negsuc 18)) (values_or o))
     by false is o at = record {
       done = λ values e. cc e;
-      refused = λ e same. ap (λ h. row_by h (rows.values_at (graph_of t) id command)) is ∙ out e same;
+      refused = λ e same. ap (λ h. row_by h (rows.control_values_at (graph_of t) id command)) is ∙ out e same;
     }
       where
         out : (e : ℤ) → ◌≡◌ {A = Result (List ℕ) ℤ} (Err (negsuc 18)) (Err e) → ◌≡◌ {A = Result FwState ℤ} (Err rows.no_device) (Err e)
@@ -119,7 +119,7 @@ got t r clock id command = subst (λ (p : Bool × Option (List ℕ)). IsGot (sta
 -- ---- SET_VALUE
 
 -- a unit that takes values has what the row sets, and any other has nothing new
-pub new-taken : (u : units.Unit) (command : ℕ) (values : List ℕ) → takes u command values ≡ true → rows.new_setting (kind_by u) (setting_by u) command values ≡ Some (setting_by (valued_unit values u))
+pub new-taken : (u : units.Unit) (command : ℕ) (values : List ℕ) → takes_values u command values ≡ true → rows.new_setting (kind_by u) (setting_by u) command values ≡ Some (setting_by (valued_unit values u))
 new-taken (Host true phase params piece) command values e = cc
 new-taken (Host false phase params piece) command values e = cc
 new-taken (Dai true format piece) command values e = cc
@@ -143,7 +143,7 @@ new-taken (Eq eq next remaining) command values e = cc
 new-taken (Buffer size ring source sink) command values e = cc
 new-taken (Pipeline sched period complete piece) command values e = cc
 
-new-none : (u : units.Unit) (command : ℕ) (values : List ℕ) → takes u command values ≡ false → rows.new_setting (kind_by u) (setting_by u) command values ≡ None
+new-none : (u : units.Unit) (command : ℕ) (values : List ℕ) → takes_values u command values ≡ false → rows.new_setting (kind_by u) (setting_by u) command values ≡ None
 new-none (Host true phase params piece) command values e = refl
 new-none (Host false phase params piece) command values e = refl
 new-none (Dai true format piece) command values e = refl
@@ -244,7 +244,7 @@ module _ (id : ℕ) (values : List ℕ) where
       at true is = λ i. record { id = d.id; kind = valued-kind values d.unit i; pipe = d.pipe; setting = ap (λ (e : Component). setting_by (valued_unit values e.unit)) (one d (inl refl) (eqb-true d.id id is)) i }
       at false is = refl
 
-module _ (t u : Tables) (r : RegionState) (id command : ℕ) (values : List ℕ) (held : IsHeld t r) where
+module _ (t u : Tables) (r : RegionState) (id command : ℕ) (values : List ℕ) (held : IsPieceHeld t r) where
   valued-seats : map seat (all_of (valued id values t)) ≡ map seat (all_of t)
   valued-seats = map-both seat t.comps (t.buffers ++ t.pipes) (map (valued_at id values) t.comps) (t.buffers ++ t.pipes) (map-kept seat (valued_at id values) (seat-valued id values) t.comps) refl
 
@@ -269,7 +269,7 @@ module _ (t u : Tables) (r : RegionState) (id command : ℕ) (values : List ℕ)
       one d c in_d in_c same = one-key (λ (c : Component). c.id) t.comps (comps-distinct t r held) c d in_c in_d same
 
   told-set : (clock : ℕ) (answer : Result Unit Errno) → left_with u answer ≡ values_set t id command values → answer_of (state_in u r clock) answer ≡ rows.set_value (state_in t r clock) id command values
-  told-set clock answer is = by (rows.is_used (graph_of t) id) refl answer (is ∙ ap (λ h. cond (not h) (Err (negsuc 18)) (cond (option_map_or (λ c. takes c.unit command values) (find (λ c. c.id == id) t.comps) false) (Ok (valued id values t)) (Err (negsuc 21)))) (there-used t id))
+  told-set clock answer is = by (rows.is_used (graph_of t) id) refl answer (is ∙ ap (λ h. cond (not h) (Err (negsuc 18)) (cond (option_map_or (λ c. takes_values c.unit command values) (find (λ c. c.id == id) t.comps) false) (Ok (valued id values t)) (Err (negsuc 21)))) (there-used t id))
     where
       f : FwState
       f = state_in t r clock
@@ -288,13 +288,13 @@ module _ (t u : Tables) (r : RegionState) (id command : ℕ) (values : List ℕ)
       row_by : Bool → Option Setting → Result FwState ℤ
       row_by used o = cond (not used) (Err rows.no_device) (rows.value_set f id o)
 
-      at : (o : Option Component) → find (λ c. c.id == id) t.comps ≡ o → rows.is_used (graph_of t) id ≡ true → (answer : Result Unit Errno) → left_with u answer ≡ cond (option_map_or (λ c. takes c.unit command values) o false) (Ok (valued id values t)) (Err (negsuc 21)) → answer_of (state_in u r clock) answer ≡ rows.set_value f id command values
+      at : (o : Option Component) → find (λ c. c.id == id) t.comps ≡ o → rows.is_used (graph_of t) id ≡ true → (answer : Result Unit Errno) → left_with u answer ≡ cond (option_map_or (λ c. takes_values c.unit command values) o false) (Ok (valued id values t)) (Err (negsuc 21)) → answer_of (state_in u r clock) answer ≡ rows.set_value f id command values
       at None found used answer is =
           refused answer (negsuc 21) is
           ∙ sym (λ i. row_by (used i) (option_and_then (λ (c : Comp). rows.new_setting c.kind c.setting command values) ((comp-found t id ∙ ap (option_map comp_by) found) i)))
-      at (Some c) found used answer is = as_taken (takes c.unit command values) refl answer is
+      at (Some c) found used answer is = as_taken (takes_values c.unit command values) refl answer is
         where
-          as_taken : (h : Bool) → takes c.unit command values ≡ h → (answer : Result Unit Errno) → left_with u answer ≡ cond h (Ok (valued id values t)) (Err (negsuc 21)) → answer_of (state_in u r clock) answer ≡ rows.set_value f id command values
+          as_taken : (h : Bool) → takes_values c.unit command values ≡ h → (answer : Result Unit Errno) → left_with u answer ≡ cond h (Ok (valued id values t)) (Err (negsuc 21)) → answer_of (state_in u r clock) answer ≡ rows.set_value f id command values
           as_taken false e answer is =
               refused answer (negsuc 21) is
               ∙ sym ((λ i. row_by (used i) (option_and_then (λ (c : Comp). rows.new_setting c.kind c.setting command values) ((comp-found t id ∙ ap (option_map comp_by) found) i))) ∙ ap (rows.value_set f id) (new-none c.unit command values e))
@@ -302,14 +302,14 @@ module _ (t u : Tables) (r : RegionState) (id command : ℕ) (values : List ℕ)
               let row : rows.set_value f id command values ≡ Ok (record f { graph = rows.with_comps (map (rows.with_setting id (setting_by (valued_unit values c.unit))) (graph_of t).comps) (graph_of t) }) = (λ i. row_by (used i) (option_and_then (λ (c : Comp). rows.new_setting c.kind c.setting command values) ((comp-found t id ∙ ap (option_map comp_by) found) i))) ∙ ap (rows.value_set f id) (new-taken c.unit command values e) in
               done answer _ is (valued-state clock c found _ row refl) ∙ sym row
 
-      by : (used : Bool) → rows.is_used (graph_of t) id ≡ used → (answer : Result Unit Errno) → left_with u answer ≡ cond (not used) (Err (negsuc 18)) (cond (option_map_or (λ c. takes c.unit command values) (find (λ c. c.id == id) t.comps) false) (Ok (valued id values t)) (Err (negsuc 21))) → answer_of (state_in u r clock) answer ≡ rows.set_value f id command values
+      by : (used : Bool) → rows.is_used (graph_of t) id ≡ used → (answer : Result Unit Errno) → left_with u answer ≡ cond (not used) (Err (negsuc 18)) (cond (option_map_or (λ c. takes_values c.unit command values) (find (λ c. c.id == id) t.comps) false) (Ok (valued id values t)) (Err (negsuc 21))) → answer_of (state_in u r clock) answer ≡ rows.set_value f id command values
       by false used answer is = refused answer (negsuc 18) is ∙ sym (ap (λ h. row_by h (option_and_then (λ (c : Comp). rows.new_setting c.kind c.setting command values) (comp_of (graph_of t) id))) used)
       by true used answer is = at (find (λ c. c.id == id) t.comps) refl used answer is
 
   -- where it is done
   set-tables : (answer : Result Unit Errno) → left_with u answer ≡ values_set t id command values → OnOk answer (u ≡ valued id values t)
   set-tables (Err error) is = tt
-  set-tables (Ok tt) is = by (is_there t id) (option_map_or (λ c. takes c.unit command values) (find (λ c. c.id == id) t.comps) false) is
+  set-tables (Ok tt) is = by (is_there t id) (option_map_or (λ c. takes_values c.unit command values) (find (λ c. c.id == id) t.comps) false) is
     where
       by : (h k : Bool) → ◌≡◌ {A = Result Tables ℤ} (Ok u) (cond (not h) (Err (negsuc 18)) (cond k (Ok (valued id values t)) (Err (negsuc 21)))) → u ≡ valued id values t
       by true true is = cc

@@ -7,7 +7,7 @@ use Rattle.ipc3_codec.specs.declared.reply.Reply.{Reply}
 use Rattle.stream_law.specs.State.{FwState}
 use Rattle.fw_heap.specs.Regions.{RegionState}
 use Rattle.fw_components.specs.Tables.{Tables}
-use Rattle.fw_core.specs.Held.{state_in, IsHeld}
+use Rattle.fw_core.specs.Held.{state_in, IsPieceHeld}
 
 -- the state that a message led to, or its negative error
 abbrev pub answer_of : {X : Type 0} → FwState → Result X Errno → Result FwState ℤ
@@ -23,6 +23,6 @@ reply_with (Err error) = record { error = error.0; body = Nothing }
 -- tables and the region stays so, the region keeps its size, and nothing changes where the row is refused.
 pub record IsRow {X : Type 0} (row : FwState → Result FwState ℤ) (t u : Tables) (r s : RegionState) (answer : Result X Errno) : Type 0 where
   pub told : (clock : ℕ) → answer_of (state_in u s clock) answer ≡ row (state_in t r clock)
-  pub held : IsHeld u s
+  pub held : IsPieceHeld u s
   pub size : s.size ≡ r.size
   pub kept : OnErr answer ((u ≡ t) × (s ≡ r))

@@ -1,6 +1,5 @@
 -- The firmware as a value, and what each call does to it.
 use Rattle.std.specs.Prelude.{◌≡◌, ℕ, List, [], Option, Some, None}
-use Rattle.sof_base.specs.Ports.{InputView, OutputView, Io}
 use Rattle.stream_law.specs.State.{FwState}
 use Rattle.mbox_link.specs.Step.{step, fresh}
 use Rattle.mbox_link.specs.Exchange.{ticked, more}
@@ -30,10 +29,6 @@ reply_to (Some f) request = Some (step f request).1
 -- the chip with another state
 abbrev pub with_state : Option FwState → Chip → Chip
 with_state state chip = record { state = state; boots = chip.boots; most = chip.most }
-
--- inputs and outputs
-abbrev pub io_of : List InputView → List OutputView → Io
-io_of inputs outputs = record { inputs = inputs; outputs = outputs }
 
 -- after a tick, which moves nothing where it is off
 abbrev pub after_tick : Option FwState → World Chip → World Chip

@@ -4,7 +4,7 @@ use Rattle.sof_base.specs.Holes.{fresh_holes}
 use Rattle.fw_components.specs.Tables.{Tables}
 use Rattle.fw_schedule.specs.Schedules.{IsScheduleOf}
 use Rattle.fw_core.specs.declared.firmware.Firmware.TheInside.{Inside}
-use Rattle.fw_core.specs.Held.{state_in, IsHeld}
+use Rattle.fw_core.specs.Held.{state_in, IsPieceHeld}
 use Rattle.fw_core.specs.Device.{Chip}
 
 -- nothing is there
@@ -20,7 +20,7 @@ chip_of f = record {
 
 -- Where it is on, what is so between messages. Where it is off, nothing is there, and all pieces are back. Where its schedule is
 -- current, it is that of its registry.
-pub record IsLaid (f : Inside) : Type 0 where
-  pub on : f.on ≡ true → IsHeld f.registry f.region
+pub record IsDeviceLaid (f : Inside) : Type 0 where
+  pub on : f.on ≡ true → IsPieceHeld f.registry f.region
   pub off : f.on ≡ false → (f.registry ≡ no_tables) × (f.region.holes ≡ fresh_holes f.region.usable)
   pub schedule : f.current ≡ true → IsScheduleOf f.registry f.schedule

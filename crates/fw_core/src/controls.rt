@@ -1,9 +1,9 @@
 // The rows of messages that set and get values and parts of blobs.
 ghost use Rattle.std.specs.Prelude.{ℕ, ◌≡◌, IfOk};
-ghost use Rattle.mbox_link.specs.Step.{set_value as set_value_row, get_value as get_value_row, set_data, get_data, values_body, values_at, part_body, part_at};
+ghost use Rattle.mbox_link.specs.Step.{set_value as set_value_row, get_value as get_value_row, set_data, get_data, values_body, control_values_at, part_body, part_at};
 ghost use Rattle.row_laws.specs.RowLaws.{IsPart};
 ghost use Rattle.fw_components.specs.Tables.{graph_of};
-ghost use Rattle.fw_core.specs.Held.{IsHeld};
+ghost use Rattle.fw_core.specs.Held.{IsPieceHeld};
 ghost use Rattle.fw_core.specs.Answers.{IsRow};
 
 use fw_components::Registry;
@@ -19,7 +19,7 @@ pub(crate) fn set_value(
     command: u32,
     values: &Bounded<u32, 8>,
 ) -> Result<(), Errno>
-    requires { IsHeld registry.old _region.old }
+    requires { IsPieceHeld registry.old _region.old }
     ensures { IsRow (λ f. set_value_row f id command values.now) registry.old registry.new _region.old _region.new result }
 {
     registry.set_values(id, command, values.items())
@@ -32,9 +32,9 @@ pub(crate) fn get_value(
     id: u32,
     command: u32,
 ) -> Result<Body, Errno>
-    requires { IsHeld registry.old _region.old }
+    requires { IsPieceHeld registry.old _region.old }
     ensures row { IsRow (λ f. get_value_row f id command) registry.old registry.new _region.old _region.new result }
-    ensures body { IfOk result (λ said. said ≡ values_body (values_at (graph_of registry.old) id command)) }
+    ensures body { IfOk result (λ said. said ≡ values_body (control_values_at (graph_of registry.old) id command)) }
 {
     match registry.values(id, command) {
         Ok(values) => Ok(Body::Values(values)),
@@ -49,7 +49,7 @@ pub(crate) fn set_part(
     id: u32,
     part: &Part,
 ) -> Result<(), Errno>
-    requires held { IsHeld registry.old _region.old }
+    requires held { IsPieceHeld registry.old _region.old }
     requires part { IsPart part.now }
     ensures { IsRow (λ f. set_data f id part.now) registry.old registry.new _region.old _region.new result }
 {
@@ -63,7 +63,7 @@ pub(crate) fn get_part(
     id: u32,
     index: u32,
 ) -> Result<Body, Errno>
-    requires { IsHeld registry.old _region.old }
+    requires { IsPieceHeld registry.old _region.old }
     ensures row { IsRow (λ f. get_data f id index) registry.old registry.new _region.old _region.new result }
     ensures body { IfOk result (λ said. said ≡ part_body (part_at (graph_of registry.old) id index)) }
 {

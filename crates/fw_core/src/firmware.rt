@@ -33,13 +33,13 @@ pub struct Firmware {
 
 impl Model for Firmware {
     ghost use Rattle.fw_core.specs.Device.{Chip};
-    ghost use Rattle.fw_core.specs.Laid.{chip_of, IsLaid};
+    ghost use Rattle.fw_core.specs.Laid.{chip_of, IsDeviceLaid};
 
     ghost Value = { Chip };
 
     ghost view = { chip_of };
 
-    ghost invariant = { IsLaid };
+    ghost invariant = { IsDeviceLaid };
 }
 
 impl Firmware {

@@ -1,12 +1,12 @@
 // The rows of messages that bring a component, a buffer or a pipeline.
 ghost use Rattle.std.specs.Prelude.{◌≡◌, ◌==◌, true, false};
 ghost use Rattle.std.specs.List.{list_any};
-ghost use Rattle.ipc3_codec.specs.Allowed.{is_buffer_size, is_period};
+ghost use Rattle.ipc3_codec.specs.Allowed.{is_buffer_size, is_period_allowed};
 ghost use Rattle.ipc3_codec.specs.Messages.{IsKind};
 ghost use Rattle.mbox_link.specs.Step.{comp_new as comp_new_row, buffer_new as buffer_new_row, pipe_new as pipe_new_row, kind_of, first_setting, has_index as names_index};
 ghost use Rattle.fw_components.specs.Tables.{graph_of};
 ghost use Rattle.fw_components.specs.Changes.{added, is_there, is_full, IsNew, has_new_index};
-ghost use Rattle.fw_core.specs.Held.{IsHeld};
+ghost use Rattle.fw_core.specs.Held.{IsPieceHeld};
 ghost use Rattle.fw_core.specs.Answers.{IsRow};
 
 use crate::units::{bytes_of, unit_of};
@@ -33,7 +33,7 @@ pub(crate) fn comp_new(
     frame_fmt: u32,
 ) -> Result<(), Errno>
     requires words { IsKind words frame_fmt }
-    requires held { IsHeld registry.old region.old }
+    requires held { IsPieceHeld registry.old region.old }
     ensures { IsRow (λ f. comp_new_row f id pipe (kind_of words frame_fmt) (first_setting words)) registry.old registry.new region.old region.new result }
 {
     if is_used(registry, id) || is_complete(registry, pipe) {
@@ -67,7 +67,7 @@ pub(crate) fn buffer_new(
     size: u32,
 ) -> Result<(), Errno>
     requires size { is_buffer_size size ≡ true }
-    requires held { IsHeld registry.old region.old }
+    requires held { IsPieceHeld registry.old region.old }
     ensures { IsRow (λ f. buffer_new_row f id pipe size) registry.old registry.new region.old region.new result }
 {
     if is_used(registry, id) || is_complete(registry, pipe) {
@@ -105,8 +105,8 @@ pub(crate) fn pipe_new(
     sched: u32,
     period: u32,
 ) -> Result<(), Errno>
-    requires period { is_period period ≡ true }
-    requires held { IsHeld registry.old region.old }
+    requires period { is_period_allowed period ≡ true }
+    requires held { IsPieceHeld registry.old region.old }
     ensures { IsRow (λ f. pipe_new_row f id index sched period) registry.old registry.new region.old region.new result }
 {
     if is_used(registry, id) || has_index(registry, index) {

@@ -3,7 +3,7 @@ ghost use Rattle.std.specs.Prelude.{◌≡◌, ℕ, IfOk, Err};
 ghost use Rattle.ipc3_codec.specs.Messages.{decoded, IsAllowed};
 ghost use Rattle.mbox_link.specs.Step.{row, row_of, body, body_of};
 ghost use Rattle.row_laws.specs.RowLaws.{HasBytes};
-ghost use Rattle.fw_core.specs.Held.{IsHeld, state_in};
+ghost use Rattle.fw_core.specs.Held.{IsPieceHeld, state_in};
 ghost use Rattle.fw_core.specs.Answers.{IsRow};
 
 use crate::controls::{get_part, get_value, set_part, set_value};
@@ -21,7 +21,7 @@ pub(crate) fn answer(
     region: &mut Region,
     request: &[u8],
 ) -> Result<Body, Errno>
-    requires { IsHeld registry.old region.old }
+    requires { IsPieceHeld registry.old region.old }
     ensures row { IsRow (λ f. row_of f (decoded request.now)) registry.old registry.new region.old region.new result }
     ensures body { IfOk result (λ said. (clock : ℕ) → said ≡ body_of (state_in registry.old region.old clock) (decoded request.now)) }
 {
@@ -35,7 +35,7 @@ pub(crate) fn answer(
 fn handle(registry: &mut Registry, region: &mut Region, message: &Message) -> Result<Body, Errno>
     requires allowed { IsAllowed message.now }
     requires bytes { HasBytes message.now }
-    requires held { IsHeld registry.old region.old }
+    requires held { IsPieceHeld registry.old region.old }
     ensures row { IsRow (λ f. row f message.now) registry.old registry.new region.old region.new result }
     ensures body { IfOk result (λ said. (clock : ℕ) → said ≡ body (state_in registry.old region.old clock) message.now) }
 {
@@ -53,7 +53,7 @@ fn handle(registry: &mut Registry, region: &mut Region, message: &Message) -> Re
 fn act(registry: &mut Registry, region: &mut Region, message: &Message) -> Result<(), Errno>
     requires allowed { IsAllowed message.now }
     requires bytes { HasBytes message.now }
-    requires held { IsHeld registry.old region.old }
+    requires held { IsPieceHeld registry.old region.old }
     ensures { IsRow (λ f. row f message.now) registry.old registry.new region.old region.new result }
 {
     match message {

@@ -2,9 +2,9 @@
 ghost use Rattle.std.specs.Prelude.{◌≡◌, true};
 ghost use Rattle.ipc3_codec.specs.Allowed.{is_channels};
 ghost use Rattle.mbox_link.specs.Step.{connect as connect_row, pipe_complete as pipe_complete_row, pcm_params as pcm_params_row};
-ghost use Rattle.fw_pipeline.specs.Rows.{freed};
+ghost use Rattle.fw_pipeline.specs.Rows.{row_of_free};
 ghost use Rattle.fw_pipeline.specs.Triggers.{triggered};
-ghost use Rattle.fw_core.specs.Held.{IsHeld};
+ghost use Rattle.fw_core.specs.Held.{IsPieceHeld};
 ghost use Rattle.fw_core.specs.Answers.{IsRow};
 
 use fw_components::{Registry, joins_are_seen, removals_are_seen};
@@ -19,7 +19,7 @@ pub(crate) fn connect(
     source: u32,
     sink: u32,
 ) -> Result<(), Errno>
-    requires { IsHeld registry.old _region.old }
+    requires { IsPieceHeld registry.old _region.old }
     ensures { IsRow (λ f. connect_row f source sink) registry.old registry.new _region.old _region.new result }
 {
     joins_are_seen();
@@ -32,7 +32,7 @@ pub(crate) fn pipe_complete(
     _region: &mut Region,
     id: u32,
 ) -> Result<(), Errno>
-    requires { IsHeld registry.old _region.old }
+    requires { IsPieceHeld registry.old _region.old }
     ensures { IsRow (λ f. pipe_complete_row f id) registry.old registry.new _region.old _region.new result }
 {
     complete(registry, id)
@@ -45,8 +45,8 @@ pub(crate) fn free_row(
     id: u32,
     what: Item,
 ) -> Result<(), Errno>
-    requires { IsHeld registry.old region.old }
-    ensures { IsRow (λ f. freed what f id) registry.old registry.new region.old region.new result }
+    requires { IsPieceHeld registry.old region.old }
+    ensures { IsRow (λ f. row_of_free what f id) registry.old registry.new region.old region.new result }
 {
     removals_are_seen();
     free_item(registry, region, id, what)
@@ -60,7 +60,7 @@ pub(crate) fn pcm_params(
     direction: u32,
     p: Params,
 ) -> Result<(), Errno>
-    requires held { IsHeld registry.old _region.old }
+    requires held { IsPieceHeld registry.old _region.old }
     requires channels { is_channels p.channels ≡ true }
     ensures { IsRow (λ f. pcm_params_row f host direction p) registry.old registry.new _region.old _region.new result }
 {
@@ -74,7 +74,7 @@ pub(crate) fn trigger_row(
     host: u32,
     what: Trigger,
 ) -> Result<(), Errno>
-    requires { IsHeld registry.old _region.old }
+    requires { IsPieceHeld registry.old _region.old }
     ensures { IsRow (λ f. triggered what f host) registry.old registry.new _region.old _region.new result }
 {
     // For what the registry keeps: each of these is a buffer.

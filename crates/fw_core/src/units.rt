@@ -1,7 +1,7 @@
 // What a new component is, by the words of its message, and how many bytes it takes.
 ghost use Rattle.std.specs.Prelude.{◌≡◌, ◌≤◌, ◌<◌, replicate, false};
 ghost use Rattle.sof_base.specs.Holes.{rounded};
-ghost use Rattle.mbox_link.specs.Step.{comp_bytes, format_of, kind_of as named_kind, first_setting as named_setting};
+ghost use Rattle.mbox_link.specs.Step.{comp_bytes, sample_format, kind_of as named_kind, first_setting as named_setting};
 ghost use Rattle.ipc3_codec.specs.Messages.{IsKind};
 ghost use Rattle.fw_components.specs.Tables.{is_buffer, is_pipeline, kind_by, setting_by};
 ghost use Rattle.fw_components.specs.Changes.{IsNew};
@@ -66,7 +66,7 @@ fn first_gains(channels: u32) -> Bounded<u32, 8>
 
 // The sample format of a frame format: 0 for 16 bits, 1 for 24 bits in 4 bytes, and 32 bits for the rest.
 fn frame_format(number: u32) -> Format
-    ensures { result ≡ format_of number }
+    ensures { result ≡ sample_format number }
 {
     match number {
         0 => Format::S16,

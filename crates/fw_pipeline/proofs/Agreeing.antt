@@ -11,7 +11,7 @@ use Rattle.fw_components.specs.declared.component.Unit as units
 use Rattle.fw_components.specs.declared.component.Unit.TheVariants.{Host, Dai, Volume, Mixer, Mux, Eq, Buffer, Pipeline}
 use Rattle.fw_components.specs.Tables.{Tables, graph_of, streams_of, streams_by, with_stream_by}
 use Rattle.fw_components.specs.Changes.{set_at, set_unit}
-use Rattle.fw_walks.specs.Charts.{ids_of}
+use Rattle.fw_components.specs.Tables.{ids_of}
 use Rattle.fw_pipeline.specs.Preparing.{shape_in, shape_by, suits}
 use Rattle.fw_pipeline.proofs.ReadyWays.{all-map, all-each}
 

@@ -14,11 +14,11 @@ use Rattle.fw_components.specs.declared.component.Unit as units
 use Rattle.fw_components.specs.declared.component.Unit.TheVariants.{Host, Dai, Volume, Mixer, Mux, Eq, Buffer, Pipeline}
 use Rattle.fw_components.specs.Tables.{Tables, all_of}
 use Rattle.fw_components.specs.Changes.{has_id, is_there, found}
-use Rattle.fw_components.specs.Kept.{IsKept, AreApart}
+use Rattle.fw_components.specs.Kept.{IsKept, AreIdsApart}
 use Rattle.fw_components.specs.Frames.{begun, begun_at, begun_by, words_of, IsFreshBy, staged_at, staged_of_one}
-use Rattle.fw_walks.specs.Walks.{is_listed}
-use Rattle.fw_walks.specs.Charts.{ids_of}
-use Rattle.fw_walks.proofs.Charts.{listed-is}
+use Rattle.fw_places.specs.Walks.{is_listed}
+use Rattle.fw_components.specs.Tables.{ids_of}
+use Rattle.fw_components.proofs.Listed.{listed-is}
 use Rattle.fw_walks.proofs.Naming.{find-map}
 use Rattle.fw_pipeline.specs.Triggers.{IsBegun, BecomeEach}
 use Rattle.fw_pipeline.specs.Settling.{HaveBegun}
@@ -124,7 +124,7 @@ module _ (t : Tables) (kept : IsKept t) where
   own : (cs : List Component) → Ascends (λ c. c.id) cs → (c : Component) → IsIn c cs → find (λ x. x.id == c.id) cs ≡ Some c
   own cs up c there = in-all (λ (c : Component). find (λ x. x.id == c.id) cs ≡ Some c) cs c (found-each (λ (c : Component). c.id) cs (Ascends-distinct (λ (c : Component). c.id) cs up)) there
 
-  apart : (cs ds : List Component) → AreApart cs ds → (d : Component) → IsIn d ds → has_id cs d.id ≡ false
+  apart : (cs ds : List Component) → AreIdsApart cs ds → (d : Component) → IsIn d ds → has_id cs d.id ≡ false
   apart cs ds far d there = in-all (λ (d : Component). has_id cs d.id ≡ false) ds d far there
 
   pub own-comp : (c : Component) → IsIn c t.comps → found t c.id ≡ Some c

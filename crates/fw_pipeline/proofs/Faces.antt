@@ -11,7 +11,7 @@ use Rattle.fw_components.specs.declared.component.Component.{Component}
 use Rattle.fw_components.specs.declared.component.Unit as units
 use Rattle.fw_components.specs.declared.component.Unit.TheVariants.{Host, Dai, Volume, Mixer, Mux, Eq, Buffer, Pipeline}
 use Rattle.fw_components.specs.Tables.{Tables, all_of, piece_of, comp_by, edge_by, piece_by, pieces_by, staging_by, with_staging_by, streams_by, with_stream_by}
-use Rattle.fw_components.specs.Changes.{IsOf, set_at, set_unit, ended_unit}
+use Rattle.fw_components.specs.Changes.{IsOfHome, set_at, set_unit, ended_unit}
 use Rattle.fw_heap.specs.declared.run.Home.{Home}
 use Rattle.std.specs.List.{AllByRecursion}
 use Rattle.fw_components.specs.Frames.{begun_unit, words_of, staged_by}
@@ -88,14 +88,14 @@ pub pieces-same : (cs ds : List Component) → map face ds ≡ map face cs → p
 pieces-same cs ds same = pieces-read ds ∙ ap pieces_from same ∙ sym (pieces-read cs)
 
 -- pieces stay those of a region
-pub homes-same : (home : Home) (cs ds : List Component) → map face ds ≡ map face cs → AllByRecursion (IsOf home) cs → AllByRecursion (IsOf home) ds
+pub homes-same : (home : Home) (cs ds : List Component) → map face ds ≡ map face cs → AllByRecursion (IsOfHome home) cs → AllByRecursion (IsOfHome home) ds
 homes-same home cs ds same all = off ds (subst (AllByRecursion (λ (f : Face). f.home ≡ home)) (sym same) (on cs all))
   where
-    on : (cs : List Component) → AllByRecursion (IsOf home) cs → AllByRecursion (λ (f : Face). f.home ≡ home) (map face cs)
+    on : (cs : List Component) → AllByRecursion (IsOfHome home) cs → AllByRecursion (λ (f : Face). f.home ≡ home) (map face cs)
     on [] all = tt
     on (c ∷ cs) all = (all.0, on cs all.1)
 
-    off : (cs : List Component) → AllByRecursion (λ (f : Face). f.home ≡ home) (map face cs) → AllByRecursion (IsOf home) cs
+    off : (cs : List Component) → AllByRecursion (λ (f : Face). f.home ≡ home) (map face cs) → AllByRecursion (IsOfHome home) cs
     off [] all = tt
     off (c ∷ cs) all = (all.0, off cs all.1)
 

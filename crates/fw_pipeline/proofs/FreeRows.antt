@@ -17,9 +17,8 @@ use Rattle.fw_components.specs.declared.component.Component.{Component}
 use Rattle.fw_components.specs.declared.component.Unit as units
 use Rattle.fw_components.specs.declared.component.Unit.TheVariants.{Host, Dai, Volume, Mixer, Mux, Eq, Buffer, Pipeline}
 use Rattle.fw_components.specs.Tables.{Tables, all_of, graph_of, streams_by, with_stream_by, comp_by, edge_by, pipe_by}
-use Rattle.fw_components.specs.Changes.{has_id, is_there, found, IsOf, IsFoundOf, without, without_by}
-use Rattle.fw_components.specs.Changes as changes
-use Rattle.fw_components.specs.Kept.{IsKept, AreApart}
+use Rattle.fw_components.specs.Changes.{has_id, is_there, found, IsOfHome, IsFoundOf, tables_without, without_by}
+use Rattle.fw_components.specs.Kept.{IsKept, AreIdsApart}
 use Rattle.fw_pipeline.specs.Rows.{first_there}
 use Rattle.fw_walks.proofs.Naming.{used-named, find-map}
 
@@ -61,22 +60,22 @@ there-all t id used =
     turned true b c = refl
     turned false b c = refl
 
-pub found-of : (home : Home) (t : Tables) (id : ℕ) → AllByRecursion (IsOf home) (all_of t) → IsFoundOf home (found t id)
+pub found-of : (home : Home) (t : Tables) (id : ℕ) → AllByRecursion (IsOfHome home) (all_of t) → IsFoundOf home (found t id)
 found-of home t id all = by (found t id) refl
   where
     by : (o : Option Component) → found t id ≡ o → IsFoundOf home o
     by None at = tt
-    by (Some c) at = in-all (IsOf home) (all_of t) c all (find-in (λ c. c.id == id) (all_of t) c at).0
+    by (Some c) at = in-all (IsOfHome home) (all_of t) c all (find-in (λ c. c.id == id) (all_of t) c at).0
 
 -- an id of one list is of none that is apart
-pub apart-gone : (cs ds : List Component) (id : ℕ) → AreApart cs ds → has_id ds id ≡ true → has_id cs id ≡ false
+pub apart-gone : (cs ds : List Component) (id : ℕ) → AreIdsApart cs ds → has_id ds id ≡ true → has_id cs id ≡ false
 apart-gone cs ds id apart there =
     let d = any-in (λ d. d.id == id) ds there in
     ap (has_id cs) (sym (eqb-true d.0.id id d.2)) ∙ in-all (λ (d : Component). has_id cs d.id ≡ false) ds d.0 apart d.1
 
 -- no join is at what is neither a component nor a buffer
-pub pipe-alone : (t : Tables) (id : ℕ) → IsKept t → has_id t.comps id ≡ false → has_id t.buffers id ≡ false → list_any (changes.touches id) t.joins ≡ false
-pipe-alone t id kept no_comp no_buffer = false_from_ne_true _ (λ e. let j = any-in (changes.touches id) t.joins e in at j.0 (or_cases (j.0.source == id) (j.0.sink == id) j.2) (or_cases (has_id t.comps j.0.source && has_id t.buffers j.0.sink) (has_id t.buffers j.0.source && has_id t.comps j.0.sink) (in-all _ t.joins j.0 kept.linked.between j.1)))
+pub pipe-alone : (t : Tables) (id : ℕ) → IsKept t → has_id t.comps id ≡ false → has_id t.buffers id ≡ false → list_any (touches id) t.joins ≡ false
+pipe-alone t id kept no_comp no_buffer = false_from_ne_true _ (λ e. let j = any-in (touches id) t.joins e in at j.0 (or_cases (j.0.source == id) (j.0.sink == id) j.2) (or_cases (has_id t.comps j.0.source && has_id t.buffers j.0.sink) (has_id t.buffers j.0.source && has_id t.comps j.0.sink) (in-all _ t.joins j.0 kept.linked.between j.1)))
   where
     none : (cs : List Component) (x : ℕ) → has_id cs id ≡ false → (x == id) ≡ true → has_id cs x ≡ true → ⊥
     none cs x gone same there = true≢false (sym there ∙ ap (has_id cs) (eqb-true x id same) ∙ gone)
@@ -118,13 +117,13 @@ streams-gone id (c ∷ cs) = by (c.id == id) refl (streams-gone id cs)
     by false is rest = ap (λ h. streams_by (cond (not h) (c ∷ filter (λ c. not (c.id == id)) cs) (filter (λ c. not (c.id == id)) cs))) is ∙ ap (with_stream_by c.id c.unit) rest ∙ sym (stream-gone id c.id c.unit false is (streams_by cs))
 
 module _ (t : Tables) (id : ℕ) where
-  pub comp-left : has_id t.comps id ≡ true → without id t ≡ record { comps = filter (λ c. not (c.id == id)) t.comps; buffers = t.buffers; pipes = t.pipes; joins = t.joins }
+  pub comp-left : has_id t.comps id ≡ true → tables_without id t ≡ record { comps = filter (λ c. not (c.id == id)) t.comps; buffers = t.buffers; pipes = t.pipes; joins = t.joins }
   comp-left there = ap (λ h. without_by h (has_id t.buffers id) id t) there
 
-  pub buffer-left : has_id t.comps id ≡ false → has_id t.buffers id ≡ true → without id t ≡ record { comps = t.comps; buffers = filter (λ c. not (c.id == id)) t.buffers; pipes = t.pipes; joins = filter (λ j. not (changes.touches id j)) t.joins }
+  pub buffer-left : has_id t.comps id ≡ false → has_id t.buffers id ≡ true → tables_without id t ≡ record { comps = t.comps; buffers = filter (λ c. not (c.id == id)) t.buffers; pipes = t.pipes; joins = filter (λ j. not (touches id j)) t.joins }
   buffer-left none there = ap (λ (p : Bool × Bool). without_by p.0 p.1 id t) (λ i. (none i, there i))
 
-  pub pipe-left : has_id t.comps id ≡ false → has_id t.buffers id ≡ false → without id t ≡ record { comps = t.comps; buffers = t.buffers; pipes = filter (λ c. not (c.id == id)) t.pipes; joins = t.joins }
+  pub pipe-left : has_id t.comps id ≡ false → has_id t.buffers id ≡ false → tables_without id t ≡ record { comps = t.comps; buffers = t.buffers; pipes = filter (λ c. not (c.id == id)) t.pipes; joins = t.joins }
   pipe-left none no_buffer = ap (λ (p : Bool × Bool). without_by p.0 p.1 id t) (λ i. (none i, no_buffer i))
 
 -- ---- indices

@@ -8,7 +8,7 @@ use Rattle.stream_law.specs.declared.graph.Edge.{Edge}
 use Rattle.stream_law.specs.declared.graph.Graph.{Graph}
 use Rattle.stream_law.specs.State.{FwState, View}
 use Rattle.stream_law.specs.Ways.{source_of, sink_of}
-use Rattle.stream_law.specs.Joins.{joined, with_join, would_cycle, would_reach, would_grow}
+use Rattle.stream_law.specs.Joins.{joined_edge, with_join, would_cycle, would_reach, would_grow}
 use Rattle.mbox_link.specs.Step.{no_device, busy, invalid, is_used, has_comp, has_edge, is_joined, takes_join, leads_in, leads_out, has_free_in, has_free_out, kind_at, connect}
 use Rattle.fw_components.specs.declared.component.Component.{Component}
 use Rattle.fw_components.specs.declared.component.Unit as units
@@ -65,7 +65,7 @@ may-join t j takes free = by (or_cases (leads_in g j.source j.sink && has_free_o
 
 -- ---- the join is seen
 
-joined-one : (j : Join) (id pipe channels : ℕ) (unit : units.Unit) → is_buffer unit ≡ true → edge_by (joined_at j (record { id = id; pipe = pipe; channels = channels; unit = unit })) ≡ joined j (edge_by (record { id = id; pipe = pipe; channels = channels; unit = unit }))
+joined-one : (j : Join) (id pipe channels : ℕ) (unit : units.Unit) → is_buffer unit ≡ true → edge_by (joined_at j (record { id = id; pipe = pipe; channels = channels; unit = unit })) ≡ joined_edge j (edge_by (record { id = id; pipe = pipe; channels = channels; unit = unit }))
 joined-one j id pipe channels (Host capture phase params piece) no_buffer = absurd (false≢true no_buffer)
 joined-one j id pipe channels (Dai capture format piece) no_buffer = absurd (false≢true no_buffer)
 joined-one j id pipe channels (Volume gains piece) no_buffer = absurd (false≢true no_buffer)
@@ -83,9 +83,9 @@ joined-one j id pipe channels (Buffer size ring source sink) is = by (id == j.so
     by false true = refl
     by false false = refl
 
-joined-all : (j : Join) (cs : List Component) → AllByRecursion (λ c. IsBuffering c.unit) cs → map edge_by (map (joined_at j) cs) ≡ map (joined j) (map edge_by cs)
+joined-all : (j : Join) (cs : List Component) → AllByRecursion (λ c. IsBuffering c.unit) cs → map edge_by (map (joined_at j) cs) ≡ map (joined_edge j) (map edge_by cs)
 joined-all j [] all = refl
 joined-all j (c ∷ cs) all = ap (λ (p : Edge × List Edge). p.0 ∷ p.1) (λ i. (joined-one j c.id c.pipe c.channels c.unit all.0.0 i, joined-all j cs all.1 i))
 
-pub join-seen : (t : Tables) (j : Join) → IsKept t → view_by (changes.with_join j t) ≡ record { graph = with_join (graph_of t) j; streams = streams_of t }
+pub join-seen : (t : Tables) (j : Join) → IsKept t → view_by (changes.tables_with_join j t) ≡ record { graph = with_join (graph_of t) j; streams = streams_of t }
 join-seen t j kept = ap (λ (es : List Edge). let v : View = record { graph = record { comps = map comp_by t.comps; edges = es; pipes = map pipe_by t.pipes; joins = t.joins ++ j ∷ [] }; streams = streams_of t } in v) (joined-all j t.buffers kept.buffering)

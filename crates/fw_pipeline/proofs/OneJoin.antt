@@ -13,18 +13,21 @@ use Rattle.stream_law.proofs.Members.{IsIn, any-in, in-any, in-all, in-each}
 use Rattle.stream_law.proofs.Walking.{Walks, path-of, walks-lead, walk-on, walk-in, through}
 use Rattle.row_laws.proofs.Joined.{buffers-joined}
 use Rattle.fw_components.specs.declared.component.Component.{Component}
+use Rattle.fw_components.specs.declared.component.Unit as units
+use Rattle.fw_components.specs.declared.component.Unit.TheVariants.{Host, Dai, Volume, Mixer, Mux, Eq, Buffer, Pipeline}
 use Rattle.fw_components.specs.Tables.{Tables, graph_of, streams_of, kind_by, comp_by}
 use Rattle.fw_components.specs.Kept.{IsKept}
 use Rattle.fw_components.specs.Changes.{has_id}
-use Rattle.fw_walks.proofs.Charts.{listed-is}
+use Rattle.fw_components.proofs.Listed.{listed-is}
 use Rattle.fw_walks.proofs.Naming.{comp-named, edge-named}
-use Rattle.fw_walks.specs.Streams.{is_of, any_stream}
+use Rattle.fw_walks.specs.Streams.{is_of, any_stream, is_host_of}
 use Rattle.fw_pipeline.specs.Rows.{is_growing}
 use Rattle.fw_walks.specs.declared.streams.Sort.TheVariants as sorts
-use Rattle.fw_walks.specs.Walks.{leads_by, is_listed, is_marked}
-use Rattle.fw_walks.specs.Charts.{ids_of}
-use Rattle.fw_walks.proofs.Reaching.{both-true}
-use Rattle.fw_walks.proofs.OnWays.{any-map, any-each, any-streams, stream-of, find-own}
+use Rattle.fw_places.specs.Walks.{leads_by, is_listed, is_marked}
+use Rattle.fw_components.specs.Tables.{ids_of}
+use Rattle.fw_places.proofs.Reaching.{both-true}
+use Rattle.fw_components.proofs.HostWays.{find-own}
+use Rattle.fw_walks.proofs.OnWays.{any-map, any-each, any-streams, stream-of}
 
 abbrev all_lead : List Join → ℕ → ℕ → Bool
 all_lead joins a b = leads joins (length joins) a b
@@ -178,6 +181,38 @@ module _ (joins : List Join) (j : Join) (ids : List ℕ) (ends : (is_listed ids 
 
 pub any-marked : (p : Component → Bool) (q : ℕ → Bool) (ids : List ℕ) (marks : List Bool) (cs : List Component) → AllByRecursion (λ c. is_listed ids c.id ≡ true) cs → ((x : ℕ) → is_listed ids x ≡ true → is_marked ids marks x ≡ q x) → list_any (λ c. p c && is_marked ids marks c.id) cs ≡ list_any (λ c. p c && q c.id) cs
 any-marked p q ids marks cs listed same = any-each (λ c. p c && is_marked ids marks c.id) (λ c. p c && q c.id) cs (λ c there. ap (λ h. p c && h) (same c.id (in-all (λ (c : Component). is_listed ids c.id ≡ true) cs c listed there)))
+
+-- ---- by one walk from all hosts of playbacks
+
+plays-are : (unit : units.Unit) → (any_stream (is_of sorts.All) 0 unit && not (is_capture (kind_by unit))) ≡ is_play (kind_by unit)
+plays-are (Host true phase params piece) = refl
+plays-are (Host false phase params piece) = refl
+plays-are (Dai true format piece) = refl
+plays-are (Dai false format piece) = refl
+plays-are (Volume gains piece) = refl
+plays-are (Mixer piece) = refl
+plays-are (Mux choice piece) = refl
+plays-are (Eq eq next remaining) = refl
+plays-are (Buffer size ring source sink) = refl
+plays-are (Pipeline sched period complete piece) = refl
+
+-- of two that are related one may be sought first
+turned : {X : Type 0} (p q : X → Bool) (r : X → X → Bool) (xs : List X) → list_any (λ b. q b && list_any (λ a. p a && r a b) xs) xs ≡ list_any (λ a. p a && list_any (λ b. q b && r a b) xs) xs
+turned {X} p q r xs = both-true _ _ (once p q r) (once q p (λ a b. r b a))
+  where
+    once : (p q : X → Bool) (r : X → X → Bool) → list_any (λ b. q b && list_any (λ a. p a && r a b) xs) xs ≡ true → list_any (λ a. p a && list_any (λ b. q b && r a b) xs) xs ≡ true
+    once p q r e =
+        let b = any-in (λ b. q b && list_any (λ a. p a && r a b) xs) xs e in
+        let pb = and_parts (q b.0) _ b.2 in
+        let a = any-in (λ a. p a && r a b.0) xs pb.1 in
+        let pa = and_parts (p a.0) _ a.2 in
+        in-any (λ a. p a && list_any (λ b. q b && r a b) xs) xs a.0 a.1 (and_from (p a.0) _ pa.0 (in-any (λ b. q b && r a.0 b) xs b.0 b.1 (and_from (q b.0) _ pb.0 pa.1)))
+
+pub crossed : (joins : List Join) (cs : List Component) (reached : ℕ → Bool) → ((x : ℕ) → reached x ≡ list_any (λ a. is_host_of sorts.All false a && leads_by false joins a.id x) cs)
+    → list_any (λ b. is_capture (kind_by b.unit) && reached b.id) cs ≡ list_any (λ a. is_play (kind_by a.unit) && list_any (λ b. is_capture (kind_by b.unit) && leads_by false joins a.id b.id) cs) cs
+crossed joins cs reached is =
+    any-each (λ b. is_capture (kind_by b.unit) && reached b.id) (λ b. is_capture (kind_by b.unit) && list_any (λ a. is_play (kind_by a.unit) && leads_by false joins a.id b.id) cs) cs (λ b there. ap (λ h. is_capture (kind_by b.unit) && h) (is b.id ∙ any-each (λ a. is_host_of sorts.All false a && leads_by false joins a.id b.id) (λ a. is_play (kind_by a.unit) && leads_by false joins a.id b.id) cs (λ a here. ap (λ h. h && leads_by false joins a.id b.id) (plays-are a.unit))))
+    ∙ turned (λ (a : Component). is_play (kind_by a.unit)) (λ (b : Component). is_capture (kind_by b.unit)) (λ (a b : Component). leads_by false joins a.id b.id) cs
 
 pub comps-listed : (t : Tables) (ids : List ℕ) → ids ≡ ids_of t → AllByRecursion (λ c. is_listed ids c.id ≡ true) t.comps
 comps-listed t ids is = in-each (λ (c : Component). is_listed ids c.id ≡ true) t.comps (λ c there. ap (λ (xs : List ℕ). is_listed xs c.id) is ∙ listed-is t c.id ∙ or_left (has_id t.comps c.id) _ (in-any (λ d. d.id == c.id) t.comps c there (eq-eqb c.id c.id refl)))

@@ -12,9 +12,9 @@ use Rattle.mbox_link.specs.Step.{has_kind, kind_at, is_ready_comp, is_ready_edge
 use Rattle.fw_components.specs.declared.component.Component.{Component}
 use Rattle.fw_components.specs.Tables.{Tables, graph_of, comp_by, edge_by}
 use Rattle.fw_components.specs.Changes.{has_id}
-use Rattle.fw_walks.specs.Charts.{ids_of}
-use Rattle.fw_walks.specs.Walks.{leads_by, is_listed, is_marked}
-use Rattle.fw_walks.proofs.Charts.{listed-is}
+use Rattle.fw_components.specs.Tables.{ids_of}
+use Rattle.fw_places.specs.Walks.{leads_by, is_listed, is_marked}
+use Rattle.fw_components.proofs.Listed.{listed-is}
 
 pub all-map : {X Y : Type 0} (p : Y → Bool) (f : X → Y) (xs : List X) → list_all p (map f xs) ≡ list_all (λ x. p (f x)) xs
 all-map p f [] = refl

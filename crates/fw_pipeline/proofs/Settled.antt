@@ -16,8 +16,8 @@ use Rattle.fw_components.specs.declared.component.Unit as units
 use Rattle.fw_components.specs.declared.component.Unit.TheVariants.{Host, Dai, Volume, Mixer, Mux, Eq, Buffer, Pipeline}
 use Rattle.fw_components.specs.Tables.{Tables, view_by, graph_of, edge_by, source_by, sink_by}
 use Rattle.fw_components.specs.Kept.{IsKept}
-use Rattle.fw_components.specs.Changes.{ended_at, ended_unit}
-use Rattle.fw_walks.specs.Walks.{is_listed, is_marked}
+use Rattle.fw_components.specs.Changes.{with_ended, ended_unit}
+use Rattle.fw_places.specs.Walks.{is_listed, is_marked}
 use Rattle.fw_walks.proofs.Naming.{find-map}
 use Rattle.fw_pipeline.specs.Triggers.{settled_in}
 use Rattle.fw_pipeline.specs.Settling.{is_end_marked, flows_by, ended_unless}
@@ -167,23 +167,23 @@ module _ (t : Tables) (kept : IsKept t) where
           last false = refl
 
       -- a buffer of this id, in which no frame may lie, is empty from now on
-      ended-more : flows v one.id ≡ false → (c : Component) → ended_at one.id (among (take n names) c) ≡ among (take (n + 1) names) c
+      ended-more : flows v one.id ≡ false → (c : Component) → with_ended one.id (among (take n names) c) ≡ among (take (n + 1) names) c
       ended-more still c = by (one.id == c.id) refl ∙ ap (λ h. cond h (settled_in v c) c) (sym (more-listed c.id))
         where
           empty : one.id ≡ c.id → settled_in v c ≡ ended_by c
           empty same = ap (λ h. cond h c (ended_by c)) (ap (flows v) (sym same) ∙ still)
 
-          now : one.id ≡ c.id → (a : Bool) → ended_at one.id (cond a (settled_in v c) c) ≡ settled_in v c
+          now : one.id ≡ c.id → (a : Bool) → with_ended one.id (cond a (settled_in v c) c) ≡ settled_in v c
           now same true =
-              ap (ended_at one.id) (empty same)
+              ap (with_ended one.id) (empty same)
               ∙ ap (λ h. cond h (ended_by (ended_by c)) (ended_by c)) (eq-eqb c.id one.id (sym same))
               ∙ ended-twice c ∙ sym (empty same)
           now same false = ap (λ h. cond h (ended_by c) c) (eq-eqb c.id one.id (sym same)) ∙ sym (empty same)
 
-          other : (one.id == c.id) ≡ false → (x : Component) → x.id ≡ c.id → ended_at one.id x ≡ x
+          other : (one.id == c.id) ≡ false → (x : Component) → x.id ≡ c.id → with_ended one.id x ≡ x
           other apart x same = ap (λ h. cond h (ended_by x) x) (false_from_ne_true (x.id == one.id) (λ e. true≢false (sym (eq-eqb one.id c.id (sym (eqb-true x.id one.id e) ∙ same)) ∙ apart)))
 
-          by : (h : Bool) → (one.id == c.id) ≡ h → ended_at one.id (among (take n names) c) ≡ cond (is_listed (take n names) c.id || h) (settled_in v c) c
+          by : (h : Bool) → (one.id == c.id) ≡ h → with_ended one.id (among (take n names) c) ≡ cond (is_listed (take n names) c.id || h) (settled_in v c) c
           by true is = now (eqb-true one.id c.id is) (is_listed (take n names) c.id) ∙ sym (ap (λ h. cond h (settled_in v c) c) (some (is_listed (take n names) c.id)))
             where
               some : (h : Bool) → (h || true) ≡ true
@@ -232,7 +232,7 @@ module _ (t : Tables) (kept : IsKept t) where
 
           by : (h : Bool) → flows v one.id ≡ h → Settled (n + 1) (ended_unless h one.id before)
           by true flow = ap of (map-each (among (take n names)) (among (take (n + 1) names)) t.buffers (λ c there. stays-more flow c))
-          by false still = ap of (map-twice (ended_at one.id) (among (take n names)) (among (take (n + 1) names)) t.buffers (ended-more still))
+          by false still = ap of (map-twice (with_ended one.id) (among (take n names)) (among (take (n + 1) names)) t.buffers (ended-more still))
 
       pub settled-within : (u : Tables) → Settled n u → n < length u.buffers
       settled-within u so_far = let e : length u.buffers ≡ length t.buffers = ap (λ (u : Tables). length u.buffers) so_far ∙ length-map (among (take n names)) t.buffers in omega (arith, low, e)

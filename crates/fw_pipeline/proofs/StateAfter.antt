@@ -18,12 +18,12 @@ use Rattle.row_laws.proofs.Found.{found-each}
 use Rattle.fw_components.specs.declared.component.Component.{Component}
 use Rattle.fw_components.specs.declared.component.Unit as units
 use Rattle.fw_components.specs.declared.component.Unit.TheVariants.{Host, Dai, Volume, Mixer, Mux, Eq, Buffer, Pipeline}
-use Rattle.fw_components.specs.Tables.{Tables, view_by, is_buffer, graph_of, streams_of, all_of, comp_by, kind_by, setting_by, ring_by, rings_of, frames_by, numbers_by}
+use Rattle.fw_components.specs.Tables.{Tables, view_by, is_buffer, graph_of, streams_of, all_of, comp_by, kind_by, setting_by, ring_by, rings_of, unit_frames, numbers_by}
 use Rattle.fw_components.specs.Changes.{set_at, set_unit, ended_unit}
 use Rattle.fw_components.specs.Kept.{IsKept, IsBuffering}
 use Rattle.fw_components.specs.Frames.{begun_by, begun_unit, IsFresh}
 use Rattle.fw_walks.proofs.Naming.{find-map}
-use Rattle.fw_walks.proofs.OnWays.{find-own}
+use Rattle.fw_components.proofs.HostWays.{find-own}
 use Rattle.fw_pipeline.specs.declared.phases.Trigger.{Trigger}
 use Rattle.fw_heap.specs.declared.run.Home.{Home}
 use Rattle.fw_pipeline.specs.States.{AreOf, with_tables}
@@ -34,9 +34,9 @@ use Rattle.fw_pipeline.proofs.Triggered.{face-settled}
 
 -- ---- rings
 
-each-settled : (v : View) (cs : List Component) → map (ring_seen v) (map ring_by cs) ≡ map ring_by cs → (c : Component) → IsIn c cs → cond (flows v c.id) (frames_by c.unit) [] ≡ frames_by c.unit
+each-settled : (v : View) (cs : List Component) → map (ring_seen v) (map ring_by cs) ≡ map ring_by cs → (c : Component) → IsIn c cs → cond (flows v c.id) (unit_frames c.unit) [] ≡ unit_frames c.unit
 each-settled v [] is c there = absurd there
-each-settled v (d ∷ cs) is c (inl same) = subst (λ (c : Component). cond (flows v c.id) (frames_by c.unit) [] ≡ frames_by c.unit) (sym same) (ap (λ (rs : List RingView). first rs) is)
+each-settled v (d ∷ cs) is c (inl same) = subst (λ (c : Component). cond (flows v c.id) (unit_frames c.unit) [] ≡ unit_frames c.unit) (sym same) (ap (λ (rs : List RingView). first rs) is)
   where
     first : List RingView → List Frame
     first [] = []
@@ -47,7 +47,7 @@ each-settled v (d ∷ cs) is c (inr more) = each-settled v cs (ap (λ (rs : List
     rest [] = []
     rest (r ∷ rs) = rs
 
-no-frames : (channels : ℕ) (words : List ℤ) (u : units.Unit) → frames_by (begun_unit channels words u) ≡ []
+no-frames : (channels : ℕ) (words : List ℤ) (u : units.Unit) → unit_frames (begun_unit channels words u) ≡ []
 no-frames channels words (Host capture phase params piece) = refl
 no-frames channels words (Dai capture format piece) = refl
 no-frames channels words (Volume gains piece) = refl
@@ -57,7 +57,7 @@ no-frames channels words (Eq eq next remaining) = refl
 no-frames channels words (Buffer size ring source sink) = refl
 no-frames channels words (Pipeline sched period complete piece) = refl
 
-none-ended : (u : units.Unit) → frames_by (ended_unit u) ≡ []
+none-ended : (u : units.Unit) → unit_frames (ended_unit u) ≡ []
 none-ended (Host capture phase params piece) = refl
 none-ended (Dai capture format piece) = refl
 none-ended (Volume gains piece) = refl
@@ -86,23 +86,23 @@ on true false is e = absurd (true≢false e)
 on false b is e = absurd (false≢true is)
 
 module _ (v w : View) where
-  ring-left : (c : Component) → cond (flows v c.id) (frames_by c.unit) [] ≡ frames_by c.unit → ring_by (settled_in w (begun_in v w c)) ≡ ring_seen w (ring_by c)
+  ring-left : (c : Component) → cond (flows v c.id) (unit_frames c.unit) [] ≡ unit_frames c.unit → ring_by (settled_in w (begun_in v w c)) ≡ ring_seen w (ring_by c)
   ring-left c settled = by (begins v w c.id) refl
     where
-      ended : (x : Component) → x.id ≡ c.id → ring_by (settled_in w x) ≡ ring c (cond (flows w c.id) (frames_by x.unit) [])
-      ended x same = over (flows w x.id) ∙ ap (λ (n : ℕ). let r : RingView = record { buffer = n; frames = cond (flows w n) (frames_by x.unit) [] } in r) same
+      ended : (x : Component) → x.id ≡ c.id → ring_by (settled_in w x) ≡ ring c (cond (flows w c.id) (unit_frames x.unit) [])
+      ended x same = over (flows w x.id) ∙ ap (λ (n : ℕ). let r : RingView = record { buffer = n; frames = cond (flows w n) (unit_frames x.unit) [] } in r) same
         where
-          over : (h : Bool) → ring_by (cond h x (record { id = x.id; pipe = x.pipe; channels = x.channels; unit = ended_unit x.unit })) ≡ ring x (cond h (frames_by x.unit) [])
+          over : (h : Bool) → ring_by (cond h x (record { id = x.id; pipe = x.pipe; channels = x.channels; unit = ended_unit x.unit })) ≡ ring x (cond h (unit_frames x.unit) [])
           over true = refl
           over false = ap (ring x) (none-ended x.unit)
 
       by : (h : Bool) → begins v w c.id ≡ h → ring_by (settled_in w (cond h (begun_by (channels_of w c.id) [] c) c)) ≡ ring_seen w (ring_by c)
       by true e =
-          let was : frames_by c.unit ≡ [] = sym settled ∙ ap (λ h. cond h (frames_by c.unit) []) (still v c.id (off (live w c.id) (live v c.id) e)) in
+          let was : unit_frames c.unit ≡ [] = sym settled ∙ ap (λ h. cond h (unit_frames c.unit) []) (still v c.id (off (live w c.id) (live v c.id) e)) in
           ended (begun_by (channels_of w c.id) [] c) refl ∙ ap (λ (fs : List Frame). ring c (cond (flows w c.id) fs [])) (no-frames (channels_of w c.id) [] c.unit ∙ sym was)
       by false e = ended c refl
 
-  rings-left : (bs : List Component) → ((c : Component) → IsIn c bs → cond (flows v c.id) (frames_by c.unit) [] ≡ frames_by c.unit) → map ring_by (map (λ c. settled_in w (begun_in v w c)) bs) ≡ map (ring_seen w) (map ring_by bs)
+  rings-left : (bs : List Component) → ((c : Component) → IsIn c bs → cond (flows v c.id) (unit_frames c.unit) [] ≡ unit_frames c.unit) → map ring_by (map (λ c. settled_in w (begun_in v w c)) bs) ≡ map (ring_seen w) (map ring_by bs)
   rings-left [] settled = refl
   rings-left (c ∷ bs) settled = ap (λ (p : RingView × List RingView). p.0 ∷ p.1) (λ i. (ring-left c (settled c (inl refl)) i, rings-left bs (λ d there. settled d (inr there)) i))
 

@@ -8,12 +8,12 @@ use Rattle.stream_law.specs.State.{FwState, View}
 use Rattle.stream_law.specs.Ways.{live}
 use Rattle.stream_law.specs.Seen.{seen, ring_seen}
 use Rattle.stream_law.proofs.Placing.{Ascends-distinct}
-use Rattle.mbox_link.specs.Step.{has_kind, has_phase, is_host, kind_at, is_used, set_stream}
+use Rattle.mbox_link.specs.Step.{has_kind, is_stream_phase, is_host, kind_at, is_used, set_stream}
 use Rattle.fw_heap.specs.declared.run.Home.{Home}
 use Rattle.fw_components.specs.Tables.{Tables, view_by, graph_of, streams_of, streams_by, rings_of}
 use Rattle.fw_components.specs.Changes.{set_at}
 use Rattle.fw_components.specs.Kept.{IsKept}
-use Rattle.fw_walks.specs.Walks.{is_marked}
+use Rattle.fw_places.specs.Walks.{is_marked}
 use Rattle.fw_pipeline.specs.declared.phases.Trigger.{Trigger}
 use Rattle.fw_pipeline.specs.Rows.{view_after, with_view}
 use Rattle.fw_pipeline.specs.States.{AreOf, with_tables}
@@ -34,7 +34,7 @@ abbrev pub set_tables : ℕ → Phase → Option Params → Tables → Tables
 set_tables host phase params t = record { comps = map (set_at host phase params) t.comps; buffers = t.buffers; pipes = t.pipes; joins = t.joins }
 
 module _ (what : Trigger) (host : ℕ) (p : Params) (t t1 t2 t3 : Tables) (kept : IsKept t) (used : is_used (graph_of t) host ≡ true)
-    (left : (has_kind is_host (kind_at (graph_of t) host) && has_phase (leaves what) (option_map (λ s. s.phase) (find (λ s. s.host == host) (streams_of t)))) ≡ true)
+    (left : (has_kind is_host (kind_at (graph_of t) host) && is_stream_phase (leaves what) (option_map (λ s. s.phase) (find (λ s. s.host == host) (streams_of t)))) ≡ true)
     (given : Some p ≡ params_of (view_by t) host)
     (set : t1 ≡ set_tables host (phase_after what) (params_after what (Some p)) t)
     (streams : streams_by (map (set_at host (phase_after what) (params_after what (Some p))) t.comps) ≡ map (set_stream host (phase_after what) (params_after what (Some p))) (streams_by t.comps))

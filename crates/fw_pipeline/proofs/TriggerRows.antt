@@ -15,12 +15,12 @@ use Rattle.stream_law.specs.State.{FwState}
 use Rattle.stream_law.specs.Seen.{seen}
 use Rattle.stream_law.proofs.Members.{IsIn, in-all, in-any, find-in}
 use Rattle.row_laws.proofs.Found.{found-each}
-use Rattle.mbox_link.specs.Step.{no_device, invalid, is_used, has_kind, is_host, kind_at, has_phase, phase_at, changed, set_phase, set_stream}
+use Rattle.mbox_link.specs.Step.{no_device, invalid, is_used, has_kind, is_host, kind_at, is_stream_phase, phase_at, stream_changed, set_phase, set_stream}
 use Rattle.fw_components.specs.declared.component.Component.{Component}
 use Rattle.fw_components.specs.declared.component.Unit as units
 use Rattle.fw_components.specs.declared.component.Unit.TheVariants.{Host, Dai, Volume, Mixer, Mux, Eq, Buffer, Pipeline}
 use Rattle.fw_components.specs.Tables.{Tables, graph_of, view_by, streams_of, comp_by, streams_by, with_stream_by, kind_by, is_host_unit}
-use Rattle.fw_components.specs.Changes.{is_idle}
+use Rattle.fw_components.specs.Changes.{is_idle_phase}
 use Rattle.fw_components.specs.Kept.{IsKept, IsStreamOf, IsStreaming}
 use Rattle.fw_walks.specs.Streams.{any_stream}
 use Rattle.fw_walks.proofs.OnWays.{any-each, any-streams}
@@ -39,7 +39,7 @@ changed_by Pause host = set_phase host Paused
 changed_by Release host = set_phase host Running
 changed_by Free host = set_stream host Idle None
 
-pub row-is : (what : Trigger) (f : FwState) (host : ℕ) → triggered what f host ≡ changed f host (leaves what) (changed_by what host)
+pub row-is : (what : Trigger) (f : FwState) (host : ℕ) → triggered what f host ≡ stream_changed f host (leaves what) (changed_by what host)
 row-is Start f host = refl
 row-is Stop f host = refl
 row-is Pause f host = refl
@@ -47,18 +47,18 @@ row-is Release f host = refl
 row-is Free f host = refl
 
 pub trigger-unused : (what : Trigger) (f : FwState) (host : ℕ) → is_used f.graph host ≡ false → triggered what f host ≡ Err no_device
-trigger-unused what f host none = row-is what f host ∙ ap (λ h. let r : Result FwState ℤ = cond (not h) (Err no_device) (cond (not (has_kind is_host (kind_at f.graph host) && has_phase (leaves what) (phase_at f host))) (Err invalid) (Ok (seen (record { graph = f.graph; streams = map (changed_by what host) f.streams }) None f))) in r) none
+trigger-unused what f host none = row-is what f host ∙ ap (λ h. let r : Result FwState ℤ = cond (not h) (Err no_device) (cond (not (has_kind is_host (kind_at f.graph host) && is_stream_phase (leaves what) (phase_at f host))) (Err invalid) (Ok (seen (record { graph = f.graph; streams = map (changed_by what host) f.streams }) None f))) in r) none
 
 module _ (what : Trigger) (f : FwState) (host : ℕ) (used : is_used f.graph host ≡ true) where
-  by-test : (h : Bool) → (has_kind is_host (kind_at f.graph host) && has_phase (leaves what) (phase_at f host)) ≡ h → triggered what f host ≡ cond (not h) (Err invalid) (Ok (seen (record { graph = f.graph; streams = map (changed_by what host) f.streams }) None f))
+  by-test : (h : Bool) → (has_kind is_host (kind_at f.graph host) && is_stream_phase (leaves what) (phase_at f host)) ≡ h → triggered what f host ≡ cond (not h) (Err invalid) (Ok (seen (record { graph = f.graph; streams = map (changed_by what host) f.streams }) None f))
   by-test h is =
       row-is what f host
       ∙ ap (λ (q : Bool × Bool). let r : Result FwState ℤ = cond (not q.0) (Err no_device) (cond (not q.1) (Err invalid) (Ok (seen (record { graph = f.graph; streams = map (changed_by what host) f.streams }) None f))) in r) (λ i. (used i, is i))
 
-  pub trigger-refused : (has_kind is_host (kind_at f.graph host) && has_phase (leaves what) (phase_at f host)) ≡ false → triggered what f host ≡ Err invalid
+  pub trigger-refused : (has_kind is_host (kind_at f.graph host) && is_stream_phase (leaves what) (phase_at f host)) ≡ false → triggered what f host ≡ Err invalid
   trigger-refused is = by-test false is
 
-  pub trigger-done : (has_kind is_host (kind_at f.graph host) && has_phase (leaves what) (phase_at f host)) ≡ true → triggered what f host ≡ Ok (seen (record { graph = f.graph; streams = map (changed_by what host) f.streams }) None f)
+  pub trigger-done : (has_kind is_host (kind_at f.graph host) && is_stream_phase (leaves what) (phase_at f host)) ≡ true → triggered what f host ≡ Ok (seen (record { graph = f.graph; streams = map (changed_by what host) f.streams }) None f)
   trigger-done is = by-test true is
 
 -- ---- the stream of a host
@@ -127,10 +127,10 @@ module _ (cs : List Component) (up : Ascends (λ c. c.id) cs) (host : ℕ) (what
       by (Some s) = refl
 
   -- a phase to leave has parameters
-  has-params : (phase : Phase) (params : Option Params) → IsStreamOf (is_idle phase) params → is_some (cond (leaves what phase) params None) ≡ leaves what phase
+  has-params : (phase : Phase) (params : Option Params) → IsStreamOf (is_idle_phase phase) params → is_some (cond (leaves what phase) params None) ≡ leaves what phase
   has-params phase params right = by (leaves what phase) refl params right
     where
-      moves : (what : Trigger) (phase : Phase) → leaves what phase ≡ true → is_idle phase ≡ false
+      moves : (what : Trigger) (phase : Phase) → leaves what phase ≡ true → is_idle_phase phase ≡ false
       moves Start Prepared e = refl
       moves Start Idle e = absurd (false≢true e)
       moves Start Running e = absurd (false≢true e)
@@ -152,7 +152,7 @@ module _ (cs : List Component) (up : Ascends (λ c. c.id) cs) (host : ℕ) (what
       moves Free Running e = absurd (false≢true e)
       moves Free Paused e = absurd (false≢true e)
 
-      by : (h : Bool) → leaves what phase ≡ h → (params : Option Params) → IsStreamOf (is_idle phase) params → is_some (cond h params None) ≡ h
+      by : (h : Bool) → leaves what phase ≡ h → (params : Option Params) → IsStreamOf (is_idle_phase phase) params → is_some (cond h params None) ≡ h
       by false is params right = refl
       by true is (Some p) right = refl
       by true is None idle = absurd (false≢true (sym (moves what phase is) ∙ idle))
@@ -161,14 +161,14 @@ module _ (cs : List Component) (up : Ascends (λ c. c.id) cs) (host : ℕ) (what
   abbrev pub left_of : Option Component → Option Params
   left_of o = option_and_then (λ c. left_by what c.unit) o
 
-  pub left-is : AllByRecursion (λ c. IsStreaming c.unit) cs → (o : Option Component) → find (λ c. c.id == host) cs ≡ o → is_some (left_of o) ≡ (has_kind is_host (option_map (λ c. kind_by c.unit) o) && has_phase (leaves what) (option_map (λ s. s.phase) (find (λ s. s.host == host) (streams_by cs))))
-  left-is each o at = by o at ∙ ap (λ (q : Option Phase). has_kind is_host (option_map (λ (c : Component). kind_by c.unit) o) && has_phase (leaves what) q) (phase-told o at)
+  pub left-is : AllByRecursion (λ c. IsStreaming c.unit) cs → (o : Option Component) → find (λ c. c.id == host) cs ≡ o → is_some (left_of o) ≡ (has_kind is_host (option_map (λ c. kind_by c.unit) o) && is_stream_phase (leaves what) (option_map (λ s. s.phase) (find (λ s. s.host == host) (streams_by cs))))
+  left-is each o at = by o at ∙ ap (λ (q : Option Phase). has_kind is_host (option_map (λ (c : Component). kind_by c.unit) o) && is_stream_phase (leaves what) q) (phase-told o at)
     where
       none : (h : Bool) → false ≡ (h && false)
       none true = refl
       none false = refl
 
-      unit-by : (u : units.Unit) → IsStreaming u → is_some (left_by what u) ≡ (is_host (kind_by u) && has_phase (leaves what) (option_map (λ (p : Phase × Option Params). p.0) (stream_in u)))
+      unit-by : (u : units.Unit) → IsStreaming u → is_some (left_by what u) ≡ (is_host (kind_by u) && is_stream_phase (leaves what) (option_map (λ (p : Phase × Option Params). p.0) (stream_in u)))
       unit-by (Host true phase params piece) right = has-params phase params right
       unit-by (Host false phase params piece) right = has-params phase params right
       unit-by (Dai capture format piece) right = none (is_host (kind_by (Dai capture format piece)))
@@ -179,7 +179,7 @@ module _ (cs : List Component) (up : Ascends (λ c. c.id) cs) (host : ℕ) (what
       unit-by (Buffer size ring source sink) right = refl
       unit-by (Pipeline sched period complete piece) right = refl
 
-      by : (o : Option Component) → find (λ c. c.id == host) cs ≡ o → is_some (left_of o) ≡ (has_kind is_host (option_map (λ c. kind_by c.unit) o) && has_phase (leaves what) (option_map (λ (p : Phase × Option Params). p.0) (stream_of_one o)))
+      by : (o : Option Component) → find (λ c. c.id == host) cs ≡ o → is_some (left_of o) ≡ (has_kind is_host (option_map (λ c. kind_by c.unit) o) && is_stream_phase (leaves what) (option_map (λ (p : Phase × Option Params). p.0) (stream_of_one o)))
       by None at = refl
       by (Some c) at = unit-by c.unit (in-all (λ (c : Component). IsStreaming c.unit) cs c each (find-in (λ c. c.id == host) cs c at).0)
 
@@ -198,7 +198,7 @@ module _ (cs : List Component) (up : Ascends (λ c. c.id) cs) (host : ℕ) (what
       kept false params is = absurd (cc is)
 
       by : (u : units.Unit) → IsStreaming u → left_by what u ≡ Some p → (option_and_then (λ (p : Phase × Option Params). p.1) (stream_in u) ≡ Some p) × (((1 ≤ p.channels) × (p.channels ≤ 8)) × (is_rate p.rate ≡ true))
-      by (Host capture phase params piece) e is = let same = kept (leaves what phase) params is in (same, right (is_idle phase) params e same)
+      by (Host capture phase params piece) e is = let same = kept (leaves what phase) params is in (same, right (is_idle_phase phase) params e same)
       by (Dai capture format piece) e is = absurd (cc is)
       by (Volume gains piece) e is = absurd (cc is)
       by (Mixer piece) e is = absurd (cc is)
@@ -209,10 +209,10 @@ module _ (cs : List Component) (up : Ascends (λ c. c.id) cs) (host : ℕ) (what
 
 -- and of what is found
 module _ (t : Tables) (kept : IsKept t) (host : ℕ) (what : Trigger) (o : Option Component) (at : find (λ c. c.id == host) t.comps ≡ o) where
-  pub left-tested : is_some (left_of t.comps kept.named.comps host what o) ≡ (has_kind is_host (kind_at (graph_of t) host) && has_phase (leaves what) (option_map (λ s. s.phase) (find (λ s. s.host == host) (streams_of t))))
+  pub left-tested : is_some (left_of t.comps kept.named.comps host what o) ≡ (has_kind is_host (kind_at (graph_of t) host) && is_stream_phase (leaves what) (option_map (λ s. s.phase) (find (λ s. s.host == host) (streams_of t))))
   left-tested =
       left-is t.comps kept.named.comps host what kept.streaming o at
-      ∙ ap (λ (k : Option Kind). has_kind is_host k && has_phase (leaves what) (option_map (λ s. s.phase) (find (λ s. s.host == host) (streams_of t))))
+      ∙ ap (λ (k : Option Kind). has_kind is_host k && is_stream_phase (leaves what) (option_map (λ s. s.phase) (find (λ s. s.host == host) (streams_of t))))
       (ap (option_map (λ (c : Component). kind_by c.unit)) (sym at) ∙ found-shown (λ (x : Comp). x.id == host) comp_by (λ (x : Comp). x.kind) t.comps)
 
   pub left-given : (r : Option Params) → r ≡ left_of t.comps kept.named.comps host what o → IfSome r (λ p. (Some p ≡ params_of (view_by t) host) × (((1 ≤ p.channels) × (p.channels ≤ 8)) × (is_rate p.rate ≡ true)))
@@ -241,10 +241,10 @@ host-unit cs host there = any-each (λ c. c.id == host && is_host_unit c.unit) (
     by id (Buffer size ring source sink) = none (id == host)
     by id (Pipeline sched period complete piece) = none (id == host)
 
-pub stream-there : (test : Phase → Bool) (host : ℕ) (ss : List StreamView) → has_phase test (option_map (λ (s : StreamView). s.phase) (find (λ s. s.host == host) ss)) ≡ true → list_any (λ s. s.host == host) ss ≡ true
+pub stream-there : (test : Phase → Bool) (host : ℕ) (ss : List StreamView) → is_stream_phase test (option_map (λ (s : StreamView). s.phase) (find (λ s. s.host == host) ss)) ≡ true → list_any (λ s. s.host == host) ss ≡ true
 stream-there test host ss is = by (find (λ s. s.host == host) ss) refl is
   where
-    by : (o : Option StreamView) → find (λ s. s.host == host) ss ≡ o → has_phase test (option_map (λ (s : StreamView). s.phase) o) ≡ true → list_any (λ s. s.host == host) ss ≡ true
+    by : (o : Option StreamView) → find (λ s. s.host == host) ss ≡ o → is_stream_phase test (option_map (λ (s : StreamView). s.phase) o) ≡ true → list_any (λ s. s.host == host) ss ≡ true
     by None at e = absurd (false≢true e)
     by (Some s) at e = let r = find-in (λ s. s.host == host) ss s at in in-any (λ s. s.host == host) ss s r.0 r.1
 

@@ -21,7 +21,7 @@ use Rattle.fw_components.specs.Tables.{Tables, view_by, graph_of, streams_of, st
 use Rattle.fw_components.specs.Changes.{set_at, ended_unit}
 use Rattle.fw_components.specs.Kept.{IsKept, IsBuffering}
 use Rattle.fw_components.specs.Frames.{begun_by, words_of}
-use Rattle.fw_walks.specs.Charts.{ids_of}
+use Rattle.fw_components.specs.Tables.{ids_of}
 use Rattle.fw_pipeline.specs.declared.phases.Trigger.{Trigger}
 use Rattle.fw_pipeline.specs.declared.phases.Trigger.TheVariants.{Start, Stop, Pause, Release, Free}
 use Rattle.fw_pipeline.specs.Triggers.{phase_after, params_after, params_of, begins, begun_in, settled_in, IsBegun, BecomeEach, IsTriggered}

@@ -12,7 +12,7 @@ use Rattle.fw_components.specs.declared.component.Unit.TheVariants.{Host}
 use Rattle.fw_components.specs.Tables.{Tables, graph_of}
 use Rattle.fw_walks.specs.declared.streams.Sort.TheVariants as sorts
 use Rattle.fw_walks.specs.Streams.{is_of, any_stream}
-use Rattle.fw_walks.specs.Charts.{ids_of}
+use Rattle.fw_components.specs.Tables.{ids_of}
 
 -- the stream of a host is Running or Paused
 abbrev pub is_moving_at : List Component → ℕ → Bool

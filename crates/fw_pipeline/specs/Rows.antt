@@ -10,7 +10,7 @@ use Rattle.fw_components.specs.Tables.{kind_by}
 use Rattle.mbox_link.specs.Step.{comp_free, buffer_free, pipe_free}
 use Rattle.fw_pipeline.specs.declared.freeing.Item.{Item}
 use Rattle.fw_pipeline.specs.declared.freeing.Item.TheVariants as items
-use Rattle.fw_walks.specs.Walks.{is_marked}
+use Rattle.fw_places.specs.Walks.{is_marked}
 use Rattle.fw_walks.specs.Streams.{is_of, any_stream}
 use Rattle.fw_walks.specs.declared.streams.Sort.TheVariants.{Set}
 
@@ -24,9 +24,9 @@ view_after (Ok f) = Ok (view_of f)
 view_after (Err e) = Err e
 
 -- the view that a call left where it was done, or its negative error
-abbrev pub answer_of : {X : Type 0} → View → Result X Errno → Result View ℤ
-answer_of v (Ok done) = Ok v
-answer_of v (Err error) = Err error.0
+abbrev pub view_answer : {X : Type 0} → View → Result X Errno → Result View ℤ
+view_answer v (Ok done) = Ok v
+view_answer v (Err error) = Err error.0
 
 -- ---- pipelines
 
@@ -52,10 +52,10 @@ is_growing ids to_source to_sink from_source from_sink c =
 -- ---- what is freed
 
 -- the row that frees what is asked for
-abbrev pub freed : Item → FwState → ℕ → Result FwState ℤ
-freed items.Component f id = comp_free f id
-freed items.Buffer f id = buffer_free f id
-freed items.Pipeline f id = pipe_free f id
+abbrev pub row_of_free : Item → FwState → ℕ → Result FwState ℤ
+row_of_free items.Component f id = comp_free f id
+row_of_free items.Buffer f id = buffer_free f id
+row_of_free items.Pipeline f id = pipe_free f id
 
 -- the first of two, if it is there, or the second
 abbrev pub first_there : Option ℕ → Option ℕ → Option ℕ

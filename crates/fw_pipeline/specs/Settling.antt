@@ -3,8 +3,8 @@ use Rattle.std.specs.Prelude.{◌≡◌, ℕ, List, Bool, false, ◌&&◌, not, 
 use Rattle.std.specs.Option.{option_map_or}
 use Rattle.fw_components.specs.declared.component.Component.{Component}
 use Rattle.fw_components.specs.Tables.{Tables, source_by, sink_by}
-use Rattle.fw_components.specs.Changes.{ended_at}
-use Rattle.fw_walks.specs.Walks.{is_marked}
+use Rattle.fw_components.specs.Changes.{with_ended}
+use Rattle.fw_places.specs.Walks.{is_marked}
 use Rattle.fw_pipeline.specs.Triggers.{IsBegun, BecomeEach}
 
 -- an id is marked after, and was not before
@@ -28,4 +28,4 @@ flows_by ids marks c = is_marked ids marks c.id && is_end_marked ids marks (sour
 
 -- the tables once the ring of a buffer is empty, unless frames may lie in it
 abbrev pub ended_unless : Bool → ℕ → Tables → Tables
-ended_unless flow id t = if flow then t else record { comps = t.comps; buffers = map (ended_at id) t.buffers; pipes = t.pipes; joins = t.joins }
+ended_unless flow id t = if flow then t else record { comps = t.comps; buffers = map (with_ended id) t.buffers; pipes = t.pipes; joins = t.joins }

@@ -4,17 +4,17 @@ use Rattle.sof_base.specs.declared.errno.Errno.{Errno}
 use Rattle.stream_law.specs.State.{FwState}
 use Rattle.std.specs.List.{AllByRecursion}
 use Rattle.fw_heap.specs.declared.run.Home.{Home}
-use Rattle.fw_components.specs.Changes.{IsOf}
-use Rattle.fw_components.specs.Tables.{Tables, all_of, graph_of, streams_of, rings_of, histories_of, staging_of, pieces_of}
+use Rattle.fw_components.specs.Changes.{IsOfHome}
+use Rattle.fw_components.specs.Tables.{Tables, all_of, graph_of, streams_of, rings_of, histories_of, staging_of, carved_pieces}
 
 -- each piece is of this region
 abbrev pub AreOf : Home → Tables → Type 0
-AreOf home t = AllByRecursion (IsOf home) (all_of t)
+AreOf home t = AllByRecursion (IsOfHome home) (all_of t)
 
 -- a state whose graph, streams, rings, histories, staged bytes and pieces are those of tables
 abbrev pub with_tables : Tables → FwState → FwState
 with_tables t f = record f {
-  heap = record { holes = f.heap.holes; pieces = pieces_of t };
+  heap = record { holes = f.heap.holes; pieces = carved_pieces t };
   graph = graph_of t;
   streams = streams_of t;
   rings = rings_of t;

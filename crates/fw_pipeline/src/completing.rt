@@ -5,7 +5,7 @@ ghost use Rattle.mbox_link.specs.Step.{pipe_complete};
 ghost use Rattle.fw_components.specs.Tables.{view_by, graph_of, sched_by, complete_by};
 ghost use Rattle.fw_components.specs.Changes.{completed_at};
 ghost use Rattle.fw_components.specs.Kept.{IsKept};
-ghost use Rattle.fw_pipeline.specs.Rows.{answer_of, view_after, with_view, terms_at};
+ghost use Rattle.fw_pipeline.specs.Rows.{view_answer, view_after, with_view, terms_at};
 
 use fw_components::{Registry, Unit, completions_are_seen};
 use fw_walks::{find, has_comp, is_used};
@@ -14,7 +14,7 @@ use sof_base::Errno;
 /// The pipeline of this id is complete. Refused with -19 where the id or that of its scheduling component names nothing, -16 where it
 /// is complete, and -22 where they are no pipeline and no component.
 pub fn complete(registry: &mut Registry, id: u32) -> Result<(), Errno>
-    ensures answer { (f : FwState) → answer_of (view_by registry.new) result ≡ view_after (pipe_complete (with_view (view_by registry.old) f) id) }
+    ensures answer { (f : FwState) → view_answer (view_by registry.new) result ≡ view_after (pipe_complete (with_view (view_by registry.old) f) id) }
     ensures done { OnOk result (registry.new ≡ record { comps = registry.old.comps; buffers = registry.old.buffers; pipes = map (completed_at id) registry.old.pipes; joins = registry.old.joins }) }
     ensures kept { OnErr result (registry.new ≡ registry.old) }
 {

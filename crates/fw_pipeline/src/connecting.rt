@@ -3,8 +3,8 @@ ghost use Rattle.std.specs.Prelude.{◌≡◌, ◌||◌, OnErr, OnOk, true};
 ghost use Rattle.stream_law.specs.State.{FwState};
 ghost use Rattle.mbox_link.specs.Step.{connect as connect_row, is_joined as has_join, takes_join as takes_one_more, leads_in as goes_in, leads_out as goes_out, has_free_out as takes_out, has_free_in as takes_in, kind_at as named_kind};
 ghost use Rattle.fw_components.specs.Tables.{view_by, graph_of};
-ghost use Rattle.fw_components.specs.Changes.{with_join};
-ghost use Rattle.fw_pipeline.specs.Rows.{answer_of, view_after, with_view};
+ghost use Rattle.fw_components.specs.Changes.{tables_with_join};
+ghost use Rattle.fw_pipeline.specs.Rows.{view_answer, view_after, with_view};
 
 use crate::one_join::is_refused;
 use fw_components::Registry;
@@ -18,8 +18,8 @@ use sof_base::Errno;
 /// of the buffer is joined, and -22 where they are not a component and a buffer, where the component takes no more, or for what
 /// walks would reach.
 pub fn connect(registry: &mut Registry, source: u32, sink: u32) -> Result<(), Errno>
-    ensures answer { (f : FwState) → answer_of (view_by registry.new) result ≡ view_after (connect_row (with_view (view_by registry.old) f) source sink) }
-    ensures done { OnOk result (registry.new ≡ with_join (record { source = source; sink = sink }) registry.old) }
+    ensures answer { (f : FwState) → view_answer (view_by registry.new) result ≡ view_after (connect_row (with_view (view_by registry.old) f) source sink) }
+    ensures done { OnOk result (registry.new ≡ tables_with_join (record { source = source; sink = sink }) registry.old) }
     ensures kept { OnErr result (registry.new ≡ registry.old) }
 {
     if !is_used(registry, source) || !is_used(registry, sink) {

@@ -4,9 +4,9 @@ ghost use Rattle.std.specs.List.{list_any, AllByRecursion};
 ghost use Rattle.stream_law.specs.State.{FwState};
 ghost use Rattle.mbox_link.specs.Step.{comp_free, buffer_free, pipe_free, has_complete_pipe as is_of_complete_pipe, is_complete as is_whole, index_of, is_held as is_held_by, is_index_held as is_index_held_by, touches as is_touching};
 ghost use Rattle.fw_components.specs.Tables.{view_by, graph_of, streams_of, all_of, complete_by};
-ghost use Rattle.fw_components.specs.Changes.{IsOf, without, given_found, found};
+ghost use Rattle.fw_components.specs.Changes.{IsOfHome, tables_without, given_found, found};
 ghost use Rattle.fw_components.specs.Kept.{IsKept};
-ghost use Rattle.fw_pipeline.specs.Rows.{answer_of, view_after, with_view, freed, first_there};
+ghost use Rattle.fw_pipeline.specs.Rows.{view_answer, view_after, with_view, row_of_free, first_there};
 
 use fw_components::{Component, Registry, Unit, removals_are_seen};
 use fw_heap::Region;
@@ -31,9 +31,9 @@ pub fn free_item(
     id: u32,
     what: Item,
 ) -> Result<(), Errno>
-    requires { AllByRecursion (IsOf region.old.home) (all_of registry.old) }
-    ensures answer { (f : FwState) → answer_of (view_by registry.new) result ≡ view_after (freed what (with_view (view_by registry.old) f) id) }
-    ensures done { OnOk result (registry.new ≡ without id registry.old) }
+    requires { AllByRecursion (IsOfHome region.old.home) (all_of registry.old) }
+    ensures answer { (f : FwState) → view_answer (view_by registry.new) result ≡ view_after (row_of_free what (with_view (view_by registry.old) f) id) }
+    ensures done { OnOk result (registry.new ≡ tables_without id registry.old) }
     ensures holes { OnOk result (region.new.holes ≡ given_found (found registry.old id) region.old.holes) }
     ensures same { (region.new.home ≡ region.old.home) × (region.new.size ≡ region.old.size) × (region.new.usable ≡ region.old.usable) }
     ensures kept { OnErr result ((registry.new ≡ registry.old) × (region.new ≡ region.old)) }
@@ -47,9 +47,9 @@ pub fn free_item(
 
 // A component that is joined to nothing is gone.
 fn free_component(registry: &mut Registry, region: &mut Region, id: u32) -> Result<(), Errno>
-    requires { AllByRecursion (IsOf region.old.home) (all_of registry.old) }
-    ensures answer { (f : FwState) → answer_of (view_by registry.new) result ≡ view_after (comp_free (with_view (view_by registry.old) f) id) }
-    ensures done { OnOk result (registry.new ≡ without id registry.old) }
+    requires { AllByRecursion (IsOfHome region.old.home) (all_of registry.old) }
+    ensures answer { (f : FwState) → view_answer (view_by registry.new) result ≡ view_after (comp_free (with_view (view_by registry.old) f) id) }
+    ensures done { OnOk result (registry.new ≡ tables_without id registry.old) }
     ensures holes { OnOk result (region.new.holes ≡ given_found (found registry.old id) region.old.holes) }
     ensures same { (region.new.home ≡ region.old.home) × (region.new.size ≡ region.old.size) × (region.new.usable ≡ region.old.usable) }
     ensures kept { OnErr result ((registry.new ≡ registry.old) × (region.new ≡ region.old)) }
@@ -70,9 +70,9 @@ fn free_component(registry: &mut Registry, region: &mut Region, id: u32) -> Resu
 
 // A buffer is gone with its joins.
 fn free_buffer(registry: &mut Registry, region: &mut Region, id: u32) -> Result<(), Errno>
-    requires { AllByRecursion (IsOf region.old.home) (all_of registry.old) }
-    ensures answer { (f : FwState) → answer_of (view_by registry.new) result ≡ view_after (buffer_free (with_view (view_by registry.old) f) id) }
-    ensures done { OnOk result (registry.new ≡ without id registry.old) }
+    requires { AllByRecursion (IsOfHome region.old.home) (all_of registry.old) }
+    ensures answer { (f : FwState) → view_answer (view_by registry.new) result ≡ view_after (buffer_free (with_view (view_by registry.old) f) id) }
+    ensures done { OnOk result (registry.new ≡ tables_without id registry.old) }
     ensures holes { OnOk result (region.new.holes ≡ given_found (found registry.old id) region.old.holes) }
     ensures same { (region.new.home ≡ region.old.home) × (region.new.size ≡ region.old.size) × (region.new.usable ≡ region.old.usable) }
     ensures kept { OnErr result ((registry.new ≡ registry.old) × (region.new ≡ region.old)) }
@@ -93,9 +93,9 @@ fn free_buffer(registry: &mut Registry, region: &mut Region, id: u32) -> Result<
 
 // A pipeline is gone.
 fn free_pipeline(registry: &mut Registry, region: &mut Region, id: u32) -> Result<(), Errno>
-    requires { AllByRecursion (IsOf region.old.home) (all_of registry.old) }
-    ensures answer { (f : FwState) → answer_of (view_by registry.new) result ≡ view_after (pipe_free (with_view (view_by registry.old) f) id) }
-    ensures done { OnOk result (registry.new ≡ without id registry.old) }
+    requires { AllByRecursion (IsOfHome region.old.home) (all_of registry.old) }
+    ensures answer { (f : FwState) → view_answer (view_by registry.new) result ≡ view_after (pipe_free (with_view (view_by registry.old) f) id) }
+    ensures done { OnOk result (registry.new ≡ tables_without id registry.old) }
     ensures holes { OnOk result (region.new.holes ≡ given_found (found registry.old id) region.old.holes) }
     ensures same { (region.new.home ≡ region.old.home) × (region.new.size ≡ region.old.size) × (region.new.usable ≡ region.old.usable) }
     ensures kept { OnErr result ((registry.new ≡ registry.old) × (region.new ≡ region.old)) }

@@ -1,18 +1,19 @@
 // Whether one join more is refused for what walks would reach: for a cycle, for a capture's host that a playback's would reach, and
 // for the way of a stream with parameters that would grow. Walks along the joins that are there, from and to both ends, tell it.
-ghost use Rattle.std.specs.Prelude.{◌≡◌, ◌&&◌, ◌||◌, length, true, false};
+ghost use Rattle.std.specs.Prelude.{◌≡◌, ◌&&◌, ◌||◌, ℕ, length, true, false};
 ghost use Rattle.std.specs.List.{list_any, AllByRecursion};
 ghost use Rattle.stream_law.specs.Joins.{is_play, would_cycle, would_reach, would_grow};
 ghost use Rattle.stream_law.specs.Ways.{is_capture};
 ghost use Rattle.mbox_link.specs.Step.{takes_join};
 ghost use Rattle.fw_components.specs.Tables.{graph_of, streams_of, kind_by};
 ghost use Rattle.fw_components.specs.Kept.{IsKept};
-ghost use Rattle.fw_walks.specs.Charts.{IsOf};
-ghost use Rattle.fw_walks.specs.Walks.{leads_by, is_listed, is_marked as is_marked_at};
+ghost use Rattle.fw_walks.specs.Charts.{IsChartOf};
+ghost use Rattle.fw_places.specs.Walks.{leads_by, is_listed, is_marked as is_marked_at};
 ghost use Rattle.fw_pipeline.specs.Rows.{is_growing as would_lead_on};
 
 use fw_components::{Component, Registry};
-use fw_walks::{Places, Sort, captures, has_stream, plays};
+use fw_places::Places;
+use fw_walks::{Sort, captures, has_stream, mark_hosts, plays};
 
 /// Whether a join of a component and a buffer is refused for what walks would reach.
 pub(crate) fn is_refused(registry: &Registry, source: u32, sink: u32) -> bool
@@ -20,33 +21,44 @@ pub(crate) fn is_refused(registry: &Registry, source: u32, sink: u32) -> bool
     ensures refused { result ≡ ((would_cycle (graph_of registry.now) source sink || would_reach (graph_of registry.now) source sink) || would_grow (graph_of registry.now) (streams_of registry.now) source sink) }
     ensures kept { IsKept registry.now }
 {
-    let places = Places::of(registry);
-    closes(registry, &places, source, sink)
-        || meets(registry, &places, source, sink)
-        || grows(registry, &places, source, sink)
+    let places = registry.places();
+    let from_sink = places.reached(sink, false);
+    let to_source = places.reached(source, true);
+    closes(registry, &places, source, sink, &from_sink)
+        || meets(registry, &places, source, sink, &to_source, &from_sink)
+        || grows(registry, &places, source, sink, &to_source, &from_sink)
 }
 
 // Whether a walk leads from the sink to the source already.
-fn closes(registry: &Registry, places: &Places, source: u32, sink: u32) -> bool
-    requires chart { IsOf registry.now places.now }
+fn closes(registry: &Registry, places: &Places, source: u32, sink: u32, from_sink: &[bool]) -> bool
+    requires chart { IsChartOf registry.now places.now }
     requires takes { takes_join (graph_of registry.now) source sink ≡ true }
+    requires size { length from_sink.now ≡ 257 }
+    requires from_sink { (x : ℕ) → is_listed places.now.ids x ≡ true → is_marked_at places.now.ids from_sink.now x ≡ leads_by false places.now.joins sink x }
     ensures cycle { result ≡ would_cycle (graph_of registry.now) source sink }
     ensures kept { IsKept registry.now }
 {
     let _ = registry.joins();
-    let from_sink = places.reached(sink, false);
-    places.has(&from_sink, source)
+    places.has(from_sink, source)
 }
 
 // Whether a capture's host would be reached from a playback's.
-fn meets(registry: &Registry, places: &Places, source: u32, sink: u32) -> bool
-    requires chart { IsOf registry.now places.now }
+fn meets(
+    registry: &Registry,
+    places: &Places,
+    source: u32,
+    sink: u32,
+    to_source: &[bool],
+    from_sink: &[bool],
+) -> bool
+    requires chart { IsChartOf registry.now places.now }
     requires takes { takes_join (graph_of registry.now) source sink ≡ true }
+    requires sizes { (length to_source.now ≡ 257) × (length from_sink.now ≡ 257) }
+    requires to_source { (x : ℕ) → is_listed places.now.ids x ≡ true → is_marked_at places.now.ids to_source.now x ≡ leads_by true places.now.joins source x }
+    requires from_sink { (x : ℕ) → is_listed places.now.ids x ≡ true → is_marked_at places.now.ids from_sink.now x ≡ leads_by false places.now.joins sink x }
     ensures { result ≡ would_reach (graph_of registry.now) source sink }
 {
-    let to_source = places.reached(source, true);
-    let from_sink = places.reached(sink, false);
-    meet(registry.comps(), places, &to_source, &from_sink)
+    meet(registry.comps(), places, to_source, from_sink)
 }
 
 // The same by what leads to the source and what the sink leads to.
@@ -61,53 +73,41 @@ fn meet(comps: &[Component], places: &Places, to_source: &[bool], from_sink: &[b
 }
 
 // Whether the way of a stream that has parameters would hold more.
-fn grows(registry: &Registry, places: &Places, source: u32, sink: u32) -> bool
-    requires chart { IsOf registry.now places.now }
+fn grows(
+    registry: &Registry,
+    places: &Places,
+    source: u32,
+    sink: u32,
+    to_source: &[bool],
+    from_sink: &[bool],
+) -> bool
+    requires chart { IsChartOf registry.now places.now }
     requires takes { takes_join (graph_of registry.now) source sink ≡ true }
+    requires sizes { (length to_source.now ≡ 257) × (length from_sink.now ≡ 257) }
+    requires to_source { (x : ℕ) → is_listed places.now.ids x ≡ true → is_marked_at places.now.ids to_source.now x ≡ leads_by true places.now.joins source x }
+    requires from_sink { (x : ℕ) → is_listed places.now.ids x ≡ true → is_marked_at places.now.ids from_sink.now x ≡ leads_by false places.now.joins sink x }
     ensures { result ≡ would_grow (graph_of registry.now) (streams_of registry.now) source sink }
 {
-    let to_source = places.reached(source, true);
     let to_sink = places.reached(sink, true);
     let from_source = places.reached(source, false);
-    let from_sink = places.reached(sink, false);
     any_growing(
         registry.comps(),
         places,
-        &to_source,
+        to_source,
         &to_sink,
         &from_source,
-        &from_sink,
+        from_sink,
     )
 }
 
-// Whether a capture's host is reached from a playback's.
+// Whether a capture's host is reached from a playback's, by one walk from all hosts of playbacks.
 fn crosses(comps: &[Component], places: &Places) -> bool
     requires { AllByRecursion (λ c. is_listed places.now.ids c.id ≡ true) comps.now }
     ensures { result ≡ list_any (λ a. is_play (kind_by a.unit) && list_any (λ b. is_capture (kind_by b.unit) && leads_by false places.now.joins a.id b.id) comps.now) comps.now }
 {
-    for host in comps {
-        if leads_across(comps, places, host) {
-            return true;
-        }
-    }
-    false
-}
-
-// Whether one is a playback's host from which a capture's is reached.
-fn leads_across(comps: &[Component], places: &Places, host: &Component) -> bool
-    requires { AllByRecursion (λ c. is_listed places.now.ids c.id ≡ true) comps.now }
-    ensures { result ≡ (is_play (kind_by host.now.unit) && list_any (λ b. is_capture (kind_by b.unit) && leads_by false places.now.joins host.now.id b.id) comps.now) }
-{
-    plays(&host.unit) && leads_to_capture(comps, places, host.id)
-}
-
-// Whether a capture's host is reached from an id.
-fn leads_to_capture(comps: &[Component], places: &Places, id: u32) -> bool
-    requires { AllByRecursion (λ c. is_listed places.now.ids c.id ≡ true) comps.now }
-    ensures { result ≡ list_any (λ b. is_capture (kind_by b.unit) && leads_by false places.now.joins id b.id) comps.now }
-{
-    let behind = places.reached(id, false);
-    any_capture(comps, places, &behind)
+    let mut marks = mark_hosts(comps, places, Sort::All, false);
+    places.spread(&mut marks, false);
+    any_capture(comps, places, &marks)
 }
 
 // Whether a playback's host is marked.

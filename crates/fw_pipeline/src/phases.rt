@@ -1,7 +1,7 @@
 // The phases that triggers leave, and what comes.
 ghost use Rattle.std.specs.Prelude.{◌≡◌, ◌≤◌, true, Some};
 ghost use Rattle.sof_base.specs.Rates.{is_rate};
-ghost use Rattle.fw_components.specs.Changes.{is_idle};
+ghost use Rattle.fw_components.specs.Changes.{is_idle_phase};
 ghost use Rattle.fw_components.specs.Kept.{IsStreamOf};
 ghost use Rattle.fw_pipeline.specs.Triggers.{leaves as is_left, phase_after as next_phase, params_after as next_params};
 
@@ -47,7 +47,7 @@ pub(crate) fn params_after(what: Trigger, p: Params) -> Option<Params>
     requires channels { (1 ≤ p.channels) × (p.channels ≤ 8) }
     requires rate { is_rate p.rate ≡ true }
     ensures params { result ≡ next_params what (Some p) }
-    ensures right { IsStreamOf (is_idle (next_phase what)) result }
+    ensures right { IsStreamOf (is_idle_phase (next_phase what)) result }
 {
     match what {
         Trigger::Free => None,

@@ -9,17 +9,18 @@ ghost use Rattle.mbox_link.specs.Step.{pcm_params, has_kind, goes as has_directi
 ghost use Rattle.fw_components.specs.Tables.{view_by, graph_of, streams_of, rings_of, comp_by, edge_by};
 ghost use Rattle.fw_components.specs.Changes.{set_at};
 ghost use Rattle.fw_components.specs.Kept.{IsKept};
-ghost use Rattle.fw_walks.specs.Charts.{IsOf, ids_of};
-ghost use Rattle.fw_walks.specs.Walks.{is_listed, is_marked};
-ghost use Rattle.fw_pipeline.specs.Rows.{answer_of, view_after, with_view};
+ghost use Rattle.fw_components.specs.Tables.{ids_of};
+ghost use Rattle.fw_walks.specs.Charts.{IsChartOf};
+ghost use Rattle.fw_places.specs.Walks.{is_listed, is_marked};
+ghost use Rattle.fw_pipeline.specs.Rows.{view_answer, view_after, with_view};
 ghost use Rattle.fw_pipeline.specs.States.{with_tables, told_state};
 ghost use Rattle.fw_pipeline.specs.Preparing.{is_moving_at, is_refused, shape_by, suits};
 
 use crate::freeing::is_complete;
 use fw_components::{Component, Registry, Unit, settings_are_seen};
+use fw_places::Places;
 use fw_walks::{
-    Places, Sort, count_ins, count_outs, fits, has_stream, is_used, kind_at, kind_of, sink_in,
-    source_in,
+    Sort, count_ins, count_outs, fits, has_stream, is_used, kind_at, kind_of, sink_in, source_in,
 };
 use sof_base::{Errno, Params};
 use stream_law::{Kind, Phase};
@@ -29,7 +30,7 @@ use stream_law::{Kind, Phase};
 /// where streams would no longer agree.
 pub fn params(registry: &mut Registry, host: u32, direction: u32, p: Params) -> Result<(), Errno>
     requires { (1 ≤ p.channels) × (p.channels ≤ 8) }
-    ensures answer { (f : FwState) → answer_of (view_by registry.new) result ≡ view_after (pcm_params (with_view (view_by registry.old) f) host direction p) }
+    ensures answer { (f : FwState) → view_answer (view_by registry.new) result ≡ view_after (pcm_params (with_view (view_by registry.old) f) host direction p) }
     ensures state { (f : FwState) → map (ring_seen (view_by registry.old)) (rings_of registry.old) ≡ rings_of registry.old → told_state registry.new f result ≡ pcm_params (with_tables registry.old f) host direction p }
     ensures done { OnOk result (registry.new ≡ record { comps = map (set_at host phases.Prepared (Some p)) registry.old.comps; buffers = registry.old.buffers; pipes = registry.old.pipes; joins = registry.old.joins }) }
     ensures kept { OnErr result (registry.new ≡ registry.old) }
@@ -50,7 +51,7 @@ fn refuses(registry: &Registry, host: u32, direction: u32, p: Params) -> bool
     ensures refused { result ≡ is_refused (view_by registry.now) host direction p (is_moving_at registry.now.comps host) }
     ensures kept { IsKept registry.now }
 {
-    let places = Places::of(registry);
+    let places = registry.places();
     !goes_at(registry, host, direction)
         || moves(registry, host)
         || !has_right_rate(p.rate)
@@ -103,7 +104,7 @@ fn has_right_rate(rate: u32) -> bool
 // Whether all that is on the way of a host's stream is ready.
 #[tactic(auto, unfolding(mbox_link::specs::Step::is_way_ready))]
 fn is_way_ready(registry: &Registry, places: &Places, host: u32) -> bool
-    requires { IsOf registry.now places.now }
+    requires { IsChartOf registry.now places.now }
     ensures { result ≡ has_ready_way (graph_of registry.now) host }
 {
     has_ready_comps(registry, places, host) && has_ready_buffers(registry, places, host)
@@ -111,7 +112,7 @@ fn is_way_ready(registry: &Registry, places: &Places, host: u32) -> bool
 
 // Whether all components on its way are.
 fn has_ready_comps(registry: &Registry, places: &Places, host: u32) -> bool
-    requires { IsOf registry.now places.now }
+    requires { IsChartOf registry.now places.now }
     ensures { result ≡ list_all (λ c. not (on_way (graph_of registry.now) host c.id) || is_ready (graph_of registry.now) c) (graph_of registry.now).comps }
 {
     let marks = way(registry, places, host);
@@ -120,7 +121,7 @@ fn has_ready_comps(registry: &Registry, places: &Places, host: u32) -> bool
 
 // Whether all buffers on its way are.
 fn has_ready_buffers(registry: &Registry, places: &Places, host: u32) -> bool
-    requires { IsOf registry.now places.now }
+    requires { IsChartOf registry.now places.now }
     ensures { result ≡ list_all (λ e. not (on_way (graph_of registry.now) host e.buffer) || is_edge_ready (graph_of registry.now) e) (graph_of registry.now).edges }
 {
     let marks = way(registry, places, host);
@@ -176,7 +177,7 @@ fn is_buffer_ready(registry: &Registry, buffer: &Component) -> bool
 
 /// What is on the way of a host's stream.
 pub(crate) fn way(registry: &Registry, places: &Places, host: u32) -> [bool; 257]
-    requires { IsOf registry.now places.now }
+    requires { IsChartOf registry.now places.now }
     ensures { (x : ℕ) → is_listed places.now.ids x ≡ true → is_marked places.now.ids result x ≡ on_way (graph_of registry.now) host x }
 {
     places.reached(host, captures_at(registry, host))
@@ -194,7 +195,7 @@ fn captures_at(registry: &Registry, id: u32) -> bool
 
 // Whether streams agree once a host's stream has these parameters.
 fn agrees(registry: &Registry, places: &Places, host: u32, p: Params) -> bool
-    requires { IsOf registry.now places.now }
+    requires { IsChartOf registry.now places.now }
     ensures { result ≡ agree (record { graph = graph_of registry.now; streams = map (set_stream host phases.Prepared (Some p)) (streams_of registry.now) }) }
 {
     settings_are_seen();
@@ -203,7 +204,7 @@ fn agrees(registry: &Registry, places: &Places, host: u32, p: Params) -> bool
 
 // Whether each two of these suit each other then.
 fn all_suit(registry: &Registry, comps: &[Component], places: &Places, host: u32, p: Params) -> bool
-    requires { IsOf registry.now places.now }
+    requires { IsChartOf registry.now places.now }
     ensures { result ≡ list_all (λ c. list_all (λ d. suits registry.now host p c d) comps.now) comps.now }
 {
     comps
@@ -220,7 +221,7 @@ fn suits_all(
     p: Params,
     one: &Component,
 ) -> bool
-    requires { IsOf registry.now places.now }
+    requires { IsChartOf registry.now places.now }
     ensures { result ≡ list_all (λ d. suits registry.now host p one.now d) comps.now }
 {
     comps
@@ -237,7 +238,7 @@ fn suits_one(
     one: &Component,
     other: &Component,
 ) -> bool
-    requires { IsOf registry.now places.now }
+    requires { IsChartOf registry.now places.now }
     ensures { result ≡ suits registry.now host p one.now other.now }
 {
     has_shape(shape(one, host, p), shape(other, host, p))
@@ -281,7 +282,7 @@ fn has_shape(one: Option<Params>, other: Option<Params>) -> bool
 
 // Whether the ways of two hosts share something.
 fn touches(registry: &Registry, places: &Places, one: u32, other: u32) -> bool
-    requires { IsOf registry.now places.now }
+    requires { IsChartOf registry.now places.now }
     ensures { result ≡ list_any (λ x. on_way (graph_of registry.now) one x && on_way (graph_of registry.now) other x) (ids_of registry.now) }
 {
     let first = way(registry, places, one);

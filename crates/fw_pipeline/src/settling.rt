@@ -6,13 +6,14 @@ ghost use Rattle.fw_components.specs.declared.component.Component.{Component};
 ghost use Rattle.fw_components.specs.Tables.{view_by, source_by, sink_by};
 ghost use Rattle.fw_components.specs.Changes.{is_there};
 ghost use Rattle.fw_components.specs.Kept.{IsKept};
-ghost use Rattle.fw_walks.specs.Charts.{ids_of};
-ghost use Rattle.fw_walks.specs.Walks.{is_marked};
+ghost use Rattle.fw_components.specs.Tables.{ids_of};
+ghost use Rattle.fw_places.specs.Walks.{is_marked};
 ghost use Rattle.fw_pipeline.specs.Triggers.{IsBegun, BecomeEach, settled_in};
 ghost use Rattle.fw_pipeline.specs.Settling.{begins_by, HaveBegun, is_end_marked, flows_by, ended_unless};
 
 use fw_components::{Component, Registry};
-use fw_walks::{Places, sink_in, source_in};
+use fw_places::Places;
+use fw_walks::{sink_in, source_in};
 use sof_base::Params;
 
 /// What is marked after and was not before begins with the channels of these parameters.

@@ -24,12 +24,12 @@ use Rattle.fw_components.specs.Tables.{Tables, graph_of, view_by, kind_by, comp_
 use Rattle.stream_law.proofs.Placing.{Ascends-distinct}
 use Rattle.row_laws.proofs.Found.{found-each}
 use Rattle.row_laws.proofs.Stays.{all-of, find-some}
-use Rattle.fw_components.specs.Changes.{is_idle}
+use Rattle.fw_components.specs.Changes.{is_idle_phase}
 use Rattle.fw_components.specs.Kept.{IsKept, IsPiping, IsStreamOf, IsStreaming}
-use Rattle.fw_walks.proofs.Marking.{all-at}
+use Rattle.fw_places.proofs.Marking.{all-at}
 use Rattle.fw_walks.proofs.Naming.{find-map}
 use Rattle.fw_schedule.specs.Units.{unit_format}
-use Rattle.fw_schedule.specs.Outputs.{is_output}
+use Rattle.fw_schedule.specs.Outputs.{is_output_kind}
 use Rattle.fw_schedule.proofs.Running.{run-most}
 
 -- what a kind passes the component does
@@ -75,10 +75,10 @@ stream-found id (c ∷ cs) d found capture phase params piece is = by (c.id == i
         ∙ ap (λ h. option_map_or (λ s. option_map_or (λ p. p.format) s.params S32) (cond h (Some (record { host = c.id; phase = phase; params = params })) (find (λ s. s.host == id) (streams_by cs))) S32) own
     by false other found rest = other-stream id c.id c.unit (streams_by cs) other ∙ rest found
 
-format-is : (t : Tables) (id : ℕ) (d : Component) → find (λ x. x.id == id) t.comps ≡ Some d → comp_of (graph_of t) id ≡ Some (comp_by d) → (is_input (kind_by d.unit) || is_output (kind_by d.unit)) ≡ true → unit_format d.unit ≡ format_of (view_by t) id
+format-is : (t : Tables) (id : ℕ) (d : Component) → find (λ x. x.id == id) t.comps ≡ Some d → comp_of (graph_of t) id ≡ Some (comp_by d) → (is_input (kind_by d.unit) || is_output_kind (kind_by d.unit)) ≡ true → unit_format d.unit ≡ format_of (view_by t) id
 format-is t id d found there is = by d.unit refl is ∙ sym (ap (λ (o : Option Comp). option_map_or (λ x. format_by (view_by t) id x.kind) o S32) there)
   where
-    by : (u : units.Unit) → d.unit ≡ u → (is_input (kind_by u) || is_output (kind_by u)) ≡ true → unit_format u ≡ format_by (view_by t) id (kind_by u)
+    by : (u : units.Unit) → d.unit ≡ u → (is_input (kind_by u) || is_output_kind (kind_by u)) ≡ true → unit_format u ≡ format_by (view_by t) id (kind_by u)
     by (Host true phase params piece) own is = sym (stream-found id t.comps d found true phase params piece own)
     by (Host false phase params piece) own is = sym (stream-found id t.comps d found false phase params piece own)
     by (Dai true format piece) own is = refl
@@ -112,7 +112,7 @@ found-low index (p ∷ ps) all = by (p.pipe == index) (found-low index ps all.1)
     by false rest = rest
 
 -- a stream's rate is at most 192000
-with-right : (id : ℕ) (u : units.Unit) (ss : List StreamView) → IsStreaming u → AllByRecursion (λ s. IsStreamOf (is_idle s.phase) s.params) ss → AllByRecursion (λ s. IsStreamOf (is_idle s.phase) s.params) (with_stream_by id u ss)
+with-right : (id : ℕ) (u : units.Unit) (ss : List StreamView) → IsStreaming u → AllByRecursion (λ s. IsStreamOf (is_idle_phase s.phase) s.params) ss → AllByRecursion (λ s. IsStreamOf (is_idle_phase s.phase) s.params) (with_stream_by id u ss)
 with-right id (Host capture phase params piece) ss is all = (is, all)
 with-right id (Dai capture format piece) ss is all = all
 with-right id (Volume gains piece) ss is all = all
@@ -122,7 +122,7 @@ with-right id (Eq eq next remaining) ss is all = all
 with-right id (Buffer size ring source sink) ss is all = all
 with-right id (Pipeline sched period complete piece) ss is all = all
 
-streams-right : (cs : List Component) → AllByRecursion (λ c. IsStreaming c.unit) cs → AllByRecursion (λ s. IsStreamOf (is_idle s.phase) s.params) (streams_by cs)
+streams-right : (cs : List Component) → AllByRecursion (λ c. IsStreaming c.unit) cs → AllByRecursion (λ s. IsStreamOf (is_idle_phase s.phase) s.params) (streams_by cs)
 streams-right [] all = tt
 streams-right (c ∷ cs) all = with-right c.id c.unit (streams_by cs) all.0 (streams-right cs all.1)
 
@@ -137,7 +137,7 @@ live-low t kept x = by (find (λ s. is_live_phase s.phase && on_way (graph_of t)
     by None is = omega arith
     by (Some s) is =
         let of = find-some (λ s. is_live_phase s.phase && on_way (graph_of t) s.host x) (streams_by t.comps) s is in
-        rate-low (is_idle s.phase) s.params (all-of (λ s. IsStreamOf (is_idle s.phase) s.params) (streams_by t.comps) s (streams-right t.comps kept.streaming) of.1)
+        rate-low (is_idle_phase s.phase) s.params (all-of (λ s. IsStreamOf (is_idle_phase s.phase) s.params) (streams_by t.comps) s (streams-right t.comps kept.streaming) of.1)
 
 -- ---- the component at a place
 
@@ -165,7 +165,7 @@ module _ (t : Tables) (kept : IsKept t) (at : ℕ) (low : at < length t.comps) (
   pub chooses-at : is_choosy (kind_by d.unit) ≡ chooses (view_by t) d.id
   chooses-at = sym (chooses-by (view_by t) d.id (kind_by d.unit) kind-at)
 
-  pub format-at : (is_input (kind_by d.unit) || is_output (kind_by d.unit)) ≡ true → unit_format d.unit ≡ format_of (view_by t) d.id
+  pub format-at : (is_input (kind_by d.unit) || is_output_kind (kind_by d.unit)) ≡ true → unit_format d.unit ≡ format_of (view_by t) d.id
   format-at passes = format-is t d.id d found-at comp-at passes
 
   -- the period of its pipeline, in ticks

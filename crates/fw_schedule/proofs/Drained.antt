@@ -16,11 +16,11 @@ use Rattle.stream_law.specs.Moves.{chooses, runs, quota, looks, fed, fed_by, is_
 use Rattle.stream_law.specs.Made.{only_slice}
 use Rattle.stream_law.specs.Endpoints.{format_of, bytes_of_frames, bytes_written}
 use Rattle.stream_law.specs.Move.{Audio, after_move, blob_of, ring_length, ring_room, frames_moved, looked_now, fronts, bytes_moved, bytes_now}
-use Rattle.fw_components.specs.Tables.{Tables, graph_of, view_by, frames_at}
-use Rattle.fw_components.specs.Frames.{taken}
+use Rattle.fw_components.specs.Tables.{Tables, graph_of, view_by, held_frames}
+use Rattle.fw_components.specs.Frames.{with_taken}
 use Rattle.fw_components.specs.Kept.{IsKept}
 use Rattle.fw_schedule.specs.Ticks.{CanTick}
-use Rattle.fw_schedule.specs.Outputs.{is_output, least_by}
+use Rattle.fw_schedule.specs.Outputs.{is_output_kind, least_by}
 use Rattle.fw_schedule.specs.Stages.{IsStage, AreEnds}
 use Rattle.fw_schedule.proofs.Moved.{frames-run}
 use Rattle.fw_schedule.proofs.ByKind.{chooses-of, written-of, reads-of, format-of, IsSink, host-capture, dai-play}
@@ -37,7 +37,7 @@ pub record IsDrain (k : Kind) : Type 0 where
   pub least : (most n : ℕ) → more most n ≡ least_by k most - n
   pub plain : is_equaliser k ≡ false
 
-pub sink-by : (k : Kind) → is_output k ≡ true → IsDrain k
+pub sink-by : (k : Kind) → is_output_kind k ≡ true → IsDrain k
 sink-by HostCapture is = record { more = λ most n. 0; sink = host-capture; least = λ most n. omega arith; plain = refl }
 sink-by (DaiPlay format) is = record { more = λ most n. most - n; sink = dai-play format; least = λ most n. refl; plain = refl }
 sink-by HostPlay is = absurd (false≢true is)
@@ -70,7 +70,7 @@ and-not : (a b : Bool) → b ≡ false → (a && b) ≡ false
 and-not true b e = e
 and-not false b e = refl
 
-module _ (t : Tables) (kept : IsKept t) (can : CanTick t) (id : ℕ) (there : IsThere (graph_of t) id (λ k. is_output k)) (now : active (view_by t) id ≡ true) where
+module _ (t : Tables) (kept : IsKept t) (can : CanTick t) (id : ℕ) (there : IsThere (graph_of t) id (λ k. is_output_kind k)) (now : active (view_by t) id ≡ true) where
   abbrev v : View
   v = view_by t
 
@@ -78,7 +78,7 @@ module _ (t : Tables) (kept : IsKept t) (can : CanTick t) (id : ℕ) (there : Is
   drain = sink-by there.comp.kind there.kind
 
   sizes : (length (ins (graph_of t) id) ≡ 1) × (length (outs (graph_of t) id) ≡ 0)
-  sizes = drain.sink.fits (length (ins (graph_of t) id)) (length (outs (graph_of t) id)) (fits t kept can id (λ k. is_output k) there now)
+  sizes = drain.sink.fits (length (ins (graph_of t) id)) (length (outs (graph_of t) id)) (fits t kept can id (λ k. is_output_kind k) there now)
 
   outs-none : outs (graph_of t) id ≡ []
   outs-none = nil_from_length (outs (graph_of t) id) sizes.1
@@ -94,7 +94,7 @@ module _ (t : Tables) (kept : IsKept t) (can : CanTick t) (id : ℕ) (there : Is
   in-some is = no-one (ins (graph_of t) id) sizes.0 is
 
   pub in-of : (b : ℕ) → slice_get (ins (graph_of t) id) 0 ≡ Some b → IsAt t id b
-  in-of b is = in-at t kept can id (λ k. is_output k) there now b (only-passes (λ b. is_end (sink_of (graph_of t) b) id) _ b (in-one b is)) (or_left (not (chooses v id)) _ (ap not picks))
+  in-of b is = in-at t kept can id (λ k. is_output_kind k) there now b (only-passes (λ b. is_end (sink_of (graph_of t) b) id) _ b (in-one b is)) (or_left (not (chooses v id)) _ (ap not picks))
 
   -- it keeps no numbers
   plain : equalises v id ≡ false
@@ -108,14 +108,14 @@ module _ (t : Tables) (kept : IsKept t) (can : CanTick t) (id : ℕ) (there : Is
     feed = ap (filter (fed v)) outs-none
 
     -- the frames of its buffer go to its output
-    pub drain-moved : (b : ℕ) → slice_get (ins (graph_of t) id) 0 ≡ Some b → (n : ℕ) → n ≡ min (quota v clock id) (length (frames_at t b))
-        → IsStage began start (taken b n t) inputs (with_piece id (frames_out (format_of v id) (take n (frames_at t b)) ++ replicate ((least_by there.comp.kind (quota v clock id) - n) * (channels_of v id * width (format_of v id))) 0) outputs) (after_move v blobs clock id a)
+    pub drain-moved : (b : ℕ) → slice_get (ins (graph_of t) id) 0 ≡ Some b → (n : ℕ) → n ≡ min (quota v clock id) (length (held_frames t b))
+        → IsStage began start (with_taken b n t) inputs (with_piece id (frames_out (format_of v id) (take n (held_frames t b)) ++ replicate ((least_by there.comp.kind (quota v clock id) - n) * (channels_of v id * width (format_of v id))) 0) outputs) (after_move v blobs clock id a)
     drain-moved b is n count = drained-stage began start t inputs outputs a ends stage clock id b n _ plain look feed frames moved wrote
       where
         at : IsAt t id b
         at = in-of b is
 
-        held : frames_at t b ≡ list_of a.rings b
+        held : held_frames t b ≡ list_of a.rings b
         held = frames-heard a t.buffers _ stage.rings b at.there
 
         look : looked_now v blobs clock id a ≡ b ∷ []
@@ -133,7 +133,7 @@ module _ (t : Tables) (kept : IsKept t) (can : CanTick t) (id : ℕ) (there : Is
         moved : bytes_moved v blobs clock id a ≡ 0
         moved = ap (λ h. cond h (bytes_of_frames v id (frames_moved v blobs clock id a)) 0) (reads-of v id there.comp there.is there.comp.kind refl ∙ drain.sink.reads)
 
-        wrote : bytes_now v blobs clock id a ≡ frames_out (format_of v id) (take n (frames_at t b)) ++ replicate ((least_by there.comp.kind (quota v clock id) - n) * (channels_of v id * width (format_of v id))) 0
+        wrote : bytes_now v blobs clock id a ≡ frames_out (format_of v id) (take n (held_frames t b)) ++ replicate ((least_by there.comp.kind (quota v clock id) - n) * (channels_of v id * width (format_of v id))) 0
         wrote =
             ap (λ h. cond h (bytes_written v id (frames_moved v blobs clock id a) (quota v clock id) (only_slice (fronts v blobs clock id a))) []) run
             ∙ written-of v id there.comp there.is there.comp.kind refl (frames_moved v blobs clock id a) (quota v clock id) (only_slice (fronts v blobs clock id a))

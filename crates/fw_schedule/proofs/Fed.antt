@@ -6,7 +6,7 @@ use Rattle.std.proofs.lemmas.List.{nil_from_length}
 use Rattle.std.specs.Prelude.{slice_get}
 use Rattle.sof_base.specs.Samples.{width, frames_in}
 use Rattle.sof_base.specs.Ports.{InputView, OutputView, Io}
-use Rattle.sof_io.specs.Takes.{given, next_bytes, left_at, taken as input_taken}
+use Rattle.sof_io.specs.Takes.{bytes_given, next_bytes, left_at, taken as input_taken}
 use Rattle.stream_law.specs.declared.graph.Kind.{Kind}
 use Rattle.stream_law.specs.declared.graph.Kind.TheVariants.{HostPlay, HostCapture, DaiPlay, DaiCapture, Volume, Mixer, Mux, Eq}
 use Rattle.stream_law.specs.State.{View}
@@ -17,7 +17,7 @@ use Rattle.stream_law.specs.Made.{only_slice}
 use Rattle.stream_law.specs.Endpoints.{is_input, format_of, bytes_of_frames, bytes_written}
 use Rattle.stream_law.specs.Equaliser.{passed_frames}
 use Rattle.stream_law.specs.Move.{Audio, after_move, blob_of, ring_length, ring_room, frames_moved, looked_now, fronts, made_now, bytes_moved, bytes_now}
-use Rattle.fw_components.specs.Tables.{Tables, graph_of, view_by, frames_at, capacity_at}
+use Rattle.fw_components.specs.Tables.{Tables, graph_of, view_by, held_frames, capacity_at}
 use Rattle.fw_components.specs.Frames.{pushed}
 use Rattle.fw_components.specs.Kept.{IsKept}
 use Rattle.fw_schedule.specs.Ticks.{CanTick}
@@ -90,15 +90,15 @@ module _ (t : Tables) (kept : IsKept t) (can : CanTick t) (id : ℕ) (there : Is
         still began start t inputs outputs a ends stage clock id idle (made-read ∙ ap (frames_in (format_of v id) (channels_of v id) (list_of a.left id) 0) idle) silent
 
     -- else the frames of its input do
-    pub fed-moved : (b : ℕ) (w : List ℤ) → slice_get (fed_by v id) 0 ≡ Some b → (n : ℕ) → n ≡ min (quota v clock id) (capacity_at t b - length (frames_at t b))
-        → IsStage began start (pushed b (frames_in (format_of v id) (channels_of v id) (given id (n * (channels_of v id * width (format_of v id))) inputs) 0 n) w t) (input_taken id (n * (channels_of v id * width (format_of v id))) inputs) outputs (after_move v blobs clock id a)
+    pub fed-moved : (b : ℕ) (w : List ℤ) → slice_get (fed_by v id) 0 ≡ Some b → (n : ℕ) → n ≡ min (quota v clock id) (capacity_at t b - length (held_frames t b))
+        → IsStage began start (pushed b (frames_in (format_of v id) (channels_of v id) (bytes_given id (n * (channels_of v id * width (format_of v id))) inputs) 0 n) w t) (input_taken id (n * (channels_of v id * width (format_of v id))) inputs) outputs (after_move v blobs clock id a)
     fed-moved b w is n count =
         fed-stage began start t inputs outputs a ends stage clock id kept b (n * (channels_of v id * width (format_of v id))) _ w look (fed-one b is).1 made moved silent
       where
         at : IsAt t id b
         at = fed-at b is
 
-        held : frames_at t b ≡ list_of a.rings b
+        held : held_frames t b ≡ list_of a.rings b
         held = frames-heard a t.buffers _ stage.rings b at.there
 
         frames : frames_moved v blobs clock id a ≡ n
@@ -114,7 +114,7 @@ module _ (t : Tables) (kept : IsKept t) (can : CanTick t) (id : ℕ) (there : Is
         left : left_at id inputs ≡ list_of a.left id
         left = ap (left_at id) stage.inputs ∙ shown-left id (λ x. number_of a.positions x) (λ x. list_of a.left x) start.inputs (ends.none id)
 
-        made : made_now v blobs clock id a ≡ frames_in (format_of v id) (channels_of v id) (given id (n * (channels_of v id * width (format_of v id))) inputs) 0 n
+        made : made_now v blobs clock id a ≡ frames_in (format_of v id) (channels_of v id) (bytes_given id (n * (channels_of v id * width (format_of v id))) inputs) 0 n
         made =
             made-read
             ∙ ap (frames_in (format_of v id) (channels_of v id) (list_of a.left id) 0) frames

@@ -141,8 +141,8 @@ module _ (t : Tables) (kept : IsKept t) (start : Io) (inputs : HasDistinct (λ x
     histories = sym (map-same (heard_history (audio_from t start)) (histories_of t)
         (all-from (histories_of t) (λ h e. ap (λ numbers. record { comp = h.comp; numbers = numbers }) e) (keyed-values (λ (h : History). h.comp) (λ h. h.numbers) [] (histories_of t) histories-apart)));
     staging = refl;
-    inputs = sym (map-same (λ (x : InputView). record { slot = x.slot; position = number_of (keyed (λ (x : InputView). x.slot) (λ x. x.position) start.inputs) x.slot; left = list_of (keyed (λ (x : InputView). x.slot) (λ x. x.left) start.inputs) x.slot }) start.inputs
-        (all-both start.inputs (λ x p l. λ i. record { slot = x.slot; position = p i; left = l i })
+    inputs = sym (map-same (λ (x : InputView). record x { position = number_of (keyed (λ (x : InputView). x.slot) (λ x. x.position) start.inputs) x.slot; left = list_of (keyed (λ (x : InputView). x.slot) (λ x. x.left) start.inputs) x.slot }) start.inputs
+        (all-both start.inputs (λ x p l. λ i. record x { position = p i; left = l i })
         (keyed-values (λ (x : InputView). x.slot) (λ x. x.position) 0 start.inputs inputs) (keyed-values (λ (x : InputView). x.slot) (λ x. x.left) [] start.inputs inputs)));
     outputs = sym (outputs-same start.outputs);
   }

@@ -9,7 +9,7 @@ use Rattle.stream_law.specs.Ways.{source_of, sink_of, is_end, live, active_end}
 use Rattle.stream_law.specs.Moves.{fed, fed_by, looked_at, chooses}
 use Rattle.row_laws.proofs.Found.{found-each}
 use Rattle.fw_components.specs.declared.component.Component.{Component}
-use Rattle.fw_components.specs.Tables.{Tables, graph_of, view_by, edge_by, source_by, sink_by, frames_at}
+use Rattle.fw_components.specs.Tables.{Tables, graph_of, view_by, edge_by, source_by, sink_by, held_frames}
 use Rattle.fw_schedule.specs.Schedules.{inlets_of}
 use Rattle.fw_schedule.proofs.DistinctEdges.{edges-distinct}
 
@@ -85,14 +85,14 @@ module _ (t : Tables) (id : ℕ) where
 
   module _ (choosing : Bool) where
     abbrev pub is_looked : Component → Bool
-    is_looked b = is_end (sink_by b.unit) id && (not choosing || (active_end (view_by t) (source_by b.unit) && nat_le 1 (length (frames_at t b.id))))
+    is_looked b = is_end (sink_by b.unit) id && (not choosing || (active_end (view_by t) (source_by b.unit) && nat_le 1 (length (held_frames t b.id))))
 
-    pub looked-are : Ascends (λ c. c.id) t.buffers → choosing ≡ chooses (view_by t) id → looked_at (view_by t) (λ b. length (frames_at t b)) id ≡ map (λ c. c.id) (filter is_looked t.buffers)
-    looked-are up is = kept-both (λ b. not (chooses (view_by t) id) || (active_end (view_by t) (source_of (graph_of t) b) && nat_le 1 (length (frames_at t b)))) (λ b. is_end (sink_of (graph_of t) b) id) is_looked t.buffers (each t.buffers (sides-of t up))
+    pub looked-are : Ascends (λ c. c.id) t.buffers → choosing ≡ chooses (view_by t) id → looked_at (view_by t) (λ b. length (held_frames t b)) id ≡ map (λ c. c.id) (filter is_looked t.buffers)
+    looked-are up is = kept-both (λ b. not (chooses (view_by t) id) || (active_end (view_by t) (source_of (graph_of t) b) && nat_le 1 (length (held_frames t b)))) (λ b. is_end (sink_of (graph_of t) b) id) is_looked t.buffers (each t.buffers (sides-of t up))
       where
-        each : (cs : List Component) → AllByRecursion (HasSides t) cs → AllByRecursion (λ c. (is_end (sink_of (graph_of t) c.id) id && (not (chooses (view_by t) id) || (active_end (view_by t) (source_of (graph_of t) c.id) && nat_le 1 (length (frames_at t c.id))))) ≡ is_looked c) cs
+        each : (cs : List Component) → AllByRecursion (HasSides t) cs → AllByRecursion (λ c. (is_end (sink_of (graph_of t) c.id) id && (not (chooses (view_by t) id) || (active_end (view_by t) (source_of (graph_of t) c.id) && nat_le 1 (length (held_frames t c.id))))) ≡ is_looked c) cs
         each [] sides = tt
-        each (c ∷ cs) sides = ((λ i. is_end (sides.0.sink i) id && (not (sym is i) || (active_end (view_by t) (sides.0.source i) && nat_le 1 (length (frames_at t c.id))))), each cs sides.1)
+        each (c ∷ cs) sides = ((λ i. is_end (sides.0.sink i) id && (not (sym is i) || (active_end (view_by t) (sides.0.source i) && nat_le 1 (length (held_frames t c.id))))), each cs sides.1)
 
     -- ---- those that may be looked at
 

@@ -18,12 +18,12 @@ use Rattle.fw_components.specs.declared.component.Unit as units
 use Rattle.fw_components.specs.declared.component.Unit.TheVariants.{Host, Dai, Volume, Mixer, Mux, Eq, Buffer, Pipeline}
 use Rattle.fw_components.specs.Tables.{Tables, graph_of, view_by, streams_by, with_stream_by}
 use Rattle.fw_components.specs.Kept.{IsKept}
-use Rattle.fw_walks.specs.Walks.{is_listed, place_in}
-use Rattle.fw_walks.specs.Charts.{ids_of}
+use Rattle.fw_places.specs.Walks.{is_listed, place_in}
+use Rattle.fw_components.specs.Tables.{ids_of}
 use Rattle.fw_walks.proofs.LiveMarks.{live-listed}
 use Rattle.fw_schedule.specs.declared.spots.Spot.{Spot}
 use Rattle.fw_schedule.specs.declared.spots.Spots.{Spots}
-use Rattle.fw_schedule.specs.Spots.{IsSpot, AreSpots, bare_spot, met, met_by, met_where}
+use Rattle.fw_schedule.specs.Spots.{IsSpot, AreSpots, bare_spot, met, spot_met, met_where}
 
 -- ---- spots by places
 
@@ -144,13 +144,13 @@ module _ (g : Graph) (x : ℕ) where
           ∙ sym (first-more test ss (one phase));
     }
 
-  pub met-one : (c : Component) (w : Bool) (ss : List StreamView) (spot spot' : Spot) → on_way g c.id x ≡ w → IsSpot (of_streams ss) x spot → spot' ≡ met_by c.unit w spot → IsSpot (of_streams (ss ++ with_stream_by c.id c.unit [])) x spot'
+  pub met-one : (c : Component) (w : Bool) (ss : List StreamView) (spot spot' : Spot) → on_way g c.id x ≡ w → IsSpot (of_streams ss) x spot → spot' ≡ spot_met c.unit w spot → IsSpot (of_streams (ss ++ with_stream_by c.id c.unit [])) x spot'
   met-one c w ss spot spot' way is new = subst (λ (s : Spot). IsSpot (of_streams (ss ++ with_stream_by c.id c.unit [])) x s) (sym new) (by c.unit)
     where
       same : IsSpot (of_streams (ss ++ [])) x spot
       same = subst (λ (s : List StreamView). IsSpot (of_streams s) x spot) (sym (append-nil ss)) is
 
-      by : (u : units.Unit) → IsSpot (of_streams (ss ++ with_stream_by c.id u [])) x (met_by u w spot)
+      by : (u : units.Unit) → IsSpot (of_streams (ss ++ with_stream_by c.id u [])) x (spot_met u w spot)
       by (Host capture phase params piece) = spot-more c.id params ss spot is phase w way
       by (Dai capture format piece) = same
       by (Volume gains piece) = same

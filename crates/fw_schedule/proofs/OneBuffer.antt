@@ -8,18 +8,18 @@ use Rattle.std.specs.Prelude.{find, option_map}
 use Rattle.std.specs.List.{list_any}
 use Rattle.std.specs.Option.{option_map_or}
 use Rattle.sof_base.specs.Samples.{Frame}
-use Rattle.fw_ring.specs.RingState.{RingState, capacity_of, moved_on}
+use Rattle.fw_ring.specs.RingState.{RingState, capacity_of, place_after}
 use Rattle.fw_components.specs.declared.component.Unit as units
 use Rattle.fw_components.specs.declared.component.Unit.TheVariants.{Host, Dai, Volume, Mixer, Mux, Eq, Buffer, Pipeline}
 use Rattle.fw_components.specs.declared.component.Component.{Component}
-use Rattle.fw_components.specs.Tables.{Tables, frames_by, capacity_by, frames_at, capacity_at}
+use Rattle.fw_components.specs.Tables.{Tables, unit_frames, capacity_by, held_frames, capacity_at}
 use Rattle.fw_components.specs.Changes.{has_id}
-use Rattle.fw_components.specs.Frames.{channels_by, channels_at, taken_ring, taken_unit, taken, pushed_unit, pushed}
+use Rattle.fw_components.specs.Frames.{channels_by, channels_at, taken_ring, taken_unit, with_taken, pushed_unit, pushed}
 
 -- ---- a unit
 
 -- a start that goes round twice
-on-twice : (places start a b : ℕ) → moved_on places (moved_on places start a) b ≡ moved_on places start (a + b)
+on-twice : (places start a b : ℕ) → place_after places (place_after places start a) b ≡ place_after places start (a + b)
 on-twice zero start a b = refl
 on-twice (suc m) start a b =
     let whole : start + (a + b) ≡ (start + a) % suc m + b + suc m * ((start + a) / suc m) = omega (arith, mod-add-div (start + a) (suc m)) in
@@ -32,7 +32,7 @@ ring-twice a m r =
       frames = drop-drop m a r.frames i;
       words = r.words;
       channels = r.channels;
-      start = (on-twice (capacity_of r * r.channels) r.start (a * r.channels) (m * r.channels) ∙ ap (moved_on (capacity_of r * r.channels) r.start) at) i;
+      start = (on-twice (capacity_of r * r.channels) r.start (a * r.channels) (m * r.channels) ∙ ap (place_after (capacity_of r * r.channels) r.start) at) i;
       piece = r.piece;
     })
 
@@ -150,7 +150,7 @@ taken-channels n (Eq eq next remaining) = refl
 taken-channels n (Buffer size ring source sink) = refl
 taken-channels n (Pipeline sched period complete piece) = refl
 
-pushed-most : (fs : List Frame) (w : List ℤ) (u : units.Unit) → length (frames_by (pushed_unit fs w u)) ≤ length (frames_by u) + length fs
+pushed-most : (fs : List Frame) (w : List ℤ) (u : units.Unit) → length (unit_frames (pushed_unit fs w u)) ≤ length (unit_frames u) + length fs
 pushed-most fs w (Host capture phase params piece) = omega arith
 pushed-most fs w (Dai capture format piece) = omega arith
 pushed-most fs w (Volume gains piece) = omega arith
@@ -160,7 +160,7 @@ pushed-most fs w (Eq eq next remaining) = omega arith
 pushed-most fs w (Buffer size ring source sink) = omega (arith, length-append ring.frames fs)
 pushed-most fs w (Pipeline sched period complete piece) = omega arith
 
-pub taken-frames : (n : ℕ) (u : units.Unit) → frames_by (taken_unit n u) ≡ drop n (frames_by u)
+pub taken-frames : (n : ℕ) (u : units.Unit) → unit_frames (taken_unit n u) ≡ drop n (unit_frames u)
 taken-frames n (Host capture phase params piece) = sym (drop-nil n)
 taken-frames n (Dai capture format piece) = sym (drop-nil n)
 taken-frames n (Volume gains piece) = sym (drop-nil n)
@@ -195,14 +195,14 @@ module _ (b : ℕ) (fs : List Frame) (w : List ℤ) (t : Tables) where
   pub capacity-pushed : (x : ℕ) → capacity_at (pushed b fs w t) x ≡ capacity_at t x
   capacity-pushed x = read-at (pushed_unit fs w) b (λ c. c.id == x) (λ c. ap (λ n. n == x) (id-at (pushed_unit fs w) b c)) (λ c. capacity_by c.unit) 0 (same-at (pushed_unit fs w) b capacity_by (pushed-capacity fs w)) t.buffers
 
-  pub most-pushed : (x : ℕ) → length (frames_at (pushed b fs w t) x) ≤ length (frames_at t x) + length fs
-  most-pushed x = subst (λ (o : Option Component). length (option_map_or (λ c. frames_by c.unit) o []) ≤ length (frames_at t x) + length fs) (sym (found-at (pushed_unit fs w) b (λ c. c.id == x) (λ c. ap (λ n. n == x) (id-at (pushed_unit fs w) b c)) t.buffers)) (by (find (λ c. c.id == x) t.buffers))
+  pub most-pushed : (x : ℕ) → length (held_frames (pushed b fs w t) x) ≤ length (held_frames t x) + length fs
+  most-pushed x = subst (λ (o : Option Component). length (option_map_or (λ c. unit_frames c.unit) o []) ≤ length (held_frames t x) + length fs) (sym (found-at (pushed_unit fs w) b (λ c. c.id == x) (λ c. ap (λ n. n == x) (id-at (pushed_unit fs w) b c)) t.buffers)) (by (find (λ c. c.id == x) t.buffers))
     where
-      one : (c : Component) (h : Bool) → length (frames_by (cond h (record { id = c.id; pipe = c.pipe; channels = c.channels; unit = pushed_unit fs w c.unit }) c).unit) ≤ length (frames_by c.unit) + length fs
+      one : (c : Component) (h : Bool) → length (unit_frames (cond h (record { id = c.id; pipe = c.pipe; channels = c.channels; unit = pushed_unit fs w c.unit }) c).unit) ≤ length (unit_frames c.unit) + length fs
       one c true = pushed-most fs w c.unit
       one c false = omega arith
 
-      by : (o : Option Component) → length (option_map_or (λ c. frames_by c.unit) (option_map (changed_at (pushed_unit fs w) b) o) []) ≤ length (option_map_or (λ c. frames_by c.unit) o []) + length fs
+      by : (o : Option Component) → length (option_map_or (λ c. unit_frames c.unit) (option_map (changed_at (pushed_unit fs w) b) o) []) ≤ length (option_map_or (λ c. unit_frames c.unit) o []) + length fs
       by None = omega arith
       by (Some c) = one c (c.id == b)
 
@@ -212,18 +212,18 @@ pushed-twice b xs ys v w t = ap (λ (bs : List Component). record { comps = t.co
 -- ---- a buffer without its first frames
 
 module _ (b n : ℕ) (t : Tables) where
-  pub has-taken : (x : ℕ) → has_id (taken b n t).buffers x ≡ has_id t.buffers x
+  pub has-taken : (x : ℕ) → has_id (with_taken b n t).buffers x ≡ has_id t.buffers x
   has-taken x = any-at (taken_unit n) b (λ c. c.id == x) (λ c. ap (λ n. n == x) (id-at (taken_unit n) b c)) t.buffers
 
-  pub channels-taken : (x : ℕ) → channels_at (taken b n t) x ≡ channels_at t x
+  pub channels-taken : (x : ℕ) → channels_at (with_taken b n t) x ≡ channels_at t x
   channels-taken x = read-at (taken_unit n) b (λ c. c.id == x) (λ c. ap (λ n. n == x) (id-at (taken_unit n) b c)) (λ c. channels_by c.unit) 1 (same-at (taken_unit n) b channels_by (taken-channels n)) t.buffers
 
-  pub frames-taken : frames_at (taken b n t) b ≡ drop n (frames_at t b)
-  frames-taken = ap (λ (o : Option Component). option_map_or (λ c. frames_by c.unit) o []) (found-at (taken_unit n) b (λ c. c.id == b) (λ c. ap (λ n. n == b) (id-at (taken_unit n) b c)) t.buffers) ∙ by (find (λ c. c.id == b) t.buffers) refl
+  pub frames-taken : held_frames (with_taken b n t) b ≡ drop n (held_frames t b)
+  frames-taken = ap (λ (o : Option Component). option_map_or (λ c. unit_frames c.unit) o []) (found-at (taken_unit n) b (λ c. c.id == b) (λ c. ap (λ n. n == b) (id-at (taken_unit n) b c)) t.buffers) ∙ by (find (λ c. c.id == b) t.buffers) refl
     where
-      by : (o : Option Component) → find (λ c. c.id == b) t.buffers ≡ o → option_map_or (λ c. frames_by c.unit) (option_map (changed_at (taken_unit n) b) o) [] ≡ drop n (option_map_or (λ c. frames_by c.unit) o [])
+      by : (o : Option Component) → find (λ c. c.id == b) t.buffers ≡ o → option_map_or (λ c. unit_frames c.unit) (option_map (changed_at (taken_unit n) b) o) [] ≡ drop n (option_map_or (λ c. unit_frames c.unit) o [])
       by None is = sym (drop-nil n)
-      by (Some c) is = ap (λ h. frames_by (cond h (record { id = c.id; pipe = c.pipe; channels = c.channels; unit = taken_unit n c.unit }) c).unit) (eq-eqb c.id b (found-id b t.buffers c is)) ∙ taken-frames n c.unit
+      by (Some c) is = ap (λ h. unit_frames (cond h (record { id = c.id; pipe = c.pipe; channels = c.channels; unit = taken_unit n c.unit }) c).unit) (eq-eqb c.id b (found-id b t.buffers c is)) ∙ taken-frames n c.unit
 
-pub taken-twice : (b a m : ℕ) (t : Tables) → taken b m (taken b a t) ≡ taken b (a + m) t
+pub taken-twice : (b a m : ℕ) (t : Tables) → with_taken b m (with_taken b a t) ≡ with_taken b (a + m) t
 taken-twice b a m t = ap (λ (bs : List Component). record { comps = t.comps; buffers = bs; pipes = t.pipes; joins = t.joins }) (twice-at (taken_unit a) (taken_unit m) (taken_unit (a + m)) b (taken-unit a m) t.buffers)

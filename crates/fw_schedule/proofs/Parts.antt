@@ -7,13 +7,13 @@ use Rattle.sof_base.specs.declared.format.Format.TheVariants.{S16, S24, S32}
 use Rattle.sof_base.specs.Ports.{InputView, OutputView}
 use Rattle.sof_base.specs.Samples.{Frame, width, frame_in, frames_in, frames_out, frames_of}
 use Rattle.sof_io.specs.Bound.{output_slots, has_slot}
-use Rattle.sof_io.specs.Takes.{given, taken as input_taken}
+use Rattle.sof_io.specs.Takes.{bytes_given, taken as input_taken}
 use Rattle.sof_io.specs.Puts.{room_at, with_piece}
 use Rattle.sof_io.proofs.InputLaws.{length-given, taken-taken, given-more}
 use Rattle.sof_io.proofs.OutputLaws.{room_at-with_piece, with_piece-unknown, with_piece-with_piece}
-use Rattle.fw_components.specs.Tables.{Tables, frames_at, capacity_at}
+use Rattle.fw_components.specs.Tables.{Tables, held_frames, capacity_at}
 use Rattle.fw_components.specs.Changes.{has_id}
-use Rattle.fw_components.specs.Frames.{words_at, channels_at, taken, pushed}
+use Rattle.fw_components.specs.Frames.{words_at, channels_at, with_taken, pushed}
 use Rattle.fw_schedule.proofs.FrameBytes.{frames-read, frames_in-both, bytes-more}
 use Rattle.fw_schedule.proofs.OneBuffer.{has-pushed, channels-pushed, capacity-pushed, most-pushed, pushed-twice, has-taken, channels-taken, frames-taken, taken-twice}
 
@@ -44,11 +44,11 @@ frames-were-read format n channels at samples bytes some count shape is =
 pub record CanFeed (b channels n : ℕ) (t : Tables) : Type 0 where
   pub there : has_id t.buffers b ≡ true
   pub shape : channels_at t b ≡ channels
-  pub fit : length (frames_at t b) + n ≤ capacity_at t b
+  pub fit : length (held_frames t b) + n ≤ capacity_at t b
 
 -- it has got so many frames of an input
 pub record IsFed (id b channels : ℕ) (format : Format) (n : ℕ) (t : Tables) (io : List InputView) (t' : Tables) (io' : List InputView) : Type 0 where
-  pub tables : t' ≡ pushed b (frames_in format channels (given id (n * (channels * width format)) io) 0 n) (words_at t' b) t
+  pub tables : t' ≡ pushed b (frames_in format channels (bytes_given id (n * (channels * width format)) io) 0 n) (words_at t' b) t
   pub inputs : io' ≡ input_taken id (n * (channels * width format)) io
 
 pub can-feed-less : (b channels n m : ℕ) (t : Tables) → m ≤ n → CanFeed b channels n t → CanFeed b channels m t
@@ -59,7 +59,7 @@ module _ (id b channels : ℕ) (format : Format) (a k : ℕ) (t t1 : Tables) (io
   m = channels * width format
 
   abbrev xs : List Frame
-  xs = frames_in format channels (given id (a * m) io) 0 a
+  xs = frames_in format channels (bytes_given id (a * m) io) 0 a
 
   pub can-feed-on : CanFeed b channels (a + k) t → CanFeed b channels k t1
   can-feed-on can = record {
@@ -67,21 +67,21 @@ module _ (id b channels : ℕ) (format : Format) (a k : ℕ) (t t1 : Tables) (io
     shape = ap (λ (x : Tables). channels_at x b) first.tables ∙ channels-pushed b xs (words_at t1 b) t b ∙ can.shape;
     fit =
         let room : capacity_at t1 b ≡ capacity_at t b = ap (λ (x : Tables). capacity_at x b) first.tables ∙ capacity-pushed b xs (words_at t1 b) t b in
-        let held : length (frames_at t1 b) ≡ length (frames_at (pushed b xs (words_at t1 b) t) b) = ap (λ (x : Tables). length (frames_at x b)) first.tables in
+        let held : length (held_frames t1 b) ≡ length (held_frames (pushed b xs (words_at t1 b) t) b) = ap (λ (x : Tables). length (held_frames x b)) first.tables in
         let count : length xs ≡ a = length-map-range_with_len _ 0 a in
         omega (arith, room, held, count, most-pushed b xs (words_at t1 b) t b, can.fit);
   }
 
   pub fed-more : (t2 : Tables) (io2 : List InputView) → IsFed id b channels format k t1 io1 t2 io2 → IsFed id b channels format (a + k) t io t2 io2
   fed-more t2 io2 next =
-      let ys = frames_in format channels (given id (k * m) io1) 0 k in
+      let ys = frames_in format channels (bytes_given id (k * m) io1) 0 k in
       let w = words_at t2 b in
       let sum : a * m + k * m ≡ (a + k) * m = omega arith in
-      let rest : given id (k * m) io1 ≡ given id (k * m) (input_taken id (a * m) io) = ap (given id (k * m)) first.inputs in
-      let all : xs ++ ys ≡ frames_in format channels (given id ((a + k) * m) io) 0 (a + k) =
+      let rest : bytes_given id (k * m) io1 ≡ bytes_given id (k * m) (input_taken id (a * m) io) = ap (bytes_given id (k * m)) first.inputs in
+      let all : xs ++ ys ≡ frames_in format channels (bytes_given id ((a + k) * m) io) 0 (a + k) =
       ap (λ (bytes : List ℕ). xs ++ frames_in format channels bytes 0 k) rest
-      ∙ sym (frames_in-both format channels a k (given id (a * m) io) (given id (k * m) (input_taken id (a * m) io)) (length-given id (a * m) io) (length-given id (k * m) (input_taken id (a * m) io)))
-      ∙ ap (λ (bytes : List ℕ). frames_in format channels bytes 0 (a + k)) (sym (given-more id (a * m) (k * m) io) ∙ ap (λ n. given id n io) sum) in
+      ∙ sym (frames_in-both format channels a k (bytes_given id (a * m) io) (bytes_given id (k * m) (input_taken id (a * m) io)) (length-given id (a * m) io) (length-given id (k * m) (input_taken id (a * m) io)))
+      ∙ ap (λ (bytes : List ℕ). frames_in format channels bytes 0 (a + k)) (sym (given-more id (a * m) (k * m) io) ∙ ap (λ n. bytes_given id n io) sum) in
       record {
         tables =
             next.tables
@@ -105,14 +105,14 @@ room-left id n k piece out size room = by (has_slot id (output_slots out)) refl
 pub record CanDrain (id b channels : ℕ) (format : Format) (n : ℕ) (t : Tables) (out : List OutputView) : Type 0 where
   pub there : has_id t.buffers b ≡ true
   pub shape : channels_at t b ≡ channels
-  pub held : n ≤ length (frames_at t b)
+  pub held : n ≤ length (held_frames t b)
   pub room : n * (channels * width format) ≤ room_at id out
 
 -- it has lost so many frames, and an output has got their bytes
 pub record IsDrained (id b channels : ℕ) (format : Format) (n : ℕ) (t : Tables) (out : List OutputView) (t' : Tables) (out' : List OutputView) : Type 0 where
-  pub tables : t' ≡ taken b n t
-  pub size : length (frames_out format (take n (frames_at t b))) ≡ n * (channels * width format)
-  pub outputs : out' ≡ with_piece id (frames_out format (take n (frames_at t b))) out
+  pub tables : t' ≡ with_taken b n t
+  pub size : length (frames_out format (take n (held_frames t b))) ≡ n * (channels * width format)
+  pub outputs : out' ≡ with_piece id (frames_out format (take n (held_frames t b))) out
 
 pub can-drain-less : (id b channels : ℕ) (format : Format) (n m : ℕ) (t : Tables) (out : List OutputView) → m ≤ n → CanDrain id b channels format n t out → CanDrain id b channels format m t out
 can-drain-less id b channels format n m t out less can = record {
@@ -124,16 +124,16 @@ can-drain-less id b channels format n m t out less can = record {
 
 module _ (id b channels : ℕ) (format : Format) (a k : ℕ) (t t1 : Tables) (out out1 : List OutputView) (first : IsDrained id b channels format a t out t1 out1) where
   abbrev piece : List ℕ
-  piece = frames_out format (take a (frames_at t b))
+  piece = frames_out format (take a (held_frames t b))
 
-  left : frames_at t1 b ≡ drop a (frames_at t b)
-  left = ap (λ (x : Tables). frames_at x b) first.tables ∙ frames-taken b a t
+  left : held_frames t1 b ≡ drop a (held_frames t b)
+  left = ap (λ (x : Tables). held_frames x b) first.tables ∙ frames-taken b a t
 
   pub can-drain-on : CanDrain id b channels format (a + k) t out → CanDrain id b channels format k t1 out1
   can-drain-on can = record {
     there = ap (λ (x : Tables). has_id x.buffers b) first.tables ∙ has-taken b a t b ∙ can.there;
     shape = ap (λ (x : Tables). channels_at x b) first.tables ∙ channels-taken b a t b ∙ can.shape;
-    held = let rest = ap length left in let size = length-drop a (frames_at t b) in omega (arith, rest, size, can.held);
+    held = let rest = ap length left in let size = length-drop a (held_frames t b) in omega (arith, rest, size, can.held);
     room =
         let m = channels * width format in
         let sum : (a + k) * m ≡ a * m + k * m = omega arith in
@@ -142,16 +142,16 @@ module _ (id b channels : ℕ) (format : Format) (a k : ℕ) (t t1 : Tables) (ou
 
   pub drained-more : (t2 : Tables) (out2 : List OutputView) → IsDrained id b channels format k t1 out1 t2 out2 → IsDrained id b channels format (a + k) t out t2 out2
   drained-more t2 out2 next =
-      let rest : frames_out format (take k (frames_at t1 b)) ≡ frames_out format (take k (drop a (frames_at t b))) = ap (λ (fs : List Frame). frames_out format (take k fs)) left in
-      let all : piece ++ frames_out format (take k (frames_at t1 b)) ≡ frames_out format (take (a + k) (frames_at t b)) =
-      ap (λ (bytes : List ℕ). piece ++ bytes) rest ∙ sym (bytes-more format a k (frames_at t b)) in
+      let rest : frames_out format (take k (held_frames t1 b)) ≡ frames_out format (take k (drop a (held_frames t b))) = ap (λ (fs : List Frame). frames_out format (take k fs)) left in
+      let all : piece ++ frames_out format (take k (held_frames t1 b)) ≡ frames_out format (take (a + k) (held_frames t b)) =
+      ap (λ (bytes : List ℕ). piece ++ bytes) rest ∙ sym (bytes-more format a k (held_frames t b)) in
       let sum : a * (channels * width format) + k * (channels * width format) ≡ (a + k) * (channels * width format) = omega arith in
       record {
-        tables = next.tables ∙ ap (taken b k) first.tables ∙ taken-twice b a k t;
-        size = ap length (sym all) ∙ length-append piece (frames_out format (take k (frames_at t1 b))) ∙ (λ i. first.size i + next.size i) ∙ sum;
+        tables = next.tables ∙ ap (with_taken b k) first.tables ∙ taken-twice b a k t;
+        size = ap length (sym all) ∙ length-append piece (frames_out format (take k (held_frames t1 b))) ∙ (λ i. first.size i + next.size i) ∙ sum;
         outputs =
             next.outputs
-            ∙ ap (with_piece id (frames_out format (take k (frames_at t1 b)))) first.outputs
-            ∙ with_piece-with_piece id piece (frames_out format (take k (frames_at t1 b))) out
+            ∙ ap (with_piece id (frames_out format (take k (held_frames t1 b)))) first.outputs
+            ∙ with_piece-with_piece id piece (frames_out format (take k (held_frames t1 b))) out
             ∙ ap (λ (bytes : List ℕ). with_piece id bytes out) all;
       }

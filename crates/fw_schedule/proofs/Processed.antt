@@ -30,15 +30,15 @@ use Rattle.row_laws.proofs.Playing.{active-live}
 use Rattle.fw_components.specs.declared.component.Unit as units
 use Rattle.fw_components.specs.declared.component.Unit.TheVariants.{Host, Dai, Volume, Mixer, Mux, Eq, Buffer, Pipeline}
 use Rattle.fw_components.specs.declared.component.Component.{Component}
-use Rattle.fw_components.specs.Tables.{Tables, graph_of, view_by, comp_by, edge_by, kind_by, rings_of, histories_of, staging_of, frames_at, capacity_at, numbers_by}
+use Rattle.fw_components.specs.Tables.{Tables, graph_of, view_by, comp_by, edge_by, kind_by, rings_of, histories_of, staging_of, held_frames, capacity_at, numbers_by}
 use Rattle.fw_components.specs.Changes.{has_id}
 use Rattle.fw_components.specs.Frames.{with_frames}
 use Rattle.fw_components.specs.Kept.{IsKept, is_plain}
-use Rattle.fw_components.specs.Processed.{moves_of, moves_at, channels_moved, IsInlet, IsOutlet, slices_in, made_at, numbers_at, drained_ring, moved_rings, with_numbers}
+use Rattle.fw_components.specs.Processed.{moves_of, moves_at, channels_moved, IsInlet, IsOutlet, slices_in, made_at, eq_numbers_at, drained_ring, moved_rings, with_numbers}
 use Rattle.fw_walks.proofs.Naming.{find-map}
 use Rattle.fw_walks.proofs.OnWays.{any-map}
 use Rattle.fw_schedule.specs.Ticks.{CanTick}
-use Rattle.fw_schedule.specs.Outputs.{is_output}
+use Rattle.fw_schedule.specs.Outputs.{is_output_kind}
 use Rattle.fw_schedule.specs.Schedules.{inlets_of}
 use Rattle.fw_schedule.specs.Stages.{bare_of, heard_ring, heard_history, IsStage, AreEnds}
 use Rattle.fw_schedule.proofs.KeptEnds.{is_looked, looked-are}
@@ -71,7 +71,7 @@ choosy-few m n h = leb-true m 8 (and_parts (nat_le 1 m) (nat_le m 8) (and_parts 
 one-few : (m n : ℕ) → ((m == 1) && (n == 1)) ≡ true → m ≤ 8
 one-few m n h = let one = (two-numbers m n 1 1 h).0 in omega (arith, one)
 
-maker-by : (k : Kind) → (not (is_input k) && not (is_output k)) ≡ true → IsMaker k
+maker-by : (k : Kind) → (not (is_input k) && not (is_output_kind k)) ≡ true → IsMaker k
 maker-by kinds.Volume is = record { silent = λ v c n most frames. refl; reads = refl; single = λ m n h. (two-numbers m n 1 1 h).1; alone = λ m n h picks. (two-numbers m n 1 1 h).0; few = one-few }
 maker-by kinds.Eq is = record { silent = λ v c n most frames. refl; reads = refl; single = λ m n h. (two-numbers m n 1 1 h).1; alone = λ m n h picks. (two-numbers m n 1 1 h).0; few = one-few }
 maker-by kinds.Mixer is = record { silent = λ v c n most frames. refl; reads = refl; single = choosy-single; alone = λ m n h picks. absurd (true≢false picks); few = choosy-few }
@@ -82,7 +82,7 @@ maker-by kinds.HostCapture is = absurd (false≢true is)
 maker-by (kinds.DaiPlay format) is = absurd (false≢true is)
 
 -- a unit of such a kind moves so many
-unit-moves : (u : units.Unit) (inlets : ℕ) → is_plain u ≡ true → (not (is_input (kind_by u)) && not (is_output (kind_by u))) ≡ true → (is_choosy (kind_by u) ≡ false → inlets ≡ 1) → moves_of u inlets ≡ true
+unit-moves : (u : units.Unit) (inlets : ℕ) → is_plain u ≡ true → (not (is_input (kind_by u)) && not (is_output_kind (kind_by u))) ≡ true → (is_choosy (kind_by u) ≡ false → inlets ≡ 1) → moves_of u inlets ≡ true
 unit-moves (Host true phase params piece) inlets plain is one = absurd (false≢true is)
 unit-moves (Host false phase params piece) inlets plain is one = absurd (false≢true is)
 unit-moves (Dai true format piece) inlets plain is one = absurd (false≢true is)
@@ -178,7 +178,7 @@ numbers-heard a v (c ∷ cs) hs same id is there = by (c.id == id) refl there (e
 -- ---- one component
 
 abbrev pub is_maker : Kind → Bool
-is_maker k = not (is_input k) && not (is_output k)
+is_maker k = not (is_input k) && not (is_output_kind k)
 
 module _ (t : Tables) (kept : IsKept t) (can : CanTick t) (id : ℕ) (there : IsThere (graph_of t) id is_maker) (now : active (view_by t) id ≡ true) where
   abbrev v : View
@@ -217,11 +217,11 @@ module _ (t : Tables) (kept : IsKept t) (can : CanTick t) (id : ℕ) (there : Is
   pub looked-apart : (h : ℕ → ℕ) (b : ℕ) → slice_get (fed_by v id) 0 ≡ Some b → is_among (looked_at v h id) b ≡ false
   looked-apart h b is = false_from_ne_true _ (λ both. true≢false (sym (looked-parts v h id b both).1 ∙ no-loop (graph_of t) can.wired can.linked b id (out-end b is)))
 
-  pub looked-distinct : (looked : List ℕ) (b : ℕ) → looked ≡ looked_at v (λ b. length (frames_at t b)) id → slice_get (fed_by v id) 0 ≡ Some b → IsDistinct nat_eq (looked ++ b ∷ [])
+  pub looked-distinct : (looked : List ℕ) (b : ℕ) → looked ≡ looked_at v (λ b. length (held_frames t b)) id → slice_get (fed_by v id) 0 ≡ Some b → IsDistinct nat_eq (looked ++ b ∷ [])
   looked-distinct looked b are is =
       distinct-end looked b
       (subst (IsDistinct nat_eq) (sym (are ∙ looked-are t id (chooses v id) kept.named.buffers refl)) (distinct-filter (λ (c : Component). c.id) (is_looked t id (chooses v id)) t.buffers (Ascends-distinct (λ (c : Component). c.id) t.buffers kept.named.buffers)))
-      (ap (λ ids. is_among ids b) are ∙ looked-apart (λ b. length (frames_at t b)) b is)
+      (ap (λ ids. is_among ids b) are ∙ looked-apart (λ b. length (held_frames t b)) b is)
 
   -- where it does not choose it looks at its one buffer
   pub looked-one : (h : ℕ → ℕ) → chooses v id ≡ false → length (looked_at v h id) ≡ 1
@@ -271,20 +271,20 @@ module _ (t : Tables) (kept : IsKept t) (can : CanTick t) (id : ℕ) (there : Is
       ∙ ap (channels_of v) same
 
   -- what is looked at can be taken from, and what is fed has room
-  pub inlets : (looked : List ℕ) (q n : ℕ) → looked ≡ looked_at v (λ b. length (frames_at t b)) id → n ≡ least q (map (λ b. length (frames_at t b)) looked) → AllByRecursion (IsInlet t.buffers (channels_moved t id) n) looked
+  pub inlets : (looked : List ℕ) (q n : ℕ) → looked ≡ looked_at v (λ b. length (held_frames t b)) id → n ≡ least q (map (λ b. length (held_frames t b)) looked) → AllByRecursion (IsInlet t.buffers (channels_moved t id) n) looked
   inlets looked q n are count = in-each-among (IsInlet t.buffers (channels_moved t id) n) looked (λ b is.
-      let at = looked-at (λ b. length (frames_at t b)) b (ap (λ ids. is_among ids b) (sym are) ∙ is) in
-      let low = all-among (λ x. least q (map (λ b. length (frames_at t b)) looked) ≤ length (frames_at t x)) looked b (least-each (λ b. length (frames_at t b)) q looked) is in
+      let at = looked-at (λ b. length (held_frames t b)) b (ap (λ ids. is_among ids b) (sym are) ∙ is) in
+      let low = all-among (λ x. least q (map (λ b. length (held_frames t b)) looked) ≤ length (held_frames t x)) looked b (least-each (λ b. length (held_frames t b)) q looked) is in
       record { there = at.there; shape = at.shape ∙ sym wide; held = omega (arith, low, count) })
 
-  pub outlet : (b q n : ℕ) (looked : List ℕ) → slice_get (fed_by v id) 0 ≡ Some b → q + length (frames_at t b) ≤ capacity_at t b → n ≡ least q (map (λ b. length (frames_at t b)) looked) → IsOutlet t.buffers (channels_moved t id) n b
+  pub outlet : (b q n : ℕ) (looked : List ℕ) → slice_get (fed_by v id) 0 ≡ Some b → q + length (held_frames t b) ≤ capacity_at t b → n ≡ least q (map (λ b. length (held_frames t b)) looked) → IsOutlet t.buffers (channels_moved t id) n b
   outlet b q n looked is room count =
       let at = fed-at b is in
-      let low = least-most q (map (λ b. length (frames_at t b)) looked) in
+      let low = least-most q (map (λ b. length (held_frames t b)) looked) in
       record { there = at.there; shape = at.shape ∙ sym wide; room = omega (arith, low, count, room) }
 
-  pub looked-there : (looked : List ℕ) → looked ≡ looked_at v (λ b. length (frames_at t b)) id → AllByRecursion (λ b. has_id t.buffers b ≡ true) looked
-  looked-there looked are = in-each-among (λ b. has_id t.buffers b ≡ true) looked (λ b is. (looked-at (λ b. length (frames_at t b)) b (ap (λ ids. is_among ids b) (sym are) ∙ is)).there)
+  pub looked-there : (looked : List ℕ) → looked ≡ looked_at v (λ b. length (held_frames t b)) id → AllByRecursion (λ b. has_id t.buffers b ≡ true) looked
+  looked-there looked are = in-each-among (λ b. has_id t.buffers b ≡ true) looked (λ b is. (looked-at (λ b. length (held_frames t b)) b (ap (λ ids. is_among ids b) (sym are) ∙ is)).there)
 
   -- ---- the stage after it
 
@@ -305,19 +305,19 @@ module _ (t : Tables) (kept : IsKept t) (can : CanTick t) (id : ℕ) (there : Is
         let idle = frames-unfed v clock (ring_length v blobs clock id a) (ring_room v blobs clock id a) id none.0 none.1 none.2 in
         still began start t inputs outputs a ends stage clock id idle (made-idle v blobs clock id start a idle) silent
 
-    heard : (b : ℕ) → has_id t.buffers b ≡ true → frames_at t b ≡ list_of a.rings b
+    heard : (b : ℕ) → has_id t.buffers b ≡ true → held_frames t b ≡ list_of a.rings b
     heard b is = frames-heard a t.buffers _ stage.rings b is
 
     -- the same edges are looked at, by the tables and by the audio
-    look : looked_at v (λ b. length (frames_at t b)) id ≡ looked_now v blobs clock id a
-    look = filter-same (looks v (λ b. length (frames_at t b)) id) (looks v (ring_length v blobs clock id a) id) (ins (graph_of t) id) (λ b is.
+    look : looked_at v (λ b. length (held_frames t b)) id ≡ looked_now v blobs clock id a
+    look = filter-same (looks v (λ b. length (held_frames t b)) id) (looks v (ring_length v blobs clock id a) id) (ins (graph_of t) id) (λ b is.
         ap (λ n. not (chooses v id) || (active_end v (source_of (graph_of t) b) && nat_le 1 n)) (same b is))
       where
-        same : (b : ℕ) → is_among (ins (graph_of t) id) b ≡ true → length (frames_at t b) ≡ length (list_of a.rings b)
+        same : (b : ℕ) → is_among (ins (graph_of t) id) b ≡ true → length (held_frames t b) ≡ length (list_of a.rings b)
         same b is = ap length (heard b (has-buffer b ∙ (among-filter (λ b. is_end (sink_of (graph_of t) b) id) (buffers (graph_of t)) b is).0))
 
     -- nor where it looks at nothing
-    pub unlooked : (b : ℕ) → slice_get (fed_by v id) 0 ≡ Some b → looked_at v (λ b. length (frames_at t b)) id ≡ [] → IsStage began start t inputs outputs (after_move v blobs clock id a)
+    pub unlooked : (b : ℕ) → slice_get (fed_by v id) 0 ≡ Some b → looked_at v (λ b. length (held_frames t b)) id ≡ [] → IsStage began start t inputs outputs (after_move v blobs clock id a)
     unlooked b is none =
         let now_none : looked_now v blobs clock id a ≡ [] = sym look ∙ none in
         let idle = frames-looked v clock (ring_length v blobs clock id a) (ring_room v blobs clock id a) id b [] run now_none (fed-one b is).1 (by (chooses v id) refl (is_empty (looked_now v blobs clock id a)) (ap is_empty now_none)) in
@@ -325,24 +325,24 @@ module _ (t : Tables) (kept : IsKept t) (can : CanTick t) (id : ℕ) (there : Is
       where
         by : (h : Bool) → chooses v id ≡ h → (k : Bool) → k ≡ true → (not (chooses v id) || not k) ≡ false
         by true picks k e = λ i. not (picks i) || not (e i)
-        by false plain k e = absurd (no (sym (ap length none) ∙ looked-one (λ b. length (frames_at t b)) plain))
+        by false plain k e = absurd (no (sym (ap length none) ∙ looked-one (λ b. length (held_frames t b)) plain))
           where
             no : ◌≡◌ {A = ℕ} 0 1 → ⊥
             no e = omega (arith, e)
 
     -- else frames move
-    module _ (b : ℕ) (is : slice_get (fed_by v id) 0 ≡ Some b) (looked : List ℕ) (are : looked ≡ looked_at v (λ b. length (frames_at t b)) id) (some : is_empty looked ≡ false) (n free most : ℕ) (room : free + length (frames_at t b) ≡ capacity_at t b) (bound : most ≡ min (quota v clock id) free) (count : n ≡ least most (map (λ b. length (frames_at t b)) looked)) where
+    module _ (b : ℕ) (is : slice_get (fed_by v id) 0 ≡ Some b) (looked : List ℕ) (are : looked ≡ looked_at v (λ b. length (held_frames t b)) id) (some : is_empty looked ≡ false) (n free most : ℕ) (room : free + length (held_frames t b) ≡ capacity_at t b) (bound : most ≡ min (quota v clock id) free) (count : n ≡ least most (map (λ b. length (held_frames t b)) looked)) where
       now_looked : looked_now v blobs clock id a ≡ looked
       now_looked = sym look ∙ sym are
 
-      each-heard : AllByRecursion (λ b. frames_at t b ≡ list_of a.rings b) looked
-      each-heard = in-each-among (λ b. frames_at t b ≡ list_of a.rings b) looked (λ b at. heard b (looked-at (λ b. length (frames_at t b)) b (ap (λ ids. is_among ids b) (sym are) ∙ at)).there)
+      each-heard : AllByRecursion (λ b. held_frames t b ≡ list_of a.rings b) looked
+      each-heard = in-each-among (λ b. held_frames t b ≡ list_of a.rings b) looked (λ b at. heard b (looked-at (λ b. length (held_frames t b)) b (ap (λ ids. is_among ids b) (sym are) ∙ at)).there)
 
-      lengths : (xs : List ℕ) → AllByRecursion (λ b. frames_at t b ≡ list_of a.rings b) xs → map (ring_length v blobs clock id a) xs ≡ map (λ b. length (frames_at t b)) xs
+      lengths : (xs : List ℕ) → AllByRecursion (λ b. held_frames t b ≡ list_of a.rings b) xs → map (ring_length v blobs clock id a) xs ≡ map (λ b. length (held_frames t b)) xs
       lengths [] same = refl
       lengths (x ∷ xs) same = λ i. length (sym same.0 i) ∷ lengths xs same.1 i
 
-      takes : (m : ℕ) (xs : List ℕ) → AllByRecursion (λ b. frames_at t b ≡ list_of a.rings b) xs → table xs (λ b. take m (frames_at t b)) ≡ table xs (λ b. take m (list_of a.rings b))
+      takes : (m : ℕ) (xs : List ℕ) → AllByRecursion (λ b. held_frames t b ≡ list_of a.rings b) xs → table xs (λ b. take m (held_frames t b)) ≡ table xs (λ b. take m (list_of a.rings b))
       takes m [] same = refl
       takes m (x ∷ xs) same = λ i. (x, take m (same.0 i)) ∷ takes m xs same.1 i
 
@@ -368,7 +368,7 @@ module _ (t : Tables) (kept : IsKept t) (can : CanTick t) (id : ℕ) (there : Is
 
       -- numbers of an equaliser
       module _ (equal : equalises v id ≡ true) where
-        numbers-now : numbers_at t id ≡ list_of a.numbers id
+        numbers-now : eq_numbers_at t id ≡ list_of a.numbers id
         numbers-now = numbers-heard a v t.comps (histories_of began) stage.histories id equal (in-any (λ c. c.id == id) t.comps own.0 own-in.0 own-in.1)
 
       equal-by : option_map_or (λ x. is_equaliser x.kind) (comp_of (graph_of t) id) false ≡ true → equalises v id ≡ true
@@ -376,14 +376,14 @@ module _ (t : Tables) (kept : IsKept t) (can : CanTick t) (id : ℕ) (there : Is
 
       module _ (u : Tables) (bare : bare_of u ≡ bare_of t)
           (rings-law : rings_of u ≡ moved_rings looked n b (made_at t id looked n) (rings_of t))
-          (histories-law : histories_of u ≡ map (with_numbers id (numbers_at u id)) (histories_of t))
+          (histories-law : histories_of u ≡ map (with_numbers id (eq_numbers_at u id)) (histories_of t))
           (staging-law : staging_of u ≡ staging_of t)
-          (made-law : (read : List Frame) → frames_made v id n read (slices_in t.buffers looked n) (λ blob channels frames. passed_frames blob channels (numbers_at t id) frames) ≡ made_at t id looked n)
-          (numbers-law : option_map_or (λ x. is_equaliser x.kind) (comp_of (graph_of t) id) false ≡ true → numbers_after (blob_of v id) (channels_of v id) (numbers_at t id) (only_slice (slices_in t.buffers looked n)) ≡ numbers_at u id) where
+          (made-law : (read : List Frame) → frames_made v id n read (slices_in t.buffers looked n) (λ blob channels frames. passed_frames blob channels (eq_numbers_at t id) frames) ≡ made_at t id looked n)
+          (numbers-law : option_map_or (λ x. is_equaliser x.kind) (comp_of (graph_of t) id) false ≡ true → numbers_after (blob_of v id) (channels_of v id) (eq_numbers_at t id) (only_slice (slices_in t.buffers looked n)) ≡ eq_numbers_at u id) where
         made : made_now v blobs clock id a ≡ made_at t id looked n
         made =
             (λ i. frames_made v id (frames i) (frames_in (format_of v id) (channels_of v id) (list_of a.left id) 0 (frames i)) (sym slices i) (λ blob channels frames. passed_frames blob channels (list_of a.numbers id) frames))
-            ∙ frames_made_same v id n (frames_in (format_of v id) (channels_of v id) (list_of a.left id) 0 n) (slices_in t.buffers looked n) (λ blob channels frames. passed_frames blob channels (list_of a.numbers id) frames) (λ blob channels frames. passed_frames blob channels (numbers_at t id) frames)
+            ∙ frames_made_same v id n (frames_in (format_of v id) (channels_of v id) (list_of a.left id) 0 n) (slices_in t.buffers looked n) (λ blob channels frames. passed_frames blob channels (list_of a.numbers id) frames) (λ blob channels frames. passed_frames blob channels (eq_numbers_at t id) frames)
             (λ kind. ap (λ (numbers : List ℤ). passed_frames (blob_of v id) (channels_of v id) numbers (only_slice (slices_in t.buffers looked n))) (sym (numbers-now (equal-by kind))))
             ∙ made-law (frames_in (format_of v id) (channels_of v id) (list_of a.left id) 0 n)
 
@@ -400,7 +400,7 @@ module _ (t : Tables) (kept : IsKept t) (can : CanTick t) (id : ℕ) (there : Is
             fs = made_at t id looked n
 
             by : (k : Bool) → is_among looked r.buffer ≡ k → (h : Bool) → (r.buffer == b) ≡ h → with_frames (λ own. own ++ made_at t id looked n) b (cond k (ring r.buffer (drop n (list_of a.rings r.buffer))) (ring r.buffer (list_of a.rings r.buffer))) ≡ ring r.buffer (cond (b == r.buffer) (list_of a.rings b ++ made_at t id looked n) (cond (is_among looked r.buffer) (drop n (list_of a.rings r.buffer)) (list_of a.rings r.buffer)))
-            by true at true h = absurd (true≢false (sym at ∙ ap (is_among looked) (eqb-true r.buffer b h) ∙ ap (λ ids. is_among ids b) are ∙ looked-apart (λ b. length (frames_at t b)) b is))
+            by true at true h = absurd (true≢false (sym at ∙ ap (is_among looked) (eqb-true r.buffer b h) ∙ ap (λ ids. is_among ids b) are ∙ looked-apart (λ b. length (held_frames t b)) b is))
             by false at true h =
                 ap (λ q. cond q (ring r.buffer (list_of a.rings r.buffer ++ made_at t id looked n)) (ring r.buffer (list_of a.rings r.buffer))) h
                 ∙ ap (λ x. ring r.buffer (list_of a.rings x ++ made_at t id looked n)) (eqb-true r.buffer b h)
@@ -416,15 +416,15 @@ module _ (t : Tables) (kept : IsKept t) (can : CanTick t) (id : ℕ) (there : Is
         rings-each [] = refl
         rings-each (r ∷ rs) = λ i. ring-each r i ∷ rings-each rs i
 
-        histories-each-moved : (hs : List History) → AllByRecursion (λ (h : History). equalises (view_by began) h.comp ≡ true) hs → map (with_numbers id (numbers_at u id)) (map (heard_history a) hs) ≡ map (heard_history (after_move v blobs clock id a)) hs
+        histories-each-moved : (hs : List History) → AllByRecursion (λ (h : History). equalises (view_by began) h.comp ≡ true) hs → map (with_numbers id (eq_numbers_at u id)) (map (heard_history a) hs) ≡ map (heard_history (after_move v blobs clock id a)) hs
         histories-each-moved [] each = refl
         histories-each-moved (h ∷ hs) each = λ i. by (h.comp == id) refl i ∷ histories-each-moved hs each.1 i
           where
-            by : (k : Bool) → (h.comp == id) ≡ k → cond k (record { comp = h.comp; numbers = numbers_at u id }) (heard_history a h) ≡ heard_history (after_move v blobs clock id a) h
+            by : (k : Bool) → (h.comp == id) ≡ k → cond k (record { comp = h.comp; numbers = eq_numbers_at u id }) (heard_history a h) ≡ heard_history (after_move v blobs clock id a) h
             by true same =
                 let equal : equalises v id ≡ true = (λ i. equalises (view-still t began stage.bare i) (sym (eqb-true h.comp id same) i)) ∙ each.0 in
                 let kind = (and_parts (live v id) (option_map_or (λ x. is_equaliser x.kind) (comp_of (graph_of t) id) false) equal).1 in
-                let numbers : numbers_at u id ≡ numbers_after (blobs id) (channels_of v id) (list_of a.numbers id) (only_slice (fronts v blobs clock id a)) =
+                let numbers : eq_numbers_at u id ≡ numbers_after (blobs id) (channels_of v id) (list_of a.numbers id) (only_slice (fronts v blobs clock id a)) =
                 sym (numbers-law kind) ∙ (λ i. numbers_after (blob_of v id) (channels_of v id) (numbers-now equal i) (only_slice (slices i))) in
                 ap (history h.comp) numbers
                 ∙ sym (ap (λ q. history h.comp (cond q (numbers_after (blobs id) (channels_of v id) (list_of a.numbers id) (only_slice (fronts v blobs clock id a))) (list_of a.numbers h.comp))) (eqb-turned id h.comp ∙ same))
@@ -434,7 +434,7 @@ module _ (t : Tables) (kept : IsKept t) (can : CanTick t) (id : ℕ) (there : Is
         processed-stage = record {
           bare = bare ∙ stage.bare;
           rings = rings-law ∙ ap (moved_rings looked n b (made_at t id looked n)) stage.rings ∙ rings-each (rings_of began);
-          histories = histories-law ∙ ap (map (with_numbers id (numbers_at u id))) stage.histories ∙ histories-each-moved (histories_of began) (histories-each began);
+          histories = histories-law ∙ ap (map (with_numbers id (eq_numbers_at u id))) stage.histories ∙ histories-each-moved (histories_of began) (histories-each began);
           staging = staging-law ∙ stage.staging;
           inputs = sym (inputs-still began start t inputs outputs a ends stage clock id moved);
           outputs = sym (outputs-still began start t inputs outputs a ends stage clock id silent);

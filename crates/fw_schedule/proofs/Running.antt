@@ -8,7 +8,7 @@ use Rattle.std.specs.List.{AllByRecursion}
 use Rattle.sof_base.specs.declared.format.Format.{Format}
 use Rattle.sof_base.specs.declared.format.Params.{Params}
 use Rattle.sof_base.specs.Samples.{width}
-use Rattle.row_laws.specs.Wired.{IsWired, IsLinked}
+use Rattle.row_laws.specs.Wired.{IsWired, HasJoinedSides}
 use Rattle.fw_schedule.proofs.Parts.{width-most}
 use Rattle.stream_law.specs.declared.graph.Kind.{Kind}
 use Rattle.stream_law.specs.declared.graph.Comp.{Comp}
@@ -19,10 +19,10 @@ use Rattle.stream_law.specs.State.{View}
 use Rattle.stream_law.specs.Ways.{comp_of, pipe_of, live, active, live_params, channels_of, rate_of, on_way, is_live_phase}
 use Rattle.stream_law.specs.Moves.{period, runs, quota}
 use Rattle.stream_law.proofs.Members.{find-in}
-use Rattle.row_laws.specs.Played.{IsPlayable, IsSet, IsSetBy, is_idle}
+use Rattle.row_laws.specs.Played.{AreStreamsPlayable, IsStreamSet, IsSetBy, is_idle}
 use Rattle.row_laws.proofs.Stays.{all-of, find-some, find-any, live-idle}
 use Rattle.row_laws.proofs.Playing.{active-period}
-use Rattle.ipc3_codec.specs.Allowed.{is_period}
+use Rattle.ipc3_codec.specs.Allowed.{is_period_allowed}
 
 -- ---- bounds of streams and pipelines
 
@@ -32,7 +32,7 @@ pub record IsRight (p : Params) : Type 0 where
   pub few : p.channels ≤ 8
   pub rate : p.rate ≤ 192000
 
-module _ (v : View) (played : IsPlayable v) where
+module _ (v : View) (played : AreStreamsPlayable v) where
   right-by : (o : Option Params) (host : ℕ) (idle : Bool) → idle ≡ false → IsSetBy v.graph host idle o → (p : Params) × (o ≡ Some p) × IsRight p
   right-by None host idle awake is = absurd (true≢false (sym is ∙ awake))
   right-by (Some p) host idle awake is = (
@@ -53,7 +53,7 @@ module _ (v : View) (played : IsPlayable v) where
       let s : StreamView = found.0 in
       let of = find-some (λ s. is_live_phase s.phase && on_way v.graph s.host x) v.streams s found.1 in
       let lives = (and_parts (is_live_phase s.phase) (on_way v.graph s.host x) of.0).0 in
-      let p = right-by s.params s.host (is_idle s.phase) (live-idle s.phase lives) (all-of (IsSet v.graph) v.streams s played.each of.1) in
+      let p = right-by s.params s.host (is_idle s.phase) (live-idle s.phase lives) (all-of (IsStreamSet v.graph) v.streams s played.each of.1) in
       (p.0, ap (option_and_then (λ s. s.params)) found.1 ∙ p.1, p.2)
 
   pub channels-few : (x : ℕ) → live v x ≡ true → (1 ≤ channels_of v x) × (channels_of v x ≤ 8)
@@ -70,10 +70,10 @@ module _ (v : View) (played : IsPlayable v) where
       let is : option_map_or (λ p. p.rate) (live_params v x) 0 ≡ p.0.rate = ap (λ (o : Option Params). option_map_or (λ p. p.rate) o 0) p.1 in
       omega (arith, is, p.2.rate)
 
-period-most : (g : Graph) (c : ℕ) → AllByRecursion (λ p. is_period p.period ≡ true) g.pipes → option_map_or (λ x. option_map_or (λ p. p.period) (pipe_of g x.pipe) 0) (comp_of g c) 0 / 1000 ≤ 10
+period-most : (g : Graph) (c : ℕ) → AllByRecursion (λ p. is_period_allowed p.period ≡ true) g.pipes → option_map_or (λ x. option_map_or (λ p. p.period) (pipe_of g x.pipe) 0) (comp_of g c) 0 / 1000 ≤ 10
 period-most g c periods = by (comp_of g c)
   where
-    pipe : (index : ℕ) (ps : List Pipe) → AllByRecursion (λ p. is_period p.period ≡ true) ps → option_map_or (λ p. p.period) (find (λ p. p.index == index) ps) 0 ≤ 10000
+    pipe : (index : ℕ) (ps : List Pipe) → AllByRecursion (λ p. is_period_allowed p.period ≡ true) ps → option_map_or (λ p. p.period) (find (λ p. p.index == index) ps) 0 ≤ 10000
     pipe index [] all = omega arith
     pipe index (p ∷ ps) all = at (p.index == index) (pipe index ps all.1)
       where
@@ -90,7 +90,7 @@ run-most a b p r =
     let first : a * b ≤ 10 * b = mul-le-mul_right b p in
     omega (arith, first, r)
 
-pub quota-few : (v : View) → IsWired v.graph → IsPlayable v → (clock x : ℕ) → live v x ≡ true → quota v clock x ≤ 1920
+pub quota-few : (v : View) → IsWired v.graph → AreStreamsPlayable v → (clock x : ℕ) → live v x ≡ true → quota v clock x ≤ 1920
 unfolding quota
 quota-few v wired played clock x now =
     let most = run-most (period v x) (rate_of v x) (period-most v.graph x wired.periods) (rate-few v played x now) in
@@ -107,7 +107,7 @@ bytes-most q channels format few wide =
 
 -- ---- the component of an id
 
-module _ (v : View) (wired : IsWired v.graph) (linked : IsLinked v.graph) (played : IsPlayable v) (id : ℕ) (kind : Kind) (is : option_map (λ x. x.kind) (comp_of v.graph id) ≡ Some kind) where
+module _ (v : View) (wired : IsWired v.graph) (linked : HasJoinedSides v.graph) (played : AreStreamsPlayable v) (id : ℕ) (kind : Kind) (is : option_map (λ x. x.kind) (comp_of v.graph id) ≡ Some kind) where
   -- one that is Active has a pipeline with a period
   pub period-some : active v id ≡ true → 1 ≤ period v id
   period-some now = by (comp_of v.graph id) refl is

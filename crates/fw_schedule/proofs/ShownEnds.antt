@@ -23,12 +23,12 @@ eqb-turned a b = by_case (a == b) refl
 
 -- inputs at these positions with these bytes left
 abbrev pub shown_inputs : (ℕ → ℕ) → (ℕ → List ℕ) → List InputView → List InputView
-shown_inputs position left inputs = map (λ x. record { slot = x.slot; position = position x.slot; left = left x.slot }) inputs
+shown_inputs position left inputs = map (λ (x : InputView). record x { position = position x.slot; left = left x.slot }) inputs
 
 inputs-apart : (c n : ℕ) (bytes : List ℕ) (position : ℕ → ℕ) (left : ℕ → List ℕ) (inputs : List InputView) → AllByRecursion (λ s. (c == s) ≡ false) (map (λ (x : InputView). x.slot) inputs) → shown_inputs (λ x. cond (c == x) n (position x)) (λ x. cond (c == x) bytes (left x)) inputs ≡ shown_inputs position left inputs
 inputs-apart c n bytes position left [] apart = refl
 inputs-apart c n bytes position left (x ∷ inputs) apart =
-    λ i. record { slot = x.slot; position = cond (apart.0 i) n (position x.slot); left = cond (apart.0 i) bytes (left x.slot) } ∷ inputs-apart c n bytes position left inputs apart.1 i
+    λ i. record x { position = cond (apart.0 i) n (position x.slot); left = cond (apart.0 i) bytes (left x.slot) } ∷ inputs-apart c n bytes position left inputs apart.1 i
 
 -- m bytes are taken of one slot
 pub shown-taken : (c m : ℕ) (position : ℕ → ℕ) (left : ℕ → List ℕ) (inputs : List InputView) → HasDistinct (λ x. x.slot) inputs → shown_inputs (λ x. cond (c == x) (moved_on (position c) m) (position x)) (λ x. cond (c == x) (drop m (left c)) (left x)) inputs ≡ taken c m (shown_inputs position left inputs)
@@ -37,18 +37,18 @@ shown-taken c m position left [] distinct = refl
 shown-taken c m position left (x ∷ inputs) distinct = by_case (x.slot == c) refl (shown-taken c m position left inputs distinct.1)
   where
     here : InputView
-    here = record { slot = x.slot; position = position x.slot; left = left x.slot }
+    here = record x { position = position x.slot; left = left x.slot }
 
     by_case : (h : Bool) → (x.slot == c) ≡ h → shown_inputs (λ x. cond (c == x) (moved_on (position c) m) (position x)) (λ x. cond (c == x) (drop m (left c)) (left x)) inputs ≡ taken c m (shown_inputs position left inputs) → shown_inputs (λ x. cond (c == x) (moved_on (position c) m) (position x)) (λ x. cond (c == x) (drop m (left c)) (left x)) (x ∷ inputs) ≡ cond h (after_input m here ∷ shown_inputs position left inputs) (here ∷ taken c m (shown_inputs position left inputs))
     by_case true h rest =
         let same : x.slot ≡ c = eqb-true x.slot c h in
         let is : (c == x.slot) ≡ true = eq-eqb c x.slot (sym same) in
         let apart : AllByRecursion (λ s. (c == s) ≡ false) (map (λ (x : InputView). x.slot) inputs) = subst (λ a. AllByRecursion (λ s. (a == s) ≡ false) (map (λ (x : InputView). x.slot) inputs)) same distinct.0 in
-        (λ i. record { slot = x.slot; position = cond (is i) (moved_on (position c) m) (position x.slot); left = cond (is i) (drop m (left c)) (left x.slot) } ∷ inputs-apart c (moved_on (position c) m) (drop m (left c)) position left inputs apart i)
-        ∙ ap (λ s. record { slot = x.slot; position = moved_on (position s) m; left = drop m (left s) } ∷ shown_inputs position left inputs) (sym same)
+        (λ i. record x { position = cond (is i) (moved_on (position c) m) (position x.slot); left = cond (is i) (drop m (left c)) (left x.slot) } ∷ inputs-apart c (moved_on (position c) m) (drop m (left c)) position left inputs apart i)
+        ∙ ap (λ s. record x { position = moved_on (position s) m; left = drop m (left s) } ∷ shown_inputs position left inputs) (sym same)
     by_case false h rest =
         let other : (c == x.slot) ≡ false = eqb-turned c x.slot ∙ h in
-        λ i. record { slot = x.slot; position = cond (other i) (moved_on (position c) m) (position x.slot); left = cond (other i) (drop m (left c)) (left x.slot) } ∷ rest i
+        λ i. record x { position = cond (other i) (moved_on (position c) m) (position x.slot); left = cond (other i) (drop m (left c)) (left x.slot) } ∷ rest i
 
 -- a position that no byte moves stays
 moved_on-none : (n : ℕ) → n ≤ 2 ^ 64 - 1 → moved_on n 0 ≡ n
@@ -60,10 +60,10 @@ shown-untaken c position left [] low = refl
 shown-untaken c position left (x ∷ inputs) low = by_case (x.slot == c) (shown-untaken c position left inputs low)
   where
     here : InputView
-    here = record { slot = x.slot; position = position x.slot; left = left x.slot }
+    here = record x { position = position x.slot; left = left x.slot }
 
     by_case : (h : Bool) → taken c 0 (shown_inputs position left inputs) ≡ shown_inputs position left inputs → cond h (after_input 0 here ∷ shown_inputs position left inputs) (here ∷ taken c 0 (shown_inputs position left inputs)) ≡ here ∷ shown_inputs position left inputs
-    by_case true rest = ap (λ n. record { slot = x.slot; position = n; left = left x.slot } ∷ shown_inputs position left inputs) (moved_on-none (position x.slot) (low x.slot))
+    by_case true rest = ap (λ n. record x { position = n; left = left x.slot } ∷ shown_inputs position left inputs) (moved_on-none (position x.slot) (low x.slot))
     by_case false rest = ap (λ xs. here ∷ xs) rest
 
 -- what is left of a slot, if nothing is left of one that is not bound

@@ -16,7 +16,7 @@ use Rattle.stream_law.specs.Equaliser.{numbers_after}
 use Rattle.stream_law.specs.Move.{Audio, after_move, blob_of, frames_moved, looked_now, fronts, made_now, bytes_moved, bytes_now, io_after}
 use Rattle.fw_components.specs.declared.component.Component.{Component}
 use Rattle.fw_components.specs.Tables.{Tables, view_by, rings_of, histories_of, numbers_by}
-use Rattle.fw_components.specs.Frames.{taken, pushed, with_frames}
+use Rattle.fw_components.specs.Frames.{with_taken, pushed, with_frames}
 use Rattle.fw_components.specs.Kept.{IsKept}
 use Rattle.fw_schedule.specs.Stages.{heard_ring, heard_history, IsStage, AreEnds}
 use Rattle.fw_schedule.proofs.Still.{bare-taken, bare-pushed, view-still, rings-taken, rings-pushed}
@@ -142,13 +142,13 @@ module _ (began : Tables) (start : Io) (t : Tables) (inputs : List InputView) (o
   }
 
   -- one that feeds nothing takes its frames from the buffer that it looks at
-  pub drained : (b n : ℕ) (piece : List ℕ) → equalises v c ≡ false → looked_now v blobs clock c a ≡ b ∷ [] → fed_by v c ≡ [] → frames_moved v blobs clock c a ≡ n → bytes_moved v blobs clock c a ≡ 0 → bytes_now v blobs clock c a ≡ piece → IsStage began start (taken b n t) inputs (with_piece c piece outputs) next
+  pub drained : (b n : ℕ) (piece : List ℕ) → equalises v c ≡ false → looked_now v blobs clock c a ≡ b ∷ [] → fed_by v c ≡ [] → frames_moved v blobs clock c a ≡ n → bytes_moved v blobs clock c a ≡ 0 → bytes_now v blobs clock c a ≡ piece → IsStage began start (with_taken b n t) inputs (with_piece c piece outputs) next
   drained b n piece plain look feed count moved wrote = record {
     bare = bare-taken b n t ∙ stage.bare;
     rings =
         rings-taken b n t ∙ ap (map (with_frames (drop n) b)) stage.rings
         ∙ rings-one (drop n) b a next (λ x. rings-drained v blobs clock c start a b look feed x ∙ ap (λ k. cond (b == x) (drop k (list_of a.rings b)) (list_of a.rings x)) count) (rings_of began);
-    histories = histories-view (taken b n t) t refl (view-still (taken b n t) t (bare-taken b n t)) ∙ stage.histories ∙ heard-same a next (histories_of began) (numbers-plain plain);
+    histories = histories-view (with_taken b n t) t refl (view-still (with_taken b n t) t (bare-taken b n t)) ∙ stage.histories ∙ heard-same a next (histories_of began) (numbers-plain plain);
     staging = stage.staging;
     inputs = sym (inputs-still moved);
     outputs = sym (outputs-next piece wrote);

@@ -13,15 +13,15 @@ use Rattle.stream_law.specs.Order.{is_among}
 use Rattle.stream_law.specs.Placed.{placed}
 use Rattle.stream_law.specs.Ways.{live, channels_of}
 use Rattle.stream_law.specs.Move.{Audio}
-use Rattle.row_laws.specs.Wired.{IsWired, IsLinked}
-use Rattle.row_laws.specs.Played.{IsPlayable}
+use Rattle.row_laws.specs.Wired.{IsWired, HasJoinedSides}
+use Rattle.row_laws.specs.Played.{AreStreamsPlayable}
 use Rattle.fw_components.specs.declared.component.Unit as units
 use Rattle.fw_components.specs.declared.component.Unit.TheVariants.{Host, Dai, Volume, Mixer, Mux, Eq, Buffer, Pipeline}
 use Rattle.fw_components.specs.declared.component.Component.{Component}
-use Rattle.fw_components.specs.Tables.{Tables, piece_of, comp_by, edge_by, kind_by, setting_by, graph_of, streams_by, with_stream_by, view_by, streams_of, ring_by, rings_of, frames_by, piece_by, pieces_by, pieces_of, is_buffer}
-use Rattle.fw_components.specs.Changes.{has_id, IsOf}
+use Rattle.fw_components.specs.Tables.{Tables, piece_of, comp_by, edge_by, kind_by, setting_by, graph_of, streams_by, with_stream_by, view_by, streams_of, ring_by, rings_of, unit_frames, piece_by, pieces_by, carved_pieces, is_buffer}
+use Rattle.fw_components.specs.Changes.{has_id, IsOfHome}
 use Rattle.fw_components.specs.Kept.{IsKept, IsBuffering}
-use Rattle.fw_components.specs.Frames.{channels_by, taken_unit, taken_at, taken, pushed_unit, pushed_at, pushed, with_frames}
+use Rattle.fw_components.specs.Frames.{channels_by, taken_unit, taken_at, with_taken, pushed_unit, pushed_at, pushed, with_frames}
 use Rattle.fw_components.specs.Processed.{drained_at, run_unit, run_at, processed}
 use Rattle.fw_pipeline.specs.States.{AreOf}
 use Rattle.fw_schedule.specs.Ticks.{CanTick}
@@ -72,7 +72,7 @@ where-bare f same false c = refl
 bare-changed : (t : Tables) (comps buffers : List Component) → map bare_by comps ≡ map bare_by t.comps → map bare_by buffers ≡ map bare_by t.buffers → bare_of (record { comps = comps; buffers = buffers; pipes = t.pipes; joins = t.joins }) ≡ bare_of t
 bare-changed t comps buffers cs bs = λ i. record { comps = cs i; buffers = bs i; pipes = t.pipes; joins = t.joins }
 
-pub bare-taken : (b n : ℕ) (t : Tables) → bare_of (taken b n t) ≡ bare_of t
+pub bare-taken : (b n : ℕ) (t : Tables) → bare_of (with_taken b n t) ≡ bare_of t
 bare-taken b n t = bare-changed t t.comps (map (taken_at b n) t.buffers) refl (map-same bare_by (taken_at b n) (λ c. where-bare (taken_unit n) (taken-bare n) (c.id == b) c) t.buffers)
 
 pub bare-pushed : (b : ℕ) (fs : List Frame) (w : List ℤ) (t : Tables) → bare_of (pushed b fs w t) ≡ bare_of t
@@ -168,11 +168,11 @@ pieces-front : (cs ds es : List Component) → pieces_by ds ≡ pieces_by es →
 pieces-front [] ds es same = same
 pieces-front (c ∷ cs) ds es same = λ i. placed (λ p. p.id) (bare-piece c i) (pieces-front cs ds es same i)
 
-pieces-bare : (t : Tables) → pieces_of (bare_of t) ≡ pieces_of t
+pieces-bare : (t : Tables) → carved_pieces (bare_of t) ≡ carved_pieces t
 pieces-bare t = pieces-front t.comps (map bare_by t.buffers ++ t.pipes) (t.buffers ++ t.pipes) (pieces-front t.buffers t.pipes t.pipes refl)
 
-pub pieces-still : (t u : Tables) → bare_of t ≡ bare_of u → pieces_of t ≡ pieces_of u
-pieces-still t u same = sym (pieces-bare t) ∙ ap pieces_of same ∙ pieces-bare u
+pub pieces-still : (t u : Tables) → bare_of t ≡ bare_of u → carved_pieces t ≡ carved_pieces u
+pieces-still t u same = sym (pieces-bare t) ∙ ap carved_pieces same ∙ pieces-bare u
 
 home-bare : (u : units.Unit) → (piece_of (bare_unit u)).home ≡ (piece_of u).home
 home-bare (Host capture phase params piece) = refl
@@ -185,11 +185,11 @@ home-bare (Buffer size ring source sink) = refl
 home-bare (Pipeline sched period complete piece) = refl
 
 module _ (home : Home) where
-  homes-in : (cs ds es : List Component) → (AllByRecursion (IsOf home) ds → AllByRecursion (IsOf home) es) → AllByRecursion (IsOf home) (cs ++ ds) → AllByRecursion (IsOf home) (map bare_by cs ++ es)
+  homes-in : (cs ds es : List Component) → (AllByRecursion (IsOfHome home) ds → AllByRecursion (IsOfHome home) es) → AllByRecursion (IsOfHome home) (cs ++ ds) → AllByRecursion (IsOfHome home) (map bare_by cs ++ es)
   homes-in [] ds es rest all = rest all
   homes-in (c ∷ cs) ds es rest all = (home-bare c.unit ∙ all.0, homes-in cs ds es rest all.1)
 
-  homes-out : (cs ds es : List Component) → (AllByRecursion (IsOf home) ds → AllByRecursion (IsOf home) es) → AllByRecursion (IsOf home) (map bare_by cs ++ ds) → AllByRecursion (IsOf home) (cs ++ es)
+  homes-out : (cs ds es : List Component) → (AllByRecursion (IsOfHome home) ds → AllByRecursion (IsOfHome home) es) → AllByRecursion (IsOfHome home) (map bare_by cs ++ ds) → AllByRecursion (IsOfHome home) (cs ++ es)
   homes-out [] ds es rest all = rest all
   homes-out (c ∷ cs) ds es rest all = (sym (home-bare c.unit) ∙ all.0, homes-out cs ds es rest all.1)
 
@@ -245,8 +245,8 @@ can-still t u same can =
     let moved : CanBy (view_by u) (bare_of u) = subst (λ (p : View × Tables). CanBy p.0 p.1) (λ i. (view i, same i)) bare in
     record {
       wired = subst (λ (v : View). IsWired v.graph) view can.wired;
-      linked = subst (λ (v : View). IsLinked v.graph) view can.linked;
-      played = subst IsPlayable view can.played;
+      linked = subst (λ (v : View). HasJoinedSides v.graph) view can.linked;
+      played = subst AreStreamsPlayable view can.played;
       channels = wide-out (view_by u) u.comps moved.0;
       frames = framed-out (view_by u) u.buffers moved.1;
     }
@@ -254,21 +254,21 @@ can-still t u same can =
 -- ---- rings
 
 -- a ring of a buffer alone has other frames
-where-frames : (f : List Frame → List Frame) (g : units.Unit → units.Unit) (b : ℕ) (c : Component) → frames_by (g c.unit) ≡ f (frames_by c.unit) → ring_by (cond (c.id == b) (record { id = c.id; pipe = c.pipe; channels = c.channels; unit = g c.unit }) c) ≡ with_frames f b (ring_by c)
+where-frames : (f : List Frame → List Frame) (g : units.Unit → units.Unit) (b : ℕ) (c : Component) → unit_frames (g c.unit) ≡ f (unit_frames c.unit) → ring_by (cond (c.id == b) (record { id = c.id; pipe = c.pipe; channels = c.channels; unit = g c.unit }) c) ≡ with_frames f b (ring_by c)
 where-frames f g b c is = by (c.id == b)
   where
-    by : (h : Bool) → ring_by (cond h (record { id = c.id; pipe = c.pipe; channels = c.channels; unit = g c.unit }) c) ≡ cond h (record { buffer = c.id; frames = f (frames_by c.unit) }) (ring_by c)
+    by : (h : Bool) → ring_by (cond h (record { id = c.id; pipe = c.pipe; channels = c.channels; unit = g c.unit }) c) ≡ cond h (record { buffer = c.id; frames = f (unit_frames c.unit) }) (ring_by c)
     by true = ap (λ (fs : List Frame). record { buffer = c.id; frames = fs }) is
     by false = refl
 
-pub rings-taken : (b n : ℕ) (t : Tables) → rings_of (taken b n t) ≡ map (with_frames (drop n) b) (rings_of t)
+pub rings-taken : (b n : ℕ) (t : Tables) → rings_of (with_taken b n t) ≡ map (with_frames (drop n) b) (rings_of t)
 rings-taken b n t = all t.buffers
   where
     all : (cs : List Component) → map ring_by (map (taken_at b n) cs) ≡ map (with_frames (drop n) b) (map ring_by cs)
     all [] = refl
     all (c ∷ cs) = λ i. where-frames (drop n) (taken_unit n) b c (taken-frames n c.unit) i ∷ all cs i
 
-pushed-frames : (fs : List Frame) (w : List ℤ) (u : units.Unit) → is_buffer u ≡ true → frames_by (pushed_unit fs w u) ≡ frames_by u ++ fs
+pushed-frames : (fs : List Frame) (w : List ℤ) (u : units.Unit) → is_buffer u ≡ true → unit_frames (pushed_unit fs w u) ≡ unit_frames u ++ fs
 pushed-frames fs w (Host capture phase params piece) is = absurd (false≢true is)
 pushed-frames fs w (Dai capture format piece) is = absurd (false≢true is)
 pushed-frames fs w (Volume gains piece) is = absurd (false≢true is)
@@ -286,7 +286,7 @@ rings-pushed b fs w t kept = all t.buffers kept.buffering
     all (c ∷ cs) are = λ i. where-frames (λ own. own ++ fs) (pushed_unit fs w) b c (pushed-frames fs w c.unit are.0.0) i ∷ all cs are.1 i
 
 -- the frames of a buffer that is there are those of the audio
-pub frames-heard : (a : Audio) (cs : List Component) (rs : List RingView) → map ring_by cs ≡ map (heard_ring a) rs → (b : ℕ) → has_id cs b ≡ true → option_map_or (λ c. frames_by c.unit) (find (λ c. c.id == b) cs) [] ≡ list_of a.rings b
+pub frames-heard : (a : Audio) (cs : List Component) (rs : List RingView) → map ring_by cs ≡ map (heard_ring a) rs → (b : ℕ) → has_id cs b ≡ true → option_map_or (λ c. unit_frames c.unit) (find (λ c. c.id == b) cs) [] ≡ list_of a.rings b
 frames-heard a [] rs same b there = absurd (false≢true there)
 frames-heard a (c ∷ cs) [] same b there = absurd (cc same)
 frames-heard a (c ∷ cs) (r ∷ rs) same b there = by (c.id == b) refl there (frames-heard a cs rs (cc same) b)
@@ -294,7 +294,7 @@ frames-heard a (c ∷ cs) (r ∷ rs) same b there = by (c.id == b) refl there (f
     first : ring_by c ≡ heard_ring a r
     first = cc same
 
-    by : (h : Bool) → (c.id == b) ≡ h → (h || has_id cs b) ≡ true → (has_id cs b ≡ true → option_map_or (λ c. frames_by c.unit) (find (λ c. c.id == b) cs) [] ≡ list_of a.rings b) → option_map_or (λ c. frames_by c.unit) (cond h (Some c) (find (λ c. c.id == b) cs)) [] ≡ list_of a.rings b
+    by : (h : Bool) → (c.id == b) ≡ h → (h || has_id cs b) ≡ true → (has_id cs b ≡ true → option_map_or (λ c. unit_frames c.unit) (find (λ c. c.id == b) cs) [] ≡ list_of a.rings b) → option_map_or (λ c. unit_frames c.unit) (cond h (Some c) (find (λ c. c.id == b) cs)) [] ≡ list_of a.rings b
     by true is there rest =
         ap (λ (r : RingView). r.frames) first ∙ ap (list_of a.rings) (sym (ap (λ (r : RingView). r.buffer) first) ∙ eqb-true c.id b is)
     by false is there rest = rest there

@@ -15,7 +15,7 @@ use Rattle.row_laws.proofs.Found.{found-each}
 use Rattle.fw_components.specs.declared.component.Component.{Component}
 use Rattle.fw_components.specs.Tables.{edge_by, source_by, sink_by}
 use Rattle.fw_schedule.specs.declared.ordering.Turn.{Turn}
-use Rattle.fw_schedule.specs.Turns.{shown, lowered}
+use Rattle.fw_schedule.specs.Turns.{shown, waits_lowered}
 use Rattle.fw_schedule.proofs.DistinctEdges.{edges-distinct}
 
 -- ---- each edge is found by its buffer
@@ -58,7 +58,7 @@ waits-are bs id up = waited (map edge_by bs) id bs (are-found bs up)
 
 -- ---- turns as they are shown
 
-pub shown-lowered : (end : Option ℕ) (ts : List Turn) → map shown (map (lowered end) ts) ≡ map (waiting.lowered end) (map shown ts)
+pub shown-lowered : (end : Option ℕ) (ts : List Turn) → map shown (map (waits_lowered end) ts) ≡ map (waiting.lowered end) (map shown ts)
 shown-lowered end [] = refl
 shown-lowered end (t ∷ ts) = λ i. one (is_end end t.id) i ∷ shown-lowered end ts i
   where
@@ -75,12 +75,12 @@ shown-without id (t ∷ ts) = by (not (t.id == id)) (shown-without id ts)
     by false rest = rest
 
 -- one buffer that is freed, as its edge is
-pub shown-freed : (edges : List Edge) (id : ℕ) (c : Component) (old new : List Turn) → is_found edges (edge_by c) ≡ true → new ≡ cond (is_end (source_by c.unit) id) (map (lowered (sink_by c.unit)) old) old → map shown new ≡ cond (leads_from edges id (edge_by c)) (map (waiting.lowered (sink_by c.unit)) (map shown old)) (map shown old)
+pub shown-freed : (edges : List Edge) (id : ℕ) (c : Component) (old new : List Turn) → is_found edges (edge_by c) ≡ true → new ≡ cond (is_end (source_by c.unit) id) (map (waits_lowered (sink_by c.unit)) old) old → map shown new ≡ cond (leads_from edges id (edge_by c)) (map (waiting.lowered (sink_by c.unit)) (map shown old)) (map shown old)
 shown-freed edges id c old new found is =
     ap (map shown) is
     ∙ by (is_end (source_by c.unit) id)
     ∙ ap (λ h. cond (is_end (source_by c.unit) id && h) (map (waiting.lowered (sink_by c.unit)) (map shown old)) (map shown old)) (sym found)
   where
-    by : (h : Bool) → map shown (cond h (map (lowered (sink_by c.unit)) old) old) ≡ cond (h && true) (map (waiting.lowered (sink_by c.unit)) (map shown old)) (map shown old)
+    by : (h : Bool) → map shown (cond h (map (waits_lowered (sink_by c.unit)) old) old) ≡ cond (h && true) (map (waiting.lowered (sink_by c.unit)) (map shown old)) (map shown old)
     by true = shown-lowered (sink_by c.unit) old
     by false = refl

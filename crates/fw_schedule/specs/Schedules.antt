@@ -9,7 +9,7 @@ use Rattle.stream_law.specs.Order.{order}
 use Rattle.fw_components.specs.Tables.{Tables, graph_of, view_by}
 use Rattle.fw_schedule.specs.declared.steps.Step.{Step}
 use Rattle.fw_schedule.specs.declared.schedules.Schedule.{Schedule}
-use Rattle.fw_schedule.specs.Outputs.{is_output}
+use Rattle.fw_schedule.specs.Outputs.{is_output_kind}
 
 -- the edges into a component that it may look at: all, or where it chooses those whose source is Active
 abbrev pub inlets_of : View → ℕ → List ℕ
@@ -20,7 +20,7 @@ inlets_of v c = filter (λ b. not (chooses v c) || active_end v (source_of v.gra
 -- its inlets.
 pub record IsStepOf (v : View) (ids : List ℕ) (s : Step) : Type 0 where
   pub kind : option_map (λ x. x.kind) (comp_of v.graph s.id) ≡ Some s.kind
-  pub format : (is_input s.kind || is_output s.kind) ≡ true → s.format ≡ format_of v s.id
+  pub format : (is_input s.kind || is_output_kind s.kind) ≡ true → s.format ≡ format_of v s.id
   pub active : s.active ≡ active v s.id
   pub channels : s.channels ≡ channels_of v s.id
   pub period : s.period ≡ period v s.id

@@ -7,7 +7,7 @@ use Rattle.fw_components.specs.declared.component.Unit as units
 use Rattle.fw_components.specs.Tables.{Tables, view_by}
 use Rattle.fw_walks.specs.declared.streams.Sort.TheVariants.{Live}
 use Rattle.fw_walks.specs.Streams.{is_of, any_stream}
-use Rattle.fw_walks.specs.Walks.{is_listed, place_in}
+use Rattle.fw_places.specs.Walks.{is_listed, place_in}
 use Rattle.fw_schedule.specs.Units.{stream_by}
 use Rattle.fw_schedule.specs.declared.spots.Spot.{Spot}
 use Rattle.fw_schedule.specs.declared.spots.Spots.{Spots}
@@ -35,8 +35,8 @@ abbrev pub met : Bool → Option Params → Spot → Spot
 met running params spot = record { live = true; active = running || spot.active; params = if spot.live then spot.params else params }
 
 -- the same by the stream of a unit, where it is Running or Paused and has the spot on its way
-abbrev pub met_by : units.Unit → Bool → Spot → Spot
-met_by unit on spot = if any_stream (is_of Live) 0 unit && on then met (is_running_phase (stream_by unit).0) (stream_by unit).1 spot else spot
+abbrev pub spot_met : units.Unit → Bool → Spot → Spot
+spot_met unit on spot = if any_stream (is_of Live) 0 unit && on then met (is_running_phase (stream_by unit).0) (stream_by unit).1 spot else spot
 
 -- each spot that is marked is
 abbrev pub met_where : Bool → Option Params → List Bool → List Spot → List Spot

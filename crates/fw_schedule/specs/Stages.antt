@@ -10,12 +10,12 @@ use Rattle.fw_components.specs.declared.component.Unit as units
 use Rattle.fw_components.specs.declared.component.Unit.TheVariants.{Eq, Buffer}
 use Rattle.fw_components.specs.declared.component.Component.{Component}
 use Rattle.fw_components.specs.Tables.{Tables, view_by, rings_of, histories_of, staging_of}
-use Rattle.fw_components.specs.Frames.{with_words}
+use Rattle.fw_components.specs.Frames.{piece_with_words}
 
 -- a unit without what moves: a ring is empty, and it and an equaliser have no words in their pieces
 abbrev pub bare_unit : units.Unit → units.Unit
-bare_unit (Eq eq next remaining) = Eq (record { blob = eq.blob; piece = with_words [] eq.piece }) next remaining
-bare_unit (Buffer size ring source sink) = Buffer size (record { frames = []; words = ring.words; channels = ring.channels; start = 0; piece = with_words [] ring.piece }) source sink
+bare_unit (Eq eq next remaining) = Eq (record { blob = eq.blob; piece = piece_with_words [] eq.piece }) next remaining
+bare_unit (Buffer size ring source sink) = Buffer size (record { frames = []; words = ring.words; channels = ring.channels; start = 0; piece = piece_with_words [] ring.piece }) source sink
 bare_unit unit = unit
 
 abbrev pub bare_by : Component → Component

@@ -9,5 +9,5 @@ abbrev pub shown : Turn → law.Turn
 shown t = record { place = t.place; id = t.id; waits = t.waits }
 
 -- a component at this end waits for one buffer less
-abbrev pub lowered : Option ℕ → Turn → Turn
-lowered end t = if is_end end t.id then record { place = t.place; id = t.id; waits = t.waits - 1 } else t
+abbrev pub waits_lowered : Option ℕ → Turn → Turn
+waits_lowered end t = if is_end end t.id then record { place = t.place; id = t.id; waits = t.waits - 1 } else t

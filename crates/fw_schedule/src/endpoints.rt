@@ -1,11 +1,11 @@
 // Endpoints move frames between their bytes and buffers.
-ghost use Rattle.std.specs.Prelude.{◌≡◌, ◌+◌, ◌*◌, ◌≤◌, true, take, replicate, length};
+ghost use Rattle.std.specs.Prelude.{◌≡◌, ◌+◌, ◌*◌, ◌/◌, ◌≤◌, true, take, replicate, length};
 ghost use Rattle.sof_base.specs.Samples.{width, frames_in, frames_out};
-ghost use Rattle.sof_io.specs.Takes.{given, taken as input_taken};
+ghost use Rattle.sof_io.specs.Takes.{bytes_given, taken as input_taken};
 ghost use Rattle.sof_io.specs.Puts.{room_at, with_piece};
-ghost use Rattle.fw_components.specs.Tables.{frames_at, capacity_at};
+ghost use Rattle.fw_components.specs.Tables.{held_frames, capacity_at};
 ghost use Rattle.fw_components.specs.Changes.{has_id};
-ghost use Rattle.fw_components.specs.Frames.{words_at, channels_at, taken, pushed};
+ghost use Rattle.fw_components.specs.Frames.{words_at, channels_at, with_taken, pushed};
 
 use crate::samples::{read_samples, write_both};
 use crate::scratch::{MOST, ZEROS};
@@ -29,11 +29,11 @@ pub(crate) fn feed_frames(
     requires channels { (1 ≤ channels) × (channels ≤ 8) }
     requires there { has_id registry.old.buffers buffer ≡ true }
     requires shape { channels_at registry.old buffer ≡ channels }
-    requires fit { length (frames_at registry.old buffer) + n ≤ capacity_at registry.old buffer }
-    ensures tables { registry.new ≡ pushed buffer (frames_in format channels (given id (n * (channels * width format)) io.old) 0 n) (words_at registry.new buffer) registry.old }
+    requires fit { length (held_frames registry.old buffer) + n ≤ capacity_at registry.old buffer }
+    ensures tables { registry.new ≡ pushed buffer (frames_in format channels (bytes_given id (n * (channels * width format)) io.old) 0 n) (words_at registry.new buffer) registry.old }
     ensures inputs { io.new ≡ input_taken id (n * (channels * width format)) io.old }
 {
-    let most = (MOST / usize::from(channels)) as u32;
+    let most = most_frames(channels);
     let mut fed = n.min(most);
     feed_some(
         registry, io, samples, bytes, id, buffer, channels, format, fed,
@@ -64,8 +64,8 @@ fn feed_some(
     requires few { n * channels ≤ 1536 }
     requires there { has_id registry.old.buffers buffer ≡ true }
     requires shape { channels_at registry.old buffer ≡ channels }
-    requires fit { length (frames_at registry.old buffer) + n ≤ capacity_at registry.old buffer }
-    ensures tables { registry.new ≡ pushed buffer (frames_in format channels (given id (n * (channels * width format)) io.old) 0 n) (words_at registry.new buffer) registry.old }
+    requires fit { length (held_frames registry.old buffer) + n ≤ capacity_at registry.old buffer }
+    ensures tables { registry.new ≡ pushed buffer (frames_in format channels (bytes_given id (n * (channels * width format)) io.old) 0 n) (words_at registry.new buffer) registry.old }
     ensures inputs { io.new ≡ input_taken id (n * (channels * width format)) io.old }
 {
     let count = n as usize * usize::from(channels);
@@ -91,13 +91,13 @@ pub(crate) fn drain_frames(
     requires channels { (1 ≤ channels) × (channels ≤ 8) }
     requires there { has_id registry.old.buffers buffer ≡ true }
     requires shape { channels_at registry.old buffer ≡ channels }
-    requires held { n ≤ length (frames_at registry.old buffer) }
+    requires held { n ≤ length (held_frames registry.old buffer) }
     requires room { n * (channels * width format) ≤ room_at id out.old }
-    ensures tables { registry.new ≡ taken buffer n registry.old }
-    ensures size { length (frames_out format (take n (frames_at registry.old buffer))) ≡ n * (channels * width format) }
-    ensures outputs { out.new ≡ with_piece id (frames_out format (take n (frames_at registry.old buffer))) out.old }
+    ensures tables { registry.new ≡ with_taken buffer n registry.old }
+    ensures size { length (frames_out format (take n (held_frames registry.old buffer))) ≡ n * (channels * width format) }
+    ensures outputs { out.new ≡ with_piece id (frames_out format (take n (held_frames registry.old buffer))) out.old }
 {
-    let most = (MOST / usize::from(channels)) as u32;
+    let most = most_frames(channels);
     let mut drained = n.min(most);
     drain_some(registry, out, bytes, id, buffer, channels, format, drained);
     while drained < n {
@@ -123,11 +123,11 @@ fn drain_some(
     requires few { n * channels ≤ 1536 }
     requires there { has_id registry.old.buffers buffer ≡ true }
     requires shape { channels_at registry.old buffer ≡ channels }
-    requires held { n ≤ length (frames_at registry.old buffer) }
+    requires held { n ≤ length (held_frames registry.old buffer) }
     requires room { n * (channels * width format) ≤ room_at id out.old }
-    ensures tables { registry.new ≡ taken buffer n registry.old }
-    ensures size { length (frames_out format (take n (frames_at registry.old buffer))) ≡ n * (channels * width format) }
-    ensures outputs { out.new ≡ with_piece id (frames_out format (take n (frames_at registry.old buffer))) out.old }
+    ensures tables { registry.new ≡ with_taken buffer n registry.old }
+    ensures size { length (frames_out format (take n (held_frames registry.old buffer))) ≡ n * (channels * width format) }
+    ensures outputs { out.new ≡ with_piece id (frames_out format (take n (held_frames registry.old buffer))) out.old }
 {
     let size = n as usize * usize::from(channels) * format.width();
     let written = &mut bytes[..size];
@@ -152,5 +152,17 @@ pub(crate) fn fill(out: &mut Outputs, id: u32, size: usize)
         let more = (size - filled).min(ZEROS);
         out.put(id, &zeros[..more]);
         filled += more;
+    }
+}
+
+// How many frames of so many channels there is room for: one or two channels, as most streams have, take no division.
+fn most_frames(channels: u8) -> u32
+    requires { (1 ≤ channels) × (channels ≤ 8) }
+    ensures { result ≡ 1536 / channels }
+{
+    match channels {
+        1 => MOST as u32,
+        2 => MOST as u32 / 2,
+        _ => (MOST / usize::from(channels)) as u32,
     }
 }

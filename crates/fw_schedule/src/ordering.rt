@@ -6,7 +6,7 @@ ghost use Rattle.stream_law.specs.Order.{order as law};
 ghost use Rattle.stream_law.specs.Waiting.{best_of, better as better_of, freed, turns_from};
 ghost use Rattle.fw_components.specs.Tables.{graph_of, comp_by, edge_by, source_by, sink_by};
 ghost use Rattle.fw_components.specs.Kept.{IsKept};
-ghost use Rattle.fw_schedule.specs.Turns.{shown, lowered};
+ghost use Rattle.fw_schedule.specs.Turns.{shown, waits_lowered};
 
 use crate::ends::is_at;
 use arrayvec::ArrayVec;
@@ -68,7 +68,7 @@ fn free(buffers: &[Component], id: u32, left: &mut [Turn])
 
 // What is left waits no longer for a buffer, where it comes from a component.
 fn free_one(buffer: &Component, id: u32, left: &mut [Turn])
-    ensures { left.new ≡ (if is_end (source_by buffer.now.unit) id then map (lowered (sink_by buffer.now.unit)) left.old else left.old) }
+    ensures { left.new ≡ (if is_end (source_by buffer.now.unit) id then map (waits_lowered (sink_by buffer.now.unit)) left.old else left.old) }
 {
     if is_at(source_in(&buffer.unit), id) {
         lower(left, sink_in(&buffer.unit));
@@ -77,7 +77,7 @@ fn free_one(buffer: &Component, id: u32, left: &mut [Turn])
 
 // Each component at this end waits for one buffer less.
 fn lower(left: &mut [Turn], end: Option<u32>)
-    ensures { left.new ≡ map (lowered end) left.old }
+    ensures { left.new ≡ map (waits_lowered end) left.old }
 {
     for turn in left.iter_mut() {
         *turn = lowered(end, *turn);
@@ -86,7 +86,7 @@ fn lower(left: &mut [Turn], end: Option<u32>)
 
 // A turn whose component waits for one buffer less where it is at this end.
 fn lowered(end: Option<u32>, turn: Turn) -> Turn
-    ensures { result ≡ lowered end turn }
+    ensures { result ≡ waits_lowered end turn }
 {
     if is_at(end, turn.id) {
         Turn {

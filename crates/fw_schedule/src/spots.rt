@@ -2,12 +2,13 @@
 ghost use Rattle.std.specs.Prelude.{◌≡◌, true, ℕ, slice_index_or, length};
 ghost use Rattle.stream_law.specs.Ways.{is_capture, is_running_phase};
 ghost use Rattle.fw_components.specs.Tables.{kind_by};
-ghost use Rattle.fw_walks.specs.Walks.{is_listed, place_in, leads_by};
-ghost use Rattle.fw_schedule.specs.Spots.{AreSpots, bare_spot, spot_at, met, met_by, met_where};
+ghost use Rattle.fw_places.specs.Walks.{is_listed, place_in, leads_by};
+ghost use Rattle.fw_schedule.specs.Spots.{AreSpots, bare_spot, spot_at, met, spot_met, met_where};
 
 use crate::units::stream_in;
 use fw_components::{Component, Registry};
-use fw_walks::{Places, Sort, captures, has_stream};
+use fw_places::Places;
+use fw_walks::{Sort, captures, has_stream};
 use sof_base::Params;
 use stream_law::Phase;
 
@@ -32,7 +33,7 @@ impl Spots {
     pub(crate) fn of(registry: &Registry) -> Spots
         ensures { AreSpots registry.now result }
     {
-        let places = Places::of(registry);
+        let places = registry.places();
         let comps = registry.comps();
         let mut spots = [Spot {
             live: false,
@@ -68,7 +69,7 @@ fn meet_host(spots: &mut [Spot], places: &Places, host: &Component)
     requires { length spots.old ≡ 257 }
     ensures { (x : ℕ) → is_listed places.now.ids x ≡ true →
         slice_index_or spots.new (place_in places.now.ids x) bare_spot
-        ≡ met_by host.now.unit (leads_by (is_capture (kind_by host.now.unit)) places.now.joins host.now.id x) (slice_index_or spots.old (place_in places.now.ids x) bare_spot) }
+        ≡ spot_met host.now.unit (leads_by (is_capture (kind_by host.now.unit)) places.now.joins host.now.id x) (slice_index_or spots.old (place_in places.now.ids x) bare_spot) }
 {
     let _ids = places.ids();
     if has_stream(&host.unit, Sort::Live) {

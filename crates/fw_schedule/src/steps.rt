@@ -27,7 +27,8 @@ impl Step {
         requires { self.now.active ≡ true → 1 ≤ self.now.period }
         ensures { result ≡ (self.now.active && clock % self.now.period == 0) }
     {
-        self.active && clock % self.period == 0
+        // most periods are one tick, and take no division
+        self.active && (self.period == 1 || clock % self.period == 0)
     }
 
     /// Its inlets, of those of all.

@@ -4,7 +4,7 @@ ghost use Rattle.std.specs.List.{AllByRecursion};
 ghost use Rattle.std.specs.Option.{option_map_or};
 ghost use Rattle.sof_base.specs.Samples.{width, frames_in, frames_out};
 ghost use Rattle.sof_base.specs.Ports.{HasRoom, InputView, OutputView};
-ghost use Rattle.sof_io.specs.Takes.{given, taken as input_taken};
+ghost use Rattle.sof_io.specs.Takes.{bytes_given, taken as input_taken};
 ghost use Rattle.sof_io.specs.Puts.{room_at, with_piece};
 ghost use Rattle.stream_law.specs.State.{FwState};
 ghost use Rattle.stream_law.specs.Ways.{active, comp_of};
@@ -13,13 +13,13 @@ ghost use Rattle.stream_law.specs.Moves.{runs, quota, fed_by, looked_at, least a
 ghost use Rattle.stream_law.specs.Move.{Move, next_clock};
 ghost use Rattle.stream_law.specs.TickLaws.{clocked};
 ghost use Rattle.fw_heap.specs.declared.run.Home.{Home};
-ghost use Rattle.fw_components.specs.Tables.{graph_of, view_by, frames_at, capacity_at};
+ghost use Rattle.fw_components.specs.Tables.{graph_of, view_by, held_frames, capacity_at};
 ghost use Rattle.fw_components.specs.Changes.{has_id};
-ghost use Rattle.fw_components.specs.Frames.{words_at, channels_at, taken, pushed};
+ghost use Rattle.fw_components.specs.Frames.{words_at, channels_at, with_taken, pushed};
 ghost use Rattle.fw_pipeline.specs.States.{with_tables, AreOf};
 ghost use Rattle.fw_schedule.specs.Ticks.{CanTick, io_of};
 ghost use Rattle.fw_schedule.specs.Schedules.{IsScheduleOf, IsStepOf};
-ghost use Rattle.fw_schedule.specs.Outputs.{is_output, least_by};
+ghost use Rattle.fw_schedule.specs.Outputs.{is_output_kind, least_by};
 ghost use Rattle.fw_schedule.specs.Stages.{bare_of, Moves, Grew};
 
 use crate::endpoints::{drain_frames, feed_frames, fill};
@@ -148,9 +148,9 @@ fn feed_into(
     requires there { has_id registry.old.buffers buffer ≡ true }
     requires channels { (1 ≤ step.now.channels) × (step.now.channels ≤ 8) }
     requires shape { channels_at registry.old buffer ≡ step.now.channels }
-    ensures tables { let n = min step.now.quota (capacity_at registry.old buffer - length (frames_at registry.old buffer)) in
-        registry.new ≡ pushed buffer (frames_in step.now.format step.now.channels (given step.now.id (n * (step.now.channels * width step.now.format)) io.old) 0 n) (words_at registry.new buffer) registry.old }
-    ensures inputs { let n = min step.now.quota (capacity_at registry.old buffer - length (frames_at registry.old buffer)) in
+    ensures tables { let n = min step.now.quota (capacity_at registry.old buffer - length (held_frames registry.old buffer)) in
+        registry.new ≡ pushed buffer (frames_in step.now.format step.now.channels (bytes_given step.now.id (n * (step.now.channels * width step.now.format)) io.old) 0 n) (words_at registry.new buffer) registry.old }
+    ensures inputs { let n = min step.now.quota (capacity_at registry.old buffer - length (held_frames registry.old buffer)) in
         io.new ≡ input_taken step.now.id (n * (step.now.channels * width step.now.format)) io.old }
 {
     let n = step.quota.min(registry.free(buffer));
@@ -178,7 +178,7 @@ fn drain(
     requires can { CanTick registry.old }
     requires step { IsStepOf (view_by registry.old) inlets.now step.now }
     requires active { active (view_by registry.old) step.now.id ≡ true }
-    requires kind { is_output step.now.kind ≡ true }
+    requires kind { is_output_kind step.now.kind ≡ true }
     requires room { 61440 ≤ room_at step.now.id out.old }
     ensures bare { bare_of registry.new ≡ bare_of registry.old }
     ensures grew { Grew (step.now.id ∷ []) out.old out.new }
@@ -203,11 +203,11 @@ fn drain_from(
     requires shape { channels_at registry.old buffer ≡ step.now.channels }
     requires most { step.now.quota * (step.now.channels * width step.now.format) ≤ 61440 }
     requires room { step.now.quota * (step.now.channels * width step.now.format) ≤ room_at step.now.id out.old }
-    ensures tables { registry.new ≡ taken buffer (min step.now.quota (length (frames_at registry.old buffer))) registry.old }
-    ensures size { let n = min step.now.quota (length (frames_at registry.old buffer)) in
-        length (frames_out step.now.format (take n (frames_at registry.old buffer))) ≡ n * (step.now.channels * width step.now.format) }
-    ensures outputs { let n = min step.now.quota (length (frames_at registry.old buffer)) in
-        out.new ≡ with_piece step.now.id (frames_out step.now.format (take n (frames_at registry.old buffer)) ++ replicate ((least_by step.now.kind step.now.quota - n) * (step.now.channels * width step.now.format)) 0) out.old }
+    ensures tables { registry.new ≡ with_taken buffer (min step.now.quota (length (held_frames registry.old buffer))) registry.old }
+    ensures size { let n = min step.now.quota (length (held_frames registry.old buffer)) in
+        length (frames_out step.now.format (take n (held_frames registry.old buffer))) ≡ n * (step.now.channels * width step.now.format) }
+    ensures outputs { let n = min step.now.quota (length (held_frames registry.old buffer)) in
+        out.new ≡ with_piece step.now.id (frames_out step.now.format (take n (held_frames registry.old buffer)) ++ replicate ((least_by step.now.kind step.now.quota - n) * (step.now.channels * width step.now.format)) 0) out.old }
 {
     let n = step.quota.min(registry.held(buffer));
     drain_frames(
@@ -231,7 +231,7 @@ fn process(registry: &mut Registry, step: &Step, inlets: &[u32])
     requires can { CanTick registry.old }
     requires step { IsStepOf (view_by registry.old) inlets.now step.now }
     requires active { active (view_by registry.old) step.now.id ≡ true }
-    requires kind { (not (is_input step.now.kind) && not (is_output step.now.kind)) ≡ true }
+    requires kind { (not (is_input step.now.kind) && not (is_output_kind step.now.kind)) ≡ true }
     ensures bare { bare_of registry.new ≡ bare_of registry.old }
     ensures moved { (clock : ℕ) (inputs : List InputView) (outputs : List OutputView) → runs (view_by registry.old) clock step.now.id ≡ true → Moves clock step.now.id registry.old inputs outputs registry.new inputs outputs }
 {
@@ -252,9 +252,9 @@ fn process(registry: &mut Registry, step: &Step, inlets: &[u32])
 fn pass(registry: &mut Registry, id: u32, most: u32, looked: &[u32], buffer: u32)
     requires can { CanTick registry.old }
     requires active { active (view_by registry.old) id ≡ true }
-    requires kind { option_map_or (λ x. not (is_input x.kind) && not (is_output x.kind)) (comp_of (graph_of registry.old) id) false ≡ true }
+    requires kind { option_map_or (λ x. not (is_input x.kind) && not (is_output_kind x.kind)) (comp_of (graph_of registry.old) id) false ≡ true }
     requires most { (clock : ℕ) → most ≡ quota (view_by registry.old) clock id }
-    requires looked { looked.now ≡ looked_at (view_by registry.old) (λ b. length (frames_at registry.old b)) id }
+    requires looked { looked.now ≡ looked_at (view_by registry.old) (λ b. length (held_frames registry.old b)) id }
     requires fed { slice_get (fed_by (view_by registry.old) id) 0 ≡ Some buffer }
     ensures bare { bare_of registry.new ≡ bare_of registry.old }
     ensures moved { (clock : ℕ) (inputs : List InputView) (outputs : List OutputView) → runs (view_by registry.old) clock id ≡ true → Moves clock id registry.old inputs outputs registry.new inputs outputs }
@@ -274,7 +274,7 @@ fn pass(registry: &mut Registry, id: u32, most: u32, looked: &[u32], buffer: u32
 fn holding(registry: &Registry, inlets: &[u32]) -> ArrayVec<u32, 8>
     requires there { AllByRecursion (λ b. has_id registry.now.buffers b ≡ true) inlets.now }
     requires few { length inlets.now ≤ 8 }
-    ensures { result.items ≡ filter (λ b. nat_le 1 (length (frames_at registry.now b))) inlets.now }
+    ensures { result.items ≡ filter (λ b. nat_le 1 (length (held_frames registry.now b))) inlets.now }
 {
     let mut holding: ArrayVec<u32, 8> = ArrayVec::new();
     for b in inlets {
@@ -288,7 +288,7 @@ fn holding(registry: &Registry, inlets: &[u32]) -> ArrayVec<u32, 8>
 // The least of a number and of what each of these buffers holds.
 fn least_held(registry: &Registry, looked: &[u32], most: u32) -> u32
     requires { AllByRecursion (λ b. has_id registry.now.buffers b ≡ true) looked.now }
-    ensures { result ≡ least_of most (map (λ b. length (frames_at registry.now b)) looked.now) }
+    ensures { result ≡ least_of most (map (λ b. length (held_frames registry.now b)) looked.now) }
 {
     let mut n = most;
     for b in looked {

@@ -4,7 +4,7 @@ ghost use Rattle.std.specs.Option.{option_map_or};
 ghost use Rattle.stream_law.specs.Moves.{is_choosy};
 ghost use Rattle.fw_components.specs.Tables.{period_by};
 ghost use Rattle.stream_law.specs.Endpoints.{is_input};
-ghost use Rattle.fw_schedule.specs.Outputs.{is_output, least_by};
+ghost use Rattle.fw_schedule.specs.Outputs.{is_output_kind, least_by};
 ghost use Rattle.fw_schedule.specs.Units.{stream_by, unit_format};
 
 use fw_components::{Component, Unit};
@@ -62,7 +62,7 @@ pub(crate) fn reads(kind: Kind) -> bool
 
 /// Whether a kind gives its frames to an output.
 pub(crate) fn writes(kind: Kind) -> bool
-    ensures { result ≡ is_output kind }
+    ensures { result ≡ is_output_kind kind }
 {
     matches!(kind, Kind::HostCapture | Kind::DaiPlay(_))
 }

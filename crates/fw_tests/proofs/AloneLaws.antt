@@ -12,7 +12,8 @@ use Rattle.fw_components.specs.declared.component.Component.{Component}
 use Rattle.fw_components.specs.declared.component.Unit as units
 use Rattle.fw_components.specs.declared.component.Unit.TheVariants.{Host, Dai, Volume, Mixer, Mux, Eq, Buffer, Pipeline}
 use Rattle.fw_components.specs.Tables.{Tables, all_of, piece_of}
-use Rattle.fw_components.specs.Changes.{added, has_id, is_there, found, given_found, touches, without, without_by, IsFoundOf}
+use Rattle.mbox_link.specs.Step.{touches}
+use Rattle.fw_components.specs.Changes.{added, has_id, is_there, found, given_found, tables_without, without_by, IsFoundOf}
 use Rattle.fw_components.specs.Values.{left_with}
 use Rattle.fw_components.specs.Parts.{parted, parted_by, parted_at, parted_unit, part_set, takes_part}
 use Rattle.std.specs.Option.{option_map_or}
@@ -92,7 +93,7 @@ one-gone piece [] e = absurd e
 one-gone piece (c ∷ []) e = ap (λ h. cond {A = List Component} (not h) (c ∷ []) []) (eq-eqb c.id 3 e.0)
 one-gone piece (c ∷ (d ∷ cs)) e = absurd e
 
-pub alone-gone : (piece : PieceState) (t : Tables) → IsAlone piece t → length (all_of (without 3 t)) ≡ 0
+pub alone-gone : (piece : PieceState) (t : Tables) → IsAlone piece t → length (all_of (tables_without 3 t)) ≡ 0
 alone-gone piece t alone =
     let here : has_id t.comps 3 ≡ true = subst (λ (cs : List Component). list_any (λ c. c.id == 3) cs ≡ true) (nothing t.comps) (one-there piece t.comps [] alone.comps) in
     ap (λ h. length (all_of (without_by h (has_id t.buffers 3) 3 t))) here

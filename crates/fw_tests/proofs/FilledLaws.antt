@@ -10,7 +10,7 @@ use Rattle.fw_heap.specs.Pieces.{PieceState}
 use Rattle.fw_components.specs.declared.component.Component.{Component}
 use Rattle.fw_components.specs.declared.component.Unit.TheVariants.{Mixer}
 use Rattle.fw_components.specs.Tables.{Tables}
-use Rattle.fw_components.specs.Changes.{added, has_id, is_there, found, without, without_by}
+use Rattle.fw_components.specs.Changes.{added, has_id, is_there, found, tables_without, without_by}
 use Rattle.fw_tests.specs.Filled.{AreBelow, IsFilled, rest_behind}
 
 -- what is added
@@ -102,7 +102,7 @@ more-there n piece t = before (placed (λ x. x.id) (mixer n piece) t.comps) (pre
 pub more-found : (n : ℕ) (piece : PieceState) (t : Tables) → IsFilled n t → found (added (mixer n piece) t) n ≡ Some (mixer n piece)
 more-found n piece t filled = found-in n piece t.comps (t.buffers ++ t.pipes) filled.comps
 
-pub more-less : (n : ℕ) (piece : PieceState) (t : Tables) → IsFilled n t → without n (added (mixer n piece) t) ≡ t
+pub more-less : (n : ℕ) (piece : PieceState) (t : Tables) → IsFilled n t → tables_without n (added (mixer n piece) t) ≡ t
 more-less n piece t filled =
     ap (λ h. without_by h (has_id t.buffers n) n (added (mixer n piece) t)) (present n piece t.comps)
     ∙ (λ i. record { comps = less n piece t.comps filled.comps i; buffers = t.buffers; pipes = t.pipes; joins = t.joins })

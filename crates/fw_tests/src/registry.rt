@@ -56,7 +56,7 @@ fn buffer(piece: Piece) -> Component
     }
 }
 
-// A host is added, found, prepared and removed, and its piece comes back.
+// A host is added, found, paused, counted and removed, and its piece comes back.
 fn one_host(alloc: Global) -> Result<bool, NoMemory> {
     let mut registry = Registry::new(alloc)?;
     let mut region = match Region::new(alloc, 64) {
@@ -80,8 +80,9 @@ fn one_host(alloc: Global) -> Result<bool, NoMemory> {
     match registry.add(host(piece)) {
         Ok(()) => {
             right = registry.len() == 1 && registry.find(3) == Some(0);
-            registry.set_stream(3, Phase::Prepared, Some(params));
+            registry.set_stream(3, Phase::Paused, Some(params));
             right = right && registry.at(0).id == 3;
+            right = right && registry.counts(3) == (0, 1);
             registry.remove(3, &mut region);
         }
         Err(RegistryFull { component }) => region.give(component.into_piece()),

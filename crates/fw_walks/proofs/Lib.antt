@@ -1,8 +1,5 @@
--- Lemmas on marks and walks, and on what ids name.
-pub mod Marking
-pub mod Reaching
-pub mod Charts
-pub mod Leaves
+-- Lemmas on what is on ways, and on what ids name.
 pub mod OnWays
 pub mod LiveMarks
 pub mod Naming
+mod Counted

@@ -1,4 +1,2 @@
-pub mod Walks
 pub mod Charts
 pub mod Streams
-pub mod Leaving

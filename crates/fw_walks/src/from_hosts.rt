@@ -1,51 +1,51 @@
-// What is Live, marked by two walks from the hosts of all streams.
+// The hosts of streams of a sort, marked, and what is Live, by two walks from such hosts.
 ghost use Rattle.std.specs.Prelude.{◌≡◌, ◌==◌, ◌&&◌, ◌||◌, ℕ, true, false, length, slice_index_or};
 ghost use Rattle.std.specs.List.{list_any, AllByRecursion};
 ghost use Rattle.stream_law.specs.Ways.{live as is_live};
 ghost use Rattle.fw_components.specs.Tables.{view_by};
-ghost use Rattle.fw_walks.specs.Charts.{IsOf};
-ghost use Rattle.fw_walks.specs.Streams.{is_live_host};
-ghost use Rattle.fw_walks.specs.Walks.{is_listed, is_marked};
+ghost use Rattle.fw_walks.specs.Charts.{IsChartOf};
+ghost use Rattle.fw_walks.specs.Streams.{is_host_of};
+ghost use Rattle.fw_places.specs.Walks.{is_listed, is_marked};
 
 use crate::kinds::captures;
-use crate::places::Places;
 use crate::streams::{Sort, has_stream};
 use fw_components::{Component, Registry};
+use fw_places::Places;
 
 /// Marks all that is on the way of a stream that is Running or Paused.
 pub fn live_marks(registry: &Registry, places: &Places) -> [bool; 257]
-    requires { IsOf registry.now places.now }
+    requires { IsChartOf registry.now places.now }
     ensures { (x : ℕ) → is_marked places.now.ids result x ≡ is_live (view_by registry.now) x }
 {
-    let mut marks = live_hosts(registry.comps(), places, false);
+    let mut marks = mark_hosts(registry.comps(), places, Sort::Live, false);
     places.spread(&mut marks, false);
-    let mut behind = live_hosts(registry.comps(), places, true);
+    let mut behind = mark_hosts(registry.comps(), places, Sort::Live, true);
     places.spread(&mut behind, true);
     add(&mut marks, &behind);
     marks
 }
 
-// Marks the hosts of playbacks, or of captures, whose streams are Running or Paused.
-fn live_hosts(comps: &[Component], places: &Places, capture: bool) -> [bool; 257]
+/// Marks the hosts of playbacks, or of captures, whose streams are of a sort.
+pub fn mark_hosts(comps: &[Component], places: &Places, sort: Sort, capture: bool) -> [bool; 257]
     requires { AllByRecursion (λ c. is_listed places.now.ids c.id ≡ true) comps.now }
-    ensures hosts { (x : ℕ) → is_listed places.now.ids x ≡ true → is_marked places.now.ids result x ≡ list_any (λ c. c.id == x && is_live_host capture c) comps.now }
+    ensures hosts { (x : ℕ) → is_listed places.now.ids x ≡ true → is_marked places.now.ids result x ≡ list_any (λ c. c.id == x && is_host_of sort capture c) comps.now }
     ensures past { slice_index_or result (length places.now.ids) false ≡ false }
 {
     let _ids = places.ids();
     let mut marks = [false; 257];
     for comp in comps {
-        if is_live_host(comp, capture) {
+        if is_host_of(comp, sort, capture) {
             places.mark(&mut marks, comp.id);
         }
     }
     marks
 }
 
-// Whether a host of a playback, or of a capture, has a stream that is Running or Paused.
-fn is_live_host(comp: &Component, capture: bool) -> bool
-    ensures { result ≡ is_live_host capture comp.now }
+// Whether a host of a playback, or of a capture, has a stream of a sort.
+fn is_host_of(comp: &Component, sort: Sort, capture: bool) -> bool
+    ensures { result ≡ is_host_of sort capture comp.now }
 {
-    has_stream(&comp.unit, Sort::Live)
+    has_stream(&comp.unit, sort)
         && if capture {
             captures(&comp.unit)
         } else {

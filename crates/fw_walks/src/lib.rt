@@ -4,14 +4,11 @@
 mod from_hosts;
 mod kinds;
 mod lookups;
-mod places;
 mod streams;
-mod walk;
 
-pub use from_hosts::live_marks;
+pub use from_hosts::{live_marks, mark_hosts};
 pub use kinds::{captures, fits, ins_of, kind_of, outs_of, plays, sink_in, source_in};
 pub use lookups::{
     count_ins, count_outs, find, has_buffer, has_comp, is_used, kind_at, sink_at, source_at,
 };
-pub use places::Places;
 pub use streams::{Sort, active, has_stream, is_on_way, live};

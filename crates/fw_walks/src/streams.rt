@@ -6,39 +6,39 @@ ghost use Rattle.fw_components.specs.Tables.{view_by, graph_of, streams_of};
 ghost use Rattle.fw_walks.specs.Streams.{is_of, any_stream, is_met};
 
 use crate::kinds::captures;
-use crate::places::Places;
+use crate::lookups::has_place;
 use fw_components::{Component, Registry, Unit};
+use fw_places::Places;
 use stream_law::Phase;
 
-/// Which streams are asked for: those that are Running or Paused, those that are Running, or those that have parameters.
+/// Which streams are asked for: all, those that are Running or Paused, those that are Running, or those that have parameters.
 #[derive(Clone, Copy)]
 pub enum Sort {
+    All,
     Live,
     Running,
     Set,
 }
 
 /// Whether a component or a buffer is on the way of a stream that is Running or Paused.
-#[tactic(auto, unfolding(stream_law::specs::Ways::live))]
 pub fn live(registry: &Registry, id: u32) -> bool
     ensures { result ≡ is_live (view_by registry.now) id }
 {
-    is_on_way(registry, Sort::Live, id)
+    has_place(registry, id) && registry.counts(id).1 > 0
 }
 
 /// Whether a component or a buffer is on the way of a stream that is Running.
-#[tactic(auto, unfolding(stream_law::specs::Ways::active))]
 pub fn active(registry: &Registry, id: u32) -> bool
     ensures { result ≡ is_active (view_by registry.now) id }
 {
-    is_on_way(registry, Sort::Running, id)
+    has_place(registry, id) && registry.counts(id).0 > 0
 }
 
 /// Whether a component or a buffer is on the way of a stream of a sort.
 pub fn is_on_way(registry: &Registry, sort: Sort, id: u32) -> bool
     ensures { result ≡ list_any (λ s. is_of sort s && on_way (graph_of registry.now) s.host id) (streams_of registry.now) }
 {
-    let places = Places::of(registry);
+    let places = registry.places();
     let before = places.reached(id, true);
     let behind = places.reached(id, false);
     has_marked(registry.comps(), sort, &places, &before, &behind)
@@ -87,6 +87,7 @@ pub fn has_stream(unit: &Unit, sort: Sort) -> bool
 {
     match unit {
         Unit::Host { phase, params, .. } => match sort {
+            Sort::All => true,
             Sort::Live => matches!(phase, Phase::Running | Phase::Paused),
             Sort::Running => matches!(phase, Phase::Running),
             Sort::Set => params.is_some(),

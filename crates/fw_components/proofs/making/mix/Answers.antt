@@ -1,35 +1,42 @@
-use Rattle.std.proofs.Common.{◌≡◌, refl, sym, ap, ◌∙◌, subst, ℕ, suc, ◌+◌, ◌*◌, ◌≤◌, ◌^◌, List, ℤ, ◌∷◌, length, map, drop, get_or, drop-cons, nat_abs, arith}
+use Rattle.std.proofs.Common.{◌≡◌, sym, ap, ◌∙◌, subst, ℕ, suc, ◌+◌, ◌*◌, ◌≤◌, ◌^◌, List, ℤ, pos, ◌∷◌, length, map, drop, replicate, get_or, drop-cons, nat_abs, arith}
 use Rattle.std.specs.List.{AllByRecursion}
 use Rattle.fw_gain.specs.Kernels.{summed}
-use Rattle.fw_gain.proofs.KernelLaws.{begun-within, summed-within, within-more}
+use Rattle.fw_gain.proofs.KernelLaws.{summed-within, within-more}
 use Rattle.fw_components.specs.Moving.{samples_in, all_summed, IsWhole}
 use Rattle.fw_components.proofs.making.mix.Goals as goal
+use Rattle.fw_components.proofs.making.mix.Goals.{then-i-eq0, else-i-eq0}
 
-pub add-requires-clause-within : goal.add-requires-clause-within
-add-requires-clause-within c =
-    within-more (c.loop-inlet.inlet-index * 2 ^ 31) (2 ^ 38) c.loop-inlet.sums (omega (arith, c.requires.few, c.loop-inlet-test.true)) c.loop-inlet.invariant.within
-
-pub loop-inlet-init : goal.loop-inlet-init
-loop-inlet-init c = record {
-  within = subst (AllByRecursion (λ sum. nat_abs sum ≤ 0 * 2 ^ 31)) (sym c.mix_begin.ensures) (begun-within (0 * 2 ^ 31) (length c.args.sums.now));
-  so_far = refl;
-  frames = λ all. all;
-}
-
-pub loop-inlet-preserved : goal.loop-inlet-preserved
-loop-inlet-preserved c =
-    let looked = c.args.looked.now in let i = c.loop-inlet.inlet-index in let inlet = get_or looked i 0 in
+pub loop-i-preserved : goal.loop-i-preserved
+loop-i-preserved c =
+    let looked = c.args.looked.now in let i = c.loop-i.i in let inlet = get_or looked i 0 in
     let samples = samples_in c.args.buffers.now c.args.n in
+    let zeros : List ℤ = replicate (length c.args.sums.now) (pos 0) in
     let rest = drop (i + 1) looked in
-    let left : drop i looked ≡ inlet ∷ rest = drop-cons looked i 0 c.loop-inlet-test.true ∙ ap (λ (k : ℕ). inlet ∷ drop k looked) (let e : suc i ≡ i + 1 = omega arith in e) in
-    record {
-      within =
-          subst (AllByRecursion (λ sum. nat_abs sum ≤ (i + 1) * 2 ^ 31)) (sym c.add.ensures.sums)
-          (within-more (i * 2 ^ 31 + 2 ^ 31) ((i + 1) * 2 ^ 31) (summed c.loop-inlet.sums (samples inlet)) (omega arith)
-          (summed-within (i * 2 ^ 31) (2 ^ 31) c.loop-inlet.sums (samples inlet) c.loop-inlet.invariant.within c.add.ensures.within));
-      so_far =
-          ap (λ (sums : List ℤ). all_summed sums (map samples rest)) c.add.ensures.sums
-          ∙ sym (ap (λ (xs : List ℕ). all_summed c.loop-inlet.sums (map samples xs)) left)
-          ∙ c.loop-inlet.invariant.so_far;
-      frames = λ all. c.loop-inlet.invariant.frames (subst (AllByRecursion (IsWhole c.args.buffers.now)) (sym left) (c.add.ensures.frames, all));
-    }
+    let left : drop i looked ≡ inlet ∷ rest = drop-cons looked i 0 c.loop-i-test.true ∙ ap (λ (k : ℕ). inlet ∷ drop k looked) (let e : suc i ≡ i + 1 = omega arith in e) in
+    let long : length c.loop-i.sums ≡ length c.args.sums.now = c.loop-i.auto.sums ∙ c.if-is_empty.auto.sums in
+    elim c.if-i-eq0.branch [
+      | then-i-eq0 w ↦ record {
+        within = λ some.
+            subst (AllByRecursion (λ sum. nat_abs sum ≤ (i + 1) * 2 ^ 31)) (sym w.sums-is)
+            (within-more (2 ^ 31) ((i + 1) * 2 ^ 31) w.begin.new.sums (omega arith) w.begin.ensures.within);
+        so_far = λ some.
+            ap (λ (sums : List ℤ). all_summed sums (map samples rest)) (w.sums-is ∙ w.begin.ensures.sums ∙ (λ j. summed (replicate (long j) (pos 0)) (samples inlet)))
+            ∙ sym (ap (λ (xs : List ℕ). all_summed zeros (map samples xs)) (sym (ap (λ (k : ℕ). drop k looked) w.if-i-eq0.true) ∙ left));
+        none = λ e. absurd (omega (arith, e, c.loop-i-test.true));
+        frames = λ all. c.loop-i.invariant.frames (subst (AllByRecursion (IsWhole c.args.buffers.now)) (sym left) (w.begin.ensures.frames, all));
+      }
+      | else-i-eq0 w ↦ (
+          let some : 1 ≤ i = omega (arith, w.if-i-eq0.false) in
+          record {
+            within = λ _.
+                subst (AllByRecursion (λ sum. nat_abs sum ≤ (i + 1) * 2 ^ 31)) (sym (w.sums-is ∙ w.add.ensures.sums))
+                (within-more (i * 2 ^ 31 + 2 ^ 31) ((i + 1) * 2 ^ 31) (summed c.loop-i.sums (samples inlet)) (omega arith)
+                (summed-within (i * 2 ^ 31) (2 ^ 31) c.loop-i.sums (samples inlet) (c.loop-i.invariant.within some) w.add.ensures.within));
+            so_far = λ _.
+                ap (λ (sums : List ℤ). all_summed sums (map samples rest)) (w.sums-is ∙ w.add.ensures.sums)
+                ∙ sym (ap (λ (xs : List ℕ). all_summed c.loop-i.sums (map samples xs)) left)
+                ∙ c.loop-i.invariant.so_far some;
+            none = λ e. absurd (omega (arith, e, c.loop-i-test.true));
+            frames = λ all. c.loop-i.invariant.frames (subst (AllByRecursion (IsWhole c.args.buffers.now)) (sym left) (w.add.ensures.frames, all));
+          })
+    ]

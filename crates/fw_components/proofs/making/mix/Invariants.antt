@@ -1,12 +1,13 @@
-use Rattle.std.proofs.Common.{◌≡◌, ◌*◌, ◌≤◌, ◌^◌, map, drop, nat_abs}
+use Rattle.std.proofs.Common.{◌≡◌, ◌*◌, ◌≤◌, ◌^◌, map, drop, length, replicate, pos, nat_abs}
 use Rattle.std.specs.List.{AllByRecursion}
 use Rattle.fw_components.specs.Moving.{samples_in, all_summed, IsWhole}
 use Rattle.fw_components.proofs.making.mix.Given as goal
 
--- the sums so far with what is to come are all sums
-abbrev pub invariant-loop-inlet : goal.invariant-loop-inlet
-invariant-loop-inlet l = record {
-  within : AllByRecursion (λ sum. nat_abs sum ≤ l.inlet-index * 2 ^ 31) l.sums;
-  so_far : all_summed l.sums (map (samples_in l.buffers l.n) (drop l.inlet-index l.looked)) ≡ all_summed l.initial.sums (map (samples_in l.buffers l.n) l.looked);
-  frames : AllByRecursion (IsWhole l.buffers) (drop l.inlet-index l.looked) → AllByRecursion (IsWhole l.buffers) l.looked;
+-- the sums so far, once there are some, with what is to come are all sums
+abbrev pub invariant-loop-i : goal.invariant-loop-i
+invariant-loop-i l = record {
+  within : 1 ≤ l.i → AllByRecursion (λ sum. nat_abs sum ≤ l.i * 2 ^ 31) l.sums;
+  so_far : 1 ≤ l.i → all_summed l.sums (map (samples_in l.buffers l.n) (drop l.i l.looked)) ≡ all_summed (replicate (length l.fn.sums) (pos 0)) (map (samples_in l.buffers l.n) l.looked);
+  none : length l.looked ≡ 0 → l.sums ≡ replicate (length l.fn.sums) (pos 0);
+  frames : AllByRecursion (IsWhole l.buffers) (drop l.i l.looked) → AllByRecursion (IsWhole l.buffers) l.looked;
 }

@@ -3,7 +3,7 @@ use Rattle.std.proofs.lemmas.Bool.{true≢false}
 use Rattle.std.specs.Prelude.{position, find}
 use Rattle.sof_base.specs.Samples.{Frame, samples_of}
 use Rattle.fw_components.specs.declared.component.Component.{Component}
-use Rattle.fw_components.specs.Frames.{frames_in, channels_in, taken_at}
+use Rattle.fw_components.specs.Frames.{buffer_frames, channels_in, taken_at}
 use Rattle.fw_components.proofs.Going.{never-there}
 use Rattle.fw_components.proofs.Taking.{taken-found}
 use Rattle.fw_components.proofs.Standing.{frames-is, channels-is, fewest, whole}
@@ -17,10 +17,10 @@ copy-requires-clause-size c =
     let id = c.args.id in
     let cs = c.args.components.now.items in
     let place : Some c.in-Some.at ≡ position (λ (y : Component). y.id == id) cs = c.in-Some.ensures ∙ ap (position (λ (y : Component). y.id == id)) c.as_slice.ensures.value in
-    let held : c.held-held.result ≡ length (frames_in cs id) = c.held-held.ensures ∙ ap (λ (fs : List Frame). length fs) (frames-is id cs c.index.result.now (ap (λ (x : Component). Some x) c.index.ensures ∙ taken-found id cs c.in-Some.at _ place)) in
+    let held : c.held-held.result ≡ length (buffer_frames cs id) = c.held-held.ensures ∙ ap (λ (fs : List Frame). length fs) (frames-is id cs c.index.result.now (ap (λ (x : Component). Some x) c.index.ensures ∙ taken-found id cs c.in-Some.at _ place)) in
     let wide : c.frame_samples.result ≡ channels_in cs id = c.frame_samples.ensures.is ∙ channels-is id cs c.index-in-Some.result.now (ap (λ (x : Component). Some x) c.index-in-Some.ensures ∙ taken-found id cs c.in-Some.at _ place) in
     let it : Some c.index-in-Some-2.result.now ≡ find (λ (y : Component). y.id == id) cs = ap (λ (x : Component). Some x) c.index-in-Some-2.ensures ∙ taken-found id cs c.in-Some.at _ place in
-    let n : c.min-n.result ≡ length c.args.samples.now / channels_in cs id = fewest (length c.args.samples.now / channels_in cs id) (length (frames_in cs id)) c.min-n.result (c.min-n.ensures ∙ (λ i. min (length c.args.samples.now / wide i) (held i))) c.requires.held in
+    let n : c.min-n.result ≡ length c.args.samples.now / channels_in cs id = fewest (length c.args.samples.now / channels_in cs id) (length (buffer_frames cs id)) c.min-n.result (c.min-n.ensures ∙ (λ i. min (length c.args.samples.now / wide i) (held i))) c.requires.held in
     whole (length c.args.samples.now) (channels_in cs id) c.requires.whole ∙ (λ i. sym n i * sym (channels-is id cs c.index-in-Some-2.result.now it) i)
 
 pub shorten_at-requires-clause-held : goal.shorten_at-requires-clause-held
@@ -28,21 +28,21 @@ shorten_at-requires-clause-held c =
     let id = c.args.id in
     let cs = c.args.components.now.items in
     let place : Some c.in-Some.at ≡ position (λ (y : Component). y.id == id) cs = c.in-Some.ensures ∙ ap (position (λ (y : Component). y.id == id)) c.as_slice.ensures.value in
-    let held : c.held-held.result ≡ length (frames_in cs id) = c.held-held.ensures ∙ ap (λ (fs : List Frame). length fs) (frames-is id cs c.index.result.now (ap (λ (x : Component). Some x) c.index.ensures ∙ taken-found id cs c.in-Some.at _ place)) in
+    let held : c.held-held.result ≡ length (buffer_frames cs id) = c.held-held.ensures ∙ ap (λ (fs : List Frame). length fs) (frames-is id cs c.index.result.now (ap (λ (x : Component). Some x) c.index.ensures ∙ taken-found id cs c.in-Some.at _ place)) in
     let wide : c.frame_samples.result ≡ channels_in cs id = c.frame_samples.ensures.is ∙ channels-is id cs c.index-in-Some.result.now (ap (λ (x : Component). Some x) c.index-in-Some.ensures ∙ taken-found id cs c.in-Some.at _ place) in
     let it : Some c.index-in-Some-2.result.now ≡ find (λ (y : Component). y.id == id) cs = ap (λ (x : Component). Some x) c.index-in-Some-2.ensures ∙ taken-found id cs c.in-Some.at _ place in
-    let n : c.min-n.result ≡ length c.args.samples.now / channels_in cs id = fewest (length c.args.samples.now / channels_in cs id) (length (frames_in cs id)) c.min-n.result (c.min-n.ensures ∙ (λ i. min (length c.args.samples.now / wide i) (held i))) c.requires.held in
-    subst (λ k. k ≤ length (frames_in cs id)) (sym n) c.requires.held
+    let n : c.min-n.result ≡ length c.args.samples.now / channels_in cs id = fewest (length c.args.samples.now / channels_in cs id) (length (buffer_frames cs id)) c.min-n.result (c.min-n.ensures ∙ (λ i. min (length c.args.samples.now / wide i) (held i))) c.requires.held in
+    subst (λ k. k ≤ length (buffer_frames cs id)) (sym n) c.requires.held
 
 pub returns-clause-items : goal.returns-clause-items
 returns-clause-items c =
     let id = c.args.id in
     let cs = c.args.components.now.items in
     let place : Some c.in-Some.at ≡ position (λ (y : Component). y.id == id) cs = c.in-Some.ensures ∙ ap (position (λ (y : Component). y.id == id)) c.as_slice.ensures.value in
-    let held : c.held-held.result ≡ length (frames_in cs id) = c.held-held.ensures ∙ ap (λ (fs : List Frame). length fs) (frames-is id cs c.index.result.now (ap (λ (x : Component). Some x) c.index.ensures ∙ taken-found id cs c.in-Some.at _ place)) in
+    let held : c.held-held.result ≡ length (buffer_frames cs id) = c.held-held.ensures ∙ ap (λ (fs : List Frame). length fs) (frames-is id cs c.index.result.now (ap (λ (x : Component). Some x) c.index.ensures ∙ taken-found id cs c.in-Some.at _ place)) in
     let wide : c.frame_samples.result ≡ channels_in cs id = c.frame_samples.ensures.is ∙ channels-is id cs c.index-in-Some.result.now (ap (λ (x : Component). Some x) c.index-in-Some.ensures ∙ taken-found id cs c.in-Some.at _ place) in
     let it : Some c.index-in-Some-2.result.now ≡ find (λ (y : Component). y.id == id) cs = ap (λ (x : Component). Some x) c.index-in-Some-2.ensures ∙ taken-found id cs c.in-Some.at _ place in
-    let n : c.min-n.result ≡ length c.args.samples.now / channels_in cs id = fewest (length c.args.samples.now / channels_in cs id) (length (frames_in cs id)) c.min-n.result (c.min-n.ensures ∙ (λ i. min (length c.args.samples.now / wide i) (held i))) c.requires.held in
+    let n : c.min-n.result ≡ length c.args.samples.now / channels_in cs id = fewest (length c.args.samples.now / channels_in cs id) (length (buffer_frames cs id)) c.min-n.result (c.min-n.ensures ∙ (λ i. min (length c.args.samples.now / wide i) (held i))) c.requires.held in
     c.shorten_at.ensures.items ∙ ap (λ k. map (taken_at id k) cs) n
 
 pub returns-clause-samples : goal.returns-clause-samples
@@ -50,8 +50,8 @@ returns-clause-samples c =
     let id = c.args.id in
     let cs = c.args.components.now.items in
     let place : Some c.in-Some.at ≡ position (λ (y : Component). y.id == id) cs = c.in-Some.ensures ∙ ap (position (λ (y : Component). y.id == id)) c.as_slice.ensures.value in
-    let held : c.held-held.result ≡ length (frames_in cs id) = c.held-held.ensures ∙ ap (λ (fs : List Frame). length fs) (frames-is id cs c.index.result.now (ap (λ (x : Component). Some x) c.index.ensures ∙ taken-found id cs c.in-Some.at _ place)) in
+    let held : c.held-held.result ≡ length (buffer_frames cs id) = c.held-held.ensures ∙ ap (λ (fs : List Frame). length fs) (frames-is id cs c.index.result.now (ap (λ (x : Component). Some x) c.index.ensures ∙ taken-found id cs c.in-Some.at _ place)) in
     let wide : c.frame_samples.result ≡ channels_in cs id = c.frame_samples.ensures.is ∙ channels-is id cs c.index-in-Some.result.now (ap (λ (x : Component). Some x) c.index-in-Some.ensures ∙ taken-found id cs c.in-Some.at _ place) in
     let it : Some c.index-in-Some-2.result.now ≡ find (λ (y : Component). y.id == id) cs = ap (λ (x : Component). Some x) c.index-in-Some-2.ensures ∙ taken-found id cs c.in-Some.at _ place in
-    let n : c.min-n.result ≡ length c.args.samples.now / channels_in cs id = fewest (length c.args.samples.now / channels_in cs id) (length (frames_in cs id)) c.min-n.result (c.min-n.ensures ∙ (λ i. min (length c.args.samples.now / wide i) (held i))) c.requires.held in
+    let n : c.min-n.result ≡ length c.args.samples.now / channels_in cs id = fewest (length c.args.samples.now / channels_in cs id) (length (buffer_frames cs id)) c.min-n.result (c.min-n.ensures ∙ (λ i. min (length c.args.samples.now / wide i) (held i))) c.requires.held in
     c.copy.ensures ∙ (λ i. samples_of (take (n i) (frames-is id cs c.index-in-Some-2.result.now it i)))

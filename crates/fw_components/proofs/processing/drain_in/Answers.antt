@@ -6,9 +6,9 @@ use Rattle.sof_base.specs.Samples.{Frame}
 use Rattle.stream_law.specs.Order.{is_among}
 use Rattle.stream_law.specs.Placed.{Ascends}
 use Rattle.fw_components.specs.declared.component.Component.{Component}
-use Rattle.fw_components.specs.Tables.{frames_by}
+use Rattle.fw_components.specs.Tables.{unit_frames}
 use Rattle.fw_components.specs.Changes.{has_id}
-use Rattle.fw_components.specs.Frames.{frames_in, taken_at}
+use Rattle.fw_components.specs.Frames.{buffer_frames, taken_at}
 use Rattle.fw_components.specs.Processed.{drained_at}
 use Rattle.fw_components.proofs.Draining.{not-before, drained-none, drained-more}
 use Rattle.fw_components.proofs.Ids.{has-map}
@@ -39,8 +39,8 @@ shorten_in-requires-clause-held c =
     let all = c.args.components.now.items in let looked = c.args.looked.now in let n = c.args.n in
     let i = c.loop-inlet.inlet-index in let b = get_or looked i 0 in
     let apart : is_among (take i looked) b ≡ false = not-before looked i c.requires.single c.loop-inlet-test.true in
-    let same : frames_in c.loop-inlet.components.items b ≡ frames_in all b = ap (λ (o : Option Component). option_map_or (λ x. frames_by x.unit) o []) (ap (find (λ (x : Component). x.id == b)) c.loop-inlet.invariant.so_far ∙ find-apart (take i looked) n b all apart) in
-    subst (λ (fs : List Frame). n ≤ length fs) (sym same) (all-at (λ k. n ≤ length (frames_in all k)) looked i 0 c.loop-inlet-test.true c.requires.held)
+    let same : buffer_frames c.loop-inlet.components.items b ≡ buffer_frames all b = ap (λ (o : Option Component). option_map_or (λ x. unit_frames x.unit) o []) (ap (find (λ (x : Component). x.id == b)) c.loop-inlet.invariant.so_far ∙ find-apart (take i looked) n b all apart) in
+    subst (λ (fs : List Frame). n ≤ length fs) (sym same) (all-at (λ k. n ≤ length (buffer_frames all k)) looked i 0 c.loop-inlet-test.true c.requires.held)
 
 pub loop-inlet-init : goal.loop-inlet-init
 loop-inlet-init c = record { so_far = drained-none c.args.n c.args.components.now.items; capacity = refl }

@@ -1,6 +1,6 @@
 use Rattle.std.proofs.Common.{not, rules}
 use Rattle.std.proofs.lemmas.Fn.{filter_same}
-use Rattle.fw_components.specs.Changes.{touches}
+use Rattle.mbox_link.specs.Step.{touches}
 use Rattle.fw_components.proofs.registry.remove_joins.Goals as goal
 
 pub returns-clause-items : goal.returns-clause-items

@@ -1,14 +1,20 @@
-use Rattle.std.proofs.Common.{sym, ap, ◌∙◌, Bool, false, ◌&&◌}
+use Rattle.std.proofs.Common.{◌∙◌, ℕ, List, Bool, false, ◌&&◌}
 use Rattle.std.specs.List.{list_any}
-use Rattle.stream_law.specs.Joins.{is_play}
 use Rattle.stream_law.specs.Ways.{is_capture}
 use Rattle.fw_components.specs.declared.component.Component.{Component}
 use Rattle.fw_components.specs.Tables.{kind_by}
-use Rattle.fw_walks.specs.Walks.{leads_by}
-use Rattle.fw_walks.proofs.OnWays.{any-next}
+use Rattle.fw_places.specs.Charts.{Chart}
+use Rattle.fw_places.specs.Walks.{is_reached, leads_by}
+use Rattle.fw_walks.specs.declared.streams.Sort.TheVariants as sorts
+use Rattle.fw_walks.specs.Streams.{is_host_of}
+use Rattle.fw_walks.proofs.LiveMarks.{hosts-reach}
+use Rattle.fw_pipeline.proofs.OneJoin.{any-marked, crossed}
 use Rattle.fw_pipeline.proofs.one_join.crosses.Goals as goal
 
-pub loop-host-preserved : goal.loop-host-preserved
-loop-host-preserved c =
-    let p : Component → Bool = λ a. is_play (kind_by a.unit) && list_any (λ b. is_capture (kind_by b.unit) && leads_by false c.args.places.now.joins a.id b.id) c.args.comps.now in
-    c.loop-host.invariant ∙ any-next p c.args.comps.now c.loop-host.host-index c.host-item.result c.loop-host-test.true (ap p (sym c.host-item.is) ∙ sym c.leads_across.ensures ∙ c.if-leads_across.false)
+pub returns : goal.returns
+returns c =
+    let cs : List Component = c.args.comps.now in let v : Chart = c.args.places.now in
+    let marks : List Bool = c.mark_hosts-marks.result in
+    c.any_capture.ensures
+    ∙ any-marked (λ (b : Component). is_capture (kind_by b.unit)) (is_reached false v.ids v.joins marks) v.ids c.spread.new.marks cs c.requires c.spread.ensures.reached
+    ∙ crossed v.joins cs (is_reached false v.ids v.joins marks) (hosts-reach (is_host_of sorts.All false) false v.ids v.joins cs c.requires marks c.mark_hosts-marks.ensures.hosts)

@@ -5,8 +5,8 @@ use Rattle.std.specs.List.{list_any, AllByRecursion}
 use Rattle.stream_law.specs.declared.graph.Join.{Join}
 use Rattle.stream_law.specs.Joins.{is_play}
 use Rattle.stream_law.specs.Ways.{is_capture}
-use Rattle.fw_walks.specs.Charts.{Chart}
-use Rattle.fw_walks.specs.Walks.{leads_by, is_listed, is_marked}
+use Rattle.fw_places.specs.Charts.{Chart}
+use Rattle.fw_places.specs.Walks.{leads_by, is_listed, is_marked}
 use Rattle.fw_pipeline.proofs.OneJoin.{any-marked, comps-listed, reach-tables, ends-listed}
 use Rattle.fw_pipeline.proofs.one_join.meets.Goals as goal
 
@@ -19,10 +19,10 @@ returns c =
     let j : Join = record { source = c.args.source; sink = c.args.sink } in
     let listed = comps-listed t v.ids c.requires.chart.ids in
     c.meet.ensures
-    ∙ ap (λ (cs : List Component). list_any (λ a. is_play (kind_by a.unit) && list_any (λ b. is_capture (kind_by b.unit) && leads_by false v.joins a.id b.id) cs) cs || (list_any (λ x. is_play (kind_by x.unit) && is_marked v.ids c.reached-to_source.result x.id) cs && list_any (λ x. is_capture (kind_by x.unit) && is_marked v.ids c.reached-from_sink.result x.id) cs)) c.comps.ensures.items
+    ∙ ap (λ (cs : List Component). list_any (λ a. is_play (kind_by a.unit) && list_any (λ b. is_capture (kind_by b.unit) && leads_by false v.joins a.id b.id) cs) cs || (list_any (λ x. is_play (kind_by x.unit) && is_marked v.ids c.args.to_source.now x.id) cs && list_any (λ x. is_capture (kind_by x.unit) && is_marked v.ids c.args.from_sink.now x.id) cs)) c.comps.ensures.items
     ∙ ap (λ (p : List Join × Bool × Bool). list_any (λ a. is_play (kind_by a.unit) && list_any (λ b. is_capture (kind_by b.unit) && leads_by false p.0 a.id b.id) t.comps) t.comps || (p.1 && p.2)) (λ i. (
       c.requires.chart.joins i,
-      (any-marked (λ (x : Component). is_play (kind_by x.unit)) (leads_by true v.joins j.source) v.ids c.reached-to_source.result t.comps listed c.reached-to_source.ensures ∙ ap (λ (js : List Join). list_any (λ a. is_play (kind_by a.unit) && leads_by true js j.source a.id) t.comps) c.requires.chart.joins) i,
-      (any-marked (λ (x : Component). is_capture (kind_by x.unit)) (leads_by false v.joins j.sink) v.ids c.reached-from_sink.result t.comps listed c.reached-from_sink.ensures ∙ ap (λ (js : List Join). list_any (λ a. is_capture (kind_by a.unit) && leads_by false js j.sink a.id) t.comps) c.requires.chart.joins) i,
+      (any-marked (λ (x : Component). is_play (kind_by x.unit)) (leads_by true v.joins j.source) v.ids c.args.to_source.now t.comps listed c.requires.to_source ∙ ap (λ (js : List Join). list_any (λ a. is_play (kind_by a.unit) && leads_by true js j.source a.id) t.comps) c.requires.chart.joins) i,
+      (any-marked (λ (x : Component). is_capture (kind_by x.unit)) (leads_by false v.joins j.sink) v.ids c.args.from_sink.now t.comps listed c.requires.from_sink ∙ ap (λ (js : List Join). list_any (λ a. is_capture (kind_by a.unit) && leads_by false js j.sink a.id) t.comps) c.requires.chart.joins) i,
     ))
     ∙ sym (reach-tables t c.comps.ensures.kept j (ends-listed t j.source j.sink c.requires.takes))

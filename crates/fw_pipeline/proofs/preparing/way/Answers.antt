@@ -3,7 +3,7 @@ use Rattle.stream_law.specs.declared.graph.Join.{Join}
 use Rattle.stream_law.specs.Ways.{is_capture}
 use Rattle.mbox_link.specs.Step.{has_kind, kind_at}
 use Rattle.fw_components.specs.Tables.{Tables, graph_of}
-use Rattle.fw_walks.specs.Walks.{leads_by}
+use Rattle.fw_places.specs.Walks.{leads_by}
 use Rattle.fw_pipeline.proofs.ReadyWays.{way-flag}
 use Rattle.fw_pipeline.proofs.preparing.way.Goals as goal
 

@@ -23,19 +23,19 @@ live_marks-after-requires c =
     let t : Tables = c.args.registry.now in let p : Params = c.in-Some.p in
     let set : c.set_stream.new.self ≡ set_tables c.args.host (phase_after c.args.what) (params_after c.args.what (Some p)) t = c.set_stream.ensures ∙ ap (λ (q : Phase × Option Params). set_tables c.args.host q.0 q.1 t) (λ i. (c.phase_after.ensures i, c.params_after.ensures.params i)) in
     record {
-      ids = c.of-places.ensures.ids ∙ sym (ids-set c.args.what c.args.host p t c.set_stream.new.self set (c.settings_are_seen.ensures.streams c.args.host (phase_after c.args.what) (params_after c.args.what (Some p)) t.comps));
-      joins = c.of-places.ensures.joins ∙ sym (ap (λ (u : Tables). u.joins) set);
+      ids = c.places-places.ensures.ids ∙ sym (ids-set c.args.what c.args.host p t c.set_stream.new.self set (c.settings_are_seen.ensures.streams c.args.host (phase_after c.args.what) (params_after c.args.what (Some p)) t.comps));
+      joins = c.places-places.ensures.joins ∙ sym (ap (λ (u : Tables). u.joins) set);
     }
 
 pub begin_each-requires-clause-ids : goal.begin_each-requires-clause-ids
 begin_each-requires-clause-ids c =
     let t : Tables = c.args.registry.now in let p : Params = c.in-Some.p in
     let set : c.set_stream.new.self ≡ set_tables c.args.host (phase_after c.args.what) (params_after c.args.what (Some p)) t = c.set_stream.ensures ∙ ap (λ (q : Phase × Option Params). set_tables c.args.host q.0 q.1 t) (λ i. (c.phase_after.ensures i, c.params_after.ensures.params i)) in
-    c.of-places.ensures.ids ∙ sym (ids-set c.args.what c.args.host p t c.set_stream.new.self set (c.settings_are_seen.ensures.streams c.args.host (phase_after c.args.what) (params_after c.args.what (Some p)) t.comps))
+    c.places-places.ensures.ids ∙ sym (ids-set c.args.what c.args.host p t c.set_stream.new.self set (c.settings_are_seen.ensures.streams c.args.host (phase_after c.args.what) (params_after c.args.what (Some p)) t.comps))
 
 pub end_each-requires-clause-live : goal.end_each-requires-clause-live
 end_each-requires-clause-live c = λ x.
-    let test : ℕ → Bool = begins_by c.of-places.result.ids c.live_marks-before.result c.live_marks-after.result in
+    let test : ℕ → Bool = begins_by c.places-places.result.ids c.live_marks-before.result c.live_marks-after.result in
     c.live_marks-after.ensures x ∙ ap (λ (v : View). live v x) (sym (seen-begun c.in-Some.p.channels test c.set_stream.new.self c.begin_each.new.registry c.begin_each.ensures.comps c.begin_each.ensures.buffers c.begin_each.ensures.pipes c.begin_each.ensures.joins))
 
 pub returns-clause-done : goal.returns-clause-done
@@ -44,7 +44,7 @@ returns-clause-done c =
     (trigger-does c.args.what c.args.host c.in-Some.p t c.set_stream.new.self c.begin_each.new.registry c.end_each.new.registry c.left_at.ensures.kept (sym c.is_used.ensures ∙ c.if-not-is_used.false) (sym c.in-Some.ensures.left) c.in-Some.ensures.params.0
     (c.set_stream.ensures ∙ ap (λ (q : Phase × Option Params). set_tables c.args.host q.0 q.1 t) (λ i. (c.phase_after.ensures i, c.params_after.ensures.params i)))
     (c.settings_are_seen.ensures.streams c.args.host (phase_after c.args.what) (params_after c.args.what (Some c.in-Some.p)) t.comps)
-    c.of-places.result.ids c.live_marks-before.result c.live_marks-after.result c.live_marks-before.ensures c.live_marks-after.ensures
+    c.places-places.result.ids c.live_marks-before.result c.live_marks-after.result c.live_marks-before.ensures c.live_marks-after.ensures
     c.begin_each.ensures.comps c.begin_each.ensures.buffers c.begin_each.ensures.pipes c.begin_each.ensures.joins c.end_each.ensures).done
 
 pub returns-clause-answer : goal.returns-clause-answer
@@ -53,7 +53,7 @@ returns-clause-answer c =
     (trigger-does c.args.what c.args.host c.in-Some.p t c.set_stream.new.self c.begin_each.new.registry c.end_each.new.registry c.left_at.ensures.kept (sym c.is_used.ensures ∙ c.if-not-is_used.false) (sym c.in-Some.ensures.left) c.in-Some.ensures.params.0
     (c.set_stream.ensures ∙ ap (λ (q : Phase × Option Params). set_tables c.args.host q.0 q.1 t) (λ i. (c.phase_after.ensures i, c.params_after.ensures.params i)))
     (c.settings_are_seen.ensures.streams c.args.host (phase_after c.args.what) (params_after c.args.what (Some c.in-Some.p)) t.comps)
-    c.of-places.result.ids c.live_marks-before.result c.live_marks-after.result c.live_marks-before.ensures c.live_marks-after.ensures
+    c.places-places.result.ids c.live_marks-before.result c.live_marks-after.result c.live_marks-before.ensures c.live_marks-after.ensures
     c.begin_each.ensures.comps c.begin_each.ensures.buffers c.begin_each.ensures.pipes c.begin_each.ensures.joins c.end_each.ensures).answer
 
 pub returns-clause-state : goal.returns-clause-state
@@ -62,7 +62,7 @@ returns-clause-state c =
     (trigger-does c.args.what c.args.host c.in-Some.p t c.set_stream.new.self c.begin_each.new.registry c.end_each.new.registry c.left_at.ensures.kept (sym c.is_used.ensures ∙ c.if-not-is_used.false) (sym c.in-Some.ensures.left) c.in-Some.ensures.params.0
     (c.set_stream.ensures ∙ ap (λ (q : Phase × Option Params). set_tables c.args.host q.0 q.1 t) (λ i. (c.phase_after.ensures i, c.params_after.ensures.params i)))
     (c.settings_are_seen.ensures.streams c.args.host (phase_after c.args.what) (params_after c.args.what (Some c.in-Some.p)) t.comps)
-    c.of-places.result.ids c.live_marks-before.result c.live_marks-after.result c.live_marks-before.ensures c.live_marks-after.ensures
+    c.places-places.result.ids c.live_marks-before.result c.live_marks-after.result c.live_marks-before.ensures c.live_marks-after.ensures
     c.begin_each.ensures.comps c.begin_each.ensures.buffers c.begin_each.ensures.pipes c.begin_each.ensures.joins c.end_each.ensures).state
 
 pub returns-clause-homes : goal.returns-clause-homes
@@ -71,5 +71,5 @@ returns-clause-homes c =
     (trigger-does c.args.what c.args.host c.in-Some.p t c.set_stream.new.self c.begin_each.new.registry c.end_each.new.registry c.left_at.ensures.kept (sym c.is_used.ensures ∙ c.if-not-is_used.false) (sym c.in-Some.ensures.left) c.in-Some.ensures.params.0
     (c.set_stream.ensures ∙ ap (λ (q : Phase × Option Params). set_tables c.args.host q.0 q.1 t) (λ i. (c.phase_after.ensures i, c.params_after.ensures.params i)))
     (c.settings_are_seen.ensures.streams c.args.host (phase_after c.args.what) (params_after c.args.what (Some c.in-Some.p)) t.comps)
-    c.of-places.result.ids c.live_marks-before.result c.live_marks-after.result c.live_marks-before.ensures c.live_marks-after.ensures
+    c.places-places.result.ids c.live_marks-before.result c.live_marks-after.result c.live_marks-before.ensures c.live_marks-after.ensures
     c.begin_each.ensures.comps c.begin_each.ensures.buffers c.begin_each.ensures.pipes c.begin_each.ensures.joins c.end_each.ensures).homes

@@ -2,7 +2,7 @@ use Rattle.std.proofs.Common.{◌≡◌, ◌∙◌, ap, sym, ℕ, ◌+◌, ◌*�
 use Rattle.std.proofs.Math.Nat.{mul-le-mul_right}
 use Rattle.sof_base.specs.Samples.{width, frame_out, frames_out}
 use Rattle.sof_io.specs.Puts.{with_piece}
-use Rattle.fw_components.specs.Tables.{frames_at}
+use Rattle.fw_components.specs.Tables.{held_frames}
 use Rattle.fw_schedule.proofs.FrameBytes.{bytes-of-frames}
 use Rattle.fw_schedule.proofs.Parts.{width-most}
 use Rattle.fw_schedule.proofs.endpoints.drain_some.Goals as goal
@@ -20,7 +20,7 @@ write_both-requires c =
 pub returns-clause-size : goal.returns-clause-size
 returns-clause-size c =
     let n = c.args.n in let format = c.args.format in let channels = c.args.channels in
-    let fs = frames_at c.args.registry.now c.args.buffer in
+    let fs = held_frames c.args.registry.now c.args.buffer in
     let size : n * c.from.result ≡ n * channels = ap (λ (k : ℕ). n * k) c.from.ensures in
     let most : n * channels * width format ≤ 1536 * width format = mul-le-mul_right (width format) c.requires.few in
     let wide : n * c.from.result * c.width.result ≡ n * channels * width format = λ i. size i * c.width.ensures i in
@@ -31,6 +31,6 @@ returns-clause-size c =
 pub returns-clause-outputs : goal.returns-clause-outputs
 returns-clause-outputs c =
     let n = c.args.n in let format = c.args.format in
-    let fs = frames_at c.args.registry.now c.args.buffer in
+    let fs = held_frames c.args.registry.now c.args.buffer in
     let written : c.write_both.new.bytes ≡ frames_out format (take n fs) = c.write_both.ensures ∙ ap (frame_out format) c.spans.ensures.samples ∙ bytes-of-frames format (take n fs) in
     c.put.ensures ∙ ap (λ (bytes : List ℕ). with_piece c.args.id bytes c.args.out.now) written

@@ -1,7 +1,7 @@
 use Rattle.std.proofs.Common.{◌≡◌, ◌∙◌, ap, ℕ, ◌*◌, ◌≤◌, List, length, take, arith, length-take}
 use Rattle.std.proofs.Math.Nat.{mul-le-mul_right}
 use Rattle.sof_base.specs.Samples.{Frame, width, frame_in}
-use Rattle.sof_io.specs.Takes.{given}
+use Rattle.sof_io.specs.Takes.{bytes_given}
 use Rattle.fw_components.specs.Frames.{words_at, pushed}
 use Rattle.fw_schedule.proofs.Parts.{are-whole, frames-were-read, width-most}
 use Rattle.fw_schedule.proofs.endpoints.feed_some.Goals as goal
@@ -24,6 +24,6 @@ returns-clause-tables c =
     let most : n * channels * width format ≤ 1536 * width format = mul-le-mul_right (width format) c.requires.few in
     let wide : n * c.from.result * c.width.result ≡ n * m = (λ i. size i * c.width.ensures i) ∙ (let e : n * channels * width format ≡ n * (channels * width format) = omega arith in e) in
     let bytes : length (take (n * c.from.result * c.width.result) c.args.bytes.now) ≡ n * m = omega (arith, length-take (n * c.from.result * c.width.result) c.args.bytes.now, c.requires.scratch.1, wide, most, width-most format) in
-    let came : c.take.new.out ≡ given c.args.id (n * m) c.args.io.now = c.take.ensures.bytes ∙ ap (λ k. given c.args.id k c.args.io.now) bytes in
-    let read : words ≡ frame_in format (n * channels) (given c.args.id (n * m) c.args.io.now) 0 = c.read_samples.ensures ∙ (λ i. frame_in format (old i) (came i) 0) in
+    let came : c.take.new.out ≡ bytes_given c.args.id (n * m) c.args.io.now = c.take.ensures.bytes ∙ ap (λ k. bytes_given c.args.id k c.args.io.now) bytes in
+    let read : words ≡ frame_in format (n * channels) (bytes_given c.args.id (n * m) c.args.io.now) 0 = c.read_samples.ensures ∙ (λ i. frame_in format (old i) (came i) 0) in
     c.push.ensures ∙ ap (λ (fs : List Frame). pushed b fs (words_at c.push.new.self b) t) (frames-were-read format n channels _ words _ c.requires.channels.0 count c.requires.shape read)

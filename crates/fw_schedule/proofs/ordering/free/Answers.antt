@@ -6,7 +6,7 @@ use Rattle.stream_law.proofs.TurnLaws.{freed-none, freed-more}
 use Rattle.stream_law.specs.Ways.{is_end}
 use Rattle.fw_components.specs.declared.component.Component.{Component}
 use Rattle.fw_components.specs.Tables.{edge_by, source_by, sink_by}
-use Rattle.fw_schedule.specs.Turns.{shown, lowered as lowered_by}
+use Rattle.fw_schedule.specs.Turns.{shown, waits_lowered as lowered_by}
 use Rattle.fw_schedule.proofs.TurnsSeen.{are-found, at-found, shown-freed}
 use Rattle.fw_schedule.proofs.ordering.free.Goals as goal
 

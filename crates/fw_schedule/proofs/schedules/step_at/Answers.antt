@@ -9,7 +9,7 @@ use Rattle.stream_law.specs.Endpoints.{is_input}
 use Rattle.fw_components.specs.declared.component.Component.{Component}
 use Rattle.fw_components.specs.Tables.{view_by, period_by}
 use Rattle.fw_schedule.specs.declared.spots.Spot.{Spot}
-use Rattle.fw_schedule.specs.Outputs.{is_output}
+use Rattle.fw_schedule.specs.Outputs.{is_output_kind}
 use Rattle.fw_schedule.specs.Schedules.{inlets_of}
 use Rattle.fw_schedule.proofs.AtPlaces.{own-at, kind-at, chooses-at, format-at, period-at, run-low}
 use Rattle.fw_schedule.proofs.StepLaws.{behind}
@@ -57,7 +57,7 @@ returns-clause-step c =
     let past = c.len.ensures.value in
     record {
       kind = kind-at t kept at c.requires.there d is ∙ ap (λ (k : Kind). Some k) (sym c.kind_of-kind.ensures);
-      format = λ passes. c.format_in.ensures ∙ format-at t kept at c.requires.there d is (ap (λ (k : Kind). is_input k || is_output k) (sym c.kind_of-kind.ensures) ∙ passes);
+      format = λ passes. c.format_in.ensures ∙ format-at t kept at c.requires.there d is (ap (λ (k : Kind). is_input k || is_output_kind k) (sym c.kind_of-kind.ensures) ∙ passes);
       active = ap (λ (s : Spot). s.active) c.at-spot.ensures ∙ (c.requires.spots.each d.id).active;
       channels = c.channels_in.ensures ∙ ap (λ (o : Option Params). option_map_or (λ p. p.channels) o 0) params;
       period = period;

@@ -3,8 +3,8 @@ use Rattle.sof_base.specs.declared.format.Params.{Params}
 use Rattle.stream_law.specs.declared.stream.Phase.{Phase}
 use Rattle.stream_law.specs.Ways.{is_capture, is_running_phase}
 use Rattle.fw_components.specs.Tables.{kind_by}
-use Rattle.fw_walks.specs.Walks.{is_marked, place_in, leads_by}
-use Rattle.fw_walks.proofs.Reaching.{at-place}
+use Rattle.fw_places.specs.Walks.{is_marked, place_in, leads_by}
+use Rattle.fw_places.proofs.Reaching.{at-place}
 use Rattle.fw_schedule.specs.declared.spots.Spot.{Spot}
 use Rattle.fw_schedule.specs.Units.{stream_by}
 use Rattle.fw_schedule.specs.Spots.{bare_spot, met}

@@ -11,9 +11,9 @@ use Rattle.stream_law.specs.Ways.{comp_of, ins}
 use Rattle.stream_law.specs.Moves.{quota}
 use Rattle.stream_law.specs.Move.{after_move, blob_of}
 use Rattle.stream_law.specs.Endpoints.{is_input, format_of}
-use Rattle.fw_components.specs.Tables.{Tables, graph_of, view_by, frames_at}
+use Rattle.fw_components.specs.Tables.{Tables, graph_of, view_by, held_frames}
 use Rattle.row_laws.proofs.Playing.{active-live}
-use Rattle.fw_schedule.specs.Outputs.{is_output, least_by}
+use Rattle.fw_schedule.specs.Outputs.{is_output_kind, least_by}
 use Rattle.fw_schedule.specs.Stages.{bare_of, IsStage, Grew}
 use Rattle.fw_schedule.proofs.AtPlaces.{kind-passes, same-kind}
 use Rattle.fw_schedule.proofs.Running.{channels-few, quota-few, bytes-most}
@@ -34,7 +34,7 @@ pub drain_from-requires-clause-there : goal.drain_from-requires-clause-there
 drain_from-requires-clause-there c =
     let t = c.args.registry.now in let v = view_by t in let s = c.args.step.now in let id = s.id in let is = c.requires.step in
     let kept = c.comps-comps.ensures.kept in let can = c.requires.can in let now = c.requires.active in
-    let there = there-is (graph_of t) id (λ k. is_output k) (kind-passes (λ k. is_output k) (comp_of (graph_of t) id) s.kind is.kind ∙ c.requires.kind) in
+    let there = there-is (graph_of t) id (λ k. is_output_kind k) (kind-passes (λ k. is_output_kind k) (comp_of (graph_of t) id) s.kind is.kind ∙ c.requires.kind) in
     let own : slice_get (ins (graph_of t) id) 0 ≡ slice_get c.inlets.result.now 0 = ap (λ (ids : List ℕ). slice_get ids 0) (sym (c.inlets.ensures ∙ is.inlets ∙ plain-inlets v id (picks t kept can id there now))) in
     let b = c.in-Some.buffer.now in
     let at : slice_get (ins (graph_of t) id) 0 ≡ Some b = own ∙ sym c.first.ensures.value ∙ ap (λ (o : Option (Bor ℕ)). option_copied o) c.in-Some.is in
@@ -50,7 +50,7 @@ pub drain_from-requires-clause-shape : goal.drain_from-requires-clause-shape
 drain_from-requires-clause-shape c =
     let t = c.args.registry.now in let v = view_by t in let s = c.args.step.now in let id = s.id in let is = c.requires.step in
     let kept = c.comps-comps.ensures.kept in let can = c.requires.can in let now = c.requires.active in
-    let there = there-is (graph_of t) id (λ k. is_output k) (kind-passes (λ k. is_output k) (comp_of (graph_of t) id) s.kind is.kind ∙ c.requires.kind) in
+    let there = there-is (graph_of t) id (λ k. is_output_kind k) (kind-passes (λ k. is_output_kind k) (comp_of (graph_of t) id) s.kind is.kind ∙ c.requires.kind) in
     let own : slice_get (ins (graph_of t) id) 0 ≡ slice_get c.inlets.result.now 0 = ap (λ (ids : List ℕ). slice_get ids 0) (sym (c.inlets.ensures ∙ is.inlets ∙ plain-inlets v id (picks t kept can id there now))) in
     let b = c.in-Some.buffer.now in
     let at : slice_get (ins (graph_of t) id) 0 ≡ Some b = own ∙ sym c.first.ensures.value ∙ ap (λ (o : Option (Bor ℕ)). option_copied o) c.in-Some.is in
@@ -78,7 +78,7 @@ drain_from-requires-clause-room c =
 pub returns-in-Some-clause-bare : goal.returns-in-Some-clause-bare
 returns-in-Some-clause-bare c =
     let t = c.args.registry.now in let b = c.in-Some.buffer.now in
-    ap bare_of c.drain_from.ensures.tables ∙ bare-taken b (min c.args.step.now.quota (length (frames_at t b))) t
+    ap bare_of c.drain_from.ensures.tables ∙ bare-taken b (min c.args.step.now.quota (length (held_frames t b))) t
 
 pub returns-in-Some-clause-grew : goal.returns-in-Some-clause-grew
 returns-in-Some-clause-grew c =
@@ -90,7 +90,7 @@ returns-in-Some-clause-grew c =
     let most = bytes-most s.quota s.channels s.format (omega (arith, q, is.quota 0)) (omega (arith, wide.1, is.channels)) in
     let m : ℕ = s.channels * width s.format in
     let least = least_by s.kind s.quota in
-    let fs = frames_at t c.in-Some.buffer.now in
+    let fs = held_frames t c.in-Some.buffer.now in
     let n : ℕ = min s.quota (length fs) in
     let front = frames_out s.format (take n fs) in
     let back : List ℕ = replicate ((least - n) * m) 0 in
@@ -102,27 +102,27 @@ pub returns-in-Some-clause-moved : goal.returns-in-Some-clause-moved
 returns-in-Some-clause-moved c = λ clock inputs run began start a ends stage.
     let t = c.args.registry.now in let v = view_by t in let s = c.args.step.now in let id = s.id in let is = c.requires.step in
     let kept = c.comps-comps.ensures.kept in let can = c.requires.can in let now = c.requires.active in
-    let there = there-is (graph_of t) id (λ k. is_output k) (kind-passes (λ k. is_output k) (comp_of (graph_of t) id) s.kind is.kind ∙ c.requires.kind) in
+    let there = there-is (graph_of t) id (λ k. is_output_kind k) (kind-passes (λ k. is_output_kind k) (comp_of (graph_of t) id) s.kind is.kind ∙ c.requires.kind) in
     let own : slice_get (ins (graph_of t) id) 0 ≡ slice_get c.inlets.result.now 0 = ap (λ (ids : List ℕ). slice_get ids 0) (sym (c.inlets.ensures ∙ is.inlets ∙ plain-inlets v id (picks t kept can id there now))) in
     let b = c.in-Some.buffer.now in
     let at : slice_get (ins (graph_of t) id) 0 ≡ Some b = own ∙ sym c.first.ensures.value ∙ ap (λ (o : Option (Bor ℕ)). option_copied o) c.in-Some.is in
     let out = c.args.out.now in
-    let format : s.format ≡ format_of (view_by t) id = is.format (or_right (is_input s.kind) (is_output s.kind) c.requires.kind) in
-    let n : ℕ = min s.quota (length (frames_at t b)) in
+    let format : s.format ≡ format_of (view_by t) id = is.format (or_right (is_input s.kind) (is_output_kind s.kind) c.requires.kind) in
+    let n : ℕ = min s.quota (length (held_frames t b)) in
     let kind = same-kind (comp_of (graph_of t) id) there.comp s.kind there.is is.kind in
     let least : least_by s.kind s.quota ≡ least_by there.comp.kind (quota (view_by t) clock id) = (λ i. least_by (kind i) (is.quota clock i)) in
     subst (λ (p : Tables × List OutputView). IsStage began start p.0 inputs p.1 (after_move (view_by t) (blob_of (view_by t)) clock id a))
     (λ i. (
       sym c.drain_from.ensures.tables i,
-      sym (c.drain_from.ensures.outputs ∙ (λ j. with_piece id (frames_out (format j) (take n (frames_at t b)) ++ replicate ((least j - n) * (is.channels j * width (format j))) 0) out)) i,
+      sym (c.drain_from.ensures.outputs ∙ (λ j. with_piece id (frames_out (format j) (take n (held_frames t b)) ++ replicate ((least j - n) * (is.channels j * width (format j))) 0) out)) i,
     ))
-    (drain-moved t kept can id there now began start inputs out a ends stage clock run b at n (ap (λ q. min q (length (frames_at t b))) (is.quota clock)))
+    (drain-moved t kept can id there now began start inputs out a ends stage clock run b at n (ap (λ q. min q (length (held_frames t b))) (is.quota clock)))
 
 pub returns-in_default-clause-grew : goal.returns-in_default-clause-grew
 returns-in_default-clause-grew c =
     let t = c.args.registry.now in let v = view_by t in let s = c.args.step.now in let id = s.id in let is = c.requires.step in
     let kept = c.comps-comps.ensures.kept in let can = c.requires.can in let now = c.requires.active in
-    let there = there-is (graph_of t) id (λ k. is_output k) (kind-passes (λ k. is_output k) (comp_of (graph_of t) id) s.kind is.kind ∙ c.requires.kind) in
+    let there = there-is (graph_of t) id (λ k. is_output_kind k) (kind-passes (λ k. is_output_kind k) (comp_of (graph_of t) id) s.kind is.kind ∙ c.requires.kind) in
     let own : slice_get (ins (graph_of t) id) 0 ≡ slice_get c.inlets.result.now 0 = ap (λ (ids : List ℕ). slice_get ids 0) (sym (c.inlets.ensures ∙ is.inlets ∙ plain-inlets v id (picks t kept can id there now))) in
     absurd (in-some t kept can id there now (own ∙ sym c.first.ensures.value ∙ ap (λ (o : Option (Bor ℕ)). option_copied o) c.in_default.is))
 
@@ -130,6 +130,6 @@ pub returns-in_default-clause-moved : goal.returns-in_default-clause-moved
 returns-in_default-clause-moved c =
     let t = c.args.registry.now in let v = view_by t in let s = c.args.step.now in let id = s.id in let is = c.requires.step in
     let kept = c.comps-comps.ensures.kept in let can = c.requires.can in let now = c.requires.active in
-    let there = there-is (graph_of t) id (λ k. is_output k) (kind-passes (λ k. is_output k) (comp_of (graph_of t) id) s.kind is.kind ∙ c.requires.kind) in
+    let there = there-is (graph_of t) id (λ k. is_output_kind k) (kind-passes (λ k. is_output_kind k) (comp_of (graph_of t) id) s.kind is.kind ∙ c.requires.kind) in
     let own : slice_get (ins (graph_of t) id) 0 ≡ slice_get c.inlets.result.now 0 = ap (λ (ids : List ℕ). slice_get ids 0) (sym (c.inlets.ensures ∙ is.inlets ∙ plain-inlets v id (picks t kept can id there now))) in
     absurd (in-some t kept can id there now (own ∙ sym c.first.ensures.value ∙ ap (λ (o : Option (Bor ℕ)). option_copied o) c.in_default.is))

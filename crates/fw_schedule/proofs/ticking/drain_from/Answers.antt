@@ -4,7 +4,7 @@ use Rattle.sof_base.specs.Ports.{OutputView}
 use Rattle.sof_base.specs.Samples.{width, frames_out}
 use Rattle.sof_io.specs.Puts.{room_at, with_piece}
 use Rattle.sof_io.proofs.OutputLaws.{with_piece-with_piece}
-use Rattle.fw_components.specs.Tables.{frames_at}
+use Rattle.fw_components.specs.Tables.{held_frames}
 use Rattle.fw_schedule.specs.Outputs.{least_by}
 use Rattle.fw_schedule.proofs.Parts.{room-left}
 use Rattle.fw_schedule.proofs.Drained.{least-few}
@@ -27,7 +27,7 @@ fill-requires c =
     let s = c.args.step.now in let id = s.id in let n = c.min-n.result in let out = c.args.out.now in let format = s.format in
     let m : ℕ = s.channels * width format in
     let z : ℕ = c.least-least.result - n in
-    let fs = frames_at c.args.registry.now c.args.buffer in
+    let fs = held_frames c.args.registry.now c.args.buffer in
     let more : c.saturating_sub.result * (c.from.result * c.width.result) ≡ z * m = (λ i. c.saturating_sub.ensures i * (c.from.ensures i * c.width.ensures i)) in
     let few : n + z ≤ s.quota = omega (arith, c.least-least.ensures, least-few s.kind s.quota, c.min-n.ensures) in
     let room : n * m + z * m ≤ room_at id out = omega (arith, times-sum n z m, mul-le-mul_right m few, c.requires.room) in
@@ -38,9 +38,9 @@ pub returns-clause-outputs : goal.returns-clause-outputs
 returns-clause-outputs c =
     let s = c.args.step.now in let id = s.id in let n = c.min-n.result in let out = c.args.out.now in let format = s.format in
     let m : ℕ = s.channels * width format in
-    let fs = frames_at c.args.registry.now c.args.buffer in
+    let fs = held_frames c.args.registry.now c.args.buffer in
     let more : c.saturating_sub.result * (c.from.result * c.width.result) ≡ (least_by s.kind s.quota - n) * m = (λ i. c.saturating_sub.ensures i * (c.from.ensures i * c.width.ensures i)) ∙ ap (λ k. (k - n) * m) c.least-least.ensures in
-    let count : n ≡ min s.quota (length (frames_at c.args.registry.now c.args.buffer)) = omega (arith, c.min-n.ensures, c.held.ensures) in
+    let count : n ≡ min s.quota (length (held_frames c.args.registry.now c.args.buffer)) = omega (arith, c.min-n.ensures, c.held.ensures) in
     c.fill.ensures
     ∙ (λ i. with_piece id (replicate (more i) 0) (c.drain_frames.ensures.outputs i))
     ∙ with_piece-with_piece id (frames_out format (take n fs)) (replicate ((least_by s.kind s.quota - n) * m) 0) out
@@ -49,6 +49,6 @@ returns-clause-outputs c =
 pub returns-clause-size : goal.returns-clause-size
 returns-clause-size c =
     let t = c.args.registry.now in let s = c.args.step.now in let format = s.format in
-    let fs = frames_at t c.args.buffer in
-    let count : c.min-n.result ≡ min s.quota (length (frames_at t c.args.buffer)) = omega (arith, c.min-n.ensures, c.held.ensures) in
+    let fs = held_frames t c.args.buffer in
+    let count : c.min-n.result ≡ min s.quota (length (held_frames t c.args.buffer)) = omega (arith, c.min-n.ensures, c.held.ensures) in
     ap (λ k. length (frames_out format (take k fs))) (sym count) ∙ c.drain_frames.ensures.size ∙ ap (λ k. k * (s.channels * width format)) count

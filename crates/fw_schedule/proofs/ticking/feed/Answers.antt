@@ -2,14 +2,14 @@ use Rattle.std.proofs.Common.{◌≡◌, sym, ap, ◌∙◌, subst, ℕ, ◌-◌
 use Rattle.std.proofs.lemmas.Bool.{or_left}
 use Rattle.sof_base.specs.Samples.{width, frames_in}
 use Rattle.sof_base.specs.Ports.{InputView}
-use Rattle.sof_io.specs.Takes.{given, taken as input_taken}
+use Rattle.sof_io.specs.Takes.{bytes_given, taken as input_taken}
 use Rattle.stream_law.specs.Ways.{comp_of}
 use Rattle.stream_law.specs.Move.{after_move, blob_of}
 use Rattle.stream_law.specs.Endpoints.{is_input, format_of}
-use Rattle.fw_components.specs.Tables.{Tables, graph_of, view_by, frames_at, capacity_at}
+use Rattle.fw_components.specs.Tables.{Tables, graph_of, view_by, held_frames, capacity_at}
 use Rattle.fw_components.specs.Frames.{words_at, pushed}
 use Rattle.row_laws.proofs.Playing.{active-live}
-use Rattle.fw_schedule.specs.Outputs.{is_output}
+use Rattle.fw_schedule.specs.Outputs.{is_output_kind}
 use Rattle.fw_schedule.specs.Stages.{bare_of, IsStage}
 use Rattle.fw_schedule.proofs.AtPlaces.{kind-passes}
 use Rattle.fw_schedule.proofs.Running.{channels-few}
@@ -39,22 +39,22 @@ feed_into-requires-clause-shape c =
 pub returns-in-Some-clause-bare : goal.returns-in-Some-clause-bare
 returns-in-Some-clause-bare c =
     let t = c.args.registry.now in let s = c.args.step.now in let b = c.in-Some.buffer in
-    let n : ℕ = min s.quota (capacity_at t b - length (frames_at t b)) in
-    ap bare_of c.feed_into.ensures.tables ∙ bare-pushed b (frames_in s.format s.channels (given s.id (n * (s.channels * width s.format)) c.args.io.now) 0 n) (words_at c.feed_into.new.registry b) t
+    let n : ℕ = min s.quota (capacity_at t b - length (held_frames t b)) in
+    ap bare_of c.feed_into.ensures.tables ∙ bare-pushed b (frames_in s.format s.channels (bytes_given s.id (n * (s.channels * width s.format)) c.args.io.now) 0 n) (words_at c.feed_into.new.registry b) t
 
 pub returns-in-Some-clause-moved : goal.returns-in-Some-clause-moved
 returns-in-Some-clause-moved c = λ clock outputs run began start a ends stage.
     let t = c.args.registry.now in let s = c.args.step.now in let is = c.requires.step.1 in let id = s.id in let b = c.in-Some.buffer in let io = c.args.io.now in
     let there = there-is (graph_of t) s.id (λ k. is_input k) (kind-passes (λ k. is_input k) (comp_of (graph_of t) s.id) s.kind is.kind ∙ c.requires.kind) in
-    let format : s.format ≡ format_of (view_by t) id = is.format (or_left (is_input s.kind) (is_output s.kind) c.requires.kind) in
-    let n : ℕ = min s.quota (capacity_at t b - length (frames_at t b)) in
+    let format : s.format ≡ format_of (view_by t) id = is.format (or_left (is_input s.kind) (is_output_kind s.kind) c.requires.kind) in
+    let n : ℕ = min s.quota (capacity_at t b - length (held_frames t b)) in
     let w = words_at c.feed_into.new.registry b in
     subst (λ (p : Tables × List InputView). IsStage began start p.0 p.1 outputs (after_move (view_by t) (blob_of (view_by t)) clock id a))
     (λ i. (
-      sym (c.feed_into.ensures.tables ∙ (λ j. pushed b (frames_in (format j) (is.channels j) (given id (n * (is.channels j * width (format j))) io) 0 n) w t)) i,
+      sym (c.feed_into.ensures.tables ∙ (λ j. pushed b (frames_in (format j) (is.channels j) (bytes_given id (n * (is.channels j * width (format j))) io) 0 n) w t)) i,
       sym (c.feed_into.ensures.inputs ∙ (λ j. input_taken id (n * (is.channels j * width (format j))) io)) i,
     ))
-    (fed-moved t c.comps-comps.ensures.kept c.requires.can id there c.requires.active began start io outputs a ends stage clock run b w (sym is.fed ∙ c.in-Some.is) n (ap (λ q. min q (capacity_at t b - length (frames_at t b))) (is.quota clock)))
+    (fed-moved t c.comps-comps.ensures.kept c.requires.can id there c.requires.active began start io outputs a ends stage clock run b w (sym is.fed ∙ c.in-Some.is) n (ap (λ q. min q (capacity_at t b - length (held_frames t b))) (is.quota clock)))
 
 pub returns-in_default-clause-moved : goal.returns-in_default-clause-moved
 returns-in_default-clause-moved c = λ clock outputs run began start a ends stage.

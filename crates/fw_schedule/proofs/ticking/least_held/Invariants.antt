@@ -1,7 +1,7 @@
 use Rattle.std.proofs.Common.{◌≡◌, map, take, length}
 use Rattle.stream_law.specs.Moves.{least}
-use Rattle.fw_components.specs.Tables.{frames_at}
+use Rattle.fw_components.specs.Tables.{held_frames}
 use Rattle.fw_schedule.proofs.ticking.least_held.Given as goal
 
 abbrev pub invariant-loop-b : goal.invariant-loop-b
-invariant-loop-b l = l.n ≡ least l.most (map (λ b. length (frames_at l.registry b)) (take l.b-index l.looked))
+invariant-loop-b l = l.n ≡ least l.most (map (λ b. length (held_frames l.registry b)) (take l.b-index l.looked))

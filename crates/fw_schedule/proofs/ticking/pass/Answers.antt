@@ -2,9 +2,9 @@ use Rattle.std.proofs.Common.{◌≡◌, refl, sym, ap, ◌∙◌, subst, ℕ, m
 use Rattle.std.proofs.lemmas.Bool.{eqb-true, true≢false}
 use Rattle.std.proofs.lemmas.List.{nil_from_length}
 use Rattle.stream_law.specs.Moves.{looked_at, least, is_empty}
-use Rattle.fw_components.specs.Tables.{Tables, graph_of, view_by, frames_at, rings_of, histories_of, staging_of}
+use Rattle.fw_components.specs.Tables.{Tables, graph_of, view_by, held_frames, rings_of, histories_of, staging_of}
 use Rattle.fw_components.specs.Frames.{words_at, staged_in}
-use Rattle.fw_components.specs.Processed.{made_at, numbers_at, processed, with_numbers}
+use Rattle.fw_components.specs.Processed.{made_at, eq_numbers_at, processed, with_numbers}
 use Rattle.fw_schedule.specs.Stages.{bare_of}
 use Rattle.fw_schedule.proofs.Still.{bare-processed}
 use Rattle.fw_schedule.proofs.Along.{there-is}
@@ -48,8 +48,8 @@ process-requires-clause-unit c =
     let now = c.requires.active in
     let b = c.args.buffer in let is = c.requires.fed in
     let looked = c.args.looked.now in let n = c.least_held-n.result in let most = c.min-bound.result in
-    let are : looked ≡ looked_at (view_by t) (λ b. length (frames_at t b)) id = c.requires.looked in
-    moves t kept can id there now (length looked) (λ plain. ap length are ∙ looked-one t kept can id there now (λ b. length (frames_at t b)) plain)
+    let are : looked ≡ looked_at (view_by t) (λ b. length (held_frames t b)) id = c.requires.looked in
+    moves t kept can id there now (length looked) (λ plain. ap length are ∙ looked-one t kept can id there now (λ b. length (held_frames t b)) plain)
 
 pub process-requires-clause-single : goal.process-requires-clause-single
 process-requires-clause-single c =
@@ -59,7 +59,7 @@ process-requires-clause-single c =
     let now = c.requires.active in
     let b = c.args.buffer in let is = c.requires.fed in
     let looked = c.args.looked.now in let n = c.least_held-n.result in let most = c.min-bound.result in
-    let are : looked ≡ looked_at (view_by t) (λ b. length (frames_at t b)) id = c.requires.looked in
+    let are : looked ≡ looked_at (view_by t) (λ b. length (held_frames t b)) id = c.requires.looked in
     looked-distinct t kept can id there now looked b are is
 
 pub process-requires-clause-looked : goal.process-requires-clause-looked
@@ -70,8 +70,8 @@ process-requires-clause-looked c =
     let now = c.requires.active in
     let b = c.args.buffer in let is = c.requires.fed in
     let looked = c.args.looked.now in let n = c.least_held-n.result in let most = c.min-bound.result in
-    let are : looked ≡ looked_at (view_by t) (λ b. length (frames_at t b)) id = c.requires.looked in
-    let count : n ≡ least most (map (λ b. length (frames_at t b)) looked) = c.least_held-n.ensures in
+    let are : looked ≡ looked_at (view_by t) (λ b. length (held_frames t b)) id = c.requires.looked in
+    let count : n ≡ least most (map (λ b. length (held_frames t b)) looked) = c.least_held-n.ensures in
     inlets t kept can id there now looked most n are count
 
 pub process-requires-clause-fed : goal.process-requires-clause-fed
@@ -82,8 +82,8 @@ process-requires-clause-fed c =
     let now = c.requires.active in
     let b = c.args.buffer in let is = c.requires.fed in
     let looked = c.args.looked.now in let n = c.least_held-n.result in let most = c.min-bound.result in
-    let are : looked ≡ looked_at (view_by t) (λ b. length (frames_at t b)) id = c.requires.looked in
-    let count : n ≡ least most (map (λ b. length (frames_at t b)) looked) = c.least_held-n.ensures in
+    let are : looked ≡ looked_at (view_by t) (λ b. length (held_frames t b)) id = c.requires.looked in
+    let count : n ≡ least most (map (λ b. length (held_frames t b)) looked) = c.least_held-n.ensures in
     (outlet t kept can id there now b most n looked is (omega (arith, c.min-bound.ensures, c.free.ensures)) count, tt)
 
 pub returns-clause-bare : goal.returns-clause-bare
@@ -100,17 +100,17 @@ returns-clause-moved c = λ clock inputs outputs run began start a ends stage.
     let now = c.requires.active in
     let b = c.args.buffer in let is = c.requires.fed in
     let looked = c.args.looked.now in let n = c.least_held-n.result in let most = c.min-bound.result in
-    let are : looked ≡ looked_at (view_by t) (λ b. length (frames_at t b)) id = c.requires.looked in
-    let count : n ≡ least most (map (λ b. length (frames_at t b)) looked) = c.least_held-n.ensures in
+    let are : looked ≡ looked_at (view_by t) (λ b. length (held_frames t b)) id = c.requires.looked in
+    let count : n ≡ least most (map (λ b. length (held_frames t b)) looked) = c.least_held-n.ensures in
     let u = c.process.new.self in let fs = made_at t id looked n in let w = words_at u b in let o = words_at u id in
     let tables : u ≡ processed id looked n b fs w o t = c.process.ensures.tables in
-    let able = moves t kept can id there now (length looked) (λ plain. ap length are ∙ looked-one t kept can id there now (λ b. length (frames_at t b)) plain) in
+    let able = moves t kept can id there now (length looked) (λ plain. ap length are ∙ looked-one t kept can id there now (λ b. length (held_frames t b)) plain) in
     let shape = sym (wide t kept can id there now) in
     let some : is_empty looked ≡ false = not-empty looked (sym c.is_empty.ensures ∙ c.if-is_empty.false) in
     processed-stage t kept can id there now began start inputs outputs a ends stage clock run b is looked are some n c.free.result most c.free.ensures (c.min-bound.ensures ∙ ap (λ q. min q c.free.result) (c.requires.most clock)) count u
     (ap bare_of tables ∙ bare-processed id n b looked fs w o t)
     (ap rings_of tables ∙ c.moves_are_seen.ensures.rings id b n looked fs w o t kept)
-    (subst (λ (u : Tables). histories_of u ≡ map (with_numbers id (numbers_at u id)) (histories_of t)) (sym tables) (c.moves_are_seen.ensures.histories id b n looked fs w o t kept))
+    (subst (λ (u : Tables). histories_of u ≡ map (with_numbers id (eq_numbers_at u id)) (histories_of t)) (sym tables) (c.moves_are_seen.ensures.histories id b n looked fs w o t kept))
     (ap staging_of tables ∙ c.moves_are_seen.ensures.staging id b n looked fs w o t kept (subst (λ (u : Tables). staged_in u.comps id ≡ staged_in t.comps id) tables c.process.ensures.staged))
     (λ read. c.moves_are_ticks.ensures.frames id n looked read t able shape)
     (λ kind. c.moves_are_ticks.ensures.numbers id n looked t kind shape ∙ sym c.process.ensures.numbers)

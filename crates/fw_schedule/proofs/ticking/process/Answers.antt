@@ -2,7 +2,7 @@ use Rattle.std.proofs.Common.{◌≡◌, sym, ap, ◌∙◌, subst, filter, leng
 use Rattle.std.specs.List.{AllByRecursion}
 use Rattle.stream_law.specs.Ways.{comp_of}
 use Rattle.fw_components.specs.Changes.{has_id}
-use Rattle.fw_components.specs.Tables.{graph_of, view_by, frames_at}
+use Rattle.fw_components.specs.Tables.{graph_of, view_by, held_frames}
 use Rattle.fw_schedule.specs.Schedules.{inlets_of}
 use Rattle.fw_schedule.proofs.AtPlaces.{kind-passes, chooses-by}
 use Rattle.fw_schedule.proofs.Looking.{plain-looked, chosen-looked}
@@ -63,11 +63,11 @@ pub pass-requires-clause-looked : goal.pass-requires-clause-looked
 pass-requires-clause-looked c =
     let t = c.args.registry.now in let v = view_by t in let s = c.args.step.now in let is = c.requires.step in
     c.as_slice.ensures.value ∙ c.holding-looked.ensures
-    ∙ ap (filter (λ b. nat_le 1 (length (frames_at t b)))) (c.inlets-own.ensures ∙ is.inlets)
-    ∙ sym (chosen-looked v s.id (λ b. length (frames_at t b)) (chooses-by v s.id s.kind is.kind ∙ sym c.chooses.ensures ∙ c.if-chooses.true))
+    ∙ ap (filter (λ b. nat_le 1 (length (held_frames t b)))) (c.inlets-own.ensures ∙ is.inlets)
+    ∙ sym (chosen-looked v s.id (λ b. length (held_frames t b)) (chooses-by v s.id s.kind is.kind ∙ sym c.chooses.ensures ∙ c.if-chooses.true))
 
 pub pass-requires-else-chooses-clause-looked : goal.pass-requires-else-chooses-clause-looked
 pass-requires-else-chooses-clause-looked c =
     let t = c.args.registry.now in let v = view_by t in let s = c.args.step.now in let is = c.requires.step in
     c.inlets-own.ensures ∙ is.inlets
-    ∙ sym (plain-looked v s.id (λ b. length (frames_at t b)) (chooses-by v s.id s.kind is.kind ∙ sym c.chooses.ensures ∙ c.if-chooses.false))
+    ∙ sym (plain-looked v s.id (λ b. length (held_frames t b)) (chooses-by v s.id s.kind is.kind ∙ sym c.chooses.ensures ∙ c.if-chooses.false))

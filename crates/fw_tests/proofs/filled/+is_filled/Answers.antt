@@ -4,7 +4,7 @@ use Rattle.sof_base.specs.Holes.{carved, given, first_fit}
 use Rattle.fw_heap.specs.Regions.{RegionState}
 use Rattle.fw_components.specs.declared.component.Component.{Component}
 use Rattle.fw_components.specs.Tables.{Tables}
-use Rattle.fw_components.specs.Changes.{is_there, found, given_found, without, IsFoundOf, added}
+use Rattle.fw_components.specs.Changes.{is_there, found, given_found, tables_without, IsFoundOf, added}
 use Rattle.fw_tests.specs.Filled.{IsFilled, rest_behind}
 use Rattle.fw_tests.proofs.FilledLaws.{mixer, filled-absent, filled-more, more-there, more-found, more-less, rest-first, rest-carved, rest-given}
 use Rattle.fw_tests.proofs.filled.+is_filled.Goals as goal
@@ -41,7 +41,7 @@ remove-requires-clause-region t c =
 pub returns-in-Ok-add-clause-registry : goal.returns-in-Ok-add-clause-registry
 returns-in-Ok-add-clause-registry t c =
     c.remove.ensures.tables
-    ∙ ap (without c.args.id) (others-gone t (goal.at.returns-in-Ok-add-clause-registry t c).After-is_filled-right)
+    ∙ ap (tables_without c.args.id) (others-gone t (goal.at.returns-in-Ok-add-clause-registry t c).After-is_filled-right)
     ∙ more-less c.args.id c.in-Ok.piece c.args.registry.now c.requires.registry
 
 pub returns-in-Ok-add-clause-region : goal.returns-in-Ok-add-clause-region

@@ -1,5 +1,5 @@
 use Rattle.std.proofs.Common.{◌∙◌, sym, ap, length, List, ℤ, length-append}
-use Rattle.fw_components.specs.Tables.{frames_by}
+use Rattle.fw_components.specs.Tables.{unit_frames}
 use Rattle.fw_components.specs.Frames.{channels_by}
 use Rattle.fw_components.proofs.FrameLaws.{length-taken}
 use Rattle.fw_components.proofs.component.Component.copy.Goals as goal
@@ -9,5 +9,5 @@ copy_both-requires c =
     let u = c.args.self.now.unit in
     sym (length-append c.spans.result.0.now c.spans.result.1.now)
     ∙ ap (λ (xs : List ℤ). length xs) c.spans.ensures.samples
-    ∙ length-taken (channels_by u) c.args.n (frames_by u) c.spans.ensures.frames c.requires.held
+    ∙ length-taken (channels_by u) c.args.n (unit_frames u) c.spans.ensures.frames c.requires.held
     ∙ sym c.requires.size

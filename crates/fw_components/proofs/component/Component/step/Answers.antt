@@ -2,7 +2,7 @@ use Rattle.std.proofs.Common.{◌≡◌, ◌∙◌, sym, ap, ℕ, ◌*◌, ◌�
 use Rattle.fw_ring.proofs.FrameLaws.{length-frames}
 use Rattle.fw_components.specs.declared.component.Component.{Component}
 use Rattle.fw_components.specs.Changes.{has_id}
-use Rattle.fw_components.specs.Frames.{frames_in}
+use Rattle.fw_components.specs.Frames.{buffer_frames}
 use Rattle.fw_components.specs.Processed.{IsInlet, slices_in, made_numbers}
 use Rattle.fw_components.specs.Moving.{frames_now}
 use Rattle.fw_components.proofs.Ids.{all-by}
@@ -17,7 +17,7 @@ drain_in-requires-clause-there c =
 pub drain_in-requires-clause-held : goal.drain_in-requires-clause-held
 drain_in-requires-clause-held c =
     let bs = c.args.buffers.now.items in let x = c.args.self.now in let n = c.args.n in
-    all-by (IsInlet bs x.channels n) (λ b. n ≤ length (frames_in bs b)) (λ b inlet. inlet.held) c.args.looked.now c.requires.can.inlets
+    all-by (IsInlet bs x.channels n) (λ b. n ≤ length (buffer_frames bs b)) (λ b inlet. inlet.held) c.args.looked.now c.requires.can.inlets
 
 pub push_in-requires-clause-there : goal.push_in-requires-clause-there
 push_in-requires-clause-there c = mid-there c.args.buffers.now.items c.args.looked.now c.args.fed c.args.n c.args.self.now c.requires.can c.requires.channels.0 c.drain_in.new.components.items c.drain_in.ensures.items

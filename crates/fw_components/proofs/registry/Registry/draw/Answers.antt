@@ -3,6 +3,7 @@ use Rattle.fw_components.specs.Tables.{Tables}
 use Rattle.fw_components.specs.Changes.{has_id}
 use Rattle.fw_components.specs.Laid.{tables_of}
 use Rattle.fw_components.proofs.Begun.{buffer-taken}
+use Rattle.fw_components.proofs.TallyKept.{taken-tallied}
 use Rattle.fw_components.proofs.registry.Registry.draw.Goals as goal
 
 pub pull_in-requires-clause-there : goal.pull_in-requires-clause-there
@@ -15,4 +16,5 @@ invariant_of-self c = record {
   pipes = c.self.invariant.pipes;
   joins = c.self.invariant.joins;
   kept = buffer-taken (tables_of c.self.inside) c.self.invariant.kept c.args.buffer _ c.pull_in.new.components.items c.pull_in.ensures.items;
+  tallied = taken-tallied (tables_of c.self.inside) c.self.invariant.kept c.self.inside.tallies.running c.self.inside.tallies.live c.self.invariant.tallied c.args.buffer _ c.pull_in.new.components.items c.pull_in.ensures.items;
 }

@@ -2,7 +2,7 @@ use Rattle.std.proofs.Common.{◌≡◌, ◌∙◌, sym, ap, ◌+◌, ◌==◌, 
 use Rattle.std.proofs.lemmas.Bool.{true≢false}
 use Rattle.std.specs.Prelude.{position, find}
 use Rattle.fw_components.specs.declared.component.Component.{Component}
-use Rattle.fw_components.specs.Tables.{Tables, frames_at, capacity_at}
+use Rattle.fw_components.specs.Tables.{Tables, held_frames, capacity_at}
 use Rattle.fw_components.specs.Changes.{has_id}
 use Rattle.fw_components.specs.Laid.{tables_of}
 use Rattle.fw_components.proofs.Taking.{taken-found}
@@ -19,6 +19,6 @@ returns-in-Some c =
     let t = tables_of c.self.inside in
     let x = c.index.result.now in
     let it : Some x ≡ find (λ y. y.id == c.args.buffer) t.buffers = ap (λ (y : Component). Some y) c.index.ensures ∙ taken-found c.args.buffer t.buffers c.in-Some.at x (c.in-Some.ensures ∙ ap (position (λ (y : Component). y.id == c.args.buffer)) c.as_slice.ensures.value) in
-    let frames = (buffer-at t c.args.buffer c.in-Some.at x it).0 ∙ ap (λ (t : Tables). frames_at t c.args.buffer) c.self.view_is in
+    let frames = (buffer-at t c.args.buffer c.in-Some.at x it).0 ∙ ap (λ (t : Tables). held_frames t c.args.buffer) c.self.view_is in
     let room = (buffer-at t c.args.buffer c.in-Some.at x it).1 ∙ ap (λ (t : Tables). capacity_at t c.args.buffer) c.self.view_is in
     ap (λ fs. c.room.result + length fs) (sym frames) ∙ c.room.ensures ∙ room

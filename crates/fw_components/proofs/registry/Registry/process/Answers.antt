@@ -13,6 +13,7 @@ use Rattle.fw_components.specs.Moving.{CanMove, IsMoved}
 use Rattle.fw_components.proofs.Putting.{put-words}
 use Rattle.fw_components.proofs.Taking.{taken-found, never-found-by}
 use Rattle.fw_components.proofs.ProcessLaws.{can-process, now-processed, now-numbers, now-staged, now-kept}
+use Rattle.fw_components.proofs.TallyKept.{processed-tallied}
 use Rattle.fw_components.proofs.registry.Registry.process.Goals as goal
 
 pub unreachable-requires : goal.unreachable-requires
@@ -63,6 +64,7 @@ invariant_of-self c =
       pipes = c.self.invariant.pipes;
       joins = c.self.invariant.joins;
       kept = now-kept t id x it c.self.invariant.kept looked fed n c.carry.new.self comps c.carry.new.buffers.items _ put.1 moved;
+      tallied = processed-tallied t c.self.invariant.kept c.self.inside.tallies.running c.self.inside.tallies.live c.self.invariant.tallied id fed n looked _ _ _ comps c.carry.new.buffers.items put.1 moved.table (now-kept t id x it c.self.invariant.kept looked fed n c.carry.new.self comps c.carry.new.buffers.items _ put.1 moved);
     }
 
 pub returns-clause-tables : goal.returns-clause-tables

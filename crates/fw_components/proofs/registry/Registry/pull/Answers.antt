@@ -3,8 +3,8 @@ use Rattle.std.proofs.lemmas.Bool.{true≢false}
 use Rattle.std.specs.Prelude.{find, option_map}
 use Rattle.sof_base.specs.Samples.{samples_of}
 use Rattle.fw_components.specs.declared.component.Component.{Component}
-use Rattle.fw_components.specs.Tables.{frames_at}
-use Rattle.fw_components.specs.Frames.{goes_to, in_of, channels_at, taken}
+use Rattle.fw_components.specs.Tables.{held_frames}
+use Rattle.fw_components.specs.Frames.{goes_to, in_of, channels_at, with_taken}
 use Rattle.fw_components.proofs.Started.{id-is, id-there, id-never}
 use Rattle.fw_components.proofs.registry.Registry.pull.Goals as goal
 
@@ -26,7 +26,7 @@ draw-requires-clause-held c =
     let it = λ (x : Component). goes_to c.args.id x in let t = c.args.self.now in
     let into = c.in-Some.ensures ∙ ap (λ (cs : List Component). option_map (λ (x : Component). x.id) (find it cs)) c.buffers.ensures.items in
     let at : c.in-Some.buffer ≡ in_of t c.args.id = id-is it t.buffers c.in-Some.buffer into in
-    subst (λ b. length c.args.samples.now / channels_at t b ≤ length (frames_at t b)) (sym at) c.requires.held
+    subst (λ b. length c.args.samples.now / channels_at t b ≤ length (held_frames t b)) (sym at) c.requires.held
 
 pub unreachable-requires : goal.unreachable-requires
 unreachable-requires c =
@@ -38,11 +38,11 @@ returns-clause-tables c =
     let it = λ (x : Component). goes_to c.args.id x in let t = c.args.self.now in let n = length c.args.samples.now in
     let into = c.in-Some.ensures ∙ ap (λ (cs : List Component). option_map (λ (x : Component). x.id) (find it cs)) c.buffers.ensures.items in
     let at : c.in-Some.buffer ≡ in_of t c.args.id = id-is it t.buffers c.in-Some.buffer into in
-    c.draw.ensures.tables ∙ ap (λ b. taken b (n / channels_at t b) t) at
+    c.draw.ensures.tables ∙ ap (λ b. with_taken b (n / channels_at t b) t) at
 
 pub returns-clause-samples : goal.returns-clause-samples
 returns-clause-samples c =
     let it = λ (x : Component). goes_to c.args.id x in let t = c.args.self.now in let n = length c.args.samples.now in
     let into = c.in-Some.ensures ∙ ap (λ (cs : List Component). option_map (λ (x : Component). x.id) (find it cs)) c.buffers.ensures.items in
     let at : c.in-Some.buffer ≡ in_of t c.args.id = id-is it t.buffers c.in-Some.buffer into in
-    c.draw.ensures.samples ∙ ap (λ b. samples_of (take (n / channels_at t b) (frames_at t b))) at
+    c.draw.ensures.samples ∙ ap (λ b. samples_of (take (n / channels_at t b) (held_frames t b))) at

@@ -6,6 +6,7 @@ use Rattle.fw_components.specs.Laid.{tables_of}
 use Rattle.fw_components.specs.Frames.{channels_at, pushed, words_at}
 use Rattle.fw_components.proofs.Begun.{buffer-pushed}
 use Rattle.fw_components.proofs.Started.{more-frames}
+use Rattle.fw_components.proofs.TallyKept.{pushed-tallied}
 use Rattle.fw_components.proofs.registry.Registry.push.Goals as goal
 
 pub push_in-requires-clause-there : goal.push_in-requires-clause-there
@@ -18,6 +19,7 @@ invariant_of-self c = record {
   pipes = c.self.invariant.pipes;
   joins = c.self.invariant.joins;
   kept = buffer-pushed (tables_of c.self.inside) c.self.invariant.kept c.args.buffer _ _ c.push_in.new.components.items c.push_in.ensures.items;
+  tallied = pushed-tallied (tables_of c.self.inside) c.self.invariant.kept c.self.inside.tallies.running c.self.inside.tallies.live c.self.invariant.tallied c.args.buffer _ _ c.push_in.new.components.items c.push_in.ensures.items;
 }
 
 pub returns : goal.returns

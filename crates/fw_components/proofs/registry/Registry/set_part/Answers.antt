@@ -8,6 +8,7 @@ use Rattle.fw_components.specs.Laid.{tables_of}
 use Rattle.fw_components.proofs.Taking.{taken-found, never-found-by}
 use Rattle.fw_components.proofs.Told.{gone-by, there-by}
 use Rattle.fw_components.proofs.PartKept.{parted-kept, part-none, part-refused, part-done, not-taken, is-taken, takes-it}
+use Rattle.fw_components.proofs.TallyKept.{parted-tallied}
 use Rattle.fw_components.proofs.registry.Registry.set_part.Goals as goal
 
 pub returns-then-is_none-clause-answer : goal.returns-then-is_none-clause-answer
@@ -48,6 +49,7 @@ invariant_of-self c = record {
   pipes = c.self.invariant.pipes;
   joins = c.self.invariant.joins;
   kept = parted-kept (tables_of c.self.inside) c.self.invariant.kept c.args.id c.args.part.now _ c.in-Some-with_part.bytes c.put_at.new.components.items c.in-Some-with_part.ensures.joined c.put_at.ensures.items;
+  tallied = parted-tallied (tables_of c.self.inside) c.self.invariant.kept c.self.inside.tallies.running c.self.inside.tallies.live c.self.invariant.tallied c.args.id c.args.part.now _ c.put_at.new.components.items c.put_at.ensures.items (parted-kept (tables_of c.self.inside) c.self.invariant.kept c.args.id c.args.part.now _ c.in-Some-with_part.bytes c.put_at.new.components.items c.in-Some-with_part.ensures.joined c.put_at.ensures.items);
 }
 
 pub returns-clause-answer : goal.returns-clause-answer

@@ -1,6 +1,8 @@
 use Rattle.fw_components.specs.Laid.{tables_of}
 use Rattle.std.proofs.Common.{subst, ◌≤◌, sym}
 use Rattle.fw_components.proofs.KeptLaws.{stream-kept}
+use Rattle.fw_components.proofs.Listed.{lists-joined}
+use Rattle.fw_components.proofs.Tallying.{lists-tallied}
 use Rattle.fw_components.proofs.registry.Registry.set_stream.Goals as goal
 
 pub invariant_of-self : goal.invariant_of-self
@@ -10,4 +12,8 @@ invariant_of-self c = record {
   pipes = c.self.invariant.pipes;
   joins = c.self.invariant.joins;
   kept = stream-kept (tables_of c.self.inside) c.self.invariant.kept c.args.host c.args.phase c.args.params c.requires.stream c.set_stream_in.new.components.items c.set_stream_in.ensures.items;
+  tallied = lists-tallied (record { comps = c.set_stream_in.new.components.items; buffers = c.self.inside.buffers.items; pipes = c.self.inside.pipes.items; joins = c.self.inside.joins.items }) c.deref.result.now c.deref-2.result.now c.deref-3.result.now c.recount.new.self.running c.recount.new.self.live c.deref.ensures.value c.deref-2.ensures.value c.deref-3.ensures.value c.recount.ensures;
 }
+
+pub recount-requires : goal.recount-requires
+recount-requires c = lists-joined (record { comps = c.set_stream_in.new.components.items; buffers = c.self.inside.buffers.items; pipes = c.self.inside.pipes.items; joins = c.self.inside.joins.items }) (stream-kept (tables_of c.self.inside) c.self.invariant.kept c.args.host c.args.phase c.args.params c.requires.stream c.set_stream_in.new.components.items c.set_stream_in.ensures.items) c.deref.result.now c.deref-2.result.now c.deref-3.result.now c.deref.ensures.value c.deref-2.ensures.value c.deref-3.ensures.value

@@ -6,6 +6,7 @@ use Rattle.fw_components.specs.Values.{valued}
 use Rattle.fw_components.specs.Laid.{tables_of}
 use Rattle.fw_components.proofs.KeptLaws.{valued-kept}
 use Rattle.fw_components.proofs.Told.{gone-by, there-by, set-none, set-refused, set-done}
+use Rattle.fw_components.proofs.TallyKept.{valued-tallied}
 use Rattle.fw_components.proofs.registry.Registry.set_values.Goals as goal
 
 pub returns-then-is_none-clause-answer : goal.returns-then-is_none-clause-answer
@@ -23,6 +24,7 @@ invariant_of-self c = record {
   pipes = c.self.invariant.pipes;
   joins = c.self.invariant.joins;
   kept = valued-kept (tables_of c.self.inside) c.self.invariant.kept c.args.id c.args.values.now c.value_in.new.components.items c.value_in.ensures.items;
+  tallied = valued-tallied (tables_of c.self.inside) c.self.invariant.kept c.self.inside.tallies.running c.self.inside.tallies.live c.self.invariant.tallied c.args.id c.args.values.now c.value_in.new.components.items c.value_in.ensures.items (valued-kept (tables_of c.self.inside) c.self.invariant.kept c.args.id c.args.values.now c.value_in.new.components.items c.value_in.ensures.items);
 }
 
 pub returns-clause-answer : goal.returns-clause-answer

@@ -5,7 +5,7 @@ use Rattle.stream_law.specs.State.{FwState}
 use Rattle.stream_law.specs.Move.{Move, next_clock}
 use Rattle.mbox_link.specs.Exchange.{ticked}
 use Rattle.mbox_link.proofs.Rooms.{HasRoom-less}
-use Rattle.fw_core.specs.Held.{state_in, IsHeld}
+use Rattle.fw_core.specs.Held.{state_in, IsPieceHeld}
 use Rattle.fw_core.specs.Device.{Chip, with_state}
 use Rattle.fw_core.proofs.Calls.{ticked-on, ticked-off}
 use Rattle.fw_core.proofs.Ticks.{can-tick, tick-held}

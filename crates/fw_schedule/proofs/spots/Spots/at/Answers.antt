@@ -1,7 +1,7 @@
 use Rattle.std.proofs.Common.{◌≡◌, refl, ap, ℕ, ◌<◌, ◌≤◌, Bool, true, false, cond, get_or, length, arith}
-use Rattle.fw_walks.specs.Walks.{is_listed, place_in}
-use Rattle.fw_walks.proofs.Reaching.{at-place}
-use Rattle.fw_walks.proofs.Charts.{place-past}
+use Rattle.fw_places.specs.Walks.{is_listed, place_in}
+use Rattle.fw_places.proofs.Reaching.{at-place}
+use Rattle.fw_places.proofs.Charts.{place-past}
 use Rattle.fw_schedule.specs.declared.spots.Spots.{Spots}
 use Rattle.fw_schedule.specs.Spots.{bare_spot, spot_at}
 use Rattle.fw_schedule.proofs.spots.Spots.at.Goals as goal

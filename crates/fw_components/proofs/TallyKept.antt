@@ -1,0 +1,162 @@
+-- Which changes keep the numbers of a registry.
+use Rattle.std.proofs.Common.{◌≡◌, refl, ℕ, ℤ, List, Bool, true, false, cond, map, ◌==◌}
+use Rattle.sof_base.specs.Samples.{Frame}
+use Rattle.stream_law.specs.declared.stream.Phase.{Phase}
+use Rattle.stream_law.specs.Order.{is_among}
+use Rattle.sof_base.specs.declared.part.Part.{Part}
+use Rattle.fw_components.specs.declared.component.Component.{Component}
+use Rattle.fw_components.specs.declared.component.Unit as units
+use Rattle.fw_components.specs.declared.component.Unit.TheVariants.{Host, Dai, Volume, Mixer, Mux, Eq, Buffer, Pipeline}
+use Rattle.fw_components.specs.Tables.{Tables, kind_by}
+use Rattle.fw_components.specs.Changes.{with_ended, ended_unit}
+use Rattle.fw_components.specs.Frames.{begun_at, begun_by, begun_unit, pushed_at, pushed_by, taken_at, taken_by}
+use Rattle.fw_components.specs.Parts.{parted_at, parted_by, parted_unit}
+use Rattle.fw_components.specs.Processed.{drained_at, run_at, run_by, run_unit}
+use Rattle.fw_components.specs.Values.{valued_at, valued_unit}
+use Rattle.fw_components.specs.Kept.{IsKept}
+use Rattle.fw_components.specs.Tally.{IsTallied, has_phase}
+use Rattle.fw_components.proofs.Tallying.{comps-tallied, buffers-tallied}
+
+-- ---- each change keeps streams and kinds
+
+begun-phase : (is : Phase → Bool) → (channels : ℕ) → (words : List ℤ) → (u : units.Unit) → has_phase is (begun_unit channels words u) ≡ has_phase is u
+begun-phase is channels words (Host capture phase params piece) = refl
+begun-phase is channels words (Dai capture format piece) = refl
+begun-phase is channels words (Volume gains piece) = refl
+begun-phase is channels words (Mixer piece) = refl
+begun-phase is channels words (Mux choice piece) = refl
+begun-phase is channels words (Eq eq next remaining) = refl
+begun-phase is channels words (Buffer size ring source sink) = refl
+begun-phase is channels words (Pipeline sched period complete piece) = refl
+
+begun-kind : (channels : ℕ) → (words : List ℤ) → (u : units.Unit) → kind_by (begun_unit channels words u) ≡ kind_by u
+begun-kind channels words (Host capture phase params piece) = refl
+begun-kind channels words (Dai capture format piece) = refl
+begun-kind channels words (Volume gains piece) = refl
+begun-kind channels words (Mixer piece) = refl
+begun-kind channels words (Mux choice piece) = refl
+begun-kind channels words (Eq eq next remaining) = refl
+begun-kind channels words (Buffer size ring source sink) = refl
+begun-kind channels words (Pipeline sched period complete piece) = refl
+
+valued-phase : (is : Phase → Bool) → (values : List ℕ) → (u : units.Unit) → has_phase is (valued_unit values u) ≡ has_phase is u
+valued-phase is values (Host capture phase params piece) = refl
+valued-phase is values (Dai capture format piece) = refl
+valued-phase is values (Volume gains piece) = refl
+valued-phase is values (Mixer piece) = refl
+valued-phase is values (Mux choice piece) = refl
+valued-phase is values (Eq eq next remaining) = refl
+valued-phase is values (Buffer size ring source sink) = refl
+valued-phase is values (Pipeline sched period complete piece) = refl
+
+valued-kind : (values : List ℕ) → (u : units.Unit) → kind_by (valued_unit values u) ≡ kind_by u
+valued-kind values (Host capture phase params piece) = refl
+valued-kind values (Dai capture format piece) = refl
+valued-kind values (Volume gains piece) = refl
+valued-kind values (Mixer piece) = refl
+valued-kind values (Mux choice piece) = refl
+valued-kind values (Eq eq next remaining) = refl
+valued-kind values (Buffer size ring source sink) = refl
+valued-kind values (Pipeline sched period complete piece) = refl
+
+parted-phase : (is : Phase → Bool) → (id : ℕ) → (part : Part) → (words : List ℤ) → (u : units.Unit) → has_phase is (parted_unit id part words u) ≡ has_phase is u
+parted-phase is id part words (Host capture phase params piece) = refl
+parted-phase is id part words (Dai capture format piece) = refl
+parted-phase is id part words (Volume gains piece) = refl
+parted-phase is id part words (Mixer piece) = refl
+parted-phase is id part words (Mux choice piece) = refl
+parted-phase is id part words (Eq eq next remaining) = refl
+parted-phase is id part words (Buffer size ring source sink) = refl
+parted-phase is id part words (Pipeline sched period complete piece) = refl
+
+parted-kind : (id : ℕ) → (part : Part) → (words : List ℤ) → (u : units.Unit) → kind_by (parted_unit id part words u) ≡ kind_by u
+parted-kind id part words (Host capture phase params piece) = refl
+parted-kind id part words (Dai capture format piece) = refl
+parted-kind id part words (Volume gains piece) = refl
+parted-kind id part words (Mixer piece) = refl
+parted-kind id part words (Mux choice piece) = refl
+parted-kind id part words (Eq eq next remaining) = refl
+parted-kind id part words (Buffer size ring source sink) = refl
+parted-kind id part words (Pipeline sched period complete piece) = refl
+
+run-phase : (is : Phase → Bool) → (words : List ℤ) → (u : units.Unit) → has_phase is (run_unit words u) ≡ has_phase is u
+run-phase is words (Host capture phase params piece) = refl
+run-phase is words (Dai capture format piece) = refl
+run-phase is words (Volume gains piece) = refl
+run-phase is words (Mixer piece) = refl
+run-phase is words (Mux choice piece) = refl
+run-phase is words (Eq eq next remaining) = refl
+run-phase is words (Buffer size ring source sink) = refl
+run-phase is words (Pipeline sched period complete piece) = refl
+
+run-kind : (words : List ℤ) → (u : units.Unit) → kind_by (run_unit words u) ≡ kind_by u
+run-kind words (Host capture phase params piece) = refl
+run-kind words (Dai capture format piece) = refl
+run-kind words (Volume gains piece) = refl
+run-kind words (Mixer piece) = refl
+run-kind words (Mux choice piece) = refl
+run-kind words (Eq eq next remaining) = refl
+run-kind words (Buffer size ring source sink) = refl
+run-kind words (Pipeline sched period complete piece) = refl
+
+-- another unit
+abbrev with_unit : (units.Unit → units.Unit) → Component → Component
+with_unit f c = record { id = c.id; pipe = c.pipe; channels = c.channels; unit = f c.unit }
+
+-- a change at one id keeps what it keeps
+at-same : {Y : Type 0} (view : Component → Y) (change : Component → Component) → ((c : Component) → view (change c) ≡ view c) → (id : ℕ) (c : Component) → view (cond (c.id == id) (change c) c) ≡ view c
+at-same view change same id c = by (c.id == id)
+  where
+    by : (h : Bool) → view (cond {A = Component} h (change c) c) ≡ view c
+    by true = same c
+    by false = refl
+
+drained-id : (looked : List ℕ) (n : ℕ) (c : Component) → (drained_at looked n c).id ≡ c.id
+drained-id looked n c = by (is_among looked c.id)
+  where
+    by : (h : Bool) → (cond {A = Component} h (taken_by n c) c).id ≡ c.id
+    by true = refl
+    by false = refl
+
+-- ---- the tables after a change
+
+module _ (t : Tables) (kept : IsKept t) (running live : List ℕ) (tied : IsTallied t running live) (id : ℕ) where
+  pub begun-tallied : (channels : ℕ) (words : List ℤ) (new : List Component) → new ≡ map (begun_at id channels words) t.comps → IsKept (record { comps = new; buffers = t.buffers; pipes = t.pipes; joins = t.joins }) → IsTallied (record { comps = new; buffers = t.buffers; pipes = t.pipes; joins = t.joins }) running live
+  begun-tallied channels words new is now = comps-tallied t kept.named.comps running live tied (begun_at id channels words) new is now.named.comps
+      (at-same (λ c. c.id) (begun_by channels words) (λ c. refl) id)
+      (λ f. at-same (λ c. has_phase f c.unit) (begun_by channels words) (λ c. begun-phase f channels words c.unit) id)
+      (at-same (λ c. kind_by c.unit) (begun_by channels words) (λ c. begun-kind channels words c.unit) id)
+
+  pub valued-tallied : (values : List ℕ) (new : List Component) → new ≡ map (valued_at id values) t.comps → IsKept (record { comps = new; buffers = t.buffers; pipes = t.pipes; joins = t.joins }) → IsTallied (record { comps = new; buffers = t.buffers; pipes = t.pipes; joins = t.joins }) running live
+  valued-tallied values new is now = comps-tallied t kept.named.comps running live tied (valued_at id values) new is now.named.comps
+      (at-same (λ c. c.id) (with_unit (valued_unit values)) (λ c. refl) id)
+      (λ f. at-same (λ c. has_phase f c.unit) (with_unit (valued_unit values)) (λ c. valued-phase f values c.unit) id)
+      (at-same (λ c. kind_by c.unit) (with_unit (valued_unit values)) (λ c. valued-kind values c.unit) id)
+
+  pub parted-tallied : (part : Part) (words : List ℤ) (new : List Component) → new ≡ map (parted_at id part words) t.comps → IsKept (record { comps = new; buffers = t.buffers; pipes = t.pipes; joins = t.joins }) → IsTallied (record { comps = new; buffers = t.buffers; pipes = t.pipes; joins = t.joins }) running live
+  parted-tallied part words new is now = comps-tallied t kept.named.comps running live tied (parted_at id part words) new is now.named.comps
+      (at-same (λ c. c.id) (parted_by part words) (λ c. refl) id)
+      (λ f. at-same (λ c. has_phase f c.unit) (parted_by part words) (λ c. parted-phase f c.id part words c.unit) id)
+      (at-same (λ c. kind_by c.unit) (parted_by part words) (λ c. parted-kind c.id part words c.unit) id)
+
+  pub begun-buffers-tallied : (channels : ℕ) (words : List ℤ) (new : List Component) → new ≡ map (begun_at id channels words) t.buffers → IsTallied (record { comps = t.comps; buffers = new; pipes = t.pipes; joins = t.joins }) running live
+  begun-buffers-tallied channels words new is = buffers-tallied t kept.named.comps running live tied (begun_at id channels words) new is (at-same (λ c. c.id) (begun_by channels words) (λ c. refl) id)
+
+  pub pushed-tallied : (frames : List Frame) (words : List ℤ) (new : List Component) → new ≡ map (pushed_at id frames words) t.buffers → IsTallied (record { comps = t.comps; buffers = new; pipes = t.pipes; joins = t.joins }) running live
+  pushed-tallied frames words new is = buffers-tallied t kept.named.comps running live tied (pushed_at id frames words) new is (at-same (λ c. c.id) (pushed_by frames words) (λ c. refl) id)
+
+  pub taken-tallied : (n : ℕ) (new : List Component) → new ≡ map (taken_at id n) t.buffers → IsTallied (record { comps = t.comps; buffers = new; pipes = t.pipes; joins = t.joins }) running live
+  taken-tallied n new is = buffers-tallied t kept.named.comps running live tied (taken_at id n) new is (at-same (λ c. c.id) (taken_by n) (λ c. refl) id)
+
+  pub ended-tallied : (new : List Component) → new ≡ map (with_ended id) t.buffers → IsTallied (record { comps = t.comps; buffers = new; pipes = t.pipes; joins = t.joins }) running live
+  ended-tallied new is = buffers-tallied t kept.named.comps running live tied (with_ended id) new is (at-same (λ c. c.id) (with_unit ended_unit) (λ c. refl) id)
+
+  pub processed-tallied : (fed n : ℕ) (looked : List ℕ) (frames : List Frame) (w v : List ℤ) (comps buffers : List Component) → comps ≡ map (run_at id w) t.comps → buffers ≡ map (pushed_at fed frames v) (map (drained_at looked n) t.buffers) → IsKept (record { comps = comps; buffers = buffers; pipes = t.pipes; joins = t.joins }) → IsTallied (record { comps = comps; buffers = buffers; pipes = t.pipes; joins = t.joins }) running live
+  processed-tallied fed n looked frames w v comps buffers run moved now =
+      let one = comps-tallied t kept.named.comps running live tied (run_at id w) comps run now.named.comps
+      (at-same (λ c. c.id) (run_by w) (λ c. refl) id)
+      (λ f. at-same (λ c. has_phase f c.unit) (run_by w) (λ c. run-phase f w c.unit) id)
+      (at-same (λ c. kind_by c.unit) (run_by w) (λ c. run-kind w c.unit) id) in
+      let drained = map (drained_at looked n) t.buffers in
+      let two = buffers-tallied (record { comps = comps; buffers = t.buffers; pipes = t.pipes; joins = t.joins }) now.named.comps running live one (drained_at looked n) drained refl (drained-id looked n) in
+      buffers-tallied (record { comps = comps; buffers = drained; pipes = t.pipes; joins = t.joins }) now.named.comps running live two (pushed_at fed frames v) buffers moved (at-same (λ c. c.id) (pushed_by frames v) (λ c. refl) fed)

@@ -1,6 +1,0 @@
-use Rattle.std.proofs.Common.{◌≡◌, map, take}
-use Rattle.fw_walks.specs.Walks.{by_places}
-use Rattle.fw_walks.proofs.places.resolve.Given as goal
-
-abbrev pub invariant-loop-i : goal.invariant-loop-i
-invariant-loop-i l = take l.i l.ends ≡ map (by_places l.ids) (take l.i l.joins)

@@ -1,5 +1,0 @@
-use Rattle.fw_walks.proofs.Leaves.{AreFirst}
-use Rattle.fw_walks.proofs.walk.find_marked.Given as goal
-
-abbrev pub invariant-loop-k : goal.invariant-loop-k
-invariant-loop-k l = AreFirst l.marks l.found.items l.k

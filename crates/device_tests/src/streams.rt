@@ -1,4 +1,6 @@
 // What ticks write while streams start, pause, go on and stop.
+ghost use Rattle.std.specs.Prelude.{◌≤◌, length};
+
 use crate::messages::{S16, S32, amplified, capture, gains, mixed, mono, slow, stereo, thin};
 use crate::steps::{INVALID, Step, done, play, silent, tick};
 use ipc3_codec::Message;
@@ -7,19 +9,26 @@ use std::alloc::Global;
 use std::test::Fail;
 
 // An input of these bytes.
-fn input(alloc: Global, slot: u32, bytes: &[u8]) -> Result<Inputs, Fail> {
+fn input(alloc: Global, slot: u32, bytes: &[u8]) -> Result<Inputs, Fail>
+    requires { length bytes.now ≤ 1048576 }
+{
     let mut io = Inputs::new(alloc)?;
-    io.add(slot, Vec::from_slice(alloc, bytes)?)?;
+    io.add(slot)?;
+    io.fill(slot, bytes);
+    io.end(slot);
     Ok(io)
 }
 
-// So many 16-bit samples, all with this value.
-fn samples(alloc: Global, count: usize, value: u16) -> Result<Vec<u8>, Fail> {
-    let mut bytes = Vec::new(alloc);
-    for _ in 0..count {
-        bytes.extend_from_slice(&value.to_le_bytes())?;
+// 96 samples of 16 bits with one value, and then 96 with another.
+fn samples(first: u16, second: u16) -> [u8; 384] {
+    let mut bytes = [0; 384];
+    for k in 0..192 {
+        let sample = if k < 96 { first } else { second };
+        let [low, high] = sample.to_le_bytes();
+        bytes[2 * k] = low;
+        bytes[2 * k + 1] = high;
     }
-    Ok(bytes)
+    bytes
 }
 
 #[test]
@@ -41,9 +50,7 @@ fn a_stream_runs_from_its_start_to_its_stop(rt: HostRuntime) -> Result<(), Fail>
 
 // Two ticks of two channels: the first all 1, the second all 2.
 fn ones_and_twos(alloc: Global) -> Result<Inputs, Fail> {
-    let mut bytes = samples(alloc, 96, 1)?;
-    bytes.extend_from_slice(&samples(alloc, 96, 2)?)?;
-    input(alloc, 0, &bytes)
+    input(alloc, 0, &samples(1, 2))
 }
 
 #[test]
@@ -109,8 +116,12 @@ fn a_volume_multiplies_by_its_gain(rt: HostRuntime) -> Result<(), Fail> {
 // Inputs of both hosts: one of 1000s, and one of ones.
 fn inputs(alloc: Global) -> Result<Inputs, Fail> {
     let mut io = Inputs::new(alloc)?;
-    io.add(0, samples(alloc, 192, 1000)?)?;
-    io.add(6, samples(alloc, 192, 1)?)?;
+    io.add(0)?;
+    io.add(6)?;
+    io.fill(0, &samples(1000, 1000));
+    io.end(0);
+    io.fill(6, &samples(1, 1));
+    io.end(6);
     Ok(io)
 }
 

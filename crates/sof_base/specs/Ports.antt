@@ -1,12 +1,13 @@
 -- The endpoints' bytes, as contracts see them.
-use Rattle.std.specs.Prelude.{ℕ, ◌+◌, ◌-◌, ◌≤◌, ◌^◌, min, List, [], ◌∷◌, length}
+use Rattle.std.specs.Prelude.{ℕ, Bool, ◌+◌, ◌-◌, ◌≤◌, ◌^◌, min, List, [], ◌∷◌, length}
 use Rattle.sof_base.specs.declared.limits.TheConstants.{OUTPUT_BYTES}
 
--- an input: its endpoint's component id, how many bytes were taken of it, and those that are left
+-- an input: its endpoint's component id, how many bytes were taken of it, those that are left, and whether no more come
 pub record InputView : Type 0 where
   pub slot : ℕ
   pub position : ℕ
   pub left : List ℕ
+  pub ended : Bool
 
 -- an output: its endpoint's component id, and the bytes that were put and not yet drained
 pub record OutputView : Type 0 where

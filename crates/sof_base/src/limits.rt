@@ -8,6 +8,9 @@ pub const TURN_BYTES: usize = 61440;
 /// The most bytes that an output holds.
 pub const OUTPUT_BYTES: usize = 1_048_576;
 
+/// The most bytes that an input holds.
+pub const INPUT_BYTES: usize = 1_048_576;
+
 /// The fewest frames a second that a stream may have.
 pub const MIN_RATE: u32 = 8000;
 

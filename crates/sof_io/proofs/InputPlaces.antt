@@ -1,79 +1,112 @@
 -- What the search for a slot says of the inputs.
-use Rattle.std.proofs.Common.{◌≡◌, ℕ, suc, ◌<◌, Bool, false, ◌||◌, eqb, List, [], ◌∷◌, ◌++◌, length, get_or, set, replicate, Some, None, is_some, refl, sym, ap, subst, ◌∙◌, inl, inr, arith}
+use Rattle.std.proofs.Common.{◌≡◌, ℕ, Bool, false, ◌||◌, cond, eqb, ltb, List, [], ◌∷◌, get_or, set, replicate, Option, Some, None, is_some, refl, sym, ap, ◌∙◌, inl, inr}
 use Rattle.std.proofs.lemmas.Bool.{cases_Bool}
-use Rattle.std.proofs.lemmas.List.{map_push}
-use Rattle.std.proofs.lemmas.Map.Keys.{IsDistinct-push}
-use Rattle.std.specs.Cmp.{nat_eq_equiv}
-use Rattle.std.specs.List.{IsDistinct, list_any, position}
+use Rattle.std.specs.List.{list_any, position, insert}
 use Rattle.sof_base.specs.Ports.{InputView}
 use Rattle.sof_io.specs.Bound.{input_slots, has_slot}
-use Rattle.sof_io.specs.Takes.{new_input, after_input, next_bytes, left_at, given, taken}
-use Rattle.sof_io.proofs.Places.{place, place_found, some_place}
-use Rattle.sof_io.proofs.InputLaws.{taken-unknown, given-unknown}
+use Rattle.sof_io.specs.Takes.{new_input, after_input, next_bytes, left_at, bytes_given, taken}
+use Rattle.sof_io.specs.Fills.{with_input, has_ended, fuller_input, filled_at, ended_input, ended_at, is_wanting, wanting}
+use Rattle.sof_io.proofs.Places.{place, some_place, first_of, changed, first_of-found, changed-found, first_of-missing, changed-missing}
+use Rattle.sof_io.proofs.NextBytes.{next_bytes-none}
 
 -- the input of a slot
 abbrev pub is_input : ℕ → InputView → Bool
 is_input slot input = eqb input.slot slot
 
-taken-place : (slot n : ℕ) (inputs : List InputView) (d : InputView) → place (is_input slot) inputs < length inputs → taken slot n inputs ≡ set inputs (place (is_input slot) inputs) (after_input n (get_or inputs (place (is_input slot) inputs) d))
-taken-place slot n [] d h = absurd (omega arith)
-taken-place slot n (input ∷ inputs) d h =
-    elim (cases_Bool (eqb input.slot slot)) [
-      | inl same ↦ rw same refl
-      | inr other ↦
-          let h' : suc (place (is_input slot) inputs) < suc (length inputs) = rw other at h in
-          rw other (ap (λ (rest : List InputView). input ∷ rest) (taken-place slot n inputs d (omega arith)))
-    ]
-
-left_at-place : (slot : ℕ) (inputs : List InputView) (d : InputView) → place (is_input slot) inputs < length inputs → left_at slot inputs ≡ (get_or inputs (place (is_input slot) inputs) d).left
-left_at-place slot [] d h = absurd (omega arith)
-left_at-place slot (input ∷ inputs) d h =
-    elim (cases_Bool (eqb input.slot slot)) [
-      | inl same ↦ rw same refl
-      | inr other ↦
-          let h' : suc (place (is_input slot) inputs) < suc (length inputs) = rw other at h in
-          rw other (left_at-place slot inputs d (omega arith))
-    ]
-
--- the input at the place that was found is moved on
-pub taken-found : (slot n k : ℕ) (inputs : List InputView) (before after : InputView) → position (is_input slot) inputs ≡ Some k → before ≡ get_or inputs k before → after ≡ after_input n before → set inputs k after ≡ taken slot n inputs
-taken-found slot n k inputs before after found is moved =
-    let p = place_found (is_input slot) inputs k found in
-    let e = taken-place slot n inputs before p.1 in
-    rw (p.0, ← is, ← moved) at (sym e)
-
--- and gives its bytes
-pub given-found : (slot n k : ℕ) (inputs : List InputView) (before : InputView) (bytes : List ℕ) → position (is_input slot) inputs ≡ Some k → before ≡ get_or inputs k before → bytes ≡ next_bytes n before.left → bytes ≡ given slot n inputs
-given-found slot n k inputs before bytes found is e =
-    let p = place_found (is_input slot) inputs k found in
-    let l = left_at-place slot inputs before p.1 in
-    let l' : left_at slot inputs ≡ before.left = rw (p.0, ← is) at l in
-    e ∙ ap (next_bytes n) (sym l')
+-- an input whose slot is above a slot
+abbrev pub is_above : ℕ → InputView → Bool
+is_above slot input = ltb slot input.slot
 
 -- a slot is there exactly where an input has it
 pub has_input : (slot : ℕ) (inputs : List InputView) → list_any (is_input slot) inputs ≡ has_slot slot (input_slots inputs)
 has_input slot [] = refl
 has_input slot (input ∷ inputs) = ap (λ (b : Bool). eqb input.slot slot || b) (has_input slot inputs)
 
-not_there : (slot : ℕ) (inputs : List InputView) → position (is_input slot) inputs ≡ None → has_slot slot (input_slots inputs) ≡ false
+pub not_there : (slot : ℕ) (inputs : List InputView) → position (is_input slot) inputs ≡ None → has_slot slot (input_slots inputs) ≡ false
 not_there slot inputs none = sym (some_place (is_input slot) inputs ∙ has_input slot inputs) ∙ ap is_some none
 
--- where none was found, the slot is unknown
+-- ---- bytes taken of a slot, put behind it, or no more to come
+
+taken-is : (slot n : ℕ) (inputs : List InputView) → changed (is_input slot) (after_input n) inputs ≡ taken slot n inputs
+taken-is slot n [] = refl
+taken-is slot n (input ∷ inputs) = ap (λ (rest : List InputView). cond (eqb input.slot slot) (after_input n input ∷ inputs) (input ∷ rest)) (taken-is slot n inputs)
+
+pub filled_at-is : (slot : ℕ) (piece : List ℕ) (inputs : List InputView) → changed (is_input slot) (fuller_input piece) inputs ≡ filled_at slot piece inputs
+filled_at-is slot piece [] = refl
+filled_at-is slot piece (input ∷ inputs) = ap (λ (rest : List InputView). cond (eqb input.slot slot) (fuller_input piece input ∷ inputs) (input ∷ rest)) (filled_at-is slot piece inputs)
+
+pub ended_at-is : (slot : ℕ) (inputs : List InputView) → changed (is_input slot) ended_input inputs ≡ ended_at slot inputs
+ended_at-is slot [] = refl
+ended_at-is slot (input ∷ inputs) = ap (λ (rest : List InputView). cond (eqb input.slot slot) (ended_input input ∷ inputs) (input ∷ rest)) (ended_at-is slot inputs)
+
+-- the input at the place that was found is changed
+pub taken-found : (slot n k : ℕ) (inputs : List InputView) (before after : InputView) → position (is_input slot) inputs ≡ Some k → before ≡ get_or inputs k before → after ≡ after_input n before → set inputs k after ≡ taken slot n inputs
+taken-found slot n k inputs before after found is moved = changed-found (is_input slot) (after_input n) k inputs before after found is moved ∙ taken-is slot n inputs
+
+pub filled_at-found : (slot k : ℕ) (piece : List ℕ) (inputs : List InputView) (before after : InputView) → position (is_input slot) inputs ≡ Some k → before ≡ get_or inputs k before → after ≡ fuller_input piece before → set inputs k after ≡ filled_at slot piece inputs
+filled_at-found slot k piece inputs before after found is fuller = changed-found (is_input slot) (fuller_input piece) k inputs before after found is fuller ∙ filled_at-is slot piece inputs
+
+pub ended_at-found : (slot k : ℕ) (inputs : List InputView) (before after : InputView) → position (is_input slot) inputs ≡ Some k → before ≡ get_or inputs k before → after ≡ ended_input before → set inputs k after ≡ ended_at slot inputs
+ended_at-found slot k inputs before after found is ended = changed-found (is_input slot) ended_input k inputs before after found is ended ∙ ended_at-is slot inputs
+
+-- where none was found, nothing changes
 pub taken-missing : (slot n : ℕ) (inputs : List InputView) → position (is_input slot) inputs ≡ None → taken slot n inputs ≡ inputs
-taken-missing slot n inputs none = taken-unknown slot n inputs (not_there slot inputs none)
+taken-missing slot n inputs none = sym (taken-is slot n inputs) ∙ changed-missing (is_input slot) (after_input n) inputs none
 
-pub given-missing : (slot n : ℕ) (inputs : List InputView) → position (is_input slot) inputs ≡ None → given slot n inputs ≡ replicate n 0
-given-missing slot n inputs none = given-unknown slot n inputs (not_there slot inputs none)
+pub filled_at-missing : (slot : ℕ) (piece : List ℕ) (inputs : List InputView) → position (is_input slot) inputs ≡ None → filled_at slot piece inputs ≡ inputs
+filled_at-missing slot piece inputs none = sym (filled_at-is slot piece inputs) ∙ changed-missing (is_input slot) (fuller_input piece) inputs none
 
-any_reversed : (slot : ℕ) (slots : List ℕ) → list_any (eqb slot) slots ≡ has_slot slot slots
-any_reversed slot [] = refl
-any_reversed slot (other ∷ slots) = rw (nat_eq_equiv.symm slot other, any_reversed slot slots) refl
+pub ended_at-missing : (slot : ℕ) (inputs : List InputView) → position (is_input slot) inputs ≡ None → ended_at slot inputs ≡ inputs
+ended_at-missing slot inputs none = sym (ended_at-is slot inputs) ∙ changed-missing (is_input slot) ended_input inputs none
 
--- a slot that was not there leaves the slots distinct
-pub distinct_more : (slot : ℕ) (bytes : List ℕ) (inputs : List InputView) → IsDistinct eqb (input_slots inputs) → has_slot slot (input_slots inputs) ≡ false → IsDistinct eqb (input_slots (inputs ++ new_input slot bytes ∷ []))
-distinct_more slot bytes inputs h new =
-    subst (IsDistinct eqb) (sym (map_push (λ (input : InputView). input.slot) inputs (new_input slot bytes))) (IsDistinct-push nat_eq_equiv (input_slots inputs) slot h (any_reversed slot (input_slots inputs) ∙ new))
+-- ---- what is left of a slot, and whether more comes
 
-pub distinct_none : IsDistinct eqb []
-unfolding IsDistinct
-distinct_none = tt
+left_at-is : (slot : ℕ) (inputs : List InputView) → first_of (is_input slot) (λ (input : InputView). input.left) [] inputs ≡ left_at slot inputs
+left_at-is slot [] = refl
+left_at-is slot (input ∷ inputs) = ap (λ (rest : List ℕ). cond (eqb input.slot slot) input.left rest) (left_at-is slot inputs)
+
+has_ended-is : (slot : ℕ) (inputs : List InputView) → first_of (is_input slot) (λ (input : InputView). input.ended) false inputs ≡ has_ended slot inputs
+has_ended-is slot [] = refl
+has_ended-is slot (input ∷ inputs) = ap (λ (rest : Bool). cond (eqb input.slot slot) input.ended rest) (has_ended-is slot inputs)
+
+pub left_at-found : (slot k : ℕ) (inputs : List InputView) (here : InputView) → position (is_input slot) inputs ≡ Some k → here ≡ get_or inputs k here → left_at slot inputs ≡ here.left
+left_at-found slot k inputs here found is = sym (left_at-is slot inputs) ∙ first_of-found (is_input slot) (λ (input : InputView). input.left) [] k inputs here found is
+
+pub left_at-missing : (slot : ℕ) (inputs : List InputView) → position (is_input slot) inputs ≡ None → left_at slot inputs ≡ []
+left_at-missing slot inputs none = sym (left_at-is slot inputs) ∙ first_of-missing (is_input slot) (λ (input : InputView). input.left) [] inputs none
+
+pub has_ended-found : (slot k : ℕ) (inputs : List InputView) (here : InputView) → position (is_input slot) inputs ≡ Some k → here ≡ get_or inputs k here → has_ended slot inputs ≡ here.ended
+has_ended-found slot k inputs here found is = sym (has_ended-is slot inputs) ∙ first_of-found (is_input slot) (λ (input : InputView). input.ended) false k inputs here found is
+
+pub has_ended-missing : (slot : ℕ) (inputs : List InputView) → position (is_input slot) inputs ≡ None → has_ended slot inputs ≡ false
+has_ended-missing slot inputs none = sym (has_ended-is slot inputs) ∙ first_of-missing (is_input slot) (λ (input : InputView). input.ended) false inputs none
+
+-- its next bytes
+pub given-found : (slot n k : ℕ) (inputs : List InputView) (before : InputView) (bytes : List ℕ) → position (is_input slot) inputs ≡ Some k → before ≡ get_or inputs k before → bytes ≡ next_bytes n before.left → bytes ≡ bytes_given slot n inputs
+given-found slot n k inputs before bytes found is e = e ∙ ap (next_bytes n) (sym (left_at-found slot k inputs before found is))
+
+pub given-missing : (slot n : ℕ) (inputs : List InputView) → position (is_input slot) inputs ≡ None → bytes_given slot n inputs ≡ replicate n 0
+given-missing slot n inputs none = ap (next_bytes n) (left_at-missing slot inputs none) ∙ next_bytes-none n
+
+-- ---- the first that wants more
+
+wanting-is : (level : ℕ) (inputs : List InputView) → first_of (is_wanting level) (λ (input : InputView). Some input.slot) None inputs ≡ wanting level inputs
+wanting-is level [] = refl
+wanting-is level (input ∷ inputs) = ap (λ (rest : Option ℕ). cond (is_wanting level input) (Some input.slot) rest) (wanting-is level inputs)
+
+pub wanting-found : (level k : ℕ) (inputs : List InputView) (here : InputView) → position (is_wanting level) inputs ≡ Some k → here ≡ get_or inputs k here → wanting level inputs ≡ Some here.slot
+wanting-found level k inputs here found is = sym (wanting-is level inputs) ∙ first_of-found (is_wanting level) (λ (input : InputView). Some input.slot) None k inputs here found is
+
+pub wanting-missing : (level : ℕ) (inputs : List InputView) → position (is_wanting level) inputs ≡ None → wanting level inputs ≡ None
+wanting-missing level inputs none = sym (wanting-is level inputs) ∙ first_of-missing (is_wanting level) (λ (input : InputView). Some input.slot) None inputs none
+
+-- ---- one more slot
+
+-- a slot goes before the first that is above it
+pub with_input-place : (slot : ℕ) (inputs : List InputView) → insert inputs (place (is_above slot) inputs) (new_input slot) ≡ with_input slot inputs
+with_input-place slot [] = refl
+with_input-place slot (input ∷ inputs) =
+    elim (cases_Bool (ltb slot input.slot)) [
+      | inl above ↦ rw above refl
+      | inr below ↦ rw below (ap (λ (rest : List InputView). input ∷ rest) (with_input-place slot inputs))
+    ]

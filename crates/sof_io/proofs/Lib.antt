@@ -1,8 +1,10 @@
 mod Places
 pub mod NextBytes
+mod RoundBytes
+mod InputBytes
 mod InputPlaces
 mod OutputPlaces
-mod Ascending
+pub mod Ascending
 pub mod InputLaws
 pub mod OutputLaws
 pub mod RoomLaws

@@ -1,9 +1,10 @@
 -- The outputs after a piece was put, a slot was added, or all were drained.
-use Rattle.std.proofs.Common.{◌≡◌, ◌≢◌, ℕ, ◌+◌, ◌-◌, ◌^◌, Bool, true, false, ◌||◌, eqb, ltb, if◌then◌else◌, List, [], ◌∷◌, ◌++◌, length, refl, sym, ap, ◌∙◌, inl, inr, arith, length-append, append_assoc}
+use Rattle.std.proofs.Common.{◌≡◌, ◌≢◌, ℕ, ◌+◌, ◌-◌, ◌^◌, true, false, ◌||◌, eqb, ltb, if◌then◌else◌, List, [], ◌∷◌, ◌++◌, length, refl, sym, ap, ◌∙◌, inl, inr, arith, length-append, append_assoc}
 use Rattle.std.proofs.lemmas.Bool.{cases_Bool, eqb-true, ne_eqb, or_parts}
 use Rattle.sof_base.specs.Ports.{OutputView, drained}
 use Rattle.sof_io.specs.Bound.{output_slots, has_slot}
 use Rattle.sof_io.specs.Puts.{new_output, with_slot, bytes_at, room_at, with_piece}
+use Rattle.sof_io.proofs.Ascending.{slots_with, has_slot-slots_with}
 
 -- ---- a piece
 
@@ -146,17 +147,15 @@ drained-with_slot slot (output ∷ outputs) =
       | inr below ↦ rw below (ap (λ (rest : List OutputView). new_output output.slot ∷ rest) (drained-with_slot slot outputs))
     ]
 
-or_swap : (a b c : Bool) → (a || (b || c)) ≡ (b || (a || c))
-or_swap true true c = refl
-or_swap true false c = refl
-or_swap false true c = refl
-or_swap false false c = refl
+-- its slot is put in order
+pub slots-with_slot : (slot : ℕ) (outputs : List OutputView) → output_slots (with_slot slot outputs) ≡ slots_with slot (output_slots outputs)
+slots-with_slot slot [] = refl
+slots-with_slot slot (output ∷ outputs) =
+    elim (cases_Bool (ltb slot output.slot)) [
+      | inl above ↦ rw above refl
+      | inr below ↦ rw below (ap (λ (slots : List ℕ). output.slot ∷ slots) (slots-with_slot slot outputs))
+    ]
 
 -- it is there, and each other slot is there as before
 pub has_slot-with_slot : (other slot : ℕ) (outputs : List OutputView) → has_slot other (output_slots (with_slot slot outputs)) ≡ (eqb slot other || has_slot other (output_slots outputs))
-has_slot-with_slot other slot [] = refl
-has_slot-with_slot other slot (output ∷ outputs) =
-    elim (cases_Bool (ltb slot output.slot)) [
-      | inl above ↦ rw above refl
-      | inr below ↦ rw below (ap (λ (b : Bool). eqb output.slot other || b) (has_slot-with_slot other slot outputs) ∙ or_swap (eqb output.slot other) (eqb slot other) (has_slot other (output_slots outputs)))
-    ]
+has_slot-with_slot other slot outputs = ap (has_slot other) (slots-with_slot slot outputs) ∙ has_slot-slots_with other slot (output_slots outputs)

@@ -1,6 +1,6 @@
 -- The place that a search for a slot finds.
-use Rattle.std.proofs.Common.{◌≡◌, ℕ, suc, ◌+◌, ◌≤◌, ◌<◌, Bool, true, false, cond, ltb, List, [], ◌∷◌, length, Option, Some, None, is_some, unwrap_or, refl, inl, inr, arith}
-use Rattle.std.proofs.lemmas.Bool.{cases_Bool, cases_lt, ltb-true, lt-ltb, le-ltb}
+use Rattle.std.proofs.Common.{◌≡◌, ℕ, suc, ◌+◌, ◌≤◌, ◌<◌, Bool, true, false, cond, ltb, List, [], ◌∷◌, length, get_or, set, Option, Some, None, is_some, unwrap_or, refl, sym, ap, ◌∙◌, inl, inr, arith}
+use Rattle.std.proofs.lemmas.Bool.{cases_Bool, cases_lt, ltb-true, lt-ltb, le-ltb, or_parts}
 use Rattle.std.specs.List.{position, position_or_len, list_any}
 
 -- the first place that passes, or the length
@@ -81,3 +81,70 @@ place_or_length p xs =
 
 pub seen_at : {X : Type 0} (p : X → Bool) (xs seen : List X) (r : Option ℕ) → seen ≡ xs → r ≡ position p seen → r ≡ position p xs
 seen_at p xs seen r e f = cc
+
+-- ---- what stands at the first place that passes
+
+-- what is read of the first that passes, or something else where none does
+abbrev pub first_of : {X Y : Type 0} → (X → Bool) → (X → Y) → Y → List X → Y
+first_of p g none [] = none
+first_of p g none (x ∷ xs) = cond (p x) (g x) (first_of p g none xs)
+
+-- the list with the first that passes changed
+abbrev pub changed : {X : Type 0} → (X → Bool) → (X → X) → List X → List X
+changed p f [] = []
+changed p f (x ∷ xs) = cond (p x) (f x ∷ xs) (x ∷ changed p f xs)
+
+first_of-place : {X Y : Type 0} (p : X → Bool) (g : X → Y) (none : Y) (xs : List X) (d : X) → place p xs < length xs → first_of p g none xs ≡ g (get_or xs (place p xs) d)
+first_of-place p g none [] d h = absurd (omega arith)
+first_of-place p g none (x ∷ xs) d h =
+    elim (cases_Bool (p x)) [
+      | inl here ↦ rw here refl
+      | inr later ↦
+          let h' : suc (place p xs) < suc (length xs) = rw later at h in
+          rw later (first_of-place p g none xs d (omega arith))
+    ]
+
+changed-place : {X : Type 0} (p : X → Bool) (f : X → X) (xs : List X) (d : X) → place p xs < length xs → changed p f xs ≡ set xs (place p xs) (f (get_or xs (place p xs) d))
+changed-place p f [] d h = absurd (omega arith)
+changed-place {X} p f (x ∷ xs) d h =
+    elim (cases_Bool (p x)) [
+      | inl here ↦ rw here refl
+      | inr later ↦
+          let h' : suc (place p xs) < suc (length xs) = rw later at h in
+          rw later (ap (λ (rest : List X). x ∷ rest) (changed-place p f xs d (omega arith)))
+    ]
+
+first_of-none : {X Y : Type 0} (p : X → Bool) (g : X → Y) (none : Y) (xs : List X) → list_any p xs ≡ false → first_of p g none xs ≡ none
+first_of-none p g none [] e = refl
+first_of-none p g none (x ∷ xs) e =
+    let parts = or_parts (p x) (list_any p xs) e in
+    rw parts.0 (first_of-none p g none xs parts.1)
+
+changed-none : {X : Type 0} (p : X → Bool) (f : X → X) (xs : List X) → list_any p xs ≡ false → changed p f xs ≡ xs
+changed-none p f [] e = refl
+changed-none {X} p f (x ∷ xs) e =
+    let parts = or_parts (p x) (list_any p xs) e in
+    rw parts.0 (ap (λ (rest : List X). x ∷ rest) (changed-none p f xs parts.1))
+
+none_passes : {X : Type 0} (p : X → Bool) (xs : List X) → position p xs ≡ None → list_any p xs ≡ false
+none_passes p xs none = sym (some_place p xs) ∙ ap is_some none
+
+-- it stands at the place that was found
+pub first_of-found : {X Y : Type 0} (p : X → Bool) (g : X → Y) (none : Y) (k : ℕ) (xs : List X) (here : X) → position p xs ≡ Some k → here ≡ get_or xs k here → first_of p g none xs ≡ g here
+first_of-found p g none k xs here found is =
+    let at = place_found p xs k found in
+    let e = first_of-place p g none xs here at.1 in
+    rw (at.0, ← is) at e
+
+pub changed-found : {X : Type 0} (p : X → Bool) (f : X → X) (k : ℕ) (xs : List X) (before after : X) → position p xs ≡ Some k → before ≡ get_or xs k before → after ≡ f before → set xs k after ≡ changed p f xs
+changed-found p f k xs before after found is e =
+    let at = place_found p xs k found in
+    let there = changed-place p f xs before at.1 in
+    rw (at.0, ← is, ← e) at (sym there)
+
+-- and where none was found there is none
+pub first_of-missing : {X Y : Type 0} (p : X → Bool) (g : X → Y) (none : Y) (xs : List X) → position p xs ≡ None → first_of p g none xs ≡ none
+first_of-missing p g none xs missing = first_of-none p g none xs (none_passes p xs missing)
+
+pub changed-missing : {X : Type 0} (p : X → Bool) (f : X → X) (xs : List X) → position p xs ≡ None → changed p f xs ≡ xs
+changed-missing p f xs missing = changed-none p f xs (none_passes p xs missing)

@@ -1,11 +1,11 @@
 -- The positions of inputs stay in range.
-use Rattle.std.proofs.Common.{◌≡◌, ℕ, zero, suc, ◌+◌, ◌-◌, ◌^◌, ◌≤◌, ◌<◌, Bool, eqb, List, [], ◌∷◌, ◌++◌, length, get_or, refl, inl, inr, arith}
+use Rattle.std.proofs.Common.{ℕ, zero, suc, eqb, ltb, List, [], ◌∷◌, inl, inr, arith}
 use Rattle.std.proofs.lemmas.Bool.{cases_Bool}
-use Rattle.std.proofs.lemmas.List.Elements.{All-append}
 use Rattle.std.specs.Prelude.{All}
-use Rattle.sof_base.specs.Ports.{InputView, moved_on}
+use Rattle.sof_base.specs.Ports.{InputView}
 use Rattle.sof_io.specs.Bound.{HasPosition}
 use Rattle.sof_io.specs.Takes.{new_input, after_input, taken}
+use Rattle.sof_io.specs.Fills.{with_input, fuller_input, filled_at, ended_input, ended_at}
 
 positions-one : (input : InputView) (inputs : List InputView) → HasPosition input → All HasPosition inputs → All HasPosition (input ∷ inputs)
 positions-one input inputs first rest zero d lt = first
@@ -24,9 +24,32 @@ positions-none k d lt = absurd (omega (arith, lt))
 positions-after : (n : ℕ) (input : InputView) → HasPosition (after_input n input)
 positions-after n input = omega arith
 
--- a new input behind the others
-pub positions-more : (slot : ℕ) (bytes : List ℕ) (inputs : List InputView) → All HasPosition inputs → All HasPosition (inputs ++ new_input slot bytes ∷ [])
-positions-more slot bytes inputs all = All-append HasPosition inputs (new_input slot bytes ∷ []) all (positions-one (new_input slot bytes) [] (omega arith) positions-none)
+-- a new input among the others
+pub positions-with_input : (slot : ℕ) (inputs : List InputView) → All HasPosition inputs → All HasPosition (with_input slot inputs)
+positions-with_input slot [] all = positions-one (new_input slot) [] (omega arith) positions-none
+positions-with_input slot (input ∷ inputs) all =
+    elim (cases_Bool (ltb slot input.slot)) [
+      | inl above ↦ rw above (positions-one (new_input slot) (input ∷ inputs) (omega arith) all)
+      | inr below ↦ rw below (positions-one input (with_input slot inputs) (positions-first input inputs all) (positions-with_input slot inputs (positions-rest input inputs all)))
+    ]
+
+-- bytes put behind a slot
+pub positions-filled_at : (slot : ℕ) (piece : List ℕ) (inputs : List InputView) → All HasPosition inputs → All HasPosition (filled_at slot piece inputs)
+positions-filled_at slot piece [] all = positions-none
+positions-filled_at slot piece (input ∷ inputs) all =
+    elim (cases_Bool (eqb input.slot slot)) [
+      | inl same ↦ rw same (positions-one (fuller_input piece input) inputs (positions-first input inputs all) (positions-rest input inputs all))
+      | inr other ↦ rw other (positions-one input (filled_at slot piece inputs) (positions-first input inputs all) (positions-filled_at slot piece inputs (positions-rest input inputs all)))
+    ]
+
+-- no more to come of a slot
+pub positions-ended_at : (slot : ℕ) (inputs : List InputView) → All HasPosition inputs → All HasPosition (ended_at slot inputs)
+positions-ended_at slot [] all = positions-none
+positions-ended_at slot (input ∷ inputs) all =
+    elim (cases_Bool (eqb input.slot slot)) [
+      | inl same ↦ rw same (positions-one (ended_input input) inputs (positions-first input inputs all) (positions-rest input inputs all))
+      | inr other ↦ rw other (positions-one input (ended_at slot inputs) (positions-first input inputs all) (positions-ended_at slot inputs (positions-rest input inputs all)))
+    ]
 
 -- bytes taken of a slot
 pub positions-taken : (slot n : ℕ) (inputs : List InputView) → All HasPosition inputs → All HasPosition (taken slot n inputs)

@@ -1,5 +1,5 @@
 -- Which slots are bound.
-use Rattle.std.specs.Prelude.{ℕ, ◌==◌, ◌≤◌, ◌-◌, ◌^◌, Bool, List, [], ◌∷◌, map}
+use Rattle.std.specs.Prelude.{ℕ, ◌==◌, ◌≤◌, ◌-◌, ◌^◌, Bool, List, map}
 use Rattle.std.specs.List.{list_any}
 use Rattle.sof_base.specs.Ports.{InputView, OutputView}
 

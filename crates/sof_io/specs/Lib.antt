@@ -1,3 +1,5 @@
 pub mod Bound
 pub mod Takes
+pub mod Fills
+pub mod Round
 pub mod Puts

@@ -1,36 +1,51 @@
 // One input.
-ghost use Rattle.std.specs.Prelude.{◌≡◌, length};
+ghost use Rattle.std.specs.Prelude.{◌≡◌, ◌+◌, ◌≤◌, length, IfOk};
 ghost use Rattle.sof_io.specs.Takes.{new_input, after_input, next_bytes};
+ghost use Rattle.sof_io.specs.Fills.{fuller_input, ended_input};
 
+use crate::round::{after, copy_in, copy_out, grow};
+use sof_base::{INPUT_BYTES, NoMemory};
+use std::alloc::Global;
 use std::marker::Model;
 
-/// The bytes of one input. Contracts see its slot, its position and the bytes that are left.
+/// The bytes of one input, in memory that was reserved for them: the `held` bytes from `start` on, round the end. Contracts see
+/// its slot, its position, the bytes that are left and whether it has ended.
 #[derive(Debug, Drop)]
 pub struct Input {
     slot: u32,
     bytes: Vec<u8>,
+    start: usize,
+    held: usize,
     position: usize,
+    ended: bool,
 }
 
 impl Model for Input {
-    ghost use Rattle.std.specs.Prelude.{drop};
+    ghost use Rattle.std.specs.Prelude.{◌≤◌, vec_len, vec_capacity};
     ghost use Rattle.sof_base.specs.Ports.{InputView};
+    ghost use Rattle.sof_base.specs.declared.limits.TheConstants.{INPUT_BYTES};
+    ghost use Rattle.sof_io.specs.Round.{round_bytes, IsHeld};
 
     ghost Value = { InputView };
 
-    ghost view = { λ s. record { slot = s.slot; position = s.position; left = drop s.position s.bytes.items } };
+    ghost view = { λ s. record { slot = s.slot; position = s.position; left = round_bytes s.start s.held s.bytes.items; ended = s.ended } };
+
+    ghost invariant = { λ s. IsHeld s.start s.held (vec_len s.bytes) × (INPUT_BYTES ≤ vec_capacity s.bytes) };
 }
 
 impl Input {
-    /// An input from which no byte was taken.
-    pub fn new(slot: u32, bytes: Vec<u8>) -> Input
-        ensures { result ≡ new_input slot bytes.items }
+    /// An input with no bytes, and memory for [`INPUT_BYTES`].
+    pub fn new(alloc: Global, slot: u32) -> Result<Input, NoMemory>
+        ensures { IfOk result (λ input. input ≡ new_input slot) }
     {
-        Input {
+        Ok(Input {
             slot,
-            bytes,
+            bytes: Vec::with_capacity(alloc, INPUT_BYTES)?,
+            start: 0,
+            held: 0,
             position: 0,
-        }
+            ended: false,
+        })
     }
 
     /// The id of its endpoint's component.
@@ -40,16 +55,54 @@ impl Input {
         self.slot
     }
 
+    /// How many bytes are left.
+    pub fn held(&self) -> usize
+        ensures { result ≡ length self.now.left }
+    {
+        self.held
+    }
+
+    /// Whether no more bytes come.
+    pub fn ended(&self) -> bool
+        ensures { result ≡ self.now.ended }
+    {
+        self.ended
+    }
+
+    /// Puts a piece behind the bytes that are left. The memory is first written up to its end, and then again from its beginning.
+    pub fn fill(&mut self, piece: &[u8])
+        requires { length self.old.left + length piece.now ≤ INPUT_BYTES }
+        ensures { self.new ≡ fuller_input piece.now self.old }
+    {
+        let count = piece.len().min(INPUT_BYTES - self.bytes.len());
+        let (front, back) = piece.split_at(count);
+        grow(&mut self.bytes, front);
+        copy_in(
+            self.bytes.as_mut_slice(),
+            self.start,
+            self.held + count,
+            back,
+        );
+        self.held += piece.len();
+    }
+
+    /// No more bytes come.
+    pub fn end(&mut self)
+        ensures { self.new ≡ ended_input self.old }
+    {
+        self.ended = true;
+    }
+
     /// Fills `out` with the next bytes, and with zeros past the end. The position, in bytes, moves by the length of `out`, and stays at the greatest `usize`.
     pub fn take(&mut self, out: &mut [u8])
         ensures moved { self.new ≡ after_input (length out.old) self.old }
         ensures bytes { out.new ≡ next_bytes (length out.old) self.old.left }
     {
-        let start = self.position.min(self.bytes.len());
-        let left = &self.bytes[start..];
-        let count = left.len().min(out.len());
-        out[..count].copy_from_slice(&left[..count]);
+        let count = self.held.min(out.len());
+        copy_out(self.bytes.as_slice(), self.start, &mut out[..count]);
         out[count..].fill(0);
+        self.start = after(self.bytes.len(), self.start, count);
+        self.held -= count;
         self.position = self.position.saturating_add(out.len());
     }
 }

@@ -1,23 +1,26 @@
 // All inputs.
-ghost use Rattle.std.specs.Prelude.{◌≡◌, ◌==◌, ◌∷◌, ◌++◌, [], false, length, nat_eq, All, OnOk, OnErr, Ok, position};
+ghost use Rattle.std.specs.Prelude.{◌≡◌, ◌==◌, ◌+◌, ◌≤◌, [], true, false, length, nat_eq, nat_lt, All, OnOk, OnErr, Ok, position};
 ghost use Rattle.std.specs.List.{IsDistinct};
+ghost use Rattle.std.specs.List.Sorted.{IsStrictlyIncreasing};
 ghost use Rattle.sof_io.specs.Bound.{input_slots, has_slot, HasPosition};
-ghost use Rattle.sof_io.specs.Takes.{new_input, given, taken};
+ghost use Rattle.sof_io.specs.Takes.{bytes_given, taken};
+ghost use Rattle.sof_io.specs.Fills as fills;
+ghost use Rattle.sof_io.specs.Fills.{with_input, held_at, has_ended, filled_at, ended_at, is_wanting};
 
 use crate::input::Input;
-use sof_base::NoMemory;
+use sof_base::{INPUT_BYTES, NoMemory};
 use std::alloc::Global;
 use std::marker::Model;
 
-/// The inputs, in the order in which they were added. No two have the same slot.
+/// The inputs, by ascending slot. Each holds at most 1048576 bytes, in memory that was reserved for it.
 #[derive(Debug, Drop)]
 pub struct Inputs {
     inputs: Vec<Input>,
 }
 
 impl Model for Inputs {
-    ghost use Rattle.std.specs.Prelude.{List, nat_eq, All};
-    ghost use Rattle.std.specs.List.{IsDistinct};
+    ghost use Rattle.std.specs.Prelude.{List, All};
+    ghost use Rattle.std.specs.List.Sorted.{IsStrictlyIncreasing};
     ghost use Rattle.sof_base.specs.Ports.{InputView};
     ghost use Rattle.sof_io.specs.Bound.{input_slots, HasPosition};
 
@@ -25,7 +28,7 @@ impl Model for Inputs {
 
     ghost view = { λ s. s.inputs.items };
 
-    ghost invariant = { λ s. IsDistinct nat_eq (input_slots s.inputs.items) × All HasPosition s.inputs.items };
+    ghost invariant = { λ s. IsStrictlyIncreasing (input_slots s.inputs.items) × All HasPosition s.inputs.items };
 }
 
 impl Inputs {
@@ -41,6 +44,7 @@ impl Inputs {
     /// How many inputs there are.
     pub fn len(&self) -> usize
         ensures len { result ≡ length self.now }
+        ensures ascending { IsStrictlyIncreasing (input_slots self.now) }
         ensures distinct { IsDistinct nat_eq (input_slots self.now) }
         ensures within { All HasPosition self.now }
     {
@@ -62,21 +66,76 @@ impl Inputs {
         place_of(self.inputs.as_slice(), slot).is_some()
     }
 
-    /// One more input, with its bytes; its slot must not be there yet. Where memory is wanting, the inputs stay as they are.
-    pub fn add(&mut self, slot: u32, bytes: Vec<u8>) -> Result<(), NoMemory>
+    /// One more input, with memory for 1048576 bytes; its slot must not be there yet. Where memory is wanting, the inputs stay as they are.
+    pub fn add(&mut self, slot: u32) -> Result<(), NoMemory>
         requires { has_slot slot (input_slots self.old) ≡ false }
-        ensures ok { OnOk result (self.new ≡ self.old ++ new_input slot bytes.items ∷ []) }
+        ensures ok { OnOk result (self.new ≡ with_input slot self.old) }
         ensures err { OnErr result (self.new ≡ self.old) }
         ensures distinct { IsDistinct nat_eq (input_slots self.new) }
     {
-        self.inputs.push(Input::new(slot, bytes))?;
+        let input = Input::new(*self.inputs.allocator(), slot)?;
+        let place = place_above(self.inputs.as_slice(), slot).unwrap_or(self.inputs.len());
+        self.inputs.insert(place, input)?;
         Ok(())
+    }
+
+    /// How many bytes are left of a slot; none of an unknown slot.
+    pub fn held(&self, slot: u32) -> usize
+        ensures { result ≡ held_at slot self.now }
+    {
+        match place_of(self.inputs.as_slice(), slot) {
+            Some(k) => self.inputs[k].held(),
+            None => 0,
+        }
+    }
+
+    /// Puts a piece behind the bytes that are left of a slot. This takes no memory.
+    pub fn fill(&mut self, slot: u32, piece: &[u8])
+        requires there { has_slot slot (input_slots self.old) ≡ true }
+        requires open { has_ended slot self.old ≡ false }
+        requires fits { held_at slot self.old + length piece.now ≤ INPUT_BYTES }
+        ensures { self.new ≡ filled_at slot piece.now self.old }
+    {
+        if let Some(k) = place_of(self.inputs.as_slice(), slot) {
+            self.inputs[k].fill(piece);
+        }
+    }
+
+    /// No more bytes come of a slot; those that are left stay.
+    pub fn end(&mut self, slot: u32)
+        requires { has_slot slot (input_slots self.old) ≡ true }
+        ensures { self.new ≡ ended_at slot self.old }
+    {
+        if let Some(k) = place_of(self.inputs.as_slice(), slot) {
+            self.inputs[k].end();
+        }
+    }
+
+    /// Whether no more bytes come of a slot.
+    pub fn ended(&self, slot: u32) -> bool
+        requires { has_slot slot (input_slots self.now) ≡ true }
+        ensures { result ≡ has_ended slot self.now }
+    {
+        match place_of(self.inputs.as_slice(), slot) {
+            Some(k) => self.inputs[k].ended(),
+            None => false,
+        }
+    }
+
+    /// The first slot, by ascending slots, that holds fewer bytes than a level and has not ended.
+    pub fn wanting(&self, level: usize) -> Option<u32>
+        ensures { result ≡ fills.wanting level self.now }
+    {
+        match place_wanting(self.inputs.as_slice(), level) {
+            Some(k) => Some(self.inputs[k].slot()),
+            None => None,
+        }
     }
 
     /// Fills `out` with the slot's next bytes and moves on by its length. Past the end, and for an unknown slot, the bytes are zeros. This takes no memory.
     pub fn take(&mut self, slot: u32, out: &mut [u8])
         ensures inputs { self.new ≡ taken slot (length out.old) self.old }
-        ensures bytes { out.new ≡ given slot (length out.old) self.old }
+        ensures bytes { out.new ≡ bytes_given slot (length out.old) self.old }
     {
         match place_of(self.inputs.as_slice(), slot) {
             Some(k) => self.inputs[k].take(out),
@@ -90,4 +149,20 @@ fn place_of(inputs: &[Input], slot: u32) -> Option<usize>
     ensures { result ≡ position (λ input. nat_eq input.slot slot) inputs.now }
 {
     inputs.iter().position(|input| input.slot() == slot)
+}
+
+// The place of the first input whose slot is above a slot.
+fn place_above(inputs: &[Input], slot: u32) -> Option<usize>
+    ensures { result ≡ position (λ input. nat_lt slot input.slot) inputs.now }
+{
+    inputs.iter().position(|input| slot < input.slot())
+}
+
+// The place of the first input that holds fewer bytes than a level and has not ended.
+fn place_wanting(inputs: &[Input], level: usize) -> Option<usize>
+    ensures { result ≡ position (is_wanting level) inputs.now }
+{
+    inputs
+        .iter()
+        .position(|input| input.held() < level && !input.ended())
 }

@@ -218,7 +218,7 @@ Stands-tick_building f f' whole io io' moments stands move = record {
         ring b false = refl
 
     remade : InputView → InputView
-    remade x = record { slot = x.slot; position = number_of audio.positions x.slot; left = list_of audio.left x.slot }
+    remade x = record x { position = number_of audio.positions x.slot; left = list_of audio.left x.slot }
 
     bound_after : (slot : ℕ) → is_bound (io_after io audio).inputs slot ≡ is_among (map (λ x. x.slot) io.inputs) slot
     bound_after slot = list_any-keys (λ (x : InputView). x.slot) (map remade io.inputs) slot ∙ ap (λ l. is_among l slot) (keys-remade (λ (x : InputView). x.slot) remade (λ x. refl) io.inputs)

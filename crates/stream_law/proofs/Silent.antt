@@ -188,9 +188,9 @@ silent-tick f io silent single = record {
     histories = map-same (λ (h : History). record { comp = h.comp; numbers = list_of audio.numbers h.comp }) f.histories
         (all-from f.histories (λ h e. ap (λ numbers. record { comp = h.comp; numbers = numbers }) (unmoved.numbers h.comp ∙ e)) (keyed-values (λ (h : History). h.comp) (λ h. h.numbers) [] f.histories single.histories))
 
-    inputs : map (λ (x : InputView). record { slot = x.slot; position = number_of audio.positions x.slot; left = list_of audio.left x.slot }) io.inputs ≡ io.inputs
-    inputs = map-same (λ (x : InputView). record { slot = x.slot; position = number_of audio.positions x.slot; left = list_of audio.left x.slot }) io.inputs
-        (all-both io.inputs (λ x p l. ap (λ (q : ℕ × List ℕ). record { slot = x.slot; position = q.0; left = q.1 }) (λ i. ((unmoved.positions x.slot ∙ p) i, (unmoved.left x.slot ∙ l) i)))
+    inputs : map (λ (x : InputView). record x { position = number_of audio.positions x.slot; left = list_of audio.left x.slot }) io.inputs ≡ io.inputs
+    inputs = map-same (λ (x : InputView). record x { position = number_of audio.positions x.slot; left = list_of audio.left x.slot }) io.inputs
+        (all-both io.inputs (λ x p l. ap (λ (q : ℕ × List ℕ). record x { position = q.0; left = q.1 }) (λ i. ((unmoved.positions x.slot ∙ p) i, (unmoved.left x.slot ∙ l) i)))
         (keyed-values (λ (x : InputView). x.slot) (λ x. x.position) 0 io.inputs single.inputs) (keyed-values (λ (x : InputView). x.slot) (λ x. x.left) [] io.inputs single.inputs))
 
 -- and leads nowhere else

@@ -231,7 +231,7 @@ module _ (whole : List (ℕ × List ℕ)) (p : Past) (n : List (ℕ × ℕ)) (ne
       }
         where
           remade : InputView → InputView
-          remade x = record { slot = x.slot; position = number_of a.positions x.slot; left = list_of a.left x.slot }
+          remade x = record x { position = number_of a.positions x.slot; left = list_of a.left x.slot }
 
           bound_after : (slot : ℕ) → is_bound (io_after io a).inputs slot ≡ is_among bound slot
           bound_after slot = list_any-keys (λ (x : InputView). x.slot) (map remade io.inputs) slot ∙ ap (λ l. is_among l slot) (keys-remade (λ (x : InputView). x.slot) remade (λ x. refl) io.inputs)

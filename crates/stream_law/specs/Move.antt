@@ -2,7 +2,7 @@
 use Rattle.std.specs.Prelude.{◌≡◌, ℕ, ◌+◌, ◌-◌, ◌%◌, ◌^◌, List, [], ◌∷◌, ◌++◌, map, length, take, drop, ℤ, if◌then◌else◌}
 use Rattle.std.specs.Option.{option_map_or}
 use Rattle.sof_base.specs.Samples.{Frame, frames_in}
-use Rattle.sof_base.specs.Ports.{Io, moved_on}
+use Rattle.sof_base.specs.Ports.{Io, InputView, moved_on}
 use Rattle.stream_law.specs.State.{FwState, View, view_of}
 use Rattle.stream_law.specs.Table.{table, updated, list_of, number_of}
 use Rattle.stream_law.specs.Ways.{comp_of, channels_of}
@@ -116,7 +116,7 @@ state_after f a = record {
 -- and the endpoints after it; what is written to a slot that is not bound is dropped
 abbrev pub io_after : Io → Audio → Io
 io_after io a = record {
-  inputs = map (λ x. record { slot = x.slot; position = number_of a.positions x.slot; left = list_of a.left x.slot }) io.inputs;
+  inputs = map (λ (x : InputView). record x { position = number_of a.positions x.slot; left = list_of a.left x.slot }) io.inputs;
   outputs = map (λ x. record { slot = x.slot; bytes = x.bytes ++ list_of a.written x.slot }) io.outputs;
 }
 

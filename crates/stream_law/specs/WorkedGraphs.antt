@@ -105,9 +105,9 @@ machine_of graph streams rings io = record {
 abbrev pub empty_ring : ℕ → RingView
 empty_ring b = record { buffer = b; frames = [] }
 
--- an input of which nothing was read beside an empty output
+-- an input with all its bytes, of which nothing was taken, beside an empty output
 abbrev pub worked_ends : ℕ → List ℕ → ℕ → Io
-worked_ends from bytes to = record { inputs = record { slot = from; position = 0; left = bytes } ∷ []; outputs = record { slot = to; bytes = [] } ∷ [] }
+worked_ends from bytes to = record { inputs = record { slot = from; position = 0; left = bytes; ended = true } ∷ []; outputs = record { slot = to; bytes = [] } ∷ [] }
 
 -- the streams have these phases from now on
 abbrev pub machine_with : List StreamView → Machine → Machine
@@ -126,7 +126,7 @@ repeated (suc n) bytes = bytes ++ repeated n bytes
 -- the mix graph's inputs, of samples 1000 and of samples 1, and its output
 abbrev pub mix_io : Io
 mix_io = record {
-  inputs = record { slot = 0; position = 0; left = repeated 16 (232 ∷ 3 ∷ []) } ∷ record { slot = 3; position = 0; left = repeated 16 (1 ∷ 0 ∷ []) } ∷ [];
+  inputs = record { slot = 0; position = 0; left = repeated 16 (232 ∷ 3 ∷ []); ended = true } ∷ record { slot = 3; position = 0; left = repeated 16 (1 ∷ 0 ∷ []); ended = true } ∷ [];
   outputs = record { slot = 8; bytes = [] } ∷ [];
 }
 

@@ -1,7 +1,8 @@
-use Rattle.std.proofs.Common.{is_some, ◌∙◌, ap}
+use Rattle.std.proofs.Common.{List, is_some, subst, ◌∙◌, ap}
+use Rattle.std.specs.List.Sorted.{IsStrictlyIncreasing}
 use Rattle.sof_base.specs.Ports.{InputView}
-use Rattle.std.proofs.Common.{List}
 use Rattle.sof_io.specs.Bound.{input_slots, has_slot}
+use Rattle.sof_io.proofs.Ascending.{ascending_distinct}
 use Rattle.sof_io.proofs.Places.{seen_at, some_place}
 use Rattle.sof_io.proofs.InputPlaces.{is_input, has_input}
 use Rattle.sof_io.proofs.inputs.Inputs.has.Goals as goal
@@ -13,3 +14,6 @@ returns-clause-has c =
     ∙ some_place (is_input c.args.slot) c.self.inside.inputs.items
     ∙ has_input c.args.slot c.self.inside.inputs.items
     ∙ ap (λ (inputs : List InputView). has_slot c.args.slot (input_slots inputs)) c.self.view_is
+
+pub returns-clause-distinct : goal.returns-clause-distinct
+returns-clause-distinct c = ascending_distinct (input_slots c.args.self.now) (subst (λ (inputs : List InputView). IsStrictlyIncreasing (input_slots inputs)) c.self.view_is c.self.invariant.0)

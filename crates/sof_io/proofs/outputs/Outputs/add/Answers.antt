@@ -7,6 +7,7 @@ use Rattle.sof_io.specs.Puts.{with_slot}
 use Rattle.sof_io.proofs.Ascending.{ascending_more}
 use Rattle.sof_io.proofs.Places.{place, seen_at, place_or_length}
 use Rattle.sof_io.proofs.OutputPlaces.{is_above, with_slot-place}
+use Rattle.sof_io.proofs.OutputLaws.{slots-with_slot}
 use Rattle.sof_io.proofs.RoomLaws.{HasRoom-with_slot}
 use Rattle.sof_io.proofs.outputs.Outputs.add.Goals as goal
 
@@ -28,6 +29,6 @@ returns-clause-ok c = put_at c ∙ ap (with_slot c.args.slot) c.self.view_is
 pub invariant_of-self-2 : goal.invariant_of-self-2
 invariant_of-self-2 c =
     let new : has_slot c.args.slot (output_slots c.self.inside.outputs.items) ≡ false = ap (λ (outputs : List OutputView). has_slot c.args.slot (output_slots outputs)) c.self.view_is ∙ c.requires in (
-      subst (λ (outputs : List OutputView). IsStrictlyIncreasing (output_slots outputs)) (sym (put_at c)) (ascending_more c.args.slot c.self.inside.outputs.items c.self.invariant.0 new),
+      subst IsStrictlyIncreasing (sym (ap output_slots (put_at c) ∙ slots-with_slot c.args.slot c.self.inside.outputs.items)) (ascending_more c.args.slot (output_slots c.self.inside.outputs.items) c.self.invariant.0 new),
       subst (HasRoom 0) (sym (put_at c)) (HasRoom-with_slot 0 c.args.slot c.self.inside.outputs.items (omega arith) c.self.invariant.1),
     )

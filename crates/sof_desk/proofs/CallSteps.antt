@@ -1,12 +1,14 @@
 -- The steps of a call on a desk in memory are the call.
-use Rattle.std.proofs.Common.{◌≡◌, Bool, true, false, List, ℕ, refl, ◌∙◌, Option, is_none, ◌&&◌, find, if◌then◌else◌}
+use Rattle.std.proofs.Common.{◌≡◌, ◌≤◌, Bool, true, false, List, ℕ, length, take, min, refl, sym, ◌∙◌, Option, Some, None, option_map, is_some, is_none, ◌&&◌, find, if◌then◌else◌, length-take-le}
+use Rattle.std.specs.List.{position_or_len}
 use Rattle.sof_desk.specs.Counts.{one_more}
-use Rattle.sof_desk.specs.Desk.{Create, Put, Slot, Spoken}
+use Rattle.sof_desk.specs.Desk.{Create, Put, Open, Slot, Spoken}
 use Rattle.sof_desk.specs.Edits.{changed_first}
 use Rattle.sof_desk.specs.Room.{Room, room_with_piece, takes_whole}
 use Rattle.sof_desk.specs.HeldFiles.{HeldFile, named, tied, can_create, files_with_slot, file_with_piece, file_takes_whole}
+use Rattle.sof_desk.specs.OpenSlots.{can_open, with_opened, with_read}
 use Rattle.sof_desk.specs.Shelf.{Shelf}
-use Rattle.sof_desk.specs.ShelfCalls.{planned_passes, counted, shelf_does, shelf_with, ShelfActs}
+use Rattle.sof_desk.specs.ShelfCalls.{planned_passes, counted, shelf_holds, shelf_unread, shelf_does, shelf_with, ShelfActs, ShelfReads}
 
 -- a desk whose call was counted
 abbrev pub called : Shelf → Shelf
@@ -38,3 +40,27 @@ creates old mid at new planned slot name ok done files mid_is planned_is free do
 pub create_fails : (old mid at new : Shelf) (planned : Option ℕ) (slot : ℕ) (name : List ℕ) (ok done : Bool) → mid ≡ called old → planned ≡ planned_passes old → done ≡ is_none planned → is_none planned ≡ false → at ≡ mid → new ≡ answered at done → ok ≡ done → ShelfActs (Create slot name) ok old new
 create_fails old mid at new planned slot name ok done mid_is planned_is done_is plans at_is new_is ok_is =
     record { answer = ok_is ∙ done_is ∙ plans ∙ rw (← planned_is, plans) refl; after = rw (new_is, at_is, done_is, plans, mid_is, ← planned_is, plans) refl }
+
+pub opens : (old mid at new : Shelf) (planned : Option ℕ) (slot : ℕ) (name : List ℕ) (ok done : Bool) → mid ≡ called old → planned ≡ planned_passes old → is_none planned ≡ true → done ≡ (is_some (shelf_holds mid name) && can_open slot mid.opens) → at ≡ record mid { opens = if done then with_opened slot (position_or_len (named name) mid.files) mid.opens else mid.opens } → new ≡ answered at done → ok ≡ done → ShelfActs (Open slot name) ok old new
+opens old mid at new (Some passes) slot name ok done mid_is planned_is free done_is at_is new_is ok_is = cc
+opens old mid at new None slot name ok done mid_is planned_is free done_is at_is new_is ok_is =
+    record { answer = ok_is ∙ does; after = rw (new_is, at_is, mid_is) (by_does done does) }
+  where
+    does : done ≡ shelf_does old (Open slot name)
+    does = done_is ∙ rw (mid_is, ← planned_is) refl
+
+    by_does : (b : Bool) → b ≡ shelf_does old (Open slot name) → answered (record (called old) { opens = if b then with_opened slot (position_or_len (named name) old.files) old.opens else old.opens }) b ≡ counted (shelf_with old (Open slot name)) (shelf_does old (Open slot name))
+    by_does true is = rw (← is) refl
+    by_does false is = rw (← is) refl
+
+pub open_fails : (old mid at new : Shelf) (planned : Option ℕ) (slot : ℕ) (name : List ℕ) (ok done : Bool) → mid ≡ called old → planned ≡ planned_passes old → done ≡ is_none planned → is_none planned ≡ false → at ≡ mid → new ≡ answered at done → ok ≡ done → ShelfActs (Open slot name) ok old new
+open_fails old mid at new None slot name ok done mid_is planned_is done_is plans at_is new_is ok_is = cc
+open_fails old mid at new (Some passes) slot name ok done mid_is planned_is done_is plans at_is new_is ok_is =
+    record { answer = ok_is ∙ done_is ∙ rw (← planned_is) refl; after = rw (new_is, at_is, done_is, mid_is, ← planned_is) refl }
+
+pub reads : (old mid new : Shelf) (planned : Option ℕ) (slot size count : ℕ) (out : List ℕ) → mid ≡ called old → planned ≡ planned_passes old → planned ≡ None → count ≤ length out → option_map (take (min size mid.most)) (shelf_unread mid slot) ≡ Some (take count out) → new ≡ record mid { opens = with_read slot count mid.opens } → ShelfReads slot size (Some (take count out)) old new
+reads old mid new planned slot size count out mid_is planned_is free within got new_is =
+    record {
+      gets = rw (← planned_is, free) (sym (rw mid_is at got));
+      after = rw (new_is, mid_is, length-take-le count out within) refl;
+    }

@@ -1,5 +1,5 @@
 -- The first item of a list that passes a test.
-use Rattle.std.proofs.Common.{◌≡◌, ◌<◌, ◌≤◌, ℕ, zero, suc, Bool, true, false, List, [], ◌∷◌, ◌++◌, length, get_or, set, find, position, Some, None, refl, ap, map, arith}
+use Rattle.std.proofs.Common.{◌≡◌, ◌<◌, ◌≤◌, ◌+◌, ◌∙◌, ℕ, zero, suc, Bool, true, false, List, [], ◌∷◌, ◌++◌, length, get_or, set, find, position, slice_get, Some, None, refl, ap, map, arith, if◌then◌else◌}
 use Rattle.std.specs.List.{position_or_len}
 use Rattle.std.proofs.lemmas.List.Quantifiers.{position-Some}
 use Rattle.std.proofs.lemmas.List.{length-map}
@@ -75,3 +75,52 @@ position_or_len-map p f same (x ∷ xs) = rw (same x, position_or_len-map p f sa
 
 pub position-map : {X : Type 0} (p : X → Bool) (f : X → X) → ((x : X) → p (f x) ≡ p x) → (xs : List X) → position p (map f xs) ≡ position p xs
 position-map p f same xs = rw (position_or_len-map p f same xs, length-map xs f) refl
+
+-- an item that passes in the place of the first one is the first
+pub find-set : {X : Type 0} (p : X → Bool) (xs : List X) (i : ℕ) (d y : X) → IsFirst p xs i d → p y ≡ true → find p (set xs i y) ≡ Some y
+find-set p [] i d y first is = absurd (omega (arith, first.within))
+find-set p (x ∷ xs) zero d y first is = rw is refl
+find-set p (x ∷ xs) (suc i) d y first is =
+    rw (first.before 0 (omega arith)) (find-set p xs i d y (later p x xs i d first) is)
+
+-- an item and one in its place, neither of which passes
+pub find-set-beside : {X : Type 0} (q : X → Bool) (xs : List X) (i : ℕ) (d y : X) → i < length xs → q (get_or xs i d) ≡ false → q y ≡ false → find q (set xs i y) ≡ find q xs
+find-set-beside q [] i d y within was is = absurd (omega (arith, within))
+find-set-beside q (x ∷ xs) zero d y within was is = rw (was, is) refl
+find-set-beside q (x ∷ xs) (suc i) d y within was is =
+    let rest = find-set-beside q xs i d y (omega (arith, within)) was is in
+    elim (q x) as (λ b. (if b then Some x else find q (set xs i y)) ≡ (if b then Some x else find q xs)) [ true ↦ refl | false ↦ rest ]
+
+-- an item that does not pass, behind all others
+pub find-push : {X : Type 0} (q : X → Bool) (xs : List X) (y : X) → q y ≡ false → find q (xs ++ y ∷ []) ≡ find q xs
+find-push q [] y is = rw is refl
+find-push q (x ∷ xs) y is =
+    let rest = find-push q xs y is in
+    elim (q x) as (λ b. (if b then Some x else find q (xs ++ y ∷ [])) ≡ (if b then Some x else find q xs)) [ true ↦ refl | false ↦ rest ]
+
+-- what stands at the first place that passes is what is found
+pub slice_get-first : {X : Type 0} (p : X → Bool) (xs : List X) → slice_get xs (position_or_len p xs) ≡ find p xs
+slice_get-first p [] = refl
+slice_get-first {X} p (x ∷ xs) = by_test (p x) refl (slice_get-first p xs)
+  where
+    by_test : (b : Bool) → p x ≡ b → slice_get xs (position_or_len p xs) ≡ find p xs → slice_get (x ∷ xs) (position_or_len p (x ∷ xs)) ≡ find p (x ∷ xs)
+    by_test true passes rest = rw passes refl
+    by_test false fails rest =
+        rw fails (let behind : 1 + position_or_len p xs ≡ suc (position_or_len p xs) = omega arith in ap (slice_get (x ∷ xs)) behind ∙ rest)
+
+pub find-put_first : {X : Type 0} (p : X → Bool) (new : X) (xs : List X) → p new ≡ true → find p (put_first p new xs) ≡ Some new
+find-put_first p new [] is = rw is refl
+find-put_first p new (x ∷ xs) is = by_test (p x) refl (find-put_first p new xs is)
+  where
+    by_test : (b : Bool) → p x ≡ b → find p (put_first p new xs) ≡ Some new → find p (put_first p new (x ∷ xs)) ≡ Some new
+    by_test true passes rest = rw passes (rw is refl)
+    by_test false fails rest = rw fails (rw fails rest)
+
+pub find-put_first-beside : {X : Type 0} (q p : X → Bool) (new : X) (xs : List X) → q new ≡ false → ((x : X) → p x ≡ true → q x ≡ false) → find q (put_first p new xs) ≡ find q xs
+find-put_first-beside q p new [] is apart = rw is refl
+find-put_first-beside {X} q p new (x ∷ xs) is apart = by_test (p x) refl (find-put_first-beside q p new xs is apart)
+  where
+    by_test : (b : Bool) → p x ≡ b → find q (put_first p new xs) ≡ find q xs → find q (put_first p new (x ∷ xs)) ≡ find q (x ∷ xs)
+    by_test true passes rest = rw passes (rw (is, apart x passes) refl)
+    by_test false fails rest =
+        rw fails (elim (q x) as (λ b. (if b then Some x else find q (put_first p new xs)) ≡ (if b then Some x else find q xs)) [ true ↦ refl | false ↦ rest ])

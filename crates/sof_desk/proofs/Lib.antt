@@ -1,10 +1,12 @@
 pub mod First
 pub mod FoundAfter
 pub mod TiedFiles
+pub mod StillUnread
 pub mod Pieces
 pub mod ActsOfShelf
 pub mod CallSteps
 pub mod KnownTransfers
 pub mod OpenSlots
 pub mod OutFileLaws
+pub mod InFileLaws
 pub mod ActsOfReal

@@ -1,46 +1,24 @@
 -- What the files of a list were given, after one of them has changed.
-use Rattle.std.proofs.Common.{◌≡◌, ◌<◌, ◌+◌, ℕ, zero, suc, Bool, true, false, nat_eq, List, [], ◌∷◌, ◌++◌, length, get_or, set, find, position, Some, refl, sym, ◌∙◌, ap, subst, arith, if◌then◌else◌}
+use Rattle.std.proofs.Common.{◌≡◌, ◌<◌, ◌+◌, ℕ, zero, suc, true, false, nat_eq, List, [], ◌∷◌, ◌++◌, length, get_or, set, find, position, Some, refl, sym, ap, subst, arith, if◌then◌else◌}
 use Rattle.std.proofs.KnownBytes.{Keeps-refl, Keeps-trans}
 use Rattle.std.specs.Io.KnownBytes.{Keeps}
 use Rattle.std.specs.List.{AllWithin}
 use Rattle.sof_desk.specs.OutFiles.{OutView, given_of, given_at, SameBeside, SameGiven}
-use Rattle.sof_desk.proofs.First.{IsFirst, is_first, later, find-at}
-use Rattle.sof_desk.proofs.OpenSlots.{same_number}
-
--- whether a file is open under a slot
-abbrev pub under : ℕ → OutView → Bool
-under slot f = nat_eq f.slot slot
+use Rattle.sof_desk.proofs.First.{IsFirst, find-at, find-set}
+use Rattle.sof_desk.proofs.OpenSlots.{under, beside-set, beside-push}
 
 -- the file that stands in the place of the first one of its slot
-pub given-set : (slot : ℕ) (xs : List OutView) (i : ℕ) (d y : OutView) → IsFirst (under slot) xs i d → under slot y ≡ true → given_at slot (set xs i y) ≡ y.given
-given-set slot [] i d y first is = absurd (omega (arith, first.within))
-given-set slot (x ∷ xs) zero d y first is = rw is refl
-given-set slot (x ∷ xs) (suc i) d y first is =
-    rw (first.before 0 (omega arith)) (given-set slot xs i d y (later (under slot) x xs i d first) is)
+pub given-set : (slot : ℕ) (xs : List OutView) (i : ℕ) (d y : OutView) → IsFirst (under (λ f. f.slot) slot) xs i d → nat_eq y.slot slot ≡ true → given_at slot (set xs i y) ≡ y.given
+given-set slot xs i d y first is = ap given_of (find-set (under (λ f. f.slot) slot) xs i d y first is)
 
-pub given-at : (slot : ℕ) (xs : List OutView) (i : ℕ) (d : OutView) → IsFirst (under slot) xs i d → given_at slot xs ≡ (get_or xs i d).given
-given-at slot xs i d first = ap given_of (find-at (under slot) xs i d first)
-
--- a file and one in its place, neither of this slot
-pub beside-set : (other : ℕ) (xs : List OutView) (i : ℕ) (d y : OutView) → i < length xs → under other (get_or xs i d) ≡ false → under other y ≡ false → given_at other (set xs i y) ≡ given_at other xs
-beside-set other [] i d y within was is = absurd (omega (arith, within))
-beside-set other (x ∷ xs) zero d y within was is = rw (was, is) refl
-beside-set other (x ∷ xs) (suc i) d y within was is =
-    let rest = beside-set other xs i d y (omega (arith, within)) was is in
-    elim (under other x) as (λ b. given_of (if b then Some x else find (under other) (set xs i y)) ≡ given_of (if b then Some x else find (under other) xs)) [ true ↦ refl | false ↦ rest ]
-
--- a file of another slot behind all others
-pub beside-push : (other : ℕ) (xs : List OutView) (y : OutView) → under other y ≡ false → given_at other (xs ++ y ∷ []) ≡ given_at other xs
-beside-push other [] y is = rw is refl
-beside-push other (x ∷ xs) y is =
-    let rest = beside-push other xs y is in
-    elim (under other x) as (λ b. given_of (if b then Some x else find (under other) (xs ++ y ∷ [])) ≡ given_of (if b then Some x else find (under other) xs)) [ true ↦ refl | false ↦ rest ]
+pub given-at : (slot : ℕ) (xs : List OutView) (i : ℕ) (d : OutView) → IsFirst (under (λ f. f.slot) slot) xs i d → given_at slot xs ≡ (get_or xs i d).given
+given-at slot xs i d first = ap given_of (find-at (under (λ f. f.slot) slot) xs i d first)
 
 -- a file of the same slot that was given the same, in the place of one
 same_head : (slot : ℕ) (x y : OutView) (xs ys : List OutView) → y.slot ≡ x.slot → Keeps x.given y.given → Keeps (given_at slot xs) (given_at slot ys) → Keeps (given_at slot (x ∷ xs)) (given_at slot (y ∷ ys))
 same_head slot x y xs ys slots keeps rest =
-    subst (λ n. Keeps (given_of (if nat_eq x.slot slot then Some x else find (under slot) xs)) (given_of (if nat_eq n slot then Some y else find (under slot) ys))) (sym slots)
-    (elim (nat_eq x.slot slot) as (λ b. Keeps (given_of (if b then Some x else find (under slot) xs)) (given_of (if b then Some y else find (under slot) ys))) [ true ↦ keeps | false ↦ rest ])
+    subst (λ n. Keeps (given_of (if nat_eq x.slot slot then Some x else find (λ f. nat_eq f.slot slot) xs)) (given_of (if nat_eq n slot then Some y else find (λ f. nat_eq f.slot slot) ys))) (sym slots)
+    (elim (nat_eq x.slot slot) as (λ b. Keeps (given_of (if b then Some x else find (λ f. nat_eq f.slot slot) xs)) (given_of (if b then Some y else find (λ f. nat_eq f.slot slot) ys))) [ true ↦ keeps | false ↦ rest ])
 
 pub same-set : (xs : List OutView) (i : ℕ) (d y : OutView) → y.slot ≡ (get_or xs i d).slot → Keeps (get_or xs i d).given y.given → SameGiven xs (set xs i y)
 same-set [] i d y slots keeps slot = tt
@@ -62,10 +40,8 @@ none-set (x ∷ xs) (suc n) y within kept none (suc k) d low high =
     none-set xs n y (omega (arith, within)) kept (λ j e l h. none (suc j) e (omega arith) (omega (arith, h))) k d (omega arith) (omega (arith, high))
 
 -- a file in the place of the first one of its slot leaves the other slots alone
-pub beside : (slot : ℕ) (xs : List OutView) (i : ℕ) (y : OutView) → position (under slot) xs ≡ Some i → y.slot ≡ slot → SameBeside slot xs (set xs i y)
-beside slot xs i y found is other apart =
-    let first = is_first (under slot) xs i y found in
-    beside-set other xs i y y first.within (ap (λ n. nat_eq n other) (same_number _ _ first.passes) ∙ apart) (ap (λ n. nat_eq n other) is ∙ apart)
+pub beside : (slot : ℕ) (xs : List OutView) (i : ℕ) (y : OutView) → position (under (λ f. f.slot) slot) xs ≡ Some i → y.slot ≡ slot → SameBeside slot xs (set xs i y)
+beside slot xs i y found is other apart = ap given_of (beside-set (λ f. f.slot) slot xs i y found is other apart)
 
 pub beside_new : (slot : ℕ) (xs : List OutView) (y : OutView) → y.slot ≡ slot → SameBeside slot xs (xs ++ y ∷ [])
-beside_new slot xs y is other apart = beside-push other xs y (ap (λ n. nat_eq n other) is ∙ apart)
+beside_new slot xs y is other apart = ap given_of (beside-push (λ f. f.slot) slot xs y is other apart)

@@ -150,3 +150,15 @@ tied_after_create slot name files can = ap is_some (file_after_create slot name 
     some : (found : Option HeldFile) → can_create found ≡ true → is_some (option_map (file_with_slot slot) (option_map (without_slot slot) found)) ≡ true
     some None can' = cc
     some (Some file) can' = refl
+
+-- a file that takes a piece, gets a slot or leaves one is loaded as before
+pub loaded_by_piece : (slot : ℕ) (planned : Option ℕ) (piece : List ℕ) (file : HeldFile) → tied slot file ≡ true → loaded_of (Some (file_with_piece planned piece file)) ≡ loaded_of (Some file)
+loaded_by_piece slot planned piece file ties =
+    tied_not_loaded slot file.role _ ties ∙ sym (tied_not_loaded slot file.role _ ties)
+
+pub loaded_by_create : (slot : ℕ) (name : List ℕ) (files : List HeldFile) (file : HeldFile) → can_create (find (named name) files) ≡ true → find (named name) (map (without_slot slot) files) ≡ Some file → loaded_of (Some (file_with_slot slot file)) ≡ loaded_of (Some file)
+loaded_by_create slot name files file can found =
+    sym (output_not_loaded file.role file.room.bytes (output_named slot name files file can found))
+
+pub loaded_by_leave : (slot : ℕ) (file : HeldFile) → loaded_of (Some (without_slot slot file)) ≡ loaded_of (Some file)
+loaded_by_leave slot file = loaded_without slot file.role file.room.bytes

@@ -4,9 +4,11 @@ pub mod Edits
 pub mod Room
 pub mod Plans
 pub mod HeldFiles
+pub mod OpenSlots
 pub mod Shelf
 pub mod ShelfCalls
 pub mod OutFiles
+pub mod InFiles
 pub mod RealDesk
 pub mod Transfers
 pub mod Troubles

@@ -2,7 +2,7 @@
 use Rattle.std.specs.Prelude.{◌≡◌, ℕ, Bool, true, false, nat_eq, List, [], map, find, Option, Some, None}
 use Rattle.std.specs.List.{All}
 use Rattle.std.specs.Io.KnownBytes.{Keeps}
-use Rattle.sof_desk.specs.Desk.{DeskAct, Create, Put, Slot, Spoken}
+use Rattle.sof_desk.specs.Desk.{DeskAct, Create, Put, Open, Slot, Spoken}
 use Rattle.sof_desk.specs.Transfers.{Writes}
 
 -- the slot of a file, the bytes that the file was given where its writer tells them, and those of them that are not yet written
@@ -40,3 +40,4 @@ abbrev pub GivesFiles : DeskAct → Bool → List OutView → List OutView → T
 GivesFiles (Create slot name) done old new = SameBeside slot old new
 GivesFiles (Put (Slot slot) piece) done old new = Writes piece done (given_at slot old) (given_at slot new) × SameBeside slot old new
 GivesFiles (Put Spoken piece) done old new = SameGiven old new × (done ≡ true → NoneKept new)
+GivesFiles (Open slot name) done old new = new ≡ old

@@ -1,12 +1,14 @@
 -- What each call on a desk in memory does: for each call one answer and one desk after it, but for want of memory.
-use Rattle.std.specs.Prelude.{◌≡◌, ◌⊎◌, ℕ, Bool, nat_le, ◌&&◌, find, List, length, Option, Some, None, Ok, Err, is_some, is_none, MatchBool, if◌then◌else◌}
+use Rattle.std.specs.Prelude.{◌≡◌, ◌⊎◌, ℕ, min, Bool, nat_le, ◌&&◌, find, List, length, take, Option, Some, None, Ok, Err, is_some, is_none, option_map, MatchBool, if◌then◌else◌}
+use Rattle.std.specs.List.{position_or_len}
 use Rattle.sof_desk.specs.declared.calls.LoadFault.TheVariants.{Failed, TooLong, OutOfMemory}
 use Rattle.sof_desk.specs.Counts.{one_more}
-use Rattle.sof_desk.specs.Desk.{DeskMeaning, DeskPlace, Slot, Spoken, DeskAct, Create, Put, Heard}
+use Rattle.sof_desk.specs.Desk.{DeskMeaning, DeskPlace, Slot, Spoken, DeskAct, Create, Put, Open, Heard}
 use Rattle.sof_desk.specs.Edits.{changed_first}
 use Rattle.sof_desk.specs.Room.{room_with_piece, takes_whole}
 use Rattle.sof_desk.specs.Plans.{planned_at}
 use Rattle.sof_desk.specs.HeldFiles.{HeldFile, named, tied, loaded_of, appended_of, can_create, files_with_slot, file_with_piece, file_takes_whole}
+use Rattle.sof_desk.specs.OpenSlots.{is_opened, can_open, with_opened, with_read, left_under}
 use Rattle.sof_desk.specs.Shelf.{Shelf}
 
 -- what a name gives to be loaded
@@ -49,17 +51,37 @@ abbrev pub shelf_does : Shelf → DeskAct → Bool
 shelf_does s (Create slot name) = is_none (planned_passes s) && can_create (find (named name) s.files)
 shelf_does s (Put Spoken piece) = takes_whole s.said (planned_passes s) piece
 shelf_does s (Put (Slot slot) piece) = file_takes_whole (planned_passes s) piece (file_of_slot s slot)
+shelf_does s (Open slot name) = is_some (loadable s name) && can_open slot s.opens
 
--- a desk with what a call changes, but for the counts: a create that is not done changes nothing
+-- a desk with what a call changes, but for the counts: a create or an open that is not done changes nothing
 abbrev pub shelf_with : Shelf → DeskAct → Shelf
 shelf_with s (Create slot name) = if shelf_does s (Create slot name) then record s { files = files_with_slot slot name s.files } else s
 shelf_with s (Put Spoken piece) = record s { said = room_with_piece s.said (planned_passes s) piece }
 shelf_with s (Put (Slot slot) piece) = record s { files = changed_first (tied slot) (file_with_piece (planned_passes s) piece) s.files }
+shelf_with s (Open slot name) = if shelf_does s (Open slot name) then record s { opens = with_opened slot (position_or_len (named name) s.files) s.opens } else s
 
 -- what another call does: its answer, what it writes, and that a failure is counted
 pub record ShelfActs (act : DeskAct) (done : Bool) (old new : Shelf) : Type 0 where
   pub answer : done ≡ shelf_does old act
   pub after : new ≡ counted (shelf_with old act) (shelf_does old act)
+
+-- what is still to be read of a slot
+abbrev pub shelf_unread : Shelf → ℕ → Option (List ℕ)
+shelf_unread s slot = left_under slot s.opens s.files
+
+-- what a read gets: the next bytes, as many as were asked for and a read gives at most, and none where it is planned to fail
+abbrev pub shelf_gets : Shelf → (slot size : ℕ) → Option (List ℕ)
+shelf_gets s slot size = if is_some (planned_passes s) then None else option_map (take (min size s.most)) (shelf_unread s slot)
+
+-- a desk after a read, but for the counts
+abbrev pub shelf_past : Shelf → (slot : ℕ) (got : Option (List ℕ)) → Shelf
+shelf_past s slot None = s
+shelf_past s slot (Some bytes) = record s { opens = with_read slot (length bytes) s.opens }
+
+-- what a read does: what it gets, that its slot is read on, and that a failure is counted
+pub record ShelfReads (slot size : ℕ) (got : Option (List ℕ)) (old new : Shelf) : Type 0 where
+  pub gets : got ≡ shelf_gets old slot size
+  pub after : new ≡ counted (shelf_past old slot got) (is_some got)
 
 -- what a desk in memory means: it tells all
 abbrev pub shelf : DeskMeaning Shelf
@@ -69,6 +91,9 @@ shelf =
       holds = shelf_holds;
       wrote = shelf_wrote;
       created = λ s slot. is_some (file_of_slot s slot);
+      opened = λ s slot. is_opened slot s.opens;
+      unread = shelf_unread;
       load = ShelfLoads;
       act = ShelfActs;
+      read = ShelfReads;
     }

@@ -1,6 +1,6 @@
 // The calls that a program makes on the outside.
-ghost use Rattle.std.specs.Prelude.{◌≡◌, is_ok, true, MatchResult};
-ghost use Rattle.sof_desk.specs.Desk.{DeskMeaning, Loaded, Acted, Create, Put, Slot, Spoken};
+ghost use Rattle.std.specs.Prelude.{◌≡◌, ◌≤◌, is_ok, length, take, true, Some, None, MatchResult};
+ghost use Rattle.sof_desk.specs.Desk.{DeskMeaning, Loaded, Acted, WasRead, Create, Put, Open, Slot, Spoken};
 
 use std::alloc::Global;
 
@@ -19,8 +19,8 @@ pub enum LoadFault {
     OutOfMemory,
 }
 
-/// Where a program's files and lines are. No call changes what a name gives to be loaded, and the count of faults never
-/// falls.
+/// Where a program's files and lines are. No call changes what a name gives to be loaded or read, and the count of faults
+/// never falls.
 pub trait Desk {
     /// What the desk holds, what was written to it, its count of faults, and what each call does.
     ghost means: { DeskMeaning Self };
@@ -29,7 +29,7 @@ pub trait Desk {
     ///
     /// Ok is all its bytes, and never more than `limit` bytes, also where the desk tells no content. `TooLong`: the file
     /// has more than `limit` bytes. `Failed`: the count of faults rose. `OutOfMemory`: memory was wanting.
-    /// In every case what was written stays.
+    /// In every case what was written stays, and so does what is still to be read.
     fn load(&mut self, alloc: Global, name: &str, limit: usize) -> Result<Vec<u8>, LoadFault>
         ensures { MatchResult result
             (λ bytes. Loaded means name.now limit (Ok bytes.items) self.old self.new)
@@ -54,4 +54,23 @@ pub trait Desk {
     /// Ok: all its bytes were said. Err: the count of faults rose, and a prefix of the piece was said.
     fn say(&mut self, piece: &[u8]) -> Result<(), DeskFailed>
         ensures { Acted means (Put Spoken piece.now) (is_ok result) self.old self.new };
+
+    /// Opens the file of a name to be read under a slot, from its first byte, also where the slot was open before.
+    ///
+    /// Ok: the slot is open. Err: the count of faults rose, and every slot is as it was.
+    fn open(&mut self, slot: u32, name: &str) -> Result<(), DeskFailed>
+        ensures { Acted means (Open slot name.now) (is_ok result) self.old self.new };
+
+    /// Reads the next bytes of the file that is open under a slot into the front of `out`, which must have room for one.
+    ///
+    /// Ok is how many there are, and 0 is the end of the file. Err: the count of faults rose, and nothing was read.
+    fn read(&mut self, slot: u32, out: &mut [u8]) -> Result<usize, DeskFailed>
+        requires opened { means.opened self.old slot ≡ true }
+        requires room { 1 ≤ length out.old }
+        ensures { MatchResult result
+            (λ count. (count ≤ length out.new) × WasRead means slot (length out.old) (Some (take count out.new)) self.old self.new)
+            (λ fault. WasRead means slot (length out.old) None self.old self.new) };
 }
+
+/// How many slots a desk has room for to be read, and one over real files to be appended to.
+pub const SLOTS: usize = 130;

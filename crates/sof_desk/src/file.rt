@@ -1,7 +1,9 @@
 // The files that a desk in memory holds.
-ghost use Rattle.std.specs.Prelude.{◌≡◌, map, find, position, IfOk, OnOk, OnErr, MatchOption, None, if◌then◌else◌};
+ghost use Rattle.std.specs.Prelude.{◌≡◌, map, find, position, slice_get, is_some, IfOk, IfSome, OnOk, OnErr, MatchOption, None, if◌then◌else◌};
+ghost use Rattle.std.specs.List.{position_or_len};
 ghost use Rattle.sof_desk.specs.Edits.{changed_first, put_first};
 ghost use Rattle.sof_desk.specs.HeldFiles.{input_file, output_file, named, tied, loaded_of, bytes_in_role, is_output, can_create, without_slot, file_with_slot, files_with_slot, file_with_piece, file_takes_whole};
+ghost use Rattle.sof_desk.specs.OpenSlots.{read_of};
 ghost use Rattle.sof_desk.specs.Room.{takes_whole};
 
 use crate::store::Store;
@@ -146,6 +148,26 @@ pub fn file_of<'a>(files: &'a [MemFile], name: &str) -> Option<&'a MemFile>
     match place_of(files, name) {
         Some(place) => Some(&files[place]),
         None => None,
+    }
+}
+
+/// The place of the file of a name, where it is one that is loaded.
+pub fn input_of(files: &[MemFile], name: &str) -> Option<usize>
+    ensures some { is_some result ≡ is_some (loaded_of (find (named name.now) files.now)) }
+    ensures place { IfSome result (λ place. place ≡ position_or_len (named name.now) files.now) }
+{
+    let place = place_of(files, name)?;
+    files[place].loaded()?;
+    Some(place)
+}
+
+/// The bytes that are read of the file at a place.
+pub fn read_of(files: &[MemFile], place: usize) -> &[u8]
+    ensures { result.now ≡ read_of (slice_get files.now place) }
+{
+    match files.get(place) {
+        Some(file) => file.loaded().unwrap_or(&[]),
+        None => &[],
     }
 }
 

@@ -1,4 +1,4 @@
-//! The outside of a program: files that it loads, files that it creates and appends to, and lines that it says. One
+//! The outside of a program: files that it loads or reads, files that it creates and appends to, and lines that it says. One
 //! trait says what each call does, and two desks keep it: one in memory that tells all and fails by plan, and one over
 //! real files and standard output.
 #![tactic(auto)]
@@ -6,7 +6,9 @@
 mod calls;
 mod faults;
 mod file;
+mod in_file;
 mod mem;
+mod open_slot;
 mod os;
 mod out_file;
 mod plan;

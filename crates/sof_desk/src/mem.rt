@@ -1,17 +1,20 @@
 // A desk in memory, which tells all and fails by plan.
-ghost use Rattle.std.specs.Prelude.{◌≡◌, IfOk, OnOk, OnErr};
+ghost use Rattle.std.specs.Prelude.{◌≡◌, ◌≤◌, ◌&&◌, min, length, take, is_some, Some, None, option_map, IfOk, OnOk, OnErr, MatchOption, if◌then◌else◌};
+ghost use Rattle.std.specs.List.{position_or_len};
 ghost use Rattle.std.specs.Option.{option_copied};
 ghost use Rattle.sof_desk.specs.Counts.{one_more};
-ghost use Rattle.sof_desk.specs.HeldFiles.{input_file, output_file};
-ghost use Rattle.sof_desk.specs.Shelf.{empty_shelf, with_file, with_planned, file_bytes};
-ghost use Rattle.sof_desk.specs.ShelfCalls.{shelf, planned_passes};
+ghost use Rattle.sof_desk.specs.HeldFiles.{input_file, named, output_file};
+ghost use Rattle.sof_desk.specs.OpenSlots.{can_open, with_opened, with_read};
+ghost use Rattle.sof_desk.specs.Shelf.{empty_shelf, with_file, with_planned, with_most, file_bytes};
+ghost use Rattle.sof_desk.specs.ShelfCalls.{shelf, planned_passes, shelf_holds, shelf_unread};
 
-use crate::calls::{Desk, DeskFailed, LoadFault};
+use crate::calls::{Desk, DeskFailed, LoadFault, SLOTS};
 use crate::faults::Faults;
 use crate::file::MemFile;
+use crate::open_slot::OpenSlot;
 use crate::plan::Planned;
 use crate::store::Store;
-use crate::{file, plan};
+use crate::{file, open_slot, plan};
 use sof_base::NoMemory;
 use std::alloc::Global;
 use std::marker::Model;
@@ -22,6 +25,8 @@ use std::marker::Model;
 pub struct MemDesk {
     alloc: Global,
     files: Vec<MemFile>,
+    opens: Vec<OpenSlot>,
+    most: usize,
     said: Store,
     plans: Vec<Planned>,
     calls: u64,
@@ -29,27 +34,38 @@ pub struct MemDesk {
 }
 
 impl Model for MemDesk {
+    ghost use Rattle.std.specs.Prelude.{◌≤◌, vec_len, vec_capacity};
+    ghost use Rattle.sof_desk.specs.declared.calls.TheConstants.{SLOTS};
     ghost use Rattle.sof_desk.specs.Shelf.{Shelf};
 
     ghost Value = { Shelf };
 
     ghost view = { λ s. record {
       files = s.files.items;
+      opens = s.opens.items;
+      most = s.most;
       said = s.said;
       plans = s.plans.items;
       calls = s.calls;
       faults = s.faults;
     } };
+
+    ghost invariant = { λ s. record {
+      to_read : (vec_len s.opens ≤ SLOTS) × (SLOTS ≤ vec_capacity s.opens);
+      reads : 1 ≤ s.most;
+    } };
 }
 
 impl MemDesk {
-    /// A desk with no file, and room for `room` bytes to be said.
+    /// A desk with no file, room for `room` bytes to be said, and room for 130 open slots.
     pub fn new(alloc: Global, room: usize) -> Result<MemDesk, NoMemory>
         ensures { IfOk result (λ desk. desk ≡ empty_shelf room) }
     {
         Ok(MemDesk {
             alloc,
             files: Vec::new(alloc),
+            opens: Vec::with_capacity(alloc, SLOTS)?,
+            most: usize::MAX,
             said: Store::new(alloc, room)?,
             plans: Vec::new(alloc),
             calls: 0,
@@ -85,6 +101,14 @@ impl MemDesk {
         plan::put_in(&mut self.plans, Planned { number, passes })
     }
 
+    /// From here on a read gives at most `n` bytes; before the first such call it gives as many as it has room for.
+    pub fn read_at_most(&mut self, n: u32)
+        requires { 1 ≤ n }
+        ensures { self.new ≡ with_most self.old n }
+    {
+        self.most = n as usize;
+    }
+
     /// The bytes that the desk holds under a name: those of a file that was put, or those that were appended to an output.
     /// None exactly where the desk holds no such name.
     pub fn file(&self, name: &str) -> Option<&[u8]>
@@ -110,6 +134,37 @@ impl MemDesk {
     {
         self.calls = self.calls.saturating_add(1);
         plan::planned_at(&self.plans, self.calls)
+    }
+
+    /// Opens a slot at the file of a name, where it is one that is loaded and there is room for the slot, and tells whether it
+    /// did.
+    fn open_input(&mut self, slot: u32, name: &str) -> bool
+        ensures done { result ≡ (is_some (shelf_holds self.old name.now) && can_open slot self.old.opens) }
+        ensures after { self.new ≡ record self.old { opens = if result then with_opened slot (position_or_len (named name.now) self.old.files) self.old.opens else self.old.opens } }
+    {
+        match file::input_of(&self.files, name) {
+            Some(place) => open_slot::open_in(&mut self.opens, slot, place),
+            None => false,
+        }
+    }
+
+    /// Gives the next bytes of an open slot, and tells how many.
+    fn read_next(&mut self, slot: u32, out: &mut [u8]) -> Option<usize>
+        ensures { MatchOption result
+            ((shelf_unread self.old slot ≡ None) × (self.new ≡ self.old))
+            (λ count. record {
+              bound : count ≤ length out.new;
+              gets : option_map (take (min (length out.old) self.old.most)) (shelf_unread self.old slot) ≡ Some (take count out.new);
+              after : self.new ≡ record self.old { opens = with_read slot count self.old.opens };
+            }) }
+    {
+        let at = open_slot::place_of(&self.opens, slot)?;
+        let open = self.opens[at];
+        let bytes = file::read_of(&self.files, open.place);
+        let left = &bytes[open.position.min(bytes.len())..];
+        let count = open_slot::copy_front(left, out, self.most);
+        self.opens[at].position += count;
+        Some(count)
     }
 }
 
@@ -145,6 +200,27 @@ impl Desk for MemDesk {
         let planned = self.count_call();
         let done = file::append_in(&mut self.files, slot, piece, planned);
         self.faults.answer(done)
+    }
+
+    fn open(&mut self, slot: u32, name: &str) -> Result<(), DeskFailed> {
+        let planned = self.count_call();
+        let done = planned.is_none() && self.open_input(slot, name);
+        self.faults.answer(done)
+    }
+
+    fn read(&mut self, slot: u32, out: &mut [u8]) -> Result<usize, DeskFailed> {
+        let planned = self.count_call();
+        let count = match planned {
+            Some(_) => None,
+            None => self.read_next(slot, out),
+        };
+        match count {
+            Some(count) => Ok(count),
+            None => {
+                self.faults.count_one();
+                Err(DeskFailed)
+            }
+        }
     }
 
     fn say(&mut self, piece: &[u8]) -> Result<(), DeskFailed> {

@@ -2,8 +2,8 @@ use Rattle.std.proofs.Common.{◌∙◌, sym, ap, subst, nat_eq, is_ok}
 use Rattle.sof_desk.specs.OutFiles.{given_at}
 use Rattle.sof_desk.specs.Transfers.{Writes}
 use Rattle.sof_desk.proofs.First.{is_first}
-use Rattle.sof_desk.proofs.OpenSlots.{map-set-alike, same_number}
-use Rattle.sof_desk.proofs.OutFileLaws.{under, given-set, given-at, beside}
+use Rattle.sof_desk.proofs.OpenSlots.{under, map-set-alike, same_number}
+use Rattle.sof_desk.proofs.OutFileLaws.{given-set, given-at, beside}
 use Rattle.sof_desk.proofs.out_file.append_in.Goals as goal
 
 pub returns-in-Some-clause-slots : goal.returns-in-Some-clause-slots
@@ -14,7 +14,7 @@ pub returns-in-Some-clause-given : goal.returns-in-Some-clause-given
 returns-in-Some-clause-given g c =
     let files = c.args.files.now in
     let found = sym c.place_of.ensures ∙ c.in-Some.is in
-    let first = is_first (under c.args.slot) files c.in-Some.place c.index-files-place.result found in
+    let first = is_first (under (λ f. f.slot) c.args.slot) files c.in-Some.place c.index-files-place.result found in
     let passes = ap (λ n. nat_eq n c.args.slot) c.append.ensures.slot ∙ first.passes in
     subst (λ new. Writes c.args.piece.now (is_ok c.append.result) (given_at c.args.slot files) new)
     (sym (given-set c.args.slot files c.in-Some.place c.index-files-place.result c.append.new.self first passes))
@@ -26,5 +26,5 @@ pub returns-in-Some-clause-others : goal.returns-in-Some-clause-others
 returns-in-Some-clause-others g c =
     let files = c.args.files.now in
     let found = sym c.place_of.ensures ∙ c.in-Some.is in
-    let first = is_first (under c.args.slot) files c.in-Some.place c.index-files-place.result found in
+    let first = is_first (under (λ f. f.slot) c.args.slot) files c.in-Some.place c.index-files-place.result found in
     beside c.args.slot files c.in-Some.place c.append.new.self found (c.append.ensures.slot ∙ same_number _ _ first.passes)

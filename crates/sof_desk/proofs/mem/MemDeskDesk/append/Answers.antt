@@ -9,7 +9,7 @@ use Rattle.sof_desk.proofs.mem.MemDeskDesk.append.Goals as goal
 pub returns : goal.returns
 returns c =
     let inside = c.self.inside in
-    let mid : Shelf = record { files = inside.files.items; said = inside.said; plans = inside.plans.items; calls = inside.calls; faults = inside.faults } in
+    let mid : Shelf = record { files = inside.files.items; opens = inside.opens.items; most = inside.most; said = inside.said; plans = inside.plans.items; calls = inside.calls; faults = inside.faults } in
     let call = c.count_call-planned in
     let done = c.append_in-done in
     let files = done.new.files in

@@ -9,7 +9,7 @@ use Rattle.sof_desk.proofs.mem.MemDeskDesk.create.Goals.{then-is_none, else-is_n
 
 -- what a desk in memory means, by its fields
 abbrev view : Inside → Shelf
-view i = record { files = i.files.items; said = i.said; plans = i.plans.items; calls = i.calls; faults = i.faults }
+view i = record { files = i.files.items; opens = i.opens.items; most = i.most; said = i.said; plans = i.plans.items; calls = i.calls; faults = i.faults }
 
 pub returns : goal.returns
 returns c =

@@ -7,7 +7,7 @@ use Rattle.sof_desk.proofs.mem.MemDeskDesk.say.Goals as goal
 pub returns : goal.returns
 returns c =
     let inside = c.self.inside in
-    let mid : Shelf = record { files = inside.files.items; said = inside.said; plans = inside.plans.items; calls = inside.calls; faults = inside.faults } in
+    let mid : Shelf = record { files = inside.files.items; opens = inside.opens.items; most = inside.most; said = inside.said; plans = inside.plans.items; calls = inside.calls; faults = inside.faults } in
     let call = c.count_call-planned in
     let said = c.take-done.new.self in
     let new : Shelf = record mid { said = said; faults = c.answer.new.self } in

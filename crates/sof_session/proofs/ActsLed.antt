@@ -1,7 +1,6 @@
 -- Acts over a device, one after another: their calls, how many messages they send over a link, and that endpoints stay.
 use Rattle.std.proofs.Common.{◌≡◌, ap, ◌∙◌, ℕ, ◌+◌, ◌-◌, ◌≤◌, Bool, true, false, List, [], ◌∷◌, length, Option, Some, arith}
 use Rattle.sof_base.specs.Ports.{Io}
-use Rattle.sof_io.specs.Bound.{output_slots}
 use Rattle.stream_law.specs.State.{FwState}
 use Rattle.ipc3_codec.specs.Messages.{message_spelling}
 use Rattle.mbox_link.specs.Exchange.{ticks}
@@ -12,13 +11,13 @@ use Rattle.mbox_link.specs.Wire.{Wire}
 use Rattle.tplg_plan.specs.declared.plans.Plan.{Plan}
 use Rattle.host_widgets.specs.declared.kept.Record.{Record}
 use Rattle.host_widgets.specs.HostActs.{Act}
-use Rattle.host_widgets.specs.ActMessages.{message_of}
+use Rattle.host_widgets.specs.ActMessages.{act_message}
 use Rattle.host_widgets.specs.OneAct.{one_act}
 use Rattle.host_widgets.specs.Walk.{goes_past}
 use Rattle.host_widgets.specs.ActCalls.{ActsDid, Onwards}
 use Rattle.host_widgets.proofs.Exchanges as exchanges
 use Rattle.sof_session.proofs.LinkFates.{exchange_sent, more-few}
-use Rattle.sof_session.proofs.Writings.{ticks-slots}
+use Rattle.sof_session.proofs.Writings.{bound_ends, ticks-ends}
 
 module _ {D : Type 0} (means : Meaning D) (plan : Plan) (heap : ℕ) (on_refusal : Bool) where
   abbrev Did : Record → List Act → List Meeting → World D → World D → Type 0
@@ -31,7 +30,7 @@ module _ {D : Type 0} (means : Meaning D) (plan : Plan) (heap : ℕ) (on_refusal
   acts-led (act ∷ acts) (m ∷ ms) kept w v did =
       let a = one_act plan heap kept act m in
       let rest = by (goes_past on_refusal (one_act plan heap kept act m).outcome) (acts-led acts ms a.kept did.0 v) did.2 in
-      (Exchange (message_spelling (message_of plan act)) did.1.answer ∷ rest.0, (did.0, did.1.exchanged, rest.1))
+      (Exchange (message_spelling (act_message plan act)) did.1.answer ∷ rest.0, (did.0, did.1.exchanged, rest.1))
     where
       by : (b : Bool) → (Did (one_act plan heap kept act m).kept acts ms did.0 v → (calls : List Call) × Led means did.0 calls v) → Onwards b ms did.0 v (Did (one_act plan heap kept act m).kept acts ms did.0 v) → (calls : List Call) × Led means did.0 calls v
       by true rest on = rest on
@@ -51,7 +50,7 @@ module _ {D : Type 0} (means : Meaning D) (plan : Plan) (heap : ℕ) (on_refusal
   acts-io (act ∷ acts) [] kept w v did none s on = absurd did
   acts-io (act ∷ acts) (m ∷ ms) kept w v did none s on =
       let a = one_act plan heap kept act m in
-      let here = stays (message_spelling (message_of plan act)) did.1.answer w did.0 did.1.exchanged none s on in
+      let here = stays (message_spelling (act_message plan act)) did.1.answer w did.0 did.1.exchanged none s on in
       let still : means.pending did.0.device ≡ 0 = omega (arith, none, did.1.exchanged.steady.pending) in
       by (goes_past on_refusal a.outcome) (λ more. acts-io acts ms a.kept did.0 v more still here.1.0 here.1.1) did.2 ∙ here.0
     where
@@ -59,24 +58,24 @@ module _ {D : Type 0} (means : Meaning D) (plan : Plan) (heap : ℕ) (on_refusal
       by true rest on = rest on
       by false rest on = ap (λ (x : World D). x.io) on.1
 
-  -- and the slots of the outputs stay, whatever ticks come
-  keeps-slots : (request : List ℕ) (answer : Option (List ℕ)) (w v : World D) → Exchanged means request answer w v → (s : FwState) → means.on w.device ≡ Some s → (output_slots v.io.outputs ≡ output_slots w.io.outputs) × ((t : FwState) × (means.on v.device ≡ Some t))
-  keeps-slots request answer w v x s on =
+  -- and the slots stay, and which inputs have ended, whatever ticks come
+  keeps-ends : (request : List ℕ) (answer : Option (List ℕ)) (w v : World D) → Exchanged means request answer w v → (s : FwState) → means.on w.device ≡ Some s → (bound_ends v.io ≡ bound_ends w.io) × ((t : FwState) × (means.on v.device ≡ Some t))
+  keeps-ends request answer w v x s on =
       let c = exchanges.came means request answer w v s on x in
       let n = means.pending w.device - means.pending v.device in
-      (ap (λ (io : Io). output_slots io.outputs) c.endpoints ∙ ticks-slots n s w.io, exchanges.state_of (means.on v.device) (exchanges.Came-on means request answer w v (ticks n (s, w.io)) c))
+      (ap bound_ends c.endpoints ∙ ticks-ends n s w.io, exchanges.state_of (means.on v.device) (exchanges.Came-on means request answer w v (ticks n (s, w.io)) c))
 
-  pub acts-slots : (acts : List Act) (ms : List Meeting) (kept : Record) (w v : World D) → Did kept acts ms w v → (s : FwState) → means.on w.device ≡ Some s → output_slots v.io.outputs ≡ output_slots w.io.outputs
-  acts-slots [] ms kept w v did s on = ap (λ (x : World D). output_slots x.io.outputs) did.1
-  acts-slots (act ∷ acts) [] kept w v did s on = absurd did
-  acts-slots (act ∷ acts) (m ∷ ms) kept w v did s on =
+  pub acts-ends : (acts : List Act) (ms : List Meeting) (kept : Record) (w v : World D) → Did kept acts ms w v → (s : FwState) → means.on w.device ≡ Some s → bound_ends v.io ≡ bound_ends w.io
+  acts-ends [] ms kept w v did s on = ap (λ (x : World D). bound_ends x.io) did.1
+  acts-ends (act ∷ acts) [] kept w v did s on = absurd did
+  acts-ends (act ∷ acts) (m ∷ ms) kept w v did s on =
       let a = one_act plan heap kept act m in
-      let here = keeps-slots (message_spelling (message_of plan act)) did.1.answer w did.0 did.1.exchanged s on in
-      by (goes_past on_refusal a.outcome) (λ more. acts-slots acts ms a.kept did.0 v more here.1.0 here.1.1) did.2 ∙ here.0
+      let here = keeps-ends (message_spelling (act_message plan act)) did.1.answer w did.0 did.1.exchanged s on in
+      by (goes_past on_refusal a.outcome) (λ more. acts-ends acts ms a.kept did.0 v more here.1.0 here.1.1) did.2 ∙ here.0
     where
-      by : (b : Bool) → (Did (one_act plan heap kept act m).kept acts ms did.0 v → output_slots v.io.outputs ≡ output_slots did.0.io.outputs) → Onwards b ms did.0 v (Did (one_act plan heap kept act m).kept acts ms did.0 v) → output_slots v.io.outputs ≡ output_slots did.0.io.outputs
+      by : (b : Bool) → (Did (one_act plan heap kept act m).kept acts ms did.0 v → bound_ends v.io ≡ bound_ends did.0.io) → Onwards b ms did.0 v (Did (one_act plan heap kept act m).kept acts ms did.0 v) → bound_ends v.io ≡ bound_ends did.0.io
       by true rest on = rest on
-      by false rest on = ap (λ (x : World D). output_slots x.io.outputs) on.1
+      by false rest on = ap (λ (x : World D). bound_ends x.io) on.1
 
 -- ---- over a link
 
@@ -87,7 +86,7 @@ module _ {P : Type 0} (means : Meaning P) (plan : Plan) (heap : ℕ) where
   acts-sent on_refusal (act ∷ acts) [] kept w v did = absurd did
   acts-sent on_refusal (act ∷ acts) (m ∷ ms) kept w v did =
       let a = one_act plan heap kept act m in
-      let one = exchange_sent means (message_spelling (message_of plan act)) did.1.answer w did.0 did.1.exchanged in
+      let one = exchange_sent means (message_spelling (act_message plan act)) did.1.answer w did.0 did.1.exchanged in
       let rest = by (goes_past on_refusal a.outcome) (acts-sent on_refusal acts ms a.kept did.0 v) did.2 in
       omega (arith, one, more-few w.device.sent, rest)
     where

@@ -14,8 +14,8 @@ use Rattle.host_widgets.specs.declared.kept.Power.TheVariants.{Unloaded, On, Off
 use Rattle.host_widgets.specs.declared.kept.Record.{Record}
 use Rattle.tplg_plan.specs.Sound.{IsSound}
 use Rattle.host_widgets.specs.Host.{Agrees, Sides}
-use Rattle.host_widgets.specs.Keeps.{Keeps}
-use Rattle.host_widgets.specs.ViewOf.{view_by}
+use Rattle.host_widgets.specs.Keeps.{KeepsRecord}
+use Rattle.host_widgets.specs.ViewOf.{record_view}
 use Rattle.host_widgets.proofs.Records.{closed-record}
 use Rattle.sof_session.specs.Agreement.{AreAgreed, IsFated, Powered}
 use Rattle.sof_session.specs.Seat.{Seat, new_seat}
@@ -51,19 +51,19 @@ module _ {P : Type 0} (means : Meaning P) (old : Seat P) (wire : Wire P) (io io'
 
   module _ (kept : Record) (agree : Agrees (link means) old.plan kept wire) where
     abbrev pub Shows : Type 0
-    Shows = option_map view_of (means.on wire.device) ≡ Some (view_by old.plan kept)
+    Shows = option_map view_of (means.on wire.device) ≡ Some (record_view old.plan kept)
 
     -- it is on, and keeps the plan
     abbrev pub Here : Type 0
-    Here = (f : FwState) × (means.on wire.device ≡ Some f) × Keeps old.plan old.heap kept f
+    Here = (f : FwState) × (means.on wire.device ≡ Some f) × KeepsRecord old.plan old.heap kept f
 
     module _ (shows : Shows) where
       pub not-off : means.on wire.device ≡ None → Here
       not-off off = absurd (cc (sym (ap (option_map view_of) off) ∙ shows))
 
-      pub kept-here : (now : Record) (f : FwState) → means.on wire.device ≡ Some f → Keeps old.plan old.heap now f → Here
+      pub kept-here : (now : Record) (f : FwState) → means.on wire.device ≡ Some f → KeepsRecord old.plan old.heap now f → Here
       kept-here now f on keeps =
-          let same : Some (view_of f) ≡ Some (view_by old.plan kept) = ap (option_map view_of) (sym on) ∙ shows in
+          let same : Some (view_of f) ≡ Some (record_view old.plan kept) = ap (option_map view_of) (sym on) ∙ shows in
           (f, on, record { view = cc same; pieces = keeps.pieces; rings = keeps.rings })
 
       pub still-here : (power : Power) → Powered means old power → wire ≡ old.link → Here

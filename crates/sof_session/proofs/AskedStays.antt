@@ -1,7 +1,7 @@
--- A call that sends acts alone leaves the endpoints as they are where no tick is pending, and else their slots: one on a stream is so.
+-- A call that sends acts alone leaves the endpoints as they are where no tick is pending, and else their slots, and which inputs
+-- have ended: one on a stream is so.
 use Rattle.std.proofs.Common.{◌≡◌, ⊎_elim, ℕ, false, List, [], ◌∷◌, Option, Some, None, refl, ap, subst, ◌∙◌}
 use Rattle.sof_base.specs.Ports.{Io}
-use Rattle.sof_io.specs.Bound.{output_slots}
 use Rattle.stream_law.specs.Past.{Moment, Cut}
 use Rattle.mbox_link.specs.Calls.{World, Meaning, Led}
 use Rattle.mbox_link.specs.Link.{link}
@@ -21,9 +21,10 @@ use Rattle.host_pcm.specs.StreamOrders.{Asked, stream_order}
 use Rattle.sof_session.specs.Agreement.{AreAgreed, Powered}
 use Rattle.sof_session.specs.Seat.{Seat}
 use Rattle.sof_session.proofs.Agreement.{at}
-use Rattle.sof_session.proofs.ActsLed.{acts-io, acts-slots}
+use Rattle.sof_session.proofs.ActsLed.{acts-io, acts-ends}
 use Rattle.sof_session.proofs.OrderStands.{sending, last, plain-cuts}
 use Rattle.sof_session.proofs.SentOrders.{IsSent, sent-stream}
+use Rattle.sof_session.proofs.Writings.{bound_ends}
 
 module _ {P : Type 0} (means : Meaning P) (old : Seat P) (wire : Wire P) (io io' : Io) (agreed : AreAgreed means old) (kept : Record) (agree : Agrees (link means) old.plan kept wire) (result : Outcome) where
   abbrev w : World (Wire P)
@@ -57,13 +58,13 @@ module _ {P : Type 0} (means : Meaning P) (old : Seat P) (wire : Wire P) (io io'
         (ap (λ (x : World (Wire P)). (link means).pending x.device) c.first ∙ none) powered.0 (ap (λ (x : World (Wire P)). means.on x.device.device) c.first ∙ powered.1)
         ∙ ap (λ (x : World (Wire P)). x.io) c.first
 
-    slots-by : (power : Power) → Powered means old power → CarriedSo (sends power acts done answer) → output_slots v.io.outputs ≡ output_slots w.io.outputs
-    slots-by Unloaded off c = ap (λ (x : World (Wire P)). output_slots x.io.outputs) (c.ends.1 ∙ c.walked.1 ∙ c.first)
-    slots-by Off off c = ap (λ (x : World (Wire P)). output_slots x.io.outputs) (c.ends.1 ∙ c.walked.1 ∙ c.first)
-    slots-by On powered c =
-        ap (λ (x : Io). output_slots x.outputs) (last-io c)
-        ∙ acts-slots (link means) old.plan old.heap false acts c.meetings old.kept c.begun c.sent c.walked powered.0 (ap (λ (x : World (Wire P)). means.on x.device.device) c.first ∙ powered.1)
-        ∙ ap (λ (x : World (Wire P)). output_slots x.io.outputs) c.first
+    ends-by : (power : Power) → Powered means old power → CarriedSo (sends power acts done answer) → bound_ends v.io ≡ bound_ends w.io
+    ends-by Unloaded off c = ap (λ (x : World (Wire P)). bound_ends x.io) (c.ends.1 ∙ c.walked.1 ∙ c.first)
+    ends-by Off off c = ap (λ (x : World (Wire P)). bound_ends x.io) (c.ends.1 ∙ c.walked.1 ∙ c.first)
+    ends-by On powered c =
+        ap bound_ends (last-io c)
+        ∙ acts-ends (link means) old.plan old.heap false acts c.meetings old.kept c.begun c.sent c.walked powered.0 (ap (λ (x : World (Wire P)). means.on x.device.device) c.first ∙ powered.1)
+        ∙ ap (λ (x : World (Wire P)). bound_ends x.io) c.first
 
   -- by a test, and such an order where none fails
   module _ (test : Option HostFault) (o : Order) (sent : test ≡ None → IsSent old.kept o) (tested : Tested (link means) old.plan old.heap test o old.kept kept w v result) where
@@ -74,12 +75,12 @@ module _ {P : Type 0} (means : Meaning P) (old : Seat P) (wire : Wire P) (io io'
         by (Some fault) is = ap (λ (x : World (Wire P)). x.io) (tested.early fault is).1
         by None is = let s : IsSent old.kept o = sent is in by-power s.acts s.done s.answer none old.kept.power agreed.powered (subst (CarriedSo s.acts s.done s.answer) s.is (tested.late is))
 
-    pub sent-slots : output_slots io'.outputs ≡ output_slots io.outputs
-    sent-slots = by test refl
+    pub sent-ends : bound_ends io' ≡ bound_ends io
+    sent-ends = by test refl
       where
-        by : (t : Option HostFault) → test ≡ t → output_slots io'.outputs ≡ output_slots io.outputs
-        by (Some fault) is = ap (λ (x : World (Wire P)). output_slots x.io.outputs) (tested.early fault is).1
-        by None is = let s : IsSent old.kept o = sent is in slots-by s.acts s.done s.answer old.kept.power agreed.powered (subst (CarriedSo s.acts s.done s.answer) s.is (tested.late is))
+        by : (t : Option HostFault) → test ≡ t → bound_ends io' ≡ bound_ends io
+        by (Some fault) is = ap (λ (x : World (Wire P)). bound_ends x.io) (tested.early fault is).1
+        by None is = let s : IsSent old.kept o = sent is in ends-by s.acts s.done s.answer old.kept.power agreed.powered (subst (CarriedSo s.acts s.done s.answer) s.is (tested.late is))
 
   -- one without acts always does
   pub quiet-io : (test : Option HostFault) (answer : Answer) → Tested (link means) old.plan old.heap test (quiet answer) old.kept kept w v result → io' ≡ io
@@ -93,5 +94,5 @@ module _ {P : Type 0} (means : Meaning P) (old : Seat P) (wire : Wire P) (io io'
     pub asked-io : (link means).pending old.link ≡ 0 → io' ≡ io
     asked-io none = sent-io (early_fault old.plan old.kept name ask) (stream_order old.plan old.kept name ask) (λ none. sent-stream old.plan old.kept name ask) (record { early = asked.early; late = asked.late }) none
 
-    pub asked-slots : output_slots io'.outputs ≡ output_slots io.outputs
-    asked-slots = sent-slots (early_fault old.plan old.kept name ask) (stream_order old.plan old.kept name ask) (λ none. sent-stream old.plan old.kept name ask) (record { early = asked.early; late = asked.late })
+    pub asked-ends : bound_ends io' ≡ bound_ends io
+    asked-ends = sent-ends (early_fault old.plan old.kept name ask) (stream_order old.plan old.kept name ask) (λ none. sent-stream old.plan old.kept name ask) (record { early = asked.early; late = asked.late })

@@ -17,7 +17,7 @@ use Rattle.sof_session.specs.Agreement.{AreAgreed}
 use Rattle.sof_session.specs.CommandTests.{asking, fault_of}
 use Rattle.sof_session.specs.Commands.{Known, answer_by, is_plan, next, order_of, tested}
 use Rattle.sof_session.specs.Seat.{Seat}
-use Rattle.sof_session.specs.SessionStep.{Stepped}
+use Rattle.sof_session.specs.SessionStep.{CommandDone}
 use Rattle.sof_session.specs.SessionCalls.{StreamRan, ports}
 use Rattle.sof_session.proofs.Agreement.{at}
 use Rattle.sof_session.proofs.SentOrders.{sent-stream, stream-done}
@@ -46,7 +46,7 @@ calls-by command = tt
 -- ---- a call
 
 pub stream_stepped : {P : Type 0} (means : Meaning P) (old new : Seat P) (io io' : Io) → AreAgreed means old → old.link.sent < 2 ^ 63 → drained io.outputs ≡ io.outputs → (command : Command) (name : List ℕ) (ask : Ask) → IsCall command name ask →
-    (answer : Answer) → StreamRan means name ask old new io io' answer → Stepped means old.plan old.heap command old.kept new.kept (at old.link io) (at new.link io') answer
+    (answer : Answer) → StreamRan means name ask old new io io' answer → CommandDone means old.plan old.heap command old.kept new.kept (at old.link io) (at new.link io') answer
 stream_stepped means old new io io' agreed few empty command name ask call answer ran =
     sent_stepped means old new io io' agreed few empty command (early_fault old.plan old.kept name ask) (stream_order old.plan old.kept name ask)
     (record { nexts = call.nexts old.plan old.heap; plans = call.plans; tests = call.tests old.plan old.kept; orders = call.orders old.plan old.kept })

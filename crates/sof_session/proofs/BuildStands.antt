@@ -27,7 +27,7 @@ use Rattle.host_widgets.specs.declared.kept.StreamRec.{StreamRec}
 use Rattle.host_widgets.specs.Expected.{phase_of, stream_view}
 use Rattle.host_widgets.specs.Host.{IsRecordOf}
 use Rattle.host_widgets.specs.Kept.{first_record}
-use Rattle.host_widgets.specs.ViewOf.{view_by}
+use Rattle.host_widgets.specs.ViewOf.{record_view}
 use Rattle.host_widgets.specs.StateOf.{loaded_state}
 use Rattle.host_widgets.proofs.BuildingMoments.{AllOf, view_from, clock_from}
 use Rattle.host_widgets.proofs.Records.{closed-agrees, closed-silent}
@@ -226,7 +226,7 @@ module _ (heap : ℕ) where
 module _ (plan : Plan) (heap : ℕ) where
   -- the view of each act that passes: no stream runs or is paused
   abbrev pub rest_view : View
-  rest_view = view_by plan (first_record plan)
+  rest_view = record_view plan (first_record plan)
 
   pub rest-quiet : IsQuiet rest_view
   rest-quiet = record { silent = closed-silent Unloaded plan; agrees = closed-agrees Unloaded plan }
@@ -251,11 +251,11 @@ views-rest (s ∷ ss) (r ∷ rs) rest =
     ap (λ (b : Bool). b || list_any (λ (x : StreamView). is_live_phase x.phase) (map stream_view (zip ss rs))) parts.0 ∙ views-rest ss rs parts.1
 
 -- a record in which no stream runs or is paused
-pub record-quiet : (plan : Plan) (kept : Record) → list_any (λ s. is_live_phase (phase_of s.found)) kept.streams ≡ false → IsRecordOf plan kept → IsQuiet (view_by plan kept)
+pub record-quiet : (plan : Plan) (kept : Record) → list_any (λ s. is_live_phase (phase_of s.found)) kept.streams ≡ false → IsRecordOf plan kept → IsQuiet (record_view plan kept)
 record-quiet plan kept still is = record { silent = ap not (views-rest plan.streams kept.streams still); agrees = is.shapes }
 
 -- what a resume that was done leaves of it
-pub resumed-rests : {D : Type 0} (means : Meaning D) (plan : Plan) (heap : ℕ) (kept : Record) (clock : ℕ) (device : D) (r : Resumed means plan heap kept clock device) → list_any (λ s. is_live_phase (phase_of s.found)) kept.streams ≡ false → IsRecordOf plan kept → AtRest (view_by plan kept) clock r.state
+pub resumed-rests : {D : Type 0} (means : Meaning D) (plan : Plan) (heap : ℕ) (kept : Record) (clock : ℕ) (device : D) (r : Resumed means plan heap kept clock device) → list_any (λ s. is_live_phase (phase_of s.found)) kept.streams ≡ false → IsRecordOf plan kept → AtRest (record_view plan kept) clock r.state
 resumed-rests means plan heap kept clock device r still is = record {
   view = r.keeps.view;
   clock = r.clock;

@@ -12,7 +12,7 @@ use Rattle.host_widgets.specs.declared.kept.Record.{Record}
 use Rattle.host_widgets.specs.HostActs.{Act}
 use Rattle.host_widgets.specs.Host.{Outcome, Agrees, BroughtUp, ticks_put}
 use Rattle.host_widgets.specs.Kept.{all_closed, first_record, with_power}
-use Rattle.host_widgets.specs.Orders.{Order, Carried, Tested, brought_end, sends, load_fault, loading, resuming, suspending, unload_fault, unloading}
+use Rattle.host_widgets.specs.Orders.{Order, Carried, Tested, brought_end, sends, fault_of_load, loading, resuming, suspending, unload_fault, unloading}
 use Rattle.host_widgets.specs.StateOf.{loaded_state}
 use Rattle.host_widgets.proofs.LoadEnds.{failed-off}
 use Rattle.host_widgets.proofs.LoadOrders.{unloading_at}
@@ -73,8 +73,8 @@ module _ {P : Type 0} (means : Meaning P) (old : Seat P) (wire : Wire P) (io io'
   left-found c (Err fault) is left shows =
       off-found (failed-off (link means) old.plan old.heap old.kept agreed.sound agreed.agree.record_is.controls kept (at old.link io) (at wire io') result c fault is) shows
 
-  pub AreAgreed-loaded : Tested (link means) old.plan old.heap (load_fault old.kept.power) (loading old.plan old.kept) old.kept kept (at old.link io) (at wire io') result → BroughtUp (link means) old.plan old.heap (first_record old.plan) old.link result wire → AreAgreed means new
-  AreAgreed-loaded tested left = by-test (load_fault old.kept.power) (loading old.plan old.kept) tested (λ none c. left-found c result refl left)
+  pub AreAgreed-loaded : Tested (link means) old.plan old.heap (fault_of_load old.kept.power) (loading old.plan old.kept) old.kept kept (at old.link io) (at wire io') result → BroughtUp (link means) old.plan old.heap (first_record old.plan) old.link result wire → AreAgreed means new
+  AreAgreed-loaded tested left = by-test (fault_of_load old.kept.power) (loading old.plan old.kept) tested (λ none c. left-found c result refl left)
 
   -- ---- an unload
 

@@ -14,10 +14,10 @@ use Rattle.sof_session.specs.Agreement.{IsFated}
 use Rattle.sof_session.proofs.ActsLed.{acts-led}
 use Rattle.sof_session.proofs.LinkFates.{Led-inside, Steady-none, exchange_steady, exchange_fated, exchange_sent, exchange_entries, more-few}
 use Rattle.sof_session.proofs.StayedCounts.{Stayed, Stayed-between, none-rose}
-use Rattle.mbox_link.specs.Meetings.{Meeting, without}
+use Rattle.mbox_link.specs.Meetings.{Meeting, without_entry}
 use Rattle.host_widgets.specs.declared.kept.Record.{Record}
 use Rattle.host_widgets.specs.HostActs.{Act}
-use Rattle.host_widgets.specs.ActMessages.{message_of}
+use Rattle.host_widgets.specs.ActMessages.{act_message}
 use Rattle.host_widgets.specs.OneAct.{one_act}
 use Rattle.host_widgets.specs.Walk.{goes_past}
 use Rattle.host_widgets.specs.ActCalls.{ActDid, ActsDid, Onwards, Counted}
@@ -84,7 +84,7 @@ module _ {P : Type 0} (means : Meaning P) (plan : Plan) (heap : ℕ) where
   doing-calm goes_on (act ∷ acts) [] kept w v did fated few stayed number = refl
   doing-calm goes_on (act ∷ acts) (m ∷ ms) kept w v did fated few stayed number =
       let mid = did.0 in
-      let request = message_spelling (message_of plan act) in
+      let request = message_spelling (act_message plan act) in
       let a = one_act plan heap kept act m in
       let sent_is = exchange_sent means request did.1.answer w mid did.1.exchanged in
       let entries_is = exchange_entries means request did.1.answer w mid did.1.exchanged in
@@ -93,7 +93,7 @@ module _ {P : Type 0} (means : Meaning P) (plan : Plan) (heap : ℕ) where
       let none = Steady-none means w.device.device w.device.device refl in
       let still = Steady-none means v.device.device v.device.device refl in
       let fewer : mid.device.sent + length ms < 2 ^ 64 - 1 = omega (arith, few, sent_is, more-few w.device.sent) in
-      either (number == more w.device.sent) (own_fate (next_fate w.device) m.fate) (doing_by (more w.device.sent) (without (more w.device.sent) w.device.entries) ms number)
+      either (number == more w.device.sent) (own_fate (next_fate w.device) m.fate) (doing_by (more w.device.sent) (without_entry (more w.device.sent) w.device.entries) ms number)
       (own-calm kept act m w mid did.1 fated (omega (arith, few)) (Stayed-between means w.device.device w.device.device mid.device.device v.device.device none rest stayed) (next_fate w.device) refl)
       (subst (λ (x : ℕ × List Entry). doing_by x.0 x.1 ms number ≡ Pass) (λ i. (sent_is i, entries_is i))
       (calm-behind goes_on acts ms a.kept mid v number (goes_past goes_on a.outcome) did.2

@@ -15,7 +15,7 @@ use Rattle.mbox_link.specs.Meetings.{Meeting, Queue, Doing, queue_of, next_meeti
 use Rattle.host_widgets.specs.declared.kept.Record.{Record}
 use Rattle.host_widgets.specs.Walk.{Walked, walk}
 use Rattle.host_widgets.specs.ActCalls.{next_of, calls_of}
-use Rattle.host_widgets.specs.Orders.{Order, Carried, goes_on, end_by}
+use Rattle.host_widgets.specs.Orders.{Order, Carried, goes_on_after_refusal, end_by}
 use Rattle.sof_session.specs.Commands.{carried, answer_by}
 use Rattle.sof_session.specs.SessionStep.{known_of}
 use Rattle.sof_session.proofs.Doings.{doing_by, doing-so}
@@ -58,7 +58,7 @@ module _ {P : Type 0} (means : Meaning P) (heap : ℕ) where
     first = quietly o.first w c.begun c.first
 
     abbrev pub met : Walked (List Meeting)
-    met = walk plan heap (goes_on o.manner) next_of kept c.meetings o.acts
+    met = walk plan heap (goes_on_after_refusal o.manner) next_of kept c.meetings o.acts
 
     pub begun-quiet : means.pending c.begun.device.device ≡ 0
     begun-quiet = first.pending ∙ none
@@ -72,16 +72,16 @@ module _ {P : Type 0} (means : Meaning P) (heap : ℕ) where
     few-begun : c.begun.device.sent + length c.meetings < 2 ^ 64 - 1
     few-begun = omega (arith, few, first.sent)
 
-    agreed : Agreed means plan heap (goes_on o.manner) doing kept c.meetings o.acts c.begun c.sent
-    agreed = walks-agree means plan heap (goes_on o.manner) doing o.acts c.meetings kept c.begun c.sent c.walked (first.pending ∙ none) begun-fated.held
+    agreed : Agreed means plan heap (goes_on_after_refusal o.manner) doing kept c.meetings o.acts c.begun c.sent
+    agreed = walks-agree means plan heap (goes_on_after_refusal o.manner) doing o.acts c.meetings kept c.begun c.sent c.walked (first.pending ∙ none) begun-fated.held
         (doing-so c.begun.device.sent c.begun.device.entries c.meetings (omega (arith, few-begun)))
 
     abbrev pub written : Walked Queue
-    written = walk plan heap (goes_on o.manner) (next_meeting doing) kept (queue_of w.device) o.acts
+    written = walk plan heap (goes_on_after_refusal o.manner) (next_meeting doing) kept (queue_of w.device) o.acts
 
     -- the walk from the link's numbers at the start
     pub from-start : Same met written × (written.queue ≡ queue_of c.sent.device)
-    from-start = subst (λ (q : Queue). Same met (walk plan heap (goes_on o.manner) (next_meeting doing) kept q o.acts) × ((walk plan heap (goes_on o.manner) (next_meeting doing) kept q o.acts).queue ≡ queue_of c.sent.device))
+    from-start = subst (λ (q : Queue). Same met (walk plan heap (goes_on_after_refusal o.manner) (next_meeting doing) kept q o.acts) × ((walk plan heap (goes_on_after_refusal o.manner) (next_meeting doing) kept q o.acts).queue ≡ queue_of c.sent.device))
         first.queue (agreed.same, agreed.queue)
 
     pub carried-known : known_of v.device kept' ≡ (carried plan heap doing (known_of w.device kept) o).known
@@ -95,7 +95,7 @@ module _ {P : Type 0} (means : Meaning P) (heap : ℕ) where
 
     -- and where the device's counts did not rise, it did nothing of its own accord
     pub carried-calm : Stayed means w.device.device v.device.device → (number : ℕ) → doing number ≡ Pass
-    carried-calm stayed = doing-calm means plan heap (goes_on o.manner) o.acts c.meetings kept c.begun c.sent c.walked begun-fated few-begun
+    carried-calm stayed = doing-calm means plan heap (goes_on_after_refusal o.manner) o.acts c.meetings kept c.begun c.sent c.walked begun-fated few-begun
         (Stayed-between means w.device.device c.begun.device.device c.sent.device.device v.device.device
         (Led-inside means (calls_of heap o.first) w c.begun c.first)
         (Led-inside means (calls_of heap (end_by o.manner plan o.done kept met.kept met.outcome).1) c.sent v c.ends.1) stayed)

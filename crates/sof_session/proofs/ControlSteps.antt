@@ -27,7 +27,7 @@ use Rattle.host_widgets.specs.Orders.{Order, quiet, sends}
 use Rattle.host_widgets.proofs.ControlLists.{Takes, takes-by}
 use Rattle.host_widgets.proofs.WalksHold.{AreTaken, none-taken}
 use Rattle.host_ctl.specs.ControlAsks.{channels_of, spread, named_control, set_fault, installing_fault, bytes_fault, get_fault, read_fault}
-use Rattle.host_ctl.specs.ControlOrders.{MayInstall, setting_order, set_order, installing_order, bytes_order, told, named_at, get_order, said_by, ask_acts, reading_order, read_order, outcome_of}
+use Rattle.host_ctl.specs.ControlOrders.{MayInstall, setting_order, set_order, installing_order, bytes_order, control_told, named_at, get_order, control_answer, ask_acts, reading_order, read_order, outcome_of}
 use Rattle.host_ctl.specs.ControlPlaces.{control_place, control_here, record_here}
 use Rattle.host_ctl.proofs.ControlTests.{loaded, place-low}
 use Rattle.host_ctl.proofs.ControlsThere.{live, at-here, was-here, named-here, lost-here}
@@ -65,7 +65,7 @@ pub sent-set : (plan : Plan) (kept : Record) (name values : List ℕ) → IsSent
 sent-set plan kept name values = sent-setting plan kept values (named_control plan name)
 
 pub sent-get : (plan : Plan) (kept : Record) (name : List ℕ) → IsSent kept (get_order plan kept name)
-sent-get plan kept name = sent-quiet kept (told (named_at plan kept name))
+sent-get plan kept name = sent-quiet kept (control_told (named_at plan kept name))
 
 -- bytes that may be installed have few parts
 few-installed : (kind : ControlKind) (blob : List ℕ) → MayInstall kind blob → length (part_numbers blob) ≤ 4
@@ -93,7 +93,7 @@ few-asks comp (Choice items) c takes = omega arith
 few-asks comp (Blob most initial) c takes = omega (arith, few-kept c.blob takes, length-map (part_numbers c.blob) (Ask comp))
 
 sent-asks : (kept : Record) (k : ControlPlan) (c : ControlRec) → Takes k.kind c → IsSent kept (reading_order kept (Some (k, c)))
-sent-asks kept k c takes = record { acts = ask_acts k.comp k.kind c; done = λ now. now; answer = said_by k.kind c; is = refl; few = few-asks k.comp k.kind c takes }
+sent-asks kept k c takes = record { acts = ask_acts k.comp k.kind c; done = λ now. now; answer = control_answer k.kind c; is = refl; few = few-asks k.comp k.kind c takes }
 
 pub sent-read : (plan : Plan) → IsSound plan → (kept : Record) → IsRecordOf plan kept → (name : List ℕ) → IsSent kept (read_order plan kept name)
 sent-read plan sound kept is name = by (control_place plan name) refl

@@ -13,7 +13,7 @@ use Rattle.mbox_link.specs.Fates.{IsError}
 use Rattle.host_widgets.specs.declared.answers.HostFault.TheVariants.{Refused}
 use Rattle.host_widgets.specs.Host.{errno, judged, verdict}
 use Rattle.host_widgets.proofs.ReplyErrors.{decoded-error, negative-fits}
-use Rattle.mbox_link.specs.Meetings.{Meeting, Doing, met_by, planned, without}
+use Rattle.mbox_link.specs.Meetings.{Meeting, Doing, fate_met, planned, without_entry}
 use Rattle.host_widgets.specs.OneAct.{own}
 use Rattle.host_widgets.specs.ActCalls.{came_to}
 
@@ -31,7 +31,7 @@ abbrev pub DidSo : Doing → ℕ → List Entry → List Meeting → Type 0
 DidSo doing sent entries [] = Unit {0}
 DidSo doing sent entries (m ∷ ms) =
     let fate = (planned entries (more sent)).fate in
-    (met_by fate (doing (more sent)) ≡ met_by fate m.fate) × DidSo doing (more sent) (without (more sent) entries) ms
+    (fate_met fate (doing (more sent)) ≡ fate_met fate m.fate) × DidSo doing (more sent) (without_entry (more sent) entries) ms
 
 -- what it did where a message was planned to pass
 abbrev pub own_fate : Fate → Fate → Fate
@@ -40,7 +40,7 @@ own_fate (Refuse e) fate = Pass
 own_fate Drop fate = Pass
 own_fate Lose fate = Pass
 
-met-own : (fate own : Fate) → met_by fate (own_fate fate own) ≡ met_by fate own
+met-own : (fate own : Fate) → fate_met fate (own_fate fate own) ≡ fate_met fate own
 met-own Pass own = refl
 met-own (Refuse e) own = refl
 met-own Drop own = refl
@@ -51,15 +51,15 @@ abbrev pub doing_by : ℕ → List Entry → List Meeting → Doing
 doing_by sent entries [] number = Pass
 doing_by sent entries (m ∷ ms) number =
     if number == more sent then own_fate (planned entries (more sent)).fate m.fate
-    else doing_by (more sent) (without (more sent) entries) ms number
+    else doing_by (more sent) (without_entry (more sent) entries) ms number
 
 -- only later numbers count
 same-later : (d e : Doing) (sent : ℕ) (entries : List Entry) (ms : List Meeting) → sent + length ms < 2 ^ 64 - 1 → ((number : ℕ) → sent < number → d number ≡ e number) → DidSo e sent entries ms → DidSo d sent entries ms
 same-later d e sent entries [] few same so = tt
 same-later d e sent entries (m ∷ ms) few same so =
     let one_more : more sent ≡ sent + 1 = omega (arith, few) in (
-      ap (met_by (planned entries (more sent)).fate) (same (more sent) (omega (arith, one_more))) ∙ so.0,
-      same-later d e (more sent) (without (more sent) entries) ms (omega (arith, few, one_more)) (λ number later. same number (omega (arith, later, one_more))) so.1,
+      ap (fate_met (planned entries (more sent)).fate) (same (more sent) (omega (arith, one_more))) ∙ so.0,
+      same-later d e (more sent) (without_entry (more sent) entries) ms (omega (arith, few, one_more)) (λ number later. same number (omega (arith, later, one_more))) so.1,
     )
 
 pub doing-so : (sent : ℕ) (entries : List Entry) (ms : List Meeting) → sent + length ms < 2 ^ 64 - 1 → DidSo (doing_by sent entries ms) sent entries ms
@@ -67,10 +67,10 @@ doing-so sent entries [] few = tt
 doing-so sent entries (m ∷ ms) few =
     let one_more : more sent ≡ sent + 1 = omega (arith, few) in
     let fate = (planned entries (more sent)).fate in (
-      ap (λ (b : Bool). met_by fate (if b then own_fate fate m.fate else doing_by (more sent) (without (more sent) entries) ms (more sent))) (nat_eq_equiv.refl (more sent)) ∙ met-own fate m.fate,
-      same-later (doing_by sent entries (m ∷ ms)) (doing_by (more sent) (without (more sent) entries) ms) (more sent) (without (more sent) entries) ms (omega (arith, few, one_more))
-          (λ number later. ap (λ (b : Bool). if b then own_fate fate m.fate else doing_by (more sent) (without (more sent) entries) ms number) (other number later))
-          (doing-so (more sent) (without (more sent) entries) ms (omega (arith, few, one_more))),
+      ap (λ (b : Bool). fate_met fate (if b then own_fate fate m.fate else doing_by (more sent) (without_entry (more sent) entries) ms (more sent))) (nat_eq_equiv.refl (more sent)) ∙ met-own fate m.fate,
+      same-later (doing_by sent entries (m ∷ ms)) (doing_by (more sent) (without_entry (more sent) entries) ms) (more sent) (without_entry (more sent) entries) ms (omega (arith, few, one_more))
+          (λ number later. ap (λ (b : Bool). if b then own_fate fate m.fate else doing_by (more sent) (without_entry (more sent) entries) ms number) (other number later))
+          (doing-so (more sent) (without_entry (more sent) entries) ms (omega (arith, few, one_more))),
     )
   where
     other : (number : ℕ) → more sent < number → (number == more sent) ≡ false

@@ -9,7 +9,7 @@ use Rattle.host_widgets.specs.Kept.{all_closed}
 use Rattle.host_widgets.specs.StateOf.{loaded_state}
 use Rattle.host_widgets.specs.declared.kept.Power.TheVariants.{On}
 use Rattle.host_widgets.specs.declared.kept.Record.{Record}
-use Rattle.host_widgets.specs.Keeps.{Keeps}
+use Rattle.host_widgets.specs.Keeps.{KeepsRecord}
 
 -- ---- rings
 
@@ -30,7 +30,7 @@ empty-rings (e ∷ edges) = λ i. e.buffer ∷ empty-rings edges i
 
 -- ---- after a load
 
-pub Keeps-loaded : (plan : Plan) (heap clock : ℕ) → Keeps plan heap (all_closed On plan) (loaded_state plan heap clock)
+pub Keeps-loaded : (plan : Plan) (heap clock : ℕ) → KeepsRecord plan heap (all_closed On plan) (loaded_state plan heap clock)
 Keeps-loaded plan heap clock = record { view = refl; pieces = refl; rings = empty-rings plan.graph.edges }
 
 -- ---- after a tick
@@ -39,7 +39,7 @@ module _ (plan : Plan) (heap : ℕ) (kept : Record) (f : FwState) (a : Audio) wh
   abbrev ring_after : RingView → RingView
   ring_after r = record { buffer = r.buffer; frames = list_of a.rings r.buffer }
 
-  pub Keeps-moved : Keeps plan heap kept f → Keeps plan heap kept (state_after f a)
+  pub Keeps-moved : KeepsRecord plan heap kept f → KeepsRecord plan heap kept (state_after f a)
   Keeps-moved keeps = record {
     view = keeps.view;
     pieces = keeps.pieces;

@@ -11,6 +11,12 @@ pub mod RunBoots
 pub mod StepCounts
 pub mod FewOrders
 pub mod RunLegs
+pub mod FilledInputs
+pub mod InputMoves
+pub mod WholeBytes
+pub mod CommandMoves
+pub mod StepMoves
+pub mod FilledRuns
 pub mod Doings
 pub mod LinkWalks
 pub mod CalmDoings

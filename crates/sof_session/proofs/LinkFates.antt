@@ -2,7 +2,7 @@
 use Rattle.std.proofs.Common.{◌≡◌, ℕ, ◌+◌, ◌≤◌, ◌<◌, ◌^◌, replicate, List, [], ◌∷◌, Option, refl, sym, ap, subst, arith}
 use Rattle.mbox_link.specs.declared.fates.Fate.{Fate}
 use Rattle.mbox_link.specs.declared.fates.Fate.TheVariants.{Pass, Refuse, Drop, Lose}
-use Rattle.mbox_link.specs.Meetings.{without}
+use Rattle.mbox_link.specs.Meetings.{without_entry}
 use Rattle.mbox_link.specs.Exchange.{more}
 use Rattle.mbox_link.specs.Calls.{World, Meaning, Call, Boot, Cut, Exchange, Tick, Did, Led, Exchanged, Steady}
 use Rattle.mbox_link.specs.Wire.{Wire}
@@ -72,7 +72,7 @@ module _ {P : Type 0} (means : Meaning P) where
     pub exchange_sent : v.device.sent ≡ more w.device.sent
     exchange_sent = ap (λ (wire : Wire P). wire.sent) x.did.1
 
-    pub exchange_entries : v.device.entries ≡ without (more w.device.sent) w.device.entries
+    pub exchange_entries : v.device.entries ≡ without_entry (more w.device.sent) w.device.entries
     exchange_entries = ap (λ (wire : Wire P). wire.entries) x.did.1
 
   -- a call

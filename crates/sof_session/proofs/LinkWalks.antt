@@ -12,12 +12,12 @@ use Rattle.mbox_link.specs.Link.{link, inner, Met, next_fate, next_lag, after_me
 use Rattle.mbox_link.proofs.FateLaws.{AreHeld-without, lags-planned, planned-meant}
 use Rattle.tplg_plan.specs.declared.plans.Plan.{Plan}
 use Rattle.host_widgets.specs.Host.{verdict}
-use Rattle.mbox_link.specs.Meetings.{Meeting, Queue, Doing, lags, met_by, next_meeting, queue_of, without}
+use Rattle.mbox_link.specs.Meetings.{Meeting, Queue, Doing, lags, fate_met, next_meeting, queue_of, without_entry}
 use Rattle.host_widgets.specs.declared.kept.Record.{Record}
 use Rattle.host_widgets.specs.HostActs.{Act}
-use Rattle.host_widgets.specs.ActMessages.{message_of}
-use Rattle.host_widgets.specs.OneAct.{Acted, own, outcome_by, lag_of, one_act, came}
-use Rattle.host_widgets.specs.Walk.{Walked, walk, joined, goes_past, first_of}
+use Rattle.host_widgets.specs.ActMessages.{act_message}
+use Rattle.host_widgets.specs.OneAct.{Performed, own, outcome_by, lag_of, one_act, performed}
+use Rattle.host_widgets.specs.Walk.{Walked, walk, followed_by, goes_past, first_of}
 use Rattle.host_widgets.specs.ActCalls.{ActDid, ActsDid, Onwards, next_of, came_to}
 use Rattle.sof_session.proofs.LinkFates.{exchange_steady}
 use Rattle.sof_session.proofs.Doings.{refused_so, DidSo}
@@ -37,7 +37,7 @@ module _ {P : Type 0} (means : Meaning P) (plan : Plan) (heap : ℕ) (kept : Rec
   number = more w.device.sent
 
   abbrev request : List ℕ
-  request = message_spelling (message_of plan act)
+  request = message_spelling (act_message plan act)
 
   after_is : v.device ≡ after_message w.device v.device.device
   after_is = did.exchanged.did.1
@@ -52,24 +52,24 @@ module _ {P : Type 0} (means : Meaning P) (plan : Plan) (heap : ℕ) (kept : Rec
   lag-is : m.lag ≡ next_lag w.device
   lag-is =
       let own = lags-planned number w.device.entries held.apart in
-      let left : lags v.device.entries ≡ lags (without number w.device.entries) = ap (λ (l : Wire P). lags l.entries) after_is in
+      let left : lags v.device.entries ≡ lags (without_entry number w.device.entries) = ap (λ (l : Wire P). lags l.entries) after_is in
       omega (arith, did.lag, quiet, still-quiet, own, left)
 
   by_fate : (fate : Fate) → IsMeant fate → (u : World P) → Met means fate request did.answer u (inner v) →
-      outcome_by m.fate (own plan heap kept act) ≡ outcome_by (met_by fate m.fate) (own plan heap kept act)
+      outcome_by m.fate (own plan heap kept act) ≡ outcome_by (fate_met fate m.fate) (own plan heap kept act)
   by_fate Pass meant u met = refl
   by_fate (Refuse e) meant u met = sym did.came ∙ ap (λ (a : Option (List ℕ)). came_to (verdict a)) met.0 ∙ refused_so e meant
   by_fate Drop meant u met = sym did.came ∙ ap (λ (a : Option (List ℕ)). came_to (verdict a)) met.0
   by_fate Lose meant u met = sym did.came ∙ ap (λ (a : Option (List ℕ)). came_to (verdict a)) met.0
 
   -- the queue goes on as the link does
-  next-is : (doing : Doing) → met_by (next_fate w.device) (doing number) ≡ met_by (next_fate w.device) m.fate → next_meeting doing (queue_of w.device) ≡ (record { lag = m.lag; fate = met_by (next_fate w.device) m.fate }, queue_of v.device)
+  next-is : (doing : Doing) → fate_met (next_fate w.device) (doing number) ≡ fate_met (next_fate w.device) m.fate → next_meeting doing (queue_of w.device) ≡ (record { lag = m.lag; fate = fate_met (next_fate w.device) m.fate }, queue_of v.device)
   next-is doing is = λ i. (record { lag = sym lag-is i; fate = is i }, queue_of (sym after_is i))
 
-  same-act : one_act plan heap kept act m ≡ one_act plan heap kept act (record { lag = m.lag; fate = met_by (next_fate w.device) m.fate })
+  same-act : one_act plan heap kept act m ≡ one_act plan heap kept act (record { lag = m.lag; fate = fate_met (next_fate w.device) m.fate })
   same-act =
       let late = did.exchanged.did.0 in
-      λ i. came plan act kept (lag_of m) (by_fate (next_fate w.device) (planned-meant number w.device.entries held.meant) late.0 late.2 i)
+      λ i. performed plan act kept (lag_of m) (by_fate (next_fate w.device) (planned-meant number w.device.entries held.meant) late.0 late.2 i)
 
 module _ {P : Type 0} (means : Meaning P) (plan : Plan) (heap : ℕ) (goes_on : Bool) (doing : Doing) where
   abbrev met_walk : Record → List Meeting → List Act → Walked (List Meeting)
@@ -88,10 +88,10 @@ module _ {P : Type 0} (means : Meaning P) (plan : Plan) (heap : ℕ) (goes_on : 
     same : Same a b
     queue : b.queue ≡ q
 
-  behind : (act : Act) (a : Acted) (acts : List Act) (ms : List Meeting) (mid v : World (Wire P)) (b : Bool) →
+  behind : (act : Act) (a : Performed) (acts : List Act) (ms : List Meeting) (mid v : World (Wire P)) (b : Bool) →
       (ActsDid (link means) plan heap goes_on a.kept acts ms mid v → Agreed a.kept ms acts mid v) →
       Onwards b ms mid v (ActsDid (link means) plan heap goes_on a.kept acts ms mid v) →
-      AgreedOf (joined act a ms b (met_walk a.kept ms acts)) (joined act a (queue_of mid.device) b (written_walk a.kept mid.device acts)) (queue_of v.device)
+      AgreedOf (followed_by act a ms b (met_walk a.kept ms acts)) (followed_by act a (queue_of mid.device) b (written_walk a.kept mid.device acts)) (queue_of v.device)
   behind act a acts ms mid v true rest did =
       let r = rest did in
       record {
@@ -112,8 +112,8 @@ module _ {P : Type 0} (means : Meaning P) (plan : Plan) (heap : ℕ) (goes_on : 
       (still-quiet means plan heap kept act m w mid did.1 quiet held) (still-held means plan heap kept act m w mid did.1 quiet held)
       (subst (λ (l : Wire P). DidSo doing l.sent l.entries ms) (sym (after_is means plan heap kept act m w mid did.1 quiet held)) so.1))
       did.2 in
-      let whole = subst (λ (p : Acted × Queue). AgreedOf (joined act a ms (goes_past goes_on a.outcome) (met_walk a.kept ms acts)) (joined act p.0 p.1 (goes_past goes_on p.0.outcome) (walk plan heap goes_on (next_meeting doing) p.0.kept p.1 acts)) (queue_of v.device))
+      let whole = subst (λ (p : Performed × Queue). AgreedOf (followed_by act a ms (goes_past goes_on a.outcome) (met_walk a.kept ms acts)) (followed_by act p.0 p.1 (goes_past goes_on p.0.outcome) (walk plan heap goes_on (next_meeting doing) p.0.kept p.1 acts)) (queue_of v.device))
       (λ i. (same-act means plan heap kept act m w mid did.1 quiet held i, queue_of mid.device)) r in
-      let named = subst (λ (p : Meeting × Queue). AgreedOf (joined act a ms (goes_past goes_on a.outcome) (met_walk a.kept ms acts)) (joined act (one_act plan heap kept act p.0) p.1 (goes_past goes_on (one_act plan heap kept act p.0).outcome) (walk plan heap goes_on (next_meeting doing) (one_act plan heap kept act p.0).kept p.1 acts)) (queue_of v.device))
+      let named = subst (λ (p : Meeting × Queue). AgreedOf (followed_by act a ms (goes_past goes_on a.outcome) (met_walk a.kept ms acts)) (followed_by act (one_act plan heap kept act p.0) p.1 (goes_past goes_on (one_act plan heap kept act p.0).outcome) (walk plan heap goes_on (next_meeting doing) (one_act plan heap kept act p.0).kept p.1 acts)) (queue_of v.device))
       (sym (next-is means plan heap kept act m w mid did.1 quiet held doing so.0)) whole in
       record { same = named.same; queue = named.queue }

@@ -18,10 +18,10 @@ use Rattle.host_widgets.specs.Kept.{first_record, with_power}
 use Rattle.host_widgets.specs.ActLists.{bring_up}
 use Rattle.host_widgets.specs.ActCalls.{calls_of, next_of}
 use Rattle.host_widgets.specs.StateOf.{loaded_state}
-use Rattle.host_widgets.specs.ViewOf.{view_by}
+use Rattle.host_widgets.specs.ViewOf.{record_view}
 use Rattle.host_widgets.specs.Host.{Outcome, BroughtUp, Sides, ticks_put}
 use Rattle.host_widgets.specs.Walk.{Walked, walk}
-use Rattle.host_widgets.specs.Orders.{Order, Carried, brought_end, load_fault, loading}
+use Rattle.host_widgets.specs.Orders.{Order, Carried, brought_end, fault_of_load, loading}
 use Rattle.host_widgets.proofs.BarePlans.{bare}
 use Rattle.host_widgets.proofs.BuildingActs.{bring-leaves}
 use Rattle.host_widgets.proofs.BuildingMoments.{AllOf, view_from, clock_from, build-views, passed-view, none-came, acts-clocked}
@@ -31,7 +31,7 @@ use Rattle.sof_script.specs.declared.script.Command.TheVariants as commands
 use Rattle.sof_session.specs.Agreement.{AreAgreed}
 use Rattle.sof_session.specs.Commands.{answer_by}
 use Rattle.sof_session.specs.Seat.{Seat}
-use Rattle.sof_session.specs.SessionStep.{Stepped}
+use Rattle.sof_session.specs.SessionStep.{CommandDone}
 use Rattle.sof_session.specs.SessionCalls.{LoadRan}
 use Rattle.sof_session.proofs.Agreement.{at}
 use Rattle.sof_session.proofs.BuildStands.{AtRest, rest_view, rest-quiet, loaded-rests, brought-stands, brought-reads}
@@ -42,7 +42,7 @@ use Rattle.sof_session.proofs.OrderStands as after_order
 use Rattle.sof_session.proofs.Stepping.{early-stepped, late-stepped, standing-by}
 
 -- nothing was loaded
-was-unloaded : (power : Power) → load_fault power ≡ None → power ≡ Unloaded
+was-unloaded : (power : Power) → fault_of_load power ≡ None → power ≡ Unloaded
 was-unloaded Unloaded none = refl
 was-unloaded On none = absurd (cc none)
 was-unloaded Off none = absurd (cc none)
@@ -76,8 +76,8 @@ module _ {P : Type 0} (means : Meaning P) (old new : Seat P) (io io' : Io) (agre
     written = after_order.written means old.heap old.plan order old.kept new.kept w v outcome c agreed.pending agreed.fated few-messages
 
     -- each that passed left the view of the record
-    views : AllOf (view_by old.plan (first_record old.plan)) met.moments
-    views = subst (λ (r : Record). AllOf (view_by old.plan r) met.moments) first
+    views : AllOf (record_view old.plan (first_record old.plan)) met.moments
+    views = subst (λ (r : Record). AllOf (record_view old.plan r) met.moments) first
         (build-views (link means) old.plan old.heap old.kept order.acts c.meetings old.kept refl c.begun c.sent c.walked (bring-leaves old.plan old.kept agreed.sound))
 
     -- the ticks that the link put
@@ -96,13 +96,13 @@ module _ {P : Type 0} (means : Meaning P) (old new : Seat P) (io io' : Io) (agre
     loaded passed = subst (λ (o : Outcome). BroughtUp (link means) old.plan old.heap (first_record old.plan) old.link o new.link) (c.came ∙ passed) left
 
     -- of an empty plan there is no act, and the device is as it was booted
-    empty-view : order.acts ≡ [] → view_from empty_view met.moments ≡ view_by old.plan (first_record old.plan)
+    empty-view : order.acts ≡ [] → view_from empty_view met.moments ≡ record_view old.plan (first_record old.plan)
     empty-view none =
         let no_acts = bare old.plan agreed.sound (ap (λ (r : Record). length (bring_up old.plan r)) (sym first) ∙ ap length none) in
         ap (view_from empty_view) (none-came old.plan old.heap order.acts c.meetings old.kept none) ∙ sym no_acts.view
 
-    ends-so : met.outcome ≡ Ok tt → view_from empty_view met.moments ≡ view_by old.plan (first_record old.plan)
-    ends-so passed = ⊎_elim empty-view (λ ends. ends empty_view) (passed-view old.plan old.heap (view_by old.plan (first_record old.plan)) order.acts c.meetings old.kept passed views)
+    ends-so : met.outcome ≡ Ok tt → view_from empty_view met.moments ≡ record_view old.plan (first_record old.plan)
+    ends-so passed = ⊎_elim empty-view (λ ends. ends empty_view) (passed-view old.plan old.heap (record_view old.plan (first_record old.plan)) order.acts c.meetings old.kept passed views)
 
     abbrev Leads : Type 0
     Leads = StandsOn (means.on old.link.device) io (means.on new.link.device) io' written
@@ -125,10 +125,10 @@ module _ {P : Type 0} (means : Meaning P) (old new : Seat P) (io io' : Io) (agre
 
   -- ---- the load
 
-  pub load_stepped : io' ≡ io → drained io.outputs ≡ io.outputs → (answer : Answer) → LoadRan means old new io io' answer → Stepped means old.plan old.heap commands.Load old.kept new.kept w v answer
-  load_stepped same empty answer ran = by (load_fault old.kept.power) refl
+  pub load_stepped : io' ≡ io → drained io.outputs ≡ io.outputs → (answer : Answer) → LoadRan means old new io io' answer → CommandDone means old.plan old.heap commands.Load old.kept new.kept w v answer
+  load_stepped same empty answer ran = by (fault_of_load old.kept.power) refl
     where
-      by : (test : Option HostFault) → load_fault old.kept.power ≡ test → Stepped means old.plan old.heap commands.Load old.kept new.kept w v answer
+      by : (test : Option HostFault) → fault_of_load old.kept.power ≡ test → CommandDone means old.plan old.heap commands.Load old.kept new.kept w v answer
       by (Some fault) is =
           let e = ran.tested.early fault is in
           early-stepped means old.plan old.heap commands.Load old.kept new.kept w v answer (λ doing known. refl) refl fault is (ran.said ∙ ap (answer_by Done) e.0) e.1 e.2 empty
@@ -141,8 +141,8 @@ module _ {P : Type 0} (means : Meaning P) (old new : Seat P) (io io' : Io) (agre
 
   -- it sends at most 900 messages
   pub load_few : (answer : Answer) → LoadRan means old new io io' answer → new.link.sent ≤ old.link.sent + 900
-  load_few answer ran = by (load_fault old.kept.power) refl
+  load_few answer ran = by (fault_of_load old.kept.power) refl
     where
-      by : (test : Option HostFault) → load_fault old.kept.power ≡ test → new.link.sent ≤ old.link.sent + 900
+      by : (test : Option HostFault) → fault_of_load old.kept.power ≡ test → new.link.sent ≤ old.link.sent + 900
       by (Some fault) is = let same : new.link.sent ≡ old.link.sent = ap (λ (x : World (Wire P)). x.device.sent) (ran.tested.early fault is).1 in omega (arith, same)
       by None is = omega (arith, carried-sent means old.plan old.heap order old.kept new.kept w v ran.outcome (ran.tested.late is), few-acts old.plan old.kept agreed.sound agreed.agree.record_is.controls)

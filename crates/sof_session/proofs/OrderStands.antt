@@ -14,11 +14,11 @@ use Rattle.host_widgets.specs.declared.answers.Answer.{Answer}
 use Rattle.host_widgets.specs.declared.answers.HostFault.TheVariants.{NotLoaded, Loaded, NoSuch, State, Off, Range, Refused, LinkDown, Blob}
 use Rattle.host_widgets.specs.declared.kept.Record.{Record}
 use Rattle.host_widgets.specs.Host.{Outcome, IsRecordOf}
-use Rattle.host_widgets.specs.Keeps.{Keeps}
+use Rattle.host_widgets.specs.Keeps.{KeepsRecord}
 use Rattle.host_widgets.specs.HostActs.{Act}
 use Rattle.host_widgets.specs.Walk.{Walked, walk}
 use Rattle.host_widgets.specs.ActCalls.{next_of, calls_of}
-use Rattle.host_widgets.specs.Orders.{Order, Plain, Carried, goes_on, plain_end, end_by}
+use Rattle.host_widgets.specs.Orders.{Order, Plain, Carried, goes_on_after_refusal, plain_end, end_by}
 use Rattle.host_widgets.proofs.StandingOn.{StandsOn, ReadsOn, cut-stands}
 use Rattle.host_widgets.proofs.WalksHold.{ByLink, AreTaken, Held, HeldBy, ReadBy, walk-holds}
 use Rattle.sof_session.specs.Agreement.{IsFated}
@@ -74,7 +74,7 @@ by-down (Err (Blob n)) Up Down f x = f x
 
 module _ {P : Type 0} (means : Meaning P) (heap : ℕ) (plan : Plan) (o : Order) (kept kept' : Record) (w v : World (Wire P)) (result : Outcome) (c : Carried (link means) plan heap o kept kept' w v result) where
   abbrev pub met : Walked (List Meeting)
-  met = walk plan heap (goes_on o.manner) next_of kept c.meetings o.acts
+  met = walk plan heap (goes_on_after_refusal o.manner) next_of kept c.meetings o.acts
 
   abbrev pub last : List Moment
   last = (end_by o.manner plan o.done kept met.kept met.outcome).1
@@ -115,7 +115,7 @@ sending acts done answer = record { first = []; acts = acts; manner = Plain; don
 
 module _ {P : Type 0} (means : Meaning P) (heap : ℕ) (plan : Plan) (sound : IsSound plan) (acts : List Act) (done : Record → Record) (answer : Answer) (kept kept' : Record) (w v : World (Wire P)) (result : Outcome)
     (c : Carried (link means) plan heap (sending acts done answer) kept kept' w v result)
-    (f : FwState) (on : means.on w.device.device ≡ Some f) (is : IsRecordOf plan kept) (keeps : Keeps plan heap kept f) (taken : AreTaken plan false kept acts) where
+    (f : FwState) (on : means.on w.device.device ≡ Some f) (is : IsRecordOf plan kept) (keeps : KeepsRecord plan heap kept f) (taken : AreTaken plan false kept acts) where
   abbrev o : Order
   o = sending acts done answer
 
@@ -137,7 +137,7 @@ module _ {P : Type 0} (means : Meaning P) (heap : ℕ) (plan : Plan) (sound : Is
   pub record IsUp : Type 0 where
     pub state : FwState
     pub is_on : means.on v.device.device ≡ Some state
-    pub keeps_now : Keeps plan heap sent.kept state
+    pub keeps_now : KeepsRecord plan heap sent.kept state
     pub stands : StandsOn (Some f) w.io (Some state) v.io sent.moments
     pub no_more : last means heap plan o kept kept' w v result c ≡ []
 

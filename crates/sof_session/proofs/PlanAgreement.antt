@@ -6,7 +6,7 @@ use Rattle.mbox_link.specs.declared.fates.Entry.{Entry}
 use Rattle.mbox_link.specs.declared.fates.Fate.{Fate}
 use Rattle.mbox_link.specs.declared.fates.PlanFull.{PlanFull}
 use Rattle.mbox_link.specs.Fates.{IsMeant, IsError, AreHeld}
-use Rattle.mbox_link.specs.Meetings.{has_room, has_lag_room, lags, planned, with_fate, with_lag, without}
+use Rattle.mbox_link.specs.Meetings.{has_room, has_lag_room, lags, planned, with_fate, with_lag, without_entry}
 use Rattle.mbox_link.specs.Calls.{Meaning}
 use Rattle.mbox_link.specs.Wire.{Wire}
 use Rattle.mbox_link.specs.Link.{Planned, LagPlanned, PlannedSo, holding}
@@ -33,8 +33,8 @@ held-fate number fate entries held meant =
 -- and a lag the fate, where there is room for it
 held-lag : (number ticks : ℕ) (entries : List Entry) → AreHeld entries → has_lag_room number ticks entries ≡ true → AreHeld (with_lag number ticks entries)
 held-lag number ticks entries held room =
-    let fits = (and_parts (has_room number entries) (nat_le (lags (without number entries) + ticks) 16) room).1 in
-    AreHeld-with (record { number = number; fate = (planned entries number).fate; lag = ticks }) entries held (planned-meant number entries held.meant) (leb-true (lags (without number entries) + ticks) 16 fits)
+    let fits = (and_parts (has_room number entries) (nat_le (lags (without_entry number entries) + ticks) 16) room).1 in
+    AreHeld-with (record { number = number; fate = (planned entries number).fate; lag = ticks }) entries held (planned-meant number entries held.meant) (leb-true (lags (without_entry number entries) + ticks) 16 fits)
 
 -- ---- both sides
 

@@ -16,7 +16,7 @@ use Rattle.sof_session.specs.CommandTests.{fault_of}
 use Rattle.sof_session.specs.Commands as next
 use Rattle.sof_session.specs.Commands.{Known, Came, is_plan}
 use Rattle.sof_session.specs.Seat.{Seat}
-use Rattle.sof_session.specs.SessionStep.{Stepped, CallsBy, known_of}
+use Rattle.sof_session.specs.SessionStep.{CommandDone, CallsBy, known_of}
 use Rattle.sof_session.specs.SessionCalls.{PlanRan, LagRan, plan_answer}
 use Rattle.sof_session.proofs.Agreement.{at}
 use Rattle.sof_session.proofs.Stepping.{Standing, stays-standing}
@@ -36,7 +36,7 @@ module _ {P : Type 0} (means : Meaning P) (old new : Seat P) (io : Io) (empty : 
   -- these entries, where there is room for them
   module _ (room : Bool) (entries : List Entry) where
     abbrev written : Came
-    written = next.planned known room entries
+    written = next.planned_where_room known room entries
 
     record Came_so (answer : Answer) : Type 0 where
       known_so : known_of new.link new.kept ≡ written.known
@@ -44,8 +44,8 @@ module _ {P : Type 0} (means : Meaning P) (old new : Seat P) (io : Io) (empty : 
       device_so : new.link.device ≡ old.link.device
       moments_so : [] ≡ written.moments
 
-    by-room : (b : Bool) → room ≡ b → next.planned known b entries ≡ written
-    by-room b is = ap (λ (r : Bool). next.planned known r entries) (sym is)
+    by-room : (b : Bool) → room ≡ b → next.planned_where_room known b entries ≡ written
+    by-room b is = ap (λ (r : Bool). next.planned_where_room known r entries) (sym is)
 
     came-so : (answer : Answer) (outcome : Result (Unit {0}) PlanFull) → PlannedSo room entries old.link outcome new.link → new.kept ≡ old.kept → answer ≡ plan_answer outcome → Came_so answer
     came-so answer (Ok done) plan stays said =
@@ -67,7 +67,7 @@ module _ {P : Type 0} (means : Meaning P) (old new : Seat P) (io : Io) (empty : 
 
     -- a command that plans them
     planned_so : (command : Command) → ((doing : Doing) → next.next old.plan old.heap doing known command ≡ written) → is_plan command ≡ true → (answer : Answer) (outcome : Result (Unit {0}) PlanFull) → PlannedSo room entries old.link outcome new.link → new.kept ≡ old.kept → answer ≡ plan_answer outcome →
-        Stepped means old.plan old.heap command old.kept new.kept w v answer
+        CommandDone means old.plan old.heap command old.kept new.kept w v answer
     planned_so command nexts plans answer outcome plan stays said =
         let c = came-so answer outcome plan stays said in
         record {
@@ -87,8 +87,8 @@ module _ {P : Type 0} (means : Meaning P) (old new : Seat P) (io : Io) (empty : 
   -- ---- a fate
 
   pub plan_stepped : (k : ℕ) (fate : Fate) (command : Command) →
-      ((doing : Doing) → next.next old.plan old.heap doing known command ≡ next.planned known (has_room (old.link.sent + k) old.link.entries) (with_fate (old.link.sent + k) fate old.link.entries)) →
-      is_plan command ≡ true → (answer : Answer) → PlanRan k fate old new answer → Stepped means old.plan old.heap command old.kept new.kept w v answer
+      ((doing : Doing) → next.next old.plan old.heap doing known command ≡ next.planned_where_room known (has_room (old.link.sent + k) old.link.entries) (with_fate (old.link.sent + k) fate old.link.entries)) →
+      is_plan command ≡ true → (answer : Answer) → PlanRan k fate old new answer → CommandDone means old.plan old.heap command old.kept new.kept w v answer
   plan_stepped k fate command nexts plans answer ran =
       planned_so (has_room (old.link.sent + k) old.link.entries) (with_fate (old.link.sent + k) fate old.link.entries) command nexts plans answer ran.outcome ran.planned ran.kept ran.said
 
@@ -97,7 +97,7 @@ module _ {P : Type 0} (means : Meaning P) (old new : Seat P) (io : Io) (empty : 
 
   -- ---- a lag
 
-  pub lag_stepped : (k ticks : ℕ) (answer : Answer) → LagRan k ticks old new answer → Stepped means old.plan old.heap (commands.Lag k ticks) old.kept new.kept w v answer
+  pub lag_stepped : (k ticks : ℕ) (answer : Answer) → LagRan k ticks old new answer → CommandDone means old.plan old.heap (commands.Lag k ticks) old.kept new.kept w v answer
   lag_stepped k ticks answer ran =
       planned_so (has_lag_room (old.link.sent + k) ticks old.link.entries) (with_lag (old.link.sent + k) ticks old.link.entries) (commands.Lag k ticks) (λ doing. refl) refl answer ran.outcome ran.planned ran.kept ran.said
 
@@ -106,7 +106,7 @@ module _ {P : Type 0} (means : Meaning P) (old new : Seat P) (io : Io) (empty : 
 
 -- ---- a show
 
-pub show_stepped : {P : Type 0} (means : Meaning P) (old : Seat P) (io : Io) → drained io.outputs ≡ io.outputs → Stepped means old.plan old.heap commands.Show old.kept old.kept (at old.link io) (at old.link io) Show
+pub show_stepped : {P : Type 0} (means : Meaning P) (old : Seat P) (io : Io) → drained io.outputs ≡ io.outputs → CommandDone means old.plan old.heap commands.Show old.kept old.kept (at old.link io) (at old.link io) Show
 show_stepped means old io empty = record {
   doing = calm;
   none = λ stayed number. refl;

@@ -3,7 +3,6 @@ use Rattle.std.proofs.Common.{◌≡◌, refl, ap, ◌∙◌, ℕ, Bool, suc, �
 use Rattle.std.specs.List.{filter_map, cons_option, flat_map}
 use Rattle.std.proofs.lemmas.List.{length-map, length-append}
 use Rattle.sof_base.specs.Ports.{Io, drained}
-use Rattle.sof_io.specs.Bound.{output_slots}
 use Rattle.stream_law.specs.State.{FwState}
 use Rattle.mbox_link.specs.Calls.{World, Meaning}
 use Rattle.mbox_link.specs.Wire.{Wire}
@@ -32,15 +31,16 @@ use Rattle.sof_script.specs.declared.script.Command.TheVariants as commands
 use Rattle.sof_session.specs.Agreement.{AreAgreed, Powered}
 use Rattle.sof_session.specs.Commands.{answer_by}
 use Rattle.sof_session.specs.Seat.{Seat}
-use Rattle.sof_session.specs.SessionStep.{Stepped}
+use Rattle.sof_session.specs.SessionStep.{CommandDone}
 use Rattle.sof_session.specs.SessionCalls.{SuspendRan}
-use Rattle.sof_session.proofs.ActsLed.{acts-io, acts-slots}
+use Rattle.sof_session.proofs.ActsLed.{acts-io, acts-ends}
 use Rattle.sof_session.proofs.Agreement.{at}
 use Rattle.sof_session.proofs.FewMeetings.{few-meetings}
 use Rattle.sof_session.proofs.OrderCalls.{carried-sent}
 use Rattle.sof_session.proofs.OrderStands.{by-down, cut-leads}
 use Rattle.sof_session.proofs.OrderStands as after_order
 use Rattle.sof_session.proofs.Stepping.{early-stepped, late-stepped, standing-by}
+use Rattle.sof_session.proofs.Writings.{bound_ends}
 
 -- the power was on
 was-on : (power : Power) → suspend_fault power ≡ None → power ≡ On
@@ -105,12 +105,12 @@ module _ {P : Type 0} (means : Meaning P) (old : Seat P) (wire : Wire P) (io io'
       (ap (λ (x : World (Wire P)). (link means).pending x.device) c.first ∙ none) on.0 (ap (λ (x : World (Wire P)). means.on x.device.device) c.first ∙ on.1)
       ∙ ap (λ (x : World (Wire P)). x.io) c.first
 
-  -- and the slots
-  cut-slots : On-so → CarriedSo → output_slots io'.outputs ≡ output_slots io.outputs
-  cut-slots on c =
-      ap (λ (x : World (Wire P)). output_slots x.io.outputs) c.ends.1.2 ∙ ap (λ (x : Io). output_slots x.outputs) c.ends.1.1.1
-      ∙ acts-slots (link means) old.plan old.heap true order.acts c.meetings old.kept c.begun c.sent c.walked on.0 (ap (λ (x : World (Wire P)). means.on x.device.device) c.first ∙ on.1)
-      ∙ ap (λ (x : World (Wire P)). output_slots x.io.outputs) c.first
+  -- and the slots, and which inputs have ended
+  cut-ends : On-so → CarriedSo → bound_ends io' ≡ bound_ends io
+  cut-ends on c =
+      ap (λ (x : World (Wire P)). bound_ends x.io) c.ends.1.2 ∙ ap bound_ends c.ends.1.1.1
+      ∙ acts-ends (link means) old.plan old.heap true order.acts c.meetings old.kept c.begun c.sent c.walked on.0 (ap (λ (x : World (Wire P)). means.on x.device.device) c.first ∙ on.1)
+      ∙ ap (λ (x : World (Wire P)). bound_ends x.io) c.first
 
   module _ (tested : Tested (link means) old.plan old.heap (suspend_fault old.kept.power) order old.kept kept (at old.link io) (at wire io') result) where
     pub suspend-io : (link means).pending old.link ≡ 0 → io' ≡ io
@@ -120,12 +120,12 @@ module _ {P : Type 0} (means : Meaning P) (old : Seat P) (wire : Wire P) (io io'
         by (Some fault) is = ap (λ (x : World (Wire P)). x.io) (tested.early fault is).1
         by None is = cut-still none (was-powered old.kept.power (was-on old.kept.power is) agreed.powered) (tested.late is)
 
-    pub suspend-slots : output_slots io'.outputs ≡ output_slots io.outputs
-    suspend-slots = by (suspend_fault old.kept.power) refl
+    pub suspend-ends : bound_ends io' ≡ bound_ends io
+    suspend-ends = by (suspend_fault old.kept.power) refl
       where
-        by : (test : Option HostFault) → suspend_fault old.kept.power ≡ test → output_slots io'.outputs ≡ output_slots io.outputs
-        by (Some fault) is = ap (λ (x : World (Wire P)). output_slots x.io.outputs) (tested.early fault is).1
-        by None is = cut-slots (was-powered old.kept.power (was-on old.kept.power is) agreed.powered) (tested.late is)
+        by : (test : Option HostFault) → suspend_fault old.kept.power ≡ test → bound_ends io' ≡ bound_ends io
+        by (Some fault) is = ap (λ (x : World (Wire P)). bound_ends x.io) (tested.early fault is).1
+        by None is = cut-ends (was-powered old.kept.power (was-on old.kept.power is) agreed.powered) (tested.late is)
 
 module _ {P : Type 0} (means : Meaning P) (old new : Seat P) (io io' : Io) (agreed : AreAgreed means old) (few : old.link.sent < 2 ^ 63) where
   abbrev w : World (Wire P)
@@ -155,10 +155,10 @@ module _ {P : Type 0} (means : Meaning P) (old new : Seat P) (io io' : Io) (agre
       (λ h. reads-of (Some f) (Some h.state) io c.sent.io met.moments h.stands) held)
 
   -- all ends with the cut, whatever they came to
-  pub suspend_stepped : drained io.outputs ≡ io.outputs → (answer : Answer) → Ran answer → Stepped means old.plan old.heap commands.Suspend old.kept new.kept w v answer
+  pub suspend_stepped : drained io.outputs ≡ io.outputs → (answer : Answer) → Ran answer → CommandDone means old.plan old.heap commands.Suspend old.kept new.kept w v answer
   suspend_stepped empty answer ran = by (suspend_fault old.kept.power) refl
     where
-      by : (test : Option HostFault) → suspend_fault old.kept.power ≡ test → Stepped means old.plan old.heap commands.Suspend old.kept new.kept w v answer
+      by : (test : Option HostFault) → suspend_fault old.kept.power ≡ test → CommandDone means old.plan old.heap commands.Suspend old.kept new.kept w v answer
       by (Some fault) is =
           let e = ran.tested.early fault is in
           early-stepped means old.plan old.heap commands.Suspend old.kept new.kept w v answer (λ doing known. refl) refl fault is (ran.said ∙ ap (answer_by Done) e.0) e.1 e.2 empty

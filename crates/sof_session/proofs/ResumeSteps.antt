@@ -31,7 +31,7 @@ use Rattle.host_widgets.specs.Host.{AreControls, Outcome, ticks_put}
 use Rattle.host_widgets.specs.HostActs.{Act}
 use Rattle.host_widgets.specs.Kept.{with_power}
 use Rattle.host_widgets.specs.Orders.{Carried, Order, brought_end, resuming}
-use Rattle.host_widgets.specs.ViewOf.{view_by}
+use Rattle.host_widgets.specs.ViewOf.{record_view}
 use Rattle.host_widgets.specs.Walk.{Walked, walk}
 use Rattle.host_widgets.proofs.BuildingActs.{Leaves}
 use Rattle.host_widgets.proofs.BuildingMoments.{AllOf, view_from, clock_from, build-views, passed-view, none-came, acts-clocked}
@@ -44,7 +44,7 @@ use Rattle.sof_script.specs.declared.script.Command.TheVariants as commands
 use Rattle.sof_session.specs.Agreement.{AreAgreed}
 use Rattle.sof_session.specs.Commands.{answer_by}
 use Rattle.sof_session.specs.Seat.{Seat}
-use Rattle.sof_session.specs.SessionStep.{Stepped}
+use Rattle.sof_session.specs.SessionStep.{CommandDone}
 use Rattle.sof_session.specs.SessionCalls.{ResumeRan}
 use Rattle.sof_session.proofs.Agreement.{at}
 use Rattle.sof_session.proofs.BuildStands.{AtRest, IsQuiet, brought-stands, brought-reads, record-quiet, resumed-rests}
@@ -120,7 +120,7 @@ module _ {P : Type 0} (means : Meaning P) (old : Seat P) (wire : Wire P) (io io'
 
       -- the view of the record
       abbrev shown : View
-      shown = view_by old.plan old.kept
+      shown = record_view old.plan old.kept
 
       quiet : IsQuiet shown
       quiet = record-quiet old.plan old.kept still agreed.agree.record_is
@@ -185,10 +185,10 @@ module _ {P : Type 0} (means : Meaning P) (old new : Seat P) (io io' : Io) (agre
   abbrev b : World (Wire P)
   b = at new.link io'
 
-  pub resume_stepped : io' ≡ io → drained io.outputs ≡ io.outputs → (answer : Answer) → ResumeRan means old new io io' answer → Stepped means old.plan old.heap commands.Resume old.kept new.kept a b answer
+  pub resume_stepped : io' ≡ io → drained io.outputs ≡ io.outputs → (answer : Answer) → ResumeRan means old new io io' answer → CommandDone means old.plan old.heap commands.Resume old.kept new.kept a b answer
   resume_stepped same empty answer ran = by (resume_fault old.kept.power) refl
     where
-      by : (test : Option HostFault) → resume_fault old.kept.power ≡ test → Stepped means old.plan old.heap commands.Resume old.kept new.kept a b answer
+      by : (test : Option HostFault) → resume_fault old.kept.power ≡ test → CommandDone means old.plan old.heap commands.Resume old.kept new.kept a b answer
       by (Some fault) is =
           let e = ran.tested.early fault is in
           early-stepped means old.plan old.heap commands.Resume old.kept new.kept a b answer (λ doing known. refl) refl fault is (ran.said ∙ ap (answer_by Done) e.0) e.1 e.2 empty

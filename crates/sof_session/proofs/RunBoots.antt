@@ -10,12 +10,12 @@ use Rattle.host_widgets.specs.declared.answers.HostFault.TheVariants.{NotLoaded,
 use Rattle.host_widgets.specs.declared.kept.Record.{Record}
 use Rattle.host_widgets.specs.Kept.{first_record}
 use Rattle.host_widgets.specs.HostActs.{Act, after, fresh_in}
-use Rattle.host_widgets.specs.ViewOf.{view_by}
+use Rattle.host_widgets.specs.ViewOf.{record_view}
 use Rattle.host_widgets.specs.Host.{Outcome}
-use Rattle.host_widgets.specs.OneAct.{Acted, one_act, outcome_by, own, came, lag_of}
-use Rattle.host_widgets.specs.Walk.{Walked, walk, joined, goes_past}
+use Rattle.host_widgets.specs.OneAct.{Performed, one_act, outcome_by, own, performed, lag_of}
+use Rattle.host_widgets.specs.Walk.{Walked, walk, followed_by, goes_past}
 use Rattle.host_widgets.specs.ActCalls.{ActsDid, Onwards, next_of, calls_of}
-use Rattle.host_widgets.specs.Orders.{Order, Manner, Plain, Loading, Resuming, Suspending, Carried, goes_on, plain_end, brought_end, end_by}
+use Rattle.host_widgets.specs.Orders.{Order, Manner, Plain, Loading, Resuming, Suspending, Carried, goes_on_after_refusal, plain_end, brought_end, end_by}
 use Rattle.sof_session.specs.Written.{boots_in, raised}
 use Rattle.sof_session.specs.Commands.{carried, Known}
 
@@ -44,11 +44,11 @@ none-late : (n : ℕ) → NoBoot (replicate n past.Tick)
 none-late zero = refl
 none-late (suc n) = none-late n
 
-none-came : (plan : Plan) (act : Act) (kept : Record) (ticks : List Moment) (outcome : Outcome) → NoBoot ticks → NoBoot (came plan act kept ticks outcome).moments
-none-came plan act kept ticks (Ok done) none = none-more ticks (past.Now (view_by plan (after plan act kept)) (fresh_in act) ∷ []) none refl
+none-came : (plan : Plan) (act : Act) (kept : Record) (ticks : List Moment) (outcome : Outcome) → NoBoot ticks → NoBoot (performed plan act kept ticks outcome).moments
+none-came plan act kept ticks (Ok done) none = none-more ticks (past.Now (record_view plan (after plan act kept)) (fresh_in act) ∷ []) none refl
 none-came plan act kept ticks (Err fault) none = none
 
-none-joined : {Q : Type 0} (act : Act) (a : Acted) (q : Q) (b : Bool) (rest : Walked Q) → NoBoot a.moments → NoBoot rest.moments → NoBoot (joined act a q b rest).moments
+none-joined : {Q : Type 0} (act : Act) (a : Performed) (q : Q) (b : Bool) (rest : Walked Q) → NoBoot a.moments → NoBoot rest.moments → NoBoot (followed_by act a q b rest).moments
 none-joined act a q true rest first later = none-more a.moments rest.moments first later
 none-joined act a q false rest first later = first
 
@@ -88,9 +88,9 @@ none-ended Suspending plan done start now outcome = refl
 -- so a command boots as often as its first moments say
 pub carried-boots : (plan : Plan) (heap : ℕ) (doing : Doing) (known : Known) (o : Order) (count : ℕ) → raised (boots_in (carried plan heap doing known o).moments) count ≡ raised (boots_in o.first) count
 carried-boots plan heap doing known o count =
-    let w = walk plan heap (goes_on o.manner) (next_meeting doing) known.kept known.queue o.acts in
+    let w = walk plan heap (goes_on_after_refusal o.manner) (next_meeting doing) known.kept known.queue o.acts in
     let last = (end_by o.manner plan o.done known.kept w.kept w.outcome).1 in
-    let none : NoBoot (w.moments ++ last) = none-more w.moments last (none-walked plan heap (goes_on o.manner) (next_meeting doing) o.acts known.kept known.queue) (none-ended o.manner plan o.done known.kept w.kept w.outcome) in
+    let none : NoBoot (w.moments ++ last) = none-more w.moments last (none-walked plan heap (goes_on_after_refusal o.manner) (next_meeting doing) o.acts known.kept known.queue) (none-ended o.manner plan o.done known.kept w.kept w.outcome) in
     boots-append o.first (w.moments ++ last) count ∙ ap (λ n. raised n (raised (boots_in o.first) count)) none
 
 -- ---- calls
@@ -117,9 +117,9 @@ module _ {D : Type 0} (means : Meaning D) where
 
   pub order-boots : (plan : Plan) (heap : ℕ) (o : Order) (kept kept' : Record) (w v : World D) (result : Outcome) → Carried means plan heap o kept kept' w v result → means.boots v.device ≡ raised (boots_in o.first) (means.boots w.device)
   order-boots plan heap o kept kept' w v result c =
-      let walked = walk plan heap (goes_on o.manner) next_of kept c.meetings o.acts in
+      let walked = walk plan heap (goes_on_after_refusal o.manner) next_of kept c.meetings o.acts in
       let last = (end_by o.manner plan o.done kept walked.kept walked.outcome).1 in
       led-boots heap last c.sent v c.ends.1
       ∙ ap (λ n. raised n (means.boots c.sent.device)) (none-ended o.manner plan o.done kept walked.kept walked.outcome)
-      ∙ acts-boots plan heap (goes_on o.manner) o.acts c.meetings kept c.begun c.sent c.walked
+      ∙ acts-boots plan heap (goes_on_after_refusal o.manner) o.acts c.meetings kept c.begun c.sent c.walked
       ∙ led-boots heap o.first w c.begun c.first

@@ -49,10 +49,10 @@ module _ (g : Ground) where
   HasFew command = (kept : Record) → IsRecordOf g.plan kept → length (acts_due g.plan kept command) ≤ most_sent command
 
   -- the acts at a place have numbers that a link counts
-  abbrev IsCounted : Command → At → Type 0
+  abbrev pub IsCounted : Command → At → Type 0
   IsCounted command at = at.known.queue.sent + length (acts_due g.plan at.known.kept command) < 2 ^ 64 - 1
 
-  abbrev AreCounted : List Command → At → List Leg → Type 0
+  abbrev pub AreCounted : List Command → At → List Leg → Type 0
   AreCounted [] old legs = Unit {0}
   AreCounted (command ∷ commands) old [] = Unit {0}
   AreCounted (command ∷ commands) old (leg ∷ legs) = IsCounted command old × AreCounted commands leg.at legs
@@ -61,7 +61,7 @@ module _ (g : Ground) where
 
   module _ (d e : Doing) where
     -- by doings that are one up to its last message, a leg is one
-    leg-same : (command : Command) (old : At) (leg : Leg) → came_at g d command old ≡ came_at g e command old → IsLeg g d command old leg → IsLeg g e command old leg
+    pub leg-same : (command : Command) (old : At) (leg : Leg) → came_at g d command old ≡ came_at g e command old → IsLeg g d command old leg → IsLeg g e command old leg
     leg-same command old leg same is = record {
       command_is = is.command_is;
       goes = record { known = is.goes.known ∙ ap (λ (c : Came). c.known) same; led = subst (λ (c : Came). Leads g.whole old.past c.moments leg.at.past) same is.goes.led };
@@ -70,7 +70,7 @@ module _ (g : Ground) where
     }
 
     -- and by doings that are one at later numbers, a run
-    run-same : (commands : List Command) (old : At) (legs : List Leg) → AreCounted commands old legs → ((number : ℕ) → old.known.queue.sent < number → d number ≡ e number) → IsRun g d commands old legs → IsRun g e commands old legs
+    pub run-same : (commands : List Command) (old : At) (legs : List Leg) → AreCounted commands old legs → ((number : ℕ) → old.known.queue.sent < number → d number ≡ e number) → IsRun g d commands old legs → IsRun g e commands old legs
     run-same [] old legs counted same is = is
     run-same (command ∷ commands) old [] counted same is = is
     run-same (command ∷ commands) old (leg ∷ legs) counted same is =
@@ -79,7 +79,7 @@ module _ (g : Ground) where
         let known = ap (λ (k : Known). k.queue.sent) is.0.goes.known in
         (leg-same command old leg one is.0, run-same commands leg.at legs counted.1 (λ number later. same number (omega (arith, later, up.0, known))) is.1)
 
-then-pass : (last : ℕ) (d e : Doing) → ((number : ℕ) → d number ≡ Pass) → ((number : ℕ) → e number ≡ Pass) → (number : ℕ) → then_by last d e number ≡ Pass
+pub then-pass : (last : ℕ) (d e : Doing) → ((number : ℕ) → d number ≡ Pass) → ((number : ℕ) → e number ≡ Pass) → (number : ℕ) → then_by last d e number ≡ Pass
 then-pass last d e first later number = by (nat_le number last)
   where
     by : (b : Bool) → (if b then d number else e number) ≡ Pass
@@ -122,26 +122,26 @@ module _ {P : Type 0} (means : Meaning P) (g : Ground) where
   -- one leg, by a session's step
   module _ (seat seat' : Seat P) (inputs inputs' : List InputView) (slots slots' : List ℕ) (command : Command) (out : Out) (before : List Moment) (at : At)
       (c : Carries means command out seat seat' inputs inputs' slots) (same : slots' ≡ slots) (is : IsAt means g seat inputs slots before at) where
-    abbrev doing : Doing
+    abbrev pub doing : Doing
     doing = c.stepped.doing
 
     to : next seat.plan seat.heap doing (known_of seat.link seat.kept) command ≡ came_at g doing command at
     to = λ i. next (is.plan_is i) (is.heap_is i) doing (is.known_is i) command
 
-    abbrev come : Came
+    abbrev pub come : Came
     come = came_at g doing command at
 
     abbrev Stood : List Moment → Type 0
     Stood moments = (past' : Past) × Leads g.whole at.past moments past' × StandsAt means g.whole (before ++ moments) past' (world seat'.link inputs' c.outputs)
         × (written_in c.outputs ≡ written_between (map (λ o. o.slot) (empty_outputs slots)) at.past past')
 
-    stood : Stood come.moments
+    pub stood : Stood come.moments
     stood = subst (λ (x : Came). Stood x.moments) to (c.stepped.stands g.whole before at.past is.stands)
 
-    abbrev at' : At
+    abbrev pub at' : At
     at' = record { known = come.known; past = stood.0 }
 
-    abbrev leg : Leg
+    abbrev pub leg : Leg
     leg = record { command = command; out = out; moments = come.moments; at = at' }
 
     out-is : out ≡ record { answer = come.answer; shown = shown_by command g.plan at.known.kept; written = written_between g.slots at.past stood.0 }
@@ -151,10 +151,10 @@ module _ {P : Type 0} (means : Meaning P) (g : Ground) where
       written = (c.written ∙ stood.3 ∙ ap (λ xs. written_between xs at.past stood.0) (slots-empty slots ∙ is.slots_are)) i;
     }
 
-    is-leg : IsLeg g doing command at leg
+    pub is-leg : IsLeg g doing command at leg
     is-leg = record { command_is = refl; goes = record { known = refl; led = stood.1 }; out_is = out-is; moments_are = refl }
 
-    is-at : IsAt means g seat' inputs' slots' (before ++ come.moments) at'
+    pub is-at : IsAt means g seat' inputs' slots' (before ++ come.moments) at'
     is-at = record {
       plan_is = c.plan_is ∙ is.plan_is;
       heap_is = c.heap_is ∙ is.heap_is;
@@ -163,13 +163,13 @@ module _ {P : Type 0} (means : Meaning P) (g : Ground) where
       stands = stood.2;
     }
 
-    is-record : IsRecordOf g.plan at'.known.kept
+    pub is-record : IsRecordOf g.plan at'.known.kept
     is-record = subst (λ (k : Known). IsRecordOf g.plan k.kept) is-at.known_is (subst (λ (plan : Plan). IsRecordOf plan seat'.kept) is-at.plan_is c.agrees.agree.record_is)
 
-    steadily : Steady means seat.link.device seat'.link.device
+    pub steadily : Steady means seat.link.device seat'.link.device
     steadily = step-inside means seat.plan seat.heap seat.kept seat'.kept (world seat.link inputs (empty_outputs slots)) (world seat'.link inputs' c.outputs) out.answer command c.stepped.calls
 
-    booted : means.boots seat'.link.device ≡ raised (boots_in come.moments) (means.boots seat.link.device)
+    pub booted : means.boots seat'.link.device ≡ raised (boots_in come.moments) (means.boots seat.link.device)
     booted =
         step-boots means seat.plan seat.heap seat.kept seat'.kept (world seat.link inputs (empty_outputs slots)) (world seat'.link inputs' c.outputs) out.answer command c.stepped.calls doing
         ∙ ap (λ (x : Came). raised (boots_in x.moments) (means.boots seat.link.device)) to

@@ -4,11 +4,11 @@ use Rattle.std.specs.Prelude.{nat_le, if◌then◌else◌}
 use Rattle.mbox_link.specs.declared.fates.Fate.{Fate}
 use Rattle.mbox_link.specs.Exchange.{more}
 use Rattle.tplg_plan.specs.declared.plans.Plan.{Plan}
-use Rattle.mbox_link.specs.Meetings.{Meeting, Queue, Doing, met_by, next_meeting, planned}
+use Rattle.mbox_link.specs.Meetings.{Meeting, Queue, Doing, fate_met, next_meeting, planned}
 use Rattle.host_widgets.specs.declared.kept.Record.{Record}
 use Rattle.host_widgets.specs.HostActs.{Act}
-use Rattle.host_widgets.specs.OneAct.{Acted, one_act}
-use Rattle.host_widgets.specs.Walk.{Walked, walk, joined, goes_past}
+use Rattle.host_widgets.specs.OneAct.{Performed, one_act}
+use Rattle.host_widgets.specs.Walk.{Walked, walk, followed_by, goes_past}
 
 module _ (plan : Plan) (heap : ℕ) (goes_on : Bool) where
   abbrev pub walked : Doing → Record → Queue → List Act → Walked Queue
@@ -18,7 +18,7 @@ module _ (plan : Plan) (heap : ℕ) (goes_on : Bool) where
   abbrev Up : ℕ → Walked Queue → Type 0
   Up sent w = sent ≤ w.queue.sent
 
-  joined-up : (act : Act) (a : Acted) (q : Queue) (b : Bool) (rest : Walked Queue) (sent : ℕ) → sent ≤ q.sent → q.sent ≤ rest.queue.sent → Up sent (joined act a q b rest)
+  joined-up : (act : Act) (a : Performed) (q : Queue) (b : Bool) (rest : Walked Queue) (sent : ℕ) → sent ≤ q.sent → q.sent ≤ rest.queue.sent → Up sent (followed_by act a q b rest)
   joined-up act a q true rest sent low high = omega (arith, low, high)
   joined-up act a q false rest sent low high = low
 
@@ -31,7 +31,7 @@ module _ (plan : Plan) (heap : ℕ) (goes_on : Bool) where
       joined-up act a p.1 (goes_past goes_on a.outcome) (walked doing a.kept p.1 acts) q.sent (omega (arith, one_more)) (walk-up doing acts a.kept p.1 (omega (arith, few, one_more)))
 
   -- by at most one for each act
-  joined-few : (act : Act) (a : Acted) (q : Queue) (b : Bool) (rest : Walked Queue) (most : ℕ) → q.sent ≤ most → rest.queue.sent ≤ most → (joined act a q b rest).queue.sent ≤ most
+  joined-few : (act : Act) (a : Performed) (q : Queue) (b : Bool) (rest : Walked Queue) (most : ℕ) → q.sent ≤ most → rest.queue.sent ≤ most → (followed_by act a q b rest).queue.sent ≤ most
   joined-few act a q true rest most first later = later
   joined-few act a q false rest most first later = first
 
@@ -49,12 +49,12 @@ module _ (plan : Plan) (heap : ℕ) (goes_on : Bool) where
   abbrev SameFrom : Doing → Doing → ℕ → ℕ → Type 0
   SameFrom d e from to = (number : ℕ) → from < number → number ≤ to → d number ≡ e number
 
-  joined-same : (act : Act) (a : Acted) (q : Queue) (b : Bool) (rest rest' : Walked Queue) (d e : Doing) (sent : ℕ) → q.sent ≤ rest.queue.sent →
-      SameFrom d e sent (joined act a q b rest).queue.sent → (SameFrom d e sent rest.queue.sent → rest ≡ rest') → joined act a q b rest ≡ joined act a q b rest'
-  joined-same act a q true rest rest' d e sent up same next = ap (joined act a q true) (next same)
+  joined-same : (act : Act) (a : Performed) (q : Queue) (b : Bool) (rest rest' : Walked Queue) (d e : Doing) (sent : ℕ) → q.sent ≤ rest.queue.sent →
+      SameFrom d e sent (followed_by act a q b rest).queue.sent → (SameFrom d e sent rest.queue.sent → rest ≡ rest') → followed_by act a q b rest ≡ followed_by act a q b rest'
+  joined-same act a q true rest rest' d e sent up same next = ap (followed_by act a q true) (next same)
   joined-same act a q false rest rest' d e sent up same next = refl
 
-  least : (act : Act) (a : Acted) (q : Queue) (b : Bool) (rest : Walked Queue) → q.sent ≤ rest.queue.sent → q.sent ≤ (joined act a q b rest).queue.sent
+  least : (act : Act) (a : Performed) (q : Queue) (b : Bool) (rest : Walked Queue) → q.sent ≤ rest.queue.sent → q.sent ≤ (followed_by act a q b rest).queue.sent
   least act a q true rest up = up
   least act a q false rest up = omega arith
 
@@ -70,8 +70,8 @@ module _ (plan : Plan) (heap : ℕ) (goes_on : Bool) where
       let here : d n ≡ e n = same n (omega (arith, one_more)) whole in
       joined-same act a p.1 (goes_past goes_on a.outcome) (walked d a.kept p.1 acts) (walked e a.kept p.1 acts) d e q.sent up same
       (λ so. same-walk d e acts a.kept p.1 (omega (arith, few, one_more)) (λ number low high. so number (omega (arith, low, one_more)) high))
-      ∙ ap (λ (f : Fate). let m : Meeting × Queue = (record { lag = (planned q.entries n).lag; fate = met_by (planned q.entries n).fate f }, p.1) in
-      joined act (one_act plan heap kept act m.0) m.1 (goes_past goes_on (one_act plan heap kept act m.0).outcome) (walked e (one_act plan heap kept act m.0).kept m.1 acts)) here
+      ∙ ap (λ (f : Fate). let m : Meeting × Queue = (record { lag = (planned q.entries n).lag; fate = fate_met (planned q.entries n).fate f }, p.1) in
+      followed_by act (one_act plan heap kept act m.0) m.1 (goes_past goes_on (one_act plan heap kept act m.0).outcome) (walked e (one_act plan heap kept act m.0).kept m.1 acts)) here
 
 -- the doings up to a number, and those behind it
 abbrev pub then_by : ℕ → Doing → Doing → Doing

@@ -12,11 +12,11 @@ use Rattle.host_widgets.specs.declared.kept.Record.{Record}
 use Rattle.host_widgets.specs.HostActs.{Act}
 use Rattle.mbox_link.specs.Meetings.{Queue}
 use Rattle.host_widgets.specs.Walk.{Walked}
-use Rattle.host_widgets.specs.Orders.{Order, goes_on, end_by}
+use Rattle.host_widgets.specs.Orders.{Order, goes_on_after_refusal, end_by}
 use Rattle.sof_script.specs.declared.script.Command.{Command}
 use Rattle.sof_script.specs.declared.script.Command.TheVariants as commands
 use Rattle.sof_session.specs.CommandTests.{fault_of}
-use Rattle.sof_session.specs.Commands.{Known, Came, came, is_plan, order_of, carried, tested, planned, next, answer_by}
+use Rattle.sof_session.specs.Commands.{Known, Came, came, is_plan, order_of, carried, tested, planned_where_room, next, answer_by}
 use Rattle.sof_session.proofs.SameDoings.{walk-up, walk-few, same-walk}
 
 -- the acts of an order that are due: none where a test fails
@@ -36,7 +36,7 @@ pub record IsPlan (plan : Plan) (heap : ℕ) (known : Known) (command : Command)
   pub sent : later.queue.sent ≡ known.queue.sent
 
 module _ (plan : Plan) (heap : ℕ) (known : Known) where
-  plans : (command : Command) (room : Bool) (entries : List Entry) → ((doing : Doing) → next plan heap doing known command ≡ planned known room entries) → IsPlan plan heap known command
+  plans : (command : Command) (room : Bool) (entries : List Entry) → ((doing : Doing) → next plan heap doing known command ≡ planned_where_room known room entries) → IsPlan plan heap known command
   plans command true entries is = record { later = record known { queue = record { sent = known.queue.sent; entries = entries } }; answer = answers.Done; is = is; sent = refl }
   plans command false entries is = record { later = known; answer = answers.PlanFull; is = is; sent = refl }
 
@@ -64,7 +64,7 @@ module _ (plan : Plan) (heap : ℕ) (known : Known) where
 
   tested-within : (doing : Doing) (o : Order) (fault : Option HostFault) → known.queue.sent + length (due o fault) < 2 ^ 64 - 1 → Within (length (due o fault)) (tested plan heap doing known o fault)
   tested-within doing o (Some fault) few = (omega arith, omega arith)
-  tested-within doing o None few = (walk-up plan heap (goes_on o.manner) doing o.acts known.kept known.queue few, walk-few plan heap (goes_on o.manner) doing o.acts known.kept known.queue)
+  tested-within doing o None few = (walk-up plan heap (goes_on_after_refusal o.manner) doing o.acts known.kept known.queue few, walk-few plan heap (goes_on_after_refusal o.manner) doing o.acts known.kept known.queue)
 
   pub next-within : (doing : Doing) (command : Command) → known.queue.sent + length (acts_due plan known.kept command) < 2 ^ 64 - 1 → Within (length (acts_due plan known.kept command)) (next plan heap doing known command)
   next-within doing command few =
@@ -87,7 +87,7 @@ module _ (plan : Plan) (heap : ℕ) (known : Known) where
         let end = end_by o.manner plan o.done known.kept w.kept w.outcome in
         let c : Came = record { known = record { kept = end.0; queue = w.queue }; answer = answer_by o.answer w.outcome; moments = o.first ++ (w.moments ++ end.1); sent = w.sent } in
         c)
-        (same-walk plan heap (goes_on o.manner) d e o.acts known.kept known.queue few same)
+        (same-walk plan heap (goes_on_after_refusal o.manner) d e o.acts known.kept known.queue few same)
 
     tested-same : (o : Order) (fault : Option HostFault) → known.queue.sent + length (due o fault) < 2 ^ 64 - 1 → SameTo (tested plan heap d known o fault).known.queue.sent → tested plan heap d known o fault ≡ tested plan heap e known o fault
     tested-same o (Some fault) few same = refl

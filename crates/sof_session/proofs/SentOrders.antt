@@ -15,7 +15,7 @@ use Rattle.host_widgets.specs.Orders.{Order, sends}
 use Rattle.host_pcm.specs.declared.asking.Ask.{Ask}
 use Rattle.host_pcm.specs.declared.asking.Ask.TheVariants.{Opening, Preparing, Triggering, Closing}
 use Rattle.host_pcm.specs.Asks.{stream_place, stream_at}
-use Rattle.host_pcm.specs.StreamOrders.{host_at, asking_order, opened, shut, stream_order}
+use Rattle.host_pcm.specs.StreamOrders.{host_at, asking_order, opened_stream, shut, stream_order}
 
 few-closing : (host : ℕ) (found : Found) → length (close_by host found) ≤ 900
 few-closing host Closed = omega arith
@@ -33,7 +33,7 @@ pub record IsSent (kept : Record) (o : Order) : Type 0 where
   pub few : length acts ≤ 900
 
 sent-asking : (plan : Plan) (kept : Record) (host : ℕ) (found : Found) (ask : Ask) → IsSent kept (asking_order plan kept host found ask)
-sent-asking plan kept host found Opening = record { acts = []; done = with_stream plan host opened; answer = Done; is = refl; few = omega arith }
+sent-asking plan kept host found Opening = record { acts = []; done = with_stream plan host opened_stream; answer = Done; is = refl; few = omega arith }
 sent-asking plan kept host found (Preparing p) = record { acts = Prepare host p ∷ []; done = λ now. now; answer = Done; is = refl; few = omega arith }
 sent-asking plan kept host found (Triggering what) = record { acts = Trig host what ∷ []; done = λ now. now; answer = Done; is = refl; few = omega arith }
 sent-asking plan kept host found Closing = record { acts = close_by host found; done = with_stream plan host shut; answer = Done; is = refl; few = few-closing host found }
@@ -53,7 +53,7 @@ sends-few Off acts done answer few = omega arith
 
 -- a call on a stream answers no more than that it is done
 asking-done : (plan : Plan) (kept : Record) (host : ℕ) (found : Found) (ask : Ask) → (asking_order plan kept host found ask).answer ≡ Done
-asking-done plan kept host found Opening = sends-answer kept.power [] (with_stream plan host opened) Done
+asking-done plan kept host found Opening = sends-answer kept.power [] (with_stream plan host opened_stream) Done
 asking-done plan kept host found (Preparing p) = sends-answer kept.power (Prepare host p ∷ []) (λ now. now) Done
 asking-done plan kept host found (Triggering what) = sends-answer kept.power (Trig host what ∷ []) (λ now. now) Done
 asking-done plan kept host found Closing = sends-answer kept.power (close_by host found) (with_stream plan host shut) Done

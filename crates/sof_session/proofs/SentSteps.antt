@@ -22,7 +22,7 @@ use Rattle.sof_session.specs.Agreement.{AreAgreed, Powered}
 use Rattle.sof_session.specs.CommandTests.{fault_of}
 use Rattle.sof_session.specs.Commands.{Known, answer_by, carried, is_plan, next, order_of, tested}
 use Rattle.sof_session.specs.Seat.{Seat}
-use Rattle.sof_session.specs.SessionStep.{Stepped, known_of}
+use Rattle.sof_session.specs.SessionStep.{CommandDone, known_of}
 use Rattle.sof_session.proofs.Agreement.{at}
 use Rattle.sof_session.proofs.Carrying.{doing}
 use Rattle.sof_session.proofs.FewMeetings.{few-meetings}
@@ -81,13 +81,13 @@ module _ {P : Type 0} (means : Meaning P) (old new : Seat P) (io io' : Io) (agre
     sent-good o s = subst Good (sym s.is) (good s.acts s.done s.answer s.few old.kept.power agreed.powered)
 
   module _ (command : Command) (test : Option HostFault) (o : Order) (by_these : IsCarriedBy old.plan old.heap old.kept command test o) (sent : test ≡ None → IsSent old.kept o) (taken : test ≡ None → AreTaken old.plan false old.kept o.acts) where
-    pub sent_stepped : (answer : Answer) (outcome : Outcome) → Tested (link means) old.plan old.heap test o old.kept new.kept w v outcome → answer ≡ answer_by o.answer outcome → Stepped means old.plan old.heap command old.kept new.kept w v answer
+    pub sent_stepped : (answer : Answer) (outcome : Outcome) → Tested (link means) old.plan old.heap test o old.kept new.kept w v outcome → answer ≡ answer_by o.answer outcome → CommandDone means old.plan old.heap command old.kept new.kept w v answer
     sent_stepped answer outcome ran said = by test refl
       where
         orders : o ≡ order_of old.plan old.kept command
         orders = sym by_these.orders
 
-        by : (t : Option HostFault) → test ≡ t → Stepped means old.plan old.heap command old.kept new.kept w v answer
+        by : (t : Option HostFault) → test ≡ t → CommandDone means old.plan old.heap command old.kept new.kept w v answer
         by (Some fault) is =
             let e = ran.early fault is in
             early-stepped means old.plan old.heap command old.kept new.kept w v answer by_these.nexts by_these.plans fault (by_these.tests ∙ is) (said ∙ ap (answer_by o.answer) e.0) e.1 e.2 empty

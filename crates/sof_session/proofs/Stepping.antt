@@ -20,7 +20,7 @@ use Rattle.sof_session.specs.Agreement.{IsFated}
 use Rattle.sof_session.specs.CommandTests.{fault_of}
 use Rattle.sof_session.specs.Commands.{Known, Came, came, carried, tested, next, order_of, is_plan, answer_by}
 use Rattle.sof_session.specs.Seat.{Seat}
-use Rattle.sof_session.specs.SessionStep.{Stepped, StandsAt, CallsBy, known_of}
+use Rattle.sof_session.specs.SessionStep.{CommandDone, StandsAt, CallsBy, known_of}
 use Rattle.sof_session.specs.SessionCalls.{ports}
 use Rattle.sof_session.specs.Written.{written_between, written_in}
 use Rattle.sof_session.proofs.Agreement.{at}
@@ -50,7 +50,7 @@ module _ {P : Type 0} (means : Meaning P) (plan : Plan) (heap : ℕ) (command : 
   old = known_of w.device kept
 
   abbrev pub SteppedSo : Type 0
-  SteppedSo = Stepped means plan heap command kept kept' w v answer
+  SteppedSo = CommandDone means plan heap command kept kept' w v answer
 
   -- a command that plans nothing is tested, and then its order is carried out
   module _ (nexts : (doing : Doing) (known : Known) → next plan heap doing known command ≡ tested plan heap doing known (order_of plan known.kept command) (fault_of plan known.kept command)) (plans : is_plan command ≡ false) where
@@ -93,7 +93,7 @@ module _ {P : Type 0} (means : Meaning P) (plan : Plan) (heap : ℕ) (command : 
 
 -- the step of a session, by its command
 abbrev pub SteppedIn : {P : Type 0} → Meaning P → Seat P → Seat P → Io → Io → Answer → Command → Type 0
-SteppedIn means old new io io' answer command = Stepped means old.plan old.heap command old.kept new.kept (at old.link io) (at new.link io') answer
+SteppedIn means old new io io' answer command = CommandDone means old.plan old.heap command old.kept new.kept (at old.link io) (at new.link io') answer
 
 -- endpoints that stayed
 pub same-ports : (inputs inputs' : List InputView) (outputs outputs' : List OutputView) → inputs' ≡ inputs → outputs' ≡ outputs → ports inputs' outputs' ≡ ports inputs outputs

@@ -1,11 +1,10 @@
--- A tick by its call on the link. After it the two sides agree again and the outputs have the same slots.
-use Rattle.std.proofs.Common.{◌≡◌, ◌⊎◌, ⊎_elim, List, [], ◌∷◌, ◌++◌, Some, refl, ap, ◌∙◌}
+-- A tick by its call on the link. After it the two sides agree again and the endpoints have the same slots,
+-- and the same inputs have ended.
+use Rattle.std.proofs.Common.{◌≡◌, ◌⊎◌, ⊎_elim, List, [], ◌∷◌, Some, refl, ap, ◌∙◌}
 use Rattle.std.specs.Option.{option_map}
-use Rattle.sof_base.specs.Ports.{Io, OutputView}
-use Rattle.sof_io.specs.Bound.{output_slots}
+use Rattle.sof_base.specs.Ports.{Io}
 use Rattle.stream_law.specs.State.{view_of}
-use Rattle.stream_law.specs.Table.{list_of}
-use Rattle.stream_law.specs.Move.{Audio, audio_after}
+use Rattle.stream_law.specs.Move.{audio_after}
 use Rattle.mbox_link.specs.Exchange.{ticked}
 use Rattle.mbox_link.specs.Calls.{Meaning, Call, Tick, Did, Led}
 use Rattle.mbox_link.specs.Link.{link}
@@ -18,7 +17,7 @@ use Rattle.sof_session.specs.Agreement.{AreAgreed, Powered}
 use Rattle.sof_session.specs.Seat.{Seat}
 use Rattle.sof_session.proofs.Agreement.{at, seat_with, kept-by, agreed-with}
 use Rattle.sof_session.proofs.Keeping.{Keeps-moved}
-use Rattle.sof_session.proofs.Writings.{same-slots}
+use Rattle.sof_session.proofs.Writings.{bound_ends, one-ends}
 
 -- a tick of a device that is on, by its one call on the link; one that is off is not called
 abbrev pub TickedBy : {P : Type 0} → Meaning P → Power → Wire P → Wire P → Io → Io → Type 0
@@ -67,17 +66,13 @@ module _ {P : Type 0} (means : Meaning P) (old : Seat P) (wire : Wire P) (io io'
       let both = both-ticked old.kept.power agreed.powered agreed.agree.sides tick in
       agreed-with means old wire io io' agreed (kept-by means old wire io io' agreed led.0 led.1) old.kept (record { record_is = agreed.agree.record_is; sides = both.sides }) both.powered
 
--- ---- the slots
-
-abbrev pub output_after : Audio → OutputView → OutputView
-output_after a output = record { slot = output.slot; bytes = output.bytes ++ list_of a.written output.slot }
+-- ---- the endpoints
 
 module _ {P : Type 0} (means : Meaning P) (old : Seat P) (wire : Wire P) (io io' : Io) where
-  slots-stay : (power : Power) → Powered means old power → TickedBy means power old.link wire io io' → output_slots io'.outputs ≡ output_slots io.outputs
-  slots-stay On powered tick =
-      ap (λ (x : Io). output_slots x.outputs) (tick.on powered.0 powered.1).1 ∙ same-slots (output_after (audio_after powered.0 io)) (λ output. refl) io.outputs
-  slots-stay Unloaded powered same = ap (λ (x : Io). output_slots x.outputs) same.1
-  slots-stay Off powered same = ap (λ (x : Io). output_slots x.outputs) same.1
+  ends-stay : (power : Power) → Powered means old power → TickedBy means power old.link wire io io' → bound_ends io' ≡ bound_ends io
+  ends-stay On powered tick = ap bound_ends (tick.on powered.0 powered.1).1 ∙ one-ends powered.0 io
+  ends-stay Unloaded powered same = ap bound_ends same.1
+  ends-stay Off powered same = ap bound_ends same.1
 
-  pub ticked-slots : AreAgreed means old → TickedBy means old.kept.power old.link wire io io' → output_slots io'.outputs ≡ output_slots io.outputs
-  ticked-slots agreed tick = slots-stay old.kept.power agreed.powered tick
+  pub ticked-ends : AreAgreed means old → TickedBy means old.kept.power old.link wire io io' → bound_ends io' ≡ bound_ends io
+  ticked-ends agreed tick = ends-stay old.kept.power agreed.powered tick

@@ -12,14 +12,14 @@ use Rattle.tplg_plan.specs.Sound.{IsSound}
 use Rattle.host_widgets.specs.declared.answers.Answer.TheVariants.{Done}
 use Rattle.host_widgets.specs.declared.kept.Power.{Power}
 use Rattle.host_widgets.specs.declared.kept.Power.TheVariants.{Unloaded, On, Off}
-use Rattle.host_widgets.specs.ViewOf.{view_by}
+use Rattle.host_widgets.specs.ViewOf.{record_view}
 use Rattle.host_widgets.specs.Orders.{Order, Plain, Carried, where_on}
 use Rattle.host_widgets.proofs.SoundPlays.{sound-plays}
 use Rattle.host_widgets.proofs.StandingOn.{StandsOn, one-tick}
 use Rattle.sof_script.specs.declared.script.Command.TheVariants as commands
 use Rattle.sof_session.specs.Agreement.{AreAgreed, Powered}
 use Rattle.sof_session.specs.Seat.{Seat}
-use Rattle.sof_session.specs.SessionStep.{Stepped}
+use Rattle.sof_session.specs.SessionStep.{CommandDone}
 use Rattle.sof_session.proofs.Agreement.{at}
 use Rattle.sof_session.proofs.FewMeetings.{few-meetings}
 use Rattle.sof_session.proofs.TickAgreement.{TickedBy}
@@ -57,12 +57,12 @@ module _ {P : Type 0} (means : Meaning P) (old new : Seat P) (io io' : Io) (empt
     carries Off same = record { meetings = []; begun = v; sent = v; first = (λ i. at (same.0 i) (same.1 i)); walked = (refl, refl); came = refl; ends = (kept, refl) }
 
   stands : IsSound old.plan → (power : Power) → TickedBy means power old.link new.link io io' → Powered means old power → Standing means w v (where_on power (Tick ∷ []))
-  stands sound On tick powered = tick-standing powered.0 powered.1 tick (subst IsPlayable (sym powered.2.view) (sound-plays old.plan sound old.kept (view_by old.plan old.kept).streams))
+  stands sound On tick powered = tick-standing powered.0 powered.1 tick (subst IsPlayable (sym powered.2.view) (sound-plays old.plan sound old.kept (record_view old.plan old.kept).streams))
   stands sound Unloaded same powered = stays-standing means w v (ap (λ (x : Wire P). means.on x.device) same.0) same.1 empty
   stands sound Off same powered = stays-standing means w v (ap (λ (x : Wire P). means.on x.device) same.0) same.1 empty
 
   pub tick_stepped : AreAgreed means old → old.link.sent < 2 ^ 63 → new.kept ≡ old.kept → TickedBy means old.kept.power old.link new.link io io' → (number : ℕ) →
-      Stepped means old.plan old.heap (commands.Tick number) old.kept new.kept w v Done
+      CommandDone means old.plan old.heap (commands.Tick number) old.kept new.kept w v Done
   tick_stepped agreed few kept calls number =
       let c = carries kept old.kept.power calls in
       late-stepped means old.plan old.heap (commands.Tick number) old.kept new.kept w v Done (λ doing known. refl) refl refl (Ok tt) c agreed.pending agreed.fated

@@ -19,7 +19,7 @@ use Rattle.host_widgets.proofs.StandingOn.{StandsOn, stands-none, reads-of, cut-
 use Rattle.sof_script.specs.declared.script.Command.TheVariants as commands
 use Rattle.sof_session.specs.Agreement.{AreAgreed}
 use Rattle.sof_session.specs.Seat.{Seat}
-use Rattle.sof_session.specs.SessionStep.{Stepped}
+use Rattle.sof_session.specs.SessionStep.{CommandDone}
 use Rattle.sof_session.specs.SessionCalls.{UnloadRan}
 use Rattle.sof_session.specs.Commands.{answer_by}
 use Rattle.sof_session.proofs.Agreement.{at}
@@ -54,10 +54,10 @@ module _ {P : Type 0} (means : Meaning P) (old new : Seat P) (io io' : Io) (agre
   stands Unloaded outcome c = let still : v ≡ w = c.ends.1 ∙ c.walked.1 ∙ c.first in stays-standing means w v (ap (λ (x : World (Wire P)). means.on x.device.device) still) (ap (λ (x : World (Wire P)). x.io) still) empty
   stands Off outcome c = let still : v ≡ w = c.ends.1 ∙ c.walked.1 ∙ c.first in stays-standing means w v (ap (λ (x : World (Wire P)). means.on x.device.device) still) (ap (λ (x : World (Wire P)). x.io) still) empty
 
-  pub unload_stepped : (answer : Answer) → UnloadRan means old new io io' answer → Stepped means old.plan old.heap commands.Unload old.kept new.kept w v answer
+  pub unload_stepped : (answer : Answer) → UnloadRan means old new io io' answer → CommandDone means old.plan old.heap commands.Unload old.kept new.kept w v answer
   unload_stepped answer ran = by (unload_fault old.kept.power) refl
     where
-      by : (test : Option HostFault) → unload_fault old.kept.power ≡ test → Stepped means old.plan old.heap commands.Unload old.kept new.kept w v answer
+      by : (test : Option HostFault) → unload_fault old.kept.power ≡ test → CommandDone means old.plan old.heap commands.Unload old.kept new.kept w v answer
       by (Some fault) is =
           let e = ran.tested.early fault is in
           early-stepped means old.plan old.heap commands.Unload old.kept new.kept w v answer (λ doing known. refl) refl fault is (ran.said ∙ ap (answer_by Done) e.0) e.1 e.2 empty

@@ -1,14 +1,15 @@
--- Outputs to which nothing was written yet.
-use Rattle.std.proofs.Common.{◌≡◌, ℕ, zero, suc, ◌≤◌, List, [], ◌∷◌, ◌++◌, map, drop, length, refl, sym, ap, subst, ◌∙◌, arith}
+-- What ticks leave of endpoints, and outputs to which nothing was written yet.
+use Rattle.std.proofs.Common.{◌≡◌, ℕ, zero, suc, ◌≤◌, Bool, List, [], ◌∷◌, ◌++◌, map, drop, length, refl, sym, ap, subst, ◌∙◌, arith}
 use Rattle.std.proofs.Math.Seq.{drop-append_seam}
-use Rattle.sof_base.specs.Ports.{Io, OutputView, HasRoom, drained}
+use Rattle.sof_base.specs.Ports.{Io, InputView, OutputView, HasRoom, drained}
 use Rattle.sof_io.specs.Bound.{output_slots}
 use Rattle.stream_law.specs.State.{FwState}
-use Rattle.stream_law.specs.Table.{list_of}
+use Rattle.stream_law.specs.Table.{list_of, number_of}
 use Rattle.stream_law.specs.Past.{Past}
 use Rattle.stream_law.specs.Move.{audio_after}
 use Rattle.mbox_link.specs.Exchange.{ticked, ticks}
 use Rattle.host_widgets.proofs.StandingOn.{Gained, with_more}
+use Rattle.sof_session.specs.Fills.{input_ends}
 use Rattle.sof_session.specs.Written.{bytes_between, empty_outputs, with_bytes, written_between, written_in}
 
 drained-written : (outputs : List OutputView) → written_in (drained outputs) ≡ []
@@ -23,17 +24,36 @@ drained-room : (n : ℕ) → n ≤ 1048576 → (outputs : List OutputView) → H
 drained-room n fits [] = tt
 drained-room n fits (output ∷ outputs) = (omega (arith, fits), drained-room n fits outputs)
 
+-- ---- what stays
+
+-- the slots of the outputs, and those of the inputs with whether each has ended
+abbrev pub bound_ends : Io → List ℕ × List (ℕ × Bool)
+bound_ends io = (output_slots io.outputs, input_ends io.inputs)
+
 -- outputs with other bytes have the same slots
-pub same-slots : (change : OutputView → OutputView) → ((output : OutputView) → (change output).slot ≡ output.slot) → (outputs : List OutputView) → output_slots (map change outputs) ≡ output_slots outputs
+same-slots : (change : OutputView → OutputView) → ((output : OutputView) → (change output).slot ≡ output.slot) → (outputs : List OutputView) → output_slots (map change outputs) ≡ output_slots outputs
 same-slots change same [] = refl
 same-slots change same (output ∷ outputs) = λ i. same output i ∷ same-slots change same outputs i
 
--- so many ticks leave the slots
-pub ticks-slots : (n : ℕ) (f : FwState) (io : Io) → output_slots (ticks n (f, io)).1.outputs ≡ output_slots io.outputs
-ticks-slots zero f io = refl
-ticks-slots (suc n) f io =
-    let next = ticked (f, io) in
-    ticks-slots n next.0 next.1 ∙ same-slots (λ (o : OutputView). record { slot = o.slot; bytes = o.bytes ++ list_of (audio_after f io).written o.slot }) (λ o. refl) io.outputs
+-- and inputs of which bytes were taken end where they did
+same-ends : (change : InputView → InputView) → ((input : InputView) → ((change input).slot ≡ input.slot) × ((change input).ended ≡ input.ended)) → (inputs : List InputView) → input_ends (map change inputs) ≡ input_ends inputs
+same-ends change same [] = refl
+same-ends change same (input ∷ inputs) = λ i. ((same input).0 i, (same input).1 i) ∷ same-ends change same inputs i
+
+-- a tick leaves them
+pub one-ends : (f : FwState) (io : Io) → bound_ends (ticked (f, io)).1 ≡ bound_ends io
+one-ends f io =
+    let a = audio_after f io in
+    let outputs = same-slots (λ (o : OutputView). record { slot = o.slot; bytes = o.bytes ++ list_of a.written o.slot }) (λ o. refl) io.outputs in
+    let inputs = same-ends (λ (x : InputView). record x { position = number_of a.positions x.slot; left = list_of a.left x.slot }) (λ x. (refl, refl)) io.inputs in
+    λ i. (outputs i, inputs i)
+
+-- so do so many ticks
+pub ticks-ends : (n : ℕ) (f : FwState) (io : Io) → bound_ends (ticks n (f, io)).1 ≡ bound_ends io
+ticks-ends zero f io = refl
+ticks-ends (suc n) f io = let next = ticked (f, io) in ticks-ends n next.0 next.1 ∙ one-ends f io
+
+-- ---- what was written
 
 -- outputs that were empty hold what they gained
 module _ (outputs new : List OutputView) (p q : Past) (gained : Gained outputs new p q) where

@@ -7,13 +7,13 @@ use Rattle.mbox_link.specs.Fates.{AreHeld}
 use Rattle.host_widgets.specs.declared.kept.Power.{Power}
 use Rattle.host_widgets.specs.declared.kept.Power.TheVariants.{Unloaded, On, Off}
 use Rattle.tplg_plan.specs.Sound.{IsSound}
-use Rattle.host_widgets.specs.Keeps.{Keeps}
+use Rattle.host_widgets.specs.Keeps.{KeepsRecord}
 use Rattle.host_widgets.specs.Host.{Agrees}
 use Rattle.sof_session.specs.Seat.{Seat}
 
 -- where the record says that the power is on, the device is on in a state that keeps it; else it is off
 abbrev pub Powered : {P : Type 0} → Meaning P → Seat P → Power → Type 0
-Powered means seat On = (f : FwState) × (means.on seat.link.device ≡ Some f) × Keeps seat.plan seat.heap seat.kept f
+Powered means seat On = (f : FwState) × (means.on seat.link.device ≡ Some f) × KeepsRecord seat.plan seat.heap seat.kept f
 Powered means seat Off = means.on seat.link.device ≡ None
 Powered means seat Unloaded = means.on seat.link.device ≡ None
 

@@ -4,7 +4,7 @@ use Rattle.tplg_plan.specs.declared.plans.Plan.{Plan}
 use Rattle.host_widgets.specs.declared.answers.HostFault.{HostFault}
 use Rattle.host_widgets.specs.declared.kept.Record.{Record}
 use Rattle.host_widgets.specs.declared.trigger.Trigger.TheVariants as triggers
-use Rattle.host_widgets.specs.Orders.{load_fault, unload_fault}
+use Rattle.host_widgets.specs.Orders.{fault_of_load, unload_fault}
 use Rattle.host_pcm.specs.declared.asking.Ask.{Ask}
 use Rattle.host_pcm.specs.declared.asking.Ask.TheVariants.{Opening, Preparing, Triggering, Closing}
 use Rattle.host_pcm.specs.Asks.{early_fault}
@@ -30,7 +30,7 @@ stream_fault plan kept (Some (name, ask)) = early_fault plan kept name ask
 
 -- the first test that fails
 abbrev pub fault_of : Plan → Record → Command → Option HostFault
-fault_of plan kept commands.Load = load_fault kept.power
+fault_of plan kept commands.Load = fault_of_load kept.power
 fault_of plan kept commands.Unload = unload_fault kept.power
 fault_of plan kept commands.Suspend = suspend_fault kept.power
 fault_of plan kept commands.Resume = resume_fault kept.power

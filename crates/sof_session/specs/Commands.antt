@@ -13,7 +13,7 @@ use Rattle.host_widgets.specs.Kept.{first_record}
 use Rattle.host_widgets.specs.Host.{Outcome}
 use Rattle.host_widgets.specs.HostActs.{Act}
 use Rattle.host_widgets.specs.Walk.{walk}
-use Rattle.host_widgets.specs.Orders.{Order, goes_on, end_by, quiet, loading, unloading, suspending, resuming, ticking}
+use Rattle.host_widgets.specs.Orders.{Order, goes_on_after_refusal, end_by, quiet, loading, unloading, suspending, resuming, ticking}
 use Rattle.host_pcm.specs.declared.asking.Ask.{Ask}
 use Rattle.host_pcm.specs.StreamOrders.{stream_order}
 use Rattle.host_ctl.specs.ControlOrders.{set_order, bytes_order, get_order, read_order}
@@ -70,7 +70,7 @@ answer_by answer (Err fault) = answers.Fault fault
 -- the acts are walked, and then it ends
 abbrev pub carried : Plan → ℕ → Doing → Known → Order → Came
 carried plan heap doing known o =
-    let w = walk plan heap (goes_on o.manner) (next_meeting doing) known.kept known.queue o.acts in
+    let w = walk plan heap (goes_on_after_refusal o.manner) (next_meeting doing) known.kept known.queue o.acts in
     let e = end_by o.manner plan o.done known.kept w.kept w.outcome in
     record {
       known = record { kept = e.0; queue = w.queue };
@@ -93,19 +93,19 @@ is_plan (commands.Lag k ticks) = true
 is_plan command = false
 
 -- something is planned where there is room for it
-abbrev pub planned : Known → Bool → List Entry → Came
-planned known true entries = came (record known { queue = record { sent = known.queue.sent; entries = entries } }) answers.Done
-planned known false entries = came known answers.PlanFull
+abbrev pub planned_where_room : Known → Bool → List Entry → Came
+planned_where_room known true entries = came (record known { queue = record { sent = known.queue.sent; entries = entries } }) answers.Done
+planned_where_room known false entries = came known answers.PlanFull
 
 -- A command; the K-th message from now is planned, and a tick is one, whatever its number. The device does to messages of its
 -- own accord what `doing` says.
 abbrev pub next : Plan → ℕ → Doing → Known → Command → Came
 next plan heap doing known (commands.Refuse k e) =
-    let n = known.queue.sent + k in planned known (has_room n known.queue.entries) (with_fate n (fates.Refuse e) known.queue.entries)
+    let n = known.queue.sent + k in planned_where_room known (has_room n known.queue.entries) (with_fate n (fates.Refuse e) known.queue.entries)
 next plan heap doing known (commands.Drop k) =
-    let n = known.queue.sent + k in planned known (has_room n known.queue.entries) (with_fate n fates.Drop known.queue.entries)
+    let n = known.queue.sent + k in planned_where_room known (has_room n known.queue.entries) (with_fate n fates.Drop known.queue.entries)
 next plan heap doing known (commands.Lose k) =
-    let n = known.queue.sent + k in planned known (has_room n known.queue.entries) (with_fate n fates.Lose known.queue.entries)
+    let n = known.queue.sent + k in planned_where_room known (has_room n known.queue.entries) (with_fate n fates.Lose known.queue.entries)
 next plan heap doing known (commands.Lag k ticks) =
-    let n = known.queue.sent + k in planned known (has_lag_room n ticks known.queue.entries) (with_lag n ticks known.queue.entries)
+    let n = known.queue.sent + k in planned_where_room known (has_lag_room n ticks known.queue.entries) (with_lag n ticks known.queue.entries)
 next plan heap doing known command = tested plan heap doing known (order_of plan known.kept command) (fault_of plan known.kept command)

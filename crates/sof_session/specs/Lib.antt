@@ -7,5 +7,6 @@ pub mod Written
 pub mod SessionStep
 pub mod Agreement
 pub mod SessionCalls
+pub mod Fills
 pub mod Lives
 pub mod RunOver

@@ -1,12 +1,13 @@
 -- A device before a session and in it, and the turns of a program over it.
-use Rattle.std.specs.Prelude.{◌≡◌, ℕ, List, [], ◌∷◌}
+use Rattle.std.specs.Prelude.{◌≡◌, ℕ, List, [], ◌∷◌, ◌++◌, Option}
 use Rattle.sof_base.specs.Ports.{InputView, OutputView}
 use Rattle.mbox_link.specs.Calls.{Meaning, world}
 use Rattle.tplg_plan.specs.declared.plans.Plan.{Plan}
 use Rattle.sof_script.specs.declared.script.Command.{Command}
 use Rattle.sof_session.specs.Agreement.{AreAgreed}
+use Rattle.sof_session.specs.Fills.{FilledBy, next_read, input_ends}
 use Rattle.sof_session.specs.Seat.{Seat, new_seat}
-use Rattle.sof_session.specs.SessionStep.{Stepped}
+use Rattle.sof_session.specs.SessionStep.{CommandDone}
 use Rattle.sof_session.specs.Show.{shown_by}
 use Rattle.sof_session.specs.Written.{Out, empty_outputs, written_in}
 
@@ -20,11 +21,18 @@ abbrev pub device_of : {P : Type 0} → Life P → P
 device_of (Bare dsp) = dsp
 device_of (Seated seat inputs slots) = seat.link.device
 
+-- its inputs, none before a session
+abbrev pub inputs_of : {P : Type 0} → Life P → List InputView
+inputs_of (Bare dsp) = []
+inputs_of (Seated seat inputs slots) = inputs
+
 -- ---- turns
 
--- a session is begun, or carries out a command
+-- A session is begun, its inputs are filled by reads, each a slot with the bytes that came, after which that slot would be read next
+-- if any, or it carries out a command.
 pub data Task : Type 0 where
   Begin : (plan : Plan) (heap : ℕ) (inputs : List InputView) (slots : List ℕ) → Task
+  Fill : (reads : List (ℕ × List ℕ)) (next : Option ℕ) → Task
   Carry : (command : Command) → Task
 
 -- a task with what it answered
@@ -32,20 +40,25 @@ pub record Turn : Type 0 where
   pub task : Task
   pub out : Out
 
--- a session carries out a command: its step, from outputs to which nothing was written, over the same plan and heap
+-- a session carries out a command: its step, from outputs to which nothing was written, over the same plan, heap and inputs
 pub record Carries {P : Type 0} (means : Meaning P) (command : Command) (out : Out) (old new : Seat P) (inputs inputs' : List InputView) (slots : List ℕ) : Type 0 where
   pub outputs : List OutputView
-  pub stepped : Stepped means old.plan old.heap command old.kept new.kept (world old.link inputs (empty_outputs slots)) (world new.link inputs' outputs) out.answer
+  pub stepped : CommandDone means old.plan old.heap command old.kept new.kept (world old.link inputs (empty_outputs slots)) (world new.link inputs' outputs) out.answer
   pub shown : out.shown ≡ shown_by command old.plan old.kept
   pub written : out.written ≡ written_in outputs
+  pub ends : input_ends inputs' ≡ input_ends inputs
   pub plan_is : new.plan ≡ old.plan
   pub heap_is : new.heap ≡ old.heap
   pub agrees : AreAgreed means new
 
--- a turn: a session is begun over a bare device, or carries out a command
+-- a turn: a session is begun over a bare device, has its inputs filled and stays as it is, or carries out a command
 abbrev pub Turned : {P : Type 0} → Meaning P → Task → Out → Life P → Life P → Type 0
 Turned means (Begin plan heap inputs slots) out (Bare dsp) new = new ≡ Seated (new_seat plan heap dsp) inputs slots
 Turned means (Begin plan heap inputs slots) out (Seated seat i s) new = ⊥
+Turned means (Fill reads next) out (Bare dsp) new = ⊥
+Turned means (Fill reads next) out (Seated seat inputs slots) (Bare dsp) = ⊥
+Turned means (Fill reads next) out (Seated seat inputs slots) (Seated seat' inputs' slots') =
+    (seat' ≡ seat) × (slots' ≡ slots) × FilledBy reads inputs inputs' × (next_read inputs' ≡ next)
 Turned means (Carry command) out (Bare dsp) new = ⊥
 Turned means (Carry command) out (Seated seat inputs slots) (Bare dsp) = ⊥
 Turned means (Carry command) out (Seated seat inputs slots) (Seated seat' inputs' slots') =
@@ -55,6 +68,28 @@ Turned means (Carry command) out (Seated seat inputs slots) (Seated seat' inputs
 abbrev pub Turns : {P : Type 0} → Meaning P → Life P → List Turn → Life P → Type 0
 Turns means p [] q = q ≡ p
 Turns {P} means p (turn ∷ turns) q = (m : Life P) × Turned means turn.task turn.out p m × Turns means m turns q
+
+-- ---- what turns read and answered
+
+abbrev pub reads_by : Task → List (ℕ × List ℕ)
+reads_by (Begin plan heap inputs slots) = []
+reads_by (Fill reads next) = reads
+reads_by (Carry command) = []
+
+-- all reads of turns, in their order
+abbrev pub reads_in : List Turn → List (ℕ × List ℕ)
+reads_in [] = []
+reads_in (turn ∷ turns) = reads_by turn.task ++ reads_in turns
+
+abbrev pub with_out : Task → Out → List Out → List Out
+with_out (Begin plan heap inputs slots) out outs = outs
+with_out (Fill reads next) out outs = outs
+with_out (Carry command) out outs = out ∷ outs
+
+-- what the turns that carried out commands answered
+abbrev pub carried_outs : List Turn → List Out
+carried_outs [] = []
+carried_outs (turn ∷ turns) = with_out turn.task turn.out (carried_outs turns)
 
 -- ---- the end
 

@@ -10,7 +10,7 @@ use Rattle.host_widgets.specs.declared.answers.Answer.TheVariants as answers
 use Rattle.host_widgets.specs.declared.answers.HostFault.{HostFault}
 use Rattle.host_widgets.specs.Host.{Outcome, BroughtUp}
 use Rattle.host_widgets.specs.Kept.{first_record}
-use Rattle.host_widgets.specs.Orders.{Order, Tested, load_fault, loading, unload_fault, unloading, suspending, resuming}
+use Rattle.host_widgets.specs.Orders.{Order, Tested, fault_of_load, loading, unload_fault, unloading, suspending, resuming}
 use Rattle.host_pcm.specs.declared.asking.Ask.{Ask}
 use Rattle.host_pcm.specs.StreamOrders.{Asked}
 use Rattle.host_pm.specs.PowerTests.{suspend_fault, resume_fault}
@@ -25,7 +25,7 @@ ports inputs outputs = record { inputs = inputs; outputs = outputs }
 -- what a load did: its calls on the link, what it came to, and what it left
 pub record LoadRan {P : Type 0} (means : Meaning P) (old new : Seat P) (before after : Io) (answer : Answer) : Type 0 where
   pub outcome : Outcome
-  pub tested : Tested (link means) old.plan old.heap (load_fault old.kept.power) (loading old.plan old.kept) old.kept new.kept (record { device = old.link; io = before }) (record { device = new.link; io = after }) outcome
+  pub tested : Tested (link means) old.plan old.heap (fault_of_load old.kept.power) (loading old.plan old.kept) old.kept new.kept (record { device = old.link; io = before }) (record { device = new.link; io = after }) outcome
   pub left : BroughtUp (link means) old.plan old.heap (first_record old.plan) old.link outcome new.link
   pub said : answer ≡ answer_by answers.Done outcome
 

@@ -1,7 +1,7 @@
 -- What a command does to a session over any device.
-use Rattle.std.specs.Prelude.{◌≡◌, ℕ, map, List, ◌++◌, Bool, true, false, Option, Some, None}
+use Rattle.std.specs.Prelude.{◌≡◌, ℕ, ◌+◌, ◌≤◌, map, List, ◌++◌, Bool, true, false, Option, Some, None}
 use Rattle.stream_law.specs.Past.{Moment, Past, Leads}
-use Rattle.stream_law.specs.Stands.{Stands}
+use Rattle.stream_law.specs.Stands.{Stands, position_of}
 use Rattle.mbox_link.specs.declared.fates.Fate.TheVariants.{Pass}
 use Rattle.mbox_link.specs.Exchange.{Rose}
 use Rattle.mbox_link.specs.Calls.{World, Meaning}
@@ -43,7 +43,7 @@ known_of wire kept = record { kept = kept; queue = queue_of wire }
 -- What a command does over any device. There are doings of the device, none where its counts did not rise, by which what is
 -- known after it and its answer are the written ones; its calls are those of its order, and no others; and where the device and
 -- the inputs stood at a place of a run, they stand at its next, and the outputs hold what was written.
-pub record Stepped {P : Type 0} (means : Meaning P) (plan : Plan) (heap : ℕ) (command : Command) (kept kept' : Record) (w v : World (Wire P)) (answer : Answer) : Type 0 where
+pub record CommandDone {P : Type 0} (means : Meaning P) (plan : Plan) (heap : ℕ) (command : Command) (kept kept' : Record) (w v : World (Wire P)) (answer : Answer) : Type 0 where
   pub doing : Doing
   pub none : Calm means w.device.device v.device.device → (number : ℕ) → doing number ≡ Pass
   pub known_is : known_of v.device kept' ≡ (next plan heap doing (known_of w.device kept) command).known
@@ -53,3 +53,9 @@ pub record Stepped {P : Type 0} (means : Meaning P) (plan : Plan) (heap : ℕ) (
       let moments = (next plan heap doing (known_of w.device kept) command).moments in
       (past' : Past) × Leads whole past moments past' × StandsAt means whole (before ++ moments) past' v
       × (written_in v.io.outputs ≡ written_between (map (λ o. o.slot) w.io.outputs) past past')
+
+-- Where the device and the inputs stand at a place of a run, the position of each input moves by at most so many bytes.
+abbrev pub MovesBy : {P : Type 0} → Meaning P → ℕ → World (Wire P) → World (Wire P) → Type 0
+MovesBy means most w v =
+    (whole : List (ℕ × List ℕ)) (before : List Moment) (past : Past) → StandsAt means whole before past w →
+    (slot : ℕ) → position_of v.io.inputs slot ≤ position_of w.io.inputs slot + most

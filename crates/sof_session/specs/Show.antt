@@ -24,7 +24,7 @@ use Rattle.tplg_plan.specs.declared.plans.ControlPlan.{ControlPlan}
 use Rattle.tplg_plan.specs.declared.plans.ControlKind.{ControlKind}
 use Rattle.tplg_plan.specs.declared.plans.ControlKind.TheVariants.{Blob}
 use Rattle.host_widgets.specs.Kept.{controls_of}
-use Rattle.host_widgets.specs.Acts.{ids_of, pipe_by_id}
+use Rattle.host_widgets.specs.Acts.{widget_ids, pipe_by_id}
 use Rattle.sof_script.specs.declared.script.Command.{Command}
 use Rattle.sof_script.specs.declared.script.Command.TheVariants as commands
 use Rattle.sof_script.specs.Text.{values_words, bytes_word}
@@ -143,7 +143,7 @@ edge_lines plan kept = map edge_line plan.graph.edges ++ state_lines plan kept
 
 -- the widgets by id, the edges by buffer id, the streams, and the live controls
 abbrev pub loaded_lines : Plan → Record → List (List ℕ)
-loaded_lines plan kept = map (widget_line plan) (ids_of plan) ++ edge_lines plan kept
+loaded_lines plan kept = map (widget_line plan) (widget_ids plan) ++ edge_lines plan kept
 
 -- nothing more where nothing is loaded
 abbrev pub lines_by : Power → Plan → Record → List (List ℕ)

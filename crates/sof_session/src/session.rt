@@ -11,9 +11,10 @@ ghost use Rattle.sof_io.specs.Bound.{output_slots};
 ghost use Rattle.sof_session.specs.Agreement.{AreAgreed};
 ghost use Rattle.sof_session.specs.CommandRanges.{is_in_range, is_tick, most_sent};
 ghost use Rattle.sof_session.specs.Commands.{answer_by};
+ghost use Rattle.sof_session.specs.Fills.{input_ends};
 ghost use Rattle.sof_session.specs.Seat.{new_seat};
 ghost use Rattle.sof_session.specs.SessionCalls.{LoadRan, UnloadRan, SuspendRan, ResumeRan, ControlRan, told_answer, PlanRan, LagRan, plan_answer, StreamRan, ports};
-ghost use Rattle.sof_session.specs.SessionStep.{Stepped};
+ghost use Rattle.sof_session.specs.SessionStep.{CommandDone, MovesBy};
 ghost use Rattle.sof_session.specs.Show.{show_lines, IsLineAt};
 
 use crate::show::show_line;
@@ -123,11 +124,13 @@ impl<P: Dsp> Session<P> {
         requires numbers { is_in_range command.now ≡ true }
         requires few { self.old.link.sent < 2 ^ 63 }
         requires empty { drained out.old ≡ out.old }
-        ensures stepped { Stepped P.means self.old.plan self.old.heap command.now self.old.kept self.new.kept (world self.old.link io.old out.old) (world self.new.link io.new out.new) result }
+        ensures stepped { CommandDone P.means self.old.plan self.old.heap command.now self.old.kept self.new.kept (world self.old.link io.old out.old) (world self.new.link io.new out.new) result }
         ensures agreed { AreAgreed P.means self.new }
         ensures plan { self.new.plan ≡ self.old.plan }
         ensures heap { self.new.heap ≡ self.old.heap }
         ensures slots { output_slots out.new ≡ output_slots out.old }
+        ensures ends { input_ends io.new ≡ input_ends io.old }
+        ensures moved { MovesBy P.means 983040 (world self.old.link io.old out.old) (world self.new.link io.new out.new) }
         ensures sent { self.new.link.sent ≤ self.old.link.sent + most_sent command.now }
         ensures still { is_tick command.now ≡ false → (link P.means).pending self.old.link ≡ 0 → (io.new ≡ io.old) × (out.new ≡ out.old) }
     {
@@ -164,11 +167,13 @@ impl<P: Dsp> Session<P> {
     pub fn tick(&mut self, io: &mut Inputs, out: &mut Outputs)
         requires few { self.old.link.sent < 2 ^ 63 }
         requires empty { drained out.old ≡ out.old }
-        ensures stepped { (number : ℕ) → Stepped P.means self.old.plan self.old.heap (Command.Tick number) self.old.kept self.new.kept (world self.old.link io.old out.old) (world self.new.link io.new out.new) Answer.Done }
+        ensures stepped { (number : ℕ) → CommandDone P.means self.old.plan self.old.heap (Command.Tick number) self.old.kept self.new.kept (world self.old.link io.old out.old) (world self.new.link io.new out.new) Answer.Done }
         ensures agreed { AreAgreed P.means self.new }
         ensures plan { self.new.plan ≡ self.old.plan }
         ensures heap { self.new.heap ≡ self.old.heap }
         ensures slots { output_slots out.new ≡ output_slots out.old }
+        ensures ends { input_ends io.new ≡ input_ends io.old }
+        ensures moved { MovesBy P.means 61440 (world self.old.link io.old out.old) (world self.new.link io.new out.new) }
         ensures sent { self.new.link.sent ≡ self.old.link.sent }
     {
         match self.kept.power {
@@ -240,6 +245,7 @@ impl<P: Dsp> Session<P> {
         ensures plan { self.new.plan ≡ self.old.plan }
         ensures heap { self.new.heap ≡ self.old.heap }
         ensures slots { output_slots out.new ≡ output_slots out.old }
+        ensures ends { input_ends io.new ≡ input_ends io.old }
         ensures still { (link P.means).pending self.old.link ≡ 0 → (io.new ≡ io.old) × (out.new ≡ out.old) }
     {
         let suspended = suspend(
@@ -290,6 +296,7 @@ impl<P: Dsp> Session<P> {
         ensures plan { self.new.plan ≡ self.old.plan }
         ensures heap { self.new.heap ≡ self.old.heap }
         ensures slots { output_slots out.new ≡ output_slots out.old }
+        ensures ends { input_ends io.new ≡ input_ends io.old }
         ensures still { (link P.means).pending self.old.link ≡ 0 → (io.new ≡ io.old) × (out.new ≡ out.old) }
     {
         let done = set(
@@ -320,6 +327,7 @@ impl<P: Dsp> Session<P> {
         ensures plan { self.new.plan ≡ self.old.plan }
         ensures heap { self.new.heap ≡ self.old.heap }
         ensures slots { output_slots out.new ≡ output_slots out.old }
+        ensures ends { input_ends io.new ≡ input_ends io.old }
         ensures still { (link P.means).pending self.old.link ≡ 0 → (io.new ≡ io.old) × (out.new ≡ out.old) }
     {
         let done = set_bytes(
@@ -366,6 +374,7 @@ impl<P: Dsp> Session<P> {
         ensures plan { self.new.plan ≡ self.old.plan }
         ensures heap { self.new.heap ≡ self.old.heap }
         ensures slots { output_slots out.new ≡ output_slots out.old }
+        ensures ends { input_ends io.new ≡ input_ends io.old }
         ensures still { (link P.means).pending self.old.link ≡ 0 → (io.new ≡ io.old) × (out.new ≡ out.old) }
     {
         let told = read(
@@ -386,6 +395,7 @@ impl<P: Dsp> Session<P> {
         requires meant { IsMeant fate }
         requires few { self.old.link.sent < 2 ^ 63 }
         ensures ran { PlanRan k fate self.old self.new result }
+        ensures agreed { AreAgreed P.means self.old }
         ensures later { AreAgreed P.means self.new }
         ensures plan { self.new.plan ≡ self.old.plan }
         ensures heap { self.new.heap ≡ self.old.heap }
@@ -400,6 +410,7 @@ impl<P: Dsp> Session<P> {
         requires short { ticks ≤ 16 }
         requires few { self.old.link.sent < 2 ^ 63 }
         ensures ran { LagRan k ticks self.old self.new result }
+        ensures agreed { AreAgreed P.means self.old }
         ensures later { AreAgreed P.means self.new }
         ensures plan { self.new.plan ≡ self.old.plan }
         ensures heap { self.new.heap ≡ self.old.heap }
@@ -417,6 +428,7 @@ impl<P: Dsp> Session<P> {
         ensures plan { self.new.plan ≡ self.old.plan }
         ensures heap { self.new.heap ≡ self.old.heap }
         ensures slots { output_slots out.new ≡ output_slots out.old }
+        ensures ends { input_ends io.new ≡ input_ends io.old }
         ensures still { (link P.means).pending self.old.link ≡ 0 → (io.new ≡ io.old) × (out.new ≡ out.old) }
     {
         let asked = ask_stream(

@@ -8,26 +8,28 @@ use Rattle.mbox_link.specs.Calls.{Meaning, world}
 use Rattle.host_widgets.specs.declared.answers.Answer.{Answer}
 use Rattle.sof_script.specs.declared.script.Command.{Command}
 use Rattle.sof_session.specs.Agreement.{AreAgreed}
+use Rattle.sof_session.specs.Fills.{input_ends}
 use Rattle.sof_session.specs.Seat.{Seat}
-use Rattle.sof_session.specs.SessionStep.{Stepped}
+use Rattle.sof_session.specs.SessionStep.{CommandDone}
 use Rattle.sof_session.specs.Show.{shown_by}
 use Rattle.sof_session.specs.Written.{Out, with_bytes, written_in}
 use Rattle.sof_session.specs.Lives.{Life, Seated, Turn, Turned, Carry}
 use Rattle.sof_session.proofs.Writings.{empty-outputs}
 use Rattle.sof_stress.specs.declared.counts.Counts.{Counts}
-use Rattle.sof_stress.specs.CommandTurns.{CommandTurn, bytes_to, turns_after, command_turns, turns_of, no_counts, counted, all_counted, CarriedOut, CarriesOn, CarriedFirst, CommandsCarried, AreCountsOf, IsUnderWay}
+use Rattle.sof_stress.specs.CommandTurns.{CommandTurn, bytes_to, turns_after, command_turns, turns_of, no_counts, turn_counted, all_counted, CarriedOut, CarriesOn, CarriedFirst, CommandsCarried, AreCountsOf, IsUnderWay}
 
 -- a session's step is a turn
 pub carries-on : {P : Type 0} (means : Meaning P) (command : Command) (seat seat' : Seat P) (inputs inputs' : List InputView) (outputs outputs' : List OutputView) (answer : Answer) →
-    drained outputs ≡ outputs → Stepped means seat.plan seat.heap command seat.kept seat'.kept (world seat.link inputs outputs) (world seat'.link inputs' outputs') answer → seat'.plan ≡ seat.plan → seat'.heap ≡ seat.heap → AreAgreed means seat' →
+    drained outputs ≡ outputs → CommandDone means seat.plan seat.heap command seat.kept seat'.kept (world seat.link inputs outputs) (world seat'.link inputs' outputs') answer → seat'.plan ≡ seat.plan → seat'.heap ≡ seat.heap → AreAgreed means seat' → input_ends inputs' ≡ input_ends inputs →
     Turned means (Carry command) (record { answer = answer; shown = shown_by command seat.plan seat.kept; written = written_in outputs' }) (Seated seat inputs (output_slots outputs)) (Seated seat' inputs' (output_slots outputs))
-carries-on means command seat seat' inputs inputs' outputs outputs' answer empty stepped plan heap agreed = (
+carries-on means command seat seat' inputs inputs' outputs outputs' answer empty stepped plan heap agreed ends = (
   refl,
   record {
     outputs = outputs';
-    stepped = subst (λ (xs : List OutputView). Stepped means seat.plan seat.heap command seat.kept seat'.kept (world seat.link inputs xs) (world seat'.link inputs' outputs') answer) (sym (empty-outputs outputs empty)) stepped;
+    stepped = subst (λ (xs : List OutputView). CommandDone means seat.plan seat.heap command seat.kept seat'.kept (world seat.link inputs xs) (world seat'.link inputs' outputs') answer) (sym (empty-outputs outputs empty)) stepped;
     shown = refl;
     written = refl;
+    ends = ends;
     plan_is = plan;
     heap_is = heap;
     agrees = agreed;
@@ -47,9 +49,9 @@ one-held (o ∷ other ∷ os) slot held is there room = absurd (cc is)
 one-held (o ∷ []) slot held is there room =
     let same : o ≡ held = cc there in
     let slots : o.slot ≡ slot = cc is in
-    let counted : length o.bytes ≡ bytes_to slot (with_bytes o.slot o.bytes []) = subst (λ s. length o.bytes ≡ bytes_to slot (with_bytes s o.bytes [])) (sym slots) (sym (bytes-of-one slot o.bytes)) in
+    let turn_counted : length o.bytes ≡ bytes_to slot (with_bytes o.slot o.bytes []) = subst (λ s. length o.bytes ≡ bytes_to slot (with_bytes s o.bytes [])) (sym slots) (sym (bytes-of-one slot o.bytes)) in
     let most : length o.bytes ≤ 1048576 = omega (arith, room.0) in
-    subst (λ (h : OutputView). (length h.bytes ≡ bytes_to slot (with_bytes o.slot o.bytes [])) × (length h.bytes ≤ 1048576)) same (counted, most)
+    subst (λ (h : OutputView). (length h.bytes ≡ bytes_to slot (with_bytes o.slot o.bytes [])) × (length h.bytes ≤ 1048576)) same (turn_counted, most)
 
 -- ---- commands
 
@@ -82,7 +84,7 @@ first-under-way slot seat outputs counts sent slots empty none = record {
 
 module _ {P : Type 0} (means : Meaning P) (slot : ℕ) where
   -- one turn
-  pub one-first : (turn : CommandTurn) (out : Out) (old new : Life P) (before after : Counts) → Turned means (Carry turn.command) out old new → after ≡ counted slot turn out before → CarriedFirst means slot (turn ∷ []) old before new after
+  pub one-first : (turn : CommandTurn) (out : Out) (old new : Life P) (before after : Counts) → Turned means (Carry turn.command) out old new → after ≡ turn_counted slot turn out before → CarriedFirst means slot (turn ∷ []) old before new after
   one-first turn out old new before after turned counts rest end last done = record {
     turns = record { task = Carry turn.command; out = out } ∷ done.turns;
     turned = (new, turned, done.turned);
@@ -129,12 +131,12 @@ module _ {P : Type 0} (means : Meaning P) (slot : ℕ) where
         CarriedFirst means slot (command_turns made) (Seated seat inputs (output_slots outputs)) counts (Seated seat' inputs' (output_slots outputs')) counts' → seat'.link.sent ≤ seat.link.sent + 9000 →
         output_slots outputs' ≡ output_slots outputs → drained outputs' ≡ outputs' → ((n : ℕ) → AreCountsOf n counts → AreCountsOf (n + 10) counts') →
         CommandsCarried means slot (command ∷ []) seat inputs outputs counts seat' inputs' outputs' counts'
-    one-carried made command is carried sent slots empty counted = record {
+    one-carried made command is carried sent slots empty turn_counted = record {
       carried = subst (λ (ts : List CommandTurn). CarriedFirst means slot ts (Seated seat inputs (output_slots outputs)) counts (Seated seat' inputs' (output_slots outputs')) counts') (ap command_turns is ∙ sym (append-nil (command_turns command))) carried;
       sent = omega (arith, sent);
       slots = slots;
       empty = empty;
-      counted = λ n are. counts-mono (n + 10) (n + 10 * 1) counts' (omega arith) (counted n are);
+      counted = λ n are. counts-mono (n + 10) (n + 10 * 1) counts' (omega arith) (turn_counted n are);
     }
 
     -- what stands after them

@@ -4,7 +4,7 @@ use Rattle.std.specs.List.{AllByRecursion, flat_map, range_with_len}
 use Rattle.std.proofs.lemmas.List.FromFn.{length-range_with_len, length-map-range_with_len}
 use Rattle.sof_script.specs.declared.script.Command.{Command}
 use Rattle.sof_script.specs.declared.script.Command.TheVariants as commands
-use Rattle.sof_stress.specs.Draws.{command_by, drawn, streams_of, opening, openings, drawn_commands, stress_commands}
+use Rattle.sof_stress.specs.Draws.{command_by, drawn, stream_count, opening, openings, drawn_commands, stress_commands}
 use Rattle.sof_script.specs.Ticks.{command_ticks}
 use Rattle.sof_session.specs.CommandRanges.{most_sent}
 use Rattle.sof_stress.specs.CommandTurns.{IsDue, earlier_turns}
@@ -101,10 +101,10 @@ due-opening i = (
 -- all are carried out
 pub all-due : (seed : ℕ) → AllByRecursion IsDue (stress_commands seed)
 all-due seed =
-    all-append (commands.Load ∷ [] ++ openings (streams_of seed) ++ drawn_commands seed) (commands.Tick 4 ∷ [])
-    (all-append (commands.Load ∷ [] ++ openings (streams_of seed)) (drawn_commands seed)
-    (all-append (commands.Load ∷ []) (openings (streams_of seed)) (record { numbers = refl; ticks = omega arith }, tt) (all-flat opening due-opening (range_with_len 0 (streams_of seed))))
-    (all-map (λ k. command_by (streams_of seed) (drawn seed k)) (λ k. due-by (streams_of seed) (drawn seed k)) (range_with_len 1 seed)))
+    all-append (commands.Load ∷ [] ++ openings (stream_count seed) ++ drawn_commands seed) (commands.Tick 4 ∷ [])
+    (all-append (commands.Load ∷ [] ++ openings (stream_count seed)) (drawn_commands seed)
+    (all-append (commands.Load ∷ []) (openings (stream_count seed)) (record { numbers = refl; ticks = omega arith }, tt) (all-flat opening due-opening (range_with_len 0 (stream_count seed))))
+    (all-map (λ k. command_by (stream_count seed) (drawn seed k)) (λ k. due-by (stream_count seed) (drawn seed k)) (range_with_len 1 seed)))
     (record { numbers = refl; ticks = omega arith }, tt)
 
 -- ---- how many
@@ -118,10 +118,10 @@ pub few-commands : (seed : ℕ) → seed ≤ 1000 → length (stress_commands se
 few-commands seed small =
     omega (
       arith,
-      length-append (commands.Load ∷ [] ++ openings (streams_of seed) ++ drawn_commands seed) (commands.Tick 4 ∷ []),
-      length-append (commands.Load ∷ [] ++ openings (streams_of seed)) (drawn_commands seed),
-      length-append (commands.Load ∷ []) (openings (streams_of seed)),
-      opened-length (range_with_len 0 (streams_of seed)),
-      length-range_with_len 0 (streams_of seed),
-      length-map-range_with_len (λ k. command_by (streams_of seed) (drawn seed k)) 1 seed,
+      length-append (commands.Load ∷ [] ++ openings (stream_count seed) ++ drawn_commands seed) (commands.Tick 4 ∷ []),
+      length-append (commands.Load ∷ [] ++ openings (stream_count seed)) (drawn_commands seed),
+      length-append (commands.Load ∷ []) (openings (stream_count seed)),
+      opened-length (range_with_len 0 (stream_count seed)),
+      length-range_with_len 0 (stream_count seed),
+      length-map-range_with_len (λ k. command_by (stream_count seed) (drawn seed k)) 1 seed,
     )

@@ -14,7 +14,7 @@ use Rattle.sof_session.specs.Lives.{Life, Bare, Turn, Turns, Carry}
 use Rattle.sof_session.specs.RunOver.{RunOver}
 use Rattle.sof_session.proofs.FewOrders.{few-order}
 use Rattle.sof_session.proofs.RunLegs.{HasFew, AreCarried, messages, run-over}
-use Rattle.sof_stress.specs.Draws.{streams_of, stress_commands}
+use Rattle.sof_stress.specs.Draws.{stream_count, stress_commands}
 use Rattle.sof_stress.specs.StressPorts.{stream_input, stress_inputs}
 use Rattle.sof_stress.specs.CommandTurns.{CommandTurn, IsDue, earlier_turns, turns_after, turns_of, tasks_of}
 use Rattle.sof_stress.specs.StressRun.{commands_of, stress_begins, stress_ground, stress_plan, stress_turns}
@@ -22,10 +22,10 @@ use Rattle.sof_stress.proofs.DueCommands.{at-most, earlier-few, all-due, few-com
 
 -- ---- the inputs, of which nothing was read
 
-abbrev AreWhole : List InputView → Type 0
-AreWhole inputs = AllByRecursion (λ (input : InputView). input.position ≡ 0) inputs
+abbrev AreUnread : List InputView → Type 0
+AreUnread inputs = AllByRecursion (λ (input : InputView). input.position ≡ 0) inputs
 
-at-zero : (inputs : List InputView) (slot : ℕ) → AreWhole inputs → position_of inputs slot ≡ 0
+at-zero : (inputs : List InputView) (slot : ℕ) → AreUnread inputs → position_of inputs slot ≡ 0
 at-zero [] slot all = refl
 at-zero (input ∷ inputs) slot all =
     elim (cases_Bool (eqb input.slot slot)) [
@@ -41,14 +41,14 @@ all-left (input ∷ inputs) slot =
       | inr other ↦ rw other (all-left inputs slot)
     ]
 
-are-whole : (ks : List ℕ) → AreWhole (map stream_input ks)
-are-whole [] = tt
-are-whole (k ∷ ks) = (refl, are-whole ks)
+are-unread : (ks : List ℕ) → AreUnread (map stream_input ks)
+are-unread [] = tt
+are-unread (k ∷ ks) = (refl, are-unread ks)
 
-none-read : (seed room : ℕ) → HasRead (stress_ground room seed).whole (stress_inputs (streams_of seed)) start
+none-read : (seed room : ℕ) → HasRead (stress_ground room seed).whole (stress_inputs (stream_count seed)) start
 none-read seed room =
-    let inputs = stress_inputs (streams_of seed) in
-    record { positions = λ slot bound. at-zero inputs slot (are-whole (range_with_len 0 (streams_of seed))); left = λ slot. all-left inputs slot }
+    let inputs = stress_inputs (stream_count seed) in
+    record { positions = λ slot bound. at-zero inputs slot (are-unread (range_with_len 0 (stream_count seed))); left = λ slot. all-left inputs slot }
 
 -- ---- the commands
 
@@ -91,7 +91,7 @@ module _ {P : Type 0} (means : Meaning P) (seed : ℕ) (small : seed ≤ 1000) (
   pub stress-over : (begins : Turn) (turns : List Turn) → begins.task ≡ stress_begins (means.most p) seed → map (λ (turn : Turn). turn.task) turns ≡ tasks_of (stress_turns seed) → Turns means (Bare p) (begins ∷ turns) last →
       (legs : List Leg) × RunOver means g (commands_of (stress_turns seed)) legs p last × (map (λ (leg : Leg). leg.out) legs ≡ map (λ (turn : Turn). turn.out) turns)
   stress-over begins turns begun tasks turned =
-      run-over means g (stress_inputs (streams_of seed)) p (commands_of (stress_turns seed)) begins turns last off
+      run-over means g (stress_inputs (stream_count seed)) p (commands_of (stress_turns seed)) begins turns last off
       (none-read seed (means.most p)) begun (are-carried (stress_turns seed) turns tasks)
       (few-all g sound (stress_commands seed))
       (omega (arith, messages-few (stress_turns seed), turns-few (stress_commands seed) (all-due seed), few-commands seed small)) turned

@@ -72,12 +72,12 @@ counted_by command last answer bytes counts = record {
 }
 
 -- by what it came to; the bytes are those of one slot
-abbrev pub counted : ℕ → CommandTurn → Out → Counts → Counts
-counted slot turn out counts = counted_by turn.command turn.last out.answer (bytes_to slot out.written) counts
+abbrev pub turn_counted : ℕ → CommandTurn → Out → Counts → Counts
+turn_counted slot turn out counts = counted_by turn.command turn.last out.answer (bytes_to slot out.written) counts
 
 -- turns, one after another, by what each came to
 abbrev pub all_counted : ℕ → List CommandTurn → List Out → Counts → Counts
-all_counted slot (turn ∷ turns) (out ∷ outs) counts = all_counted slot turns outs (counted slot turn out counts)
+all_counted slot (turn ∷ turns) (out ∷ outs) counts = all_counted slot turns outs (turn_counted slot turn out counts)
 all_counted slot [] outs counts = counts
 all_counted slot (turn ∷ turns) [] counts = counts
 

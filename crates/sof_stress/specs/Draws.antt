@@ -22,8 +22,8 @@ abbrev pub drawn : ℕ → ℕ → ℕ
 drawn seed k = state_at seed k / 65536
 
 -- the streams of a stress by its seed: 1 to 4
-abbrev pub streams_of : ℕ → ℕ
-streams_of seed = 1 + seed % 4
+abbrev pub stream_count : ℕ → ℕ
+stream_count seed = 1 + seed % 4
 
 -- ---- commands
 
@@ -66,9 +66,9 @@ openings streams = flat_map opening (range_with_len 0 streams)
 
 -- those of as many numbers as the seed says
 abbrev pub drawn_commands : ℕ → List Command
-drawn_commands seed = map (λ k. command_by (streams_of seed) (drawn seed k)) (range_with_len 1 seed)
+drawn_commands seed = map (λ k. command_by (stream_count seed) (drawn seed k)) (range_with_len 1 seed)
 
 -- all: the graph is loaded, each stream started, then come those that are drawn, and last four ticks
 abbrev pub stress_commands : ℕ → List Command
 stress_commands seed =
-    commands.Load ∷ [] ++ openings (streams_of seed) ++ drawn_commands seed ++ commands.Tick 4 ∷ []
+    commands.Load ∷ [] ++ openings (stream_count seed) ++ drawn_commands seed ++ commands.Tick 4 ∷ []

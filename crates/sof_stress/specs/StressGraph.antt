@@ -19,8 +19,8 @@ use Rattle.sof_stress.specs.Draws.{numbered_name, host_name, volume_name}
 -- ---- widgets
 
 -- a widget of these names, in a pipeline, without tokens and controls
-abbrev pub plain : WidgetKind → List ℕ → List ℕ → ℕ → SourceWidget
-plain kind name sname index = record { kind = kind; name = name; sname = sname; index = index; numbers = []; texts = []; controls = [] }
+abbrev pub plain_widget : WidgetKind → List ℕ → List ℕ → ℕ → SourceWidget
+plain_widget kind name sname index = record { kind = kind; name = name; sname = sname; index = index; numbers = []; texts = []; controls = [] }
 
 -- with the number of one token
 abbrev pub with_number : ℕ → ℕ → SourceWidget → SourceWidget
@@ -31,16 +31,16 @@ abbrev pub with_text : ℕ → List ℕ → SourceWidget → SourceWidget
 with_text token text w = record w { texts = text_tuple token text ∷ [] }
 
 -- with one control
-abbrev pub with_control : SourceControl → SourceWidget → SourceWidget
-with_control control w = record w { controls = control ∷ [] }
+abbrev pub widget_with_control : SourceControl → SourceWidget → SourceWidget
+widget_with_control control w = record w { controls = control ∷ [] }
 
 -- a buffer of so many bytes
 abbrev pub buffer : List ℕ → ℕ → ℕ → SourceWidget
-buffer name bytes index = with_number BUFFER_SIZE bytes (plain kind.Buffer name [] index)
+buffer name bytes index = with_number BUFFER_SIZE bytes (plain_widget kind.Buffer name [] index)
 
 -- a pipeline, scheduled by the widget of a stream's name, with a period in µs
 abbrev pub scheduler : List ℕ → List ℕ → ℕ → ℕ → SourceWidget
-scheduler name sched period index = with_number SCHED_PERIOD period (plain kind.Scheduler name sched index)
+scheduler name sched period index = with_number SCHED_PERIOD period (plain_widget kind.Scheduler name sched index)
 
 -- two channels, 33 steps from -64 dB on, 2 dB each, the least of them silent
 abbrev pub master_volume : SourceControl
@@ -52,7 +52,7 @@ empty_blob = Blob (codes "Eq") 1024 []
 
 -- a volume in a pipeline
 abbrev pub volume : List ℕ → ℕ → SourceWidget
-volume name index = with_control master_volume (plain kind.Pga name [] index)
+volume name index = widget_with_control master_volume (plain_widget kind.Pga name [] index)
 
 -- ---- a stream
 
@@ -68,7 +68,7 @@ caps_name i = numbered_name (codes "S") i
 -- a host, a buffer and a volume
 abbrev pub up_to_volume : ℕ → List SourceWidget
 up_to_volume i =
-    plain kind.AifIn (host_name i) (caps_name i) (i + 1)
+    plain_widget kind.AifIn (host_name i) (caps_name i) (i + 1)
     ∷ buffer (before_name i) 1536 (i + 1)
     ∷ volume (volume_name i) (i + 1)
     ∷ []
@@ -83,16 +83,16 @@ behind_volume i =
 abbrev pub stream_widgets : ℕ → List SourceWidget
 stream_widgets i = up_to_volume i ++ behind_volume i
 
-abbrev pub route : List ℕ → List ℕ → SourceRoute
-route source sink = record { source = source; sink = sink }
+abbrev pub source_route : List ℕ → List ℕ → SourceRoute
+source_route source sink = record { source = source; sink = sink }
 
 -- along the stream, to the mixer
 abbrev pub stream_routes : ℕ → List SourceRoute
 stream_routes i =
-    route (host_name i) (before_name i)
-    ∷ route (before_name i) (volume_name i)
-    ∷ route (volume_name i) (after_name i)
-    ∷ route (after_name i) (codes "MIX")
+    source_route (host_name i) (before_name i)
+    ∷ source_route (before_name i) (volume_name i)
+    ∷ source_route (volume_name i) (after_name i)
+    ∷ source_route (after_name i) (codes "MIX")
     ∷ []
 
 -- 16, 24 and 32 bits a sample, 8000 to 192000 frames a second, one to eight channels
@@ -105,14 +105,14 @@ stream_pcm i = record { name = numbered_name (codes "PCM") i; id = i; limits = h
 -- ---- what the streams are mixed into
 
 abbrev pub equaliser : SourceWidget
-equaliser = with_control empty_blob (with_text PROCESS_TYPE (codes "EQIIR") (plain kind.Effect (codes "EQ0") [] 100))
+equaliser = widget_with_control empty_blob (with_text PROCESS_TYPE (codes "EQIIR") (plain_widget kind.Effect (codes "EQ0") [] 100))
 
 -- its samples have 32 bits
 abbrev pub dai : SourceWidget
-dai = with_text COMP_FORMAT (codes "s32le") (plain kind.DaiOut (codes "DAI0") [] 100)
+dai = with_text COMP_FORMAT (codes "s32le") (plain_widget kind.DaiOut (codes "DAI0") [] 100)
 
 abbrev pub up_to_equaliser : List SourceWidget
-up_to_equaliser = plain kind.Mixer (codes "MIX") [] 100 ∷ buffer (codes "D0") 768 100 ∷ equaliser ∷ []
+up_to_equaliser = plain_widget kind.Mixer (codes "MIX") [] 100 ∷ buffer (codes "D0") 768 100 ∷ equaliser ∷ []
 
 abbrev pub behind_equaliser : List SourceWidget
 behind_equaliser = buffer (codes "D1") 768 100 ∷ dai ∷ scheduler (codes "PIPEM") (codes "DAI0") 1000 100 ∷ []
@@ -122,10 +122,10 @@ mixed_widgets = up_to_equaliser ++ behind_equaliser
 
 abbrev pub mixed_routes : List SourceRoute
 mixed_routes =
-    route (codes "MIX") (codes "D0")
-    ∷ route (codes "D0") (codes "EQ0")
-    ∷ route (codes "EQ0") (codes "D1")
-    ∷ route (codes "D1") (codes "DAI0")
+    source_route (codes "MIX") (codes "D0")
+    ∷ source_route (codes "D0") (codes "EQ0")
+    ∷ source_route (codes "EQ0") (codes "D1")
+    ∷ source_route (codes "D1") (codes "DAI0")
     ∷ []
 
 -- ---- all of it

@@ -1,8 +1,7 @@
 -- The inputs of a stress, by the ids of the hosts, and the slot of its one output, which is the DAI's id.
-use Rattle.std.specs.Prelude.{ℕ, ◌+◌, ◌*◌, ◌%◌, List, [], ◌∷◌, map}
+use Rattle.std.specs.Prelude.{ℕ, true, ◌+◌, ◌*◌, ◌%◌, List, [], ◌∷◌, map}
 use Rattle.std.specs.List.{range_with_len}
 use Rattle.sof_base.specs.Ports.{InputView}
-use Rattle.sof_io.specs.Takes.{new_input}
 
 -- a stream has five widgets, of which the first is its host
 abbrev pub host_slot : ℕ → ℕ
@@ -20,9 +19,9 @@ input_byte i j = (7 * j + i) % 256
 unfoldable pub input_bytes : ℕ → List ℕ
 input_bytes i = map (input_byte i) (range_with_len 0 4800)
 
--- the input of a stream
+-- the input of a stream, of which no more bytes come
 abbrev pub stream_input : ℕ → InputView
-stream_input i = new_input (host_slot i) (input_bytes i)
+stream_input i = record { slot = host_slot i; position = 0; left = input_bytes i; ended = true }
 
 -- those of each
 abbrev pub stress_inputs : ℕ → List InputView

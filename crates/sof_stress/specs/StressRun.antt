@@ -10,7 +10,7 @@ use Rattle.sof_script.specs.declared.script.Command.{Command}
 use Rattle.sof_session.specs.Written.{Out, Ground}
 use Rattle.sof_session.specs.Lives.{Life, Bare, Seated, Turn, Turns, Task, Begin, device_of, Exit}
 use Rattle.sof_stress.specs.declared.counts.Counts.{Counts}
-use Rattle.sof_stress.specs.Draws.{streams_of, stress_commands}
+use Rattle.sof_stress.specs.Draws.{stream_count, stress_commands}
 use Rattle.sof_stress.specs.StressGraph.{stress_topology}
 use Rattle.sof_stress.specs.StressPorts.{dai_slot, stress_inputs, stress_slots}
 use Rattle.sof_stress.specs.CommandTurns.{CommandTurn, turns_of, tasks_of, no_counts, all_counted}
@@ -18,15 +18,15 @@ use Rattle.sof_stress.specs.CommandTurns.{CommandTurn, turns_of, tasks_of, no_co
 -- ---- what it is over, by its seed
 
 abbrev pub stress_plan : ℕ → Plan
-stress_plan seed = plan_of (stress_topology (streams_of seed))
+stress_plan seed = plan_of (stress_topology (stream_count seed))
 
 -- the heap: what the topology needs, where the device has room for it
 abbrev pub stress_heap : ℕ → ℕ → ℕ
-stress_heap room seed = min (need_of (stress_topology (streams_of seed))) room
+stress_heap room seed = min (need_of (stress_topology (stream_count seed))) room
 
 -- a session is begun over the plan, the heap, the inputs and the slot of the output
 abbrev pub stress_begins : ℕ → ℕ → Task
-stress_begins room seed = Begin (stress_plan seed) (stress_heap room seed) (stress_inputs (streams_of seed)) (stress_slots (streams_of seed))
+stress_begins room seed = Begin (stress_plan seed) (stress_heap room seed) (stress_inputs (stream_count seed)) (stress_slots (stream_count seed))
 
 -- and carries out the commands, turn by turn
 abbrev pub stress_turns : ℕ → List CommandTurn
@@ -37,8 +37,8 @@ abbrev pub stress_ground : ℕ → ℕ → Ground
 stress_ground room seed = record {
   plan = stress_plan seed;
   heap = stress_heap room seed;
-  whole = map (λ (input : InputView). (input.slot, input.left)) (stress_inputs (streams_of seed));
-  slots = stress_slots (streams_of seed);
+  whole = map (λ (input : InputView). (input.slot, input.left)) (stress_inputs (stream_count seed));
+  slots = stress_slots (stream_count seed);
 }
 
 -- and by its commands
@@ -54,7 +54,7 @@ sent_in (Seated seat inputs slots) = seat.link.sent
 
 -- how many messages were sent, and what is counted of the turns by what each came to
 abbrev pub stress_counts : ℕ → ℕ → List Out → Counts
-stress_counts seed sent outs = record (all_counted (dai_slot (streams_of seed)) (stress_turns seed) outs no_counts) { messages = sent }
+stress_counts seed sent outs = record (all_counted (dai_slot (stream_count seed)) (stress_turns seed) outs no_counts) { messages = sent }
 
 -- ---- over a device
 

@@ -17,7 +17,7 @@ pub fn next_state(state: u32) -> u32
 
 /// How many streams a stress of this seed has.
 pub fn streams_of(seed: u32) -> u32
-    ensures streams { result ≡ law.streams_of seed }
+    ensures streams { result ≡ law.stream_count seed }
     ensures few { (1 ≤ result) × (result ≤ 4) }
 {
     1 + seed % 4

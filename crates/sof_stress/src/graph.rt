@@ -24,7 +24,7 @@ fn plain(
     sname: &[u8],
     index: u32,
 ) -> Result<SourceWidget, NoMemory>
-    ensures { IfOk result (λ w. w ≡ law.plain kind name sname.now index) }
+    ensures { IfOk result (λ w. w ≡ law.plain_widget kind name sname.now index) }
 {
     Ok(SourceWidget::new(alloc, kind, name, named(sname)?, index))
 }
@@ -179,7 +179,7 @@ fn put_mixed_widgets(alloc: Global, widgets: &mut Items<SourceWidget>) -> Result
 }
 
 fn route(source: &[u8], sink: &[u8]) -> Result<SourceRoute, NoMemory>
-    ensures { IfOk result (λ r. r ≡ law.route source.now sink.now) }
+    ensures { IfOk result (λ r. r ≡ law.source_route source.now sink.now) }
 {
     Ok(SourceRoute {
         source: named(source)?,

@@ -7,8 +7,8 @@ use sof_base::NoMemory;
 use sof_io::{Inputs, Outputs};
 use std::alloc::Global;
 
-/// How many bytes an input has.
-const INPUT_BYTES: u32 = 4800;
+/// How many bytes the input of a stream has.
+const STREAM_BYTES: u32 = 4800;
 
 // The bytes of a stream's input.
 fn input_bytes(alloc: Global, i: u32) -> Result<Vec<u8>, NoMemory>
@@ -16,7 +16,7 @@ fn input_bytes(alloc: Global, i: u32) -> Result<Vec<u8>, NoMemory>
     ensures { IfOk result (λ bytes. bytes.items ≡ law.input_bytes i) }
 {
     let mut bytes = Vec::new(alloc);
-    for j in 0..INPUT_BYTES {
+    for j in 0..STREAM_BYTES {
         bytes.push(((7 * j + i) % 256) as u8)?;
     }
     Ok(bytes)
@@ -29,7 +29,10 @@ pub fn inputs_of(alloc: Global, streams: u32) -> Result<Inputs, NoMemory>
 {
     let mut inputs = Inputs::new(alloc)?;
     for i in 0..streams {
-        inputs.add(5 * i, input_bytes(alloc, i)?)?;
+        let bytes = input_bytes(alloc, i)?;
+        inputs.add(5 * i)?;
+        inputs.fill(5 * i, bytes.as_slice());
+        inputs.end(5 * i);
     }
     Ok(inputs)
 }

@@ -57,9 +57,9 @@ fn make(alloc: Global, seed: u32) -> Result<Made, NoMemory>
     ensures plan { IfOk result (λ made. made.plan ≡ stress_plan seed) }
     ensures sound { IfOk result (λ made. IsSound made.plan) }
     ensures small { IfOk result (λ made. IsSmall made.plan.graph) }
-    ensures need { IfOk result (λ made. need_on made.plan.graph ≡ need_of (stress_topology (draws.streams_of seed))) }
-    ensures inputs { IfOk result (λ made. made.inputs ≡ stress_inputs (draws.streams_of seed)) }
-    ensures outputs { IfOk result (λ made. made.outputs ≡ new_output (slot_of (draws.streams_of seed)) ∷ []) }
+    ensures need { IfOk result (λ made. need_on made.plan.graph ≡ need_of (stress_topology (draws.stream_count seed))) }
+    ensures inputs { IfOk result (λ made. made.inputs ≡ stress_inputs (draws.stream_count seed)) }
+    ensures outputs { IfOk result (λ made. made.outputs ≡ new_output (slot_of (draws.stream_count seed)) ∷ []) }
 {
     let streams = streams_of(seed);
     Ok(Made {

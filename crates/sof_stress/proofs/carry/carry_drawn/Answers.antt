@@ -3,14 +3,14 @@ use Rattle.std.specs.List.{range_with_len}
 use Rattle.std.proofs.lemmas.List.FromFn.{length-map-range_with_len}
 use Rattle.sof_script.specs.declared.script.Command.{Command}
 use Rattle.sof_stress.specs.CommandTurns.{CommandsCarried}
-use Rattle.sof_stress.specs.Draws.{next_state, state_at, drawn, command_by, streams_of}
+use Rattle.sof_stress.specs.Draws.{next_state, state_at, drawn, command_by, stream_count}
 use Rattle.sof_stress.proofs.Ranges.{map-more}
 use Rattle.sof_stress.proofs.CarrySteps.{counts-mono, none-yet, one-carried, and-then}
 use Rattle.sof_stress.proofs.carry.carry_drawn.Goals as goal
 
 -- the command of a number
 abbrev drawn_command : ℕ → ℕ → Command
-drawn_command seed k = command_by (streams_of seed) (drawn seed k)
+drawn_command seed k = command_by (stream_count seed) (drawn seed k)
 
 pub loop-init : goal.loop-init
 unfolding state_at

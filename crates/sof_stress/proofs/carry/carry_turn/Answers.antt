@@ -17,7 +17,7 @@ held-bytes-requires g c = c.step-answer.ensures.slots ∙ c.requires.slots
 pub returns-clause-carried : goal.returns-clause-carried
 returns-clause-carried g c =
     let slots : output_slots c.drain.new.self ≡ output_slots c.args.outputs.now = ap output_slots c.drain.ensures ∙ slots-drained c.step-answer.new.out ∙ c.step-answer.ensures.slots in
-    let turned = carries-on g.P.Dsp.means c.args.command.now _ _ _ _ _ _ c.step-answer.result c.requires.empty c.step-answer.ensures.stepped c.step-answer.ensures.plan c.step-answer.ensures.heap c.step-answer.ensures.agreed in
+    let turned = carries-on g.P.Dsp.means c.args.command.now _ _ _ _ _ _ c.step-answer.result c.requires.empty c.step-answer.ensures.stepped c.step-answer.ensures.plan c.step-answer.ensures.heap c.step-answer.ensures.agreed c.step-answer.ensures.ends in
     let turn : CommandTurn = record { command = c.args.command.now; last = c.args.last } in
     let out : Out = record { answer = c.step-answer.result; shown = shown_by c.args.command.now c.args.session.now.plan c.args.session.now.kept; written = written_in c.step-answer.new.out } in
     let old = Seated c.args.session.now c.args.inputs.now (output_slots c.args.outputs.now) in

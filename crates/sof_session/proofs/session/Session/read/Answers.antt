@@ -1,10 +1,10 @@
-use Rattle.std.proofs.Common.{◌∙◌, ap}
+use Rattle.std.proofs.Common.{◌∙◌, ap, ℕ, Bool, List}
 use Rattle.sof_base.specs.Ports.{Io}
 use Rattle.host_ctl.specs.ControlAsks.{read_fault}
 use Rattle.host_ctl.specs.ControlOrders.{read_order, outcome_of}
 use Rattle.sof_session.specs.SessionCalls.{ports}
 use Rattle.sof_session.proofs.Agreement.{pending-room}
-use Rattle.sof_session.proofs.AskedStays.{sent-io, sent-slots}
+use Rattle.sof_session.proofs.AskedStays.{sent-io, sent-ends}
 use Rattle.sof_session.proofs.CallAgreement.{AreAgreed-sent}
 use Rattle.sof_session.proofs.ControlSteps.{read-call, told-answers}
 use Rattle.sof_session.proofs.session.Session.read.Goals as goal
@@ -30,8 +30,18 @@ returns-clause-slots g c =
     let inside = c.self.inside in
     let done = c.read-told in
     let call = read-call inside.plan c.self.invariant.sound inside.kept c.self.invariant.agree.record_is c.args.name.now in
-    sent-slots g.P.Dsp.means (record { link = inside.link; kept = inside.kept; plan = inside.plan; heap = inside.heap }) done.new.dsp (ports c.args.io.now c.args.out.now) (ports done.new.io done.new.out) c.self.invariant done.new.kept done.ensures.agree (outcome_of done.result)
-    (read_fault inside.plan inside.kept c.args.name.now) (read_order inside.plan inside.kept c.args.name.now) call.sent done.ensures.asked
+    ap (λ (x : List ℕ × List (ℕ × Bool)). x.0)
+    (sent-ends g.P.Dsp.means (record { link = inside.link; kept = inside.kept; plan = inside.plan; heap = inside.heap }) done.new.dsp (ports c.args.io.now c.args.out.now) (ports done.new.io done.new.out) c.self.invariant done.new.kept done.ensures.agree (outcome_of done.result)
+    (read_fault inside.plan inside.kept c.args.name.now) (read_order inside.plan inside.kept c.args.name.now) call.sent done.ensures.asked)
+
+pub returns-clause-ends : goal.returns-clause-ends
+returns-clause-ends g c =
+    let inside = c.self.inside in
+    let done = c.read-told in
+    let call = read-call inside.plan c.self.invariant.sound inside.kept c.self.invariant.agree.record_is c.args.name.now in
+    ap (λ (x : List ℕ × List (ℕ × Bool)). x.1)
+    (sent-ends g.P.Dsp.means (record { link = inside.link; kept = inside.kept; plan = inside.plan; heap = inside.heap }) done.new.dsp (ports c.args.io.now c.args.out.now) (ports done.new.io done.new.out) c.self.invariant done.new.kept done.ensures.agree (outcome_of done.result)
+    (read_fault inside.plan inside.kept c.args.name.now) (read_order inside.plan inside.kept c.args.name.now) call.sent done.ensures.asked)
 
 -- where no tick is pending, none came
 pub returns-clause-still : goal.returns-clause-still

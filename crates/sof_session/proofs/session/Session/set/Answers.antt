@@ -1,4 +1,4 @@
-use Rattle.std.proofs.Common.{◌∙◌, ap, sym}
+use Rattle.std.proofs.Common.{◌∙◌, ap, sym, ℕ, Bool, List}
 use Rattle.sof_base.specs.Ports.{Io}
 use Rattle.host_widgets.specs.declared.answers.Answer.{Answer}
 use Rattle.host_ctl.specs.ControlAsks.{set_fault}
@@ -6,7 +6,7 @@ use Rattle.host_ctl.specs.ControlOrders.{set_order}
 use Rattle.sof_session.specs.Commands.{answer_by}
 use Rattle.sof_session.specs.SessionCalls.{ports}
 use Rattle.sof_session.proofs.Agreement.{pending-room}
-use Rattle.sof_session.proofs.AskedStays.{sent-io, sent-slots}
+use Rattle.sof_session.proofs.AskedStays.{sent-io, sent-ends}
 use Rattle.sof_session.proofs.CallAgreement.{AreAgreed-sent}
 use Rattle.sof_session.proofs.ControlSteps.{set-call, set-answers}
 use Rattle.sof_session.proofs.session.Session.set.Goals as goal
@@ -32,8 +32,18 @@ returns-clause-slots g c =
     let inside = c.self.inside in
     let done = c.set-done in
     let call = set-call inside.plan c.self.invariant.sound inside.kept c.self.invariant.agree.record_is c.args.name.now c.items.result.now in
-    sent-slots g.P.Dsp.means (record { link = inside.link; kept = inside.kept; plan = inside.plan; heap = inside.heap }) done.new.dsp (ports c.args.io.now c.args.out.now) (ports done.new.io done.new.out) c.self.invariant done.new.kept done.ensures.agree done.result
-    (set_fault inside.plan inside.kept c.args.name.now c.items.result.now) (set_order inside.plan inside.kept c.args.name.now c.items.result.now) call.sent done.ensures.asked
+    ap (λ (x : List ℕ × List (ℕ × Bool)). x.0)
+    (sent-ends g.P.Dsp.means (record { link = inside.link; kept = inside.kept; plan = inside.plan; heap = inside.heap }) done.new.dsp (ports c.args.io.now c.args.out.now) (ports done.new.io done.new.out) c.self.invariant done.new.kept done.ensures.agree done.result
+    (set_fault inside.plan inside.kept c.args.name.now c.items.result.now) (set_order inside.plan inside.kept c.args.name.now c.items.result.now) call.sent done.ensures.asked)
+
+pub returns-clause-ends : goal.returns-clause-ends
+returns-clause-ends g c =
+    let inside = c.self.inside in
+    let done = c.set-done in
+    let call = set-call inside.plan c.self.invariant.sound inside.kept c.self.invariant.agree.record_is c.args.name.now c.items.result.now in
+    ap (λ (x : List ℕ × List (ℕ × Bool)). x.1)
+    (sent-ends g.P.Dsp.means (record { link = inside.link; kept = inside.kept; plan = inside.plan; heap = inside.heap }) done.new.dsp (ports c.args.io.now c.args.out.now) (ports done.new.io done.new.out) c.self.invariant done.new.kept done.ensures.agree done.result
+    (set_fault inside.plan inside.kept c.args.name.now c.items.result.now) (set_order inside.plan inside.kept c.args.name.now c.items.result.now) call.sent done.ensures.asked)
 
 -- where no tick is pending, none came
 pub returns-clause-still : goal.returns-clause-still

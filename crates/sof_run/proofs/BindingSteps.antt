@@ -1,8 +1,9 @@
 -- One binding more: it is right, and its slot is not there yet.
 use Rattle.std.proofs.Common.{◌≡◌, ℕ, ◌+◌, ◌<◌, Bool, true, false, List, [], ◌∷◌, ◌++◌, length, take, drop, get_or, None, sym, subst}
-use Rattle.sof_base.specs.Ports.{OutputView}
-use Rattle.sof_io.specs.Bound.{output_slots, has_slot}
+use Rattle.sof_base.specs.Ports.{InputView, OutputView}
+use Rattle.sof_io.specs.Bound.{input_slots, output_slots, has_slot}
 use Rattle.sof_io.specs.Puts.{with_slot}
+use Rattle.sof_io.specs.Fills.{with_input}
 use Rattle.tplg_plan.specs.declared.plans.Plan.{Plan}
 use Rattle.sof_script.specs.declared.script.Binding.{Binding}
 use Rattle.sof_script.specs.Commands.{Bound, bound_of, bounds_of}
@@ -34,12 +35,12 @@ module _ (plan : Plan) (bs : List Binding) (i : ℕ) (b : Binding) (within : i <
     right_on = subst (λ xs. wrong_behind plan xs after ≡ None) (sym (front plan bs i b within at)) parts.2
 
     -- its slot is there
-    pub input_there : b.input ≡ true → (slots slots' : List ℕ) → slots' ≡ slots ++ slot_of plan b.input b.endpoint ∷ [] → IsFresh plan true before slots → IsFresh plan true through slots'
-    input_there is slots slots' same fresh =
-        subst (λ xs. IsFresh plan true through xs) (sym same)
-        (subst (λ x. IsFresh plan true through (slots ++ slot_of plan x b.endpoint ∷ [])) (sym is)
-        (subst (λ xs. IsFresh plan true xs (slots ++ slot_of plan true b.endpoint ∷ [])) (sym (front plan bs i b within at))
-        (fresh_input plan before (bound_of b) slots (subst (λ x. has_endpoint plan x b.endpoint ≡ true) is parts.0) fresh)))
+    pub input_there : b.input ≡ true → (inputs inputs' : List InputView) → inputs' ≡ with_input (slot_of plan b.input b.endpoint) inputs → IsFresh plan true before (input_slots inputs) → IsFresh plan true through (input_slots inputs')
+    input_there is inputs inputs' same fresh =
+        subst (λ xs. IsFresh plan true through (input_slots xs)) (sym same)
+        (subst (λ x. IsFresh plan true through (input_slots (with_input (slot_of plan x b.endpoint) inputs))) (sym is)
+        (subst (λ xs. IsFresh plan true xs (input_slots (with_input (slot_of plan true b.endpoint) inputs))) (sym (front plan bs i b within at))
+        (fresh_input plan before (bound_of b) inputs (subst (λ x. has_endpoint plan x b.endpoint ≡ true) is parts.0) fresh)))
 
     pub output_there : b.input ≡ false → (outputs outputs' : List OutputView) → outputs' ≡ with_slot (slot_of plan b.input b.endpoint) outputs → IsFresh plan false before (output_slots outputs) → IsFresh plan false through (output_slots outputs')
     output_there is outputs outputs' same fresh =

@@ -3,7 +3,7 @@ use Rattle.std.proofs.Common.{◌≡◌, ◌⊎◌, inl, inr, ℕ, ◌≤◌, �
 use Rattle.std.specs.List.{concat}
 use Rattle.std.proofs.lemmas.List.{append-nil}
 use Rattle.sof_desk.specs.declared.calls.LoadFault.TheVariants.{Failed, TooLong, OutOfMemory}
-use Rattle.sof_desk.specs.Desk.{DeskMeaning, DeskCall, Load, Did, Heard, DeskLed, Loaded, Acted}
+use Rattle.sof_desk.specs.Desk.{DeskMeaning, DeskCall, Load, Did, Read, Heard, DeskLed, Loaded, Acted}
 use Rattle.mbox_link.specs.Calls.{Meaning}
 use Rattle.sof_session.specs.Lives.{Life, Turn, Turns}
 use Rattle.tplg_model.specs.declared.fault.TplgFault.{TplgFault}
@@ -15,7 +15,7 @@ use Rattle.tplg_rules.proofs.RuleTests.{whole_none, none_whole, some_breaks}
 use Rattle.sof_run.specs.declared.prepare.Halt.{Halt}
 use Rattle.sof_run.specs.declared.prepare.Halt.TheVariants as halts
 use Rattle.sof_run.specs.Words.{play_of}
-use Rattle.sof_run.specs.Todo.{End, Says, Goes, RanOn}
+use Rattle.sof_run.specs.Todo.{End, Says, DoneBy, RanOn}
 use Rattle.sof_run.specs.Lines.{no_memory_line, with_newline, halt_line, halt_status}
 use Rattle.sof_run.specs.Play.{lines_todo}
 use Rattle.sof_run.specs.Checking.{check_of, counts_of, checked_rules, checked_file, checked, checked_todo, check}
@@ -41,21 +41,23 @@ checks_alone room sent words name is = λ i. todo_for room sent (apart room word
 
 -- ---- the device
 
-lines_alone : (lines : List (List ℕ)) (turns : List Turn) (calls : List DeskCall) (status : ℕ) → Goes (lines_todo lines End) turns calls status → turns ≡ []
+lines_alone : (lines : List (List ℕ)) (turns : List Turn) (calls : List DeskCall) (status : ℕ) → DoneBy (lines_todo lines End) turns calls status → turns ≡ []
 lines_alone [] turns calls status goes = goes.0
 lines_alone (line ∷ lines) turns [] status goes = absurd goes
 lines_alone (line ∷ lines) turns (Load name limit heard ∷ calls) status goes = absurd goes
+lines_alone (line ∷ lines) turns (Read n size got ∷ calls) status goes = absurd goes
 lines_alone (line ∷ lines) turns (Did act true ∷ calls) status goes = lines_alone lines turns calls status goes.1
 lines_alone (line ∷ lines) turns (Did act false ∷ calls) status goes = goes.1.0
 
-checked_alone : (r : Result Topology Halt) (turns : List Turn) (calls : List DeskCall) (status : ℕ) → Goes (checked_todo r) turns calls status ⊎ Says no_memory_line 7 turns calls status → turns ≡ []
+checked_alone : (r : Result Topology Halt) (turns : List Turn) (calls : List DeskCall) (status : ℕ) → DoneBy (checked_todo r) turns calls status ⊎ Says no_memory_line 7 turns calls status → turns ≡ []
 checked_alone (Ok t) turns calls status (inl goes) = lines_alone (counts_of t) turns calls status goes
 checked_alone (Err why) turns calls status (inl goes) = no_turns (halt_line why) (halt_status why) turns calls status goes
 checked_alone r turns calls status (inr says) = no_turns no_memory_line 7 turns calls status says
 
-no_turn : (name : List ℕ) (turns : List Turn) (calls : List DeskCall) (status : ℕ) → Goes (check name) turns calls status → turns ≡ []
+no_turn : (name : List ℕ) (turns : List Turn) (calls : List DeskCall) (status : ℕ) → DoneBy (check name) turns calls status → turns ≡ []
 no_turn name turns [] status goes = absurd goes
 no_turn name turns (Did act done ∷ calls) status goes = absurd goes
+no_turn name turns (Read n size got ∷ calls) status goes = absurd goes
 no_turn name turns (Load n l (Ok got) ∷ calls) status goes = checked_alone (checked got) turns calls status goes.2
 no_turn name turns (Load n l (Err TooLong) ∷ calls) status goes = no_turns (codes "too long topology\n") 5 turns calls status goes.2
 no_turn name turns (Load n l (Err OutOfMemory) ∷ calls) status goes = no_turns no_memory_line 7 turns calls status goes.2
@@ -64,10 +66,11 @@ no_turn name turns (Load n l (Err Failed) ∷ calls) status goes = goes.2.0
 -- ---- the status
 
 -- all lines that were said, or not all of them were
-lines_said : (lines : List (List ℕ)) (turns : List Turn) (calls : List DeskCall) (status : ℕ) → Goes (lines_todo lines End) turns calls status → (status ≡ 3) ⊎ ((status ≡ 0) × (calls ≡ map saying (map with_newline lines)))
+lines_said : (lines : List (List ℕ)) (turns : List Turn) (calls : List DeskCall) (status : ℕ) → DoneBy (lines_todo lines End) turns calls status → (status ≡ 3) ⊎ ((status ≡ 0) × (calls ≡ map saying (map with_newline lines)))
 lines_said [] turns calls status goes = inr (goes.2, goes.1)
 lines_said (line ∷ lines) turns [] status goes = absurd goes
 lines_said (line ∷ lines) turns (Load name limit heard ∷ calls) status goes = absurd goes
+lines_said (line ∷ lines) turns (Read n size got ∷ calls) status goes = absurd goes
 lines_said (line ∷ lines) turns (Did act false ∷ calls) status goes = inl goes.1.2
 lines_said (line ∷ lines) turns (Did act true ∷ calls) status goes = one_more (lines_said lines turns calls status goes.1)
   where
@@ -99,39 +102,40 @@ module _ (name bytes : List ℕ) where
         want (inl three) = inl (inl three)
         want (inr done) = inr (inr (inl (why, done.0 ∙ two, short, is, λ i. loads i ∷ done.1 i)))
 
-    right : (t : Topology) → IsRight bytes t → Goes (lines_todo (counts_of t) End) turns calls status → CheckVerdict name bytes (call ∷ calls) status
+    right : (t : Topology) → IsRight bytes t → DoneBy (lines_todo (counts_of t) End) turns calls status → CheckVerdict name bytes (call ∷ calls) status
     right t is goes = want (lines_said (counts_of t) turns calls status goes)
       where
         want : (status ≡ 3) ⊎ ((status ≡ 0) × (calls ≡ map saying (map with_newline (counts_of t)))) → CheckVerdict name bytes (call ∷ calls) status
         want (inl three) = inl (inl three)
         want (inr done) = inr (inr (inr (done.0, short, (t, is, λ i. loads i ∷ done.1 i))))
 
-    by_rules : (t : Topology) (ruling : Option (ℕ × ℕ)) → IsFile bytes t → ruling_of t ≡ ruling → Goes (checked_todo (checked_rules t ruling)) turns calls status → CheckVerdict name bytes (call ∷ calls) status
+    by_rules : (t : Topology) (ruling : Option (ℕ × ℕ)) → IsFile bytes t → ruling_of t ≡ ruling → DoneBy (checked_todo (checked_rules t ruling)) turns calls status → CheckVerdict name bytes (call ∷ calls) status
     by_rules t (Some (rule, item)) file is goes = wrong (halts.Rule rule item) refl (t, file, some_breaks t rule item is) goes
     by_rules t None file is goes = right t (file, none_whole t is) goes
 
-    by_file : (r : Result Topology TplgFault) → topology_of bytes ≡ r → Goes (checked_todo (checked_file r)) turns calls status → CheckVerdict name bytes (call ∷ calls) status
+    by_file : (r : Result Topology TplgFault) → topology_of bytes ≡ r → DoneBy (checked_todo (checked_file r)) turns calls status → CheckVerdict name bytes (call ∷ calls) status
     by_file (Err fault) is goes = wrong (halts.Broken fault) refl (none, topology_found bytes fault are is) goes
       where
         none : IsBroken bytes
         none t file = cc (sym is ∙ topology_again bytes t file.0 file.1)
     by_file (Ok t) is goes = by_rules t (ruling_of t) (topology_take bytes t are is) refl goes
 
-    free : Goes (checked_todo (checked bytes)) turns calls status ⊎ Says no_memory_line 7 turns calls status → CheckVerdict name bytes (call ∷ calls) status
+    free : DoneBy (checked_todo (checked bytes)) turns calls status ⊎ Says no_memory_line 7 turns calls status → CheckVerdict name bytes (call ∷ calls) status
     free (inl goes) = by_file (topology_of bytes) refl goes
     free (inr says) = wanting turns calls (call ∷ calls) status says
 
   module _ {D : Type 0} (means : DeskMeaning D) where
     -- the file is told
-    judge : (turns : List Turn) (calls : List DeskCall) (status : ℕ) (d e : D) → means.holds d name ≡ Some bytes → AreBytes bytes → Goes (check name) turns calls status → DeskLed means d calls e → CheckVerdict name bytes calls status
+    judge : (turns : List Turn) (calls : List DeskCall) (status : ℕ) (d e : D) → means.holds d name ≡ Some bytes → AreBytes bytes → DoneBy (check name) turns calls status → DeskLed means d calls e → CheckVerdict name bytes calls status
     judge turns [] status d e told are goes led = absurd goes
     judge turns (Did act done ∷ calls) status d e told are goes led = absurd goes
+    judge turns (Read n size got ∷ calls) status d e told are goes led = absurd goes
     judge turns (Load n l (Ok got) ∷ calls) status d e told are goes led =
         let loaded : Loaded means n l (Ok got) d led.0 = led.1 in
         let same : got ≡ bytes = loaded.answers.1 bytes (ap (means.holds d) goes.0 ∙ told) in
         let short : length bytes ≤ 1048576 = subst (λ k. length bytes ≤ k) goes.1 (subst (λ xs. length xs ≤ l) same loaded.answers.0) in
         free are short (Load n l (Ok got)) (λ i. Load (goes.0 i) (goes.1 i) (Ok (same i))) turns calls status
-        (subst (λ xs. Goes (checked_todo (checked xs)) turns calls status ⊎ Says no_memory_line 7 turns calls status) same goes.2)
+        (subst (λ xs. DoneBy (checked_todo (checked xs)) turns calls status ⊎ Says no_memory_line 7 turns calls status) same goes.2)
     judge turns (Load n l (Err TooLong) ∷ calls) status d e told are goes led =
         let loaded : Loaded means n l (Err TooLong) d led.0 = led.1 in
         long turns calls (Load n l (Err TooLong)) status (λ i. Load (goes.0 i) (goes.1 i) (Err TooLong)) (subst (λ k. k < length bytes) goes.1 (loaded.answers bytes (ap (means.holds d) goes.0 ∙ told))) goes.2
@@ -141,12 +145,13 @@ module _ (name bytes : List ℕ) where
 -- ---- what was written
 
 module _ {D : Type 0} (means : DeskMeaning D) where
-  pub lines_parted : (lines : List (List ℕ)) (turns : List Turn) (calls : List DeskCall) (d e : D) (status : ℕ) → Goes (lines_todo lines End) turns calls status → DeskLed means d calls e → Parted means (concat (map with_newline lines)) 0 d e status
+  pub lines_parted : (lines : List (List ℕ)) (turns : List Turn) (calls : List DeskCall) (d e : D) (status : ℕ) → DoneBy (lines_todo lines End) turns calls status → DeskLed means d calls e → Parted means (concat (map with_newline lines)) 0 d e status
   lines_parted [] turns [] d e status goes led =
       record { part = []; spoke = nothing means d e (λ place. ap (λ x. means.wrote x place) led); is = inl (goes.2, refl) }
   lines_parted [] turns (call ∷ calls) d e status goes led = absurd (cc goes.1)
   lines_parted (line ∷ lines) turns [] d e status goes led = absurd goes
   lines_parted (line ∷ lines) turns (Load name limit heard ∷ calls) d e status goes led = absurd goes
+  lines_parted (line ∷ lines) turns (Read n size got ∷ calls) d e status goes led = absurd goes
   lines_parted (line ∷ lines) turns (Did act false ∷ calls) d e status goes led =
       line_failed means (with_newline line) (concat (map with_newline lines)) 0 act calls d e status goes.0 goes.1.1 goes.1.2 led
   lines_parted (line ∷ lines) turns (Did act true ∷ calls) d e status goes led =
@@ -194,19 +199,20 @@ module _ {D : Type 0} (means : DeskMeaning D) where
     abbrev text : List ℕ
     text = concat (map with_newline (counts_of t))
 
-    counts_told : (turns : List Turn) (calls : List DeskCall) (d e : D) (status : ℕ) → Goes (checked_todo (checked bytes)) turns calls status ⊎ Says no_memory_line 7 turns calls status → DeskLed means d calls e → WroteText means text d e status
+    counts_told : (turns : List Turn) (calls : List DeskCall) (d e : D) (status : ℕ) → DoneBy (checked_todo (checked bytes)) turns calls status ⊎ Says no_memory_line 7 turns calls status → DeskLed means d calls e → WroteText means text d e status
     counts_told turns calls d e status (inl goes) led =
-        all_told text d e status (lines_parted (counts_of t) turns calls d e status (subst (λ r. Goes (checked_todo r) turns calls status) kept goes) led)
+        all_told text d e status (lines_parted (counts_of t) turns calls d e status (subst (λ r. DoneBy (checked_todo r) turns calls status) kept goes) led)
     counts_told turns calls d e status (inr says) led = wanting_told text turns calls d e status says led
 
-    check_told : (turns : List Turn) (calls : List DeskCall) (d e : D) (status : ℕ) → means.holds d name ≡ Some bytes → Goes (check name) turns calls status → DeskLed means d calls e → WroteText means text d e status
+    check_told : (turns : List Turn) (calls : List DeskCall) (d e : D) (status : ℕ) → means.holds d name ≡ Some bytes → DoneBy (check name) turns calls status → DeskLed means d calls e → WroteText means text d e status
     check_told turns [] d e status told goes led = absurd goes
     check_told turns (Did act done ∷ calls) d e status told goes led = absurd goes
+    check_told turns (Read n size got ∷ calls) d e status told goes led = absurd goes
     check_told turns (Load n l (Ok got) ∷ calls) d e status told goes led =
         let loaded : Loaded means n l (Ok got) d led.0 = led.1 in
         let same : got ≡ bytes = loaded.answers.1 bytes (ap (means.holds d) goes.0 ∙ told) in
         loaded_told text n l (Ok got) d led.0 e status loaded
-        (counts_told turns calls led.0 e status (subst (λ xs. Goes (checked_todo (checked xs)) turns calls status ⊎ Says no_memory_line 7 turns calls status) same goes.2) led.2)
+        (counts_told turns calls led.0 e status (subst (λ xs. DoneBy (checked_todo (checked xs)) turns calls status ⊎ Says no_memory_line 7 turns calls status) same goes.2) led.2)
     check_told turns (Load n l (Err TooLong) ∷ calls) d e status told goes led =
         let loaded : Loaded means n l (Err TooLong) d led.0 = led.1 in
         let over : l < length bytes = loaded.answers bytes (ap (means.holds d) goes.0 ∙ told) in
@@ -224,8 +230,8 @@ is_kept bytes t right = ap checked_file (topology_again bytes t right.0.0 right.
 
 module _ {D P : Type 0} (means : DeskMeaning D) (dsp : Meaning P) (words : List (List ℕ)) (old new : D) (room sent : ℕ) (p q : Life P) (status : ℕ) (ran : RanOn means dsp (todo_of room sent words) old p status new q) where
   -- what it did is that of a check
-  goes_on : (name : List ℕ) → check_of words ≡ Some name → Goes (check name) ran.turns ran.played.calls status
-  goes_on name is = subst (λ todo. Goes todo ran.turns ran.played.calls status) (checks_alone room sent words name is) ran.played.goes
+  goes_on : (name : List ℕ) → check_of words ≡ Some name → DoneBy (check name) ran.turns ran.played.calls status
+  goes_on name is = subst (λ todo. DoneBy todo ran.turns ran.played.calls status) (checks_alone room sent words name is) ran.played.goes
 
   none : (name : List ℕ) → check_of words ≡ Some name → ran.turns ≡ []
   none name is = no_turn name ran.turns ran.played.calls status (goes_on name is)

@@ -17,16 +17,17 @@ use Rattle.tplg_plan.specs.declared.plans.Plan.{Plan}
 use Rattle.sof_session.specs.Commands.{Known}
 use Rattle.sof_session.specs.Agreement.{AreAgreed}
 use Rattle.sof_session.specs.Seat.{Seat}
-use Rattle.sof_session.specs.SessionStep.{Stepped}
+use Rattle.sof_session.specs.SessionStep.{CommandDone}
 use Rattle.sof_session.specs.Show.{IsLineAt, show_lines, shown_by}
+use Rattle.sof_session.specs.Fills.{input_ends}
 use Rattle.sof_session.specs.Written.{Out, Written, written_in}
 use Rattle.sof_session.proofs.Writings.{empty-outputs}
 use Rattle.sof_session.specs.Lives.{Life, Seated, Turn, Turned, Carry}
 use Rattle.sof_run.specs.Todo as todo
-use Rattle.sof_run.specs.Todo.{Todo, Do, Played, DeskPhase, LeadsOn, PhaseFails, Phase}
+use Rattle.sof_run.specs.Todo.{Todo, Do, Refill, Played, DeskPhase, LeadsOn, PhaseFails, Phase}
 use Rattle.sof_run.specs.Rounds.{Round, rounds_after, command_rounds, rounds_of}
 use Rattle.sof_run.specs.Lines.{is_show, with_newline, lines_after}
-use Rattle.sof_run.specs.Play.{flush_todo, lines_todo, round_todo, rounds_todo, commands_todo}
+use Rattle.sof_run.specs.Play.{flush_todo, lines_todo, unit_todo, round_todo, rounds_todo, commands_todo}
 use Rattle.sof_run.proofs.Steps.{do_on, do_off, step_on, beside, beside_failed}
 
 -- what the answer says of the list
@@ -148,7 +149,7 @@ module _ {D : Type 0} (means : DeskMeaning D) where
       after rest out = flush_todo out.written (lines_todo (lines_after round out) rest)
 
       -- a turn, the bytes, and the lines
-      pub round_said : (done : Bool) (old m new : D) (p q : Life P) → Turned dsp (Carry round.numbered.command) out p q → DeskPhase means (flush_todo written) true old m → DeskPhase means (lines_todo lines) done m new → Phase means dsp (round_todo round) done old p new q
+      pub round_said : (done : Bool) (old m new : D) (p q : Life P) → Turned dsp (Carry round.numbered.command) out p q → DeskPhase means (flush_todo written) true old m → DeskPhase means (lines_todo lines) done m new → Phase means dsp (unit_todo round) done old p new q
       round_said true old m new p q turned flushed said = λ rest status end r ran.
           step_on means dsp (record { task = Carry round.numbered.command; out = out }) (after rest) status old end p q r turned
           (beside means dsp (flush_todo written) old m q flushed (lines_todo lines rest) status end r (beside means dsp (lines_todo lines) m new q said rest status end r ran))
@@ -157,7 +158,7 @@ module _ {D : Type 0} (means : DeskMeaning D) where
           (beside means dsp (flush_todo written) old m q flushed (lines_todo lines rest) 3 new q (beside_failed means dsp (lines_todo lines) m new q said rest))
 
       -- the bytes were not all appended
-      pub round_cut : (old new : D) (p q : Life P) → Turned dsp (Carry round.numbered.command) out p q → DeskPhase means (flush_todo written) false old new → Phase means dsp (round_todo round) false old p new q
+      pub round_cut : (old new : D) (p q : Life P) → Turned dsp (Carry round.numbered.command) out p q → DeskPhase means (flush_todo written) false old new → Phase means dsp (unit_todo round) false old p new q
       round_cut old new p q turned failed = λ rest.
           step_on means dsp (record { task = Carry round.numbered.command; out = out }) (after rest) 3 old new p q q turned
           (beside_failed means dsp (flush_todo written) old new q failed (lines_todo lines rest))
@@ -165,9 +166,19 @@ module _ {D : Type 0} (means : DeskMeaning D) where
     -- one that is not the last of its command has no lines
     pub earlier_said : (numbered : Numbered) (answer : Answer) (shown : List (List ℕ)) (written : List Written) (done : Bool) (old new : D) (p q : Life P) →
         Turned dsp (Carry numbered.command) (record { answer = answer; shown = shown; written = written }) p q → DeskPhase means (flush_todo written) done old new →
-        Phase means dsp (round_todo (record { numbered = numbered; last = false })) done old p new q
+        Phase means dsp (unit_todo (record { numbered = numbered; last = false })) done old p new q
     earlier_said numbered answer shown written true old new p q turned flushed = round_said (record { numbered = numbered; last = false }) answer shown written true old new new p q turned flushed (none_said new)
     earlier_said numbered answer shown written false old new p q turned failed = round_cut (record { numbered = numbered; last = false }) answer shown written old new p q turned failed
+
+    -- ---- the inputs are filled first
+
+    module _ (round : Round) (old m new : D) (p r q : Life P) where
+      pub round_on : (done : Bool) → Phase means dsp Refill true old p m r → Phase means dsp (unit_todo round) done m r new q → Phase means dsp (round_todo round) done old p new q
+      round_on true filled unit = λ rest status end t ran. filled (unit_todo round rest) status end t (unit rest status end t ran)
+      round_on false filled unit = λ rest. filled (unit_todo round rest) 3 new q (unit rest)
+
+    pub round_unfilled : (round : Round) (old new : D) (p q : Life P) → Phase means dsp Refill false old p new q → Phase means dsp (round_todo round) false old p new q
+    round_unfilled round old new p q failed = λ rest. failed (unit_todo round rest)
 
     -- ---- the units of a command
 
@@ -240,22 +251,23 @@ shown_same (commands.Drop k) plan plan' kept kept' over same = refl
 shown_same (commands.Lose k) plan plan' kept kept' over same = refl
 shown_same (commands.Lag k t) plan plan' kept kept' over same = refl
 
-pub show_stays : {P : Type 0} (means : Meaning P) (plan : Plan) (heap : ℕ) (command : Command) (kept kept' : Record) (w v : World (Wire P)) (answer : Answer) → Stepped means plan heap command kept kept' w v answer → command ≡ commands.Show → kept' ≡ kept
+pub show_stays : {P : Type 0} (means : Meaning P) (plan : Plan) (heap : ℕ) (command : Command) (kept kept' : Record) (w v : World (Wire P)) (answer : Answer) → CommandDone means plan heap command kept kept' w v answer → command ≡ commands.Show → kept' ≡ kept
 show_stays means plan heap command kept kept' w v answer stepped is =
-    let shows : Stepped means plan heap commands.Show kept kept' w v answer = subst (λ (c : Command). Stepped means plan heap c kept kept' w v answer) is stepped in
+    let shows : CommandDone means plan heap commands.Show kept kept' w v answer = subst (λ (c : Command). CommandDone means plan heap c kept kept' w v answer) is stepped in
     ap (λ (k : Known). k.kept) shows.known_is
 
 -- a session's step is a turn
 pub carries_on : {P : Type 0} (means : Meaning P) (command : Command) (seat seat' : Seat P) (inputs inputs' : List InputView) (outputs outputs' : List OutputView) (answer : Answer) →
-    drained outputs ≡ outputs → Stepped means seat.plan seat.heap command seat.kept seat'.kept (world seat.link inputs outputs) (world seat'.link inputs' outputs') answer → seat'.plan ≡ seat.plan → seat'.heap ≡ seat.heap → AreAgreed means seat' →
+    drained outputs ≡ outputs → CommandDone means seat.plan seat.heap command seat.kept seat'.kept (world seat.link inputs outputs) (world seat'.link inputs' outputs') answer → input_ends inputs' ≡ input_ends inputs → seat'.plan ≡ seat.plan → seat'.heap ≡ seat.heap → AreAgreed means seat' →
     Turned means (Carry command) (record { answer = answer; shown = shown_by command seat.plan seat.kept; written = written_in outputs' }) (Seated seat inputs (output_slots outputs)) (Seated seat' inputs' (output_slots outputs))
-carries_on means command seat seat' inputs inputs' outputs outputs' answer empty stepped plan heap agreed = (
+carries_on means command seat seat' inputs inputs' outputs outputs' answer empty stepped ends plan heap agreed = (
   refl,
   record {
     outputs = outputs';
-    stepped = subst (λ (xs : List OutputView). Stepped means seat.plan seat.heap command seat.kept seat'.kept (world seat.link inputs xs) (world seat'.link inputs' outputs') answer) (sym (empty-outputs outputs empty)) stepped;
+    stepped = subst (λ (xs : List OutputView). CommandDone means seat.plan seat.heap command seat.kept seat'.kept (world seat.link inputs xs) (world seat'.link inputs' outputs') answer) (sym (empty-outputs outputs empty)) stepped;
     shown = refl;
     written = refl;
+    ends = ends;
     plan_is = plan;
     heap_is = heap;
     agrees = agreed;

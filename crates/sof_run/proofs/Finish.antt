@@ -1,7 +1,7 @@
 -- All that `run` ensures, from what it did.
 use Rattle.std.proofs.Common.{◌≡◌, ◌⊎◌, inl, inr, ℕ, ◌≤◌, nat_lt, true, false, List, [], ◌∷◌, Option, Some, None, refl, sym, ap, ◌∙◌, subst, arith}
 use Rattle.std.proofs.lemmas.Bool.Decides.{nat_tests}
-use Rattle.sof_desk.specs.Desk.{DeskMeaning, DeskCall, Load, Did, CountRose}
+use Rattle.sof_desk.specs.Desk.{DeskMeaning, DeskCall, Load, Did, Read as ReadCall, CountRose}
 use Rattle.mbox_link.specs.Calls.{Meaning}
 use Rattle.tplg_model.specs.declared.block.Topology.{Topology}
 use Rattle.tplg_model.proofs.FileLaws.{topology_again}
@@ -10,7 +10,7 @@ use Rattle.tplg_rules.proofs.RuleTests.{whole_none}
 use Rattle.sof_script.specs.Commands.{Read}
 use Rattle.sof_session.specs.Lives.{Bare, Turn, Turns}
 use Rattle.sof_run.specs.Words.{Form, play_of}
-use Rattle.sof_run.specs.Todo.{Todo, Goes}
+use Rattle.sof_run.specs.Todo.{Todo, DoneBy}
 use Rattle.sof_run.specs.Throughout.{Throughout}
 use Rattle.sof_run.specs.Rounds.{rounds_of}
 use Rattle.sof_run.specs.Prepared.{Ready, ticks_of, prepared, prepared_script, prepared_ticks, prepared_topology, prepared_rules, prepared_bindings}
@@ -24,7 +24,7 @@ use Rattle.sof_run.specs.Verdicts.{MakeRun, Judged}
 use Rattle.sof_run.specs.Plays.{Plays, Unbegun, PlaysWhole, ground_in}
 use Rattle.sof_run.specs.Todo.{Gave}
 use Rattle.sof_run.specs.Run.{Left}
-use Rattle.sof_run.specs.Calls.{Follows}
+use Rattle.sof_run.specs.Calls.{FollowsCourse}
 use Rattle.sof_run.proofs.Judging.{judge}
 use Rattle.sof_run.proofs.PlanWords.{sound_plan}
 use Rattle.sof_run.proofs.ScriptRanges.{script_sound}
@@ -56,7 +56,7 @@ words_other room sent None (Some name) s n = check_all (λ n. n ≡ 3 → ⊥) (
 words_other room sent (Some form) c s n = play_all (λ n. n ≡ 3 → ⊥) (λ name. Unit {0}) form (λ e. cc e) (λ e. cc e) (λ e. cc e) (λ e. cc e) (λ e. cc e) (λ e. cc e) (λ name. tt)
 
 -- status 1 is that of words without a form
-one_only : (room sent : ℕ) (o : Option Form) (c : Option (List ℕ)) (s : Option CompileNames) (n : Option ℕ) (turns : List Turn) (calls : List DeskCall) (status : ℕ) → Goes (todo_for room sent o c s n) turns calls status → status ≡ 1 → (o ≡ None) × (c ≡ None) × (s ≡ None) × (n ≡ None)
+one_only : (room sent : ℕ) (o : Option Form) (c : Option (List ℕ)) (s : Option CompileNames) (n : Option ℕ) (turns : List Turn) (calls : List DeskCall) (status : ℕ) → DoneBy (todo_for room sent o c s n) turns calls status → status ≡ 1 → (o ≡ None) × (c ≡ None) × (s ≡ None) × (n ≡ None)
 one_only room sent None None None None turns calls status goes one = (refl, refl, refl, refl)
 one_only room sent None None None (Some seed) turns calls status goes one =
     absurd (ends (λ n. n ≡ 1 → ⊥) (λ name. Unit {0}) (stress room sent seed) turns calls status goes (stress_all (λ n. n ≡ 1 → ⊥) (λ name. Unit {0}) room sent seed (λ e. cc e) (λ e. cc e)) (λ e. cc e) one)
@@ -67,9 +67,10 @@ one_only room sent None (Some name) s n turns calls status goes one =
 one_only room sent (Some form) c s n turns calls status goes one =
     absurd (ends (λ n. n ≡ 1 → ⊥) (λ name. Unit {0}) (play form) turns calls status goes (play_all (λ n. n ≡ 1 → ⊥) (λ name. Unit {0}) form (λ e. cc e) (λ e. cc e) (λ e. cc e) (λ e. cc e) (λ e. cc e) (λ e. cc e) (λ name. tt)) (λ e. cc e) one)
 
-one_each : (room sent : ℕ) (o : Option Form) (c : Option (List ℕ)) (s : Option CompileNames) (n : Option ℕ) (turns : List Turn) (calls : List DeskCall) (status : ℕ) → Goes (todo_for room sent o c s n) turns calls status → o ≡ None → c ≡ None → s ≡ None → n ≡ None → (status ≡ 1) ⊎ (status ≡ 3)
+one_each : (room sent : ℕ) (o : Option Form) (c : Option (List ℕ)) (s : Option CompileNames) (n : Option ℕ) (turns : List Turn) (calls : List DeskCall) (status : ℕ) → DoneBy (todo_for room sent o c s n) turns calls status → o ≡ None → c ≡ None → s ≡ None → n ≡ None → (status ≡ 1) ⊎ (status ≡ 3)
 one_each room sent None None None None turns [] status goes no_play no_check no_compile no_stress = absurd goes
 one_each room sent None None None None turns (Load name limit heard ∷ calls) status goes no_play no_check no_compile no_stress = absurd goes
+one_each room sent None None None None turns (ReadCall n size got ∷ calls) status goes no_play no_check no_compile no_stress = absurd goes
 one_each room sent None None None None turns (Did act true ∷ calls) status goes no_play no_check no_compile no_stress = inl goes.3
 one_each room sent None None None None turns (Did act false ∷ calls) status goes no_play no_check no_compile no_stress = inr goes.3
 one_each room sent None None None (Some seed) turns calls status goes no_play no_check no_compile no_stress = absurd (cc no_stress)
@@ -77,7 +78,7 @@ one_each room sent None None (Some names) n turns calls status goes no_play no_c
 one_each room sent None (Some name) s n turns calls status goes no_play no_check no_compile no_stress = absurd (cc no_check)
 one_each room sent (Some form) c s n turns calls status goes no_play no_check no_compile no_stress = absurd (cc no_play)
 
-pub worded : (room sent : ℕ) (words : List (List ℕ)) (turns : List Turn) (calls : List DeskCall) (status : ℕ) → Goes (todo_of room sent words) turns calls status → Worded room words status
+pub worded : (room sent : ℕ) (words : List (List ℕ)) (turns : List Turn) (calls : List DeskCall) (status : ℕ) → DoneBy (todo_of room sent words) turns calls status → Worded room words status
 worded room sent words turns calls status goes =
     record {
       only = one_only room sent (play_of room words) (check_of words) (compile_of words) (stress_of words) turns calls status goes;
@@ -106,7 +107,7 @@ module _ {D P : Type 0} (means : DeskMeaning D) (dsp : Meaning P) (words : List 
   abbrev todo : Todo
   todo = todo_of (dsp.most p) sent words
 
-  abbrev goes : Goes todo gave.ran.turns gave.ran.played.calls status
+  abbrev goes : DoneBy todo gave.ran.turns gave.ran.played.calls status
   goes = gave.ran.played.goes
 
   other : Throughout (λ n. n ≡ 3 → ⊥) (λ name. Unit {0}) todo
@@ -115,7 +116,7 @@ module _ {D P : Type 0} (means : DeskMeaning D) (dsp : Meaning P) (words : List 
   turns_last : TurnsLast todo
   turns_last = words_last (dsp.most p) sent form (check_of words) (compile_of words) (stress_of words)
 
-  pub course_made : Follows (dsp.most p) sent words gave.ran.turns gave.ran.played.calls status
+  pub course_made : FollowsCourse (dsp.most p) sent words gave.ran.turns gave.ran.played.calls status
   course_made = follows (dsp.most p) sent words gave.ran.turns gave.ran.played.calls status goes
 
   pub count_rose : status ≡ 3 → CountRose (means.faults old) (means.faults new)
@@ -137,8 +138,8 @@ module _ {D P : Type 0} (means : DeskMeaning D) (dsp : Meaning P) (words : List 
 
   pub judged : Judged means (dsp.most p) words old gave.ran.played.calls status
   judged form topology script is_form is_topology is_script bytes =
-      judge (means.holds old) topology script means form gave.ran.turns gave.ran.played.calls status old new (λ name. refl) is_topology is_script bytes
-      (subst (λ o. Goes (todo_for (dsp.most p) sent o (check_of words) (compile_of words) (stress_of words)) gave.ran.turns gave.ran.played.calls status) is_form goes) gave.ran.played.led
+      judge topology script means form gave.ran.turns gave.ran.played.calls status old new is_topology is_script bytes
+      (subst (λ o. DoneBy (todo_for (dsp.most p) sent o (check_of words) (compile_of words) (stress_of words)) gave.ran.turns gave.ran.played.calls status) is_form goes) gave.ran.played.led
 
   pub plays_whole : dsp.on p ≡ None → PlaysWhole means dsp words old new status p gave.last
   plays_whole off run =
@@ -147,9 +148,9 @@ module _ {D P : Type 0} (means : DeskMeaning D) (dsp : Meaning P) (words : List 
       let ready = files_ready run.topology run.script run.t run.read run.make_run in
       let whole = sound_plan run.t run.make_run.file.0 run.make_run.whole in
       let same : todo ≡ play run.form = ap (λ o. todo_for (dsp.most p) sent o (check_of words) (compile_of words) (stress_of words)) run.is_form in
-      let next : Next means (play run.form) turns status old new = record { calls = gave.ran.played.calls; goes = subst (λ x. Goes x turns gave.ran.played.calls status) same goes; led = gave.ran.played.led } in
+      let next : Next means (play run.form) turns status old new = record { calls = gave.ran.played.calls; goes = subst (λ x. DoneBy x turns gave.ran.played.calls status) same goes; led = gave.ran.played.led } in
       let sound = script_sound run.script run.read (omega (arith, run.fit.1)) run.make_run.lines.0 in
-      (elim (play_goes means run.form run.topology run.script plan run.read ready turns status old new run.is_topology run.is_script run.fit.0 run.fit.1 run.given next) as (λ w. Plays means dsp (ground_in run) (rounds_of run.read.commands) old new status p gave.last ⊎ Unbegun means (ground_in run).slots old new status p gave.last) [
-        | inl b ↦ inl (plays means dsp run.form run.topology run.script plan run.read ready turns status old new p gave.last gave.ran.turned off whole sound.few b)
+      (elim (play_goes means dsp run.form run.topology run.script plan run.read ready turns status old new p gave.last gave.ran.turned run.is_topology run.is_script run.fit.0 run.fit.1 run.given next) as (λ w. Plays means dsp (ground_in run) (rounds_of run.read.commands) old new status p gave.last ⊎ Unbegun means (ground_in run).slots old new status p gave.last) [
+        | inl b ↦ inl (plays means dsp run.form run.topology run.script plan run.read ready turns status old new p gave.last gave.ran.turned off whole run.make_run.right sound.few b)
         | inr b ↦ inr (before_begun means dsp run.form run.topology run.script plan run.read ready turns status old new p gave.last gave.ran.turned b)
       ])

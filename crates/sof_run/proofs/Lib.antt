@@ -1,4 +1,6 @@
 pub mod Steps
+pub mod Wanted
+pub mod Refills
 pub mod Numbers
 pub mod Commands
 pub mod BrokenFiles
@@ -17,15 +19,15 @@ pub mod CompileVerdicts
 pub mod Slots
 pub mod Openings
 pub mod Flushing
-pub mod InputVerdicts
 pub mod PlanWords
 pub mod BindingSteps
-pub mod SlotOrder
 pub mod ScriptRanges
 pub mod PreparedReads
 pub mod FewMessages
 pub mod FewLines
 pub mod WrittenPieces
+pub mod UnreadBytes
+pub mod CarriedUnits
 pub mod OpenedFiles
 pub mod Grounds
 pub mod PlayRuns

@@ -1,23 +1,28 @@
 -- The files of a run were opened and its session begun, or the run ended before.
-use Rattle.std.proofs.Common.{◌≡◌, ◌⊎◌, inl, inr, ℕ, ◌<◌, ◌≤◌, Bool, true, false, eqb, nat_eq, ◌||◌, if◌then◌else◌, List, [], ◌∷◌, ◌++◌, length, Option, Some, None, unwrap_or, Ok, Err, refl, sym, ◌∙◌, ap, subst, append_assoc, arith, codes}
+use Rattle.std.proofs.Common.{◌≡◌, ◌⊎◌, inl, inr, ℕ, ◌<◌, ◌≤◌, Bool, true, false, eqb, ltb, nat_eq, ◌||◌, if◌then◌else◌, List, [], ◌∷◌, ◌++◌, length, Option, Some, None, unwrap_or, Ok, Err, refl, sym, ◌∙◌, ap, subst, arith}
 use Rattle.std.proofs.lemmas.List.{append-nil}
+use Rattle.std.proofs.lemmas.Bool.{cases_Bool}
 use Rattle.std.specs.List.{AllByRecursion}
 use Rattle.sof_base.specs.Ports.{InputView, OutputView}
-use Rattle.sof_io.specs.Bound.{has_slot, output_slots}
+use Rattle.sof_io.specs.Bound.{has_slot, input_slots, output_slots}
 use Rattle.sof_io.specs.Puts.{with_slot}
-use Rattle.sof_io.specs.Takes.{new_input}
+use Rattle.sof_io.specs.Fills.{with_input}
+use Rattle.sof_io.proofs.InputLaws.{has_slot-with_input}
 use Rattle.sof_io.proofs.OutputLaws.{has_slot-with_slot}
 use Rattle.sof_desk.specs.declared.calls.LoadFault.TheVariants.{Failed, TooLong, OutOfMemory}
-use Rattle.sof_desk.specs.Desk.{DeskMeaning, DeskPlace, Slot, Spoken, DeskAct, Create, Put, DeskCall, Load, Did, DeskLed, Loaded, Acted, Part, Takes, same_place, with_more, with_nothing}
+use Rattle.sof_desk.specs.Desk.{DeskMeaning, DeskPlace, Slot, Spoken, DeskAct, Create, Put, Open, DeskCall, Load, Did, Read, DeskLed, Loaded, Acted, Part, Takes, same_place, with_more, with_nothing, written_after}
 use Rattle.tplg_plan.specs.declared.plans.Plan.{Plan}
 use Rattle.sof_script.specs.Commands.{Bound}
+use Rattle.stream_law.specs.Table.{list_of}
+use Rattle.sof_session.specs.Fills.{AreNew}
 use Rattle.sof_session.specs.Lives.{Turn}
 use Rattle.sof_run.specs.Lines.{no_memory_line}
-use Rattle.sof_run.specs.Todo.{Todo, Ask, Do, Free, Says, Goes}
-use Rattle.sof_run.specs.Bindings.{bound_slot, bound_inputs, bound_outputs}
+use Rattle.sof_run.specs.Todo.{Todo, Ask, Do, Free, Says, DoneBy}
+use Rattle.sof_run.specs.Bindings.{bound_slot, bound_inputs, bound_files, bound_outputs}
 use Rattle.sof_run.specs.Play.{WithPorts, binding_todo, bindings_todo}
 use Rattle.sof_run.specs.Pieces.{opened, IsKeptOrOpened, WroteNone}
 use Rattle.sof_run.specs.Plays.{IsGiven}
+use Rattle.sof_run.specs.Ends.{IsOpening}
 use Rattle.sof_run.proofs.WrittenPieces.{more_none, put_part}
 
 -- ---- slots
@@ -99,6 +104,7 @@ module _ {D : Type 0} (means : DeskMeaning D) where
   wanting : (turns : List Turn) (calls : List DeskCall) (status : ℕ) (old new : D) → Says no_memory_line 7 turns calls status → DeskLed means old calls new → Stopped turns status old new
   wanting turns [] status old new says led = absurd says
   wanting turns (Load name limit heard ∷ calls) status old new says led = absurd says
+  wanting turns (Read n size got ∷ calls) status old new says led = absurd says
   wanting turns (Did act true ∷ calls) status old new says led =
       let last : new ≡ led.0 = subst (λ cs. DeskLed means led.0 cs new) says.2 led.2 in
       record { ended = inr says.3; none = says.1; wrote = line_wrote act true old led.0 new says.0 led.1 last }
@@ -109,7 +115,7 @@ module _ {D : Type 0} (means : DeskMeaning D) where
   -- what comes next was done, from another desk
   pub record Next (todo : Todo) (turns : List Turn) (status : ℕ) (mid new : D) : Type 0 where
     pub calls : List DeskCall
-    pub goes : Goes todo turns calls status
+    pub goes : DoneBy todo turns calls status
     pub led : DeskLed means mid calls new
 
   -- one that told the same, where nothing was written
@@ -122,19 +128,20 @@ module _ {D : Type 0} (means : DeskMeaning D) where
   pub free_goes : (rest : Todo) (turns : List Turn) (status : ℕ) (old new : D) → Next (Free rest) turns status old new → Next rest turns status old new ⊎ Stopped turns status old new
   free_goes rest turns status old new n = by n.calls n.goes n.led
     where
-      by : (calls : List DeskCall) → Goes (Free rest) turns calls status → DeskLed means old calls new → Next rest turns status old new ⊎ Stopped turns status old new
+      by : (calls : List DeskCall) → DoneBy (Free rest) turns calls status → DeskLed means old calls new → Next rest turns status old new ⊎ Stopped turns status old new
       by calls (inl goes) led = inl record { calls = calls; goes = goes; led = led }
       by calls (inr says) led = inr (wanting turns calls status old new says led)
 
   -- a load of a file that is told and fits
   module _ (name : List ℕ) (limit : ℕ) (line : List ℕ) (rest : List ℕ → Todo) (turns : List Turn) (status : ℕ) (old new : D) (bytes : List ℕ) (told : means.holds old name ≡ Some bytes) (short : length bytes ≤ limit) where
-    asks : (calls : List DeskCall) → Goes (Ask name limit line rest) turns calls status → DeskLed means old calls new → Onwards (rest bytes) turns status old new ⊎ Stopped turns status old new
+    asks : (calls : List DeskCall) → DoneBy (Ask name limit line rest) turns calls status → DeskLed means old calls new → Onwards (rest bytes) turns status old new ⊎ Stopped turns status old new
     asks [] goes led = absurd goes
     asks (Did act done ∷ calls) goes led = absurd goes
+    asks (Read n size got ∷ calls) goes led = absurd goes
     asks (Load n l (Ok got) ∷ calls) goes led =
         let loaded : Loaded means n l (Ok got) old led.0 = led.1 in
         let same : got ≡ bytes = loaded.answers.1 bytes (ap (means.holds old) goes.0 ∙ told) in
-        inl record { mid = led.0; next = record { calls = calls; goes = subst (λ bs. Goes (rest bs) turns calls status) same goes.2; led = led.2 }; wrote = loaded.wrote; holds = loaded.kept.holds }
+        inl record { mid = led.0; next = record { calls = calls; goes = subst (λ bs. DoneBy (rest bs) turns calls status) same goes.2; led = led.2 }; wrote = loaded.wrote; holds = loaded.kept.holds }
     asks (Load n l (Err TooLong) ∷ calls) goes led =
         let loaded : Loaded means n l (Err TooLong) old led.0 = led.1 in
         let long : l < length bytes = loaded.answers bytes (ap (means.holds old) goes.0 ∙ told) in
@@ -150,24 +157,30 @@ module _ {D : Type 0} (means : DeskMeaning D) where
     pub ask_goes : Next (Ask name limit line rest) turns status old new → Onwards (rest bytes) turns status old new ⊎ Stopped turns status old new
     ask_goes n = asks n.calls n.goes n.led
 
-  -- a file is created
-  pub record Created (slot : ℕ) (file : List ℕ) (todo : Todo) (turns : List Turn) (status : ℕ) (old new : D) : Type 0 where
+  -- a file is opened or created
+  pub record Done (act : DeskAct) (todo : Todo) (turns : List Turn) (status : ℕ) (old new : D) : Type 0 where
     pub mid : D
     pub next : Next todo turns status mid new
-    pub acted : Acted means (Create slot file) true old mid
+    pub acted : Acted means act true old mid
 
-  create_goes : (slot : ℕ) (file : List ℕ) (rest : Todo) (turns : List Turn) (status : ℕ) (old new : D) → Next (Do (Create slot file) rest) turns status old new → Created slot file rest turns status old new ⊎ Stopped turns status old new
-  create_goes slot file rest turns status old new n = by n.calls n.goes n.led
+  act_goes : (act : DeskAct) → IsOpening act → (rest : Todo) (turns : List Turn) (status : ℕ) (old new : D) → Next (Do act rest) turns status old new → Done act rest turns status old new ⊎ Stopped turns status old new
+  act_goes act opens rest turns status old new n = by n.calls n.goes n.led
     where
-      by : (calls : List DeskCall) → Goes (Do (Create slot file) rest) turns calls status → DeskLed means old calls new → Created slot file rest turns status old new ⊎ Stopped turns status old new
+      kept : (act : DeskAct) → IsOpening act → (part : List ℕ) (place : DeskPlace) (o : Option (List ℕ)) → written_after act false part place o ≡ o
+      kept (Create slot name) opens part place o = refl
+      kept (Put to piece) opens part place o = absurd opens
+      kept (Open slot name) opens part place o = refl
+
+      by : (calls : List DeskCall) → DoneBy (Do act rest) turns calls status → DeskLed means old calls new → Done act rest turns status old new ⊎ Stopped turns status old new
       by [] goes led = absurd goes
       by (Load name limit heard ∷ calls) goes led = absurd goes
-      by (Did act true ∷ calls) goes led =
-          inl record { mid = led.0; next = record { calls = calls; goes = goes.1; led = led.2 }; acted = subst (λ a. Acted means a true old led.0) goes.0 led.1 }
-      by (Did act false ∷ calls) goes led =
-          let acted : Acted means (Create slot file) false old led.0 = subst (λ a. Acted means a false old led.0) goes.0 led.1 in
+      by (Read n size got ∷ calls) goes led = absurd goes
+      by (Did a true ∷ calls) goes led =
+          inl record { mid = led.0; next = record { calls = calls; goes = goes.1; led = led.2 }; acted = subst (λ x. Acted means x true old led.0) goes.0 led.1 }
+      by (Did a false ∷ calls) goes led =
+          let acted : Acted means act false old led.0 = subst (λ x. Acted means x false old led.0) goes.0 led.1 in
           let last : new ≡ led.0 = subst (λ cs. DeskLed means led.0 cs new) goes.1.1 led.2 in
-          inr record { ended = inl goes.1.2; none = goes.1.0; wrote = none_wrote old new (λ place. ap (λ d. means.wrote d place) last ∙ acted.wrote place) }
+          inr record { ended = inl goes.1.2; none = goes.1.0; wrote = none_wrote old new (λ place. ap (λ d. means.wrote d place) last ∙ acted.wrote place ∙ kept act opens acted.part place (means.wrote old place)) }
 
   -- ---- files that are open
 
@@ -205,56 +218,106 @@ module _ {D : Type 0} (means : DeskMeaning D) where
       };
     }
 
+  -- ---- files of which nothing was read
+
+  -- nothing was read of the inputs' files, which have these bytes
+  pub record AreUnread (inputs : List InputView) (files : List (ℕ × List ℕ)) (d : D) : Type 0 where
+    pub new : AreNew inputs
+    pub told : (slot : ℕ) → has_slot slot (input_slots inputs) ≡ true → means.unread d slot ≡ Some (list_of files slot)
+    pub none : (slot : ℕ) → has_slot slot (input_slots inputs) ≡ false → list_of files slot ≡ []
+
+  -- none is open yet
+  pub none_unread : (d : D) → AreUnread [] [] d
+  none_unread d = record { new = tt; told = λ slot there. absurd (cc there); none = λ slot apart. refl }
+
+  -- other calls leave what is to be read
+  unread_kept : (inputs : List InputView) (files : List (ℕ × List ℕ)) (d e : D) → ((slot : ℕ) → means.unread e slot ≡ means.unread d slot) → AreUnread inputs files d → AreUnread inputs files e
+  unread_kept inputs files d e same u = record { new = u.new; told = λ slot there. same slot ∙ u.told slot there; none = u.none }
+
+  new_more : (slot : ℕ) (inputs : List InputView) → AreNew inputs → AreNew (with_input slot inputs)
+  new_more slot [] new = (refl, tt)
+  new_more slot (input ∷ inputs) new =
+      elim (cases_Bool (ltb slot input.slot)) [
+        | inl above ↦ rw above (refl, new)
+        | inr below ↦ rw below (new.0, new_more slot inputs new.1)
+      ]
+
+  -- one more file
+  module _ (slot : ℕ) (file bytes : List ℕ) (inputs : List InputView) (files : List (ℕ × List ℕ)) (d e : D) (u : AreUnread inputs files d) (told : means.holds d file ≡ Some bytes) (acted : Acted means (Open slot file) true d e) where
+    told_by : (b : Bool) (other : ℕ) (o : Option (List ℕ)) (xs : List ℕ) → (b ≡ false → o ≡ Some xs) → (if b then means.holds d file else o) ≡ Some (if b then bytes else xs)
+    told_by true other o xs is = told
+    told_by false other o xs is = is refl
+
+    there_by : (b x : Bool) → (b || x) ≡ true → b ≡ false → x ≡ true
+    there_by true x is differs = absurd (cc differs)
+    there_by false x is differs = is
+
+    none_by : (b x : Bool) (xs : List ℕ) → (b || x) ≡ false → (x ≡ false → xs ≡ []) → (if b then bytes else xs) ≡ []
+    none_by true x xs is none = absurd (cc is)
+    none_by false x xs is none = none is
+
+    unread_more : AreUnread (with_input slot inputs) ((slot, bytes) ∷ files) e
+    unread_more = record {
+      new = new_more slot inputs u.new;
+      told = λ other there. acted.unread other ∙ told_by (nat_eq slot other) other (means.unread d other) (list_of files other)
+          (λ differs. u.told other (there_by (eqb slot other) (has_slot other (input_slots inputs)) (sym (has_slot-with_input other slot inputs) ∙ there) differs));
+      none = λ other apart. none_by (eqb slot other) (has_slot other (input_slots inputs)) (list_of files other) (sym (has_slot-with_input other slot inputs) ∙ apart) (u.none other);
+    }
+
   -- ---- the bindings
 
   module _ (holds : List ℕ → Option (List ℕ)) (plan : Plan) (rest : WithPorts) (turns : List Turn) (status : ℕ) (base new : D) where
     -- the files are open, and what comes next was done with these inputs
-    pub record Open (inputs : List InputView) (outputs : List OutputView) : Type 0 where
+    pub record Opened (inputs : List InputView) (outputs : List OutputView) (files : List (ℕ × List ℕ)) : Type 0 where
       pub mid : D
       pub next : Next (rest inputs outputs) turns status mid new
       pub are : AreOpen outputs base mid
+      pub unread : AreUnread inputs files mid
 
     abbrev Opens : List Bound → Type 0
-    Opens bs = (inputs : List InputView) (outputs : List OutputView) (old : D) → AllByRecursion (IsGiven holds) bs → ((name : List ℕ) → means.holds old name ≡ holds name) → AreOpen outputs base old →
+    Opens bs = (inputs : List InputView) (outputs : List OutputView) (files : List (ℕ × List ℕ)) (old : D) → AllByRecursion (IsGiven holds) bs → ((name : List ℕ) → means.holds old name ≡ holds name) → AreOpen outputs base old → AreUnread inputs files old →
         Next (bindings_todo plan bs inputs outputs rest) turns status old new →
-        Open (inputs ++ bound_inputs plan holds bs) (bound_outputs plan outputs bs) ⊎ Before (output_slots (bound_outputs plan outputs bs)) turns status base new
+        Opened (bound_inputs plan inputs bs) (bound_outputs plan outputs bs) (bound_files plan holds files bs) ⊎ Before (output_slots (bound_outputs plan outputs bs)) turns status base new
 
     -- one binding, and those behind it
-    module _ (b : Bound) (bs : List Bound) (others : Opens bs) (inputs : List InputView) (outputs : List OutputView) (old : D) (given : IsGiven holds b) (later : AllByRecursion (IsGiven holds) bs)
-        (held : (name : List ℕ) → means.holds old name ≡ holds name) (are : AreOpen outputs base old) where
+    module _ (b : Bound) (bs : List Bound) (others : Opens bs) (inputs : List InputView) (outputs : List OutputView) (files : List (ℕ × List ℕ)) (old : D) (given : IsGiven holds b) (later : AllByRecursion (IsGiven holds) bs)
+        (held : (name : List ℕ) → means.holds old name ≡ holds name) (are : AreOpen outputs base old) (unread : AreUnread inputs files old) where
       abbrev slot : ℕ
       slot = bound_slot plan b
 
       abbrev bytes : List ℕ
       bytes = unwrap_or (holds b.file) []
 
+      abbrev inputs_by : Bool → List InputView
+      inputs_by input = bound_inputs plan (if input then with_input slot inputs else inputs) bs
+
       abbrev outputs_by : Bool → List OutputView
       outputs_by input = bound_outputs plan (if input then outputs else with_slot slot outputs) bs
 
-      abbrev inputs_by : Bool → List InputView
-      inputs_by input = if input then new_input slot bytes ∷ bound_inputs plan holds bs else bound_inputs plan holds bs
+      abbrev files_by : Bool → List (ℕ × List ℕ)
+      files_by input = bound_files plan holds (if input then (slot, bytes) ∷ files else files) bs
 
       stays_created : (n : ℕ) → has_slot n (output_slots outputs) ≡ true → has_slot n (output_slots (outputs_by false)) ≡ true
       stays_created n is = stays_bound plan bs (with_slot slot outputs) n (stays_more slot outputs n is)
 
       one : (input : Bool) → b.input ≡ input → Next (binding_todo input slot b.file inputs outputs (λ i o. bindings_todo plan bs i o rest)) turns status old new →
-          Open (inputs ++ inputs_by input) (outputs_by input) ⊎ Before (output_slots (outputs_by input)) turns status base new
+          Opened (inputs_by input) (outputs_by input) (files_by input) ⊎ Before (output_slots (outputs_by input)) turns status base new
       one true is n =
           let file = given is in
           let told : means.holds old b.file ≡ Some bytes = held b.file ∙ file.1 ∙ ap (λ o. Some (unwrap_or o [])) (sym file.1) in
-          let short : length bytes ≤ 4194304 = subst (λ o. length (unwrap_or o []) ≤ 4194304) (sym file.1) file.2 in
-          let after = λ (bs' : List ℕ). Free (bindings_todo plan bs (inputs ++ new_input slot bs' ∷ []) outputs rest) in
+          let after = bindings_todo plan bs (with_input slot inputs) outputs rest in
           let stay = stays_bound plan bs outputs in
-          bind (or_before (output_slots (outputs_by true)) outputs stay base old new are turns status (ask_goes b.file 4194304 (codes "too long input\n") after turns status old new bytes told short n)) (λ a.
-          let are' : AreOpen outputs base a.mid = λ place. a.wrote place ∙ are place in
-          bind (or_before (output_slots (outputs_by true)) outputs stay base a.mid new are' turns status (free_goes (bindings_todo plan bs (inputs ++ new_input slot bytes ∷ []) outputs rest) turns status a.mid new a.next)) (λ next.
-          subst (λ is. Open is (outputs_by true) ⊎ Before (output_slots (outputs_by true)) turns status base new) (append_assoc inputs (new_input slot bytes ∷ []) (bound_inputs plan holds bs))
-          (others (inputs ++ new_input slot bytes ∷ []) outputs a.mid later (λ name. a.holds name ∙ held name) are' next)))
+          bind (or_before (output_slots (outputs_by true)) outputs stay base old new are turns status (free_goes (Do (Open slot b.file) after) turns status old new n)) (λ next.
+          bind (or_before (output_slots (outputs_by true)) outputs stay base old new are turns status (act_goes (Open slot b.file) tt after turns status old new next)) (λ a.
+          others (with_input slot inputs) outputs ((slot, bytes) ∷ files) a.mid later (λ name. a.acted.kept.holds name ∙ held name) (λ place. a.acted.wrote place ∙ are place)
+          (unread_more slot b.file bytes inputs files old a.mid unread told a.acted) a.next))
       one false is n =
-          bind (or_before (output_slots (outputs_by false)) outputs stays_created base old new are turns status (free_goes (Do (Create slot b.file) (bindings_todo plan bs inputs (with_slot slot outputs) rest)) turns status old new n)) (λ next.
-          bind (or_before (output_slots (outputs_by false)) outputs stays_created base old new are turns status (create_goes slot b.file (bindings_todo plan bs inputs (with_slot slot outputs) rest) turns status old new next)) (λ a.
-          others inputs (with_slot slot outputs) a.mid later (λ name. a.acted.kept.holds name ∙ held name) (created_open slot b.file outputs base old a.mid are a.acted) a.next))
+          let after = bindings_todo plan bs inputs (with_slot slot outputs) rest in
+          bind (or_before (output_slots (outputs_by false)) outputs stays_created base old new are turns status (free_goes (Do (Create slot b.file) after) turns status old new n)) (λ next.
+          bind (or_before (output_slots (outputs_by false)) outputs stays_created base old new are turns status (act_goes (Create slot b.file) tt after turns status old new next)) (λ a.
+          others inputs (with_slot slot outputs) files a.mid later (λ name. a.acted.kept.holds name ∙ held name) (created_open slot b.file outputs base old a.mid are a.acted)
+          (unread_kept inputs files old a.mid a.acted.unread unread) a.next))
 
     pub open_all : (bs : List Bound) → Opens bs
-    open_all [] inputs outputs old given held are n = inl record { mid = old; next = subst (λ is. Next (rest is outputs) turns status old new) (sym (append-nil inputs)) n; are = are }
-    open_all (b ∷ bs) inputs outputs old given held are n = one b bs (open_all bs) inputs outputs old given.0 given.1 held are b.input refl n
+    open_all [] inputs outputs files old given held are unread n = inl record { mid = old; next = n; are = are; unread = unread }
+    open_all (b ∷ bs) inputs outputs files old given held are unread n = one b bs (open_all bs) inputs outputs files old given.0 given.1 held are unread b.input refl n

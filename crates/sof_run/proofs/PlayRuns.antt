@@ -1,40 +1,56 @@
 -- All of `play`, over files that make a run: it plays the written run, or ended before it was begun.
-use Rattle.std.proofs.Common.{◌≡◌, ◌⊎◌, inl, ℕ, ◌<◌, ◌≤◌, ◌^◌, true, false, List, [], ◌∷◌, map, take, length, Some, None, refl, sym, ◌∙◌, ap, subst, codes, arith}
+use Rattle.std.proofs.Common.{◌≡◌, ◌⊎◌, inl, ℕ, ◌<◌, ◌≤◌, ◌^◌, true, false, List, [], ◌∷◌, ◌++◌, map, take, length, Some, None, refl, sym, ◌∙◌, ap, subst, codes, arith}
 use Rattle.std.specs.List.{AllByRecursion}
+use Rattle.std.proofs.lemmas.List.{append-nil}
 use Rattle.sof_base.specs.Ports.{InputView}
 use Rattle.sof_io.specs.Bound.{has_slot}
+use Rattle.stream_law.specs.Table.{list_of}
 use Rattle.sof_desk.specs.Desk.{DeskMeaning, DeskCall, DeskLed, with_more}
 use Rattle.mbox_link.specs.Calls.{Meaning}
 use Rattle.tplg_plan.specs.declared.plans.Plan.{Plan}
 use Rattle.tplg_plan.specs.Sound.{IsSound}
 use Rattle.sof_script.specs.Commands.{Read}
 use Rattle.sof_script.specs.declared.script.Command.{Command}
-use Rattle.sof_session.specs.Written.{Out, Ground, Leg}
-use Rattle.sof_session.specs.Lives.{Life, Bare, Begin, Turn, Turns}
+use Rattle.sof_session.specs.Seat.{Seat, new_seat}
+use Rattle.sof_session.specs.Fills.{AreNew, AreWhole, bytes_read}
+use Rattle.sof_session.specs.Written.{Out, Ground, Leg, IsRun, first_at}
+use Rattle.sof_session.specs.Lives.{Life, Bare, Seated, Task, Begin, Turn, Turned, Turns, inputs_of, reads_in, carried_outs}
 use Rattle.sof_session.specs.RunOver.{RunOver}
-use Rattle.sof_session.proofs.RunLegs.{run-over}
+use Rattle.sof_session.proofs.FilledRuns.{RunsFilled, runs-filled}
 use Rattle.sof_run.specs.Words.{Form}
-use Rattle.sof_run.specs.Todo.{Todo, Ask, Free, Goes}
-use Rattle.sof_run.specs.Bindings.{bound_inputs, bound_outputs, bound_slots}
+use Rattle.sof_run.specs.Todo.{Todo, Ask, Free, DoneBy}
+use Rattle.sof_run.specs.Bindings.{wrong_binding, bound_inputs, bound_files, bound_outputs, bound_slots}
 use Rattle.sof_run.specs.Rounds.{rounds_of}
 use Rattle.sof_run.specs.Prepared.{Ready, prepared}
 use Rattle.sof_run.specs.Play.{WithPorts, prepared_todo, session_todo, play}
 use Rattle.sof_run.specs.Pieces.{AreWritten, bytes_of_pieces}
-use Rattle.sof_run.specs.Plays.{IsGiven, Plays, Unbegun, files_of}
-use Rattle.sof_run.proofs.WrittenPieces.{Carried, rounds_go, commands_of}
-use Rattle.sof_run.proofs.OpenedFiles.{Next, Before, AreOpen, opened_none, bind, ask_goes, free_goes, or_before, open_all}
-use Rattle.sof_run.proofs.Grounds.{are_whole, none_read, few_front, messages_few}
+use Rattle.sof_run.specs.Plays.{IsGiven, Plays, Unbegun}
+use Rattle.sof_run.proofs.Slots.{bound_distinct}
+use Rattle.sof_run.proofs.WrittenPieces.{commands_of}
+use Rattle.sof_run.proofs.UnreadBytes.{Unread, grows-new}
+use Rattle.sof_run.proofs.CarriedUnits.{Carried, rounds_go}
+use Rattle.sof_run.proofs.OpenedFiles.{Next, Before, AreOpen, AreUnread, none_unread, opened_none, bind, ask_goes, free_goes, or_before, open_all}
+use Rattle.sof_run.proofs.Grounds.{few_front, messages_few}
 
 length-map : {X Y : Type 0} (f : X → Y) (xs : List X) → length (map f xs) ≡ length xs
 length-map f [] = refl
 length-map f (x ∷ xs) = omega (arith, length-map f xs)
 
-module _ {D : Type 0} (means : DeskMeaning D) (form : Form) (topology script : List ℕ) (plan : Plan) (read : Read) (ready : prepared topology script ≡ Ready plan read) (turns : List Turn) (status : ℕ) (old new : D) where
+module _ {D P : Type 0} (means : DeskMeaning D) (dsp : Meaning P) (form : Form) (topology script : List ℕ) (plan : Plan) (read : Read) (ready : prepared topology script ≡ Ready plan read) (turns : List Turn) (status : ℕ) (old new : D)
+    (p : P) (last : Life P) (turned : Turns dsp (Bare p) turns last) where
   abbrev inputs : List InputView
-  inputs = bound_inputs plan (means.holds old) read.bindings
+  inputs = bound_inputs plan [] read.bindings
 
   abbrev slots : List ℕ
   slots = bound_slots plan read.bindings
+
+  abbrev files : List (ℕ × List ℕ)
+  files = bound_files plan (means.holds old) [] read.bindings
+
+  abbrev pub g : Ground
+  g = record { plan = plan; heap = form.heap; whole = files; slots = slots }
+
+  -- ---- the files, and the session
 
   -- the session was begun over open files, and its commands were carried out
   pub record Begun : Type 0 where
@@ -44,7 +60,8 @@ module _ {D : Type 0} (means : DeskMeaning D) (form : Form) (topology script : L
     pub task : begins.task ≡ Begin plan form.heap inputs slots
     pub mid : D
     pub opened : AreOpen means (bound_outputs plan [] read.bindings) old mid
-    pub made : Carried means (rounds_of read.commands) others status mid new
+    pub fresh : AreNew inputs
+    pub made : Carried means dsp (rounds_of read.commands) others status mid new (list_of files) last
 
   abbrev session : WithPorts
   session i o = Free (session_todo form.heap plan read.commands i o)
@@ -52,13 +69,25 @@ module _ {D : Type 0} (means : DeskMeaning D) (form : Form) (topology script : L
   abbrev Result : Type 0
   Result = Begun ⊎ Before means slots turns status old new
 
-  begun : (mid : D) → AreOpen means (bound_outputs plan [] read.bindings) old mid → Next means (session_todo form.heap plan read.commands inputs (bound_outputs plan [] read.bindings)) turns status mid new → Begun
-  begun mid are_open n = by turns refl n.calls n.goes n.led
+  begun : (mid : D) → AreOpen means (bound_outputs plan [] read.bindings) old mid → AreUnread means inputs files mid → Next means (session_todo form.heap plan read.commands inputs (bound_outputs plan [] read.bindings)) turns status mid new → Begun
+  begun mid are_open unread n = by turns refl turned n.calls n.goes n.led
     where
-      by : (ts : List Turn) → turns ≡ ts → (calls : List DeskCall) → Goes (session_todo form.heap plan read.commands inputs (bound_outputs plan [] read.bindings)) ts calls status → DeskLed means mid calls new → Begun
-      by [] is calls goes led = absurd goes
-      by (begins ∷ others) is calls goes led =
-          record { begins = begins; others = others; are = is; task = goes.0; mid = mid; opened = are_open; made = rounds_go means (rounds_of read.commands) others calls status mid new goes.1 led }
+      by : (ts : List Turn) → turns ≡ ts → Turns dsp (Bare p) ts last → (calls : List DeskCall) → DoneBy (session_todo form.heap plan read.commands inputs (bound_outputs plan [] read.bindings)) ts calls status → DeskLed means mid calls new → Begun
+      by [] is turned calls goes led = absurd goes
+      by (begins ∷ others) is turned calls goes led =
+          let seat : Seat P = new_seat plan form.heap p in
+          let seated : turned.0 ≡ Seated seat inputs slots = subst (λ (task : Task). Turned dsp task begins.out (Bare p) turned.0) goes.0 turned.1 in
+          let u : Unread means inputs (list_of files) mid = record { told = unread.told; none = λ slot none. unread.none slot (grows-new slot inputs unread.new none) } in
+          record {
+            begins = begins;
+            others = others;
+            are = is;
+            task = goes.0;
+            mid = mid;
+            opened = are_open;
+            fresh = unread.new;
+            made = rounds_go means dsp (rounds_of read.commands) others calls status mid new seat inputs slots (list_of files) last goes.1 led (subst (λ (l : Life P). Turns dsp l others last) seated turned.2) u;
+          }
 
   none : (n : ℕ) → false ≡ true → has_slot n slots ≡ true
   none n is = absurd (cc is)
@@ -74,44 +103,55 @@ module _ {D : Type 0} (means : DeskMeaning D) (form : Form) (topology script : L
         let second_open : AreOpen means [] old a.mid = λ place. a.wrote place ∙ first_open place in
         bind (or_before means slots [] none old a.mid new second_open turns status (ask_goes means form.script 1048576 (codes "too long script\n") (behind topology) turns status a.mid new script (a.holds form.script ∙ is_script) shorter a.next)) (λ b.
         let third_open : AreOpen means [] old b.mid = λ place. b.wrote place ∙ second_open place in
-        bind (or_before means slots [] none old b.mid new third_open turns status (free_goes means (prepared_todo form.heap (prepared topology script)) turns status b.mid new b.next)) (λ files.
-        bind (open_all means (means.holds old) plan session turns status old new read.bindings [] [] b.mid given (λ name. b.holds name ∙ a.holds name) third_open (subst (λ f. Next means (prepared_todo form.heap f) turns status b.mid new) ready files)) (λ c.
+        bind (or_before means slots [] none old b.mid new third_open turns status (free_goes means (prepared_todo form.heap (prepared topology script)) turns status b.mid new b.next)) (λ next.
+        bind (open_all means (means.holds old) plan session turns status old new read.bindings [] [] [] b.mid given (λ name. b.holds name ∙ a.holds name) third_open (none_unread means b.mid) (subst (λ f. Next means (prepared_todo form.heap f) turns status b.mid new) ready next)) (λ c.
         bind (or_before means slots outputs (λ n is. is) old c.mid new c.are turns status (free_goes means (session_todo form.heap plan read.commands inputs outputs) turns status c.mid new c.next)) (λ last.
-        inl (begun c.mid c.are last))))))
+        inl (begun c.mid c.are c.unread last))))))
 
--- ---- the run
-
-module _ {D P : Type 0} (means : DeskMeaning D) (dsp : Meaning P) (form : Form) (topology script : List ℕ) (plan : Plan) (read : Read) (ready : prepared topology script ≡ Ready plan read) (turns : List Turn) (status : ℕ) (old new : D)
-    (p : P) (last : Life P) (turned : Turns dsp (Bare p) turns last) where
-  abbrev g : Ground
-  g = record { plan = plan; heap = form.heap; whole = files_of (bound_inputs plan (means.holds old) read.bindings); slots = bound_slots plan read.bindings }
+  -- ---- the run
 
   pub before_begun : Before means g.slots turns status old new → Unbegun means g.slots old new status p last
   before_begun b = record { ended = b.ended; wrote = b.wrote; device = subst (λ ts. Turns dsp (Bare p) ts last) b.none turned }
 
-  module _ (off : dsp.on p ≡ None) (sound : IsSound plan) (few : length read.commands < 2 ^ 32) (b : Begun means form topology script plan read ready turns status old new) where
-    abbrev commands_made : List Command
-    commands_made = take (length b.others) (commands_of (rounds_of read.commands))
+  module _ (off : dsp.on p ≡ None) (sound : IsSound plan) (right : wrong_binding plan read.bindings ≡ None) (few : length read.commands < 2 ^ 32) (b : Begun) where
+    abbrev all : List Command
+    all = commands_of (rounds_of read.commands)
 
-    over : (legs : List Leg) × RunOver dsp g commands_made legs p last × (map (λ (leg : Leg). leg.out) legs ≡ map (λ (turn : Turn). turn.out) b.others)
-    over =
-        run-over dsp g (bound_inputs plan (means.holds old) read.bindings) p commands_made b.begins b.others last off
-        (none_read (bound_inputs plan (means.holds old) read.bindings) (are_whole plan (means.holds old) read.bindings))
-        b.task b.made.carried (few_front g sound read.commands (length b.others))
-        (omega (arith, messages_few read.commands (length b.others), few))
+    abbrev commands_made : List Command
+    commands_made = take (length (carried_outs b.others)) all
+
+    run : RunsFilled dsp g commands_made b.others p last
+    run =
+        runs-filled dsp g inputs p commands_made b.begins b.others last off sound b.fresh (bound_distinct plan read.bindings right)
+        b.task b.made.filled (few_front g sound read.commands (length (carried_outs b.others)))
+        (omega (arith, messages_few read.commands (length (carried_outs b.others)), few))
         (subst (λ ts. Turns dsp (Bare p) ts last) b.are turned)
 
-    as_many : length b.others ≡ length over.0
-    as_many =
-        sym (length-map (λ (turn : Turn). turn.out) b.others)
-        ∙ ap length (sym over.2)
-        ∙ length-map (λ (leg : Leg). leg.out) over.0
+    as_many : length (carried_outs b.others) ≡ length run.legs
+    as_many = ap length (sym run.outs) ∙ length-map (λ (leg : Leg). leg.out) run.legs
+
+    -- what was read is a front of the files
+    whole : AreWhole (inputs_of last) (bytes_read (reads_in b.others)) files
+    whole = record {
+      front = λ slot. (b.made.more slot, b.made.splits slot);
+      all = λ slot none. b.made.splits slot ∙ ap (λ xs. list_of (bytes_read (reads_in b.others)) slot ++ xs) (b.made.none slot none) ∙ append-nil (list_of (bytes_read (reads_in b.others)) slot);
+    }
+
+    -- the run over what was read, and over the files
+    abbrev Both : ℕ → Type 0
+    Both n = (over : RunOver dsp (record g { whole = bytes_read (reads_in b.others) }) (take n all) run.legs p last) × IsRun g over.doing (take n all) (first_at g) run.legs
+
+    both : Both (length run.legs)
+    both = subst Both as_many (run.over, run.run files whole)
 
     pub plays : Plays means dsp g (rounds_of read.commands) old new status p last
     plays = record {
-      legs = over.0;
-      over = subst (λ (n : ℕ). RunOver dsp g (take n (commands_of (rounds_of read.commands))) over.0 p last) as_many over.1;
+      legs = run.legs;
+      read = bytes_read (reads_in b.others);
+      files = whole;
+      over = both.0;
+      run = both.1;
       made = b.made.made;
-      written = subst (λ (outs : List Out). AreWritten (rounds_of read.commands) outs b.made.made status) (sym over.2) b.made.written;
+      written = subst (λ (outs : List Out). AreWritten (rounds_of read.commands) outs b.made.made status) (sym run.outs) b.made.written;
       wrote = λ place. b.made.wrote place ∙ ap (λ o. with_more o (bytes_of_pieces place b.made.made)) (b.opened place);
     }

@@ -1,7 +1,7 @@
 -- A line that is said, and what is written then.
 use Rattle.std.proofs.Common.{◌≡◌, ◌⊎◌, inl, inr, ℕ, Bool, true, false, List, [], ◌∷◌, ◌++◌, Option, Some, None, sym, ◌∙◌, ap, subst, append_assoc, if◌then◌else◌}
 use Rattle.std.proofs.lemmas.List.{append-nil}
-use Rattle.sof_desk.specs.Desk.{DeskMeaning, DeskPlace, Spoken, DeskAct, Put, DeskCall, Load, Did, DeskLed, Acted, Part, Takes, same_place, with_more, written_after}
+use Rattle.sof_desk.specs.Desk.{DeskMeaning, DeskPlace, Spoken, DeskAct, Put, DeskCall, Load, Did, Read, DeskLed, Acted, Part, Takes, same_place, with_more, written_after}
 use Rattle.sof_session.specs.Lives.{Turn}
 use Rattle.sof_run.specs.Todo.{Says}
 use Rattle.sof_run.specs.Checks.{saying, Spoke, IsFront}
@@ -10,6 +10,7 @@ use Rattle.sof_run.specs.Checks.{saying, Spoke, IsFront}
 pub said : (line : List ℕ) (n : ℕ) (turns : List Turn) (calls : List DeskCall) (status : ℕ) → Says line n turns calls status → (status ≡ 3) ⊎ ((status ≡ n) × (calls ≡ saying line ∷ []))
 said line n turns [] status says = absurd says
 said line n turns (Load name limit heard ∷ calls) status says = absurd says
+said line n turns (Read slot size got ∷ calls) status says = absurd says
 said line n turns (Did act true ∷ calls) status says = inr (says.3, λ i. Did (says.0 i) true ∷ says.2 i)
 said line n turns (Did act false ∷ calls) status says = inl says.3
 
@@ -62,6 +63,7 @@ module _ {D : Type 0} (means : DeskMeaning D) where
   pub line_parted : (line : List ℕ) (n : ℕ) (turns : List Turn) (calls : List DeskCall) (d e : D) (status : ℕ) → Says line n turns calls status → DeskLed means d calls e → Parted line n d e status
   line_parted line n turns [] d e status says led = absurd says
   line_parted line n turns (Load name limit heard ∷ calls) d e status says led = absurd says
+  line_parted line n turns (Read slot size got ∷ calls) d e status says led = absurd says
   line_parted line n turns (Did act true ∷ calls) d e status says led =
       let acted : Acted means act true d led.0 = led.1 in
       let same : e ≡ led.0 = subst (λ cs. DeskLed means led.0 cs e) says.2 led.2 in

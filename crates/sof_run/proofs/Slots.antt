@@ -1,20 +1,23 @@
 -- Right bindings of one direction have different slots.
-use Rattle.std.proofs.Common.{◌≡◌, ℕ, Bool, true, false, ◌||◌, not, eqb, if◌then◌else◌, List, [], ◌∷◌, ◌++◌, Option, Some, None, find, refl, sym, ◌∙◌, subst, inl, inr}
+use Rattle.std.proofs.Common.{◌≡◌, ℕ, Bool, true, false, ◌||◌, not, eqb, nat_eq, if◌then◌else◌, List, [], ◌∷◌, ◌++◌, Option, Some, None, find, refl, sym, ◌∙◌, subst, inl, inr}
 use Rattle.std.proofs.lemmas.Bool.{cases_Bool, and_parts, or_parts, ne_eqb}
 use Rattle.std.proofs.lemmas.List.Folds.{list_any-append}
 use Rattle.std.proofs.lemmas.Slice.Eq.{bytes_eq-Decides}
-use Rattle.std.specs.List.{list_any, slice_get}
+use Rattle.std.specs.List.{list_any, slice_get, IsDistinct}
 use Rattle.std.specs.List.Sorted.{IsStrictlyIncreasing}
 use Rattle.std.specs.Option.{option_map_or}
 use Rattle.std.specs.Str.{bytes_eq}
-use Rattle.sof_base.specs.Ports.{OutputView}
-use Rattle.sof_io.specs.Bound.{output_slots, has_slot}
+use Rattle.sof_base.specs.Ports.{InputView, OutputView}
+use Rattle.sof_io.specs.Bound.{input_slots, output_slots, has_slot}
 use Rattle.sof_io.specs.Puts.{with_slot}
+use Rattle.sof_io.specs.Fills.{with_input}
+use Rattle.sof_io.proofs.Ascending.{ascending_more, ascending_none, ascending_distinct}
+use Rattle.sof_io.proofs.InputLaws.{slots-with_input, has_slot-with_input}
 use Rattle.sof_io.proofs.OutputLaws.{has_slot-with_slot}
 use Rattle.stream_law.specs.declared.graph.Comp.{Comp}
 use Rattle.tplg_plan.specs.declared.plans.Plan.{Plan}
 use Rattle.sof_script.specs.Commands.{Bound}
-use Rattle.sof_run.specs.Bindings.{is_endpoint_kind, has_widget_name, is_sought, has_endpoint, is_endpoint_bound, is_right, wrong_behind, slot_of, bound_outputs, bound_slots}
+use Rattle.sof_run.specs.Bindings.{is_endpoint_kind, has_widget_name, is_sought, has_endpoint, is_endpoint_bound, is_right, wrong_behind, slot_of, bound_inputs}
 
 -- what passes a test is found
 found_one : (f : Comp → Bool) (cs : List Comp) → list_any f cs ≡ true → (c : Comp) × (find f cs ≡ Some c) × (f c ≡ true)
@@ -77,13 +80,12 @@ module _ (plan : Plan) (bound : List Bound) (b : Bound) where
   or_neither false y is other = other
 
   -- one of this direction adds its own
-  pub fresh_input : (slots : List ℕ) → has_endpoint plan true b.endpoint ≡ true → IsFresh plan true bound slots → IsFresh plan true (bound ++ b ∷ []) (slots ++ slot_of plan true b.endpoint ∷ [])
-  fresh_input slots right fresh name there new =
+  pub fresh_input : (inputs : List InputView) → has_endpoint plan true b.endpoint ≡ true → IsFresh plan true bound (input_slots inputs) → IsFresh plan true (bound ++ b ∷ []) (input_slots (with_input (slot_of plan true b.endpoint) inputs))
+  fresh_input inputs right fresh name there new =
       let slot = slot_of plan true name in
       let parts = new_parts name new in
-      list_any-append (λ (other : ℕ). eqb other slot) slots (slot_of plan true b.endpoint ∷ [])
-      ∙ or_neither (has_slot slot slots) (has_slot slot (slot_of plan true b.endpoint ∷ [])) (fresh name there parts.0)
-      (or_neither (eqb (slot_of plan true b.endpoint) slot) false (apart plan true name b.endpoint there right parts.1) refl)
+      has_slot-with_input slot (slot_of plan true b.endpoint) inputs
+      ∙ or_neither (eqb (slot_of plan true b.endpoint) slot) (has_slot slot (input_slots inputs)) (apart plan true name b.endpoint there right parts.1) (fresh name there parts.0)
 
   pub fresh_output : (outputs : List OutputView) → has_endpoint plan false b.endpoint ≡ true → IsFresh plan false bound (output_slots outputs) → IsFresh plan false (bound ++ b ∷ []) (output_slots (with_slot (slot_of plan false b.endpoint) outputs))
   fresh_output outputs right fresh name there new =
@@ -110,27 +112,27 @@ right_first plan bound b bs none =
     none_some : (n : ℕ) → Some n ≡ None → ⊥
     none_some n e = cc e
 
--- ---- the outputs that are bound
+-- ---- the inputs that are bound
 
-module _ (ascending : (slot : ℕ) (outputs : List OutputView) → IsStrictlyIncreasing (output_slots outputs) → has_slot slot (output_slots outputs) ≡ false → IsStrictlyIncreasing (output_slots (with_slot slot outputs))) where
-  abbrev Ascends : Plan → List Bound → Type 0
-  Ascends plan bs = (bound : List Bound) (outputs : List OutputView) → wrong_behind plan bound bs ≡ None → IsFresh plan false bound (output_slots outputs) → IsStrictlyIncreasing (output_slots outputs) → IsStrictlyIncreasing (output_slots (bound_outputs plan outputs bs))
+abbrev Ascends : Plan → List Bound → Type 0
+Ascends plan bs = (bound : List Bound) (inputs : List InputView) → wrong_behind plan bound bs ≡ None → IsFresh plan true bound (input_slots inputs) → IsStrictlyIncreasing (input_slots inputs) → IsStrictlyIncreasing (input_slots (bound_inputs plan inputs bs))
 
-  -- one binding, and those behind it
-  one_bound : (plan : Plan) (bound : List Bound) (b : Bound) (bs : List Bound) (outputs : List OutputView) → Ascends plan bs → wrong_behind plan bound (b ∷ bs) ≡ None → IsFresh plan false bound (output_slots outputs) → IsStrictlyIncreasing (output_slots outputs) → (input : Bool) → b.input ≡ input → IsStrictlyIncreasing (output_slots (bound_outputs plan (if input then outputs else with_slot (slot_of plan input b.endpoint) outputs) bs))
-  one_bound plan bound b bs outputs others none fresh sorted true is =
-      let right = right_first plan bound b bs none in
-      others (bound ++ b ∷ []) outputs right.2 (fresh_other plan bound b false (output_slots outputs) fresh) sorted
-  one_bound plan bound b bs outputs others none fresh sorted false is =
-      let right = right_first plan bound b bs none in
-      let there = subst (λ i. has_endpoint plan i b.endpoint ≡ true) is right.0 in
-      others (bound ++ b ∷ []) (with_slot (slot_of plan false b.endpoint) outputs) right.2 (fresh_output plan bound b outputs there fresh)
-      (ascending (slot_of plan false b.endpoint) outputs sorted (fresh b.endpoint there right.1))
+-- one binding, and those behind it
+one_bound : (plan : Plan) (bound : List Bound) (b : Bound) (bs : List Bound) (inputs : List InputView) → Ascends plan bs → wrong_behind plan bound (b ∷ bs) ≡ None → IsFresh plan true bound (input_slots inputs) → IsStrictlyIncreasing (input_slots inputs) → (input : Bool) → b.input ≡ input → IsStrictlyIncreasing (input_slots (bound_inputs plan (if input then with_input (slot_of plan input b.endpoint) inputs else inputs) bs))
+one_bound plan bound b bs inputs others none fresh sorted false is =
+    let right = right_first plan bound b bs none in
+    others (bound ++ b ∷ []) inputs right.2 (fresh_other plan bound b true (input_slots inputs) fresh) sorted
+one_bound plan bound b bs inputs others none fresh sorted true is =
+    let right = right_first plan bound b bs none in
+    let there = subst (λ i. has_endpoint plan i b.endpoint ≡ true) is right.0 in
+    let slot = slot_of plan true b.endpoint in
+    others (bound ++ b ∷ []) (with_input slot inputs) right.2 (fresh_input plan bound b inputs there fresh)
+    (subst IsStrictlyIncreasing (sym (slots-with_input slot inputs)) (ascending_more slot (input_slots inputs) sorted (fresh b.endpoint there right.1)))
 
-  bound_on : (plan : Plan) (bs : List Bound) → Ascends plan bs
-  bound_on plan [] bound outputs none fresh sorted = sorted
-  bound_on plan (b ∷ bs) bound outputs none fresh sorted = one_bound plan bound b bs outputs (bound_on plan bs) none fresh sorted b.input refl
+bound_on : (plan : Plan) (bs : List Bound) → Ascends plan bs
+bound_on plan [] bound inputs none fresh sorted = sorted
+bound_on plan (b ∷ bs) bound inputs none fresh sorted = one_bound plan bound b bs inputs (bound_on plan bs) none fresh sorted b.input refl
 
-  -- their slots ascend
-  pub bound_ascending : (plan : Plan) (bs : List Bound) → wrong_behind plan [] bs ≡ None → IsStrictlyIncreasing [] → IsStrictlyIncreasing (bound_slots plan bs)
-  bound_ascending plan bs none empty = bound_on plan bs [] [] none (fresh_none plan false) empty
+-- their slots are different ones
+pub bound_distinct : (plan : Plan) (bs : List Bound) → wrong_behind plan [] bs ≡ None → IsDistinct nat_eq (input_slots (bound_inputs plan [] bs))
+bound_distinct plan bs none = ascending_distinct (input_slots (bound_inputs plan [] bs)) (bound_on plan bs [] [] none (fresh_none plan true) ascending_none)

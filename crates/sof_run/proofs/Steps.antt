@@ -1,7 +1,7 @@
 -- One call or one turn, and then what comes after it.
 use Rattle.std.proofs.Common.{◌≡◌, ℕ, Bool, true, false, List, [], ◌∷◌, Ok, Err, refl, inl, inr, if◌then◌else◌}
 use Rattle.sof_desk.specs.declared.calls.LoadFault.TheVariants.{Failed, TooLong, OutOfMemory}
-use Rattle.sof_desk.specs.Desk.{DeskMeaning, DeskAct, Put, Spoken, DeskCall, Load, Did, Loaded, Acted}
+use Rattle.sof_desk.specs.Desk.{DeskMeaning, DeskAct, Put, Spoken, DeskCall, Load, Did, Read, Loaded, Acted}
 use Rattle.mbox_link.specs.Calls.{Meaning}
 use Rattle.sof_session.specs.Written.{Out}
 use Rattle.sof_session.specs.Lives.{Life, Turn, Turned}
@@ -12,6 +12,7 @@ use Rattle.sof_run.specs.Todo.{Todo, Stop, Ask, Do, Step, Free, Says, Played, Ra
 pub no_turns : (line : List ℕ) (n : ℕ) (turns : List Turn) (calls : List DeskCall) (status : ℕ) → Says line n turns calls status → turns ≡ []
 no_turns line n turns [] status says = absurd says
 no_turns line n turns (Load name limit heard ∷ calls) status says = absurd says
+no_turns line n turns (Read slot size got ∷ calls) status says = absurd says
 no_turns line n turns (Did act done ∷ calls) status says = says.1
 
 module _ {D : Type 0} (means : DeskMeaning D) where

@@ -6,13 +6,13 @@ use Rattle.tplg_plan.specs.Sound.{IsSound}
 use Rattle.sof_session.specs.Written.{Out}
 use Rattle.sof_session.specs.Lives.{Bare, Turn, Carry}
 use Rattle.sof_stress.specs.declared.counts.Counts.{Counts}
-use Rattle.sof_stress.specs.Draws.{streams_of}
+use Rattle.sof_stress.specs.Draws.{stream_count}
 use Rattle.sof_stress.specs.StressPorts.{dai_slot}
-use Rattle.sof_stress.specs.CommandTurns.{CommandTurn, counted, all_counted, no_counts, tasks_of}
+use Rattle.sof_stress.specs.CommandTurns.{CommandTurn, turn_counted, all_counted, no_counts, tasks_of}
 use Rattle.sof_stress.specs.StressRun.{Stresses, sent_in, stress_begins, stress_plan, stress_turns}
 use Rattle.sof_run.specs.Words.{Form, play_of}
 use Rattle.sof_run.specs.Lines.{no_memory_line}
-use Rattle.sof_run.specs.Todo.{Todo, End, Stop, Step, Goes, Played, Gave, DeskPhase}
+use Rattle.sof_run.specs.Todo.{Todo, End, Stop, Step, DoneBy, Played, Gave, DeskPhase}
 use Rattle.sof_run.specs.Play.{lines_todo, play}
 use Rattle.sof_run.specs.Checking.{check_of}
 use Rattle.sof_run.specs.Compiling.{compile_of}
@@ -29,14 +29,14 @@ no_stress room (verb ∷ number ∷ more ∷ words) form is = refl
 
 -- turns of these tasks are made and counted, and then comes what is next
 counted_on : (slot : ℕ) (todo : List CommandTurn) (counts : Counts) (next : Counts → Todo) (turns : List Turn) (calls : List DeskCall) (status : ℕ) → map (λ (turn : Turn). turn.task) turns ≡ tasks_of todo →
-    Goes (next (all_counted slot todo (map (λ (turn : Turn). turn.out) turns) counts)) [] calls status → Goes (counted_todo slot todo counts next) turns calls status
+    DoneBy (next (all_counted slot todo (map (λ (turn : Turn). turn.out) turns) counts)) [] calls status → DoneBy (counted_todo slot todo counts next) turns calls status
 counted_on slot [] counts next [] calls status same goes = goes
 counted_on slot [] counts next (turn ∷ turns) calls status same goes = absurd (cc same)
 counted_on slot (t ∷ todo) counts next [] calls status same goes = absurd (cc same)
 counted_on slot (t ∷ todo) counts next (turn ∷ turns) calls status same goes =
     let first : turn.task ≡ Carry t.command = cc in
     let rest : map (λ (turn : Turn). turn.task) turns ≡ tasks_of todo = cc in
-    (first, counted_on slot todo (counted slot t turn.out counts) next turns calls status rest goes)
+    (first, counted_on slot todo (turn_counted slot t turn.out counts) next turns calls status rest goes)
 
 module _ {D P : Type 0} (means : DeskMeaning D) (dsp : Meaning P) where
   -- the lines, said or cut off
@@ -49,7 +49,7 @@ module _ {D P : Type 0} (means : DeskMeaning D) (dsp : Meaning P) where
   stressed seed old new p q counts done s phase =
       let status : ℕ = if done then 0 else 3 in
       let sent = sent_in s.last in
-      let slot = dai_slot (streams_of seed) in
+      let slot = dai_slot (stream_count seed) in
       let outs : List Out = map (λ (turn : Turn). turn.out) s.turns in
       let said : Played means (told_todo sent (all_counted slot (stress_turns seed) outs no_counts)) old [] status new =
       subst (λ c. Played means (lines_todo (stress_lines c) End) old [] status new) s.numbers (lines_played (stress_lines counts) done old new phase) in
@@ -81,7 +81,7 @@ module _ {D P : Type 0} (means : DeskMeaning D) (dsp : Meaning P) where
       last = Bare p;
       is = sym same;
       exit = refl;
-      ran = record { turns = []; turned = refl; played = free_off means (Step (stress_begins (dsp.most p) seed) (λ out. counted_todo (dai_slot (streams_of seed)) (stress_turns seed) no_counts (told_todo 0))) status old new played };
+      ran = record { turns = []; turned = refl; played = free_off means (Step (stress_begins (dsp.most p) seed) (λ out. counted_todo (dai_slot (stream_count seed)) (stress_turns seed) no_counts (told_todo 0))) status old new played };
     };
     is_sent = refl;
     sound = inl refl;

@@ -5,7 +5,7 @@ use Rattle.std.specs.Str.{bytes_eq}
 use Rattle.std.proofs.lemmas.List.{append-nil}
 use Rattle.std.proofs.lemmas.Bool.Decides.{nat_tests}
 use Rattle.std.proofs.lemmas.Slice.Eq.{bytes_eq-Decides}
-use Rattle.sof_desk.specs.Desk.{DeskMeaning, Spoken, Slot, DeskCall, Load, Did, DeskLed}
+use Rattle.sof_desk.specs.Desk.{DeskMeaning, Spoken, Slot, DeskCall, Load, Did, Read, DeskLed}
 use Rattle.mbox_link.specs.Calls.{Meaning}
 use Rattle.tplg_plan.specs.Sound.{IsSound}
 use Rattle.stream_law.specs.Past.{Moment}
@@ -14,14 +14,14 @@ use Rattle.sof_session.specs.Written.{Out, Ground, At, first_at, end_of, moments
 use Rattle.sof_session.specs.Lives.{Life, Bare, Seated, Turn, Turns}
 use Rattle.sof_session.specs.RunOver.{EndsAt}
 use Rattle.sof_stress.specs.declared.counts.Counts.{Counts}
-use Rattle.sof_stress.specs.Draws.{streams_of}
+use Rattle.sof_stress.specs.Draws.{stream_count}
 use Rattle.sof_stress.specs.StressPorts.{dai_slot}
-use Rattle.sof_stress.specs.CommandTurns.{CommandTurn, counted, all_counted, no_counts, tasks_of}
+use Rattle.sof_stress.specs.CommandTurns.{CommandTurn, turn_counted, all_counted, no_counts, tasks_of}
 use Rattle.sof_stress.specs.StressRun.{sent_in, stress_begins, stress_counts, stress_ground, stress_plan, stress_turns}
 use Rattle.sof_stress.proofs.StressOver.{stress-over}
 use Rattle.sof_run.specs.Words.{at_most, decimal_number, play_of}
 use Rattle.sof_run.specs.Lines.{no_memory_line, with_newline}
-use Rattle.sof_run.specs.Todo.{Todo, End, Says, Goes}
+use Rattle.sof_run.specs.Todo.{Todo, End, Says, DoneBy}
 use Rattle.sof_run.specs.Play.{lines_todo}
 use Rattle.sof_run.specs.Plays.{Unbegun}
 use Rattle.sof_run.specs.Checks.{IsFront}
@@ -89,23 +89,24 @@ stress_alone room sent words seed is = λ i. todo_for room sent (no_play room wo
 -- ---- the turns
 
 -- no turn comes with lines
-lines_turnless : (lines : List (List ℕ)) (turns : List Turn) (calls : List DeskCall) (status : ℕ) → Goes (lines_todo lines End) turns calls status → turns ≡ []
+lines_turnless : (lines : List (List ℕ)) (turns : List Turn) (calls : List DeskCall) (status : ℕ) → DoneBy (lines_todo lines End) turns calls status → turns ≡ []
 lines_turnless [] turns calls status goes = goes.0
 lines_turnless (line ∷ lines) turns [] status goes = absurd goes
 lines_turnless (line ∷ lines) turns (Load name limit heard ∷ calls) status goes = absurd goes
+lines_turnless (line ∷ lines) turns (Read n size got ∷ calls) status goes = absurd goes
 lines_turnless (line ∷ lines) turns (Did act true ∷ calls) status goes = lines_turnless lines turns calls status goes.1
 lines_turnless (line ∷ lines) turns (Did act false ∷ calls) status goes = goes.1.0
 
 -- turns were made and counted, and then what is next was done
 counted_off : (slot : ℕ) (todo : List CommandTurn) (counts : Counts) (next : Counts → Todo) (turns : List Turn) (calls : List DeskCall) (status : ℕ) →
-    ((c : Counts) (ts : List Turn) (cs : List DeskCall) (n : ℕ) → Goes (next c) ts cs n → ts ≡ []) → Goes (counted_todo slot todo counts next) turns calls status →
-    (map (λ (turn : Turn). turn.task) turns ≡ tasks_of todo) × Goes (next (all_counted slot todo (map (λ (turn : Turn). turn.out) turns) counts)) [] calls status
+    ((c : Counts) (ts : List Turn) (cs : List DeskCall) (n : ℕ) → DoneBy (next c) ts cs n → ts ≡ []) → DoneBy (counted_todo slot todo counts next) turns calls status →
+    (map (λ (turn : Turn). turn.task) turns ≡ tasks_of todo) × DoneBy (next (all_counted slot todo (map (λ (turn : Turn). turn.out) turns) counts)) [] calls status
 counted_off slot [] counts next turns calls status none goes =
     let is : turns ≡ [] = none counts turns calls status goes in
-    (ap (map (λ (turn : Turn). turn.task)) is, subst (λ ts. Goes (next counts) ts calls status) is goes)
+    (ap (map (λ (turn : Turn). turn.task)) is, subst (λ ts. DoneBy (next counts) ts calls status) is goes)
 counted_off slot (t ∷ todo) counts next [] calls status none goes = absurd goes
 counted_off slot (t ∷ todo) counts next (turn ∷ turns) calls status none goes =
-    let others = counted_off slot todo (counted slot t turn.out counts) next turns calls status none goes.1 in
+    let others = counted_off slot todo (turn_counted slot t turn.out counts) next turns calls status none goes.1 in
     ((λ i. goes.0 i ∷ others.0 i), others.1)
 
 -- ---- the run
@@ -121,9 +122,9 @@ module _ {D P : Type 0} (means : DeskMeaning D) (dsp : Meaning P) (seed : ℕ) (
 
   -- the session was begun, and all its turns were made
   stress_ran : (sent : ℕ) → sent ≡ sent_in last → (begins : Turn) (turns : List Turn) (calls : List DeskCall) → begins.task ≡ stress_begins (dsp.most p) seed →
-      Goes (counted_todo (dai_slot (streams_of seed)) (stress_turns seed) no_counts (told_todo sent)) turns calls status → Turns dsp (Bare p) (begins ∷ turns) last → DeskLed means old calls new → StressRan means dsp g seed old new status p last
+      DoneBy (counted_todo (dai_slot (stream_count seed)) (stress_turns seed) no_counts (told_todo sent)) turns calls status → Turns dsp (Bare p) (begins ∷ turns) last → DeskLed means old calls new → StressRan means dsp g seed old new status p last
   stress_ran sent is_sent begins turns calls begun goes turned led =
-      let slot = dai_slot (streams_of seed) in
+      let slot = dai_slot (stream_count seed) in
       let made = counted_off slot (stress_turns seed) no_counts (told_todo sent) turns calls status (λ c ts cs n said. lines_turnless (stress_lines (record c { messages = sent })) ts cs n said) goes in
       let over = stress-over dsp seed small_is p last off sound begins turns begun made.0 turned in
       let lines : List Out → ℕ → List (List ℕ) = λ outs n. stress_lines (stress_counts seed n outs) in
@@ -170,9 +171,9 @@ module _ {D P : Type 0} (means : DeskMeaning D) (dsp : Meaning P) (words : List 
   pub stresses : StressesWhole means dsp words old new status p last
   stresses seed is =
       by given.gave.ran.turns given.gave.ran.played.calls (given.sound seed is) given.gave.ran.turned given.gave.ran.played.led
-      (subst (λ todo. Goes todo given.gave.ran.turns given.gave.ran.played.calls status) (stress_alone (dsp.most p) given.sent words seed is) given.gave.ran.played.goes)
+      (subst (λ todo. DoneBy todo given.gave.ran.turns given.gave.ran.played.calls status) (stress_alone (dsp.most p) given.sent words seed is) given.gave.ran.played.goes)
     where
-      by : (turns : List Turn) (calls : List DeskCall) → (turns ≡ []) ⊎ IsSound (stress_plan seed) → Turns dsp (Bare p) turns last → DeskLed means old calls new → Goes (stress (dsp.most p) given.sent seed) turns calls status →
+      by : (turns : List Turn) (calls : List DeskCall) → (turns ≡ []) ⊎ IsSound (stress_plan seed) → Turns dsp (Bare p) turns last → DeskLed means old calls new → DoneBy (stress (dsp.most p) given.sent seed) turns calls status →
           StressRan means dsp (stress_ground (dsp.most p) seed) seed old new status p last ⊎ Unbegun means [] old new status p last
       by turns calls planned turned led (inr says) = inr (wanted turns calls says led turned)
       by [] calls planned turned led (inl goes) = absurd goes

@@ -1,8 +1,8 @@
 -- What holds throughout what `run` has to do.
-use Rattle.std.proofs.Common.{ℕ, Bool, true, false, List, [], ◌∷◌, ◌++◌, Option, Some, None, Result, Ok, Err, inl, inr, refl}
+use Rattle.std.proofs.Common.{◌≡◌, ◌⊎◌, ℕ, Bool, true, false, List, [], ◌∷◌, Option, Some, None, Result, Ok, Err, inl, inr, refl}
 use Rattle.sof_base.specs.Ports.{InputView, OutputView}
 use Rattle.sof_io.specs.Puts.{with_slot}
-use Rattle.sof_io.specs.Takes.{new_input}
+use Rattle.sof_io.specs.Fills.{with_input}
 use Rattle.sof_desk.specs.Desk.{DeskCall}
 use Rattle.tplg_model.specs.declared.fault.TplgFault.{TplgFault}
 use Rattle.tplg_model.specs.declared.block.Topology.{Topology}
@@ -12,8 +12,7 @@ use Rattle.tplg_rules.specs.RuleTest.{ruling_of}
 use Rattle.tplg_compile.specs.declared.source_fault.SourceFault.{SourceFault}
 use Rattle.tplg_compile.specs.declared.source_fault.SourceFault.TheVariants as source
 use Rattle.tplg_compile.specs.InOrder.{compiled_of}
-use Rattle.sof_session.specs.Lives.{Turn}
-use Rattle.sof_script.specs.Commands.{Bound}
+use Rattle.sof_script.specs.Commands.{Bound, Read}
 use Rattle.sof_script.specs.declared.script.Numbered.{Numbered}
 use Rattle.sof_session.specs.Written.{Written}
 use Rattle.sof_session.specs.Lives.{Turn}
@@ -22,21 +21,21 @@ use Rattle.sof_run.specs.declared.prepare.Halt.TheVariants as halt
 use Rattle.sof_run.specs.Words.{Form}
 use Rattle.sof_run.specs.Bindings.{bound_slot}
 use Rattle.sof_run.specs.Rounds.{Round, rounds_of}
-use Rattle.sof_run.specs.Todo.{Todo, End, Free, Goes}
+use Rattle.sof_run.specs.Todo.{Todo, End, Free, DoneBy}
 use Rattle.sof_run.specs.Lines.{lines_after, halt_status}
 use Rattle.sof_run.specs.Prepared.{Prepared, Ready, Halted, prepared}
-use Rattle.sof_run.specs.Play.{prepared_todo, flush_todo, lines_todo, rounds_todo, session_todo, WithPorts, binding_todo, bindings_todo, play}
+use Rattle.sof_run.specs.Play.{prepared_todo, ready_todo, flush_todo, lines_todo, rounds_todo, session_todo, WithPorts, binding_todo, bindings_todo, play}
 use Rattle.sof_run.specs.Checking.{counts_of, checked_rules, checked_file, checked, checked_todo, check}
 use Rattle.sof_run.specs.Compiling.{CompileNames, source_status, compiled_todo, compile}
 use Rattle.sof_stress.specs.declared.counts.Counts.{Counts}
-use Rattle.sof_stress.specs.Draws.{streams_of}
+use Rattle.sof_stress.specs.Draws.{stream_count}
 use Rattle.sof_stress.specs.StressPorts.{dai_slot}
-use Rattle.sof_stress.specs.CommandTurns.{CommandTurn, counted, no_counts}
+use Rattle.sof_stress.specs.CommandTurns.{CommandTurn, turn_counted, no_counts}
 use Rattle.sof_stress.specs.StressRun.{stress_turns}
 use Rattle.sof_run.specs.Stressing.{stress_lines, counted_todo, told_todo, stress}
 use Rattle.sof_run.specs.Forms.{todo_for}
 use Rattle.sof_run.specs.Throughout.{Throughout}
-use Rattle.sof_run.proofs.Statuses.{IsLate, CreatesNone, TurnsLast, ends}
+use Rattle.sof_run.proofs.Statuses.{IsLate, OpensNone, TurnsLast, ends}
 
 module _ (P : ℕ → Type 0) (A : List ℕ → Type 0) where
   flush_all : (written : List Written) (rest : Todo) → Throughout P A rest → Throughout P A (flush_todo written rest)
@@ -54,14 +53,18 @@ module _ (P : ℕ → Type 0) (A : List ℕ → Type 0) where
   session_all : (heap : ℕ) (plan : Plan) (commands : List Numbered) (inputs : List InputView) (outputs : List OutputView) → P 0 → P 7 → Throughout P A (Free (session_todo heap plan commands inputs outputs))
   session_all heap plan commands inputs outputs done seven = (seven, λ out. rounds_all (rounds_of commands) done)
 
-  binding_all : (input : Bool) (slot : ℕ) (file : List ℕ) (inputs : List InputView) (outputs : List OutputView) (rest : WithPorts) → ((name : List ℕ) → A name) → P 5 → P 7 → ((i : List InputView) (o : List OutputView) → Throughout P A (rest i o)) → Throughout P A (binding_todo input slot file inputs outputs rest)
-  binding_all true slot file inputs outputs rest names five seven all = (names file, five, seven, λ bytes. (seven, all (inputs ++ new_input slot bytes ∷ []) outputs))
-  binding_all false slot file inputs outputs rest names five seven all = (seven, all inputs (with_slot slot outputs))
+  binding_all : (input : Bool) (slot : ℕ) (file : List ℕ) (inputs : List InputView) (outputs : List OutputView) (rest : WithPorts) → P 7 → ((i : List InputView) (o : List OutputView) → Throughout P A (rest i o)) → Throughout P A (binding_todo input slot file inputs outputs rest)
+  binding_all true slot file inputs outputs rest seven all = (seven, all (with_input slot inputs) outputs)
+  binding_all false slot file inputs outputs rest seven all = (seven, all inputs (with_slot slot outputs))
 
-  bindings_all : (plan : Plan) (bs : List Bound) (inputs : List InputView) (outputs : List OutputView) (rest : WithPorts) → ((name : List ℕ) → A name) → P 5 → P 7 → ((i : List InputView) (o : List OutputView) → Throughout P A (rest i o)) → Throughout P A (bindings_todo plan bs inputs outputs rest)
-  bindings_all plan [] inputs outputs rest names five seven all = all inputs outputs
-  bindings_all plan (b ∷ bs) inputs outputs rest names five seven all =
-      binding_all b.input (bound_slot plan b) b.file inputs outputs (λ i o. bindings_todo plan bs i o rest) names five seven (λ i o. bindings_all plan bs i o rest names five seven all)
+  bindings_all : (plan : Plan) (bs : List Bound) (inputs : List InputView) (outputs : List OutputView) (rest : WithPorts) → P 7 → ((i : List InputView) (o : List OutputView) → Throughout P A (rest i o)) → Throughout P A (bindings_todo plan bs inputs outputs rest)
+  bindings_all plan [] inputs outputs rest seven all = all inputs outputs
+  bindings_all plan (b ∷ bs) inputs outputs rest seven all =
+      binding_all b.input (bound_slot plan b) b.file inputs outputs (λ i o. bindings_todo plan bs i o rest) seven (λ i o. bindings_all plan bs i o rest seven all)
+
+  pub ready_all : (heap : ℕ) (plan : Plan) (read : Read) → P 0 → P 7 → Throughout P A (ready_todo heap plan read)
+  ready_all heap plan read done seven =
+      bindings_all plan read.bindings [] [] (λ i o. Free (session_todo heap plan read.commands i o)) seven (λ i o. session_all heap plan read.commands i o done seven)
 
   halts_all : (why : Halt) → P 2 → P 4 → P 7 → P 8 → P (halt_status why)
   halts_all (halt.Script line cause) two four seven eight = four
@@ -71,14 +74,13 @@ module _ (P : ℕ → Type 0) (A : List ℕ → Type 0) where
   halts_all (halt.Binding line) two four seven eight = four
   halts_all halt.OutOfMemory two four seven eight = seven
 
-  prepared_all : (heap : ℕ) (files : Prepared) → ((name : List ℕ) → A name) → P 0 → P 2 → P 4 → P 5 → P 7 → P 8 → Throughout P A (prepared_todo heap files)
-  prepared_all heap (Ready plan read) names done two four five seven eight =
-      bindings_all plan read.bindings [] [] (λ i o. Free (session_todo heap plan read.commands i o)) names five seven (λ i o. session_all heap plan read.commands i o done seven)
-  prepared_all heap (Halted why) names done two four five seven eight = halts_all why two four seven eight
+  prepared_all : (heap : ℕ) (files : Prepared) → P 0 → P 2 → P 4 → P 7 → P 8 → Throughout P A (prepared_todo heap files)
+  prepared_all heap (Ready plan read) done two four seven eight = ready_all heap plan read done seven
+  prepared_all heap (Halted why) done two four seven eight = halts_all why two four seven eight
 
   pub play_all : (form : Form) → P 0 → P 2 → P 4 → P 5 → P 7 → P 8 → ((name : List ℕ) → A name) → Throughout P A (play form)
   play_all form done two four five seven eight names =
-      (names form.topology, five, seven, λ topology. (names form.script, five, seven, λ script. (seven, prepared_all form.heap (prepared topology script) names done two four five seven eight)))
+      (names form.topology, five, seven, λ topology. (names form.script, five, seven, λ script. (seven, prepared_all form.heap (prepared topology script) done two four seven eight)))
 
   checked_all : (t : Topology) (ruling : Option (ℕ × ℕ)) → P 0 → P 2 → Throughout P A (checked_todo (checked_rules t ruling))
   checked_all t (Some (rule, item)) done two = two
@@ -106,26 +108,26 @@ module _ (P : ℕ → Type 0) (A : List ℕ → Type 0) where
 
   counted_all : (slot : ℕ) (turns : List CommandTurn) (counts : Counts) (next : Counts → Todo) → ((c : Counts) → Throughout P A (next c)) → Throughout P A (counted_todo slot turns counts next)
   counted_all slot [] counts next all = all counts
-  counted_all slot (turn ∷ turns) counts next all = λ out. counted_all slot turns (counted slot turn out counts) next all
+  counted_all slot (turn ∷ turns) counts next all = λ out. counted_all slot turns (turn_counted slot turn out counts) next all
 
   told_all : (sent : ℕ) (counts : Counts) → P 0 → Throughout P A (told_todo sent counts)
   told_all sent counts done = lines_all (stress_lines (record counts { messages = sent })) End done
 
   pub stress_all : (room sent seed : ℕ) → P 0 → P 7 → Throughout P A (stress room sent seed)
   stress_all room sent seed done seven =
-      (seven, λ out. counted_all (dai_slot (streams_of seed)) (stress_turns seed) no_counts (told_todo sent) (λ counts. told_all sent counts done))
+      (seven, λ out. counted_all (dai_slot (stream_count seed)) (stress_turns seed) no_counts (told_todo sent) (λ counts. told_all sent counts done))
 
 -- ---- turns come last
 
-flush_puts : (written : List Written) (rest : Todo) → CreatesNone rest → CreatesNone (flush_todo written rest)
+flush_puts : (written : List Written) (rest : Todo) → OpensNone rest → OpensNone (flush_todo written rest)
 flush_puts [] rest puts = puts
 flush_puts ((slot, bytes) ∷ written) rest puts = ((λ is. is), flush_puts written rest puts)
 
-lines_puts : (lines : List (List ℕ)) (rest : Todo) → CreatesNone rest → CreatesNone (lines_todo lines rest)
+lines_puts : (lines : List (List ℕ)) (rest : Todo) → OpensNone rest → OpensNone (lines_todo lines rest)
 lines_puts [] rest puts = puts
 lines_puts (line ∷ lines) rest puts = ((λ is. is), lines_puts lines rest puts)
 
-rounds_puts : (rounds : List Round) → CreatesNone (rounds_todo rounds End)
+rounds_puts : (rounds : List Round) → OpensNone (rounds_todo rounds End)
 rounds_puts [] = tt
 rounds_puts (round ∷ rounds) = λ out. flush_puts out.written (lines_todo (lines_after round out) (rounds_todo rounds End)) (lines_puts (lines_after round out) (rounds_todo rounds End) (rounds_puts rounds))
 
@@ -133,7 +135,7 @@ session_last : (heap : ℕ) (plan : Plan) (commands : List Numbered) (inputs : L
 session_last heap plan commands inputs outputs = λ out. (rounds_all IsLate (λ name. ⊥) (rounds_of commands) (inl refl), rounds_puts (rounds_of commands))
 
 binding_last : (input : Bool) (slot : ℕ) (file : List ℕ) (inputs : List InputView) (outputs : List OutputView) (rest : WithPorts) → ((i : List InputView) (o : List OutputView) → TurnsLast (rest i o)) → TurnsLast (binding_todo input slot file inputs outputs rest)
-binding_last true slot file inputs outputs rest last = λ bytes. last (inputs ++ new_input slot bytes ∷ []) outputs
+binding_last true slot file inputs outputs rest last = last (with_input slot inputs) outputs
 binding_last false slot file inputs outputs rest last = last inputs (with_slot slot outputs)
 
 bindings_last : (plan : Plan) (bs : List Bound) (inputs : List InputView) (outputs : List OutputView) (rest : WithPorts) → ((i : List InputView) (o : List OutputView) → TurnsLast (rest i o)) → TurnsLast (bindings_todo plan bs inputs outputs rest)
@@ -157,14 +159,14 @@ compiled_last : (out : List ℕ) (r : Result Topology SourceFault) → TurnsLast
 compiled_last out (Ok t) = tt
 compiled_last out (Err f) = tt
 
-counted_puts : (slot : ℕ) (turns : List CommandTurn) (counts : Counts) (next : Counts → Todo) → ((c : Counts) → CreatesNone (next c)) → CreatesNone (counted_todo slot turns counts next)
+counted_puts : (slot : ℕ) (turns : List CommandTurn) (counts : Counts) (next : Counts → Todo) → ((c : Counts) → OpensNone (next c)) → OpensNone (counted_todo slot turns counts next)
 counted_puts slot [] counts next puts = puts counts
-counted_puts slot (turn ∷ turns) counts next puts = λ out. counted_puts slot turns (counted slot turn out counts) next puts
+counted_puts slot (turn ∷ turns) counts next puts = λ out. counted_puts slot turns (turn_counted slot turn out counts) next puts
 
 stress_last : (room sent seed : ℕ) → TurnsLast (stress room sent seed)
 stress_last room sent seed = λ out. (
-  counted_all IsLate (λ name. ⊥) (dai_slot (streams_of seed)) (stress_turns seed) no_counts (told_todo sent) (λ counts. told_all IsLate (λ name. ⊥) sent counts (inl refl)),
-  counted_puts (dai_slot (streams_of seed)) (stress_turns seed) no_counts (told_todo sent) (λ counts. lines_puts (stress_lines (record counts { messages = sent })) End tt),
+  counted_all IsLate (λ name. ⊥) (dai_slot (stream_count seed)) (stress_turns seed) no_counts (told_todo sent) (λ counts. told_all IsLate (λ name. ⊥) sent counts (inl refl)),
+  counted_puts (dai_slot (stream_count seed)) (stress_turns seed) no_counts (told_todo sent) (λ counts. lines_puts (stress_lines (record counts { messages = sent })) End tt),
 )
 
 pub words_last : (room sent : ℕ) (o : Option Form) (c : Option (List ℕ)) (s : Option CompileNames) (n : Option ℕ) → TurnsLast (todo_for room sent o c s n)
@@ -174,7 +176,7 @@ words_last room sent None None (Some names) n = λ text. compiled_last names.out
 words_last room sent None (Some name) s n = λ bytes. checked_last (checked bytes)
 words_last room sent (Some form) c s n = λ topology script. prepared_last form.heap (prepared topology script)
 
--- a session ends with 0 or 3
-pub session_ends : (heap : ℕ) (plan : Plan) (commands : List Numbered) (inputs : List InputView) (outputs : List OutputView) (turns : List Turn) (calls : List DeskCall) (status : ℕ) → Goes (session_todo heap plan commands inputs outputs) turns calls status → IsLate status
-session_ends heap plan commands inputs outputs turns calls status goes =
-    ends IsLate (λ name. Unit {0}) (session_todo heap plan commands inputs outputs) turns calls status goes (λ out. rounds_all IsLate (λ name. Unit {0}) (rounds_of commands) (inl refl)) (inr refl)
+-- files that make a run end with 0 or 3, or memory was wanting
+pub ready_ends : (heap : ℕ) (plan : Plan) (read : Read) (turns : List Turn) (calls : List DeskCall) (status : ℕ) → DoneBy (ready_todo heap plan read) turns calls status → IsLate status ⊎ (status ≡ 7)
+ready_ends heap plan read turns calls status goes =
+    ends (λ n. IsLate n ⊎ (n ≡ 7)) (λ name. Unit {0}) (ready_todo heap plan read) turns calls status goes (ready_all (λ n. IsLate n ⊎ (n ≡ 7)) (λ name. Unit {0}) heap plan read (inl (inl refl)) (inr refl)) (inl (inr refl))

@@ -1,16 +1,15 @@
--- The calls that write the pieces of units, and what they wrote.
-use Rattle.std.proofs.Common.{◌≡◌, ◌⊎◌, inl, inr, ℕ, Bool, true, false, List, [], ◌∷◌, ◌++◌, map, take, length, Option, Some, None, refl, sym, ◌∙◌, ap, subst, append_assoc, if◌then◌else◌}
+-- The calls that write the pieces of a unit, and what they wrote.
+use Rattle.std.proofs.Common.{◌≡◌, ◌⊎◌, inl, inr, ℕ, Bool, true, false, List, [], ◌∷◌, ◌++◌, map, Option, Some, None, refl, sym, ◌∙◌, ap, subst, append_assoc, if◌then◌else◌}
 use Rattle.std.proofs.lemmas.List.{append-nil}
-use Rattle.sof_desk.specs.Desk.{DeskMeaning, DeskPlace, DeskAct, Spoken, Slot, Put, DeskCall, Load, Did, DeskLed, Acted, Part, Takes, same_place, with_more, written_after}
+use Rattle.sof_desk.specs.Desk.{DeskMeaning, DeskPlace, DeskAct, Spoken, Slot, Put, DeskCall, Load, Did, Read, DeskLed, Acted, Part, Takes, same_place, with_more, written_after, unread_after}
 use Rattle.sof_script.specs.declared.script.Command.{Command}
-use Rattle.sof_session.specs.Written.{Written, Out}
-use Rattle.sof_session.specs.Lives.{Turn, Carry}
-use Rattle.sof_session.proofs.RunLegs.{AreCarried}
-use Rattle.sof_run.specs.Todo.{Todo, End, Do, Goes}
+use Rattle.sof_session.specs.Written.{Written}
+use Rattle.sof_session.specs.Lives.{Turn}
+use Rattle.sof_run.specs.Todo.{Todo, Do, DoneBy}
 use Rattle.sof_run.specs.Rounds.{Round}
-use Rattle.sof_run.specs.Lines.{with_newline, lines_after}
-use Rattle.sof_run.specs.Play.{flush_todo, lines_todo, rounds_todo}
-use Rattle.sof_run.specs.Pieces.{Piece, slot_pieces, line_pieces, pieces_of, bytes_of_pieces, BreaksOff, AreWritten}
+use Rattle.sof_run.specs.Lines.{with_newline}
+use Rattle.sof_run.specs.Play.{flush_todo, lines_todo}
+use Rattle.sof_run.specs.Pieces.{Piece, slot_pieces, line_pieces, bytes_of_pieces, BreaksOff}
 
 pub more_none : (o : Option (List ℕ)) → o ≡ with_more o []
 more_none None = refl
@@ -49,12 +48,9 @@ pub puts_flush : (written : List Written) (lines : List (List ℕ)) (rest : Todo
 puts_flush [] lines rest = puts_lines lines rest
 puts_flush ((slot, bytes) ∷ written) lines rest = ap (Do (Put (Slot slot) bytes)) (puts_flush written lines rest)
 
--- the commands of units, and what turns came to
+-- the commands of units
 abbrev pub commands_of : List Round → List Command
 commands_of rounds = map (λ (round : Round). round.numbered.command) rounds
-
-abbrev pub outs_of : List Turn → List Out
-outs_of turns = map (λ (turn : Turn). turn.out) turns
 
 -- ---- what they wrote
 
@@ -63,10 +59,14 @@ module _ {D : Type 0} (means : DeskMeaning D) where
   abbrev pub Wrote : List Piece → D → D → Type 0
   Wrote made old new = (place : DeskPlace) → means.wrote new place ≡ with_more (means.wrote old place) (bytes_of_pieces place made)
 
-  wrote-none : (old new : D) → new ≡ old → Wrote [] old new
+  -- and as much is still to be read of each file
+  abbrev pub SameUnread : D → D → Type 0
+  SameUnread old new = (slot : ℕ) → means.unread new slot ≡ means.unread old slot
+
+  pub wrote-none : (old new : D) → new ≡ old → Wrote [] old new
   wrote-none old new same place = ap (λ d. means.wrote d place) same ∙ more_none (means.wrote old place)
 
-  wrote-append : (a b : List Piece) (old m new : D) → Wrote a old m → Wrote b m new → Wrote (a ++ b) old new
+  pub wrote-append : (a b : List Piece) (old m new : D) → Wrote a old m → Wrote b m new → Wrote (a ++ b) old new
   wrote-append a b old m new first rest place =
       rest place
       ∙ ap (λ o. with_more o (bytes_of_pieces place b)) (first place)
@@ -92,30 +92,36 @@ module _ {D : Type 0} (means : DeskMeaning D) where
   pub record Through (pieces : List Piece) (rest : Todo) (turns : List Turn) (status : ℕ) (old new : D) : Type 0 where
     pub mid : D
     pub calls : List DeskCall
-    pub goes : Goes rest turns calls status
+    pub goes : DoneBy rest turns calls status
     pub led : DeskLed means mid calls new
     pub wrote : Wrote pieces old mid
+    pub unread : SameUnread old mid
 
   pub record Broke (pieces : List Piece) (turns : List Turn) (status : ℕ) (old new : D) : Type 0 where
     pub made : List Piece
     pub breaks : BreaksOff made pieces
     pub wrote : Wrote made old new
+    pub unread : SameUnread old new
     pub none : turns ≡ []
     pub three : status ≡ 3
 
-  module _ (piece : Piece) (pieces : List Piece) (rest : Todo) (turns : List Turn) (status : ℕ) (old m new : D) (wrote : Wrote (piece ∷ []) old m) where
-    one_more : Through pieces rest turns status m new ⊎ Broke pieces turns status m new → Through (piece ∷ pieces) rest turns status old new ⊎ Broke (piece ∷ pieces) turns status old new
-    one_more (inl t) = inl record { mid = t.mid; calls = t.calls; goes = t.goes; led = t.led; wrote = wrote-append (piece ∷ []) pieces old m t.mid wrote t.wrote }
-    one_more (inr b) = inr record { made = piece ∷ b.made; breaks = inr (refl, b.breaks); wrote = wrote-append (piece ∷ []) b.made old m new wrote b.wrote; none = b.none; three = b.three }
+  put_unread : (to : DeskPlace) (piece : List ℕ) (act : DeskAct) (done : Bool) (old new : D) → act ≡ Put to piece → Acted means act done old new → SameUnread old new
+  put_unread to piece act done old new is acted slot = acted.unread slot ∙ ap (λ a. unread_after (means.holds old) a done slot (means.unread old slot)) is
 
-  puts_go : (pieces : List Piece) (rest : Todo) (turns : List Turn) (calls : List DeskCall) (status : ℕ) (old new : D) → Goes (puts pieces rest) turns calls status → DeskLed means old calls new → Through pieces rest turns status old new ⊎ Broke pieces turns status old new
-  puts_go [] rest turns calls status old new goes led = inl record { mid = old; calls = calls; goes = goes; led = led; wrote = wrote-none old old refl }
+  module _ (piece : Piece) (pieces : List Piece) (rest : Todo) (turns : List Turn) (status : ℕ) (old m new : D) (wrote : Wrote (piece ∷ []) old m) (unread : SameUnread old m) where
+    one_more : Through pieces rest turns status m new ⊎ Broke pieces turns status m new → Through (piece ∷ pieces) rest turns status old new ⊎ Broke (piece ∷ pieces) turns status old new
+    one_more (inl t) = inl record { mid = t.mid; calls = t.calls; goes = t.goes; led = t.led; wrote = wrote-append (piece ∷ []) pieces old m t.mid wrote t.wrote; unread = λ slot. t.unread slot ∙ unread slot }
+    one_more (inr b) = inr record { made = piece ∷ b.made; breaks = inr (refl, b.breaks); wrote = wrote-append (piece ∷ []) b.made old m new wrote b.wrote; unread = λ slot. b.unread slot ∙ unread slot; none = b.none; three = b.three }
+
+  pub puts_go : (pieces : List Piece) (rest : Todo) (turns : List Turn) (calls : List DeskCall) (status : ℕ) (old new : D) → DoneBy (puts pieces rest) turns calls status → DeskLed means old calls new → Through pieces rest turns status old new ⊎ Broke pieces turns status old new
+  puts_go [] rest turns calls status old new goes led = inl record { mid = old; calls = calls; goes = goes; led = led; wrote = wrote-none old old refl; unread = λ slot. refl }
   puts_go (piece ∷ pieces) rest turns [] status old new goes led = absurd goes
   puts_go (piece ∷ pieces) rest turns (Load name limit heard ∷ calls) status old new goes led = absurd goes
+  puts_go (piece ∷ pieces) rest turns (Read n size got ∷ calls) status old new goes led = absurd goes
   puts_go (piece ∷ pieces) rest turns (Did act true ∷ calls) status old new goes led =
       let acted : Acted means act true old led.0 = led.1 in
       let whole = subst (λ bytes. Wrote ((piece.0, bytes) ∷ []) old led.0) (part_is piece act true old led.0 goes.0 acted) (wrote-part piece act true old led.0 goes.0 acted) in
-      one_more piece pieces rest turns status old led.0 new whole (puts_go pieces rest turns calls status led.0 new goes.1 led.2)
+      one_more piece pieces rest turns status old led.0 new whole (put_unread piece.0 piece.1 act true old led.0 goes.0 acted) (puts_go pieces rest turns calls status led.0 new goes.1 led.2)
   puts_go (piece ∷ pieces) rest turns (Did act false ∷ calls) status old new goes led =
       let acted : Acted means act false old led.0 = led.1 in
       let last : new ≡ led.0 = subst (λ cs. DeskLed means led.0 cs new) goes.1.1 led.2 in
@@ -123,44 +129,7 @@ module _ {D : Type 0} (means : DeskMeaning D) where
         made = (piece.0, acted.part) ∷ [];
         breaks = inl (refl, part_is piece act false old led.0 goes.0 acted, refl);
         wrote = subst (Wrote ((piece.0, acted.part) ∷ []) old) (sym last) (wrote-part piece act false old led.0 goes.0 acted);
+        unread = subst (SameUnread old) (sym last) (put_unread piece.0 piece.1 act false old led.0 goes.0 acted);
         none = goes.1.0;
         three = goes.1.2;
       }
-
-  -- ---- units
-
-  -- what was made of units
-  pub record Carried (rounds : List Round) (turns : List Turn) (status : ℕ) (old new : D) : Type 0 where
-    pub carried : AreCarried (take (length turns) (commands_of rounds)) turns
-    pub made : List Piece
-    pub written : AreWritten rounds (outs_of turns) made status
-    pub wrote : Wrote made old new
-
-  module _ (round : Round) (rounds : List Round) (turn : Turn) (status : ℕ) (old new : D) (task : turn.task ≡ Carry round.numbered.command) where
-    -- the last that was made
-    last_one : (turns : List Turn) → Broke (pieces_of round turn.out) turns status old new → Carried (round ∷ rounds) (turn ∷ turns) status old new
-    last_one turns b =
-        subst (λ ts. Carried (round ∷ rounds) (turn ∷ ts) status old new) (sym b.none)
-        record { carried = (task, tt); made = b.made; written = inr (b.breaks, refl, b.three); wrote = b.wrote }
-
-    -- and those behind it
-    before_others : (turns : List Turn) (m : D) → Wrote (pieces_of round turn.out) old m → Carried rounds turns status m new → Carried (round ∷ rounds) (turn ∷ turns) status old new
-    before_others turns m wrote later = record {
-      carried = (task, later.carried);
-      made = pieces_of round turn.out ++ later.made;
-      written = inl (later.made, refl, later.written);
-      wrote = wrote-append (pieces_of round turn.out) later.made old m new wrote later.wrote;
-    }
-
-  pub rounds_go : (rounds : List Round) (turns : List Turn) (calls : List DeskCall) (status : ℕ) (old new : D) → Goes (rounds_todo rounds End) turns calls status → DeskLed means old calls new → Carried rounds turns status old new
-  rounds_go [] turns calls status old new goes led =
-      let last : new ≡ old = subst (λ cs. DeskLed means old cs new) goes.1 led in
-      subst (λ ts. Carried [] ts status old new) (sym goes.0) record { carried = tt; made = []; written = (refl, goes.2); wrote = wrote-none old new last }
-  rounds_go (round ∷ rounds) [] calls status old new goes led = absurd goes
-  rounds_go (round ∷ rounds) (turn ∷ turns) calls status old new goes led =
-      let rest = rounds_todo rounds End in
-      let is = puts_flush turn.out.written (lines_after round turn.out) rest in
-      (elim (puts_go (pieces_of round turn.out) rest turns calls status old new (subst (λ todo. Goes todo turns calls status) is goes.1) led) as (λ w. Carried (round ∷ rounds) (turn ∷ turns) status old new) [
-        | inl t ↦ before_others round rounds turn status old new goes.0 turns t.mid t.wrote (rounds_go rounds turns t.calls status t.mid new t.goes t.led)
-        | inr b ↦ last_one round rounds turn status old new goes.0 turns b
-      ])

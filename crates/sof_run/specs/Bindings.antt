@@ -10,7 +10,7 @@ use Rattle.stream_law.specs.declared.graph.Kind.TheVariants.{HostPlay, HostCaptu
 use Rattle.tplg_plan.specs.declared.plans.Plan.{Plan}
 use Rattle.sof_io.specs.Bound.{output_slots}
 use Rattle.sof_io.specs.Puts.{with_slot}
-use Rattle.sof_io.specs.Takes.{new_input}
+use Rattle.sof_io.specs.Fills.{with_input}
 use Rattle.sof_script.specs.Commands.{Bound}
 
 -- ---- which are right
@@ -63,11 +63,15 @@ slot_of plan input name = option_map_or (λ c. c.id) (find (is_sought plan input
 abbrev pub bound_slot : Plan → Bound → ℕ
 bound_slot plan b = slot_of plan b.input b.endpoint
 
--- the inputs that are bound, in their order, with the bytes of their files
-abbrev pub bound_inputs : Plan → (List ℕ → Option (List ℕ)) → List Bound → List InputView
-bound_inputs plan holds [] = []
-bound_inputs plan holds (b ∷ bs) =
-    if b.input then new_input (bound_slot plan b) (unwrap_or (holds b.file) []) ∷ bound_inputs plan holds bs else bound_inputs plan holds bs
+-- the inputs that are bound, by ascending slot, with earlier ones
+abbrev pub bound_inputs : Plan → List InputView → List Bound → List InputView
+bound_inputs plan inputs [] = inputs
+bound_inputs plan inputs (b ∷ bs) = bound_inputs plan (if b.input then with_input (bound_slot plan b) inputs else inputs) bs
+
+-- the bytes of the files that are bound to inputs, by slot, with earlier ones
+abbrev pub bound_files : Plan → (List ℕ → Option (List ℕ)) → List (ℕ × List ℕ) → List Bound → List (ℕ × List ℕ)
+bound_files plan holds files [] = files
+bound_files plan holds files (b ∷ bs) = bound_files plan holds (if b.input then (bound_slot plan b, unwrap_or (holds b.file) []) ∷ files else files) bs
 
 -- the outputs that are bound, by ascending slot, with earlier ones
 abbrev pub bound_outputs : Plan → List OutputView → List Bound → List OutputView

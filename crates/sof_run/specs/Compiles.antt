@@ -30,13 +30,13 @@ CompileVerdict names text calls status =
 -- ---- what was written
 
 -- what stands at a place once slot 0 was created, these bytes were appended to it and these were said
-abbrev pub made_at : List ℕ → List ℕ → DeskPlace → Option (List ℕ) → Option (List ℕ)
-made_at file said Spoken was = with_more was said
-made_at file said (Slot n) was = if nat_eq 0 n then with_more (with_nothing was) file else was
+abbrev pub compiled_at : List ℕ → List ℕ → DeskPlace → Option (List ℕ) → Option (List ℕ)
+compiled_at file said Spoken was = with_more was said
+compiled_at file said (Slot n) was = if nat_eq 0 n then with_more (with_nothing was) file else was
 
 -- slot 0 was created, these bytes were appended to it and these were said, and nothing else was written
 abbrev pub MadeFile : {D : Type 0} → DeskMeaning D → List ℕ → List ℕ → D → D → Type 0
-MadeFile means file said old new = (place : DeskPlace) → means.wrote new place ≡ made_at file said place (means.wrote old place)
+MadeFile means file said old new = (place : DeskPlace) → means.wrote new place ≡ compiled_at file said place (means.wrote old place)
 
 -- A file was made and a line said: with status 0 all bytes and all of the line; with status 3 a front of the bytes and no line,
 -- or all bytes and a front of the line. Or nothing was made: the line for want of memory was said, or with status 3 a front

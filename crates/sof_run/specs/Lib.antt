@@ -10,6 +10,7 @@ pub mod Compiling
 pub mod Stressing
 pub mod Forms
 pub mod Opening
+pub mod Refills
 pub mod Halts
 pub mod Throughout
 pub mod Pieces

@@ -31,11 +31,11 @@ BreaksOff (part ∷ parts) (piece ∷ pieces) =
     ⊎ ((part ≡ piece) × BreaksOff parts pieces)
 
 -- Units, by what each came to: the pieces of each were written in their order, and the status is 0 after the last; or the desk
--- failed at a piece of the last that was made, and the status is 3.
+-- failed at a piece of the last that was made, or at a read before the next, and the status is 3.
 abbrev pub AreWritten : List Round → List Out → List Piece → ℕ → Type 0
 AreWritten [] [] made status = (made ≡ []) × (status ≡ 0)
 AreWritten [] (out ∷ outs) made status = ⊥
-AreWritten (round ∷ rounds) [] made status = ⊥
+AreWritten (round ∷ rounds) [] made status = (made ≡ []) × (status ≡ 3)
 AreWritten (round ∷ rounds) (out ∷ outs) made status =
     ((rest : List Piece) × (made ≡ pieces_of round out ++ rest) × AreWritten rounds outs rest status)
     ⊎ (BreaksOff made (pieces_of round out) × (outs ≡ []) × (status ≡ 3))

@@ -1,10 +1,10 @@
 -- What `play` has to do, by its words and by the bytes of the files that they name.
-use Rattle.std.specs.Prelude.{ℕ, Bool, true, false, List, [], ◌∷◌, ◌++◌, codes}
+use Rattle.std.specs.Prelude.{ℕ, Bool, true, false, List, [], ◌∷◌, codes}
 use Rattle.sof_base.specs.Ports.{InputView, OutputView}
 use Rattle.sof_io.specs.Bound.{output_slots}
 use Rattle.sof_io.specs.Puts.{with_slot}
-use Rattle.sof_io.specs.Takes.{new_input}
-use Rattle.sof_desk.specs.Desk.{Create, Put, Slot, Spoken}
+use Rattle.sof_io.specs.Fills.{with_input}
+use Rattle.sof_desk.specs.Desk.{Create, Open, Put, Slot, Spoken}
 use Rattle.tplg_plan.specs.declared.plans.Plan.{Plan}
 use Rattle.sof_script.specs.declared.script.Numbered.{Numbered}
 use Rattle.sof_script.specs.Commands.{Bound, Read}
@@ -13,7 +13,7 @@ use Rattle.sof_session.specs.Lives.{Begin, Carry}
 use Rattle.sof_run.specs.Bindings.{bound_slot}
 use Rattle.sof_run.specs.Rounds.{Round, rounds_of}
 use Rattle.sof_run.specs.Words.{Form}
-use Rattle.sof_run.specs.Todo.{Todo, End, Stop, Ask, Do, Step, Free}
+use Rattle.sof_run.specs.Todo.{Todo, End, Stop, Ask, Do, Step, Refill, Free}
 use Rattle.sof_run.specs.Lines.{with_newline, halt_line, halt_status, lines_after}
 use Rattle.sof_run.specs.Prepared.{Prepared, prepared, Ready, Halted}
 
@@ -29,9 +29,13 @@ abbrev pub lines_todo : List (List ℕ) → Todo → Todo
 lines_todo [] rest = rest
 lines_todo (line ∷ lines) rest = Do (Put Spoken (with_newline line)) (lines_todo lines rest)
 
--- a unit: a turn, then the bytes that it wrote, and then its lines
+-- a unit's turn, then the bytes that it wrote, and then its lines
+abbrev pub unit_todo : Round → Todo → Todo
+unit_todo round rest = Step (Carry round.numbered.command) (λ out. flush_todo out.written (lines_todo (lines_after round out) rest))
+
+-- a unit: the inputs are filled first
 abbrev pub round_todo : Round → Todo → Todo
-round_todo round rest = Step (Carry round.numbered.command) (λ out. flush_todo out.written (lines_todo (lines_after round out) rest))
+round_todo round rest = Refill (unit_todo round rest)
 
 -- each unit in turn
 abbrev pub rounds_todo : List Round → Todo → Todo
@@ -52,10 +56,9 @@ session_todo heap plan commands inputs outputs = Step (Begin plan heap inputs (o
 abbrev pub WithPorts : Type 0
 WithPorts = List InputView → List OutputView → Todo
 
--- the file of an input is loaded, and then the input has its place
+-- an input has its place, and then its file is opened
 abbrev pub input_todo : ℕ → List ℕ → List InputView → List OutputView → WithPorts → Todo
-input_todo slot file inputs outputs rest =
-    Ask file 4194304 (codes "too long input\n") (λ bytes. Free (rest (inputs ++ new_input slot bytes ∷ []) outputs))
+input_todo slot file inputs outputs rest = Free (Do (Open slot file) (rest (with_input slot inputs) outputs))
 
 -- an output has its place, and then its file is created
 abbrev pub output_todo : ℕ → List ℕ → List InputView → List OutputView → WithPorts → Todo

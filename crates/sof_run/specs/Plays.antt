@@ -1,29 +1,29 @@
 -- What is to be played, and the run that is played of it.
-use Rattle.std.specs.Prelude.{◌≡◌, ◌⊎◌, ℕ, ◌≤◌, true, List, length, map, take, Option, Some}
+use Rattle.std.specs.Prelude.{◌≡◌, ◌⊎◌, ℕ, true, List, [], length, map, take, Option, Some}
 use Rattle.std.specs.List.{AllByRecursion}
-use Rattle.sof_base.specs.Ports.{InputView}
 use Rattle.sof_desk.specs.Desk.{DeskMeaning}
 use Rattle.mbox_link.specs.Calls.{Meaning}
 use Rattle.tplg_model.specs.declared.block.Topology.{Topology}
 use Rattle.tplg_graph.specs.PlanOf.{plan_of}
 use Rattle.sof_script.specs.Commands.{Bound, Read}
-use Rattle.sof_session.specs.Written.{Ground, Leg}
-use Rattle.sof_session.specs.Lives.{Life, Bare}
+use Rattle.sof_session.specs.Written.{Ground, Leg, IsRun, first_at}
+use Rattle.sof_session.specs.Fills.{AreWhole}
+use Rattle.sof_session.specs.Lives.{Life, Bare, inputs_of}
 use Rattle.sof_session.specs.RunOver.{RunOver}
 use Rattle.sof_run.specs.Words.{Form, play_of}
-use Rattle.sof_run.specs.Bindings.{bound_inputs, bound_slots}
+use Rattle.sof_run.specs.Bindings.{bound_files, bound_slots}
 use Rattle.sof_run.specs.Rounds.{Round, rounds_of}
 use Rattle.sof_run.specs.Verdicts.{Fit, MakeRun}
 use Rattle.sof_run.specs.Pieces.{Piece, AreWritten, WroteBehind, WroteNone}
 
 -- ---- what is to be played
 
--- the desk tells an input's file, which has at most its limit
+-- the desk tells an input's file, of any length
 abbrev pub IsGiven : (List ℕ → Option (List ℕ)) → Bound → Type 0
-IsGiven holds b = b.input ≡ true → (bytes : List ℕ) × (holds b.file ≡ Some bytes) × (length bytes ≤ 4194304)
+IsGiven holds b = b.input ≡ true → (bytes : List ℕ) × (holds b.file ≡ Some bytes)
 
--- what is to be played: the words have the form of `play`; and the topology, the script and the inputs that they name are told,
--- have at most their limits, and make a run
+-- what is to be played: the words have the form of `play`; the topology, the script and the inputs that they name are told;
+-- and topology and script have at most their limits and make a run
 pub record ToPlay (holds : List ℕ → Option (List ℕ)) (room : ℕ) (words : List (List ℕ)) : Type 0 where
   pub form : Form
   pub topology : List ℕ
@@ -37,26 +37,26 @@ pub record ToPlay (holds : List ℕ → Option (List ℕ)) (room : ℕ) (words :
   pub make_run : MakeRun topology script t read
   pub given : AllByRecursion (IsGiven holds) read.bindings
 
--- the whole bytes of each input from which none was taken yet
-abbrev pub files_of : List InputView → List (ℕ × List ℕ)
-files_of inputs = map (λ (input : InputView). (input.slot, input.left)) inputs
-
--- what its run is over: the topology's plan, the words' heap, the inputs' bytes and the slots of the outputs
+-- what its run is over: the topology's plan, the words' heap, the bytes of the inputs' files and the slots of the outputs
 abbrev pub ground_in : {holds : List ℕ → Option (List ℕ)} {room : ℕ} {words : List (List ℕ)} → ToPlay holds room words → Ground
 ground_in {holds} play = record {
   plan = plan_of play.t;
   heap = play.form.heap;
-  whole = files_of (bound_inputs (plan_of play.t) holds play.read.bindings);
+  whole = bound_files (plan_of play.t) holds [] play.read.bindings;
   slots = bound_slots (plan_of play.t) play.read.bindings;
 }
 
 -- ---- what was played
 
--- The written run over the device: of the first units, one leg each; their pieces were written behind what stood there once the
--- outputs' files were created.
+-- The written run of the first units, one leg each, over the inputs' whole files. What was read of each file is a front of it, and
+-- all of it where the input has ended; the run over what was read is the same, and device and inputs stand where that leads. The
+-- pieces were written behind what stood there once the outputs' files were created.
 pub record Plays {D P : Type 0} (means : DeskMeaning D) (dsp : Meaning P) (g : Ground) (rounds : List Round) (old new : D) (status : ℕ) (p : P) (last : Life P) : Type 0 where
   pub legs : List Leg
-  pub over : RunOver dsp g (take (length legs) (map (λ (round : Round). round.numbered.command) rounds)) legs p last
+  pub read : List (ℕ × List ℕ)
+  pub files : AreWhole (inputs_of last) read g.whole
+  pub over : RunOver dsp (record g { whole = read }) (take (length legs) (map (λ (round : Round). round.numbered.command) rounds)) legs p last
+  pub run : IsRun g over.doing (take (length legs) (map (λ (round : Round). round.numbered.command) rounds)) (first_at g) legs
   pub made : List Piece
   pub written : AreWritten rounds (map (λ (leg : Leg). leg.out) legs) made status
   pub wrote : WroteBehind means g.slots made old new

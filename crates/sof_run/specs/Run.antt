@@ -4,7 +4,7 @@ use Rattle.sof_desk.specs.Desk.{DeskMeaning, DeskCall, DeskLed, CountRose}
 use Rattle.mbox_link.specs.Calls.{Meaning}
 use Rattle.sof_session.specs.Lives.{Life, Bare, Turn, Turns, device_of, Exit}
 use Rattle.sof_stress.specs.StressRun.{sent_in}
-use Rattle.sof_run.specs.Calls.{Follows}
+use Rattle.sof_run.specs.Calls.{FollowsCourse}
 use Rattle.sof_run.specs.Ends.{AreOpening, IsEarly, Worded}
 use Rattle.sof_run.specs.Verdicts.{Judged}
 use Rattle.sof_run.specs.Plays.{PlaysWhole}
@@ -19,11 +19,11 @@ pub record Called {D P : Type 0} (means : DeskMeaning D) (dsp : Meaning P) (word
   pub turned : Turns dsp (Bare p) turns last
   pub calls : List DeskCall
   pub led : DeskLed means old calls new
-  pub follows : Follows (dsp.most p) (sent_in last) words turns calls status
+  pub follows : FollowsCourse (dsp.most p) (sent_in last) words turns calls status
   pub failed : status ≡ 3 → CountRose (means.faults old) (means.faults new)
 
 -- The device that is handed back: the one that was handed in, or that of a session whose two sides agree. It is the one that was
--- handed in after every status that comes before any command, and where the desk failed at a load or a create.
+-- handed in after every status that comes before any command, and where the desk failed at a load, a create or an open.
 pub record Left {P : Type 0} (dsp : Meaning P) (p q : P) (last : Life P) (calls : List DeskCall) (status : ℕ) : Type 0 where
   pub is : device_of last ≡ q
   pub exit : Exit dsp p last

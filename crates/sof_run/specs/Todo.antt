@@ -1,10 +1,10 @@
 -- What is still to do: a program's calls on a desk and turns on a device, by what each of them answers.
-use Rattle.std.specs.Prelude.{◌≡◌, ◌⊎◌, ℕ, Bool, true, false, List, [], ◌∷◌, Ok, Err, if◌then◌else◌}
+use Rattle.std.specs.Prelude.{◌≡◌, ◌⊎◌, ℕ, Bool, true, false, List, [], ◌∷◌, ◌++◌, Option, Some, None, MatchOption, Ok, Err, if◌then◌else◌}
 use Rattle.sof_desk.specs.declared.calls.LoadFault.TheVariants.{Failed, TooLong, OutOfMemory}
-use Rattle.sof_desk.specs.Desk.{DeskMeaning, DeskAct, Put, Spoken, DeskCall, Load, Did, DeskLed}
+use Rattle.sof_desk.specs.Desk.{DeskMeaning, DeskAct, Put, Spoken, DeskCall, Load, Did, Read, DeskLed}
 use Rattle.mbox_link.specs.Calls.{Meaning}
 use Rattle.sof_session.specs.Written.{Out}
-use Rattle.sof_session.specs.Lives.{Life, Bare, Task, Turn, Turns, device_of, Exit}
+use Rattle.sof_session.specs.Lives.{Life, Bare, Task, Fill, Turn, Turns, device_of, Exit}
 use Rattle.sof_run.specs.Lines.{no_memory_line}
 
 -- what a program has still to do
@@ -19,6 +19,8 @@ pub data Todo : Type 0 where
   Do : (act : DeskAct) (next : Todo) → Todo
   -- a turn on the device
   Step : (task : Task) (next : Out → Todo) → Todo
+  -- the inputs are filled by reads, until none of them is to be read next or a read fails
+  Refill : (next : Todo) → Todo
   -- memory may be wanting here
   Free : (next : Todo) → Todo
 
@@ -26,6 +28,7 @@ pub data Todo : Type 0 where
 abbrev pub Says : List ℕ → ℕ → List Turn → List DeskCall → ℕ → Type 0
 Says line n turns [] status = ⊥
 Says line n turns (Load name limit heard ∷ calls) status = ⊥
+Says line n turns (Read slot size got ∷ calls) status = ⊥
 Says line n turns (Did act done ∷ calls) status =
     (act ≡ Put Spoken line) × (turns ≡ []) × (calls ≡ []) × (status ≡ (if done then n else 3))
 
@@ -33,33 +36,52 @@ Says line n turns (Did act done ∷ calls) status =
 abbrev pub Over : ℕ → List Turn → List DeskCall → ℕ → Type 0
 Over n turns calls status = (turns ≡ []) × (calls ≡ []) × (status ≡ n)
 
+-- the calls of these reads, and the one that failed, if any did
+abbrev pub reading : List (ℕ × List ℕ) → Option ℕ → List DeskCall
+reading [] None = []
+reading [] (Some slot) = Read slot 65536 None ∷ []
+reading ((slot, bytes) ∷ reads) failed = Read slot 65536 (Some bytes) ∷ reading reads failed
+
+-- a turn fills the inputs by the reads that these calls begin with
+pub record FillTurn (turn : Turn) (calls : List DeskCall) : Type 0 where
+  pub reads : List (ℕ × List ℕ)
+  pub failed : Option ℕ
+  pub later : List DeskCall
+  pub task : turn.task ≡ Fill reads failed
+  pub calls_are : calls ≡ reading reads failed ++ later
+
 -- Doing it makes these turns and these calls, in this order and no others, and ends with this status.
-abbrev pub Goes : Todo → List Turn → List DeskCall → ℕ → Type 0
-Goes End turns calls status = Over 0 turns calls status
-Goes (Stop line n) turns calls status = Says line n turns calls status
-Goes (Ask name limit line next) turns [] status = ⊥
-Goes (Ask name limit line next) turns (Did act done ∷ calls) status = ⊥
-Goes (Ask name limit line next) turns (Load n l (Ok bytes) ∷ calls) status =
-    (n ≡ name) × (l ≡ limit) × Goes (next bytes) turns calls status
-Goes (Ask name limit line next) turns (Load n l (Err TooLong) ∷ calls) status =
+abbrev pub DoneBy : Todo → List Turn → List DeskCall → ℕ → Type 0
+DoneBy End turns calls status = Over 0 turns calls status
+DoneBy (Stop line n) turns calls status = Says line n turns calls status
+DoneBy (Ask name limit line next) turns [] status = ⊥
+DoneBy (Ask name limit line next) turns (Did act done ∷ calls) status = ⊥
+DoneBy (Ask name limit line next) turns (Read slot size got ∷ calls) status = ⊥
+DoneBy (Ask name limit line next) turns (Load n l (Ok bytes) ∷ calls) status =
+    (n ≡ name) × (l ≡ limit) × DoneBy (next bytes) turns calls status
+DoneBy (Ask name limit line next) turns (Load n l (Err TooLong) ∷ calls) status =
     (n ≡ name) × (l ≡ limit) × Says line 5 turns calls status
-Goes (Ask name limit line next) turns (Load n l (Err OutOfMemory) ∷ calls) status =
+DoneBy (Ask name limit line next) turns (Load n l (Err OutOfMemory) ∷ calls) status =
     (n ≡ name) × (l ≡ limit) × Says no_memory_line 7 turns calls status
-Goes (Ask name limit line next) turns (Load n l (Err Failed) ∷ calls) status =
+DoneBy (Ask name limit line next) turns (Load n l (Err Failed) ∷ calls) status =
     (n ≡ name) × (l ≡ limit) × Over 3 turns calls status
-Goes (Do act next) turns [] status = ⊥
-Goes (Do act next) turns (Load name limit heard ∷ calls) status = ⊥
-Goes (Do act next) turns (Did a true ∷ calls) status = (a ≡ act) × Goes next turns calls status
-Goes (Do act next) turns (Did a false ∷ calls) status = (a ≡ act) × Over 3 turns calls status
-Goes (Step task next) [] calls status = ⊥
-Goes (Step task next) (turn ∷ turns) calls status = (turn.task ≡ task) × Goes (next turn.out) turns calls status
-Goes (Free next) turns calls status = Goes next turns calls status ⊎ Says no_memory_line 7 turns calls status
+DoneBy (Do act next) turns [] status = ⊥
+DoneBy (Do act next) turns (Load name limit heard ∷ calls) status = ⊥
+DoneBy (Do act next) turns (Read slot size got ∷ calls) status = ⊥
+DoneBy (Do act next) turns (Did a true ∷ calls) status = (a ≡ act) × DoneBy next turns calls status
+DoneBy (Do act next) turns (Did a false ∷ calls) status = (a ≡ act) × Over 3 turns calls status
+DoneBy (Step task next) [] calls status = ⊥
+DoneBy (Step task next) (turn ∷ turns) calls status = (turn.task ≡ task) × DoneBy (next turn.out) turns calls status
+DoneBy (Refill next) [] calls status = ⊥
+DoneBy (Refill next) (turn ∷ turns) calls status =
+    (f : FillTurn turn calls) × MatchOption f.failed (DoneBy next turns f.later status) (λ slot. Over 3 turns f.later status)
+DoneBy (Free next) turns calls status = DoneBy next turns calls status ⊎ Says no_memory_line 7 turns calls status
 
 -- it was done on a desk
 pub record Played {D : Type 0} (means : DeskMeaning D) (todo : Todo) (old : D) (turns : List Turn) (status : ℕ) (new : D) : Type 0 where
   pub calls : List DeskCall
   pub led : DeskLed means old calls new
-  pub goes : Goes todo turns calls status
+  pub goes : DoneBy todo turns calls status
 
 -- it was done on a desk and a device
 pub record RanOn {D P : Type 0} (means : DeskMeaning D) (dsp : Meaning P) (todo : Todo) (old : D) (p : Life P) (status : ℕ) (new : D) (q : Life P) : Type 0 where

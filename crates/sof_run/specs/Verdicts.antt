@@ -1,13 +1,12 @@
 -- The status of `play` by the bytes of its files.
 use Rattle.std.specs.Prelude.{◌≡◌, ◌⊎◌, ℕ, ◌<◌, ◌≤◌, List, [], ◌∷◌, length, Option, Some, None, Ok, Err, true}
-use Rattle.std.specs.List.{AllByRecursion}
 use Rattle.sof_desk.specs.Desk.{DeskMeaning, Put, Spoken, DeskCall, Did}
 use Rattle.tplg_model.specs.declared.block.Topology.{Topology}
 use Rattle.tplg_model.specs.File.{IsFileFault}
 use Rattle.tplg_rules.specs.WellFormed.{IsWellFormed, Breaks}
 use Rattle.tplg_graph.specs.PlanOf.{plan_of}
 use Rattle.sof_script.specs.declared.reading.ScriptFault.TheVariants.{Line}
-use Rattle.sof_script.specs.Commands.{Bound, Read, script_of}
+use Rattle.sof_script.specs.Commands.{Read, script_of}
 use Rattle.sof_run.specs.declared.prepare.Halt.{Halt}
 use Rattle.sof_run.specs.declared.prepare.Halt.TheVariants as halts
 use Rattle.sof_run.specs.Words.{Form, play_of}
@@ -50,35 +49,17 @@ last_call [] = None
 last_call (call ∷ []) = Some call
 last_call (call ∷ other ∷ calls) = last_call (other ∷ calls)
 
--- an input's file has more bytes than its limit, where the desk tells it
-abbrev pub IsLongInput : (List ℕ → Option (List ℕ)) → Bound → Type 0
-IsLongInput holds b = (b.input ≡ true) × ((bytes : List ℕ) → holds b.file ≡ Some bytes → 4194304 < length bytes)
-
--- that of some input has
-abbrev pub SomeLongInput : (List ℕ → Option (List ℕ)) → List Bound → Type 0
-SomeLongInput holds [] = ⊥
-SomeLongInput holds (b ∷ bs) = IsLongInput holds b ⊎ SomeLongInput holds bs
-
--- an input's file has at most its limit, where the desk tells it
-abbrev pub FitsInput : (List ℕ → Option (List ℕ)) → Bound → Type 0
-FitsInput holds b = b.input ≡ true → (bytes : List ℕ) → holds b.file ≡ Some bytes → length bytes ≤ 4194304
-
--- Of files that make a run: 5 where the file of some input is too long, and 0 where all fit.
-abbrev pub RunVerdict : (List ℕ → Option (List ℕ)) → List Bound → ℕ → Type 0
-RunVerdict holds bs status = ((status ≡ 5) × SomeLongInput holds bs) ⊎ ((status ≡ 0) × AllByRecursion (FitsInput holds) bs)
-
--- The status by the bytes of the files, whose cases exclude each other where the desk tells the inputs' files too: a desk that
--- failed or want of memory; 5 where topology or script is too long; 4, 8 or 2 where they make no run, and then the line for
--- it was said; 5 or 0 by the inputs where they make one.
-abbrev pub Verdict : (List ℕ → Option (List ℕ)) → List ℕ → List ℕ → List DeskCall → ℕ → Type 0
-Verdict holds topology script calls status =
+-- The status by the bytes of the files, whose cases exclude each other: a desk that failed or want of memory; 5 where topology
+-- or script is too long; 4, 8 or 2 where they make no run, and then the line for it was said; 0 where they make one.
+abbrev pub Verdict : List ℕ → List ℕ → List DeskCall → ℕ → Type 0
+Verdict topology script calls status =
     ((status ≡ 3) ⊎ (status ≡ 7))
     ⊎ (((status ≡ 5) × (IsLong topology ⊎ IsLong script))
     ⊎ (((why : Halt) × (status ≡ halt_status why) × Fit topology script × IsHalt topology script why × (last_call calls ≡ Some (Did (Put Spoken (halt_line why)) true)))
-    ⊎ (Fit topology script × ((t : Topology) × ((read : Read) × MakeRun topology script t read × RunVerdict holds read.bindings status)))))
+    ⊎ ((status ≡ 0) × Fit topology script × ((t : Topology) × ((read : Read) × MakeRun topology script t read)))))
 
 -- where the desk tells topology and script, the status is by the files' bytes
 abbrev pub Judged : {D : Type 0} → DeskMeaning D → ℕ → List (List ℕ) → D → List DeskCall → ℕ → Type 0
 Judged means room words old calls status =
     (form : Form) (topology script : List ℕ) → play_of room words ≡ Some form → means.holds old form.topology ≡ Some topology → means.holds old form.script ≡ Some script → AreBytes topology
-    → Verdict (means.holds old) topology script calls status
+    → Verdict topology script calls status

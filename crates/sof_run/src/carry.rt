@@ -13,10 +13,11 @@ ghost use Rattle.sof_session.specs.Lives.{Seated};
 ghost use Rattle.sof_run.specs.Todo.{DeskPhase, Phase};
 ghost use Rattle.sof_run.specs.Rounds.{earlier as units_before, command_rounds};
 ghost use Rattle.sof_run.specs.Lines.{is_show, with_newline};
-ghost use Rattle.sof_run.specs.Play.{lines_todo, round_todo, rounds_todo, commands_todo};
-ghost use Rattle.sof_run.specs.Opening.{AreCreated, SameCreated};
+ghost use Rattle.sof_run.specs.Play.{lines_todo, unit_todo, rounds_todo, commands_todo};
+ghost use Rattle.sof_run.specs.Opening.{HaveFiles, SameFiles};
 
 use crate::files::write_outputs;
+use crate::windows::{READ_BYTES, refill};
 use host_widgets::Answer;
 use mbox_link::Dsp;
 use sof_desk::Desk;
@@ -36,7 +37,7 @@ fn write_line(number: u32, answer: &Answer, line: &mut Line)
 fn say_shown<D: Desk, P: Dsp>(desk: &mut D, session: &Session<P>, line: &mut Line) -> bool
     requires { IsSound session.now.plan }
     ensures phase { DeskPhase D.means (lines_todo (show_lines session.now.plan session.now.kept)) result desk.old desk.new }
-    ensures created { SameCreated D.means desk.old desk.new }
+    ensures same { SameFiles D.means desk.old desk.new }
 {
     let mut k = 0;
     while session.show_line(k, line) {
@@ -66,7 +67,7 @@ fn say_lines<D: Desk, P: Dsp>(
 ) -> bool
     requires plan { IsSound session.now.plan }
     ensures phase { DeskPhase D.means (lines_todo (answer_line numbered.now.line answer.now ∷ shown_by numbered.now.command session.now.plan session.now.kept)) result desk.old desk.new }
-    ensures created { SameCreated D.means desk.old desk.new }
+    ensures same { SameFiles D.means desk.old desk.new }
 {
     write_line(numbered.line, answer, line);
     if !desk.say(line.bytes()).is_ok() {
@@ -87,13 +88,13 @@ fn do_earlier_tick<D: Desk, P: Dsp>(
     outputs: &mut Outputs,
 ) -> bool
     requires few { session.old.link.sent < 2 ^ 63 }
-    requires created { AreCreated D.means (output_slots outputs.old) desk.old }
+    requires files { HaveFiles D.means inputs.old outputs.old desk.old }
     requires empty { drained outputs.old ≡ outputs.old }
-    ensures phase { (numbered : Numbered) (n : ℕ) → numbered.command ≡ Tick n → Phase D.means P.means (round_todo (record { numbered = numbered; last = false })) result
+    ensures phase { (numbered : Numbered) (n : ℕ) → numbered.command ≡ Tick n → Phase D.means P.means (unit_todo (record { numbered = numbered; last = false })) result
         desk.old (Seated session.old inputs.old (output_slots outputs.old)) desk.new (Seated session.new inputs.new (output_slots outputs.new)) }
     ensures plan { session.new.plan ≡ session.old.plan }
     ensures sent { session.new.link.sent ≡ session.old.link.sent }
-    ensures created { AreCreated D.means (output_slots outputs.new) desk.new }
+    ensures files { HaveFiles D.means inputs.new outputs.new desk.new }
     ensures empty { drained outputs.new ≡ outputs.new }
 {
     session.tick(inputs, outputs);
@@ -115,13 +116,13 @@ fn do_round<D: Desk, P: Dsp>(
     requires numbers { is_in_range numbered.now.command ≡ true }
     requires few { session.old.link.sent < 2 ^ 63 }
     requires plan { IsSound session.old.plan }
-    requires created { AreCreated D.means (output_slots outputs.old) desk.old }
+    requires files { HaveFiles D.means inputs.old outputs.old desk.old }
     requires empty { drained outputs.old ≡ outputs.old }
-    ensures phase { Phase D.means P.means (round_todo (record { numbered = numbered.now; last = true })) result
+    ensures phase { Phase D.means P.means (unit_todo (record { numbered = numbered.now; last = true })) result
         desk.old (Seated session.old inputs.old (output_slots outputs.old)) desk.new (Seated session.new inputs.new (output_slots outputs.new)) }
     ensures plan { session.new.plan ≡ session.old.plan }
     ensures sent { session.new.link.sent ≤ session.old.link.sent + most_sent numbered.now.command }
-    ensures created { AreCreated D.means (output_slots outputs.new) desk.new }
+    ensures files { HaveFiles D.means inputs.new outputs.new desk.new }
     ensures empty { drained outputs.new ≡ outputs.new }
 {
     let answer = session.step(&numbered.command, inputs, outputs);
@@ -144,7 +145,7 @@ fn earlier(command: &Command) -> u32
     }
 }
 
-// The units of a command.
+// The units of a command, before each of which the inputs are filled.
 fn do_command<D: Desk, P: Dsp>(
     numbered: &Numbered,
     desk: &mut D,
@@ -152,29 +153,36 @@ fn do_command<D: Desk, P: Dsp>(
     inputs: &mut Inputs,
     outputs: &mut Outputs,
     line: &mut Line,
+    buffer: &mut [u8; READ_BYTES],
 ) -> bool
     requires numbers { is_in_range numbered.now.command ≡ true }
     requires few { session.old.link.sent < 2 ^ 63 }
     requires plan { IsSound session.old.plan }
-    requires created { AreCreated D.means (output_slots outputs.old) desk.old }
+    requires files { HaveFiles D.means inputs.old outputs.old desk.old }
     requires empty { drained outputs.old ≡ outputs.old }
     ensures phase { Phase D.means P.means (rounds_todo (command_rounds numbered.now)) result
         desk.old (Seated session.old inputs.old (output_slots outputs.old)) desk.new (Seated session.new inputs.new (output_slots outputs.new)) }
     ensures plan { session.new.plan ≡ session.old.plan }
     ensures sent { session.new.link.sent ≤ session.old.link.sent + 900 }
-    ensures created { AreCreated D.means (output_slots outputs.new) desk.new }
+    ensures files { HaveFiles D.means inputs.new outputs.new desk.new }
     ensures empty { drained outputs.new ≡ outputs.new }
 {
     for _ in 0..earlier(&numbered.command) {
+        if !refill(desk, inputs, buffer) {
+            return false;
+        }
         if !do_earlier_tick(desk, session, inputs, outputs) {
             return false;
         }
     }
+    if !refill(desk, inputs, buffer) {
+        return false;
+    }
     do_round(numbered, desk, session, inputs, outputs, line)
 }
 
-/// Each command in turn, up to a failure of the desk; answers whether all were done. The outputs are empty before it, and
-/// the files of their slots are created.
+/// Each command in turn, up to a failure of the desk; answers whether all were done. The outputs are empty before it, the files of
+/// their slots are created, and those of the inputs are open.
 pub fn do_commands<D: Desk, P: Dsp>(
     commands: &[Numbered],
     desk: &mut D,
@@ -186,14 +194,23 @@ pub fn do_commands<D: Desk, P: Dsp>(
     requires few { length commands.now < 2 ^ 32 }
     requires first { session.old.link.sent ≡ 0 }
     requires plan { IsSound session.old.plan }
-    requires created { AreCreated D.means (output_slots outputs.old) desk.old }
+    requires files { HaveFiles D.means inputs.old outputs.old desk.old }
     requires empty { drained outputs.old ≡ outputs.old }
     ensures { Phase D.means P.means (commands_todo commands.now) result
         desk.old (Seated session.old inputs.old (output_slots outputs.old)) desk.new (Seated session.new inputs.new (output_slots outputs.new)) }
 {
     let mut line = Line::new();
+    let mut buffer = [0; READ_BYTES];
     for numbered in commands {
-        if !do_command(numbered, desk, session, inputs, outputs, &mut line) {
+        if !do_command(
+            numbered,
+            desk,
+            session,
+            inputs,
+            outputs,
+            &mut line,
+            &mut buffer,
+        ) {
             return false;
         }
     }

@@ -6,7 +6,7 @@ ghost use Rattle.sof_session.specs.Written.{with_bytes, written_in};
 ghost use Rattle.sof_run.specs.Todo.{Todo, Stop, Ask, Played, DeskPhase};
 ghost use Rattle.sof_run.specs.Lines.{halt_line, halt_status};
 ghost use Rattle.sof_run.specs.Play.{flush_todo};
-ghost use Rattle.sof_run.specs.Opening.{AreCreated, SameCreated};
+ghost use Rattle.sof_run.specs.Opening.{AreCreated, SameFiles};
 
 use crate::lines::write_halt;
 use crate::prepare::Halt;
@@ -65,7 +65,7 @@ pub fn stop_for<D: Desk>(desk: &mut D, halt: Halt) -> u8
 fn write_output<D: Desk>(desk: &mut D, slot: u32, bytes: &[u8]) -> bool
     requires { D.means.created desk.old slot ≡ true }
     ensures phase { DeskPhase D.means (flush_todo (with_bytes slot bytes.now [])) result desk.old desk.new }
-    ensures created { SameCreated D.means desk.old desk.new }
+    ensures same { SameFiles D.means desk.old desk.new }
 {
     if bytes.is_empty() {
         return true;
@@ -77,7 +77,7 @@ fn write_output<D: Desk>(desk: &mut D, slot: u32, bytes: &[u8]) -> bool
 pub fn write_outputs<D: Desk>(desk: &mut D, outputs: &Outputs) -> bool
     requires { AreCreated D.means (output_slots outputs.now) desk.old }
     ensures phase { DeskPhase D.means (flush_todo (written_in outputs.now)) result desk.old desk.new }
-    ensures created { SameCreated D.means desk.old desk.new }
+    ensures same { SameFiles D.means desk.old desk.new }
 {
     let mut place = 0;
     while place < outputs.len() {

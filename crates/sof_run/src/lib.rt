@@ -12,6 +12,7 @@ mod opening;
 mod play;
 mod prepare;
 mod stress;
+mod windows;
 mod words;
 
 pub use play::{Ended, run};

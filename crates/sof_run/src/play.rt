@@ -61,14 +61,7 @@ fn do_session<D: Desk, P: Dsp>(
         };
     };
     let bindings = ready.script.bindings.items();
-    if let Err(status) = open_all(
-        alloc,
-        &ready.plan,
-        bindings,
-        desk,
-        &mut inputs,
-        &mut outputs,
-    ) {
+    if let Err(status) = open_all(&ready.plan, bindings, desk, &mut inputs, &mut outputs) {
         return Ended { status, dsp };
     }
     match Session::new(alloc, ready.plan, heap, dsp) {
@@ -175,9 +168,9 @@ fn do_words<D: Desk, P: Dsp>(alloc: Global, words: &[String], desk: &mut D, dsp:
 ///
 /// The words are `play HEAP TOPOLOGY SCRIPT`, `check TOPOLOGY`, `compile SOURCE OUT` or `stress N`: HEAP is a decimal number of
 /// bytes without a needless leading zero, at most the device's room, N is one from 1 to 1000, and each name has 1 to 255 bytes. A topology, a script and a
-/// source have at most 1048576 bytes. The script's inputs are loaded, each of at most 4194304 bytes, and its outputs created
-/// in the order of its lines, before the commands. After each tick, and after each other command, the bytes of the outputs are
-/// appended, and then the command's lines are said. The statuses: 0 all commands were carried out, the topology is right, or
+/// source have at most 1048576 bytes. The script's inputs, of any length, are opened and its outputs created in the order of its lines,
+/// before the commands. Before each tick, and before each other command, the inputs are read until each holds the bytes that it may
+/// take or has ended. After it the bytes of the outputs are appended, and then the command's lines are said. The statuses: 0 all commands were carried out, the topology is right, or
 /// the source's file was made; 1 the words are of no form; 2 the topology file is broken, or the topology breaks a rule; 3 the
 /// desk failed; 4 a line of the script is at fault, or binds what it may not, or the source is refused; 5 a file is too long;
 /// 7 memory was wanting; 8 the script has more than 60000 ticks, with those of its lags.

@@ -41,19 +41,19 @@ abbrev pub route : List ℕ → List ℕ → Route
 route sink source = record { sink = sink; control = []; source = source }
 
 -- what a direction can do, and nothing
-abbrev pub no_caps : List ℕ → Caps
-no_caps name = record { name = name; formats = 0; rates = 0; rate_min = 0; rate_max = 0; channels_min = 0; channels_max = 0; periods_min = 0; periods_max = 0; period_size_min = 0; period_size_max = 0; buffer_size_min = 0; buffer_size_max = 0; sig_bits = 0 }
+abbrev pub bare_caps : List ℕ → Caps
+bare_caps name = record { name = name; formats = 0; rates = 0; rate_min = 0; rate_max = 0; channels_min = 0; channels_max = 0; periods_min = 0; periods_max = 0; period_size_min = 0; period_size_max = 0; buffer_size_min = 0; buffer_size_max = 0; sig_bits = 0 }
 
 abbrev pub some_caps : List ℕ → Caps
 some_caps name = record { name = name; formats = 1092; rates = 0; rate_min = 8000; rate_max = 192000; channels_min = 1; channels_max = 8; periods_min = 0; periods_max = 0; period_size_min = 0; period_size_max = 0; buffer_size_min = 0; buffer_size_max = 0; sig_bits = 0 }
 
 -- a stream record of zeros
-abbrev pub no_stream : StreamRecord
-no_stream = record { name = []; format = 0; rate = 0; period_bytes = 0; buffer_bytes = 0; channels = 0 }
+abbrev pub zero_stream : StreamRecord
+zero_stream = record { name = []; format = 0; rate = 0; period_bytes = 0; buffer_bytes = 0; channels = 0 }
 
 -- a PCM that plays
 abbrev pub pcm : List ℕ → List ℕ → Pcm
-pcm name play = record { name = name; dai_name = name; pcm_id = 0; dai_id = 0; playback = 1; capture = 0; compress = 0; streams = replicate 8 no_stream; num_streams = 0; play = some_caps play; cap = no_caps []; flag_mask = 0; flags = 0; private = [] }
+pcm name play = record { name = name; dai_name = name; pcm_id = 0; dai_id = 0; playback = 1; capture = 0; compress = 0; streams = replicate 8 zero_stream; num_streams = 0; play = some_caps play; cap = bare_caps []; flag_mask = 0; flags = 0; private = [] }
 
 -- a host, a buffer of 768 bytes, a DAI of s32, a pipeline of 1000 µs, two routes and a PCM
 abbrev pub thin_topology : Topology
@@ -83,8 +83,8 @@ abbrev pub load_and_show : List Numbered
 load_and_show = numbered_from 1 (Load ∷ Show ∷ [])
 
 -- what a run of `load` and `show` says, with a heap of so many bytes
-abbrev pub said : ℕ → List ℕ
-said heap = concat (map with_newline (said_from (plan_of thin_topology) heap (first_known (plan_of thin_topology)) load_and_show))
+abbrev pub load_said : ℕ → List ℕ
+load_said heap = concat (map with_newline (said_from (plan_of thin_topology) heap (first_known (plan_of thin_topology)) load_and_show))
 
 -- how often the device is booted by it
 abbrev pub boots_of : ℕ → ℕ

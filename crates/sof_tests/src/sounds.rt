@@ -40,8 +40,13 @@ fn laid_out(
 fn sounded(alloc: Global, script: &[u8], input: &[u8], failing: Failing) -> Result<Sound, Fail> {
     let topology = graph(alloc, VOLUME)?;
     let mut desk = laid_out(alloc, &topology, script, input, failing)?;
+    sounded_over(alloc, &mut desk)
+}
+
+// A run over a desk that is laid out.
+fn sounded_over(alloc: Global, desk: &mut MemDesk) -> Result<Sound, Fail> {
     let words = ["play", "1856", "a.tplg", "s.txt"];
-    let ending = run_over(alloc, words.as_slice(), ROOM, &mut desk)?;
+    let ending = run_over(alloc, words.as_slice(), ROOM, desk)?;
     let mut said = Vec::new(alloc);
     said.extend_from_slice(desk.said())?;
     let mut out = Vec::new(alloc);
@@ -93,11 +98,27 @@ fn ten_ticks_are_played(rt: HostRuntime) -> Result<(), Fail> {
     Ok(())
 }
 
-// The eleventh call appends the third tick's bytes.
+// Each read gives one byte, and the same is played.
+#[test]
+fn reads_of_one_byte_play_the_same(rt: HostRuntime) -> Result<(), Fail> {
+    let alloc = rt.alloc();
+    let input = repeated(alloc, &[0xff, 0x7f], 960)?;
+    let topology = graph(alloc, VOLUME)?;
+    let mut desk = laid_out(alloc, &topology, TEN_TICKS, &input, None)?;
+    desk.read_at_most(1);
+    let sound = sounded_over(alloc, &mut desk)?;
+    let whole = ten_ticks(alloc, None)?;
+    assert_eq!(rt; sound.status, 0);
+    assert_eq!(rt; sound.said.as_slice(), whole.said.as_slice());
+    assert_eq!(rt; sound.out.as_slice(), whole.out.as_slice());
+    Ok(())
+}
+
+// The thirteenth call appends the third tick's bytes: two reads come before the first line.
 #[test]
 fn an_append_that_fails_leaves_a_front_of_the_sound(rt: HostRuntime) -> Result<(), Fail> {
     let alloc = rt.alloc();
-    let sound = ten_ticks(alloc, Some((11, 100)))?;
+    let sound = ten_ticks(alloc, Some((13, 100)))?;
     assert_eq!(rt; sound.status, 3);
     assert_eq!(rt;
         sound.said.as_slice(),
@@ -118,15 +139,15 @@ fn leaves_fronts(alloc: Global, call: u32, whole: &Sound) -> Result<bool, Fail> 
     )
 }
 
-// The run makes 21 calls: two loads, a load and a create for the bindings, ten appends and seven lines.
+// The run makes 23 calls: two loads, an open and a create for the bindings, two reads, ten appends and seven lines.
 #[test]
 fn each_call_that_fails_leaves_fronts(rt: HostRuntime) -> Result<(), Fail> {
     let alloc = rt.alloc();
     let whole = ten_ticks(alloc, None)?;
-    for call in 1..22u32 {
+    for call in 1..24u32 {
         assert!(rt; leaves_fronts(alloc, call, &whole)?, "call {call}");
     }
-    let later = ten_ticks(alloc, Some((22, 0)))?;
+    let later = ten_ticks(alloc, Some((24, 0)))?;
     assert_eq!(rt; later.status, 0);
     Ok(())
 }

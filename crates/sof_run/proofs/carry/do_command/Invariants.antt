@@ -5,7 +5,7 @@ use Rattle.sof_session.specs.Lives.{Seated}
 use Rattle.sof_run.specs.Todo.{LeadsOn}
 use Rattle.sof_run.specs.Rounds.{earlier, rounds_after, command_rounds}
 use Rattle.sof_run.specs.Play.{rounds_todo}
-use Rattle.sof_run.specs.Opening.{AreCreated}
+use Rattle.sof_run.specs.Opening.{HaveFiles}
 use Rattle.sof_run.proofs.carry.do_command.Given as goal
 
 -- the units that are left, done, make all done
@@ -15,7 +15,7 @@ invariant-loop g l =
     record {
       plan : l.session.plan ≡ l.fn.session.plan;
       sent : l.session.link.sent ≤ l.fn.session.link.sent;
-      created : AreCreated means (output_slots l.outputs) l.desk;
+      files : HaveFiles means l.inputs l.outputs l.desk;
       empty : drained l.outputs ≡ l.outputs;
       so_far : LeadsOn means g.P.Dsp.means (rounds_todo (command_rounds l.numbered)) (rounds_todo (rounds_after (earlier l.numbered.command - l.counter) l.numbered))
           l.fn.desk (Seated l.fn.session l.fn.inputs (output_slots l.fn.outputs)) l.desk (Seated l.session l.inputs (output_slots l.outputs));

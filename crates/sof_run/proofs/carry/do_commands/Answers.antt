@@ -1,4 +1,4 @@
-use Rattle.std.proofs.Common.{◌≡◌, true, ◌≤◌, length, sym, subst, ◌∙◌, arith}
+use Rattle.std.proofs.Common.{◌≤◌, length, sym, subst, ◌∙◌, arith}
 use Rattle.std.proofs.lemmas.List.{drop_all}
 use Rattle.sof_io.specs.Bound.{output_slots}
 use Rattle.tplg_plan.specs.Sound.{IsSound}
@@ -23,7 +23,7 @@ loop-numbered-preserved g c =
     let phase = subst (λ n. Phase means dsp (rounds_todo (command_rounds n)) c.do_command.result c.loop-numbered.desk (Seated c.loop-numbered.session c.loop-numbered.inputs (output_slots c.loop-numbered.outputs)) c.do_command.new.desk (Seated c.do_command.new.session c.do_command.new.inputs (output_slots c.do_command.new.outputs))) c.numbered-item.is c.do_command.ensures.phase in
     record {
       plan = c.do_command.ensures.plan ∙ c.loop-numbered.invariant.plan;
-      created = c.do_command.ensures.created;
+      files = c.do_command.ensures.files;
       empty = c.do_command.ensures.empty;
       sent = omega (arith, c.do_command.ensures.sent, c.loop-numbered.invariant.sent);
       so_far = commands_on means dsp c.args.commands.now c.loop-numbered.numbered-index _ _ _ _ _ _ _ c.loop-numbered-test.true c.loop-numbered.invariant.so_far (rw c.if-not-do_command.false at phase);

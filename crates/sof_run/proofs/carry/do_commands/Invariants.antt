@@ -4,7 +4,7 @@ use Rattle.sof_io.specs.Bound.{output_slots}
 use Rattle.sof_session.specs.Lives.{Seated}
 use Rattle.sof_run.specs.Todo.{LeadsOn}
 use Rattle.sof_run.specs.Play.{commands_todo}
-use Rattle.sof_run.specs.Opening.{AreCreated}
+use Rattle.sof_run.specs.Opening.{HaveFiles}
 use Rattle.sof_run.proofs.carry.do_commands.Given as goal
 
 -- the commands that are left, done, make all done
@@ -13,7 +13,7 @@ invariant-loop-numbered g l =
     let means = g.D.Desk.means in
     record {
       plan : l.session.plan ≡ l.fn.session.plan;
-      created : AreCreated means (output_slots l.outputs) l.desk;
+      files : HaveFiles means l.inputs l.outputs l.desk;
       empty : drained l.outputs ≡ l.outputs;
       sent : l.session.link.sent ≤ 900 * l.numbered-index;
       so_far : LeadsOn means g.P.Dsp.means (commands_todo l.commands) (commands_todo (drop l.numbered-index l.commands))

@@ -1,7 +1,9 @@
 use Rattle.std.proofs.Common.{sym, ◌∙◌, arith}
+use Rattle.sof_desk.specs.Desk.{Spoken}
 use Rattle.sof_session.specs.Show.{show_lines}
 use Rattle.sof_run.proofs.FewLines.{line_within, few_lines}
 use Rattle.sof_run.proofs.Commands.{leads_on, leads_off, leads_all}
+use Rattle.sof_run.proofs.Refills.{same_then, same_put}
 use Rattle.sof_run.proofs.carry.say_shown.Goals as goal
 
 pub returns-then-not-is_ok : goal.returns-then-not-is_ok
@@ -10,7 +12,7 @@ returns-then-not-is_ok g c =
     record {
       phase = leads_off g.D.Desk.means lines c.loop-line.k c.show_line.new.line _ _ _ (rw c.loop-line-test.true at c.show_line.ensures.line) c.loop-line.invariant.so_far
           (rw (sym c.is_ok.ensures.value ∙ c.if-not-is_ok.true, c.bytes.ensures ∙ c.say.ensures.said) at c.say-in-loop-line.ensures);
-      created = λ slot. c.say-in-loop-line.ensures.created slot ∙ c.loop-line.invariant.created slot;
+      same = same_then g.D.Desk.means _ _ _ c.loop-line.invariant.same (same_put g.D.Desk.means Spoken _ _ _ _ c.say-in-loop-line.ensures);
     }
 
 pub loop-line-preserved : goal.loop-line-preserved
@@ -19,7 +21,7 @@ loop-line-preserved g c =
     record {
       so_far = leads_on g.D.Desk.means lines c.loop-line.k c.show_line.new.line _ _ _ (rw c.loop-line-test.true at c.show_line.ensures.line) c.loop-line.invariant.so_far
           (rw (sym c.is_ok.ensures.value ∙ c.if-not-is_ok.false, c.bytes.ensures ∙ c.say.ensures.said) at c.say-in-loop-line.ensures);
-      created = λ slot. c.say-in-loop-line.ensures.created slot ∙ c.loop-line.invariant.created slot;
+      same = same_then g.D.Desk.means _ _ _ c.loop-line.invariant.same (same_put g.D.Desk.means Spoken _ _ _ _ c.say-in-loop-line.ensures);
     }
 
 pub returns : goal.returns
@@ -27,7 +29,7 @@ returns g c =
     let lines = show_lines c.args.session.now.plan c.args.session.now.kept in
     record {
       phase = leads_all g.D.Desk.means lines c.loop-line.k c.show_line.new.line _ _ (rw c.loop-line-test.false at c.show_line.ensures.line) c.loop-line.invariant.so_far;
-      created = c.loop-line.invariant.created;
+      same = c.loop-line.invariant.same;
     }
 
 pub overflow_add-k : goal.overflow_add-k

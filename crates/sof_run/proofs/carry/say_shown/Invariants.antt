@@ -1,6 +1,6 @@
 use Rattle.std.proofs.Common.{◌-◌, drop, length}
 use Rattle.sof_session.specs.Show.{show_lines}
-use Rattle.sof_run.specs.Opening.{SameCreated}
+use Rattle.sof_run.specs.Opening.{SameFiles}
 use Rattle.sof_run.proofs.Commands.{Leads}
 use Rattle.sof_run.proofs.carry.say_shown.Given as goal
 
@@ -10,7 +10,7 @@ invariant-loop-line g l =
     let lines = show_lines l.session.plan l.session.kept in
     record {
       so_far : Leads g.D.Desk.means lines (drop l.k lines) l.fn.desk l.desk;
-      created : SameCreated g.D.Desk.means l.fn.desk l.desk;
+      same : SameFiles g.D.Desk.means l.fn.desk l.desk;
     }
 
 abbrev pub decreases-loop-line : goal.decreases-loop-line

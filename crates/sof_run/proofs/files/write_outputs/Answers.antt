@@ -1,10 +1,11 @@
 use Rattle.std.proofs.Common.{◌∙◌}
 use Rattle.sof_run.proofs.Flushing.{created_at, left_on, left_off}
+use Rattle.sof_run.proofs.Refills.{same_then}
 use Rattle.sof_run.proofs.files.write_outputs.Goals as goal
 
 pub write_output-requires : goal.write_output-requires
 write_output-requires g c =
-    c.loop-place.invariant.created c.at-slot.result.0
+    c.loop-place.invariant.same.created c.at-slot.result.0
     ∙ created_at g.D.Desk.means c.args.outputs.now c.loop-place.place (record { slot = c.at-slot.result.0; bytes = c.at-slot.result.1.now }) c.args.desk.now c.requires c.at-slot.ensures
 
 pub returns-then-not-write_output-clause-phase : goal.returns-then-not-write_output-clause-phase
@@ -15,5 +16,5 @@ pub loop-place-preserved : goal.loop-place-preserved
 loop-place-preserved g c =
     record {
       so_far = left_on g.D.Desk.means c.args.outputs.now c.loop-place.place c.at-slot.result.0 c.at-slot.result.1.now c.at-slot.ensures _ _ _ c.loop-place.invariant.so_far (rw c.if-not-write_output.false at c.write_output.ensures.phase);
-      created = λ slot. c.write_output.ensures.created slot ∙ c.loop-place.invariant.created slot;
+      same = same_then g.D.Desk.means _ _ _ c.loop-place.invariant.same c.write_output.ensures.same;
     }

@@ -1,5 +1,5 @@
 use Rattle.std.proofs.Common.{◌-◌, drop, length}
-use Rattle.sof_run.specs.Opening.{SameCreated}
+use Rattle.sof_run.specs.Opening.{SameFiles}
 use Rattle.sof_run.proofs.Flushing.{Left}
 use Rattle.sof_run.proofs.files.write_outputs.Given as goal
 
@@ -8,7 +8,7 @@ abbrev pub invariant-loop-place : goal.invariant-loop-place
 invariant-loop-place g l =
     record {
       so_far : Left g.D.Desk.means l.outputs (drop l.place l.outputs) l.fn.desk l.desk;
-      created : SameCreated g.D.Desk.means l.fn.desk l.desk;
+      same : SameFiles g.D.Desk.means l.fn.desk l.desk;
     }
 
 abbrev pub decreases-loop-place : goal.decreases-loop-place

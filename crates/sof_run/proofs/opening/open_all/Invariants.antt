@@ -3,7 +3,7 @@ use Rattle.sof_base.specs.Ports.{drained}
 use Rattle.sof_io.specs.Bound.{input_slots, output_slots}
 use Rattle.sof_script.specs.Commands.{bounds_of}
 use Rattle.sof_run.specs.Bindings.{wrong_behind}
-use Rattle.sof_run.specs.Opening.{AreCreated}
+use Rattle.sof_run.specs.Opening.{HaveFiles}
 use Rattle.sof_run.proofs.Openings.{Left}
 use Rattle.sof_run.proofs.Slots.{IsFresh}
 use Rattle.sof_run.proofs.opening.open_all.Given as goal
@@ -19,6 +19,6 @@ invariant-loop-binding g l =
       right : wrong_behind l.plan before after ≡ None;
       inputs : IsFresh l.plan true before (input_slots l.inputs);
       outputs : IsFresh l.plan false before (output_slots l.outputs);
-      created : AreCreated means (output_slots l.outputs) l.desk;
+      files : HaveFiles means l.inputs l.outputs l.desk;
       empty : drained l.outputs ≡ l.outputs;
     }

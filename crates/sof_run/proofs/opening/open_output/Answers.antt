@@ -1,11 +1,10 @@
-use Rattle.std.proofs.Common.{sym, subst, ap, ◌∙◌}
-use Rattle.sof_base.specs.Ports.{drained}
-use Rattle.sof_io.specs.Bound.{output_slots}
+use Rattle.std.proofs.Common.{List, sym, subst, ap, ◌∙◌}
+use Rattle.sof_base.specs.Ports.{OutputView, drained}
 use Rattle.sof_io.specs.Puts.{with_slot}
 use Rattle.sof_io.proofs.OutputLaws.{drained-with_slot}
 use Rattle.sof_run.specs.Play.{output_todo}
-use Rattle.sof_run.specs.Opening.{AreCreated, Opens}
-use Rattle.sof_run.proofs.Openings.{output_on, output_off, output_wanting, created_more}
+use Rattle.sof_run.specs.Opening.{HaveFiles, Opens}
+use Rattle.sof_run.proofs.Openings.{output_on, output_off, output_wanting, files_created}
 use Rattle.sof_run.proofs.opening.open_output.Goals as goal
 
 pub returns-then-is_ok-clause-done : goal.returns-then-is_ok-clause-done
@@ -13,10 +12,10 @@ returns-then-is_ok-clause-done g c = λ inputs.
     subst (λ outputs. Opens g.D.Desk.means (output_todo c.args.slot c.args.file.now inputs c.args.outputs.now) inputs outputs c.args.desk.now c.create.new.self) (sym c.in-Ok.ensures.ok)
     (output_on g.D.Desk.means c.args.slot c.args.file.now inputs c.args.outputs.now _ _ (rw (sym c.is_ok.ensures.value ∙ c.if-is_ok.true) at c.create.ensures))
 
-pub returns-then-is_ok-clause-created : goal.returns-then-is_ok-clause-created
-returns-then-is_ok-clause-created g c =
-    subst (λ (outputs : _). AreCreated g.D.Desk.means (output_slots outputs) c.create.new.self) (sym c.in-Ok.ensures.ok)
-    (created_more g.D.Desk.means c.args.slot c.args.file.now c.args.desk.now c.create.new.self (rw (sym c.is_ok.ensures.value ∙ c.if-is_ok.true) at c.create.ensures) c.args.outputs.now c.requires.created)
+pub returns-then-is_ok-clause-files : goal.returns-then-is_ok-clause-files
+returns-then-is_ok-clause-files g c = λ inputs all.
+    subst (λ (outputs : List OutputView). HaveFiles g.D.Desk.means inputs outputs c.create.new.self) (sym c.in-Ok.ensures.ok)
+    (files_created g.D.Desk.means inputs c.args.outputs.now _ _ c.args.slot c.args.file.now (rw (sym c.is_ok.ensures.value ∙ c.if-is_ok.true) at c.create.ensures) all)
 
 pub returns-then-is_ok-clause-empty : goal.returns-then-is_ok-clause-empty
 returns-then-is_ok-clause-empty g c =

@@ -1,5 +1,5 @@
 use Rattle.std.proofs.Common.{map, string_bytes, subst}
-use Rattle.sof_run.specs.Calls.{Follows}
+use Rattle.sof_run.specs.Calls.{FollowsCourse}
 use Rattle.sof_run.proofs.Finish.{course_made, count_rose, left, words_end, judged, plays_whole}
 use Rattle.sof_run.proofs.CheckVerdicts.{checks}
 use Rattle.sof_run.proofs.CompileVerdicts.{compiles}
@@ -22,7 +22,7 @@ returns g c =
         turned = gave.ran.turned;
         calls = gave.ran.played.calls;
         led = gave.ran.played.led;
-        follows = subst (λ n. Follows room n words gave.ran.turns gave.ran.played.calls c.do_words.result.status) given.is_sent (course_made means dsp words _ _ _ _ _ sent gave);
+        follows = subst (λ n. FollowsCourse room n words gave.ran.turns gave.ran.played.calls c.do_words.result.status) given.is_sent (course_made means dsp words _ _ _ _ _ sent gave);
         failed = count_rose means dsp words _ _ _ _ _ sent gave;
       };
       exit = left means dsp words _ _ _ _ _ sent gave;

@@ -6,7 +6,7 @@ use Rattle.std.specs.Int.Signed.{shr_z, mag, mag_shr}
 use Rattle.std.proofs.lemmas.Int.{ints, unsigned_abs-mul, to_z-of_z, of_z-to_z}
 use Rattle.std.proofs.Math.IntN.{neg_ℤ, pos-*ℤ-pos, negsuc-*ℤ-pos}
 use Rattle.std.proofs.Math.Nat.{mod-lt, div-add-mod, mul-le-mul, div-le_of_le-mul, div-lt_iff_lt-mul}
-use Rattle.eq_biquad.specs.PieceWords.{joined}
+use Rattle.eq_biquad.specs.PieceWords.{wide_number}
 
 -- a shift to the right is a division that rounds down
 pub shr-is : (z : ℤ) (m : ℕ) → shr_z z m ≡ int_div_euclid z (pos m)
@@ -118,8 +118,8 @@ pub bits-again : (n : ℕ) → n < 2 ^ 32 → of_z w32 (to_z w32 (of_z w32 (to_z
 bits-again n low = ap (λ k. of_z w32 (to_z w32 k)) (of_z-to_z w32 n low) ∙ of_z-to_z w32 n low
 
 -- what is above 32 bits is smaller by as much
-pub joined-high : (high : ℤ) (low : ℕ) → low < 2 ^ 32 → nat_abs (joined high low) ≤ 2 ^ 64 → nat_abs high ≤ 2 ^ 33
+pub joined-high : (high : ℤ) (low : ℕ) → low < 2 ^ 32 → nat_abs (wide_number high low) ≤ 2 ^ 64 → nat_abs high ≤ 2 ^ 33
 joined-high high low small within = omega (arith, ints)
 
-pub joined-top : (high : ℤ) (low : ℕ) → low < 2 ^ 32 → nat_abs (joined high low) ≤ 2 ^ 32 → nat_abs high ≤ 2
+pub joined-top : (high : ℤ) (low : ℕ) → low < 2 ^ 32 → nat_abs (wide_number high low) ≤ 2 ^ 32 → nat_abs high ≤ 2
 joined-top high low small within = omega (arith, ints)

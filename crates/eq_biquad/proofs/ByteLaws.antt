@@ -9,35 +9,35 @@ use Rattle.sof_base.specs.Slots.{part, word_at}
 use Rattle.sof_base.specs.Samples.{sample_of}
 use Rattle.sof_base.proofs.SampleLaws.{length-sample_out, length-frame_out}
 use Rattle.std.proofs.Math.Nat.{mod-lt}
-use Rattle.eq_biquad.specs.PieceWords.{bytes_of, bits_at}
+use Rattle.eq_biquad.specs.PieceWords.{bytes_of_words, bits_at}
 
-pub length-bytes : (ws : List ℤ) → length (bytes_of ws) ≡ 4 * length ws
+pub length-bytes : (ws : List ℤ) → length (bytes_of_words ws) ≡ 4 * length ws
 length-bytes ws = omega (arith, length-frame_out S32 ws)
 
-pub length-blob : (ws : List ℤ) (len : ℕ) → len ≤ 4 * length ws → length (take len (bytes_of ws)) ≡ len
-length-blob ws len le = omega (arith, length-take len (bytes_of ws), length-bytes ws)
+pub length-blob : (ws : List ℤ) (len : ℕ) → len ≤ 4 * length ws → length (take len (bytes_of_words ws)) ≡ len
+length-blob ws len le = omega (arith, length-take len (bytes_of_words ws), length-bytes ws)
 
 -- the bytes of a word
 abbrev pub four : ℤ → List ℕ
 four w = to_le_bytes w32 (cast_unsigned w32 w)
 
-pub drop-bytes : (ws : List ℤ) (i : ℕ) → drop (4 * i) (bytes_of ws) ≡ bytes_of (drop i ws)
+pub drop-bytes : (ws : List ℤ) (i : ℕ) → drop (4 * i) (bytes_of_words ws) ≡ bytes_of_words (drop i ws)
 drop-bytes ws zero = refl
 drop-bytes [] (suc i) = ap (λ n. drop n []) (let e : 4 * suc i ≡ suc (4 * i + 3) = omega arith in e)
 drop-bytes (w ∷ ws) (suc i) =
-    ap (λ n. drop n (bytes_of (w ∷ ws))) (let e : 4 * suc i ≡ suc (suc (suc (suc (4 * i)))) = omega arith in e) ∙ drop-bytes ws i
+    ap (λ n. drop n (bytes_of_words (w ∷ ws))) (let e : 4 * suc i ≡ suc (suc (suc (suc (4 * i)))) = omega arith in e) ∙ drop-bytes ws i
 
 -- the four bytes of a word within the bytes
-pub part-bytes : (ws : List ℤ) (i len : ℕ) → i < length ws → 4 * i + 4 ≤ len → part (take len (bytes_of ws)) (4 * i) 4 ≡ four (sample_of ws i)
+pub part-bytes : (ws : List ℤ) (i len : ℕ) → i < length ws → 4 * i + 4 ≤ len → part (take len (bytes_of_words ws)) (4 * i) 4 ≡ four (sample_of ws i)
 part-bytes ws i len lt fits =
     let split : len ≡ 4 * i + (len - 4 * i) = omega arith in
-    ap (λ n. take 4 (drop (4 * i) (take n (bytes_of ws)))) split
-    ∙ ap (take 4) (drop-take (4 * i) (len - 4 * i) (bytes_of ws))
-    ∙ take-take 4 (len - 4 * i) (drop (4 * i) (bytes_of ws)) (omega arith)
+    ap (λ n. take 4 (drop (4 * i) (take n (bytes_of_words ws)))) split
+    ∙ ap (take 4) (drop-take (4 * i) (len - 4 * i) (bytes_of_words ws))
+    ∙ take-take 4 (len - 4 * i) (drop (4 * i) (bytes_of_words ws)) (omega arith)
     ∙ ap (take 4) (drop-bytes ws i)
     ∙ first ws i lt
   where
-    first : (ws : List ℤ) (i : ℕ) → i < length ws → take 4 (bytes_of (drop i ws)) ≡ four (sample_of ws i)
+    first : (ws : List ℤ) (i : ℕ) → i < length ws → take 4 (bytes_of_words (drop i ws)) ≡ four (sample_of ws i)
     first [] i lt = absurd (omega arith)
     first (w ∷ ws) zero lt = refl
     first (w ∷ ws) (suc i) lt = first ws i (omega arith)
@@ -46,7 +46,7 @@ pub bits-below : (w : ℤ) → FitsSigned w32 w → cast_unsigned w32 w < 2 ^ 32
 bits-below w fit = omega (arith, ints)
 
 -- a word of the bytes is the word
-pub word-bytes : (ws : List ℤ) (i len : ℕ) → i < length ws → 4 * i + 4 ≤ len → FitsSigned w32 (sample_of ws i) → word_at (take len (bytes_of ws)) (4 * i) ≡ bits_at ws i
+pub word-bytes : (ws : List ℤ) (i len : ℕ) → i < length ws → 4 * i + 4 ≤ len → FitsSigned w32 (sample_of ws i) → word_at (take len (bytes_of_words ws)) (4 * i) ≡ bits_at ws i
 unfolding word_at
 word-bytes ws i len lt fits fit = ap (from_le_bytes w32) (part-bytes ws i len lt fits) ∙ from_le_bytes-to_le_bytes_4 (bits_at ws i) (bits-below (sample_of ws i) fit)
 
@@ -54,27 +54,27 @@ pub cast-bits : (w : ℤ) → FitsSigned w32 w → cast_signed w32 (cast_unsigne
 cast-bits w fit = to_z-of_z w32 w fit
 
 -- a word of the bytes as a signed number
-pub word-cast : (ws : List ℤ) (p m place len : ℕ) → place ≡ 4 * (p + m) → p + m < length ws → place + 4 ≤ len → FitsSigned w32 (sample_of ws (p + m)) → cast_signed w32 (word_at (take len (bytes_of ws)) place) ≡ sample_of ws (p + m)
+pub word-cast : (ws : List ℤ) (p m place len : ℕ) → place ≡ 4 * (p + m) → p + m < length ws → place + 4 ≤ len → FitsSigned w32 (sample_of ws (p + m)) → cast_signed w32 (word_at (take len (bytes_of_words ws)) place) ≡ sample_of ws (p + m)
 word-cast ws p m place len is lt fits fit =
-    ap (λ n. cast_signed w32 (word_at (take len (bytes_of ws)) n)) is ∙ ap (cast_signed w32) (word-bytes ws (p + m) len lt (omega arith) fit) ∙ cast-bits (sample_of ws (p + m)) fit
+    ap (λ n. cast_signed w32 (word_at (take len (bytes_of_words ws)) n)) is ∙ ap (cast_signed w32) (word-bytes ws (p + m) len lt (omega arith) fit) ∙ cast-bits (sample_of ws (p + m)) fit
 
 -- a byte of the bytes is one of its word
-pub get-bytes : (ws : List ℤ) (q r : ℕ) (d : ℕ) → q < length ws → r < 4 → get_or (bytes_of ws) (4 * q + r) d ≡ get_or (four (sample_of ws q)) r d
+pub get-bytes : (ws : List ℤ) (q r : ℕ) (d : ℕ) → q < length ws → r < 4 → get_or (bytes_of_words ws) (4 * q + r) d ≡ get_or (four (sample_of ws q)) r d
 get-bytes [] q r d lt low = absurd (omega arith)
 get-bytes (w ∷ ws) zero r d lt low =
-    ap (λ n. get_or (bytes_of (w ∷ ws)) n d) (let e : 4 * 0 + r ≡ r = omega arith in e) ∙ get_or_append_left (four w) (bytes_of ws) d r (omega (arith, length-sample_out S32 w))
+    ap (λ n. get_or (bytes_of_words (w ∷ ws)) n d) (let e : 4 * 0 + r ≡ r = omega arith in e) ∙ get_or_append_left (four w) (bytes_of_words ws) d r (omega (arith, length-sample_out S32 w))
 get-bytes (w ∷ ws) (suc q) r d lt low =
-    ap (λ n. get_or (bytes_of (w ∷ ws)) n d) (let e : 4 * suc q + r ≡ suc (suc (suc (suc (4 * q + r)))) = omega arith in e) ∙ get-bytes ws q r d (omega arith) low
+    ap (λ n. get_or (bytes_of_words (w ∷ ws)) n d) (let e : 4 * suc q + r ≡ suc (suc (suc (suc (4 * q + r)))) = omega arith in e) ∙ get-bytes ws q r d (omega arith) low
 
 -- a byte that is set is set in its word
-pub set-bytes : (ws : List ℤ) (q r b : ℕ) (w : ℤ) → q < length ws → r < 4 → four w ≡ set (four (sample_of ws q)) r b → bytes_of (set ws q w) ≡ set (bytes_of ws) (4 * q + r) b
+pub set-bytes : (ws : List ℤ) (q r b : ℕ) (w : ℤ) → q < length ws → r < 4 → four w ≡ set (four (sample_of ws q)) r b → bytes_of_words (set ws q w) ≡ set (bytes_of_words ws) (4 * q + r) b
 set-bytes [] q r b w lt low is = absurd (omega arith)
 set-bytes (v ∷ ws) zero r b w lt low is =
-    ap (λ (t : List ℕ). t ++ bytes_of ws) is ∙ sym (set-append_left (four v) (bytes_of ws) r b (omega (arith, length-sample_out S32 v)))
-    ∙ ap (λ n. set (bytes_of (v ∷ ws)) n b) (let e : r ≡ 4 * 0 + r = omega arith in e)
+    ap (λ (t : List ℕ). t ++ bytes_of_words ws) is ∙ sym (set-append_left (four v) (bytes_of_words ws) r b (omega (arith, length-sample_out S32 v)))
+    ∙ ap (λ n. set (bytes_of_words (v ∷ ws)) n b) (let e : r ≡ 4 * 0 + r = omega arith in e)
 set-bytes (v ∷ ws) (suc q) r b w lt low is =
     ap (λ (t : List ℕ). four v ++ t) (set-bytes ws q r b w (omega arith) low is)
-    ∙ ap (λ n. set (bytes_of (v ∷ ws)) n b) (let e : suc (suc (suc (suc (4 * q + r)))) ≡ 4 * suc q + r = omega arith in e)
+    ∙ ap (λ n. set (bytes_of_words (v ∷ ws)) n b) (let e : suc (suc (suc (suc (4 * q + r)))) ≡ 4 * suc q + r = omega arith in e)
 
 -- ---- each byte is one
 

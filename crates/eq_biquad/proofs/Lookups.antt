@@ -11,7 +11,7 @@ use Rattle.sof_base.proofs.BlobLaws.{sound}
 use Rattle.stream_law.specs.Equaliser.{response_sections, assigned_sections, sections_of}
 use Rattle.eq_biquad.specs.Sections.{sections_in, AreWithin}
 use Rattle.sof_base.specs.Samples.{sample_of}
-use Rattle.eq_biquad.specs.PieceWords.{bytes_of}
+use Rattle.eq_biquad.specs.PieceWords.{bytes_of_words}
 use Rattle.eq_biquad.proofs.ByteLaws.{word-cast, length-blob}
 use Rattle.eq_biquad.proofs.Cases.{by_less}
 
@@ -110,20 +110,20 @@ found-within b is r place n low at count =
     last (suc m) e = let t = is.sections r m low (omega (arith, e, count, ap (word_at b) at)) in omega (arith, t.0, at, e)
 
 -- the assignment of a channel, by its word
-pub word-assigned : (ws : List ℤ) (len k : ℕ) → length ws ≡ 256 → len ≤ 1024 → IsSound (take len (bytes_of ws)) → k < blob_channels (take len (bytes_of ws)) → FitsSigned w32 (sample_of ws (15 + k)) → assignment_at (take len (bytes_of ws)) k ≡ sample_of ws (15 + k)
+pub word-assigned : (ws : List ℤ) (len k : ℕ) → length ws ≡ 256 → len ≤ 1024 → IsSound (take len (bytes_of_words ws)) → k < blob_channels (take len (bytes_of_words ws)) → FitsSigned w32 (sample_of ws (15 + k)) → assignment_at (take len (bytes_of_words ws)) k ≡ sample_of ws (15 + k)
 word-assigned ws len k count most is low fit =
     let here = (is.assignment k low).0 in
     word-cast ws 15 k (60 + 4 * k) len (omega arith) (omega (arith, low, is.few_channels, count)) (omega (arith, here, length-blob ws len (omega arith))) fit
 
-pub is-assigned : (ws : List ℤ) (len k : ℕ) → length ws ≡ 256 → len ≤ 1024 → IsSound (take len (bytes_of ws)) → k < blob_channels (take len (bytes_of ws)) → FitsSigned w32 (sample_of ws (15 + k)) → pos 0 ≤ℤ sample_of ws (15 + k)
-    → (assignment_at (take len (bytes_of ws)) k ≡ pos (nat_abs (sample_of ws (15 + k)))) × (nat_abs (sample_of ws (15 + k)) < blob_responses (take len (bytes_of ws)))
+pub is-assigned : (ws : List ℤ) (len k : ℕ) → length ws ≡ 256 → len ≤ 1024 → IsSound (take len (bytes_of_words ws)) → k < blob_channels (take len (bytes_of_words ws)) → FitsSigned w32 (sample_of ws (15 + k)) → pos 0 ≤ℤ sample_of ws (15 + k)
+    → (assignment_at (take len (bytes_of_words ws)) k ≡ pos (nat_abs (sample_of ws (15 + k)))) × (nat_abs (sample_of ws (15 + k)) < blob_responses (take len (bytes_of_words ws)))
 is-assigned ws len k count most is low fit positive =
-    let b = take len (bytes_of ws) in let v = sample_of ws (15 + k) in
+    let b = take len (bytes_of_words ws) in let v = sample_of ws (15 + k) in
     let word = word-assigned ws len k count most is low fit ∙ positive-is v positive in
     (word, assigned b is k low (nat_abs v) word)
 
-pub few-all : (ws : List ℤ) (len : ℕ) → (0 < len → IsBlob (take len (bytes_of ws))) → (k : ℕ) → length (sections_of (take len (bytes_of ws)) k) ≤ 8
+pub few-all : (ws : List ℤ) (len : ℕ) → (0 < len → IsBlob (take len (bytes_of_words ws))) → (k : ℕ) → length (sections_of (take len (bytes_of_words ws)) k) ≤ 8
 few-all ws len blob k =
     by_less 0 len
-    (λ some. few-sections (take len (bytes_of ws)) (sound (take len (bytes_of ws)) (blob some)) k)
-    (λ none. let e : len ≡ 0 = omega arith in subst (λ ss. length ss ≤ 8) (sym (ap (λ n. sections_of (take n (bytes_of ws)) k) e ∙ empty-blob k)) (omega arith))
+    (λ some. few-sections (take len (bytes_of_words ws)) (sound (take len (bytes_of_words ws)) (blob some)) k)
+    (λ none. let e : len ≡ 0 = omega arith in subst (λ ss. length ss ≤ 8) (sym (ap (λ n. sections_of (take n (bytes_of_words ws)) k) e ∙ empty-blob k)) (omega arith))

@@ -4,14 +4,14 @@ use Rattle.std.specs.Int.{cast_unsigned}
 use Rattle.sof_base.specs.Samples.{sample_of}
 use Rattle.stream_law.specs.Equaliser.{sections_of}
 use Rattle.stream_law.specs.Seen.{fresh_from}
-use Rattle.eq_biquad.specs.PieceWords.{joined, wide_at, numbers_at, AreNumbers}
+use Rattle.eq_biquad.specs.PieceWords.{wide_number, wide_at, numbers_at, AreNumbers}
 use Rattle.eq_biquad.specs.Passing.{in_turn, channel_numbers}
 use Rattle.eq_biquad.proofs.Cases.{by_less}
 use Rattle.eq_biquad.proofs.PassLaws.{HasNumbers}
 
 pub wide-same : (xs ys : List ℤ) (p : ℕ) → ((i : ℕ) → p ≤ i → i < p + 4 → sample_of xs i ≡ sample_of ys i) → wide_at xs p ≡ wide_at ys p
 wide-same xs ys p same = λ k.
-    joined (joined (joined (same (p + 3) (omega arith) (omega arith) k) (cast_unsigned w32 (same (p + 2) (omega arith) (omega arith) k))) (cast_unsigned w32 (same (p + 1) (omega arith) (omega arith) k))) (cast_unsigned w32 (same p (omega arith) (omega arith) k))
+    wide_number (wide_number (wide_number (same (p + 3) (omega arith) (omega arith) k) (cast_unsigned w32 (same (p + 2) (omega arith) (omega arith) k))) (cast_unsigned w32 (same (p + 1) (omega arith) (omega arith) k))) (cast_unsigned w32 (same p (omega arith) (omega arith) k))
 
 pub numbers_at-same : (xs ys : List ℤ) (p n : ℕ) → ((i : ℕ) → p ≤ i → i < p + 8 * n → sample_of xs i ≡ sample_of ys i) → numbers_at xs p n ≡ numbers_at ys p n
 numbers_at-same xs ys p zero same = refl
@@ -41,7 +41,7 @@ zero-at (suc m) zero = refl
 zero-at (suc m) (suc i) = zero-at m i
 
 pub wide-zero : (m p : ℕ) → wide_at (replicate m (pos 0)) p ≡ pos 0
-wide-zero m p = λ k. joined (joined (joined (zero-at m (p + 3) k) (cast_unsigned w32 (zero-at m (p + 2) k))) (cast_unsigned w32 (zero-at m (p + 1) k))) (cast_unsigned w32 (zero-at m p k))
+wide-zero m p = λ k. wide_number (wide_number (wide_number (zero-at m (p + 3) k) (cast_unsigned w32 (zero-at m (p + 2) k))) (cast_unsigned w32 (zero-at m (p + 1) k))) (cast_unsigned w32 (zero-at m p k))
 
 numbers-zero : (m p n : ℕ) → numbers_at (replicate m (pos 0)) p n ≡ replicate (2 * n) (pos 0)
 numbers-zero m p zero = refl

@@ -5,8 +5,8 @@ use Rattle.sof_base.specs.declared.format.Format.TheVariants.{S32}
 use Rattle.sof_base.specs.Samples.{sample_of, frame_out}
 
 -- the bytes of words, four for each, the low one first
-abbrev pub bytes_of : List ℤ → List ℕ
-bytes_of words = frame_out S32 words
+abbrev pub bytes_of_words : List ℤ → List ℕ
+bytes_of_words words = frame_out S32 words
 
 -- n words from a place on
 abbrev pub words_from : ℕ → ℕ → List ℤ → List ℤ
@@ -17,12 +17,12 @@ abbrev pub bits_at : List ℤ → ℕ → ℕ
 bits_at words i = cast_unsigned w32 (sample_of words i)
 
 -- a number, and 32 bits below it
-abbrev pub joined : ℤ → ℕ → ℤ
-joined high low = (high *ℤ pos (2 ^ 32)) +ℤ pos low
+abbrev pub wide_number : ℤ → ℕ → ℤ
+wide_number high low = (high *ℤ pos (2 ^ 32)) +ℤ pos low
 
 -- the number whose 128 bits, in two's complement, are the four words from a place on, the low one first
 abbrev pub wide_at : List ℤ → ℕ → ℤ
-wide_at words i = joined (joined (joined (sample_of words (i + 3)) (bits_at words (i + 2))) (bits_at words (i + 1))) (bits_at words i)
+wide_at words i = wide_number (wide_number (wide_number (sample_of words (i + 3)) (bits_at words (i + 2))) (bits_at words (i + 1))) (bits_at words i)
 
 -- the two numbers of each of n sections, eight words for each, from a place on
 abbrev pub numbers_at : List ℤ → ℕ → ℕ → List ℤ

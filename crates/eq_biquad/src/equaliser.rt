@@ -3,7 +3,7 @@ ghost use Rattle.std.specs.Prelude.{◌≡◌, ℕ, [], ◌+◌, ◌/◌, ◌%�
 ghost use Rattle.sof_base.specs.Blob.{IsBlob};
 ghost use Rattle.stream_law.specs.Equaliser.{passed_frames, numbers_after};
 ghost use Rattle.stream_law.specs.Seen.{fresh_numbers};
-ghost use Rattle.eq_biquad.specs.PieceWords.{bytes_of, words_from, AreNumbers};
+ghost use Rattle.eq_biquad.specs.PieceWords.{bytes_of_words, words_from, AreNumbers};
 ghost use Rattle.eq_biquad.specs.EqState.{staged_of, numbers_of, OnlyNumbers};
 ghost use Rattle.sof_base.specs.Samples.{frames_of, samples_of};
 ghost use Rattle.eq_biquad.specs.Passing.{in_turn, channel_numbers};
@@ -112,7 +112,7 @@ impl Eq {
     pub fn piece(&self) -> &Piece
         ensures piece { result.now ≡ self.now.piece }
         ensures size { (result.now.size ≡ 4160) × (length result.now.words ≡ 1040) }
-        ensures blob { self.now.blob ≡ take (length self.now.blob) (bytes_of (words_from 16 256 result.now.words)) }
+        ensures blob { self.now.blob ≡ take (length self.now.blob) (bytes_of_words (words_from 16 256 result.now.words)) }
     {
         &self.piece
     }
@@ -137,12 +137,12 @@ fn clear_numbers(words: &mut [i32])
 /// Passes frames through the sections of their channels.
 fn run_words(words: &mut [i32], len: usize, samples: &mut [Sample], channels: usize)
     requires words { (length words.old ≡ 1040) × (len ≤ 1024) }
-    requires blob { 0 < len → IsBlob (take len (bytes_of (words_from 16 256 words.old))) }
+    requires blob { 0 < len → IsBlob (take len (bytes_of_words (words_from 16 256 words.old))) }
     requires numbers { AreNumbers (drop 528 words.old) }
     requires channels { (1 ≤ channels) × (channels ≤ 8) }
     requires whole { length samples.old % channels ≡ 0 }
-    ensures samples { samples.new ≡ samples_of (passed_frames (take len (bytes_of (words_from 16 256 words.old))) channels (in_turn 0 (channel_numbers (take len (bytes_of (words_from 16 256 words.old))) (drop 528 words.old)) channels) (frames_of channels (length samples.old / channels) samples.old)) }
-    ensures numbers { in_turn 0 (channel_numbers (take len (bytes_of (words_from 16 256 words.old))) (drop 528 words.new)) channels ≡ numbers_after (take len (bytes_of (words_from 16 256 words.old))) channels (in_turn 0 (channel_numbers (take len (bytes_of (words_from 16 256 words.old))) (drop 528 words.old)) channels) (frames_of channels (length samples.old / channels) samples.old) }
+    ensures samples { samples.new ≡ samples_of (passed_frames (take len (bytes_of_words (words_from 16 256 words.old))) channels (in_turn 0 (channel_numbers (take len (bytes_of_words (words_from 16 256 words.old))) (drop 528 words.old)) channels) (frames_of channels (length samples.old / channels) samples.old)) }
+    ensures numbers { in_turn 0 (channel_numbers (take len (bytes_of_words (words_from 16 256 words.old))) (drop 528 words.new)) channels ≡ numbers_after (take len (bytes_of_words (words_from 16 256 words.old))) channels (in_turn 0 (channel_numbers (take len (bytes_of_words (words_from 16 256 words.old))) (drop 528 words.old)) channels) (frames_of channels (length samples.old / channels) samples.old) }
     ensures before { take 528 words.new ≡ take 528 words.old }
     ensures within { AreNumbers (drop 528 words.new) }
 {
@@ -154,7 +154,7 @@ fn run_words(words: &mut [i32], len: usize, samples: &mut [Sample], channels: us
 fn install_words(words: &mut [i32], blob: &[u8])
     requires words { length words.old ≡ 1040 }
     requires blob { length blob.now ≤ 1024 }
-    ensures blob { take (length blob.now) (bytes_of (words_from 16 256 words.new)) ≡ blob.now }
+    ensures blob { take (length blob.now) (bytes_of_words (words_from 16 256 words.new)) ≡ blob.now }
     ensures staged { words_from 272 256 words.new ≡ words_from 272 256 words.old }
     ensures numbers { drop 528 words.new ≡ replicate 512 (pos 0) }
 {
@@ -166,7 +166,7 @@ fn install_words(words: &mut [i32], blob: &[u8])
 fn stage_words(words: &mut [i32], at: usize, bytes: &[u8])
     requires words { length words.old ≡ 1040 }
     requires bytes { at + length bytes.now ≤ 1024 }
-    ensures staged { bytes_of (words_from 272 256 words.new) ≡ take at (bytes_of (words_from 272 256 words.old)) ++ (bytes.now ++ drop (at + length bytes.now) (bytes_of (words_from 272 256 words.old))) }
+    ensures staged { bytes_of_words (words_from 272 256 words.new) ≡ take at (bytes_of_words (words_from 272 256 words.old)) ++ (bytes.now ++ drop (at + length bytes.now) (bytes_of_words (words_from 272 256 words.old))) }
     ensures blob { words_from 16 256 words.new ≡ words_from 16 256 words.old }
     ensures numbers { drop 528 words.new ≡ drop 528 words.old }
 {

@@ -3,7 +3,7 @@ ghost use Rattle.std.specs.Prelude.{◌≡◌, ◌+◌, ◌*◌, ◌<◌, ◌≤
 ghost use Rattle.sof_base.specs.Blob as form;
 ghost use Rattle.sof_base.specs.Slots.{word_at};
 ghost use Rattle.stream_law.specs.Equaliser.{sections_of};
-ghost use Rattle.eq_biquad.specs.PieceWords.{bytes_of};
+ghost use Rattle.eq_biquad.specs.PieceWords.{bytes_of_words};
 ghost use Rattle.eq_biquad.specs.Sections.{found_in, AreWithin};
 
 use crate::section::Found;
@@ -11,9 +11,9 @@ use crate::section::Found;
 /// The sections of a channel: none where no blob is in force, and where the channel has no assignment or a negative one.
 pub fn find_sections(blob: &[i32], len: usize, channel: usize) -> Option<Found>
     requires words { (length blob.now ≡ 256) × (len ≤ 1024) }
-    requires blob { 0 < len → form.IsBlob (take len (bytes_of blob.now)) }
-    ensures sections { found_in (take len (bytes_of blob.now)) result ≡ sections_of (take len (bytes_of blob.now)) channel }
-    ensures within { IfSome result (AreWithin (take len (bytes_of blob.now))) }
+    requires blob { 0 < len → form.IsBlob (take len (bytes_of_words blob.now)) }
+    ensures sections { found_in (take len (bytes_of_words blob.now)) result ≡ sections_of (take len (bytes_of_words blob.now)) channel }
+    ensures within { IfSome result (AreWithin (take len (bytes_of_words blob.now))) }
 {
     if len == 0 {
         return None;
@@ -35,9 +35,9 @@ pub fn find_sections(blob: &[i32], len: usize, channel: usize) -> Option<Found>
 /// The word where a response begins.
 fn response_at(blob: &[i32], len: usize, response: usize) -> usize
     requires words { (length blob.now ≡ 256) × (len ≤ 1024) }
-    requires blob { form.IsBlob (take len (bytes_of blob.now)) }
-    requires there { response < form.blob_responses (take len (bytes_of blob.now)) }
-    ensures { 4 * result ≡ form.response_at (take len (bytes_of blob.now)) response }
+    requires blob { form.IsBlob (take len (bytes_of_words blob.now)) }
+    requires there { response < form.blob_responses (take len (bytes_of_words blob.now)) }
+    ensures { 4 * result ≡ form.response_at (take len (bytes_of_words blob.now)) response }
 {
     let mut place = 15 + count_at(blob, len, 9);
     for _ in 0..response {
@@ -49,7 +49,7 @@ fn response_at(blob: &[i32], len: usize, response: usize) -> usize
 /// The number in a word of the blob.
 fn count_at(blob: &[i32], _len: usize, place: usize) -> usize
     requires { (4 * place + 4 ≤ _len) × (_len ≤ 4 * length blob.now) }
-    ensures { result ≡ word_at (take _len (bytes_of blob.now)) (4 * place) }
+    ensures { result ≡ word_at (take _len (bytes_of_words blob.now)) (4 * place) }
 {
     blob[place].cast_unsigned() as usize
 }

@@ -4,7 +4,7 @@ ghost use Rattle.sof_base.specs.Samples.{sample_of, frames_of, samples_of};
 ghost use Rattle.sof_base.specs.Blob as form;
 ghost use Rattle.stream_law.specs.Equaliser.{passed_frames, numbers_after};
 ghost use Rattle.eq_biquad.specs.Lanes.{lane};
-ghost use Rattle.eq_biquad.specs.PieceWords.{bytes_of, numbers_at, AreNumbers};
+ghost use Rattle.eq_biquad.specs.PieceWords.{bytes_of_words, numbers_at, AreNumbers};
 ghost use Rattle.eq_biquad.specs.Passing.{passed_samples, numbers_passed, in_turn, channel_numbers};
 ghost use Rattle.eq_biquad.specs.Sections.{law_section, sections_in, AreWithin, IsNarrow};
 
@@ -31,12 +31,12 @@ pub fn pass_channels(
     channels: usize,
 )
     requires words { (length blob.now ≡ 256) × (len ≤ 1024) × (length numbers.old ≡ 512) }
-    requires blob { 0 < len → form.IsBlob (take len (bytes_of blob.now)) }
+    requires blob { 0 < len → form.IsBlob (take len (bytes_of_words blob.now)) }
     requires numbers { AreNumbers numbers.old }
     requires channels { (1 ≤ channels) × (channels ≤ 8) }
     requires whole { length samples.old % channels ≡ 0 }
-    ensures samples { samples.new ≡ samples_of (passed_frames (take len (bytes_of blob.now)) channels (in_turn 0 (channel_numbers (take len (bytes_of blob.now)) numbers.old) channels) (frames_of channels (length samples.old / channels) samples.old)) }
-    ensures numbers { in_turn 0 (channel_numbers (take len (bytes_of blob.now)) numbers.new) channels ≡ numbers_after (take len (bytes_of blob.now)) channels (in_turn 0 (channel_numbers (take len (bytes_of blob.now)) numbers.old) channels) (frames_of channels (length samples.old / channels) samples.old) }
+    ensures samples { samples.new ≡ samples_of (passed_frames (take len (bytes_of_words blob.now)) channels (in_turn 0 (channel_numbers (take len (bytes_of_words blob.now)) numbers.old) channels) (frames_of channels (length samples.old / channels) samples.old)) }
+    ensures numbers { in_turn 0 (channel_numbers (take len (bytes_of_words blob.now)) numbers.new) channels ≡ numbers_after (take len (bytes_of_words blob.now)) channels (in_turn 0 (channel_numbers (take len (bytes_of_words blob.now)) numbers.old) channels) (frames_of channels (length samples.old / channels) samples.old) }
     ensures within { AreNumbers numbers.new }
 {
     let frames = samples.len() / channels;
@@ -62,12 +62,12 @@ fn pass_channel(
     at: Lane,
 )
     requires words { (length blob.now ≡ 256) × (len ≤ 1024) × (length numbers.old ≡ 512) }
-    requires found { AreWithin (take len (bytes_of blob.now)) found }
+    requires found { AreWithin (take len (bytes_of_words blob.now)) found }
     requires numbers { AreNumbers numbers.old }
     requires lane { (at.channel < at.channels) × (at.channels ≤ 8) × (at.frames * at.channels ≡ length samples.old) }
-    ensures lane { lane at.channels at.channel at.frames samples.new ≡ passed_samples (sections_in (take len (bytes_of blob.now)) (4 * found.place) found.count) (numbers_at numbers.old (64 * at.channel) found.count) (lane at.channels at.channel at.frames samples.old) }
+    ensures lane { lane at.channels at.channel at.frames samples.new ≡ passed_samples (sections_in (take len (bytes_of_words blob.now)) (4 * found.place) found.count) (numbers_at numbers.old (64 * at.channel) found.count) (lane at.channels at.channel at.frames samples.old) }
     ensures others { (j k : ℕ) → k < at.channels → k ≢ at.channel → sample_of samples.new (j * at.channels + k) ≡ sample_of samples.old (j * at.channels + k) }
-    ensures numbers { numbers_at numbers.new (64 * at.channel) found.count ≡ numbers_passed (sections_in (take len (bytes_of blob.now)) (4 * found.place) found.count) (numbers_at numbers.old (64 * at.channel) found.count) (lane at.channels at.channel at.frames samples.old) }
+    ensures numbers { numbers_at numbers.new (64 * at.channel) found.count ≡ numbers_passed (sections_in (take len (bytes_of_words blob.now)) (4 * found.place) found.count) (numbers_at numbers.old (64 * at.channel) found.count) (lane at.channels at.channel at.frames samples.old) }
     ensures elsewhere { (i : ℕ) → (i < 64 * at.channel) ⊎ (64 * at.channel + 64 ≤ i) → sample_of numbers.new i ≡ sample_of numbers.old i }
     ensures within { AreNumbers numbers.new }
 {

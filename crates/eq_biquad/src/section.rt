@@ -1,7 +1,7 @@
 // A section as the words of a blob have it.
 ghost use Rattle.std.specs.Prelude.{◌≡◌, ◌+◌, ◌*◌, ◌≤◌, length, take};
 ghost use Rattle.sof_base.specs.Blob.{signed_at, section_at as section_of};
-ghost use Rattle.eq_biquad.specs.PieceWords.{bytes_of};
+ghost use Rattle.eq_biquad.specs.PieceWords.{bytes_of_words};
 ghost use Rattle.eq_biquad.specs.Sections.{law_section};
 
 /// Its coefficients, of which 2^30 is 1, and its shift and gain, of which 2^14 is 1.
@@ -26,8 +26,8 @@ pub struct Found {
 /// The section whose seven words begin at a place of a blob of so many bytes.
 pub fn section_at(blob: &[i32], _len: usize, place: usize) -> Section
     requires { (4 * place + 28 ≤ _len) × (_len ≤ 4 * length blob.now) }
-    ensures section { law_section result ≡ section_of (take _len (bytes_of blob.now)) (4 * place) }
-    ensures shift { result.shift ≡ signed_at (take _len (bytes_of blob.now)) (4 * place + 20) }
+    ensures section { law_section result ≡ section_of (take _len (bytes_of_words blob.now)) (4 * place) }
+    ensures shift { result.shift ≡ signed_at (take _len (bytes_of_words blob.now)) (4 * place + 20) }
 {
     Section {
         a2: blob[place],

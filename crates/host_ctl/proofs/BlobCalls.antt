@@ -28,11 +28,11 @@ use Rattle.host_widgets.specs.ActCalls.{next_of, calls_of}
 use Rattle.host_widgets.specs.ActCarried.{PlainEnd}
 use Rattle.host_widgets.specs.ActLists.{part_acts}
 use Rattle.host_widgets.specs.Controls.{control_of}
-use Rattle.host_widgets.specs.Host.{Outcome, Agrees, AreControls, IsRecordOf, IsSet, Sides}
+use Rattle.host_widgets.specs.Host.{Outcome, Agrees, AreControls, IsRecordOf, IsControlSet, Sides}
 use Rattle.host_widgets.specs.HostActs.{with_blob}
 use Rattle.host_widgets.specs.Kept.{changed, control_at, with_control}
 use Rattle.host_widgets.specs.Orders.{Carried, plain_end, sends}
-use Rattle.host_widgets.specs.ViewOf.{graph_by, set_comp, setting_by, view_by}
+use Rattle.host_widgets.specs.ViewOf.{graph_by, set_comp, record_setting, record_view}
 use Rattle.host_widgets.specs.Walk.{walk}
 use Rattle.host_widgets.proofs.ActSteps.{state-with}
 use Rattle.host_widgets.proofs.LookedUp.{each-found}
@@ -60,7 +60,7 @@ kind-of (Volume min max channels lowest step mute) blob may kind of = absurd may
 kind-of (Choice items) blob may kind of = absurd may
 kind-of (Blob most initial) blob may kind of = of.0
 
-set-of : (id : ℕ) (q : ControlKind) (blob : List ℕ) → MayInstall q blob → (c : ControlRec) → Was (record { comp = id; kind = q }) c → IsSet q (with_blob blob c)
+set-of : (id : ℕ) (q : ControlKind) (blob : List ℕ) → MayInstall q blob → (c : ControlRec) → Was (record { comp = id; kind = q }) c → IsControlSet q (with_blob blob c)
 set-of id (Volume min max channels lowest step mute) blob may c was = absurd may
 set-of id (Choice items) blob may c was = absurd may
 set-of id (Blob most initial) blob may c (inl first) = (ap (λ (x : ControlRec). x.values) first, may.0, may.1)
@@ -69,7 +69,7 @@ set-of id (Blob most initial) blob may c (inr set) = (set.0, may.0, may.1)
 -- a device that agrees with a record whose power is on is on
 pub is-powered : {D : Type 0} (means : Meaning D) (plan : Plan) (kept : Record) (device : D) → Agrees means plan kept device → kept.power ≡ powers.On → is_some (means.on device) ≡ true
 is-powered means plan kept device agrees power =
-    let s = state-with (means.on device) (view_by plan kept) (subst (λ (p : Power). Sides means plan kept device p) power agrees.sides) in
+    let s = state-with (means.on device) (record_view plan kept) (subst (λ (p : Power). Sides means plan kept device p) power agrees.sides) in
     ap is_some s.1
 
 -- a blob that is there twice is there
@@ -109,28 +109,28 @@ module _ (plan : Plan) (sound : IsSound plan) (kept : Record) (is : IsRecordOf p
   set-blobs : AreControls plan.controls now.controls
   set-blobs = controls-with k.comp (with_blob blob) plan.controls kept.controls (all plan.controls (each-found (λ (x : ControlPlan). x.comp) plan.controls sound.controls_ascend)) is.controls
     where
-      all : (ks : List ControlPlan) → AllByRecursion (λ (x : ControlPlan). control_of plan x.comp ≡ Some x) ks → AllByRecursion (λ (x : ControlPlan). x.comp ≡ k.comp → (c : ControlRec) → Was x c → IsSet x.kind (with_blob blob c)) ks
+      all : (ks : List ControlPlan) → AllByRecursion (λ (x : ControlPlan). control_of plan x.comp ≡ Some x) ks → AllByRecursion (λ (x : ControlPlan). x.comp ≡ k.comp → (c : ControlRec) → Was x c → IsControlSet x.kind (with_blob blob c)) ks
       all [] each = tt
       all (x ∷ ks) each = (
         λ same c was.
             let one : Some k ≡ Some x = sym (of-comp plan sound kept is i low) ∙ ap (control_of plan) (sym same) ∙ each.0 in
             let x-is : k ≡ x = cc one in
-            subst (λ (y : ControlPlan). Was y c → IsSet y.kind (with_blob blob c)) x-is (λ was. set-of k.comp k.kind blob may c was) was,
+            subst (λ (y : ControlPlan). Was y c → IsControlSet y.kind (with_blob blob c)) x-is (λ was. set-of k.comp k.kind blob may c was) was,
         all ks each.1,
       )
 
   pub now-record : IsRecordOf plan now
   now-record = record-with plan kept k.comp (with_blob blob) is set-blobs
 
-  setting-at : setting_by here.comp.kind (control_at plan now k.comp) ≡ settings.Blob blob
+  setting-at : record_setting here.comp.kind (control_at plan now k.comp) ≡ settings.Blob blob
   setting-at =
-      ap (setting_by here.comp.kind) (there-at k.comp (with_blob blob) plan.controls kept.controls ∙ ap (option_map (λ (p : ControlPlan × ControlRec). (p.0, with_blob blob p.1))) (at-here plan sound kept is i low))
-      ∙ ap (λ (kind : Kind). setting_by kind (Some (k, with_blob blob r))) an-equaliser
+      ap (record_setting here.comp.kind) (there-at k.comp (with_blob blob) plan.controls kept.controls ∙ ap (option_map (λ (p : ControlPlan × ControlRec). (p.0, with_blob blob p.1))) (at-here plan sound kept is i low))
+      ∙ ap (λ (kind : Kind). record_setting kind (Some (k, with_blob blob r))) an-equaliser
 
-  pub now-view : blob_view k.comp blob (view_by plan kept) ≡ view_by plan now
+  pub now-view : blob_view k.comp blob (record_view plan kept) ≡ record_view plan now
   now-view = λ j. record {
     graph = with_comps (all-set plan kept k.comp (with_blob blob) here.comp.kind (settings.Blob blob) setting-at plan.graph.comps (kinds-here plan sound kept is i low) j) plan.graph;
-    streams = (view_by plan kept).streams;
+    streams = (record_view plan kept).streams;
   }
 
   now-twice : now ≡ with_control plan k.comp (with_blob blob) now
@@ -147,8 +147,8 @@ module _ (plan : Plan) (sound : IsSound plan) (kept : Record) (is : IsRecordOf p
 
     -- where the power is on
     module _ (power : kept.power ≡ powers.On) (mid : Record) (v : World D) (result : Outcome) (x : PartsPass means plan heap k.comp blob kept mid w v result) where
-      state : (f : FwState) × (means.on w.device ≡ Some f) × (view_of f ≡ view_by plan kept)
-      state = state-with (means.on w.device) (view_by plan kept) (subst (λ (p : Power). Sides means plan kept w.device p) power agrees.sides)
+      state : (f : FwState) × (means.on w.device ≡ Some f) × (view_of f ≡ record_view plan kept)
+      state = state-with (means.on w.device) (record_view plan kept) (subst (λ (p : Power). Sides means plan kept w.device p) power agrees.sides)
 
       came : Came means plan heap kept k.comp (id-low plan sound kept is i low) (set_comp plan kept here.comp) there-set an-equaliser blob a-blob (part_acts k.comp blob) w x.sent result
       came = parts-come means plan heap kept k.comp (id-low plan sound kept is i low) (set_comp plan kept here.comp) there-set an-equaliser blob a-blob w x.sent result state.0 state.1 state.2 x.parts
@@ -187,7 +187,7 @@ module _ (plan : Plan) (sound : IsSound plan) (kept : Record) (is : IsRecordOf p
           is_now : kept' ≡ now
           is_now = so ∙ ap (with_blob_here i blob) passed.0 ∙ blob-changed plan sound kept is i low blob
 
-          shown : option_map view_of (means.on v.device) ≡ Some (view_by plan now)
+          shown : option_map view_of (means.on v.device) ≡ Some (record_view plan now)
           shown =
               ap (λ (y : World D). option_map view_of (means.on y.device)) passed.1
               ∙ subst (λ (o : Outcome). Ending means plan heap kept k.comp (id-low plan sound kept is i low) (set_comp plan kept here.comp) there-set an-equaliser blob a-blob x.sent o) ok came.ends
@@ -206,7 +206,7 @@ module _ (plan : Plan) (sound : IsSound plan) (kept : Record) (is : IsRecordOf p
           ended = subst (λ (o : Outcome). PlainEnd means heap o kept mid x.sent v) failed x.ends
 
           ShowsSo : Type 0
-          ShowsSo = option_map view_of (means.on x.sent.device) ≡ Some (view_by plan kept)
+          ShowsSo = option_map view_of (means.on x.sent.device) ≡ Some (record_view plan kept)
 
           -- the record and the blob in force stay
           stays : (mid ≡ kept) × (v ≡ x.sent) → ShowsSo → Agrees means plan mid v.device

@@ -18,7 +18,7 @@ use Rattle.stream_law.proofs.Standing.{Stands-now}
 use Rattle.stream_law.proofs.Waits.{eqb_turned}
 use Rattle.ipc3_codec.specs.declared.message.Message.TheVariants.{SetData}
 use Rattle.ipc3_codec.specs.Messages.{message_spelling, decoded, IsMessage}
-use Rattle.mbox_link.specs.BlobParts.{is_last, part_of, parts}
+use Rattle.mbox_link.specs.BlobParts.{is_last, blob_part, parts}
 use Rattle.mbox_link.specs.Step.{blob_installed, body_of, row, unstaged, with_staged}
 use Rattle.tplg_plan.specs.declared.plans.Plan.{Plan}
 use Rattle.tplg_plan.specs.declared.plans.ControlPlan.{ControlPlan}
@@ -34,7 +34,7 @@ use Rattle.host_widgets.specs.Orders.{sends}
 use Rattle.host_widgets.specs.declared.answers.Answer.TheVariants.{Done}
 use Rattle.host_widgets.specs.declared.kept.Power.{Power}
 use Rattle.host_widgets.specs.declared.kept.Power.TheVariants as powers
-use Rattle.host_widgets.specs.ViewOf.{set_comp, setting_by, view_by}
+use Rattle.host_widgets.specs.ViewOf.{set_comp, record_setting, record_view}
 use Rattle.host_widgets.proofs.Effects.{decoded-message}
 use Rattle.host_widgets.proofs.LookedUp.{found-is}
 use Rattle.host_widgets.proofs.OneActLaws.{IsTaken, LeavesSo, bare-passes}
@@ -71,7 +71,7 @@ module _ (plan : Plan) (sound : IsSound plan) (kept : Record) (is : IsRecordOf p
   -- ---- with the last part
 
   -- the blobs of other equalisers stay
-  others : (c : ℕ) → (id == c) ≡ false → blob_in (view_by plan now) c ≡ blob_in (view_by plan kept) c
+  others : (c : ℕ) → (id == c) ≡ false → blob_in (record_view plan now) c ≡ blob_in (record_view plan kept) c
   others c apart =
       ap (λ (o : Option Comp). option_map_or (λ (x : Comp). blob x.setting) o []) (found-set plan now c plan.graph.comps)
       ∙ by (comp_of plan.graph c) refl
@@ -82,56 +82,56 @@ module _ (plan : Plan) (sound : IsSound plan) (kept : Record) (is : IsRecordOf p
       by (Some x) e =
           let same : x.id ≡ c = found-is (λ (y : Comp). y.id) plan.graph.comps c x e in
           let other : (x.id == id) ≡ false = ap (λ (n : ℕ). n == id) same ∙ turned c apart in
-          ap (λ (o : Option (ControlPlan × ControlRec)). blob (setting_by x.kind o)) (elsewhere-at id (with_blob bytes) x.id other plan.controls kept.controls)
+          ap (λ (o : Option (ControlPlan × ControlRec)). blob (record_setting x.kind o)) (elsewhere-at id (with_blob bytes) x.id other plan.controls kept.controls)
         where
           turned : (c : ℕ) → (id == c) ≡ false → (c == id) ≡ false
           turned c apart = eqb_turned c id ∙ apart
 
   -- what stood stands, and the equaliser's epoch begins
-  module _ (f f' : FwState) (shows : view_of f ≡ view_by plan kept) (rings : map (λ r. r.buffer) f.rings ≡ buffers plan.graph) (made : f' ≡ record (seen (view_by plan now) (Some id) f) { staging = unstaged id f.staging }) where
-    sees : Sees f (view_by plan now) (Some id) f'
+  module _ (f f' : FwState) (shows : view_of f ≡ record_view plan kept) (rings : map (λ r. r.buffer) f.rings ≡ buffers plan.graph) (made : f' ≡ record (seen (record_view plan now) (Some id) f) { staging = unstaged id f.staging }) where
+    sees : Sees f (record_view plan now) (Some id) f'
     sees =
-        let s = seen-sees f (view_by plan now) (Some id) rings in
-        subst (Sees f (view_by plan now) (Some id)) (sym made) (record { clock = s.clock; view = s.view; buffers = s.buffers; rings = s.rings; equalisers = s.equalisers; histories = s.histories })
+        let s = seen-sees f (record_view plan now) (Some id) rings in
+        subst (Sees f (record_view plan now) (Some id)) (sym made) (record { clock = s.clock; view = s.view; buffers = s.buffers; rings = s.rings; equalisers = s.equalisers; histories = s.histories })
 
     blob-stands : (whole : List (ℕ × List ℕ)) (inputs : List InputView) (before : List Moment) (stood : Stands (Some f) whole inputs before) →
-        (after_it : Stands (Some f') whole inputs (before ++ Now (view_by plan now) (Some id) ∷ [])) × Leads whole stood.past (Now (view_by plan now) (Some id) ∷ []) after_it.past
+        (after_it : Stands (Some f') whole inputs (before ++ Now (record_view plan now) (Some id) ∷ [])) × Leads whole stood.past (Now (record_view plan now) (Some id) ∷ []) after_it.past
     unfolding Stands-now
     blob-stands whole inputs before stood = (
-      Stands-now f f' (view_by plan now) (Some id) whole inputs before stood sees will.shapes
-          (subst (λ (v : View). StaysAsLive v (view_by plan now) (Some id)) (sym shows) (live-stays (view_by plan kept) (view_by plan now) (Some id) (shape-with plan kept id (with_blob bytes) (Some id) others is))),
-      (after_now (view_by plan now) (Some id) stood.past, refl, refl),
+      Stands-now f f' (record_view plan now) (Some id) whole inputs before stood sees will.shapes
+          (subst (λ (v : View). StaysAsLive v (record_view plan now) (Some id)) (sym shows) (live-stays (record_view plan kept) (record_view plan now) (Some id) (shape-with plan kept id (with_blob bytes) (Some id) others is))),
+      (after_now (record_view plan now) (Some id) stood.past, refl, refl),
     )
 
   -- ---- one part
 
   module _ (k : ℕ) (few : k < parts bytes) where
-    message : IsMessage (SetData id (part_of bytes k))
+    message : IsMessage (SetData id (blob_part bytes k))
     message = part-message id bytes whole-blob k few (id-low plan sound kept is i low)
 
     unchanged : with_control plan 0 (λ c. c) kept ≡ kept
     unchanged = λ j. record { power = kept.power; streams = kept.streams; controls = same-controls plan.controls kept.controls j }
 
     -- before the last
-    leaves-more : is_last bytes k ≡ false → (f f' : FwState) → view_of f ≡ view_by plan kept → map (λ r. r.buffer) f.rings ≡ buffers plan.graph → f' ≡ with_staged id (front bytes (k + 1)) (part_of bytes k) f → LeavesSo plan (Part id bytes k) f f' (after plan (Part id bytes k) kept)
+    leaves-more : is_last bytes k ≡ false → (f f' : FwState) → view_of f ≡ record_view plan kept → map (λ r. r.buffer) f.rings ≡ buffers plan.graph → f' ≡ with_staged id (front bytes (k + 1)) (blob_part bytes k) f → LeavesSo plan (Part id bytes k) f f' (after plan (Part id bytes k) kept)
     leaves-more more f f' shows rings made =
         let stays : kept ≡ after plan (Part id bytes k) kept = ap (λ (b : Bool). cond b now kept) (sym more) in
-        let shows' : view_of f ≡ view_by plan (with_control plan 0 (λ c. c) kept) = shows ∙ ap (view_by plan) (sym unchanged) in
-        let next = with_staged id (front bytes (k + 1)) (part_of bytes k) f in
+        let shows' : view_of f ≡ record_view plan (with_control plan 0 (λ c. c) kept) = shows ∙ ap (record_view plan) (sym unchanged) in
+        let next = with_staged id (front bytes (k + 1)) (blob_part bytes k) f in
         subst (λ (x : FwState × Record). LeavesSo plan (Part id bytes k) f x.0 x.1) (λ j. (sym made j, (unchanged ∙ stays) j)) record {
           record_now = subst (IsRecordOf plan) (sym unchanged) is;
           shows_now = shows';
           heap = refl;
           rings = rings;
-          stands = λ whole inputs before stood. subst (λ (fresh : Option ℕ). (after_it : Stands (Some next) whole inputs (before ++ Now (view_by plan (with_control plan 0 (λ c. c) kept)) fresh ∷ [])) × Leads whole stood.past (Now (view_by plan (with_control plan 0 (λ c. c) kept)) fresh ∷ []) after_it.past) (sym (ap (fresh_by id) more))
+          stands = λ whole inputs before stood. subst (λ (fresh : Option ℕ). (after_it : Stands (Some next) whole inputs (before ++ Now (record_view plan (with_control plan 0 (λ c. c) kept)) fresh ∷ [])) × Leads whole stood.past (Now (record_view plan (with_control plan 0 (λ c. c) kept)) fresh ∷ []) after_it.past) (sym (ap (fresh_by id) more))
               (put-stands plan kept 0 (λ c. c) (λ c. refl) is f next shows shows' refl refl refl whole inputs before stood);
         }
 
     -- the last
-    leaves-last : is_last bytes k ≡ true → (f f' : FwState) → view_of f ≡ view_by plan kept → map (λ r. r.buffer) f.rings ≡ buffers plan.graph → f' ≡ blob_installed id bytes f → LeavesSo plan (Part id bytes k) f f' (after plan (Part id bytes k) kept)
+    leaves-last : is_last bytes k ≡ true → (f f' : FwState) → view_of f ≡ record_view plan kept → map (λ r. r.buffer) f.rings ≡ buffers plan.graph → f' ≡ blob_installed id bytes f → LeavesSo plan (Part id bytes k) f f' (after plan (Part id bytes k) kept)
     leaves-last last f f' shows rings made =
         let stays : now ≡ after plan (Part id bytes k) kept = ap (λ (b : Bool). cond b now kept) (sym last) in
-        let v : View = view_by plan now in
+        let v : View = record_view plan now in
         let made_so : f' ≡ record (seen v (Some id) f) { staging = unstaged id f.staging } =
         made ∙ ap (λ (w : View). record (seen w (Some id) f) { staging = unstaged id f.staging }) (ap (blob_view id bytes) shows ∙ now-view plan sound kept is i low bytes may) in
         let next : FwState = record (seen v (Some id) f) { staging = unstaged id f.staging } in
@@ -147,12 +147,12 @@ module _ (plan : Plan) (sound : IsSound plan) (kept : Record) (is : IsRecordOf p
     pub part-taken : IsTaken plan kept (Part id bytes k)
     part-taken = record {
       message = message;
-      passes = λ f. bare-passes (body_of f (decoded (message_spelling (SetData id (part_of bytes k))))) (ap (body_of f) (decoded-message (SetData id (part_of bytes k)) message));
+      passes = λ f. bare-passes (body_of f (decoded (message_spelling (SetData id (blob_part bytes k))))) (ap (body_of f) (decoded-message (SetData id (blob_part bytes k)) message));
       record_is = is;
       leaves = λ f f' shows rings ready done. by (is_last bytes k) refl f f' shows rings ready done;
     }
       where
-        by : (b : Bool) → is_last bytes k ≡ b → (f f' : FwState) → view_of f ≡ view_by plan kept → map (λ r. r.buffer) f.rings ≡ buffers plan.graph → HasStaged id bytes k f → row f (SetData id (part_of bytes k)) ≡ Ok f' → LeavesSo plan (Part id bytes k) f f' (after plan (Part id bytes k) kept)
+        by : (b : Bool) → is_last bytes k ≡ b → (f f' : FwState) → view_of f ≡ record_view plan kept → map (λ r. r.buffer) f.rings ≡ buffers plan.graph → HasStaged id bytes k f → row f (SetData id (blob_part bytes k)) ≡ Ok f' → LeavesSo plan (Part id bytes k) f f' (after plan (Part id bytes k) kept)
         by true last f f' shows rings ready done = leaves-last last f f' shows rings (made-last id bytes whole-blob k few f f' ready last done)
         by false more f f' shows rings ready done = leaves-more more f f' shows rings (made-more id bytes whole-blob k few f f' ready more done)
 

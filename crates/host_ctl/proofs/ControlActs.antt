@@ -24,8 +24,8 @@ use Rattle.host_widgets.specs.declared.kept.Record.{Record}
 use Rattle.host_widgets.specs.declared.kept.ControlRec.{ControlRec}
 use Rattle.host_widgets.specs.Kept.{changed, control_at, with_control}
 use Rattle.host_widgets.specs.HostActs.{Act, Put, after, fresh_in, with_values}
-use Rattle.host_widgets.specs.ActMessages.{message_of, set_message, put_message}
-use Rattle.host_widgets.specs.ViewOf.{view_by}
+use Rattle.host_widgets.specs.ActMessages.{act_message, set_message, put_message}
+use Rattle.host_widgets.specs.ViewOf.{record_view}
 use Rattle.host_widgets.specs.ActCalls.{came_to}
 use Rattle.host_ctl.proofs.PutShows.{AreKind, put-shows}
 use Rattle.host_ctl.proofs.PutStands.{put-stands, put-record}
@@ -64,10 +64,10 @@ set-bare f comp values (Blob most initial) = refl
 -- values that are put at a live control of a component of its kind
 pub put-taken : (plan : Plan) (kept : Record) → IsRecordOf plan kept → (comp : ℕ) (values : List ℕ) (x : Comp) → comp_of plan.graph comp ≡ Some x →
     (k : ControlKind) (c : ControlRec) → control_at plan kept comp ≡ Some (record { comp = comp; kind = k }, c) → control_of plan comp ≡ Some (record { comp = comp; kind = k }) →
-    AreKind comp x.kind plan.graph.comps → IsControlOf k x.kind → AreControls plan.controls (with_control plan comp (with_values values) kept).controls → IsRead (message_of plan (Put comp values)) → IsTaken plan kept (Put comp values)
+    AreKind comp x.kind plan.graph.comps → IsControlOf k x.kind → AreControls plan.controls (with_control plan comp (with_values values) kept).controls → IsRead (act_message plan (Put comp values)) → IsTaken plan kept (Put comp values)
 put-taken plan kept is comp values x there k c at of are live controls read = record {
   message = read.0;
-  passes = λ f. bare-passes (body_of f (decoded (message_spelling (message_of plan (Put comp values))))) (ap (body_of f) read.1 ∙ ap (λ (o : Option ControlPlan). body f (put_message comp values o)) of ∙ set-bare f comp values k);
+  passes = λ f. bare-passes (body_of f (decoded (message_spelling (act_message plan (Put comp values))))) (ap (body_of f) read.1 ∙ ap (λ (o : Option ControlPlan). body f (put_message comp values o)) of ∙ set-bare f comp values k);
   record_is = is;
   leaves = λ f f' shows rings ready done.
       let view = put-shows plan kept f f' shows comp values x there k c at of are live done in
@@ -93,21 +93,21 @@ same-controls (k ∷ ks) (c ∷ cs) = λ i. by (k.comp == 0) i ∷ same-controls
     by false = refl
 
 -- an act that leaves the record and the state, as a message before the power is cut or one that asks
-pub still-taken : (plan : Plan) (kept : Record) (act : Act) → IsRecordOf plan kept → after plan act kept ≡ kept → fresh_in act ≡ None → IsRead (message_of plan act) →
-    ((f : FwState) → came_to (verdict (Some (done_reply (body_of f (decoded (message_spelling (message_of plan act))))))) ≡ Ok tt) → ((f f' : FwState) → row f (message_of plan act) ≡ Ok f' → f' ≡ f) → IsTaken plan kept act
+pub still-taken : (plan : Plan) (kept : Record) (act : Act) → IsRecordOf plan kept → after plan act kept ≡ kept → fresh_in act ≡ None → IsRead (act_message plan act) →
+    ((f : FwState) → came_to (verdict (Some (done_reply (body_of f (decoded (message_spelling (act_message plan act))))))) ≡ Ok tt) → ((f f' : FwState) → row f (act_message plan act) ≡ Ok f' → f' ≡ f) → IsTaken plan kept act
 still-taken plan kept act is same none read passes stays = record {
   message = read.0;
   passes = passes;
   record_is = is;
   leaves = λ f f' shows rings ready done.
       let unchanged : with_control plan 0 (λ c. c) kept ≡ kept = (λ i. record { power = kept.power; streams = kept.streams; controls = same-controls plan.controls kept.controls i }) in
-      let shows' = shows ∙ ap (view_by plan) (sym unchanged) in
+      let shows' = shows ∙ ap (record_view plan) (sym unchanged) in
       subst (λ (x : FwState × Record). LeavesSo plan act f x.0 x.1) (λ i. (sym (stays f f' done) i, (unchanged ∙ sym same) i)) record {
         record_now = put-record plan kept 0 (λ c. c) (λ c. refl) is (subst (λ (r : Record). AreControls plan.controls r.controls) (sym unchanged) is.controls);
         shows_now = shows';
         heap = refl;
         rings = rings;
-        stands = λ whole inputs before stood. subst (λ (fresh : Option ℕ). (after_it : Stands (Some f) whole inputs (before ++ Now (view_by plan (with_control plan 0 (λ c. c) kept)) fresh ∷ [])) × Leads whole stood.past (Now (view_by plan (with_control plan 0 (λ c. c) kept)) fresh ∷ []) after_it.past) (sym none)
+        stands = λ whole inputs before stood. subst (λ (fresh : Option ℕ). (after_it : Stands (Some f) whole inputs (before ++ Now (record_view plan (with_control plan 0 (λ c. c) kept)) fresh ∷ [])) × Leads whole stood.past (Now (record_view plan (with_control plan 0 (λ c. c) kept)) fresh ∷ []) after_it.past) (sym none)
             (put-stands plan kept 0 (λ c. c) (λ c. refl) is f f shows shows' refl refl refl whole inputs before stood);
       };
 }

@@ -29,11 +29,11 @@ use Rattle.host_widgets.specs.declared.kept.Power.TheVariants.{On}
 use Rattle.host_widgets.specs.declared.kept.Record.{Record}
 use Rattle.host_widgets.specs.declared.kept.ControlRec.{ControlRec}
 use Rattle.host_widgets.specs.HostActs.{Act, Put, Ask}
-use Rattle.host_widgets.specs.ActMessages.{message_of, set_message}
-use Rattle.host_widgets.specs.ViewOf.{view_by, set_comp}
+use Rattle.host_widgets.specs.ActMessages.{act_message, set_message}
+use Rattle.host_widgets.specs.ViewOf.{record_view, set_comp}
 use Rattle.host_widgets.specs.Host.{Outcome, Agrees, Sides, verdict, judged, errno}
 use Rattle.host_widgets.specs.ActCalls.{came_to}
-use Rattle.host_widgets.specs.ActCarried.{Heard, Passes, PlainEnd, ActCarried}
+use Rattle.host_widgets.specs.ActCarried.{Replied, Passes, PlainEnd, ActCarried}
 use Rattle.host_widgets.proofs.ActsCome.{still}
 use Rattle.host_widgets.proofs.ActSteps.{state-with, done, ended}
 use Rattle.host_widgets.proofs.Effects.{decoded-message}
@@ -41,9 +41,9 @@ use Rattle.host_widgets.proofs.Exchanges.{came, verdict-number}
 use Rattle.host_widgets.proofs.GreatestGains.{AreGains, value-slots}
 use Rattle.host_widgets.proofs.OneMessage.{passes}
 use Rattle.host_widgets.proofs.ReplyErrors.{done_reply, zero-fits}
-use Rattle.host_ctl.specs.ControlOrders.{MaySet, command_of, carried_by, said_by, set_at, Shows}
+use Rattle.host_ctl.specs.ControlOrders.{MaySet, value_command, carried_by, control_answer, setting_answer, Shows}
 use Rattle.host_ctl.specs.ControlAsks.{named_control}
-use Rattle.host_ctl.specs.ControlPlaces.{no_control, no_values, control_here, record_here, with_place}
+use Rattle.host_ctl.specs.ControlPlaces.{no_control, no_values, control_here, record_here, with_values_at}
 use Rattle.host_ctl.proofs.ControlsThere.{live, place-changed}
 use Rattle.host_ctl.proofs.ControlsTaken.{put-shown, put-comes, puts, asks, ask-fits, ask-shown, ask-comes, found-in, shown-in}
 use Rattle.host_ctl.proofs.PutAnswers.{values_by, values-at, values-fit, set-said}
@@ -70,7 +70,7 @@ values-read : (vs : List ℕ) → AreGains vs → 1 ≤ length vs → length vs 
 values-read vs are some few =
     ap judged (decoded_reply-exactly (record { error = pos 0; body = Values vs }) (zero-fits, (value-slots 0 vs (omega (arith, few)) are, rw (le-leb 1 (length vs) some, le-leb (length vs) 8 few) refl)))
 
-said-values : (c : ControlRec) (q : ControlKind) (command : ℕ) (vs : List ℕ) → command_of q ≡ Some command → vs ≡ values_by c q → carried_by (Values vs) ≡ said_by q c
+said-values : (c : ControlRec) (q : ControlKind) (command : ℕ) (vs : List ℕ) → value_command q ≡ Some command → vs ≡ values_by c q → carried_by (Values vs) ≡ control_answer q c
 said-values c (Volume min max channels lowest step mute) command vs at is = ap answers.Values is
 said-values c (Choice items) command vs at is = ap answers.Values is
 said-values c (Blob most initial) command vs at is = absurd (cc at)
@@ -85,20 +85,20 @@ module _ {D : Type 0} (means : Meaning D) (plan : Plan) (sound : IsSound plan) (
   -- ---- values
 
   module _ (values : List ℕ) (may : MaySet k.kind values) (message : Message) (comp : ControlPlan) (message-is : message ≡ set_message comp.comp values comp.kind) (comp-is : comp ≡ k) (kept' : Record) (v : World D) (result : Outcome) (x : Passes means heap (message_spelling message) kept kept' w v result) where
-    says : message ≡ message_of plan (Put k.comp values)
+    says : message ≡ act_message plan (Put k.comp values)
     says = message-is ∙ ap (λ (y : ControlPlan). set_message y.comp values y.kind) comp-is ∙ sym (puts plan sound kept agrees.record_is i low values may)
 
-    x' : Passes means heap (message_spelling (message_of plan (Put k.comp values))) kept kept' w v result
+    x' : Passes means heap (message_spelling (act_message plan (Put k.comp values))) kept kept' w v result
     x' = subst (λ (m : Message). Passes means heap (message_spelling m) kept kept' w v result) says x
 
     -- nothing but the reply came so far
     pub put-still : result ≡ Ok tt → kept' ≡ kept
     put-still is = (subst (λ (o : Outcome). PlainEnd means heap o kept kept' x.sent v) is x.ends).0
 
-    pub put-done : result ≡ Ok tt → (kept'' : Record) → kept'' ≡ with_place i values kept' → Both (Put k.comp values) kept'' v (Ok tt)
+    pub put-done : result ≡ Ok tt → (kept'' : Record) → kept'' ≡ with_values_at i values kept' → Both (Put k.comp values) kept'' v (Ok tt)
     put-done is kept'' now =
         done means plan heap kept (Put k.comp values) (put-shown plan sound kept agrees.record_is i low values may) (put-comes plan sound kept agrees.record_is i low values may heap) w agrees power kept' v result x' is kept''
-        (now ∙ ap (with_place i values) (put-still is) ∙ place-changed plan sound kept agrees.record_is i low values)
+        (now ∙ ap (with_values_at i values) (put-still is) ∙ place-changed plan sound kept agrees.record_is i low values)
 
     pub put-ended : (fault : HostFault) → result ≡ Err fault → Both (Put k.comp values) kept' v (Err fault)
     put-ended fault is =
@@ -106,18 +106,18 @@ module _ {D : Type 0} (means : Meaning D) (plan : Plan) (sound : IsSound plan) (
 
   -- ---- one that asks
 
-  module _ (command : ℕ) (at : command_of k.kind ≡ Some command) (message : Message) (comp : ControlPlan) (message-is : message ≡ GetValue comp.comp command) (comp-is : comp ≡ k) (kept' : Record) (v : World D) (result : Result Reply HostFault) (h : Heard means heap (message_spelling message) kept kept' w v result) where
+  module _ (command : ℕ) (at : value_command k.kind ≡ Some command) (message : Message) (comp : ControlPlan) (message-is : message ≡ GetValue comp.comp command) (comp-is : comp ≡ k) (kept' : Record) (v : World D) (result : Result Reply HostFault) (h : Replied means heap (message_spelling message) kept kept' w v result) where
     abbrev ask : Act
     ask = Ask k.comp 0
 
-    asked : message ≡ message_of plan ask
+    asked : message ≡ act_message plan ask
     asked = message-is ∙ ap (λ (y : ControlPlan). GetValue y.comp command) comp-is ∙ sym (asks plan sound kept agrees.record_is i low command at)
 
-    h' : Heard means heap (message_spelling (message_of plan ask)) kept kept' w v result
-    h' = subst (λ (m : Message). Heard means heap (message_spelling m) kept kept' w v result) asked h
+    h' : Replied means heap (message_spelling (act_message plan ask)) kept kept' w v result
+    h' = subst (λ (m : Message). Replied means heap (message_spelling m) kept kept' w v result) asked h
 
-    x : Passes means heap (message_spelling (message_of plan ask)) kept kept' w v (came_to result)
-    x = passes means heap (message_spelling (message_of plan ask)) kept w kept' v result (came_to result) h' refl
+    x : Passes means heap (message_spelling (act_message plan ask)) kept kept' w v (came_to result)
+    x = passes means heap (message_spelling (act_message plan ask)) kept w kept' v result (came_to result) h' refl
 
     pub ask-still : (reply : Reply) → result ≡ Ok reply → kept' ≡ kept
     ask-still reply is = (subst (λ (r : Result Reply HostFault). PlainEnd means heap (came_to r) kept kept' h.sent v) is h.ends).0
@@ -131,31 +131,31 @@ module _ {D : Type 0} (means : Meaning D) (plan : Plan) (sound : IsSound plan) (
         ended means plan heap kept ask (ask-shown plan sound kept agrees.record_is i low command at) (ask-comes plan sound kept agrees.record_is i low command at heap) w agrees power kept' v (came_to result) x fault (ap came_to is)
 
     -- the state and the endpoints right before the message
-    state : (f : FwState) × (means.on w.device ≡ Some f) × (view_of f ≡ view_by plan kept)
-    state = state-with (means.on w.device) (view_by plan kept) (subst (λ (x : Power). Sides means plan kept w.device x) power agrees.sides)
+    state : (f : FwState) × (means.on w.device ≡ Some f) × (view_of f ≡ record_view plan kept)
+    state = state-with (means.on w.device) (record_view plan kept) (subst (λ (x : Power). Sides means plan kept w.device x) power agrees.sides)
 
     abbrev before : FwState × Io
     before = ticks (means.pending w.device - means.pending h'.sent.device) (state.0, w.io)
 
-    shows : view_of before.0 ≡ view_by plan kept
+    shows : view_of before.0 ≡ record_view plan kept
     shows = still (means.pending w.device - means.pending h'.sent.device) (state.0, w.io) ∙ state.2
 
     abbrev vs : List ℕ
     vs = values_by (record_here kept i) k.kind
 
     -- the firmware's reply carries what the control has there
-    body-is : body_of before.0 (decoded (message_spelling (message_of plan ask))) ≡ Values vs
+    body-is : body_of before.0 (decoded (message_spelling (act_message plan ask))) ≡ Values vs
     body-is =
-        ap (body_of before.0) (decoded-message (message_of plan ask) (ask-fits plan sound kept agrees.record_is i low command at))
+        ap (body_of before.0) (decoded-message (act_message plan ask) (ask-fits plan sound kept agrees.record_is i low command at))
         ∙ ap (λ (m : Message). body_of before.0 (Ok m)) (asks plan sound kept agrees.record_is i low command at)
         ∙ ap values_body (values-at before.0 k.comp (set_comp plan kept (live plan sound kept agrees.record_is i low).comp) (found-in plan sound kept agrees.record_is i low before.0 shows) (record_here kept i) k.kind command (shown-in plan sound kept agrees.record_is i low before.0 shows) at)
 
-    read-back : verdict (Some (done_reply (body_of before.0 (decoded (message_spelling (message_of plan ask)))))) ≡ Ok (record { error = pos 0; body = Values vs })
+    read-back : verdict (Some (done_reply (body_of before.0 (decoded (message_spelling (act_message plan ask)))))) ≡ Ok (record { error = pos 0; body = Values vs })
     read-back =
         let fit = values-fit before.0 k.comp (set_comp plan kept (live plan sound kept agrees.record_is i low).comp) (found-in plan sound kept agrees.record_is i low before.0 shows) (record_here kept i) k.kind command (shown-in plan sound kept agrees.record_is i low before.0 shows) at in
         ap (λ (b : Body). verdict (Some (done_reply b))) body-is ∙ values-read vs fit.0 fit.1 fit.2
 
-    pub ask-said : (reply : Reply) → result ≡ Ok reply → carried_by reply.body ≡ said_by k.kind (record_here kept i)
+    pub ask-said : (reply : Reply) → result ≡ Ok reply → carried_by reply.body ≡ control_answer k.kind (record_here kept i)
     ask-said reply is = ⊎_elim
         (λ took. (let same : Ok reply ≡ Ok (record { error = pos 0; body = Values vs }) = sym is ∙ h'.said ∙ ap verdict took.said ∙ read-back in
         let one : reply ≡ record { error = pos 0; body = Values vs } = cc same in
@@ -166,19 +166,19 @@ module _ {D : Type 0} (means : Meaning D) (plan : Plan) (sound : IsSound plan) (
         (λ it. absurd (let no : Ok reply ≡ Err (Refused (errno it.error)) = sym is ∙ h'.said ∙ ap verdict it.said ∙ verdict-number it.error it.number in cc no))
         (λ it. absurd (let no : Ok reply ≡ Err LinkDown = sym is ∙ h'.said ∙ ap verdict it.said in cc no))
         rest) rest)
-        (came means (message_spelling (message_of plan ask)) h'.answer w h'.sent state.0 state.1 h'.exchanged).way
+        (came means (message_spelling (act_message plan ask)) h'.answer w h'.sent state.0 state.1 h'.exchanged).way
 
   -- ---- what the firmware has
 
-  pub said-shown : (name : List ℕ) → named_control plan name ≡ Some k → Shows plan name (said_by k.kind (record_here kept i)) (means.on w.device)
+  pub said-shown : (name : List ℕ) → named_control plan name ≡ Some k → Shows plan name (control_answer k.kind (record_here kept i)) (means.on w.device)
   said-shown name named =
-      let s = state-with (means.on w.device) (view_by plan kept) (subst (λ (x : Power). Sides means plan kept w.device x) power agrees.sides) in
-      subst (λ (on : Option FwState). Shows plan name (said_by k.kind (record_here kept i)) on) (sym s.1) (shown-by s.0 s.2)
+      let s = state-with (means.on w.device) (record_view plan kept) (subst (λ (x : Power). Sides means plan kept w.device x) power agrees.sides) in
+      subst (λ (on : Option FwState). Shows plan name (control_answer k.kind (record_here kept i)) on) (sym s.1) (shown-by s.0 s.2)
     where
-      shown-by : (f : FwState) → view_of f ≡ view_by plan kept → Shows plan name (said_by k.kind (record_here kept i)) (Some f)
+      shown-by : (f : FwState) → view_of f ≡ record_view plan kept → Shows plan name (control_answer k.kind (record_here kept i)) (Some f)
       shown-by f shows =
           let y = set_comp plan kept (live plan sound kept agrees.record_is i low).comp in
           let there = found-in plan sound kept agrees.record_is i low f shows in
-          ap (option_and_then (λ (k : ControlPlan). option_map (λ (c : Comp). set_at c.setting) (comp_of f.graph k.comp))) named
-          ∙ ap (option_map (λ (c : Comp). set_at c.setting)) there
+          ap (option_and_then (λ (k : ControlPlan). option_map (λ (c : Comp). setting_answer c.setting) (comp_of f.graph k.comp))) named
+          ∙ ap (option_map (λ (c : Comp). setting_answer c.setting)) there
           ∙ ap Some (set-said f k.comp y there (record_here kept i) k.kind (shown-in plan sound kept agrees.record_is i low f shows))

@@ -18,12 +18,12 @@ use Rattle.host_widgets.specs.HostActs.{Act, Put, Ask, with_values}
 use Rattle.host_widgets.specs.Host.{Outcome, Agrees, Sides}
 use Rattle.host_widgets.specs.Orders.{Carried, quiet, sends}
 use Rattle.host_widgets.specs.ActCarried.{PlainEnd, ActCarried}
-use Rattle.host_widgets.specs.OneAct.{came}
+use Rattle.host_widgets.specs.OneAct.{performed}
 use Rattle.host_widgets.proofs.PlainOrders.{plain, no-acts}
 use Rattle.host_widgets.proofs.OneOrder.{one-order, answering}
 use Rattle.host_ctl.specs.ControlAsks.{named_control}
-use Rattle.host_ctl.specs.ControlOrders.{MaySet, put_order, setting_order, set_order, installing_order, bytes_order, ask_acts, reading_order, read_order, named_at, command_of}
-use Rattle.host_ctl.specs.ControlPlaces.{control_here, record_here, with_place}
+use Rattle.host_ctl.specs.ControlOrders.{MaySet, put_order, setting_order, set_order, installing_order, bytes_order, ask_acts, reading_order, read_order, named_at, value_command}
+use Rattle.host_ctl.specs.ControlPlaces.{control_here, record_here, with_values_at}
 use Rattle.host_ctl.proofs.PutStands.{put-record}
 use Rattle.host_ctl.proofs.ControlsThere.{at-here, place-changed}
 use Rattle.host_ctl.proofs.ControlsTaken.{set-all}
@@ -67,17 +67,17 @@ module _ {D : Type 0} (means : Meaning D) (plan : Plan) (sound : IsSound plan) (
       where
         twice : result ≡ Ok tt → kept' ≡ puts_all kept'
         twice passed =
-            let now : kept' ≡ puts_all kept = (subst (λ (o : Outcome). PlainEnd means heap o (came plan (Put k.comp values) kept [] o).kept kept' x.sent v) passed x.ends).0 in
+            let now : kept' ≡ puts_all kept = (subst (λ (o : Outcome). PlainEnd means heap o (performed plan (Put k.comp values) kept [] o).kept kept' x.sent v) passed x.ends).0 in
             now ∙ ap (λ (rs : List ControlRec). record { power = kept.power; streams = kept.streams; controls = rs }) (sym (put-twice k.comp values plan.controls kept.controls)) ∙ ap puts_all (sym now)
 
     -- where it is off, the record alone changes
     module _ (off : kept.power ≡ Off) where
-      pub rest-carried : Carried means plan heap (put_order plan kept k.comp values) kept (with_place i values kept) w w (Ok tt)
+      pub rest-carried : Carried means plan heap (put_order plan kept k.comp values) kept (with_values_at i values kept) w w (Ok tt)
       rest-carried =
-          subst (λ (p : Power). Carried means plan heap (sends p (Put k.comp values ∷ []) puts_all Done) kept (with_place i values kept) w w (Ok tt)) (sym off)
-          (no-acts means plan heap puts_all kept (with_place i values kept) w (place-changed plan sound kept agrees.record_is i low values))
+          subst (λ (p : Power). Carried means plan heap (sends p (Put k.comp values ∷ []) puts_all Done) kept (with_values_at i values kept) w w (Ok tt)) (sym off)
+          (no-acts means plan heap puts_all kept (with_values_at i values kept) w (place-changed plan sound kept agrees.record_is i low values))
 
-      pub rest-agrees : MaySet k.kind values → Agrees means plan (with_place i values kept) w.device
+      pub rest-agrees : MaySet k.kind values → Agrees means plan (with_values_at i values kept) w.device
       rest-agrees may =
           subst (λ (now : Record). Agrees means plan now w.device) (sym (place-changed plan sound kept agrees.record_is i low values)) record {
             record_is = put-record plan kept k.comp (with_values values) (λ c. refl) agrees.record_is (set-all plan sound kept agrees.record_is i low values may);
@@ -86,7 +86,7 @@ module _ {D : Type 0} (means : Meaning D) (plan : Plan) (sound : IsSound plan) (
 
   -- ---- what is asked
 
-  pub ask-carried : (q : ControlKind) (command : ℕ) → command_of q ≡ Some command → (answer : Answer) (kept' : Record) (v : World D) (result : Outcome) → kept.power ≡ On → ActCarried means plan heap (Ask k.comp 0) kept kept' w v result →
+  pub ask-carried : (q : ControlKind) (command : ℕ) → value_command q ≡ Some command → (answer : Answer) (kept' : Record) (v : World D) (result : Outcome) → kept.power ≡ On → ActCarried means plan heap (Ask k.comp 0) kept kept' w v result →
       Carried means plan heap (sends kept.power (ask_acts k.comp q r) (λ now. now) answer) kept kept' w v result
   ask-carried (Volume min max channels lowest step mute) command at answer kept' v result on x = one-order means plan heap (Ask k.comp 0) (λ now. now) answer kept kept' w v result on x (λ passed. refl)
   ask-carried (Choice items) command at answer kept' v result on x = one-order means plan heap (Ask k.comp 0) (λ now. now) answer kept kept' w v result on x (λ passed. refl)

@@ -19,7 +19,7 @@ use Rattle.ipc3_codec.specs.declared.reply.Body.TheVariants as bodies
 use Rattle.ipc3_codec.specs.declared.reply.Reply.{Reply}
 use Rattle.ipc3_codec.specs.Messages.{message_spelling, decoded, IsMessage}
 use Rattle.ipc3_codec.proofs.Spelled.{decoded_reply-exactly}
-use Rattle.mbox_link.specs.BlobParts.{parts, part_of}
+use Rattle.mbox_link.specs.BlobParts.{parts, blob_part}
 use Rattle.mbox_link.specs.Step as fw
 use Rattle.mbox_link.specs.Step.{row, body_of, part_body, no_device, invalid}
 use Rattle.mbox_link.specs.Exchange.{ticks}
@@ -38,12 +38,12 @@ use Rattle.host_widgets.specs.declared.kept.Power.{Power}
 use Rattle.host_widgets.specs.declared.kept.Power.TheVariants.{On}
 use Rattle.host_widgets.specs.declared.kept.Record.{Record}
 use Rattle.host_widgets.specs.ActCalls.{came_to}
-use Rattle.host_widgets.specs.ActCarried.{Heard, Passes, PlainEnd}
-use Rattle.host_widgets.specs.ActMessages.{ask_message, get_message, message_of}
+use Rattle.host_widgets.specs.ActCarried.{Replied, Passes, PlainEnd}
+use Rattle.host_widgets.specs.ActMessages.{ask_message, get_message, act_message}
 use Rattle.host_widgets.specs.Host.{Agrees, IsRecordOf, Outcome, Sides, verdict, judged, errno}
 use Rattle.host_widgets.specs.HostActs.{Act, Ask}
 use Rattle.host_widgets.specs.Orders.{Carried, sends}
-use Rattle.host_widgets.specs.ViewOf.{set_comp, setting_by, view_by}
+use Rattle.host_widgets.specs.ViewOf.{set_comp, record_setting, record_view}
 use Rattle.host_widgets.proofs.ActSteps.{state-with, done, ended}
 use Rattle.host_widgets.proofs.ActsCome.{IsAnswered, still}
 use Rattle.host_widgets.proofs.ControlLists.{takes-by}
@@ -55,7 +55,7 @@ use Rattle.host_widgets.proofs.PartFacts.{few-parts, header-long, part-left, par
 use Rattle.host_widgets.proofs.OneOrder.{answering}
 use Rattle.host_widgets.proofs.PlainOrders.{CarriedBy, ends-with, goes-on, no-acts, plain}
 use Rattle.host_widgets.proofs.ReplyErrors.{done_reply, zero-fits}
-use Rattle.host_ctl.specs.ControlOrders.{HasBlob, ask_acts, reading_order, said_by}
+use Rattle.host_ctl.specs.ControlOrders.{HasBlob, ask_acts, reading_order, control_answer}
 use Rattle.host_ctl.specs.ControlPlaces.{control_here, record_here}
 use Rattle.host_ctl.proofs.ControlActs.{still-taken}
 use Rattle.host_ctl.proofs.ControlsTaken.{done-passes, found-in, id-low, shown-in}
@@ -120,7 +120,7 @@ module _ {D : Type 0} (means : Meaning D) (plan : Plan) (heap comp n : ℕ) (kep
       (subst (λ (rest : ℕ). CarriedBy means plan heap (asks_from comp j rest) (λ now. now) kept kept m m (Ok tt)) (let none : 0 ≡ n - j = omega (arith, all) in none) (no-acts means plan heap (λ now. now) kept kept m refl))
 
 -- the outputs keep room for what is pending
-pub heard-room : {D : Type 0} (means : Meaning D) (heap : ℕ) (request : List ℕ) (kept kept' : Record) (m v : World D) (result : Result Reply HostFault) (h : Heard means heap request kept kept' m v result) (reply : Reply) → result ≡ Ok reply → HasRoom (61440 * means.pending m.device) m.io.outputs → HasRoom (61440 * means.pending v.device) v.io.outputs
+pub heard-room : {D : Type 0} (means : Meaning D) (heap : ℕ) (request : List ℕ) (kept kept' : Record) (m v : World D) (result : Result Reply HostFault) (h : Replied means heap request kept kept' m v result) (reply : Reply) → result ≡ Ok reply → HasRoom (61440 * means.pending m.device) m.io.outputs → HasRoom (61440 * means.pending v.device) v.io.outputs
 heard-room {D} means heap request kept kept' m v result h reply ok room =
     let end : v ≡ h.sent = (subst (λ (y : Result Reply HostFault). PlainEnd means heap (came_to y) kept kept' h.sent v) ok h.ends).1 in
     subst (λ (x : World D). HasRoom (61440 * means.pending x.device) x.io.outputs) (sym end) (HasRoom-now (61440 * means.pending m.device) (61440 * means.pending h.sent.device) m.io.outputs h.sent.io.outputs h.exchanged.room room)
@@ -149,65 +149,65 @@ module _ (plan : Plan) (sound : IsSound plan) (kept : Record) (is : IsRecordOf p
     abbrev ask : Act
     ask = Ask k.comp j
 
-    pub part-asks : message_of plan ask ≡ GetData k.comp j
+    pub part-asks : act_message plan ask ≡ GetData k.comp j
     part-asks = ap (ask_message k.comp j) (of-comp plan sound kept is i low) ∙ ap (get_message k.comp j) kind
 
-    part-fits : IsMessage (message_of plan ask)
+    part-fits : IsMessage (act_message plan ask)
     part-fits = subst IsMessage (sym part-asks) (data-fits k.comp j (id-low plan sound kept is i low) (let most = few-initial r.blob initial-here in omega (arith, few, most)))
 
-    part-stays : (f f' : FwState) → row f (message_of plan ask) ≡ Ok f' → f' ≡ f
+    part-stays : (f f' : FwState) → row f (act_message plan ask) ≡ Ok f' → f' ≡ f
     part-stays f f' so = asked-stays f f' k.comp j (ap (row f) (sym part-asks) ∙ so)
 
-    part-passes : (f : FwState) → came_to (verdict (Some (done_reply (body_of f (decoded (message_spelling (message_of plan ask))))))) ≡ Ok tt
-    part-passes f = done-passes (body_of f (decoded (message_spelling (message_of plan ask))))
+    part-passes : (f : FwState) → came_to (verdict (Some (done_reply (body_of f (decoded (message_spelling (act_message plan ask))))))) ≡ Ok tt
+    part-passes f = done-passes (body_of f (decoded (message_spelling (act_message plan ask))))
 
     pub part-is : IsTaken plan kept ask
-    part-is = still-taken plan kept ask is refl refl (part-fits, decoded-message (message_of plan ask) part-fits) part-passes part-stays
+    part-is = still-taken plan kept ask is refl refl (part-fits, decoded-message (act_message plan ask) part-fits) part-passes part-stays
 
     pub part-shown : IsShown plan kept ask
     part-shown = record { message = part-fits; power = refl; shown = λ f f' shows so. (is, ap view_of (part-stays f f' so) ∙ shows) }
 
     -- a firmware that shows the record has the part
-    part-had : (f : FwState) → view_of f ≡ view_by plan kept → fw.part_by (set_comp plan kept here.comp).kind (set_comp plan kept here.comp).setting j ≡ Some (part_of r.blob j)
+    part-had : (f : FwState) → view_of f ≡ record_view plan kept → fw.part_by (set_comp plan kept here.comp).kind (set_comp plan kept here.comp).setting j ≡ Some (blob_part r.blob j)
     part-had f shows =
         let shown = shown-in plan sound kept is i low f shows in
         let x = set_comp plan kept here.comp in
         ap (λ (s : Setting). fw.part_by x.kind s j) shown.1
         ∙ by k.kind kind shown.0
-        ∙ ap (λ (b : Bool). cond b (Some (part_of r.blob j)) None) (lt-ltb j (parts r.blob) few)
+        ∙ ap (λ (b : Bool). cond b (Some (blob_part r.blob j)) None) (lt-ltb j (parts r.blob) few)
       where
         by : (q : ControlKind) → q ≡ Blob most initial → IsControlOf q here.comp.kind →
-            fw.part_by here.comp.kind (setting_by here.comp.kind (Some (record { comp = k.comp; kind = q }, r))) j ≡ cond (nat_lt j (parts r.blob)) (Some (part_of r.blob j)) None
+            fw.part_by here.comp.kind (record_setting here.comp.kind (Some (record { comp = k.comp; kind = q }, r))) j ≡ cond (nat_lt j (parts r.blob)) (Some (blob_part r.blob j)) None
         by q e of =
             let eq = (subst (λ (y : ControlKind). IsControlOf y here.comp.kind) e of).0 in
-            ap (λ (kd : Kind). fw.part_by kd (setting_by kd (Some (record { comp = k.comp; kind = q }, r))) j) eq
+            ap (λ (kd : Kind). fw.part_by kd (record_setting kd (Some (record { comp = k.comp; kind = q }, r))) j) eq
 
-    part-there : (f : FwState) → view_of f ≡ view_by plan kept → row f (GetData k.comp j) ≡ Ok f
-    part-there f shows = part-asked f k.comp j (set_comp plan kept here.comp) (part_of r.blob j) (found-in plan sound kept is i low f shows) (part-had f shows)
+    part-there : (f : FwState) → view_of f ≡ record_view plan kept → row f (GetData k.comp j) ≡ Ok f
+    part-there f shows = part-asked f k.comp j (set_comp plan kept here.comp) (blob_part r.blob j) (found-in plan sound kept is i low f shows) (part-had f shows)
 
     -- its reply carries it
-    part-carried : (f : FwState) → view_of f ≡ view_by plan kept → body_of f (decoded (message_spelling (GetData k.comp j))) ≡ bodies.Part (part_of r.blob j)
+    part-carried : (f : FwState) → view_of f ≡ record_view plan kept → body_of f (decoded (message_spelling (GetData k.comp j))) ≡ bodies.Part (blob_part r.blob j)
     part-carried f shows =
         ap (body_of f) (decoded-message (GetData k.comp j) (subst IsMessage part-asks part-fits))
         ∙ ap (λ (o : Option Comp). part_body (option_and_then (λ (c : Comp). fw.part_by c.kind c.setting j) o)) (found-in plan sound kept is i low f shows)
         ∙ ap part_body (part-had f shows)
 
     -- and is read as it was written
-    part-read : verdict (Some (done_reply (bodies.Part (part_of r.blob j)))) ≡ Ok (record { error = pos 0; body = bodies.Part (part_of r.blob j) })
+    part-read : verdict (Some (done_reply (bodies.Part (blob_part r.blob j)))) ≡ Ok (record { error = pos 0; body = bodies.Part (blob_part r.blob j) })
     part-read =
         let b = of-blob r.blob j few initial-here in
         let s = part-some r.blob b j few in
         let l = part-left r.blob b j few in
         let p = payload-long r.blob b in
         let most = few-initial r.blob initial-here in
-        ap judged (decoded_reply-exactly (record { error = pos 0; body = bodies.Part (part_of r.blob j) })
-        (zero-fits, (omega (arith, few, most), header-long r.blob b, rw (le-leb 1 (length (part_of r.blob j).bytes) s.0, le-leb (length (part_of r.blob j).bytes) 260 s.1) refl, le-leb ((part_of r.blob j).remaining + length (part_of r.blob j).bytes) 992 (omega (arith, l, p.1)))))
+        ap judged (decoded_reply-exactly (record { error = pos 0; body = bodies.Part (blob_part r.blob j) })
+        (zero-fits, (omega (arith, few, most), header-long r.blob b, rw (le-leb 1 (length (blob_part r.blob j).bytes) s.0, le-leb (length (blob_part r.blob j).bytes) 260 s.1) refl, le-leb ((blob_part r.blob j).remaining + length (blob_part r.blob j).bytes) 992 (omega (arith, l, p.1)))))
 
     -- what an exchange that passed brings is the part
-    pub part-heard : {D : Type 0} (means : Meaning D) (heap : ℕ) (m : World D) → Agrees means plan kept m.device → kept.power ≡ On → (kept' : Record) (v : World D) (result : Result Reply HostFault) → Heard means heap (message_spelling (GetData k.comp j)) kept kept' m v result → (reply : Reply) → result ≡ Ok reply → reply.body ≡ bodies.Part (part_of r.blob j)
+    pub part-heard : {D : Type 0} (means : Meaning D) (heap : ℕ) (m : World D) → Agrees means plan kept m.device → kept.power ≡ On → (kept' : Record) (v : World D) (result : Result Reply HostFault) → Replied means heap (message_spelling (GetData k.comp j)) kept kept' m v result → (reply : Reply) → result ≡ Ok reply → reply.body ≡ bodies.Part (blob_part r.blob j)
     part-heard {D} means heap m agrees power kept' v result h reply ok = ⊎_elim
-        (λ took. (let same : Ok reply ≡ Ok (record { error = pos 0; body = bodies.Part (part_of r.blob j) }) = sym ok ∙ h.said ∙ ap verdict took.said ∙ ap (λ (b : Body). verdict (Some (done_reply b))) (part-carried before.0 shows) ∙ part-read in
-        let one : reply ≡ record { error = pos 0; body = bodies.Part (part_of r.blob j) } = cc same in
+        (λ took. (let same : Ok reply ≡ Ok (record { error = pos 0; body = bodies.Part (blob_part r.blob j) }) = sym ok ∙ h.said ∙ ap verdict took.said ∙ ap (λ (b : Body). verdict (Some (done_reply b))) (part-carried before.0 shows) ∙ part-read in
+        let one : reply ≡ record { error = pos 0; body = bodies.Part (blob_part r.blob j) } = cc same in
         ap (λ (y : Reply). y.body) one))
         (λ rest. ⊎_elim
         (λ it. absurd (let no : Ok reply ≡ Err (Refused (errno it.error)) = sym ok ∙ h.said ∙ ap verdict it.said ∙ verdict-number it.error it.number in cc no))
@@ -217,13 +217,13 @@ module _ (plan : Plan) (sound : IsSound plan) (kept : Record) (is : IsRecordOf p
         rest) rest)
         (came means (message_spelling (GetData k.comp j)) h.answer m h.sent state.0 state.1 h.exchanged).way
       where
-        state : (f : FwState) × (means.on m.device ≡ Some f) × (view_of f ≡ view_by plan kept)
-        state = state-with (means.on m.device) (view_by plan kept) (subst (λ (x : Power). Sides means plan kept m.device x) power agrees.sides)
+        state : (f : FwState) × (means.on m.device ≡ Some f) × (view_of f ≡ record_view plan kept)
+        state = state-with (means.on m.device) (record_view plan kept) (subst (λ (x : Power). Sides means plan kept m.device x) power agrees.sides)
 
         before : FwState × Io
         before = ticks (means.pending m.device - means.pending h.sent.device) (state.0, m.io)
 
-        shows : view_of before.0 ≡ view_by plan kept
+        shows : view_of before.0 ≡ record_view plan kept
         shows = still (means.pending m.device - means.pending h.sent.device) (state.0, m.io) ∙ state.2
 
     pub part-comes : (heap : ℕ) → IsAnswered plan heap kept ask
@@ -238,16 +238,16 @@ module _ (plan : Plan) (sound : IsSound plan) (kept : Record) (is : IsRecordOf p
     -- all were asked for, or one was refused or lost
     pub reading-carried : kept.power ≡ On → (kept' : Record) (w v : World D) (result : Outcome) → CarriedBy means plan heap (asks_from k.comp 0 (parts r.blob)) (λ now. now) kept kept' w v result → Carried means plan heap (reading_order kept (Some (k, r))) kept kept' w v result
     reading-carried power kept' w v result all =
-        subst (λ (p : Power). Carried means plan heap (sends p (ask_acts k.comp k.kind r) (λ now. now) (said_by k.kind r)) kept kept' w v result) (sym power)
-        (subst (λ (q : ControlKind). Carried means plan heap (sends On (ask_acts k.comp q r) (λ now. now) (said_by k.kind r)) kept kept' w v result) (sym kind)
-        (answering means plan heap (plain (asks_from k.comp 0 (parts r.blob)) (λ now. now)) (said_by k.kind r) kept kept' w v result all))
+        subst (λ (p : Power). Carried means plan heap (sends p (ask_acts k.comp k.kind r) (λ now. now) (control_answer k.kind r)) kept kept' w v result) (sym power)
+        (subst (λ (q : ControlKind). Carried means plan heap (sends On (ask_acts k.comp q r) (λ now. now) (control_answer k.kind r)) kept kept' w v result) (sym kind)
+        (answering means plan heap (plain (asks_from k.comp 0 (parts r.blob)) (λ now. now)) (control_answer k.kind r) kept kept' w v result all))
 
-    module _ (w m : World D) (j : ℕ) (few : j < parts r.blob) (so : IsAhead w m j) (power : kept.power ≡ On) (kept' : Record) (v : World D) (result : Result Reply HostFault) (h : Heard means heap (message_spelling (GetData k.comp j)) kept kept' m v result) where
-      h' : Heard means heap (message_spelling (message_of plan (Ask k.comp j))) kept kept' m v result
-      h' = subst (λ (msg : Message). Heard means heap (message_spelling msg) kept kept' m v result) (sym (part-asks j few)) h
+    module _ (w m : World D) (j : ℕ) (few : j < parts r.blob) (so : IsAhead w m j) (power : kept.power ≡ On) (kept' : Record) (v : World D) (result : Result Reply HostFault) (h : Replied means heap (message_spelling (GetData k.comp j)) kept kept' m v result) where
+      h' : Replied means heap (message_spelling (act_message plan (Ask k.comp j))) kept kept' m v result
+      h' = subst (λ (msg : Message). Replied means heap (message_spelling msg) kept kept' m v result) (sym (part-asks j few)) h
 
-      x : Passes means heap (message_spelling (message_of plan (Ask k.comp j))) kept kept' m v (came_to result)
-      x = passes means heap (message_spelling (message_of plan (Ask k.comp j))) kept m kept' v result (came_to result) h' refl
+      x : Passes means heap (message_spelling (act_message plan (Ask k.comp j))) kept kept' m v (came_to result)
+      x = passes means heap (message_spelling (act_message plan (Ask k.comp j))) kept m kept' v result (came_to result) h' refl
 
       abbrev behind : List Act
       behind = asks_from k.comp (j + 1) (parts r.blob - (j + 1))

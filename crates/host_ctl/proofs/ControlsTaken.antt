@@ -26,10 +26,10 @@ use Rattle.host_widgets.specs.declared.kept.Record.{Record}
 use Rattle.host_widgets.specs.declared.kept.ControlRec.{ControlRec}
 use Rattle.host_widgets.specs.Controls.{control_of}
 use Rattle.host_widgets.specs.Kept.{control_at, with_control}
-use Rattle.host_widgets.specs.Host.{IsRecordOf, IsSet, AreControls, verdict, judged, errno, is_negative}
+use Rattle.host_widgets.specs.Host.{IsRecordOf, IsControlSet, AreControls, verdict, judged, errno, is_negative}
 use Rattle.host_widgets.specs.HostActs.{Put, Ask, with_values}
-use Rattle.host_widgets.specs.ActMessages.{message_of, set_message, put_message, get_message, ask_message}
-use Rattle.host_widgets.specs.ViewOf.{view_by, set_comp, setting_by}
+use Rattle.host_widgets.specs.ActMessages.{act_message, set_message, put_message, get_message, ask_message}
+use Rattle.host_widgets.specs.ViewOf.{record_view, set_comp, record_setting}
 use Rattle.host_widgets.specs.ActCalls.{came_to}
 use Rattle.host_widgets.proofs.ActsCome.{IsAnswered}
 use Rattle.host_widgets.proofs.ControlLists.{bare-one}
@@ -40,7 +40,7 @@ use Rattle.host_widgets.proofs.LookedUp.{found-is, each-found}
 use Rattle.host_widgets.proofs.NamedIds.{component-found, id-fits}
 use Rattle.host_widgets.proofs.OneActLaws.{IsTaken, IsShown}
 use Rattle.host_widgets.proofs.ReplyErrors.{done_reply, read-zero}
-use Rattle.host_ctl.specs.ControlOrders.{MaySet, command_of}
+use Rattle.host_ctl.specs.ControlOrders.{MaySet, value_command}
 use Rattle.host_ctl.specs.ControlPlaces.{control_here, record_here}
 use Rattle.host_ctl.proofs.PutShows.{found, put-shows}
 use Rattle.host_ctl.proofs.PutStands.{put-record}
@@ -60,12 +60,12 @@ unfolding AreSlots IsSlot
 get-fits id command fits low =
     ((tt, (omega arith, (tt, (fits, (omega arith, (omega (arith, low), (tt, (tt, (tt, (tt, (tt, (tt, (tt, (tt, (tt, (tt, (tt, (tt, (tt, (tt, (tt, (tt, (tt, tt))))))))))))))))))))))), of-asked command low)
 
-few-commands : (q : ControlKind) (command : ℕ) → command_of q ≡ Some command → command ≤ 1
+few-commands : (q : ControlKind) (command : ℕ) → value_command q ≡ Some command → command ≤ 1
 few-commands (Volume min max channels lowest step mute) command is = let same : 0 ≡ command = cc is in omega (arith, same)
 few-commands (Choice items) command is = let same : 1 ≡ command = cc is in omega (arith, same)
 few-commands (Blob most initial) command is = absurd (cc is)
 
-asks-by : (id : ℕ) (q : ControlKind) (command : ℕ) → command_of q ≡ Some command → get_message id 0 q ≡ GetValue id command
+asks-by : (id : ℕ) (q : ControlKind) (command : ℕ) → value_command q ≡ Some command → get_message id 0 q ≡ GetValue id command
 asks-by id (Volume min max channels lowest step mute) command is = let same : 0 ≡ command = cc is in ap (GetValue id) same
 asks-by id (Choice items) command is = let same : 1 ≡ command = cc is in ap (GetValue id) same
 asks-by id (Blob most initial) command is = absurd (cc is)
@@ -99,7 +99,7 @@ done-passes said = by (decoded_reply (done_reply said)) refl
 
 -- one that asked and was done leaves the state
 asked-stays : (f f' : FwState) (id command : ℕ) → row f (GetValue id command) ≡ Ok f' → f' ≡ f
-asked-stays f f' id command done = by (fw.is_used f.graph id) (is_some (fw.values_at f.graph id command)) done
+asked-stays f f' id command done = by (fw.is_used f.graph id) (is_some (fw.control_values_at f.graph id command)) done
   where
     by : (b c : Bool) → cond (not b) (Err no_device) (cond (not c) (Err invalid) (Ok f)) ≡ Ok f' → f' ≡ f
     by false c is = absurd (cc is)
@@ -122,14 +122,14 @@ module _ (plan : Plan) (sound : IsSound plan) (kept : Record) (is : IsRecordOf p
   id-low = id-fits plan sound k.comp (component-found plan sound k.comp here.comp here.there).low
 
   -- what a firmware that shows the record has there
-  module _ (f : FwState) (shows : view_of f ≡ view_by plan kept) where
+  module _ (f : FwState) (shows : view_of f ≡ record_view plan kept) where
     pub found-in : comp_of f.graph k.comp ≡ Some (set_comp plan kept here.comp)
     found-in = found plan kept f f shows k.comp [] here.comp here.there
 
-    pub shown-in : IsControlOf k.kind here.comp.kind × ((set_comp plan kept here.comp).setting ≡ setting_by here.comp.kind (Some (control k.comp k.kind, r))) × Was (control k.comp k.kind) r
+    pub shown-in : IsControlOf k.kind here.comp.kind × ((set_comp plan kept here.comp).setting ≡ record_setting here.comp.kind (Some (control k.comp k.kind, r))) × Was (control k.comp k.kind) r
     shown-in = (
       here.kind,
-      ap (λ (id : ℕ). setting_by here.comp.kind (control_at plan kept id)) (found-is (λ c. c.id) plan.graph.comps k.comp here.comp here.there) ∙ ap (setting_by here.comp.kind) (at-here plan sound kept is i low),
+      ap (λ (id : ℕ). record_setting here.comp.kind (control_at plan kept id)) (found-is (λ c. c.id) plan.graph.comps k.comp here.comp here.there) ∙ ap (record_setting here.comp.kind) (at-here plan sound kept is i low),
       was-here plan sound kept is i low,
     )
 
@@ -144,25 +144,25 @@ module _ (plan : Plan) (sound : IsSound plan) (kept : Record) (is : IsRecordOf p
     pub set-all : AreControls plan.controls (with_control plan k.comp (with_values values) kept).controls
     set-all = controls-with k.comp (with_values values) plan.controls kept.controls (all plan.controls (each-found (λ (x : ControlPlan). x.comp) plan.controls sound.controls_ascend)) is.controls
       where
-        all : (ks : List ControlPlan) → AllByRecursion (λ (x : ControlPlan). control_of plan x.comp ≡ Some x) ks → AllByRecursion (λ (x : ControlPlan). x.comp ≡ k.comp → (c : ControlRec) → Was x c → IsSet x.kind (with_values values c)) ks
+        all : (ks : List ControlPlan) → AllByRecursion (λ (x : ControlPlan). control_of plan x.comp ≡ Some x) ks → AllByRecursion (λ (x : ControlPlan). x.comp ≡ k.comp → (c : ControlRec) → Was x c → IsControlSet x.kind (with_values values c)) ks
         all [] each = tt
         all (x ∷ ks) each = (
           λ same c was.
               let one : Some k ≡ Some x = sym (of-comp plan sound kept is i low) ∙ ap (control_of plan) (sym same) ∙ each.0 in
               let x-is : k ≡ x = cc one in
-              subst (λ (y : ControlPlan). Was y c → IsSet y.kind (with_values values c)) x-is (λ was. may c.blob (no-blob k.kind may c was)) was,
+              subst (λ (y : ControlPlan). Was y c → IsControlSet y.kind (with_values values c)) x-is (λ was. may c.blob (no-blob k.kind may c was)) was,
           all ks each.1,
         )
 
-    pub puts : message_of plan (Put k.comp values) ≡ set_message k.comp values k.kind
+    pub puts : act_message plan (Put k.comp values) ≡ set_message k.comp values k.kind
     puts = ap (put_message k.comp values) (of-comp plan sound kept is i low)
 
-    fits : IsMessage (message_of plan (Put k.comp values))
+    fits : IsMessage (act_message plan (Put k.comp values))
     fits = subst IsMessage (sym puts) (put-fits k.comp k.kind values id-low may (few-values k.kind values may here.comp.kind here.kind))
 
     pub put-is : IsTaken plan kept (Put k.comp values)
     put-is = put-taken plan kept is k.comp values here.comp here.there k.kind r (at-here plan sound kept is i low) (of-comp plan sound kept is i low) (kinds-here plan sound kept is i low) here.kind set-all
-        (fits, decoded-message (message_of plan (Put k.comp values)) fits)
+        (fits, decoded-message (act_message plan (Put k.comp values)) fits)
 
     pub put-shown : IsShown plan kept (Put k.comp values)
     put-shown = record {
@@ -183,21 +183,21 @@ module _ (plan : Plan) (sound : IsSound plan) (kept : Record) (is : IsRecordOf p
 
   -- ---- one that asks
 
-  module _ (command : ℕ) (at : command_of k.kind ≡ Some command) where
-    pub asks : message_of plan (Ask k.comp 0) ≡ GetValue k.comp command
+  module _ (command : ℕ) (at : value_command k.kind ≡ Some command) where
+    pub asks : act_message plan (Ask k.comp 0) ≡ GetValue k.comp command
     asks = ap (ask_message k.comp 0) (of-comp plan sound kept is i low) ∙ asks-by k.comp k.kind command at
 
-    pub ask-fits : IsMessage (message_of plan (Ask k.comp 0))
+    pub ask-fits : IsMessage (act_message plan (Ask k.comp 0))
     ask-fits = subst IsMessage (sym asks) (get-fits k.comp command id-low (few-commands k.kind command at))
 
-    stays : (f f' : FwState) → row f (message_of plan (Ask k.comp 0)) ≡ Ok f' → f' ≡ f
+    stays : (f f' : FwState) → row f (act_message plan (Ask k.comp 0)) ≡ Ok f' → f' ≡ f
     stays f f' done = asked-stays f f' k.comp command (ap (row f) (sym asks) ∙ done)
 
-    passes : (f : FwState) → came_to (verdict (Some (done_reply (body_of f (decoded (message_spelling (message_of plan (Ask k.comp 0)))))))) ≡ Ok tt
-    passes f = done-passes (body_of f (decoded (message_spelling (message_of plan (Ask k.comp 0)))))
+    passes : (f : FwState) → came_to (verdict (Some (done_reply (body_of f (decoded (message_spelling (act_message plan (Ask k.comp 0)))))))) ≡ Ok tt
+    passes f = done-passes (body_of f (decoded (message_spelling (act_message plan (Ask k.comp 0)))))
 
     pub ask-is : IsTaken plan kept (Ask k.comp 0)
-    ask-is = still-taken plan kept (Ask k.comp 0) is refl refl (ask-fits, decoded-message (message_of plan (Ask k.comp 0)) ask-fits) passes stays
+    ask-is = still-taken plan kept (Ask k.comp 0) is refl refl (ask-fits, decoded-message (act_message plan (Ask k.comp 0)) ask-fits) passes stays
 
     pub ask-shown : IsShown plan kept (Ask k.comp 0)
     ask-shown = record { message = ask-fits; power = refl; shown = λ f f' shows done. (is, ap view_of (stays f f' done) ∙ shows) }

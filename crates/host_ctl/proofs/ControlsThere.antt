@@ -17,14 +17,14 @@ use Rattle.host_widgets.specs.declared.kept.ControlRec.{ControlRec}
 use Rattle.host_widgets.specs.Controls.{control_of}
 use Rattle.host_widgets.specs.Kept.{first_control, control_at, changed, with_control}
 use Rattle.host_widgets.specs.HostActs.{with_values, with_blob}
-use Rattle.host_widgets.specs.Host.{AreControls, IsSet, IsRecordOf}
+use Rattle.host_widgets.specs.Host.{AreControls, IsControlSet, IsRecordOf}
 use Rattle.host_widgets.proofs.ChangedPlaces.{changed-at}
 use Rattle.host_widgets.proofs.ControlLists.{same-length}
 use Rattle.host_widgets.proofs.LookedUp.{each-found}
 use Rattle.host_widgets.proofs.NamedIds.{each-comp}
 use Rattle.host_widgets.specs.Named.{is_named}
 use Rattle.host_ctl.specs.ControlAsks.{named_control}
-use Rattle.host_ctl.specs.ControlPlaces.{no_control, no_values, control_place, control_here, record_here, with_place, with_blob_here}
+use Rattle.host_ctl.specs.ControlPlaces.{no_control, no_values, control_place, control_here, record_here, with_values_at, with_blob_here}
 use Rattle.host_ctl.proofs.PutShows.{AreKind}
 
 -- ---- as lists
@@ -45,7 +45,7 @@ lost-here p xs is = find_at p xs ∙ by (nat_lt (position_or_len p xs) (length x
 
 -- the record of a control is as it begins, or was set
 abbrev pub Was : ControlPlan → ControlRec → Type 0
-Was k c = (c ≡ first_control k) ⊎ IsSet k.kind c
+Was k c = (c ≡ first_control k) ⊎ IsControlSet k.kind c
 
 abbrev Paired : ℕ → List ControlPlan → List ControlRec → ControlPlan → ControlRec → Type 0
 Paired id ks rs k c = (find (λ p. p.0.comp == id) (zip ks rs) ≡ Some (k, c)) × Was k c
@@ -69,7 +69,7 @@ pair-here (k ∷ ks) (r ∷ rs) up are (suc i) low = by (k.comp == (get_or ks i 
     by false is rest = rest
 
 -- a change of the control of a component leaves records of the controls
-pub controls-with : (comp : ℕ) (g : ControlRec → ControlRec) (ks : List ControlPlan) (rs : List ControlRec) → AllByRecursion (λ (k : ControlPlan). k.comp ≡ comp → (c : ControlRec) → Was k c → IsSet k.kind (g c)) ks → AreControls ks rs →
+pub controls-with : (comp : ℕ) (g : ControlRec → ControlRec) (ks : List ControlPlan) (rs : List ControlRec) → AllByRecursion (λ (k : ControlPlan). k.comp ≡ comp → (c : ControlRec) → Was k c → IsControlSet k.kind (g c)) ks → AreControls ks rs →
     AreControls ks (changed (λ (k : ControlPlan). k.comp) comp g ks rs)
 controls-with comp g [] [] all are = tt
 controls-with comp g [] (r ∷ rs) all are = absurd are
@@ -128,7 +128,7 @@ module _ (plan : Plan) (sound : IsSound plan) (kept : Record) (is : IsRecordOf p
       ap (λ (rs : List ControlRec). record { power = kept.power; streams = kept.streams; controls = rs })
       (changed-at (λ (x : ControlPlan). x.comp) (with_blob blob) no_control no_values plan.controls sound.controls_ascend kept.controls i low within)
 
-  pub place-changed : (values : List ℕ) → with_place i values kept ≡ with_control plan k.comp (with_values values) kept
+  pub place-changed : (values : List ℕ) → with_values_at i values kept ≡ with_control plan k.comp (with_values values) kept
   place-changed values =
       ap (λ (rs : List ControlRec). record { power = kept.power; streams = kept.streams; controls = rs })
       (changed-at (λ (x : ControlPlan). x.comp) (with_values values) no_control no_values plan.controls sound.controls_ascend kept.controls i low within)

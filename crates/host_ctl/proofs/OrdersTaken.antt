@@ -22,7 +22,7 @@ use Rattle.host_ctl.proofs.ControlParts.{part-is}
 use Rattle.host_widgets.specs.Kept.{control_at, with_control}
 use Rattle.std.specs.Option.{option_and_then}
 use Rattle.host_ctl.specs.ControlAsks.{named_control, channels_of, spread, setting_fault, set_fault, name_fault, read_fault}
-use Rattle.host_ctl.specs.ControlOrders.{command_of, setting_order, set_order, reading_order, read_order, ask_acts, said_by}
+use Rattle.host_ctl.specs.ControlOrders.{value_command, setting_order, set_order, reading_order, read_order, ask_acts, control_answer}
 use Rattle.host_ctl.specs.ControlPlaces.{control_place, control_here, record_here}
 use Rattle.host_ctl.proofs.ControlsThere.{live, at-here, named-here, lost-here}
 use Rattle.host_ctl.proofs.ControlsTaken.{put-is, ask-is}
@@ -49,7 +49,7 @@ module _ (plan : Plan) (sound : IsSound plan) (kept : Record) (is : IsRecordOf p
     r = record_here kept i
 
     abbrev Taken : ControlKind → Type 0
-    Taken q = AreTaken plan false kept (sends kept.power (ask_acts k.comp q r) (λ now. now) (said_by k.kind r)).acts
+    Taken q = AreTaken plan false kept (sends kept.power (ask_acts k.comp q r) (λ now. now) (control_answer k.kind r)).acts
 
     -- each part of a blob is asked for
     parts-law : (most : ℕ) (initial : List ℕ) → k.kind ≡ Blob most initial → (n j : ℕ) → j + n ≡ parts r.blob → HaveLaw plan false kept (map (Ask k.comp) (range_with_len j n))
@@ -61,14 +61,14 @@ module _ (plan : Plan) (sound : IsSound plan) (kept : Record) (is : IsRecordOf p
     asks-plain [] = tt
     asks-plain (j ∷ js) = (tt, asks-plain js)
 
-    parts-asked : (most : ℕ) (initial : List ℕ) → k.kind ≡ Blob most initial → (power : Power) → AreTaken plan false kept (sends power (map (Ask k.comp) (part_numbers r.blob)) (λ now. now) (said_by k.kind r)).acts
+    parts-asked : (most : ℕ) (initial : List ℕ) → k.kind ≡ Blob most initial → (power : Power) → AreTaken plan false kept (sends power (map (Ask k.comp) (part_numbers r.blob)) (λ now. now) (control_answer k.kind r)).acts
     parts-asked most initial e powers.On = plainly-taken plan false kept (map (Ask k.comp) (part_numbers r.blob)) (asks-plain (part_numbers r.blob)) (parts-law most initial e (parts r.blob) 0 (let all : 0 + parts r.blob ≡ parts r.blob = omega arith in all))
     parts-asked most initial e powers.Off = none-taken plan false kept
     parts-asked most initial e powers.Unloaded = none-taken plan false kept
 
     of-kind : (q : ControlKind) → k.kind ≡ q → Taken k.kind
-    of-kind (Volume min max channels lowest step mute) e = subst Taken (sym e) (alone kept.power (Ask k.comp 0) (λ now. now) (said_by k.kind r) tt (ask-is plan sound kept is i low 0 (ap command_of e)))
-    of-kind (Choice items) e = subst Taken (sym e) (alone kept.power (Ask k.comp 0) (λ now. now) (said_by k.kind r) tt (ask-is plan sound kept is i low 1 (ap command_of e)))
+    of-kind (Volume min max channels lowest step mute) e = subst Taken (sym e) (alone kept.power (Ask k.comp 0) (λ now. now) (control_answer k.kind r) tt (ask-is plan sound kept is i low 0 (ap value_command e)))
+    of-kind (Choice items) e = subst Taken (sym e) (alone kept.power (Ask k.comp 0) (λ now. now) (control_answer k.kind r) tt (ask-is plan sound kept is i low 1 (ap value_command e)))
     of-kind (Blob most initial) e = subst Taken (sym e) (parts-asked most initial e kept.power)
 
   module _ (name : List ℕ) where

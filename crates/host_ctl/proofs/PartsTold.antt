@@ -3,7 +3,7 @@ use Rattle.std.proofs.Common.{◌≡◌, refl, sym, ap, ◌∙◌, ℕ, zero, su
 use Rattle.std.proofs.lemmas.List.{length-append, length-take}
 use Rattle.sof_base.specs.declared.part.Part.{Part}
 use Rattle.sof_base.specs.BlobFaults.{is_blob}
-use Rattle.mbox_link.specs.BlobParts.{payload, part_of, parts}
+use Rattle.mbox_link.specs.BlobParts.{payload, blob_part, parts}
 use Rattle.tplg_plan.specs.Ranges.{is_initial}
 use Rattle.host_widgets.proofs.PartFacts.{few-parts, front, front-all, front-more, header-long, payload-long}
 use Rattle.host_ctl.specs.ControlOrders.{with_part}
@@ -39,11 +39,11 @@ bytes-fit blob k low is =
     let e = ap (λ (xs : List ℕ). length xs) (bytes-front blob (k + 1) (omega arith)) in
     omega (arith, l, e)
 
-pub bytes-more : (blob : List ℕ) (k : ℕ) → k < parts blob → is_initial blob ≡ true → with_part (first_bytes blob k) (part_of blob k) ≡ first_bytes blob (k + 1)
+pub bytes-more : (blob : List ℕ) (k : ℕ) → k < parts blob → is_initial blob ≡ true → with_part (first_bytes blob k) (blob_part blob k) ≡ first_bytes blob (k + 1)
 bytes-more blob zero low is = refl
 bytes-more blob (suc k) low is =
     let b = of-blob blob (suc k) low is in
-    behind (front blob (suc k)) (part_of blob (suc k)) (let l = (front-long blob b (suc k)).0 in omega (arith, l))
+    behind (front blob (suc k)) (blob_part blob (suc k)) (let l = (front-long blob b (suc k)).0 in omega (arith, l))
     ∙ front-more blob b (suc k) low ∙ sym (bytes-front blob (suc k + 1) (omega arith))
 
 pub bytes-all : (blob : List ℕ) → is_initial blob ≡ true → first_bytes blob (parts blob) ≡ blob

@@ -23,12 +23,12 @@ use Rattle.tplg_plan.specs.Sound.{IsControlOf}
 use Rattle.host_widgets.specs.declared.answers.Answer.TheVariants as answers
 use Rattle.host_widgets.specs.declared.kept.ControlRec.{ControlRec}
 use Rattle.host_widgets.specs.ActMessages.{set_message}
-use Rattle.host_widgets.specs.ViewOf.{setting_by}
+use Rattle.host_widgets.specs.ViewOf.{record_setting}
 use Rattle.host_widgets.proofs.ControlLists.{takes-by}
 use Rattle.host_widgets.proofs.GreatestGains.{AreGains, gains-are, gains-pass}
 use Rattle.host_widgets.proofs.LookedUp.{any-found}
 use Rattle.host_widgets.proofs.PartFacts.{none-empty}
-use Rattle.host_ctl.specs.ControlOrders.{MaySet, command_of, said_by, set_at}
+use Rattle.host_ctl.specs.ControlOrders.{MaySet, value_command, control_answer, setting_answer}
 use Rattle.host_ctl.proofs.ControlsThere.{Was}
 
 -- a control of an id
@@ -64,7 +64,7 @@ gains-new gs vs same are =
 module _ (f : FwState) (id : ℕ) (x : Comp) (there : comp_of f.graph id ≡ Some x) (c : ControlRec) where
   -- the component of a control that the record is of
   abbrev Shown : ControlKind → Type 0
-  Shown q = IsControlOf q x.kind × (x.setting ≡ setting_by x.kind (Some (control id q, c))) × Was (control id q) c
+  Shown q = IsControlOf q x.kind × (x.setting ≡ record_setting x.kind (Some (control id q, c))) × Was (control id q) c
 
   -- values that may be set are taken
   pub put-answers : (q : ControlKind) (values : List ℕ) → Shown q → MaySet q values → (next : FwState) × (row f (set_message id values q) ≡ Ok next)
@@ -85,7 +85,7 @@ module _ (f : FwState) (id : ℕ) (x : Comp) (there : comp_of f.graph id ≡ Som
       new : fw.new_setting x.kind x.setting 0 gains ≡ Some (settings.Gains gains)
       new =
           ap (λ (s : Setting). fw.new_setting x.kind s 0 gains) is
-          ∙ ap (λ (kind : Kind). fw.new_setting kind (setting_by kind (Some (control id q, c))) 0 gains) of.0
+          ∙ ap (λ (kind : Kind). fw.new_setting kind (record_setting kind (Some (control id q, c))) 0 gains) of.0
           ∙ gains-new old gains long (gains-are q values)
   put-answers (Choice items) values (of, is, was) may =
       let v = (may [] refl).0 in
@@ -98,34 +98,34 @@ module _ (f : FwState) (id : ℕ) (x : Comp) (there : comp_of f.graph id ≡ Som
 
   -- ---- GET_VALUE
 
-  read-by : (command : ℕ) (vs : List ℕ) → fw.values_by x.kind x.setting command ≡ Some vs → fw.values_at f.graph id command ≡ Some vs
-  read-by command vs is = ap (option_and_then (λ (c : Comp). fw.values_by c.kind c.setting command)) there ∙ is
+  read-by : (command : ℕ) (vs : List ℕ) → fw.control_values x.kind x.setting command ≡ Some vs → fw.control_values_at f.graph id command ≡ Some vs
+  read-by command vs is = ap (option_and_then (λ (c : Comp). fw.control_values c.kind c.setting command)) there ∙ is
 
   one-value : (values : List ℕ) → (v : ℕ) × (values ≡ v ∷ []) × (v ≤ 16777216) → get_or values 0 0 ∷ [] ≡ values
   one-value values (v, is, low) = ap (λ (vs : List ℕ). get_or vs 0 0 ∷ []) is ∙ sym is
 
-  pub values-at : (q : ControlKind) (command : ℕ) → Shown q → command_of q ≡ Some command → fw.values_at f.graph id command ≡ Some (values_by c q)
+  pub values-at : (q : ControlKind) (command : ℕ) → Shown q → value_command q ≡ Some command → fw.control_values_at f.graph id command ≡ Some (values_by c q)
   values-at (Volume min max channels lowest step mute) command (of, is, was) at =
       let zero_is : 0 ≡ command = cc at in
       let q : ControlKind = Volume min max channels lowest step mute in
-      subst (λ (n : ℕ). fw.values_at f.graph id n ≡ Some (values_by c q)) zero_is
-      (read-by 0 (values_by c q) (ap (λ (s : Setting). fw.values_by x.kind s 0) is ∙ ap (λ (kind : Kind). fw.values_by kind (setting_by kind (Some (control id q, c))) 0) of.0))
+      subst (λ (n : ℕ). fw.control_values_at f.graph id n ≡ Some (values_by c q)) zero_is
+      (read-by 0 (values_by c q) (ap (λ (s : Setting). fw.control_values x.kind s 0) is ∙ ap (λ (kind : Kind). fw.control_values kind (record_setting kind (Some (control id q, c))) 0) of.0))
   values-at (Choice items) command (of, is, was) at =
       let one_is : 1 ≡ command = cc at in
-      subst (λ (n : ℕ). fw.values_at f.graph id n ≡ Some c.values) one_is
+      subst (λ (n : ℕ). fw.control_values_at f.graph id n ≡ Some c.values) one_is
       (read-by 1 c.values
-      (ap (λ (s : Setting). fw.values_by x.kind s 1) is ∙ ap (λ (kind : Kind). fw.values_by kind (setting_by kind (Some (control id (Choice items), c))) 1) of.0 ∙ ap Some (one-value c.values (takes-by (Choice items) x.kind c of was))))
+      (ap (λ (s : Setting). fw.control_values x.kind s 1) is ∙ ap (λ (kind : Kind). fw.control_values kind (record_setting kind (Some (control id (Choice items), c))) 1) of.0 ∙ ap Some (one-value c.values (takes-by (Choice items) x.kind c of was))))
   values-at (Blob most initial) command shown at = absurd (cc at)
 
   -- one that asks leaves the state
-  pub asked-answers : (command : ℕ) (vs : List ℕ) → fw.values_at f.graph id command ≡ Some vs → row f (GetValue id command) ≡ Ok f
-  asked-answers command vs at = by (is_used f.graph id) (fw.values_at f.graph id command) (used-comp f.graph id x there) at
+  pub asked-answers : (command : ℕ) (vs : List ℕ) → fw.control_values_at f.graph id command ≡ Some vs → row f (GetValue id command) ≡ Ok f
+  asked-answers command vs at = by (is_used f.graph id) (fw.control_values_at f.graph id command) (used-comp f.graph id x there) at
     where
       by : (b : Bool) (o : Option (List ℕ)) → b ≡ true → o ≡ Some vs → cond (not b) (Err no_device) (cond (not (is_some o)) (Err invalid) (Ok f)) ≡ Ok f
       by b o used is = rw (used, is) refl
 
   -- the values are gains or choices, as many as a reply takes
-  pub values-fit : (q : ControlKind) (command : ℕ) → Shown q → command_of q ≡ Some command → AreGains (values_by c q) × (1 ≤ length (values_by c q)) × (length (values_by c q) ≤ 8)
+  pub values-fit : (q : ControlKind) (command : ℕ) → Shown q → value_command q ≡ Some command → AreGains (values_by c q) × (1 ≤ length (values_by c q)) × (length (values_by c q) ≤ 8)
   values-fit (Volume min max channels lowest step mute) command (of, is, was) at =
       let q : ControlKind = Volume min max channels lowest step mute in
       let long : length (values_by c q) ≡ channels = length-map c.values (control_gain q) ∙ takes-by q x.kind c of was in
@@ -137,9 +137,9 @@ module _ (f : FwState) (id : ℕ) (x : Comp) (there : comp_of f.graph id ≡ Som
   values-fit (Blob most initial) command shown at = absurd (cc at)
 
   -- what is set there is what is said of it
-  pub set-said : (q : ControlKind) → Shown q → set_at x.setting ≡ said_by q c
-  set-said (Volume min max channels lowest step mute) (of, is, was) = ap set_at (is ∙ ap (λ (kind : Kind). setting_by kind (Some (control id (Volume min max channels lowest step mute), c))) of.0)
+  pub set-said : (q : ControlKind) → Shown q → setting_answer x.setting ≡ control_answer q c
+  set-said (Volume min max channels lowest step mute) (of, is, was) = ap setting_answer (is ∙ ap (λ (kind : Kind). record_setting kind (Some (control id (Volume min max channels lowest step mute), c))) of.0)
   set-said (Choice items) (of, is, was) =
-      ap set_at (is ∙ ap (λ (kind : Kind). setting_by kind (Some (control id (Choice items), c))) of.0)
+      ap setting_answer (is ∙ ap (λ (kind : Kind). record_setting kind (Some (control id (Choice items), c))) of.0)
       ∙ ap answers.Values (one-value c.values (takes-by (Choice items) x.kind c of was))
-  set-said (Blob most initial) (of, is, was) = ap set_at (is ∙ ap (λ (kind : Kind). setting_by kind (Some (control id (Blob most initial), c))) of.0)
+  set-said (Blob most initial) (of, is, was) = ap setting_answer (is ∙ ap (λ (kind : Kind). record_setting kind (Some (control id (Blob most initial), c))) of.0)

@@ -25,8 +25,8 @@ use Rattle.host_widgets.specs.declared.kept.Record.{Record}
 use Rattle.host_widgets.specs.declared.kept.ControlRec.{ControlRec}
 use Rattle.host_widgets.specs.Kept.{changed, control_at, with_control}
 use Rattle.host_widgets.specs.HostActs.{Put, after, with_values}
-use Rattle.host_widgets.specs.ActMessages.{message_of, set_message, put_message}
-use Rattle.host_widgets.specs.ViewOf.{view_by, set_comp, setting_by}
+use Rattle.host_widgets.specs.ActMessages.{act_message, set_message, put_message}
+use Rattle.host_widgets.specs.ViewOf.{record_view, set_comp, record_setting}
 
 -- ---- controls, by component
 
@@ -69,19 +69,19 @@ abbrev pub AreKind : ℕ → Kind → List Comp → Type 0
 AreKind comp kind comps = AllByRecursion (λ (c : Comp). (c.id == comp) ≡ true → c.kind ≡ kind) comps
 
 module _ (plan : Plan) (kept : Record) (comp : ℕ) (g : ControlRec → ControlRec) (kind : Kind) (setting : Setting)
-    (at : setting_by kind (control_at plan (with_control plan comp g kept) comp) ≡ setting) where
+    (at : record_setting kind (control_at plan (with_control plan comp g kept) comp) ≡ setting) where
   abbrev now : Record
   now = with_control plan comp g kept
 
   one-set : (c : Comp) → ((c.id == comp) ≡ true → c.kind ≡ kind) → (b : Bool) → (c.id == comp) ≡ b → (if b then record (set_comp plan kept c) { setting = setting } else set_comp plan kept c) ≡ set_comp plan now c
   one-set c is_kind true same = λ i. record { id = c.id; kind = c.kind; pipe = c.pipe; setting = of_it i }
     where
-      of_it : setting ≡ setting_by c.kind (control_at plan now c.id)
-      of_it = sym at ∙ (λ i. setting_by (sym (is_kind same) i) (control_at plan now (same_id i)))
+      of_it : setting ≡ record_setting c.kind (control_at plan now c.id)
+      of_it = sym at ∙ (λ i. record_setting (sym (is_kind same) i) (control_at plan now (same_id i)))
         where
           same_id : comp ≡ c.id
           same_id = sym (eqb-true c.id comp same)
-  one-set c is_kind false other = λ i. record { id = c.id; kind = c.kind; pipe = c.pipe; setting = setting_by c.kind (sym (elsewhere-at comp g c.id other plan.controls kept.controls) i) }
+  one-set c is_kind false other = λ i. record { id = c.id; kind = c.kind; pipe = c.pipe; setting = record_setting c.kind (sym (elsewhere-at comp g c.id other plan.controls kept.controls) i) }
 
   pub all-set : (comps : List Comp) → AreKind comp kind comps → map (with_setting comp setting) (map (set_comp plan kept) comps) ≡ map (set_comp plan now) comps
   all-set [] are = refl
@@ -121,16 +121,16 @@ found-set plan kept id (c ∷ comps) = by (c.id == id) (found-set plan kept id c
     by true rest = refl
     by false rest = rest
 
-module _ (plan : Plan) (kept : Record) (f f' : FwState) (shows : view_of f ≡ view_by plan kept) (comp : ℕ) (values : List ℕ) (x : Comp) (there : comp_of plan.graph comp ≡ Some x) where
+module _ (plan : Plan) (kept : Record) (f f' : FwState) (shows : view_of f ≡ record_view plan kept) (comp : ℕ) (values : List ℕ) (x : Comp) (there : comp_of plan.graph comp ≡ Some x) where
   pub found : comp_of f.graph comp ≡ Some (set_comp plan kept x)
   found = ap (λ (v : View). comp_of v.graph comp) shows ∙ found-set plan kept comp plan.graph.comps ∙ ap (option_map (set_comp plan kept)) there
 
   abbrev pub now_put : Record
   now_put = after plan (Put comp values) kept
 
-  put-by : (command : ℕ) (vs : List ℕ) (kind : Kind) (want : Setting) → AreKind comp kind plan.graph.comps → x.kind ≡ kind → setting_by kind (control_at plan now_put comp) ≡ want →
+  put-by : (command : ℕ) (vs : List ℕ) (kind : Kind) (want : Setting) → AreKind comp kind plan.graph.comps → x.kind ≡ kind → record_setting kind (control_at plan now_put comp) ≡ want →
       ((s setting : Setting) → fw.new_setting kind s command vs ≡ Some setting → setting ≡ want) →
-      row f (SetValue comp command vs) ≡ Ok f' → view_of f' ≡ view_by plan now_put
+      row f (SetValue comp command vs) ≡ Ok f' → view_of f' ≡ record_view plan now_put
   put-by command vs kind want are kind_is at only done =
       let d = set-done (fw.is_used f.graph comp) f f' comp (option_and_then (λ (c : Comp). fw.new_setting c.kind c.setting command vs) (comp_of f.graph comp)) done in
       let s = (set_comp plan kept x).setting in
@@ -138,15 +138,15 @@ module _ (plan : Plan) (kept : Record) (f f' : FwState) (shows : view_of f ≡ v
       let want_is : d.0 ≡ want = only s d.0 (ap (λ (k : Kind). fw.new_setting k s command vs) (sym kind_is) ∙ is) in
       d.2
       ∙ (λ i. record { graph = with_comps (map (with_setting comp (want_is i)) (shows i).graph.comps) (shows i).graph; streams = (shows i).streams })
-      ∙ (λ i. record { graph = with_comps (all-set plan kept comp (with_values values) kind want at plan.graph.comps are i) plan.graph; streams = (view_by plan kept).streams })
+      ∙ (λ i. record { graph = with_comps (all-set plan kept comp (with_values values) kind want at plan.graph.comps are i) plan.graph; streams = (record_view plan kept).streams })
 
   -- the record of the control, once it has the values
-  at-now : (kind : Kind) (k : ControlPlan) (c : ControlRec) → control_at plan kept comp ≡ Some (k, c) → setting_by kind (control_at plan now_put comp) ≡ setting_by kind (Some (k, with_values values c))
-  at-now kind k c at = ap (setting_by kind) (there-at comp (with_values values) plan.controls kept.controls ∙ ap (option_map (changed_pair comp (with_values values))) at)
+  at-now : (kind : Kind) (k : ControlPlan) (c : ControlRec) → control_at plan kept comp ≡ Some (k, c) → record_setting kind (control_at plan now_put comp) ≡ record_setting kind (Some (k, with_values values c))
+  at-now kind k c at = ap (record_setting kind) (there-at comp (with_values values) plan.controls kept.controls ∙ ap (option_map (changed_pair comp (with_values values))) at)
 
   -- values that the firmware takes are shown as the record says
   put-kind : (k : ControlKind) (c : ControlRec) → control_at plan kept comp ≡ Some (record { comp = comp; kind = k }, c) → AreKind comp x.kind plan.graph.comps → IsControlOf k x.kind →
-      row f (set_message comp values k) ≡ Ok f' → view_of f' ≡ view_by plan now_put
+      row f (set_message comp values k) ≡ Ok f' → view_of f' ≡ record_view plan now_put
   put-kind (controls.Volume min max channels lowest step mute) c at are live done =
       let k : ControlKind = controls.Volume min max channels lowest step mute in
       put-by 0 (map (control_gain k) values) kinds.Volume (settings.Gains (map (control_gain k) values))
@@ -157,9 +157,9 @@ module _ (plan : Plan) (kept : Record) (f f' : FwState) (shows : view_of f ≡ v
       (subst (λ (kind : Kind). AreKind comp kind plan.graph.comps) live.0 are) live.0 (at-now kinds.Mux (record { comp = comp; kind = controls.Choice items }) c at)
       (λ s setting is. mux-setting s values setting is) done
   put-kind (controls.Blob most initial) c at are live done =
-      put-by 0 (map (control_gain (controls.Blob most initial)) values) kinds.Eq (setting_by kinds.Eq (control_at plan now_put comp))
+      put-by 0 (map (control_gain (controls.Blob most initial)) values) kinds.Eq (record_setting kinds.Eq (control_at plan now_put comp))
       (subst (λ (kind : Kind). AreKind comp kind plan.graph.comps) live.0 are) live.0 refl (λ s setting is. absurd (cc is)) done
 
   pub put-shows : (k : ControlKind) (c : ControlRec) → control_at plan kept comp ≡ Some (record { comp = comp; kind = k }, c) → control_of plan comp ≡ Some (record { comp = comp; kind = k }) →
-      AreKind comp x.kind plan.graph.comps → IsControlOf k x.kind → row f (message_of plan (Put comp values)) ≡ Ok f' → view_of f' ≡ view_by plan now_put
+      AreKind comp x.kind plan.graph.comps → IsControlOf k x.kind → row f (act_message plan (Put comp values)) ≡ Ok f' → view_of f' ≡ record_view plan now_put
   put-shows k c at of are live done = put-kind k c at are live (ap (λ (o : Option ControlPlan). row f (put_message comp values o)) (sym of) ∙ done)

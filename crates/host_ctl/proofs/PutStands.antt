@@ -25,7 +25,7 @@ use Rattle.tplg_plan.specs.declared.plans.ControlPlan.{ControlPlan}
 use Rattle.host_widgets.specs.declared.kept.Record.{Record}
 use Rattle.host_widgets.specs.declared.kept.ControlRec.{ControlRec}
 use Rattle.host_widgets.specs.Kept.{control_at, with_control}
-use Rattle.host_widgets.specs.ViewOf.{view_by, graph_by, set_comp, setting_by}
+use Rattle.host_widgets.specs.ViewOf.{record_view, graph_by, set_comp, record_setting}
 use Rattle.host_widgets.specs.Host.{IsRecordOf, AreControls}
 use Rattle.host_ctl.proofs.PutShows.{found-set, there-at, elsewhere-at}
 use Rattle.host_widgets.proofs.ActsStand.{all-have}
@@ -61,10 +61,10 @@ module _ (plan : Plan) (kept : Record) (comp : ℕ) (g : ControlRec → ControlR
   now = with_control plan comp g kept
 
   abbrev old_view : View
-  old_view = view_by plan kept
+  old_view = record_view plan kept
 
   abbrev new_view : View
-  new_view = view_by plan now
+  new_view = record_view plan now
 
   same-way : on_way new_view.graph ≡ on_way old_view.graph
   same-way = λ i host x. (way-by plan now host x ∙ sym (way-by plan kept host x)) i
@@ -106,7 +106,7 @@ module _ (plan : Plan) (kept : Record) (comp : ℕ) (g : ControlRec → ControlR
 
   module _ (keeps_blob : (c : ControlRec) → (g c).blob ≡ c.blob) where
     -- blobs stay
-    blob-by : (kind : Kind) (o : Option (ControlPlan × ControlRec)) → blob (setting_by kind (option_map (λ (p : ControlPlan × ControlRec). (p.0, g p.1)) o)) ≡ blob (setting_by kind o)
+    blob-by : (kind : Kind) (o : Option (ControlPlan × ControlRec)) → blob (record_setting kind (option_map (λ (p : ControlPlan × ControlRec). (p.0, g p.1)) o)) ≡ blob (record_setting kind o)
     blob-by kinds.Eq (Some (k, c)) = keeps_blob c
     blob-by kinds.Eq None = refl
     blob-by kinds.Volume (Some (k, c)) = refl
@@ -119,13 +119,13 @@ module _ (plan : Plan) (kept : Record) (comp : ℕ) (g : ControlRec → ControlR
     blob-by (kinds.DaiCapture format) o = refl
     blob-by kinds.Mixer o = refl
 
-    blob-set : (kind : Kind) (id : ℕ) → blob (setting_by kind (control_at plan now id)) ≡ blob (setting_by kind (control_at plan kept id))
+    blob-set : (kind : Kind) (id : ℕ) → blob (record_setting kind (control_at plan now id)) ≡ blob (record_setting kind (control_at plan kept id))
     blob-set kind id = by (id == comp) refl
       where
-        by : (b : Bool) → (id == comp) ≡ b → blob (setting_by kind (control_at plan now id)) ≡ blob (setting_by kind (control_at plan kept id))
-        by true is = subst (λ (x : ℕ). blob (setting_by kind (control_at plan now x)) ≡ blob (setting_by kind (control_at plan kept x))) (sym (eqb-true id comp is))
-            (ap (λ (o : Option (ControlPlan × ControlRec)). blob (setting_by kind o)) (there-at comp g plan.controls kept.controls) ∙ blob-by kind (control_at plan kept comp))
-        by false is = ap (λ (o : Option (ControlPlan × ControlRec)). blob (setting_by kind o)) (elsewhere-at comp g id is plan.controls kept.controls)
+        by : (b : Bool) → (id == comp) ≡ b → blob (record_setting kind (control_at plan now id)) ≡ blob (record_setting kind (control_at plan kept id))
+        by true is = subst (λ (x : ℕ). blob (record_setting kind (control_at plan now x)) ≡ blob (record_setting kind (control_at plan kept x))) (sym (eqb-true id comp is))
+            (ap (λ (o : Option (ControlPlan × ControlRec)). blob (record_setting kind o)) (there-at comp g plan.controls kept.controls) ∙ blob-by kind (control_at plan kept comp))
+        by false is = ap (λ (o : Option (ControlPlan × ControlRec)). blob (record_setting kind o)) (elsewhere-at comp g id is plan.controls kept.controls)
 
     blobs : (c : ℕ) → blob_in new_view c ≡ blob_in old_view c
     blobs c =

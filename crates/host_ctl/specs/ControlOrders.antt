@@ -25,7 +25,7 @@ use Rattle.host_widgets.specs.Kept.{control_at, with_control}
 use Rattle.mbox_link.specs.BlobParts.{part_numbers}
 use Rattle.host_widgets.specs.HostActs.{Act, Put, Ask, with_values, with_blob}
 use Rattle.host_widgets.specs.ActLists.{part_acts}
-use Rattle.host_widgets.specs.Host.{Outcome, IsSet}
+use Rattle.host_widgets.specs.Host.{Outcome, IsControlSet}
 use Rattle.host_widgets.specs.Orders.{Order, quiet, sends}
 use Rattle.host_widgets.specs.ActCalls.{ActsSent}
 use Rattle.host_widgets.specs.ActCarried.{PlainEnd}
@@ -62,23 +62,23 @@ abbrev pub told_by : ControlKind → ControlRec → Answer
 told_by (Blob most initial) c = answers.Bytes c.blob
 told_by kind c = answers.Values c.values
 
-abbrev pub told : Option (ControlPlan × ControlRec) → Answer
-told None = answers.Done
-told (Some (k, c)) = told_by k.kind c
+abbrev pub control_told : Option (ControlPlan × ControlRec) → Answer
+control_told None = answers.Done
+control_told (Some (k, c)) = told_by k.kind c
 
 -- the control of a name, with its record
 abbrev pub named_at : Plan → Record → List ℕ → Option (ControlPlan × ControlRec)
 named_at plan kept name = option_and_then (λ (k : ControlPlan). control_at plan kept k.comp) (named_control plan name)
 
 abbrev pub get_order : Plan → Record → List ℕ → Order
-get_order plan kept name = quiet (told (named_at plan kept name))
+get_order plan kept name = quiet (control_told (named_at plan kept name))
 
 -- ---- read: what the firmware says, by the record: a volume's gains, a mux's choice, an equaliser's blob
 
-abbrev pub said_by : ControlKind → ControlRec → Answer
-said_by (Volume min max channels lowest step mute) c = answers.Values (map (control_gain (Volume min max channels lowest step mute)) c.values)
-said_by (Choice items) c = answers.Values c.values
-said_by (Blob most initial) c = answers.Bytes c.blob
+abbrev pub control_answer : ControlKind → ControlRec → Answer
+control_answer (Volume min max channels lowest step mute) c = answers.Values (map (control_gain (Volume min max channels lowest step mute)) c.values)
+control_answer (Choice items) c = answers.Values c.values
+control_answer (Blob most initial) c = answers.Bytes c.blob
 
 -- a volume or a mux is asked once, and an equaliser for each part of its blob
 abbrev pub ask_acts : ℕ → ControlKind → ControlRec → List Act
@@ -87,16 +87,16 @@ ask_acts comp kind c = Ask comp 0 ∷ []
 
 abbrev pub reading_order : Record → Option (ControlPlan × ControlRec) → Order
 reading_order kept None = quiet answers.Done
-reading_order kept (Some (k, c)) = sends kept.power (ask_acts k.comp k.kind c) (λ now. now) (said_by k.kind c)
+reading_order kept (Some (k, c)) = sends kept.power (ask_acts k.comp k.kind c) (λ now. now) (control_answer k.kind c)
 
 abbrev pub read_order : Plan → Record → List ℕ → Order
 read_order plan kept name = reading_order kept (named_at plan kept name)
 
 -- the command by which they are asked for; an equaliser has none
-abbrev pub command_of : ControlKind → Option ℕ
-command_of (Volume min max channels lowest step mute) = Some 0
-command_of (Choice items) = Some 1
-command_of (Blob most initial) = None
+abbrev pub value_command : ControlKind → Option ℕ
+value_command (Volume min max channels lowest step mute) = Some 0
+value_command (Choice items) = Some 1
+value_command (Blob most initial) = None
 
 -- the values that a reply carries
 abbrev pub carried_by : Body → Answer
@@ -109,15 +109,15 @@ with_part [] part = part.header ++ part.bytes
 with_part (b ∷ bytes) part = (b ∷ bytes) ++ part.bytes
 
 -- what is set at a component of the firmware
-abbrev pub set_at : Setting → Answer
-set_at settings.Nothing = answers.Done
-set_at (settings.Gains gains) = answers.Values gains
-set_at (settings.Choice k) = answers.Values (k ∷ [])
-set_at (settings.Blob blob) = answers.Bytes blob
+abbrev pub setting_answer : Setting → Answer
+setting_answer settings.Nothing = answers.Done
+setting_answer (settings.Gains gains) = answers.Values gains
+setting_answer (settings.Choice k) = answers.Values (k ∷ [])
+setting_answer (settings.Blob blob) = answers.Bytes blob
 
 -- what the firmware has of the control of a name
 abbrev pub firmware_has : Plan → List ℕ → FwState → Option Answer
-firmware_has plan name f = option_and_then (λ (k : ControlPlan). option_map (λ (c : Comp). set_at c.setting) (comp_of f.graph k.comp)) (named_control plan name)
+firmware_has plan name f = option_and_then (λ (k : ControlPlan). option_map (λ (c : Comp). setting_answer c.setting) (comp_of f.graph k.comp)) (named_control plan name)
 
 -- a firmware that is on has this there
 abbrev pub Shows : Plan → List ℕ → Answer → Option FwState → Type 0
@@ -133,7 +133,7 @@ outcome_of (Err fault) = Err fault
 
 -- a record with them is one that is set; no blob goes with them
 abbrev pub MaySet : ControlKind → List ℕ → Type 0
-MaySet kind values = (blob : List ℕ) → blob ≡ [] → IsSet kind (record { values = values; blob = blob })
+MaySet kind values = (blob : List ℕ) → blob ≡ [] → IsControlSet kind (record { values = values; blob = blob })
 
 -- ---- bytes that a call may set: a blob that is not longer than an equaliser takes
 

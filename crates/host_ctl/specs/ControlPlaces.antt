@@ -26,8 +26,8 @@ abbrev pub record_here : Record → ℕ → ControlRec
 record_here kept place = get_or kept.controls place no_values
 
 -- the record with other values at a place
-abbrev pub with_place : ℕ → List ℕ → Record → Record
-with_place place values kept =
+abbrev pub with_values_at : ℕ → List ℕ → Record → Record
+with_values_at place values kept =
     record { power = kept.power; streams = kept.streams; controls = set kept.controls place (with_values values (record_here kept place)) }
 
 -- and with another blob there

@@ -16,7 +16,7 @@ ghost use Rattle.host_widgets.specs.ActCarried.{ActCarried};
 ghost use Rattle.host_ctl.specs.ControlAsks as asks;
 ghost use Rattle.host_ctl.specs.ControlOrders as orders;
 ghost use Rattle.host_ctl.specs.ControlOrders.{MaySet, MayInstall, HasBlob, PartsPass, is_lost};
-ghost use Rattle.host_ctl.specs.ControlPlaces.{control_here, record_here, with_place, with_blob_here};
+ghost use Rattle.host_ctl.specs.ControlPlaces.{control_here, record_here, with_values_at, with_blob_here};
 
 use crate::asking::channels_of;
 use arrayvec::ArrayVec;
@@ -61,7 +61,7 @@ pub fn all_values(kind: &ControlKind, values: &[u32]) -> Bounded<u32, 8>
 // The control at a place has these values in the record.
 fn keep(kept: &mut Record, place: usize, values: &Bounded<u32, 8>)
     requires { place < length kept.old.controls }
-    ensures { kept.new ≡ with_place place values.now kept.old }
+    ensures { kept.new ≡ with_values_at place values.now kept.old }
 {
     let blob = kept.controls.items()[place].blob.copied();
     kept.controls.put(
@@ -262,10 +262,10 @@ fn ask<P: Dsp>(
     requires room { HasRoom (61440 * P.means.pending dsp.old) out.old }
     requires power { kept.old.power ≡ Power.On }
     requires place { place < length plan.now.controls }
-    requires command { orders.command_of (control_here plan.now place).kind ≡ Some command }
+    requires command { orders.value_command (control_here plan.now place).kind ≡ Some command }
     ensures act { ActCarried P.means plan.now heap (acts.Ask (control_here plan.now place).comp 0) kept.old kept.new
         (world dsp.old io.old out.old) (world dsp.new io.new out.new) (orders.outcome_of result) }
-    ensures answered { IfOk result (λ a. a ≡ orders.said_by (control_here plan.now place).kind (record_here kept.old place)) }
+    ensures answered { IfOk result (λ a. a ≡ orders.control_answer (control_here plan.now place).kind (record_here kept.old place)) }
     ensures still { IfOk result (λ a. kept.new ≡ kept.old) }
     ensures agree { Agrees P.means plan.now kept.new dsp.new }
 {
@@ -386,7 +386,7 @@ fn ask_parts<P: Dsp>(
     requires kind { HasBlob (control_here plan.now place).kind }
     ensures carried { Carried P.means plan.now heap (orders.reading_order kept.old (Some (control_here plan.now place, record_here kept.old place))) kept.old kept.new
         (world dsp.old io.old out.old) (world dsp.new io.new out.new) (orders.outcome_of result) }
-    ensures answered { IfOk result (λ a. a ≡ orders.said_by (control_here plan.now place).kind (record_here kept.old place)) }
+    ensures answered { IfOk result (λ a. a ≡ orders.control_answer (control_here plan.now place).kind (record_here kept.old place)) }
     ensures still { IfOk result (λ a. kept.new ≡ kept.old) }
     ensures agree { Agrees P.means plan.now kept.new dsp.new }
 {
@@ -413,7 +413,7 @@ pub fn read<P: Dsp>(
     requires place { place < length plan.now.controls }
     ensures carried { Carried P.means plan.now heap (orders.reading_order kept.old (Some (control_here plan.now place, record_here kept.old place))) kept.old kept.new
         (world dsp.old io.old out.old) (world dsp.new io.new out.new) (orders.outcome_of result) }
-    ensures answered { IfOk result (λ a. a ≡ orders.said_by (control_here plan.now place).kind (record_here kept.old place)) }
+    ensures answered { IfOk result (λ a. a ≡ orders.control_answer (control_here plan.now place).kind (record_here kept.old place)) }
     ensures still { IfOk result (λ a. kept.new ≡ kept.old) }
     ensures agree { Agrees P.means plan.now kept.new dsp.new }
 {

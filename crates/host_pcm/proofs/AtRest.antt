@@ -29,8 +29,8 @@ use Rattle.host_widgets.proofs.StreamRows.{AllAt}
 use Rattle.host_widgets.proofs.StreamPlaces.{place-all}
 use Rattle.host_widgets.proofs.RecordsStay.{may, Less, record-less}
 use Rattle.host_pcm.specs.declared.asking.Ask.TheVariants.{Opening, Closing}
-use Rattle.host_pcm.specs.Asks.{stream_at, is_closed, with_place}
-use Rattle.host_pcm.specs.StreamOrders.{host_at, place_order, opened, shut}
+use Rattle.host_pcm.specs.Asks.{stream_at, is_closed, with_stream_at}
+use Rattle.host_pcm.specs.StreamOrders.{host_at, place_order, opened_stream, shut}
 use Rattle.host_widgets.proofs.PlainOrders.{plain, no-acts}
 use Rattle.host_pcm.proofs.Places.{place-changed}
 
@@ -145,16 +145,16 @@ module _ {D : Type 0} (means : Meaning D) (plan : Plan) (sound : IsSound plan) (
           (loaded kept.power up);
     }
 
-    pub rest-agrees : Agrees means plan (with_place k c kept) w.device
+    pub rest-agrees : Agrees means plan (with_stream_at k c kept) w.device
     rest-agrees = subst (λ (r : Record). Agrees means plan r w.device) (sym (place-changed plan sound k within (λ r. c) kept agrees.record_is.streams)) agrees-later
 
   abbrev CarriedSo : Order → Record → Type 0
   CarriedSo order kept' = Carried means plan heap order kept kept' w w (Ok tt)
 
   -- an opening sends nothing
-  pub open-carried : CarriedSo (place_order plan kept k Opening) (with_place k (opened closed) kept)
-  open-carried = subst (λ (o : Order). CarriedSo o (with_place k (opened closed) kept)) (sym (sends-none kept.power (with_stream plan (host_at plan k) opened)))
-      (no-acts means plan heap (with_stream plan (host_at plan k) opened) kept (with_place k (opened closed) kept) w (place-changed plan sound k within opened kept agrees.record_is.streams))
+  pub open-carried : CarriedSo (place_order plan kept k Opening) (with_stream_at k (opened_stream closed) kept)
+  open-carried = subst (λ (o : Order). CarriedSo o (with_stream_at k (opened_stream closed) kept)) (sym (sends-none kept.power (with_stream plan (host_at plan k) opened_stream)))
+      (no-acts means plan heap (with_stream plan (host_at plan k) opened_stream) kept (with_stream_at k (opened_stream closed) kept) w (place-changed plan sound k within opened_stream kept agrees.record_is.streams))
 
   -- nor does a closing of a stream without parameters, or while the power is off
   close-order : (kept.power ≡ On → is_idle (stream_at kept k).found ≡ true) → place_order plan kept k Closing ≡ plain [] (with_stream plan (host_at plan k) shut)
@@ -164,9 +164,9 @@ module _ {D : Type 0} (means : Meaning D) (plan : Plan) (sound : IsSound plan) (
       (λ off. ap (λ (p : Power). sends p (close_by (host_at plan k) (stream_at kept k).found) (with_stream plan (host_at plan k) shut) Done) off)
       (loaded kept.power up)
 
-  pub close-carried : (kept.power ≡ On → is_idle (stream_at kept k).found ≡ true) → CarriedSo (place_order plan kept k Closing) (with_place k closed kept)
-  close-carried was = subst (λ (o : Order). CarriedSo o (with_place k closed kept)) (sym (close-order was))
-      (no-acts means plan heap (with_stream plan (host_at plan k) shut) kept (with_place k closed kept) w (place-changed plan sound k within shut kept agrees.record_is.streams))
+  pub close-carried : (kept.power ≡ On → is_idle (stream_at kept k).found ≡ true) → CarriedSo (place_order plan kept k Closing) (with_stream_at k closed kept)
+  close-carried was = subst (λ (o : Order). CarriedSo o (with_stream_at k closed kept)) (sym (close-order was))
+      (no-acts means plan heap (with_stream plan (host_at plan k) shut) kept (with_stream_at k closed kept) w (place-changed plan sound k within shut kept agrees.record_is.streams))
 
 -- ---- what the arms of a match know
 

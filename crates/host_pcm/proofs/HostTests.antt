@@ -13,7 +13,7 @@ use Rattle.host_widgets.specs.declared.kept.Power.TheVariants.{On, Off, Unloaded
 use Rattle.host_widgets.specs.declared.kept.Record.{Record}
 use Rattle.host_widgets.specs.Host.{Outcome}
 use Rattle.host_pcm.specs.declared.asking.Ask.{Ask}
-use Rattle.host_pcm.specs.Asks.{stream_place, takes, asks_for_power, range_fault, found_fault, power_fault, named_fault, early_fault, stream_at, caps_at}
+use Rattle.host_pcm.specs.Asks.{stream_place, takes_ask, asks_for_power, range_fault, found_fault, power_fault, named_fault, early_fault, stream_at, stream_caps}
 use Rattle.host_widgets.specs.HostRecord.{no_stream}
 use Rattle.host_widgets.specs.Orders.{Carried}
 use Rattle.host_pcm.specs.StreamOrders.{place_order, Asked}
@@ -22,7 +22,7 @@ use Rattle.host_pcm.specs.StreamOrders.{place_order, Asked}
 pub record Stood (caps : Caps) (ask : Ask) (found : Found) (power : Power) : Type 0 where
   pub up : power ≡ Unloaded → ⊥
   pub powered : asks_for_power ask ≡ true → power ≡ On
-  pub takes_it : takes ask found ≡ true
+  pub takes_it : takes_ask ask found ≡ true
   pub range : range_fault caps ask ≡ None
 
 tests : (t : Bool) (x : HostFault) (rest : Option HostFault) → cond (not t) (Some x) rest ≡ None → (t ≡ true) × (rest ≡ None)
@@ -36,11 +36,11 @@ off-tests false x rest is = (refl, is)
 stood : (caps : Caps) (ask : Ask) (found : Found) (power : Power) → loaded_fault power (power_fault caps ask found power) ≡ None → Stood caps ask found power
 stood caps ask found Unloaded is = absurd (cc is)
 stood caps ask found On is =
-    let both = tests (takes ask found) _ (range_fault caps ask) is in
+    let both = tests (takes_ask ask found) _ (range_fault caps ask) is in
     record { up = λ e. cc e; powered = λ asks. refl; takes_it = both.0; range = both.1 }
 stood caps ask found Off is =
     let first = off-tests (asks_for_power ask) _ (found_fault caps ask found) is in
-    let both = tests (takes ask found) _ (range_fault caps ask) first.1 in
+    let both = tests (takes_ask ask found) _ (range_fault caps ask) first.1 in
     record { up = λ e. cc e; powered = λ asks. absurd (cc (sym first.0 ∙ asks)); takes_it = both.0; range = both.1 }
 
 module _ (plan : Plan) (kept : Record) (name : List ℕ) (ask : Ask) where
@@ -49,7 +49,7 @@ module _ (plan : Plan) (kept : Record) (name : List ℕ) (ask : Ask) where
     pub place : stream_place plan name ≡ Some k
     pub none : early_fault plan kept name ask ≡ None
     pub within : k < length plan.streams
-    pub stood : Stood (caps_at plan k) ask (stream_at kept k).found kept.power
+    pub stood : Stood (stream_caps plan k) ask (stream_at kept k).found kept.power
 
   pub found_place : (r : Result ℕ HostFault) (k : ℕ) → IfOk r (λ k. stream_place plan name ≡ Some k) → IfOk r (λ k. early_fault plan kept name ask ≡ None) → r ≡ Ok k → Found_place k
   found_place r k place none is =
@@ -59,7 +59,7 @@ module _ (plan : Plan) (kept : Record) (name : List ℕ) (ask : Ask) where
         place = at;
         none = no;
         within = (position-Some (λ s. is_named plan name s.host) plan.streams k no_stream at).0;
-        stood = stood (caps_at plan k) ask (stream_at kept k).found kept.power (ap (λ (o : Option ℕ). loaded_fault kept.power (named_fault plan kept name ask o)) (sym at) ∙ no);
+        stood = stood (stream_caps plan k) ask (stream_at kept k).found kept.power (ap (λ (o : Option ℕ). loaded_fault kept.power (named_fault plan kept name ask o)) (sym at) ∙ no);
       }
 
   module _ {D : Type 0} (means : Meaning D) (heap : ℕ) (w : World D) where

@@ -14,12 +14,12 @@ use Rattle.host_widgets.specs.declared.kept.Record.{Record}
 use Rattle.host_widgets.specs.declared.trigger.Trigger.TheVariants.{Stop}
 use Rattle.host_widgets.specs.HostRecord.{closed}
 use Rattle.host_widgets.specs.Kept.{with_stream}
-use Rattle.host_widgets.specs.HostActs.{Act, Trig, Free, after, triggered}
+use Rattle.host_widgets.specs.HostActs.{Act, Trig, Free, after, triggered_stream}
 use Rattle.host_widgets.specs.ActLists.{close_by}
 use Rattle.host_widgets.specs.Host.{Outcome}
 use Rattle.host_widgets.specs.Orders.{Order, Carried, sends}
 use Rattle.host_pcm.specs.declared.asking.Ask.TheVariants.{Closing}
-use Rattle.host_pcm.specs.Asks.{stream_at, takes_trigger, with_place}
+use Rattle.host_pcm.specs.Asks.{stream_at, takes_trigger, with_stream_at}
 use Rattle.host_pcm.specs.StreamOrders.{host_at, place_order, shut}
 use Rattle.host_widgets.specs.ActCarried.{ActCarried}
 use Rattle.host_widgets.proofs.PlainOrders.{plain, ends-with, goes-on, passes-alone}
@@ -78,14 +78,14 @@ module _ {D : Type 0} (means : Meaning D) (plan : Plan) (heap : ℕ) where
       put-there (x ∷ rs) (suc i) r low = put-there rs i r (omega (arith, low))
 
       module _ (k1 : Record) (w m : World D) (first : ActCarried means plan heap (Trig (host_at plan k) Stop) kept k1 w m (Ok tt)) where
-        stopped : k1 ≡ with_place k (triggered Stop (stream_at kept k)) kept
-        stopped = first.ends.0 ∙ sym (place-changed plan sound k within (triggered Stop) kept long)
+        stopped : k1 ≡ with_stream_at k (triggered_stream Stop (stream_at kept k)) kept
+        stopped = first.ends.0 ∙ sym (place-changed plan sound k within (triggered_stream Stop) kept long)
 
         pub stopped-power : k1.power ≡ On
         stopped-power = ap (λ (r : Record). r.power) stopped ∙ on
 
         pub stopped-found : (stream_at k1 k).found ≡ Prepared
-        stopped-found = ap (λ (r : Record). (stream_at r k).found) stopped ∙ ap (λ (r : StreamRec). r.found) (put-there kept.streams k (triggered Stop (stream_at kept k)) (omega (arith, within, long)))
+        stopped-found = ap (λ (r : Record). (stream_at r k).found) stopped ∙ ap (λ (r : StreamRec). r.found) (put-there kept.streams k (triggered_stream Stop (stream_at kept k)) (omega (arith, within, long)))
 
         pub stop-then : (k2 : Record) (v : World D) (result : Outcome) → ActCarried means plan heap (Free (host_at plan k)) k1 k2 m v result → Carried means plan heap (place_order plan kept k Closing) kept k2 w v result
         stop-then k2 v result x =

@@ -14,7 +14,7 @@ use Rattle.host_widgets.specs.declared.kept.StreamRec.{StreamRec}
 use Rattle.host_widgets.specs.declared.kept.Record.{Record}
 use Rattle.host_widgets.specs.declared.trigger.Trigger.TheVariants.{Stop}
 use Rattle.host_widgets.specs.Kept.{changed}
-use Rattle.host_widgets.specs.HostActs.{Act, Prepare, Trig, Free, after, triggered}
+use Rattle.host_widgets.specs.HostActs.{Act, Prepare, Trig, Free, after, triggered_stream}
 use Rattle.host_widgets.specs.ActLists.{close_by}
 use Rattle.host_widgets.specs.Host.{IsRecordOf}
 use Rattle.host_widgets.proofs.ReadyWays.{has_host}
@@ -24,17 +24,17 @@ use Rattle.host_widgets.proofs.OneActLaws.{IsPlain, IsStreamAct, stream-taken}
 use Rattle.host_widgets.proofs.WalksHold.{AreTaken, none-taken, plainly-taken}
 use Rattle.host_pcm.specs.declared.asking.Ask.{Ask}
 use Rattle.host_pcm.specs.declared.asking.Ask.TheVariants.{Opening, Preparing, Triggering, Closing}
-use Rattle.host_pcm.specs.Asks.{stream_at, stream_place, caps_at, takes_trigger, takes_params, early_fault, named_fault}
+use Rattle.host_pcm.specs.Asks.{stream_at, stream_place, stream_caps, takes_trigger, takes_params, early_fault, named_fault}
 use Rattle.host_pcm.specs.StreamOrders.{host_at, asking_order, place_order, stream_order}
 use Rattle.host_pcm.proofs.HostTests.{Stood, found_place}
 use Rattle.host_pcm.proofs.StreamCalls.{ranges}
 use Rattle.host_pcm.proofs.StreamsTaken.{trig-is, free-is, prepare-is}
 
 -- a stream that was stopped is prepared
-all-stopped : (host : ℕ) (ss : List StreamPlan) (rs : List StreamRec) → AllAt (λ r. r.found ≡ Prepared) host ss (changed (λ (s : StreamPlan). s.host) host (triggered Stop) ss rs)
+all-stopped : (host : ℕ) (ss : List StreamPlan) (rs : List StreamRec) → AllAt (λ r. r.found ≡ Prepared) host ss (changed (λ (s : StreamPlan). s.host) host (triggered_stream Stop) ss rs)
 all-stopped host [] rs = tt
 all-stopped host (s ∷ ss) [] = tt
-all-stopped host (s ∷ ss) (r ∷ rs) = (λ here. ap (λ (b : Bool). (if b then triggered Stop r else r).found) here, all-stopped host ss rs)
+all-stopped host (s ∷ ss) (r ∷ rs) = (λ here. ap (λ (b : Bool). (if b then triggered_stream Stop r else r).found) here, all-stopped host ss rs)
 
 -- no act goes on after a refusal
 ends : {X : Type 0} → false ≡ true → X
@@ -74,11 +74,11 @@ module _ (plan : Plan) (sound : IsSound plan) (kept : Record) (is : IsRecordOf p
     close-taken Paused found = both-taken (ap (takes_trigger Stop) found)
 
     -- by what is asked, and the power
-    ask-taken : (ask : Ask) (power : Power) → Stood (caps_at plan k) ask (stream_at kept k).found kept.power → AreTaken plan false kept (asking_order plan (record { power = power; streams = kept.streams; controls = kept.controls }) host (stream_at kept k).found ask).acts
+    ask-taken : (ask : Ask) (power : Power) → Stood (stream_caps plan k) ask (stream_at kept k).found kept.power → AreTaken plan false kept (asking_order plan (record { power = power; streams = kept.streams; controls = kept.controls }) host (stream_at kept k).found ask).acts
     ask-taken Opening powers.On stood = none-taken plan false kept
     ask-taken Opening powers.Off stood = none-taken plan false kept
     ask-taken Opening powers.Unloaded stood = none-taken plan false kept
-    ask-taken (Preparing p) powers.On stood = alone (Prepare host p) tt (prepare-is plan sound kept is host some p (ranges (caps_at plan k) p stood.range) (at-host (λ r. takes_params r.found ≡ true) stood.takes_it))
+    ask-taken (Preparing p) powers.On stood = alone (Prepare host p) tt (prepare-is plan sound kept is host some p (ranges (stream_caps plan k) p stood.range) (at-host (λ r. takes_params r.found ≡ true) stood.takes_it))
     ask-taken (Preparing p) powers.Off stood = none-taken plan false kept
     ask-taken (Preparing p) powers.Unloaded stood = none-taken plan false kept
     ask-taken (Triggering what) powers.On stood = alone (Trig host what) tt (trig-is plan sound kept is host some what (at-host (λ r. takes_trigger what r.found ≡ true) stood.takes_it))

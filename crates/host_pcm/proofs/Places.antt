@@ -16,11 +16,11 @@ use Rattle.host_widgets.specs.Acts.{direction_by, direction_of}
 use Rattle.host_widgets.proofs.ChangedPlaces.{changed-at}
 use Rattle.host_widgets.proofs.NamedIds.{each-comp}
 use Rattle.host_widgets.proofs.StreamPlaces.{streams-ascend}
-use Rattle.host_pcm.specs.Asks.{stream_at, with_place}
+use Rattle.host_pcm.specs.Asks.{stream_at, with_stream_at}
 use Rattle.host_pcm.specs.StreamOrders.{host_at}
 
 module _ (plan : Plan) (sound : IsSound plan) (k : ℕ) (low : k < length plan.streams) (f : StreamRec → StreamRec) where
-  pub place-changed : (kept : Record) → length kept.streams ≡ length plan.streams → with_place k (f (stream_at kept k)) kept ≡ with_stream plan (host_at plan k) f kept
+  pub place-changed : (kept : Record) → length kept.streams ≡ length plan.streams → with_stream_at k (f (stream_at kept k)) kept ≡ with_stream plan (host_at plan k) f kept
   place-changed kept long =
       ap (λ (rs : List StreamRec). record { power = kept.power; streams = rs; controls = kept.controls })
       (changed-at (λ (s : StreamPlan). s.host) f no_stream closed plan.streams (streams-ascend plan sound) kept.streams k low (omega (arith, low, long)))

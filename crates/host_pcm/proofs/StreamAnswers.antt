@@ -10,7 +10,7 @@ use Rattle.stream_law.specs.declared.stream.StreamView.{StreamView}
 use Rattle.stream_law.specs.State.{FwState, view_of}
 use Rattle.stream_law.specs.Seen.{seen}
 use Rattle.mbox_link.specs.Step as fw
-use Rattle.mbox_link.specs.Step.{row, invalid, set_phase, set_stream, with_params, changed, is_rate}
+use Rattle.mbox_link.specs.Step.{row, invalid, set_phase, set_stream, with_params, stream_changed, is_rate}
 use Rattle.tplg_plan.specs.declared.plans.Plan.{Plan}
 use Rattle.tplg_plan.specs.declared.plans.StreamPlan.{StreamPlan}
 use Rattle.tplg_plan.specs.Sound.{IsSound}
@@ -24,9 +24,9 @@ use Rattle.host_widgets.specs.Host.{errno, conflicts}
 use Rattle.host_widgets.specs.declared.kept.Record.{Record}
 use Rattle.host_widgets.specs.Kept.{control_at}
 use Rattle.host_widgets.specs.HostActs.{Act, Prepare, Trig, Free, after}
-use Rattle.host_widgets.specs.ActMessages.{message_of}
+use Rattle.host_widgets.specs.ActMessages.{act_message}
 use Rattle.host_widgets.specs.OneAct.{own}
-use Rattle.host_widgets.specs.ViewOf.{view_by, setting_by}
+use Rattle.host_widgets.specs.ViewOf.{record_view, record_setting}
 use Rattle.host_widgets.specs.Host.{IsRecordOf}
 use Rattle.host_widgets.proofs.ActsShow.{trig-seen, free-seen, prepare-seen}
 use Rattle.host_pcm.specs.Asks.{takes_trigger, takes_params}
@@ -81,13 +81,13 @@ all-at So Is next host (s ∷ ss) [] so = tt
 all-at So Is next host (s ∷ ss) (r ∷ rs) so = (λ here. next r (so.0 here), all-at So Is next host ss rs so.1)
 
 -- The firmware shows a record of a sound plan. One of the plan's streams has this host.
-module _ (plan : Plan) (sound : IsSound plan) (kept : Record) (is : IsRecordOf plan kept) (f : FwState) (shows : view_of f ≡ view_by plan kept) (heap host : ℕ) (some : has_host plan.streams host ≡ true) where
+module _ (plan : Plan) (sound : IsSound plan) (kept : Record) (is : IsRecordOf plan kept) (f : FwState) (shows : view_of f ≡ record_view plan kept) (heap host : ℕ) (some : has_host plan.streams host ≡ true) where
   abbrev setting : Comp → Setting
-  setting c = setting_by c.kind (control_at plan kept c.id)
+  setting c = record_setting c.kind (control_at plan kept c.id)
 
   -- the row answers an act as the record says
   abbrev pub IsAnswered : Act → Type 0
-  IsAnswered act = row f (message_of plan act) ≡ answer_by (own plan heap kept act) (seen (view_by plan (after plan act kept)) None f)
+  IsAnswered act = row f (act_message plan act) ≡ answer_by (own plan heap kept act) (seen (record_view plan (after plan act kept)) None f)
 
   abbrev pub Stand : (StreamRec → Type 0) → Type 0
   Stand So = AllAt So host plan.streams kept.streams
@@ -96,7 +96,7 @@ module _ (plan : Plan) (sound : IsSound plan) (kept : Record) (is : IsRecordOf p
   abbrev changed_to : (StreamView → StreamView) → FwState
   changed_to to = seen (record { graph = f.graph; streams = map to f.streams }) None f
 
-  does : (from : Phase → Bool) (to : StreamView → StreamView) → Stand (λ r. from (phase_of r.found) ≡ true) → changed f host from to ≡ Ok (changed_to to)
+  does : (from : Phase → Bool) (to : StreamView → StreamView) → Stand (λ r. from (phase_of r.found) ≡ true) → stream_changed f host from to ≡ Ok (changed_to to)
   does from to all = changes plan sound setting kept.streams is.streams host some f shows from to all
 
   -- a trigger that the stream takes is done
@@ -122,10 +122,10 @@ module _ (plan : Plan) (sound : IsSound plan) (kept : Record) (is : IsRecordOf p
       next : FwState
       next = seen (with_params f host p) None f
 
-      whole : row f (message_of plan (Prepare host p)) ≡ (if list_any (conflicts plan host p) (zip plan.streams kept.streams) then Err invalid else Ok next)
+      whole : row f (act_message plan (Prepare host p)) ≡ (if list_any (conflicts plan host p) (zip plan.streams kept.streams) then Err invalid else Ok next)
       whole = prepares plan sound setting kept.streams is.streams host some f shows is.shapes p rate (all-at (λ r. takes_params r.found ≡ true) (λ r. fw.is_moving (phase_of r.found) ≡ false) (λ r. rests r.found) host plan.streams kept.streams all)
 
-      by : (b : Bool) → row f (message_of plan (Prepare host p)) ≡ (if b then Err invalid else Ok next) →
-          row f (message_of plan (Prepare host p)) ≡ answer_by (if b then Some (errno invalid) else None) (seen (view_by plan (after plan (Prepare host p) kept)) None f)
+      by : (b : Bool) → row f (act_message plan (Prepare host p)) ≡ (if b then Err invalid else Ok next) →
+          row f (act_message plan (Prepare host p)) ≡ answer_by (if b then Some (errno invalid) else None) (seen (record_view plan (after plan (Prepare host p) kept)) None f)
       by true row_is = row_is
       by false row_is = row_is ∙ ap Ok (prepare-seen plan kept f next shows host p row_is)

@@ -17,9 +17,9 @@ use Rattle.host_widgets.specs.declared.kept.Power.TheVariants.{On}
 use Rattle.host_widgets.specs.declared.kept.StreamRec.{StreamRec}
 use Rattle.host_widgets.specs.declared.kept.Record.{Record}
 use Rattle.host_widgets.specs.declared.trigger.Trigger.{Trigger}
-use Rattle.host_widgets.specs.HostRecord.{closed, no_stream, is_in_range}
-use Rattle.host_widgets.specs.HostActs.{Act, Prepare, Trig, Free, after, prepared, triggered, triggered_found}
-use Rattle.host_widgets.specs.ActMessages.{message_of}
+use Rattle.host_widgets.specs.HostRecord.{closed, no_stream, are_in_range}
+use Rattle.host_widgets.specs.HostActs.{Act, Prepare, Trig, Free, after, prepared_stream, triggered_stream, triggered_found}
+use Rattle.host_widgets.specs.ActMessages.{act_message}
 use Rattle.host_widgets.specs.Acts.{trigger_message}
 use Rattle.host_widgets.specs.Host.{Outcome, Agrees}
 use Rattle.host_widgets.proofs.ReadyWays.{has_host}
@@ -28,8 +28,8 @@ use Rattle.host_widgets.proofs.StreamPlaces.{place-has, place-all}
 use Rattle.host_widgets.proofs.OneActLaws.{IsStreamAct, stream-shown}
 use Rattle.host_widgets.proofs.ActsCome.{IsAnswered}
 use Rattle.host_pcm.specs.declared.asking.Ask.TheVariants.{Preparing}
-use Rattle.host_pcm.specs.Asks.{stream_at, takes_trigger, takes_params, range_fault, caps_at, with_place}
-use Rattle.host_pcm.specs.StreamRanges.{has_rate, has_channels, is_between}
+use Rattle.host_pcm.specs.Asks.{stream_at, takes_trigger, takes_params, range_fault, stream_caps, with_stream_at}
+use Rattle.host_pcm.specs.StreamRanges.{has_rate, has_channels, is_within}
 use Rattle.host_pcm.specs.StreamOrders.{host_at, shut}
 use Rattle.host_widgets.specs.ActCarried.{Passes, PlainEnd, ActCarried}
 use Rattle.host_widgets.proofs.ActSteps.{done, ended}
@@ -43,12 +43,12 @@ first-holds true x rest is = (refl, is)
 first-holds false x rest is = absurd (cc is)
 
 -- parameters that pass the tests are in range
-pub ranges : (caps : Caps) (p : Params) → range_fault caps (Preparing p) ≡ None → is_in_range p ≡ true
+pub ranges : (caps : Caps) (p : Params) → range_fault caps (Preparing p) ≡ None → are_in_range p ≡ true
 ranges caps p none =
     let rate = first-holds (has_rate caps p.rate) _ _ none in
     let channels = first-holds (has_channels caps p.channels) _ _ rate.1 in
-    let is_rate_so = (and_parts (is_rate p.rate) (is_between caps.rate_min caps.rate_max p.rate) rate.0).0 in
-    let few = (and_parts (is_between 1 8 p.channels) (is_between caps.channels_min caps.channels_max p.channels) channels.0).0 in
+    let is_rate_so = (and_parts (is_rate p.rate) (is_within caps.rate_min caps.rate_max p.rate) rate.0).0 in
+    let few = (and_parts (is_within 1 8 p.channels) (is_within caps.channels_min caps.channels_max p.channels) channels.0).0 in
     λ i. is_rate_so i && few i
 
 -- ---- an act at a place
@@ -67,9 +67,9 @@ module _ {D : Type 0} (means : Meaning D) (plan : Plan) (sound : IsSound plan) (
   Both act kept' v result = ActCarried means plan heap act kept kept' w v result × Agrees means plan kept' v.device
 
   -- an act whose record changes at the place
-  module _ (act : Act) (s : IsStreamAct plan kept act) (a : IsAnswered plan heap kept act) (change : StreamRec → StreamRec) (changes : with_place k (change (stream_at kept k)) kept ≡ after plan act kept)
-      (message : Message) (message-is : message ≡ message_of plan act) (kept' : Record) (v : World D) (result : Outcome) (x : Passes means heap (message_spelling message) kept kept' w v result) where
-    x' : Passes means heap (message_spelling (message_of plan act)) kept kept' w v result
+  module _ (act : Act) (s : IsStreamAct plan kept act) (a : IsAnswered plan heap kept act) (change : StreamRec → StreamRec) (changes : with_stream_at k (change (stream_at kept k)) kept ≡ after plan act kept)
+      (message : Message) (message-is : message ≡ act_message plan act) (kept' : Record) (v : World D) (result : Outcome) (x : Passes means heap (message_spelling message) kept kept' w v result) where
+    x' : Passes means heap (message_spelling (act_message plan act)) kept kept' w v result
     x' = subst (λ (m : Message). Passes means heap (message_spelling m) kept kept' w v result) message-is x
 
     -- nothing but the reply came so far
@@ -97,41 +97,41 @@ module _ {D : Type 0} (means : Meaning D) (plan : Plan) (sound : IsSound plan) (
     comes : IsAnswered plan heap kept (Trig host what)
     comes = trig-comes plan sound kept agrees.record_is host some heap what all-take
 
-    says : message ≡ message_of plan (Trig host what)
+    says : message ≡ act_message plan (Trig host what)
     says = message-is ∙ ap (λ (n : ℕ). trigger_message n what) h-is
 
-    changes : with_place k (triggered what (stream_at kept k)) kept ≡ after plan (Trig host what) kept
-    changes = place-changed plan sound k within (triggered what) kept agrees.record_is.streams
+    changes : with_stream_at k (triggered_stream what (stream_at kept k)) kept ≡ after plan (Trig host what) kept
+    changes = place-changed plan sound k within (triggered_stream what) kept agrees.record_is.streams
 
     pub trigger-done : result ≡ Ok tt → (item : StreamRec) → item ≡ record { found = triggered_found what; params = (stream_at kept k).params } → (streams : List StreamRec) → streams ≡ set kept'.streams k item → Both (Trig host what) (record { power = kept'.power; streams = streams; controls = kept'.controls }) v (Ok tt)
-    trigger-done = act-done (Trig host what) trig comes (triggered what) changes message says kept' v result x
+    trigger-done = act-done (Trig host what) trig comes (triggered_stream what) changes message says kept' v result x
 
     pub trigger-ended : (fault : HostFault) → result ≡ Err fault → Both (Trig host what) kept' v (Err fault)
-    trigger-ended = act-ended (Trig host what) trig comes (triggered what) changes message says kept' v result x
+    trigger-ended = act-ended (Trig host what) trig comes (triggered_stream what) changes message says kept' v result x
 
   -- ---- parameters
 
-  module _ (p : Params) (found : takes_params (stream_at kept k).found ≡ true) (range : range_fault (caps_at plan k) (Preparing p) ≡ None) (message : Message) (h direction : ℕ) (message-is : message ≡ PcmParams h direction p) (h-is : h ≡ host) (direction-is : direction ≡ (if (get_or plan.streams k no_stream).capture then 1 else 0)) (kept' : Record) (v : World D) (result : Outcome) (x : Passes means heap (message_spelling message) kept kept' w v result) where
+  module _ (p : Params) (found : takes_params (stream_at kept k).found ≡ true) (range : range_fault (stream_caps plan k) (Preparing p) ≡ None) (message : Message) (h direction : ℕ) (message-is : message ≡ PcmParams h direction p) (h-is : h ≡ host) (direction-is : direction ≡ (if (get_or plan.streams k no_stream).capture then 1 else 0)) (kept' : Record) (v : World D) (result : Outcome) (x : Passes means heap (message_spelling message) kept kept' w v result) where
     all-rest : AllAt (λ r. takes_params r.found ≡ true) host plan.streams kept.streams
     all-rest = at-host (λ r. takes_params r.found ≡ true) found
 
     prepare : IsStreamAct plan kept (Prepare host p)
-    prepare = prepare-is plan sound kept agrees.record_is host some p (ranges (caps_at plan k) p range) all-rest
+    prepare = prepare-is plan sound kept agrees.record_is host some p (ranges (stream_caps plan k) p range) all-rest
 
     answered : IsAnswered plan heap kept (Prepare host p)
-    answered = prepare-comes plan sound kept agrees.record_is host some heap p (ranges (caps_at plan k) p range) all-rest
+    answered = prepare-comes plan sound kept agrees.record_is host some heap p (ranges (stream_caps plan k) p range) all-rest
 
-    writes : message ≡ message_of plan (Prepare host p)
+    writes : message ≡ act_message plan (Prepare host p)
     writes = message-is ∙ (λ i. PcmParams (h-is i) ((direction-is ∙ sym (place-goes plan sound k within)) i) p)
 
-    gives : with_place k (prepared p (stream_at kept k)) kept ≡ after plan (Prepare host p) kept
-    gives = place-changed plan sound k within (prepared p) kept agrees.record_is.streams
+    gives : with_stream_at k (prepared_stream p (stream_at kept k)) kept ≡ after plan (Prepare host p) kept
+    gives = place-changed plan sound k within (prepared_stream p) kept agrees.record_is.streams
 
     pub params-done : result ≡ Ok tt → (item : StreamRec) → item ≡ record { found = Prepared; params = Some p } → (streams : List StreamRec) → streams ≡ set kept'.streams k item → Both (Prepare host p) (record { power = kept'.power; streams = streams; controls = kept'.controls }) v (Ok tt)
-    params-done = act-done (Prepare host p) prepare answered (prepared p) gives message writes kept' v result x
+    params-done = act-done (Prepare host p) prepare answered (prepared_stream p) gives message writes kept' v result x
 
     pub params-ended : (fault : HostFault) → result ≡ Err fault → Both (Prepare host p) kept' v (Err fault)
-    params-ended = act-ended (Prepare host p) prepare answered (prepared p) gives message writes kept' v result x
+    params-ended = act-ended (Prepare host p) prepare answered (prepared_stream p) gives message writes kept' v result x
 
   -- ---- without parameters
 
@@ -145,10 +145,10 @@ module _ {D : Type 0} (means : Meaning D) (plan : Plan) (sound : IsSound plan) (
     freed : IsAnswered plan heap kept (Free host)
     freed = free-comes plan sound kept agrees.record_is host some heap all-prepared
 
-    frees : message ≡ message_of plan (Free host)
+    frees : message ≡ act_message plan (Free host)
     frees = message-is ∙ ap PcmFree h-is
 
-    shuts : with_place k closed kept ≡ after plan (Free host) kept
+    shuts : with_stream_at k closed kept ≡ after plan (Free host) kept
     shuts = place-changed plan sound k within shut kept agrees.record_is.streams
 
     pub free-done : result ≡ Ok tt → (item : StreamRec) → item ≡ closed → (streams : List StreamRec) → streams ≡ set kept'.streams k item → Both (Free host) (record { power = kept'.power; streams = streams; controls = kept'.controls }) v (Ok tt)

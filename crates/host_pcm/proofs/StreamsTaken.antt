@@ -12,10 +12,10 @@ use Rattle.host_widgets.specs.declared.kept.Found.TheVariants.{Prepared}
 use Rattle.host_widgets.specs.declared.kept.StreamRec.{StreamRec}
 use Rattle.host_widgets.specs.declared.trigger.Trigger.{Trigger}
 use Rattle.host_widgets.specs.declared.trigger.Trigger.TheVariants.{Start, Stop, Pause, Release}
-use Rattle.host_widgets.specs.HostRecord.{is_in_range}
+use Rattle.host_widgets.specs.HostRecord.{are_in_range}
 use Rattle.host_widgets.specs.declared.kept.Record.{Record}
 use Rattle.host_widgets.specs.HostActs.{Prepare, Trig, Free}
-use Rattle.host_widgets.specs.ActMessages.{message_of}
+use Rattle.host_widgets.specs.ActMessages.{act_message}
 use Rattle.host_widgets.specs.Host.{IsRecordOf}
 use Rattle.host_widgets.proofs.Effects.{decoded-message}
 use Rattle.host_widgets.proofs.ActsCome.{IsAnswered}
@@ -33,7 +33,7 @@ module _ (plan : Plan) (sound : IsSound plan) (kept : Record) (is : IsRecordOf p
 
   -- ---- what an act that was done leaves
 
-  bare : (what : Trigger) (f : FwState) → fw.body f (message_of plan (Trig host what)) ≡ Nothing
+  bare : (what : Trigger) (f : FwState) → fw.body f (act_message plan (Trig host what)) ≡ Nothing
   bare Start f = refl
   bare Stop f = refl
   bare Pause f = refl
@@ -42,17 +42,17 @@ module _ (plan : Plan) (sound : IsSound plan) (kept : Record) (is : IsRecordOf p
   pub trig-is : (what : Trigger) → Stand (λ r. takes_trigger what r.found ≡ true) → IsStreamAct plan kept (Trig host what)
   trig-is what all =
       let fits = trigger-fits plan sound host some what in
-      trig-act plan kept is host what all (fits, decoded-message (message_of plan (Trig host what)) fits) (bare what)
+      trig-act plan kept is host what all (fits, decoded-message (act_message plan (Trig host what)) fits) (bare what)
 
   pub free-is : Stand (λ r. r.found ≡ Prepared) → IsStreamAct plan kept (Free host)
   free-is all =
       let fits = free-fits plan sound host some in
-      free-act plan kept is host all (fits, decoded-message (message_of plan (Free host)) fits)
+      free-act plan kept is host all (fits, decoded-message (act_message plan (Free host)) fits)
 
-  pub prepare-is : (p : Params) → is_in_range p ≡ true → Stand (λ r. takes_params r.found ≡ true) → IsStreamAct plan kept (Prepare host p)
+  pub prepare-is : (p : Params) → are_in_range p ≡ true → Stand (λ r. takes_params r.found ≡ true) → IsStreamAct plan kept (Prepare host p)
   prepare-is p range all =
       let fits = params-fit plan sound host some p range in
-      prepare-act plan kept is host p range all (fits, decoded-message (message_of plan (Prepare host p)) fits)
+      prepare-act plan kept is host p range all (fits, decoded-message (act_message plan (Prepare host p)) fits)
 
   -- ---- what the firmware answers
 
@@ -65,7 +65,7 @@ module _ (plan : Plan) (sound : IsSound plan) (kept : Record) (is : IsRecordOf p
     free-comes all = let t = stream-taken plan kept (Free host) (free-is all) in record { message = t.message; passes = t.passes; answers = λ f shows. (_, free-answered plan sound kept is f shows heap host some all) }
 
     -- parameters in range are refused exactly where they conflict with those of another stream
-    pub prepare-comes : (p : Params) → is_in_range p ≡ true → Stand (λ r. takes_params r.found ≡ true) → IsAnswered plan heap kept (Prepare host p)
+    pub prepare-comes : (p : Params) → are_in_range p ≡ true → Stand (λ r. takes_params r.found ≡ true) → IsAnswered plan heap kept (Prepare host p)
     prepare-comes p range all =
         let t = stream-taken plan kept (Prepare host p) (prepare-is p range all) in
         let rate = (and_parts (is_rate p.rate) _ range).0 in

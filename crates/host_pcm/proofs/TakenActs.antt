@@ -18,13 +18,13 @@ use Rattle.host_widgets.specs.declared.kept.Found.TheVariants.{Closed, Open, Pre
 use Rattle.host_widgets.specs.declared.kept.StreamRec.{StreamRec}
 use Rattle.host_widgets.specs.declared.trigger.Trigger.{Trigger}
 use Rattle.host_widgets.specs.declared.trigger.Trigger.TheVariants.{Start, Stop, Pause, Release}
-use Rattle.host_widgets.specs.HostRecord.{closed, may_have, is_in_range}
+use Rattle.host_widgets.specs.HostRecord.{closed, may_have, are_in_range}
 use Rattle.host_widgets.specs.Acts.{direction_of}
 use Rattle.host_widgets.specs.Expected.{phase_of}
 use Rattle.host_pcm.specs.Asks.{takes_trigger, takes_params}
 use Rattle.host_widgets.specs.declared.kept.Record.{Record}
-use Rattle.host_widgets.specs.HostActs.{Act, Trig, Free, Prepare, prepared, triggered, triggered_found}
-use Rattle.host_widgets.specs.ActMessages.{message_of}
+use Rattle.host_widgets.specs.HostActs.{Act, Trig, Free, Prepare, prepared_stream, triggered_stream, triggered_found}
+use Rattle.host_widgets.specs.ActMessages.{act_message}
 use Rattle.host_widgets.specs.Host.{IsRecordOf}
 use Rattle.host_widgets.proofs.ActsShow.{trig-seen, free-seen, prepare-seen, prepare-shows}
 use Rattle.host_widgets.proofs.ActsStand.{KeepsWhereLive}
@@ -112,23 +112,23 @@ module _ (plan : Plan) (kept : Record) (is : IsRecordOf plan kept) (host : ℕ) 
 
   -- its message is read as it was written
   abbrev pub Fits : Act → Type 0
-  Fits act = IsMessage (message_of plan act) × (decoded (message_spelling (message_of plan act)) ≡ Ok (message_of plan act))
+  Fits act = IsMessage (act_message plan act) × (decoded (message_spelling (act_message plan act)) ≡ Ok (act_message plan act))
 
   -- a stream that takes a trigger
-  pub trig-act : (what : Trigger) → Stand (λ r. takes_trigger what r.found ≡ true) → Fits (Trig host what) → ((f : FwState) → fw.body f (message_of plan (Trig host what)) ≡ Nothing) → IsStreamAct plan kept (Trig host what)
+  pub trig-act : (what : Trigger) → Stand (λ r. takes_trigger what r.found ≡ true) → Fits (Trig host what) → ((f : FwState) → fw.body f (act_message plan (Trig host what)) ≡ Nothing) → IsStreamAct plan kept (Trig host what)
   trig-act what stand fits bare = record {
     host = host;
-    change = triggered what;
+    change = triggered_stream what;
     changes = refl;
     no_blob = refl;
     message = fits.0;
     bare = λ f. ap (body_of f) fits.1 ∙ bare f;
     sees = λ f f' shows done. trig-seen plan kept f f' shows host what done;
     record_is = is;
-    record_will = λ f f' shows done. record-less plan kept host (triggered what) is
-        (at-each (λ r. takes_trigger what r.found ≡ true) (λ r. may (triggered what r) ≡ true) (λ r takes was. trigger-may what r.found r.params takes was) host plan.streams kept.streams stand is.each)
-        (at-each (λ r. takes_trigger what r.found ≡ true) (λ r. Less (triggered what r).params r.params) (λ r takes was. inl refl) host plan.streams kept.streams stand is.each);
-    live = keeps-live (λ r. takes_trigger what r.found ≡ true) (triggered what) (λ r takes live. refl) host plan.streams kept.streams stand;
+    record_will = λ f f' shows done. record-less plan kept host (triggered_stream what) is
+        (at-each (λ r. takes_trigger what r.found ≡ true) (λ r. may (triggered_stream what r) ≡ true) (λ r takes was. trigger-may what r.found r.params takes was) host plan.streams kept.streams stand is.each)
+        (at-each (λ r. takes_trigger what r.found ≡ true) (λ r. Less (triggered_stream what r).params r.params) (λ r takes was. inl refl) host plan.streams kept.streams stand is.each);
+    live = keeps-live (λ r. takes_trigger what r.found ≡ true) (triggered_stream what) (λ r takes live. refl) host plan.streams kept.streams stand;
   }
 
   -- a stream that is prepared, and goes
@@ -149,25 +149,25 @@ module _ (plan : Plan) (kept : Record) (is : IsRecordOf plan kept) (host : ℕ) 
   }
 
   -- parameters in range, which the firmware takes only where streams agree
-  pub prepare-act : (p : Params) → is_in_range p ≡ true → Stand (λ r. takes_params r.found ≡ true) → Fits (Prepare host p) → IsStreamAct plan kept (Prepare host p)
+  pub prepare-act : (p : Params) → are_in_range p ≡ true → Stand (λ r. takes_params r.found ≡ true) → Fits (Prepare host p) → IsStreamAct plan kept (Prepare host p)
   prepare-act p range stand fits = record {
     host = host;
-    change = prepared p;
+    change = prepared_stream p;
     changes = refl;
     no_blob = refl;
     message = fits.0;
     bare = λ f. ap (body_of f) fits.1;
     sees = λ f f' shows done. prepare-seen plan kept f f' shows host p done;
     record_is = is;
-    record_will = λ f f' shows done. record-with plan kept host (prepared p) is
-        (at-each (λ r. takes_params r.found ≡ true) (λ r. may (prepared p r) ≡ true) (λ r takes was. range) host plan.streams kept.streams stand is.each)
+    record_will = λ f f' shows done. record-with plan kept host (prepared_stream p) is
+        (at-each (λ r. takes_params r.found ≡ true) (λ r. may (prepared_stream p r) ≡ true) (λ r takes was. range) host plan.streams kept.streams stand is.each)
         (ap agree (sym (prepare-shows plan kept f f' shows host p done)) ∙ agrees f f' done);
-    live = keeps-live (λ r. takes_params r.found ≡ true) (prepared p) (λ r takes live. absurd (params-rest r.found takes live)) host plan.streams kept.streams stand;
+    live = keeps-live (λ r. takes_params r.found ≡ true) (prepared_stream p) (λ r takes live. absurd (params-rest r.found takes live)) host plan.streams kept.streams stand;
   }
     where
-      agrees : (f f' : FwState) → row f (message_of plan (Prepare host p)) ≡ Ok f' → agree (view_of f') ≡ true
+      agrees : (f f' : FwState) → row f (act_message plan (Prepare host p)) ≡ Ok f' → agree (view_of f') ≡ true
       agrees f f' done =
           let v = fw.with_params f host p in
-          let l = last-test (not (fw.is_used f.graph host)) (not (fw.has_kind (λ kind. fw.goes kind (direction_of plan host)) (fw.kind_at f.graph host))) (fw.has_phase fw.is_moving (fw.phase_at f host))
+          let l = last-test (not (fw.is_used f.graph host)) (not (fw.has_kind (λ kind. fw.goes kind (direction_of plan host)) (fw.kind_at f.graph host))) (fw.is_stream_phase fw.is_moving (fw.phase_at f host))
           (not (fw.is_rate p.rate)) (not (fw.is_way_ready f.graph host)) (agree v) no_device invalid (seen v None f) f' done in
           ap (λ (g : FwState). agree (view_of g)) (sym l.1) ∙ l.0

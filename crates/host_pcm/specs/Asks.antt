@@ -44,11 +44,11 @@ takes_params Prepared = true
 takes_params found = false
 
 -- a stream that stands so may be asked this
-abbrev pub takes : Ask → Found → Bool
-takes Opening found = is_closed found
-takes (Preparing params) found = takes_params found
-takes (Triggering what) found = takes_trigger what found
-takes Closing found = not (is_closed found)
+abbrev pub takes_ask : Ask → Found → Bool
+takes_ask Opening found = is_closed found
+takes_ask (Preparing params) found = takes_params found
+takes_ask (Triggering what) found = takes_trigger what found
+takes_ask Closing found = not (is_closed found)
 
 -- all but an opening and a closing ask for the power
 abbrev pub asks_for_power : Ask → Bool
@@ -63,7 +63,7 @@ range_fault caps ask = None
 
 -- the tests of a stream that stands so
 abbrev pub found_fault : Caps → Ask → Found → Option HostFault
-found_fault caps ask found = if not (takes ask found) then Some (State found) else range_fault caps ask
+found_fault caps ask found = if not (takes_ask ask found) then Some (State found) else range_fault caps ask
 
 -- the tests of a stream, by the power
 abbrev pub power_fault : Caps → Ask → Found → Power → Option HostFault
@@ -71,8 +71,8 @@ power_fault caps ask found powers.Off = if asks_for_power ask then Some Off else
 power_fault caps ask found power = found_fault caps ask found
 
 -- what the PCM of the stream at a place can do
-abbrev pub caps_at : Plan → ℕ → Caps
-caps_at plan k = (get_or plan.streams k no_stream).caps
+abbrev pub stream_caps : Plan → ℕ → Caps
+stream_caps plan k = (get_or plan.streams k no_stream).caps
 
 -- the record of the stream at a place
 abbrev pub stream_at : Record → ℕ → StreamRec
@@ -81,12 +81,12 @@ stream_at kept k = get_or kept.streams k closed
 -- the tests where something is loaded
 abbrev pub named_fault : Plan → Record → List ℕ → Ask → Option ℕ → Option HostFault
 named_fault plan kept name ask None = Some (NoSuch name)
-named_fault plan kept name ask (Some k) = power_fault (caps_at plan k) ask (stream_at kept k).found kept.power
+named_fault plan kept name ask (Some k) = power_fault (stream_caps plan k) ask (stream_at kept k).found kept.power
 
 -- the first test that fails
 abbrev pub early_fault : Plan → Record → List ℕ → Ask → Option HostFault
 early_fault plan kept name ask = loaded_fault kept.power (named_fault plan kept name ask (stream_place plan name))
 
 -- the record with another stream at a place
-abbrev pub with_place : ℕ → StreamRec → Record → Record
-with_place k r kept = record { power = kept.power; streams = set kept.streams k r; controls = kept.controls }
+abbrev pub with_stream_at : ℕ → StreamRec → Record → Record
+with_stream_at k r kept = record { power = kept.power; streams = set kept.streams k r; controls = kept.controls }

@@ -18,15 +18,15 @@ use Rattle.host_pcm.specs.declared.asking.Ask.{Ask}
 use Rattle.host_pcm.specs.declared.asking.Ask.TheVariants.{Opening, Preparing, Triggering, Closing}
 use Rattle.host_pcm.specs.Asks.{stream_place, stream_at, early_fault}
 
-abbrev pub opened : StreamRec → StreamRec
-opened r = record { found = Open; params = None }
+abbrev pub opened_stream : StreamRec → StreamRec
+opened_stream r = record { found = Open; params = None }
 
 abbrev pub shut : StreamRec → StreamRec
 shut r = closed
 
 -- by the stream's host and how far it is
 abbrev pub asking_order : Plan → Record → ℕ → Found → Ask → Order
-asking_order plan kept host found Opening = sends kept.power [] (with_stream plan host opened) answers.Done
+asking_order plan kept host found Opening = sends kept.power [] (with_stream plan host opened_stream) answers.Done
 asking_order plan kept host found (Preparing params) = sends kept.power (Prepare host params ∷ []) (λ now. now) answers.Done
 asking_order plan kept host found (Triggering what) = sends kept.power (Trig host what ∷ []) (λ now. now) answers.Done
 asking_order plan kept host found Closing = sends kept.power (close_by host found) (with_stream plan host shut) answers.Done

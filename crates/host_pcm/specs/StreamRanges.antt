@@ -10,16 +10,16 @@ use Rattle.host_widgets.specs.declared.answers.HostFault.{HostFault}
 use Rattle.host_widgets.specs.declared.answers.HostFault.TheVariants.{Range}
 
 -- a number from a least to a most
-abbrev pub is_between : ℕ → ℕ → ℕ → Bool
-is_between least most n = nat_le least n && nat_le n most
+abbrev pub is_within : ℕ → ℕ → ℕ → Bool
+is_within least most n = nat_le least n && nat_le n most
 
 -- frames a second: a multiple of 1000 from 8000 to 192000 that the PCM can do
 abbrev pub has_rate : Caps → ℕ → Bool
-has_rate caps rate = is_rate rate && is_between caps.rate_min caps.rate_max rate
+has_rate caps rate = is_rate rate && is_within caps.rate_min caps.rate_max rate
 
 -- samples a frame: 1 to 8 that the PCM can do
 abbrev pub has_channels : Caps → ℕ → Bool
-has_channels caps channels = is_between 1 8 channels && is_between caps.channels_min caps.channels_max channels
+has_channels caps channels = is_within 1 8 channels && is_within caps.channels_min caps.channels_max channels
 
 -- ALSA's number of a format, which is its bit in the caps
 abbrev pub alsa_number : Format → ℕ

@@ -38,7 +38,7 @@ fn takes_trigger(what: Trigger, found: Found) -> bool
 impl Ask {
     // Whether it may be asked of a stream that stands so.
     fn takes(self, found: Found) -> bool
-        ensures { result ≡ asks.takes self found }
+        ensures { result ≡ asks.takes_ask self found }
     {
         match self {
             Ask::Opening => matches!(found, Found::Closed),

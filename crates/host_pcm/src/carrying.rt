@@ -7,7 +7,7 @@ ghost use Rattle.host_widgets.specs.HostRecord.{closed};
 ghost use Rattle.host_widgets.specs.Host.{Agrees};
 ghost use Rattle.host_widgets.specs.HostActs.{Prepare, Trig, Free, triggered_found};
 ghost use Rattle.host_widgets.specs.Orders.{Carried};
-ghost use Rattle.host_pcm.specs.Asks.{stream_at, takes, range_fault, caps_at, with_place};
+ghost use Rattle.host_pcm.specs.Asks.{stream_at, takes_ask, range_fault, stream_caps, with_stream_at};
 ghost use Rattle.host_pcm.specs.StreamOrders.{host_at, place_order};
 ghost use Rattle.host_widgets.specs.ActCarried.{ActCarried};
 
@@ -53,8 +53,8 @@ pub fn prepare<P: Dsp>(
     requires room { HasRoom (61440 * P.means.pending dsp.old) out.old }
     requires power { kept.old.power ≡ Power.On }
     requires place { place < length plan.now.streams }
-    requires found { takes (Ask.Preparing p) (stream_at kept.old place).found ≡ true }
-    requires range { range_fault (caps_at plan.now place) (Ask.Preparing p) ≡ None }
+    requires found { takes_ask (Ask.Preparing p) (stream_at kept.old place).found ≡ true }
+    requires range { range_fault (stream_caps plan.now place) (Ask.Preparing p) ≡ None }
     ensures act { ActCarried P.means plan.now heap (Prepare (host_at plan.now place) p) kept.old kept.new
         (world dsp.old io.old out.old) (world dsp.new io.new out.new) result }
     ensures agree { Agrees P.means plan.now kept.new dsp.new }
@@ -92,7 +92,7 @@ pub fn trigger<P: Dsp>(
     requires room { HasRoom (61440 * P.means.pending dsp.old) out.old }
     requires power { kept.old.power ≡ Power.On }
     requires place { place < length plan.now.streams }
-    requires found { takes (Ask.Triggering what) (stream_at kept.old place).found ≡ true }
+    requires found { takes_ask (Ask.Triggering what) (stream_at kept.old place).found ≡ true }
     ensures act { ActCarried P.means plan.now heap (Trig (host_at plan.now place) what) kept.old kept.new
         (world dsp.old io.old out.old) (world dsp.new io.new out.new) result }
     ensures agree { Agrees P.means plan.now kept.new dsp.new }
@@ -147,7 +147,7 @@ fn free<P: Dsp>(
 // A stream is closed in the record.
 fn shut(kept: &mut Record, place: usize)
     requires { place < length kept.old.streams }
-    ensures { kept.new ≡ with_place place closed kept.old }
+    ensures { kept.new ≡ with_stream_at place closed kept.old }
 {
     kept.streams.put(
         place,
@@ -173,7 +173,7 @@ fn stop_and_free<P: Dsp>(
     requires room { HasRoom (61440 * P.means.pending dsp.old) out.old }
     requires power { kept.old.power ≡ Power.On }
     requires place { place < length plan.now.streams }
-    requires found { takes (Ask.Triggering Trigger.Stop) (stream_at kept.old place).found ≡ true }
+    requires found { takes_ask (Ask.Triggering Trigger.Stop) (stream_at kept.old place).found ≡ true }
     ensures carried { Carried P.means plan.now heap (place_order plan.now kept.old place Ask.Closing) kept.old kept.new
         (world dsp.old io.old out.old) (world dsp.new io.new out.new) result }
     ensures agree { Agrees P.means plan.now kept.new dsp.new }

@@ -27,12 +27,12 @@ use Rattle.host_widgets.specs.declared.trigger.Trigger.TheVariants.{Stop}
 use Rattle.host_widgets.specs.HostRecord.{closed, no_stream, halted, halted_found}
 use Rattle.host_widgets.specs.Kept.{changed, went_down}
 use Rattle.host_widgets.specs.Host.{Outcome, IsRecordOf}
-use Rattle.host_widgets.specs.HostActs.{Act, Trig, Save, after, triggered}
+use Rattle.host_widgets.specs.HostActs.{Act, Trig, Save, after, triggered_stream}
 use Rattle.host_widgets.specs.ActLists.{stop_by, stop_acts, go_down}
-use Rattle.host_widgets.specs.ActMessages.{message_of}
-use Rattle.host_widgets.specs.OneAct.{own, outcome_by, lag_of, came}
-use Rattle.host_widgets.specs.ViewOf.{view_by}
-use Rattle.host_widgets.specs.Walk.{walk, joined, goes_past}
+use Rattle.host_widgets.specs.ActMessages.{act_message}
+use Rattle.host_widgets.specs.OneAct.{own, outcome_by, lag_of, performed}
+use Rattle.host_widgets.specs.ViewOf.{record_view}
+use Rattle.host_widgets.specs.Walk.{walk, followed_by, goes_past}
 use Rattle.host_widgets.specs.ActCalls.{next_of}
 use Rattle.host_widgets.proofs.Effects.{decoded-message}
 use Rattle.host_widgets.proofs.OneActLaws.{IsPlain, IsTaken, LeavesSo, bare-passes, plain-ready, stream-taken}
@@ -67,12 +67,12 @@ stops-halted Prepared is = absurd (cc is)
 stops-halted Found_On is = absurd (cc is)
 
 -- one that is stopped is as one that went down
-halts-same : (host : ℕ) (ss : List StreamPlan) (rs : List StreamRec) → AllAt (λ r. takes_trigger Stop r.found ≡ true) host ss rs → map halted (changed (λ (s : StreamPlan). s.host) host (triggered Stop) ss rs) ≡ map halted rs
+halts-same : (host : ℕ) (ss : List StreamPlan) (rs : List StreamRec) → AllAt (λ r. takes_trigger Stop r.found ≡ true) host ss rs → map halted (changed (λ (s : StreamPlan). s.host) host (triggered_stream Stop) ss rs) ≡ map halted rs
 halts-same host [] rs so = refl
 halts-same host (s ∷ ss) [] so = refl
 halts-same host (s ∷ ss) (r ∷ rs) so = λ i. by (s.host == host) refl i ∷ halts-same host ss rs so.1 i
   where
-    by : (b : Bool) → (s.host == host) ≡ b → halted (if b then triggered Stop r else r) ≡ halted r
+    by : (b : Bool) → (s.host == host) ≡ b → halted (if b then triggered_stream Stop r else r) ≡ halted r
     by true is = λ i. record { found = stops-halted r.found (so.0 is) i; params = r.params }
     by false is = refl
 
@@ -86,7 +86,7 @@ module _ (plan : Plan) (heap : ℕ) where
   -- an act that the firmware takes, and that leaves what the record is once the power is off
   pub record IsDown (now : Record) (act : Act) : Type 0 where
     pub taken : IsTaken plan now act
-    pub met : IsMet plan heap (λ f. Unit {0}) now (view_by plan now) (view_by plan (after plan act now)) act
+    pub met : IsMet plan heap (λ f. Unit {0}) now (record_view plan now) (record_view plan (after plan act now)) act
     pub halts : went_down (after plan act now) ≡ went_down now
 
   -- each, whatever became of those before it
@@ -99,9 +99,9 @@ module _ (plan : Plan) (heap : ℕ) where
   have-law [] now are = tt
   have-law (act ∷ acts) now are = (are.0.taken, (λ will. have-law acts (after plan act now) are.1), λ on. have-law acts now are.2)
 
-  pub are-met : (acts : List Act) (now : Record) → AreDown now acts → AreMet plan heap true (λ v. Unit {0}) (λ f. Unit {0}) now (view_by plan now) acts
+  pub are-met : (acts : List Act) (now : Record) → AreDown now acts → AreMet plan heap true (λ v. Unit {0}) (λ f. Unit {0}) now (record_view plan now) acts
   are-met [] now are = tt
-  are-met (act ∷ acts) now are = (view_by plan (after plan act now), are.0.met, are-met acts (after plan act now) are.1, λ goes. are-met acts now are.2)
+  are-met (act ∷ acts) now are = (record_view plan (after plan act now), are.0.met, are-met acts (after plan act now) are.1, λ goes. are-met acts now are.2)
 
   -- whatever their messages met
   pub walk-down : (acts : List Act) (ms : List Meeting) (now : Record) → AreDown now acts → went_down (walk plan heap true next_of now ms acts).kept ≡ went_down now
@@ -110,8 +110,8 @@ module _ (plan : Plan) (heap : ℕ) where
     where
       left : Outcome → Record
       left o =
-          let a = came plan act now (lag_of (next_of ms).0) o in
-          (joined act a (next_of ms).1 (goes_past true a.outcome) (walk plan heap true next_of a.kept (next_of ms).1 acts)).kept
+          let a = performed plan act now (lag_of (next_of ms).0) o in
+          (followed_by act a (next_of ms).1 (goes_past true a.outcome) (walk plan heap true next_of a.kept (next_of ms).1 acts)).kept
 
       by : (o : Outcome) → went_down (walk plan heap true next_of (after plan act now) (next_of ms).1 acts).kept ≡ went_down (after plan act now) → went_down (walk plan heap true next_of now (next_of ms).1 acts).kept ≡ went_down now → went_down (left o) ≡ went_down now
       by (Ok done) passed refused = passed ∙ are.0.halts
@@ -130,7 +130,7 @@ module _ (plan : Plan) (heap : ℕ) where
   module _ (sound : IsSound plan) where
     -- some state that shows a record
     abbrev shown_state : Record → FwState
-    shown_state now = record { heap = (fresh heap).heap; clock = 0; graph = (view_by plan now).graph; streams = (view_by plan now).streams; rings = []; histories = []; staging = [] }
+    shown_state now = record { heap = (fresh heap).heap; clock = 0; graph = (record_view plan now).graph; streams = (record_view plan now).streams; rings = []; histories = []; staging = [] }
 
     -- each stream stands in a record as it stands here
     abbrev AllStand : Record → List StreamPlan → List StreamRec → Type 0
@@ -145,7 +145,7 @@ module _ (plan : Plan) (heap : ℕ) where
     save-taken : (now : Record) → IsRecordOf plan now → IsTaken plan now Save
     save-taken now is = record {
       message = save-fits;
-      passes = λ f. bare-passes (body_of f (decoded (message_spelling (message_of plan Save)))) (ap (body_of f) (decoded-message CtxSave save-fits));
+      passes = λ f. bare-passes (body_of f (decoded (message_spelling (act_message plan Save)))) (ap (body_of f) (decoded-message CtxSave save-fits));
       record_is = is;
       leaves = λ f f' shows rings ready done.
           let same : f ≡ f' = cc done in
@@ -165,7 +165,7 @@ module _ (plan : Plan) (heap : ℕ) where
         taken = save-taken now is;
         met = record {
           message = save-fits;
-          passes = λ f. bare-passes (body_of f (decoded (message_spelling (message_of plan Save)))) (ap (body_of f) (decoded-message CtxSave save-fits));
+          passes = λ f. bare-passes (body_of f (decoded (message_spelling (act_message plan Save)))) (ap (body_of f) (decoded-message CtxSave save-fits));
           answers = λ f shows. (f, refl);
           shows = λ f f' shows done. (let same : f ≡ f' = cc done in ap view_of (sym same) ∙ shows);
           stays = λ f f' shows done so. tt;
@@ -207,7 +207,7 @@ module _ (plan : Plan) (heap : ℕ) where
     others-stand now host [] rs above stand = tt
     others-stand now host (s ∷ ss) [] above stand = tt
     others-stand now host (s ∷ ss) (r ∷ rs) above stand =
-        (elsewhere (λ x. x.found ≡ r.found) (triggered Stop) host s.host (λ same. omega (arith, same, above.0)) plan.streams now.streams stand.0, others-stand now host ss rs above.1 stand.1)
+        (elsewhere (λ x. x.found ≡ r.found) (triggered_stream Stop) host s.host (λ same. omega (arith, same, above.0)) plan.streams now.streams stand.0, others-stand now host ss rs above.1 stand.1)
 
     downwards : (ss : List StreamPlan) (rs : List StreamRec) (now : Record) → IsRecordOf plan now → Ascends (λ (s : StreamPlan). s.host) ss → AllHere ss → AllStand now ss rs → AreDown now (flat_map stop_acts (zip ss rs) ++ Save ∷ [])
     unfolding Ascends

@@ -19,12 +19,12 @@ use Rattle.host_widgets.specs.Expected.{phase_of}
 use Rattle.host_widgets.specs.Host.{Outcome, Agrees, IsRecordOf, Sides, ticks_put}
 use Rattle.host_widgets.specs.HostActs.{Act, after}
 use Rattle.host_widgets.specs.ActLists.{go_down, bring_up, bring_back, prepare_acts}
-use Rattle.host_widgets.specs.OneAct.{own, outcome_by, lag_of, came}
-use Rattle.host_widgets.specs.Walk.{Walked, walk, joined, goes_past}
+use Rattle.host_widgets.specs.OneAct.{own, outcome_by, lag_of, performed}
+use Rattle.host_widgets.specs.Walk.{Walked, walk, followed_by, goes_past}
 use Rattle.host_widgets.specs.ActCalls.{ActsDid, Onwards, next_of, calls_of}
 use Rattle.host_widgets.specs.Orders.{ActsCame, Carried, suspending, resuming, brought_end}
 use Rattle.host_widgets.specs.StateOf.{state_by}
-use Rattle.host_widgets.specs.ViewOf.{view_by}
+use Rattle.host_widgets.specs.ViewOf.{record_view}
 use Rattle.host_widgets.proofs.BuildingActs.{bring-leaves}
 use Rattle.host_widgets.proofs.SilentTicks.{AreInputs}
 use Rattle.host_pm.specs.InTurn.{InTurn}
@@ -58,14 +58,14 @@ module _ {D : Type 0} (means : Meaning D) (plan : Plan) (heap : ℕ) where
     where
       Left : Outcome → Type 0
       Left o =
-          let a = came plan x kept (lag_of one) o in
+          let a = performed plan x kept (lag_of one) o in
           Onwards (goes_past false a.outcome) (ms ++ ns) mid v (did_acts a.kept (xs ++ ys) (ms ++ ns) mid v)
-          × ((joined x a (ms ++ ns) (goes_past false a.outcome) (walked a.kept (ms ++ ns) (xs ++ ys))).outcome
-          ≡ (walked (joined x a ms (goes_past false a.outcome) (walked a.kept ms xs)).kept ns ys).outcome)
+          × ((followed_by x a (ms ++ ns) (goes_past false a.outcome) (walked a.kept (ms ++ ns) (xs ++ ys))).outcome
+          ≡ (walked (followed_by x a ms (goes_past false a.outcome) (walked a.kept ms xs)).kept ns ys).outcome)
 
-      by : (o : Outcome) → (let a = came plan x kept (lag_of one) o in Onwards (goes_past false a.outcome) ms mid m (did_acts a.kept xs ms mid m)) →
-          (let a = came plan x kept (lag_of one) o in (joined x a ms (goes_past false a.outcome) (walked a.kept ms xs)).outcome ≡ Ok tt) →
-          (let a = came plan x kept (lag_of one) o in did_acts (joined x a ms (goes_past false a.outcome) (walked a.kept ms xs)).kept ys ns m v) →
+      by : (o : Outcome) → (let a = performed plan x kept (lag_of one) o in Onwards (goes_past false a.outcome) ms mid m (did_acts a.kept xs ms mid m)) →
+          (let a = performed plan x kept (lag_of one) o in (followed_by x a ms (goes_past false a.outcome) (walked a.kept ms xs)).outcome ≡ Ok tt) →
+          (let a = performed plan x kept (lag_of one) o in did_acts (followed_by x a ms (goes_past false a.outcome) (walked a.kept ms xs)).kept ys ns m v) →
           (did_acts (after plan x kept) xs ms mid m → (walked (after plan x kept) ms xs).outcome ≡ Ok tt → did_acts (walked (after plan x kept) ms xs).kept ys ns m v → Joined (after plan x kept) xs ys ms ns mid v) → Left o
       by (Ok done) on ok more go = let r = go on ok more in (r.did, r.outcome)
       by (Err (Refused e)) on ok more go = absurd (cc ok)
@@ -92,12 +92,12 @@ module _ {D : Type 0} (means : Meaning D) (plan : Plan) (heap : ℕ) where
     where
       Left : Outcome → Type 0
       Left o =
-          let a = came plan x kept (lag_of one) o in
+          let a = performed plan x kept (lag_of one) o in
           Onwards (goes_past false a.outcome) ms mid v (did_acts a.kept (xs ++ ys) ms mid v)
-          × ((joined x a ms (goes_past false a.outcome) (walked a.kept ms (xs ++ ys))).outcome ≡ (joined x a ms (goes_past false a.outcome) (walked a.kept ms xs)).outcome)
+          × ((followed_by x a ms (goes_past false a.outcome) (walked a.kept ms (xs ++ ys))).outcome ≡ (followed_by x a ms (goes_past false a.outcome) (walked a.kept ms xs)).outcome)
 
-      by : (o : Outcome) → (let a = came plan x kept (lag_of one) o in Onwards (goes_past false a.outcome) ms mid v (did_acts a.kept xs ms mid v)) →
-          (let a = came plan x kept (lag_of one) o in (joined x a ms (goes_past false a.outcome) (walked a.kept ms xs)).outcome ≡ Err fault) →
+      by : (o : Outcome) → (let a = performed plan x kept (lag_of one) o in Onwards (goes_past false a.outcome) ms mid v (did_acts a.kept xs ms mid v)) →
+          (let a = performed plan x kept (lag_of one) o in (followed_by x a ms (goes_past false a.outcome) (walked a.kept ms xs)).outcome ≡ Err fault) →
           (did_acts (after plan x kept) xs ms mid v → (walked (after plan x kept) ms xs).outcome ≡ Err fault → Ended (after plan x kept) xs ys ms mid v) → Left o
       by (Ok done) on is go = let r = go on is in (r.did, r.outcome)
       by (Err (Refused e)) on is go = (on, refl)
@@ -115,7 +115,7 @@ module _ {D : Type 0} (means : Meaning D) (plan : Plan) (heap : ℕ) where
   acts-fewer [] ms kept w v did = let same : means.pending v.device ≡ means.pending w.device = ap (λ (x : World D). means.pending x.device) did.1 in omega (arith, same)
   acts-fewer (act ∷ acts) [] kept w v did = absurd did
   acts-fewer (act ∷ acts) (one ∷ ms) kept w v (mid, did, onwards) =
-      let a = came plan act kept (lag_of one) (outcome_by one.fate (own plan heap kept act)) in
+      let a = performed plan act kept (lag_of one) (outcome_by one.fate (own plan heap kept act)) in
       let first = did.exchanged.steady.pending in
       let rest = by (goes_past false a.outcome) (did_acts a.kept acts ms mid v) onwards (λ more. acts-fewer acts ms a.kept mid v more) in omega (arith, first, rest)
     where
@@ -128,11 +128,11 @@ module _ {D : Type 0} (means : Meaning D) (plan : Plan) (heap : ℕ) where
   walk-stays kept [] ms all = refl
   walk-stays kept (act ∷ acts) ms all = by (outcome_by (next_of ms).0.fate (own plan heap kept act)) (walk-stays kept acts (next_of ms).1 all.1)
     where
-      ended : (o : Outcome) (b : Bool) → (walked kept (next_of ms).1 acts).kept ≡ kept → (joined act (record { outcome = o; kept = kept; moments = lag_of (next_of ms).0 }) (next_of ms).1 b (walked kept (next_of ms).1 acts)).kept ≡ kept
+      ended : (o : Outcome) (b : Bool) → (walked kept (next_of ms).1 acts).kept ≡ kept → (followed_by act (record { outcome = o; kept = kept; moments = lag_of (next_of ms).0 }) (next_of ms).1 b (walked kept (next_of ms).1 acts)).kept ≡ kept
       ended o true rest = rest
       ended o false rest = refl
 
-      by : (o : Outcome) → (walked kept (next_of ms).1 acts).kept ≡ kept → (let a = came plan act kept (lag_of (next_of ms).0) o in (joined act a (next_of ms).1 (goes_past false a.outcome) (walked a.kept (next_of ms).1 acts)).kept ≡ kept)
+      by : (o : Outcome) → (walked kept (next_of ms).1 acts).kept ≡ kept → (let a = performed plan act kept (lag_of (next_of ms).0) o in (followed_by act a (next_of ms).1 (goes_past false a.outcome) (walked a.kept (next_of ms).1 acts)).kept ≡ kept)
       by (Ok done) rest = ap (λ (now : Record). (walked now (next_of ms).1 acts).kept) all.0 ∙ rest
       by (Err fault) rest = ended (Err fault) (goes_past false (Err fault)) rest
 
@@ -142,11 +142,11 @@ module _ {D : Type 0} (means : Meaning D) (plan : Plan) (heap : ℕ) where
 
   -- ---- a suspend
 
-  pub went-down : IsSound plan → (kept kept' : Record) → IsRecordOf plan kept → (w s v : World D) (result : Outcome) → (f : FwState) → means.on w.device ≡ Some f → view_of f ≡ view_by plan kept →
+  pub went-down : IsSound plan → (kept kept' : Record) → IsRecordOf plan kept → (w s v : World D) (result : Outcome) → (f : FwState) → means.on w.device ≡ Some f → view_of f ≡ record_view plan kept →
       InTurn means plan true (go_down plan kept) w s result → Did means Cut s v → kept' ≡ went_down kept → Carried means plan heap (suspending plan kept) kept kept' w v result
   went-down sound kept kept' is w s v result f on shows turn cut now =
       let are = going-down plan heap sound kept is in
-      let c = turns-come plan heap true (λ x. Unit {0}) (λ f. Unit {0}) means (go_down plan kept) kept (view_by plan kept) w s result (f, on, shows) (are-met plan heap (go_down plan kept) kept are) turn in
+      let c = turns-come plan heap true (λ x. Unit {0}) (λ f. Unit {0}) means (go_down plan kept) kept (record_view plan kept) w s result (f, on, shows) (are-met plan heap (go_down plan kept) kept are) turn in
       record {
         meetings = c.meetings;
         begun = w;
@@ -174,8 +174,8 @@ module _ {D : Type 0} (means : Meaning D) (plan : Plan) (heap : ℕ) where
         record { meetings = x.meetings; did = e.did; came = so ∙ x.came ∙ sym e.outcome; left = sym (walk-stays kept (bring_back plan kept) x.meetings back-leaves) }
 
     module _ (mid : Record) (w m v : World D) (result : Outcome) (x : ActsCame means plan heap false (bring_up plan kept) kept mid w m (Ok tt)) (n : ℕ) (on : means.on m.device ≡ Some (state_by plan kept heap n)) (turn : InTurn means plan false prepares m v result) where
-      prepared-so : Came plan heap false (λ v. v ≡ view_by plan kept) (IsFine plan heap) means kept prepares m v result
-      prepared-so = turns-come plan heap false (λ v. v ≡ view_by plan kept) (IsFine plan heap) means prepares kept (view_by plan (bare_from plan plan.streams kept)) m v result
+      prepared-so : Came plan heap false (λ v. v ≡ record_view plan kept) (IsFine plan heap) means kept prepares m v result
+      prepared-so = turns-come plan heap false (λ v. v ≡ record_view plan kept) (IsFine plan heap) means prepares kept (record_view plan (bare_from plan plan.streams kept)) m v result
           (state_by plan kept heap n, on, sym (bare-view plan kept is)) (coming-back plan heap sound kept is still) turn
 
       same-mid : (walked kept x.meetings (bring_up plan kept)).kept ≡ kept
@@ -192,7 +192,7 @@ module _ {D : Type 0} (means : Meaning D) (plan : Plan) (heap : ℕ) where
             left = sym (walk-stays kept (bring_back plan kept) (x.meetings ++ c.meetings) back-leaves);
           }
 
-      pub back-shows : result ≡ Ok tt → option_map view_of (means.on v.device) ≡ Some (view_by plan kept)
+      pub back-shows : result ≡ Ok tt → option_map view_of (means.on v.device) ≡ Some (record_view plan kept)
       back-shows ok = let e = prepared-so.ends ok in ap (option_map view_of) e.1 ∙ ap Some e.2
 
       -- no audio was moved
@@ -200,8 +200,8 @@ module _ {D : Type 0} (means : Meaning D) (plan : Plan) (heap : ℕ) where
         abbrev t : ℕ
         t = means.pending w.device - means.pending m.device
 
-        rested-so : Rests plan heap sound (λ v. v ≡ view_by plan kept) (IsFine plan heap) means m v t (walked kept prepared-so.meetings prepares).outcome
-        rested-so = rests plan heap sound (λ v. v ≡ view_by plan kept) (IsFine plan heap) means prepares prepared-so.meetings kept (view_by plan (bare_from plan plan.streams kept)) m v
+        rested-so : Rests plan heap sound (λ v. v ≡ record_view plan kept) (IsFine plan heap) means m v t (walked kept prepared-so.meetings prepares).outcome
+        rested-so = rests plan heap sound (λ v. v ≡ record_view plan kept) (IsFine plan heap) means prepares prepared-so.meetings kept (record_view plan (bare_from plan plan.streams kept)) m v
             (coming-back plan heap sound kept is still) (all-prepare plan.streams kept.streams) prepared-so.did are t (state_by plan kept heap n) on
             (subst (λ (k : ℕ). IsRested plan heap t (state_by plan kept heap k)) (sym counted) (brought-rested plan heap kept t))
 
@@ -248,7 +248,7 @@ module _ {D : Type 0} (means : Meaning D) (plan : Plan) (heap : ℕ) where
 
   -- ---- both sides
 
-  pub resumed-agrees : (kept kept' : Record) → IsRecordOf plan kept → kept' ≡ kept → (device : D) → option_map view_of (means.on device) ≡ Some (view_by plan kept) → Agrees means plan (with_power On kept') device
+  pub resumed-agrees : (kept kept' : Record) → IsRecordOf plan kept → kept' ≡ kept → (device : D) → option_map view_of (means.on device) ≡ Some (record_view plan kept) → Agrees means plan (with_power On kept') device
   resumed-agrees kept kept' is same device shows = subst (λ (r : Record). Agrees means plan (with_power On r) device) (sym same) record {
     record_is = record { streams = is.streams; controls = is.controls; each = is.each; shapes = is.shapes };
     sides = shows;

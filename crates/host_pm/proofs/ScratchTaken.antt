@@ -17,15 +17,15 @@ use Rattle.host_widgets.specs.declared.kept.Record.{Record}
 use Rattle.host_widgets.specs.declared.trigger.Trigger.{Trigger}
 use Rattle.host_widgets.specs.declared.trigger.Trigger.TheVariants.{Start, Pause}
 use Rattle.host_widgets.specs.ActLists.{bring_up, bring_back, prepare_acts, prepare_by}
-use Rattle.host_widgets.specs.ActMessages.{message_of}
+use Rattle.host_widgets.specs.ActMessages.{act_message}
 use Rattle.host_widgets.specs.Host.{Fits, IsRecordOf}
-use Rattle.host_widgets.specs.HostActs.{Act, Trig, after, triggered}
-use Rattle.host_widgets.specs.HostRecord.{halted, halted_found, is_in_range}
-use Rattle.host_widgets.specs.Keeps.{Keeps}
+use Rattle.host_widgets.specs.HostActs.{Act, Trig, after, triggered_stream}
+use Rattle.host_widgets.specs.HostRecord.{halted, halted_found, are_in_range}
+use Rattle.host_widgets.specs.Keeps.{KeepsRecord}
 use Rattle.host_widgets.specs.Kept.{changed, went_down}
 use Rattle.host_widgets.specs.OneAct.{own}
 use Rattle.host_widgets.specs.StateOf.{state_by}
-use Rattle.host_widgets.specs.ViewOf.{view_by}
+use Rattle.host_widgets.specs.ViewOf.{record_view}
 use Rattle.host_widgets.proofs.ActsCome.{answer_by}
 use Rattle.host_widgets.proofs.Brings.{brings}
 use Rattle.host_widgets.proofs.Effects.{FollowAll, effect, effect-at, effects, own_cases, row-decoded}
@@ -55,7 +55,7 @@ module _ (plan : Plan) (heap : ℕ) (kept : Record) (fits : Fits plan heap) wher
   takes-brought : (acts : List Act) (g : FwState) → FollowAll plan heap kept g acts → TakesActs plan (at g 0) acts (at (effects plan acts g) 0)
   takes-brought [] g follow = refl
   takes-brought (act ∷ acts) g follow =
-      let m = message_of plan act in
+      let m = act_message plan act in
       let free : own plan heap kept act ≡ None = ⊎_elim (λ none. none) (λ (e, refused). (let more = (follow.0.number e refused).1 in absurd (omega (arith, fits, more)))) (own_cases (own plan heap kept act)) in
       (at (effect m g) 0, row-decoded (at g 0) m follow.0.message ∙ follow.0.passes free 0 ∙ ap (λ (s : FwState). Ok s) (effect-at m g 0), takes-brought acts (effect m g) (follow.1 free))
 
@@ -76,9 +76,9 @@ module _ (plan : Plan) (heap : ℕ) where
     met-taken [] now shown f shows met free fine = (f, refl, shows ∙ met, fine)
     met-taken (act ∷ acts) now shown f shows (later, law, behind, same) free fine =
         let a = law.answers f shows in
-        let done : row f (message_of plan act) ≡ Ok a.0 = a.1 ∙ ap (λ (o : Option _). answer_by o a.0) free.0 in
+        let done : row f (act_message plan act) ≡ Ok a.0 = a.1 ∙ ap (λ (o : Option _). answer_by o a.0) free.0 in
         let rest = met-taken acts (after plan act now) later a.0 (law.shows f a.0 shows done) behind free.1 (law.stays f a.0 shows done fine) in
-        (rest.0, (a.0, row-decoded f (message_of plan act) law.message ∙ done, rest.1), rest.2, rest.3)
+        (rest.0, (a.0, row-decoded f (act_message plan act) law.message ∙ done, rest.1), rest.2, rest.3)
 
   -- ---- parameters
 
@@ -95,7 +95,7 @@ module _ (plan : Plan) (heap : ℕ) where
         by : (found : Found) (params : Option Params) → r.found ≡ found → r.params ≡ params → NoneRefused kept rest → may r ≡ true → NoneRefused kept (prepare_by s.host found params ++ rest)
         by Prepared (Some p) is_so has more fair =
             let was = all-at (λ x. x ≡ r) (λ x. x ≡ record { found = Prepared; params = Some p }) (λ x same. same ∙ (λ i. record { found = is_so i; params = has i })) s.host plan.streams kept.streams were.1 in
-            let range : is_in_range p ≡ true = (λ i. may (record { found = sym is_so i; params = sym has i })) ∙ fair in
+            let range : are_in_range p ≡ true = (λ i. may (record { found = sym is_so i; params = sym has i })) ∙ fair in
             let stays = same-kept plan heap sound s.host were.0 p range kept is ss up.0 was in (
               own-none plan heap sound s.host were.0 p range kept is (subst (IsRecordOf plan) (sym stays) is) (takes-kept plan heap sound s.host were.0 p range kept is ss up.0 was),
               subst (λ (k : Record). NoneRefused k rest) (sym stays) more,
@@ -184,7 +184,7 @@ module _ (plan : Plan) (heap : ℕ) (sound : IsSound plan) (kept : Record) where
   halted_from ss = record { power = kept.power; streams = halts ss plan.streams kept.streams; controls = kept.controls }
 
   abbrev GoesOn : Record → List Act → Type 0
-  GoesOn now acts = AreTaken plan heap (view_by plan kept) now (view_by plan now) acts × NoneRefused plan heap now acts
+  GoesOn now acts = AreTaken plan heap (record_view plan kept) now (record_view plan now) acts × NoneRefused plan heap now acts
 
   module _ (now : Record) (is : IsRecordOf plan now) (host : ℕ) (some : has_host plan.streams host ≡ true) (what : Trigger) (takes : AllAt (λ r. takes_trigger what r.found ≡ true) host plan.streams now.streams) where
     abbrev later : Record
@@ -192,7 +192,7 @@ module _ (plan : Plan) (heap : ℕ) (sound : IsSound plan) (kept : Record) where
 
     -- some state that shows the record
     abbrev shown_state : FwState
-    shown_state = record { heap = (fresh heap).heap; clock = 0; graph = (view_by plan now).graph; streams = (view_by plan now).streams; rings = []; histories = []; staging = [] }
+    shown_state = record { heap = (fresh heap).heap; clock = 0; graph = (record_view plan now).graph; streams = (record_view plan now).streams; rings = []; histories = []; staging = [] }
 
     triggered-is : IsRecordOf plan later
     triggered-is =
@@ -205,13 +205,13 @@ module _ (plan : Plan) (heap : ℕ) (sound : IsSound plan) (kept : Record) where
         let s = trig-is plan sound now is host some what takes in
         let a = trig-comes plan sound now is host some heap what takes in (
           (
-            view_by plan later,
+            record_view plan later,
             record {
               message = a.message;
               passes = a.passes;
               answers = a.answers;
               shows = λ f f' shows done. ap view_of (s.sees f f' shows done);
-              stays = λ f f' shows done fine. subst (IsFine plan heap) (sym (s.sees f f' shows done)) (fine-seen plan heap (view_by plan later) f fine);
+              stays = λ f f' shows done fine. subst (IsFine plan heap) (sym (s.sees f f' shows done)) (fine-seen plan heap (record_view plan later) f fine);
             },
             more.0,
             λ on. absurd (false≢true on),
@@ -260,8 +260,8 @@ module _ (plan : Plan) (heap : ℕ) (sound : IsSound plan) (kept : Record) where
       running is_so go =
           let takes = takes-start (ap halted_found is_so) in
           let back : started ≡ halted_from ss = ap (λ (streams : List StreamRec). with_them streams)
-          (fused s.host halted (triggered Start) plan.streams (halts ss plan.streams kept.streams)
-          ∙ unchanged s.host (λ x. triggered Start (halted x)) r (λ i. record { found = sym is_so i; params = r.params }) plan.streams (halts ss plan.streams kept.streams) there) in
+          (fused s.host halted (triggered_stream Start) plan.streams (halts ss plan.streams kept.streams)
+          ∙ unchanged s.host (λ x. triggered_stream Start (halted x)) r (λ i. record { found = sym is_so i; params = r.params }) plan.streams (halts ss plan.streams kept.streams) there) in
           trigger-goes (halted_from (s ∷ ss)) is s.host were.0 Start takes rest
           (subst (λ (k : Record). GoesOn k rest) (sym back) (go (subst (IsRecordOf plan) back (triggered-is (halted_from (s ∷ ss)) is s.host were.0 Start takes))))
 
@@ -270,12 +270,12 @@ module _ (plan : Plan) (heap : ℕ) (sound : IsSound plan) (kept : Record) where
           let takes = takes-start (ap halted_found is_so) in
           let started_is = triggered-is (halted_from (s ∷ ss)) is s.host were.0 Start takes in
           let runs : AllAt (λ x. takes_trigger Pause x.found ≡ true) s.host plan.streams started.streams =
-          all-at (λ x. x ≡ triggered Start (halted r)) (λ x. takes_trigger Pause x.found ≡ true) (λ x same. ap (λ (y : StreamRec). takes_trigger Pause y.found) same) s.host plan.streams started.streams
-          (was-changed s.host (triggered Start) (halted r) plan.streams (halted_from (s ∷ ss)).streams (was-changed s.host halted r plan.streams (halts ss plan.streams kept.streams) there)) in
+          all-at (λ x. x ≡ triggered_stream Start (halted r)) (λ x. takes_trigger Pause x.found ≡ true) (λ x same. ap (λ (y : StreamRec). takes_trigger Pause y.found) same) s.host plan.streams started.streams
+          (was-changed s.host (triggered_stream Start) (halted r) plan.streams (halted_from (s ∷ ss)).streams (was-changed s.host halted r plan.streams (halts ss plan.streams kept.streams) there)) in
           let back : after plan (Trig s.host Pause) started ≡ halted_from ss = ap (λ (streams : List StreamRec). with_them streams)
-          (ap (set_at s.host (triggered Pause) plan.streams) (fused s.host halted (triggered Start) plan.streams (halts ss plan.streams kept.streams))
-          ∙ fused s.host (λ x. triggered Start (halted x)) (triggered Pause) plan.streams (halts ss plan.streams kept.streams)
-          ∙ unchanged s.host (λ x. triggered Pause (triggered Start (halted x))) r (λ i. record { found = sym is_so i; params = r.params }) plan.streams (halts ss plan.streams kept.streams) there) in
+          (ap (set_at s.host (triggered_stream Pause) plan.streams) (fused s.host halted (triggered_stream Start) plan.streams (halts ss plan.streams kept.streams))
+          ∙ fused s.host (λ x. triggered_stream Start (halted x)) (triggered_stream Pause) plan.streams (halts ss plan.streams kept.streams)
+          ∙ unchanged s.host (λ x. triggered_stream Pause (triggered_stream Start (halted x))) r (λ i. record { found = sym is_so i; params = r.params }) plan.streams (halts ss plan.streams kept.streams) there) in
           trigger-goes (halted_from (s ∷ ss)) is s.host were.0 Start takes (Trig s.host Pause ∷ rest)
           (trigger-goes started started_is s.host were.0 Pause runs rest
           (subst (λ (k : Record). GoesOn k rest) (sym back) (go (subst (IsRecordOf plan) back (triggered-is started started_is s.host were.0 Pause runs)))))
@@ -317,8 +317,8 @@ module _ (plan : Plan) (heap : ℕ) (kept : Record) (sound : IsSound plan) (is :
   abbrev Taken : FwState → List Act → View → Type 0
   Taken f acts last = (g : FwState) × TakesActs plan f acts g × (view_of g ≡ last) × IsFine plan heap g
 
-  then-taken : Taken (state_by plan down heap 0) prepares (view_by plan down)
-  then-taken = met-taken plan heap (view_by plan down) prepares down (view_by plan (bare_from plan plan.streams down)) (state_by plan down heap 0) (sym (bare-view plan down down-is))
+  then-taken : Taken (state_by plan down heap 0) prepares (record_view plan down)
+  then-taken = met-taken plan heap (record_view plan down) prepares down (record_view plan (bare_from plan plan.streams down)) (state_by plan down heap 0) (sym (bare-view plan down down-is))
       (coming-back plan heap sound down down-is (down-rests kept.streams))
       (prepares-free plan heap sound down down-is plan.streams down.streams (streams-ascend plan sound) (all-were plan heap sound down down-is) down-is.each)
       (record { pieces = refl; clock = refl; rings = refl })
@@ -331,11 +331,11 @@ module _ (plan : Plan) (heap : ℕ) (kept : Record) (sound : IsSound plan) (is :
   goes = starting plan heap sound kept plan.streams kept.streams (streams-ascend plan sound) (all-were plan heap sound kept is)
       (subst (IsRecordOf plan) (sym all-halted) (record { streams = down-is.streams; controls = down-is.controls; each = down-is.each; shapes = down-is.shapes }))
 
-  last-taken : Taken then-taken.0 starts (view_by plan kept)
-  last-taken = met-taken plan heap (view_by plan kept) starts (halted_from plan heap sound kept plan.streams) (view_by plan (halted_from plan heap sound kept plan.streams)) then-taken.0
-      (then-taken.2 ∙ ap (view_by plan) (sym all-halted)) goes.0 goes.1 then-taken.3
+  last-taken : Taken then-taken.0 starts (record_view plan kept)
+  last-taken = met-taken plan heap (record_view plan kept) starts (halted_from plan heap sound kept plan.streams) (record_view plan (halted_from plan heap sound kept plan.streams)) then-taken.0
+      (then-taken.2 ∙ ap (record_view plan) (sym all-halted)) goes.0 goes.1 then-taken.3
 
-  last-keeps : Keeps plan heap kept last-taken.0
+  last-keeps : KeepsRecord plan heap kept last-taken.0
   last-keeps =
       let fine = last-taken.3 in
       record { view = last-taken.2; pieces = fine.pieces; rings = ap (map (λ (r : RingView). r.buffer)) fine.rings ∙ empty-buffers plan.graph.edges }

@@ -31,10 +31,10 @@ use Rattle.host_widgets.specs.Expected.{loaded_heap}
 use Rattle.host_widgets.specs.StateOf.{empty_rings, state_by}
 use Rattle.host_widgets.specs.HostActs.{Act, Make, Join, Put, Part, Finish, Prepare, Trig, Free, Save, Ask, after}
 use Rattle.host_widgets.specs.ActLists.{prepare_acts, prepare_by}
-use Rattle.host_widgets.specs.ActMessages.{message_of}
+use Rattle.host_widgets.specs.ActMessages.{act_message}
 use Rattle.host_widgets.specs.Host.{Outcome, verdict, errno}
-use Rattle.host_widgets.specs.OneAct.{own, outcome_by, lag_of, came}
-use Rattle.host_widgets.specs.Walk.{goes_past, joined, walk}
+use Rattle.host_widgets.specs.OneAct.{own, outcome_by, lag_of, performed}
+use Rattle.host_widgets.specs.Walk.{goes_past, followed_by, walk}
 use Rattle.host_widgets.specs.ActCalls.{ActsDid, Onwards, came_to, next_of}
 use Rattle.host_widgets.proofs.BuildingActs.{ends-at}
 use Rattle.host_widgets.proofs.Exchanges.{came as exchange-came, verdict-number}
@@ -132,14 +132,14 @@ module _ (plan : Plan) (heap : ℕ) where
       never : (c : ℕ) → equalises v c ≡ false
       never c = by c (equalises v c) refl
 
-  row-rested : (t : ℕ) (host : ℕ) (p : Params) (f f' : FwState) → IsRested t f → row f (message_of plan (Prepare host p)) ≡ Ok f' → IsRested t f'
+  row-rested : (t : ℕ) (host : ℕ) (p : Params) (f f' : FwState) → IsRested t f → row f (act_message plan (Prepare host p)) ≡ Ok f' → IsRested t f'
   row-rested t host p f f' rested done =
       let v = fw.with_params f host p in
-      let l = last-test (not (fw.is_used f.graph host)) (not (fw.has_kind (λ kind. fw.goes kind (direction_of plan host)) (fw.kind_at f.graph host))) (fw.has_phase fw.is_moving (fw.phase_at f host))
+      let l = last-test (not (fw.is_used f.graph host)) (not (fw.has_kind (λ kind. fw.goes kind (direction_of plan host)) (fw.kind_at f.graph host))) (fw.is_stream_phase fw.is_moving (fw.phase_at f host))
       (not (fw.is_rate p.rate)) (not (fw.is_way_ready f.graph host)) (agree v) no_device invalid (seen v None f) f' done in
       subst (IsRested t) l.1 (seen-rested t v f (ap not (none-set host p f.streams (not-true (list_any (λ (s : StreamView). is_live_phase s.phase) f.streams) rested.silent))) rested)
 
-  act-rested : (t : ℕ) (act : Act) → IsPrepare act → (f f' : FwState) → IsRested t f → row f (message_of plan act) ≡ Ok f' → IsRested t f'
+  act-rested : (t : ℕ) (act : Act) → IsPrepare act → (f f' : FwState) → IsRested t f → row f (act_message plan act) ≡ Ok f' → IsRested t f'
   act-rested t (Prepare host p) is f f' rested done = row-rested t host p f f' rested done
   act-rested t (Make id) is f f' rested done = absurd is
   act-rested t (Join source sink) is f f' rested done = absurd is
@@ -181,7 +181,7 @@ module _ (plan : Plan) (heap : ℕ) where
         ticked-so = ticks-rested sound n t f w.io rested are
 
         io-stays : mid.io ≡ w.io
-        io-stays = (exchange-came means (message_spelling (message_of plan act)) one.answer w mid f on one.exchanged).endpoints ∙ ap (λ (p : FwState × Io). p.1) ticked-so
+        io-stays = (exchange-came means (message_spelling (act_message plan act)) one.answer w mid f on one.exchanged).endpoints ∙ ap (λ (p : FwState × Io). p.1) ticked-so
 
         passed : outcome_by m.fate (own plan heap now act) ≡ Ok tt → (g : FwState) × (means.on mid.device ≡ Some g) × IsRested (t + n) g
         passed ok = ⊎_elim
@@ -189,7 +189,7 @@ module _ (plan : Plan) (heap : ℕ) where
               took.next,
               took.on,
               act-rested (t + n) act all.0 (at f (t + n)) took.next (rested-later n t f rested)
-                  (sym (row-decoded (at f (t + n)) (message_of plan act) law.message) ∙ ap (λ (p : FwState × Io). fw.row_of p.0 (decoded (message_spelling (message_of plan act)))) (sym ticked-so) ∙ took.row),
+                  (sym (row-decoded (at f (t + n)) (act_message plan act) law.message) ∙ ap (λ (p : FwState × Io). fw.row_of p.0 (decoded (message_spelling (act_message plan act)))) (sym ticked-so) ∙ took.row),
             ))
             (λ rest. ⊎_elim
             (λ it. absurd (let no : Err (Refused (errno it.error)) ≡ Ok tt = sym (ap came_to (ap verdict it.said ∙ verdict-number it.error it.number)) ∙ one.came ∙ ok in cc no))
@@ -197,13 +197,13 @@ module _ (plan : Plan) (heap : ℕ) where
             (λ it. absurd (let no : Err (Refused (errno it.error)) ≡ Ok tt = sym (ap came_to (ap verdict it.said ∙ verdict-number it.error it.number)) ∙ one.came ∙ ok in cc no))
             (λ it. absurd (let no : Err LinkDown ≡ Ok tt = sym (ap came_to (ap verdict it.said)) ∙ one.came ∙ ok in cc no))
             rest) rest)
-            (exchange-came means (message_spelling (message_of plan act)) one.answer w mid f on one.exchanged).way
+            (exchange-came means (message_spelling (act_message plan act)) one.answer w mid f on one.exchanged).way
 
         Behind : Outcome → Type 0
-        Behind o = let a = came plan act now (lag_of m) o in Onwards (goes_past false a.outcome) ms mid v (ActsDid means plan heap false a.kept acts ms mid v)
+        Behind o = let a = performed plan act now (lag_of m) o in Onwards (goes_past false a.outcome) ms mid v (ActsDid means plan heap false a.kept acts ms mid v)
 
         left : Outcome → Outcome
-        left o = let a = came plan act now (lag_of m) o in (joined act a ms (goes_past false a.outcome) (walk plan heap false next_of a.kept ms acts)).outcome
+        left o = let a = performed plan act now (lag_of m) o in (followed_by act a ms (goes_past false a.outcome) (walk plan heap false next_of a.kept ms acts)).outcome
 
         by : (o : Outcome) → outcome_by m.fate (own plan heap now act) ≡ o → Behind o →
             (ActsDid means plan heap false (after plan act now) acts ms mid v → (g : FwState) → means.on mid.device ≡ Some g → IsRested (t + n) g → Rests mid v (t + n) (walk plan heap false next_of (after plan act now) ms acts).outcome) →
@@ -224,5 +224,5 @@ module _ (plan : Plan) (heap : ℕ) where
             record {
               io = ap (λ (x : World D). x.io) stop.1 ∙ io-stays;
               fewer = omega (arith, first, ap (λ (x : World D). means.pending x.device) stop.1);
-              on = λ ok. absurd (let no : Err fault ≡ Ok tt = sym (ap (λ (b : Bool). (joined act (came plan act now (lag_of m) (Err fault)) ms b (walk plan heap false next_of now ms acts)).outcome) (ends-at fault)) ∙ ok in cc no);
+              on = λ ok. absurd (let no : Err fault ≡ Ok tt = sym (ap (λ (b : Bool). (followed_by act (performed plan act now (lag_of m) (Err fault)) ms b (walk plan heap false next_of now ms acts)).outcome) (ends-at fault)) ∙ ok in cc no);
             }

@@ -9,7 +9,7 @@ use Rattle.tplg_plan.specs.declared.plans.Plan.{Plan}
 use Rattle.host_widgets.specs.declared.answers.HostFault.{HostFault}
 use Rattle.host_widgets.specs.declared.answers.HostFault.TheVariants.{NotLoaded, Loaded, NoSuch, State, Off, Range, Refused, LinkDown, Blob}
 use Rattle.host_widgets.specs.HostActs.{Act}
-use Rattle.host_widgets.specs.ActMessages.{message_of}
+use Rattle.host_widgets.specs.ActMessages.{act_message}
 use Rattle.host_widgets.specs.ActCalls.{came_to}
 use Rattle.host_widgets.specs.Host.{Outcome, Sent, verdict}
 use Rattle.host_widgets.specs.Walk.{goes_past, first_of}
@@ -85,10 +85,10 @@ module _ {D : Type 0} (means : Meaning D) (plan : Plan) (goes_on : Bool) where
 
   -- ---- one act
 
-  pub turn-one : (act : Act) (w v : World D) (result : Outcome) → Told means (message_spelling (message_of plan act)) w v result → Turn (act ∷ []) w v result
+  pub turn-one : (act : Act) (w v : World D) (result : Outcome) → Told means (message_spelling (act_message plan act)) w v result → Turn (act ∷ []) w v result
   turn-one act w v result it = (sent.answer, sent.led.0, sent.led.1, behind (goes_past goes_on (said sent.answer)))
     where
-      sent : Sent means (message_spelling (message_of plan act)) w v it.reply
+      sent : Sent means (message_spelling (act_message plan act)) w v it.reply
       sent = it.sent
 
       told : result ≡ said sent.answer
@@ -138,7 +138,7 @@ module _ {D : Type 0} (means : Meaning D) (plan : Plan) (goes_on : Bool) where
       then_ready : Ready mid
       then_ready =
           let s = state_of (means.on w.device) ready.0 in (
-            Came-on means (message_spelling (message_of plan act)) answer w mid _ (came means (message_spelling (message_of plan act)) answer w mid s.0 s.1 x),
+            Came-on means (message_spelling (act_message plan act)) answer w mid _ (came means (message_spelling (act_message plan act)) answer w mid s.0 s.1 x),
             HasRoom-now (61440 * means.pending w.device) (61440 * means.pending mid.device) w.io.outputs mid.io.outputs x.room ready.1,
           )
 

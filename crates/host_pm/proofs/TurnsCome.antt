@@ -13,10 +13,10 @@ use Rattle.host_widgets.specs.declared.answers.HostFault.{HostFault}
 use Rattle.host_widgets.specs.declared.answers.HostFault.TheVariants.{NotLoaded, Loaded, NoSuch, State, Off, Range, Refused, LinkDown, Blob}
 use Rattle.host_widgets.specs.declared.kept.Record.{Record}
 use Rattle.host_widgets.specs.HostActs.{Act, after}
-use Rattle.host_widgets.specs.ActMessages.{message_of}
+use Rattle.host_widgets.specs.ActMessages.{act_message}
 use Rattle.host_widgets.specs.Host.{Outcome, verdict}
-use Rattle.host_widgets.specs.OneAct.{own, outcome_by, lag_of, came}
-use Rattle.host_widgets.specs.Walk.{goes_past, first_of, joined, walk}
+use Rattle.host_widgets.specs.OneAct.{own, outcome_by, lag_of, performed}
+use Rattle.host_widgets.specs.Walk.{goes_past, first_of, followed_by, walk}
 use Rattle.host_widgets.specs.ActCalls.{ActsDid, Onwards, came_to, next_of}
 use Rattle.host_widgets.proofs.ReplyErrors.{done_reply}
 use Rattle.host_widgets.proofs.Exchanges.{came as exchange-came, verdict-number}
@@ -27,11 +27,11 @@ use Rattle.host_pm.specs.InTurn.{Behind, InTurn}
 -- An act on a firmware that shows one view and then another: its message fits, the reply of one that is done passes, it is refused
 -- as the record says, and what was so of the state is so of the next.
 pub record IsMet (plan : Plan) (heap : ℕ) (So : FwState → Type 0) (kept : Record) (shown later : View) (act : Act) : Type 0 where
-  pub message : IsMessage (message_of plan act)
-  pub passes : (f : FwState) → came_to (verdict (Some (done_reply (body_of f (decoded (message_spelling (message_of plan act))))))) ≡ Ok tt
-  pub answers : (f : FwState) → view_of f ≡ shown → (next : FwState) × (row f (message_of plan act) ≡ answer_by (own plan heap kept act) next)
-  pub shows : (f f' : FwState) → view_of f ≡ shown → row f (message_of plan act) ≡ Ok f' → view_of f' ≡ later
-  pub stays : (f f' : FwState) → view_of f ≡ shown → row f (message_of plan act) ≡ Ok f' → So f → So f'
+  pub message : IsMessage (act_message plan act)
+  pub passes : (f : FwState) → came_to (verdict (Some (done_reply (body_of f (decoded (message_spelling (act_message plan act))))))) ≡ Ok tt
+  pub answers : (f : FwState) → view_of f ≡ shown → (next : FwState) × (row f (act_message plan act) ≡ answer_by (own plan heap kept act) next)
+  pub shows : (f f' : FwState) → view_of f ≡ shown → row f (act_message plan act) ≡ Ok f' → view_of f' ≡ later
+  pub stays : (f f' : FwState) → view_of f ≡ shown → row f (act_message plan act) ≡ Ok f' → So f → So f'
 
 -- a refusal is no success
 refused-first : (e : Errno) (rest : Outcome) → first_of (Err (Refused e)) rest ≡ Ok tt → ⊥
@@ -109,7 +109,7 @@ module _ (plan : Plan) (heap : ℕ) (goes_on : Bool) (End : View → Type 0) (So
         after-it : After c
         after-it = ⊎_elim
             (λ took. subst After (sym (ap (λ (a : Option (List ℕ)). came_to (verdict a)) took.said ∙ law.passes before.0))
-            (let done : row before.0 (message_of plan act) ≡ Ok took.next = sym (row-decoded before.0 (message_of plan act) law.message) ∙ took.row in
+            (let done : row before.0 (act_message plan act) ≡ Ok took.next = sym (row-decoded before.0 (act_message plan act) law.message) ∙ took.row in
             (took.next, took.on, law.shows before.0 took.next before-shows done)))
             (λ rest. ⊎_elim
             (λ it. subst After (sym (ap came_to (ap verdict it.said ∙ verdict-number it.error it.number))) (before.0, it.on, before-shows))
@@ -117,14 +117,14 @@ module _ (plan : Plan) (heap : ℕ) (goes_on : Bool) (End : View → Type 0) (So
             (λ it. subst After (sym (ap came_to (ap verdict it.said ∙ verdict-number it.error it.number))) (before.0, it.on, before-shows))
             (λ it. subst After (sym (ap came_to (ap verdict it.said))) tt)
             rest) rest)
-            (exchange-came means (message_spelling (message_of plan act)) answer w mid f on x).way
+            (exchange-came means (message_spelling (act_message plan act)) answer w mid f on x).way
 
         -- what is left to say, by what the act came to and whether acts go on behind it
         Left : Outcome → Bool → Type 0
         Left p b =
-            let a = came plan act kept (lag_of met.0) p in
+            let a = performed plan act kept (lag_of met.0) p in
             (ms : List Meeting) × Onwards b ms mid v (ActsDid means plan heap goes_on a.kept acts ms mid v)
-            × (result ≡ (joined act a ms b (walk plan heap goes_on next_of a.kept ms acts)).outcome) × (result ≡ Ok tt → Ending v)
+            × (result ≡ (followed_by act a ms b (walk plan heap goes_on next_of a.kept ms acts)).outcome) × (result ≡ Ok tt → Ending v)
 
         OnPassed : Type 0
         OnPassed = Shows mid later → (rest : Outcome) → More rest → Came (after plan act kept) acts mid v rest
@@ -141,7 +141,7 @@ module _ (plan : Plan) (heap : ℕ) (goes_on : Bool) (End : View → Type 0) (So
         stopped : (fault : HostFault) → (v ≡ mid) × (result ≡ Err fault) → Left (Err fault) false
         stopped fault (none, is) = ([], (refl, none), is, λ ok. absurd (let no : Err fault ≡ Ok tt = sym is ∙ ok in cc no))
 
-        by : (p : Outcome) → After p → Behind (goes_past goes_on p) p More (v ≡ mid) result → OnPassed → OnRefused → Left p (goes_past goes_on (came plan act kept (lag_of met.0) p).outcome)
+        by : (p : Outcome) → After p → Behind (goes_past goes_on p) p More (v ≡ mid) result → OnPassed → OnRefused → Left p (goes_past goes_on (performed plan act kept (lag_of met.0) p).outcome)
         by (Ok done) there (rest, more, is) on_passed on_refused =
             let r = on_passed there rest more in
             (r.meetings, r.did, is ∙ r.is, λ ok. r.ends (sym is ∙ ok))

@@ -22,15 +22,15 @@ use Rattle.host_widgets.specs.declared.kept.Found.{Found}
 use Rattle.host_widgets.specs.declared.kept.Found.TheVariants.{Closed, Open, Prepared, Running, Paused, On as Found_On}
 use Rattle.host_widgets.specs.declared.kept.StreamRec.{StreamRec}
 use Rattle.host_widgets.specs.declared.kept.Record.{Record}
-use Rattle.host_widgets.specs.HostRecord.{closed, no_stream, is_in_range}
+use Rattle.host_widgets.specs.HostRecord.{closed, no_stream, are_in_range}
 use Rattle.host_widgets.specs.Kept.{changed, with_stream, control_at}
 use Rattle.host_widgets.specs.Expected.{phase_of, stream_view, loaded_heap}
 use Rattle.host_widgets.specs.StateOf.{empty_rings}
 use Rattle.host_widgets.specs.Host.{IsRecordOf, conflicts, errno}
-use Rattle.host_widgets.specs.HostActs.{Act, Prepare, after, prepared}
+use Rattle.host_widgets.specs.HostActs.{Act, Prepare, after, prepared_stream}
 use Rattle.host_widgets.specs.ActLists.{prepare_by, prepare_acts}
 use Rattle.host_widgets.specs.OneAct.{own}
-use Rattle.host_widgets.specs.ViewOf.{view_by, graph_by, setting_by}
+use Rattle.host_widgets.specs.ViewOf.{record_view, graph_by, record_setting}
 use Rattle.host_widgets.proofs.ActsCome.{answer_by}
 use Rattle.host_widgets.proofs.ActsShow.{all-shown, prepare-seen, prepare-shows}
 use Rattle.host_widgets.proofs.ReadyWays.{has_host}
@@ -76,21 +76,21 @@ stays-set host other c (s ∷ ss) (r ∷ rs) so = (λ here. by (s.host == host) 
     by false is = is
 
 -- parameters that a stream had before come back
-set-back : (host : ℕ) (p : Params) (c : StreamRec) (ss : List StreamPlan) (rs : List StreamRec) → AllAt (λ x. x ≡ record { found = Prepared; params = Some p }) host ss rs → set_at host (prepared p) ss (set_at host (λ r. c) ss rs) ≡ rs
+set-back : (host : ℕ) (p : Params) (c : StreamRec) (ss : List StreamPlan) (rs : List StreamRec) → AllAt (λ x. x ≡ record { found = Prepared; params = Some p }) host ss rs → set_at host (prepared_stream p) ss (set_at host (λ r. c) ss rs) ≡ rs
 set-back host p c [] rs so = refl
 set-back host p c (s ∷ ss) [] so = refl
 set-back host p c (s ∷ ss) (r ∷ rs) so = λ i. by (s.host == host) refl i ∷ set-back host p c ss rs so.1 i
   where
-    by : (b : Bool) → (s.host == host) ≡ b → (if b then prepared p (if b then c else r) else (if b then c else r)) ≡ r
+    by : (b : Bool) → (s.host == host) ≡ b → (if b then prepared_stream p (if b then c else r) else (if b then c else r)) ≡ r
     by true is = sym (so.0 is)
     by false is = refl
 
-set-same : (host : ℕ) (p : Params) (ss : List StreamPlan) (rs : List StreamRec) → AllAt (λ x. x ≡ record { found = Prepared; params = Some p }) host ss rs → set_at host (prepared p) ss rs ≡ rs
+set-same : (host : ℕ) (p : Params) (ss : List StreamPlan) (rs : List StreamRec) → AllAt (λ x. x ≡ record { found = Prepared; params = Some p }) host ss rs → set_at host (prepared_stream p) ss rs ≡ rs
 set-same host p [] rs so = refl
 set-same host p (s ∷ ss) [] so = refl
 set-same host p (s ∷ ss) (r ∷ rs) so = λ i. by (s.host == host) refl i ∷ set-same host p ss rs so.1 i
   where
-    by : (b : Bool) → (s.host == host) ≡ b → (if b then prepared p r else r) ≡ r
+    by : (b : Bool) → (s.host == host) ≡ b → (if b then prepared_stream p r else r) ≡ r
     by true is = sym (so.0 is)
     by false is = refl
 
@@ -173,7 +173,7 @@ module _ (plan : Plan) where
   these-set (s ∷ ss) kept = (was-set s.host unprepared plan.streams (bare_from ss kept).streams, more-set s.host ss (bare_from ss kept).streams (these-set ss kept))
 
   -- where none is prepared, the view is that of all closed
-  pub bare-view : (kept : Record) → IsRecordOf plan kept → (view_by plan (bare_from plan.streams kept)) ≡ record { graph = graph_by plan kept; streams = map stream_view (zip plan.streams (map (λ (s : StreamPlan). closed) plan.streams)) }
+  pub bare-view : (kept : Record) → IsRecordOf plan kept → (record_view plan (bare_from plan.streams kept)) ≡ record { graph = graph_by plan kept; streams = map stream_view (zip plan.streams (map (λ (s : StreamPlan). closed) plan.streams)) }
   bare-view kept is = λ i. record {
     graph = graph_by plan (record { power = kept.power; streams = kept.streams; controls = bare-controls plan.streams kept i });
     streams = all-bare plan.streams (bare_from plan.streams kept).streams (bare-is plan.streams kept is).streams (these-set plan.streams kept) i;
@@ -193,9 +193,9 @@ module _ (plan : Plan) where
 
   -- ---- one that is prepared
 
-  module _ (heap : ℕ) (sound : IsSound plan) (host : ℕ) (some : has_host plan.streams host ≡ true) (p : Params) (range : is_in_range p ≡ true) where
+  module _ (heap : ℕ) (sound : IsSound plan) (host : ℕ) (some : has_host plan.streams host ≡ true) (p : Params) (range : are_in_range p ≡ true) where
     abbrev shown_state : Record → FwState
-    shown_state now = record { heap = (fresh heap).heap; clock = 0; graph = (view_by plan now).graph; streams = (view_by plan now).streams; rings = []; histories = []; staging = [] }
+    shown_state now = record { heap = (fresh heap).heap; clock = 0; graph = (record_view plan now).graph; streams = (record_view plan now).streams; rings = []; histories = []; staging = [] }
 
     -- where streams agree after it, the firmware does not refuse it
     pub own-none : (now : Record) → IsRecordOf plan now → IsRecordOf plan (after plan (Prepare host p) now) → AllAt (λ r. takes_params r.found ≡ true) host plan.streams now.streams → own plan heap now (Prepare host p) ≡ None
@@ -204,16 +204,16 @@ module _ (plan : Plan) where
         set : StreamView → StreamView
         set s = set_stream host phases.Prepared (Some p) s
 
-        same : map stream_view (zip plan.streams (set_at host (prepared p) plan.streams now.streams)) ≡ map set (map stream_view (zip plan.streams now.streams))
-        same = all-shown host (prepared p) set
+        same : map stream_view (zip plan.streams (set_at host (prepared_stream p) plan.streams now.streams)) ≡ map set (map stream_view (zip plan.streams now.streams))
+        same = all-shown host (prepared_stream p) set
             (λ s r is. ap (λ (b : Bool). if b then record { host = s.host; phase = phases.Prepared; params = Some p } else stream_view (s, r)) is)
             (λ s r is. ap (λ (b : Bool). if b then record { host = s.host; phase = phases.Prepared; params = Some p } else stream_view (s, r)) is)
             plan.streams now.streams
 
         setting : Comp → Setting
-        setting c = setting_by c.kind (control_at plan now c.id)
+        setting c = record_setting c.kind (control_at plan now c.id)
 
-        agrees-so : agree (view_by plan (after plan (Prepare host p) now)) ≡ not (list_any (conflicts plan host p) (zip plan.streams now.streams))
+        agrees-so : agree (record_view plan (after plan (Prepare host p) now)) ≡ not (list_any (conflicts plan host p) (zip plan.streams now.streams))
         agrees-so =
             ap (λ (ss : List StreamView). agree (record { graph = graph_by plan now; streams = ss })) same
             ∙ agrees plan sound setting now.streams is.streams host some (shown_state now) refl is.shapes p (and_parts (is_rate p.rate) _ range).0
@@ -253,15 +253,15 @@ module _ (plan : Plan) where
           own-none before before-is (subst (IsRecordOf plan) (sym back) (bare-is ss kept is)) takes-before
           ∙ sym (own-none kept is (subst (IsRecordOf plan) (sym same-kept) is) takes-kept)
 
-      pub prepare-met : IsMet plan heap (IsFine heap) kept (view_by plan before) (view_by plan later) (Prepare host p)
+      pub prepare-met : IsMet plan heap (IsFine heap) kept (record_view plan before) (record_view plan later) (Prepare host p)
       prepare-met =
           let a = prepare-comes plan sound before before-is host some heap p range takes-before in
           record {
             message = a.message;
             passes = a.passes;
             answers = λ f shows. (let it = a.answers f shows in (it.0, it.1 ∙ ap (λ (o : Option Errno). answer_by o it.0) same-own));
-            shows = λ f f' shows done. prepare-shows plan before f f' shows host p done ∙ ap (view_by plan) back;
-            stays = λ f f' shows done so. subst (IsFine heap) (sym (prepare-seen plan before f f' shows host p done)) (fine-seen heap (view_by plan (after plan (Prepare host p) before)) f so);
+            shows = λ f f' shows done. prepare-shows plan before f f' shows host p done ∙ ap (record_view plan) back;
+            stays = λ f f' shows done so. subst (IsFine heap) (sym (prepare-seen plan before f f' shows host p done)) (fine-seen heap (record_view plan (after plan (Prepare host p) before)) f so);
           }
 
   -- ---- all that are
@@ -277,7 +277,7 @@ module _ (plan : Plan) where
 
   module _ (heap : ℕ) (sound : IsSound plan) (kept : Record) (is : IsRecordOf plan kept) where
     abbrev MetFrom : List StreamPlan → List Act → Type 0
-    MetFrom ss acts = AreMet plan heap false (λ v. v ≡ view_by plan kept) (IsFine heap) kept (view_by plan (bare_from ss kept)) acts
+    MetFrom ss acts = AreMet plan heap false (λ v. v ≡ record_view plan kept) (IsFine heap) kept (record_view plan (bare_from ss kept)) acts
 
     from-here : (ss : List StreamPlan) (rs : List StreamRec) → Ascends (λ (s : StreamPlan). s.host) ss → AllWere kept ss rs → list_all may rs ≡ true → list_any is_live rs ≡ false → MetFrom ss (flat_map prepare_acts (zip ss rs))
     unfolding Ascends
@@ -299,15 +299,15 @@ module _ (plan : Plan) where
             let now = bare_from ss kept in
             let there = others-stand (λ x. x ≡ r) s.host ss kept up.0 were.1 in
             let same = same-shown s.host plan.streams now.streams (all-at (λ x. x ≡ r) IsIdle (λ x stands. (ap (λ (y : StreamRec). phase_of y.found) stands ∙ ap phase_of is_so ∙ shows, ap (λ (y : StreamRec). y.params) stands ∙ none_there)) s.host plan.streams now.streams there) in
-            subst (λ (v : View). AreMet plan heap false (λ x. x ≡ view_by plan kept) (IsFine heap) kept v rest) (λ i. record { graph = graph_by plan now; streams = sym same i }) more
+            subst (λ (v : View). AreMet plan heap false (λ x. x ≡ record_view plan kept) (IsFine heap) kept v rest) (λ i. record { graph = graph_by plan now; streams = sym same i }) more
 
         by : (found : Found) (params : Option Params) → r.found ≡ found → r.params ≡ params → MetFrom ss rest → may r ≡ true → is_live r ≡ false → MetFrom (s ∷ ss) (prepare_by s.host found params ++ rest)
         by Prepared (Some p) is_so has more fair still =
             let was = all-at (λ x. x ≡ r) (λ x. x ≡ record { found = Prepared; params = Some p }) (whole Prepared (Some p) is_so has) s.host plan.streams kept.streams were.1 in
-            let range : is_in_range p ≡ true = (λ i. may (record { found = sym is_so i; params = sym has i })) ∙ fair in (
-              view_by plan (bare_from ss kept),
+            let range : are_in_range p ≡ true = (λ i. may (record { found = sym is_so i; params = sym has i })) ∙ fair in (
+              record_view plan (bare_from ss kept),
               prepare-met heap sound s.host were.0 p range kept is ss up.0 was,
-              subst (λ (k : Record). AreMet plan heap false (λ v. v ≡ view_by plan kept) (IsFine heap) k (view_by plan (bare_from ss kept)) rest) (sym (same-kept heap sound s.host were.0 p range kept is ss up.0 was)) more,
+              subst (λ (k : Record). AreMet plan heap false (λ v. v ≡ record_view plan kept) (IsFine heap) k (record_view plan (bare_from ss kept)) rest) (sym (same-kept heap sound s.host were.0 p range kept is ss up.0 was)) more,
               λ on. absurd (false≢true on),
             )
         by Prepared None is_so has more fair still = absurd (false≢true ((λ i. may (record { found = sym is_so i; params = sym has i })) ∙ fair))

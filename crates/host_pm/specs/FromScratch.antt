@@ -12,11 +12,11 @@ use Rattle.host_widgets.specs.declared.kept.StreamRec.{StreamRec}
 use Rattle.host_widgets.specs.declared.kept.Record.{Record}
 use Rattle.host_widgets.specs.declared.trigger.Trigger.TheVariants.{Start, Pause}
 use Rattle.host_widgets.specs.ActLists.{bring_back}
-use Rattle.host_widgets.specs.ActMessages.{message_of}
+use Rattle.host_widgets.specs.ActMessages.{act_message}
 use Rattle.tplg_plan.specs.Sound.{IsSound}
 use Rattle.host_widgets.specs.Host.{Fits, IsRecordOf}
 use Rattle.host_widgets.specs.HostActs.{Act, Trig}
-use Rattle.host_widgets.specs.Keeps.{Keeps}
+use Rattle.host_widgets.specs.Keeps.{KeepsRecord}
 use Rattle.host_widgets.specs.Kept.{went_down}
 
 -- a stream that runs was started, and one that is paused was started and then paused
@@ -35,15 +35,15 @@ from_scratch plan kept = bring_back plan (went_down kept) ++ flat_map start_acts
 -- the firmware takes the message of each act, one after another with no tick between, and comes to this state
 abbrev pub TakesActs : Plan → FwState → List Act → FwState → Type 0
 TakesActs plan f [] g = g ≡ f
-TakesActs plan f (act ∷ acts) g = (next : FwState) × (row_of f (decoded (message_spelling (message_of plan act))) ≡ Ok next) × TakesActs plan next acts g
+TakesActs plan f (act ∷ acts) g = (next : FwState) × (row_of f (decoded (message_spelling (act_message plan act))) ≡ Ok next) × TakesActs plan next acts g
 
 -- a fresh firmware takes all that the record says, and keeps it then; so each state that keeps the record, whatever led to it, shows
 -- what this one shows, and has the same pieces in its heap
 pub record IsFromScratch (plan : Plan) (heap : ℕ) (kept : Record) : Type 0 where
   pub state : FwState
   pub taken : TakesActs plan (fresh heap) (from_scratch plan kept) state
-  pub keeps : Keeps plan heap kept state
-  pub same : (g : FwState) → Keeps plan heap kept g → (view_of g ≡ view_of state) × (g.heap ≡ state.heap)
+  pub keeps : KeepsRecord plan heap kept state
+  pub same : (g : FwState) → KeepsRecord plan heap kept g → (view_of g ≡ view_of state) × (g.heap ≡ state.heap)
 
 -- so it is of every record of a sound plan, where the stated sizes fit
 abbrev pub EachFromScratch : Type 0

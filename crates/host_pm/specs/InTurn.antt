@@ -6,7 +6,7 @@ use Rattle.mbox_link.specs.Calls.{World, Meaning, Exchanged}
 use Rattle.tplg_plan.specs.declared.plans.Plan.{Plan}
 use Rattle.host_widgets.specs.declared.answers.HostFault.{HostFault}
 use Rattle.host_widgets.specs.HostActs.{Act}
-use Rattle.host_widgets.specs.ActMessages.{message_of}
+use Rattle.host_widgets.specs.ActMessages.{act_message}
 use Rattle.host_widgets.specs.ActCalls.{came_to}
 use Rattle.host_widgets.specs.Host.{Outcome, Sent, verdict}
 use Rattle.host_widgets.specs.Walk.{goes_past, first_of}
@@ -26,5 +26,5 @@ Behind false one More Ends result = Ends × (result ≡ one)
 abbrev pub InTurn : {D : Type 0} → Meaning D → Plan → Bool → List Act → World D → World D → Outcome → Type 0
 InTurn means plan goes_on [] w v result = (v ≡ w) × (result ≡ Ok tt)
 InTurn {D} means plan goes_on (act ∷ acts) w v result =
-    (answer : Option (List ℕ)) × (mid : World D) × Exchanged means (message_spelling (message_of plan act)) answer w mid
+    (answer : Option (List ℕ)) × (mid : World D) × Exchanged means (message_spelling (act_message plan act)) answer w mid
     × Behind (goes_past goes_on (came_to (verdict answer))) (came_to (verdict answer)) (λ rest. InTurn means plan goes_on acts mid v rest) (v ≡ mid) result

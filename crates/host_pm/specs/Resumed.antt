@@ -5,14 +5,14 @@ use Rattle.mbox_link.specs.Calls.{Meaning}
 use Rattle.tplg_plan.specs.declared.plans.Plan.{Plan}
 use Rattle.host_widgets.specs.declared.kept.Record.{Record}
 use Rattle.host_widgets.specs.Host.{Outcome, ticks_put}
-use Rattle.host_widgets.specs.Keeps.{Keeps}
+use Rattle.host_widgets.specs.Keeps.{KeepsRecord}
 use Rattle.host_widgets.specs.StateOf.{empty_rings}
 
 -- it is on in a state that keeps the record, its clock has counted so many ticks, and no audio was moved
 pub record Resumed {D : Type 0} (means : Meaning D) (plan : Plan) (heap : ℕ) (kept : Record) (clock_now : ℕ) (device : D) : Type 0 where
   pub state : FwState
   pub on : means.on device ≡ Some state
-  pub keeps : Keeps plan heap kept state
+  pub keeps : KeepsRecord plan heap kept state
   pub clock : state.clock ≡ clock_now
   pub rings : state.rings ≡ empty_rings plan.graph
 

@@ -13,7 +13,7 @@ ghost use Rattle.tplg_plan.specs.Sound.{IsSound};
 ghost use Rattle.host_widgets.specs.Expected.{phase_of};
 ghost use Rattle.host_widgets.specs.Host.{Agrees, IsRecordOf};
 ghost use Rattle.host_widgets.specs.Orders.{ActsCame, Carried, Tested, resuming};
-ghost use Rattle.host_widgets.specs.ViewOf.{view_by};
+ghost use Rattle.host_widgets.specs.ViewOf.{record_view};
 ghost use Rattle.host_pm.specs.InTurn.{InTurn};
 ghost use Rattle.host_pm.specs.PowerTests.{resume_fault};
 ghost use Rattle.host_pm.specs.Resumed.{ResumeLeft};
@@ -95,7 +95,7 @@ fn bring_back<P: Dsp>(
     requires room { HasRoom (61440 * P.means.pending dsp.old) out.old }
     ensures acts { ActsCame P.means plan.now heap false (bring_back plan.now kept.old) kept.old kept.new (world dsp.old io.old out.old) (world dsp.new io.new out.new) result }
     ensures kept { kept.new ≡ kept.old }
-    ensures shows { result ≡ Ok tt → option_map view_of (P.means.on dsp.new) ≡ Some (view_by plan.now kept.old) }
+    ensures shows { result ≡ Ok tt → option_map view_of (P.means.on dsp.new) ≡ Some (record_view plan.now kept.old) }
     ensures left { ResumeLeft P.means plan.now heap kept.old dsp.old result dsp.new }
     ensures inputs { io.new ≡ io.old }
     ensures outputs { out.new ≡ out.old }

@@ -15,10 +15,10 @@ use Rattle.tplg_plan.specs.Sound.{IsSound}
 use Rattle.host_widgets.specs.declared.answers.HostFault.TheVariants.{Refused, LinkDown}
 use Rattle.host_widgets.specs.declared.kept.Record.{Record}
 use Rattle.host_widgets.specs.Host.{Outcome, IsRecordOf, verdict, errno}
-use Rattle.host_widgets.specs.Keeps.{Keeps}
+use Rattle.host_widgets.specs.Keeps.{KeepsRecord}
 use Rattle.host_widgets.specs.HostActs.{Act, after, fresh_in}
-use Rattle.host_widgets.specs.ActMessages.{message_of}
-use Rattle.host_widgets.specs.ViewOf.{view_by}
+use Rattle.host_widgets.specs.ActMessages.{act_message}
+use Rattle.host_widgets.specs.ViewOf.{record_view}
 use Rattle.host_widgets.specs.OneAct.{own, outcome_by}
 use Rattle.host_widgets.specs.ActCalls.{ActDid, came_to}
 use Rattle.host_widgets.proofs.Exchanges.{came, verdict-number}
@@ -28,14 +28,14 @@ use Rattle.host_widgets.proofs.SoundPlays.{sound-plays}
 use Rattle.host_widgets.proofs.StandingOn.{StandsOn, ReadsOn, LeavesAll, still-stands, stands-by, reads-of, ticks-stand, ticks-leave}
 
 module _ {D : Type 0} (means : Meaning D) (plan : Plan) (heap : ℕ) (goes_on : Bool) (sound : IsSound plan) (kept : Record) (act : Act) (is : IsTaken plan kept act) (acts : List Act) (m : Meeting) (w v : World D)
-    (did : ActDid means plan heap kept act m w v) (f : FwState) (on : means.on w.device ≡ Some f) (keeps : Keeps plan heap kept f) (ready : AreReady plan goes_on (act ∷ acts) f) where
+    (did : ActDid means plan heap kept act m w v) (f : FwState) (on : means.on w.device ≡ Some f) (keeps : KeepsRecord plan heap kept f) (ready : AreReady plan goes_on (act ∷ acts) f) where
   -- the device keeps this record, and stands these moments later; and this is so of its state
   pub record Holds (So : FwState → Type 0) (now : Record) (moments : List Moment) : Type 0 where
     pub state : FwState
     pub so : So state
     pub is_on : means.on v.device ≡ Some state
     pub record_now : IsRecordOf plan now
-    pub keeps_now : Keeps plan heap now state
+    pub keeps_now : KeepsRecord plan heap now state
     pub stands : StandsOn (Some f) w.io (Some state) v.io moments
 
   -- the acts behind it find staged what they ask
@@ -47,7 +47,7 @@ module _ {D : Type 0} (means : Meaning D) (plan : Plan) (heap : ℕ) (goes_on : 
 
   -- after a link that failed the device is cut, and no more is said than that the ticks before the message came
   abbrev pub Then : Outcome → Type 0
-  Then (Ok done) = Holds IsReadyThen (after plan act kept) (replicate m.lag Tick ++ Now (view_by plan (after plan act kept)) (fresh_in act) ∷ [])
+  Then (Ok done) = Holds IsReadyThen (after plan act kept) (replicate m.lag Tick ++ Now (record_view plan (after plan act kept)) (fresh_in act) ∷ [])
   Then (Err LinkDown) = ReadsOn (Some f) w.io v.io (replicate m.lag Tick)
   Then (Err fault) = Holds IsReadyWhereOn kept (replicate m.lag Tick)
 
@@ -63,14 +63,14 @@ module _ {D : Type 0} (means : Meaning D) (plan : Plan) (heap : ℕ) (goes_on : 
   same : LeavesAll f before.0
   same = ticks-leave m.lag f w.io
 
-  keeps-before : Keeps plan heap kept before.0
+  keeps-before : KeepsRecord plan heap kept before.0
   keeps-before = record { view = same.view ∙ keeps.view; pieces = same.heap ∙ keeps.pieces; rings = same.buffers ∙ keeps.rings }
 
   ticked-on : StandsOn (Some f) w.io (Some before.0) before.1 (replicate m.lag Tick)
-  ticked-on = ticks-stand m.lag f w.io (subst IsPlayable (sym keeps.view) (sound-plays plan sound kept (view_by plan kept).streams))
+  ticked-on = ticks-stand m.lag f w.io (subst IsPlayable (sym keeps.view) (sound-plays plan sound kept (record_view plan kept).streams))
 
   request : List ℕ
-  request = message_spelling (message_of plan act)
+  request = message_spelling (act_message plan act)
 
   -- one whose link failed
   lost : v.io ≡ before.1 → ReadsOn (Some f) w.io v.io (replicate m.lag Tick)
@@ -88,12 +88,12 @@ module _ {D : Type 0} (means : Meaning D) (plan : Plan) (heap : ℕ) (goes_on : 
   }
 
   -- one that passed
-  passes : (next : FwState) → means.on v.device ≡ Some next → v.io ≡ before.1 → row before.0 (message_of plan act) ≡ Ok next →
-      Holds IsReadyThen (after plan act kept) (replicate m.lag Tick ++ Now (view_by plan (after plan act kept)) (fresh_in act) ∷ [])
+  passes : (next : FwState) → means.on v.device ≡ Some next → v.io ≡ before.1 → row before.0 (act_message plan act) ≡ Ok next →
+      Holds IsReadyThen (after plan act kept) (replicate m.lag Tick ++ Now (record_view plan (after plan act kept)) (fresh_in act) ∷ [])
   passes next is_on io done =
       let r = ready before.0 same.staging in
       let l = is.leaves before.0 next keeps-before.view keeps-before.rings r.0 done in
-      let now : List Moment = Now (view_by plan (after plan act kept)) (fresh_in act) ∷ [] in
+      let now : List Moment = Now (record_view plan (after plan act kept)) (fresh_in act) ∷ [] in
       record {
         state = next;
         so = r.1 next done;
@@ -111,14 +111,14 @@ module _ {D : Type 0} (means : Meaning D) (plan : Plan) (heap : ℕ) (goes_on : 
 
   pub act-holds : Then (outcome_by m.fate (own plan heap kept act))
   act-holds =
-      let c = came means (message_spelling (message_of plan act)) did.answer w v f on did.exchanged in
+      let c = came means (message_spelling (act_message plan act)) did.answer w v f on did.exchanged in
       let io = c.endpoints ∙ ap (λ (p : FwState × Io). p.1) before-is in
       ⊎_elim
       (λ took.
       let said = ap (λ (a : Option (List ℕ)). came_to (verdict a)) took.said ∙ is.passes (ticks (means.pending w.device - means.pending v.device) (f, w.io)).0 in
       subst by_said (let o : Ok tt ≡ outcome_by m.fate (own plan heap kept act) = sym said ∙ did.came in o)
       (passes took.next took.on io
-      (sym (row-decoded before.0 (message_of plan act) is.message) ∙ ap (λ (p : FwState × Io). row_of p.0 (decoded (message_spelling (message_of plan act)))) (sym before-is) ∙ took.row)))
+      (sym (row-decoded before.0 (act_message plan act) is.message) ∙ ap (λ (p : FwState × Io). row_of p.0 (decoded (message_spelling (act_message plan act)))) (sym before-is) ∙ took.row)))
       (λ rest. ⊎_elim
       (λ it. subst by_said (let o : Err (Refused (errno it.error)) ≡ outcome_by m.fate (own plan heap kept act) = sym (ap came_to (ap verdict it.said ∙ verdict-number it.error it.number)) ∙ did.came in o)
       (stays (it.on ∙ ap (λ (p : FwState × Io). Some p.0) before-is) io))

@@ -19,12 +19,12 @@ use Rattle.host_widgets.specs.declared.answers.HostFault.TheVariants.{Refused, L
 use Rattle.host_widgets.specs.declared.kept.Record.{Record}
 use Rattle.tplg_plan.specs.Sound.{IsSound}
 use Rattle.host_widgets.specs.HostActs.{Act}
-use Rattle.host_widgets.specs.ActMessages.{message_of}
+use Rattle.host_widgets.specs.ActMessages.{act_message}
 use Rattle.host_widgets.specs.ActLists.{bring_up}
 use Rattle.host_widgets.specs.Expected.{needed_by}
 use Rattle.host_widgets.specs.Host.{Outcome, IsRecordOf, Fits, errno, verdict}
-use Rattle.host_widgets.specs.OneAct.{own, outcome_by, lag_of, came}
-use Rattle.host_widgets.specs.Walk.{joined, walk}
+use Rattle.host_widgets.specs.OneAct.{own, outcome_by, lag_of, performed}
+use Rattle.host_widgets.specs.Walk.{followed_by, walk}
 use Rattle.host_widgets.specs.ActCalls.{ActsDid, ActsSent, Counted, Onwards, came_to, next_of}
 use Rattle.host_widgets.specs.Orders.{ActsCame}
 use Rattle.host_widgets.proofs.Effects.{FollowAll, effect}
@@ -46,7 +46,7 @@ Because means refusal old (Err fault) new = ⊥
 abbrev pub ActsBecause : {D : Type 0} → Meaning D → Plan → ℕ → Record → List Act → World D → World D → Outcome → Type 0
 ActsBecause means plan heap kept [] w v result = (v ≡ w) × (result ≡ Ok tt)
 ActsBecause {D} means plan heap kept (act ∷ acts) w v result =
-    (mid : World D) × (answer : Option (List ℕ)) × Exchanged means (message_spelling (message_of plan act)) answer w mid ×
+    (mid : World D) × (answer : Option (List ℕ)) × Exchanged means (message_spelling (act_message plan act)) answer w mid ×
     Because means (own plan heap kept act) w.device (came_to (verdict answer)) mid.device ×
     MatchResult (verdict answer) (λ reply. ActsBecause means plan heap kept acts mid v result) (λ fault. (v ≡ mid) × (result ≡ Err fault))
 
@@ -104,7 +104,7 @@ module _ {D : Type 0} (means : Meaning D) (plan : Plan) (heap : ℕ) where
 
         failed : (fault : HostFault) → GoesOn means plan heap kept act acts m ms mid v (Err fault) → (v ≡ mid) × (outcome_from means plan heap kept act acts m ms (Err fault) ≡ Err fault)
         failed fault =
-            subst (λ (b : Bool). Onwards b ms mid v (ActsDid means plan heap false kept acts ms mid v) → (v ≡ mid) × ((joined act (came plan act kept (lag_of m) (Err fault)) ms b (walk plan heap false next_of kept ms acts)).outcome ≡ Err fault)) (sym (ends-at fault))
+            subst (λ (b : Bool). Onwards b ms mid v (ActsDid means plan heap false kept acts ms mid v) → (v ≡ mid) × ((followed_by act (performed plan act kept (lag_of m) (Err fault)) ms b (walk plan heap false next_of kept ms acts)).outcome ≡ Err fault)) (sym (ends-at fault))
             (λ end. (end.1, refl))
 
         by : (r : Result Reply HostFault) → came_to r ≡ outcome_by m.fate (own plan heap kept act) → GoesOn means plan heap kept act acts m ms mid v (outcome_by m.fate (own plan heap kept act)) →
@@ -121,7 +121,7 @@ module _ {D : Type 0} (means : Meaning D) (plan : Plan) (heap : ℕ) where
     -- where a firmware follows them, they end early for a reason
     pub ended-why : (acts : List Act) (w v : World D) (g : FwState) (result : Outcome) (fault : HostFault) → FollowAll plan heap kept g acts → ActsBecause means plan heap kept acts w v result → result ≡ Err fault → Why means plan heap w.device fault v.device
     ended-why [] w v g result fault follow x failed = absurd (let no : Ok tt ≡ Err fault = sym x.1 ∙ failed in cc no)
-    ended-why (act ∷ acts) w v g result fault follow (mid, answer, x, why, on) failed = by (verdict answer) why on (ended-why acts mid v (effect (message_of plan act) g) result fault)
+    ended-why (act ∷ acts) w v g result fault follow (mid, answer, x, why, on) failed = by (verdict answer) why on (ended-why acts mid v (effect (act_message plan act) g) result fault)
       where
         stays : Steady means v.device v.device
         stays = record { faults = NoneFell-same (means.faults v.device); refusals = NoneFell-same (means.refusals v.device); boots = omega arith; pending = omega arith; most = refl }
@@ -132,7 +132,7 @@ module _ {D : Type 0} (means : Meaning D) (plan : Plan) (heap : ℕ) where
         one f why = absurd why
 
         by : (r : Result Reply HostFault) → Because means (own plan heap kept act) w.device (came_to r) mid.device → MatchResult r (λ reply. ActsBecause means plan heap kept acts mid v result) (λ f. (v ≡ mid) × (result ≡ Err f)) →
-            (FollowAll plan heap kept (effect (message_of plan act) g) acts → ActsBecause means plan heap kept acts mid v result → result ≡ Err fault → Why means plan heap mid.device fault v.device) → Why means plan heap w.device fault v.device
+            (FollowAll plan heap kept (effect (act_message plan act) g) acts → ActsBecause means plan heap kept acts mid v result → result ≡ Err fault → Why means plan heap mid.device fault v.device) → Why means plan heap w.device fault v.device
         by (Ok reply) free rest go = why-within w.device mid.device v.device v.device fault x.steady stays (go (follow.1 free) rest failed)
         by (Err f) why end go =
             let same : f ≡ fault = cc (sym end.1 ∙ failed) in

@@ -15,8 +15,8 @@ use Rattle.host_widgets.specs.declared.kept.Power.{Power}
 use Rattle.host_widgets.specs.declared.kept.Power.TheVariants.{On}
 use Rattle.host_widgets.specs.declared.kept.Record.{Record}
 use Rattle.host_widgets.specs.HostActs.{Act, after}
-use Rattle.host_widgets.specs.ActMessages.{message_of}
-use Rattle.host_widgets.specs.ViewOf.{view_by}
+use Rattle.host_widgets.specs.ActMessages.{act_message}
+use Rattle.host_widgets.specs.ViewOf.{record_view}
 use Rattle.host_widgets.specs.Host.{Outcome, Agrees, Sides, verdict, errno}
 use Rattle.host_widgets.specs.OneAct.{own, outcome_by}
 use Rattle.host_widgets.specs.ActCalls.{ActDid, came_to}
@@ -35,10 +35,10 @@ state-with (Some f) v is = (f, refl, cc is)
 module _ {D : Type 0} (means : Meaning D) (plan : Plan) (heap : ℕ) (kept : Record) (act : Act) (s : IsShown plan kept act) (a : IsAnswered plan heap kept act)
     (w : World D) (agrees : Agrees means plan kept w.device) (power : kept.power ≡ On) where
   abbrev request : List ℕ
-  request = message_spelling (message_of plan act)
+  request = message_spelling (act_message plan act)
 
-  state : (f : FwState) × (means.on w.device ≡ Some f) × (view_of f ≡ view_by plan kept)
-  state = state-with (means.on w.device) (view_by plan kept) (subst (λ (x : Power). Sides means plan kept w.device x) power agrees.sides)
+  state : (f : FwState) × (means.on w.device ≡ Some f) × (view_of f ≡ record_view plan kept)
+  state = state-with (means.on w.device) (record_view plan kept) (subst (λ (x : Power). Sides means plan kept w.device x) power agrees.sides)
 
   -- the power stays
   after-power : (after plan act kept).power ≡ On
@@ -49,7 +49,7 @@ module _ {D : Type 0} (means : Meaning D) (plan : Plan) (heap : ℕ) (kept : Rec
     abbrev before : FwState × Io
     before = ticks (means.pending w.device - means.pending x.sent.device) (state.0, w.io)
 
-    before-shows : view_of before.0 ≡ view_by plan kept
+    before-shows : view_of before.0 ≡ record_view plan kept
     before-shows = still (means.pending w.device - means.pending x.sent.device) (state.0, w.io) ∙ state.2
 
     comes : (m : Meeting) × (did : ActDid means plan heap kept act m w x.sent) × (did.answer ≡ x.answer)
@@ -75,7 +75,7 @@ module _ {D : Type 0} (means : Meaning D) (plan : Plan) (heap : ℕ) (kept : Rec
         ends : PlainEnd means heap (Ok tt) kept kept' x.sent v
         ends = subst (λ (o : Outcome). PlainEnd means heap o kept kept' x.sent v) is x.ends
 
-        taken : (next : FwState) → means.on x.sent.device ≡ Some next → row before.0 (message_of plan act) ≡ Ok next → Agrees means plan (after plan act kept) v.device
+        taken : (next : FwState) → means.on x.sent.device ≡ Some next → row before.0 (act_message plan act) ≡ Ok next → Agrees means plan (after plan act kept) v.device
         taken next on row_is = record {
           record_is = (s.shown before.0 next before-shows row_is).0;
           sides = subst (λ (p : Power). Sides means plan (after plan act kept) v.device p) (sym after-power)
@@ -84,7 +84,7 @@ module _ {D : Type 0} (means : Meaning D) (plan : Plan) (heap : ℕ) (kept : Rec
 
         agrees-now : Agrees means plan (after plan act kept) v.device
         agrees-now = ⊎_elim
-            (λ took. taken took.next took.on (sym (row-decoded before.0 (message_of plan act) s.message) ∙ took.row))
+            (λ took. taken took.next took.on (sym (row-decoded before.0 (act_message plan act) s.message) ∙ took.row))
             (λ rest. ⊎_elim
             (λ it. absurd (let no : Ok tt ≡ Err (Refused (errno it.error)) = sym is ∙ x.said ∙ ap came_to (ap verdict it.said ∙ verdict-number it.error it.number) in cc no))
             (λ rest. ⊎_elim

@@ -16,9 +16,9 @@ use Rattle.host_widgets.proofs.Effects.{row-decoded}
 use Rattle.mbox_link.specs.Meetings.{Meeting}
 use Rattle.host_widgets.specs.declared.kept.Record.{Record}
 use Rattle.host_widgets.specs.HostActs.{Act}
-use Rattle.host_widgets.specs.ActMessages.{message_of}
+use Rattle.host_widgets.specs.ActMessages.{act_message}
 use Rattle.host_widgets.specs.OneAct.{own, outcome_by}
-use Rattle.host_widgets.specs.ViewOf.{view_by}
+use Rattle.host_widgets.specs.ViewOf.{record_view}
 use Rattle.host_widgets.specs.ActCalls.{ActDid, came_to}
 
 -- a row's answer, by what the firmware itself refuses
@@ -36,7 +36,7 @@ was-refused None g error is = absurd (cc is)
 was-refused (Some e) g error is = let same : e.0 ≡ error = cc is in ap (λ (x : ℤ). Some (errno x)) same
 
 module _ {D : Type 0} (means : Meaning D) (plan : Plan) (heap : ℕ) (kept : Record) (act : Act) (w v : World D) (f : FwState) (on : means.on w.device ≡ Some f) (answer : Option (List ℕ))
-    (exchanged : Exchanged means (message_spelling (message_of plan act)) answer w v) where
+    (exchanged : Exchanged means (message_spelling (act_message plan act)) answer w v) where
   -- the state and the endpoints right before the message
   abbrev pub before : FwState × Io
   before = ticks (means.pending w.device - means.pending v.device) (f, w.io)
@@ -45,11 +45,11 @@ module _ {D : Type 0} (means : Meaning D) (plan : Plan) (heap : ℕ) (kept : Rec
   Did = (m : Meeting) × (did : ActDid means plan heap kept act m w v) × (did.answer ≡ answer)
 
   -- the message met that lag, and a fate that its answer shows
-  pub act-did : IsMessage (message_of plan act) → ((g : FwState) → came_to (verdict (Some (done_reply (body_of g (decoded (message_spelling (message_of plan act))))))) ≡ Ok tt) →
-      (next : FwState) → row before.0 (message_of plan act) ≡ answer_by (own plan heap kept act) next → Did
+  pub act-did : IsMessage (act_message plan act) → ((g : FwState) → came_to (verdict (Some (done_reply (body_of g (decoded (message_spelling (act_message plan act))))))) ≡ Ok tt) →
+      (next : FwState) → row before.0 (act_message plan act) ≡ answer_by (own plan heap kept act) next → Did
   act-did message passes next answered = ⊎_elim
       (λ took.
-      let free = was-free (own plan heap kept act) next took.next (sym answered ∙ sym (row-decoded before.0 (message_of plan act) message) ∙ took.row) in (
+      let free = was-free (own plan heap kept act) next took.next (sym answered ∙ sym (row-decoded before.0 (act_message plan act) message) ∙ took.row) in (
         record { lag = lag; fate = Pass },
         record {
           answer = answer;
@@ -62,7 +62,7 @@ module _ {D : Type 0} (means : Meaning D) (plan : Plan) (heap : ℕ) (kept : Rec
       ))
       (λ rest. ⊎_elim
       (λ it.
-      let same = was-refused (own plan heap kept act) next it.error (sym answered ∙ sym (row-decoded before.0 (message_of plan act) message) ∙ it.row) in (
+      let same = was-refused (own plan heap kept act) next it.error (sym answered ∙ sym (row-decoded before.0 (act_message plan act) message) ∙ it.row) in (
         record { lag = lag; fate = Pass },
         record {
           answer = answer;
@@ -97,7 +97,7 @@ module _ {D : Type 0} (means : Meaning D) (plan : Plan) (heap : ℕ) (kept : Rec
         refl,
       ))
       rest) rest)
-      (came means (message_spelling (message_of plan act)) answer w v f on exchanged).way
+      (came means (message_spelling (act_message plan act)) answer w v f on exchanged).way
     where
       lag : ℕ
       lag = means.pending w.device - means.pending v.device
@@ -110,13 +110,13 @@ still (suc n) p = still n (ticked p)
 -- The other law of one act, of its answer: its message fits, the reply of one that is done passes, and a firmware that shows the
 -- record refuses it exactly where `own` says, with that error.
 pub record IsAnswered (plan : Plan) (heap : ℕ) (kept : Record) (act : Act) : Type 0 where
-  pub message : IsMessage (message_of plan act)
-  pub passes : (f : FwState) → came_to (verdict (Some (done_reply (body_of f (decoded (message_spelling (message_of plan act))))))) ≡ Ok tt
-  pub answers : (f : FwState) → view_of f ≡ view_by plan kept → (next : FwState) × (row f (message_of plan act) ≡ answer_by (own plan heap kept act) next)
+  pub message : IsMessage (act_message plan act)
+  pub passes : (f : FwState) → came_to (verdict (Some (done_reply (body_of f (decoded (message_spelling (act_message plan act))))))) ≡ Ok tt
+  pub answers : (f : FwState) → view_of f ≡ record_view plan kept → (next : FwState) × (row f (act_message plan act) ≡ answer_by (own plan heap kept act) next)
 
 -- so its exchange came to what the record says
-pub act-comes : {D : Type 0} (means : Meaning D) (plan : Plan) (heap : ℕ) (kept : Record) (act : Act) → IsAnswered plan heap kept act → (w v : World D) (f : FwState) (on : means.on w.device ≡ Some f) → view_of f ≡ view_by plan kept →
-    (answer : Option (List ℕ)) (x : Exchanged means (message_spelling (message_of plan act)) answer w v) → Did means plan heap kept act w v f on answer x
+pub act-comes : {D : Type 0} (means : Meaning D) (plan : Plan) (heap : ℕ) (kept : Record) (act : Act) → IsAnswered plan heap kept act → (w v : World D) (f : FwState) (on : means.on w.device ≡ Some f) → view_of f ≡ record_view plan kept →
+    (answer : Option (List ℕ)) (x : Exchanged means (message_spelling (act_message plan act)) answer w v) → Did means plan heap kept act w v f on answer x
 act-comes means plan heap kept act is w v f on shows answer x =
     let n = means.pending w.device - means.pending v.device in
     let a = is.answers (ticks n (f, w.io)).0 (still n (f, w.io) ∙ shows) in

@@ -19,9 +19,9 @@ use Rattle.host_widgets.specs.HostRecord.{closed}
 use Rattle.host_widgets.specs.Expected.{stream_view, phase_of}
 use Rattle.host_widgets.specs.declared.kept.Record.{Record}
 use Rattle.host_widgets.specs.Kept.{changed}
-use Rattle.host_widgets.specs.HostActs.{Trig, Free, Prepare, after, prepared, triggered, triggered_found}
-use Rattle.host_widgets.specs.ActMessages.{message_of}
-use Rattle.host_widgets.specs.ViewOf.{view_by, graph_by}
+use Rattle.host_widgets.specs.HostActs.{Trig, Free, Prepare, after, prepared_stream, triggered_stream, triggered_found}
+use Rattle.host_widgets.specs.ActMessages.{act_message}
+use Rattle.host_widgets.specs.ViewOf.{record_view, graph_by}
 
 -- ---- streams
 
@@ -39,10 +39,10 @@ module _ (host : ℕ) (f : StreamRec → StreamRec) (set : StreamView → Stream
   all-shown (s ∷ ss) (r ∷ rs) = λ i. one-shown s r (s.host == host) refl i ∷ all-shown ss rs i
 
 set-phase-shown : (host : ℕ) (what : Trigger) (ss : List StreamPlan) (rs : List StreamRec) →
-    map stream_view (zip ss (changed (λ (s : StreamPlan). s.host) host (triggered what) ss rs)) ≡ map (set_phase host (phase_of (triggered_found what))) (map stream_view (zip ss rs))
-set-phase-shown host what = all-shown host (triggered what) (set_phase host (phase_of (triggered_found what)))
-    (λ s r is. ap (λ (b : Bool). if b then stream_view (s, triggered what r) else stream_view (s, r)) is)
-    (λ s r is. ap (λ (b : Bool). if b then stream_view (s, triggered what r) else stream_view (s, r)) is)
+    map stream_view (zip ss (changed (λ (s : StreamPlan). s.host) host (triggered_stream what) ss rs)) ≡ map (set_phase host (phase_of (triggered_found what))) (map stream_view (zip ss rs))
+set-phase-shown host what = all-shown host (triggered_stream what) (set_phase host (phase_of (triggered_found what)))
+    (λ s r is. ap (λ (b : Bool). if b then stream_view (s, triggered_stream what r) else stream_view (s, r)) is)
+    (λ s r is. ap (λ (b : Bool). if b then stream_view (s, triggered_stream what r) else stream_view (s, r)) is)
 
 set-stream-shown : (host : ℕ) (g : StreamRec → StreamRec) (phase : Phase) (params : Option Params) → ((s : StreamPlan) (r : StreamRec) → stream_view (s, g r) ≡ record { host = s.host; phase = phase; params = params }) →
     (ss : List StreamPlan) (rs : List StreamRec) →
@@ -63,36 +63,36 @@ done-after false false e d x f is = cc is
 abbrev other : View → List StreamView → View
 other v streams = record { graph = v.graph; streams = streams }
 
-module _ (plan : Plan) (kept : Record) (f f' : FwState) (shows : view_of f ≡ view_by plan kept) where
+module _ (plan : Plan) (kept : Record) (f f' : FwState) (shows : view_of f ≡ record_view plan kept) where
   streams-after : (to : StreamView → StreamView) (kept' : Record) → graph_by plan kept' ≡ graph_by plan kept →
       map stream_view (zip plan.streams kept'.streams) ≡ map to (map stream_view (zip plan.streams kept.streams)) →
-      other (view_of f) (map to f.streams) ≡ view_by plan kept'
+      other (view_of f) (map to f.streams) ≡ record_view plan kept'
   streams-after to kept' same is =
       ap (λ (v : View). other v (map to v.streams)) shows ∙ (λ i. record { graph = sym same i; streams = sym is i })
 
   -- the state after a row of a stream is that which sees the record then
   changed-seen : (host : ℕ) (from : Phase → Bool) (to : StreamView → StreamView) (kept' : Record) → graph_by plan kept' ≡ graph_by plan kept →
       map stream_view (zip plan.streams kept'.streams) ≡ map to (map stream_view (zip plan.streams kept.streams)) →
-      fw.changed f host from to ≡ Ok f' → f' ≡ seen (view_by plan kept') None f
+      fw.stream_changed f host from to ≡ Ok f' → f' ≡ seen (record_view plan kept') None f
   changed-seen host from to kept' same is done =
       sym (done-after _ _ no_device invalid (seen (other (view_of f) (map to f.streams)) None f) f' done) ∙ ap (λ (v : View). seen v None f) (streams-after to kept' same is)
 
-  pub trig-seen : (host : ℕ) (what : Trigger) → row f (message_of plan (Trig host what)) ≡ Ok f' → f' ≡ seen (view_by plan (after plan (Trig host what) kept)) None f
+  pub trig-seen : (host : ℕ) (what : Trigger) → row f (act_message plan (Trig host what)) ≡ Ok f' → f' ≡ seen (record_view plan (after plan (Trig host what) kept)) None f
   trig-seen host Start done = changed-seen host fw.is_prepared (set_phase host phases.Running) (after plan (Trig host Start) kept) refl (set-phase-shown host Start plan.streams kept.streams) done
   trig-seen host Stop done = changed-seen host fw.is_moving (set_phase host phases.Prepared) (after plan (Trig host Stop) kept) refl (set-phase-shown host Stop plan.streams kept.streams) done
   trig-seen host Pause done = changed-seen host fw.is_running (set_phase host phases.Paused) (after plan (Trig host Pause) kept) refl (set-phase-shown host Pause plan.streams kept.streams) done
   trig-seen host Release done = changed-seen host fw.is_paused (set_phase host phases.Running) (after plan (Trig host Release) kept) refl (set-phase-shown host Release plan.streams kept.streams) done
 
-  pub free-seen : (host : ℕ) → row f (message_of plan (Free host)) ≡ Ok f' → f' ≡ seen (view_by plan (after plan (Free host) kept)) None f
+  pub free-seen : (host : ℕ) → row f (act_message plan (Free host)) ≡ Ok f' → f' ≡ seen (record_view plan (after plan (Free host) kept)) None f
   free-seen host done = changed-seen host fw.is_prepared (set_stream host phases.Idle None) (after plan (Free host) kept) refl
       (set-stream-shown host (λ r. closed) phases.Idle None (λ s r. refl) plan.streams kept.streams) done
 
-  pub prepare-seen : (host : ℕ) (p : Params) → row f (message_of plan (Prepare host p)) ≡ Ok f' → f' ≡ seen (view_by plan (after plan (Prepare host p) kept)) None f
+  pub prepare-seen : (host : ℕ) (p : Params) → row f (act_message plan (Prepare host p)) ≡ Ok f' → f' ≡ seen (record_view plan (after plan (Prepare host p) kept)) None f
   prepare-seen host p done =
       sym (done-after _ _ no_device invalid (seen (other (view_of f) (map (set_stream host phases.Prepared (Some p)) f.streams)) None f) f' done)
       ∙ ap (λ (v : View). seen v None f) (streams-after (set_stream host phases.Prepared (Some p)) (after plan (Prepare host p) kept) refl
-      (set-stream-shown host (prepared p) phases.Prepared (Some p) (λ s r. refl) plan.streams kept.streams))
+      (set-stream-shown host (prepared_stream p) phases.Prepared (Some p) (λ s r. refl) plan.streams kept.streams))
 
   -- so it shows what the record says then
-  pub prepare-shows : (host : ℕ) (p : Params) → row f (message_of plan (Prepare host p)) ≡ Ok f' → view_of f' ≡ view_by plan (after plan (Prepare host p) kept)
+  pub prepare-shows : (host : ℕ) (p : Params) → row f (act_message plan (Prepare host p)) ≡ Ok f' → view_of f' ≡ record_view plan (after plan (Prepare host p) kept)
   prepare-shows host p done = ap view_of (prepare-seen host p done)

@@ -23,7 +23,7 @@ use Rattle.host_widgets.specs.HostRecord.{may_have}
 use Rattle.host_widgets.specs.Expected.{phase_of, stream_view}
 use Rattle.host_widgets.specs.declared.kept.Record.{Record}
 use Rattle.host_widgets.specs.Kept.{changed, with_stream}
-use Rattle.host_widgets.specs.ViewOf.{view_by}
+use Rattle.host_widgets.specs.ViewOf.{record_view}
 use Rattle.host_widgets.specs.Host.{IsRecordOf}
 
 -- ---- streams that may stand as they do
@@ -81,12 +81,12 @@ module _ (host : ℕ) (f : StreamRec → StreamRec) where
 
 -- ---- the act
 
-module _ (plan : Plan) (kept : Record) (host : ℕ) (g : StreamRec → StreamRec) (f : FwState) (shows : view_of f ≡ view_by plan kept) (rings : map (λ r. r.buffer) f.rings ≡ buffers plan.graph)
+module _ (plan : Plan) (kept : Record) (host : ℕ) (g : StreamRec → StreamRec) (f : FwState) (shows : view_of f ≡ record_view plan kept) (rings : map (λ r. r.buffer) f.rings ≡ buffers plan.graph)
     (is : IsRecordOf plan kept) (will : IsRecordOf plan (with_stream plan host g kept)) (keeps : KeepsWhereLive g host plan.streams kept.streams) where
   abbrev now : View
-  now = view_by plan (with_stream plan host g kept)
+  now = record_view plan (with_stream plan host g kept)
 
-  shape : KeepsShape (view_by plan kept) now None
+  shape : KeepsShape (record_view plan kept) now None
   shape = record {
     keeps = record {
       ways = record { joins = refl; kinds = λ c. refl };
@@ -105,6 +105,6 @@ module _ (plan : Plan) (kept : Record) (host : ℕ) (g : StreamRec → StreamRec
   unfolding Stands-now
   stream-stands whole inputs moments before = (
     Stands-now f (seen now None f) now None whole inputs moments before (seen-sees f now None rings) will.shapes
-        (subst (λ (v : View). StaysAsLive v now None) (sym shows) (live-stays (view_by plan kept) now None shape)),
+        (subst (λ (v : View). StaysAsLive v now None) (sym shows) (live-stays (record_view plan kept) now None shape)),
     (after_now now None before.past, refl, refl),
   )

@@ -14,9 +14,9 @@ use Rattle.tplg_plan.specs.declared.plans.StreamPlan.{StreamPlan}
 use Rattle.tplg_plan.specs.Sound.{IsSound, host_of}
 use Rattle.host_widgets.specs.HostRecord.{closed}
 use Rattle.host_widgets.specs.Kept.{first_record, controls_of}
-use Rattle.host_widgets.specs.ViewOf.{set_comp, graph_by, view_by}
+use Rattle.host_widgets.specs.ViewOf.{set_comp, graph_by, record_view}
 use Rattle.host_widgets.specs.HostActs.{Act, Make, Join, Finish}
-use Rattle.host_widgets.specs.Acts.{ids_of}
+use Rattle.host_widgets.specs.Acts.{widget_ids}
 use Rattle.host_widgets.specs.ActLists.{control_acts, bring_up}
 use Rattle.host_widgets.specs.Expected.{stream_view, with_pieces}
 use Rattle.host_widgets.specs.StateOf.{loaded_state}
@@ -24,7 +24,7 @@ use Rattle.host_widgets.specs.StateOf.{loaded_state}
 -- a fresh firmware is one that was brought up, and there is nothing to see
 pub record Bare (plan : Plan) : Type 0 where
   pub state : (heap : ℕ) → fresh heap ≡ loaded_state plan heap 0
-  pub view : view_by plan (first_record plan) ≡ empty_view
+  pub view : record_view plan (first_record plan) ≡ empty_view
 
 none-below : {X : Type 0} (key : X → ℕ) (n : ℕ) (xs : List X) → n ≡ 0 → AllByRecursion (λ x. key x < n) xs → xs ≡ []
 none-below key n [] is below = refl
@@ -40,7 +40,7 @@ none-mapped f (x ∷ xs) is = absurd (cc is)
 
 module _ (plan : Plan) (sound : IsSound plan) (none : length (bring_up plan (first_record plan)) ≡ 0) where
   abbrev makes : List Act
-  makes = map Make (ids_of plan)
+  makes = map Make (widget_ids plan)
 
   abbrev joins : List Act
   joins = map (λ j. Join j.source j.sink) plan.graph.joins
@@ -49,7 +49,7 @@ module _ (plan : Plan) (sound : IsSound plan) (none : length (bring_up plan (fir
   rest = flat_map control_acts (controls_of plan (first_record plan)) ++ map (λ p. Finish p.id) plan.graph.pipes
 
   no-makes : length plan.widgets ≡ 0
-  no-makes = omega (arith, none, length-append makes (joins ++ rest), length-map (ids_of plan) Make, length-range_with_len 0 (length plan.widgets))
+  no-makes = omega (arith, none, length-append makes (joins ++ rest), length-map (widget_ids plan) Make, length-range_with_len 0 (length plan.widgets))
 
   no-joins : length plan.graph.joins ≡ 0
   no-joins = omega (arith, none, length-append makes (joins ++ rest), length-append joins rest, length-map plan.graph.joins (λ j. Join j.source j.sink))

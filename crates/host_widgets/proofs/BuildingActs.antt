@@ -19,11 +19,11 @@ use Rattle.mbox_link.specs.BlobParts.{is_last, part_numbers}
 use Rattle.tplg_plan.specs.Sound.{IsSound}
 use Rattle.host_widgets.specs.Kept.{changed, controls_of, control_at, with_control}
 use Rattle.host_widgets.specs.HostActs.{Act, Make, Join, Put, Part, Finish, after, with_values, with_blob}
-use Rattle.host_widgets.specs.Acts.{ids_of}
+use Rattle.host_widgets.specs.Acts.{widget_ids}
 use Rattle.host_widgets.specs.ActLists.{control_acts_by, control_acts, bring_up}
 use Rattle.host_widgets.specs.Host.{Outcome}
-use Rattle.host_widgets.specs.OneAct.{own, outcome_by, lag_of, came}
-use Rattle.host_widgets.specs.Walk.{goes_past, joined, walk}
+use Rattle.host_widgets.specs.OneAct.{own, outcome_by, lag_of, performed}
+use Rattle.host_widgets.specs.Walk.{goes_past, followed_by, walk}
 use Rattle.host_widgets.specs.ActCalls.{next_of}
 use Rattle.host_widgets.proofs.LookedUp.{each-found}
 use Rattle.host_widgets.proofs.ControlLists.{Pair, comp_at, zip-ascends}
@@ -111,12 +111,12 @@ module _ (plan : Plan) (kept : Record) where
 
   pub bring-leaves : IsSound plan → AllByRecursion Leaves (bring_up plan kept)
   bring-leaves sound =
-      let makes : List Act = map Make (ids_of plan) in
+      let makes : List Act = map Make (widget_ids plan) in
       let joins : List Act = map (λ (j : Joined). Join j.source j.sink) plan.graph.joins in
       let puts : List Act = flat_map control_acts (controls_of plan kept) in
       let finishes : List Act = map (λ (p : Pipe). Finish p.id) plan.graph.pipes in
       let there : AllByRecursion IsThere (controls_of plan kept) = each-found comp_at (controls_of plan kept) (zip-ascends plan.controls kept.controls sound.controls_ascend) in
-      all-both Leaves makes (joins ++ (puts ++ finishes)) (all-mapped Leaves Make (λ (id : ℕ). refl) (ids_of plan))
+      all-both Leaves makes (joins ++ (puts ++ finishes)) (all-mapped Leaves Make (λ (id : ℕ). refl) (widget_ids plan))
       (all-both Leaves joins (puts ++ finishes) (all-mapped Leaves (λ (j : Joined). Join j.source j.sink) (λ (j : Joined). refl) plan.graph.joins)
       (all-both Leaves puts finishes (puts-leave there (controls_of plan kept) there)
       (all-mapped Leaves (λ (p : Pipe). Finish p.id) (λ (p : Pipe). refl) plan.graph.pipes)))
@@ -126,10 +126,10 @@ module _ (plan : Plan) (kept : Record) where
   walk-leaves heap [] ms all = refl
   walk-leaves heap (act ∷ acts) ms all = by (outcome_by (next_of ms).0.fate (own plan heap kept act)) (walk-leaves heap acts (next_of ms).1 all.1)
     where
-      ended : (o : Outcome) (b : Bool) → (walk plan heap false next_of kept (next_of ms).1 acts).kept ≡ kept → (joined act (record { outcome = o; kept = kept; moments = lag_of (next_of ms).0 }) (next_of ms).1 b (walk plan heap false next_of kept (next_of ms).1 acts)).kept ≡ kept
+      ended : (o : Outcome) (b : Bool) → (walk plan heap false next_of kept (next_of ms).1 acts).kept ≡ kept → (followed_by act (record { outcome = o; kept = kept; moments = lag_of (next_of ms).0 }) (next_of ms).1 b (walk plan heap false next_of kept (next_of ms).1 acts)).kept ≡ kept
       ended o true rest = rest
       ended o false rest = refl
 
-      by : (o : Outcome) → (walk plan heap false next_of kept (next_of ms).1 acts).kept ≡ kept → (let a = came plan act kept (lag_of (next_of ms).0) o in (joined act a (next_of ms).1 (goes_past false a.outcome) (walk plan heap false next_of a.kept (next_of ms).1 acts)).kept ≡ kept)
+      by : (o : Outcome) → (walk plan heap false next_of kept (next_of ms).1 acts).kept ≡ kept → (let a = performed plan act kept (lag_of (next_of ms).0) o in (followed_by act a (next_of ms).1 (goes_past false a.outcome) (walk plan heap false next_of a.kept (next_of ms).1 acts)).kept ≡ kept)
       by (Ok done) rest = ap (λ (now : Record). (walk plan heap false next_of now (next_of ms).1 acts).kept) all.0 ∙ rest
       by (Err fault) rest = ended (Err fault) (goes_past false (Err fault)) rest

@@ -17,7 +17,7 @@ use Rattle.host_widgets.specs.ActLists.{bring_up}
 use Rattle.host_widgets.specs.StateOf.{state_by}
 use Rattle.host_widgets.specs.Host.{Outcome, Agrees, Sides, Fits, BroughtUp, SucceedsExactly, ticks_put}
 use Rattle.host_widgets.specs.ActCalls.{ActsSent, calls_of}
-use Rattle.host_widgets.specs.Orders.{Carried, Tested, brought_end, load_fault, loading, unload_fault, unloading, where_on}
+use Rattle.host_widgets.specs.Orders.{Carried, Tested, brought_end, fault_of_load, loading, unload_fault, unloading, where_on}
 use Rattle.host_widgets.proofs.Brings.{brings}
 use Rattle.host_widgets.proofs.BuildingActs.{bring-leaves}
 use Rattle.host_widgets.proofs.LoadOrders.{unloading_at}
@@ -72,7 +72,7 @@ module _ {D : Type 0} (means : Meaning D) (plan : Plan) (heap : ℕ) (kept kept'
   -- ---- load
 
   abbrev LoadedBy : Power → Type 0
-  LoadedBy p = Tested means plan heap (load_fault p) (loading plan kept) kept kept' w v result
+  LoadedBy p = Tested means plan heap (fault_of_load p) (loading plan kept) kept kept' w v result
 
   abbrev CarriedOut : Type 0
   CarriedOut = Carried means plan heap (loading plan kept) kept kept' w v result
@@ -118,7 +118,7 @@ module _ {D : Type 0} (means : Meaning D) (plan : Plan) (heap : ℕ) (kept kept'
 
     -- what became of each act, where it was unloaded
     pub load-fates : kept.power ≡ Unloaded → BootedThen means heap (λ b s. ActsBecause means plan heap kept (bring_up plan kept) b s result) w v result
-    load-fates unloaded = carried-fates sound agree (carried.late (ap load_fault unloaded))
+    load-fates unloaded = carried-fates sound agree (carried.late (ap fault_of_load unloaded))
 
     -- it was loaded, or it was carried out
     either : {A : Type 0} → (kept.power ≡ Unloaded → CarriedOut → A) → ((kept.power ≡ Unloaded → ⊥) → result ≡ Err Loaded → v ≡ w → kept' ≡ kept → A) → A
@@ -132,7 +132,7 @@ module _ {D : Type 0} (means : Meaning D) (plan : Plan) (heap : ℕ) (kept kept'
     -- it answers that it was loaded exactly where it was
     pub load-loaded : (result ≡ Err Loaded) ↔ (kept.power ≡ Unloaded → ⊥)
     load-loaded = (
-      λ told unloaded. carried-why sound agree (carried.late (ap load_fault unloaded)) Loaded told,
+      λ told unloaded. carried-why sound agree (carried.late (ap fault_of_load unloaded)) Loaded told,
       λ was. either (λ unloaded c. absurd (was unloaded)) (λ _ told _ _. told),
     )
 

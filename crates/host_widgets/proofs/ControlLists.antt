@@ -16,7 +16,7 @@ use Rattle.tplg_plan.specs.Sound.{IsControlOf, IsLive}
 use Rattle.host_widgets.specs.declared.kept.ControlRec.{ControlRec}
 use Rattle.host_widgets.specs.Controls.{first_value, first_values, first_blob}
 use Rattle.host_widgets.specs.Kept.{first_control}
-use Rattle.host_widgets.specs.Host.{IsSet, AreControls}
+use Rattle.host_widgets.specs.Host.{IsControlSet, AreControls}
 
 abbrev pub Pair : Type 0
 Pair = ControlPlan × ControlRec
@@ -35,7 +35,7 @@ pub blob-initial : (blob : List ℕ) → is_blob blob ≡ true → is_initial bl
 blob-initial [] is = refl
 blob-initial (b ∷ blob) is = is
 
-pub takes-by : (kind : ControlKind) (of : Kind) (r : ControlRec) → IsControlOf kind of → ((r ≡ record { values = first_values kind; blob = first_blob kind }) ⊎ IsSet kind r) → Takes kind r
+pub takes-by : (kind : ControlKind) (of : Kind) (r : ControlRec) → IsControlOf kind of → ((r ≡ record { values = first_values kind; blob = first_blob kind }) ⊎ IsControlSet kind r) → Takes kind r
 takes-by (Volume min max channels lowest step mute) of r is (inl e) =
     ap (λ (x : ControlRec). length x.values) e ∙ length-replicate channels (first_value (Volume min max channels lowest step mute))
 takes-by (Volume min max channels lowest step mute) of r is (inr s) = s.0
@@ -45,7 +45,7 @@ takes-by (Blob most initial) of r is (inl e) = ap (λ (x : ControlRec). is_initi
 takes-by (Blob most initial) of r is (inr s) = blob-initial r.blob s.2
 
 -- a volume or a mux has no blob
-pub bare-one : (kind : ControlKind) (r : ControlRec) → ((most : ℕ) (initial : List ℕ) → kind ≡ Blob most initial → ⊥) → ((r ≡ record { values = first_values kind; blob = first_blob kind }) ⊎ IsSet kind r) → r.blob ≡ []
+pub bare-one : (kind : ControlKind) (r : ControlRec) → ((most : ℕ) (initial : List ℕ) → kind ≡ Blob most initial → ⊥) → ((r ≡ record { values = first_values kind; blob = first_blob kind }) ⊎ IsControlSet kind r) → r.blob ≡ []
 bare-one (Volume min max channels lowest step mute) r other (inl e) = ap (λ (x : ControlRec). x.blob) e
 bare-one (Volume min max channels lowest step mute) r other (inr s) = s.2
 bare-one (Choice items) r other (inl e) = ap (λ (x : ControlRec). x.blob) e

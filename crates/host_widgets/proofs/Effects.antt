@@ -26,7 +26,7 @@ use Rattle.tplg_plan.specs.declared.plans.ControlKind.{ControlKind}
 use Rattle.tplg_plan.specs.declared.plans.ControlKind.TheVariants.{Volume, Choice, Blob}
 use Rattle.host_widgets.specs.Controls.{control_of}
 use Rattle.host_widgets.specs.HostActs.{Act, Make, Join, Put, Part, Finish, Prepare, Trig, Free, Save, Ask}
-use Rattle.host_widgets.specs.ActMessages.{message_of, set_message, put_message}
+use Rattle.host_widgets.specs.ActMessages.{act_message, set_message, put_message}
 use Rattle.host_widgets.specs.Acts.{widget_words, pipe_by_id, comp_message, buffer_message, pipe_message}
 use Rattle.host_widgets.specs.Expected.{needed_by}
 use Rattle.host_widgets.specs.Host.{verdict, errno}
@@ -87,7 +87,7 @@ effect-at (TrigRelease id) g t = refl
 -- all these acts have been taken
 abbrev pub effects : Plan → List Act → FwState → FwState
 effects plan [] g = g
-effects plan (act ∷ acts) g = effects plan acts (effect (message_of plan act) g)
+effects plan (act ∷ acts) g = effects plan acts (effect (act_message plan act) g)
 
 -- all but an act that asks for values are answered by an error number alone
 abbrev pub IsTold : Act → Type 0
@@ -98,15 +98,15 @@ IsTold act = Unit {0}
 pub record Follows (plan : Plan) (heap : ℕ) (kept : Record) (g : FwState) (act : Act) : Type 0 where
   pub told : IsTold act
   pub still : IsStill g
-  pub message : IsMessage (message_of plan act)
-  pub passes : own plan heap kept act ≡ None → (t : ℕ) → row (at g t) (message_of plan act) ≡ Ok (effect (message_of plan act) (at g t))
-  pub refuses : (e : Errno) → own plan heap kept act ≡ Some e → (t : ℕ) → row (at g t) (message_of plan act) ≡ Err no_memory
+  pub message : IsMessage (act_message plan act)
+  pub passes : own plan heap kept act ≡ None → (t : ℕ) → row (at g t) (act_message plan act) ≡ Ok (effect (act_message plan act) (at g t))
+  pub refuses : (e : Errno) → own plan heap kept act ≡ Some e → (t : ℕ) → row (at g t) (act_message plan act) ≡ Err no_memory
   pub number : (e : Errno) → own plan heap kept act ≡ Some e → (e ≡ errno no_memory) × (heap < needed_by plan (length plan.widgets))
 
 -- and so on, as long as each act is taken
 abbrev pub FollowAll : Plan → ℕ → Record → FwState → List Act → Type 0
 FollowAll plan heap kept g [] = Unit {0}
-FollowAll plan heap kept g (act ∷ acts) = Follows plan heap kept g act × (own plan heap kept act ≡ None → FollowAll plan heap kept (effect (message_of plan act) g) acts)
+FollowAll plan heap kept g (act ∷ acts) = Follows plan heap kept g act × (own plan heap kept act ≡ None → FollowAll plan heap kept (effect (act_message plan act) g) acts)
 
 -- ---- the reply has no body
 
@@ -125,7 +125,7 @@ put-bare : (f : FwState) (comp : ℕ) (values : List ℕ) (k : Option ControlPla
 put-bare f comp values (Some k) = set-bare f comp values k.kind
 put-bare f comp values None = refl
 
-act-bare : (f : FwState) (plan : Plan) (act : Act) → IsTold act → body f (message_of plan act) ≡ Nothing
+act-bare : (f : FwState) (plan : Plan) (act : Act) → IsTold act → body f (act_message plan act) ≡ Nothing
 act-bare f plan (Make id) told = made-bare f id (control_of plan id) (widget_words plan id) (comp_of plan.graph id) (edge_of plan.graph id) (pipe_by_id plan id)
 act-bare f plan (Join source sink) told = refl
 act-bare f plan (Put comp values) told = put-bare f comp values (control_of plan comp)
@@ -149,9 +149,9 @@ pub row-decoded : (f : FwState) (m : Message) → IsMessage m → row_of f (deco
 row-decoded f m is = ap (row_of f) (decoded-message m is)
 
 -- an act that was done is answered 0
-pub verdict-done : (f : FwState) (plan : Plan) (act : Act) (answer : Option (List ℕ)) → IsTold act → IsMessage (message_of plan act) → answer ≡ Some (done_reply (body_of f (decoded (message_spelling (message_of plan act))))) → verdict answer ≡ Ok (reply_with (pos 0))
+pub verdict-done : (f : FwState) (plan : Plan) (act : Act) (answer : Option (List ℕ)) → IsTold act → IsMessage (act_message plan act) → answer ≡ Some (done_reply (body_of f (decoded (message_spelling (act_message plan act))))) → verdict answer ≡ Ok (reply_with (pos 0))
 verdict-done f plan act answer told is said =
-    let none : body_of f (decoded (message_spelling (message_of plan act))) ≡ Nothing = ap (body_of f) (decoded-message (message_of plan act) is) ∙ act-bare f plan act told in
+    let none : body_of f (decoded (message_spelling (act_message plan act))) ≡ Nothing = ap (body_of f) (decoded-message (act_message plan act) is) ∙ act-bare f plan act told in
     ap verdict said ∙ ap (λ (b : Body). verdict (Some (done_reply b))) none ∙ verdict-zero
 
 pub own_cases : (o : Option Errno) → (o ≡ None) ⊎ ((e : Errno) × (o ≡ Some e))

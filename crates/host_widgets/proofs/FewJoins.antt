@@ -22,7 +22,7 @@ use Rattle.host_widgets.specs.Kept.{controls_of}
 use Rattle.host_widgets.specs.Host.{AreControls}
 use Rattle.host_widgets.proofs.ControlLists.{Pair, Takes, all-take}
 use Rattle.host_widgets.specs.HostActs.{Act, Make, Join as Joins, Part, Finish}
-use Rattle.host_widgets.specs.Acts.{ids_of}
+use Rattle.host_widgets.specs.Acts.{widget_ids}
 use Rattle.host_widgets.specs.ActLists.{part_acts, control_acts_by, control_acts, bring_up}
 use Rattle.host_widgets.proofs.LookedUp.{any-found}
 use Rattle.host_widgets.proofs.NamedIds.{few-widgets}
@@ -135,7 +135,7 @@ few-puts (k ∷ ks) (r ∷ rs) takes = omega (arith, few-by k.kind k.comp r take
 -- 288 widgets, 256 joins, 32 pipelines, and at most 4 parts for each control
 pub few-by-controls : (plan : Plan) (kept : Record) → IsSound plan → AreControls plan.controls kept.controls → length (bring_up plan kept) ≤ 576 + 4 * length plan.controls
 few-by-controls plan kept sound are =
-    let makes : List Act = map Make (ids_of plan) in
+    let makes : List Act = map Make (widget_ids plan) in
     let joins : List Act = map (λ j. Joins j.source j.sink) plan.graph.joins in
     let puts : List Act = flat_map control_acts (controls_of plan kept) in
     let finishes : List Act = map (λ p. Finish p.id) plan.graph.pipes in
@@ -144,7 +144,7 @@ few-by-controls plan kept sound are =
       length-append makes (joins ++ (puts ++ finishes)),
       length-append joins (puts ++ finishes),
       length-append puts finishes,
-      length-map (ids_of plan) Make,
+      length-map (widget_ids plan) Make,
       length-range_with_len 0 (length plan.widgets),
       length-map plan.graph.joins (λ j. Joins j.source j.sink),
       length-map plan.graph.pipes (λ p. Finish p.id),

@@ -9,7 +9,7 @@ use Rattle.host_widgets.specs.declared.kept.ControlRec.{ControlRec}
 use Rattle.host_widgets.specs.Controls.{control_of, first_value, first_values}
 use Rattle.host_widgets.specs.HostActs.{Put}
 use Rattle.host_widgets.specs.ActLists.{part_acts, control_acts, control_acts_by}
-use Rattle.host_widgets.specs.ActMessages.{put_message, set_message, message_of}
+use Rattle.host_widgets.specs.ActMessages.{put_message, set_message, act_message}
 
 pub values-are : (kind : ControlKind) → replicate (length (first_values kind)) (first_value kind) ≡ first_values kind
 unfolding first_value
@@ -34,5 +34,5 @@ blob-put kind comp r most initial is = ap (λ (q : ControlKind). control_acts_by
 pub blob-acts : (k : ControlPlan) (r : ControlRec) (most : ℕ) (initial : List ℕ) → k.kind ≡ Blob most initial → control_acts (k, r) ≡ part_acts k.comp r.blob
 blob-acts k r most initial is = blob-put k.kind k.comp r most initial is
 
-pub put-message : (plan : Plan) (k : ControlPlan) (values : List ℕ) → control_of plan k.comp ≡ Some k → set_message k.comp values k.kind ≡ message_of plan (Put k.comp values)
+pub put-message : (plan : Plan) (k : ControlPlan) (values : List ℕ) → control_of plan k.comp ≡ Some k → set_message k.comp values k.kind ≡ act_message plan (Put k.comp values)
 put-message plan k values first = ap (put_message k.comp values) (sym first)

@@ -10,7 +10,7 @@ use Rattle.stream_law.specs.declared.graph.Join.{Join}
 use Rattle.stream_law.specs.declared.graph.Graph.{Graph}
 use Rattle.stream_law.specs.State.{FwState}
 use Rattle.stream_law.specs.Ways.{comp_of, edge_of}
-use Rattle.stream_law.specs.Joins.{joined, with_join}
+use Rattle.stream_law.specs.Joins.{joined_edge, with_join}
 use Rattle.stream_law.proofs.Waits.{eqb_turned}
 use Rattle.tplg_plan.specs.declared.plans.Plan.{Plan}
 use Rattle.tplg_plan.specs.Sound.{IsSideOf, IsPassed, IsSound}
@@ -137,7 +137,7 @@ module _ (plan : Plan) (sound : IsSound plan) where
     abbrev edge_by : Bool → Bool → Edge → Edge
     edge_by at_source at_sink e = cond at_source (record { buffer = e.buffer; pipe = e.pipe; size = e.size; source = source_by done e.buffer; sink = Some j.sink }) (cond at_sink (record { buffer = e.buffer; pipe = e.pipe; size = e.size; source = Some j.source; sink = sink_by done e.buffer }) (edge_with done e))
 
-    edge-more : (e : Edge) → edge_of plan.graph e.buffer ≡ Some e → IsPassed plan.graph e → joined j (edge_with done e) ≡ edge_with (done ++ j ∷ []) e
+    edge-more : (e : Edge) → edge_of plan.graph e.buffer ≡ Some e → IsPassed plan.graph e → joined_edge j (edge_with done e) ≡ edge_with (done ++ j ∷ []) e
     edge-more e there passed =
         (λ i. edge_by (eqb_turned e.buffer j.source i) (eqb_turned e.buffer j.sink i) e) ∙ by (j.source == e.buffer) refl (j.sink == e.buffer) refl
       where
@@ -159,8 +159,8 @@ module _ (plan : Plan) (sound : IsSound plan) where
         by false at false to = λ i. record { buffer = e.buffer; pipe = e.pipe; size = e.size; source = source_kept to i; sink = sink_kept at i }
 
     pub joined-more : with_join (joined_graph plan done) j ≡ joined_graph plan (done ++ j ∷ [])
-    joined-more = λ i. record { comps = map (made_comp plan) plan.graph.comps; edges = map-twice (joined j) (edge_with done) (edge_with (done ++ j ∷ [])) plan.graph.edges (more plan.graph.edges (each-edge plan sound) sound.passed) i; pipes = map begun plan.graph.pipes; joins = done ++ j ∷ [] }
+    joined-more = λ i. record { comps = map (made_comp plan) plan.graph.comps; edges = map-twice (joined_edge j) (edge_with done) (edge_with (done ++ j ∷ [])) plan.graph.edges (more plan.graph.edges (each-edge plan sound) sound.passed) i; pipes = map begun plan.graph.pipes; joins = done ++ j ∷ [] }
       where
-        more : (es : List Edge) → AllByRecursion (λ (e : Edge). edge_of plan.graph e.buffer ≡ Some e) es → AllByRecursion (IsPassed plan.graph) es → AllByRecursion (λ (e : Edge). joined j (edge_with done e) ≡ edge_with (done ++ j ∷ []) e) es
+        more : (es : List Edge) → AllByRecursion (λ (e : Edge). edge_of plan.graph e.buffer ≡ Some e) es → AllByRecursion (IsPassed plan.graph) es → AllByRecursion (λ (e : Edge). joined_edge j (edge_with done e) ≡ edge_with (done ++ j ∷ []) e) es
         more [] there passed = tt
         more (e ∷ es) there passed = (edge-more e there.0 passed.0, more es there.1 passed.1)

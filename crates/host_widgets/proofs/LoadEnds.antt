@@ -20,11 +20,11 @@ use Rattle.host_widgets.specs.declared.kept.Record.{Record}
 use Rattle.host_widgets.specs.Kept.{first_record, with_power}
 use Rattle.tplg_plan.specs.Sound.{IsSound}
 use Rattle.host_widgets.specs.HostActs.{Act}
-use Rattle.host_widgets.specs.ActMessages.{message_of}
+use Rattle.host_widgets.specs.ActMessages.{act_message}
 use Rattle.host_widgets.specs.ActLists.{bring_up}
 use Rattle.host_widgets.specs.Host.{Outcome, AreControls, Agrees, Fits, BroughtUp, SucceedsExactly}
-use Rattle.host_widgets.specs.OneAct.{own, outcome_by, lag_of, came}
-use Rattle.host_widgets.specs.Walk.{joined, walk}
+use Rattle.host_widgets.specs.OneAct.{own, outcome_by, lag_of, performed}
+use Rattle.host_widgets.specs.Walk.{followed_by, walk}
 use Rattle.host_widgets.specs.ActCalls.{ActsDid, Counted, next_of, calls_of}
 use Rattle.host_widgets.specs.Orders.{Carried, brought_end, loading}
 use Rattle.host_widgets.proofs.Effects.{effect, FollowAll, own_cases}
@@ -51,7 +51,7 @@ module _ {D : Type 0} (means : Meaning D) (plan : Plan) (heap : ℕ) (kept : Rec
         go (subst (λ (now : Record). ActsDid means plan heap false now acts ms mid v) all.0 on) (subst (λ (now : Record). (walk plan heap false next_of now ms acts).outcome ≡ Ok tt) all.0 passed),
       )
       by (Err fault) is go on passed =
-          let no : Err fault ≡ Ok tt = sym (ap (λ (b : Bool). (joined act (came plan act kept (lag_of m) (Err fault)) ms b (walk plan heap false next_of kept ms acts)).outcome) (ends-at fault)) ∙ passed in
+          let no : Err fault ≡ Ok tt = sym (ap (λ (b : Bool). (followed_by act (performed plan act kept (lag_of m) (Err fault)) ms b (walk plan heap false next_of kept ms acts)).outcome) (ends-at fault)) ∙ passed in
           absurd (cc no)
 
   -- neither count rose
@@ -71,7 +71,7 @@ module _ {D : Type 0} (means : Meaning D) (plan : Plan) (heap : ℕ) (kept : Rec
   all-pass (act ∷ acts) [] w v g all follow did fits calm = absurd did
   all-pass (act ∷ acts) (m ∷ ms) w v g all follow (mid, d, on) fits calm =
       subst (λ (o : Option Errno). GoesOn means plan heap kept act acts m ms mid v (outcome_by m.fate o) → outcome_from means plan heap kept act acts m ms (outcome_by m.fate o) ≡ Ok tt) (sym free)
-      (by m.fate d.counted (all-pass acts ms mid v (effect (message_of plan act) g) all.1 (follow.1 free))) on
+      (by m.fate d.counted (all-pass acts ms mid v (effect (act_message plan act) g) all.1 (follow.1 free))) on
     where
       free : own plan heap kept act ≡ None
       free = ⊎_elim (λ none. none) (λ (e, refused). (let more = (follow.0.number e refused).1 in absurd (omega (arith, fits, more)))) (own_cases (own plan heap kept act))

@@ -17,7 +17,7 @@ use Rattle.tplg_plan.specs.Sound.{IsControlOf, IsLive, IsSound}
 use Rattle.host_widgets.proofs.NamedIds.{few-widgets as at-most}
 use Rattle.host_widgets.specs.declared.kept.ControlRec.{ControlRec}
 use Rattle.host_widgets.specs.declared.kept.Record.{Record}
-use Rattle.host_widgets.specs.Host.{AreControls, IsSet}
+use Rattle.host_widgets.specs.Host.{AreControls, IsControlSet}
 use Rattle.host_widgets.specs.Controls.{HasFew, control_of, first_values, first_blob}
 use Rattle.host_widgets.proofs.ControlLists.{takes-by}
 
@@ -96,7 +96,7 @@ module _ (plan : Plan) (sound : IsSound plan) (ks : List ControlPlan) (same : ks
   is-first = subst (λ (k : ControlPlan). control_of plan k.comp ≡ Some k) (sym here-is) (first-at plan.controls i d inside sound.controls_ascend)
 
 -- the blob of a record is none or a blob
-initial-one : (kind : ControlKind) (of : Kind) (r : ControlRec) → IsControlOf kind of → ((r ≡ record { values = first_values kind; blob = first_blob kind }) ⊎ IsSet kind r) → is_initial r.blob ≡ true
+initial-one : (kind : ControlKind) (of : Kind) (r : ControlRec) → IsControlOf kind of → ((r ≡ record { values = first_values kind; blob = first_blob kind }) ⊎ IsControlSet kind r) → is_initial r.blob ≡ true
 initial-one (Volume min max channels lowest step mute) of r is (inl e) = ap (λ (x : ControlRec). is_initial x.blob) e
 initial-one (Volume min max channels lowest step mute) of r is (inr s) = ap is_initial s.2
 initial-one (Choice items) of r is (inl e) = ap (λ (x : ControlRec). is_initial x.blob) e

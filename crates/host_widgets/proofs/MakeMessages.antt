@@ -117,13 +117,13 @@ module _ (plan : Plan) (s : IsSound plan) (n : ℕ) (within : n < length plan.wi
       let id : x.is.sched.id ≡ x.pipe.sched = found-is (λ (c : Comp). c.id) plan.graph.comps x.pipe.sched x.is.sched x.is.scheduled in
       omega arith
 
-  period-known : (p : ℕ) → plan_ranges.is_period (Some p) ≡ true → allowed.is_period p ≡ true
+  period-known : (p : ℕ) → plan_ranges.is_period (Some p) ≡ true → allowed.is_period_allowed p ≡ true
   period-known p is =
       let last = and_parts (p % 1000 == 0 && nat_le 1000 p) (nat_le p 10000) is in
       let first = and_parts (p % 1000 == 0) (nat_le 1000 p) last.0 in
       and_from (nat_le 1000 p && nat_le p 10000) (p % 1000 == 0) (and_from (nat_le 1000 p) (nat_le p 10000) first.1 last.1) first.0
 
-  period-fits : (p : ℕ) → allowed.is_period p ≡ true → p < 2 ^ 32
+  period-fits : (p : ℕ) → allowed.is_period_allowed p ≡ true → p < 2 ^ 32
   period-fits p is = let low = leb-true p 10000 (and_parts (nat_le 1000 p) (nat_le p 10000) (and_parts (nat_le 1000 p && nat_le p 10000) (p % 1000 == 0) is).0).1 in omega arith
 
   pub is_pipe_message : (x : NamesPipeline plan.graph n w) → IsMessage (pipe_message n w x.pipe.sched x.pipe.period)

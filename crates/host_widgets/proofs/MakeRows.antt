@@ -16,7 +16,7 @@ use Rattle.tplg_plan.specs.declared.plans.WidgetPlan.{WidgetPlan}
 use Rattle.tplg_plan.specs.Sound.{IsSound, NamesComponent, NamesBuffer, NamesPipeline}
 use Rattle.host_widgets.specs.Controls.{control_of}
 use Rattle.host_widgets.specs.HostActs.{Make}
-use Rattle.host_widgets.specs.ActMessages.{message_of}
+use Rattle.host_widgets.specs.ActMessages.{act_message}
 use Rattle.host_widgets.specs.Acts.{component_words, widget_words, comp_message, buffer_message, pipe_message}
 use Rattle.host_widgets.specs.Expected.{stated_bytes}
 use Rattle.host_widgets.proofs.SilentTicks.{at}
@@ -114,7 +114,7 @@ module _ (plan : Plan) (heap : ℕ) (s : IsSound plan) (n : ℕ) where
       ∙ ap (λ b. if_fits (fits (rounded b) g.heap.holes) done) (sym (bytes-pipe plan heap s n x))
 
   -- of the message that makes the widget of an id
-  pub row-make : n < length plan.widgets → (t : ℕ) → row (at g t) (message_of plan (Make n)) ≡ if_fits (fits (rounded (stated_bytes plan n)) g.heap.holes) (effect (message_of plan (Make n)) (at g t))
+  pub row-make : n < length plan.widgets → (t : ℕ) → row (at g t) (act_message plan (Make n)) ≡ if_fits (fits (rounded (stated_bytes plan n)) g.heap.holes) (effect (act_message plan (Make n)) (at g t))
   row-make within t =
       let is = λ (m : Message). row (at g t) m ≡ if_fits (fits (rounded (stated_bytes plan n)) g.heap.holes) (effect m (at g t)) in
       ⊎_elim

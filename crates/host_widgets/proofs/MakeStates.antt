@@ -17,7 +17,7 @@ use Rattle.stream_law.specs.declared.stream.StreamView.{StreamView}
 use Rattle.stream_law.specs.State.{FwState, HeapView, RingView}
 use Rattle.stream_law.specs.Placed.{placed}
 use Rattle.stream_law.specs.Ways.{edge_of}
-use Rattle.mbox_link.specs.Step.{format_of, kind_of, first_setting, with_stream, with_piece, with_comp, with_buffer, with_pipe, comp_bytes, buffer_bytes, pipe_bytes, fresh}
+use Rattle.mbox_link.specs.Step.{sample_format, kind_of, first_setting, with_host_stream, heap_with_piece, with_comp, with_buffer, with_pipe, comp_bytes, buffer_bytes, pipe_bytes, fresh}
 use Rattle.tplg_plan.specs.declared.plans.Plan.{Plan}
 use Rattle.tplg_plan.specs.declared.plans.WidgetPlan.{WidgetPlan}
 use Rattle.tplg_plan.specs.declared.plans.ControlPlan.{ControlPlan}
@@ -27,7 +27,7 @@ use Rattle.tplg_plan.specs.Sound.{IsSound, Names, NamesComponent, NamesBuffer, N
 use Rattle.host_widgets.specs.HostRecord.{closed}
 use Rattle.host_widgets.specs.Controls.{control_of}
 use Rattle.host_widgets.specs.HostActs.{Make}
-use Rattle.host_widgets.specs.ActMessages.{message_of}
+use Rattle.host_widgets.specs.ActMessages.{act_message}
 use Rattle.host_widgets.specs.Acts.{component_words, widget_words, no_words, comp_message, buffer_message, pipe_message, made_buffer, made_pipe}
 use Rattle.host_widgets.specs.Expected.{stream_view, stated_bytes, stated_by, with_pieces}
 use Rattle.host_widgets.specs.Host.{idle_view}
@@ -108,11 +108,11 @@ range-more from (suc n) =
 pub ids-more : (n : ℕ) → range_with_len 0 (n + 1) ≡ range_with_len 0 n ++ n ∷ []
 ids-more n = let e : 0 + n ≡ n = omega arith in range-more 0 n ∙ ap (λ k. range_with_len 0 n ++ k ∷ []) e
 
-pieces-more : (plan : Plan) (ids : List ℕ) (n : ℕ) (heap : HeapView) → with_pieces plan (ids ++ n ∷ []) heap ≡ with_piece n (stated_bytes plan n) (with_pieces plan ids heap)
+pieces-more : (plan : Plan) (ids : List ℕ) (n : ℕ) (heap : HeapView) → with_pieces plan (ids ++ n ∷ []) heap ≡ heap_with_piece n (stated_bytes plan n) (with_pieces plan ids heap)
 pieces-more plan [] n heap = refl
-pieces-more plan (id ∷ ids) n heap = pieces-more plan ids n (with_piece id (stated_bytes plan id) heap)
+pieces-more plan (id ∷ ids) n heap = pieces-more plan ids n (heap_with_piece id (stated_bytes plan id) heap)
 
-pub heap-more : (plan : Plan) (heap n : ℕ) → with_piece n (stated_bytes plan n) (heap_by plan heap n) ≡ heap_by plan heap (n + 1)
+pub heap-more : (plan : Plan) (heap n : ℕ) → heap_with_piece n (stated_bytes plan n) (heap_by plan heap n) ≡ heap_by plan heap (n + 1)
 heap-more plan heap n =
     sym (ap (λ ids. with_pieces plan ids (fresh heap).heap) (ids-more n) ∙ pieces-more plan (range_with_len 0 n) n (fresh heap).heap)
 
@@ -149,7 +149,7 @@ stream-last v n is (x ∷ xs) = by_order (stream-last v n is xs) (nat_lt x.id n)
     by_order rest false l = rest
 
 -- what a new component brings is that of all that are there
-stream-more : (n : ℕ) (xs : List Comp) (c : Comp) → c.id ≡ n → with_stream n c.kind (streams_by (below (λ c. c.id) n xs)) ≡ streams_by (below (λ c. c.id) n xs ++ c ∷ [])
+stream-more : (n : ℕ) (xs : List Comp) (c : Comp) → c.id ≡ n → with_host_stream n c.kind (streams_by (below (λ c. c.id) n xs)) ≡ streams_by (below (λ c. c.id) n xs ++ c ∷ [])
 stream-more n xs c is = by_kind c.kind refl ∙ sym (ap (map (λ h. idle_view h.0)) (filter_map-append host_of (below (λ c. c.id) n xs) (c ∷ [])) ∙ map-append (λ (h : ℕ × Bool). idle_view h.0) (filter_map host_of (below (λ c. c.id) n xs)) (filter_map host_of (c ∷ [])))
   where
     there : List StreamView
@@ -161,7 +161,7 @@ stream-more n xs c is = by_kind c.kind refl ∙ sym (ap (map (λ h. idle_view h.
     none_more : there ≡ there ++ []
     none_more = sym (append-nil there)
 
-    by_kind : (kind : Kind) → c.kind ≡ kind → with_stream n kind there ≡ there ++ own_of kind
+    by_kind : (kind : Kind) → c.kind ≡ kind → with_host_stream n kind there ≡ there ++ own_of kind
     by_kind HostPlay e = stream-last (idle_view n) n refl xs ∙ ap (λ m. there ++ idle_view m ∷ []) (sym is)
     by_kind HostCapture e = stream-last (idle_view n) n refl xs ∙ ap (λ m. there ++ idle_view m ∷ []) (sym is)
     by_kind (DaiPlay format) e = none_more
@@ -174,7 +174,7 @@ stream-more n xs c is = by_kind c.kind refl ∙ sym (ap (map (λ h. idle_view h.
 -- ---- kinds
 
 -- a DAI's format is read from its number
-format-read : (format : Format) → format_of (format_number format) ≡ format
+format-read : (format : Format) → sample_format (format_number format) ≡ format
 format-read S16 = refl
 format-read S24 = refl
 format-read S32 = refl
@@ -182,8 +182,8 @@ format-read S32 = refl
 pub kind-read : (kind : Kind) (k : Option ControlPlan) (w : WidgetPlan) → has_number kind w.frame_fmt ≡ true → kind_of (component_words kind k w) w.frame_fmt ≡ kind
 kind-read HostPlay k w is = refl
 kind-read HostCapture k w is = refl
-kind-read (DaiPlay format) k w is = ap DaiPlay (ap format_of (sym (eqb-true (format_number format) w.frame_fmt is)) ∙ format-read format)
-kind-read (DaiCapture format) k w is = ap DaiCapture (ap format_of (sym (eqb-true (format_number format) w.frame_fmt is)) ∙ format-read format)
+kind-read (DaiPlay format) k w is = ap DaiPlay (ap sample_format (sym (eqb-true (format_number format) w.frame_fmt is)) ∙ format-read format)
+kind-read (DaiCapture format) k w is = ap DaiCapture (ap sample_format (sym (eqb-true (format_number format) w.frame_fmt is)) ∙ format-read format)
 kind-read Volume (Some k) w is = refl
 kind-read Volume None w is = refl
 kind-read Mixer k w is = refl
@@ -197,15 +197,15 @@ module _ (plan : Plan) (heap : ℕ) (s : IsSound plan) (n : ℕ) where
   w = widget_words plan n
 
   -- what its message is
-  pub message-comp : (x : NamesComponent plan.graph n w) → message_of plan (Make n) ≡ comp_message n (control_of plan n) w x.comp
+  pub message-comp : (x : NamesComponent plan.graph n w) → act_message plan (Make n) ≡ comp_message n (control_of plan n) w x.comp
   message-comp x = ap (λ o. unwrap_or (option_map (comp_message n (control_of plan n) w) o) (unwrap_or (made_buffer plan n w) (unwrap_or (made_pipe plan n w) (pipe_message n w 0 0)))) x.there
 
-  pub message-buffer : (x : NamesBuffer plan.graph n w) → message_of plan (Make n) ≡ buffer_message n w x.edge
+  pub message-buffer : (x : NamesBuffer plan.graph n w) → act_message plan (Make n) ≡ buffer_message n w x.edge
   message-buffer x =
       ap (λ o. unwrap_or (option_map (comp_message n (control_of plan n) w) o) (unwrap_or (made_buffer plan n w) (unwrap_or (made_pipe plan n w) (pipe_message n w 0 0)))) x.no_comp
       ∙ ap (λ o. unwrap_or (option_map (buffer_message n w) o) (unwrap_or (made_pipe plan n w) (pipe_message n w 0 0))) x.there
 
-  pub message-pipe : (x : NamesPipeline plan.graph n w) → message_of plan (Make n) ≡ pipe_message n w x.pipe.sched x.pipe.period
+  pub message-pipe : (x : NamesPipeline plan.graph n w) → act_message plan (Make n) ≡ pipe_message n w x.pipe.sched x.pipe.period
   message-pipe x =
       ap (λ o. unwrap_or (option_map (comp_message n (control_of plan n) w) o) (unwrap_or (made_buffer plan n w) (unwrap_or (made_pipe plan n w) (pipe_message n w 0 0)))) x.no_comp
       ∙ ap (λ o. unwrap_or (option_map (buffer_message n w) o) (unwrap_or (made_pipe plan n w) (pipe_message n w 0 0))) x.no_edge
@@ -231,11 +231,11 @@ module _ (plan : Plan) (heap : ℕ) (s : IsSound plan) (n : ℕ) where
       let id : c.id ≡ n = found-is (λ (c : Comp). c.id) plan.graph.comps n c x.there in
       let words : with_comp n w.pipe (kind_of (component_words c.kind (control_of plan n) w) w.frame_fmt) (first_setting (component_words c.kind (control_of plan n) w)) (made_by plan heap n) ≡ with_comp n c.pipe c.kind (first_setting (component_words c.kind (control_of plan n) w)) (made_by plan heap n) =
       λ i. with_comp n (x.is.pipe i) (kind-read c.kind (control_of plan n) w x.is.format i) (first_setting (component_words c.kind (control_of plan n) w)) (made_by plan heap n) in
-      let piece : with_piece n (comp_bytes c.kind) (heap_by plan heap n) ≡ heap_by plan heap (n + 1) = ap (λ b. with_piece n b (heap_by plan heap n)) (sym (bytes-comp x)) ∙ heap-more plan heap n in
+      let piece : heap_with_piece n (comp_bytes c.kind) (heap_by plan heap n) ≡ heap_by plan heap (n + 1) = ap (λ b. heap_with_piece n b (heap_by plan heap n)) (sym (bytes-comp x)) ∙ heap-more plan heap n in
       let comps : placed (λ c. c.id) (comp_as c n) (map (made_comp plan) (comps_below plan n)) ≡ map (made_comp plan) (comps_below plan (n + 1)) =
       ap (λ m. placed (λ c. c.id) (comp_as c m) (map (made_comp plan) (comps_below plan n))) (sym id)
       ∙ made-more (made_comp plan) (λ c. c.id) (λ c. c.id) (λ c. refl) n plan.graph.comps c s.comps_ascend x.there in
-      let streams : with_stream n c.kind (streams_by (comps_below plan n)) ≡ streams_by (comps_below plan (n + 1)) =
+      let streams : with_host_stream n c.kind (streams_by (comps_below plan n)) ≡ streams_by (comps_below plan (n + 1)) =
       stream-more n plan.graph.comps c id ∙ ap streams_by (sym (below-more (λ (c : Comp). c.id) n plan.graph.comps c s.comps_ascend x.there)) in
       let edges = sym (below-same (λ (e : Edge). e.buffer) n plan.graph.edges x.no_edge) in
       let pipes = sym (below-same (λ (p : Pipe). p.id) n plan.graph.pipes x.no_pipe) in
@@ -247,8 +247,8 @@ module _ (plan : Plan) (heap : ℕ) (s : IsSound plan) (n : ℕ) where
       let id : e.buffer ≡ n = found-is (λ (e : Edge). e.buffer) plan.graph.edges n e x.there in
       let words : with_buffer n w.pipe e.size (made_by plan heap n) ≡ with_buffer e.buffer e.pipe e.size (made_by plan heap n) =
       λ i. with_buffer (sym id i) (x.is.pipe i) e.size (made_by plan heap n) in
-      let piece : with_piece e.buffer (buffer_bytes e.size) (heap_by plan heap n) ≡ heap_by plan heap (n + 1) =
-      (λ i. with_piece (id i) (sym (bytes-buffer x) i) (heap_by plan heap n)) ∙ heap-more plan heap n in
+      let piece : heap_with_piece e.buffer (buffer_bytes e.size) (heap_by plan heap n) ≡ heap_by plan heap (n + 1) =
+      (λ i. heap_with_piece (id i) (sym (bytes-buffer x) i) (heap_by plan heap n)) ∙ heap-more plan heap n in
       let edges : placed (λ e. e.buffer) (loose e) (map loose (edges_below plan n)) ≡ map loose (edges_below plan (n + 1)) =
       made-more loose (λ e. e.buffer) (λ e. e.buffer) (λ e. refl) n plan.graph.edges e s.edges_ascend x.there in
       let rings : placed (λ r. r.buffer) (empty_ring e) (map empty_ring (edges_below plan n)) ≡ map empty_ring (edges_below plan (n + 1)) =
@@ -263,8 +263,8 @@ module _ (plan : Plan) (heap : ℕ) (s : IsSound plan) (n : ℕ) where
       let id : p.id ≡ n = found-is (λ (p : Pipe). p.id) plan.graph.pipes n p x.there in
       let words : with_pipe n w.pipe p.sched p.period (made_by plan heap n) ≡ with_pipe p.id p.index p.sched p.period (made_by plan heap n) =
       λ i. with_pipe (sym id i) (x.is.index i) p.sched p.period (made_by plan heap n) in
-      let piece : with_piece p.id pipe_bytes (heap_by plan heap n) ≡ heap_by plan heap (n + 1) =
-      (λ i. with_piece (id i) (sym (bytes-pipe x) i) (heap_by plan heap n)) ∙ heap-more plan heap n in
+      let piece : heap_with_piece p.id pipe_bytes (heap_by plan heap n) ≡ heap_by plan heap (n + 1) =
+      (λ i. heap_with_piece (id i) (sym (bytes-pipe x) i) (heap_by plan heap n)) ∙ heap-more plan heap n in
       let pipes : placed (λ p. p.id) (begun p) (map begun (pipes_below plan n)) ≡ map begun (pipes_below plan (n + 1)) =
       made-more begun (λ p. p.id) (λ p. p.id) (λ p. refl) n plan.graph.pipes p s.pipes_ascend x.there in
       let comps = sym (below-same (λ (c : Comp). c.id) n plan.graph.comps x.no_comp) in
@@ -275,7 +275,7 @@ module _ (plan : Plan) (heap : ℕ) (s : IsSound plan) (n : ℕ) where
   pub names-of : n < length plan.widgets → Names plan.graph n w
   names-of within = s.named n w (slice_get-get_or plan.widgets n no_words within)
 
-  pub effect-next : n < length plan.widgets → effect (message_of plan (Make n)) (made_by plan heap n) ≡ made_by plan heap (n + 1)
+  pub effect-next : n < length plan.widgets → effect (act_message plan (Make n)) (made_by plan heap n) ≡ made_by plan heap (n + 1)
   effect-next within = ⊎_elim
       (λ x. ap (λ m. effect m (made_by plan heap n)) (message-comp x) ∙ effect-comp x)
       (λ rest. ⊎_elim

@@ -16,8 +16,8 @@ use Rattle.tplg_plan.specs.declared.plans.Plan.{Plan}
 use Rattle.tplg_plan.specs.Sound.{IsSound, host_of}
 use Rattle.host_widgets.specs.declared.kept.Record.{Record}
 use Rattle.host_widgets.specs.HostActs.{Act, Make}
-use Rattle.host_widgets.specs.ActMessages.{message_of}
-use Rattle.host_widgets.specs.Acts.{ids_of}
+use Rattle.host_widgets.specs.ActMessages.{act_message}
+use Rattle.host_widgets.specs.Acts.{widget_ids}
 use Rattle.host_widgets.specs.ActLists.{bring_up}
 use Rattle.host_widgets.specs.Expected.{stated_by, stated_bytes, needed_by}
 use Rattle.host_widgets.specs.StateOf.{state_by}
@@ -107,7 +107,7 @@ module _ (plan : Plan) (heap : ℕ) (s : IsSound plan) where
     histories = tt;
   }
 
-  make-message : (n : ℕ) → n < length plan.widgets → IsMessage (message_of plan (Make n))
+  make-message : (n : ℕ) → n < length plan.widgets → IsMessage (act_message plan (Make n))
   make-message n within = ⊎_elim
       (λ x. subst IsMessage (sym (message-comp plan heap s n x)) (is_comp_message plan s n within x))
       (λ rest. ⊎_elim
@@ -141,8 +141,8 @@ module _ (plan : Plan) (heap : ℕ) (s : IsSound plan) where
         )
 
     -- a fresh firmware follows the acts that make all widgets
-    pub makes-follow : FollowAll plan heap kept (fresh heap) (map Make (ids_of plan))
-    makes-follow = subst (λ (g : FwState). FollowAll plan heap kept g (map Make (ids_of plan))) (sym (made-first plan heap)) (follow-from (length plan.widgets) 0 (omega arith) (fresh-left (usable_of heap)) (omega arith))
+    pub makes-follow : FollowAll plan heap kept (fresh heap) (map Make (widget_ids plan))
+    makes-follow = subst (λ (g : FwState). FollowAll plan heap kept g (map Make (widget_ids plan))) (sym (made-first plan heap)) (follow-from (length plan.widgets) 0 (omega arith) (fresh-left (usable_of heap)) (omega arith))
 
     free-from : (k n : ℕ) → needed_by plan n ≤ heap → AllFree plan heap kept (map Make (range_with_len n k)) → needed_by plan (n + k) ≤ heap
     free-from zero n fits free = let e : n + 0 ≡ n = omega arith in subst (λ (m : ℕ). needed_by plan m ≤ heap) (sym e) fits
@@ -152,7 +152,7 @@ module _ (plan : Plan) (heap : ℕ) (s : IsSound plan) where
         subst (λ (m : ℕ). needed_by plan m ≤ heap) e (free-from k (n + 1) next free.1)
 
     -- where none is refused, all fit
-    pub makes-fit : AllFree plan heap kept (map Make (ids_of plan)) → Fits plan heap
+    pub makes-fit : AllFree plan heap kept (map Make (widget_ids plan)) → Fits plan heap
     makes-fit free = let e : 0 + length plan.widgets ≡ length plan.widgets = omega arith in subst (λ (m : ℕ). needed_by plan m ≤ heap) e (free-from (length plan.widgets) 0 (omega arith) free)
 
   state-from : (k n : ℕ) → n + k ≡ length plan.widgets → effects plan (map Make (range_with_len n k)) (made_by plan heap n) ≡ made_by plan heap (length plan.widgets)
@@ -160,8 +160,8 @@ module _ (plan : Plan) (heap : ℕ) (s : IsSound plan) where
   state-from (suc k) n all = let within : n < length plan.widgets = omega arith in ap (effects plan (map Make (range_with_len (n + 1) k))) (effect-next plan heap s n within) ∙ state-from k (n + 1) (omega arith)
 
   -- what they leave
-  pub makes-state : effects plan (map Make (ids_of plan)) (fresh heap) ≡ made_state plan heap
-  makes-state = ap (effects plan (map Make (ids_of plan))) (made-first plan heap) ∙ state-from (length plan.widgets) 0 (omega arith) ∙ made-last plan heap s
+  pub makes-state : effects plan (map Make (widget_ids plan)) (fresh heap) ≡ made_state plan heap
+  makes-state = ap (effects plan (map Make (widget_ids plan))) (made-first plan heap) ∙ state-from (length plan.widgets) 0 (omega arith) ∙ made-last plan heap s
 
 -- ---- with what comes after
 
@@ -170,12 +170,12 @@ free-first plan heap kept [] ys free = tt
 free-first plan heap kept (x ∷ xs) ys free = (free.0, free-first plan heap kept xs ys free.1)
 
 -- a plan is brought up where what comes after the widgets leads from these to the whole
-pub brings-by : (plan : Plan) (heap : ℕ) (kept : Record) → IsSound plan → (rest : List Act) → bring_up plan kept ≡ map Make (ids_of plan) ++ rest → Goes plan heap kept (made_state plan heap) rest (state_by plan kept heap 0) → Brings plan heap kept
+pub brings-by : (plan : Plan) (heap : ℕ) (kept : Record) → IsSound plan → (rest : List Act) → bring_up plan kept ≡ map Make (widget_ids plan) ++ rest → Goes plan heap kept (made_state plan heap) rest (state_by plan kept heap 0) → Brings plan heap kept
 brings-by plan heap kept s rest is goes =
     let made = makes-state plan heap s in
     record {
       follow = subst (FollowAll plan heap kept (fresh heap)) (sym is)
-          (follow-append plan heap kept (map Make (ids_of plan)) rest (fresh heap) (makes-follow plan heap s kept) (λ free. subst (λ (g : FwState). FollowAll plan heap kept g rest) (sym made) goes.follow));
-      fits = λ free. makes-fit plan heap s kept (free-first plan heap kept (map Make (ids_of plan)) rest (subst (AllFree plan heap kept) is free));
-      state = ap (λ (acts : List Act). effects plan acts (fresh heap)) is ∙ effects-append plan heap kept (map Make (ids_of plan)) rest (fresh heap) ∙ ap (effects plan rest) made ∙ goes.state;
+          (follow-append plan heap kept (map Make (widget_ids plan)) rest (fresh heap) (makes-follow plan heap s kept) (λ free. subst (λ (g : FwState). FollowAll plan heap kept g rest) (sym made) goes.follow));
+      fits = λ free. makes-fit plan heap s kept (free-first plan heap kept (map Make (widget_ids plan)) rest (subst (AllFree plan heap kept) is free));
+      state = ap (λ (acts : List Act). effects plan acts (fresh heap)) is ∙ effects-append plan heap kept (map Make (widget_ids plan)) rest (fresh heap) ∙ ap (effects plan rest) made ∙ goes.state;
     }

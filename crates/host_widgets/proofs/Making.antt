@@ -10,7 +10,7 @@ use Rattle.mbox_link.specs.Step.{row, no_memory}
 use Rattle.tplg_plan.specs.declared.plans.Plan.{Plan}
 use Rattle.host_widgets.specs.declared.kept.Record.{Record}
 use Rattle.host_widgets.specs.HostActs.{Act}
-use Rattle.host_widgets.specs.ActMessages.{message_of}
+use Rattle.host_widgets.specs.ActMessages.{act_message}
 use Rattle.host_widgets.specs.Expected.{needed_by}
 use Rattle.host_widgets.specs.OneAct.{own}
 use Rattle.host_widgets.specs.Host.{errno}
@@ -50,7 +50,7 @@ module _ (plan : Plan) (heap used n total : ℕ) (whole : total % 16 ≡ 0) (som
   pub carved_then : (holes : List Hole) → holes ≡ left used (usable_of heap) → refusal (ltb heap total) ≡ None → carved n holes ≡ left total (usable_of heap)
   carved_then holes are free = ap (carved n) are ∙ carved-left n used (usable_of heap) some (room_for free) ∙ ap (λ (k : ℕ). left k (usable_of heap)) (sym sum_is)
 
-  module _ (kept : Record) (g : FwState) (act : Act) (told : IsTold act) (still : IsStill g) (message : IsMessage (message_of plan act)) (holes : g.heap.holes ≡ left used (usable_of heap)) (bound : total ≤ needed_by plan (length plan.widgets)) (own_is : own plan heap kept act ≡ refusal (ltb heap total)) (row_is : (t : ℕ) → row (at g t) (message_of plan act) ≡ if_fits (fits n g.heap.holes) (effect (message_of plan act) (at g t))) where
+  module _ (kept : Record) (g : FwState) (act : Act) (told : IsTold act) (still : IsStill g) (message : IsMessage (act_message plan act)) (holes : g.heap.holes ≡ left used (usable_of heap)) (bound : total ≤ needed_by plan (length plan.widgets)) (own_is : own plan heap kept act ≡ refusal (ltb heap total)) (row_is : (t : ℕ) → row (at g t) (act_message plan act) ≡ if_fits (fits n g.heap.holes) (effect (act_message plan act) (at g t))) where
     fits_is : fits n g.heap.holes ≡ leb (used + n) (usable_of heap)
     fits_is = ap (fits n) holes ∙ fits-left n used (usable_of heap) some within
 
@@ -59,17 +59,17 @@ module _ (plan : Plan) (heap used n total : ℕ) (whole : total % 16 ≡ 0) (som
       told = told;
       still = still;
       message = message;
-      passes = λ free t. row_is t ∙ ap (λ (b : Bool). if_fits b (effect (message_of plan act) (at g t))) (fits_is ∙ le-leb (used + n) (usable_of heap) (room_for (sym own_is ∙ free)));
+      passes = λ free t. row_is t ∙ ap (λ (b : Bool). if_fits b (effect (act_message plan act) (at g t))) (fits_is ∙ le-leb (used + n) (usable_of heap) (room_for (sym own_is ∙ free)));
       refuses = λ e refused t.
           (let over = ltb-true heap total (refusal-some (ltb heap total) e (sym own_is ∙ refused)).0 in
-          row_is t ∙ ap (λ (b : Bool). if_fits b (effect (message_of plan act) (at g t))) (fits_is ∙ lt-leb (used + n) (usable_of heap) (omega (arith, over, sum_is, usable-within heap))));
+          row_is t ∙ ap (λ (b : Bool). if_fits b (effect (act_message plan act) (at g t))) (fits_is ∙ lt-leb (used + n) (usable_of heap) (omega (arith, over, sum_is, usable-within heap))));
       number = λ e refused.
           (let is = refusal-some (ltb heap total) e (sym own_is ∙ refused) in
           (is.1, omega (arith, ltb-true heap total is.0, bound)));
     }
 
 -- an act for which no heap is asked
-pub plainly_follows : (plan : Plan) (heap : ℕ) (kept : Record) (g : FwState) (act : Act) → IsTold act → IsStill g → IsMessage (message_of plan act) → own plan heap kept act ≡ None → ((t : ℕ) → row (at g t) (message_of plan act) ≡ Ok (effect (message_of plan act) (at g t))) → Follows plan heap kept g act
+pub plainly_follows : (plan : Plan) (heap : ℕ) (kept : Record) (g : FwState) (act : Act) → IsTold act → IsStill g → IsMessage (act_message plan act) → own plan heap kept act ≡ None → ((t : ℕ) → row (at g t) (act_message plan act) ≡ Ok (effect (act_message plan act) (at g t))) → Follows plan heap kept g act
 plainly_follows plan heap kept g act told still message free row_is = record {
   told = told;
   still = still;

@@ -16,12 +16,12 @@ use Rattle.tplg_plan.specs.declared.plans.Plan.{Plan}
 use Rattle.host_widgets.specs.declared.answers.HostFault.{HostFault}
 use Rattle.host_widgets.specs.declared.kept.Record.{Record}
 use Rattle.host_widgets.specs.HostActs.{Act}
-use Rattle.host_widgets.specs.ActMessages.{message_of}
+use Rattle.host_widgets.specs.ActMessages.{act_message}
 use Rattle.host_widgets.specs.ActLists.{bring_up}
 use Rattle.host_widgets.specs.StateOf.{state_by}
 use Rattle.host_widgets.specs.Host.{Outcome, verdict, Fits, BroughtUp}
-use Rattle.host_widgets.specs.OneAct.{own, outcome_by, came as came_by, lag_of}
-use Rattle.host_widgets.specs.Walk.{walk, joined, goes_past}
+use Rattle.host_widgets.specs.OneAct.{own, outcome_by, performed as came_by, lag_of}
+use Rattle.host_widgets.specs.Walk.{walk, followed_by, goes_past}
 use Rattle.host_widgets.specs.ActCalls.{ActDid, ActsDid, ActsSent, Onwards, came_to, next_of}
 use Rattle.host_widgets.specs.Orders.{ActsCame}
 use Rattle.host_widgets.proofs.ReplyErrors.{done_reply}
@@ -47,9 +47,9 @@ passed-free Lose refusal is = absurd (cc is)
 module _ {D : Type 0} (means : Meaning D) (plan : Plan) (heap : ℕ) (kept : Record) where
   -- ---- one act
 
-  module _ (act : Act) (answer : Option (List ℕ)) (w v : World D) (g : FwState) (t : ℕ) (follows : Follows plan heap kept g act) (are : AreInputs w.io.inputs) (on : means.on w.device ≡ Some (at g t)) (x : Exchanged means (message_spelling (message_of plan act)) answer w v) where
+  module _ (act : Act) (answer : Option (List ℕ)) (w v : World D) (g : FwState) (t : ℕ) (follows : Follows plan heap kept g act) (are : AreInputs w.io.inputs) (on : means.on w.device ≡ Some (at g t)) (x : Exchanged means (message_spelling (act_message plan act)) answer w v) where
     abbrev request : List ℕ
-    request = message_spelling (message_of plan act)
+    request = message_spelling (act_message plan act)
 
     -- the clock after the ticks before this message
     abbrev later : ℕ
@@ -64,8 +64,8 @@ module _ {D : Type 0} (means : Meaning D) (plan : Plan) (heap : ℕ) (kept : Rec
     pub same-io : v.io ≡ w.io
     same-io = way_of.endpoints
 
-    row_by : (o : Option Errno) → own plan heap kept act ≡ o → (next : FwState) × (row (at g later) (message_of plan act) ≡ answer_by o next)
-    row_by None free = (effect (message_of plan act) (at g later), follows.passes free later)
+    row_by : (o : Option Errno) → own plan heap kept act ≡ o → (next : FwState) × (row (at g later) (act_message plan act) ≡ answer_by o next)
+    row_by None free = (effect (act_message plan act) (at g later), follows.passes free later)
     row_by (Some e) refused =
         let number : answer_by (Some e) (at g later) ≡ answer_by (Some _) (at g later) = ap (λ (n : Errno). answer_by (Some n) (at g later)) (follows.number e refused).0 in
         (at g later, follows.refuses e refused later ∙ sym number)
@@ -76,14 +76,14 @@ module _ {D : Type 0} (means : Meaning D) (plan : Plan) (heap : ℕ) (kept : Rec
     pub it-did : (m : Meeting) × (did : ActDid means plan heap kept act m w v) × (did.answer ≡ answer)
     it-did =
         let r = row_by (own plan heap kept act) refl in
-        act-did means plan heap kept act w v (at g t) on answer x follows.message passes r.0 (ap (λ (p : FwState × Io). row p.0 (message_of plan act)) ticked-so ∙ r.1)
+        act-did means plan heap kept act w v (at g t) on answer x follows.message passes r.0 (ap (λ (p : FwState × Io). row p.0 (act_message plan act)) ticked-so ∙ r.1)
 
-    pub it-took : (reply : Reply) → verdict answer ≡ Ok reply → own plan heap kept act ≡ None → means.on v.device ≡ Some (at (effect (message_of plan act) g) later)
+    pub it-took : (reply : Reply) → verdict answer ≡ Ok reply → own plan heap kept act ≡ None → means.on v.device ≡ Some (at (effect (act_message plan act) g) later)
     it-took reply passed free = ⊎_elim
         (λ took.
-        let row_is : row (at g later) (message_of plan act) ≡ Ok took.next = sym (row-decoded (at g later) (message_of plan act) follows.message) ∙ took.row in
-        let next : effect (message_of plan act) (at g later) ≡ took.next = cc (sym (follows.passes free later) ∙ row_is) in
-        took.on ∙ ap Some (sym next ∙ effect-at (message_of plan act) g later))
+        let row_is : row (at g later) (act_message plan act) ≡ Ok took.next = sym (row-decoded (at g later) (act_message plan act) follows.message) ∙ took.row in
+        let next : effect (act_message plan act) (at g later) ≡ took.next = cc (sym (follows.passes free later) ∙ row_is) in
+        took.on ∙ ap Some (sym next ∙ effect-at (act_message plan act) g later))
         (λ rest. ⊎_elim
         (λ it. absurd (cc (sym passed ∙ ap verdict it.said ∙ verdict-number it.error it.number)))
         (λ rest. ⊎_elim
@@ -100,7 +100,7 @@ module _ {D : Type 0} (means : Meaning D) (plan : Plan) (heap : ℕ) (kept : Rec
 
   -- and what they all come to
   abbrev pub outcome_from : Act → List Act → Meeting → List Meeting → Outcome → Outcome
-  outcome_from act acts m ms o = let a = came_by plan act kept (lag_of m) o in (joined act a ms (goes_past false a.outcome) (walk plan heap false next_of a.kept ms acts)).outcome
+  outcome_from act acts m ms o = let a = came_by plan act kept (lag_of m) o in (followed_by act a ms (goes_past false a.outcome) (walk plan heap false next_of a.kept ms acts)).outcome
 
   -- what they met, what they came to, and where all passed the state that they leave
   pub record Followed (acts : List Act) (w v : World D) (g : FwState) (t : ℕ) (result : Outcome) : Type 0 where
@@ -123,7 +123,7 @@ module _ {D : Type 0} (means : Meaning D) (plan : Plan) (heap : ℕ) (kept : Rec
         on = λ passed. ap (λ (y : World D). means.on y.device) sent.0 ∙ on ∙ ap (λ (n : ℕ). Some (at g n)) (let same : t ≡ t + (means.pending w.device - means.pending v.device) = omega (arith, pending) in same);
       }
   follow-sent (act ∷ acts) w v g t result all follow are on (mid, answer, x, more) =
-      by (verdict answer) refl more (λ free there rest. follow-sent acts mid v (effect (message_of plan act) g) (t + (means.pending w.device - means.pending mid.device)) result all.1 (follow.1 free) (subst (λ (io : Io). AreInputs io.inputs) (sym io-stays) are) there rest)
+      by (verdict answer) refl more (λ free there rest. follow-sent acts mid v (effect (act_message plan act) g) (t + (means.pending w.device - means.pending mid.device)) result all.1 (follow.1 free) (subst (λ (io : Io). AreInputs io.inputs) (sym io-stays) are) there rest)
     where
       io-stays : mid.io ≡ w.io
       io-stays = same-io act answer w mid g t follow.0 are on x
@@ -135,7 +135,7 @@ module _ {D : Type 0} (means : Meaning D) (plan : Plan) (heap : ℕ) (kept : Rec
       came-is = ap (λ (a : Option (List ℕ)). came_to (verdict a)) (sym it.2) ∙ it.1.came
 
       by : (r : Result Reply HostFault) → verdict answer ≡ r → MatchResult r (λ reply. ActsSent means plan acts mid v result) (λ fault. (v ≡ mid) × (result ≡ Err fault)) →
-          (own plan heap kept act ≡ None → means.on mid.device ≡ Some (at (effect (message_of plan act) g) (t + (means.pending w.device - means.pending mid.device))) → ActsSent means plan acts mid v result → Followed acts mid v (effect (message_of plan act) g) (t + (means.pending w.device - means.pending mid.device)) result) →
+          (own plan heap kept act ≡ None → means.on mid.device ≡ Some (at (effect (act_message plan act) g) (t + (means.pending w.device - means.pending mid.device))) → ActsSent means plan acts mid v result → Followed acts mid v (effect (act_message plan act) g) (t + (means.pending w.device - means.pending mid.device)) result) →
           Followed (act ∷ acts) w v g t result
       by (Ok reply) is rest go =
           let passed : Ok tt ≡ outcome_by it.0.fate (own plan heap kept act) = ap came_to (sym is) ∙ came-is in
@@ -148,14 +148,14 @@ module _ {D : Type 0} (means : Meaning D) (plan : Plan) (heap : ℕ) (kept : Rec
             came_so = subst (λ (o : Outcome). result ≡ outcome_from act acts it.0 r.meetings o) passed (subst (λ (now : Record). result ≡ (walk plan heap false next_of now r.meetings acts).outcome) (sym all.0) r.came_so);
             io = r.io ∙ io-stays;
             fewer = omega (arith, x.steady.pending, r.fewer);
-            on = λ done. r.on done ∙ ap (λ (n : ℕ). Some (at (effects plan acts (effect (message_of plan act) g)) n)) clock;
+            on = λ done. r.on done ∙ ap (λ (n : ℕ). Some (at (effects plan acts (effect (act_message plan act) g)) n)) clock;
           }
       by (Err fault) is end go =
           let failed : Err fault ≡ outcome_by it.0.fate (own plan heap kept act) = ap came_to (sym is) ∙ came-is in
           record {
             meetings = it.0 ∷ [];
             did = (mid, it.1, subst (GoesOn act acts it.0 [] mid v) failed (subst (λ (b : Bool). Onwards b [] mid v (ActsDid means plan heap false kept acts [] mid v)) (sym (ends-at fault)) (refl, end.0)));
-            came_so = subst (λ (o : Outcome). result ≡ outcome_from act acts it.0 [] o) failed (subst (λ (b : Bool). result ≡ (joined act (came_by plan act kept (lag_of it.0) (Err fault)) [] b (walk plan heap false next_of kept [] acts)).outcome) (sym (ends-at fault)) end.1);
+            came_so = subst (λ (o : Outcome). result ≡ outcome_from act acts it.0 [] o) failed (subst (λ (b : Bool). result ≡ (followed_by act (came_by plan act kept (lag_of it.0) (Err fault)) [] b (walk plan heap false next_of kept [] acts)).outcome) (sym (ends-at fault)) end.1);
             io = ap (λ (y : World D). y.io) end.0 ∙ io-stays;
             fewer = omega (arith, x.steady.pending, ap (λ (y : World D). means.pending y.device) end.0);
             on = λ done. absurd (let no : Err fault ≡ Ok tt = sym end.1 ∙ done in cc no);

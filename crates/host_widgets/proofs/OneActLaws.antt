@@ -18,8 +18,8 @@ use Rattle.host_widgets.specs.declared.kept.Record.{Record}
 use Rattle.host_widgets.specs.Host.{IsRecordOf, verdict}
 use Rattle.host_widgets.specs.Kept.{with_stream}
 use Rattle.host_widgets.specs.HostActs.{Act, Make, Join, Put, Part, Finish, Prepare, Trig, Free, Save, Ask, after, fresh_in}
-use Rattle.host_widgets.specs.ActMessages.{message_of}
-use Rattle.host_widgets.specs.ViewOf.{view_by}
+use Rattle.host_widgets.specs.ActMessages.{act_message}
+use Rattle.host_widgets.specs.ViewOf.{record_view}
 use Rattle.host_widgets.specs.ActCalls.{came_to}
 use Rattle.host_widgets.proofs.ReplyErrors.{done_reply}
 use Rattle.host_widgets.proofs.Exchanges.{verdict-zero}
@@ -37,7 +37,7 @@ abbrev pub AreReady : Plan → Bool → List Act → FwState → Type 0
 AreReady plan goes_on [] f = Unit {0}
 AreReady plan goes_on (act ∷ acts) f =
     (g : FwState) → g.staging ≡ f.staging →
-    IsReady act g × ((f' : FwState) → row g (message_of plan act) ≡ Ok f' → AreReady plan goes_on acts f') × (goes_on ≡ true → AreReady plan goes_on acts g)
+    IsReady act g × ((f' : FwState) → row g (act_message plan act) ≡ Ok f' → AreReady plan goes_on acts f') × (goes_on ≡ true → AreReady plan goes_on acts g)
 
 -- an act that asks nothing
 abbrev pub IsPlain : Act → Type 0
@@ -64,11 +64,11 @@ plain-ready plan goes_on (act ∷ acts) all f = λ g same. (plain-asks act all.0
 -- what stood stands a moment later.
 pub record LeavesSo (plan : Plan) (act : Act) (f f' : FwState) (now : Record) : Type 0 where
   pub record_now : IsRecordOf plan now
-  pub shows_now : view_of f' ≡ view_by plan now
+  pub shows_now : view_of f' ≡ record_view plan now
   pub heap : f'.heap ≡ f.heap
   pub rings : map (λ r. r.buffer) f'.rings ≡ buffers plan.graph
   pub stands : (whole : List (ℕ × List ℕ)) (inputs : List InputView) (before : List Moment) (stood : Stands (Some f) whole inputs before) →
-      (after_it : Stands (Some f') whole inputs (before ++ Now (view_by plan now) (fresh_in act) ∷ [])) × Leads whole stood.past (Now (view_by plan now) (fresh_in act) ∷ []) after_it.past
+      (after_it : Stands (Some f') whole inputs (before ++ Now (record_view plan now) (fresh_in act) ∷ [])) × Leads whole stood.past (Now (record_view plan now) (fresh_in act) ∷ []) after_it.past
 
 abbrev pub Leaves : Plan → Record → Act → FwState → FwState → Type 0
 Leaves plan kept act f f' = LeavesSo plan act f f' (after plan act kept)
@@ -76,10 +76,10 @@ Leaves plan kept act f f' = LeavesSo plan act f f' (after plan act kept)
 -- The law of one act: its message fits, the reply of one that is done passes, and a row that was done leaves all of this, where the
 -- act found staged what it asks.
 pub record IsTaken (plan : Plan) (kept : Record) (act : Act) : Type 0 where
-  pub message : IsMessage (message_of plan act)
-  pub passes : (f : FwState) → came_to (verdict (Some (done_reply (body_of f (decoded (message_spelling (message_of plan act))))))) ≡ Ok tt
+  pub message : IsMessage (act_message plan act)
+  pub passes : (f : FwState) → came_to (verdict (Some (done_reply (body_of f (decoded (message_spelling (act_message plan act))))))) ≡ Ok tt
   pub record_is : IsRecordOf plan kept
-  pub leaves : (f f' : FwState) → view_of f ≡ view_by plan kept → map (λ r. r.buffer) f.rings ≡ buffers plan.graph → IsReady act f → row f (message_of plan act) ≡ Ok f' → Leaves plan kept act f f'
+  pub leaves : (f f' : FwState) → view_of f ≡ record_view plan kept → map (λ r. r.buffer) f.rings ≡ buffers plan.graph → IsReady act f → row f (act_message plan act) ≡ Ok f' → Leaves plan kept act f f'
 
 -- a reply without a body passes
 pub bare-passes : (said : Body) → said ≡ Nothing → came_to (verdict (Some (done_reply said))) ≡ Ok tt
@@ -87,9 +87,9 @@ bare-passes said bare = ap (λ (b : Body). came_to (verdict (Some (done_reply b)
 
 -- What a row of it that was done shows: the record after it, which is one of the plan at the same power.
 pub record IsShown (plan : Plan) (kept : Record) (act : Act) : Type 0 where
-  pub message : IsMessage (message_of plan act)
+  pub message : IsMessage (act_message plan act)
   pub power : (after plan act kept).power ≡ kept.power
-  pub shown : (f f' : FwState) → view_of f ≡ view_by plan kept → row f (message_of plan act) ≡ Ok f' → IsRecordOf plan (after plan act kept) × (view_of f' ≡ view_by plan (after plan act kept))
+  pub shown : (f f' : FwState) → view_of f ≡ record_view plan kept → row f (act_message plan act) ≡ Ok f' → IsRecordOf plan (after plan act kept) × (view_of f' ≡ record_view plan (after plan act kept))
 
 -- An act that changes the stream of a host: its message fits and has no body for a reply, a row that was done gives the view of
 -- the record, and then the record may be so.
@@ -98,23 +98,23 @@ pub record IsStreamAct (plan : Plan) (kept : Record) (act : Act) : Type 0 where
   pub change : StreamRec → StreamRec
   pub changes : after plan act kept ≡ with_stream plan host change kept
   pub no_blob : fresh_in act ≡ None
-  pub message : IsMessage (message_of plan act)
-  pub bare : (f : FwState) → body_of f (decoded (message_spelling (message_of plan act))) ≡ Nothing
-  pub sees : (f f' : FwState) → view_of f ≡ view_by plan kept → row f (message_of plan act) ≡ Ok f' → f' ≡ seen (view_by plan (after plan act kept)) None f
+  pub message : IsMessage (act_message plan act)
+  pub bare : (f : FwState) → body_of f (decoded (message_spelling (act_message plan act))) ≡ Nothing
+  pub sees : (f f' : FwState) → view_of f ≡ record_view plan kept → row f (act_message plan act) ≡ Ok f' → f' ≡ seen (record_view plan (after plan act kept)) None f
   pub record_is : IsRecordOf plan kept
-  pub record_will : (f f' : FwState) → view_of f ≡ view_by plan kept → row f (message_of plan act) ≡ Ok f' → IsRecordOf plan (with_stream plan host change kept)
+  pub record_will : (f f' : FwState) → view_of f ≡ record_view plan kept → row f (act_message plan act) ≡ Ok f' → IsRecordOf plan (with_stream plan host change kept)
   pub live : KeepsWhereLive change host plan.streams kept.streams
 
 -- so the law of one act holds of it
 pub stream-taken : (plan : Plan) (kept : Record) (act : Act) → IsStreamAct plan kept act → IsTaken plan kept act
 stream-taken plan kept act is = record {
   message = is.message;
-  passes = λ f. bare-passes (body_of f (decoded (message_spelling (message_of plan act)))) (is.bare f);
+  passes = λ f. bare-passes (body_of f (decoded (message_spelling (act_message plan act)))) (is.bare f);
   record_is = is.record_is;
   leaves = λ f f' shows rings ready done.
       let will = is.record_will f f' shows done in
-      let v = view_by plan (with_stream plan is.host is.change kept) in
-      let seen_is : f' ≡ seen v None f = is.sees f f' shows done ∙ ap (λ (now : Record). seen (view_by plan now) None f) is.changes in
+      let v = record_view plan (with_stream plan is.host is.change kept) in
+      let seen_is : f' ≡ seen v None f = is.sees f f' shows done ∙ ap (λ (now : Record). seen (record_view plan now) None f) is.changes in
       subst (λ (x : Record × FwState). LeavesSo plan act f x.1 x.0) (λ i. (sym is.changes i, sym seen_is i)) record {
         record_now = will;
         shows_now = refl;

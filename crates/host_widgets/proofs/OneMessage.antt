@@ -8,7 +8,7 @@ use Rattle.host_widgets.specs.declared.kept.Record.{Record}
 use Rattle.host_widgets.specs.Kept.{went_down}
 use Rattle.host_widgets.specs.Host.{Outcome, Sent}
 use Rattle.host_widgets.specs.ActCalls.{came_to}
-use Rattle.host_widgets.specs.ActCarried.{Heard, Passes, PlainEnd, is_down}
+use Rattle.host_widgets.specs.ActCarried.{Replied, Passes, PlainEnd, is_down}
 
 module _ {D : Type 0} (means : Meaning D) (heap : ℕ) (request : List ℕ) (kept : Record) (w : World D) where
   exchanged : (v : World D) (result : Result Reply HostFault) (sent : Sent means request w v result) → Exchanged means request sent.answer w v
@@ -41,7 +41,7 @@ module _ {D : Type 0} (means : Meaning D) (heap : ℕ) (request : List ℕ) (kep
   ends-up (Err fault) v up = stays fault v up
 
   -- the link held
-  pub heard : (v : World D) (result : Result Reply HostFault) → Sent means request w v result → is_down result ≡ false → Heard means heap request kept kept w v result
+  pub heard : (v : World D) (result : Result Reply HostFault) → Sent means request w v result → is_down result ≡ false → Replied means heap request kept kept w v result
   heard v result sent up = record { answer = sent.answer; sent = v; exchanged = exchanged v result sent; said = sent.said; ends = ends-up result v up }
 
   ends-down : (result : Result Reply HostFault) (kept' : Record) (m v : World D) → is_down result ≡ true → Did means Cut m v → kept' ≡ went_down kept → PlainEnd means heap (came_to result) kept kept' m v
@@ -49,12 +49,12 @@ module _ {D : Type 0} (means : Meaning D) (heap : ℕ) (request : List ℕ) (kep
   ends-down (Err fault) kept' m v down cut record_is = subst (λ (f : HostFault). PlainEnd means heap (Err f) kept kept' m v) (down-is fault down) (record_is, (v, cut, refl))
 
   -- it failed
-  pub went_dead : (kept' : Record) (m v : World D) (result : Result Reply HostFault) → Sent means request w m result → is_down result ≡ true → Did means Cut m v → kept' ≡ went_down kept → Heard means heap request kept kept' w v result
+  pub went_dead : (kept' : Record) (m v : World D) (result : Result Reply HostFault) → Sent means request w m result → is_down result ≡ true → Did means Cut m v → kept' ≡ went_down kept → Replied means heap request kept kept' w v result
   went_dead kept' m v result sent down cut record_is =
       record { answer = sent.answer; sent = m; exchanged = exchanged m result sent; said = sent.said; ends = ends-down result kept' m v down cut record_is }
 
   -- what was heard, without its reply
-  pub passes : (kept' : Record) (v : World D) (result : Result Reply HostFault) (came : Outcome) → Heard means heap request kept kept' w v result → came ≡ came_to result → Passes means heap request kept kept' w v came
+  pub passes : (kept' : Record) (v : World D) (result : Result Reply HostFault) (came : Outcome) → Replied means heap request kept kept' w v result → came ≡ came_to result → Passes means heap request kept kept' w v came
   passes kept' v result came h is = record {
     answer = h.answer;
     sent = h.sent;

@@ -6,7 +6,7 @@ use Rattle.std.proofs.lemmas.List.{length-drop, length-take-le, take_all}
 use Rattle.std.proofs.Math.Seq.{take-add, take-append-le}
 use Rattle.sof_base.specs.BlobFaults.{BlobFault, blob_fault, is_blob}
 use Rattle.sof_base.proofs.BlobTests.{tested-sound}
-use Rattle.mbox_link.specs.BlobParts.{payload, part_of, is_last, parts}
+use Rattle.mbox_link.specs.BlobParts.{payload, blob_part, is_last, parts}
 use Rattle.mbox_link.specs.Step.{bytes_left}
 
 none-told : (fault : Option BlobFault) → is_none fault ≡ true → fault ≡ None
@@ -53,45 +53,45 @@ module _ (blob : List ℕ) (is : is_blob blob ≡ true) where
     pub rest-long : length rest ≡ length (payload blob) - 260 * k
     rest-long = length-drop (260 * k) (payload blob)
 
-    pub front-more : front blob k ++ (part_of blob k).bytes ≡ front blob (k + 1)
+    pub front-more : front blob k ++ (blob_part blob k).bytes ≡ front blob (k + 1)
     front-more =
         append_assoc (take 32 blob) (take (260 * k) (payload blob)) (take 260 rest)
         ∙ ap (λ (xs : List ℕ). take 32 blob ++ xs) (sym (take-add (260 * k) 260 (payload blob)) ∙ ap (λ (n : ℕ). take n (payload blob)) (let e : 260 * k + 260 ≡ 260 * (k + 1) = omega arith in e))
 
     -- one that is not the last is full
-    pub full-part : length (payload blob) ≤ 260 * (k + 1) → length (part_of blob k).bytes ≡ length (payload blob) - 260 * k
+    pub full-part : length (payload blob) ≤ 260 * (k + 1) → length (blob_part blob k).bytes ≡ length (payload blob) - 260 * k
     full-part ends = ap (λ (xs : List ℕ). length xs) (take_all 260 rest (let r = rest-long in omega (arith, r, ends))) ∙ rest-long
 
-    pub whole-part : 260 * (k + 1) < length (payload blob) → length (part_of blob k).bytes ≡ 260
+    pub whole-part : 260 * (k + 1) < length (payload blob) → length (blob_part blob k).bytes ≡ 260
     whole-part more = length-take-le 260 rest (let r = rest-long in omega (arith, r, more))
 
     -- with it and behind it come all that its predecessors left
-    pub part-left : bytes_left (part_of blob k) ≡ length (payload blob) - 260 * k
+    pub part-left : bytes_left (blob_part blob k) ≡ length (payload blob) - 260 * k
     part-left = by (is_last blob k) refl
       where
-        by : (b : Bool) → is_last blob k ≡ b → bytes_left (part_of blob k) ≡ length (payload blob) - 260 * k
+        by : (b : Bool) → is_last blob k ≡ b → bytes_left (blob_part blob k) ≡ length (payload blob) - 260 * k
         by true e = let ends = leb-true (length (payload blob)) (260 * (k + 1)) e in let f = full-part ends in omega (arith, f, ends)
         by false e = let more = leb-false (length (payload blob)) (260 * (k + 1)) e in let w = whole-part more in omega (arith, w, more)
 
-    pub part-some : (1 ≤ length (part_of blob k).bytes) × (length (part_of blob k).bytes ≤ 260)
+    pub part-some : (1 ≤ length (blob_part blob k).bytes) × (length (blob_part blob k).bytes ≤ 260)
     part-some = by (is_last blob k) refl
       where
-        by : (b : Bool) → is_last blob k ≡ b → (1 ≤ length (part_of blob k).bytes) × (length (part_of blob k).bytes ≤ 260)
+        by : (b : Bool) → is_last blob k ≡ b → (1 ≤ length (blob_part blob k).bytes) × (length (blob_part blob k).bytes ≤ 260)
         by true e = let ends = leb-true (length (payload blob)) (260 * (k + 1)) e in let f = full-part ends in let b = begins in (omega (arith, f, b), omega (arith, f, ends))
         by false e = let more = leb-false (length (payload blob)) (260 * (k + 1)) e in let w = whole-part more in (omega (arith, w), omega (arith, w))
 
     -- nothing remains exactly behind the last
-    pub none-left : ((part_of blob k).remaining == 0) ≡ is_last blob k
+    pub none-left : ((blob_part blob k).remaining == 0) ≡ is_last blob k
     none-left = by (is_last blob k) refl
       where
-        by : (b : Bool) → is_last blob k ≡ b → ((part_of blob k).remaining == 0) ≡ b
-        by true e = let ends = leb-true (length (payload blob)) (260 * (k + 1)) e in eq-eqb (part_of blob k).remaining 0 (let z : (part_of blob k).remaining ≡ 0 = omega (arith, ends) in z)
-        by false e = let more = leb-false (length (payload blob)) (260 * (k + 1)) e in ne_eqb (part_of blob k).remaining 0 (λ z. let zero_is : length (payload blob) - 260 * (k + 1) ≡ 0 = z in omega (arith, more, zero_is))
+        by : (b : Bool) → is_last blob k ≡ b → ((blob_part blob k).remaining == 0) ≡ b
+        by true e = let ends = leb-true (length (payload blob)) (260 * (k + 1)) e in eq-eqb (blob_part blob k).remaining 0 (let z : (blob_part blob k).remaining ≡ 0 = omega (arith, ends) in z)
+        by false e = let more = leb-false (length (payload blob)) (260 * (k + 1)) e in ne_eqb (blob_part blob k).remaining 0 (λ z. let zero_is : length (payload blob) - 260 * (k + 1) ≡ 0 = z in omega (arith, more, zero_is))
 
     pub last-front : is_last blob k ≡ true → front blob (k + 1) ≡ blob
     last-front e = front-all (k + 1) (leb-true (length (payload blob)) (260 * (k + 1)) e)
 
-    pub more-behind : is_last blob k ≡ false → (k + 1 < parts blob) × (length (part_of blob k).bytes ≡ 260)
+    pub more-behind : is_last blob k ≡ false → (k + 1 < parts blob) × (length (blob_part blob k).bytes ≡ 260)
     more-behind e = let more = leb-false (length (payload blob)) (260 * (k + 1)) e in (omega (arith, more), whole-part more)
 
     pub none-behind : is_last blob k ≡ true → k + 1 ≡ parts blob

@@ -17,21 +17,21 @@ use Rattle.stream_law.specs.Seen.{is_equaliser}
 use Rattle.stream_law.proofs.Placing.{find-placed_there}
 use Rattle.ipc3_codec.specs.declared.message.Message.TheVariants.{SetData}
 use Rattle.ipc3_codec.specs.Messages.{IsMessage}
-use Rattle.mbox_link.specs.BlobParts.{payload, part_of, is_last, parts}
+use Rattle.mbox_link.specs.BlobParts.{payload, blob_part, is_last, parts}
 use Rattle.mbox_link.specs.Step.{row, is_used, has_comp, has_edge, has_pipe, has_kind, kind_at, staging_at, bytes_left, is_next, keeps_order, staged_bytes, unstaged, with_staged, blob_installed, part_staged, no_device, invalid}
 use Rattle.host_widgets.proofs.LookedUp.{any-found}
 use Rattle.host_widgets.proofs.PartFacts.{front, payload-long, header-long, few-parts, front-header, front-more, part-left, part-some, none-left, last-front, more-behind}
 
 -- ---- the message
 
-pub part-message : (id : ℕ) (blob : List ℕ) → is_blob blob ≡ true → (k : ℕ) → k < parts blob → id < 2 ^ 32 → IsMessage (SetData id (part_of blob k))
+pub part-message : (id : ℕ) (blob : List ℕ) → is_blob blob ≡ true → (k : ℕ) → k < parts blob → id < 2 ^ 32 → IsMessage (SetData id (blob_part blob k))
 unfolding AreSlots IsSlot
 part-message id blob is k low fits =
     let p = payload-long blob is in
     let s = part-some blob is k low in
     let l = part-left blob is k low in
     let few = few-parts blob is in
-    ((tt, (omega arith, (tt, (fits, (omega arith, (omega arith, (tt, (tt, (tt, (tt, (tt, (tt, (tt, (tt, (omega (arith, s.1), (omega (arith, p.1), (omega (arith, low, few.1), (tt, (tt, (tt, (tt, (tt, (tt, (tt, (tt, tt))))))))))))))))))))))))), (header-long blob is, rw (le-leb 1 (length (part_of blob k).bytes) s.0, le-leb (length (part_of blob k).bytes) 260 s.1) refl, le-leb ((part_of blob k).remaining + length (part_of blob k).bytes) 992 (omega (arith, l, p.1))))
+    ((tt, (omega arith, (tt, (fits, (omega arith, (omega arith, (tt, (tt, (tt, (tt, (tt, (tt, (tt, (tt, (omega (arith, s.1), (omega (arith, p.1), (omega (arith, low, few.1), (tt, (tt, (tt, (tt, (tt, (tt, (tt, (tt, tt))))))))))))))))))))))))), (header-long blob is, rw (le-leb 1 (length (blob_part blob k).bytes) s.0, le-leb (length (blob_part blob k).bytes) 260 s.1) refl, le-leb ((blob_part blob k).remaining + length (blob_part blob k).bytes) 992 (omega (arith, l, p.1))))
 
 -- ---- what is staged
 
@@ -49,7 +49,7 @@ part_effect id bytes part f = cond (part.remaining == 0) (blob_installed id byte
 
 module _ (id : ℕ) (blob : List ℕ) (is : is_blob blob ≡ true) (k : ℕ) (low : k < parts blob) (f : FwState) (staged : HasStaged id blob k f) where
   abbrev part : Part
-  part = part_of blob k
+  part = blob_part blob k
 
   next-is : is_next part (staged_of id blob k) ≡ true
   next-is =
@@ -77,7 +77,7 @@ module _ (id : ℕ) (blob : List ℕ) (is : is_blob blob ≡ true) (k : ℕ) (lo
       by : (b : Bool) → (k == 0) ≡ b → cond b (part.header ++ part.bytes) (option_map_or (λ (s : Staging). s.bytes) (staging_at f id) [] ++ part.bytes) ≡ front blob (k + 1)
       by true e =
           let none : 0 ≡ k = sym (eqb-true k 0 e) in
-          subst (λ (n : ℕ). (part_of blob n).header ++ (part_of blob n).bytes ≡ front blob (n + 1)) none refl
+          subst (λ (n : ℕ). (blob_part blob n).header ++ (blob_part blob n).bytes ≡ front blob (n + 1)) none refl
       by false e = ap (λ (o : Option Staging). option_map_or (λ (s : Staging). s.bytes) o [] ++ part.bytes) (staged e) ∙ front-more blob is k low
 
   -- ---- the row
@@ -130,6 +130,6 @@ none-staged id (s ∷ ss) = by (s.eq == id) refl (none-staged id ss)
     by true e rest = rest
     by false e rest = ap (λ (b : Bool). b || list_any (λ (t : Staging). t.eq == id) (unstaged id ss)) e ∙ rest
 
-pub staged-then : (id : ℕ) (blob : List ℕ) (k : ℕ) (f : FwState) → HasStaged id blob (k + 1) (with_staged id (front blob (k + 1)) (part_of blob k) f)
+pub staged-then : (id : ℕ) (blob : List ℕ) (k : ℕ) (f : FwState) → HasStaged id blob (k + 1) (with_staged id (front blob (k + 1)) (blob_part blob k) f)
 staged-then id blob k f some =
     find-placed_there (λ (s : Staging). s.eq == id) (λ (s : Staging). s.eq) (staged_of id blob (k + 1)) (unstaged id f.staging) (eq-eqb id id refl) (none-staged id f.staging)

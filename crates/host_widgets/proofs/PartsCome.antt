@@ -13,7 +13,7 @@ use Rattle.stream_law.specs.Ways.{comp_of}
 use Rattle.ipc3_codec.specs.declared.message.Message.TheVariants.{SetData}
 use Rattle.ipc3_codec.specs.declared.reply.Reply.{Reply}
 use Rattle.ipc3_codec.specs.Messages.{message_spelling, decoded, IsMessage}
-use Rattle.mbox_link.specs.BlobParts.{part_of, is_last, parts}
+use Rattle.mbox_link.specs.BlobParts.{blob_part, is_last, parts}
 use Rattle.mbox_link.specs.Step.{row, body_of, with_comps, with_setting, with_staged, blob_installed}
 use Rattle.mbox_link.specs.Exchange.{ticked, ticks}
 use Rattle.mbox_link.specs.Meetings.{Meeting}
@@ -26,9 +26,9 @@ use Rattle.host_widgets.specs.Kept.{with_control}
 use Rattle.host_widgets.specs.ActLists.{part_acts}
 use Rattle.host_widgets.specs.ActCalls.{ActsDid, ActsSent, Onwards, came_to, next_of}
 use Rattle.host_widgets.specs.Host.{Outcome, verdict}
-use Rattle.host_widgets.specs.OneAct.{came as came_by, lag_of, own, outcome_by}
-use Rattle.host_widgets.specs.ViewOf.{graph_by, view_by}
-use Rattle.host_widgets.specs.Walk.{walk, joined, goes_past}
+use Rattle.host_widgets.specs.OneAct.{performed as came_by, lag_of, own, outcome_by}
+use Rattle.host_widgets.specs.ViewOf.{graph_by, record_view}
+use Rattle.host_widgets.specs.Walk.{walk, followed_by, goes_past}
 use Rattle.host_widgets.proofs.ReplyErrors.{done_reply}
 use Rattle.host_widgets.proofs.Exchanges.{came, verdict-number}
 use Rattle.host_widgets.proofs.Effects.{decoded-message, row-decoded}
@@ -57,7 +57,7 @@ module _ {D : Type 0} (means : Meaning D) (plan : Plan) (heap : ℕ) (kept : Rec
   pub record Stands (k : ℕ) (w : World D) : Type 0 where
     pub state : FwState
     pub on : means.on w.device ≡ Some state
-    pub view : view_of state ≡ view_by plan kept
+    pub view : view_of state ≡ record_view plan kept
     pub staged : HasStaged id blob k state
 
   abbrev now : Record
@@ -65,7 +65,7 @@ module _ {D : Type 0} (means : Meaning D) (plan : Plan) (heap : ℕ) (kept : Rec
 
   -- ---- one part
 
-  module _ (k : ℕ) (low : k < parts blob) (w mid : World D) (s : Stands k w) (answer : Option (List ℕ)) (e : Exchanged means (message_spelling (SetData id (part_of blob k))) answer w mid) where
+  module _ (k : ℕ) (low : k < parts blob) (w mid : World D) (s : Stands k w) (answer : Option (List ℕ)) (e : Exchanged means (message_spelling (SetData id (blob_part blob k))) answer w mid) where
     abbrev act : Act
     act = Part id blob k
 
@@ -76,7 +76,7 @@ module _ {D : Type 0} (means : Meaning D) (plan : Plan) (heap : ℕ) (kept : Rec
     abbrev before : FwState × Io
     before = ticks n (s.state, w.io)
 
-    before-shows : view_of before.0 ≡ view_by plan kept
+    before-shows : view_of before.0 ≡ record_view plan kept
     before-shows = still n (s.state, w.io) ∙ s.view
 
     before-staged : HasStaged id blob k before.0
@@ -85,18 +85,18 @@ module _ {D : Type 0} (means : Meaning D) (plan : Plan) (heap : ℕ) (kept : Rec
     before-there : comp_of before.0.graph id ≡ Some x
     before-there = ap (λ (v : View). comp_of v.graph id) before-shows ∙ there
 
-    message : IsMessage (SetData id (part_of blob k))
+    message : IsMessage (SetData id (blob_part blob k))
     message = part-message id blob is k low fits
 
-    passes : (f : FwState) → came_to (verdict (Some (done_reply (body_of f (decoded (message_spelling (SetData id (part_of blob k)))))))) ≡ Ok tt
-    passes f = bare-passes (body_of f (decoded (message_spelling (SetData id (part_of blob k))))) (ap (body_of f) (decoded-message (SetData id (part_of blob k)) message))
+    passes : (f : FwState) → came_to (verdict (Some (done_reply (body_of f (decoded (message_spelling (SetData id (blob_part blob k)))))))) ≡ Ok tt
+    passes f = bare-passes (body_of f (decoded (message_spelling (SetData id (blob_part blob k))))) (ap (body_of f) (decoded-message (SetData id (blob_part blob k)) message))
 
     -- what the row leaves
     abbrev next : Bool → FwState
     next true = blob_installed id blob before.0
-    next false = with_staged id (front blob (k + 1)) (part_of blob k) before.0
+    next false = with_staged id (front blob (k + 1)) (blob_part blob k) before.0
 
-    row-is : (b : Bool) → is_last blob k ≡ b → row before.0 (SetData id (part_of blob k)) ≡ Ok (next b)
+    row-is : (b : Bool) → is_last blob k ≡ b → row before.0 (SetData id (blob_part blob k)) ≡ Ok (next b)
     row-is true last = part-last id blob is k low before.0 before-staged x before-there kind last
     row-is false more = part-more id blob is k low before.0 before-staged x before-there kind more
 
@@ -105,7 +105,7 @@ module _ {D : Type 0} (means : Meaning D) (plan : Plan) (heap : ℕ) (kept : Rec
 
     -- what is so of the device, by whether the part was the last
     abbrev Passed : Bool → Type 0
-    Passed true = Shows mid (blob_view id blob (view_by plan kept))
+    Passed true = Shows mid (blob_view id blob (record_view plan kept))
     Passed false = Stands (k + 1) mid
 
     passed-by : (b : Bool) → is_last blob k ≡ b → means.on mid.device ≡ Some (next b) → Passed b
@@ -114,17 +114,17 @@ module _ {D : Type 0} (means : Meaning D) (plan : Plan) (heap : ℕ) (kept : Rec
 
     abbrev After : Outcome → Type 0
     After (Ok done) = Passed (is_last blob k)
-    After (Err fault) = WhereUp (Err fault) (Shows mid (view_by plan kept))
+    After (Err fault) = WhereUp (Err fault) (Shows mid (record_view plan kept))
 
-    refused-shows : means.on mid.device ≡ Some before.0 → Shows mid (view_by plan kept)
+    refused-shows : means.on mid.device ≡ Some before.0 → Shows mid (record_view plan kept)
     refused-shows on = ap (option_map view_of) on ∙ ap Some before-shows
 
     after-it : After (came_to (verdict answer))
     after-it =
-        let c = came means (message_spelling (SetData id (part_of blob k))) answer w mid s.state s.on e in
+        let c = came means (message_spelling (SetData id (blob_part blob k))) answer w mid s.state s.on e in
         ⊎_elim
         (λ took. subst After (sym (ap (λ (a : Option (List ℕ)). came_to (verdict a)) took.said ∙ passes before.0))
-        (let same : next (is_last blob k) ≡ took.next = cc (sym (row-is (is_last blob k) refl) ∙ sym (row-decoded before.0 (SetData id (part_of blob k)) message) ∙ took.row) in
+        (let same : next (is_last blob k) ≡ took.next = cc (sym (row-is (is_last blob k) refl) ∙ sym (row-decoded before.0 (SetData id (blob_part blob k)) message) ∙ took.row) in
         passed-by (is_last blob k) refl (took.on ∙ ap Some (sym same))))
         (λ rest. ⊎_elim
         (λ it. subst After (sym (ap came_to (ap verdict it.said ∙ verdict-number it.error it.number))) (refused-shows it.on))
@@ -145,8 +145,8 @@ module _ {D : Type 0} (means : Meaning D) (plan : Plan) (heap : ℕ) (kept : Rec
   left_by (Err fault) = kept
 
   abbrev pub Ending : World D → Outcome → Type 0
-  Ending v (Ok done) = Shows v (blob_view id blob (view_by plan kept))
-  Ending v (Err fault) = WhereUp (Err fault) (Shows v (view_by plan kept))
+  Ending v (Ok done) = Shows v (blob_view id blob (record_view plan kept))
+  Ending v (Err fault) = WhereUp (Err fault) (Shows v (record_view plan kept))
 
   pub record Came (acts : List Act) (w v : World D) (result : Outcome) : Type 0 where
     pub meetings : List Meeting
@@ -161,12 +161,12 @@ module _ {D : Type 0} (means : Meaning D) (plan : Plan) (heap : ℕ) (kept : Rec
 
   abbrev whole : Act → List Act → Meeting → List Meeting → Outcome → Outcome × Record
   whole act acts m ms o =
-      let a = came_by plan act kept (lag_of m) o in let j = joined act a ms (goes_past false a.outcome) (walk plan heap false next_of a.kept ms acts) in (j.outcome, j.kept)
+      let a = came_by plan act kept (lag_of m) o in let j = followed_by act a ms (goes_past false a.outcome) (walk plan heap false next_of a.kept ms acts) in (j.outcome, j.kept)
 
   abbrev ended : Act → List Act → Meeting → HostFault → Bool → Outcome × Record
-  ended act acts m fault b = let j = joined act (came_by plan act kept (lag_of m) (Err fault)) [] b (walk plan heap false next_of kept [] acts) in (j.outcome, j.kept)
+  ended act acts m fault b = let j = followed_by act (came_by plan act kept (lag_of m) (Err fault)) [] b (walk plan heap false next_of kept [] acts) in (j.outcome, j.kept)
 
-  module _ (k : ℕ) (low : k < parts blob) (w mid v : World D) (s : Stands k w) (answer : Option (List ℕ)) (e : Exchanged means (message_spelling (SetData id (part_of blob k))) answer w mid) (acts : List Act) (result : Outcome) where
+  module _ (k : ℕ) (low : k < parts blob) (w mid v : World D) (s : Stands k w) (answer : Option (List ℕ)) (e : Exchanged means (message_spelling (SetData id (blob_part blob k))) answer w mid) (acts : List Act) (result : Outcome) where
     abbrev this : Act
     this = Part id blob k
 
@@ -205,7 +205,7 @@ module _ {D : Type 0} (means : Meaning D) (plan : Plan) (heap : ℕ) (kept : Rec
     passed-last : is_last blob k ≡ true → acts ≡ [] → (reply : Reply) → verdict answer ≡ Ok reply → ActsSent means plan acts mid v result → Came (this ∷ acts) w v result
     passed-last last none reply is more =
         let end : (v ≡ mid) × (result ≡ Ok tt) = subst (λ (xs : List Act). ActsSent means plan xs mid v result) none more in
-        let shown : Shows mid (blob_view id blob (view_by plan kept)) = subst (Passed k low w mid s answer e) last (subst (After k low w mid s answer e) (ap came_to is) (after-it k low w mid s answer e)) in
+        let shown : Shows mid (blob_view id blob (record_view plan kept)) = subst (Passed k low w mid s answer e) last (subst (After k low w mid s answer e) (ap came_to is) (after-it k low w mid s answer e)) in
         let made : after plan this kept ≡ now = ap (λ (b : Bool). cond b now kept) last in
         followed reply is [] (subst (λ (xs : List Act). ActsDid means plan heap false (after plan this kept) xs [] mid v) (sym none) (refl, end.0))
         (end.1 ∙ ap (λ (xs : List Act). (walk plan heap false next_of (after plan this kept) [] xs).outcome) (sym none))
@@ -250,7 +250,7 @@ module _ {D : Type 0} (means : Meaning D) (plan : Plan) (heap : ℕ) (kept : Rec
       by b last (Err fault) said end go = failed k low w mid v s answer e acts result fault said end
 
   -- all of them
-  pub parts-come : (w v : World D) (result : Outcome) → (f : FwState) → means.on w.device ≡ Some f → view_of f ≡ view_by plan kept → ActsSent means plan (part_acts id blob) w v result → Came (part_acts id blob) w v result
+  pub parts-come : (w v : World D) (result : Outcome) → (f : FwState) → means.on w.device ≡ Some f → view_of f ≡ record_view plan kept → ActsSent means plan (part_acts id blob) w v result → Came (part_acts id blob) w v result
   parts-come w v result f on shows sent = by (parts blob) refl (few-parts blob is).0 sent
     where
       none : HasStaged id blob 0 f

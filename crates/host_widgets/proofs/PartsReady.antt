@@ -7,7 +7,7 @@ use Rattle.sof_base.specs.declared.part.Part.{Part as Carried}
 use Rattle.stream_law.specs.State.{FwState, Staging}
 use Rattle.stream_law.specs.Seen.{is_equaliser}
 use Rattle.ipc3_codec.specs.declared.message.Message.TheVariants.{SetData}
-use Rattle.mbox_link.specs.BlobParts.{part_of, is_last, parts}
+use Rattle.mbox_link.specs.BlobParts.{blob_part, is_last, parts}
 use Rattle.mbox_link.specs.Step.{row, is_used, has_kind, kind_at, staging_at, keeps_order, staged_bytes, part_staged, with_staged, blob_installed, no_device, invalid}
 use Rattle.tplg_plan.specs.declared.plans.Plan.{Plan}
 use Rattle.host_widgets.specs.HostActs.{Part}
@@ -36,18 +36,18 @@ part-took id p f f' is = by (is_used f.graph id) (has_kind is_equaliser (kind_at
 
 module _ (id : ℕ) (blob : List ℕ) (is : is_blob blob ≡ true) where
   -- of a part of the blob
-  pub part-made : (k : ℕ) (low : k < parts blob) (f f' : FwState) → HasStaged id blob k f → row f (SetData id (part_of blob k)) ≡ Ok f' → f' ≡ cond (is_last blob k) (blob_installed id (front blob (k + 1)) f) (with_staged id (front blob (k + 1)) (part_of blob k) f)
+  pub part-made : (k : ℕ) (low : k < parts blob) (f f' : FwState) → HasStaged id blob k f → row f (SetData id (blob_part blob k)) ≡ Ok f' → f' ≡ cond (is_last blob k) (blob_installed id (front blob (k + 1)) f) (with_staged id (front blob (k + 1)) (blob_part blob k) f)
   part-made k low f f' staged done =
-      part-took id (part_of blob k) f f' done
-      ∙ ap (λ (bytes : List ℕ). part_effect id bytes (part_of blob k) f) (bytes-so-far id blob is k low f staged)
-      ∙ ap (λ (b : Bool). cond b (blob_installed id (front blob (k + 1)) f) (with_staged id (front blob (k + 1)) (part_of blob k) f)) (none-left blob is k low)
+      part-took id (blob_part blob k) f f' done
+      ∙ ap (λ (bytes : List ℕ). part_effect id bytes (blob_part blob k) f) (bytes-so-far id blob is k low f staged)
+      ∙ ap (λ (b : Bool). cond b (blob_installed id (front blob (k + 1)) f) (with_staged id (front blob (k + 1)) (blob_part blob k) f)) (none-left blob is k low)
 
-  pub made-more : (k : ℕ) (low : k < parts blob) (f f' : FwState) → HasStaged id blob k f → is_last blob k ≡ false → row f (SetData id (part_of blob k)) ≡ Ok f' → f' ≡ with_staged id (front blob (k + 1)) (part_of blob k) f
-  made-more k low f f' staged more done = part-made k low f f' staged done ∙ ap (λ (b : Bool). cond b (blob_installed id (front blob (k + 1)) f) (with_staged id (front blob (k + 1)) (part_of blob k) f)) more
+  pub made-more : (k : ℕ) (low : k < parts blob) (f f' : FwState) → HasStaged id blob k f → is_last blob k ≡ false → row f (SetData id (blob_part blob k)) ≡ Ok f' → f' ≡ with_staged id (front blob (k + 1)) (blob_part blob k) f
+  made-more k low f f' staged more done = part-made k low f f' staged done ∙ ap (λ (b : Bool). cond b (blob_installed id (front blob (k + 1)) f) (with_staged id (front blob (k + 1)) (blob_part blob k) f)) more
 
-  pub made-last : (k : ℕ) (low : k < parts blob) (f f' : FwState) → HasStaged id blob k f → is_last blob k ≡ true → row f (SetData id (part_of blob k)) ≡ Ok f' → f' ≡ blob_installed id blob f
+  pub made-last : (k : ℕ) (low : k < parts blob) (f f' : FwState) → HasStaged id blob k f → is_last blob k ≡ true → row f (SetData id (blob_part blob k)) ≡ Ok f' → f' ≡ blob_installed id blob f
   made-last k low f f' staged last done =
-      part-made k low f f' staged done ∙ ap (λ (b : Bool). cond b (blob_installed id (front blob (k + 1)) f) (with_staged id (front blob (k + 1)) (part_of blob k) f)) last
+      part-made k low f f' staged done ∙ ap (λ (b : Bool). cond b (blob_installed id (front blob (k + 1)) f) (with_staged id (front blob (k + 1)) (blob_part blob k) f)) last
       ∙ ap (λ (bytes : List ℕ). blob_installed id bytes f) (last-front blob is k low last)
 
   module _ (plan : Plan) where
@@ -61,7 +61,7 @@ module _ (id : ℕ) (blob : List ℕ) (is : is_blob blob ≡ true) where
         has-staged : (f g : FwState) → g.staging ≡ f.staging → HasStaged id blob k f → HasStaged id blob k g
         has-staged f g same staged some = ap (λ (all : List Staging). find (λ (s : Staging). s.eq == id) all) same ∙ staged some
 
-        by : (g : FwState) → HasStaged id blob k g → (b : Bool) → is_last blob k ≡ b → k < parts blob → (f' : FwState) → row g (SetData id (part_of blob k)) ≡ Ok f' →
+        by : (g : FwState) → HasStaged id blob k g → (b : Bool) → is_last blob k ≡ b → k < parts blob → (f' : FwState) → row g (SetData id (blob_part blob k)) ≡ Ok f' →
             (HasStaged id blob (k + 1) f' → AreReady plan false (map (Part id blob) (range_with_len (k + 1) n)) f') → AreReady plan false (map (Part id blob) (range_with_len (k + 1) n)) f'
         by g there true last low f' done go =
             let none : 0 ≡ n = (let end = none-behind blob is k low last in omega (arith, all, end)) in

@@ -16,7 +16,7 @@ use Rattle.stream_law.specs.Ways.{comp_of, components}
 use Rattle.stream_law.specs.Seen.{equalises, flows, history_seen, is_equaliser, ring_seen}
 use Rattle.stream_law.proofs.Silent.{silent-dead}
 use Rattle.ipc3_codec.specs.declared.message.Message.TheVariants.{SetData}
-use Rattle.mbox_link.specs.BlobParts.{part_of, is_last, parts}
+use Rattle.mbox_link.specs.BlobParts.{blob_part, is_last, parts}
 use Rattle.mbox_link.specs.Step.{with_comps, with_setting, unstaged, with_staged, blob_installed}
 use Rattle.tplg_plan.specs.declared.plans.Plan.{Plan}
 use Rattle.tplg_plan.specs.Sound.{IsSound}
@@ -74,7 +74,7 @@ module _ (plan : Plan) (sound : IsSound plan) (heap : ℕ) where
         by true = refl
         by false = ap (λ (b : Bool). cond (not b) (staged_of id blob k ∷ []) []) (eq-eqb id id refl)
 
-    more-staged : (k : ℕ) → with_staged id (front blob (k + 1)) (part_of blob k) (stood k) ≡ stood (k + 1)
+    more-staged : (k : ℕ) → with_staged id (front blob (k + 1)) (blob_part blob k) (stood k) ≡ stood (k + 1)
     more-staged k =
         let more : ((k + 1) == 0) ≡ false = ne_eqb (k + 1) 0 (λ z. let no : k + 1 ≡ 0 = z in omega (arith, no)) in
         ap (λ (ss : List Staging). record (standing plan heap now) { staging = placed (λ (s : Staging). s.eq) (staged_of id blob (k + 1)) ss }) (none-staged k)
@@ -96,21 +96,21 @@ module _ (plan : Plan) (sound : IsSound plan) (heap : ℕ) where
           plainly_follows plan heap kept (stood k) (Part id blob k) tt (record { silent = s.silent; rings = s.rings; histories = s.histories }) (part-message id blob is k low fits) refl
           (λ t. part-row id blob is k low (at (stood k) t) (found-staged k) x there kind)
 
-      made-so : effect (SetData id (part_of blob k)) (stood k) ≡ cond (is_last blob k) (blob_installed id (front blob (k + 1)) (stood k)) (with_staged id (front blob (k + 1)) (part_of blob k) (stood k))
+      made-so : effect (SetData id (blob_part blob k)) (stood k) ≡ cond (is_last blob k) (blob_installed id (front blob (k + 1)) (stood k)) (with_staged id (front blob (k + 1)) (blob_part blob k) (stood k))
       made-so =
-          ap (λ (bytes : List ℕ). part_effect id bytes (part_of blob k) (stood k)) (bytes-so-far id blob is k low (stood k) (found-staged k))
-          ∙ ap (λ (b : Bool). cond b (blob_installed id (front blob (k + 1)) (stood k)) (with_staged id (front blob (k + 1)) (part_of blob k) (stood k))) (none-left blob is k low)
+          ap (λ (bytes : List ℕ). part_effect id bytes (blob_part blob k) (stood k)) (bytes-so-far id blob is k low (stood k) (found-staged k))
+          ∙ ap (λ (b : Bool). cond b (blob_installed id (front blob (k + 1)) (stood k)) (with_staged id (front blob (k + 1)) (blob_part blob k) (stood k))) (none-left blob is k low)
 
       part-goes : is_last blob k ≡ false → (acts : List Act) (h : FwState) → Goes plan heap kept (stood (k + 1)) acts h → Goes plan heap kept (stood k) (Part id blob k ∷ acts) h
       part-goes e acts h more =
           goes-on plan heap kept (stood k) (Part id blob k) (stood (k + 1)) acts h follows
-          (made-so ∙ ap (λ (b : Bool). cond b (blob_installed id (front blob (k + 1)) (stood k)) (with_staged id (front blob (k + 1)) (part_of blob k) (stood k))) e ∙ more-staged k)
+          (made-so ∙ ap (λ (b : Bool). cond b (blob_installed id (front blob (k + 1)) (stood k)) (with_staged id (front blob (k + 1)) (blob_part blob k) (stood k))) e ∙ more-staged k)
           more
 
       last-goes : is_last blob k ≡ true → (acts : List Act) (h : FwState) → Goes plan heap kept (standing plan heap after_graph) acts h → Goes plan heap kept (stood k) (Part id blob k ∷ acts) h
       last-goes e acts h more =
           goes-on plan heap kept (stood k) (Part id blob k) (standing plan heap after_graph) acts h follows
-          (made-so ∙ ap (λ (b : Bool). cond b (blob_installed id (front blob (k + 1)) (stood k)) (with_staged id (front blob (k + 1)) (part_of blob k) (stood k))) e
+          (made-so ∙ ap (λ (b : Bool). cond b (blob_installed id (front blob (k + 1)) (stood k)) (with_staged id (front blob (k + 1)) (blob_part blob k) (stood k))) e
           ∙ ap (λ (bytes : List ℕ). blob_installed id bytes (stood k)) (last-front blob is k low e) ∙ in-force k)
           more
 

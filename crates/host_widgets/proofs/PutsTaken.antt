@@ -29,10 +29,10 @@ use Rattle.tplg_plan.specs.Ranges.{is_initial}
 use Rattle.tplg_plan.specs.Sound.{IsControlOf, IsLive, IsSound}
 use Rattle.host_widgets.specs.declared.kept.Record.{Record}
 use Rattle.host_widgets.specs.Controls.{control_of, first_value, first_values}
-use Rattle.host_widgets.specs.ViewOf.{setting_by}
+use Rattle.host_widgets.specs.ViewOf.{record_setting}
 use Rattle.host_widgets.specs.HostActs.{Act, Put}
 use Rattle.host_widgets.specs.ActLists.{part_acts, control_acts_by, control_acts}
-use Rattle.host_widgets.specs.ActMessages.{put_message, message_of}
+use Rattle.host_widgets.specs.ActMessages.{put_message, act_message}
 use Rattle.host_widgets.specs.Acts.{widget_words, component_words}
 use Rattle.host_widgets.specs.declared.kept.ControlRec.{ControlRec}
 use Rattle.host_widgets.specs.Kept.{control_at, controls_of}
@@ -53,7 +53,7 @@ use Rattle.host_widgets.proofs.GreatestGains.{AreGains, gains-are, gains-pass, s
 -- ---- settings while some live controls are still to be set
 
 abbrev pub setting_while : Plan → Record → List Pair → Comp → Setting
-setting_while plan kept todo c = cond (list_any (λ p. p.0.comp == c.id) todo) (first_setting (component_words c.kind (control_of plan c.id) (widget_words plan c.id))) (setting_by c.kind (control_at plan kept c.id))
+setting_while plan kept todo c = cond (list_any (λ p. p.0.comp == c.id) todo) (first_setting (component_words c.kind (control_of plan c.id) (widget_words plan c.id))) (record_setting c.kind (control_at plan kept c.id))
 
 abbrev pub comp_while : Plan → Record → List Pair → Comp → Comp
 comp_while plan kept todo c = record { id = c.id; kind = c.kind; pipe = c.pipe; setting = setting_while plan kept todo c }
@@ -63,7 +63,7 @@ abbrev pub put_graph : Plan → Record → List Pair → Graph
 put_graph plan kept todo = record { comps = map (comp_while plan kept todo) plan.graph.comps; edges = plan.graph.edges; pipes = map begun plan.graph.pipes; joins = plan.graph.joins }
 
 -- what a component without a live control begins with is what is set at it
-bare-setting : (kind : Kind) (w : WidgetPlan) → first_setting (component_words kind None w) ≡ setting_by kind None
+bare-setting : (kind : Kind) (w : WidgetPlan) → first_setting (component_words kind None w) ≡ record_setting kind None
 bare-setting kinds.HostPlay w = refl
 bare-setting kinds.HostCapture w = refl
 bare-setting (kinds.DaiPlay format) w = refl
@@ -80,12 +80,12 @@ puts-none plan sound kept are = λ i. record { comps = map-all (made_comp plan) 
     each : (c : Comp) → made_comp plan c ≡ comp_while plan kept (controls_of plan kept) c
     each c = by (list_any (λ (p : Pair). p.0.comp == c.id) (controls_of plan kept)) refl
       where
-        by : (h : Bool) → list_any (λ (p : Pair). p.0.comp == c.id) (controls_of plan kept) ≡ h → made_comp plan c ≡ record { id = c.id; kind = c.kind; pipe = c.pipe; setting = cond h (first_setting (component_words c.kind (control_of plan c.id) (widget_words plan c.id))) (setting_by c.kind (control_at plan kept c.id)) }
+        by : (h : Bool) → list_any (λ (p : Pair). p.0.comp == c.id) (controls_of plan kept) ≡ h → made_comp plan c ≡ record { id = c.id; kind = c.kind; pipe = c.pipe; setting = cond h (first_setting (component_words c.kind (control_of plan c.id) (widget_words plan c.id))) (record_setting c.kind (control_at plan kept c.id)) }
         by true e = refl
         by false e =
             let none : control_of plan c.id ≡ None = lost-any (λ (k : ControlPlan). k.comp == c.id) plan.controls (sym (any-zip c.id plan.controls kept.controls are) ∙ e) in
             let unset : control_at plan kept c.id ≡ None = lost-any (λ (p : Pair). p.0.comp == c.id) (controls_of plan kept) e in
-            let same : first_setting (component_words c.kind (control_of plan c.id) (widget_words plan c.id)) ≡ setting_by c.kind (control_at plan kept c.id) = ap (λ (o : Option ControlPlan). first_setting (component_words c.kind o (widget_words plan c.id))) none ∙ bare-setting c.kind (widget_words plan c.id) ∙ ap (setting_by c.kind) (sym unset) in
+            let same : first_setting (component_words c.kind (control_of plan c.id) (widget_words plan c.id)) ≡ record_setting c.kind (control_at plan kept c.id) = ap (λ (o : Option ControlPlan). first_setting (component_words c.kind o (widget_words plan c.id))) none ∙ bare-setting c.kind (widget_words plan c.id) ∙ ap (record_setting c.kind) (sym unset) in
             λ i. record { id = c.id; kind = c.kind; pipe = c.pipe; setting = same i }
 
 -- ---- what a control sets
@@ -98,10 +98,10 @@ wanted (Blob most initial) r = settings.Blob r.blob
 abbrev with_kind : ℕ → ControlKind → ControlPlan
 with_kind id q = record { comp = id; kind = q }
 
-set-is : (id : ℕ) (q : ControlKind) (r : ControlRec) (kind : Kind) → IsControlOf q kind → setting_by kind (Some (with_kind id q, r)) ≡ wanted q r
-set-is id (Volume min max channels lowest step mute) r kind is = ap (λ (x : Kind). setting_by x (Some (with_kind id (Volume min max channels lowest step mute), r))) is.0
-set-is id (Choice items) r kind is = ap (λ (x : Kind). setting_by x (Some (with_kind id (Choice items), r))) is.0
-set-is id (Blob most initial) r kind is = ap (λ (x : Kind). setting_by x (Some (with_kind id (Blob most initial), r))) is.0
+set-is : (id : ℕ) (q : ControlKind) (r : ControlRec) (kind : Kind) → IsControlOf q kind → record_setting kind (Some (with_kind id q, r)) ≡ wanted q r
+set-is id (Volume min max channels lowest step mute) r kind is = ap (λ (x : Kind). record_setting x (Some (with_kind id (Volume min max channels lowest step mute), r))) is.0
+set-is id (Choice items) r kind is = ap (λ (x : Kind). record_setting x (Some (with_kind id (Choice items), r))) is.0
+set-is id (Blob most initial) r kind is = ap (λ (x : Kind). record_setting x (Some (with_kind id (Blob most initial), r))) is.0
 
 -- a component of a plan with a live control has it set to that
 module _ (plan : Plan) (sound : IsSound plan) (kept : Record) (id : ℕ) (q : ControlKind) (r : ControlRec) (live : IsLive plan.graph (with_kind id q)) (there : control_of plan id ≡ Some (with_kind id q)) (set : control_at plan kept id ≡ Some (with_kind id q, r)) (ks : List Pair) (apart : list_any (λ (p : Pair). p.0.comp == id) ks ≡ false) where
@@ -115,27 +115,27 @@ module _ (plan : Plan) (sound : IsSound plan) (kept : Record) (id : ℕ) (q : Co
     rest-apart : c.id ≡ id → list_any (λ (p : Pair). p.0.comp == c.id) ks ≡ false
     rest-apart same = ap (λ (n : ℕ). list_any (λ (p : Pair). p.0.comp == n) ks) same ∙ apart
 
-    by-set : c.id ≡ id → setting_by c.kind (control_at plan kept c.id) ≡ wanted q r
-    by-set same = ap (setting_by c.kind) (ap (control_at plan kept) same ∙ set) ∙ set-is id q r c.kind (kind-is same)
+    by-set : c.id ≡ id → record_setting c.kind (control_at plan kept c.id) ≡ wanted q r
+    by-set same = ap (record_setting c.kind) (ap (control_at plan kept) same ∙ set) ∙ set-is id q r c.kind (kind-is same)
 
     abbrev comp_by : Setting → Comp
     comp_by s = record { id = c.id; kind = c.kind; pipe = c.pipe; setting = s }
 
     put-comp : with_setting id (wanted q r) (comp_while plan kept ((with_kind id q, r) ∷ ks) c) ≡ comp_while plan kept ks c
-    put-comp = ap (λ (h : Bool). cond (c.id == id) (comp_by (wanted q r)) (comp_by (cond (h || list_any (λ (p : Pair). p.0.comp == c.id) ks) (first c) (setting_by c.kind (control_at plan kept c.id))))) (eqb_turned id c.id) ∙ by (c.id == id) refl
+    put-comp = ap (λ (h : Bool). cond (c.id == id) (comp_by (wanted q r)) (comp_by (cond (h || list_any (λ (p : Pair). p.0.comp == c.id) ks) (first c) (record_setting c.kind (control_at plan kept c.id))))) (eqb_turned id c.id) ∙ by (c.id == id) refl
       where
-        by : (h : Bool) → (c.id == id) ≡ h → cond h (comp_by (wanted q r)) (comp_by (cond (h || list_any (λ (p : Pair). p.0.comp == c.id) ks) (first c) (setting_by c.kind (control_at plan kept c.id)))) ≡ comp_while plan kept ks c
-        by true e = let same : c.id ≡ id = eqb-true c.id id e in ap comp_by (sym (by-set same)) ∙ ap (λ (h : Bool). comp_by (cond h (first c) (setting_by c.kind (control_at plan kept c.id)))) (sym (rest-apart same))
+        by : (h : Bool) → (c.id == id) ≡ h → cond h (comp_by (wanted q r)) (comp_by (cond (h || list_any (λ (p : Pair). p.0.comp == c.id) ks) (first c) (record_setting c.kind (control_at plan kept c.id)))) ≡ comp_while plan kept ks c
+        by true e = let same : c.id ≡ id = eqb-true c.id id e in ap comp_by (sym (by-set same)) ∙ ap (λ (h : Bool). comp_by (cond h (first c) (record_setting c.kind (control_at plan kept c.id)))) (sym (rest-apart same))
         by false e = refl
 
     kept-comp : ((w : WidgetPlan) (kind : Kind) → IsControlOf q kind → first_setting (component_words kind (Some (with_kind id q)) w) ≡ wanted q r) → comp_while plan kept ((with_kind id q, r) ∷ ks) c ≡ comp_while plan kept ks c
-    kept-comp stays = ap (λ (h : Bool). comp_by (cond (h || list_any (λ (p : Pair). p.0.comp == c.id) ks) (first c) (setting_by c.kind (control_at plan kept c.id)))) (eqb_turned id c.id) ∙ by (c.id == id) refl
+    kept-comp stays = ap (λ (h : Bool). comp_by (cond (h || list_any (λ (p : Pair). p.0.comp == c.id) ks) (first c) (record_setting c.kind (control_at plan kept c.id)))) (eqb_turned id c.id) ∙ by (c.id == id) refl
       where
-        by : (h : Bool) → (c.id == id) ≡ h → comp_by (cond (h || list_any (λ (p : Pair). p.0.comp == c.id) ks) (first c) (setting_by c.kind (control_at plan kept c.id))) ≡ comp_while plan kept ks c
+        by : (h : Bool) → (c.id == id) ≡ h → comp_by (cond (h || list_any (λ (p : Pair). p.0.comp == c.id) ks) (first c) (record_setting c.kind (control_at plan kept c.id))) ≡ comp_while plan kept ks c
         by true e =
             let same : c.id ≡ id = eqb-true c.id id e in
             let now : first c ≡ wanted q r = ap (λ (o : Option ControlPlan). first_setting (component_words c.kind o (widget_words plan c.id))) (ap (control_of plan) same ∙ there) ∙ stays (widget_words plan c.id) c.kind (kind-is same) in
-            ap comp_by (now ∙ sym (by-set same)) ∙ ap (λ (h : Bool). comp_by (cond h (first c) (setting_by c.kind (control_at plan kept c.id)))) (sym (rest-apart same))
+            ap comp_by (now ∙ sym (by-set same)) ∙ ap (λ (h : Bool). comp_by (cond h (first c) (record_setting c.kind (control_at plan kept c.id)))) (sym (rest-apart same))
         by false e = refl
 
   -- the graph after it
@@ -169,7 +169,7 @@ module _ (plan : Plan) (sound : IsSound plan) (kept : Record) (id : ℕ) (q : Co
 
   now-setting : setting_while plan kept ((with_kind id q, r) ∷ ks) live.comp ≡ first_setting (component_words live.comp.kind (Some (with_kind id q)) (widget_words plan live.comp.id))
   now-setting =
-      ap (λ (h : Bool). cond (h || list_any (λ (p : Pair). p.0.comp == live.comp.id) ks) (first live.comp) (setting_by live.comp.kind (control_at plan kept live.comp.id))) (eq-eqb id live.comp.id (sym comp-same))
+      ap (λ (h : Bool). cond (h || list_any (λ (p : Pair). p.0.comp == live.comp.id) ks) (first live.comp) (record_setting live.comp.kind (control_at plan kept live.comp.id))) (eq-eqb id live.comp.id (sym comp-same))
       ∙ ap (λ (o : Option ControlPlan). first_setting (component_words live.comp.kind o (widget_words plan live.comp.id))) (ap (control_of plan) comp-same ∙ there)
 
   module _ (heap : ℕ) (sets : List ℕ) (command : ℕ) (values : List ℕ) (is : put_message id sets (Some (with_kind id q)) ≡ SetValue id command values) (new : new_setting live.comp.kind (first_setting (component_words live.comp.kind (Some (with_kind id q)) (widget_words plan live.comp.id))) command values ≡ Some (wanted q r)) (message : IsMessage (SetValue id command values)) where
@@ -188,7 +188,7 @@ module _ (plan : Plan) (sound : IsSound plan) (kept : Record) (id : ℕ) (q : Co
     set-effect : effect (SetValue id command values) (standing plan heap now) ≡ standing plan heap (put_graph plan kept ks)
     set-effect = ap (λ (o : Option Setting). standing plan heap (set_at id o now)) asked-is ∙ ap (standing plan heap) put-graph
 
-    message-is : message_of plan (Put id sets) ≡ SetValue id command values
+    message-is : act_message plan (Put id sets) ≡ SetValue id command values
     message-is = ap (put_message id sets) there ∙ is
 
     put-goes : (then : List Act) (h : FwState) → Goes plan heap kept (standing plan heap (put_graph plan kept ks)) then h → Goes plan heap kept (standing plan heap now) (Put id sets ∷ then) h

@@ -18,7 +18,7 @@ use Rattle.host_widgets.specs.declared.kept.StreamRec.{StreamRec}
 use Rattle.host_widgets.specs.declared.kept.Record.{Record}
 use Rattle.host_widgets.specs.HostRecord.{closed, halted, halted_found, may_have}
 use Rattle.host_widgets.specs.Kept.{first_record, all_closed, went_down}
-use Rattle.host_widgets.specs.ViewOf.{graph_by, view_by}
+use Rattle.host_widgets.specs.ViewOf.{graph_by, record_view}
 use Rattle.host_widgets.specs.Expected.{stream_view, phase_of}
 use Rattle.host_widgets.specs.Host.{IsRecordOf, Agrees}
 use Rattle.host_widgets.proofs.ControlLists.{first-are}
@@ -82,7 +82,7 @@ length-closed : (ps : List StreamPlan) → length (map (λ (s : StreamPlan). clo
 length-closed [] = refl
 length-closed (p ∷ ps) = ap (λ (n : ℕ). suc n) (length-closed ps)
 
-pub closed-agrees : (power : Power) (plan : Plan) → agree (view_by plan (all_closed power plan)) ≡ true
+pub closed-agrees : (power : Power) (plan : Plan) → agree (record_view plan (all_closed power plan)) ≡ true
 unfolding agree
 closed-agrees power plan = closed-agree (graph_by plan (first_record plan)) plan.streams (closed_views plan.streams)
 
@@ -151,7 +151,7 @@ closed-still [] = refl
 closed-still (p ∷ ps) = closed-still ps
 
 -- while all are closed, no stream runs or is paused
-pub closed-silent : (power : Power) (plan : Plan) → IsTrue (is_silent (view_by plan (all_closed power plan)))
+pub closed-silent : (power : Power) (plan : Plan) → IsTrue (is_silent (record_view plan (all_closed power plan)))
 closed-silent power plan = ap not (closed-still plan.streams)
 
 -- a record that is unloaded agrees with a device that is off

@@ -14,7 +14,7 @@ use Rattle.host_widgets.specs.HostRecord.{may_have}
 use Rattle.host_widgets.specs.Expected.{stream_view}
 use Rattle.host_widgets.specs.declared.kept.Record.{Record}
 use Rattle.host_widgets.specs.Kept.{changed, with_stream}
-use Rattle.host_widgets.specs.ViewOf.{view_by}
+use Rattle.host_widgets.specs.ViewOf.{record_view}
 use Rattle.host_widgets.specs.Host.{IsRecordOf}
 pub use Rattle.host_widgets.proofs.StreamRows.{AllAt}
 
@@ -115,7 +115,7 @@ module _ (plan : Plan) (kept : Record) (host : ℕ) (f : StreamRec → StreamRec
   abbrev now : Record
   now = with_stream plan host f kept
 
-  pub record-with : AllAt (λ r. may (f r) ≡ true) host plan.streams kept.streams → agree (view_by plan now) ≡ true → IsRecordOf plan now
+  pub record-with : AllAt (λ r. may (f r) ≡ true) host plan.streams kept.streams → agree (record_view plan now) ≡ true → IsRecordOf plan now
   record-with so shapes = record {
     streams = same-length host f plan.streams kept.streams ∙ is.streams;
     controls = is.controls;
@@ -127,5 +127,5 @@ module _ (plan : Plan) (kept : Record) (host : ℕ) (f : StreamRec → StreamRec
   pub record-less : AllAt (λ r. may (f r) ≡ true) host plan.streams kept.streams → AllAt (λ r. Less (f r).params r.params) host plan.streams kept.streams → IsRecordOf plan now
   unfolding agree
   record-less so less = record-with so
-      (all-less (view_by plan kept).graph (view_by plan now).streams (view_by plan kept).streams (view_by plan now).streams (view_by plan kept).streams
+      (all-less (record_view plan kept).graph (record_view plan now).streams (record_view plan kept).streams (record_view plan now).streams (record_view plan kept).streams
       (shown-less host f plan.streams kept.streams less) (shown-less host f plan.streams kept.streams less) is.shapes)

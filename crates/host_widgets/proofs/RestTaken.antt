@@ -9,7 +9,7 @@ use Rattle.host_widgets.specs.declared.kept.Record.{Record}
 use Rattle.host_widgets.specs.Kept.{controls_of}
 use Rattle.host_widgets.specs.Host.{AreControls}
 use Rattle.host_widgets.specs.HostActs.{Act, Make}
-use Rattle.host_widgets.specs.Acts.{ids_of}
+use Rattle.host_widgets.specs.Acts.{widget_ids}
 use Rattle.host_widgets.specs.ActLists.{control_acts, bring_up}
 use Rattle.host_widgets.specs.StateOf.{state_by}
 use Rattle.host_widgets.proofs.Stages.{made_state}
@@ -25,7 +25,7 @@ abbrev pub rest_acts : Plan → Record → List Act
 rest_acts plan kept = join_acts plan.graph.joins ++ (flat_map control_acts (controls_of plan kept) ++ finish_acts plan.graph.pipes)
 
 -- they stand behind the makes
-pub rest-behind : (plan : Plan) (kept : Record) → bring_up plan kept ≡ map Make (ids_of plan) ++ rest_acts plan kept
+pub rest-behind : (plan : Plan) (kept : Record) → bring_up plan kept ≡ map Make (widget_ids plan) ++ rest_acts plan kept
 rest-behind plan kept = refl
 
 module _ (plan : Plan) (heap : ℕ) (kept : Record) (sound : IsSound plan) (are : AreControls plan.controls kept.controls) where

@@ -24,7 +24,7 @@ use Rattle.tplg_plan.specs.declared.plans.Plan.{Plan}
 use Rattle.tplg_plan.specs.Sound.{IsSound, IsSideOf, IsPassed}
 use Rattle.host_widgets.specs.declared.kept.Record.{Record}
 use Rattle.host_widgets.specs.Kept.{control_at}
-use Rattle.host_widgets.specs.ViewOf.{setting_by, graph_by}
+use Rattle.host_widgets.specs.ViewOf.{record_setting, graph_by}
 use Rattle.host_widgets.proofs.Joined.{side-source, side-sink}
 use Rattle.host_widgets.proofs.LookedUp.{all-found, any-found, some-counted}
 use Rattle.host_widgets.proofs.NamedIds.{buffer-found}
@@ -160,4 +160,4 @@ module _ (plan : Plan) (sound : IsSound plan) (setting : Comp → Setting) where
 
 -- by the record
 pub sound-plays : (plan : Plan) → IsSound plan → (kept : Record) (streams : List StreamView) → IsPlayable (record { graph = graph_by plan kept; streams = streams })
-sound-plays plan sound kept streams = set-plays plan sound (λ c. setting_by c.kind (control_at plan kept c.id)) streams
+sound-plays plan sound kept streams = set-plays plan sound (λ c. record_setting c.kind (control_at plan kept c.id)) streams

@@ -9,7 +9,7 @@ use Rattle.tplg_plan.specs.declared.plans.Plan.{Plan}
 use Rattle.host_widgets.specs.Kept.{all_closed}
 use Rattle.host_widgets.specs.Controls.{control_of}
 use Rattle.host_widgets.specs.Acts.{component_words, widget_words}
-use Rattle.host_widgets.specs.ViewOf.{view_by}
+use Rattle.host_widgets.specs.ViewOf.{record_view}
 use Rattle.host_widgets.specs.Expected.{loaded_heap}
 use Rattle.host_widgets.specs.StateOf.{empty_rings}
 use Rattle.host_widgets.specs.declared.kept.Power.TheVariants.{On}
@@ -32,7 +32,7 @@ made_state plan heap = record {
   heap = loaded_heap plan heap;
   clock = 0;
   graph = record { comps = map (made_comp plan) plan.graph.comps; edges = map loose plan.graph.edges; pipes = map begun plan.graph.pipes; joins = [] };
-  streams = (view_by plan (all_closed On plan)).streams;
+  streams = (record_view plan (all_closed On plan)).streams;
   rings = empty_rings plan.graph;
   histories = [];
   staging = [];

@@ -17,7 +17,7 @@ use Rattle.tplg_plan.specs.declared.plans.Plan.{Plan}
 use Rattle.tplg_plan.specs.Sound.{IsSound}
 use Rattle.host_widgets.specs.declared.trigger.Trigger.{Trigger}
 use Rattle.host_widgets.specs.declared.trigger.Trigger.TheVariants.{Start, Stop, Pause, Release}
-use Rattle.host_widgets.specs.HostRecord.{is_in_range}
+use Rattle.host_widgets.specs.HostRecord.{are_in_range}
 use Rattle.host_widgets.specs.Acts.{direction_by, direction_of, trigger_message}
 use Rattle.host_widgets.proofs.NamedIds.{component-found, id-fits}
 use Rattle.host_widgets.proofs.ReadyWays.{has_host, host-there}
@@ -60,7 +60,7 @@ module _ (plan : Plan) (sound : IsSound plan) (host : ℕ) (some : has_host plan
   free-fits = ((tt, (omega arith, (host-fits, tt))), tt)
 
   -- of any rate and number of channels in range
-  pub params-fit : (p : Params) → is_in_range p ≡ true → IsMessage (PcmParams host (direction_of plan host) p)
+  pub params-fit : (p : Params) → are_in_range p ≡ true → IsMessage (PcmParams host (direction_of plan host) p)
   unfolding AreSlots IsSlot
   params-fit p range =
       let parts = and_parts (is_rate p.rate) (nat_le 1 p.channels && nat_le p.channels 8) range in

@@ -13,7 +13,7 @@ use Rattle.stream_law.specs.declared.stream.StreamView.{StreamView}
 use Rattle.stream_law.specs.State.{FwState, View, view_of}
 use Rattle.stream_law.specs.Seen.{seen}
 use Rattle.stream_law.specs.Ways.{agree, same_shape}
-use Rattle.mbox_link.specs.Step.{invalid, no_device, is_used, is_rate, is_way_ready, is_host, goes, has_kind, has_phase, is_moving, kind_at, phase_at, set_stream, with_params, changed, pcm_params}
+use Rattle.mbox_link.specs.Step.{invalid, no_device, is_used, is_rate, is_way_ready, is_host, goes, has_kind, is_stream_phase, is_moving, kind_at, phase_at, set_stream, with_params, stream_changed, pcm_params}
 use Rattle.tplg_plan.specs.declared.plans.Plan.{Plan}
 use Rattle.tplg_plan.specs.declared.plans.StreamPlan.{StreamPlan}
 use Rattle.tplg_plan.specs.Sound.{IsSound}
@@ -43,15 +43,15 @@ shown-host host (s ∷ ss) (r ∷ rs) same = ap (λ (b : Bool). (s.host == host)
 
 -- the phase that is shown of it
 phase-shown : (test : Phase → Bool) (is : Bool) (host : ℕ) (ss : List StreamPlan) (rs : List StreamRec) → length rs ≡ length ss → has_host ss host ≡ true →
-    AllAt (λ r. test (phase_of r.found) ≡ is) host ss rs → has_phase test (option_map (λ (s : StreamView). s.phase) (find (λ (s : StreamView). s.host == host) (shown ss rs))) ≡ is
+    AllAt (λ r. test (phase_of r.found) ≡ is) host ss rs → is_stream_phase test (option_map (λ (s : StreamView). s.phase) (find (λ (s : StreamView). s.host == host) (shown ss rs))) ≡ is
 phase-shown test is host [] rs same some all = absurd (false≢true some)
 phase-shown test is host (s ∷ ss) [] same some all = absurd (cc same)
 phase-shown test is host (s ∷ ss) (r ∷ rs) same some all =
     by (s.host == host) refl some (λ later. phase-shown test is host ss rs (let rest : length rs ≡ length ss = omega (arith, same) in rest) later all.1)
   where
     by : (b : Bool) → (s.host == host) ≡ b → (b || has_host ss host) ≡ true →
-        (has_host ss host ≡ true → has_phase test (option_map (λ (s : StreamView). s.phase) (find (λ (s : StreamView). s.host == host) (shown ss rs))) ≡ is) →
-        has_phase test (option_map (λ (s : StreamView). s.phase) (if b then Some (stream_view (s, r)) else find (λ (s : StreamView). s.host == host) (shown ss rs))) ≡ is
+        (has_host ss host ≡ true → is_stream_phase test (option_map (λ (s : StreamView). s.phase) (find (λ (s : StreamView). s.host == host) (shown ss rs))) ≡ is) →
+        is_stream_phase test (option_map (λ (s : StreamView). s.phase) (if b then Some (stream_view (s, r)) else find (λ (s : StreamView). s.host == host) (shown ss rs))) ≡ is
     by true here some rest = all.0 here
     by false here some rest = rest some
 
@@ -84,12 +84,12 @@ module _ (plan : Plan) (sound : IsSound plan) (setting : Comp → Setting) (rs :
   module _ (f : FwState) (shows : view_of f ≡ view) where
     -- what leads from the phase that it has is done
     pub changes : (from : Phase → Bool) (to : StreamView → StreamView) → AllAt (λ r. from (phase_of r.found) ≡ true) host plan.streams rs →
-        changed f host from to ≡ Ok (seen (record { graph = f.graph; streams = map to f.streams }) None f)
+        stream_changed f host from to ≡ Ok (seen (record { graph = f.graph; streams = map to f.streams }) None f)
     changes from to all =
         let used : is_used f.graph host ≡ true = ap (λ (v : View). is_used v.graph host) shows ∙ host-used plan sound setting host some in
         let kind : has_kind is_host (kind_at f.graph host) ≡ true = ap (λ (v : View). has_kind is_host (kind_at v.graph host)) shows ∙ host-kind plan sound setting host some in
-        let phase : has_phase from (phase_at f host) ≡ true =
-        ap (λ (v : View). has_phase from (option_map (λ (s : StreamView). s.phase) (find (λ (s : StreamView). s.host == host) v.streams))) shows
+        let phase : is_stream_phase from (phase_at f host) ≡ true =
+        ap (λ (v : View). is_stream_phase from (option_map (λ (s : StreamView). s.phase) (find (λ (s : StreamView). s.host == host) v.streams))) shows
         ∙ phase-shown from true host plan.streams rs same some all in
         λ i. if not (used i) then Err no_device else if not (kind i && phase i) then Err invalid else Ok (seen (record { graph = f.graph; streams = map to f.streams }) None f)
 
@@ -107,8 +107,8 @@ module _ (plan : Plan) (sound : IsSound plan) (setting : Comp → Setting) (rs :
           let used : is_used f.graph host ≡ true = ap (λ (v : View). is_used v.graph host) shows ∙ host-used plan sound setting host some in
           let kind : has_kind (λ kind. goes kind (direction_of plan host)) (kind_at f.graph host) ≡ true =
           ap (λ (v : View). has_kind (λ kind. goes kind (direction_of plan host)) (kind_at v.graph host)) shows ∙ host-goes plan sound setting host some in
-          let moves : has_phase is_moving (phase_at f host) ≡ false =
-          ap (λ (v : View). has_phase is_moving (option_map (λ (s : StreamView). s.phase) (find (λ (s : StreamView). s.host == host) v.streams))) shows
+          let moves : is_stream_phase is_moving (phase_at f host) ≡ false =
+          ap (λ (v : View). is_stream_phase is_moving (option_map (λ (s : StreamView). s.phase) (find (λ (s : StreamView). s.host == host) v.streams))) shows
           ∙ phase-shown is_moving false host plan.streams rs same some rests in
           let ready : is_way_ready f.graph host ≡ true = ap (λ (v : View). is_way_ready v.graph host) shows ∙ way-ready plan sound setting host in
           (λ i. if not (used i) then Err no_device else if not (kind i) || moves i || not (rate i) || not (ready i) || not (agrees i) then Err invalid else Ok (seen (with_params f host p) None f))

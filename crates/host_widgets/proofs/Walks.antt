@@ -14,7 +14,7 @@ use Rattle.mbox_link.proofs.Rooms.{HasRoom-now}
 use Rattle.tplg_plan.specs.declared.plans.Plan.{Plan}
 use Rattle.host_widgets.specs.declared.answers.HostFault.{HostFault}
 use Rattle.host_widgets.specs.HostActs.{Act}
-use Rattle.host_widgets.specs.ActMessages.{message_of}
+use Rattle.host_widgets.specs.ActMessages.{act_message}
 use Rattle.host_widgets.specs.Host.{Outcome, Sent, verdict}
 use Rattle.host_widgets.specs.ActCalls.{ActsSent, ActsDid, Onwards, came_to}
 use Rattle.host_widgets.specs.OneAct.{one_act}
@@ -41,7 +41,7 @@ module _ {D : Type 0} (means : Meaning D) (plan : Plan) where
   one_came m v (Ok reply) same = (same, refl)
   one_came m v (Err fault) same = (same, refl)
 
-  pub sent-one : (act : Act) (r : Result Reply HostFault) (w v : World D) → Sent means (message_spelling (message_of plan act)) w v r → ActsSent means plan (act ∷ []) w v (came_to r)
+  pub sent-one : (act : Act) (r : Result Reply HostFault) (w v : World D) → Sent means (message_spelling (act_message plan act)) w v r → ActsSent means plan (act ∷ []) w v (came_to r)
   sent-one act r w v sent =
       let m = sent.led.0 in (
         m,
@@ -76,7 +76,7 @@ module _ {D : Type 0} (means : Meaning D) (plan : Plan) where
     -- what each exchange keeps
     pub sent-keep : (acts : List Act) (w v : World D) (result : Outcome) → ActsSent means plan acts w v result → Kept w → Kept v
     sent-keep [] w v result sent kept = subst Kept (sym sent.0) kept
-    sent-keep (act ∷ acts) w v result (mid, answer, x, on) kept = by (verdict answer) on (each (message_spelling (message_of plan act)) answer w mid x kept) (sent-keep acts mid v result)
+    sent-keep (act ∷ acts) w v result (mid, answer, x, on) kept = by (verdict answer) on (each (message_spelling (act_message plan act)) answer w mid x kept) (sent-keep acts mid v result)
       where
         by : (r : Result Reply HostFault) → MatchResult r (λ reply. ActsSent means plan acts mid v result) (λ fault. (v ≡ mid) × (result ≡ Err fault)) → Kept mid → (ActsSent means plan acts mid v result → Kept mid → Kept v) → Kept v
         by (Ok reply) rest now go = go rest now
@@ -87,7 +87,7 @@ module _ {D : Type 0} (means : Meaning D) (plan : Plan) where
     did-keep heap goes_on [] ms now w v did kept = subst Kept (sym did.1) kept
     did-keep heap goes_on (act ∷ acts) [] now w v did kept = absurd did
     did-keep heap goes_on (act ∷ acts) (m ∷ ms) now w v (mid, d, on) kept =
-        by (goes_past goes_on (one_act plan heap now act m).outcome) on (each (message_spelling (message_of plan act)) d.answer w mid d.exchanged kept) (did-keep heap goes_on acts ms (one_act plan heap now act m).kept mid v)
+        by (goes_past goes_on (one_act plan heap now act m).outcome) on (each (message_spelling (act_message plan act)) d.answer w mid d.exchanged kept) (did-keep heap goes_on acts ms (one_act plan heap now act m).kept mid v)
       where
         by : (b : Bool) → Onwards b ms mid v (ActsDid means plan heap goes_on (one_act plan heap now act m).kept acts ms mid v) → Kept mid → (ActsDid means plan heap goes_on (one_act plan heap now act m).kept acts ms mid v → Kept mid → Kept v) → Kept v
         by true rest at go = go rest at
@@ -121,7 +121,7 @@ module _ {D : Type 0} (means : Meaning D) (plan : Plan) where
 
   -- ---- the turns of a loop over items that each are an act
 
-  module _ {X : Type 0} (act_of : X → Act) (items xs : List X) (same : xs ≡ items) (i : ℕ) (d : X) (within : i < length xs) (w m v : World D) (answer : Result Reply HostFault) (so_far : ActsSent means plan (take i (map act_of items)) w m passing) (sent : Sent means (message_spelling (message_of plan (act_of (get_or xs i d)))) m v answer) where
+  module _ {X : Type 0} (act_of : X → Act) (items xs : List X) (same : xs ≡ items) (i : ℕ) (d : X) (within : i < length xs) (w m v : World D) (answer : Result Reply HostFault) (so_far : ActsSent means plan (take i (map act_of items)) w m passing) (sent : Sent means (message_spelling (act_message plan (act_of (get_or xs i d)))) m v answer) where
     within_acts : i < length (map act_of items)
     within_acts = omega (arith, length-map items act_of, ap length same, within)
 
@@ -133,7 +133,7 @@ module _ {D : Type 0} (means : Meaning D) (plan : Plan) where
         let acts = map act_of items in
         let act = act_of (get_or xs i d) in
         let next : take (i + 1) acts ≡ take i acts ++ act ∷ [] = take_more acts i (act_of d) within_acts ∙ ap (λ (a : Act). take i acts ++ a ∷ []) act_is in
-        subst (λ (xs : List Act). ActsSent means plan xs w v passing) (sym next) (sent-then (take i acts) (act ∷ []) w m v passing so_far (sent-one act (Ok reply) m v (subst (λ (r : Result Reply HostFault). Sent means (message_spelling (message_of plan act)) m v r) is sent)))
+        subst (λ (xs : List Act). ActsSent means plan xs w v passing) (sym next) (sent-then (take i acts) (act ∷ []) w m v passing so_far (sent-one act (Ok reply) m v (subst (λ (r : Result Reply HostFault). Sent means (message_spelling (act_message plan act)) m v r) is sent)))
 
     pub sent-ends : (fault : HostFault) (result : Outcome) → answer ≡ Err fault → result ≡ Err fault → ActsSent means plan (map act_of items) w v result
     sent-ends fault result is this =
@@ -144,7 +144,7 @@ module _ {D : Type 0} (means : Meaning D) (plan : Plan) where
         ∙ ap (λ (a : Act). take i acts ++ a ∷ drop (i + 1) acts) (sym act_is)
         ∙ ap (λ (xs : List Act). take i acts ++ xs) (sym (drop_more acts i (act_of d) within_acts))
         ∙ take-append-drop i acts in
-        let failed = sent-one act (Err fault) m v (subst (λ (r : Result Reply HostFault). Sent means (message_spelling (message_of plan act)) m v r) is sent) in
+        let failed = sent-one act (Err fault) m v (subst (λ (r : Result Reply HostFault). Sent means (message_spelling (act_message plan act)) m v r) is sent) in
         subst (λ (r : Outcome). ActsSent means plan acts w v r) (sym this)
         (subst (λ (xs : List Act). ActsSent means plan xs w v (Err fault)) split
         (sent-ended (take i acts ++ act ∷ []) (drop (i + 1) acts) w v fault (sent-then (take i acts) (act ∷ []) w m v (Err fault) so_far failed)))

@@ -11,12 +11,12 @@ use Rattle.host_widgets.specs.Host.{Outcome}
 use Rattle.mbox_link.specs.Meetings.{Meeting}
 use Rattle.host_widgets.specs.declared.kept.Record.{Record}
 use Rattle.host_widgets.specs.HostActs.{Act, after, fresh_in}
-use Rattle.host_widgets.specs.ViewOf.{view_by}
-use Rattle.host_widgets.specs.OneAct.{Acted, came, lag_of, own, outcome_by}
-use Rattle.host_widgets.specs.Walk.{Walked, walk, joined, goes_past, first_of}
+use Rattle.host_widgets.specs.ViewOf.{record_view}
+use Rattle.host_widgets.specs.OneAct.{Performed, performed, lag_of, own, outcome_by}
+use Rattle.host_widgets.specs.Walk.{Walked, walk, followed_by, goes_past, first_of}
 use Rattle.host_widgets.specs.ActCalls.{ActDid, ActsDid, Onwards, next_of}
 use Rattle.host_widgets.specs.Host.{IsRecordOf}
-use Rattle.host_widgets.specs.Keeps.{Keeps}
+use Rattle.host_widgets.specs.Keeps.{KeepsRecord}
 use Rattle.host_widgets.proofs.OneActLaws.{AreReady, IsPlain, IsTaken, plain-ready}
 use Rattle.host_widgets.proofs.ActHolds.{Holds, Then, act-holds}
 use Rattle.host_widgets.proofs.StandingOn.{StandsOn, ReadsOn, stands-none, stands-by, reads-by}
@@ -63,7 +63,7 @@ module _ {D : Type 0} (means : Meaning D) (plan : Plan) (heap : ℕ) (goes_on : 
     pub state : FwState
     pub is_on : means.on v.device ≡ Some state
     pub record_now : IsRecordOf plan now
-    pub keeps_now : Keeps plan heap now state
+    pub keeps_now : KeepsRecord plan heap now state
     pub stands : StandsOn (Some f) w.io (Some state) v.io moments
 
   -- one behind the other
@@ -76,7 +76,7 @@ module _ {D : Type 0} (means : Meaning D) (plan : Plan) (heap : ℕ) (goes_on : 
     stands = stands-by (Some f) (Some first.state) (Some rest.state) w.io mid.io v.io ms more first.stands rest.stands;
   }
 
-  none : (kept : Record) (f : FwState) (w v : World D) → means.on w.device ≡ Some f → IsRecordOf plan kept → Keeps plan heap kept f → v ≡ w → Held f w v kept []
+  none : (kept : Record) (f : FwState) (w v : World D) → means.on w.device ≡ Some f → IsRecordOf plan kept → KeepsRecord plan heap kept f → v ≡ w → Held f w v kept []
   none kept f w v on is keeps same = record {
     state = f;
     is_on = ap (λ (x : World D). means.on x.device) same ∙ on;
@@ -122,11 +122,11 @@ module _ {D : Type 0} (means : Meaning D) (plan : Plan) (heap : ℕ) (goes_on : 
 
   -- what an act is followed by, where acts go on or end
   module _ (act : Act) (acts : List Act) (kept : Record) (ms : List Meeting) (ticks : List Moment) (f : FwState) (w mid v : World D) where
-    abbrev Behind : Acted → Bool → Type 0
+    abbrev Behind : Performed → Bool → Type 0
     Behind a b = Onwards b ms mid v (ActsDid means plan heap goes_on a.kept acts ms mid v)
 
-    abbrev Left : Acted → Bool → Type 0
-    Left a b = HeldBy f w v (joined act a ms b (met_walk a.kept ms acts))
+    abbrev Left : Performed → Bool → Type 0
+    Left a b = HeldBy f w v (followed_by act a ms b (met_walk a.kept ms acts))
 
     -- what is so behind it is so from its beginning
     later : (now : Record) (ms' : List Moment) (first : Held f w mid now ms') (o : Outcome) (then_kept : Record) (more : List Moment) →
@@ -135,8 +135,8 @@ module _ {D : Type 0} (means : Meaning D) (plan : Plan) (heap : ℕ) (goes_on : 
         (behind f w mid v now then_kept ms' more first) (reads-by (Some f) (Some first.state) w.io mid.io v.io ms' more first.stands)
 
     -- after a refusal
-    refused : (e : _) (b : Bool) → (first : Held f w mid kept ticks) → Behind (came plan act kept ticks (Err (Refused e))) b →
-        (b ≡ true → ActsDid means plan heap goes_on kept acts ms mid v → HeldBy first.state mid v (met_walk kept ms acts)) → Left (came plan act kept ticks (Err (Refused e))) b
+    refused : (e : _) (b : Bool) → (first : Held f w mid kept ticks) → Behind (performed plan act kept ticks (Err (Refused e))) b →
+        (b ≡ true → ActsDid means plan heap goes_on kept acts ms mid v → HeldBy first.state mid v (met_walk kept ms acts)) → Left (performed plan act kept ticks (Err (Refused e))) b
     refused e true first did rest =
         let r = rest refl did in
         let w' = met_walk kept ms acts in
@@ -145,7 +145,7 @@ module _ {D : Type 0} (means : Meaning D) (plan : Plan) (heap : ℕ) (goes_on : 
 
     -- after one that passed
     passed : (now : Record) (ms' : List Moment) → (first : Held f w mid now ms') → ActsDid means plan heap goes_on now acts ms mid v →
-        (ActsDid means plan heap goes_on now acts ms mid v → HeldBy first.state mid v (met_walk now ms acts)) → HeldBy f w v (joined act (record { outcome = Ok tt; kept = now; moments = ms' }) ms true (met_walk now ms acts))
+        (ActsDid means plan heap goes_on now acts ms mid v → HeldBy first.state mid v (met_walk now ms acts)) → HeldBy f w v (followed_by act (record { outcome = Ok tt; kept = now; moments = ms' }) ms true (met_walk now ms acts))
     passed now ms' first did rest =
         let w' = met_walk now ms acts in
         later now ms' first w'.outcome w'.kept w'.moments (rest did)
@@ -153,7 +153,7 @@ module _ {D : Type 0} (means : Meaning D) (plan : Plan) (heap : ℕ) (goes_on : 
   -- ---- a walk
 
   -- what one act left, as a part of a walk
-  module _ (kept : Record) (act : Act) (is : IsTaken plan kept act) (acts : List Act) (m : Meeting) (w mid : World D) (did : ActDid means plan heap kept act m w mid) (f : FwState) (on : means.on w.device ≡ Some f) (keeps : Keeps plan heap kept f) (ready : AreReady plan goes_on (act ∷ acts) f) where
+  module _ (kept : Record) (act : Act) (is : IsTaken plan kept act) (acts : List Act) (m : Meeting) (w mid : World D) (did : ActDid means plan heap kept act m w mid) (f : FwState) (on : means.on w.device ≡ Some f) (keeps : KeepsRecord plan heap kept f) (ready : AreReady plan goes_on (act ∷ acts) f) where
     abbrev HoldsOf : (FwState → Type 0) → Record → List Moment → Type 0
     HoldsOf So now moments = Holds means plan heap goes_on sound kept act is acts m w mid did f on keeps ready So now moments
 
@@ -165,14 +165,14 @@ module _ {D : Type 0} (means : Meaning D) (plan : Plan) (heap : ℕ) (goes_on : 
 
     -- a walk from here, by a state that is on and keeps a record
     abbrev Goes : World D → List Meeting → Record → Type 0
-    Goes v ms now = ActsDid means plan heap goes_on now acts ms mid v → (g : FwState) → means.on mid.device ≡ Some g → IsRecordOf plan now → Keeps plan heap now g → AreReady plan goes_on acts g → HeldBy g mid v (met_walk now ms acts)
+    Goes v ms now = ActsDid means plan heap goes_on now acts ms mid v → (g : FwState) → means.on mid.device ≡ Some g → IsRecordOf plan now → KeepsRecord plan heap now g → AreReady plan goes_on acts g → HeldBy g mid v (met_walk now ms acts)
 
     by_outcome : (v : World D) (ms : List Meeting) → Goes v ms (after plan act kept) → (goes_on ≡ true → Goes v ms kept) → (o : Outcome) → ThenOf o →
-        Behind act acts kept ms (lag_of m) f w mid v (came plan act kept (lag_of m) o) (goes_past goes_on (came plan act kept (lag_of m) o).outcome) →
-        Left act acts kept ms (lag_of m) f w mid v (came plan act kept (lag_of m) o) (goes_past goes_on (came plan act kept (lag_of m) o).outcome)
+        Behind act acts kept ms (lag_of m) f w mid v (performed plan act kept (lag_of m) o) (goes_past goes_on (performed plan act kept (lag_of m) o).outcome) →
+        Left act acts kept ms (lag_of m) f w mid v (performed plan act kept (lag_of m) o) (goes_past goes_on (performed plan act kept (lag_of m) o).outcome)
     by_outcome v ms on_passed on_refused (Ok done) h more =
-        let first = held (λ g. AreReady plan goes_on acts g) (after plan act kept) (lag_of m ++ Now (view_by plan (after plan act kept)) (fresh_in act) ∷ []) h in
-        passed act acts kept ms (lag_of m) f w mid v (after plan act kept) (lag_of m ++ Now (view_by plan (after plan act kept)) (fresh_in act) ∷ []) first more (λ did. on_passed did first.state first.is_on first.record_now first.keeps_now h.so)
+        let first = held (λ g. AreReady plan goes_on acts g) (after plan act kept) (lag_of m ++ Now (record_view plan (after plan act kept)) (fresh_in act) ∷ []) h in
+        passed act acts kept ms (lag_of m) f w mid v (after plan act kept) (lag_of m ++ Now (record_view plan (after plan act kept)) (fresh_in act) ∷ []) first more (λ did. on_passed did first.state first.is_on first.record_now first.keeps_now h.so)
     by_outcome v ms on_passed on_refused (Err (Refused e)) h more =
         let first = held (λ g. goes_on ≡ true → AreReady plan goes_on acts g) kept (lag_of m) h in
         refused act acts kept ms (lag_of m) f w mid v e goes_on first more (λ goes did. on_refused goes did first.state first.is_on first.record_now first.keeps_now (h.so goes))
@@ -186,7 +186,7 @@ module _ {D : Type 0} (means : Meaning D) (plan : Plan) (heap : ℕ) (goes_on : 
     by_outcome v ms on_passed on_refused (Err (Blob n)) h more = subst (λ (x : World D). Held f w x kept (lag_of m)) (sym more.1) (held (λ g. goes_on ≡ true → AreReady plan goes_on acts g) kept (lag_of m) h)
 
   walk-by : (acts : List Act) (ms : List Meeting) (kept : Record) (w v : World D) → ActsDid means plan heap goes_on kept acts ms w v → HaveLaw plan goes_on kept acts → IsRecordOf plan kept →
-      (f : FwState) → means.on w.device ≡ Some f → Keeps plan heap kept f → AreReady plan goes_on acts f → HeldBy f w v (met_walk kept ms acts)
+      (f : FwState) → means.on w.device ≡ Some f → KeepsRecord plan heap kept f → AreReady plan goes_on acts f → HeldBy f w v (met_walk kept ms acts)
   walk-by [] ms kept w v did are is f on keeps ready = none kept f w v on is keeps did.1
   walk-by (act ∷ acts) [] kept w v did are is f on keeps ready = absurd did
   walk-by (act ∷ acts) (m ∷ ms) kept w v did are is f on keeps ready =
@@ -196,5 +196,5 @@ module _ {D : Type 0} (means : Meaning D) (plan : Plan) (heap : ℕ) (goes_on : 
       (outcome_by m.fate (own plan heap kept act)) (act-holds means plan heap goes_on sound kept act are.0 acts m w did.0 did.1 f on keeps ready) did.2
 
   pub walk-holds : (acts : List Act) (ms : List Meeting) (kept : Record) (w v : World D) → ActsDid means plan heap goes_on kept acts ms w v → AreTaken plan goes_on kept acts → IsRecordOf plan kept →
-      (f : FwState) → means.on w.device ≡ Some f → Keeps plan heap kept f → HeldBy f w v (met_walk kept ms acts)
+      (f : FwState) → means.on w.device ≡ Some f → KeepsRecord plan heap kept f → HeldBy f w v (met_walk kept ms acts)
   walk-holds acts ms kept w v did are is f on keeps = walk-by acts ms kept w v did are.each is f on keeps (are.ready f)

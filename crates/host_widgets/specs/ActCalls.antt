@@ -14,7 +14,7 @@ use Rattle.host_widgets.specs.Host.{Outcome, verdict}
 use Rattle.mbox_link.specs.Meetings.{Meeting}
 use Rattle.host_widgets.specs.declared.kept.Record.{Record}
 use Rattle.host_widgets.specs.HostActs.{Act}
-use Rattle.host_widgets.specs.ActMessages.{message_of}
+use Rattle.host_widgets.specs.ActMessages.{act_message}
 use Rattle.host_widgets.specs.OneAct.{own, outcome_by, one_act}
 use Rattle.host_widgets.specs.Walk.{goes_past}
 
@@ -36,7 +36,7 @@ Counted means Lose old new = Rose (means.faults old) (means.faults new)
 -- its answer shows.
 pub record ActDid {D : Type 0} (means : Meaning D) (plan : Plan) (heap : ℕ) (kept : Record) (act : Act) (m : Meeting) (w v : World D) : Type 0 where
   pub answer : Option (List ℕ)
-  pub exchanged : Exchanged means (message_spelling (message_of plan act)) answer w v
+  pub exchanged : Exchanged means (message_spelling (act_message plan act)) answer w v
   pub lag : m.lag ≡ means.pending w.device - means.pending v.device
   pub counted : Counted means m.fate w.device v.device
   pub came : came_to (verdict answer) ≡ outcome_by m.fate (own plan heap kept act)
@@ -47,7 +47,7 @@ pub record ActDid {D : Type 0} (means : Meaning D) (plan : Plan) (heap : ℕ) (k
 abbrev pub ActsSent : {D : Type 0} → Meaning D → Plan → List Act → World D → World D → Outcome → Type 0
 ActsSent means plan [] w v result = (v ≡ w) × (result ≡ Ok tt)
 ActsSent {D} means plan (act ∷ acts) w v result =
-    (mid : World D) × (answer : Option (List ℕ)) × Exchanged means (message_spelling (message_of plan act)) answer w mid ×
+    (mid : World D) × (answer : Option (List ℕ)) × Exchanged means (message_spelling (act_message plan act)) answer w mid ×
     MatchResult (verdict answer) (λ reply. ActsSent means plan acts mid v result) (λ fault. (v ≡ mid) × (result ≡ Err fault))
 
 -- the acts go on, or end here with no more meetings

@@ -8,7 +8,7 @@ use Rattle.host_widgets.specs.declared.answers.HostFault.{HostFault}
 use Rattle.host_widgets.specs.declared.answers.HostFault.TheVariants.{LinkDown}
 use Rattle.host_widgets.specs.declared.kept.Record.{Record}
 use Rattle.host_widgets.specs.HostActs.{Act}
-use Rattle.host_widgets.specs.OneAct.{own, outcome_by, came}
+use Rattle.host_widgets.specs.OneAct.{own, outcome_by, performed}
 use Rattle.host_widgets.specs.ActCalls.{ActDid, came_to, calls_of}
 use Rattle.host_widgets.specs.Orders.{plain_end}
 use Rattle.host_widgets.specs.Host.{Outcome, verdict}
@@ -24,7 +24,7 @@ PlainEnd means heap result kept kept' w v =
     let end = plain_end (λ now. now) kept result in (kept' ≡ end.0) × Led means w (calls_of heap end.1) v
 
 -- one exchange of these bytes, with its reply
-pub record Heard {D : Type 0} (means : Meaning D) (heap : ℕ) (request : List ℕ) (kept kept' : Record) (w v : World D) (result : Result Reply HostFault) : Type 0 where
+pub record Replied {D : Type 0} (means : Meaning D) (heap : ℕ) (request : List ℕ) (kept kept' : Record) (w v : World D) (result : Result Reply HostFault) : Type 0 where
   pub answer : Option (List ℕ)
   pub sent : World D
   pub exchanged : Exchanged means request answer w sent
@@ -45,4 +45,4 @@ pub record ActCarried {D : Type 0} (means : Meaning D) (plan : Plan) (heap : ℕ
   pub sent : World D
   pub did : ActDid means plan heap kept act meeting w sent
   pub said : result ≡ outcome_by meeting.fate (own plan heap kept act)
-  pub ends : PlainEnd means heap result (came plan act kept [] result).kept kept' sent v
+  pub ends : PlainEnd means heap result (performed plan act kept [] result).kept kept' sent v

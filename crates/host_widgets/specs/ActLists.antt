@@ -11,7 +11,7 @@ use Rattle.host_widgets.specs.declared.kept.Found.{Found}
 use Rattle.host_widgets.specs.declared.kept.Found.TheVariants.{Prepared, Running, Paused}
 use Rattle.host_widgets.specs.declared.kept.StreamRec.{StreamRec}
 use Rattle.host_widgets.specs.declared.trigger.Trigger.TheVariants.{Stop}
-use Rattle.host_widgets.specs.Acts.{ids_of}
+use Rattle.host_widgets.specs.Acts.{widget_ids}
 use Rattle.host_widgets.specs.declared.kept.Record.{Record}
 use Rattle.host_widgets.specs.declared.kept.ControlRec.{ControlRec}
 use Rattle.mbox_link.specs.BlobParts.{part_numbers}
@@ -35,7 +35,7 @@ control_acts (k, c) = control_acts_by k.comp k.kind c
 -- pipeline is complete, by id
 abbrev pub bring_up : Plan → Record → List Act
 bring_up plan kept =
-    map Make (ids_of plan)
+    map Make (widget_ids plan)
     ++ (map (λ j. Join j.source j.sink) plan.graph.joins
     ++ (flat_map control_acts (zip plan.controls kept.controls) ++ map (λ p. Finish p.id) plan.graph.pipes))
 

@@ -9,7 +9,7 @@ use Rattle.tplg_plan.specs.declared.plans.ControlKind.TheVariants as controls
 use Rattle.tplg_plan.specs.GainOf.{control_gain}
 use Rattle.host_widgets.specs.Controls.{control_of}
 use Rattle.host_widgets.specs.Acts.{make_message, widget_words, direction_of, trigger_message}
-use Rattle.mbox_link.specs.BlobParts.{part_of}
+use Rattle.mbox_link.specs.BlobParts.{blob_part}
 use Rattle.host_widgets.specs.HostActs.{Act, Make, Join, Put, Part, Finish, Prepare, Trig, Free, Save, Ask}
 
 -- SET_VALUE: a volume's gains by command 0, a mux's choice by command 1; no other component is set so
@@ -32,14 +32,14 @@ ask_message comp k (Some c) = get_message comp k c.kind
 ask_message comp k None = GetValue comp 0
 
 -- the message of an act
-abbrev pub message_of : Plan → Act → Message
-message_of plan (Make id) = make_message plan id (widget_words plan id)
-message_of plan (Join source sink) = Connect source sink
-message_of plan (Put comp values) = put_message comp values (control_of plan comp)
-message_of plan (Part comp blob k) = SetData comp (part_of blob k)
-message_of plan (Finish id) = PipeComplete id
-message_of plan (Prepare host params) = PcmParams host (direction_of plan host) params
-message_of plan (Trig host what) = trigger_message host what
-message_of plan (Free host) = PcmFree host
-message_of plan Save = CtxSave
-message_of plan (Ask comp k) = ask_message comp k (control_of plan comp)
+abbrev pub act_message : Plan → Act → Message
+act_message plan (Make id) = make_message plan id (widget_words plan id)
+act_message plan (Join source sink) = Connect source sink
+act_message plan (Put comp values) = put_message comp values (control_of plan comp)
+act_message plan (Part comp blob k) = SetData comp (blob_part blob k)
+act_message plan (Finish id) = PipeComplete id
+act_message plan (Prepare host params) = PcmParams host (direction_of plan host) params
+act_message plan (Trig host what) = trigger_message host what
+act_message plan (Free host) = PcmFree host
+act_message plan Save = CtxSave
+act_message plan (Ask comp k) = ask_message comp k (control_of plan comp)

@@ -21,8 +21,8 @@ use Rattle.host_widgets.specs.declared.trigger.Trigger.{Trigger}
 use Rattle.host_widgets.specs.declared.trigger.Trigger.TheVariants.{Start, Stop, Pause, Release}
 
 -- the ids of all widgets, in order
-abbrev pub ids_of : Plan → List ℕ
-ids_of plan = range_with_len 0 (length plan.widgets)
+abbrev pub widget_ids : Plan → List ℕ
+widget_ids plan = range_with_len 0 (length plan.widgets)
 
 -- ---- what an id names
 

@@ -9,13 +9,13 @@ use Rattle.stream_law.specs.declared.stream.Phase.TheVariants as phases
 use Rattle.stream_law.specs.declared.stream.StreamView.{StreamView}
 use Rattle.stream_law.specs.State.{HeapView}
 use Rattle.stream_law.specs.Ways.{comp_of, edge_of}
-use Rattle.mbox_link.specs.Step.{comp_bytes, buffer_bytes, pipe_bytes, with_piece, fresh}
+use Rattle.mbox_link.specs.Step.{comp_bytes, buffer_bytes, pipe_bytes, heap_with_piece, fresh}
 use Rattle.tplg_plan.specs.declared.plans.Plan.{Plan}
 use Rattle.tplg_plan.specs.declared.plans.StreamPlan.{StreamPlan}
 use Rattle.host_widgets.specs.declared.kept.Found.{Found}
 use Rattle.host_widgets.specs.declared.kept.Found.TheVariants.{Prepared, Running, Paused}
 use Rattle.host_widgets.specs.declared.kept.StreamRec.{StreamRec}
-use Rattle.host_widgets.specs.Acts.{ids_of}
+use Rattle.host_widgets.specs.Acts.{widget_ids}
 
 -- ---- a stream
 
@@ -48,8 +48,8 @@ needed_by plan n = sum (map (λ id. rounded (stated_bytes plan id)) (range_with_
 -- the heap once a piece is carved for each of these ids, one after the other
 abbrev pub with_pieces : Plan → List ℕ → HeapView → HeapView
 with_pieces plan [] heap = heap
-with_pieces plan (id ∷ ids) heap = with_pieces plan ids (with_piece id (stated_bytes plan id) heap)
+with_pieces plan (id ∷ ids) heap = with_pieces plan ids (heap_with_piece id (stated_bytes plan id) heap)
 
 -- what carving all stated sizes in the order of ids leaves of a fresh heap of so many bytes
 abbrev pub loaded_heap : Plan → ℕ → HeapView
-loaded_heap plan heap = with_pieces plan (ids_of plan) (fresh heap).heap
+loaded_heap plan heap = with_pieces plan (widget_ids plan) (fresh heap).heap

@@ -32,7 +32,7 @@ use Rattle.host_widgets.specs.declared.kept.ControlRec.{ControlRec}
 use Rattle.host_widgets.specs.Kept.{first_control, first_record}
 use Rattle.host_widgets.specs.HostRecord.{may_have}
 use Rattle.host_widgets.specs.Expected.{phase_of, needed_by}
-use Rattle.host_widgets.specs.ViewOf.{view_by}
+use Rattle.host_widgets.specs.ViewOf.{record_view}
 use Rattle.host_widgets.specs.StateOf.{state_by}
 
 -- whether a command that answers nothing else was done
@@ -120,21 +120,21 @@ pub record SucceedsExactly {D : Type 0} (means : Meaning D) (plan : Plan) (heap 
 -- first, and while the power is off no stream runs or is paused
 abbrev pub Sides : {D : Type 0} → Meaning D → Plan → Record → D → Power → Type 0
 Sides means plan kept device Unloaded = (kept ≡ first_record plan) × (means.on device ≡ None)
-Sides means plan kept device On = option_map view_of (means.on device) ≡ Some (view_by plan kept)
+Sides means plan kept device On = option_map view_of (means.on device) ≡ Some (record_view plan kept)
 Sides means plan kept device Off = (list_any (λ s. is_live_phase (phase_of s.found)) kept.streams ≡ false) × (means.on device ≡ None)
 
 -- what a command may set: a value for each channel of a volume, in its range; the number of one of a mux's items; and a blob that is
 -- not longer than an equaliser takes
-abbrev pub IsSet : ControlKind → ControlRec → Type 0
-IsSet (Volume min max channels lowest step mute) c =
+abbrev pub IsControlSet : ControlKind → ControlRec → Type 0
+IsControlSet (Volume min max channels lowest step mute) c =
     (length c.values ≡ channels) × (list_all (λ v. nat_le min v && nat_le v max) c.values ≡ true) × (c.blob ≡ [])
-IsSet (Choice items) c = (v : ℕ) × (c.values ≡ v ∷ []) × (v < items) × (c.blob ≡ [])
-IsSet (Blob most initial) c = (c.values ≡ []) × (length c.blob ≤ most) × (is_blob c.blob ≡ true)
+IsControlSet (Choice items) c = (v : ℕ) × (c.values ≡ v ∷ []) × (v < items) × (c.blob ≡ [])
+IsControlSet (Blob most initial) c = (c.values ≡ []) × (length c.blob ≤ most) × (is_blob c.blob ≡ true)
 
 -- a record for each live control, which is as it begins or was set
 abbrev pub AreControls : List ControlPlan → List ControlRec → Type 0
 AreControls [] [] = Unit {0}
-AreControls (k ∷ ks) (c ∷ cs) = ((c ≡ first_control k) ⊎ IsSet k.kind c) × AreControls ks cs
+AreControls (k ∷ ks) (c ∷ cs) = ((c ≡ first_control k) ⊎ IsControlSet k.kind c) × AreControls ks cs
 AreControls ks cs = ⊥
 
 -- A record of this plan: it has the plan's streams, each with the parameters that it may have where it stands, and its live
@@ -143,7 +143,7 @@ pub record IsRecordOf (plan : Plan) (kept : Record) : Type 0 where
   pub streams : length kept.streams ≡ length plan.streams
   pub controls : AreControls plan.controls kept.controls
   pub each : list_all (λ r. may_have r.found r.params) kept.streams ≡ true
-  pub shapes : agree (view_by plan kept) ≡ true
+  pub shapes : agree (record_view plan kept) ≡ true
 
 -- the record and the device agree
 pub record Agrees {D : Type 0} (means : Meaning D) (plan : Plan) (kept : Record) (device : D) : Type 0 where

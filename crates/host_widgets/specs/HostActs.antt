@@ -28,8 +28,8 @@ pub data Act : Type 0 where
 
 -- ---- the record after an act that passed
 
-abbrev pub prepared : Params → StreamRec → StreamRec
-prepared params r = record { found = Prepared; params = Some params }
+abbrev pub prepared_stream : Params → StreamRec → StreamRec
+prepared_stream params r = record { found = Prepared; params = Some params }
 
 abbrev pub triggered_found : Trigger → Found
 triggered_found Start = Running
@@ -37,8 +37,8 @@ triggered_found Stop = Prepared
 triggered_found Pause = Paused
 triggered_found Release = Running
 
-abbrev pub triggered : Trigger → StreamRec → StreamRec
-triggered what r = record { found = triggered_found what; params = r.params }
+abbrev pub triggered_stream : Trigger → StreamRec → StreamRec
+triggered_stream what r = record { found = triggered_found what; params = r.params }
 
 abbrev pub with_values : List ℕ → ControlRec → ControlRec
 with_values values c = record { values = values; blob = c.blob }
@@ -48,8 +48,8 @@ with_blob blob c = record { values = c.values; blob = blob }
 
 -- streams are what acts on streams make of them, a control has its values, and its blob with the last part
 abbrev pub after : Plan → Act → Record → Record
-after plan (Prepare host params) kept = with_stream plan host (prepared params) kept
-after plan (Trig host what) kept = with_stream plan host (triggered what) kept
+after plan (Prepare host params) kept = with_stream plan host (prepared_stream params) kept
+after plan (Trig host what) kept = with_stream plan host (triggered_stream what) kept
 after plan (Free host) kept = with_stream plan host (λ r. closed) kept
 after plan (Put comp values) kept = with_control plan comp (with_values values) kept
 after plan (Part comp blob k) kept = if is_last blob k then with_control plan comp (with_blob blob) kept else kept

@@ -9,16 +9,16 @@ use Rattle.host_widgets.specs.declared.kept.Found.TheVariants.{Closed, Open, Pre
 use Rattle.host_widgets.specs.declared.kept.StreamRec.{StreamRec}
 
 -- frames a second and samples a frame that a stream may have: a multiple of 1000 from 8000 to 192000, and 1 to 8
-abbrev pub is_in_range : Params → Bool
-is_in_range p = is_rate p.rate && (nat_le 1 p.channels && nat_le p.channels 8)
+abbrev pub are_in_range : Params → Bool
+are_in_range p = is_rate p.rate && (nat_le 1 p.channels && nat_le p.channels 8)
 
 -- whether a stream that stands so may have these parameters: none while it is closed or open, else some in range
 abbrev pub may_have : Found → Option Params → Bool
 may_have Closed None = true
 may_have Open None = true
-may_have Prepared (Some p) = is_in_range p
-may_have Running (Some p) = is_in_range p
-may_have Paused (Some p) = is_in_range p
+may_have Prepared (Some p) = are_in_range p
+may_have Running (Some p) = are_in_range p
+may_have Paused (Some p) = are_in_range p
 may_have found params = false
 
 -- a stream that is closed has no parameters

@@ -13,7 +13,7 @@ use Rattle.host_widgets.specs.Host.{Outcome, errno, conflicts}
 use Rattle.mbox_link.specs.Meetings.{Meeting}
 use Rattle.host_widgets.specs.declared.kept.Record.{Record}
 use Rattle.host_widgets.specs.HostActs.{Act, Make, Prepare, after, fresh_in}
-use Rattle.host_widgets.specs.ViewOf.{view_by}
+use Rattle.host_widgets.specs.ViewOf.{record_view}
 
 -- The firmware itself refuses an act exactly where it makes a widget up to which the stated sizes pass the heap, or gives a
 -- stream parameters that do not agree with those of another stream in the record.
@@ -31,7 +31,7 @@ outcome_by Drop refusal = Err LinkDown
 outcome_by Lose refusal = Err LinkDown
 
 -- what an act came to, the record after it, and the moments of the device
-pub record Acted : Type 0 where
+pub record Performed : Type 0 where
   pub outcome : Outcome
   pub kept : Record
   pub moments : List Moment
@@ -41,12 +41,12 @@ abbrev pub lag_of : Meeting → List Moment
 lag_of m = replicate m.lag Tick
 
 -- one that passes leaves the view of the record after it; one that does not leaves the record
-abbrev pub came : Plan → Act → Record → List Moment → Outcome → Acted
-came plan act kept ticks (Ok done) =
+abbrev pub performed : Plan → Act → Record → List Moment → Outcome → Performed
+performed plan act kept ticks (Ok done) =
     let now = after plan act kept in
-    record { outcome = Ok tt; kept = now; moments = ticks ++ Now (view_by plan now) (fresh_in act) ∷ [] }
-came plan act kept ticks (Err fault) = record { outcome = Err fault; kept = kept; moments = ticks }
+    record { outcome = Ok tt; kept = now; moments = ticks ++ Now (record_view plan now) (fresh_in act) ∷ [] }
+performed plan act kept ticks (Err fault) = record { outcome = Err fault; kept = kept; moments = ticks }
 
 -- an act, whose message meets this
-abbrev pub one_act : Plan → ℕ → Record → Act → Meeting → Acted
-one_act plan heap kept act m = came plan act kept (lag_of m) (outcome_by m.fate (own plan heap kept act))
+abbrev pub one_act : Plan → ℕ → Record → Act → Meeting → Performed
+one_act plan heap kept act m = performed plan act kept (lag_of m) (outcome_by m.fate (own plan heap kept act))

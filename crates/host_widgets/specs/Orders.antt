@@ -35,9 +35,9 @@ pub record Order : Type 0 where
   pub answer : Answer
 
 -- after a refusal, acts go on only where the device goes down
-abbrev pub goes_on : Manner → Bool
-goes_on Suspending = true
-goes_on manner = false
+abbrev pub goes_on_after_refusal : Manner → Bool
+goes_on_after_refusal Suspending = true
+goes_on_after_refusal manner = false
 
 -- ---- how it ends: the record, and the last moments
 
@@ -113,16 +113,16 @@ pub record Carried {D : Type 0} (means : Meaning D) (plan : Plan) (heap : ℕ) (
   pub begun : World D
   pub sent : World D
   pub first : Led means w (calls_of heap o.first) begun
-  pub walked : ActsDid means plan heap (goes_on o.manner) kept o.acts meetings begun sent
-  pub came : result ≡ (walk plan heap (goes_on o.manner) next_of kept meetings o.acts).outcome
-  pub ends : Ends means plan heap o kept kept' sent v (walk plan heap (goes_on o.manner) next_of kept meetings o.acts)
+  pub walked : ActsDid means plan heap (goes_on_after_refusal o.manner) kept o.acts meetings begun sent
+  pub came : result ≡ (walk plan heap (goes_on_after_refusal o.manner) next_of kept meetings o.acts).outcome
+  pub ends : Ends means plan heap o kept kept' sent v (walk plan heap (goes_on_after_refusal o.manner) next_of kept meetings o.acts)
 
 -- ---- a call, by its test
 
 -- what is loaded is not loaded again, and only what is loaded is let go
-abbrev pub load_fault : Power → Option HostFault
-load_fault Unloaded = None
-load_fault power = Some Loaded
+abbrev pub fault_of_load : Power → Option HostFault
+fault_of_load Unloaded = None
+fault_of_load power = Some Loaded
 
 abbrev pub unload_fault : Power → Option HostFault
 unload_fault Unloaded = Some NotLoaded

@@ -6,7 +6,7 @@ use Rattle.tplg_plan.specs.declared.plans.Plan.{Plan}
 use Rattle.host_widgets.specs.declared.kept.Record.{Record}
 use Rattle.host_widgets.specs.Kept.{first_record}
 use Rattle.host_widgets.specs.Expected.{loaded_heap}
-use Rattle.host_widgets.specs.ViewOf.{graph_by, view_by}
+use Rattle.host_widgets.specs.ViewOf.{graph_by, record_view}
 
 -- a ring without frames for each buffer
 abbrev pub empty_rings : Graph → List RingView
@@ -18,7 +18,7 @@ state_by plan kept heap clock = record {
   heap = loaded_heap plan heap;
   clock = clock;
   graph = graph_by plan kept;
-  streams = (view_by plan (first_record plan)).streams;
+  streams = (record_view plan (first_record plan)).streams;
   rings = empty_rings plan.graph;
   histories = [];
   staging = [];

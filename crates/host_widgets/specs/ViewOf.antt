@@ -19,22 +19,22 @@ use Rattle.host_widgets.specs.Kept.{control_at}
 
 -- a volume has the gain of each value, a mux chooses its value, and an equaliser has its blob; without a live control a volume
 -- has one gain, which is 1, a mux chooses its first input, and an equaliser has no blob
-abbrev pub setting_by : Kind → Option (ControlPlan × ControlRec) → Setting
-setting_by kinds.Volume (Some (k, c)) = settings.Gains (map (control_gain k.kind) c.values)
-setting_by kinds.Volume None = settings.Gains (65536 ∷ [])
-setting_by kinds.Mux (Some (k, c)) = settings.Choice (get_or c.values 0 0)
-setting_by kinds.Mux None = settings.Choice 0
-setting_by kinds.Eq (Some (k, c)) = settings.Blob c.blob
-setting_by kinds.Eq None = settings.Blob []
-setting_by kind control = settings.Nothing
+abbrev pub record_setting : Kind → Option (ControlPlan × ControlRec) → Setting
+record_setting kinds.Volume (Some (k, c)) = settings.Gains (map (control_gain k.kind) c.values)
+record_setting kinds.Volume None = settings.Gains (65536 ∷ [])
+record_setting kinds.Mux (Some (k, c)) = settings.Choice (get_or c.values 0 0)
+record_setting kinds.Mux None = settings.Choice 0
+record_setting kinds.Eq (Some (k, c)) = settings.Blob c.blob
+record_setting kinds.Eq None = settings.Blob []
+record_setting kind control = settings.Nothing
 
 abbrev pub set_comp : Plan → Record → Comp → Comp
-set_comp plan kept c = record { id = c.id; kind = c.kind; pipe = c.pipe; setting = setting_by c.kind (control_at plan kept c.id) }
+set_comp plan kept c = record { id = c.id; kind = c.kind; pipe = c.pipe; setting = record_setting c.kind (control_at plan kept c.id) }
 
 -- the plan's graph with what the record sets at its components
 abbrev pub graph_by : Plan → Record → Graph
 graph_by plan kept = with_comps (map (set_comp plan kept) plan.graph.comps) plan.graph
 
 -- and each stream's host, phase and parameters
-abbrev pub view_by : Plan → Record → View
-view_by plan kept = record { graph = graph_by plan kept; streams = map stream_view (zip plan.streams kept.streams) }
+abbrev pub record_view : Plan → Record → View
+record_view plan kept = record { graph = graph_by plan kept; streams = map stream_view (zip plan.streams kept.streams) }

@@ -7,7 +7,7 @@ use Rattle.host_widgets.specs.Host.{Outcome}
 use Rattle.mbox_link.specs.Meetings.{Meeting}
 use Rattle.host_widgets.specs.declared.kept.Record.{Record}
 use Rattle.host_widgets.specs.HostActs.{Act}
-use Rattle.host_widgets.specs.OneAct.{Acted, one_act}
+use Rattle.host_widgets.specs.OneAct.{Performed, one_act}
 
 -- What acts came to: the first fault, or that the link is down; the record after them; the moments of the device; the acts
 -- whose messages were sent; and what gives the meetings of later messages.
@@ -31,15 +31,15 @@ first_of (Err fault) (Err LinkDown) = Err LinkDown
 first_of (Err fault) rest = Err fault
 
 -- an act, and where they go on, the acts behind it
-abbrev pub joined : {Q : Type 0} → Act → Acted → Q → Bool → Walked Q → Walked Q
-joined act a q true rest = record {
+abbrev pub followed_by : {Q : Type 0} → Act → Performed → Q → Bool → Walked Q → Walked Q
+followed_by act a q true rest = record {
   outcome = first_of a.outcome rest.outcome;
   kept = rest.kept;
   moments = a.moments ++ rest.moments;
   sent = act ∷ rest.sent;
   queue = rest.queue;
 }
-joined act a q false rest = record { outcome = a.outcome; kept = a.kept; moments = a.moments; sent = act ∷ []; queue = q }
+followed_by act a q false rest = record { outcome = a.outcome; kept = a.kept; moments = a.moments; sent = act ∷ []; queue = q }
 
 -- The acts in order, each by one message, up to the first after which they do not go on. `next` says what the next message
 -- meets, with what is left for later ones.
@@ -47,4 +47,4 @@ abbrev pub walk : {Q : Type 0} → Plan → ℕ → Bool → (Q → Meeting × Q
 walk plan heap goes_on next kept q [] = record { outcome = Ok tt; kept = kept; moments = []; sent = []; queue = q }
 walk plan heap goes_on next kept q (act ∷ acts) =
     let a = one_act plan heap kept act (next q).0 in
-    joined act a (next q).1 (goes_past goes_on a.outcome) (walk plan heap goes_on next a.kept (next q).1 acts)
+    followed_by act a (next q).1 (goes_past goes_on a.outcome) (walk plan heap goes_on next a.kept (next q).1 acts)

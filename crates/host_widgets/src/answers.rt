@@ -44,7 +44,7 @@ pub enum Answer {
     /// An equaliser's blob, of at most 1024 bytes.
     Bytes(Bounded<u8, 1024>),
     Fault(HostFault),
-    /// No more fates can be planned.
+    /// No more fates or lags can be planned.
     PlanFull,
     /// All that should be there is listed.
     Show,

@@ -9,7 +9,7 @@ ghost use Rattle.tplg_plan.specs.Ranges.{is_initial};
 ghost use Rattle.tplg_plan.specs.Sound.{IsSound};
 ghost use Rattle.host_widgets.specs.Kept.{controls_of};
 ghost use Rattle.host_widgets.specs.HostActs.{Make, Join, Finish};
-ghost use Rattle.host_widgets.specs.Acts.{ids_of};
+ghost use Rattle.host_widgets.specs.Acts.{widget_ids};
 ghost use Rattle.host_widgets.specs.ActLists.{control_acts, bring_up};
 ghost use Rattle.host_widgets.specs.ActCalls.{ActsSent};
 ghost use Rattle.host_widgets.specs.Host.{IsRecordOf, BroughtUp};
@@ -36,7 +36,7 @@ fn make_widgets<P: Dsp>(
     requires few { length plan.now.widgets < 2 ^ 32 }
     requires on { is_some (P.means.on dsp.old) ≡ true }
     requires room { HasRoom (61440 * P.means.pending dsp.old) out.old }
-    ensures { ActsSent P.means plan.now (map Make (ids_of plan.now)) (world dsp.old io.old out.old) (world dsp.new io.new out.new) result }
+    ensures { ActsSent P.means plan.now (map Make (widget_ids plan.now)) (world dsp.old io.old out.old) (world dsp.new io.new out.new) result }
 {
     let mut id = 0;
     for words in plan.widgets.items() {

@@ -98,7 +98,7 @@ fn greatest_value(kind: &ControlKind) -> u32
 {
     match kind {
         ControlKind::Volume { max, .. } => *max,
-        _ => 0,
+        ControlKind::Choice { .. } | ControlKind::Blob { .. } => 0,
     }
 }
 
@@ -113,7 +113,7 @@ pub fn first_blob(kind: &ControlKind) -> Bounded<u8, 1024>
             // Never so: it is no longer.
             None => Bounded::empty(),
         },
-        _ => Bounded::empty(),
+        ControlKind::Volume { .. } | ControlKind::Choice { .. } => Bounded::empty(),
     }
 }
 
@@ -161,7 +161,7 @@ pub fn set_message(comp: u32, kind: &ControlKind, values: &Bounded<u32, 8>) -> M
             command: 1,
             values: values.copied(),
         },
-        _ => Message::SetValue {
+        ControlKind::Volume { .. } | ControlKind::Blob { .. } => Message::SetValue {
             id: comp,
             command: 0,
             values: gains(kind, values),

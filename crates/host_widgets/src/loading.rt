@@ -5,7 +5,7 @@ ghost use Rattle.mbox_link.specs.Calls.{world};
 ghost use Rattle.tplg_plan.specs.Sound.{IsSound};
 ghost use Rattle.host_widgets.specs.Kept.{first_record, with_power};
 ghost use Rattle.host_widgets.specs.Host.{Agrees, BroughtUp, SucceedsExactly};
-ghost use Rattle.host_widgets.specs.Orders.{Carried, Tested, brought_end, load_fault, loading};
+ghost use Rattle.host_widgets.specs.Orders.{Carried, Tested, brought_end, fault_of_load, loading};
 
 use crate::answers::HostFault;
 use crate::bringing_up::bring_up;
@@ -62,7 +62,7 @@ pub fn load<P: Dsp>(
     requires heap { heap ≤ P.means.most dsp.old }
     requires room { HasRoom (61440 * P.means.pending dsp.old) out.old }
     // From an unloaded record its order is carried out; else nothing changes, and no call is made.
-    ensures carried { Tested P.means plan.now heap (load_fault kept.old.power) (loading plan.now kept.old) kept.old kept.new (world dsp.old io.old out.old) (world dsp.new io.new out.new) result }
+    ensures carried { Tested P.means plan.now heap (fault_of_load kept.old.power) (loading plan.now kept.old) kept.old kept.new (world dsp.old io.old out.old) (world dsp.new io.new out.new) result }
     // Once all acts have passed, the device keeps the plan.
     ensures left { BroughtUp P.means plan.now heap (first_record plan.now) dsp.old result dsp.new }
     // It succeeds where the stated sizes fit and no count of the device rises, and never where they do not fit.

@@ -3,7 +3,7 @@ ghost use Rattle.std.specs.Prelude.{◌≡◌, ◌<◌, ◌*◌, is_some, true};
 ghost use Rattle.sof_base.specs.BlobFaults.{is_blob};
 ghost use Rattle.sof_base.specs.Ports.{HasRoom};
 ghost use Rattle.tplg_plan.specs.declared.plans.Plan.{Plan};
-ghost use Rattle.mbox_link.specs.BlobParts.{parts, part_of};
+ghost use Rattle.mbox_link.specs.BlobParts.{parts, blob_part};
 ghost use Rattle.mbox_link.specs.Calls.{world};
 ghost use Rattle.host_widgets.specs.ActLists.{part_acts};
 ghost use Rattle.host_widgets.specs.ActCalls.{ActsSent};
@@ -27,7 +27,7 @@ pub fn part_count(blob: &[u8]) -> u32
 fn part(blob: &[u8], index: u32) -> Part
     requires blob { is_blob blob.now ≡ true }
     requires there { index < parts blob.now }
-    ensures { result ≡ part_of blob.now index }
+    ensures { result ≡ blob_part blob.now index }
 {
     let start = 32 + 260 * index as usize;
     let rest = blob.len() - start;

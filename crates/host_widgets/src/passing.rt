@@ -4,7 +4,7 @@ ghost use Rattle.sof_base.specs.Ports.{HasRoom};
 ghost use Rattle.ipc3_codec.specs.Messages.{message_spelling};
 ghost use Rattle.mbox_link.specs.Calls.{world};
 ghost use Rattle.host_widgets.specs.Host.{IsRecordOf};
-ghost use Rattle.host_widgets.specs.ActCarried.{Heard, Passes, is_down};
+ghost use Rattle.host_widgets.specs.ActCarried.{Replied, Passes, is_down};
 
 use crate::answers::HostFault;
 use crate::going_down::link_down;
@@ -35,7 +35,7 @@ pub fn hear<P: Dsp>(
     requires kept { IsRecordOf plan.now kept.old }
     requires on { is_some (P.means.on dsp.old) ≡ true }
     requires room { HasRoom (61440 * P.means.pending dsp.old) out.old }
-    ensures { Heard P.means heap (message_spelling message.now) kept.old kept.new
+    ensures { Replied P.means heap (message_spelling message.now) kept.old kept.new
         (world dsp.old io.old out.old) (world dsp.new io.new out.new) result }
 {
     let answer = send(message, dsp, io, out);

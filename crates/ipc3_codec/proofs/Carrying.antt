@@ -13,7 +13,7 @@ use Rattle.ipc3_codec.specs.declared.message.Message.TheVariants.{CompNew, SetVa
 use Rattle.ipc3_codec.specs.declared.message.CompWords.TheVariants.{Host, Dai, Volume, Mixer, Mux, Eq}
 use Rattle.ipc3_codec.specs.declared.fault.CodecFault.{CodecFault}
 use Rattle.ipc3_codec.specs.declared.fault.CodecFault.TheVariants.{Short, SizeWord}
-use Rattle.ipc3_codec.specs.Commands.{number_of, command_numbered}
+use Rattle.ipc3_codec.specs.Commands.{command_number, command_numbered}
 use Rattle.ipc3_codec.specs.Places.{Place, is_bad, field_fault}
 use Rattle.ipc3_codec.specs.Messages.{is_sized, body_fault, places_of, message_of, message_fault, unless_fault, decoded_body, decoded, size_of, command_of, body_slots, message_slots, IsAllowed, IsMessage, Means}
 use Rattle.ipc3_codec.proofs.Places.{find-none, none-AllGood}
@@ -26,7 +26,7 @@ use Rattle.ipc3_codec.proofs.WordsToPlaces.{Answers, body_only}
 -- the words behind the header are m's
 pub record Carries (b : List ℕ) (m : Message) : Type 0 where
   pub room : size_of m ≤ word_at b 0
-  pub command : word_at b 4 ≡ number_of (command_of m)
+  pub command : word_at b 4 ≡ command_number (command_of m)
   pub same : slots_from (shapes_of (body_slots m)) b 0 8 ≡ body_slots m
   pub allowed : IsAllowed m
 
@@ -60,7 +60,7 @@ at_least header b sized = leb-true header (word_at b 0) (and_parts _ _ (and_part
 
 whole : (b : List ℕ) (m : Message) → Carries b m → slots_from (shapes_of (message_slots m)) b 0 0 ≡ message_slots m
 whole b m h =
-    ap (λ (n : ℕ). Size (size_of m) ∷ Word n ∷ slots_from (shapes_of (body_slots m)) b 0 8) h.command ∙ ap (λ (ss : List Slot). Size (size_of m) ∷ Word (number_of (command_of m)) ∷ ss) h.same
+    ap (λ (n : ℕ). Size (size_of m) ∷ Word n ∷ slots_from (shapes_of (body_slots m)) b 0 8) h.command ∙ ap (λ (ss : List Slot). Size (size_of m) ∷ Word (command_number (command_of m)) ∷ ss) h.same
 
 Means-from : (b : List ℕ) (m : Message) → IsBytes b → 8 ≤ length b → is_sized 8 b ≡ true → Carries b m → IsMessage m × Means b m
 Means-from b m bytes header sized carries =
@@ -79,7 +79,7 @@ Means-Carries : (b : List ℕ) (m : Message) → IsMessage m → Means b m → C
 Means-Carries b m is means =
     let n = size_of m in
     let r = slots_again (message_slots m) b (take n b) (drop n b) 0 0 is.0 (sym (take-append-drop n b)) means.fits in
-    let both = head_word b (size_of m) (number_of (command_of m)) (slots_from (shapes_of (body_slots m)) b 0 8) (body_slots m) r.slots in
+    let both = head_word b (size_of m) (command_number (command_of m)) (slots_from (shapes_of (body_slots m)) b 0 8) (body_slots m) r.slots in
     record { room = means.room; command = both.0; same = both.1; allowed = means.allowed }
 
 -- ---- from the places to the words, and back
@@ -103,7 +103,7 @@ body_carries b None m is head inside e = absurd cc
 body_carries b (Some c) m is head inside e =
     let parts = decoded_parts (field_fault (find (is_bad b) (places_of b c))) (message_of b c) m e in
     let found : Found b c (message_of b c) = body_found b c head inside (none-AllGood b (places_of b c) (no_fault (find (is_bad b) (places_of b c)) parts.0)) in
-    let command : word_at b 4 ≡ number_of (command_of (message_of b c)) = command_is (word_at b 4) c is ∙ ap number_of (sym found.is) in
+    let command : word_at b 4 ≡ command_number (command_of (message_of b c)) = command_is (word_at b 4) c is ∙ ap command_number (sym found.is) in
     subst (λ (x : Message). Carries b x) parts.1 (record { room = found.room; command = command; same = found.same; allowed = found.allowed })
 
 message_only : (b : List ℕ) (m : Message) → Carries b m → decoded_body b (command_numbered (word_at b 4)) ≡ Ok m

@@ -19,7 +19,7 @@ use Rattle.ipc3_codec.specs.Allowed.{is_direction, is_frame_format, is_channels,
 use Rattle.ipc3_codec.specs.Commands.{command_numbered}
 use Rattle.ipc3_codec.specs.ComponentTypes.{type_numbered}
 use Rattle.ipc3_codec.specs.Places.{Place, any_bytes, any_word, any_words, any_run, word_of, half_of}
-use Rattle.ipc3_codec.specs.StreamWords.{stream_places, format_of, params_at}
+use Rattle.ipc3_codec.specs.StreamWords.{stream_places, format_of_word, params_at}
 use Rattle.ipc3_codec.specs.ControlWords.{type_of, takes_command, takes_count, takes_remaining, payload_places, control_rest_places, control_places, values_in, part_in}
 use Rattle.ipc3_codec.specs.Messages.{is_sized, comp_places, places_of, config_places, kind_places, comp_words, typed_words, message_of, decoded_body, decoded}
 use Rattle.ipc3_codec.specs.Reading.{◌>>=◌, framed, word_in, run_in, read_as, known_type, comp_type_in, config_in, words_in, comp_in, format_in, stream_in, params_in, target_in, control_in, values_read, bytes_in, part_read, set_value_in, get_value_in, set_data_in, get_data_in, command_in, numbered_in, framed_message_in}
@@ -134,7 +134,7 @@ stream_is b =
     let y = stream_at b in
     then_run b 4 24 8 q9 y _
     (then_word b (word_of b 56 is_direction) q8 y _ (λ _.
-    then_read b (format_in b 60) (word_of b 60 is_frame_format ∷ []) q7 (format_of (word_at b 60)) y _ refl
+    then_read b (format_in b 60) (word_of b 60 is_frame_format ∷ []) q7 (format_of_word (word_at b 60)) y _ refl
     (then_word b (any_word 64) q6 y _ (λ _.
     then_word b (any_word 68) q5 y _ (λ _.
     then_run b 2 72 1 q4 y _

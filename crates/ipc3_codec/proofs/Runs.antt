@@ -7,7 +7,7 @@ use Rattle.sof_base.specs.Slots.{word_at}
 use Rattle.ipc3_codec.specs.declared.fault.CodecFault.{CodecFault}
 use Rattle.ipc3_codec.specs.declared.fault.CodecFault.TheVariants.{Field}
 use Rattle.ipc3_codec.specs.Places.{any_bytes, any_word, word_of}
-use Rattle.ipc3_codec.specs.ControlWords.{value_places, values_at}
+use Rattle.ipc3_codec.specs.ControlWords.{value_places, pair_values_at}
 use Rattle.ipc3_codec.specs.Reading.{◌>>=◌, number_in, word_in, read_as, run_in, pair_in}
 
 -- a place that lies within the size word, of any value
@@ -70,14 +70,14 @@ pairs_fails b i n f x lt is =
     rw (k, pairs_step b i (n - (i + 1)) x, is) refl
 
 -- the values of one more pair
-values_at-more : (n : ℕ) (b : List ℕ) (at : ℕ) → values_at (n + 1) b at ≡ values_at n b at ++ word_at b (at + 4 + 8 * n) ∷ []
+values_at-more : (n : ℕ) (b : List ℕ) (at : ℕ) → pair_values_at (n + 1) b at ≡ pair_values_at n b at ++ word_at b (at + 4 + 8 * n) ∷ []
 values_at-more zero b at = let e : at + 4 + 8 * 0 ≡ at + 4 = omega arith in rw e refl
 values_at-more (suc n) b at =
     let k : suc n + 1 ≡ suc (n + 1) = omega arith in
     let e : at + 8 + 4 + 8 * n ≡ at + 4 + 8 * suc n = omega arith in
     rw (k, ← e) (ap (λ (t : List ℕ). word_at b (at + 4) ∷ t) (values_at-more n b (at + 8)))
 
-pub values_step : (b values : List ℕ) (i v : ℕ) → i < length values → values_at i b 92 ≡ take i values → v ≡ word_at b (96 + 8 * i) → values_at (i + 1) b 92 ≡ take (i + 1) (set values i v)
+pub values_step : (b values : List ℕ) (i v : ℕ) → i < length values → pair_values_at i b 92 ≡ take i values → v ≡ word_at b (96 + 8 * i) → pair_values_at (i + 1) b 92 ≡ take (i + 1) (set values i v)
 values_step b values i v lt so_far is =
     let e : 92 + 4 + 8 * i ≡ 96 + 8 * i = omega arith in
     values_at-more i b 92 ∙ rw (e, so_far, ← is) (sym (take_more_set values i v lt))

@@ -15,7 +15,7 @@ use Rattle.ipc3_codec.specs.declared.reply.Reply.{Reply}
 use Rattle.ipc3_codec.specs.declared.reply.Body.{Body}
 use Rattle.ipc3_codec.specs.declared.reply.Body.TheVariants as bodies
 use Rattle.ipc3_codec.specs.declared.fault.CodecFault.{CodecFault}
-use Rattle.ipc3_codec.specs.Commands.{number_of}
+use Rattle.ipc3_codec.specs.Commands.{command_number}
 use Rattle.ipc3_codec.specs.Messages.{message_slots, message_spelling, size_of, command_of, body_slots, is_sized, IsAllowed, IsMessage, Means, decoded}
 use Rattle.ipc3_codec.specs.Replies.{IsBody, IsReply, MeansReply, TakesCommand, reply_size, reply_slots, reply_spelling, decoded_reply}
 use Rattle.ipc3_codec.proofs.Carrying.{widths-message, decoded_only}
@@ -73,7 +73,7 @@ Means-spelling m rest is =
     let long : n ≤ length b = omega (arith, len, length-append spelling rest) in
     let least = size-least m in
     let most = size-most m is in
-    let size : word_at b 0 ≡ n = first_word n (Word (number_of (command_of m)) ∷ body_slots m) rest (omega (arith, most)) in
+    let size : word_at b 0 ≡ n = first_word n (Word (command_number (command_of m)) ∷ body_slots m) rest (omega (arith, most)) in
     let front : take n b ≡ spelling = take_at spelling rest n len in
     record {
       header = omega (arith, long, least);

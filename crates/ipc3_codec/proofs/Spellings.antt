@@ -13,9 +13,9 @@ use Rattle.ipc3_codec.specs.declared.command.CommandWord.TheVariants as commands
 use Rattle.ipc3_codec.specs.declared.component_type.CompType.{CompType}
 use Rattle.ipc3_codec.specs.Allowed.{is_frame_format}
 use Rattle.ipc3_codec.specs.ComponentTypes.{type_number, all_types, type_numbered}
-use Rattle.ipc3_codec.specs.Commands.{number_of, all_commands, command_numbered}
-use Rattle.ipc3_codec.specs.StreamWords.{format_of}
-use Rattle.ipc3_codec.specs.ControlWords.{value_slots, value_places, values_at}
+use Rattle.ipc3_codec.specs.Commands.{command_number, all_commands, command_numbered}
+use Rattle.ipc3_codec.specs.StreamWords.{format_of_word}
+use Rattle.ipc3_codec.specs.ControlWords.{value_slots, value_places, pair_values_at}
 use Rattle.ipc3_codec.proofs.Places.{AllGood}
 
 -- ---- command words
@@ -34,11 +34,11 @@ found p (y ∷ ys) x e =
     ]
 
 -- the word of the command of a word
-pub command_is : (n : ℕ) (c : CommandWord) → command_numbered n ≡ Some c → n ≡ number_of c
-command_is n c e = eqb-true n (number_of c) (found (λ (c : CommandWord). n == number_of c) all_commands c e)
+pub command_is : (n : ℕ) (c : CommandWord) → command_numbered n ≡ Some c → n ≡ command_number c
+command_is n c e = eqb-true n (command_number c) (found (λ (c : CommandWord). n == command_number c) all_commands c e)
 
 -- the command of the word of a command
-pub command_again : (c : CommandWord) → command_numbered (number_of c) ≡ Some c
+pub command_again : (c : CommandWord) → command_numbered (command_number c) ≡ Some c
 command_again commands.CompNew = refl
 command_again commands.CompFree = refl
 command_again commands.Connect = refl
@@ -81,20 +81,20 @@ fields_from (s ∷ ss) (suc i) = fields_from ss i
 pub type_is : (n : ℕ) (t : CompType) → type_numbered n ≡ Some t → n ≡ type_number t
 type_is n t e = eqb-true n (type_number t) (found (λ (t : CompType). n == type_number t) all_types t e)
 
-pub number_again : (n : ℕ) → is_frame_format n ≡ true → frame_format (format_of n) ≡ n
+pub number_again : (n : ℕ) → is_frame_format n ≡ true → frame_format (format_of_word n) ≡ n
 number_again n is =
     elim (cases_Bool (eqb n 0)) [
-      | inl e ↦ subst (λ (m : ℕ). frame_format (format_of m) ≡ m) (sym (eqb-true n 0 e)) refl
+      | inl e ↦ subst (λ (m : ℕ). frame_format (format_of_word m) ≡ m) (sym (eqb-true n 0 e)) refl
       | inr e0 ↦ elim (cases_Bool (eqb n 1)) [
-        | inl e ↦ subst (λ (m : ℕ). frame_format (format_of m) ≡ m) (sym (eqb-true n 1 e)) refl
+        | inl e ↦ subst (λ (m : ℕ). frame_format (format_of_word m) ≡ m) (sym (eqb-true n 1 e)) refl
         | inr e1 ↦
             let most : n ≤ 2 = leb-true n 2 is in
             let two : n ≡ 2 = grind (arith, e0, e1, most) in
-            subst (λ (m : ℕ). frame_format (format_of m) ≡ m) (sym two) refl
+            subst (λ (m : ℕ). frame_format (format_of_word m) ≡ m) (sym two) refl
       ]
     ]
 
-pub format_again : (f : Format) → format_of (frame_format f) ≡ f
+pub format_again : (f : Format) → format_of_word (frame_format f) ≡ f
 format_again S16 = refl
 format_again S24 = refl
 format_again S32 = refl
@@ -106,7 +106,7 @@ format_known S32 = refl
 
 -- ---- pairs
 
-pub length-values_at : (n : ℕ) (b : List ℕ) (at : ℕ) → length (values_at n b at) ≡ n
+pub length-values_at : (n : ℕ) (b : List ℕ) (at : ℕ) → length (pair_values_at n b at) ≡ n
 length-values_at zero b at = refl
 length-values_at (suc n) b at = ap suc (length-values_at n b (at + 8))
 
@@ -125,7 +125,7 @@ values_room (suc n) b channel at room good =
     omega (arith, values_room n b (channel + 1) (at + 8) next good.1.1)
 
 -- pairs whose places are good are those that are spelled
-pub values_found : (n : ℕ) (b : List ℕ) (channel at : ℕ) → AllGood b (value_places b channel at n) → slots_from (shapes_of (value_slots channel (values_at n b at))) b 0 at ≡ value_slots channel (values_at n b at)
+pub values_found : (n : ℕ) (b : List ℕ) (channel at : ℕ) → AllGood b (value_places b channel at n) → slots_from (shapes_of (value_slots channel (pair_values_at n b at))) b 0 at ≡ value_slots channel (pair_values_at n b at)
 values_found zero b channel at good = refl
 values_found (suc n) b channel at good =
     let first : 0 + at ≡ at = omega arith in
@@ -139,7 +139,7 @@ eqb-same n m e = grind (arith, e)
 
 pub record ValuesAre (b : List ℕ) (channel : ℕ) (vs : List ℕ) (at : ℕ) : Type 0 where
   pub good : AllGood b (value_places b channel at (length vs))
-  pub is : values_at (length vs) b at ≡ vs
+  pub is : pair_values_at (length vs) b at ≡ vs
 
 pub values_only : (vs : List ℕ) (b : List ℕ) (channel at : ℕ) → slots_from (shapes_of (value_slots channel vs)) b 0 at ≡ value_slots channel vs → at + 8 * length vs ≤ word_at b 0 → ValuesAre b channel vs at
 values_only [] b channel at e room = record { good = tt; is = refl }

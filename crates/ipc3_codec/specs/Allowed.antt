@@ -18,8 +18,8 @@ abbrev pub is_buffer_size : ℕ → Bool
 is_buffer_size n = nat_le 16 n && nat_le n 16777184
 
 -- in µs
-abbrev pub is_period : ℕ → Bool
-is_period n = nat_le 1000 n && nat_le n 10000 && n % 1000 == 0
+abbrev pub is_period_allowed : ℕ → Bool
+is_period_allowed n = nat_le 1000 n && nat_le n 10000 && n % 1000 == 0
 
 -- how many channels there are, of a volume or of a stream
 abbrev pub is_channels : ℕ → Bool

@@ -5,26 +5,26 @@ use Rattle.ipc3_codec.specs.declared.command.CommandWord.TheVariants.{CompNew, C
 use Rattle.ipc3_codec.specs.declared.command.TheConstants.{COMP_NEW, COMP_FREE, CONNECT, PIPE_NEW, PIPE_FREE, PIPE_COMPLETE, BUFFER_NEW, BUFFER_FREE, CTX_SAVE, SET_VALUE, GET_VALUE, SET_DATA, GET_DATA, PCM_PARAMS, PCM_FREE, TRIG_START, TRIG_STOP, TRIG_PAUSE, TRIG_RELEASE}
 
 -- the word of a command
-abbrev pub number_of : CommandWord → ℕ
-number_of CompNew = COMP_NEW
-number_of CompFree = COMP_FREE
-number_of Connect = CONNECT
-number_of PipeNew = PIPE_NEW
-number_of PipeFree = PIPE_FREE
-number_of PipeComplete = PIPE_COMPLETE
-number_of BufferNew = BUFFER_NEW
-number_of BufferFree = BUFFER_FREE
-number_of CtxSave = CTX_SAVE
-number_of SetValue = SET_VALUE
-number_of GetValue = GET_VALUE
-number_of SetData = SET_DATA
-number_of GetData = GET_DATA
-number_of PcmParams = PCM_PARAMS
-number_of PcmFree = PCM_FREE
-number_of TrigStart = TRIG_START
-number_of TrigStop = TRIG_STOP
-number_of TrigPause = TRIG_PAUSE
-number_of TrigRelease = TRIG_RELEASE
+abbrev pub command_number : CommandWord → ℕ
+command_number CompNew = COMP_NEW
+command_number CompFree = COMP_FREE
+command_number Connect = CONNECT
+command_number PipeNew = PIPE_NEW
+command_number PipeFree = PIPE_FREE
+command_number PipeComplete = PIPE_COMPLETE
+command_number BufferNew = BUFFER_NEW
+command_number BufferFree = BUFFER_FREE
+command_number CtxSave = CTX_SAVE
+command_number SetValue = SET_VALUE
+command_number GetValue = GET_VALUE
+command_number SetData = SET_DATA
+command_number GetData = GET_DATA
+command_number PcmParams = PCM_PARAMS
+command_number PcmFree = PCM_FREE
+command_number TrigStart = TRIG_START
+command_number TrigStop = TRIG_STOP
+command_number TrigPause = TRIG_PAUSE
+command_number TrigRelease = TRIG_RELEASE
 
 -- all commands
 abbrev pub all_commands : List CommandWord
@@ -34,4 +34,4 @@ all_commands =
 
 -- the command whose word this is
 abbrev pub command_numbered : ℕ → Option CommandWord
-command_numbered n = find (λ c. n == number_of c) all_commands
+command_numbered n = find (λ c. n == command_number c) all_commands

@@ -79,13 +79,13 @@ control_places b kind =
 -- ---- what the words are
 
 -- so many values of pairs from a place on
-abbrev pub values_at : ℕ → List ℕ → ℕ → List ℕ
-values_at zero b at = []
-values_at (suc n) b at = word_at b (at + 4) ∷ values_at n b (at + 8)
+abbrev pub pair_values_at : ℕ → List ℕ → ℕ → List ℕ
+pair_values_at zero b at = []
+pair_values_at (suc n) b at = word_at b (at + 4) ∷ pair_values_at n b (at + 8)
 
 -- the values, and the part, that stand there
 abbrev pub values_in : List ℕ → List ℕ
-values_in b = values_at (word_at b 56) b 92
+values_in b = pair_values_at (word_at b 56) b 92
 
 abbrev pub part_in : List ℕ → Part
 part_in b = record { header = part b 92 32; remaining = word_at b 60; index = word_at b 64; bytes = part b 124 (word_at b 56) }

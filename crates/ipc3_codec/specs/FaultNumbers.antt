@@ -4,8 +4,8 @@ use Rattle.ipc3_codec.specs.declared.fault.CodecFault.{CodecFault}
 use Rattle.ipc3_codec.specs.declared.fault.CodecFault.TheVariants.{Short, SizeWord, Command, Field}
 
 -- a fault's number
-abbrev pub fault_number : CodecFault → ℕ
-fault_number Short = 1
-fault_number SizeWord = 2
-fault_number (Command word) = 3
-fault_number (Field at) = 4
+abbrev pub codec_fault_number : CodecFault → ℕ
+codec_fault_number Short = 1
+codec_fault_number SizeWord = 2
+codec_fault_number (Command word) = 3
+codec_fault_number (Field at) = 4

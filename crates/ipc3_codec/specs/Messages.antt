@@ -15,9 +15,9 @@ use Rattle.ipc3_codec.specs.declared.message.CompWords.{CompWords}
 use Rattle.ipc3_codec.specs.declared.message.CompWords.TheVariants.{Host, Dai, Volume, Mixer, Mux, Eq}
 use Rattle.ipc3_codec.specs.declared.fault.CodecFault.{CodecFault}
 use Rattle.ipc3_codec.specs.declared.fault.CodecFault.TheVariants.{Short, SizeWord, Command}
-use Rattle.ipc3_codec.specs.Commands.{number_of, command_numbered}
+use Rattle.ipc3_codec.specs.Commands.{command_number, command_numbered}
 use Rattle.ipc3_codec.specs.ComponentTypes.{type_number, type_numbered}
-pub use Rattle.ipc3_codec.specs.Allowed.{is_direction, is_frame_format, is_buffer_size, is_period, is_channels, is_comp_type, is_buffer_type, is_format_of}
+pub use Rattle.ipc3_codec.specs.Allowed.{is_direction, is_frame_format, is_buffer_size, is_period_allowed, is_channels, is_comp_type, is_buffer_type, is_format_of}
 use Rattle.ipc3_codec.specs.Places.{Place, any_word, any_words, word_of, is_bad, field_fault}
 use Rattle.ipc3_codec.specs.StreamWords.{stream_slots, stream_places, params_at}
 use Rattle.ipc3_codec.specs.ControlWords.{takes_command, takes_count, takes_remaining, control_slots, value_slots, part_slots, control_places, values_in, part_in}
@@ -132,7 +132,7 @@ body_slots (TrigRelease id) = Word id ∷ []
 
 -- all words of a message
 abbrev pub message_slots : Message → List Slot
-message_slots m = Size (size_of m) ∷ Word (number_of (command_of m)) ∷ body_slots m
+message_slots m = Size (size_of m) ∷ Word (command_number (command_of m)) ∷ body_slots m
 
 -- the bytes that are sent
 abbrev pub message_spelling : Message → List ℕ
@@ -154,7 +154,7 @@ abbrev pub IsAllowed : Message → Type 0
 IsAllowed (CompNew id pipe periods_sink periods_source frame_fmt kind) = IsKind kind frame_fmt
 IsAllowed (CompFree id) = Unit {0}
 IsAllowed (Connect source sink) = Unit {0}
-IsAllowed (PipeNew id pipe sched period priority mips frames time_domain) = is_period period ≡ true
+IsAllowed (PipeNew id pipe sched period priority mips frames time_domain) = is_period_allowed period ≡ true
 IsAllowed (PipeFree id) = Unit {0}
 IsAllowed (PipeComplete id) = Unit {0}
 IsAllowed (BufferNew id pipe size caps) = is_buffer_size size ≡ true
@@ -212,7 +212,7 @@ comp_places b (Some type) = any_word 8 ∷ word_of b 12 is_comp_type ∷ (any_wo
 abbrev pub places_of : List ℕ → CommandWord → List Place
 places_of b commands.CompNew = comp_places b (type_numbered (word_at b 12))
 places_of b commands.Connect = any_words 8 2
-places_of b commands.PipeNew = any_words 8 4 ++ word_of b 24 is_period ∷ any_words 28 5
+places_of b commands.PipeNew = any_words 8 4 ++ word_of b 24 is_period_allowed ∷ any_words 28 5
 places_of b commands.BufferNew = any_word 8 ∷ word_of b 12 is_buffer_type ∷ (any_words 16 3 ++ word_of b 28 is_buffer_size ∷ any_words 32 3)
 places_of b commands.CtxSave = []
 places_of b commands.SetValue = control_places b kinds.SetValue

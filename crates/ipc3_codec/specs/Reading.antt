@@ -26,7 +26,7 @@ use Rattle.ipc3_codec.specs.Allowed.{is_direction, is_frame_format, is_channels,
 use Rattle.ipc3_codec.specs.Commands.{command_numbered}
 use Rattle.ipc3_codec.specs.ComponentTypes.{type_numbered}
 use Rattle.ipc3_codec.specs.Places.{Place, any_bytes, any_word, any_words, any_run, word_of, half_of, is_bad}
-use Rattle.ipc3_codec.specs.StreamWords.{format_of}
+use Rattle.ipc3_codec.specs.StreamWords.{format_of_word}
 use Rattle.ipc3_codec.specs.ControlWords.{type_of, takes_command, takes_count, takes_remaining, value_places, values_in}
 use Rattle.ipc3_codec.specs.Messages.{is_sized, kind_places, comp_words, places_of, message_of}
 use Rattle.ipc3_codec.specs.Replies.{is_body_type}
@@ -102,7 +102,7 @@ comp_in b = do
 
 -- a frame format
 unfoldable pub format_in : List ℕ → ℕ → Result Format CodecFault
-format_in b at = read_as b (word_of b at is_frame_format ∷ []) (format_of (word_at b at))
+format_in b at = read_as b (word_of b at is_frame_format ∷ []) (format_of_word (word_at b at))
 
 -- stream_params
 unfoldable pub stream_in : List ℕ → Result Stream CodecFault

@@ -48,9 +48,9 @@ stream_places b =
     ++ any_halves 72 1 ++ half_of b 74 is_channels ∷ any_halves 76 2 ++ any_words 80 3 ++ any_halves 92 8
 
 -- the format of a number from 0 to 2
-abbrev pub format_of : ℕ → Format
-format_of n = if n == 0 then S16 else if n == 1 then S24 else S32
+abbrev pub format_of_word : ℕ → Format
+format_of_word n = if n == 0 then S16 else if n == 1 then S24 else S32
 
 -- the parameters that stand there
 abbrev pub params_at : List ℕ → Params
-params_at b = record { rate = word_at b 68; channels = half_at b 74; format = format_of (word_at b 60) }
+params_at b = record { rate = word_at b 68; channels = half_at b 74; format = format_of_word (word_at b 60) }

@@ -1,7 +1,7 @@
 // Words that have some values alone.
 ghost use Rattle.std.specs.Prelude.{◌≡◌, ◌==◌, true, IfOk};
 ghost use Rattle.sof_base.specs.Slots.{word_at, half_at};
-ghost use Rattle.ipc3_codec.specs.Allowed.{is_buffer_type, is_format_of, is_direction, is_buffer_size, is_period, is_channels};
+ghost use Rattle.ipc3_codec.specs.Allowed.{is_buffer_type, is_format_of, is_direction, is_buffer_size, is_period_allowed, is_channels};
 ghost use Rattle.ipc3_codec.specs.ControlWords.{type_of, takes_command, takes_count, takes_remaining};
 ghost use Rattle.ipc3_codec.specs.Places.{word_of, half_of};
 ghost use Rattle.ipc3_codec.specs.Replies.{is_body_type};
@@ -123,7 +123,7 @@ impl<'a> Frame<'a> {
     /// A pipeline's period in µs.
     #[tactic(auto, unfolding(crate::specs::Reading::word_in))]
     pub fn period(&self, at: usize) -> Result<u32, CodecFault>
-        ensures read { result ≡ word_in self.now (word_of self.now at is_period) }
+        ensures read { result ≡ word_in self.now (word_of self.now at is_period_allowed) }
         ensures value { IfOk result (λ n. n ≡ word_at self.now at) }
     {
         let period = self.word(at)?;

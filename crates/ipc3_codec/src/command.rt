@@ -1,6 +1,6 @@
 // The command words, in the order of the profile's table: the global type in bits 28 to 31, the command in bits 16 to 27.
 ghost use Rattle.std.specs.Prelude.{◌≡◌};
-ghost use Rattle.ipc3_codec.specs.Commands.{number_of, command_numbered};
+ghost use Rattle.ipc3_codec.specs.Commands.{command_number, command_numbered};
 
 pub const COMP_NEW: u32 = 0x3001_0000;
 
@@ -70,7 +70,7 @@ pub enum CommandWord {
 impl CommandWord {
     /// The word of a command.
     pub fn number(self) -> u32
-        ensures { result ≡ number_of self }
+        ensures { result ≡ command_number self }
     {
         match self {
             CommandWord::CompNew => COMP_NEW,

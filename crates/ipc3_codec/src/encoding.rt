@@ -3,7 +3,7 @@ ghost use Rattle.std.specs.Prelude.{◌≡◌, ◌≤◌, ◌+◌, ◌++◌, [],
 ghost use Rattle.std.specs.Int.{w32, cast_unsigned};
 ghost use Rattle.sof_base.specs.Cells.{written};
 ghost use Rattle.sof_base.specs.Slots.{Word, Size, slots_cells};
-ghost use Rattle.ipc3_codec.specs.Commands.{number_of};
+ghost use Rattle.ipc3_codec.specs.Commands.{command_number};
 ghost use Rattle.ipc3_codec.specs.Messages.{comp_size, comp_type, kind_slots, message_spelling, size_of};
 ghost use Rattle.ipc3_codec.specs.Replies.{reply_size, reply_spelling};
 ghost use Rattle.ipc3_codec.specs.declared.message.Message.TheVariants as messages;
@@ -88,7 +88,7 @@ fn put_comp(out: &mut [u8; 384], id: u32, pipe: u32, config: Config, kind: CompW
 #[tactic(auto, unfolding(sof_base::specs::Slots::words_bytes, sof_base::specs::Slots::slots_cells, sof_base::specs::Slots::slot_cells))]
 fn put_id(out: &mut [u8; 384], command: CommandWord, id: u32) -> usize
     ensures end { result ≡ 12 }
-    ensures bytes { take result out.new ≡ written (slots_cells (Size 12 ∷ Word (number_of command) ∷ Word id ∷ [])) }
+    ensures bytes { take result out.new ≡ written (slots_cells (Size 12 ∷ Word (command_number command) ∷ Word id ∷ [])) }
 {
     put(out, 0, &[12, command.number(), id])
 }

@@ -1,6 +1,6 @@
 // Why bytes are no message.
 ghost use Rattle.std.specs.Prelude.{◌≡◌};
-ghost use Rattle.ipc3_codec.specs.FaultNumbers.{fault_number};
+ghost use Rattle.ipc3_codec.specs.FaultNumbers.{codec_fault_number};
 
 use thiserror::Error;
 
@@ -24,7 +24,7 @@ pub enum CodecFault {
 impl CodecFault {
     /// Its number, from 1 to 4.
     pub fn number(&self) -> u8
-        ensures { result ≡ fault_number self.now }
+        ensures { result ≡ codec_fault_number self.now }
     {
         match self {
             CodecFault::Short => 1,

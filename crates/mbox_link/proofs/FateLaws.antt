@@ -5,14 +5,14 @@ use Rattle.std.proofs.lemmas.Bool.{ne_eqb, cases_Bool, and_left, and_right, lt-l
 use Rattle.std.proofs.lemmas.List.{drop_more, drop_all}
 use Rattle.std.proofs.lemmas.List.Sums.{sum_by-cons, sum_by_push}
 use Rattle.mbox_link.specs.declared.fates.Entry.{Entry}
-use Rattle.mbox_link.specs.Meetings.{planned, without, is_planned, has_room, has_lag_room, lags}
-use Rattle.mbox_link.specs.Fates.{IsMeant, AllMeant, AreApart, AreHeld}
+use Rattle.mbox_link.specs.Meetings.{planned, without_entry, is_planned, has_room, has_lag_room, lags}
+use Rattle.mbox_link.specs.Fates.{IsMeant, AllMeant, AreEntriesApart, AreHeld}
 
 -- ---- the entries of other messages
 
 -- the entries kept so far, and those that are still to be looked at
 pub record Kept (number : ℕ) (left rest all : List Entry) : Type 0 where
-  pub whole : left ++ without number rest ≡ without number all
+  pub whole : left ++ without_entry number rest ≡ without_entry number all
   pub few : length left + length rest ≤ length all
 
 pub Kept-none : (number : ℕ) (all : List Entry) → Kept number [] all all
@@ -28,11 +28,11 @@ Kept-pass number left rest all entry same kept =
 pub Kept-push : (number : ℕ) (left rest all : List Entry) (entry : Entry) → eqb entry.number number ≡ false → Kept number left (entry ∷ rest) all → Kept number (left ++ entry ∷ []) rest all
 Kept-push number left rest all entry other kept =
     record {
-      whole = append_assoc left (entry ∷ []) (without number rest) ∙ (rw (← kept.whole, other) refl);
+      whole = append_assoc left (entry ∷ []) (without_entry number rest) ∙ (rw (← kept.whole, other) refl);
       few = omega (arith, kept.few, length-append left (entry ∷ []));
     }
 
-pub Kept-all : (number : ℕ) (left all : List Entry) → Kept number left [] all → left ≡ without number all
+pub Kept-all : (number : ℕ) (left all : List Entry) → Kept number left [] all → left ≡ without_entry number all
 Kept-all number left all kept = sym (append-nil left) ∙ kept.whole
 
 -- the same, where the rest is what a loop has left
@@ -44,27 +44,27 @@ pub Kept-push-at : (number : ℕ) (left all : List Entry) (i : ℕ) (d : Entry) 
 Kept-push-at number left all i d lt other kept =
     Kept-push number left (drop (i + 1) all) all (get_or all i d) (ne_eqb _ _ other) (rw (drop_more all i d lt) at kept)
 
-pub Kept-end : (number : ℕ) (left all : List Entry) (i : ℕ) → length all ≤ i → Kept number left (drop i all) all → left ≡ without number all
+pub Kept-end : (number : ℕ) (left all : List Entry) (i : ℕ) → length all ≤ i → Kept number left (drop i all) all → left ≡ without_entry number all
 Kept-end number left all i past kept = Kept-all number left all (rw (drop_all i all past) at kept)
 
 -- ---- room for one more
 
 -- fewer are left where one was held, and all where none was
-pub without-shorter : (number : ℕ) (entries : List Entry) → length (without number entries) ≤ length entries
+pub without-shorter : (number : ℕ) (entries : List Entry) → length (without_entry number entries) ≤ length entries
 without-shorter number [] = omega arith
 without-shorter number (entry ∷ entries) = elim (cases_Bool (eqb entry.number number)) [
   | inl same ↦ rw same (omega (arith, without-shorter number entries))
   | inr other ↦ rw other (omega (arith, without-shorter number entries))
 ]
 
-pub without-planned : (number : ℕ) (entries : List Entry) → is_planned number entries ≡ true → length (without number entries) < length entries
+pub without-planned : (number : ℕ) (entries : List Entry) → is_planned number entries ≡ true → length (without_entry number entries) < length entries
 without-planned number [] held = absurd (cc held)
 without-planned number (entry ∷ entries) held = elim (cases_Bool (eqb entry.number number)) [
   | inl same ↦ rw same (omega (arith, without-shorter number entries))
   | inr other ↦ rw other (omega (arith, without-planned number entries (rw other at held)))
 ]
 
-pub without-unplanned : (number : ℕ) (entries : List Entry) → is_planned number entries ≡ false → without number entries ≡ entries
+pub without-unplanned : (number : ℕ) (entries : List Entry) → is_planned number entries ≡ false → without_entry number entries ≡ entries
 without-unplanned number [] none = refl
 without-unplanned number (entry ∷ entries) none = elim (cases_Bool (eqb entry.number number)) [
   | inl same ↦ absurd (cc (rw same at none))
@@ -72,18 +72,18 @@ without-unplanned number (entry ∷ entries) none = elim (cases_Bool (eqb entry.
 ]
 
 -- there is room exactly where fewer than 64 of other messages are held
-pub room-is : (number : ℕ) (entries : List Entry) → length entries ≤ 64 → has_room number entries ≡ ltb (length (without number entries)) 64
+pub room-is : (number : ℕ) (entries : List Entry) → length entries ≤ 64 → has_room number entries ≡ ltb (length (without_entry number entries)) 64
 room-is number entries few = elim (cases_Bool (is_planned number entries)) [
-  | inl held ↦ rw held (sym (lt-ltb (length (without number entries)) 64 (omega (arith, few, without-planned number entries held))))
+  | inl held ↦ rw held (sym (lt-ltb (length (without_entry number entries)) 64 (omega (arith, few, without-planned number entries held))))
   | inr none ↦ rw (none, without-unplanned number entries none) refl
 ]
 
 -- the same of what a call has left
-pub full-at : (number : ℕ) (entries held left : List Entry) → held ≡ entries → length held ≤ 64 → left ≡ without number held → true ≡ eqb (length left) 64 → false ≡ has_room number entries
+pub full-at : (number : ℕ) (entries held left : List Entry) → held ≡ entries → length held ≤ 64 → left ≡ without_entry number held → true ≡ eqb (length left) 64 → false ≡ has_room number entries
 full-at number entries held left same few is full =
     rw (← same, room-is number held few, ← is) (sym (le-ltb (length left) 64 (omega (arith, eqb-true (length left) 64 (sym full)))))
 
-pub room-at : (number : ℕ) (entries held left : List Entry) → held ≡ entries → length held ≤ 64 → left ≡ without number held → length left ≤ 64 → false ≡ eqb (length left) 64 → true ≡ has_room number entries
+pub room-at : (number : ℕ) (entries held left : List Entry) → held ≡ entries → length held ≤ 64 → left ≡ without_entry number held → length left ≤ 64 → false ≡ eqb (length left) 64 → true ≡ has_room number entries
 room-at number entries held left same few is fits less =
     rw (← same, room-is number held few, ← is) (sym (lt-ltb (length left) 64 (omega (arith, fits, eqb-false (length left) 64 (sym less)))))
 
@@ -93,7 +93,7 @@ pub AllMeant-push : (entries : List Entry) (entry : Entry) → AllMeant entries 
 AllMeant-push [] entry all meant = (meant, tt)
 AllMeant-push (first ∷ entries) entry all meant = (all.0, AllMeant-push entries entry all.1 meant)
 
-pub AllMeant-without : (number : ℕ) (entries : List Entry) → AllMeant entries → AllMeant (without number entries)
+pub AllMeant-without : (number : ℕ) (entries : List Entry) → AllMeant entries → AllMeant (without_entry number entries)
 AllMeant-without number [] all = tt
 AllMeant-without number (entry ∷ entries) all = elim (cases_Bool (eqb entry.number number)) [
   | inl same ↦ rw same (AllMeant-without number entries all.1)
@@ -110,7 +110,7 @@ planned-meant number (entry ∷ entries) all = elim (cases_Bool (eqb entry.numbe
 -- ---- one entry for each message
 
 -- a message without an entry has none among fewer, nor where another message gets one
-pub unplanned-without : (n number : ℕ) (entries : List Entry) → is_planned n entries ≡ false → is_planned n (without number entries) ≡ false
+pub unplanned-without : (n number : ℕ) (entries : List Entry) → is_planned n entries ≡ false → is_planned n (without_entry number entries) ≡ false
 unplanned-without n number [] none = refl
 unplanned-without n number (entry ∷ entries) none = elim (cases_Bool (eqb entry.number n)) [
   | inl held ↦ absurd (cc (rw held at none))
@@ -128,14 +128,14 @@ unplanned-push n (first ∷ entries) entry other none = elim (cases_Bool (eqb fi
 ]
 
 -- and a message has none among those of others
-pub none-without : (number : ℕ) (entries : List Entry) → is_planned number (without number entries) ≡ false
+pub none-without : (number : ℕ) (entries : List Entry) → is_planned number (without_entry number entries) ≡ false
 none-without number [] = refl
 none-without number (entry ∷ entries) = elim (cases_Bool (eqb entry.number number)) [
   | inl same ↦ rw same (none-without number entries)
   | inr other ↦ rw (other, other) (none-without number entries)
 ]
 
-pub AreApart-without : (number : ℕ) (entries : List Entry) → AreApart entries → AreApart (without number entries)
+pub AreApart-without : (number : ℕ) (entries : List Entry) → AreEntriesApart entries → AreEntriesApart (without_entry number entries)
 AreApart-without number [] apart = tt
 AreApart-without number (entry ∷ entries) apart = elim (cases_Bool (eqb entry.number number)) [
   | inl same ↦ rw same (AreApart-without number entries apart.1)
@@ -143,7 +143,7 @@ AreApart-without number (entry ∷ entries) apart = elim (cases_Bool (eqb entry.
 ]
 
 -- one more, of a message that had none
-pub AreApart-push : (entries : List Entry) (entry : Entry) → AreApart entries → is_planned entry.number entries ≡ false → AreApart (entries ++ entry ∷ [])
+pub AreApart-push : (entries : List Entry) (entry : Entry) → AreEntriesApart entries → is_planned entry.number entries ≡ false → AreEntriesApart (entries ++ entry ∷ [])
 AreApart-push [] entry apart none = (refl, tt)
 AreApart-push (first ∷ entries) entry apart none = elim (cases_Bool (eqb first.number entry.number)) [
   | inl held ↦ absurd (cc (rw held at none))
@@ -167,12 +167,12 @@ first-less left whole rest lag less is = omega (arith, less, is)
 both-less : (left whole rest rest' lag : ℕ) → left ≡ lag + rest' → rest' ≤ rest → whole ≡ lag + rest → left ≤ whole
 both-less left whole rest rest' lag left_is less is = omega (arith, left_is, less, is)
 
-pub lags-without : (number : ℕ) (entries : List Entry) → lags (without number entries) ≤ lags entries
+pub lags-without : (number : ℕ) (entries : List Entry) → lags (without_entry number entries) ≤ lags entries
 lags-without number [] = omega arith
 lags-without number (entry ∷ entries) = elim (cases_Bool (eqb entry.number number)) [
-  | inl same ↦ rw same (first-less (lags (without number entries)) (lags (entry ∷ entries)) (lags entries) entry.lag (lags-without number entries) (lags-cons entry entries))
-  | inr other ↦ rw other (both-less (lags (entry ∷ without number entries)) (lags (entry ∷ entries)) (lags entries) (lags (without number entries)) entry.lag
-      (lags-cons entry (without number entries)) (lags-without number entries) (lags-cons entry entries))
+  | inl same ↦ rw same (first-less (lags (without_entry number entries)) (lags (entry ∷ entries)) (lags entries) entry.lag (lags-without number entries) (lags-cons entry entries))
+  | inr other ↦ rw other (both-less (lags (entry ∷ without_entry number entries)) (lags (entry ∷ entries)) (lags entries) (lags (without_entry number entries)) entry.lag
+      (lags-cons entry (without_entry number entries)) (lags-without number entries) (lags-cons entry entries))
 ]
 
 sum-first : (left whole rest lag : ℕ) → left ≡ rest → whole ≡ lag + rest → left + lag ≡ whole
@@ -182,18 +182,18 @@ sum-both : (left whole rest rest' lag own : ℕ) → left ≡ lag + rest' → re
 sum-both left whole rest rest' lag own left_is same is = omega (arith, left_is, same, is)
 
 -- a message's lag and those of others are all, where it has one entry
-pub lags-planned : (number : ℕ) (entries : List Entry) → AreApart entries → lags (without number entries) + (planned entries number).lag ≡ lags entries
+pub lags-planned : (number : ℕ) (entries : List Entry) → AreEntriesApart entries → lags (without_entry number entries) + (planned entries number).lag ≡ lags entries
 lags-planned number [] apart = omega arith
 lags-planned number (entry ∷ entries) apart = elim (cases_Bool (eqb entry.number number)) [
-  | inl same ↦ rw same (sum-first (lags (without number entries)) (lags (entry ∷ entries)) (lags entries) entry.lag
+  | inl same ↦ rw same (sum-first (lags (without_entry number entries)) (lags (entry ∷ entries)) (lags entries) entry.lag
       (ap lags (without-unplanned number entries (subst (λ (n : ℕ). is_planned n entries ≡ false) (eqb-true entry.number number same) apart.0))) (lags-cons entry entries))
-  | inr other ↦ rw other (sum-both (lags (entry ∷ without number entries)) (lags (entry ∷ entries)) (lags entries) (lags (without number entries)) entry.lag (planned entries number).lag
-      (lags-cons entry (without number entries)) (lags-planned number entries apart.1) (lags-cons entry entries))
+  | inr other ↦ rw other (sum-both (lags (entry ∷ without_entry number entries)) (lags (entry ∷ entries)) (lags entries) (lags (without_entry number entries)) entry.lag (planned entries number).lag
+      (lags-cons entry (without_entry number entries)) (lags-planned number entries apart.1) (lags-cons entry entries))
 ]
 
 -- ---- what is held
 
-pub AreHeld-without : (number : ℕ) (entries : List Entry) → AreHeld entries → AreHeld (without number entries)
+pub AreHeld-without : (number : ℕ) (entries : List Entry) → AreHeld entries → AreHeld (without_entry number entries)
 AreHeld-without number entries held = record {
   meant = AllMeant-without number entries held.meant;
   apart = AreApart-without number entries held.apart;
@@ -201,9 +201,9 @@ AreHeld-without number entries held = record {
 }
 
 -- an entry in place of one of its message
-pub AreHeld-with : (entry : Entry) (entries : List Entry) → AreHeld entries → IsMeant entry.fate → lags (without entry.number entries) + entry.lag ≤ 16 → AreHeld (without entry.number entries ++ entry ∷ [])
+pub AreHeld-with : (entry : Entry) (entries : List Entry) → AreHeld entries → IsMeant entry.fate → lags (without_entry entry.number entries) + entry.lag ≤ 16 → AreHeld (without_entry entry.number entries ++ entry ∷ [])
 AreHeld-with entry entries held meant few =
-    let left = without entry.number entries in
+    let left = without_entry entry.number entries in
     record {
       meant = AllMeant-push left entry (AllMeant-without entry.number entries held.meant) meant;
       apart = AreApart-push left entry (AreApart-without entry.number entries held.apart) (none-without entry.number entries);
@@ -211,7 +211,7 @@ AreHeld-with entry entries held meant few =
     }
 
 -- a fate leaves the lag of its message, and so all lags
-pub fate-fits : (number : ℕ) (entries : List Entry) → AreHeld entries → lags (without number entries) + (planned entries number).lag ≤ 16
+pub fate-fits : (number : ℕ) (entries : List Entry) → AreHeld entries → lags (without_entry number entries) + (planned entries number).lag ≤ 16
 fate-fits number entries held = omega (arith, held.few, lags-planned number entries held.apart)
 
 -- no lag is more than all of them
@@ -257,22 +257,22 @@ Added-end ticks all i past added = sum-end ticks (lags (drop i all)) (lags all) 
 
 -- there is none where there is none for an entry, and none where the ticks are more than 16 with those of others
 pub entry-full : (number ticks : ℕ) (entries : List Entry) → false ≡ has_room number entries → false ≡ has_lag_room number ticks entries
-entry-full number ticks entries full = sym (and_left (has_room number entries) (leb (lags (without number entries) + ticks) 16) (sym full))
+entry-full number ticks entries full = sym (and_left (has_room number entries) (leb (lags (without_entry number entries) + ticks) 16) (sym full))
 
-pub lag-full : (number ticks : ℕ) (entries : List Entry) → 16 < lags (without number entries) + ticks → false ≡ has_lag_room number ticks entries
+pub lag-full : (number ticks : ℕ) (entries : List Entry) → 16 < lags (without_entry number entries) + ticks → false ≡ has_lag_room number ticks entries
 lag-full number ticks entries past =
-    sym (and_right (has_room number entries) (leb (lags (without number entries) + ticks) 16) (lt-leb (lags (without number entries) + ticks) 16 past))
+    sym (and_right (has_room number entries) (leb (lags (without_entry number entries) + ticks) 16) (lt-leb (lags (without_entry number entries) + ticks) 16 past))
 
 -- else it is that of an entry
 and-true : (b : Bool) → b ≡ (b && true)
 and-true true = refl
 and-true false = refl
 
-pub lag-fits : (number ticks : ℕ) (entries : List Entry) → lags (without number entries) + ticks ≤ 16 → has_room number entries ≡ has_lag_room number ticks entries
+pub lag-fits : (number ticks : ℕ) (entries : List Entry) → lags (without_entry number entries) + ticks ≤ 16 → has_room number entries ≡ has_lag_room number ticks entries
 lag-fits number ticks entries fits =
-    and-true (has_room number entries) ∙ ap (λ (b : Bool). has_room number entries && b) (sym (le-leb (lags (without number entries) + ticks) 16 fits))
+    and-true (has_room number entries) ∙ ap (λ (b : Bool). has_room number entries && b) (sym (le-leb (lags (without_entry number entries) + ticks) 16 fits))
 
 -- a lag that is planned already has room
 pub planned-fits : (number lag : ℕ) (entries : List Entry) → AreHeld entries → lag ≡ (planned entries number).lag → has_lag_room number lag entries ≡ has_room number entries
 planned-fits number lag entries held is =
-    sym (lag-fits number lag entries (subst (λ (n : ℕ). lags (without number entries) + n ≤ 16) (sym is) (fate-fits number entries held)))
+    sym (lag-fits number lag entries (subst (λ (n : ℕ). lags (without_entry number entries) + n ≤ 16) (sym is) (fate-fits number entries held)))

@@ -6,8 +6,8 @@ use Rattle.mbox_link.specs.Step.{error_reply}
 use Rattle.mbox_link.specs.Exchange.{ticks, IsRefusal, Rose, Stepped, more}
 use Rattle.mbox_link.specs.Calls.{World, Meaning, Exchanged, Tick, Led}
 use Rattle.mbox_link.specs.declared.fates.Fate.TheVariants.{Pass, Refuse, Drop, Lose}
-use Rattle.mbox_link.specs.Meetings.{planned, without, lags}
-use Rattle.mbox_link.specs.Fates.{AreApart, AreHeld, IsError}
+use Rattle.mbox_link.specs.Meetings.{planned, without_entry, lags}
+use Rattle.mbox_link.specs.Fates.{AreEntriesApart, AreHeld, IsError}
 use Rattle.mbox_link.specs.Wire.{Wire}
 use Rattle.mbox_link.specs.Link.{link, inner, next_fate, next_lag, after_message}
 use Rattle.mbox_link.proofs.FateLaws.{lag-held, lags-without, lags-planned}
@@ -40,12 +40,12 @@ room-for-lag {P} means held now same outputs room are number lag is =
 
 -- ---- by the message's fate; `m` is where its ticks led
 
-module _ {P : Type 0} (means : Meaning P) (request : List ℕ) (w : World (Wire P)) (apart : AreApart w.device.entries) (m : World P) (came : Led means (inner w) (replicate (next_lag w.device) Tick) m) where
+module _ {P : Type 0} (means : Meaning P) (request : List ℕ) (w : World (Wire P)) (apart : AreEntriesApart w.device.entries) (m : World P) (came : Led means (inner w) (replicate (next_lag w.device) Tick) m) where
   abbrev old : Wire P
   old = w.device
 
   abbrev left : ℕ
-  left = lags (without (more old.sent) old.entries)
+  left = lags (without_entry (more old.sent) old.entries)
 
   all-is : left + next_lag old ≡ lags old.entries
   all-is = lags-planned (more old.sent) old.entries apart

@@ -50,7 +50,7 @@ pub record Quiet {D : Type 0} (means : Meaning D) (old new : D) : Type 0 where
   pub most : means.most new ≡ means.most old
 
 -- what a boot does
-pub record Booted {D : Type 0} (means : Meaning D) (heap : ℕ) (old new : D) : Type 0 where
+pub record BootedDevice {D : Type 0} (means : Meaning D) (heap : ℕ) (old new : D) : Type 0 where
   pub did : means.boot heap old new
   pub on : means.on new ≡ Some (fresh heap)
   pub boots : means.boots new ≡ more (means.boots old)
@@ -83,7 +83,7 @@ pub record Ticked {D : Type 0} (means : Meaning D) (w v : World D) : Type 0 wher
 
 -- what a call does
 abbrev pub Did : {D : Type 0} → Meaning D → Call → World D → World D → Type 0
-Did means (Boot heap) w v = Booted means heap w.device v.device × (v.io ≡ w.io)
+Did means (Boot heap) w v = BootedDevice means heap w.device v.device × (v.io ≡ w.io)
 Did means Cut w v = CutOff means w.device v.device × (v.io ≡ w.io)
 Did means (Exchange request answer) w v = Exchanged means request answer w v
 Did means Tick w v = Ticked means w v

@@ -23,12 +23,12 @@ AllMeant [] = Unit {0}
 AllMeant (entry ∷ entries) = IsMeant entry.fate × AllMeant entries
 
 -- no message has two entries
-abbrev pub AreApart : List Entry → Type 0
-AreApart [] = Unit {0}
-AreApart (entry ∷ entries) = (is_planned entry.number entries ≡ false) × AreApart entries
+abbrev pub AreEntriesApart : List Entry → Type 0
+AreEntriesApart [] = Unit {0}
+AreEntriesApart (entry ∷ entries) = (is_planned entry.number entries ≡ false) × AreEntriesApart entries
 
 -- what a link holds: each refusal has a negative error, no message has two entries, and all lags are at most 16 ticks
 pub record AreHeld (entries : List Entry) : Type 0 where
   pub meant : AllMeant entries
-  pub apart : AreApart entries
+  pub apart : AreEntriesApart entries
   pub few : lags entries ≤ 16

@@ -2,12 +2,12 @@
 use Rattle.std.specs.Prelude.{◌≡◌, ℕ, ◌+◌, Bool, true, false, List, ◌∷◌, replicate, Option, Some, None, Result, Ok, Err}
 use Rattle.mbox_link.specs.Step.{error_reply}
 use Rattle.mbox_link.specs.Exchange.{more}
-use Rattle.mbox_link.specs.Calls.{World, Meaning, Booted, CutOff, Exchanged, Ticked, Tick, Led}
+use Rattle.mbox_link.specs.Calls.{World, Meaning, BootedDevice, CutOff, Exchanged, Ticked, Tick, Led}
 use Rattle.mbox_link.specs.declared.fates.Entry.{Entry}
 use Rattle.mbox_link.specs.declared.fates.Fate.{Fate}
 use Rattle.mbox_link.specs.declared.fates.Fate.TheVariants.{Pass, Refuse, Drop, Lose}
 use Rattle.mbox_link.specs.declared.fates.PlanFull.{PlanFull}
-use Rattle.mbox_link.specs.Meetings.{planned, without, with_fate, with_lag, has_room, has_lag_room, lags}
+use Rattle.mbox_link.specs.Meetings.{planned, without_entry, with_fate, with_lag, has_room, has_lag_room, lags}
 use Rattle.mbox_link.specs.Wire.{Wire}
 
 -- the device behind the link, with the endpoints' bytes
@@ -53,7 +53,7 @@ next_lag link = (planned link.entries (more link.sent)).lag
 abbrev pub after_message : {P : Type 0} → Wire P → P → Wire P
 after_message link dsp = record {
   device = dsp;
-  entries = without (more link.sent) link.entries;
+  entries = without_entry (more link.sent) link.entries;
   sent = more link.sent;
   dropped = dropped_after (next_fate link) link.dropped;
   refused = refused_after (next_fate link) link.refused;
@@ -87,7 +87,7 @@ link means =
       boots = λ l. means.boots l.device;
       pending = λ l. lags l.entries + means.pending l.device;
       most = λ l. means.most l.device;
-      boot = λ heap w v. Booted means heap w.device v.device × (v ≡ over w v.device);
+      boot = λ heap w v. BootedDevice means heap w.device v.device × (v ≡ over w v.device);
       cut = λ w v. CutOff means w.device v.device × (v ≡ over w v.device);
       exchange = λ request answer w v.
           MetLate means (next_lag w.device) (next_fate w.device) request answer (inner w) (inner v)

@@ -37,7 +37,7 @@ use Rattle.ipc3_codec.specs.declared.reply.Body.TheVariants as bodies
 use Rattle.ipc3_codec.specs.declared.fault.CodecFault.{CodecFault}
 use Rattle.ipc3_codec.specs.Messages.{decoded}
 use Rattle.ipc3_codec.specs.Replies.{reply_spelling}
-use Rattle.mbox_link.specs.BlobParts.{parts, part_of}
+use Rattle.mbox_link.specs.BlobParts.{parts, blob_part}
 
 -- ---- error numbers
 
@@ -92,32 +92,32 @@ pipe_bytes = 64
 abbrev pub has_hole : FwState → ℕ → Bool
 has_hole f bytes = fits (rounded bytes) f.heap.holes
 
-abbrev pub with_piece : ℕ → ℕ → HeapView → HeapView
-with_piece id bytes heap = record {
+abbrev pub heap_with_piece : ℕ → ℕ → HeapView → HeapView
+heap_with_piece id bytes heap = record {
   holes = carved (rounded bytes) heap.holes;
   pieces = placed (λ p. p.id) (record { id = id; place = first_fit (rounded bytes) heap.holes; size = rounded bytes }) heap.pieces;
 }
 
 -- what is left of a piece that is given back: the hole joins those that it touches
-abbrev pub freed : Option PieceView → List Hole → List Hole
-freed None holes = holes
-freed (Some p) holes = given (record { place = p.place; size = p.size }) holes
+abbrev pub holes_after_free : Option PieceView → List Hole → List Hole
+holes_after_free None holes = holes
+holes_after_free (Some p) holes = given (record { place = p.place; size = p.size }) holes
 
 abbrev pub without_piece : ℕ → HeapView → HeapView
 without_piece id heap = record {
-  holes = freed (find (λ p. p.id == id) heap.pieces) heap.holes;
+  holes = holes_after_free (find (λ p. p.id == id) heap.pieces) heap.holes;
   pieces = filter (λ p. not (p.id == id)) heap.pieces;
 }
 
 -- ---- COMP_NEW
 
 -- a frame format's number: 0, 1, and 2 for the rest
-abbrev pub format_of : ℕ → Format
-format_of n = if n == 0 then S16 else if n == 1 then S24 else S32
+abbrev pub sample_format : ℕ → Format
+sample_format n = if n == 0 then S16 else if n == 1 then S24 else S32
 
 abbrev pub kind_of : CompWords → ℕ → Kind
 kind_of (words.Host direction) frame_fmt = if direction == 0 then HostPlay else HostCapture
-kind_of (words.Dai direction index) frame_fmt = if direction == 0 then DaiPlay (format_of frame_fmt) else DaiCapture (format_of frame_fmt)
+kind_of (words.Dai direction index) frame_fmt = if direction == 0 then DaiPlay (sample_format frame_fmt) else DaiCapture (sample_format frame_fmt)
 kind_of (words.Volume channels min_value max_value) frame_fmt = Volume
 kind_of words.Mixer frame_fmt = Mixer
 kind_of words.Mux frame_fmt = Mux
@@ -131,19 +131,19 @@ first_setting words.Eq = Blob []
 first_setting kind = Nothing
 
 -- a host brings a stream without parameters
-abbrev pub with_stream : ℕ → Kind → List StreamView → List StreamView
-with_stream id HostPlay streams = placed (λ s. s.host) (record { host = id; phase = Idle; params = None }) streams
-with_stream id HostCapture streams = placed (λ s. s.host) (record { host = id; phase = Idle; params = None }) streams
-with_stream id kind streams = streams
+abbrev pub with_host_stream : ℕ → Kind → List StreamView → List StreamView
+with_host_stream id HostPlay streams = placed (λ s. s.host) (record { host = id; phase = Idle; params = None }) streams
+with_host_stream id HostCapture streams = placed (λ s. s.host) (record { host = id; phase = Idle; params = None }) streams
+with_host_stream id kind streams = streams
 
 abbrev pub with_comps : List Comp → Graph → Graph
 with_comps comps g = record { comps = comps; edges = g.edges; pipes = g.pipes; joins = g.joins }
 
 abbrev pub with_comp : ℕ → ℕ → Kind → Setting → FwState → FwState
 with_comp id pipe kind setting f = record f {
-  heap = with_piece id (comp_bytes kind) f.heap;
+  heap = heap_with_piece id (comp_bytes kind) f.heap;
   graph = with_comps (placed (λ c. c.id) (record { id = id; kind = kind; pipe = pipe; setting = setting }) f.graph.comps) f.graph;
-  streams = with_stream id kind f.streams;
+  streams = with_host_stream id kind f.streams;
 }
 
 abbrev pub comp_new : FwState → ℕ → ℕ → Kind → Setting → Result FwState ℤ
@@ -159,7 +159,7 @@ with_edges edges g = record { comps = g.comps; edges = edges; pipes = g.pipes; j
 
 abbrev pub with_buffer : ℕ → ℕ → ℕ → FwState → FwState
 with_buffer id pipe size f = record f {
-  heap = with_piece id (buffer_bytes size) f.heap;
+  heap = heap_with_piece id (buffer_bytes size) f.heap;
   graph = with_edges (placed (λ e. e.buffer) (record { buffer = id; pipe = pipe; size = size; source = None; sink = None }) f.graph.edges) f.graph;
   rings = placed (λ r. r.buffer) (record { buffer = id; frames = [] }) f.rings;
 }
@@ -177,7 +177,7 @@ with_pipes pipes g = record { comps = g.comps; edges = g.edges; pipes = pipes; j
 
 abbrev pub with_pipe : ℕ → ℕ → ℕ → ℕ → FwState → FwState
 with_pipe id index sched period f = record f {
-  heap = with_piece id pipe_bytes f.heap;
+  heap = heap_with_piece id pipe_bytes f.heap;
   graph = with_pipes (placed (λ p. p.id) (record { id = id; index = index; sched = sched; period = period; complete = false }) f.graph.pipes) f.graph;
 }
 
@@ -350,19 +350,19 @@ set_value f id command values =
     else value_set f id (option_and_then (λ c. new_setting c.kind c.setting command values) (comp_of f.graph id))
 
 -- the values of a component: the gains of a volume by command 0, and the choice of a mux by command 1
-abbrev pub values_by : Kind → Setting → ℕ → Option (List ℕ)
-values_by Volume (Gains gains) command = if command == 0 then Some gains else None
-values_by Mux (Choice k) command = if command == 1 then Some (k ∷ []) else None
-values_by kind setting command = None
+abbrev pub control_values : Kind → Setting → ℕ → Option (List ℕ)
+control_values Volume (Gains gains) command = if command == 0 then Some gains else None
+control_values Mux (Choice k) command = if command == 1 then Some (k ∷ []) else None
+control_values kind setting command = None
 
-abbrev pub values_at : Graph → ℕ → ℕ → Option (List ℕ)
-values_at g id command = option_and_then (λ c. values_by c.kind c.setting command) (comp_of g id)
+abbrev pub control_values_at : Graph → ℕ → ℕ → Option (List ℕ)
+control_values_at g id command = option_and_then (λ c. control_values c.kind c.setting command) (comp_of g id)
 
 -- the state stays, and the reply carries the values
 abbrev pub get_value : FwState → ℕ → ℕ → Result FwState ℤ
 get_value f id command =
     if not (is_used f.graph id) then Err no_device
-    else if not (is_some (values_at f.graph id command)) then Err invalid
+    else if not (is_some (control_values_at f.graph id command)) then Err invalid
     else Ok f
 
 -- ---- SET_DATA and GET_DATA: a blob comes in parts, each with the header and at most 260 bytes of those behind it
@@ -421,7 +421,7 @@ set_data f id part =
 
 -- the part of this number of the blob in force
 abbrev pub part_by : Kind → Setting → ℕ → Option Part
-part_by Eq (Blob blob) index = if nat_lt index (parts blob) then Some (part_of blob index) else None
+part_by Eq (Blob blob) index = if nat_lt index (parts blob) then Some (blob_part blob index) else None
 part_by kind setting index = None
 
 abbrev pub part_at : Graph → ℕ → ℕ → Option Part
@@ -477,14 +477,14 @@ set_stream host phase params s = if s.host == host then record { host = s.host; 
 abbrev pub with_params : FwState → ℕ → Params → View
 with_params f host p = record { graph = f.graph; streams = map (set_stream host Prepared (Some p)) f.streams }
 
-abbrev pub has_phase : (Phase → Bool) → Option Phase → Bool
-has_phase test None = false
-has_phase test (Some phase) = test phase
+abbrev pub is_stream_phase : (Phase → Bool) → Option Phase → Bool
+is_stream_phase test None = false
+is_stream_phase test (Some phase) = test phase
 
 abbrev pub pcm_params : FwState → ℕ → ℕ → Params → Result FwState ℤ
 pcm_params f host direction p =
     if not (is_used f.graph host) then Err no_device
-    else if not (has_kind (λ kind. goes kind direction) (kind_at f.graph host)) || has_phase is_moving (phase_at f host) || not (is_rate p.rate) || not (is_way_ready f.graph host) || not (agree (with_params f host p)) then Err invalid
+    else if not (has_kind (λ kind. goes kind direction) (kind_at f.graph host)) || is_stream_phase is_moving (phase_at f host) || not (is_rate p.rate) || not (is_way_ready f.graph host) || not (agree (with_params f host p)) then Err invalid
     else Ok (seen (with_params f host p) None f)
 
 -- ---- PCM_FREE and the triggers: each leads from some phases to one
@@ -505,18 +505,18 @@ is_paused Paused = true
 is_paused phase = false
 
 -- a host's stream in one of the phases is changed
-abbrev pub changed : FwState → ℕ → (Phase → Bool) → (StreamView → StreamView) → Result FwState ℤ
-changed f host from to =
+abbrev pub stream_changed : FwState → ℕ → (Phase → Bool) → (StreamView → StreamView) → Result FwState ℤ
+stream_changed f host from to =
     if not (is_used f.graph host) then Err no_device
-    else if not (has_kind is_host (kind_at f.graph host) && has_phase from (phase_at f host)) then Err invalid
+    else if not (has_kind is_host (kind_at f.graph host) && is_stream_phase from (phase_at f host)) then Err invalid
     else Ok (seen (record { graph = f.graph; streams = map to f.streams }) None f)
 
 -- without parameters
 abbrev pub pcm_free : FwState → ℕ → Result FwState ℤ
-pcm_free f host = changed f host is_prepared (set_stream host Idle None)
+pcm_free f host = stream_changed f host is_prepared (set_stream host Idle None)
 
 abbrev pub trigger : FwState → ℕ → (Phase → Bool) → Phase → Result FwState ℤ
-trigger f host from to = changed f host from (set_phase host to)
+trigger f host from to = stream_changed f host from (set_phase host to)
 
 -- ---- all rows
 
@@ -552,7 +552,7 @@ part_body None = bodies.Nothing
 part_body (Some part) = bodies.Part part
 
 abbrev pub body : FwState → Message → Body
-body f (messages.GetValue id command) = values_body (values_at f.graph id command)
+body f (messages.GetValue id command) = values_body (control_values_at f.graph id command)
 body f (messages.GetData id index) = part_body (part_at f.graph id index)
 body f m = bodies.Nothing
 

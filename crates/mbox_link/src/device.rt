@@ -3,7 +3,7 @@ ghost use Rattle.std.specs.Prelude.{◌≡◌, ◌≤◌, ◌*◌, is_some, true
 ghost use Rattle.sof_base.specs.Ports.{HasRoom};
 ghost use Rattle.sof_base.specs.declared.limits.TheConstants.{TURN_BYTES};
 ghost use Rattle.mbox_link.specs.Exchange.{answered};
-ghost use Rattle.mbox_link.specs.Calls.{Meaning, Booted, CutOff, Exchanged, Ticked, world};
+ghost use Rattle.mbox_link.specs.Calls.{Meaning, BootedDevice, CutOff, Exchanged, Ticked, world};
 
 use sof_io::{Inputs, Outputs};
 
@@ -28,7 +28,7 @@ pub trait Dsp: Drop {
     fn boot(&mut self, heap: u32)
         requires off { means.on self.old ≡ None }
         requires fits { heap ≤ means.most self.old }
-        ensures { Booted means heap self.old self.new };
+        ensures { BootedDevice means heap self.old self.new };
 
     /// The device is off, whatever it was.
     fn cut(&mut self)

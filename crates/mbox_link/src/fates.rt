@@ -2,7 +2,7 @@
 ghost use Rattle.std.specs.Prelude.{◌≡◌, ◌≤◌, [], length, is_ok, OnOk, OnErr};
 ghost use Rattle.mbox_link.specs.Meetings.{
   planned,
-  without,
+  without_entry,
   with_meeting,
   with_fate,
   with_lag,
@@ -118,7 +118,7 @@ impl Fates {
         ensures fate { result.fate ≡ (planned self.old number).fate }
         ensures lag { result.lag ≡ (planned self.old number).lag }
         ensures meant { IsMeant result.fate }
-        ensures left { self.new ≡ without number self.old }
+        ensures left { self.new ≡ without_entry number self.old }
         ensures held { AreHeld self.old }
     {
         let entry = entry_of(self.entries.as_slice(), number);
@@ -171,7 +171,7 @@ fn entry_of(entries: &[Entry], number: u64) -> Entry
 fn others(entries: &[Entry], number: u64) -> ArrayVec<Entry, 64>
     requires few { length entries.now ≤ 64 }
     requires held { AreHeld entries.now }
-    ensures left { result.items ≡ without number entries.now }
+    ensures left { result.items ≡ without_entry number entries.now }
     ensures left_held { AreHeld result.items }
 {
     let mut left = ArrayVec::new();

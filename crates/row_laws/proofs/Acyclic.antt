@@ -9,7 +9,7 @@ use Rattle.stream_law.specs.declared.graph.Graph.{Graph}
 use Rattle.stream_law.specs.Ways.{components, source_of, sink_of, edge_of}
 use Rattle.stream_law.specs.Order.{is_among, bare}
 use Rattle.stream_law.specs.Walks.{LeadsTo, Walk, HasCycle, HasEnds}
-use Rattle.row_laws.specs.Wired.{IsWired, IsLinked, IsOpen, IsSide, IsJoinedFrom, IsJoinedTo}
+use Rattle.row_laws.specs.Wired.{IsWired, HasJoinedSides, IsOpen, IsSide, IsJoinedFrom, IsJoinedTo}
 use Rattle.row_laws.proofs.Joined.{among-map}
 use Rattle.stream_law.proofs.Members.{IsIn, in-all, any-in, find-in}
 use Rattle.stream_law.proofs.Walking.{Path, Walks, walks-lead}
@@ -24,7 +24,7 @@ record Through (g : Graph) (a c : ℕ) : Type 0 where
   between : out.source ≡ into.sink
   to : out.sink ≡ c
 
-module _ (g : Graph) (wired : IsWired g) (linked : IsLinked g) where
+module _ (g : Graph) (wired : IsWired g) (linked : HasJoinedSides g) where
   -- what is found by its buffer
   found : (b : ℕ) (e : Edge) → edge_of g b ≡ Some e → IsIn e g.edges
   found b e is = (find-in (λ e. e.buffer == b) g.edges e is).0

@@ -12,14 +12,14 @@ use Rattle.stream_law.specs.declared.graph.Graph.{Graph}
 use Rattle.stream_law.specs.declared.stream.StreamView.{StreamView}
 use Rattle.stream_law.specs.State.{FwState, View, RingView, view_of}
 use Rattle.stream_law.specs.Ways.{comp_of, components, buffers, live, channels_of}
-use Rattle.stream_law.specs.Joins.{joined, with_join, would_cycle, would_grow}
+use Rattle.stream_law.specs.Joins.{joined_edge, with_join, would_cycle, would_grow}
 use Rattle.stream_law.specs.Made.{blob}
 use Rattle.stream_law.specs.Seen.{flows, is_equaliser, equalises, blob_in}
 use Rattle.ipc3_codec.specs.Allowed.{is_buffer_size}
 use Rattle.mbox_link.specs.Step.{is_joined, takes_join, with_comps, with_setting}
-use Rattle.row_laws.specs.Wired.{sides}
-use Rattle.row_laws.specs.Played.{IsPlayable}
-use Rattle.row_laws.specs.Kept.{IsKept, IsSettingOf, numbers_held}
+use Rattle.row_laws.specs.Wired.{sides_joined}
+use Rattle.row_laws.specs.Played.{AreStreamsPlayable}
+use Rattle.row_laws.specs.Kept.{IsKeptState, IsSettingOf, numbers_held}
 use Rattle.row_laws.proofs.Ascending.{ascends-keys}
 use Rattle.row_laws.proofs.Fewer.{all-any, filter-every}
 use Rattle.row_laws.proofs.Histories.{equalisers-same, equalisers-set, held-same, histories-by}
@@ -37,7 +37,7 @@ use Rattle.row_laws.proofs.Sides.{side-of_its_own}
 use Rattle.row_laws.proofs.Stagings.{staged-all}
 use Rattle.row_laws.proofs.StreamsKept.{in-among}
 
-module _ (f : FwState) (kept : IsKept f) where
+module _ (f : FwState) (kept : IsKeptState f) where
   abbrev view : View
   view = view_of f
 
@@ -54,18 +54,18 @@ module _ (f : FwState) (kept : IsKept f) where
     joined-held : (n : ℕ) → IsIn n (filter (equalises view) (components f.graph)) → numbers_held joined_view n ≡ numbers_held view n
     joined-held n there = held-same view joined_view n refl (channels-joined f.graph j kept.wired free takes f.streams kept.played grow n (among-left (components f.graph) (buffers f.graph) n (in-among (components f.graph) n (kept-in (equalises view) (components f.graph) n there).0)))
 
-    joined-sizes : (es : List Edge) → AllByRecursion (λ e. is_buffer_size e.size ≡ true) es → AllByRecursion (λ e. is_buffer_size e.size ≡ true) (map (joined j) es)
+    joined-sizes : (es : List Edge) → AllByRecursion (λ e. is_buffer_size e.size ≡ true) es → AllByRecursion (λ e. is_buffer_size e.size ≡ true) (map (joined_edge j) es)
     joined-sizes [] all = tt
     joined-sizes (e ∷ es) all = (ap is_buffer_size (joined-size j e) ∙ all.0, joined-sizes es all.1)
 
-    pub kept-join : IsKept (record f { graph = with_join f.graph j })
+    pub kept-join : IsKeptState (record f { graph = with_join f.graph j })
     kept-join = record {
       comps = kept.comps;
-      edges = omega (arith, kept.edges, length-map f.graph.edges (joined j));
+      edges = omega (arith, kept.edges, length-map f.graph.edges (joined_edge j));
       pipes = kept.pipes;
       joins = omega (arith, kept.joins, side-of_its_own f.graph j free takes no_cycle, length-append f.graph.joins (j ∷ []));
       streams = kept.streams;
-      ascending = record { comps = kept.ascending.comps; edges = ascends-keys (λ (e : Edge). e.buffer) (λ (e : Edge). e.buffer) f.graph.edges (map (joined j) f.graph.edges) (sym (buffers-joined j f.graph.edges)) kept.ascending.edges; pipes = kept.ascending.pipes; streams = kept.ascending.streams; pieces = kept.ascending.pieces; staging = kept.ascending.staging };
+      ascending = record { comps = kept.ascending.comps; edges = ascends-keys (λ (e : Edge). e.buffer) (λ (e : Edge). e.buffer) f.graph.edges (map (joined_edge j) f.graph.edges) (sym (buffers-joined j f.graph.edges)) kept.ascending.edges; pipes = kept.ascending.pipes; streams = kept.ascending.streams; pieces = kept.ascending.pieces; staging = kept.ascending.staging };
       indices = kept.indices;
       sizes = joined-sizes f.graph.edges kept.sizes;
       settings = kept.settings;
@@ -99,8 +99,8 @@ module _ (f : FwState) (kept : IsKept f) where
     pub set-channels : (x : ℕ) → channels_of set_view x ≡ channels_of view x
     set-channels x = same-streams (λ ss. channels_of (record { graph = set_view.graph; streams = ss }) x ≡ channels_of view x) (channels-same f.graph set_view.graph (λ s. true) f.streams kept.played (bare-set id setting f.graph f.streams) (ways-set id setting f.graph f.streams) x)
 
-    pub set-played : IsPlayable set_view
-    set-played = same-streams (λ ss. IsPlayable (record { graph = set_view.graph; streams = ss })) (played-same f.graph set_view.graph (λ s. true) f.streams kept.played (bare-set id setting f.graph f.streams) (ways-set id setting f.graph f.streams) (nodes-set id setting f.graph) (owned-set id setting f.graph f.streams kept.played.owned) (readies-set id setting f.graph f.streams kept.played.each))
+    pub set-played : AreStreamsPlayable set_view
+    set-played = same-streams (λ ss. AreStreamsPlayable (record { graph = set_view.graph; streams = ss })) (played-same f.graph set_view.graph (λ s. true) f.streams kept.played (bare-set id setting f.graph f.streams) (ways-set id setting f.graph f.streams) (nodes-set id setting f.graph) (owned-set id setting f.graph f.streams kept.played.owned) (readies-set id setting f.graph f.streams kept.played.each))
 
     -- of what is no equaliser
     module _ (other : option_map_or (λ x. is_equaliser x.kind) (comp_of f.graph id) false ≡ false) (fits : (c : Comp) → comp_of f.graph id ≡ Some c → IsSettingOf c.kind setting) where
@@ -115,7 +115,7 @@ module _ (f : FwState) (kept : IsKept f) where
           by true e = absurd (true≢false (sym is ∙ ap (λ m. option_map_or (λ x. is_equaliser x.kind) (comp_of f.graph m) false) (eqb-true n id e) ∙ other))
           by false e = find-apart id setting n e f.graph.comps
 
-      pub kept-setting : IsKept (record f { graph = with_comps (map (with_setting id setting) f.graph.comps) f.graph })
+      pub kept-setting : IsKeptState (record f { graph = with_comps (map (with_setting id setting) f.graph.comps) f.graph })
       kept-setting = record {
         comps = omega (arith, kept.comps, length-map f.graph.comps (with_setting id setting));
         edges = kept.edges;

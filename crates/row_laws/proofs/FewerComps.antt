@@ -18,8 +18,8 @@ use Rattle.stream_law.specs.Ways.{comp_of, components, buffers, ins, outs, is_en
 use Rattle.stream_law.specs.Joins.{fits_kind}
 use Rattle.stream_law.specs.Order.{is_among}
 use Rattle.mbox_link.specs.Step.{has_comp, has_edge, has_kind, is_host, kind_at, is_complete, is_ready_comp, is_ready_edge, is_way_ready, touches, is_used}
-use Rattle.row_laws.specs.Wired.{IsWired, IsLinked, IsSide, IsBetween, IsJoinedFrom, IsJoinedTo, is_node, has_join}
-use Rattle.row_laws.specs.Played.{IsSet, IsSetBy, is_idle}
+use Rattle.row_laws.specs.Wired.{IsWired, HasJoinedSides, IsSide, IsBetween, IsJoinedFrom, IsJoinedTo, is_node, has_join}
+use Rattle.row_laws.specs.Played.{IsStreamSet, IsSetBy, is_idle}
 use Rattle.row_laws.proofs.Found.{ends-agree}
 use Rattle.row_laws.proofs.Growing.{all-by, some-found}
 use Rattle.row_laws.proofs.Joined.{among-map}
@@ -60,7 +60,7 @@ way-here g h = by (option_map_or (λ c. is_capture c.kind) (comp_of g h) false)
     by true = reach-here g h
     by false = reach-here g h
 
-module _ (g : Graph) (id : ℕ) (wired : IsWired g) (linked : IsLinked g) (free : list_any (touches id) g.joins ≡ false) where
+module _ (g : Graph) (id : ℕ) (wired : IsWired g) (linked : HasJoinedSides g) (free : list_any (touches id) g.joins ≡ false) where
   abbrev less : Graph
   less = record { comps = filter (λ c. not (c.id == id)) g.comps; edges = g.edges; pipes = g.pipes; joins = g.joins }
 
@@ -142,7 +142,7 @@ module _ (g : Graph) (id : ℕ) (wired : IsWired g) (linked : IsLinked g) (free 
   to-same b None joined = tt
   to-same b (Some c) joined = joined
 
-  pub linked-comp_less : IsLinked less
+  pub linked-comp_less : HasJoinedSides less
   linked-comp_less = record {
     at = linked.at;
     from = all-by (λ e. IsJoinedFrom g e.source e.buffer) (λ e. IsJoinedFrom less e.source e.buffer) (λ e joined. from-same e.source e.buffer joined) g.edges linked.from;
@@ -167,7 +167,7 @@ module _ (g : Graph) (id : ℕ) (wired : IsWired g) (linked : IsLinked g) (free 
   abbrev keep : StreamView → Bool
   keep s = not (s.host == id)
 
-  pub bare-comp : (ss : List StreamView) → AllByRecursion (λ s. has_kind is_host (kind_at g s.host) ≡ true) ss → AllByRecursion (IsSet g) ss → AllByRecursion (λ s. keep s ≡ false → is_some s.params ≡ false) ss
+  pub bare-comp : (ss : List StreamView) → AllByRecursion (λ s. has_kind is_host (kind_at g s.host) ≡ true) ss → AllByRecursion (IsStreamSet g) ss → AllByRecursion (λ s. keep s ≡ false → is_some s.params ≡ false) ss
   bare-comp [] owned sets = tt
   bare-comp (s ∷ ss) owned sets = (λ gone. none (eqb-true s.host id (not-false (s.host == id) gone)) (is_idle s.phase) s.params sets.0, bare-comp ss owned.1 sets.1)
     where
@@ -191,7 +191,7 @@ module _ (g : Graph) (id : ℕ) (wired : IsWired g) (linked : IsLinked g) (free 
       (test-all (λ (x : Comp). not (on_way less n x.id) || is_ready_comp less x) (filter (λ c. not (c.id == id)) g.comps) (all-kept (λ (c : Comp). not (c.id == id)) (λ x. (not (on_way g n x.id) || is_ready_comp g x) ≡ true) (λ x. (not (on_way less n x.id) || is_ready_comp less x) ≡ true) (λ x e was. ap (λ h. not h || is_ready_comp g x) (way-other n x.id other) ∙ was) g.comps (all-test (λ (x : Comp). not (on_way g n x.id) || is_ready_comp g x) g.comps parts.0)))
       (test-all (λ (e : Edge). not (on_way less n e.buffer) || is_ready_edge less e) g.edges (all-by (λ e. (not (on_way g n e.buffer) || is_ready_edge g e) ≡ true) (λ e. (not (on_way less n e.buffer) || is_ready_edge less e) ≡ true) (λ e was. ap (λ h. not h || is_ready_edge g e) (way-other n e.buffer other) ∙ was) g.edges (all-test (λ (e : Edge). not (on_way g n e.buffer) || is_ready_edge g e) g.edges parts.1)))
 
-  pub ready-comp : (ss : List StreamView) → AllByRecursion (IsSet g) ss → AllByRecursion (λ s. keep s ≡ true → is_some s.params ≡ true → is_way_ready less s.host ≡ true) ss
+  pub ready-comp : (ss : List StreamView) → AllByRecursion (IsStreamSet g) ss → AllByRecursion (λ s. keep s ≡ true → is_some s.params ≡ true → is_way_ready less s.host ≡ true) ss
   ready-comp [] sets = tt
   ready-comp (s ∷ ss) sets = (λ kept has. ready-other s.host (not-true (s.host == id) kept) (was (is_idle s.phase) s.params has sets.0), ready-comp ss sets.1)
     where

@@ -18,8 +18,8 @@ use Rattle.stream_law.specs.Ways.{comp_of, edge_of, source_of, sink_of, componen
 use Rattle.stream_law.specs.Joins.{fits_kind}
 use Rattle.stream_law.specs.Order.{is_among}
 use Rattle.mbox_link.specs.Step.{has_comp, has_edge, has_kind, is_host, kind_at, is_complete, is_ready_comp, is_ready_edge, is_way_ready, is_held, touches, is_used}
-use Rattle.row_laws.specs.Wired.{IsWired, IsLinked, IsSide, IsBetween, IsJoinedFrom, IsJoinedTo, IsOpen, is_at, is_node, side, sides}
-use Rattle.row_laws.specs.Played.{IsSet, IsSetBy, is_idle}
+use Rattle.row_laws.specs.Wired.{IsWired, HasJoinedSides, IsSide, IsBetween, IsJoinedFrom, IsJoinedTo, IsOpen, is_at, is_node, side_count, sides_joined}
+use Rattle.row_laws.specs.Played.{IsStreamSet, IsSetBy, is_idle}
 use Rattle.row_laws.proofs.Found.{found-each, ends-agree}
 use Rattle.row_laws.proofs.Fewer.{all-kept, all-filter, all-both, all-any, all-test, test-all, any-kept, any-with, any-to, any-of_kept, none-kept, none-each, among-kept, among-both, some-pass, two-pass, filter-kept, one-key, distinct-filter, apart-by, not-true, not-false, other-any, other-find}
 use Rattle.row_laws.proofs.Growing.{all-by}
@@ -83,7 +83,7 @@ pass-fewer keep test (e ∷ es) = by (keep e) (test e) refl (pass-fewer keep tes
     by false true is rest = omega (arith, rest)
     by false false is rest = rest
 
-module _ (g : Graph) (id : ℕ) (wired : IsWired g) (linked : IsLinked g) (there : has_edge g id ≡ true) where
+module _ (g : Graph) (id : ℕ) (wired : IsWired g) (linked : HasJoinedSides g) (there : has_edge g id ≡ true) where
   abbrev less : Graph
   less = record { comps = g.comps; edges = filter (λ e. not (e.buffer == id)) g.edges; pipes = g.pipes; joins = filter (λ j. not (touches id j)) g.joins }
 
@@ -366,7 +366,7 @@ module _ (g : Graph) (id : ℕ) (wired : IsWired g) (linked : IsLinked g) (there
   open-left : (j : Join) → IsOpen g j → IsOpen less j
   open-left j shut = false_from_ne_true (leads less.joins (length less.joins) j.sink j.source) (λ e. true≢false (sym (trip-leads g.joins j.sink j.source (trip-more j.sink j.source (trip-of less.joins (length less.joins) j.sink j.source e))) ∙ shut))
 
-  pub linked-edge_less : IsLinked less
+  pub linked-edge_less : HasJoinedSides less
   linked-edge_less = record {
     at = all-kept (λ (j : Join). not (touches id j)) (λ j. list_any (is_at j) g.edges ≡ true) (λ j. list_any (is_at j) less.edges ≡ true) (λ j e is. at-left j (not-true (touches id j) e) is) g.joins linked.at;
     from = all-kept keep (λ e. (IsSide g e.source × IsSide g e.sink) × IsJoinedFrom g e.source e.buffer) (λ e. IsJoinedFrom less e.source e.buffer) (λ e kept is. from-left e.source e.buffer (not-true (e.buffer == id) kept) is.0.0 is.1) g.edges (all-both (λ e. IsSide g e.source × IsSide g e.sink) (λ e. IsJoinedFrom g e.source e.buffer) g.edges wired.sides linked.from);
@@ -376,16 +376,16 @@ module _ (g : Graph) (id : ℕ) (wired : IsWired g) (linked : IsLinked g) (there
 
   -- ---- sides
 
-  sides-split : (es : List Edge) → sides es ≡ sides (filter keep es) + sides (filter (λ e. e.buffer == id) es)
+  sides-split : (es : List Edge) → sides_joined es ≡ sides_joined (filter keep es) + sides_joined (filter (λ e. e.buffer == id) es)
   sides-split [] = refl
   sides-split (e ∷ es) = by (e.buffer == id) (sides-split es)
     where
-      by : (h : Bool) → sides es ≡ sides (filter keep es) + sides (filter (λ e. e.buffer == id) es) → side e.source + side e.sink + sides es ≡ sides (cond (not h) (e ∷ filter keep es) (filter keep es)) + sides (cond h (e ∷ filter (λ e. e.buffer == id) es) (filter (λ e. e.buffer == id) es))
+      by : (h : Bool) → sides_joined es ≡ sides_joined (filter keep es) + sides_joined (filter (λ e. e.buffer == id) es) → side_count e.source + side_count e.sink + sides_joined es ≡ sides_joined (cond (not h) (e ∷ filter keep es) (filter keep es)) + sides_joined (cond h (e ∷ filter (λ e. e.buffer == id) es) (filter (λ e. e.buffer == id) es))
       by true rest = omega (arith, rest)
       by false rest = omega (arith, rest)
 
   -- each side that goes was a join of its own
-  touched : (o q : Option ℕ) → IsJoinedFrom g o id → IsJoinedTo g id q → side o + side q ≤ length (filter (touches id) g.joins)
+  touched : (o q : Option ℕ) → IsJoinedFrom g o id → IsJoinedTo g id q → side_count o + side_count q ≤ length (filter (touches id) g.joins)
   touched None None from to = omega arith
   touched (Some c) None from to = omega (arith, some-pass (touches id) g.joins (any-to (λ (j : Join). Unit {0}) (λ j. j.source == c && j.sink == id) (touches id) (λ j u e. or_right (j.source == id) (j.sink == id) (and_parts (j.source == c) (j.sink == id) e).1) g.joins (all-any (λ (j : Join). Unit {0}) (λ j. tt) g.joins) from))
   touched None (Some d) from to = omega (arith, some-pass (touches id) g.joins (any-to (λ (j : Join). Unit {0}) (λ j. j.source == id && j.sink == d) (touches id) (λ j u e. or_left (j.source == id) (j.sink == id) (and_parts (j.source == id) (j.sink == d) e).0) g.joins (all-any (λ (j : Join). Unit {0}) (λ j. tt) g.joins) to))
@@ -395,18 +395,18 @@ module _ (g : Graph) (id : ℕ) (wired : IsWired g) (linked : IsLinked g) (there
       (any-to (λ (j : Join). Unit {0}) (λ j. j.source == c && j.sink == id) (λ j. touches id j && j.sink == id) (λ j u e. let at = (and_parts (j.source == c) (j.sink == id) e).1 in and_from (touches id j) (j.sink == id) (or_right (j.source == id) (j.sink == id) at) at) g.joins (all-any (λ (j : Join). Unit {0}) (λ j. tt) g.joins) from)
       (any-to (λ (j : Join). Unit {0}) (λ j. j.source == id && j.sink == d) (λ j. touches id j && j.source == id) (λ j u e. let at = (and_parts (j.source == id) (j.sink == d) e).0 in and_from (touches id j) (j.source == id) (or_left (j.source == id) (j.sink == id) at) at) g.joins (all-any (λ (j : Join). Unit {0}) (λ j. tt) g.joins) to)
 
-  gone-sides : sides (filter (λ e. e.buffer == id) g.edges) ≤ length (filter (touches id) g.joins)
+  gone-sides : sides_joined (filter (λ e. e.buffer == id) g.edges) ≤ length (filter (touches id) g.joins)
   gone-sides = by (one-key (λ (e : Edge). e.buffer) id (λ e. IsJoinedFrom g e.source e.buffer × IsJoinedTo g e.buffer e.sink) g.edges wired.buffers (all-both (λ e. IsJoinedFrom g e.source e.buffer) (λ e. IsJoinedTo g e.buffer e.sink) g.edges linked.from linked.to))
     where
-      by : (filter (λ e. e.buffer == id) g.edges ≡ []) ⊎ ((e : Edge) × (IsJoinedFrom g e.source e.buffer × IsJoinedTo g e.buffer e.sink) × ((e.buffer == id) ≡ true) × (filter (λ e. e.buffer == id) g.edges ≡ e ∷ [])) → sides (filter (λ e. e.buffer == id) g.edges) ≤ length (filter (touches id) g.joins)
-      by (inl none) = let is : sides (filter (λ e. e.buffer == id) g.edges) ≡ 0 = ap sides none in omega (arith, is)
+      by : (filter (λ e. e.buffer == id) g.edges ≡ []) ⊎ ((e : Edge) × (IsJoinedFrom g e.source e.buffer × IsJoinedTo g e.buffer e.sink) × ((e.buffer == id) ≡ true) × (filter (λ e. e.buffer == id) g.edges ≡ e ∷ [])) → sides_joined (filter (λ e. e.buffer == id) g.edges) ≤ length (filter (touches id) g.joins)
+      by (inl none) = let is : sides_joined (filter (λ e. e.buffer == id) g.edges) ≡ 0 = ap sides_joined none in omega (arith, is)
       by (inr one) =
           let e : Edge = one.0 in
           let same : e.buffer ≡ id = eqb-true e.buffer id one.2 in
-          let is : sides (filter (λ e. e.buffer == id) g.edges) ≡ side e.source + side e.sink + 0 = ap sides one.3 in
+          let is : sides_joined (filter (λ e. e.buffer == id) g.edges) ≡ side_count e.source + side_count e.sink + 0 = ap sides_joined one.3 in
           omega (arith, is, touched e.source e.sink (subst (λ b. IsJoinedFrom g e.source b) same one.1.0) (subst (λ b. IsJoinedTo g b e.sink) same one.1.1))
 
-  pub joins-left : length g.joins ≤ sides g.edges → length less.joins ≤ sides less.edges
+  pub joins-left : length g.joins ≤ sides_joined g.edges → length less.joins ≤ sides_joined less.edges
   joins-left few = omega (arith, few, sides-split g.edges, gone-sides, length-filter_both (touches id) (λ j. not (touches id j)) (λ j. refl) g.joins)
 
   -- ---- streams
@@ -427,10 +427,10 @@ module _ (g : Graph) (id : ℕ) (wired : IsWired g) (linked : IsLinked g) (there
   pub ways-edge : (ss : List StreamView) → is_held g ss id ≡ false → AllByRecursion (λ s. true ≡ true → is_some s.params ≡ true → (x : ℕ) → on_way less s.host x ≡ on_way g s.host x) ss
   ways-edge ss free = all-by IsClear (λ s. true ≡ true → is_some s.params ≡ true → (x : ℕ) → on_way less s.host x ≡ on_way g s.host x) (λ s clear kept has x. way-same s.host (clear-off s clear has) x) ss (clears ss free)
 
-  pub ready-edge : (ss : List StreamView) → is_held g ss id ≡ false → AllByRecursion (λ s. has_kind is_host (kind_at g s.host) ≡ true) ss → AllByRecursion (IsSet g) ss → AllByRecursion (λ s. true ≡ true → is_some s.params ≡ true → is_way_ready less s.host ≡ true) ss
+  pub ready-edge : (ss : List StreamView) → is_held g ss id ≡ false → AllByRecursion (λ s. has_kind is_host (kind_at g s.host) ≡ true) ss → AllByRecursion (IsStreamSet g) ss → AllByRecursion (λ s. true ≡ true → is_some s.params ≡ true → is_way_ready less s.host ≡ true) ss
   ready-edge ss free owned sets =
-      all-by (λ s. (IsClear s × (has_kind is_host (kind_at g s.host) ≡ true)) × IsSet g s) (λ s. true ≡ true → is_some s.params ≡ true → is_way_ready less s.host ≡ true) (λ s all kept has. ready-left s.host all.0.1 (clear-off s all.0.0 has) (was s.host (is_idle s.phase) s.params has all.1)) ss
-      (all-both (λ s. IsClear s × (has_kind is_host (kind_at g s.host) ≡ true)) (IsSet g) ss (all-both IsClear (λ s. has_kind is_host (kind_at g s.host) ≡ true) ss (clears ss free) owned) sets)
+      all-by (λ s. (IsClear s × (has_kind is_host (kind_at g s.host) ≡ true)) × IsStreamSet g s) (λ s. true ≡ true → is_some s.params ≡ true → is_way_ready less s.host ≡ true) (λ s all kept has. ready-left s.host all.0.1 (clear-off s all.0.0 has) (was s.host (is_idle s.phase) s.params has all.1)) ss
+      (all-both (λ s. IsClear s × (has_kind is_host (kind_at g s.host) ≡ true)) (IsStreamSet g) ss (all-both IsClear (λ s. has_kind is_host (kind_at g s.host) ≡ true) ss (clears ss free) owned) sets)
     where
       was : (h : ℕ) (idle : Bool) (o : Option Params) → is_some o ≡ true → IsSetBy g h idle o → is_way_ready g h ≡ true
       was h idle None has is_set = absurd (false≢true has)

@@ -11,10 +11,10 @@ use Rattle.stream_law.specs.declared.graph.Graph.{Graph}
 use Rattle.stream_law.specs.declared.stream.StreamView.{StreamView}
 use Rattle.stream_law.specs.Ways.{ins, outs, reaches, on_way}
 use Rattle.stream_law.specs.Joins.{fits_kind}
-use Rattle.ipc3_codec.specs.Allowed.{is_period}
+use Rattle.ipc3_codec.specs.Allowed.{is_period_allowed}
 use Rattle.mbox_link.specs.Step.{has_comp, has_edge, is_complete, is_ready_comp, is_ready_edge, is_way_ready, is_held, is_index_held, is_used}
-use Rattle.row_laws.specs.Wired.{IsWired, IsLinked, IsSide, IsJoinedFrom, IsJoinedTo, is_node}
-use Rattle.row_laws.specs.Played.{IsSet, IsSetBy, is_idle}
+use Rattle.row_laws.specs.Wired.{IsWired, HasJoinedSides, IsSide, IsJoinedFrom, IsJoinedTo, is_node}
+use Rattle.row_laws.specs.Played.{IsStreamSet, IsSetBy, is_idle}
 use Rattle.row_laws.proofs.Found.{found-each}
 use Rattle.row_laws.proofs.Stays.{IsOf}
 use Rattle.row_laws.proofs.Growing.{all-by}
@@ -87,14 +87,14 @@ module _ (g : Graph) (id : ℕ) (p : Pipe) (found : find (λ q. q.id == id) g.pi
             by true on now = ap (λ t. (t && is_some e.source) && is_some e.sink) (complete-other e.pipe (other-index s among has e.pipe e.buffer all.0 on)) ∙ now
             by false on now = refl
 
-    pub ready-pipe : AllByRecursion (IsSet g) ss → AllByRecursion (λ s. true ≡ true → is_some s.params ≡ true → is_way_ready less s.host ≡ true) ss
+    pub ready-pipe : AllByRecursion (IsStreamSet g) ss → AllByRecursion (λ s. true ≡ true → is_some s.params ≡ true → is_way_ready less s.host ≡ true) ss
     ready-pipe sets = each ss (λ s there. there) sets
       where
         was : (h : ℕ) (idle : Bool) (o : Option Params) → is_some o ≡ true → IsSetBy g h idle o → is_way_ready g h ≡ true
         was h idle None has is_set = absurd (false≢true has)
         was h idle (Some q) has is_set = is_set.3
 
-        each : (xs : List StreamView) → ((s : StreamView) → IsOf s xs → IsOf s ss) → AllByRecursion (IsSet g) xs → AllByRecursion (λ s. true ≡ true → is_some s.params ≡ true → is_way_ready less s.host ≡ true) xs
+        each : (xs : List StreamView) → ((s : StreamView) → IsOf s xs → IsOf s ss) → AllByRecursion (IsStreamSet g) xs → AllByRecursion (λ s. true ≡ true → is_some s.params ≡ true → is_way_ready less s.host ≡ true) xs
         each [] sub all = tt
         each (s ∷ xs) sub all = (λ kept has. ready-pipe_at s (sub s (inl refl)) has (was s.host (is_idle s.phase) s.params has all.0), each xs (λ t there. sub t (inr there)) all.1)
 
@@ -113,7 +113,7 @@ module _ (g : Graph) (id : ℕ) (p : Pipe) (found : find (λ q. q.id == id) g.pi
   to-pipe b None joined = tt
   to-pipe b (Some c) joined = joined
 
-  pub linked-pipe_less : IsLinked g → IsLinked less
+  pub linked-pipe_less : HasJoinedSides g → HasJoinedSides less
   linked-pipe_less linked = record {
     at = linked.at;
     from = all-by (λ e. IsJoinedFrom g e.source e.buffer) (λ e. IsJoinedFrom less e.source e.buffer) (λ e joined. from-pipe e.source e.buffer joined) g.edges linked.from;
@@ -130,5 +130,5 @@ module _ (g : Graph) (id : ℕ) (p : Pipe) (found : find (λ q. q.id == id) g.pi
     alone = all-filter keep (λ q. is_node g q.id ≡ false) g.pipes wired.alone;
     ends = wired.ends;
     sides = all-by (λ e. IsSide g e.source × IsSide g e.sink) (λ e. IsSide less e.source × IsSide less e.sink) (λ e is. (side-pipe e.source is.0, side-pipe e.sink is.1)) g.edges wired.sides;
-    periods = all-filter keep (λ q. is_period q.period ≡ true) g.pipes wired.periods;
+    periods = all-filter keep (λ q. is_period_allowed q.period ≡ true) g.pipes wired.periods;
   }

@@ -15,7 +15,7 @@ use Rattle.stream_law.specs.Ways.{comp_of}
 use Rattle.ipc3_codec.specs.declared.message.CompWords.{CompWords}
 use Rattle.ipc3_codec.specs.declared.message.CompWords.TheVariants as words
 use Rattle.ipc3_codec.specs.Messages.{IsKind}
-use Rattle.mbox_link.specs.Step.{format_of, kind_of, first_setting, new_setting, with_setting}
+use Rattle.mbox_link.specs.Step.{sample_format, kind_of, first_setting, new_setting, with_setting}
 use Rattle.row_laws.specs.Kept.{IsSettingOf}
 use Rattle.row_laws.proofs.Found.{found-each}
 use Rattle.stream_law.proofs.Members.{in-all, find-in}
@@ -34,7 +34,7 @@ first-fits (words.Host direction) frame_fmt allowed = by (direction == 0)
     by false = tt
 first-fits (words.Dai direction index) frame_fmt allowed = by (direction == 0)
   where
-    by : (h : Bool) → IsSettingOf (cond h (DaiPlay (format_of frame_fmt)) (DaiCapture (format_of frame_fmt))) Nothing
+    by : (h : Bool) → IsSettingOf (cond h (DaiPlay (sample_format frame_fmt)) (DaiCapture (sample_format frame_fmt))) Nothing
     by true = tt
     by false = tt
 first-fits (words.Volume channels min_value max_value) frame_fmt allowed =

@@ -18,8 +18,8 @@ use Rattle.ipc3_codec.specs.Allowed.{is_buffer_size}
 use Rattle.mbox_link.specs.Step.{has_kind, is_host, kind_at, without_piece, without_comp, without_buffer, without_pipe, touches, has_comp, has_edge, is_held, is_index_held}
 use Rattle.row_laws.specs.Tiled.{heap_bytes}
 use Rattle.row_laws.specs.Wired.{is_node}
-use Rattle.row_laws.specs.Played.{IsPlayable}
-use Rattle.row_laws.specs.Kept.{IsKept, IsSettingOf, IsStaged, has_piece, numbers_held}
+use Rattle.row_laws.specs.Played.{AreStreamsPlayable}
+use Rattle.row_laws.specs.Kept.{IsKeptState, IsSettingOf, IsStaged, has_piece, numbers_held}
 use Rattle.row_laws.proofs.Fewer.{all-kept, all-filter, all-both, all-any, filter-every, length-filter, none-each, keys-left, not-true, distinct-filter}
 use Rattle.row_laws.proofs.Growing.{all-by}
 use Rattle.row_laws.proofs.SameWays.{played-same, live-same, channels-same, flows-same}
@@ -40,7 +40,7 @@ none-any : (id : ℕ) (es : List Edge) → AllByRecursion (λ e. (e.buffer == id
 none-any id [] all = refl
 none-any id (e ∷ es) all = ap (λ h. h || list_any (λ e. e.buffer == id) es) all.0 ∙ none-any id es all.1
 
-module _ (f : FwState) (kept : IsKept f) where
+module _ (f : FwState) (kept : IsKeptState f) where
   abbrev view : View
   view = view_of f
 
@@ -91,13 +91,13 @@ module _ (f : FwState) (kept : IsKept f) where
     pub comp_free-flows : (b : ℕ) → flows comp-view b ≡ flows view b
     comp_free-flows b = flows-same f.graph comp-view.graph stays f.streams kept.played bare (ways-comp f.graph id kept.wired kept.linked free f.streams) b refl refl
 
-    comp-played : IsPlayable comp-view
+    comp-played : AreStreamsPlayable comp-view
     comp-played = played-same f.graph comp-view.graph stays f.streams kept.played bare (ways-comp f.graph id kept.wired kept.linked free f.streams) (nodes-comp f.graph id kept.wired kept.linked free) (owned-comp f.graph id kept.wired kept.linked free f.streams kept.played.owned) (ready-comp f.graph id kept.wired kept.linked free f.streams kept.played.each)
 
     found : (n : ℕ) → (n == id) ≡ false → comp_of comp-view.graph n ≡ comp_of f.graph n
     found n other = comp-other f.graph id kept.wired kept.linked free n other
 
-    pub kept-comp_free : IsKept (without_comp id f)
+    pub kept-comp_free : IsKeptState (without_comp id f)
     kept-comp_free = record {
       comps = omega (arith, kept.comps, length-filter (λ (x : Comp). not (x.id == id)) f.graph.comps);
       edges = kept.edges;
@@ -141,8 +141,8 @@ module _ (f : FwState) (kept : IsKept f) where
     pub buffer_free-flows : (b : ℕ) → (b == id) ≡ false → flows edge-view b ≡ flows view b
     buffer_free-flows b far = every-stream (λ ss. flows (record { graph = edge-view.graph; streams = ss }) b ≡ flows view b) (flows-same f.graph edge-view.graph (λ s. true) f.streams kept.played (bare-edge f.graph id kept.wired kept.linked there f.streams) (ways-edge f.graph id kept.wired kept.linked there f.streams free) b (source-left f.graph id kept.wired kept.linked there b far) (sink-left f.graph id kept.wired kept.linked there b far))
 
-    edge-played : IsPlayable edge-view
-    edge-played = every-stream (λ ss. IsPlayable (record { graph = edge-view.graph; streams = ss })) (played-same f.graph edge-view.graph (λ s. true) f.streams kept.played (bare-edge f.graph id kept.wired kept.linked there f.streams) (ways-edge f.graph id kept.wired kept.linked there f.streams free) (nodes-edge f.graph id kept.wired kept.linked there) (all-by (λ s. has_kind is_host (kind_at f.graph s.host) ≡ true) (λ s. true ≡ true → has_kind is_host (kind_at edge-view.graph s.host) ≡ true) (λ s is kept. is) f.streams kept.played.owned) (ready-edge f.graph id kept.wired kept.linked there f.streams free kept.played.owned kept.played.each))
+    edge-played : AreStreamsPlayable edge-view
+    edge-played = every-stream (λ ss. AreStreamsPlayable (record { graph = edge-view.graph; streams = ss })) (played-same f.graph edge-view.graph (λ s. true) f.streams kept.played (bare-edge f.graph id kept.wired kept.linked there f.streams) (ways-edge f.graph id kept.wired kept.linked there f.streams free) (nodes-edge f.graph id kept.wired kept.linked there) (all-by (λ s. has_kind is_host (kind_at f.graph s.host) ≡ true) (λ s. true ≡ true → has_kind is_host (kind_at edge-view.graph s.host) ≡ true) (λ s is kept. is) f.streams kept.played.owned) (ready-edge f.graph id kept.wired kept.linked there f.streams free kept.played.owned kept.played.each))
 
     abbrev fewer : List RingView
     fewer = filter (λ r. not (r.buffer == id)) f.rings
@@ -150,7 +150,7 @@ module _ (f : FwState) (kept : IsKept f) where
     edge-flows : AllByRecursion (λ r. flows edge-view r.buffer ≡ flows view r.buffer) fewer
     edge-flows = all-kept (λ (r : RingView). not (r.buffer == id)) (λ (r : RingView). Unit {0}) (λ r. flows edge-view r.buffer ≡ flows view r.buffer) (λ r far u. buffer_free-flows r.buffer (not-true (r.buffer == id) far)) f.rings (all-any (λ (r : RingView). Unit {0}) (λ r. tt) f.rings)
 
-    pub kept-buffer_free : IsKept (without_buffer id f)
+    pub kept-buffer_free : IsKeptState (without_buffer id f)
     kept-buffer_free = record {
       comps = kept.comps;
       edges = omega (arith, kept.edges, length-filter (λ (e : Edge). not (e.buffer == id)) f.graph.edges);
@@ -208,10 +208,10 @@ module _ (f : FwState) (kept : IsKept f) where
     pub pipe_free-channels : (x : ℕ) → channels_of pipe-view x ≡ channels_of view x
     pipe_free-channels x = all-streams (λ ss. channels_of (record { graph = pipe-view.graph; streams = ss }) x ≡ channels_of view x) (channels-same f.graph pipe-view.graph (λ s. true) f.streams kept.played (bare-pipe f.graph id p found kept.wired f.streams) (ways-pipe f.graph id p found kept.wired f.streams) x)
 
-    pipe-played : IsPlayable pipe-view
-    pipe-played = all-streams (λ ss. IsPlayable (record { graph = pipe-view.graph; streams = ss })) (played-same f.graph pipe-view.graph (λ s. true) f.streams kept.played (bare-pipe f.graph id p found kept.wired f.streams) (ways-pipe f.graph id p found kept.wired f.streams) (λ x there. there) (all-by (λ s. has_kind is_host (kind_at f.graph s.host) ≡ true) (λ s. true ≡ true → has_kind is_host (kind_at pipe-view.graph s.host) ≡ true) (λ s is kept. is) f.streams kept.played.owned) (ready-pipe f.graph id p found kept.wired f.streams free kept.played.each))
+    pipe-played : AreStreamsPlayable pipe-view
+    pipe-played = all-streams (λ ss. AreStreamsPlayable (record { graph = pipe-view.graph; streams = ss })) (played-same f.graph pipe-view.graph (λ s. true) f.streams kept.played (bare-pipe f.graph id p found kept.wired f.streams) (ways-pipe f.graph id p found kept.wired f.streams) (λ x there. there) (all-by (λ s. has_kind is_host (kind_at f.graph s.host) ≡ true) (λ s. true ≡ true → has_kind is_host (kind_at pipe-view.graph s.host) ≡ true) (λ s is kept. is) f.streams kept.played.owned) (ready-pipe f.graph id p found kept.wired f.streams free kept.played.each))
 
-    pub kept-pipe_free : IsKept (without_pipe id f)
+    pub kept-pipe_free : IsKeptState (without_pipe id f)
     kept-pipe_free = record {
       comps = kept.comps;
       edges = kept.edges;

@@ -18,9 +18,9 @@ use Rattle.stream_law.specs.State.{View}
 use Rattle.stream_law.specs.Ways.{comp_of, source_of, sink_of, leads, reaches, on_way, is_capture, is_live_phase, live, live_end, channels_of, touch, same_shape, agree}
 use Rattle.stream_law.specs.Seen.{flows}
 use Rattle.stream_law.proofs.Placing.{list_any-placed, find-placed_apart, find-placed_there, HasDistinct-placed}
-use Rattle.mbox_link.specs.Step.{has_comp, has_edge, has_pipe, has_kind, kind_at, is_host, is_ready_comp, is_ready_edge, is_way_ready, with_stream}
+use Rattle.mbox_link.specs.Step.{has_comp, has_edge, has_pipe, has_kind, kind_at, is_host, is_ready_comp, is_ready_edge, is_way_ready, with_host_stream}
 use Rattle.row_laws.specs.Wired.{IsWired, IsSide, IsBetween, is_node}
-use Rattle.row_laws.specs.Played.{IsPlayable, IsSet, IsSetBy, is_idle}
+use Rattle.row_laws.specs.Played.{AreStreamsPlayable, IsStreamSet, IsSetBy, is_idle}
 use Rattle.row_laws.proofs.Ids.{any-ids}
 use Rattle.row_laws.proofs.Unreached.{eqb-turned, IsApart, apart, off-way}
 
@@ -88,7 +88,7 @@ abbrev pub fresh_stream : ℕ → StreamView
 fresh_stream id = record { host = id; phase = Idle; params = None }
 
 -- a list of streams, or one with a fresh stream more
-pub brought : (P : List StreamView → Type 0) (id : ℕ) (kind : Kind) (ss : List StreamView) → P ss → (is_host kind ≡ true → P (placed (λ s. s.host) (fresh_stream id) ss)) → P (with_stream id kind ss)
+pub brought : (P : List StreamView → Type 0) (id : ℕ) (kind : Kind) (ss : List StreamView) → P ss → (is_host kind ≡ true → P (placed (λ s. s.host) (fresh_stream id) ss)) → P (with_host_stream id kind ss)
 brought P id HostPlay ss old new = new refl
 brought P id HostCapture ss old new = new refl
 brought P id (DaiPlay format) ss old new = old
@@ -98,12 +98,12 @@ brought P id Mixer ss old new = old
 brought P id Mux ss old new = old
 brought P id Eq ss old new = old
 
-module _ (g : Graph) (c : Comp) (gone : is_node g c.id ≡ false) (wired : IsWired g) (ss : List StreamView) (played : IsPlayable (record { graph = g; streams = ss })) where
+module _ (g : Graph) (c : Comp) (gone : is_node g c.id ≡ false) (wired : IsWired g) (ss : List StreamView) (played : AreStreamsPlayable (record { graph = g; streams = ss })) where
   abbrev wider : Graph
   wider = record { comps = placed (λ x. x.id) c g.comps; edges = g.edges; pipes = g.pipes; joins = g.joins }
 
   abbrev more : List StreamView
-  more = with_stream c.id c.kind ss
+  more = with_host_stream c.id c.kind ss
 
   abbrev old : View
   old = record { graph = g; streams = ss }
@@ -172,7 +172,7 @@ module _ (g : Graph) (c : Comp) (gone : is_node g c.id ≡ false) (wired : IsWir
   set-wider n idle None other is_set = is_set
   set-wider n idle (Some p) other is_set = (is_set.0, is_set.1, is_set.2, ready-wider n other is_set.3)
 
-  sets-wider : (xs : List StreamView) → AllByRecursion (λ s. (s.host == c.id) ≡ false) xs → AllByRecursion (IsSet g) xs → AllByRecursion (IsSet wider) xs
+  sets-wider : (xs : List StreamView) → AllByRecursion (λ s. (s.host == c.id) ≡ false) xs → AllByRecursion (IsStreamSet g) xs → AllByRecursion (IsStreamSet wider) xs
   sets-wider [] apart sets = tt
   sets-wider (s ∷ xs) apart sets = (set-wider s.host (is_idle s.phase) s.params apart.0 sets.0, sets-wider xs apart.1 sets.1)
 
@@ -246,11 +246,11 @@ module _ (g : Graph) (c : Comp) (gone : is_node g c.id ≡ false) (wired : IsWir
       (λ host. list_all-placed (λ s. list_all (λ t. not (touch wider s t) || same_shape s.params t.params) (placed (λ s. s.host) (fresh_stream c.id) ss)) (λ s. s.host) (fresh_stream c.id) ss
       ∙ and_from _ _ (row-fresh (placed (λ s. s.host) (fresh_stream c.id) ss)) (rows-more ss plain))
 
-  pub played-wider : IsPlayable new
+  pub played-wider : AreStreamsPlayable new
   played-wider = record {
     hosts = brought (HasDistinct (λ s. s.host)) c.id c.kind ss played.hosts (λ host. HasDistinct-placed (λ s. s.host) (fresh_stream c.id) ss (no-host c.id ss far) played.hosts);
     owned = brought (AllByRecursion (λ s. has_kind is_host (kind_at wider s.host) ≡ true)) c.id c.kind ss (owned-wider ss far played.owned) (λ host. all-placed (λ s. has_kind is_host (kind_at wider s.host) ≡ true) (λ s. s.host) (fresh_stream c.id) ss (ap (has_kind is_host) new-kind ∙ host) (owned-wider ss far played.owned));
-    each = brought (AllByRecursion (IsSet wider)) c.id c.kind ss (sets-wider ss far played.each) (λ host. all-placed (IsSet wider) (λ s. s.host) (fresh_stream c.id) ss refl (sets-wider ss far played.each));
+    each = brought (AllByRecursion (IsStreamSet wider)) c.id c.kind ss (sets-wider ss far played.each) (λ host. all-placed (IsStreamSet wider) (λ s. s.host) (fresh_stream c.id) ss refl (sets-wider ss far played.each));
     agreed = agree-wider;
   }
 

@@ -6,7 +6,7 @@ use Rattle.std.specs.List.{AllByRecursion}
 use Rattle.sof_base.specs.declared.hole.Hole.{Hole}
 use Rattle.sof_base.specs.Holes.{fresh_holes, total, fits, first_fit, shortened, carved, joined, given, Spaced, Below}
 use Rattle.stream_law.specs.State.{PieceView}
-use Rattle.row_laws.specs.Tiled.{Apart, IsOutside, bytes_of}
+use Rattle.row_laws.specs.Tiled.{ArePiecesApart, IsOutside, hole_of}
 
 -- ---- holes in order
 
@@ -115,15 +115,15 @@ outside-carved q n (h ∷ hs) out = by (nat_le n h.size) refl (outside-carved q 
     by false e rest = (out.0, rest)
 
 -- and has no byte of what is carved
-pub apart-carved : (q : PieceView) (id n : ℕ) (hs : List Hole) → AllByRecursion (IsOutside q) hs → fits n hs ≡ true → Apart (record { id = id; place = first_fit n hs; size = n }) q
+pub apart-carved : (q : PieceView) (id n : ℕ) (hs : List Hole) → AllByRecursion (IsOutside q) hs → fits n hs ≡ true → ArePiecesApart (record { id = id; place = first_fit n hs; size = n }) q
 apart-carved q id n [] out there = absurd (false≢true there)
 apart-carved q id n (h ∷ hs) out there = by (nat_le n h.size) refl there (apart-carved q id n hs out.1)
   where
-    inside : n ≤ h.size → IsOutside q h → Apart (record { id = id; place = h.place; size = n }) q
+    inside : n ≤ h.size → IsOutside q h → ArePiecesApart (record { id = id; place = h.place; size = n }) q
     inside le (inl before) = inr before
     inside le (inr behind) = inl (omega (arith, behind, le))
 
-    by : (b : Bool) → nat_le n h.size ≡ b → (b || fits n hs) ≡ true → (fits n hs ≡ true → Apart (record { id = id; place = first_fit n hs; size = n }) q) → Apart (record { id = id; place = cond b h.place (first_fit n hs); size = n }) q
+    by : (b : Bool) → nat_le n h.size ≡ b → (b || fits n hs) ≡ true → (fits n hs ≡ true → ArePiecesApart (record { id = id; place = first_fit n hs; size = n }) q) → ArePiecesApart (record { id = id; place = cond b h.place (first_fit n hs); size = n }) q
     by true e there' rest = inside (leb-true n h.size e) out.0
     by false e there' rest = rest there'
 
@@ -160,7 +160,7 @@ behind-piece p (h ∷ hs) low high lt out t = (by out.0, t.1, t.2, t.3, t.4, t.5
     by (inl before) = before
     by (inr behind) = omega (arith, behind, lt, t.0)
 
-pub spaced-given : (p : PieceView) (hs : List Hole) (low high : ℕ) → low ≤ p.place → p.place % 16 ≡ 0 → 0 < p.size → p.size % 16 ≡ 0 → p.place + p.size ≤ high → AllByRecursion (IsOutside p) hs → Spaced low high hs → Spaced low high (given (bytes_of p) hs)
+pub spaced-given : (p : PieceView) (hs : List Hole) (low high : ℕ) → low ≤ p.place → p.place % 16 ≡ 0 → 0 < p.size → p.size % 16 ≡ 0 → p.place + p.size ≤ high → AllByRecursion (IsOutside p) hs → Spaced low high hs → Spaced low high (given (hole_of p) hs)
 spaced-given p [] low high le unit some units most out t = (le, unit, some, units, most, tt)
 spaced-given p (h ∷ hs) low high le unit some units most out t = by (nat_lt p.place h.place) refl (λ above. spaced-given p hs (h.place + h.size + 1) high above unit some units most out.1 t.5)
   where
@@ -168,7 +168,7 @@ spaced-given p (h ∷ hs) low high le unit some units most out t = by (nat_lt p.
     behind ge (inl before) = omega (arith, before, ge, some)
     behind ge (inr last) = last
 
-    touching : (b : Bool) → (h.place + h.size == p.place) ≡ b → h.place ≤ p.place → (h.place + h.size + 1 ≤ p.place → Spaced (h.place + h.size + 1) high (given (bytes_of p) hs)) → Spaced low high (cond b (joined (record { place = h.place; size = h.size + p.size }) hs) (h ∷ given (bytes_of p) hs))
+    touching : (b : Bool) → (h.place + h.size == p.place) ≡ b → h.place ≤ p.place → (h.place + h.size + 1 ≤ p.place → Spaced (h.place + h.size + 1) high (given (hole_of p) hs)) → Spaced low high (cond b (joined (record { place = h.place; size = h.size + p.size }) hs) (h ∷ given (hole_of p) hs))
     touching true e ge above =
         let touch : h.place + h.size ≡ p.place = eqb-true (h.place + h.size) p.place e in
         let rest = behind-piece p hs (h.place + h.size + 1) high (omega (arith, touch)) out.1 t.5 in
@@ -177,10 +177,10 @@ spaced-given p (h ∷ hs) low high le unit some units most out t = by (nat_lt p.
         let last = behind ge out.0 in let more = differs (h.place + h.size) p.place e in
         (t.0, t.1, t.2, t.3, t.4, rest (omega (arith, last, more)))
 
-    by : (b : Bool) → nat_lt p.place h.place ≡ b → (h.place + h.size + 1 ≤ p.place → Spaced (h.place + h.size + 1) high (given (bytes_of p) hs)) → Spaced low high (cond b (joined (bytes_of p) (h ∷ hs)) (cond (h.place + h.size == p.place) (joined (record { place = h.place; size = h.size + p.size }) hs) (h ∷ given (bytes_of p) hs)))
+    by : (b : Bool) → nat_lt p.place h.place ≡ b → (h.place + h.size + 1 ≤ p.place → Spaced (h.place + h.size + 1) high (given (hole_of p) hs)) → Spaced low high (cond b (joined (hole_of p) (h ∷ hs)) (cond (h.place + h.size == p.place) (joined (record { place = h.place; size = h.size + p.size }) hs) (h ∷ given (hole_of p) hs)))
     by true e rest =
         let before = ltb-true p.place h.place e in
-        spaced-joined (bytes_of p) (h ∷ hs) low high le unit some units most (behind-piece p (h ∷ hs) h.place high before out (omega arith, t.1, t.2, t.3, t.4, t.5))
+        spaced-joined (hole_of p) (h ∷ hs) low high le unit some units most (behind-piece p (h ∷ hs) h.place high before out (omega arith, t.1, t.2, t.3, t.4, t.5))
     by false e rest = touching (h.place + h.size == p.place) refl (ltb-false p.place h.place e) rest
 
 -- outside two runs of bytes of which one follows the other, and so outside both at once
@@ -202,20 +202,20 @@ outside-joined q s (y ∷ ys) some this out = by (s.place + s.size == y.place) r
     by false e = (this, out)
 
 -- another piece stays outside
-pub outside-given : (q p : PieceView) (hs : List Hole) → 0 < q.size → Apart q p → AllByRecursion (IsOutside q) hs → AllByRecursion (IsOutside q) (given (bytes_of p) hs)
+pub outside-given : (q p : PieceView) (hs : List Hole) → 0 < q.size → ArePiecesApart q p → AllByRecursion (IsOutside q) hs → AllByRecursion (IsOutside q) (given (hole_of p) hs)
 outside-given q p [] some apart out = (apart, tt)
 outside-given q p (h ∷ hs) some apart out = by (nat_lt p.place h.place) (outside-given q p hs some apart out.1)
   where
-    moved : h.place + h.size ≡ p.place → Apart q p → (q.place + q.size ≤ h.place + h.size) ⊎ (h.place + h.size + p.size ≤ q.place)
+    moved : h.place + h.size ≡ p.place → ArePiecesApart q p → (q.place + q.size ≤ h.place + h.size) ⊎ (h.place + h.size + p.size ≤ q.place)
     moved touch (inl before) = inl (omega (arith, before, touch))
     moved touch (inr behind) = inr (omega (arith, behind, touch))
 
-    touching : (b : Bool) → (h.place + h.size == p.place) ≡ b → AllByRecursion (IsOutside q) (given (bytes_of p) hs) → AllByRecursion (IsOutside q) (cond b (joined (record { place = h.place; size = h.size + p.size }) hs) (h ∷ given (bytes_of p) hs))
+    touching : (b : Bool) → (h.place + h.size == p.place) ≡ b → AllByRecursion (IsOutside q) (given (hole_of p) hs) → AllByRecursion (IsOutside q) (cond b (joined (record { place = h.place; size = h.size + p.size }) hs) (h ∷ given (hole_of p) hs))
     touching true e rest = outside-joined q (record { place = h.place; size = h.size + p.size }) hs some (outside-both q h.place h.size p.size some out.0 (moved (eqb-true (h.place + h.size) p.place e) apart)) out.1
     touching false e rest = (out.0, rest)
 
-    by : (b : Bool) → AllByRecursion (IsOutside q) (given (bytes_of p) hs) → AllByRecursion (IsOutside q) (cond b (joined (bytes_of p) (h ∷ hs)) (cond (h.place + h.size == p.place) (joined (record { place = h.place; size = h.size + p.size }) hs) (h ∷ given (bytes_of p) hs)))
-    by true rest = outside-joined q (bytes_of p) (h ∷ hs) some apart out
+    by : (b : Bool) → AllByRecursion (IsOutside q) (given (hole_of p) hs) → AllByRecursion (IsOutside q) (cond b (joined (hole_of p) (h ∷ hs)) (cond (h.place + h.size == p.place) (joined (record { place = h.place; size = h.size + p.size }) hs) (h ∷ given (hole_of p) hs)))
+    by true rest = outside-joined q (hole_of p) (h ∷ hs) some apart out
     by false rest = touching (h.place + h.size == p.place) refl rest
 
 total-joined : (s : Hole) (ys : List Hole) → total (joined s ys) ≡ s.size + total ys

@@ -8,7 +8,7 @@ use Rattle.stream_law.specs.declared.graph.Kind.TheVariants.{HostPlay, HostCaptu
 use Rattle.stream_law.specs.declared.graph.Edge.{Edge}
 use Rattle.stream_law.specs.declared.graph.Join.{Join}
 use Rattle.stream_law.specs.Ways.{leads}
-use Rattle.stream_law.specs.Joins.{kind_ins, kind_outs, fits_kind, joined}
+use Rattle.stream_law.specs.Joins.{kind_ins, kind_outs, fits_kind, joined_edge}
 use Rattle.stream_law.specs.Order.{is_among}
 use Rattle.row_laws.proofs.Growing.{all-by}
 
@@ -146,7 +146,7 @@ sided from to j e =
     cond from (record { buffer = e.buffer; pipe = e.pipe; size = e.size; source = e.source; sink = Some j.sink })
     (cond to (record { buffer = e.buffer; pipe = e.pipe; size = e.size; source = Some j.source; sink = e.sink }) e)
 
-pub joined-buffer : (j : Join) (e : Edge) → (joined j e).buffer ≡ e.buffer
+pub joined-buffer : (j : Join) (e : Edge) → (joined_edge j e).buffer ≡ e.buffer
 joined-buffer j e = by (e.buffer == j.source) (e.buffer == j.sink)
   where
     by : (h k : Bool) → (sided h k j e).buffer ≡ e.buffer
@@ -154,7 +154,7 @@ joined-buffer j e = by (e.buffer == j.source) (e.buffer == j.sink)
     by false true = refl
     by false false = refl
 
-pub joined-pipe : (j : Join) (e : Edge) → (joined j e).pipe ≡ e.pipe
+pub joined-pipe : (j : Join) (e : Edge) → (joined_edge j e).pipe ≡ e.pipe
 joined-pipe j e = by (e.buffer == j.source) (e.buffer == j.sink)
   where
     by : (h k : Bool) → (sided h k j e).pipe ≡ e.pipe
@@ -162,7 +162,7 @@ joined-pipe j e = by (e.buffer == j.source) (e.buffer == j.sink)
     by false true = refl
     by false false = refl
 
-pub joined-size : (j : Join) (e : Edge) → (joined j e).size ≡ e.size
+pub joined-size : (j : Join) (e : Edge) → (joined_edge j e).size ≡ e.size
 joined-size j e = by (e.buffer == j.source) (e.buffer == j.sink)
   where
     by : (h k : Bool) → (sided h k j e).size ≡ e.size
@@ -170,10 +170,10 @@ joined-size j e = by (e.buffer == j.source) (e.buffer == j.sink)
     by false true = refl
     by false false = refl
 
-pub buffers-joined : (j : Join) (edges : List Edge) → map (λ e. e.buffer) (map (joined j) edges) ≡ map (λ e. e.buffer) edges
+pub buffers-joined : (j : Join) (edges : List Edge) → map (λ e. e.buffer) (map (joined_edge j) edges) ≡ map (λ e. e.buffer) edges
 buffers-joined j [] = refl
 buffers-joined j (e ∷ edges) = ap (λ (p : ℕ × List ℕ). p.0 ∷ p.1) (λ i. (joined-buffer j e i, buffers-joined j edges i))
 
-pub has-joined : (j : Join) (edges : List Edge) (n : ℕ) → list_any (λ e. e.buffer == n) (map (joined j) edges) ≡ list_any (λ e. e.buffer == n) edges
+pub has-joined : (j : Join) (edges : List Edge) (n : ℕ) → list_any (λ e. e.buffer == n) (map (joined_edge j) edges) ≡ list_any (λ e. e.buffer == n) edges
 has-joined j [] n = refl
 has-joined j (e ∷ edges) n = ap (λ (p : ℕ × Bool). (p.0 == n) || p.1) (λ i. (joined-buffer j e i, has-joined j edges n i))

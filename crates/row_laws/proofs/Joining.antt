@@ -14,12 +14,12 @@ use Rattle.stream_law.specs.declared.stream.StreamView.{StreamView}
 use Rattle.stream_law.specs.Placed.{HasDistinct}
 use Rattle.stream_law.specs.State.{View}
 use Rattle.stream_law.specs.Ways.{comp_of, components, buffers, source_of, sink_of, ins, outs, is_end, leads, reaches, on_way, is_capture, is_live_phase, live, live_end, channels_of, touch, same_shape, agree}
-use Rattle.stream_law.specs.Joins.{kind_ins, fits_kind, joined, with_join, has_grown, would_grow}
+use Rattle.stream_law.specs.Joins.{kind_ins, fits_kind, joined_edge, with_join, has_grown, would_grow}
 use Rattle.stream_law.specs.Seen.{flows}
 use Rattle.stream_law.specs.Order.{is_among}
 use Rattle.mbox_link.specs.Step.{has_comp, has_edge, kind_at, is_complete, is_ready_comp, is_ready_edge, is_way_ready, leads_in, leads_out, is_joined, takes_join, has_free_in, has_free_out}
 use Rattle.row_laws.specs.Wired.{IsWired, IsSide, IsBetween, is_node}
-use Rattle.row_laws.specs.Played.{IsPlayable, IsSet, IsSetBy, is_idle}
+use Rattle.row_laws.specs.Played.{AreStreamsPlayable, IsStreamSet, IsSetBy, is_idle}
 use Rattle.row_laws.proofs.Found.{found-each, ends-agree}
 use Rattle.row_laws.proofs.Stays.{heard, all-of, live-idle, given}
 use Rattle.row_laws.proofs.Fewer.{all-any, one-key}
@@ -40,7 +40,7 @@ both-some (Some p) (Some q) e = (refl, refl)
 both-some None q e = absurd (true≢false e)
 both-some (Some p) None e = absurd (true≢false e)
 
-module _ (g : Graph) (j : Join) (wired : IsWired g) (free : is_joined g j.source j.sink ≡ false) (takes : takes_join g j.source j.sink ≡ true) (ss : List StreamView) (played : IsPlayable (record { graph = g; streams = ss })) (grow : would_grow g ss j.source j.sink ≡ false) where
+module _ (g : Graph) (j : Join) (wired : IsWired g) (free : is_joined g j.source j.sink ≡ false) (takes : takes_join g j.source j.sink ≡ true) (ss : List StreamView) (played : AreStreamsPlayable (record { graph = g; streams = ss })) (grow : would_grow g ss j.source j.sink ≡ false) where
   abbrev wired_on : Graph
   wired_on = with_join g j
 
@@ -103,10 +103,10 @@ module _ (g : Graph) (j : Join) (wired : IsWired g) (free : is_joined g j.source
 
   -- ---- what is Live
 
-  live-some : (s : StreamView) → is_live_phase s.phase ≡ true → IsSet g s → is_some s.params ≡ true
+  live-some : (s : StreamView) → is_live_phase s.phase ≡ true → IsStreamSet g s → is_some s.params ≡ true
   live-some s lives is_set = let p = given g s (live-idle s.phase lives) is_set in ap (λ o. is_some o) p.1
 
-  live-tests : (x : ℕ) → is_among nodes x ≡ true → (xs : List StreamView) → AllByRecursion Holds xs → AllByRecursion (IsSet g) xs → AllByRecursion (λ s. (is_live_phase s.phase && on_way wired_on s.host x) ≡ (is_live_phase s.phase && on_way g s.host x)) xs
+  live-tests : (x : ℕ) → is_among nodes x ≡ true → (xs : List StreamView) → AllByRecursion Holds xs → AllByRecursion (IsStreamSet g) xs → AllByRecursion (λ s. (is_live_phase s.phase && on_way wired_on s.host x) ≡ (is_live_phase s.phase && on_way g s.host x)) xs
   live-tests x there [] hold sets = tt
   live-tests x there (s ∷ xs) hold sets = (by (is_live_phase s.phase) refl, live-tests x there xs hold.1 sets.1)
     where
@@ -178,7 +178,7 @@ module _ (g : Graph) (j : Join) (wired : IsWired g) (free : is_joined g j.source
           by (inr more) rest = rest more comp
 
   -- ends that are not those of the join are as they were
-  sink-same : (c : ℕ) (e : Edge) → IsFree g j e → ((leads_out g j.source j.sink ≡ true) → (j.sink == c) ≡ false) → is_end (joined j e).sink c ≡ is_end e.sink c
+  sink-same : (c : ℕ) (e : Edge) → IsFree g j e → ((leads_out g j.source j.sink ≡ true) → (j.sink == c) ≡ false) → is_end (joined_edge j e).sink c ≡ is_end e.sink c
   sink-same c e fr other = by (e.buffer == j.source) refl (e.buffer == j.sink)
     where
       none : (o : Option ℕ) → is_some o ≡ false → is_end o c ≡ false
@@ -190,7 +190,7 @@ module _ (g : Graph) (j : Join) (wired : IsWired g) (free : is_joined g j.source
       by false is true = refl
       by false is false = refl
 
-  source-same : (c : ℕ) (e : Edge) → IsFree g j e → ((leads_in g j.source j.sink ≡ true) → (j.source == c) ≡ false) → is_end (joined j e).source c ≡ is_end e.source c
+  source-same : (c : ℕ) (e : Edge) → IsFree g j e → ((leads_in g j.source j.sink ≡ true) → (j.source == c) ≡ false) → is_end (joined_edge j e).source c ≡ is_end e.source c
   source-same c e fr other = by (e.buffer == j.source) (e.buffer == j.sink) refl
     where
       none : (o : Option ℕ) → is_some o ≡ false → is_end o c ≡ false
@@ -202,35 +202,35 @@ module _ (g : Graph) (j : Join) (wired : IsWired g) (free : is_joined g j.source
       by false true is = let f = fr.to is in other f.2 ∙ sym (none e.source f.0)
       by false false is = refl
 
-  counted : (pick : Edge → Option ℕ) (c : ℕ) (es : List Edge) → AllByRecursion (λ e. is_end (pick (joined j e)) c ≡ is_end (pick e) c) es → length (filter (λ e. is_end (pick e) c) (map (joined j) es)) ≡ length (filter (λ e. is_end (pick e) c) es)
+  counted : (pick : Edge → Option ℕ) (c : ℕ) (es : List Edge) → AllByRecursion (λ e. is_end (pick (joined_edge j e)) c ≡ is_end (pick e) c) es → length (filter (λ e. is_end (pick e) c) (map (joined_edge j) es)) ≡ length (filter (λ e. is_end (pick e) c) es)
   counted pick c [] same = refl
   counted pick c (e ∷ es) same =
-      ap (λ h. length (cond h (joined j e ∷ filter (λ e. is_end (pick e) c) (map (joined j) es)) (filter (λ e. is_end (pick e) c) (map (joined j) es)))) same.0
+      ap (λ h. length (cond h (joined_edge j e ∷ filter (λ e. is_end (pick e) c) (map (joined_edge j) es)) (filter (λ e. is_end (pick e) c) (map (joined_edge j) es)))) same.0
       ∙ by (is_end (pick e) c) (counted pick c es same.1)
     where
-      by : (h : Bool) → length (filter (λ e. is_end (pick e) c) (map (joined j) es)) ≡ length (filter (λ e. is_end (pick e) c) es) → length (cond h (joined j e ∷ filter (λ e. is_end (pick e) c) (map (joined j) es)) (filter (λ e. is_end (pick e) c) (map (joined j) es))) ≡ length (cond h (e ∷ filter (λ e. is_end (pick e) c) es) (filter (λ e. is_end (pick e) c) es))
+      by : (h : Bool) → length (filter (λ e. is_end (pick e) c) (map (joined_edge j) es)) ≡ length (filter (λ e. is_end (pick e) c) es) → length (cond h (joined_edge j e ∷ filter (λ e. is_end (pick e) c) (map (joined_edge j) es)) (filter (λ e. is_end (pick e) c) (map (joined_edge j) es))) ≡ length (cond h (e ∷ filter (λ e. is_end (pick e) c) es) (filter (λ e. is_end (pick e) c) es))
       by true rest = ap suc rest
       by false rest = rest
 
-  distinct : HasDistinct (λ e. e.buffer) (map (joined j) g.edges)
+  distinct : HasDistinct (λ e. e.buffer) (map (joined_edge j) g.edges)
   distinct = subst (λ (ns : List ℕ). IsDistinct (λ m n. m == n) ns) (sym (buffers-joined j g.edges)) wired.buffers
 
   ins-joined : (c : ℕ) → ((leads_out g j.source j.sink ≡ true) → (j.sink == c) ≡ false) → length (ins wired_on c) ≡ length (ins g c)
   ins-joined c other =
-      ends-agree (λ (e : Edge). e.sink) c (map (joined j) g.edges) distinct
-      ∙ counted (λ e. e.sink) c g.edges (all-by (IsFree g j) (λ e. is_end (joined j e).sink c ≡ is_end e.sink c) (λ e fr. sink-same c e fr other) g.edges frees)
+      ends-agree (λ (e : Edge). e.sink) c (map (joined_edge j) g.edges) distinct
+      ∙ counted (λ e. e.sink) c g.edges (all-by (IsFree g j) (λ e. is_end (joined_edge j e).sink c ≡ is_end e.sink c) (λ e fr. sink-same c e fr other) g.edges frees)
       ∙ sym (ends-agree (λ (e : Edge). e.sink) c g.edges wired.buffers)
 
   outs-joined : (c : ℕ) → ((leads_in g j.source j.sink ≡ true) → (j.source == c) ≡ false) → length (outs wired_on c) ≡ length (outs g c)
   outs-joined c other =
-      ends-agree (λ (e : Edge). e.source) c (map (joined j) g.edges) distinct
-      ∙ counted (λ e. e.source) c g.edges (all-by (IsFree g j) (λ e. is_end (joined j e).source c ≡ is_end e.source c) (λ e fr. source-same c e fr other) g.edges frees)
+      ends-agree (λ (e : Edge). e.source) c (map (joined_edge j) g.edges) distinct
+      ∙ counted (λ e. e.source) c g.edges (all-by (IsFree g j) (λ e. is_end (joined_edge j e).source c ≡ is_end e.source c) (λ e fr. source-same c e fr other) g.edges frees)
       ∙ sym (ends-agree (λ (e : Edge). e.source) c g.edges wired.buffers)
 
   -- one sink more, at most
-  counted-sinks : (c : ℕ) (es : List Edge) → AllByRecursion (IsFree g j) es → (length (filter (λ e. is_end e.sink c) es) ≤ length (filter (λ e. is_end e.sink c) (map (joined j) es))) × (length (filter (λ e. is_end e.sink c) (map (joined j) es)) ≤ length (filter (λ e. is_end e.sink c) es) + length (filter (λ e. e.buffer == j.source) es))
+  counted-sinks : (c : ℕ) (es : List Edge) → AllByRecursion (IsFree g j) es → (length (filter (λ e. is_end e.sink c) es) ≤ length (filter (λ e. is_end e.sink c) (map (joined_edge j) es))) × (length (filter (λ e. is_end e.sink c) (map (joined_edge j) es)) ≤ length (filter (λ e. is_end e.sink c) es) + length (filter (λ e. e.buffer == j.source) es))
   counted-sinks c [] fr = (omega arith, omega arith)
-  counted-sinks c (e ∷ es) fr = step (is_end e.sink c) (is_end (joined j e).sink c) (e.buffer == j.source) (kept (e.buffer == j.source) refl (e.buffer == j.sink)) (set (e.buffer == j.source) (e.buffer == j.sink)) (counted-sinks c es fr.1)
+  counted-sinks c (e ∷ es) fr = step (is_end e.sink c) (is_end (joined_edge j e).sink c) (e.buffer == j.source) (kept (e.buffer == j.source) refl (e.buffer == j.sink)) (set (e.buffer == j.source) (e.buffer == j.sink)) (counted-sinks c es fr.1)
     where
       none : (o : Option ℕ) → is_some o ≡ false → is_end o c ≡ true → ⊥
       none None e is = false≢true is
@@ -246,7 +246,7 @@ module _ (g : Graph) (j : Join) (wired : IsWired g) (free : is_joined g j.source
       set false true is = inl is
       set false false is = inl is
 
-      step : (p q r : Bool) → (p ≡ true → q ≡ true) → (q ≡ true → (p ≡ true) ⊎ (r ≡ true)) → (length (filter (λ e. is_end e.sink c) es) ≤ length (filter (λ e. is_end e.sink c) (map (joined j) es))) × (length (filter (λ e. is_end e.sink c) (map (joined j) es)) ≤ length (filter (λ e. is_end e.sink c) es) + length (filter (λ e. e.buffer == j.source) es)) → (length (cond p (e ∷ filter (λ e. is_end e.sink c) es) (filter (λ e. is_end e.sink c) es)) ≤ length (cond q (joined j e ∷ filter (λ e. is_end e.sink c) (map (joined j) es)) (filter (λ e. is_end e.sink c) (map (joined j) es)))) × (length (cond q (joined j e ∷ filter (λ e. is_end e.sink c) (map (joined j) es)) (filter (λ e. is_end e.sink c) (map (joined j) es))) ≤ length (cond p (e ∷ filter (λ e. is_end e.sink c) es) (filter (λ e. is_end e.sink c) es)) + length (cond r (e ∷ filter (λ e. e.buffer == j.source) es) (filter (λ e. e.buffer == j.source) es)))
+      step : (p q r : Bool) → (p ≡ true → q ≡ true) → (q ≡ true → (p ≡ true) ⊎ (r ≡ true)) → (length (filter (λ e. is_end e.sink c) es) ≤ length (filter (λ e. is_end e.sink c) (map (joined_edge j) es))) × (length (filter (λ e. is_end e.sink c) (map (joined_edge j) es)) ≤ length (filter (λ e. is_end e.sink c) es) + length (filter (λ e. e.buffer == j.source) es)) → (length (cond p (e ∷ filter (λ e. is_end e.sink c) es) (filter (λ e. is_end e.sink c) es)) ≤ length (cond q (joined_edge j e ∷ filter (λ e. is_end e.sink c) (map (joined_edge j) es)) (filter (λ e. is_end e.sink c) (map (joined_edge j) es)))) × (length (cond q (joined_edge j e ∷ filter (λ e. is_end e.sink c) (map (joined_edge j) es)) (filter (λ e. is_end e.sink c) (map (joined_edge j) es))) ≤ length (cond p (e ∷ filter (λ e. is_end e.sink c) es) (filter (λ e. is_end e.sink c) es)) + length (cond r (e ∷ filter (λ e. e.buffer == j.source) es) (filter (λ e. e.buffer == j.source) es)))
       step true true true f h rest = (omega (arith, rest.0), omega (arith, rest.1))
       step true true false f h rest = (omega (arith, rest.0), omega (arith, rest.1))
       step true false r f h rest = absurd (false≢true (f refl))
@@ -270,7 +270,7 @@ module _ (g : Graph) (j : Join) (wired : IsWired g) (free : is_joined g j.source
   ins-more c =
       let n = counted-sinks c g.edges frees in
       let old_ins = ends-agree (λ (e : Edge). e.sink) c g.edges wired.buffers in
-      let new_ins = ends-agree (λ (e : Edge). e.sink) c (map (joined j) g.edges) distinct in
+      let new_ins = ends-agree (λ (e : Edge). e.sink) c (map (joined_edge j) g.edges) distinct in
       (omega (arith, n.0, old_ins, new_ins), omega (arith, n.1, old_ins, new_ins, one-source))
 
   -- where the join goes to a component, it takes one more in; and one that is ready takes no more out
@@ -302,7 +302,7 @@ module _ (g : Graph) (j : Join) (wired : IsWired g) (free : is_joined g j.source
       by true out false other = ap (λ m. fits_kind c.kind m (length (outs g c.id))) (ins-joined c.id (λ leads. other)) ∙ fits-comp g c ready
       by false out k is = ap (λ m. fits_kind c.kind m (length (outs g c.id))) (ins-joined c.id (λ leads. absurd (true≢false (sym leads ∙ out)))) ∙ fits-comp g c ready
 
-  edge-joined : (e : Edge) → is_ready_edge g e ≡ true → is_ready_edge wired_on (joined j e) ≡ true
+  edge-joined : (e : Edge) → is_ready_edge g e ≡ true → is_ready_edge wired_on (joined_edge j e) ≡ true
   edge-joined e ready = by (e.buffer == j.source) (e.buffer == j.sink)
     where
       parts : ((is_complete g e.pipe && is_some e.source) ≡ true) × (is_some e.sink ≡ true)
@@ -342,23 +342,23 @@ module _ (g : Graph) (j : Join) (wired : IsWired g) (free : is_joined g j.source
           (ap (λ h. not h || is_ready_comp wired_on c) (same c.id there.0) ∙ one (on_way g n c.id) (is_ready_comp g c) (is_ready_comp wired_on c) (comp-joined c found.0) parts.0)
           (comps xs found.1 there.1 parts.1)
 
-      edges : (es : List Edge) → AllByRecursion (λ e. is_among nodes e.buffer ≡ true) es → list_all (λ e. not (on_way g n e.buffer) || is_ready_edge g e) es ≡ true → list_all (λ e. not (on_way wired_on n e.buffer) || is_ready_edge wired_on e) (map (joined j) es) ≡ true
+      edges : (es : List Edge) → AllByRecursion (λ e. is_among nodes e.buffer ≡ true) es → list_all (λ e. not (on_way g n e.buffer) || is_ready_edge g e) es ≡ true → list_all (λ e. not (on_way wired_on n e.buffer) || is_ready_edge wired_on e) (map (joined_edge j) es) ≡ true
       edges [] there is = refl
       edges (e ∷ es) there is =
           let parts = and_parts (not (on_way g n e.buffer) || is_ready_edge g e) (list_all (λ e. not (on_way g n e.buffer) || is_ready_edge g e) es) is in
           and_from _ _
-          (ap (λ b. not (on_way wired_on n b) || is_ready_edge wired_on (joined j e)) (joined-buffer j e)
-          ∙ ap (λ h. not h || is_ready_edge wired_on (joined j e)) (same e.buffer there.0) ∙ one (on_way g n e.buffer) (is_ready_edge g e) (is_ready_edge wired_on (joined j e)) (edge-joined e) parts.0)
+          (ap (λ b. not (on_way wired_on n b) || is_ready_edge wired_on (joined_edge j e)) (joined-buffer j e)
+          ∙ ap (λ h. not h || is_ready_edge wired_on (joined_edge j e)) (same e.buffer there.0) ∙ one (on_way g n e.buffer) (is_ready_edge g e) (is_ready_edge wired_on (joined_edge j e)) (edge-joined e) parts.0)
           (edges es there.1 parts.1)
 
-  set-joined : (s : StreamView) → Holds s → IsSet g s → IsSet wired_on s
+  set-joined : (s : StreamView) → Holds s → IsStreamSet g s → IsStreamSet wired_on s
   set-joined s hold is_set = by s.params refl is_set
     where
       by : (o : Option Params) → s.params ≡ o → IsSetBy g s.host (is_idle s.phase) o → IsSetBy wired_on s.host (is_idle s.phase) o
       by None e is_set = is_set
       by (Some p) e is_set = (is_set.0, is_set.1, is_set.2, ready-joined s.host (hold (ap (λ o. is_some o) e)) is_set.3)
 
-  sets-joined : (xs : List StreamView) → AllByRecursion Holds xs → AllByRecursion (IsSet g) xs → AllByRecursion (IsSet wired_on) xs
+  sets-joined : (xs : List StreamView) → AllByRecursion Holds xs → AllByRecursion (IsStreamSet g) xs → AllByRecursion (IsStreamSet wired_on) xs
   sets-joined [] hold sets = tt
   sets-joined (s ∷ xs) hold sets = (set-joined s hold.0 sets.0, sets-joined xs hold.1 sets.1)
 
@@ -397,7 +397,7 @@ module _ (g : Graph) (j : Join) (wired : IsWired g) (free : is_joined g j.source
   unfolding agree
   agree-joined = rows ss ways played.agreed
 
-  pub played-joined : IsPlayable new
+  pub played-joined : AreStreamsPlayable new
   played-joined = record {
     hosts = played.hosts;
     owned = played.owned;
@@ -420,7 +420,7 @@ module _ (g : Graph) (j : Join) (wired : IsWired g) (free : is_joined g j.source
             each es parts.1,
           )
 
-  given-way : (s : StreamView) → is_live_phase s.phase ≡ true → IsSet g s → is_way_ready g s.host ≡ true
+  given-way : (s : StreamView) → is_live_phase s.phase ≡ true → IsStreamSet g s → is_way_ready g s.host ≡ true
   given-way s lives is_set = by s.params is_set
     where
       by : (o : Option Params) → IsSetBy g s.host (is_idle s.phase) o → is_way_ready g s.host ≡ true
@@ -430,7 +430,7 @@ module _ (g : Graph) (j : Join) (wired : IsWired g) (free : is_joined g j.source
   live-sides : (es : List Edge) → ((n : ℕ) → is_way_ready g n ≡ true → AllByRecursion (λ e. on_way g n e.buffer ≡ true → (is_some e.source ≡ true) × (is_some e.sink ≡ true)) es) → AllByRecursion (λ e. live old e.buffer ≡ true → (is_some e.source ≡ true) × (is_some e.sink ≡ true)) es
   live-sides [] all = tt
   live-sides (e ∷ es) all = (
-    λ now. let h = heard old e.buffer played now in (all h.stream.host (given-way h.stream h.phase (all-of (IsSet g) ss h.stream played.each h.among))).0 h.way,
+    λ now. let h = heard old e.buffer played now in (all h.stream.host (given-way h.stream h.phase (all-of (IsStreamSet g) ss h.stream played.each h.among))).0 h.way,
     live-sides es (λ n ready. (all n ready).1),
   )
 
@@ -438,7 +438,7 @@ module _ (g : Graph) (j : Join) (wired : IsWired g) (free : is_joined g j.source
   end-joined None is = refl
   end-joined (Some n) is = live-joined n (among-left (components g) (buffers g) n (among-map (λ (c : Comp). c.id) g.comps n is))
 
-  flow-joined : (e : Edge) → IsFree g j e → IsSide g e.source × IsSide g e.sink → is_among nodes e.buffer ≡ true → (live old e.buffer ≡ true → (is_some e.source ≡ true) × (is_some e.sink ≡ true)) → find (λ y. y.buffer == e.buffer) g.edges ≡ Some e → find (λ y. y.buffer == e.buffer) (map (joined j) g.edges) ≡ Some (joined j e) → flows new e.buffer ≡ flows old e.buffer
+  flow-joined : (e : Edge) → IsFree g j e → IsSide g e.source × IsSide g e.sink → is_among nodes e.buffer ≡ true → (live old e.buffer ≡ true → (is_some e.source ≡ true) × (is_some e.sink ≡ true)) → find (λ y. y.buffer == e.buffer) g.edges ≡ Some e → find (λ y. y.buffer == e.buffer) (map (joined_edge j) g.edges) ≡ Some (joined_edge j e) → flows new e.buffer ≡ flows old e.buffer
   unfolding flows
   flow-joined e fr ends there sides found now =
       ap (λ (o : Option Edge). (live new e.buffer && live_end new (option_and_then (λ e. e.source) o)) && live_end new (option_and_then (λ e. e.sink) o)) now
@@ -456,24 +456,24 @@ module _ (g : Graph) (j : Join) (wired : IsWired g) (free : is_joined g j.source
       stays false true is to lives = absurd (true≢false (sym (sides lives).0 ∙ (fr.to to).0))
       stays false false is to lives = refl
 
-      by : (h : Bool) → live old e.buffer ≡ h → ((live new e.buffer && live_end new (joined j e).source) && live_end new (joined j e).sink) ≡ ((live old e.buffer && live_end old e.source) && live_end old e.sink)
+      by : (h : Bool) → live old e.buffer ≡ h → ((live new e.buffer && live_end new (joined_edge j e).source) && live_end new (joined_edge j e).sink) ≡ ((live old e.buffer && live_end old e.source) && live_end old e.sink)
       by true is =
           ap (λ (x : Edge). (live new e.buffer && live_end new x.source) && live_end new x.sink) (stays (e.buffer == j.source) (e.buffer == j.sink) refl refl is)
           ∙ ap (λ (p : Bool × Bool × Bool). (p.0 && p.1) && p.2) (λ i. (same i, end-joined e.source ends.0 i, end-joined e.sink ends.1 i))
       by false is =
-          ap (λ h. (h && live_end new (joined j e).source) && live_end new (joined j e).sink) (same ∙ is)
+          ap (λ h. (h && live_end new (joined_edge j e).source) && live_end new (joined_edge j e).sink) (same ∙ is)
           ∙ sym (ap (λ h. (h && live_end old e.source) && live_end old e.sink) is)
 
-  found-joined : (es : List Edge) → AllByRecursion (λ x. find (λ y. y.buffer == x.buffer) (map (joined j) g.edges) ≡ Some x) (map (joined j) es) → AllByRecursion (λ e. find (λ y. y.buffer == e.buffer) (map (joined j) g.edges) ≡ Some (joined j e)) es
+  found-joined : (es : List Edge) → AllByRecursion (λ x. find (λ y. y.buffer == x.buffer) (map (joined_edge j) g.edges) ≡ Some x) (map (joined_edge j) es) → AllByRecursion (λ e. find (λ y. y.buffer == e.buffer) (map (joined_edge j) g.edges) ≡ Some (joined_edge j e)) es
   found-joined [] found = tt
-  found-joined (e ∷ es) found = (ap (λ n. find (λ y. y.buffer == n) (map (joined j) g.edges)) (sym (joined-buffer j e)) ∙ found.0, found-joined es found.1)
+  found-joined (e ∷ es) found = (ap (λ n. find (λ y. y.buffer == n) (map (joined_edge j) g.edges)) (sym (joined-buffer j e)) ∙ found.0, found-joined es found.1)
 
-  flows-each : (es : List Edge) → AllByRecursion (IsFree g j) es → AllByRecursion (λ e. IsSide g e.source × IsSide g e.sink) es → AllByRecursion (λ e. is_among nodes e.buffer ≡ true) es → AllByRecursion (λ e. live old e.buffer ≡ true → (is_some e.source ≡ true) × (is_some e.sink ≡ true)) es → AllByRecursion (λ e. find (λ y. y.buffer == e.buffer) g.edges ≡ Some e) es → AllByRecursion (λ e. find (λ y. y.buffer == e.buffer) (map (joined j) g.edges) ≡ Some (joined j e)) es → AllByRecursion (λ e. flows new e.buffer ≡ flows old e.buffer) es
+  flows-each : (es : List Edge) → AllByRecursion (IsFree g j) es → AllByRecursion (λ e. IsSide g e.source × IsSide g e.sink) es → AllByRecursion (λ e. is_among nodes e.buffer ≡ true) es → AllByRecursion (λ e. live old e.buffer ≡ true → (is_some e.source ≡ true) × (is_some e.sink ≡ true)) es → AllByRecursion (λ e. find (λ y. y.buffer == e.buffer) g.edges ≡ Some e) es → AllByRecursion (λ e. find (λ y. y.buffer == e.buffer) (map (joined_edge j) g.edges) ≡ Some (joined_edge j e)) es → AllByRecursion (λ e. flows new e.buffer ≡ flows old e.buffer) es
   flows-each [] fr ends there sides found now = tt
   flows-each (e ∷ es) fr ends there sides found now = (flow-joined e fr.0 ends.0 there.0 sides.0 found.0 now.0, flows-each es fr.1 ends.1 there.1 sides.1 found.1 now.1)
 
   pub flows-joined : AllByRecursion (λ e. flows new e.buffer ≡ flows old e.buffer) g.edges
-  flows-joined = flows-each g.edges frees wired.sides (all-own (λ (e : Edge). e.buffer) (components g) g.edges) (live-sides g.edges ready-at) (found-each (λ (e : Edge). e.buffer) g.edges wired.buffers) (found-joined g.edges (found-each (λ (e : Edge). e.buffer) (map (joined j) g.edges) distinct))
+  flows-joined = flows-each g.edges frees wired.sides (all-own (λ (e : Edge). e.buffer) (components g) g.edges) (live-sides g.edges ready-at) (found-each (λ (e : Edge). e.buffer) g.edges wired.buffers) (found-joined g.edges (found-each (λ (e : Edge). e.buffer) (map (joined_edge j) g.edges) distinct))
 
   pub channels-each : AllByRecursion (λ e. channels_of new e.buffer ≡ channels_of old e.buffer) g.edges
   channels-each = all-by (λ e. is_among nodes e.buffer ≡ true) (λ e. channels_of new e.buffer ≡ channels_of old e.buffer) (λ e. channels-joined e.buffer) g.edges (all-own (λ (e : Edge). e.buffer) (components g) g.edges)
@@ -499,7 +499,7 @@ module _ (g : Graph) (j : Join) (wired : IsWired g) (free : is_joined g j.source
   side-joined None is = tt
   side-joined (Some n) is = is
 
-  sides-joined : (es : List Edge) → AllByRecursion (IsFree g j) es → AllByRecursion (λ e. IsSide g e.source × IsSide g e.sink) es → AllByRecursion (λ e. IsSide wired_on e.source × IsSide wired_on e.sink) (map (joined j) es)
+  sides-joined : (es : List Edge) → AllByRecursion (IsFree g j) es → AllByRecursion (λ e. IsSide g e.source × IsSide g e.sink) es → AllByRecursion (λ e. IsSide wired_on e.source × IsSide wired_on e.sink) (map (joined_edge j) es)
   sides-joined [] fr ends = tt
   sides-joined (e ∷ es) fr ends = (by (e.buffer == j.source) refl (e.buffer == j.sink) refl, sides-joined es fr.1 ends.1)
     where
@@ -508,7 +508,7 @@ module _ (g : Graph) (j : Join) (wired : IsWired g) (free : is_joined g j.source
       by false is true to = ((fr.0.to to).1, side-joined e.sink ends.0.1)
       by false is false to = (side-joined e.source ends.0.0, side-joined e.sink ends.0.1)
 
-  apart-joined : (es : List Edge) → AllByRecursion (λ e. has_comp g e.buffer ≡ false) es → AllByRecursion (λ e. has_comp g e.buffer ≡ false) (map (joined j) es)
+  apart-joined : (es : List Edge) → AllByRecursion (λ e. has_comp g e.buffer ≡ false) es → AllByRecursion (λ e. has_comp g e.buffer ≡ false) (map (joined_edge j) es)
   apart-joined [] apart = tt
   apart-joined (e ∷ es) apart = (ap (has_comp g) (joined-buffer j e) ∙ apart.0, apart-joined es apart.1)
 

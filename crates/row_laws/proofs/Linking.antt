@@ -11,11 +11,11 @@ use Rattle.stream_law.specs.declared.graph.Graph.{Graph}
 use Rattle.stream_law.specs.declared.stream.StreamView.{StreamView}
 use Rattle.stream_law.specs.Placed.{placed}
 use Rattle.stream_law.specs.Ways.{is_end, leads}
-use Rattle.stream_law.specs.Joins.{joined, with_join, would_cycle, would_grow}
+use Rattle.stream_law.specs.Joins.{joined_edge, with_join, would_cycle, would_grow}
 use Rattle.stream_law.proofs.Placing.{list_any-placed}
 use Rattle.mbox_link.specs.Step.{has_comp, has_edge, leads_in, leads_out, is_joined, takes_join}
-use Rattle.row_laws.specs.Wired.{IsWired, IsLinked, IsJoinedFrom, IsJoinedTo, is_at}
-use Rattle.row_laws.specs.Played.{IsPlayable}
+use Rattle.row_laws.specs.Wired.{IsWired, HasJoinedSides, IsJoinedFrom, IsJoinedTo, is_at}
+use Rattle.row_laws.specs.Played.{AreStreamsPlayable}
 use Rattle.row_laws.proofs.Growing.{all-placed, all-by}
 use Rattle.row_laws.proofs.Joining.{IsFree, frees, leads-apart}
 use Rattle.stream_law.proofs.Walking.{open-joined}
@@ -34,7 +34,7 @@ module _ (g : Graph) (c : Comp) where
   to-same b None is = tt
   to-same b (Some n) is = is
 
-  pub linked-wider : IsLinked g → IsLinked wider
+  pub linked-wider : HasJoinedSides g → HasJoinedSides wider
   linked-wider linked = record {
     at = linked.at;
     from = all-by (λ e. IsJoinedFrom g e.source e.buffer) (λ e. IsJoinedFrom wider e.source e.buffer) (λ e. from-same e.source e.buffer) g.edges linked.from;
@@ -53,7 +53,7 @@ module _ (g h : Graph) (joins : g.joins ≡ h.joins) where
   to-as b None is = tt
   to-as b (Some n) is = sym (ap (λ (js : List Join). list_any (λ j. j.source == b && j.sink == n) js) joins) ∙ is
 
-pub linked-longer : (g : Graph) (e : Edge) → e.source ≡ None → e.sink ≡ None → IsLinked g → IsLinked (record { comps = g.comps; edges = placed (λ y. y.buffer) e g.edges; pipes = g.pipes; joins = g.joins })
+pub linked-longer : (g : Graph) (e : Edge) → e.source ≡ None → e.sink ≡ None → HasJoinedSides g → HasJoinedSides (record { comps = g.comps; edges = placed (λ y. y.buffer) e g.edges; pipes = g.pipes; joins = g.joins })
 linked-longer g e source sink linked = record {
   at = all-by (λ j. list_any (is_at j) g.edges ≡ true) (λ j. list_any (is_at j) (placed (λ y. y.buffer) e g.edges) ≡ true) (λ j is. list_any-placed (is_at j) (λ y. y.buffer) e g.edges ∙ or_right (is_at j e) _ is) g.joins linked.at;
   from = all-placed (λ x. IsJoinedFrom h x.source x.buffer) (λ y. y.buffer) e g.edges (rw source tt) (all-by (λ x. IsJoinedFrom g x.source x.buffer) (λ x. IsJoinedFrom h x.source x.buffer) (λ x. from-as g h refl x.source x.buffer) g.edges linked.from);
@@ -64,7 +64,7 @@ linked-longer g e source sink linked = record {
     h : Graph
     h = record { comps = g.comps; edges = placed (λ y. y.buffer) e g.edges; pipes = g.pipes; joins = g.joins }
 
-pub linked-other : (g : Graph) (pipes : List Pipe) → IsLinked g → IsLinked (record { comps = g.comps; edges = g.edges; pipes = pipes; joins = g.joins })
+pub linked-other : (g : Graph) (pipes : List Pipe) → HasJoinedSides g → HasJoinedSides (record { comps = g.comps; edges = g.edges; pipes = pipes; joins = g.joins })
 linked-other g pipes linked = record {
   at = linked.at;
   from = all-by (λ x. IsJoinedFrom g x.source x.buffer) (λ x. IsJoinedFrom h x.source x.buffer) (λ x. from-as g h refl x.source x.buffer) g.edges linked.from;
@@ -77,7 +77,7 @@ linked-other g pipes linked = record {
 
 -- ---- a join more
 
-module _ (g : Graph) (j : Join) (wired : IsWired g) (free : is_joined g j.source j.sink ≡ false) (takes : takes_join g j.source j.sink ≡ true) (ss : List StreamView) (played : IsPlayable (record { graph = g; streams = ss })) (grow : would_grow g ss j.source j.sink ≡ false) (linked : IsLinked g) where
+module _ (g : Graph) (j : Join) (wired : IsWired g) (free : is_joined g j.source j.sink ≡ false) (takes : takes_join g j.source j.sink ≡ true) (ss : List StreamView) (played : AreStreamsPlayable (record { graph = g; streams = ss })) (grow : would_grow g ss j.source j.sink ≡ false) (linked : HasJoinedSides g) where
   abbrev linked_on : Graph
   linked_on = with_join g j
 
@@ -93,7 +93,7 @@ module _ (g : Graph) (j : Join) (wired : IsWired g) (free : is_joined g j.source
   none-end None c e = refl
   none-end (Some n) c e = absurd (true≢false e)
 
-  at-keep : (k : Join) (e : Edge) → IsFree g j e → is_at k e ≡ true → is_at k (joined j e) ≡ true
+  at-keep : (k : Join) (e : Edge) → IsFree g j e → is_at k e ≡ true → is_at k (joined_edge j e) ≡ true
   at-keep k e fr is = by (e.buffer == j.source) refl (e.buffer == j.sink) refl
     where
       only : (a b c d : Bool) → b ≡ false → ((a && c) || (d && b)) ≡ true → (a && c) ≡ true
@@ -113,15 +113,15 @@ module _ (g : Graph) (j : Join) (wired : IsWired g) (free : is_joined g j.source
       by false from true to = or_right (e.buffer == k.sink && is_end (Some j.source) k.source) _ (other (e.buffer == k.sink) (is_end e.sink k.sink) (is_end e.source k.source) (e.buffer == k.source) (none-end e.source k.source (fr.to to).0) is)
       by false from false to = is
 
-  at-map : (k : Join) (es : List Edge) → AllByRecursion (IsFree g j) es → list_any (is_at k) es ≡ true → list_any (is_at k) (map (joined j) es) ≡ true
+  at-map : (k : Join) (es : List Edge) → AllByRecursion (IsFree g j) es → list_any (is_at k) es ≡ true → list_any (is_at k) (map (joined_edge j) es) ≡ true
   at-map k [] fr is = is
   at-map k (e ∷ es) fr is = by (or_cases (is_at k e) (list_any (is_at k) es) is) (at-map k es fr.1)
     where
-      by : (is_at k e ≡ true) ⊎ (list_any (is_at k) es ≡ true) → (list_any (is_at k) es ≡ true → list_any (is_at k) (map (joined j) es) ≡ true) → (is_at k (joined j e) || list_any (is_at k) (map (joined j) es)) ≡ true
-      by (inl here) rest = or_left (is_at k (joined j e)) _ (at-keep k e fr.0 here)
-      by (inr more) rest = or_right (is_at k (joined j e)) _ (rest more)
+      by : (is_at k e ≡ true) ⊎ (list_any (is_at k) es ≡ true) → (list_any (is_at k) es ≡ true → list_any (is_at k) (map (joined_edge j) es) ≡ true) → (is_at k (joined_edge j e) || list_any (is_at k) (map (joined_edge j) es)) ≡ true
+      by (inl here) rest = or_left (is_at k (joined_edge j e)) _ (at-keep k e fr.0 here)
+      by (inr more) rest = or_right (is_at k (joined_edge j e)) _ (rest more)
 
-  at-in : leads_in g j.source j.sink ≡ true → (es : List Edge) → AllByRecursion (IsFree g j) es → list_any (λ e. e.buffer == j.sink) es ≡ true → list_any (is_at j) (map (joined j) es) ≡ true
+  at-in : leads_in g j.source j.sink ≡ true → (es : List Edge) → AllByRecursion (IsFree g j) es → list_any (λ e. e.buffer == j.sink) es ≡ true → list_any (is_at j) (map (joined_edge j) es) ≡ true
   at-in into [] fr there = there
   at-in into (e ∷ es) fr there = by (or_cases (e.buffer == j.sink) (list_any (λ e. e.buffer == j.sink) es) there) (at-in into es fr.1)
     where
@@ -130,11 +130,11 @@ module _ (g : Graph) (j : Join) (wired : IsWired g) (free : is_joined g j.source
       new false true from to so = or_left (e.buffer == j.sink && (j.source == j.source)) _ (and_from (e.buffer == j.sink) (j.source == j.source) to (eq-eqb j.source j.source refl))
       new false false from to so = absurd (false≢true so)
 
-      by : ((e.buffer == j.sink) ≡ true) ⊎ (list_any (λ e. e.buffer == j.sink) es ≡ true) → (list_any (λ e. e.buffer == j.sink) es ≡ true → list_any (is_at j) (map (joined j) es) ≡ true) → (is_at j (joined j e) || list_any (is_at j) (map (joined j) es)) ≡ true
-      by (inl here) rest = or_left (is_at j (joined j e)) _ (new (e.buffer == j.source) (e.buffer == j.sink) refl refl here)
-      by (inr more) rest = or_right (is_at j (joined j e)) _ (rest more)
+      by : ((e.buffer == j.sink) ≡ true) ⊎ (list_any (λ e. e.buffer == j.sink) es ≡ true) → (list_any (λ e. e.buffer == j.sink) es ≡ true → list_any (is_at j) (map (joined_edge j) es) ≡ true) → (is_at j (joined_edge j e) || list_any (is_at j) (map (joined_edge j) es)) ≡ true
+      by (inl here) rest = or_left (is_at j (joined_edge j e)) _ (new (e.buffer == j.source) (e.buffer == j.sink) refl refl here)
+      by (inr more) rest = or_right (is_at j (joined_edge j e)) _ (rest more)
 
-  at-out : (es : List Edge) → list_any (λ e. e.buffer == j.source) es ≡ true → list_any (is_at j) (map (joined j) es) ≡ true
+  at-out : (es : List Edge) → list_any (λ e. e.buffer == j.source) es ≡ true → list_any (is_at j) (map (joined_edge j) es) ≡ true
   at-out [] there = there
   at-out (e ∷ es) there = by (or_cases (e.buffer == j.source) (list_any (λ e. e.buffer == j.source) es) there) (at-out es)
     where
@@ -142,19 +142,19 @@ module _ (g : Graph) (j : Join) (wired : IsWired g) (free : is_joined g j.source
       new true t from so = or_right (e.buffer == j.sink && is_end e.source j.source) _ (and_from (e.buffer == j.source) (j.sink == j.sink) from (eq-eqb j.sink j.sink refl))
       new false t from so = absurd (false≢true so)
 
-      by : ((e.buffer == j.source) ≡ true) ⊎ (list_any (λ e. e.buffer == j.source) es ≡ true) → (list_any (λ e. e.buffer == j.source) es ≡ true → list_any (is_at j) (map (joined j) es) ≡ true) → (is_at j (joined j e) || list_any (is_at j) (map (joined j) es)) ≡ true
-      by (inl here) rest = or_left (is_at j (joined j e)) _ (new (e.buffer == j.source) (e.buffer == j.sink) refl here)
-      by (inr more) rest = or_right (is_at j (joined j e)) _ (rest more)
+      by : ((e.buffer == j.source) ≡ true) ⊎ (list_any (λ e. e.buffer == j.source) es ≡ true) → (list_any (λ e. e.buffer == j.source) es ≡ true → list_any (is_at j) (map (joined_edge j) es) ≡ true) → (is_at j (joined_edge j e) || list_any (is_at j) (map (joined_edge j) es)) ≡ true
+      by (inl here) rest = or_left (is_at j (joined_edge j e)) _ (new (e.buffer == j.source) (e.buffer == j.sink) refl here)
+      by (inr more) rest = or_right (is_at j (joined_edge j e)) _ (rest more)
 
-  at-new : list_any (is_at j) (map (joined j) g.edges) ≡ true
+  at-new : list_any (is_at j) (map (joined_edge j) g.edges) ≡ true
   at-new = by (leads_in g j.source j.sink) refl (leads_out g j.source j.sink) refl _ _ takes
     where
-      by : (h : Bool) → leads_in g j.source j.sink ≡ h → (k : Bool) → leads_out g j.source j.sink ≡ k → (a b : Bool) → ((h && a) || (k && b)) ≡ true → list_any (is_at j) (map (joined j) g.edges) ≡ true
+      by : (h : Bool) → leads_in g j.source j.sink ≡ h → (k : Bool) → leads_out g j.source j.sink ≡ k → (a b : Bool) → ((h && a) || (k && b)) ≡ true → list_any (is_at j) (map (joined_edge j) g.edges) ≡ true
       by true into k out a b any = at-in into g.edges free-edges (and_parts (has_comp g j.source) (has_edge g j.sink) into).1
       by false into true out a b any = at-out g.edges (and_parts (has_edge g j.source) (has_comp g j.sink) out).0
       by false into false out a b any = absurd (false≢true any)
 
-  at-all : (js : List Join) → AllByRecursion (λ k. list_any (is_at k) g.edges ≡ true) js → AllByRecursion (λ k. list_any (is_at k) (map (joined j) g.edges) ≡ true) (js ++ j ∷ [])
+  at-all : (js : List Join) → AllByRecursion (λ k. list_any (is_at k) g.edges ≡ true) js → AllByRecursion (λ k. list_any (is_at k) (map (joined_edge j) g.edges) ≡ true) (js ++ j ∷ [])
   at-all [] all = (at-new, tt)
   at-all (k ∷ js) all = (at-map k g.edges free-edges all.0, at-all js all.1)
 
@@ -181,7 +181,7 @@ module _ (g : Graph) (j : Join) (wired : IsWired g) (free : is_joined g j.source
   turned : (m n : ℕ) → (m == n) ≡ true → (n == m) ≡ true
   turned m n e = eq-eqb n m (sym (eqb-true m n e))
 
-  from-on : (es : List Edge) → AllByRecursion (λ e. IsJoinedFrom g e.source e.buffer) es → AllByRecursion (λ e. IsJoinedFrom linked_on e.source e.buffer) (map (joined j) es)
+  from-on : (es : List Edge) → AllByRecursion (λ e. IsJoinedFrom g e.source e.buffer) es → AllByRecursion (λ e. IsJoinedFrom linked_on e.source e.buffer) (map (joined_edge j) es)
   from-on [] all = tt
   from-on (e ∷ es) all = (by (e.buffer == j.source) (e.buffer == j.sink) refl, from-on es all.1)
     where
@@ -190,7 +190,7 @@ module _ (g : Graph) (j : Join) (wired : IsWired g) (free : is_joined g j.source
       by false true to = any-last (λ k. k.source == j.source && k.sink == e.buffer) g.joins (and_from (j.source == j.source) (j.sink == e.buffer) (eq-eqb j.source j.source refl) (turned e.buffer j.sink to))
       by false false to = from-keep e.source e.buffer all.0
 
-  to-on : (es : List Edge) → AllByRecursion (λ e. IsJoinedTo g e.buffer e.sink) es → AllByRecursion (λ e. IsJoinedTo linked_on e.buffer e.sink) (map (joined j) es)
+  to-on : (es : List Edge) → AllByRecursion (λ e. IsJoinedTo g e.buffer e.sink) es → AllByRecursion (λ e. IsJoinedTo linked_on e.buffer e.sink) (map (joined_edge j) es)
   to-on [] all = tt
   to-on (e ∷ es) all = (by (e.buffer == j.source) refl (e.buffer == j.sink), to-on es all.1)
     where
@@ -203,7 +203,7 @@ module _ (g : Graph) (j : Join) (wired : IsWired g) (free : is_joined g j.source
   unfolding would_cycle
   still-open no_cycle = no_cycle
 
-  pub linked-joined : would_cycle g j.source j.sink ≡ false → IsLinked linked_on
+  pub linked-joined : would_cycle g j.source j.sink ≡ false → HasJoinedSides linked_on
   linked-joined no_cycle = record {
     at = at-all g.joins linked.at;
     from = from-on g.edges linked.from;

@@ -15,10 +15,10 @@ use Rattle.stream_law.specs.Ways.{edge_of, source_of, sink_of, ins, outs, is_end
 use Rattle.stream_law.specs.Joins.{fits_kind}
 use Rattle.stream_law.specs.Seen.{flows}
 use Rattle.stream_law.proofs.Placing.{list_any-placed, find-placed_apart, find-placed_there, HasDistinct-placed}
-use Rattle.ipc3_codec.specs.Allowed.{is_period}
+use Rattle.ipc3_codec.specs.Allowed.{is_period_allowed}
 use Rattle.mbox_link.specs.Step.{has_comp, has_edge, has_pipe, is_complete, is_ready_comp, is_ready_edge, is_way_ready, completed}
 use Rattle.row_laws.specs.Wired.{IsWired, IsSide, IsBetween, is_node}
-use Rattle.row_laws.specs.Played.{IsPlayable, IsSet, IsSetBy, is_idle}
+use Rattle.row_laws.specs.Played.{AreStreamsPlayable, IsStreamSet, IsSetBy, is_idle}
 use Rattle.row_laws.proofs.Ids.{any-ids}
 use Rattle.row_laws.proofs.Found.{ends-agree}
 use Rattle.row_laws.proofs.Unreached.{eqb-turned, IsApart, apart, off-way}
@@ -38,7 +38,7 @@ filter-placed {X} p key x (y ∷ ys) e = by (nat_lt (key x) (key y)) (filter-pla
     by true rest = ap (λ h. length (cond h (x ∷ filter p (y ∷ ys)) (filter p (y ∷ ys)))) e
     by false rest = more (p y) rest
 
-module _ (g : Graph) (id pipe size : ℕ) (gone : is_node g id ≡ false) (wired : IsWired g) (ss : List StreamView) (played : IsPlayable (record { graph = g; streams = ss })) where
+module _ (g : Graph) (id pipe size : ℕ) (gone : is_node g id ≡ false) (wired : IsWired g) (ss : List StreamView) (played : AreStreamsPlayable (record { graph = g; streams = ss })) where
   abbrev fresh : Edge
   fresh = record { buffer = id; pipe = pipe; size = size; source = None; sink = None }
 
@@ -131,7 +131,7 @@ module _ (g : Graph) (id pipe size : ℕ) (gone : is_node g id ≡ false) (wired
   set-longer n idle None other is_set = is_set
   set-longer n idle (Some p) other is_set = (is_set.0, is_set.1, is_set.2, ready-longer n other is_set.3)
 
-  sets-longer : (xs : List StreamView) → AllByRecursion (λ s. (s.host == id) ≡ false) xs → AllByRecursion (IsSet g) xs → AllByRecursion (IsSet longer) xs
+  sets-longer : (xs : List StreamView) → AllByRecursion (λ s. (s.host == id) ≡ false) xs → AllByRecursion (IsStreamSet g) xs → AllByRecursion (IsStreamSet longer) xs
   sets-longer [] apart sets = tt
   sets-longer (s ∷ xs) apart sets = (set-longer s.host (is_idle s.phase) s.params apart.0 sets.0, sets-longer xs apart.1 sets.1)
 
@@ -170,7 +170,7 @@ module _ (g : Graph) (id pipe size : ℕ) (gone : is_node g id ≡ false) (wired
   unfolding agree
   agree-longer = all-same (λ s. list_all (λ t. not (touch longer s t) || same_shape s.params t.params) ss) (λ s. list_all (λ t. not (touch g s t) || same_shape s.params t.params) ss) ss (rows ss far) ∙ played.agreed
 
-  pub played-longer : IsPlayable new
+  pub played-longer : AreStreamsPlayable new
   played-longer = record {
     hosts = played.hosts;
     owned = played.owned;
@@ -211,7 +211,7 @@ module _ (g : Graph) (id pipe size : ℕ) (gone : is_node g id ≡ false) (wired
 
 -- ---- other pipelines, of which as many are complete
 
-module _ (g : Graph) (pipes : List Pipe) (ss : List StreamView) (played : IsPlayable (record { graph = g; streams = ss })) where
+module _ (g : Graph) (pipes : List Pipe) (ss : List StreamView) (played : AreStreamsPlayable (record { graph = g; streams = ss })) where
   abbrev other : Graph
   other = record { comps = g.comps; edges = g.edges; pipes = pipes; joins = g.joins }
 
@@ -249,12 +249,12 @@ module _ (g : Graph) (pipes : List Pipe) (ss : List StreamView) (played : IsPlay
     set-other n idle None is_set = is_set
     set-other n idle (Some p) is_set = (is_set.0, is_set.1, is_set.2, ready-other n is_set.3)
 
-    pub played-other : IsPlayable (record { graph = other; streams = ss })
+    pub played-other : AreStreamsPlayable (record { graph = other; streams = ss })
     unfolding agree on_way reaches
     played-other = record {
       hosts = played.hosts;
       owned = played.owned;
-      each = all-by (IsSet g) (IsSet other) (λ s is_set. set-other s.host (is_idle s.phase) s.params is_set) ss played.each;
+      each = all-by (IsStreamSet g) (IsStreamSet other) (λ s is_set. set-other s.host (is_idle s.phase) s.params is_set) ss played.each;
       agreed = played.agreed;
     }
 
@@ -274,7 +274,7 @@ module _ (g : Graph) (pipes : List Pipe) (ss : List StreamView) (played : IsPlay
   side-other None is = tt
   side-other (Some n) is = is
 
-  pub wired-other : IsWired g → HasDistinct (λ p. p.id) pipes → AllByRecursion (λ p. is_node g p.id ≡ false) pipes → AllByRecursion (λ p. is_period p.period ≡ true) pipes → IsWired other
+  pub wired-other : IsWired g → HasDistinct (λ p. p.id) pipes → AllByRecursion (λ p. is_node g p.id ≡ false) pipes → AllByRecursion (λ p. is_period_allowed p.period ≡ true) pipes → IsWired other
   wired-other wired names alone periods = record {
     ids = wired.ids;
     buffers = wired.buffers;
@@ -303,10 +303,10 @@ complete-completed id (p ∷ pipes) index is = by (p.index == index && p.complet
     by true e any rest = or_left _ _ (there (p.id == id) e)
     by false e any rest = or_right ((completed id p).index == index && (completed id p).complete) _ (rest any)
 
-pub periods-completed : (id : ℕ) (pipes : List Pipe) → AllByRecursion (λ p. is_period p.period ≡ true) pipes → AllByRecursion (λ p. is_period p.period ≡ true) (map (completed id) pipes)
+pub periods-completed : (id : ℕ) (pipes : List Pipe) → AllByRecursion (λ p. is_period_allowed p.period ≡ true) pipes → AllByRecursion (λ p. is_period_allowed p.period ≡ true) (map (completed id) pipes)
 periods-completed id [] all = tt
 periods-completed id (p ∷ pipes) all = (by (p.id == id), periods-completed id pipes all.1)
   where
-    by : (h : Bool) → is_period (cond h (record p { complete = true }) p).period ≡ true
+    by : (h : Bool) → is_period_allowed (cond h (record p { complete = true }) p).period ≡ true
     by true = all.0
     by false = all.0

@@ -14,7 +14,7 @@ use Rattle.stream_law.specs.Joins.{fits_kind}
 use Rattle.stream_law.specs.Moves.{is_choosy}
 use Rattle.stream_law.specs.Order.{is_among}
 use Rattle.mbox_link.specs.Step.{has_comp, is_host, is_complete, is_ready_comp, is_ready_edge, is_way_ready}
-use Rattle.row_laws.specs.Wired.{IsWired, IsLinked, IsSide, IsJoinedFrom, IsJoinedTo, IsOpen, is_at}
+use Rattle.row_laws.specs.Wired.{IsWired, HasJoinedSides, IsSide, IsJoinedFrom, IsJoinedTo, IsOpen, is_at}
 use Rattle.row_laws.proofs.Found.{found-each}
 use Rattle.stream_law.proofs.Members.{IsIn, in-all, any-in, find-in}
 use Rattle.row_laws.proofs.Trips.{goes_from, trip-none, trip-first, trip-leads}
@@ -135,7 +135,7 @@ in-comps [] c here = absurd here
 in-comps (x ∷ xs) c (inl same) = or_left (x.id == c.id) _ (eq-eqb x.id c.id (ap (λ (y : Comp). y.id) (sym same)))
 in-comps (x ∷ xs) c (inr more) = or_right (x.id == c.id) _ (in-comps xs c more)
 
-module _ (g : Graph) (wired : IsWired g) (linked : IsLinked g) where
+module _ (g : Graph) (wired : IsWired g) (linked : HasJoinedSides g) where
   -- each side is a component's, and no buffer is one
   side-comp : (o : Option ℕ) (c : ℕ) → IsSide g o → is_end o c ≡ true → has_comp g c ≡ true
   side-comp None c side is = absurd (false≢true is)

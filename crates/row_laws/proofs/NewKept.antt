@@ -21,11 +21,11 @@ use Rattle.stream_law.specs.Ways.{comp_of, components, live, channels_of}
 use Rattle.stream_law.specs.Made.{blob}
 use Rattle.stream_law.specs.Seen.{flows, ring_seen, equalises, blob_in}
 use Rattle.stream_law.proofs.Placing.{length-placed, find-placed_apart, Ascends-placed, HasDistinct-placed}
-use Rattle.ipc3_codec.specs.Allowed.{is_buffer_size, is_period}
-use Rattle.mbox_link.specs.Step.{comp_bytes, buffer_bytes, pipe_bytes, with_piece, with_comp, with_buffer, with_pipe, with_pipes, with_stream, completed, has_hole, has_index, is_used, has_comp, has_edge, has_pipe, kind_at}
+use Rattle.ipc3_codec.specs.Allowed.{is_buffer_size, is_period_allowed}
+use Rattle.mbox_link.specs.Step.{comp_bytes, buffer_bytes, pipe_bytes, heap_with_piece, with_comp, with_buffer, with_pipe, with_pipes, with_host_stream, completed, has_hole, has_index, is_used, has_comp, has_edge, has_pipe, kind_at}
 use Rattle.row_laws.specs.Tiled.{IsTiled, heap_bytes}
 use Rattle.row_laws.specs.Wired.{is_node}
-use Rattle.row_laws.specs.Kept.{IsKept, IsSettingOf, ArePieces, numbers_held}
+use Rattle.row_laws.specs.Kept.{IsKeptState, IsSettingOf, ArePieces, numbers_held}
 use Rattle.row_laws.proofs.Ascending.{ascends-keys, distinct-placed, indices-completed}
 use Rattle.row_laws.proofs.Fewer.{none-each, all-filter, all-any}
 use Rattle.row_laws.proofs.Growing.{all-placed, all-by, hosts-apart, no-host, fresh_stream, brought, played-wider, wired-wider, live-wider, flows-wider, channels-wider}
@@ -39,7 +39,7 @@ use Rattle.row_laws.proofs.Stagings.{staged-all, staged-other}
 use Rattle.row_laws.proofs.Tiling.{new_piece, carve-tiled, retiled}
 use Rattle.row_laws.proofs.Unreached.{eqb-turned}
 
-stream-length : (id : ℕ) (kind : Kind) (streams : List StreamView) → length (with_stream id kind streams) ≤ length streams + 1
+stream-length : (id : ℕ) (kind : Kind) (streams : List StreamView) → length (with_host_stream id kind streams) ≤ length streams + 1
 stream-length id HostPlay streams = omega (arith, length-placed (λ (s : StreamView). s.host) (record { host = id; phase = Idle; params = None }) streams)
 stream-length id HostCapture streams = omega (arith, length-placed (λ (s : StreamView). s.host) (record { host = id; phase = Idle; params = None }) streams)
 stream-length id (DaiPlay format) streams = omega arith
@@ -67,7 +67,7 @@ no-pipe g id e = (or_parts (is_node g id) (has_pipe g id) e).1
 pub unused-node : (g : Graph) (id : ℕ) → is_used g id ≡ false → is_node g id ≡ false
 unused-node g id e = (or_parts (is_node g id) (has_pipe g id) e).0
 
-module _ (f : FwState) (kept : IsKept f) where
+module _ (f : FwState) (kept : IsKeptState f) where
   abbrev view : View
   view = view_of f
 
@@ -94,14 +94,14 @@ module _ (f : FwState) (kept : IsKept f) where
         (all-by (λ x. (x.id == id) ≡ false) (λ x. numbers_held wide x.id ≡ numbers_held view x.id) (λ x other. held-same view wide x.id (ap (λ o. option_map_or (λ y. blob y.setting) o []) (found x.id other)) (channels-wider f.graph c gone kept.wired f.streams kept.played x.id)) f.graph.comps
         (none-each (λ (x : Comp). x.id == id) f.graph.comps no-comp)))
 
-    tiled-comp : IsTiled (heap_bytes f.heap) (with_piece id (comp_bytes kind) f.heap)
+    tiled-comp : IsTiled (heap_bytes f.heap) (heap_with_piece id (comp_bytes kind) f.heap)
     tiled-comp = carve-tiled (heap_bytes f.heap) id (comp_bytes kind) f.heap kept.tiled (comp-some kind) there (no-piece f.graph f.heap id kept.pieces unused)
 
     -- the heap has as many bytes
-    pub comp-whole : heap_bytes (with_piece id (comp_bytes kind) f.heap) ≡ heap_bytes f.heap
+    pub comp-whole : heap_bytes (heap_with_piece id (comp_bytes kind) f.heap) ≡ heap_bytes f.heap
     comp-whole = tiled-comp.whole
 
-    pub kept-comp : IsKept (with_comp id pipe kind setting f)
+    pub kept-comp : IsKeptState (with_comp id pipe kind setting f)
     kept-comp = record {
       comps = omega (arith, few, length-placed (λ (x : Comp). x.id) c f.graph.comps);
       edges = kept.edges;
@@ -120,7 +120,7 @@ module _ (f : FwState) (kept : IsKept f) where
       sizes = kept.sizes;
       settings = all-placed (λ x. IsSettingOf x.kind x.setting) (λ x. x.id) c f.graph.comps fits kept.settings;
       pieces = pieces-comp f.graph f.heap (comp_bytes kind) kept.pieces c;
-      tiled = retiled (heap_bytes f.heap) (with_piece id (comp_bytes kind) f.heap) tiled-comp;
+      tiled = retiled (heap_bytes f.heap) (heap_with_piece id (comp_bytes kind) f.heap) tiled-comp;
       wired = wired-wider f.graph c gone kept.wired f.streams kept.played (no-pipe f.graph id unused);
       linked = linked-wider f.graph c kept.linked;
       played = played-wider f.graph c gone kept.wired f.streams kept.played;
@@ -153,14 +153,14 @@ module _ (f : FwState) (kept : IsKept f) where
     stays-empty true = refl
     stays-empty false = refl
 
-    tiled-buffer : IsTiled (heap_bytes f.heap) (with_piece id (buffer_bytes size) f.heap)
+    tiled-buffer : IsTiled (heap_bytes f.heap) (heap_with_piece id (buffer_bytes size) f.heap)
     tiled-buffer = carve-tiled (heap_bytes f.heap) id (buffer_bytes size) f.heap kept.tiled (omega arith) there (no-piece f.graph f.heap id kept.pieces unused)
 
     -- the heap has as many bytes
-    pub buffer-whole : heap_bytes (with_piece id (buffer_bytes size) f.heap) ≡ heap_bytes f.heap
+    pub buffer-whole : heap_bytes (heap_with_piece id (buffer_bytes size) f.heap) ≡ heap_bytes f.heap
     buffer-whole = tiled-buffer.whole
 
-    pub kept-buffer : IsKept (with_buffer id pipe size f)
+    pub kept-buffer : IsKeptState (with_buffer id pipe size f)
     kept-buffer = record {
       comps = kept.comps;
       edges = omega (arith, few, length-placed (λ (y : Edge). y.buffer) fresh f.graph.edges);
@@ -179,7 +179,7 @@ module _ (f : FwState) (kept : IsKept f) where
       sizes = all-placed (λ y. is_buffer_size y.size ≡ true) (λ y. y.buffer) fresh f.graph.edges right kept.sizes;
       settings = kept.settings;
       pieces = pieces-edge f.graph f.heap (buffer_bytes size) kept.pieces fresh;
-      tiled = retiled (heap_bytes f.heap) (with_piece id (buffer_bytes size) f.heap) tiled-buffer;
+      tiled = retiled (heap_bytes f.heap) (heap_with_piece id (buffer_bytes size) f.heap) tiled-buffer;
       wired = wired-longer f.graph id pipe size no-node kept.wired f.streams kept.played (no-pipe f.graph id unused);
       linked = linked-longer f.graph fresh refl refl kept.linked;
       played = played-longer f.graph id pipe size no-node kept.wired f.streams kept.played;
@@ -192,11 +192,11 @@ module _ (f : FwState) (kept : IsKept f) where
 
   -- ---- other pipelines, of which as many are complete
 
-  module _ (heap : HeapView) (pipes : List Pipe) (few : length pipes ≤ 32) (pieces : ArePieces (with_pipes pipes f.graph) heap) (tiled : IsTiled (heap_bytes heap) heap) (complete : (index : ℕ) → list_any (λ q. q.index == index && q.complete) f.graph.pipes ≡ true → list_any (λ q. q.index == index && q.complete) pipes ≡ true) (names : HasDistinct (λ p. p.id) pipes) (alone : AllByRecursion (λ p. is_node f.graph p.id ≡ false) pipes) (periods : AllByRecursion (λ p. is_period p.period ≡ true) pipes) (up : Ascends (λ p. p.id) pipes) (indices : HasDistinct (λ p. p.index) pipes) (pieces_up : Ascends (λ p. p.id) heap.pieces) where
+  module _ (heap : HeapView) (pipes : List Pipe) (few : length pipes ≤ 32) (pieces : ArePieces (with_pipes pipes f.graph) heap) (tiled : IsTiled (heap_bytes heap) heap) (complete : (index : ℕ) → list_any (λ q. q.index == index && q.complete) f.graph.pipes ≡ true → list_any (λ q. q.index == index && q.complete) pipes ≡ true) (names : HasDistinct (λ p. p.id) pipes) (alone : AllByRecursion (λ p. is_node f.graph p.id ≡ false) pipes) (periods : AllByRecursion (λ p. is_period_allowed p.period ≡ true) pipes) (up : Ascends (λ p. p.id) pipes) (indices : HasDistinct (λ p. p.index) pipes) (pieces_up : Ascends (λ p. p.id) heap.pieces) where
     abbrev other : View
     other = record { graph = with_pipes pipes f.graph; streams = f.streams }
 
-    kept-pipes : IsKept (record f { heap = heap; graph = with_pipes pipes f.graph })
+    kept-pipes : IsKeptState (record f { heap = heap; graph = with_pipes pipes f.graph })
     kept-pipes = record {
       comps = kept.comps;
       edges = kept.edges;
@@ -220,32 +220,32 @@ module _ (f : FwState) (kept : IsKept f) where
     }
 
   -- a pipeline
-  module _ (id index sched period : ℕ) (few : length f.graph.pipes < 32) (right : is_period period ≡ true) (no_index : has_index f.graph index ≡ false) (unused : is_used f.graph id ≡ false) (there : has_hole f pipe_bytes ≡ true) where
+  module _ (id index sched period : ℕ) (few : length f.graph.pipes < 32) (right : is_period_allowed period ≡ true) (no_index : has_index f.graph index ≡ false) (unused : is_used f.graph id ≡ false) (there : has_hole f pipe_bytes ≡ true) where
     abbrev p : Pipe
     p = record { id = id; index = index; sched = sched; period = period; complete = false }
 
-    tiled-pipe : IsTiled (heap_bytes f.heap) (with_piece id (pipe_bytes) f.heap)
+    tiled-pipe : IsTiled (heap_bytes f.heap) (heap_with_piece id (pipe_bytes) f.heap)
     tiled-pipe = carve-tiled (heap_bytes f.heap) id (pipe_bytes) f.heap kept.tiled (omega arith) there (no-piece f.graph f.heap id kept.pieces unused)
 
     -- the heap has as many bytes
-    pub pipe-whole : heap_bytes (with_piece id (pipe_bytes) f.heap) ≡ heap_bytes f.heap
+    pub pipe-whole : heap_bytes (heap_with_piece id (pipe_bytes) f.heap) ≡ heap_bytes f.heap
     pipe-whole = tiled-pipe.whole
 
-    pub kept-pipe : IsKept (with_pipe id index sched period f)
-    kept-pipe = kept-pipes (with_piece id pipe_bytes f.heap) (placed (λ q. q.id) p f.graph.pipes)
+    pub kept-pipe : IsKeptState (with_pipe id index sched period f)
+    kept-pipe = kept-pipes (heap_with_piece id pipe_bytes f.heap) (placed (λ q. q.id) p f.graph.pipes)
         (omega (arith, few, length-placed (λ (q : Pipe). q.id) p f.graph.pipes))
         (pieces-pipe f.graph f.heap pipe_bytes kept.pieces p)
-        (retiled (heap_bytes f.heap) (with_piece id pipe_bytes f.heap) tiled-pipe)
+        (retiled (heap_bytes f.heap) (heap_with_piece id pipe_bytes f.heap) tiled-pipe)
         (complete-placed p f.graph.pipes)
         (HasDistinct-placed (λ q. q.id) p f.graph.pipes (no-pipe f.graph id unused) kept.wired.names)
         (all-placed (λ q. is_node f.graph q.id ≡ false) (λ q. q.id) p f.graph.pipes (unused-node f.graph id unused) kept.wired.alone)
-        (all-placed (λ q. is_period q.period ≡ true) (λ q. q.id) p f.graph.pipes right kept.wired.periods)
+        (all-placed (λ q. is_period_allowed q.period ≡ true) (λ q. q.id) p f.graph.pipes right kept.wired.periods)
         (Ascends-placed (λ q. q.id) p f.graph.pipes (no-pipe f.graph id unused) kept.ascending.pipes)
         (distinct-placed (λ q. q.id) (λ q. q.index) p f.graph.pipes no_index kept.indices)
         (Ascends-placed (λ q. q.id) (new_piece id pipe_bytes f.heap) f.heap.pieces (no-piece f.graph f.heap id kept.pieces unused) kept.ascending.pieces)
 
   -- a pipeline that is complete
-  pub kept-complete : (id : ℕ) → IsKept (record f { graph = with_pipes (map (completed id) f.graph.pipes) f.graph })
+  pub kept-complete : (id : ℕ) → IsKeptState (record f { graph = with_pipes (map (completed id) f.graph.pipes) f.graph })
   kept-complete id = kept-pipes f.heap (map (completed id) f.graph.pipes)
       (omega (arith, kept.pipes, length-map f.graph.pipes (completed id)))
       (pieces-completed f.graph f.heap id kept.pieces)

@@ -8,7 +8,7 @@ use Rattle.ipc3_codec.specs.declared.control.ControlKind.TheVariants as kinds
 use Rattle.ipc3_codec.specs.declared.control.TheConstants.{CTRL_BINARY}
 use Rattle.ipc3_codec.specs.declared.message.Message.{Message}
 use Rattle.ipc3_codec.specs.declared.message.Message.TheVariants as messages
-use Rattle.ipc3_codec.specs.Commands.{number_of}
+use Rattle.ipc3_codec.specs.Commands.{command_number}
 use Rattle.ipc3_codec.specs.ControlWords.{control_slots, part_slots}
 use Rattle.ipc3_codec.specs.Messages.{Means, size_of, command_of}
 use Rattle.row_laws.specs.RowLaws.{HasBytes}
@@ -58,6 +58,6 @@ means-bytes b (messages.SetData id part) bytes means = (raw-first part.header (R
     here : AreBehind (part_slots part)
     here =
         behind (take (size_of (messages.SetData id part)) b)
-        (Size (size_of (messages.SetData id part)) ∷ Word (number_of (command_of (messages.SetData id part))) ∷ control_slots (Size 0) (Word id) kinds.SetData (Word CTRL_BINARY) (Word (length part.bytes)) (Word part.remaining) (Word part.index))
+        (Size (size_of (messages.SetData id part)) ∷ Word (command_number (command_of (messages.SetData id part))) ∷ control_slots (Size 0) (Word id) kinds.SetData (Word CTRL_BINARY) (Word (length part.bytes)) (Word part.remaining) (Word part.index))
         (part_slots part) (IsBytes-take (size_of (messages.SetData id part)) b bytes) means.fits
 means-bytes b m bytes means = tt

@@ -19,7 +19,7 @@ use Rattle.stream_law.specs.Seen.{is_equaliser, equalises, blob_in, fresh_number
 use Rattle.stream_law.proofs.Members.{IsIn, in-each, kept-in}
 use Rattle.stream_law.proofs.Placing.{Ascends-placed, Ascends-filter}
 use Rattle.mbox_link.specs.Step.{has_kind, kind_at, with_setting, unstaged, with_blob_at, blob_installed}
-use Rattle.row_laws.specs.Kept.{IsKept, IsSettingOf, IsStaged, numbers_held}
+use Rattle.row_laws.specs.Kept.{IsKeptState, IsSettingOf, IsStaged, numbers_held}
 use Rattle.row_laws.proofs.Ascending.{ascends-keys}
 use Rattle.row_laws.proofs.ChangeKept.{set-live, set-channels, set-played}
 use Rattle.row_laws.proofs.Fewer.{all-filter}
@@ -34,7 +34,7 @@ use Rattle.row_laws.proofs.Unreached.{eqb-turned}
 
 -- ---- a part that is staged, in place of what was
 
-pub kept-staged : (f : FwState) → IsKept f → (s : Staging) → IsStaged f.graph s → IsKept (record f { staging = placed (λ x. x.eq) s (unstaged s.eq f.staging) })
+pub kept-staged : (f : FwState) → IsKeptState f → (s : Staging) → IsStaged f.graph s → IsKeptState (record f { staging = placed (λ x. x.eq) s (unstaged s.eq f.staging) })
 kept-staged f kept s is = record {
   comps = kept.comps;
   edges = kept.edges;
@@ -72,7 +72,7 @@ blob-fits g id bytes equaliser is c found = by c.kind (sym (ap (λ (o : Option C
     by Mixer e = absurd (false≢true e)
     by Mux e = absurd (false≢true e)
 
-module _ (f : FwState) (kept : IsKept f) (id : ℕ) (bytes : List ℕ) (equaliser : has_kind is_equaliser (kind_at f.graph id) ≡ true) (is : IsBlob bytes) where
+module _ (f : FwState) (kept : IsKeptState f) (id : ℕ) (bytes : List ℕ) (equaliser : has_kind is_equaliser (kind_at f.graph id) ≡ true) (is : IsBlob bytes) where
   abbrev old : View
   old = view_of f
 
@@ -103,7 +103,7 @@ module _ (f : FwState) (kept : IsKept f) (id : ℕ) (bytes : List ℕ) (equalise
           ∙ sym (held-same old new c (ap (λ o. option_map_or (λ x. blob x.setting) o []) apart) (set-channels f kept id (Blob bytes) c))
       by false other false e = ap (λ h. length (cond ((h && live new c) && not (id == c)) (numbers_in f c) (fresh_numbers (blob_in new c) (channels_of new c)))) e
 
-  pub kept-blob : IsKept (blob_installed id bytes f)
+  pub kept-blob : IsKeptState (blob_installed id bytes f)
   kept-blob = record {
     comps = omega (arith, kept.comps, length-map f.graph.comps (with_setting id (Blob bytes)));
     edges = kept.edges;

@@ -10,9 +10,9 @@ use Rattle.stream_law.specs.declared.graph.Join.{Join}
 use Rattle.stream_law.specs.declared.graph.Graph.{Graph}
 use Rattle.stream_law.specs.Placed.{placed}
 use Rattle.stream_law.specs.State.{HeapView, PieceView}
-use Rattle.stream_law.specs.Joins.{joined, with_join}
+use Rattle.stream_law.specs.Joins.{joined_edge, with_join}
 use Rattle.stream_law.proofs.Placing.{list_any-placed, length-placed}
-use Rattle.mbox_link.specs.Step.{with_piece, completed, has_comp, has_edge, has_pipe, is_used}
+use Rattle.mbox_link.specs.Step.{heap_with_piece, completed, has_comp, has_edge, has_pipe, is_used}
 use Rattle.row_laws.specs.Kept.{ArePieces, has_piece}
 use Rattle.row_laws.proofs.Growing.{all-placed, all-by}
 use Rattle.row_laws.proofs.Joined.{joined-buffer, has-joined}
@@ -28,16 +28,16 @@ no-piece g heap id pieces unused = false_from_ne_true (has_piece heap id) (λ th
 
 -- ---- a piece more
 
-has-more : (id bytes : ℕ) (heap : HeapView) (n : ℕ) → has_piece heap n ≡ true → has_piece (with_piece id bytes heap) n ≡ true
+has-more : (id bytes : ℕ) (heap : HeapView) (n : ℕ) → has_piece heap n ≡ true → has_piece (heap_with_piece id bytes heap) n ≡ true
 has-more id bytes heap n there = list_any-placed (λ p. p.id == n) (λ p. p.id) (new_piece id bytes heap) heap.pieces ∙ or_right (id == n) _ there
 
-has-new : (id bytes : ℕ) (heap : HeapView) → has_piece (with_piece id bytes heap) id ≡ true
+has-new : (id bytes : ℕ) (heap : HeapView) → has_piece (heap_with_piece id bytes heap) id ≡ true
 has-new id bytes heap = list_any-placed (λ p. p.id == id) (λ p. p.id) (new_piece id bytes heap) heap.pieces ∙ or_left (id == id) _ (eq-eqb id id refl)
 
-each-more : {X : Type 0} (key : X → ℕ) (id bytes : ℕ) (heap : HeapView) (xs : List X) → AllByRecursion (λ x. has_piece heap (key x) ≡ true) xs → AllByRecursion (λ x. has_piece (with_piece id bytes heap) (key x) ≡ true) xs
-each-more key id bytes heap = all-by (λ x. has_piece heap (key x) ≡ true) (λ x. has_piece (with_piece id bytes heap) (key x) ≡ true) (λ x. has-more id bytes heap (key x))
+each-more : {X : Type 0} (key : X → ℕ) (id bytes : ℕ) (heap : HeapView) (xs : List X) → AllByRecursion (λ x. has_piece heap (key x) ≡ true) xs → AllByRecursion (λ x. has_piece (heap_with_piece id bytes heap) (key x) ≡ true) xs
+each-more key id bytes heap = all-by (λ x. has_piece heap (key x) ≡ true) (λ x. has_piece (heap_with_piece id bytes heap) (key x) ≡ true) (λ x. has-more id bytes heap (key x))
 
-count-more : (id bytes : ℕ) (heap : HeapView) → length (with_piece id bytes heap).pieces ≡ suc (length heap.pieces)
+count-more : (id bytes : ℕ) (heap : HeapView) → length (heap_with_piece id bytes heap).pieces ≡ suc (length heap.pieces)
 count-more id bytes heap = length-placed (λ (p : PieceView). p.id) (new_piece id bytes heap) heap.pieces
 
 -- what is used by one of three
@@ -58,11 +58,11 @@ module _ (g : Graph) (heap : HeapView) (bytes : ℕ) (pieces : ArePieces g heap)
     comp-new : is_used wider c.id ≡ true
     comp-new = or_left (has_comp wider c.id || has_edge g c.id) _ (or_left (has_comp wider c.id) _ (list_any-placed (λ x. x.id == c.id) (λ x. x.id) c g.comps ∙ or_left (c.id == c.id) _ (eq-eqb c.id c.id refl)))
 
-    pub pieces-comp : ArePieces wider (with_piece c.id bytes heap)
+    pub pieces-comp : ArePieces wider (heap_with_piece c.id bytes heap)
     pieces-comp = record {
       few = omega (arith, pieces.few, count-more c.id bytes heap, length-placed (λ (x : Comp). x.id) c g.comps);
       named = all-placed (λ p. is_used wider p.id ≡ true) (λ p. p.id) (new_piece c.id bytes heap) heap.pieces comp-new (all-by (λ p. is_used g p.id ≡ true) (λ p. is_used wider p.id ≡ true) (λ p. comp-used p.id) heap.pieces pieces.named);
-      comps = all-placed (λ x. has_piece (with_piece c.id bytes heap) x.id ≡ true) (λ x. x.id) c g.comps (has-new c.id bytes heap) (each-more (λ (x : Comp). x.id) c.id bytes heap g.comps pieces.comps);
+      comps = all-placed (λ x. has_piece (heap_with_piece c.id bytes heap) x.id ≡ true) (λ x. x.id) c g.comps (has-new c.id bytes heap) (each-more (λ (x : Comp). x.id) c.id bytes heap g.comps pieces.comps);
       edges = each-more (λ (e : Edge). e.buffer) c.id bytes heap g.edges pieces.edges;
       pipes = each-more (λ (p : Pipe). p.id) c.id bytes heap g.pipes pieces.pipes;
     }
@@ -78,12 +78,12 @@ module _ (g : Graph) (heap : HeapView) (bytes : ℕ) (pieces : ArePieces g heap)
     edge-new : is_used longer e.buffer ≡ true
     edge-new = or_left (has_comp g e.buffer || has_edge longer e.buffer) _ (or_right (has_comp g e.buffer) _ (list_any-placed (λ y. y.buffer == e.buffer) (λ y. y.buffer) e g.edges ∙ or_left (e.buffer == e.buffer) _ (eq-eqb e.buffer e.buffer refl)))
 
-    pub pieces-edge : ArePieces longer (with_piece e.buffer bytes heap)
+    pub pieces-edge : ArePieces longer (heap_with_piece e.buffer bytes heap)
     pieces-edge = record {
       few = omega (arith, pieces.few, count-more e.buffer bytes heap, length-placed (λ (y : Edge). y.buffer) e g.edges);
       named = all-placed (λ p. is_used longer p.id ≡ true) (λ p. p.id) (new_piece e.buffer bytes heap) heap.pieces edge-new (all-by (λ p. is_used g p.id ≡ true) (λ p. is_used longer p.id ≡ true) (λ p. edge-used p.id) heap.pieces pieces.named);
       comps = each-more (λ (x : Comp). x.id) e.buffer bytes heap g.comps pieces.comps;
-      edges = all-placed (λ y. has_piece (with_piece e.buffer bytes heap) y.buffer ≡ true) (λ y. y.buffer) e g.edges (has-new e.buffer bytes heap) (each-more (λ (y : Edge). y.buffer) e.buffer bytes heap g.edges pieces.edges);
+      edges = all-placed (λ y. has_piece (heap_with_piece e.buffer bytes heap) y.buffer ≡ true) (λ y. y.buffer) e g.edges (has-new e.buffer bytes heap) (each-more (λ (y : Edge). y.buffer) e.buffer bytes heap g.edges pieces.edges);
       pipes = each-more (λ (p : Pipe). p.id) e.buffer bytes heap g.pipes pieces.pipes;
     }
 
@@ -98,13 +98,13 @@ module _ (g : Graph) (heap : HeapView) (bytes : ℕ) (pieces : ArePieces g heap)
     pipe-new : is_used piped p.id ≡ true
     pipe-new = or_right (has_comp g p.id || has_edge g p.id) _ (list_any-placed (λ q. q.id == p.id) (λ q. q.id) p g.pipes ∙ or_left (p.id == p.id) _ (eq-eqb p.id p.id refl))
 
-    pub pieces-pipe : ArePieces piped (with_piece p.id bytes heap)
+    pub pieces-pipe : ArePieces piped (heap_with_piece p.id bytes heap)
     pieces-pipe = record {
       few = omega (arith, pieces.few, count-more p.id bytes heap, length-placed (λ (q : Pipe). q.id) p g.pipes);
       named = all-placed (λ q. is_used piped q.id ≡ true) (λ q. q.id) (new_piece p.id bytes heap) heap.pieces pipe-new (all-by (λ q. is_used g q.id ≡ true) (λ q. is_used piped q.id ≡ true) (λ q. pipe-used q.id) heap.pieces pieces.named);
       comps = each-more (λ (x : Comp). x.id) p.id bytes heap g.comps pieces.comps;
       edges = each-more (λ (y : Edge). y.buffer) p.id bytes heap g.edges pieces.edges;
-      pipes = all-placed (λ q. has_piece (with_piece p.id bytes heap) q.id ≡ true) (λ q. q.id) p g.pipes (has-new p.id bytes heap) (each-more (λ (q : Pipe). q.id) p.id bytes heap g.pipes pieces.pipes);
+      pipes = all-placed (λ q. has_piece (heap_with_piece p.id bytes heap) q.id ≡ true) (λ q. q.id) p g.pipes (has-new p.id bytes heap) (each-more (λ (q : Pipe). q.id) p.id bytes heap g.pipes pieces.pipes);
     }
 
 -- ---- the same ids
@@ -112,14 +112,14 @@ module _ (g : Graph) (heap : HeapView) (bytes : ℕ) (pieces : ArePieces g heap)
 -- a join more
 pub pieces-joined : (g : Graph) (heap : HeapView) (j : Join) → ArePieces g heap → ArePieces (with_join g j) heap
 pieces-joined g heap j pieces = record {
-  few = omega (arith, pieces.few, length-map g.edges (joined j));
+  few = omega (arith, pieces.few, length-map g.edges (joined_edge j));
   named = all-by (λ p. is_used g p.id ≡ true) (λ p. is_used (with_join g j) p.id ≡ true) (λ p is. ap (λ h. (has_comp g p.id || h) || has_pipe g p.id) (has-joined j g.edges p.id) ∙ is) heap.pieces pieces.named;
   comps = pieces.comps;
   edges = each g.edges pieces.edges;
   pipes = pieces.pipes;
 }
   where
-    each : (es : List Edge) → AllByRecursion (λ e. has_piece heap e.buffer ≡ true) es → AllByRecursion (λ e. has_piece heap e.buffer ≡ true) (map (joined j) es)
+    each : (es : List Edge) → AllByRecursion (λ e. has_piece heap e.buffer ≡ true) es → AllByRecursion (λ e. has_piece heap e.buffer ≡ true) (map (joined_edge j) es)
     each [] all = tt
     each (e ∷ es) all = (ap (has_piece heap) (joined-buffer j e) ∙ all.0, each es all.1)
 

@@ -18,10 +18,10 @@ use Rattle.stream_law.specs.Joins.{fits_kind}
 use Rattle.stream_law.specs.Moves.{period, is_choosy, chooses}
 use Rattle.stream_law.specs.Order.{is_among}
 use Rattle.stream_law.specs.Seen.{flows}
-use Rattle.ipc3_codec.specs.Allowed.{is_period}
+use Rattle.ipc3_codec.specs.Allowed.{is_period_allowed}
 use Rattle.mbox_link.specs.Step.{has_comp, has_kind, kind_at, is_host, is_complete, is_ready_comp, is_way_ready}
-use Rattle.row_laws.specs.Wired.{IsWired, IsLinked}
-use Rattle.row_laws.specs.Played.{IsPlayable, IsSet, IsSetBy, is_idle}
+use Rattle.row_laws.specs.Wired.{IsWired, HasJoinedSides}
+use Rattle.row_laws.specs.Played.{AreStreamsPlayable, IsStreamSet, IsSetBy, is_idle}
 use Rattle.row_laws.proofs.Found.{found-each}
 use Rattle.row_laws.proofs.Growing.{some-found}
 use Rattle.row_laws.proofs.Joined.{among-left, among-right}
@@ -52,14 +52,14 @@ run v x now =
     let p = and_parts (is_running_phase s.phase) (on_way v.graph s.host x) of.0 in
     record { stream = s; among = of.1; phase = p.0; way = p.1 }
 
-pub set-way : (g : Graph) (s : StreamView) → is_idle s.phase ≡ false → IsSet g s → is_way_ready g s.host ≡ true
+pub set-way : (g : Graph) (s : StreamView) → is_idle s.phase ≡ false → IsStreamSet g s → is_way_ready g s.host ≡ true
 set-way g s awake is_set = by s.params is_set
   where
     by : (o : Option Params) → IsSetBy g s.host (is_idle s.phase) o → is_way_ready g s.host ≡ true
     by None e = absurd (true≢false (sym e ∙ awake))
     by (Some p) e = e.3
 
-module _ (v : View) (wired : IsWired v.graph) (linked : IsLinked v.graph) (played : IsPlayable v) where
+module _ (v : View) (wired : IsWired v.graph) (linked : HasJoinedSides v.graph) (played : AreStreamsPlayable v) where
   -- ---- the way of a host
 
   host-kind : (s : StreamView) → IsOf s v.streams → has_kind is_host (kind_at v.graph s.host) ≡ true
@@ -195,7 +195,7 @@ module _ (v : View) (wired : IsWired v.graph) (linked : IsLinked v.graph) (playe
   pub active-ready : (c : Comp) → IsIn c v.graph.comps → active v c.id ≡ true → is_ready_comp v.graph c ≡ true
   active-ready c there now =
       let r = run v c.id now in
-      ready-comp v.graph r.stream.host (set-way v.graph r.stream (awake r.stream r.phase) (all-of (IsSet v.graph) v.streams r.stream played.each r.among)) c there r.way
+      ready-comp v.graph r.stream.host (set-way v.graph r.stream (awake r.stream r.phase) (all-of (IsStreamSet v.graph) v.streams r.stream played.each r.among)) c there r.way
 
   pub active-live : (x : ℕ) → active v x ≡ true → live v x ≡ true
   active-live x now = let r = run v x now in live-by r.stream r.among (running-live r.stream.phase r.phase) x r.way
@@ -212,7 +212,7 @@ module _ (v : View) (wired : IsWired v.graph) (linked : IsLinked v.graph) (playe
   unfolding flows
   shared-flows e at r =
       let s : StreamView = r.stream in
-      let is_set = all-of (IsSet v.graph) v.streams s played.each r.among in
+      let is_set = all-of (IsStreamSet v.graph) v.streams s played.each r.among in
       let lives = running-live s.phase r.phase in
       let way = set-way v.graph s (awake s r.phase) is_set in
       let ready = ready-edge v.graph s.host way e at r.covered.0 in
@@ -231,7 +231,7 @@ module _ (v : View) (wired : IsWired v.graph) (linked : IsLinked v.graph) (playe
   shared-channels : (e : Edge) → IsIn e v.graph.edges → Shared e → (c : Comp) → IsIn c v.graph.comps → AtEnd e c.id → channels_of v e.buffer ≡ channels_of v c.id
   shared-channels e at r c there end =
       let s : StreamView = r.stream in
-      let is_set = all-of (IsSet v.graph) v.streams s played.each r.among in
+      let is_set = all-of (IsStreamSet v.graph) v.streams s played.each r.among in
       let lives = running-live s.phase r.phase in
       let p = given v.graph s (awake s r.phase) is_set in
       channels-by s r.among lives p.0 p.1 e.buffer (among-right (components v.graph) (buffers v.graph) e.buffer (in-buffers v.graph.edges e at)) r.covered.0
@@ -291,7 +291,7 @@ module _ (v : View) (wired : IsWired v.graph) (linked : IsLinked v.graph) (playe
       by true some is = shared-fed e at (sym (ap (λ (o : Option Edge). active_end v (option_and_then (λ e. e.source) o)) (at-buffer v.graph wired linked e at)) ∙ is)
 
   -- its pipeline has a period
-  pub active-period : AllByRecursion (λ p. is_period p.period ≡ true) v.graph.pipes → (c : Comp) → IsIn c v.graph.comps → active v c.id ≡ true → 1 ≤ period v c.id
+  pub active-period : AllByRecursion (λ p. is_period_allowed p.period ≡ true) v.graph.pipes → (c : Comp) → IsIn c v.graph.comps → active v c.id ≡ true → 1 ≤ period v c.id
   active-period periods c there now =
       let ready = active-ready c there now in
       let complete = complete-comp v.graph c ready in
@@ -303,10 +303,10 @@ module _ (v : View) (wired : IsWired v.graph) (linked : IsLinked v.graph) (playe
       ∙ ap (λ (o : Option Pipe). option_map_or (λ p. p.period) o 0 / 1000) found.1 in
       omega (arith, is, long)
     where
-      at : (ps : List Pipe) → AllByRecursion (λ p. is_period p.period ≡ true) ps → list_any (λ p. p.index == c.pipe && p.complete) ps ≡ true → (p : Pipe) × (find (λ p. p.index == c.pipe) ps ≡ Some p) × (is_period p.period ≡ true)
+      at : (ps : List Pipe) → AllByRecursion (λ p. is_period_allowed p.period ≡ true) ps → list_any (λ p. p.index == c.pipe && p.complete) ps ≡ true → (p : Pipe) × (find (λ p. p.index == c.pipe) ps ≡ Some p) × (is_period_allowed p.period ≡ true)
       at [] all is = absurd (false≢true is)
       at (p ∷ ps) all is = by (p.index == c.pipe) is (at ps all.1)
         where
-          by : (h : Bool) → ((h && p.complete) || list_any (λ p. p.index == c.pipe && p.complete) ps) ≡ true → (list_any (λ p. p.index == c.pipe && p.complete) ps ≡ true → (q : Pipe) × (find (λ p. p.index == c.pipe) ps ≡ Some q) × (is_period q.period ≡ true)) → (q : Pipe) × (cond h (Some p) (find (λ p. p.index == c.pipe) ps) ≡ Some q) × (is_period q.period ≡ true)
+          by : (h : Bool) → ((h && p.complete) || list_any (λ p. p.index == c.pipe && p.complete) ps) ≡ true → (list_any (λ p. p.index == c.pipe && p.complete) ps ≡ true → (q : Pipe) × (find (λ p. p.index == c.pipe) ps ≡ Some q) × (is_period_allowed q.period ≡ true)) → (q : Pipe) × (cond h (Some p) (find (λ p. p.index == c.pipe) ps) ≡ Some q) × (is_period_allowed q.period ≡ true)
           by true is rest = (p, refl, all.0)
           by false is rest = rest is

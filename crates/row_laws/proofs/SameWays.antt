@@ -12,7 +12,7 @@ use Rattle.stream_law.specs.Ways.{components, buffers, source_of, sink_of, on_wa
 use Rattle.stream_law.specs.Seen.{flows}
 use Rattle.stream_law.specs.Order.{is_among}
 use Rattle.mbox_link.specs.Step.{has_kind, is_host, kind_at, is_way_ready}
-use Rattle.row_laws.specs.Played.{IsPlayable, IsSet, IsSetBy, is_idle}
+use Rattle.row_laws.specs.Played.{AreStreamsPlayable, IsStreamSet, IsSetBy, is_idle}
 use Rattle.row_laws.proofs.Stays.{IsOf, all-of, list_any-at, touching, live-idle, given}
 use Rattle.row_laws.proofs.Fewer.{all-kept, all-both, any-kept, find-kept, distinct-filter, eq-refl}
 
@@ -43,12 +43,12 @@ some-among p (i ∷ ids) e = by (or_cases (p i) (list_any p ids) e) (some-among 
     by (inr more) rest = let r = rest more in (r.0, or_right (i == r.0) _ r.1, r.2)
 
 -- a stream that is set and Live has parameters
-pub live-some : (g : Graph) (s : StreamView) → is_live_phase s.phase ≡ true → IsSet g s → is_some s.params ≡ true
+pub live-some : (g : Graph) (s : StreamView) → is_live_phase s.phase ≡ true → IsStreamSet g s → is_some s.params ≡ true
 live-some g s lives is_set = let p = given g s (live-idle s.phase lives) is_set in ap (λ o. is_some o) p.1
 
 -- ---- what is Live
 
-module _ (g g' : Graph) (keep : StreamView → Bool) (ss : List StreamView) (played : IsPlayable (record { graph = g; streams = ss })) (bare : AllByRecursion (λ s. keep s ≡ false → is_some s.params ≡ false) ss) (ways : AllByRecursion (λ s. keep s ≡ true → is_some s.params ≡ true → (x : ℕ) → on_way g' s.host x ≡ on_way g s.host x) ss) where
+module _ (g g' : Graph) (keep : StreamView → Bool) (ss : List StreamView) (played : AreStreamsPlayable (record { graph = g; streams = ss })) (bare : AllByRecursion (λ s. keep s ≡ false → is_some s.params ≡ false) ss) (ways : AllByRecursion (λ s. keep s ≡ true → is_some s.params ≡ true → (x : ℕ) → on_way g' s.host x ≡ on_way g s.host x) ss) where
   abbrev old : View
   old = record { graph = g; streams = ss }
 
@@ -58,7 +58,7 @@ module _ (g g' : Graph) (keep : StreamView → Bool) (ss : List StreamView) (pla
   abbrev Holds : StreamView → Type 0
   Holds s = keep s ≡ true → is_some s.params ≡ true → (x : ℕ) → on_way g' s.host x ≡ on_way g s.host x
 
-  live-tests : (x : ℕ) (xs : List StreamView) → AllByRecursion (λ s. keep s ≡ false → is_some s.params ≡ false) xs → AllByRecursion Holds xs → AllByRecursion (IsSet g) xs → AllByRecursion (λ s. (keep s ≡ true → (is_live_phase s.phase && on_way g' s.host x) ≡ (is_live_phase s.phase && on_way g s.host x)) × (keep s ≡ false → (is_live_phase s.phase && on_way g s.host x) ≡ false)) xs
+  live-tests : (x : ℕ) (xs : List StreamView) → AllByRecursion (λ s. keep s ≡ false → is_some s.params ≡ false) xs → AllByRecursion Holds xs → AllByRecursion (IsStreamSet g) xs → AllByRecursion (λ s. (keep s ≡ true → (is_live_phase s.phase && on_way g' s.host x) ≡ (is_live_phase s.phase && on_way g s.host x)) × (keep s ≡ false → (is_live_phase s.phase && on_way g s.host x) ≡ false)) xs
   live-tests x [] none hold sets = tt
   live-tests x (s ∷ xs) none hold sets = ((stays (is_live_phase s.phase) refl, goes (is_live_phase s.phase) refl), live-tests x xs none.1 hold.1 sets.1)
     where
@@ -134,17 +134,17 @@ module _ (g g' : Graph) (keep : StreamView → Bool) (ss : List StreamView) (pla
     unfolding agree
     agree-same = each-of (λ s. list_all (λ t. not (touch g' s t) || same_shape s.params t.params) (filter keep ss)) (filter keep ss) (λ s in_s. each-of (λ t. not (touch g' s t) || same_shape s.params t.params) (filter keep ss) (λ t in_t. cell s t in_s in_t))
 
-    set-same : (s : StreamView) → (is_some s.params ≡ true → is_way_ready g' s.host ≡ true) → IsSet g s → IsSet g' s
+    set-same : (s : StreamView) → (is_some s.params ≡ true → is_way_ready g' s.host ≡ true) → IsStreamSet g s → IsStreamSet g' s
     set-same s ready is_set = by (is_idle s.phase) s.params ready is_set
       where
         by : (idle : Bool) (o : Option Params) → (is_some o ≡ true → is_way_ready g' s.host ≡ true) → IsSetBy g s.host idle o → IsSetBy g' s.host idle o
         by idle None ready is_set = is_set
         by idle (Some p) ready is_set = (is_set.0, is_set.1, is_set.2, ready refl)
 
-    pub played-same : AllByRecursion (λ s. keep s ≡ true → has_kind is_host (kind_at g' s.host) ≡ true) ss → AllByRecursion (λ s. keep s ≡ true → is_some s.params ≡ true → is_way_ready g' s.host ≡ true) ss → IsPlayable new
+    pub played-same : AllByRecursion (λ s. keep s ≡ true → has_kind is_host (kind_at g' s.host) ≡ true) ss → AllByRecursion (λ s. keep s ≡ true → is_some s.params ≡ true → is_way_ready g' s.host ≡ true) ss → AreStreamsPlayable new
     played-same owned ready = record {
       hosts = distinct-filter (λ (s : StreamView). s.host) keep ss played.hosts;
       owned = all-kept keep (λ s. keep s ≡ true → has_kind is_host (kind_at g' s.host) ≡ true) (λ s. has_kind is_host (kind_at g' s.host) ≡ true) (λ s e f. f e) ss owned;
-      each = all-kept keep (λ s. (keep s ≡ true → is_some s.params ≡ true → is_way_ready g' s.host ≡ true) × IsSet g s) (IsSet g') (λ s e both. set-same s (both.0 e) both.1) ss (all-both (λ s. keep s ≡ true → is_some s.params ≡ true → is_way_ready g' s.host ≡ true) (IsSet g) ss ready played.each);
+      each = all-kept keep (λ s. (keep s ≡ true → is_some s.params ≡ true → is_way_ready g' s.host ≡ true) × IsStreamSet g s) (IsStreamSet g') (λ s e both. set-same s (both.0 e) both.1) ss (all-both (λ s. keep s ≡ true → is_some s.params ≡ true → is_way_ready g' s.host ≡ true) (IsStreamSet g) ss ready played.each);
       agreed = agree-same;
     }

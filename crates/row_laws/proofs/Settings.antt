@@ -18,8 +18,8 @@ use Rattle.stream_law.specs.Joins.{fits_kind}
 use Rattle.stream_law.specs.Order.{is_among}
 use Rattle.mbox_link.specs.Step.{has_comp, has_edge, has_kind, is_host, kind_at, is_complete, is_ready_comp, is_ready_edge, is_way_ready, is_used, with_setting}
 use Rattle.row_laws.specs.Kept.{ArePieces, has_piece}
-use Rattle.row_laws.specs.Wired.{IsWired, IsLinked, IsSide, IsBetween, IsJoinedFrom, IsJoinedTo, is_node}
-use Rattle.row_laws.specs.Played.{IsSet, IsSetBy, is_idle}
+use Rattle.row_laws.specs.Wired.{IsWired, HasJoinedSides, IsSide, IsBetween, IsJoinedFrom, IsJoinedTo, is_node}
+use Rattle.row_laws.specs.Played.{IsStreamSet, IsSetBy, is_idle}
 use Rattle.row_laws.proofs.Growing.{all-by}
 use Rattle.row_laws.proofs.Unreached.{eqb-turned}
 use Rattle.row_laws.proofs.Fewer.{all-any, all-test, test-all}
@@ -175,8 +175,8 @@ module _ (id : ℕ) (setting : Setting) where
             ap (λ (p : ℕ × ℕ × Kind). not (on_way after h p.0) || (is_complete g p.1 && fits_kind p.2 (length (ins g p.0)) (length (outs g p.0)))) (λ i. (set-id x i, set-pipe x i, set-kind x i))
             ∙ ap (λ t. not t || is_ready_comp g x) (way-set h x.id) ∙ was
 
-    pub readies-set : (ss : List StreamView) → AllByRecursion (IsSet g) ss → AllByRecursion (λ s. true ≡ true → is_some s.params ≡ true → is_way_ready after s.host ≡ true) ss
-    readies-set ss sets = all-by (IsSet g) (λ s. true ≡ true → is_some s.params ≡ true → is_way_ready after s.host ≡ true) (λ s is_set kept has. ready-set s.host (was s.host (is_idle s.phase) s.params has is_set)) ss sets
+    pub readies-set : (ss : List StreamView) → AllByRecursion (IsStreamSet g) ss → AllByRecursion (λ s. true ≡ true → is_some s.params ≡ true → is_way_ready after s.host ≡ true) ss
+    readies-set ss sets = all-by (IsStreamSet g) (λ s. true ≡ true → is_some s.params ≡ true → is_way_ready after s.host ≡ true) (λ s is_set kept has. ready-set s.host (was s.host (is_idle s.phase) s.params has is_set)) ss sets
       where
         was : (h : ℕ) (idle : Bool) (o : Option Params) → is_some o ≡ true → IsSetBy g h idle o → is_way_ready g h ≡ true
         was h idle None has is_set = absurd (false≢true has)
@@ -203,7 +203,7 @@ module _ (id : ℕ) (setting : Setting) where
     to-set b None joined = tt
     to-set b (Some c) joined = joined
 
-    pub linked-set : IsLinked g → IsLinked after
+    pub linked-set : HasJoinedSides g → HasJoinedSides after
     linked-set linked = record {
       at = linked.at;
       from = all-by (λ e. IsJoinedFrom g e.source e.buffer) (λ e. IsJoinedFrom after e.source e.buffer) (λ e joined. from-set e.source e.buffer joined) g.edges linked.from;

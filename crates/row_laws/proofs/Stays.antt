@@ -12,7 +12,7 @@ use Rattle.stream_law.specs.declared.stream.StreamView.{StreamView}
 use Rattle.stream_law.specs.State.{View}
 use Rattle.stream_law.specs.Ways.{components, buffers, on_way, live, channels_of, is_live_phase, touch, same_shape, agree}
 use Rattle.stream_law.specs.Order.{is_among}
-use Rattle.row_laws.specs.Played.{IsSet, IsSetBy, IsPlayable, KeepsLive, is_idle}
+use Rattle.row_laws.specs.Played.{IsStreamSet, IsSetBy, AreStreamsPlayable, KeepsLive, is_idle}
 
 -- a stream is one of these
 abbrev pub IsOf : StreamView → List StreamView → Type 0
@@ -74,7 +74,7 @@ live-idle Idle e = absurd (false≢true e)
 live-idle Prepared e = absurd (false≢true e)
 
 -- a stream that is not Idle has parameters of 1 to 8 channels
-pub given : (g : Graph) (s : StreamView) → is_idle s.phase ≡ false → IsSet g s → (p : Params) × (s.params ≡ Some p) × ((1 ≤ p.channels) × (p.channels ≤ 8))
+pub given : (g : Graph) (s : StreamView) → is_idle s.phase ≡ false → IsStreamSet g s → (p : Params) × (s.params ≡ Some p) × ((1 ≤ p.channels) × (p.channels ≤ 8))
 given g s awake is_set = by s.params is_set
   where
     by : (o : Option Params) → IsSetBy g s.host (is_idle s.phase) o → (p : Params) × (o ≡ Some p) × ((1 ≤ p.channels) × (p.channels ≤ 8))
@@ -92,14 +92,14 @@ pub record IsHeard (v : View) (x : ℕ) : Type 0 where
   pub bounds : (1 ≤ params.channels) × (params.channels ≤ 8)
   pub channels : channels_of v x ≡ params.channels
 
-pub heard : (v : View) (x : ℕ) → IsPlayable v → live v x ≡ true → IsHeard v x
+pub heard : (v : View) (x : ℕ) → AreStreamsPlayable v → live v x ≡ true → IsHeard v x
 unfolding live channels_of
 heard v x played now =
     let found = find-any (λ s. is_live_phase s.phase && on_way v.graph s.host x) v.streams now in
     let s : StreamView = found.0 in
     let of = find-some (λ s. is_live_phase s.phase && on_way v.graph s.host x) v.streams s found.1 in
     let lives = and_parts (is_live_phase s.phase) (on_way v.graph s.host x) of.0 in
-    let p = given v.graph s (live-idle s.phase lives.0) (all-of (IsSet v.graph) v.streams s played.each of.1) in
+    let p = given v.graph s (live-idle s.phase lives.0) (all-of (IsStreamSet v.graph) v.streams s played.each of.1) in
     record {
       stream = s;
       params = p.0;
@@ -112,7 +112,7 @@ heard v x played now =
     }
 
 -- no more than 8 channels are anywhere
-pub channels-most : (v : View) (x : ℕ) → IsPlayable v → channels_of v x ≤ 8
+pub channels-most : (v : View) (x : ℕ) → AreStreamsPlayable v → channels_of v x ≤ 8
 unfolding channels_of
 channels-most v x played = by (find (λ s. is_live_phase s.phase && on_way v.graph s.host x) v.streams) refl
   where
@@ -122,7 +122,7 @@ channels-most v x played = by (find (λ s. is_live_phase s.phase && on_way v.gra
 
     by : (o : Option StreamView) → find (λ s. is_live_phase s.phase && on_way v.graph s.host x) v.streams ≡ o → option_map_or (λ (p : Params). p.channels) (option_and_then (λ s. s.params) o) 0 ≤ 8
     by None e = omega arith
-    by (Some s) e = most s.params s refl (all-of (IsSet v.graph) v.streams s played.each (find-some (λ s. is_live_phase s.phase && on_way v.graph s.host x) v.streams s e).1)
+    by (Some s) e = most s.params s refl (all-of (IsStreamSet v.graph) v.streams s played.each (find-some (λ s. is_live_phase s.phase && on_way v.graph s.host x) v.streams s e).1)
 
 -- streams of one shape have one number of channels
 pub one-shape : (p q : Params) (a b : Option Params) → a ≡ Some p → b ≡ Some q → same_shape a b ≡ true → p.channels ≡ q.channels
@@ -131,7 +131,7 @@ one-shape p q a b is_a is_b same =
     eqb-true p.channels q.channels (and_parts (p.rate == q.rate) (p.channels == q.channels) both).1
 
 -- Where streams change and each that is Live keeps its parameters, what is Live before and after has the same channels.
-pub channels-stay : (g : Graph) (streams : List StreamView) (to : StreamView → StreamView) → KeepsLive to streams → IsPlayable (record { graph = g; streams = streams }) → IsPlayable (record { graph = g; streams = map to streams })
+pub channels-stay : (g : Graph) (streams : List StreamView) (to : StreamView → StreamView) → KeepsLive to streams → AreStreamsPlayable (record { graph = g; streams = streams }) → AreStreamsPlayable (record { graph = g; streams = map to streams })
     → (x : ℕ) → is_among (components g ++ buffers g) x ≡ true → live (record { graph = g; streams = streams }) x ≡ true → live (record { graph = g; streams = map to streams }) x ≡ true
     → channels_of (record { graph = g; streams = map to streams }) x ≡ channels_of (record { graph = g; streams = streams }) x
 channels-stay g streams to keeps was played x there before after =

@@ -11,8 +11,8 @@ use Rattle.stream_law.specs.declared.stream.Phase.TheVariants.{Idle, Prepared, R
 use Rattle.stream_law.specs.declared.stream.StreamView.{StreamView}
 use Rattle.stream_law.specs.Placed.{HasDistinct}
 use Rattle.stream_law.specs.Ways.{touch, same_shape, agree, is_live_phase}
-use Rattle.mbox_link.specs.Step.{has_kind, is_host, kind_at, has_phase, set_stream, set_phase, is_rate, is_way_ready, is_moving, is_prepared}
-use Rattle.row_laws.specs.Played.{IsSet, IsSetBy, IsPlayable, KeepsLive, is_idle}
+use Rattle.mbox_link.specs.Step.{has_kind, is_host, kind_at, is_stream_phase, set_stream, set_phase, is_rate, is_way_ready, is_moving, is_prepared}
+use Rattle.row_laws.specs.Played.{IsStreamSet, IsSetBy, AreStreamsPlayable, KeepsLive, is_idle}
 use Rattle.row_laws.proofs.Found.{found-each}
 
 -- ---- streams that are changed
@@ -53,19 +53,19 @@ each-found host streams apart = all streams (found-each (λ (s : StreamView). s.
     all (s ∷ ss) found = (λ e. ap (λ (n : ℕ). find (λ t. t.host == n) streams) (sym (eqb-true s.host host e)) ∙ found.0, all ss found.1)
 
 -- so its phase is as the phase that is found
-pub each-phase : (test : Phase → Bool) (h : Bool) (host : ℕ) (streams : List StreamView) → HasDistinct (λ s. s.host) streams → has_phase test (phase_in streams host) ≡ true → AllByRecursion (λ s. (s.host == host) ≡ true → test s.phase ≡ true) streams
+pub each-phase : (test : Phase → Bool) (h : Bool) (host : ℕ) (streams : List StreamView) → HasDistinct (λ s. s.host) streams → is_stream_phase test (phase_in streams host) ≡ true → AllByRecursion (λ s. (s.host == host) ≡ true → test s.phase ≡ true) streams
 each-phase test h host streams apart is = all streams (each-found host streams apart)
   where
     all : (ss : List StreamView) → AllByRecursion (λ s. (s.host == host) ≡ true → find (λ t. t.host == host) streams ≡ Some s) ss → AllByRecursion (λ s. (s.host == host) ≡ true → test s.phase ≡ true) ss
     all [] found = tt
-    all (s ∷ ss) found = (λ e. ap (λ (o : Option StreamView). has_phase test (option_map (λ s. s.phase) o)) (sym (found.0 e)) ∙ is, all ss found.1)
+    all (s ∷ ss) found = (λ e. ap (λ (o : Option StreamView). is_stream_phase test (option_map (λ s. s.phase) o)) (sym (found.0 e)) ∙ is, all ss found.1)
 
-pub each-other : (test : Phase → Bool) (host : ℕ) (streams : List StreamView) → HasDistinct (λ s. s.host) streams → has_phase test (phase_in streams host) ≡ false → AllByRecursion (λ s. (s.host == host) ≡ true → test s.phase ≡ false) streams
+pub each-other : (test : Phase → Bool) (host : ℕ) (streams : List StreamView) → HasDistinct (λ s. s.host) streams → is_stream_phase test (phase_in streams host) ≡ false → AllByRecursion (λ s. (s.host == host) ≡ true → test s.phase ≡ false) streams
 each-other test host streams apart is = all streams (each-found host streams apart)
   where
     all : (ss : List StreamView) → AllByRecursion (λ s. (s.host == host) ≡ true → find (λ t. t.host == host) streams ≡ Some s) ss → AllByRecursion (λ s. (s.host == host) ≡ true → test s.phase ≡ false) ss
     all [] found = tt
-    all (s ∷ ss) found = (λ e. ap (λ (o : Option StreamView). has_phase test (option_map (λ s. s.phase) o)) (sym (found.0 e)) ∙ is, all ss found.1)
+    all (s ∷ ss) found = (λ e. ap (λ (o : Option StreamView). is_stream_phase test (option_map (λ s. s.phase) o)) (sym (found.0 e)) ∙ is, all ss found.1)
 
 -- ---- what a change keeps
 
@@ -78,12 +78,12 @@ module _ (to : StreamView → StreamView) (same : (s : StreamView) → (to s).ho
   owned-map g [] all = tt
   owned-map g (s ∷ ss) all = (ap (λ n. has_kind is_host (kind_at g n)) (same s) ∙ all.0, owned-map g ss all.1)
 
-  set-map : (g : Graph) (ss : List StreamView) → AllByRecursion (λ s. IsSet g (to s)) ss → AllByRecursion (IsSet g) (map to ss)
+  set-map : (g : Graph) (ss : List StreamView) → AllByRecursion (λ s. IsStreamSet g (to s)) ss → AllByRecursion (IsStreamSet g) (map to ss)
   set-map g [] all = tt
   set-map g (s ∷ ss) all = (all.0, set-map g ss all.1)
 
   -- streams that are set anew, and agree
-  pub played-map : (g : Graph) (ss : List StreamView) → IsPlayable (record { graph = g; streams = ss }) → AllByRecursion (λ s. IsSet g (to s)) ss → agree (record { graph = g; streams = map to ss }) ≡ true → IsPlayable (record { graph = g; streams = map to ss })
+  pub played-map : (g : Graph) (ss : List StreamView) → AreStreamsPlayable (record { graph = g; streams = ss }) → AllByRecursion (λ s. IsStreamSet g (to s)) ss → agree (record { graph = g; streams = map to ss }) ≡ true → AreStreamsPlayable (record { graph = g; streams = map to ss })
   played-map g ss was sets agrees = record {
     hosts = subst (λ (ns : List ℕ). IsDistinct (λ m n. m == n) ns) (sym (hosts-map ss)) was.hosts;
     owned = owned-map g ss was.owned;
@@ -116,14 +116,14 @@ moved : (g : Graph) (host : ℕ) (idle : Bool) (o : Option Params) → idle ≡ 
 moved g host idle None awake is_set = absurd (true≢false (sym is_set ∙ awake))
 moved g host idle (Some p) awake is_set = (refl, is_set.1, is_set.2, is_set.3)
 
-pub played-phase : (g : Graph) (host : ℕ) (phase : Phase) (ss : List StreamView) → is_idle phase ≡ false → has_phase (λ p. not (is_idle p)) (phase_in ss host) ≡ true → IsPlayable (record { graph = g; streams = ss }) → IsPlayable (record { graph = g; streams = map (set_phase host phase) ss })
+pub played-phase : (g : Graph) (host : ℕ) (phase : Phase) (ss : List StreamView) → is_idle phase ≡ false → is_stream_phase (λ p. not (is_idle p)) (phase_in ss host) ≡ true → AreStreamsPlayable (record { graph = g; streams = ss }) → AreStreamsPlayable (record { graph = g; streams = map (set_phase host phase) ss })
 unfolding agree
 played-phase g host phase ss stays leaves was =
     played-map (set_phase host phase) (host-set_phase host phase) g ss was
     (all ss was.each (each-phase (λ p. not (is_idle p)) true host ss was.hosts leaves))
     (agree-changed g (set_phase host phase) (λ s. s.params) ss (host-set_phase host phase) (params-set_phase host phase) ∙ was.agreed)
   where
-    one : (s : StreamView) (h : Bool) → (s.host == host) ≡ h → IsSet g s → ((s.host == host) ≡ true → not (is_idle s.phase) ≡ true) → IsSet g (cond h (record { host = s.host; phase = phase; params = s.params }) s)
+    one : (s : StreamView) (h : Bool) → (s.host == host) ≡ h → IsStreamSet g s → ((s.host == host) ≡ true → not (is_idle s.phase) ≡ true) → IsStreamSet g (cond h (record { host = s.host; phase = phase; params = s.params }) s)
     one s true e is_set awake = subst (λ h. IsSetBy g s.host h s.params) (sym stays) (moved g s.host (is_idle s.phase) s.params (not-false (is_idle s.phase) (awake e)) is_set)
       where
         not-false : (h : Bool) → not h ≡ true → h ≡ false
@@ -131,7 +131,7 @@ played-phase g host phase ss stays leaves was =
         not-false false e = refl
     one s false e is_set awake = is_set
 
-    all : (xs : List StreamView) → AllByRecursion (IsSet g) xs → AllByRecursion (λ s. (s.host == host) ≡ true → not (is_idle s.phase) ≡ true) xs → AllByRecursion (λ s. IsSet g (set_phase host phase s)) xs
+    all : (xs : List StreamView) → AllByRecursion (IsStreamSet g) xs → AllByRecursion (λ s. (s.host == host) ≡ true → not (is_idle s.phase) ≡ true) xs → AllByRecursion (λ s. IsStreamSet g (set_phase host phase s)) xs
     all [] sets awake = tt
     all (s ∷ xs) sets awake = (one s (s.host == host) refl sets.0 awake.0, all xs sets.1 awake.1)
 
@@ -162,21 +162,21 @@ all-by : {P Q : StreamView → Type 0} → ((s : StreamView) → P s → Q s) �
 all-by f [] all = tt
 all-by f (s ∷ ss) all = (f s all.0, all-by f ss all.1)
 
-pub keeps-free : (host : ℕ) (ss : List StreamView) → HasDistinct (λ s. s.host) ss → has_phase is_prepared (phase_in ss host) ≡ true → KeepsLive (set_stream host Idle None) ss
+pub keeps-free : (host : ℕ) (ss : List StreamView) → HasDistinct (λ s. s.host) ss → is_stream_phase is_prepared (phase_in ss host) ≡ true → KeepsLive (set_stream host Idle None) ss
 keeps-free host ss apart is = keeps-stream host Idle None ss (all-by (λ s f e. prepared-still s.phase (f e)) ss (each-phase is_prepared true host ss apart is))
 
-pub keeps-params : (host : ℕ) (p : Params) (ss : List StreamView) → HasDistinct (λ s. s.host) ss → has_phase is_moving (phase_in ss host) ≡ false → KeepsLive (set_stream host Prepared (Some p)) ss
+pub keeps-params : (host : ℕ) (p : Params) (ss : List StreamView) → HasDistinct (λ s. s.host) ss → is_stream_phase is_moving (phase_in ss host) ≡ false → KeepsLive (set_stream host Prepared (Some p)) ss
 keeps-params host p ss apart is = keeps-stream host Prepared (Some p) ss (all-by (λ s f e. moving-live s.phase (f e)) ss (each-other is_moving host ss apart is))
 
-pub played-params : (g : Graph) (host : ℕ) (p : Params) (ss : List StreamView) → (1 ≤ p.channels) × (p.channels ≤ 8) → is_rate p.rate ≡ true → is_way_ready g host ≡ true → agree (record { graph = g; streams = map (set_stream host Prepared (Some p)) ss }) ≡ true → IsPlayable (record { graph = g; streams = ss }) → IsPlayable (record { graph = g; streams = map (set_stream host Prepared (Some p)) ss })
+pub played-params : (g : Graph) (host : ℕ) (p : Params) (ss : List StreamView) → (1 ≤ p.channels) × (p.channels ≤ 8) → is_rate p.rate ≡ true → is_way_ready g host ≡ true → agree (record { graph = g; streams = map (set_stream host Prepared (Some p)) ss }) ≡ true → AreStreamsPlayable (record { graph = g; streams = ss }) → AreStreamsPlayable (record { graph = g; streams = map (set_stream host Prepared (Some p)) ss })
 played-params g host p ss few rate ready agrees was =
     played-map (set_stream host Prepared (Some p)) (host-set_stream host Prepared (Some p)) g ss was (all ss was.each) agrees
   where
-    one : (s : StreamView) (h : Bool) → (s.host == host) ≡ h → IsSet g s → IsSet g (cond h (record { host = s.host; phase = Prepared; params = Some p }) s)
+    one : (s : StreamView) (h : Bool) → (s.host == host) ≡ h → IsStreamSet g s → IsStreamSet g (cond h (record { host = s.host; phase = Prepared; params = Some p }) s)
     one s true e is_set = (refl, few, rate, ap (is_way_ready g) (eqb-true s.host host e) ∙ ready)
     one s false e is_set = is_set
 
-    all : (xs : List StreamView) → AllByRecursion (IsSet g) xs → AllByRecursion (λ s. IsSet g (set_stream host Prepared (Some p) s)) xs
+    all : (xs : List StreamView) → AllByRecursion (IsStreamSet g) xs → AllByRecursion (λ s. IsStreamSet g (set_stream host Prepared (Some p) s)) xs
     all [] sets = tt
     all (s ∷ xs) sets = (one s (s.host == host) refl sets.0, all xs sets.1)
 
@@ -203,7 +203,7 @@ agree-fewer g to ss same shapes agrees =
         let parts = and_parts (list_all (λ t. not (touch g s t) || same_shape s.params t.params) ss) (list_all (λ s. list_all (λ t. not (touch g s t) || same_shape s.params t.params) ss) xs) is in
         and_from _ _ (row s ss parts.0) (rows xs parts.1)
 
-pub played-free : (g : Graph) (host : ℕ) (ss : List StreamView) → IsPlayable (record { graph = g; streams = ss }) → IsPlayable (record { graph = g; streams = map (set_stream host Idle None) ss })
+pub played-free : (g : Graph) (host : ℕ) (ss : List StreamView) → AreStreamsPlayable (record { graph = g; streams = ss }) → AreStreamsPlayable (record { graph = g; streams = map (set_stream host Idle None) ss })
 played-free g host ss was =
     played-map (set_stream host Idle None) (host-set_stream host Idle None) g ss was (all ss was.each)
     (agree-fewer g (set_stream host Idle None) ss (host-set_stream host Idle None) shapes was.agreed)
@@ -225,11 +225,11 @@ played-free g host ss was =
     shapes : (s t : StreamView) → same_shape s.params t.params ≡ true → same_shape (set_stream host Idle None s).params (set_stream host Idle None t).params ≡ true
     shapes s t is = by s t (s.host == host) (t.host == host) is
 
-    one : (s : StreamView) (h : Bool) → IsSet g s → IsSet g (cond h (record { host = s.host; phase = Idle; params = None }) s)
+    one : (s : StreamView) (h : Bool) → IsStreamSet g s → IsStreamSet g (cond h (record { host = s.host; phase = Idle; params = None }) s)
     one s true is_set = refl
     one s false is_set = is_set
 
-    all : (xs : List StreamView) → AllByRecursion (IsSet g) xs → AllByRecursion (λ s. IsSet g (set_stream host Idle None s)) xs
+    all : (xs : List StreamView) → AllByRecursion (IsStreamSet g) xs → AllByRecursion (λ s. IsStreamSet g (set_stream host Idle None s)) xs
     all [] sets = tt
     all (s ∷ xs) sets = (one s (s.host == host) sets.0, all xs sets.1)
 

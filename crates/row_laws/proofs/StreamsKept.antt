@@ -13,8 +13,8 @@ use Rattle.stream_law.specs.Order.{is_among}
 use Rattle.stream_law.specs.Seen.{is_equaliser, equalises, goes_on, blob_in, fresh_numbers, numbers_in, history_seen, seen}
 use Rattle.stream_law.specs.Ways.{channels_of}
 use Rattle.stream_law.proofs.Among.{is_among-filter}
-use Rattle.row_laws.specs.Played.{IsPlayable, KeepsLive}
-use Rattle.row_laws.specs.Kept.{IsKept, AreHistories, numbers_held}
+use Rattle.row_laws.specs.Played.{AreStreamsPlayable, KeepsLive}
+use Rattle.row_laws.specs.Kept.{IsKeptState, AreHistories, numbers_held}
 use Rattle.row_laws.proofs.Ascending.{ascends-keys, hosts-kept}
 use Rattle.row_laws.proofs.Histories.{held-same}
 use Rattle.row_laws.proofs.Joined.{among-left}
@@ -37,7 +37,7 @@ found-held v c (h ∷ hs) all there = by (h.comp == c) refl there (found-held v 
     by false e is rest = rest is
 
 -- a Live equaliser has its numbers
-pub numbers-now : (f : FwState) → IsKept f → (c : ℕ) → is_among (components f.graph) c ≡ true → equalises (view_of f) c ≡ true → length (numbers_in f c) ≡ numbers_held (view_of f) c
+pub numbers-now : (f : FwState) → IsKeptState f → (c : ℕ) → is_among (components f.graph) c ≡ true → equalises (view_of f) c ≡ true → length (numbers_in f c) ≡ numbers_held (view_of f) c
 numbers-now f kept c there is = found-held (view_of f) c f.histories kept.histories.numbers
     (ap (λ (ns : List ℕ). is_among ns c) kept.histories.comps ∙ is_among-filter (equalises (view_of f)) (components f.graph) c ∙ and_from (equalises (view_of f) c) (is_among (components f.graph) c) is there)
 
@@ -50,7 +50,7 @@ pub all-seen : (f : FwState) (v : View) (fresh : Option ℕ) (ids : List ℕ) �
 all-seen f v fresh [] all = tt
 all-seen f v fresh (c ∷ ids) all = (all.0, all-seen f v fresh ids all.1)
 
-module _ (f : FwState) (kept : IsKept f) (to : StreamView → StreamView) (keeps : KeepsLive to f.streams) (played : IsPlayable (record { graph = f.graph; streams = map to f.streams })) where
+module _ (f : FwState) (kept : IsKeptState f) (to : StreamView → StreamView) (keeps : KeepsLive to f.streams) (played : AreStreamsPlayable (record { graph = f.graph; streams = map to f.streams })) where
   abbrev old : View
   old = view_of f
 
@@ -77,7 +77,7 @@ module _ (f : FwState) (kept : IsKept f) (to : StreamView → StreamView) (keeps
           ∙ sym (held-same old new c refl (channels-stay f.graph f.streams to keeps kept.played played c (among-left (components f.graph) (buffers f.graph) c there) e is.0))
       by false e = ap (λ h. length (cond ((h && live new c) && true) (numbers_in f c) (fresh_numbers (blob_in new c) (channels_of new c)))) e
 
-  pub kept-streams : IsKept (seen new None f)
+  pub kept-streams : IsKeptState (seen new None f)
   kept-streams = record {
     comps = kept.comps;
     edges = kept.edges;

@@ -29,7 +29,7 @@ use Rattle.stream_law.proofs.Silent.{active-live, frames_to_move-idle}
 use Rattle.stream_law.proofs.Tables.{value_of-updated_cases}
 use Rattle.sof_base.specs.declared.format.Format.{Format}
 use Rattle.mbox_link.specs.Exchange.{ticked}
-use Rattle.row_laws.specs.Kept.{IsKept, numbers_held}
+use Rattle.row_laws.specs.Kept.{IsKeptState, numbers_held}
 use Rattle.stream_law.proofs.Members.{IsIn, in-each}
 use Rattle.row_laws.proofs.RingViews.{seen-each, seen-all}
 
@@ -209,7 +209,7 @@ numbers-anew : (v : View) (a : Audio) (hs : List History) → AllByRecursion (λ
 numbers-anew v a [] all = tt
 numbers-anew v a (h ∷ hs) all = (all.0, numbers-anew v a hs all.1)
 
-pub tick-kept : (f : FwState) (io : Io) → IsKept f → IsKept (ticked (f, io)).0
+pub tick-kept : (f : FwState) (io : Io) → IsKeptState f → IsKeptState (ticked (f, io)).0
 tick-kept f io kept = record {
   comps = kept.comps;
   edges = kept.edges;

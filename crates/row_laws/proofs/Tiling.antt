@@ -8,13 +8,13 @@ use Rattle.sof_base.specs.Holes.{rounded, usable_of, fresh_holes, total, fits, f
 use Rattle.stream_law.specs.State.{PieceView, HeapView}
 use Rattle.stream_law.specs.Placed.{placed, HasDistinct}
 use Rattle.stream_law.proofs.Placing.{HasDistinct-placed}
-use Rattle.mbox_link.specs.Step.{with_piece, without_piece, freed}
-use Rattle.row_laws.specs.Tiled.{carved_bytes, fresh_heap, Apart, AreApart, IsOutside, IsPiece, IsTiled, bytes_of, heap_bytes}
+use Rattle.mbox_link.specs.Step.{heap_with_piece, without_piece, holes_after_free}
+use Rattle.row_laws.specs.Tiled.{carved_bytes, fresh_heap, ArePiecesApart, AreAllApart, IsOutside, IsHeapPiece, IsTiled, hole_of, heap_bytes}
 use Rattle.row_laws.proofs.HoleLists.{spaced-fresh, total-fresh, spaced-carved, fit-within, outside-new, outside-carved, apart-carved, total-carved, spaced-given, outside-given, total-given}
 
 -- ---- pieces
 
-apart-turned : (p q : PieceView) → Apart p q → Apart q p
+apart-turned : (p q : PieceView) → ArePiecesApart p q → ArePiecesApart q p
 apart-turned p q (inl before) = inr before
 apart-turned p q (inr behind) = inl behind
 
@@ -51,22 +51,22 @@ carved_bytes-placed key p (q ∷ ps) = by (nat_lt (key p) (key q)) (carved_bytes
     by true rest = refl
     by false rest = omega (arith, rest)
 
-are-apart-placed : (key : PieceView → ℕ) (p : PieceView) (ps : List PieceView) → AllByRecursion (Apart p) ps → AreApart ps → AreApart (placed key p ps)
-unfolding AreApart
+are-apart-placed : (key : PieceView → ℕ) (p : PieceView) (ps : List PieceView) → AllByRecursion (ArePiecesApart p) ps → AreAllApart ps → AreAllApart (placed key p ps)
+unfolding AreAllApart
 are-apart-placed key p [] new apart = (tt, tt)
 are-apart-placed key p (q ∷ qs) new apart = by (nat_lt (key p) (key q)) (are-apart-placed key p qs new.1 apart.1)
   where
-    by : (h : Bool) → AreApart (placed key p qs) → AreApart (cond h (p ∷ q ∷ qs) (q ∷ placed key p qs))
+    by : (h : Bool) → AreAllApart (placed key p qs) → AreAllApart (cond h (p ∷ q ∷ qs) (q ∷ placed key p qs))
     by true rest = (new, apart)
-    by false rest = (all-placed (Apart q) key p qs (apart-turned p q new.0) apart.0, rest)
+    by false rest = (all-placed (ArePiecesApart q) key p qs (apart-turned p q new.0) apart.0, rest)
 
-are-apart-filter : (test : PieceView → Bool) (ps : List PieceView) → AreApart ps → AreApart (filter test ps)
-unfolding AreApart
+are-apart-filter : (test : PieceView → Bool) (ps : List PieceView) → AreAllApart ps → AreAllApart (filter test ps)
+unfolding AreAllApart
 are-apart-filter test [] apart = tt
 are-apart-filter test (p ∷ ps) apart = by (test p) (are-apart-filter test ps apart.1)
   where
-    by : (h : Bool) → AreApart (filter test ps) → AreApart (cond h (p ∷ filter test ps) (filter test ps))
-    by true rest = (all-filter (Apart p) test ps apart.0, rest)
+    by : (h : Bool) → AreAllApart (filter test ps) → AreAllApart (cond h (p ∷ filter test ps) (filter test ps))
+    by true rest = (all-filter (ArePiecesApart p) test ps apart.0, rest)
     by false rest = rest
 
 distinct-filter : {X : Type 0} (key : X → ℕ) (test : X → Bool) (xs : List X) → HasDistinct key xs → HasDistinct key (filter test xs)
@@ -121,34 +121,34 @@ bytes-filter id (q ∷ qs) p distinct there = by (q.id == id) refl there (bytes-
     by false e same rest = let r = rest same in omega (arith, r)
 
 -- and have no byte of that one
-apart-filter : (id : ℕ) (ps : List PieceView) (p : PieceView) → HasDistinct (λ p. p.id) ps → AreApart ps → find (λ p. p.id == id) ps ≡ Some p → AllByRecursion (Apart p) (filter (λ p. not (p.id == id)) ps)
-unfolding IsDistinct AreApart
+apart-filter : (id : ℕ) (ps : List PieceView) (p : PieceView) → HasDistinct (λ p. p.id) ps → AreAllApart ps → find (λ p. p.id == id) ps ≡ Some p → AllByRecursion (ArePiecesApart p) (filter (λ p. not (p.id == id)) ps)
+unfolding IsDistinct AreAllApart
 apart-filter id [] p distinct apart there = cc
 apart-filter id (q ∷ qs) p distinct apart there = by (q.id == id) there (apart-filter id qs p distinct.1 apart.1)
   where
     by : (h : Bool) → cond h (Some q) (find (λ p. p.id == id) qs) ≡ Some p
-        → (find (λ p. p.id == id) qs ≡ Some p → AllByRecursion (Apart p) (filter (λ p. not (p.id == id)) qs))
-        → AllByRecursion (Apart p) (cond (not h) (q ∷ filter (λ p. not (p.id == id)) qs) (filter (λ p. not (p.id == id)) qs))
-    by true same rest = let is : q ≡ p = cc in subst (λ (r : PieceView). AllByRecursion (Apart r) (filter (λ p. not (p.id == id)) qs)) is (all-filter (Apart q) (λ p. not (p.id == id)) qs apart.0)
-    by false same rest = (apart-turned q p (found-as (Apart q) (λ p. p.id == id) qs p same apart.0), rest same)
+        → (find (λ p. p.id == id) qs ≡ Some p → AllByRecursion (ArePiecesApart p) (filter (λ p. not (p.id == id)) qs))
+        → AllByRecursion (ArePiecesApart p) (cond (not h) (q ∷ filter (λ p. not (p.id == id)) qs) (filter (λ p. not (p.id == id)) qs))
+    by true same rest = let is : q ≡ p = cc in subst (λ (r : PieceView). AllByRecursion (ArePiecesApart r) (filter (λ p. not (p.id == id)) qs)) is (all-filter (ArePiecesApart q) (λ p. not (p.id == id)) qs apart.0)
+    by false same rest = (apart-turned q p (found-as (ArePiecesApart q) (λ p. p.id == id) qs p same apart.0), rest same)
 
 -- the piece whose bytes are found
 pub record Found (id : ℕ) (pieces : List PieceView) (hole : Hole) : Type 0 where
   pub piece : PieceView
   pub there : find (λ p. p.id == id) pieces ≡ Some piece
-  pub bytes : bytes_of piece ≡ hole
+  pub bytes : hole_of piece ≡ hole
 
-pub found : (id : ℕ) (pieces : List PieceView) (hole : Hole) (o : Option Hole) → o ≡ option_map bytes_of (find (λ p. p.id == id) pieces) → o ≡ Some hole → Found id pieces hole
+pub found : (id : ℕ) (pieces : List PieceView) (hole : Hole) (o : Option Hole) → o ≡ option_map hole_of (find (λ p. p.id == id) pieces) → o ≡ Some hole → Found id pieces hole
 found id pieces hole o is some = by (find (λ p. p.id == id) pieces) refl (sym is ∙ some)
   where
-    by : (q : Option PieceView) → find (λ p. p.id == id) pieces ≡ q → option_map bytes_of q ≡ Some hole → Found id pieces hole
+    by : (q : Option PieceView) → find (λ p. p.id == id) pieces ≡ q → option_map hole_of q ≡ Some hole → Found id pieces hole
     by None e same = cc
     by (Some p) e same = record { piece = p; there = e; bytes = cc }
 
-pub none-found : (id : ℕ) (pieces : List PieceView) (o : Option Hole) → o ≡ option_map bytes_of (find (λ p. p.id == id) pieces) → o ≡ None → find (λ p. p.id == id) pieces ≡ None
+pub none-found : (id : ℕ) (pieces : List PieceView) (o : Option Hole) → o ≡ option_map hole_of (find (λ p. p.id == id) pieces) → o ≡ None → find (λ p. p.id == id) pieces ≡ None
 none-found id pieces o is none = by (find (λ p. p.id == id) pieces) refl (sym is ∙ none)
   where
-    by : (q : Option PieceView) → find (λ p. p.id == id) pieces ≡ q → option_map bytes_of q ≡ None → find (λ p. p.id == id) pieces ≡ None
+    by : (q : Option PieceView) → find (λ p. p.id == id) pieces ≡ q → option_map hole_of q ≡ None → find (λ p. p.id == id) pieces ≡ None
     by None e same = e
     by (Some p) e same = cc
 
@@ -156,7 +156,7 @@ none-found id pieces o is none = by (find (λ p. p.id == id) pieces) refl (sym i
 
 -- a heap of which nothing is carved
 pub fresh-tiled : (bytes : ℕ) → IsTiled (usable_of bytes) (fresh_heap bytes)
-unfolding IsDistinct AreApart
+unfolding IsDistinct AreAllApart
 fresh-tiled bytes = record {
   holes = spaced-fresh (usable_of bytes) (omega arith);
   ids = tt;
@@ -171,20 +171,20 @@ abbrev pub new_piece : ℕ → ℕ → HeapView → PieceView
 new_piece id bytes heap = record { id = id; place = first_fit (rounded bytes) heap.holes; size = rounded bytes }
 
 -- it lies within the heap and apart from all others
-pub carve-apart : (usable id bytes : ℕ) (heap : HeapView) → IsTiled usable heap → 0 < bytes → fits (rounded bytes) heap.holes ≡ true → IsPiece usable (new_piece id bytes heap) × AllByRecursion (Apart (new_piece id bytes heap)) heap.pieces
+pub carve-apart : (usable id bytes : ℕ) (heap : HeapView) → IsTiled usable heap → 0 < bytes → fits (rounded bytes) heap.holes ≡ true → IsHeapPiece usable (new_piece id bytes heap) × AllByRecursion (ArePiecesApart (new_piece id bytes heap)) heap.pieces
 carve-apart usable id bytes heap tiled some there = (own, others heap.pieces tiled.outside)
   where
     at : (0 ≤ first_fit (rounded bytes) heap.holes) × (first_fit (rounded bytes) heap.holes + rounded bytes ≤ usable) × (first_fit (rounded bytes) heap.holes % 16 ≡ 0)
     at = fit-within (rounded bytes) 0 usable heap.holes tiled.holes there
 
-    own : IsPiece usable (new_piece id bytes heap)
+    own : IsHeapPiece usable (new_piece id bytes heap)
     own = record { within = at.1; place = at.2; size = omega arith; filled = omega (arith, some) }
 
-    others : (ps : List PieceView) → AllByRecursion (λ p. AllByRecursion (IsOutside p) heap.holes) ps → AllByRecursion (Apart (new_piece id bytes heap)) ps
+    others : (ps : List PieceView) → AllByRecursion (λ p. AllByRecursion (IsOutside p) heap.holes) ps → AllByRecursion (ArePiecesApart (new_piece id bytes heap)) ps
     others [] out = tt
     others (p ∷ ps) out = (apart-carved p id (rounded bytes) heap.holes out.0 there, others ps out.1)
 
-pub carve-tiled : (usable id bytes : ℕ) (heap : HeapView) → IsTiled usable heap → 0 < bytes → fits (rounded bytes) heap.holes ≡ true → list_any (λ p. p.id == id) heap.pieces ≡ false → IsTiled usable (with_piece id bytes heap)
+pub carve-tiled : (usable id bytes : ℕ) (heap : HeapView) → IsTiled usable heap → 0 < bytes → fits (rounded bytes) heap.holes ≡ true → list_any (λ p. p.id == id) heap.pieces ≡ false → IsTiled usable (heap_with_piece id bytes heap)
 carve-tiled usable id bytes heap tiled some there fresh =
     let new = carve-apart usable id bytes heap tiled some there in
     let sum = carved_bytes-placed (λ p. p.id) (new_piece id bytes heap) heap.pieces in
@@ -192,7 +192,7 @@ carve-tiled usable id bytes heap tiled some there fresh =
     record {
       holes = spaced-carved (rounded bytes) 0 usable heap.holes (omega arith) tiled.holes;
       ids = HasDistinct-placed (λ p. p.id) (new_piece id bytes heap) heap.pieces fresh tiled.ids;
-      each = all-placed (IsPiece usable) (λ p. p.id) (new_piece id bytes heap) heap.pieces new.0 tiled.each;
+      each = all-placed (IsHeapPiece usable) (λ p. p.id) (new_piece id bytes heap) heap.pieces new.0 tiled.each;
       apart = are-apart-placed (λ p. p.id) (new_piece id bytes heap) heap.pieces new.1 tiled.apart;
       outside = all-placed (λ p. AllByRecursion (IsOutside p) (carved (rounded bytes) heap.holes)) (λ p. p.id) (new_piece id bytes heap) heap.pieces (outside-new id (rounded bytes) 0 usable heap.holes tiled.holes there) (stay heap.pieces tiled.outside);
       whole = omega (arith, sum, less, tiled.whole);
@@ -203,26 +203,26 @@ carve-tiled usable id bytes heap tiled some there fresh =
     stay (p ∷ ps) out = (outside-carved p (rounded bytes) heap.holes out.0, stay ps out.1)
 
 -- a piece that is given back leaves a hole that touches none
-pub give-spaced : (usable id : ℕ) (heap : HeapView) (p : PieceView) → IsTiled usable heap → find (λ p. p.id == id) heap.pieces ≡ Some p → Spaced 0 usable (given (bytes_of p) heap.holes)
+pub give-spaced : (usable id : ℕ) (heap : HeapView) (p : PieceView) → IsTiled usable heap → find (λ p. p.id == id) heap.pieces ≡ Some p → Spaced 0 usable (given (hole_of p) heap.holes)
 give-spaced usable id heap p tiled there =
-    let own : IsPiece usable p = found-as (IsPiece usable) (λ p. p.id == id) heap.pieces p there tiled.each in
+    let own : IsHeapPiece usable p = found-as (IsHeapPiece usable) (λ p. p.id == id) heap.pieces p there tiled.each in
     let out : AllByRecursion (IsOutside p) heap.holes = found-as (λ p. AllByRecursion (IsOutside p) heap.holes) (λ p. p.id == id) heap.pieces p there tiled.outside in
     spaced-given p heap.holes 0 usable (omega arith) own.place own.filled own.size own.within out tiled.holes
 
 pub give-tiled : (usable id : ℕ) (heap : HeapView) → IsTiled usable heap → IsTiled usable (without_piece id heap)
 give-tiled usable id heap tiled = by (find (λ p. p.id == id) heap.pieces) refl
   where
-    stay : (p : PieceView) (ps : List PieceView) → AllByRecursion (IsPiece usable) ps → AllByRecursion (Apart p) ps → AllByRecursion (λ q. AllByRecursion (IsOutside q) heap.holes) ps → AllByRecursion (λ q. AllByRecursion (IsOutside q) (given (bytes_of p) heap.holes)) ps
+    stay : (p : PieceView) (ps : List PieceView) → AllByRecursion (IsHeapPiece usable) ps → AllByRecursion (ArePiecesApart p) ps → AllByRecursion (λ q. AllByRecursion (IsOutside q) heap.holes) ps → AllByRecursion (λ q. AllByRecursion (IsOutside q) (given (hole_of p) heap.holes)) ps
     stay p [] each apart out = tt
     stay p (q ∷ qs) each apart out = (outside-given q p heap.holes each.0.filled (apart-turned p q apart.0) out.0, stay p qs each.1 apart.1 out.1)
 
-    by : (o : Option PieceView) → find (λ p. p.id == id) heap.pieces ≡ o → IsTiled usable (record { holes = freed o heap.holes; pieces = filter (λ p. not (p.id == id)) heap.pieces })
+    by : (o : Option PieceView) → find (λ p. p.id == id) heap.pieces ≡ o → IsTiled usable (record { holes = holes_after_free o heap.holes; pieces = filter (λ p. not (p.id == id)) heap.pieces })
     by None e = subst (λ (ps : List PieceView). IsTiled usable (record { holes = heap.holes; pieces = ps })) (sym (filter-none id heap.pieces e)) tiled
     by (Some p) e =
         let others = apart-filter id heap.pieces p tiled.ids tiled.apart e in
-        let each = all-filter (IsPiece usable) (λ p. not (p.id == id)) heap.pieces tiled.each in
+        let each = all-filter (IsHeapPiece usable) (λ p. not (p.id == id)) heap.pieces tiled.each in
         let sum = bytes-filter id heap.pieces p tiled.ids e in
-        let more = total-given (bytes_of p) heap.holes in
+        let more = total-given (hole_of p) heap.holes in
         record {
           holes = give-spaced usable id heap p tiled e;
           ids = distinct-filter (λ p. p.id) (λ p. not (p.id == id)) heap.pieces tiled.ids;

@@ -14,8 +14,8 @@ use Rattle.stream_law.specs.Seen.{ring_seen, is_equaliser, equalises, blob_in, f
 use Rattle.ipc3_codec.specs.Allowed.{is_buffer_size}
 use Rattle.mbox_link.specs.Step.{has_kind, kind_at, is_used}
 use Rattle.row_laws.specs.Tiled.{IsTiled, heap_bytes}
-use Rattle.row_laws.specs.Wired.{IsWired, IsLinked, sides}
-use Rattle.row_laws.specs.Played.{IsPlayable}
+use Rattle.row_laws.specs.Wired.{IsWired, HasJoinedSides, sides_joined}
+use Rattle.row_laws.specs.Played.{AreStreamsPlayable}
 
 -- ---- the heap
 
@@ -82,11 +82,11 @@ pub record AreAscending (f : FwState) : Type 0 where
 -- component. Pieces and holes share the heap. Graph, settings and streams are as they should be, and no two pipelines have one
 -- index. Each edge has a ring, and a ring in which no frame may lie is empty. Each Live equaliser has its numbers, and what is
 -- staged is within the rules of parts.
-pub record IsKept (f : FwState) : Type 0 where
+pub record IsKeptState (f : FwState) : Type 0 where
   pub comps : length f.graph.comps ≤ 128
   pub edges : length f.graph.edges ≤ 128
   pub pipes : length f.graph.pipes ≤ 32
-  pub joins : length f.graph.joins ≤ sides f.graph.edges
+  pub joins : length f.graph.joins ≤ sides_joined f.graph.edges
   pub streams : length f.streams ≤ length f.graph.comps
   pub ascending : AreAscending f
   pub indices : HasDistinct (λ p. p.index) f.graph.pipes
@@ -95,8 +95,8 @@ pub record IsKept (f : FwState) : Type 0 where
   pub pieces : ArePieces f.graph f.heap
   pub tiled : IsTiled (heap_bytes f.heap) f.heap
   pub wired : IsWired f.graph
-  pub linked : IsLinked f.graph
-  pub played : IsPlayable (view_of f)
+  pub linked : HasJoinedSides f.graph
+  pub played : AreStreamsPlayable (view_of f)
   pub rings : map (λ r. r.buffer) f.rings ≡ map (λ e. e.buffer) f.graph.edges
   pub seen : map (ring_seen (view_of f)) f.rings ≡ f.rings
   pub histories : AreHistories (view_of f) f.histories

@@ -21,14 +21,14 @@ abbrev pub IsSetBy : Graph → ℕ → Bool → Option Params → Type 0
 IsSetBy g host idle None = idle ≡ true
 IsSetBy g host idle (Some p) = (idle ≡ false) × ((1 ≤ p.channels) × (p.channels ≤ 8)) × (is_rate p.rate ≡ true) × (is_way_ready g host ≡ true)
 
-abbrev pub IsSet : Graph → StreamView → Type 0
-IsSet g s = IsSetBy g s.host (is_idle s.phase) s.params
+abbrev pub IsStreamSet : Graph → StreamView → Type 0
+IsStreamSet g s = IsSetBy g s.host (is_idle s.phase) s.params
 
 -- What is so of the streams of a view: each belongs to a host of its own and is set as it should, and they agree.
-pub record IsPlayable (v : View) : Type 0 where
+pub record AreStreamsPlayable (v : View) : Type 0 where
   pub hosts : HasDistinct (λ s. s.host) v.streams
   pub owned : AllByRecursion (λ s. has_kind is_host (kind_at v.graph s.host) ≡ true) v.streams
-  pub each : AllByRecursion (IsSet v.graph) v.streams
+  pub each : AllByRecursion (IsStreamSet v.graph) v.streams
   pub agreed : agree v ≡ true
 
 -- a change of streams leaves the hosts of all, and the parameters of those that are Live

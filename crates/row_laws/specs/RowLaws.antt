@@ -9,47 +9,47 @@ use Rattle.stream_law.specs.declared.stream.Phase.TheVariants.{Prepared, Running
 use Rattle.stream_law.specs.State.{FwState}
 use Rattle.ipc3_codec.specs.declared.message.Message.{Message}
 use Rattle.ipc3_codec.specs.declared.message.Message.TheVariants.{SetData}
-use Rattle.ipc3_codec.specs.Allowed.{is_buffer_size, is_period, is_channels}
+use Rattle.ipc3_codec.specs.Allowed.{is_buffer_size, is_period_allowed, is_channels}
 use Rattle.ipc3_codec.specs.Messages.{IsAllowed}
 use Rattle.mbox_link.specs.Step.{comp_new, comp_free, buffer_new, buffer_free, pipe_new, pipe_free, connect, pipe_complete, set_value, get_value, set_data, get_data, pcm_params, pcm_free, trigger, is_prepared, is_moving, is_running, is_paused, row, step, fresh}
 use Rattle.mbox_link.specs.Exchange.{ticked}
-use Rattle.row_laws.specs.Kept.{IsKept, IsSettingOf}
+use Rattle.row_laws.specs.Kept.{IsKeptState, IsSettingOf}
 
 -- A row that is done keeps what every state keeps. Where it is refused, the state stays as it was.
-abbrev pub Keeps : (FwState → Result FwState ℤ) → Type 0
-Keeps row = (f g : FwState) → IsKept f → row f ≡ Ok g → IsKept g
+abbrev pub RowIsKept : (FwState → Result FwState ℤ) → Type 0
+RowIsKept row = (f g : FwState) → IsKeptState f → row f ≡ Ok g → IsKeptState g
 
 -- ---- one row each
 
 abbrev pub CompNewKeeps : Type 0
-CompNewKeeps = (id pipe : ℕ) (kind : Kind) (setting : Setting) → IsSettingOf kind setting → Keeps (λ f. comp_new f id pipe kind setting)
+CompNewKeeps = (id pipe : ℕ) (kind : Kind) (setting : Setting) → IsSettingOf kind setting → RowIsKept (λ f. comp_new f id pipe kind setting)
 
 abbrev pub CompFreeKeeps : Type 0
-CompFreeKeeps = (id : ℕ) → Keeps (λ f. comp_free f id)
+CompFreeKeeps = (id : ℕ) → RowIsKept (λ f. comp_free f id)
 
 abbrev pub BufferNewKeeps : Type 0
-BufferNewKeeps = (id pipe size : ℕ) → is_buffer_size size ≡ true → Keeps (λ f. buffer_new f id pipe size)
+BufferNewKeeps = (id pipe size : ℕ) → is_buffer_size size ≡ true → RowIsKept (λ f. buffer_new f id pipe size)
 
 abbrev pub BufferFreeKeeps : Type 0
-BufferFreeKeeps = (id : ℕ) → Keeps (λ f. buffer_free f id)
+BufferFreeKeeps = (id : ℕ) → RowIsKept (λ f. buffer_free f id)
 
 abbrev pub PipeNewKeeps : Type 0
-PipeNewKeeps = (id index sched period : ℕ) → is_period period ≡ true → Keeps (λ f. pipe_new f id index sched period)
+PipeNewKeeps = (id index sched period : ℕ) → is_period_allowed period ≡ true → RowIsKept (λ f. pipe_new f id index sched period)
 
 abbrev pub PipeFreeKeeps : Type 0
-PipeFreeKeeps = (id : ℕ) → Keeps (λ f. pipe_free f id)
+PipeFreeKeeps = (id : ℕ) → RowIsKept (λ f. pipe_free f id)
 
 abbrev pub ConnectKeeps : Type 0
-ConnectKeeps = (source sink : ℕ) → Keeps (λ f. connect f source sink)
+ConnectKeeps = (source sink : ℕ) → RowIsKept (λ f. connect f source sink)
 
 abbrev pub PipeCompleteKeeps : Type 0
-PipeCompleteKeeps = (id : ℕ) → Keeps (λ f. pipe_complete f id)
+PipeCompleteKeeps = (id : ℕ) → RowIsKept (λ f. pipe_complete f id)
 
 abbrev pub SetValueKeeps : Type 0
-SetValueKeeps = (id command : ℕ) (values : List ℕ) → Keeps (λ f. set_value f id command values)
+SetValueKeeps = (id command : ℕ) (values : List ℕ) → RowIsKept (λ f. set_value f id command values)
 
 abbrev pub GetValueKeeps : Type 0
-GetValueKeeps = (id command : ℕ) → Keeps (λ f. get_value f id command)
+GetValueKeeps = (id command : ℕ) → RowIsKept (λ f. get_value f id command)
 
 -- a part has 32 header bytes, and what it carries are bytes
 pub record IsPart (part : Part) : Type 0 where
@@ -58,31 +58,31 @@ pub record IsPart (part : Part) : Type 0 where
   pub bytes : (i : ℕ) → slice_index part.bytes i < 256
 
 abbrev pub SetDataKeeps : Type 0
-SetDataKeeps = (id : ℕ) (part : Part) → IsPart part → Keeps (λ f. set_data f id part)
+SetDataKeeps = (id : ℕ) (part : Part) → IsPart part → RowIsKept (λ f. set_data f id part)
 
 abbrev pub GetDataKeeps : Type 0
-GetDataKeeps = (id index : ℕ) → Keeps (λ f. get_data f id index)
+GetDataKeeps = (id index : ℕ) → RowIsKept (λ f. get_data f id index)
 
 abbrev pub PcmParamsKeeps : Type 0
-PcmParamsKeeps = (host direction : ℕ) (params : Params) → is_channels params.channels ≡ true → Keeps (λ f. pcm_params f host direction params)
+PcmParamsKeeps = (host direction : ℕ) (params : Params) → is_channels params.channels ≡ true → RowIsKept (λ f. pcm_params f host direction params)
 
 abbrev pub PcmFreeKeeps : Type 0
-PcmFreeKeeps = (host : ℕ) → Keeps (λ f. pcm_free f host)
+PcmFreeKeeps = (host : ℕ) → RowIsKept (λ f. pcm_free f host)
 
 abbrev pub TrigStartKeeps : Type 0
-TrigStartKeeps = (host : ℕ) → Keeps (λ f. trigger f host is_prepared Running)
+TrigStartKeeps = (host : ℕ) → RowIsKept (λ f. trigger f host is_prepared Running)
 
 abbrev pub TrigStopKeeps : Type 0
-TrigStopKeeps = (host : ℕ) → Keeps (λ f. trigger f host is_moving Prepared)
+TrigStopKeeps = (host : ℕ) → RowIsKept (λ f. trigger f host is_moving Prepared)
 
 abbrev pub TrigPauseKeeps : Type 0
-TrigPauseKeeps = (host : ℕ) → Keeps (λ f. trigger f host is_running Paused)
+TrigPauseKeeps = (host : ℕ) → RowIsKept (λ f. trigger f host is_running Paused)
 
 abbrev pub TrigReleaseKeeps : Type 0
-TrigReleaseKeeps = (host : ℕ) → Keeps (λ f. trigger f host is_paused Running)
+TrigReleaseKeeps = (host : ℕ) → RowIsKept (λ f. trigger f host is_paused Running)
 
 abbrev pub CtxSaveKeeps : Type 0
-CtxSaveKeeps = Keeps (λ f. Ok f)
+CtxSaveKeeps = RowIsKept (λ f. Ok f)
 
 -- ---- all rows, and what else changes a state
 
@@ -93,16 +93,16 @@ HasBytes m = Unit {0}
 
 -- the row of a message none of whose words is refused
 abbrev pub RowKeeps : Type 0
-RowKeeps = (m : Message) → IsAllowed m → HasBytes m → Keeps (λ f. row f m)
+RowKeeps = (m : Message) → IsAllowed m → HasBytes m → RowIsKept (λ f. row f m)
 
 -- the step of any bytes
 abbrev pub StepKeeps : Type 0
-StepKeeps = (f : FwState) (request : List ℕ) → ((i : ℕ) → slice_index request i < 256) → IsKept f → IsKept (step f request).0
+StepKeeps = (f : FwState) (request : List ℕ) → ((i : ℕ) → slice_index request i < 256) → IsKeptState f → IsKeptState (step f request).0
 
 -- a boot makes a state that is kept, whatever was before it
-abbrev pub BootKeeps : Type 0
-BootKeeps = (heap : ℕ) → IsKept (fresh heap)
+abbrev pub BootIsKept : Type 0
+BootIsKept = (heap : ℕ) → IsKeptState (fresh heap)
 
 -- a tick, whatever its inputs give
-abbrev pub TickKeeps : Type 0
-TickKeeps = (f : FwState) (io : Io) → IsKept f → IsKept (ticked (f, io)).0
+abbrev pub TickIsKept : Type 0
+TickIsKept = (f : FwState) (io : Io) → IsKeptState f → IsKeptState (ticked (f, io)).0

@@ -20,24 +20,24 @@ abbrev pub fresh_heap : ℕ → HeapView
 fresh_heap bytes = record { holes = fresh_holes (usable_of bytes); pieces = [] }
 
 -- the bytes of a piece, as a hole
-abbrev pub bytes_of : PieceView → Hole
-bytes_of p = record { place = p.place; size = p.size }
+abbrev pub hole_of : PieceView → Hole
+hole_of p = record { place = p.place; size = p.size }
 
 -- two pieces have no byte in common
-abbrev pub Apart : PieceView → PieceView → Type 0
-Apart p q = (p.place + p.size ≤ q.place) ⊎ (q.place + q.size ≤ p.place)
+abbrev pub ArePiecesApart : PieceView → PieceView → Type 0
+ArePiecesApart p q = (p.place + p.size ≤ q.place) ⊎ (q.place + q.size ≤ p.place)
 
 -- no two of these have
-unfoldable pub AreApart : List PieceView → Type 0
-AreApart [] = Unit {0}
-AreApart (p ∷ ps) = AllByRecursion (Apart p) ps × AreApart ps
+unfoldable pub AreAllApart : List PieceView → Type 0
+AreAllApart [] = Unit {0}
+AreAllApart (p ∷ ps) = AllByRecursion (ArePiecesApart p) ps × AreAllApart ps
 
 -- a piece and a hole have no byte in common
 abbrev pub IsOutside : PieceView → Hole → Type 0
 IsOutside p h = (p.place + p.size ≤ h.place) ⊎ (h.place + h.size ≤ p.place)
 
 -- a piece of so many usable bytes, in whole units of 16
-pub record IsPiece (usable : ℕ) (p : PieceView) : Type 0 where
+pub record IsHeapPiece (usable : ℕ) (p : PieceView) : Type 0 where
   pub within : p.place + p.size ≤ usable
   pub place : p.place % 16 ≡ 0
   pub size : p.size % 16 ≡ 0
@@ -48,7 +48,7 @@ pub record IsPiece (usable : ℕ) (p : PieceView) : Type 0 where
 pub record IsTiled (usable : ℕ) (heap : HeapView) : Type 0 where
   pub holes : Spaced 0 usable heap.holes
   pub ids : HasDistinct (λ p. p.id) heap.pieces
-  pub each : AllByRecursion (IsPiece usable) heap.pieces
-  pub apart : AreApart heap.pieces
+  pub each : AllByRecursion (IsHeapPiece usable) heap.pieces
+  pub apart : AreAllApart heap.pieces
   pub outside : AllByRecursion (λ p. AllByRecursion (IsOutside p) heap.holes) heap.pieces
   pub whole : heap_bytes heap ≡ usable

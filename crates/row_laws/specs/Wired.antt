@@ -6,17 +6,17 @@ use Rattle.stream_law.specs.declared.graph.Join.{Join}
 use Rattle.stream_law.specs.declared.graph.Graph.{Graph}
 use Rattle.stream_law.specs.Placed.{HasDistinct}
 use Rattle.stream_law.specs.Ways.{leads, is_end}
-use Rattle.ipc3_codec.specs.Allowed.{is_period}
+use Rattle.ipc3_codec.specs.Allowed.{is_period_allowed}
 use Rattle.mbox_link.specs.Step.{has_comp, has_edge}
 
 -- how many sides of edges are joined
-abbrev pub side : Option ℕ → ℕ
-side None = 0
-side (Some end) = 1
+abbrev pub side_count : Option ℕ → ℕ
+side_count None = 0
+side_count (Some end) = 1
 
-abbrev pub sides : List Edge → ℕ
-sides [] = 0
-sides (e ∷ edges) = side e.source + side e.sink + sides edges
+abbrev pub sides_joined : List Edge → ℕ
+sides_joined [] = 0
+sides_joined (e ∷ edges) = side_count e.source + side_count e.sink + sides_joined edges
 
 -- an id is a component's or a buffer's
 abbrev pub is_node : Graph → ℕ → Bool
@@ -41,7 +41,7 @@ pub record IsWired (g : Graph) : Type 0 where
   pub alone : AllByRecursion (λ p. is_node g p.id ≡ false) g.pipes
   pub ends : AllByRecursion (IsBetween g) g.joins
   pub sides : AllByRecursion (λ e. IsSide g e.source × IsSide g e.sink) g.edges
-  pub periods : AllByRecursion (λ p. is_period p.period ≡ true) g.pipes
+  pub periods : AllByRecursion (λ p. is_period_allowed p.period ≡ true) g.pipes
 
 -- there is such a join
 abbrev pub has_join : Graph → ℕ → ℕ → Bool
@@ -65,7 +65,7 @@ abbrev pub IsOpen : Graph → Join → Type 0
 IsOpen g j = leads g.joins (length g.joins) j.sink j.source ≡ false
 
 -- What is so of the sides of a graph's edges: they are those of the joins, and no others, and no walk of joins comes back.
-pub record IsLinked (g : Graph) : Type 0 where
+pub record HasJoinedSides (g : Graph) : Type 0 where
   pub at : AllByRecursion (λ j. list_any (is_at j) g.edges ≡ true) g.joins
   pub from : AllByRecursion (λ e. IsJoinedFrom g e.source e.buffer) g.edges
   pub to : AllByRecursion (λ e. IsJoinedTo g e.buffer e.sink) g.edges

@@ -112,10 +112,10 @@ pub fn step_law()
 
 /// A boot.
 pub fn boot_law()
-    ensures { law.BootKeeps }
+    ensures { law.BootIsKept }
 {}
 
 /// A tick.
 pub fn tick_law()
-    ensures { law.TickKeeps }
+    ensures { law.TickIsKept }
 {}

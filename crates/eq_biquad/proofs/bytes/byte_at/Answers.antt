@@ -1,6 +1,6 @@
 use Rattle.std.proofs.Common.{◌≡◌, ap, sym, ◌∙◌, ℕ, ◌+◌, ◌*◌, ◌/◌, ◌%◌, ◌<◌, List, length, get_or, arith, rules, pos, w32, FitsSigned}
 use Rattle.std.proofs.lemmas.Int.{to_z-of_z}
-use Rattle.eq_biquad.specs.PieceWords.{bytes_of}
+use Rattle.eq_biquad.specs.PieceWords.{bytes_of_words}
 use Rattle.eq_biquad.proofs.ByteLaws.{four, get-bytes}
 use Rattle.eq_biquad.proofs.bytes.byte_at.Goals as goal
 
@@ -13,4 +13,4 @@ returns c =
     let place : 4 * q + r ≡ i = omega arith in
     ap (λ (l : List ℕ). get_or l r 0) (c.to_le_bytes.ensures ∙ ap four (to_z-of_z w32 (get_or ws q (pos 0)) fit))
     ∙ sym (get-bytes ws q r 0 lt low)
-    ∙ ap (λ n. get_or (bytes_of ws) n 0) place
+    ∙ ap (λ n. get_or (bytes_of_words ws) n 0) place

@@ -1,7 +1,7 @@
 use Rattle.std.proofs.Common.{◌≡◌, ap, ◌∙◌, ℕ, ◌+◌, ◌*◌, ◌/◌, ◌%◌, ◌<◌, List, length, get_or, set, arith, rules, ℤ, pos, w32, FitsSigned}
 use Rattle.std.specs.Int.{cast_signed, from_le_bytes}
 use Rattle.std.proofs.lemmas.Int.{to_z-of_z}
-use Rattle.eq_biquad.specs.PieceWords.{bytes_of}
+use Rattle.eq_biquad.specs.PieceWords.{bytes_of_words}
 use Rattle.eq_biquad.proofs.ByteLaws.{four, four-set, set-bytes}
 use Rattle.eq_biquad.proofs.bytes.put_byte.Goals as goal
 
@@ -13,4 +13,4 @@ returns c =
     let place : 4 * q + r ≡ i = omega arith in
     let bytes : c.to_le_bytes-four.result ≡ four v = c.to_le_bytes-four.ensures ∙ ap four (to_z-of_z w32 v fit) in
     set-bytes ws q r c.args.byte _ lt (omega arith) (four-set v c.from_le_bytes.result r c.args.byte (omega (arith, c.ranges.byte)) (c.from_le_bytes.ensures ∙ ap (λ (l : List ℕ). cast_signed w32 (from_le_bytes w32 (set l r c.args.byte))) bytes))
-    ∙ ap (λ n. set (bytes_of ws) n c.args.byte) place
+    ∙ ap (λ n. set (bytes_of_words ws) n c.args.byte) place

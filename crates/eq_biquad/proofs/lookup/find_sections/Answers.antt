@@ -3,43 +3,43 @@ use Rattle.std.proofs.lemmas.Int.{ints, to_z-of_z}
 use Rattle.sof_base.specs.Slots.{word_at}
 use Rattle.stream_law.specs.Equaliser.{sections_of}
 use Rattle.sof_base.specs.Blob as form
-use Rattle.eq_biquad.specs.PieceWords.{bytes_of}
+use Rattle.eq_biquad.specs.PieceWords.{bytes_of_words}
 use Rattle.eq_biquad.proofs.ByteLaws.{length-blob}
 use Rattle.sof_base.proofs.BlobLaws.{sound}
 use Rattle.eq_biquad.proofs.Lookups.{empty-blob, no-channel, a-channel, word-assigned, is-assigned, negative-none, response-found, found-within}
 use Rattle.eq_biquad.proofs.lookup.find_sections.Goals as goal
 
 pub returns-then-len-eq0-clause-sections : goal.returns-then-len-eq0-clause-sections
-returns-then-len-eq0-clause-sections c = sym (ap (λ n. sections_of (take n (bytes_of c.args.blob.now)) c.args.channel) c.if-len-eq0.true ∙ empty-blob c.args.channel)
+returns-then-len-eq0-clause-sections c = sym (ap (λ n. sections_of (take n (bytes_of_words c.args.blob.now)) c.args.channel) c.if-len-eq0.true ∙ empty-blob c.args.channel)
 
 pub count_at-requires : goal.count_at-requires
 count_at-requires c =
-    let b = take c.args.len (bytes_of c.args.blob.now) in let is = sound b (c.requires.blob (omega (arith, c.if-len-eq0.false))) in
+    let b = take c.args.len (bytes_of_words c.args.blob.now) in let is = sound b (c.requires.blob (omega (arith, c.if-len-eq0.false))) in
     (omega (arith, is.long, length-blob c.args.blob.now c.args.len (omega (arith, c.requires.words))), omega (arith, c.requires.words))
 
 pub returns-then-channel-count_at-clause-sections : goal.returns-then-channel-count_at-clause-sections
 returns-then-channel-count_at-clause-sections c =
-    sym (no-channel (take c.args.len (bytes_of c.args.blob.now)) c.args.channel (omega (arith, c.if-channel-count_at.true, c.count_at.ensures)))
+    sym (no-channel (take c.args.len (bytes_of_words c.args.blob.now)) c.args.channel (omega (arith, c.if-channel-count_at.true, c.count_at.ensures)))
 
 pub overflow_add-assignment : goal.overflow_add-assignment
 overflow_add-assignment c =
-    let b = take c.args.len (bytes_of c.args.blob.now) in let is = sound b (c.requires.blob (omega (arith, c.if-len-eq0.false))) in
+    let b = take c.args.len (bytes_of_words c.args.blob.now) in let is = sound b (c.requires.blob (omega (arith, c.if-len-eq0.false))) in
     record { fits = omega (arith, c.if-channel-count_at.false, c.count_at.ensures, is.few_channels) }
 
 pub offset_bounds-blob-channel : goal.offset_bounds-blob-channel
 offset_bounds-blob-channel c =
-    let b = take c.args.len (bytes_of c.args.blob.now) in let is = sound b (c.requires.blob (omega (arith, c.if-len-eq0.false))) in
+    let b = take c.args.len (bytes_of_words c.args.blob.now) in let is = sound b (c.requires.blob (omega (arith, c.if-len-eq0.false))) in
     record { fits = omega (arith, c.if-channel-count_at.false, c.count_at.ensures, is.few_channels) }
 
 pub bounds-blob-channel : goal.bounds-blob-channel
 bounds-blob-channel c =
-    let b = take c.args.len (bytes_of c.args.blob.now) in let is = sound b (c.requires.blob (omega (arith, c.if-len-eq0.false))) in
+    let b = take c.args.len (bytes_of_words c.args.blob.now) in let is = sound b (c.requires.blob (omega (arith, c.if-len-eq0.false))) in
     omega (arith, c.if-channel-count_at.false, c.count_at.ensures, is.few_channels, c.requires.words)
 
 pub returns-then-assignment-lt0-clause-sections : goal.returns-then-assignment-lt0-clause-sections
 returns-then-assignment-lt0-clause-sections c =
     let ws = c.args.blob.now in let k = c.args.channel in let len = c.args.len in
-    let b = take len (bytes_of ws) in let is = sound b (c.requires.blob (omega (arith, c.if-len-eq0.false))) in
+    let b = take len (bytes_of_words ws) in let is = sound b (c.requires.blob (omega (arith, c.if-len-eq0.false))) in
     let v : ℤ = get_or ws (15 + k) (pos 0) in
     let fit : FitsSigned w32 v = search rules in
     let low : k < word_at b 36 = omega (arith, c.if-channel-count_at.false, c.count_at.ensures) in
@@ -49,7 +49,7 @@ returns-then-assignment-lt0-clause-sections c =
 pub response_at-place-requires-clause-there : goal.response_at-place-requires-clause-there
 response_at-place-requires-clause-there c =
     let ws = c.args.blob.now in let k = c.args.channel in let len = c.args.len in
-    let b = take len (bytes_of ws) in let is = sound b (c.requires.blob (omega (arith, c.if-len-eq0.false))) in
+    let b = take len (bytes_of_words ws) in let is = sound b (c.requires.blob (omega (arith, c.if-len-eq0.false))) in
     let v : ℤ = get_or ws (15 + k) (pos 0) in
     let fit : FitsSigned w32 v = search rules in
     let low : k < word_at b 36 = omega (arith, c.if-channel-count_at.false, c.count_at.ensures) in
@@ -60,7 +60,7 @@ response_at-place-requires-clause-there c =
 pub overflow_add-result : goal.overflow_add-result
 overflow_add-result c =
     let ws = c.args.blob.now in let k = c.args.channel in let len = c.args.len in
-    let b = take len (bytes_of ws) in let is = sound b (c.requires.blob (omega (arith, c.if-len-eq0.false))) in
+    let b = take len (bytes_of_words ws) in let is = sound b (c.requires.blob (omega (arith, c.if-len-eq0.false))) in
     let v : ℤ = get_or ws (15 + k) (pos 0) in
     let fit : FitsSigned w32 v = search rules in
     let low : k < word_at b 36 = omega (arith, c.if-channel-count_at.false, c.count_at.ensures) in
@@ -73,7 +73,7 @@ overflow_add-result c =
 pub count_at-requires-2 : goal.count_at-requires-2
 count_at-requires-2 c =
     let ws = c.args.blob.now in let k = c.args.channel in let len = c.args.len in
-    let b = take len (bytes_of ws) in let is = sound b (c.requires.blob (omega (arith, c.if-len-eq0.false))) in
+    let b = take len (bytes_of_words ws) in let is = sound b (c.requires.blob (omega (arith, c.if-len-eq0.false))) in
     let v : ℤ = get_or ws (15 + k) (pos 0) in
     let fit : FitsSigned w32 v = search rules in
     let low : k < word_at b 36 = omega (arith, c.if-channel-count_at.false, c.count_at.ensures) in
@@ -86,7 +86,7 @@ count_at-requires-2 c =
 pub returns-clause-sections : goal.returns-clause-sections
 returns-clause-sections c =
     let ws = c.args.blob.now in let k = c.args.channel in let len = c.args.len in
-    let b = take len (bytes_of ws) in let is = sound b (c.requires.blob (omega (arith, c.if-len-eq0.false))) in
+    let b = take len (bytes_of_words ws) in let is = sound b (c.requires.blob (omega (arith, c.if-len-eq0.false))) in
     let v : ℤ = get_or ws (15 + k) (pos 0) in
     let fit : FitsSigned w32 v = search rules in
     let low : k < word_at b 36 = omega (arith, c.if-channel-count_at.false, c.count_at.ensures) in
@@ -99,7 +99,7 @@ returns-clause-sections c =
 pub returns-clause-within : goal.returns-clause-within
 returns-clause-within c =
     let ws = c.args.blob.now in let k = c.args.channel in let len = c.args.len in
-    let b = take len (bytes_of ws) in let is = sound b (c.requires.blob (omega (arith, c.if-len-eq0.false))) in
+    let b = take len (bytes_of_words ws) in let is = sound b (c.requires.blob (omega (arith, c.if-len-eq0.false))) in
     let v : ℤ = get_or ws (15 + k) (pos 0) in
     let fit : FitsSigned w32 v = search rules in
     let low : k < word_at b 36 = omega (arith, c.if-channel-count_at.false, c.count_at.ensures) in

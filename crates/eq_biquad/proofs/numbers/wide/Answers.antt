@@ -1,7 +1,7 @@
 use Rattle.std.proofs.Common.{◌≡◌, ap, ◌∙◌, subst, sym, ◌+◌, ◌^◌, ◌≤◌, ℤ, pos, nat_abs, get_or, arith, rules, w32, FitsSigned, to_z, of_z}
 use mir.Syntax.{w128}
 use Rattle.std.proofs.lemmas.Int.{to_z-of_z}
-use Rattle.eq_biquad.specs.PieceWords.{joined, bits_at}
+use Rattle.eq_biquad.specs.PieceWords.{wide_number, bits_at}
 use Rattle.eq_biquad.proofs.ByteLaws.{bits-below}
 use Rattle.eq_biquad.proofs.ArithLaws.{abs-below, same-128, joined-high}
 use Rattle.eq_biquad.proofs.numbers.wide.Goals as goal
@@ -19,9 +19,9 @@ below-requires-2 c =
     let two : c.cast_unsigned.result ≡ bits_at ws (p + 2) = c.cast_unsigned.ensures ∙ ap (of_z w32) (to_z-of_z w32 (get_or ws (p + 2) (pos 0)) fit2) in
     let one : c.cast_unsigned-2.result ≡ bits_at ws (p + 1) = c.cast_unsigned-2.ensures ∙ ap (of_z w32) (to_z-of_z w32 (get_or ws (p + 1) (pos 0)) fit1) in
     let high : nat_abs c.below-high.result ≤ 2 ^ 64 = omega (arith, c.below-high.ensures.within, ap nat_abs is, low) in
-    let first : c.below-high.result ≡ joined top (bits_at ws (p + 2)) = c.below-high.ensures.value ∙ (λ i. joined (is i) (two i)) in
-    let second : c.below.result ≡ joined (joined top (bits_at ws (p + 2))) (bits_at ws (p + 1)) =
-    c.below.ensures.value ∙ (λ i. joined ((same-128 c.below-high.result (omega (arith, high)) ∙ first) i) (one i)) in
-    let small : nat_abs (joined (joined top (bits_at ws (p + 2))) (bits_at ws (p + 1))) ≤ 2 ^ 33 = joined-high (joined (joined top (bits_at ws (p + 2))) (bits_at ws (p + 1))) (bits_at ws p) (bits-below (get_or ws p (pos 0)) fit0) c.requires.within in
+    let first : c.below-high.result ≡ wide_number top (bits_at ws (p + 2)) = c.below-high.ensures.value ∙ (λ i. wide_number (is i) (two i)) in
+    let second : c.below.result ≡ wide_number (wide_number top (bits_at ws (p + 2))) (bits_at ws (p + 1)) =
+    c.below.ensures.value ∙ (λ i. wide_number ((same-128 c.below-high.result (omega (arith, high)) ∙ first) i) (one i)) in
+    let small : nat_abs (wide_number (wide_number top (bits_at ws (p + 2))) (bits_at ws (p + 1))) ≤ 2 ^ 33 = joined-high (wide_number (wide_number top (bits_at ws (p + 2))) (bits_at ws (p + 1))) (bits_at ws p) (bits-below (get_or ws p (pos 0)) fit0) c.requires.within in
     let within : nat_abs c.below.result ≤ 2 ^ 33 = subst (λ z. nat_abs z ≤ 2 ^ 33) (sym second) small in
     subst (λ z. nat_abs z ≤ 2 ^ 94) (sym (same-128 c.below.result (omega (arith, within)))) (omega (arith, within))

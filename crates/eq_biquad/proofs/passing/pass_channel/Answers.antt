@@ -2,7 +2,7 @@ use Rattle.std.proofs.Common.{◌≡◌, ap, sym, subst, ◌∙◌, ◌+◌, ◌
 use Rattle.sof_base.specs.Blob as form
 use Rattle.sof_base.specs.Blob.{section_at}
 use Rattle.eq_biquad.specs.Lanes.{lane}
-use Rattle.eq_biquad.specs.PieceWords.{bytes_of}
+use Rattle.eq_biquad.specs.PieceWords.{bytes_of_words}
 use Rattle.eq_biquad.specs.Passing.{passed_samples, numbers_passed}
 use Rattle.eq_biquad.specs.Sections.{law_section}
 use Rattle.eq_biquad.proofs.NumberLaws.{numbers-bound, numbers-put-at}
@@ -16,7 +16,7 @@ numbers_in-requires-clause-within c =
 
 pub pass_section-after-requires-clause-shift : goal.pass_section-after-requires-clause-shift
 pass_section-after-requires-clause-shift c =
-    let s = c.loop-s.s in let b = take c.args.len (bytes_of c.args.blob.now) in
+    let s = c.loop-s.s in let b = take c.args.len (bytes_of_words c.args.blob.now) in
     subst (λ z. form.is_shift z ≡ true) (sym (c.section_at-section.ensures.shift ∙ ap (form.signed_at b) (let e : 4 * (c.args.found.place + 7 * s) + 20 ≡ 4 * c.args.found.place + 28 * s + 20 = omega arith in e)))
     (c.requires.found.shifts s (omega (arith, c.loop-s-test.true, c.loop-s.auto.s-end)))
 
@@ -27,7 +27,7 @@ pass_section-after-requires-clause-within c =
 
 pub loop-s-preserved : goal.loop-s-preserved
 loop-s-preserved c =
-    let s = c.loop-s.s in let b = take c.args.len (bytes_of c.args.blob.now) in let at = c.args.at in let p : ℕ = 4 * c.args.found.place in let base : ℕ = 64 * at.channel in
+    let s = c.loop-s.s in let b = take c.args.len (bytes_of_words c.args.blob.now) in let at = c.args.at in let p : ℕ = 4 * c.args.found.place in let base : ℕ = 64 * at.channel in
     let old = lane at.channels at.channel at.frames c.loop-s.samples in
     let sec : law_section c.section_at-section.result ≡ section_at b (p + 28 * s) = c.section_at-section.ensures.section ∙ ap (section_at b) (let e : 4 * (c.args.found.place + 7 * s) ≡ p + 28 * s = omega arith in e) in
     let lt : s < c.args.found.count = omega (arith, c.loop-s-test.true, c.loop-s.auto.s-end) in
@@ -45,10 +45,10 @@ loop-s-preserved c =
 
 pub returns-clause-lane : goal.returns-clause-lane
 returns-clause-lane c =
-    let b = take c.args.len (bytes_of c.args.blob.now) in let at = c.args.at in
+    let b = take c.args.len (bytes_of_words c.args.blob.now) in let at = c.args.at in
     (passing-all b (4 * c.args.found.place) c.args.found.count (64 * at.channel) at.channels at.channel at.frames c.args.numbers.now c.args.samples.now c.loop-s.numbers c.loop-s.samples c.loop-s.s c.loop-s.invariant (omega (arith, c.loop-s-test.false, c.loop-s.auto.s-end))).0
 
 pub returns-clause-numbers : goal.returns-clause-numbers
 returns-clause-numbers c =
-    let b = take c.args.len (bytes_of c.args.blob.now) in let at = c.args.at in
+    let b = take c.args.len (bytes_of_words c.args.blob.now) in let at = c.args.at in
     (passing-all b (4 * c.args.found.place) c.args.found.count (64 * at.channel) at.channels at.channel at.frames c.args.numbers.now c.args.samples.now c.loop-s.numbers c.loop-s.samples c.loop-s.s c.loop-s.invariant (omega (arith, c.loop-s-test.false, c.loop-s.auto.s-end))).1

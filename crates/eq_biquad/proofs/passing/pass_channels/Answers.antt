@@ -3,7 +3,7 @@ use Rattle.std.proofs.Math.Nat.{mod-add-div}
 use Rattle.sof_base.specs.Equations.{Section}
 use Rattle.stream_law.specs.Equaliser.{sections_of}
 use Rattle.eq_biquad.specs.Lanes.{lane}
-use Rattle.eq_biquad.specs.PieceWords.{bytes_of, numbers_at}
+use Rattle.eq_biquad.specs.PieceWords.{bytes_of_words, numbers_at}
 use Rattle.eq_biquad.specs.Passing.{passed_samples, numbers_passed, channel_numbers}
 use Rattle.eq_biquad.specs.Sections.{sections_in, found_in}
 use Rattle.eq_biquad.proofs.NumberLaws.{has-numbers}
@@ -15,7 +15,7 @@ use Rattle.eq_biquad.proofs.passing.pass_channels.Goals.{in-Some, in_default}
 
 pub loop-channel-preserved : goal.loop-channel-preserved
 loop-channel-preserved c =
-    let b = take c.args.len (bytes_of c.args.blob.now) in let n : ℕ = length c.args.samples.now / c.args.channels in let k = c.loop-channel.channel in
+    let b = take c.args.len (bytes_of_words c.args.blob.now) in let n : ℕ = length c.args.samples.now / c.args.channels in let k = c.loop-channel.channel in
     let numbers = c.loop-channel.numbers in let samples = c.loop-channel.samples in
     let lt : k < c.args.channels = omega (arith, c.loop-channel-test.true, c.loop-channel.auto.channel-end) in
     let P : List ℤ × List ℤ → Type 0 = λ v. Passed_lanes b c.args.channels n c.args.numbers.now c.args.samples.now v.0 v.1 (k + 1) in
@@ -39,7 +39,7 @@ loop-channel-preserved c =
 
 pub returns-clause-samples : goal.returns-clause-samples
 returns-clause-samples c =
-    let b = take c.args.len (bytes_of c.args.blob.now) in let n : ℕ = length c.args.samples.now / c.args.channels in
+    let b = take c.args.len (bytes_of_words c.args.blob.now) in let n : ℕ = length c.args.samples.now / c.args.channels in
     let so = c.loop-channel.invariant in
     let whole : length c.args.samples.now ≡ n * c.args.channels = omega (arith, mod-add-div (length c.args.samples.now) c.args.channels, c.requires.whole) in
     passed-whole b c.args.channels n (channel_numbers b c.args.numbers.now) c.args.samples.now c.loop-channel.samples c.requires.channels.0 (has-numbers b c.args.numbers.now) (so.long ∙ whole)
@@ -47,7 +47,7 @@ returns-clause-samples c =
 
 pub returns-clause-numbers : goal.returns-clause-numbers
 returns-clause-numbers c =
-    let b = take c.args.len (bytes_of c.args.blob.now) in let n : ℕ = length c.args.samples.now / c.args.channels in
+    let b = take c.args.len (bytes_of_words c.args.blob.now) in let n : ℕ = length c.args.samples.now / c.args.channels in
     let so = c.loop-channel.invariant in
     numbers-whole b c.args.channels n (channel_numbers b c.args.numbers.now) (channel_numbers b c.loop-channel.numbers) c.args.samples.now (has-numbers b c.args.numbers.now)
     (λ k low. so.done_numbers k (omega (arith, c.loop-channel-test.false, c.loop-channel.auto.channel-end)))

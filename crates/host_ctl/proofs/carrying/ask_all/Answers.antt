@@ -2,11 +2,11 @@ use Rattle.std.proofs.Common.{◌≡◌, ◌+◌, ◌<◌, ◌≤◌, ℕ, List,
 use Rattle.std.specs.Prelude.{IfOk}
 use Rattle.ipc3_codec.specs.declared.message.Message.TheVariants.{GetData}
 use Rattle.ipc3_codec.specs.Messages.{message_spelling}
-use Rattle.mbox_link.specs.BlobParts.{parts, part_of}
+use Rattle.mbox_link.specs.BlobParts.{parts, blob_part}
 use Rattle.mbox_link.specs.Calls.{world}
 use Rattle.tplg_plan.specs.declared.plans.ControlPlan.{ControlPlan}
 use Rattle.host_widgets.specs.declared.kept.Record.{Record}
-use Rattle.host_widgets.specs.ActCarried.{Heard}
+use Rattle.host_widgets.specs.ActCarried.{Replied}
 use Rattle.host_widgets.specs.Host.{Agrees, IsRecordOf, Outcome}
 use Rattle.host_widgets.specs.Orders.{Carried}
 use Rattle.host_widgets.proofs.PlainOrders.{CarriedBy}
@@ -48,7 +48,7 @@ returns-in_err-reply g c =
     let here = place-control plan i c.requires.place c.items.result.now _ c.items.ensures in
     let kind = blob-kind (control_here plan i).kind c.requires.kind in
     let so = subst (λ (n : ℕ). Ahead means plan c.args.heap (control_here plan i).comp n kept w m j) c.requires.count c.loop-index.invariant.ahead in
-    let h = subst (λ (p : ControlPlan × Record). Heard means c.args.heap (message_spelling (GetData p.0.comp j)) p.1 c.hear.new.kept m v c.hear.result) (λ t. (here t, c.loop-index.invariant.stays t)) c.hear.ensures in
+    let h = subst (λ (p : ControlPlan × Record). Replied means c.args.heap (message_spelling (GetData p.0.comp j)) p.1 c.hear.new.kept m v c.hear.result) (λ t. (here t, c.loop-index.invariant.stays t)) c.hear.ensures in
     let both = ahead-ends plan c.requires.plan kept is i c.requires.place kind.0 kind.1 kind.2 means c.args.heap w m j few so c.requires.power c.hear.new.kept v c.hear.result h c.in_err-reply.field-0.0 c.in_err-reply.was in
     let failed = handed_on c.from_residual.result c.in_err-reply.field-0.0 c.from_residual.ensures in
     record {
@@ -74,16 +74,16 @@ loop-index-preserved g c =
     let here = place-control plan i c.requires.place c.items.result.now _ c.items.ensures in
     let kind = blob-kind (control_here plan i).kind c.requires.kind in
     let so = subst (λ (n : ℕ). Ahead means plan c.args.heap (control_here plan i).comp n kept w m j) c.requires.count c.loop-index.invariant.ahead in
-    let h = subst (λ (p : ControlPlan × Record). Heard means c.args.heap (message_spelling (GetData p.0.comp j)) p.1 c.hear.new.kept m v c.hear.result) (λ t. (here t, c.loop-index.invariant.stays t)) c.hear.ensures in
+    let h = subst (λ (p : ControlPlan × Record). Replied means c.args.heap (message_spelling (GetData p.0.comp j)) p.1 c.hear.new.kept m v c.hear.result) (λ t. (here t, c.loop-index.invariant.stays t)) c.hear.ensures in
     let initial = initial-here plan c.requires.plan kept is i c.requires.place kind.0 kind.1 kind.2 in
     let body = part-heard plan c.requires.plan kept is i c.requires.place kind.0 kind.1 kind.2 j few means c.args.heap m c.loop-index.invariant.ahead.agrees c.requires.power c.hear.new.kept v c.hear.result h c.in_ok-reply.reply c.in_ok-reply.was in
-    let joins = ap (λ (bytes : List ℕ). with_part bytes (part_of (record_here kept i).blob j)) c.loop-index.invariant.told ∙ bytes-more (record_here kept i).blob j few initial in
+    let joins = ap (λ (bytes : List ℕ). with_part bytes (blob_part (record_here kept i).blob j)) c.loop-index.invariant.told ∙ bytes-more (record_here kept i).blob j few initial in
     let fits = subst (λ (bytes : List ℕ). length bytes ≤ 1024) (sym joins) (bytes-fit (record_here kept i).blob j few initial) in
     let more = ahead-more plan c.requires.plan kept is i c.requires.place kind.0 kind.1 kind.2 means c.args.heap w m j few so c.requires.power c.hear.new.kept v c.hear.result h c.in_ok-reply.reply c.in_ok-reply.was in
     record {
       stays = part-still plan c.requires.plan kept is i c.requires.place kind.0 kind.1 kind.2 means c.args.heap w m j few so c.requires.power c.hear.new.kept v c.hear.result h c.in_ok-reply.reply c.in_ok-reply.was;
       room = heard-room means c.args.heap (message_spelling (GetData (control_here plan i).comp j)) kept c.hear.new.kept m v c.hear.result h c.in_ok-reply.reply c.in_ok-reply.was c.loop-index.invariant.room;
-      told = c.append_reply.ensures (part_of (record_here kept i).blob j) body fits ∙ joins;
+      told = c.append_reply.ensures (blob_part (record_here kept i).blob j) body fits ∙ joins;
       ahead = subst (λ (n : ℕ). Ahead means plan c.args.heap (control_here plan i).comp n kept w v (j + 1)) (sym c.requires.count) more;
     }
 

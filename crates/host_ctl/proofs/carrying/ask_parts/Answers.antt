@@ -6,7 +6,7 @@ use Rattle.tplg_plan.specs.declared.plans.ControlKind.{ControlKind}
 use Rattle.host_widgets.specs.declared.answers.Answer.TheVariants.{Bytes}
 use Rattle.host_widgets.specs.declared.kept.ControlRec.{ControlRec}
 use Rattle.host_widgets.specs.Host.{Outcome}
-use Rattle.host_ctl.specs.ControlOrders.{said_by}
+use Rattle.host_ctl.specs.ControlOrders.{control_answer}
 use Rattle.host_ctl.specs.ControlPlaces.{control_here, record_here}
 use Rattle.host_ctl.proofs.ControlCalls.{place-record}
 use Rattle.host_ctl.proofs.ControlParts.{blob-kind, initial-here}
@@ -44,4 +44,4 @@ returns-clause-answered g c =
     let i = c.args.place in
     let kind = blob-kind (control_here plan i).kind c.requires.kind in
     let same : c.ask_all.new.told.items ≡ (record_here kept i).blob = subst (λ (o : Outcome). IfOk o (λ done. c.ask_all.new.told.items ≡ (record_here kept i).blob)) c.in_ok-ask_all.was c.ask_all.ensures.told in
-    c.bytes_answer.ensures ∙ ap Bytes same ∙ ap (λ (q : ControlKind). said_by q (record_here kept i)) (sym kind.2)
+    c.bytes_answer.ensures ∙ ap Bytes same ∙ ap (λ (q : ControlKind). control_answer q (record_here kept i)) (sym kind.2)

@@ -1,7 +1,7 @@
 use Rattle.std.proofs.Common.{subst, sym, ap, ◌∙◌}
 use Rattle.mbox_link.specs.Calls.{world}
 use Rattle.tplg_plan.specs.declared.plans.ControlPlan.{ControlPlan}
-use Rattle.host_ctl.specs.ControlOrders.{HasBlob, command_of, said_by, outcome_of}
+use Rattle.host_ctl.specs.ControlOrders.{HasBlob, value_command, control_answer, outcome_of}
 use Rattle.host_ctl.specs.ControlPlaces.{control_here, record_here}
 use Rattle.host_ctl.proofs.ControlCalls.{place-control}
 use Rattle.host_ctl.proofs.ControlOrdered.{ask-carried}
@@ -15,7 +15,7 @@ returns-in-Volume-clause-carried g c =
     let w = world c.args.dsp.now c.args.io.now c.args.out.now in
     let v = world c.ask.new.dsp c.ask.new.io c.ask.new.out in
     let kind_is = sym (ap (λ (k : ControlPlan). k.kind) (place-control plan c.args.place c.requires.place c.items.result.now _ c.items.ensures)) ∙ c.in-Volume.is in
-    ask-carried means plan c.requires.plan c.args.heap c.args.place c.requires.place kept w c.requires.agree (control_here plan c.args.place).kind 0 (ap command_of kind_is) (said_by (control_here plan c.args.place).kind (record_here kept c.args.place)) c.ask.new.kept v (outcome_of c.ask.result) c.requires.power c.ask.ensures.act
+    ask-carried means plan c.requires.plan c.args.heap c.args.place c.requires.place kept w c.requires.agree (control_here plan c.args.place).kind 0 (ap value_command kind_is) (control_answer (control_here plan c.args.place).kind (record_here kept c.args.place)) c.ask.new.kept v (outcome_of c.ask.result) c.requires.power c.ask.ensures.act
 
 pub returns-in-Choice-clause-carried : goal.returns-in-Choice-clause-carried
 returns-in-Choice-clause-carried g c =
@@ -25,7 +25,7 @@ returns-in-Choice-clause-carried g c =
     let w = world c.args.dsp.now c.args.io.now c.args.out.now in
     let v = world c.ask-in-Choice.new.dsp c.ask-in-Choice.new.io c.ask-in-Choice.new.out in
     let kind_is = sym (ap (λ (k : ControlPlan). k.kind) (place-control plan c.args.place c.requires.place c.items.result.now _ c.items.ensures)) ∙ c.in-Choice.is in
-    ask-carried means plan c.requires.plan c.args.heap c.args.place c.requires.place kept w c.requires.agree (control_here plan c.args.place).kind 1 (ap command_of kind_is) (said_by (control_here plan c.args.place).kind (record_here kept c.args.place)) c.ask-in-Choice.new.kept v (outcome_of c.ask-in-Choice.result) c.requires.power c.ask-in-Choice.ensures.act
+    ask-carried means plan c.requires.plan c.args.heap c.args.place c.requires.place kept w c.requires.agree (control_here plan c.args.place).kind 1 (ap value_command kind_is) (control_answer (control_here plan c.args.place).kind (record_here kept c.args.place)) c.ask-in-Choice.new.kept v (outcome_of c.ask-in-Choice.result) c.requires.power c.ask-in-Choice.ensures.act
 
 pub ask_parts-requires-clause-kind : goal.ask_parts-requires-clause-kind
 ask_parts-requires-clause-kind g c =

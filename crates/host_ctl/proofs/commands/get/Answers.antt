@@ -2,7 +2,7 @@ use Rattle.std.proofs.Common.{◌<◌, List, length, Ok, subst, sym, ap, ◌∙�
 use Rattle.mbox_link.specs.Calls.{world}
 use Rattle.host_widgets.specs.declared.kept.ControlRec.{ControlRec}
 use Rattle.host_ctl.specs.ControlAsks.{get_fault}
-use Rattle.host_ctl.specs.ControlOrders.{get_order, named_at, told, told_by}
+use Rattle.host_ctl.specs.ControlOrders.{get_order, named_at, control_told, told_by}
 use Rattle.host_ctl.proofs.ControlsThere.{within, named-here}
 use Rattle.host_ctl.proofs.ControlCalls.{place-control, place-record}
 use Rattle.host_ctl.proofs.ControlOrdered.{at-named, quiet-carried}
@@ -26,7 +26,7 @@ returns-clause-asked g c =
     let at = c.in_ok-place.ensures.place in
     let low = place-low plan name i at in
     let named = named-here plan c.requires.plan kept c.requires.agree.record_is i low name at in
-    tested-late means plan c.args.heap (get_fault plan kept name) (get_order plan kept name) kept w kept w (Ok tt) c.in_ok-place.ensures.none (quiet-carried means plan c.args.heap (told (named_at plan kept name)) kept w)
+    tested-late means plan c.args.heap (get_fault plan kept name) (get_order plan kept name) kept w kept w (Ok tt) c.in_ok-place.ensures.none (quiet-carried means plan c.args.heap (control_told (named_at plan kept name)) kept w)
 
 pub returns-clause-answered : goal.returns-clause-answered
 returns-clause-answered g c =
@@ -42,4 +42,4 @@ returns-clause-answered g c =
     let there = within plan c.requires.plan kept c.requires.agree.record_is i low in
     let here = c.index-items-place.is ∙ place-control plan i low c.items.result.now c.index-items-place.result c.items.ensures in
     let kept_here = c.index-items-place-2.is ∙ place-record kept.controls i there c.items-2.result.now c.index-items-place-2.result c.items-2.ensures in
-    c.told.ensures ∙ (λ j. told_by (here j).kind (kept_here j)) ∙ ap told (sym (at-named means plan c.requires.plan c.args.heap i low kept w c.requires.agree name named))
+    c.told.ensures ∙ (λ j. told_by (here j).kind (kept_here j)) ∙ ap control_told (sym (at-named means plan c.requires.plan c.args.heap i low kept w c.requires.agree name named))

@@ -4,7 +4,7 @@ use Rattle.host_widgets.specs.declared.answers.Answer.{Answer}
 use Rattle.host_widgets.specs.declared.kept.Record.{Record}
 use Rattle.host_widgets.specs.Orders.{Order, Carried}
 use Rattle.host_ctl.specs.ControlAsks.{read_fault}
-use Rattle.host_ctl.specs.ControlOrders.{ask_acts, read_order, outcome_of, said_by, Shows}
+use Rattle.host_ctl.specs.ControlOrders.{ask_acts, read_order, outcome_of, control_answer, Shows}
 use Rattle.host_ctl.specs.ControlPlaces.{control_here, record_here}
 use Rattle.host_ctl.proofs.ControlsThere.{named-here}
 use Rattle.host_ctl.proofs.ControlCalls.{said-shown}
@@ -39,7 +39,7 @@ returns-clause-answered g c =
     let k = control_here plan i in
     let r = record_here kept i in
     subst (λ (x : Answer). IfOk c.read.result (λ a. a ≡ x))
-    (sym (sends-answer kept.power (ask_acts k.comp k.kind r) (λ now. now) (said_by k.kind r)) ∙ ap (λ (o : Order). o.answer) (read-named means plan c.requires.plan c.args.heap i low kept w c.requires.agree c.args.name.now named))
+    (sym (sends-answer kept.power (ask_acts k.comp k.kind r) (λ now. now) (control_answer k.kind r)) ∙ ap (λ (o : Order). o.answer) (read-named means plan c.requires.plan c.args.heap i low kept w c.requires.agree c.args.name.now named))
     c.read.ensures.answered
 
 pub returns-clause-shown : goal.returns-clause-shown
@@ -55,6 +55,6 @@ returns-clause-shown g c =
     let v = world c.read.new.dsp c.read.new.io c.read.new.out in
     let k = control_here plan i in
     let on = read-powered plan kept c.args.name.now k named c.in_ok-place.ensures.none in
-    answered-so c.read.result (said_by k.kind (record_here kept i)) (c.read.new.kept ≡ kept) (λ (a : Answer). Shows plan c.args.name.now a (means.on c.read.new.dsp)) c.read.ensures.answered c.read.ensures.still
-    (λ same. subst (λ (y : Record). Shows plan c.args.name.now (said_by k.kind (record_here y i)) (means.on c.read.new.dsp)) same
+    answered-so c.read.result (control_answer k.kind (record_here kept i)) (c.read.new.kept ≡ kept) (λ (a : Answer). Shows plan c.args.name.now a (means.on c.read.new.dsp)) c.read.ensures.answered c.read.ensures.still
+    (λ same. subst (λ (y : Record). Shows plan c.args.name.now (control_answer k.kind (record_here y i)) (means.on c.read.new.dsp)) same
     (said-shown means plan c.requires.plan c.args.heap i low c.read.new.kept v c.read.ensures.agree (ap (λ (y : Record). y.power) same ∙ on) c.args.name.now named))

@@ -6,7 +6,7 @@ use Rattle.host_widgets.specs.Host.{Agrees}
 use Rattle.host_widgets.specs.Orders.{Carried}
 use Rattle.host_pcm.specs.declared.asking.Ask.TheVariants.{Opening}
 use Rattle.host_pcm.specs.Asks.{stream_at}
-use Rattle.host_pcm.specs.StreamOrders.{place_order, opened}
+use Rattle.host_pcm.specs.StreamOrders.{place_order, opened_stream}
 use Rattle.host_pcm.proofs.HostTests.{found_place, asked-late}
 use Rattle.host_pcm.proofs.AtRest.{open-carried, rest-agrees, closed-idle}
 use Rattle.host_pcm.proofs.commands.open.Goals as goal
@@ -33,4 +33,4 @@ returns-clause-agree g c =
     let k = c.in_ok-place.place in
     let at = found_place plan kept c.args.name.now Opening c.tested.result k c.tested.ensures.place c.tested.ensures.none c.in_ok-place.was in
     subst (λ (new : Record). Agrees means plan new c.args.dsp.now) (λ i. record { power = kept.power; streams = sym c.put.ensures i; controls = kept.controls })
-    (rest-agrees means plan c.requires.plan c.args.heap k at.within kept w c.requires.agree at.stood.up (opened closed) (refl, refl) refl (λ on. closed-idle (stream_at kept k).found at.stood.takes_it))
+    (rest-agrees means plan c.requires.plan c.args.heap k at.within kept w c.requires.agree at.stood.up (opened_stream closed) (refl, refl) refl (λ on. closed-idle (stream_at kept k).found at.stood.takes_it))

@@ -2,7 +2,7 @@ use Rattle.std.proofs.Common.{ap, subst, is_some}
 use Rattle.mbox_link.specs.Calls.{world}
 use Rattle.host_widgets.specs.declared.kept.Power.{Power}
 use Rattle.host_widgets.specs.Host.{Sides}
-use Rattle.host_widgets.specs.ViewOf.{view_by}
+use Rattle.host_widgets.specs.ViewOf.{record_view}
 use Rattle.host_widgets.proofs.ActSteps.{state-with}
 use Rattle.host_pm.proofs.PowerOrders.{went-down}
 use Rattle.host_pm.proofs.suspending.go_down.Goals as goal
@@ -12,7 +12,7 @@ send_down-sent-requires-clause-on g c =
     let means = g.P.Dsp.means in
     let plan = c.args.plan.now in
     let kept = c.args.kept.now in
-    let s = state-with (means.on c.args.dsp.now) (view_by plan kept) (subst (λ (x : Power). Sides means plan kept c.args.dsp.now x) c.requires.power c.requires.agree.sides) in
+    let s = state-with (means.on c.args.dsp.now) (record_view plan kept) (subst (λ (x : Power). Sides means plan kept c.args.dsp.now x) c.requires.power c.requires.agree.sides) in
     ap is_some s.1
 
 pub returns-clause-carried : goal.returns-clause-carried
@@ -20,7 +20,7 @@ returns-clause-carried g c =
     let means = g.P.Dsp.means in
     let plan = c.args.plan.now in
     let kept = c.args.kept.now in
-    let s = state-with (means.on c.args.dsp.now) (view_by plan kept) (subst (λ (x : Power). Sides means plan kept c.args.dsp.now x) c.requires.power c.requires.agree.sides) in
+    let s = state-with (means.on c.args.dsp.now) (record_view plan kept) (subst (λ (x : Power). Sides means plan kept c.args.dsp.now x) c.requires.power c.requires.agree.sides) in
     let w = world c.args.dsp.now c.args.io.now c.args.out.now in
     let sent = world c.send_down-sent.new.dsp c.send_down-sent.new.io c.send_down-sent.new.out in
     let v = world c.link_down.new.dsp c.link_down.new.io c.link_down.new.out in

@@ -3,7 +3,7 @@ use Rattle.std.specs.List.{flat_map}
 use Rattle.mbox_link.specs.Calls.{world}
 use Rattle.tplg_plan.specs.declared.plans.Plan.{Plan}
 use Rattle.host_widgets.specs.HostActs.{Act, Make, Join, Finish}
-use Rattle.host_widgets.specs.Acts.{ids_of}
+use Rattle.host_widgets.specs.Acts.{widget_ids}
 use Rattle.host_widgets.specs.ActLists.{control_acts}
 use Rattle.host_widgets.specs.declared.kept.Record.{Record}
 use Rattle.host_widgets.specs.Kept.{controls_of}
@@ -13,7 +13,7 @@ use Rattle.host_widgets.proofs.Walks.{failing, sent-on, sent-room, sent-then, se
 use Rattle.host_widgets.proofs.bringing_up.send_list.Goals as goal
 
 abbrev makes : Plan → List Act
-makes plan = map Make (ids_of plan)
+makes plan = map Make (widget_ids plan)
 
 abbrev joins : Plan → List Act
 joins plan = map (λ j. Join j.source j.sink) plan.graph.joins

@@ -7,7 +7,7 @@ use Rattle.host_widgets.specs.declared.kept.Power.TheVariants.{Unloaded}
 use Rattle.host_widgets.specs.declared.kept.Record.{Record}
 use Rattle.host_widgets.specs.Kept.{first_record}
 use Rattle.host_widgets.specs.Host.{Agrees, Sides}
-use Rattle.host_widgets.specs.Orders.{load_fault, loading}
+use Rattle.host_widgets.specs.Orders.{fault_of_load, loading}
 use Rattle.host_widgets.proofs.LoadOrders.{told-early, done-late}
 use Rattle.host_widgets.proofs.LoadEnds.{load-agrees, load-exactly}
 use Rattle.host_widgets.proofs.loading.load.Goals as goal
@@ -37,11 +37,11 @@ returns-in-Unloaded-clause-carried g c =
     let kept = c.args.kept.now in
     let w = world c.args.dsp.now c.args.io.now c.args.out.now in
     let v = world c.power_up.new.dsp c.power_up.new.io c.power_up.new.out in
-    done-late g.P.Dsp.means plan c.args.heap (load_fault kept.power) (loading plan kept) kept c.power_up.new.kept w v c.power_up.result (ap load_fault c.in-Unloaded.is) c.power_up.ensures.carried
+    done-late g.P.Dsp.means plan c.args.heap (fault_of_load kept.power) (loading plan kept) kept c.power_up.new.kept w v c.power_up.result (ap fault_of_load c.in-Unloaded.is) c.power_up.ensures.carried
 
 pub returns-in-On-clause-carried : goal.returns-in-On-clause-carried
 returns-in-On-clause-carried g c =
     let plan = c.args.plan.now in
     let kept = c.args.kept.now in
     let w = world c.args.dsp.now c.args.io.now c.args.out.now in
-    told-early g.P.Dsp.means plan c.args.heap (load_fault kept.power) (loading plan kept) kept kept w w (Err Loaded) Loaded (⊎_elim (λ on. ap load_fault on) (λ off. ap load_fault off) c.in-On.is) refl refl refl
+    told-early g.P.Dsp.means plan c.args.heap (fault_of_load kept.power) (loading plan kept) kept kept w w (Err Loaded) Loaded (⊎_elim (λ on. ap fault_of_load on) (λ off. ap fault_of_load off) c.in-On.is) refl refl refl

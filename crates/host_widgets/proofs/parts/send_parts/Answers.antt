@@ -4,7 +4,7 @@ use Rattle.std.proofs.lemmas.List.FromFn.{length-range_with_len, get_or-range_wi
 use Rattle.sof_base.specs.declared.part.Part.{Part as Carried}
 use Rattle.ipc3_codec.specs.declared.message.Message.TheVariants.{SetData}
 use Rattle.ipc3_codec.specs.Messages.{message_spelling}
-use Rattle.mbox_link.specs.BlobParts.{part_of, part_numbers, parts}
+use Rattle.mbox_link.specs.BlobParts.{blob_part, part_numbers, parts}
 use Rattle.mbox_link.specs.Calls.{world}
 use Rattle.host_widgets.specs.ActLists.{part_acts}
 use Rattle.host_widgets.specs.Host.{Sent}
@@ -15,8 +15,8 @@ use Rattle.host_widgets.proofs.Walks.{passing, sent-on, sent-room, sent-more, se
 use Rattle.host_widgets.proofs.parts.send_parts.Goals as goal
 
 -- the part at a place of the list of numbers is that of its number
-part_is : (blob : List ℕ) (i : ℕ) (p : Carried) → i < parts blob → p ≡ part_of blob i → p ≡ part_of blob (get_or (part_numbers blob) i 0)
-part_is blob i p low is = is ∙ ap (part_of blob) (sym (get_or-range_with_len 0 (parts blob) i 0 low ∙ omega arith))
+part_is : (blob : List ℕ) (i : ℕ) (p : Carried) → i < parts blob → p ≡ blob_part blob i → p ≡ blob_part blob (get_or (part_numbers blob) i 0)
+part_is blob i p low is = is ∙ ap (blob_part blob) (sym (get_or-range_with_len 0 (parts blob) i 0 low ∙ omega arith))
 
 pub send-requires-clause-on : goal.send-requires-clause-on
 send-requires-clause-on g c = sent-on g.P.Dsp.means one_plan _ _ _ passing (c.loop-index.invariant one_plan) c.requires.on

@@ -2,7 +2,7 @@ use Rattle.std.proofs.Common.{◌≡◌, ◌-◌, ◌≤◌, ℕ, Ok, Err, Some,
 use Rattle.std.proofs.lemmas.Bool.{le-leb}
 use Rattle.std.proofs.lemmas.List.{length-take}
 use Rattle.sof_base.specs.Slots.{word_at}
-use Rattle.ipc3_codec.specs.ControlWords.{values_at, values_in}
+use Rattle.ipc3_codec.specs.ControlWords.{pair_values_at, values_in}
 use Rattle.ipc3_codec.specs.Reading.{pair_in, values_read}
 use Rattle.ipc3_codec.proofs.Runs.{pairs_from, pairs_passes, pairs_fails, values_step}
 use Rattle.ipc3_codec.proofs.controls.values.Goals as goal
@@ -39,7 +39,7 @@ returns c =
     let end : c.loop-i.i ≡ c.args.count = omega arith in
     let none : c.args.count - c.loop-i.i ≡ 0 = omega arith in
     let read : values_read b ≡ Ok (values_in b) = c.loop-i.invariant.read ∙ ap (λ (n : ℕ). pairs_from b c.loop-i.i n (values_in b)) none in
-    let same : values_in b ≡ take c.args.count c.loop-i.values = ap (λ (n : ℕ). values_at n b 92) (sym c.requires.count ∙ sym end) ∙ c.loop-i.invariant.so_far ∙ ap (λ (n : ℕ). take n c.loop-i.values) end in
+    let same : values_in b ≡ take c.args.count c.loop-i.values = ap (λ (n : ℕ). pair_values_at n b 92) (sym c.requires.count ∙ sym end) ∙ c.loop-i.invariant.so_far ∙ ap (λ (n : ℕ). take n c.loop-i.values) end in
     let small : length (take c.args.count c.loop-i.values) ≤ 8 = omega (arith, length-take c.args.count c.loop-i.values) in
     let made : c.new.result ≡ Some (values_in b) = c.new.ensures ∙ (rw (le-leb (length (take c.args.count c.loop-i.values)) 8 small, same) refl) in
     c.ok_or.ensures.value ∙ (rw made (sym read))

@@ -1,5 +1,5 @@
 use Rattle.std.proofs.Common.{◌≡◌, ◌-◌, take, length}
-use Rattle.ipc3_codec.specs.ControlWords.{values_at, values_in}
+use Rattle.ipc3_codec.specs.ControlWords.{pair_values_at, values_in}
 use Rattle.ipc3_codec.specs.Reading.{values_read}
 use Rattle.ipc3_codec.proofs.Runs.{pairs_from}
 use Rattle.ipc3_codec.proofs.controls.values.Given as goal
@@ -7,6 +7,6 @@ use Rattle.ipc3_codec.proofs.controls.values.Given as goal
 abbrev pub invariant-loop-i : goal.invariant-loop-i
 invariant-loop-i l = record {
   read : values_read l.frame ≡ pairs_from l.frame l.i (l.count - l.i) (values_in l.frame);
-  so_far : values_at l.i l.frame 92 ≡ take l.i l.values;
+  so_far : pair_values_at l.i l.frame 92 ≡ take l.i l.values;
   len : length l.values ≡ 8;
 }

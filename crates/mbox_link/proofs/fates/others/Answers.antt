@@ -1,5 +1,5 @@
 use Rattle.std.proofs.Common.{◌≡◌, sym, subst}
-use Rattle.mbox_link.specs.Meetings.{without}
+use Rattle.mbox_link.specs.Meetings.{without_entry}
 use Rattle.mbox_link.specs.Fates.{AreHeld}
 use Rattle.mbox_link.proofs.FateLaws.{Kept-none, Kept-pass-at, Kept-push-at, Kept-end, AreHeld-without}
 use Rattle.mbox_link.proofs.fates.others.Goals.{then-entry-number, else-entry-number}
@@ -16,7 +16,7 @@ loop-entry-preserved c = elim c.if-entry-number.branch [
 
 pub returns : goal.returns
 returns c =
-    let left : c.loop-entry.left.items ≡ without c.args.number c.args.entries.now = Kept-end c.args.number c.loop-entry.left.items c.args.entries.now c.loop-entry.entry-index c.loop-entry-test.false c.loop-entry.invariant in
+    let left : c.loop-entry.left.items ≡ without_entry c.args.number c.args.entries.now = Kept-end c.args.number c.loop-entry.left.items c.args.entries.now c.loop-entry.entry-index c.loop-entry-test.false c.loop-entry.invariant in
     record {
       left = left;
       left_held = subst AreHeld (sym left) (AreHeld-without c.args.number c.args.entries.now c.requires.held);

@@ -1,7 +1,7 @@
 use Rattle.std.proofs.Common.{◌≡◌, ap, sym, subst, ◌∙◌, ℤ, List, length, take, drop, arith, take_at}
 use Rattle.std.specs.List.{refill}
 use Rattle.sof_base.specs.Blob.{IsBlob}
-use Rattle.eq_biquad.specs.PieceWords.{bytes_of, words_from, AreNumbers}
+use Rattle.eq_biquad.specs.PieceWords.{bytes_of_words, words_from, AreNumbers}
 use Rattle.eq_biquad.specs.Passing.{in_turn, channel_numbers}
 use Rattle.sof_base.proofs.BlobLaws.{sound}
 use Rattle.eq_biquad.proofs.NumberLaws.{fresh-zero, are-zero}
@@ -21,7 +21,7 @@ invariant_of-self c =
     record {
       size = (v.size.0, ap length all ∙ same ∙ v.size.1);
       len = (sound c.args.blob.now c.requires).long.1;
-      blob = λ some. subst IsBlob (sym (ap (λ (l : List ℤ). take (length c.args.blob.now) (bytes_of (words_from 16 256 l))) all ∙ c.install_words.ensures.blob)) c.requires;
+      blob = λ some. subst IsBlob (sym (ap (λ (l : List ℤ). take (length c.args.blob.now) (bytes_of_words (words_from 16 256 l))) all ∙ c.install_words.ensures.blob)) c.requires;
       numbers = subst AreNumbers (sym (ap (drop 528) all ∙ c.install_words.ensures.numbers)) (are-zero 512);
     }
 
@@ -30,5 +30,5 @@ returns-clause-numbers c = λ channels.
     let e = c.self.inside in let old = e.piece.words in let ws = c.install_words.new.words in
     let same : length ws ≡ length old = omega (arith, c.install_words.auto.words, ap length c.words_mut.ensures.value) in
     let all : refill (length old) old ws ≡ ws = take_at ws (drop (length ws) old) (length old) same in
-    (λ i. in_turn 0 (channel_numbers ((ap (λ (l : List ℤ). take (length c.args.blob.now) (bytes_of (words_from 16 256 l))) all ∙ c.install_words.ensures.blob) i) ((ap (drop 528) all ∙ c.install_words.ensures.numbers) i)) channels)
+    (λ i. in_turn 0 (channel_numbers ((ap (λ (l : List ℤ). take (length c.args.blob.now) (bytes_of_words (words_from 16 256 l))) all ∙ c.install_words.ensures.blob) i) ((ap (drop 528) all ∙ c.install_words.ensures.numbers) i)) channels)
     ∙ fresh-zero c.args.blob.now 512 0 channels

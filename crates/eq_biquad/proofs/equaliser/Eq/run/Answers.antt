@@ -3,7 +3,7 @@ use Rattle.std.specs.List.{refill}
 use Rattle.sof_base.specs.Blob.{IsBlob}
 use Rattle.stream_law.specs.Equaliser.{numbers_after}
 use Rattle.sof_base.specs.Samples.{frames_of}
-use Rattle.eq_biquad.specs.PieceWords.{bytes_of, words_from, AreNumbers}
+use Rattle.eq_biquad.specs.PieceWords.{bytes_of_words, words_from, AreNumbers}
 use Rattle.eq_biquad.specs.Passing.{in_turn, channel_numbers}
 use Rattle.eq_biquad.proofs.PartLaws.{from-same}
 use Rattle.eq_biquad.proofs.equaliser.Eq.run.Goals as goal
@@ -17,7 +17,7 @@ invariant_of-self c =
     record {
       size = (v.size.0, ap length all ∙ same ∙ v.size.1);
       len = v.len;
-      blob = λ some. subst (λ (l : List ℤ). IsBlob (take e.len (bytes_of l))) (sym (from-same 528 16 256 (refill (length old) old ws) old (omega arith) before)) (v.blob some);
+      blob = λ some. subst (λ (l : List ℤ). IsBlob (take e.len (bytes_of_words l))) (sym (from-same 528 16 256 (refill (length old) old ws) old (omega arith) before)) (v.blob some);
       numbers = subst AreNumbers (sym (ap (drop 528) all)) c.run_words.ensures.within;
     }
 
@@ -29,9 +29,9 @@ returns-clause-numbers c =
     let lent = c.words_mut.ensures.value in
     let before : take 528 (refill (length old) old ws) ≡ take 528 c.words_mut.result.now = ap (take 528) all ∙ c.run_words.ensures.before in
     let front = from-same 528 16 256 (refill (length old) old ws) c.words_mut.result.now (omega arith) before in
-    rw (← c.self.view_is) ((λ i. in_turn 0 (channel_numbers (take e.len (bytes_of (front i))) (drop 528 (all i))) (sym chans i))
+    rw (← c.self.view_is) ((λ i. in_turn 0 (channel_numbers (take e.len (bytes_of_words (front i))) (drop 528 (all i))) (sym chans i))
     ∙ c.run_words.ensures.numbers
-    ∙ (λ i. numbers_after (take e.len (bytes_of (words_from 16 256 (lent i)))) (chans i) (in_turn 0 (channel_numbers (take e.len (bytes_of (words_from 16 256 (lent i)))) (drop 528 (lent i))) (chans i)) (frames_of (chans i) (length samples / chans i) samples)))
+    ∙ (λ i. numbers_after (take e.len (bytes_of_words (words_from 16 256 (lent i)))) (chans i) (in_turn 0 (channel_numbers (take e.len (bytes_of_words (words_from 16 256 (lent i)))) (drop 528 (lent i))) (chans i)) (frames_of (chans i) (length samples / chans i) samples)))
 
 pub returns-clause-same : goal.returns-clause-same
 returns-clause-same c =
@@ -40,8 +40,8 @@ returns-clause-same c =
     let all : refill (length old) old ws ≡ ws = take_at ws (drop (length ws) old) (length old) same in
     let before : take 528 (refill (length old) old ws) ≡ take 528 old = ap (take 528) all ∙ c.run_words.ensures.before ∙ ap (take 528) c.words_mut.ensures.value in
     rw (← c.self.view_is) (record {
-      blob = ap (λ (l : List ℤ). take e.len (bytes_of l)) (from-same 528 16 256 (refill (length old) old ws) old (omega arith) before);
-      staged = ap bytes_of (from-same 528 272 256 (refill (length old) old ws) old (omega arith) before);
+      blob = ap (λ (l : List ℤ). take e.len (bytes_of_words l)) (from-same 528 16 256 (refill (length old) old ws) old (omega arith) before);
+      staged = ap bytes_of_words (from-same 528 272 256 (refill (length old) old ws) old (omega arith) before);
       home = refl;
       place = refl;
       size = refl;

@@ -1,12 +1,12 @@
 // What begins with a stream, and frames in the ring of one buffer.
 ghost use Rattle.std.specs.Prelude.{◌≡◌, ◌+◌, ◌*◌, ◌/◌, ◌%◌, ◌≤◌, ◌++◌, length, take};
-ghost use Rattle.sof_base.specs.Samples.{frames_of, samples_of, AreFrames};
+ghost use Rattle.sof_base.specs.Samples.{width, frames_in, frames_of, samples_of, AreFrames};
 ghost use Rattle.stream_law.specs.Ways.{is_end};
 ghost use Rattle.fw_components.specs.Tables.{piece_of, unit_frames, capacity_by};
 ghost use Rattle.fw_components.specs.Frames.{words_of, begun_unit, begun_by, IsFresh, staged_by, channels_by, taken_unit, taken_by, pushed_unit, pushed_by, comes_from, goes_to};
 
 use crate::component::{Component, Unit};
-use sof_base::Sample;
+use sof_base::{Format, Sample};
 
 impl Unit {
     // A ring is empty and has frames of so many channels; an equaliser's epoch begins.
@@ -65,6 +65,24 @@ impl Unit {
             Unit::Pipeline { .. } => (),
         }
     }
+
+    // A ring has the frames of these bytes behind its own.
+    fn push_bytes(&mut self, format: Format, n: u32, bytes: &[u8])
+        requires whole { length bytes.now ≡ n * (channels_by self.old * width format) }
+        requires fit { length (unit_frames self.old) + n ≤ capacity_by self.old }
+        ensures { self.new ≡ pushed_unit (frames_in format (channels_by self.old) bytes.now 0 n) (piece_of self.new).words self.old }
+    {
+        match self {
+            Unit::Host { .. } => (),
+            Unit::Dai { .. } => (),
+            Unit::Volume { .. } => (),
+            Unit::Mixer { .. } => (),
+            Unit::Mux { .. } => (),
+            Unit::Eq { .. } => (),
+            Unit::Buffer { ring, .. } => ring.push_bytes(format, n, bytes),
+            Unit::Pipeline { .. } => (),
+        }
+    }
 }
 
 impl Component {
@@ -94,6 +112,15 @@ impl Component {
         ensures { self.new ≡ pushed_by (frames_of (channels_by self.old.unit) (length samples.now / channels_by self.old.unit) samples.now) (words_of self.new) self.old }
     {
         self.unit.push(samples);
+    }
+
+    /// The ring of a buffer has the frames of these bytes behind its own.
+    pub(crate) fn push_bytes(&mut self, format: Format, n: u32, bytes: &[u8])
+        requires whole { length bytes.now ≡ n * (channels_by self.old.unit * width format) }
+        requires fit { length (unit_frames self.old.unit) + n ≤ capacity_by self.old.unit }
+        ensures { self.new ≡ pushed_by (frames_in format (channels_by self.old.unit) bytes.now 0 n) (words_of self.new) self.old }
+    {
+        self.unit.push_bytes(format, n, bytes);
     }
 
     /// Whether it is a buffer that comes from this component.

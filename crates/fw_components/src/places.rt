@@ -1,13 +1,13 @@
 // What stands at a place of a table, changed in place.
-ghost use Rattle.std.specs.Prelude.{◌≡◌, ◌+◌, ◌/◌, ◌%◌, ◌≤◌, ◌==◌, true, Some, map, find, position, option_map, take, length, vec_capacity};
-ghost use Rattle.sof_base.specs.Samples.{frames_of, samples_of};
+ghost use Rattle.std.specs.Prelude.{◌≡◌, ◌+◌, ◌*◌, ◌/◌, ◌%◌, ◌≤◌, ◌==◌, true, Some, map, find, position, option_map, take, length, vec_capacity};
+ghost use Rattle.sof_base.specs.Samples.{width, frames_in, frames_of, samples_of};
 ghost use Rattle.stream_law.specs.Placed.{Ascends};
 ghost use Rattle.fw_components.specs.Changes.{has_id};
 ghost use Rattle.fw_components.specs.Frames.{words_by, begun_at, IsFreshBy, staged_in, channels_in, buffer_frames, capacity_in, pushed_at, taken_at, comes_from, goes_to};
 
 use crate::component::Component;
 use crate::hints::Hints;
-use sof_base::Sample;
+use sof_base::{Format, Sample};
 
 /// The one of this id, which stands at this place, has so many channels; a ring is empty, and an equaliser's epoch begins.
 pub(crate) fn begin_at(components: &mut Vec<Component>, at: usize, id: u32, channels: u8)
@@ -45,6 +45,25 @@ fn push_at(components: &mut Vec<Component>, at: usize, id: u32, samples: &[Sampl
     components[at].push(samples);
 }
 
+/// The buffer of this id, which stands at this place, has the frames of these bytes behind its own.
+fn push_bytes_at(
+    components: &mut Vec<Component>,
+    at: usize,
+    id: u32,
+    format: Format,
+    n: u32,
+    bytes: &[u8],
+)
+    requires place { Some at ≡ position (λ c. c.id == id) components.old.items }
+    requires ascends { Ascends (λ c. c.id) components.old.items }
+    requires whole { length bytes.now ≡ n * (channels_in components.old.items id * width format) }
+    requires fit { length (buffer_frames components.old.items id) + n ≤ capacity_in components.old.items id }
+    ensures items { components.new.items ≡ map (pushed_at id (frames_in format (channels_in components.old.items id) bytes.now 0 n) (words_by (find (λ c. c.id == id) components.new.items))) components.old.items }
+    ensures capacity { vec_capacity components.new ≡ vec_capacity components.old }
+{
+    components[at].push_bytes(format, n, bytes);
+}
+
 /// The buffer of this id loses its first frames.
 pub(crate) fn shorten_in(hints: &Hints, components: &mut Vec<Component>, id: u32, n: u32)
     requires there { has_id components.old.items id ≡ true }
@@ -70,6 +89,28 @@ pub(crate) fn push_in(hints: &Hints, components: &mut Vec<Component>, id: u32, s
 {
     match hints.place_of(components.as_slice(), id) {
         Some(at) => push_at(components, at, id, samples),
+        None => unreachable!(),
+    }
+}
+
+/// The buffer of this id has the frames of these bytes behind its own.
+pub(crate) fn push_bytes_in(
+    hints: &Hints,
+    components: &mut Vec<Component>,
+    id: u32,
+    format: Format,
+    n: u32,
+    bytes: &[u8],
+)
+    requires there { has_id components.old.items id ≡ true }
+    requires ascends { Ascends (λ c. c.id) components.old.items }
+    requires whole { length bytes.now ≡ n * (channels_in components.old.items id * width format) }
+    requires fit { length (buffer_frames components.old.items id) + n ≤ capacity_in components.old.items id }
+    ensures items { components.new.items ≡ map (pushed_at id (frames_in format (channels_in components.old.items id) bytes.now 0 n) (words_by (find (λ c. c.id == id) components.new.items))) components.old.items }
+    ensures capacity { vec_capacity components.new ≡ vec_capacity components.old }
+{
+    match hints.place_of(components.as_slice(), id) {
+        Some(at) => push_bytes_at(components, at, id, format, n, bytes),
         None => unreachable!(),
     }
 }

@@ -1,16 +1,16 @@
 // What begins with a stream, and frames that endpoints feed and pull.
 ghost use Rattle.std.specs.Prelude.{◌≡◌, ◌+◌, ◌*◌, ◌/◌, ◌%◌, ◌≤◌, ◌++◌, true, length, take};
 ghost use Rattle.std.specs.List.{list_any};
-ghost use Rattle.sof_base.specs.Samples.{frames_of, samples_of};
+ghost use Rattle.sof_base.specs.Samples.{width, frames_in, frames_of, samples_of};
 ghost use Rattle.fw_components.specs.Tables.{held_frames, capacity_at};
 ghost use Rattle.fw_components.specs.Changes.{found, is_there, has_id};
 ghost use Rattle.fw_components.specs.Frames.{begun, words_at, IsFreshBy, staged_at, channels_at, comes_from, goes_to, buffer_out_of as out_id, in_of as in_id, with_taken, pushed};
 
 use crate::making::spans;
-use crate::places::{begin_at, in_of, out_of, pull_in, push_in, shorten_in};
+use crate::places::{begin_at, in_of, out_of, pull_in, push_bytes_in, push_in, shorten_in};
 use crate::registry::Registry;
 use crate::table::place_of;
-use sof_base::{Params, Sample};
+use sof_base::{Format, Params, Sample};
 
 impl Registry {
     /// The one of this id becomes Live with so many channels, 1 to 8: a ring is empty, and an equaliser's epoch begins.
@@ -40,6 +40,24 @@ impl Registry {
             self.new ≡ pushed buffer (frames_of channels (length samples.now / channels) samples.now) (words_at self.new buffer) self.old }
     {
         push_in(&self.buffer_hints, &mut self.buffers, buffer, samples);
+    }
+
+    /// Puts the `n` frames whose bytes these are in a format behind those of this buffer, which has room for them. This takes no
+    /// memory.
+    pub fn push_bytes(&mut self, buffer: u32, format: Format, n: u32, bytes: &[u8])
+        requires there { has_id self.old.buffers buffer ≡ true }
+        requires whole { length bytes.now ≡ n * (channels_at self.old buffer * width format) }
+        requires fit { length (held_frames self.old buffer) + n ≤ capacity_at self.old buffer }
+        ensures { self.new ≡ pushed buffer (frames_in format (channels_at self.old buffer) bytes.now 0 n) (words_at self.new buffer) self.old }
+    {
+        push_bytes_in(
+            &self.buffer_hints,
+            &mut self.buffers,
+            buffer,
+            format,
+            n,
+            bytes,
+        );
     }
 
     /// Takes as many frames as `samples` has room for from this buffer, which holds them, and writes their samples, a sample of

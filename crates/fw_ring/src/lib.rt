@@ -3,6 +3,7 @@
 #![tactic(auto)]
 
 mod ring;
+mod samples;
 mod window;
 
 pub use ring::Ring;

@@ -1,13 +1,13 @@
 // A ring over a piece.
 ghost use Rattle.std.specs.Prelude.{◌≡◌, ℕ, ℤ, pos, [], ◌+◌, ◌*◌, ◌/◌, ◌%◌, ◌<◌, ◌≤◌, ◌^◌, ◌++◌, length, take, drop, slice_index_or};
-ghost use Rattle.sof_base.specs.Samples.{sample_of, frames_of, samples_of};
+ghost use Rattle.sof_base.specs.Samples.{width, sample_of, frames_in, frames_of, samples_of};
 ghost use Rattle.fw_ring.specs.RingState.{capacity_of, place_after, IsRing, SameRing};
 ghost use Rattle.fw_ring.specs.RingWords.{IsWindow, window_frames};
 ghost use Rattle.fw_ring.specs.RingLaid.{own_words};
 
 use crate::window::Window;
 use fw_heap::Piece;
-use sof_base::Sample;
+use sof_base::{Format, Sample};
 use std::marker::Model;
 
 /// Frames in the words of a piece behind its first 32 bytes.
@@ -103,6 +103,17 @@ impl Ring {
         self.window = extend(self.piece.words_mut(), window, samples);
     }
 
+    /// Appends the `n` frames whose bytes these are in a format; the ring has room for them.
+    pub fn push_bytes(&mut self, format: Format, n: u32, bytes: &[u8])
+        requires whole { length bytes.now ≡ n * (self.old.channels * width format) }
+        requires fit { length self.old.frames + n ≤ capacity_of self.old }
+        ensures frames { self.new.frames ≡ self.old.frames ++ frames_in format self.old.channels bytes.now 0 n }
+        ensures same { SameRing self.old self.new }
+    {
+        let window = self.window;
+        self.window = extend_by(self.piece.words_mut(), window, format, n, bytes);
+    }
+
     /// The samples of the first `n` frames: those up to the end of the words, and then those from their beginning. Each part has
     /// whole frames.
     pub fn spans(&self, n: u32) -> (&[Sample], &[Sample])
@@ -150,6 +161,18 @@ fn extend(words: &mut [Sample], window: Window, samples: &[Sample]) -> Window
 {
     let count = frames_in(samples.len(), window.channels);
     window.extended(&mut words[8..8 + window.words], count, samples)
+}
+
+/// Appends the frames of these bytes to those of a window of the words behind the first eight.
+fn extend_by(words: &mut [Sample], window: Window, format: Format, n: u32, bytes: &[u8]) -> Window
+    requires window { IsWindow window }
+    requires words { 8 + window.words ≤ length words.old }
+    requires whole { length bytes.now ≡ n * (window.channels * width format) }
+    requires fit { window.held + n ≤ window.capacity }
+    ensures window { result ≡ record window { held = window.held + n } }
+    ensures frames { window_frames result (own_words result.words words.new) ≡ window_frames window (own_words window.words words.old) ++ frames_in format window.channels bytes.now 0 n }
+{
+    window.extended_by(&mut words[8..8 + window.words], n as usize, format, bytes)
 }
 
 // How many frames so many samples are: one or two channels, as most streams have, take no division.

@@ -1,9 +1,10 @@
 // The frames of one ring, in words of its own.
 ghost use Rattle.std.specs.Prelude.{◌≡◌, ◌+◌, ◌-◌, ◌*◌, ◌/◌, ◌%◌, ◌<◌, ◌≤◌, ◌^◌, ◌++◌, length, take, drop};
-ghost use Rattle.sof_base.specs.Samples.{frames_of, samples_of};
+ghost use Rattle.sof_base.specs.Samples.{width, frames_in, frames_of, samples_of};
 ghost use Rattle.fw_ring.specs.RingWords.{IsWindow, window_frames, wrapped};
 
-use sof_base::Sample;
+use crate::samples::read_samples;
+use sof_base::{Format, Sample};
 
 /// How a ring holds its frames: `words` words have room for `capacity` frames of `channels` samples. Of these the `held` frames
 /// from `start` on are in use, round the end.
@@ -52,6 +53,30 @@ impl Window {
         first.copied(words, count - near, back)
     }
 
+    /// Appends the `count` frames whose bytes these are in a format.
+    pub fn extended_by(
+        self,
+        words: &mut [Sample],
+        count: usize,
+        format: Format,
+        bytes: &[u8],
+    ) -> Window
+        requires window { IsWindow self }
+        requires words { length words.old ≡ self.words }
+        requires whole { length bytes.now ≡ count * (self.channels * width format) }
+        requires fit { self.held + count ≤ self.capacity }
+        ensures window { result ≡ record self { held = self.held + count } }
+        ensures frames { window_frames result words.new ≡ window_frames self words.old ++ frames_in format self.channels bytes.now 0 count }
+    {
+        let near = self.capacity - wrap(self.capacity, self.start, self.held);
+        if count <= near {
+            return self.read(words, count, format, bytes);
+        }
+        let (front, back) = bytes.split_at(near * (self.channels * format.width()));
+        let first = self.read(words, near, format, front);
+        first.read(words, count - near, format, back)
+    }
+
     /// The words of the first `count` frames: those up to the end of the room, and then those from its beginning.
     pub fn spans(self, words: &[Sample], count: usize) -> (&[Sample], &[Sample])
         requires window { IsWindow self }
@@ -92,6 +117,24 @@ impl Window {
     {
         let at = wrap(self.capacity, self.start, self.held) * self.channels;
         words[at..at + count * self.channels].copy_from_slice(samples);
+        Window {
+            held: self.held + count,
+            ..self
+        }
+    }
+
+    // Appends frames of bytes, whose samples come to lie before the end of the words.
+    fn read(self, words: &mut [Sample], count: usize, format: Format, bytes: &[u8]) -> Window
+        requires window { IsWindow self }
+        requires words { length words.old ≡ self.words }
+        requires whole { length bytes.now ≡ count * (self.channels * width format) }
+        requires fit { self.held + count ≤ self.capacity }
+        requires near { wrapped self.capacity self.start self.held + count ≤ self.capacity }
+        ensures window { result ≡ record self { held = self.held + count } }
+        ensures frames { window_frames result words.new ≡ window_frames self words.old ++ frames_in format self.channels bytes.now 0 count }
+    {
+        let at = wrap(self.capacity, self.start, self.held) * self.channels;
+        read_samples(format, bytes, &mut words[at..at + count * self.channels]);
         Window {
             held: self.held + count,
             ..self

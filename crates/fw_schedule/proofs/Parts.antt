@@ -1,11 +1,11 @@
 -- An endpoint's frames that pass part by part are those that pass at once.
-use Rattle.std.proofs.Common.{◌≡◌, refl, sym, ap, ◌∙◌, subst, ℕ, ◌+◌, ◌*◌, ◌/◌, ◌%◌, ◌≤◌, List, ◌++◌, take, drop, length, Bool, true, false, arith, ℤ, length-drop, length-append}
+use Rattle.std.proofs.Common.{◌≡◌, refl, sym, ap, ◌∙◌, subst, ℕ, ◌+◌, ◌*◌, ◌≤◌, List, ◌++◌, take, drop, length, Bool, true, false, arith, length-drop, length-append}
 use Rattle.std.proofs.lemmas.List.FromFn.{length-map-range_with_len}
-use Rattle.std.proofs.Math.Nat.{mul-div_cancel, mul-mod_left, mul-le-mul_right}
+use Rattle.std.proofs.Math.Nat.{mul-le-mul_right}
 use Rattle.sof_base.specs.declared.format.Format.{Format}
 use Rattle.sof_base.specs.declared.format.Format.TheVariants.{S16, S24, S32}
 use Rattle.sof_base.specs.Ports.{InputView, OutputView}
-use Rattle.sof_base.specs.Samples.{Frame, width, frame_in, frames_in, frames_out, frames_of}
+use Rattle.sof_base.specs.Samples.{Frame, width, frames_in, frames_out}
 use Rattle.sof_io.specs.Bound.{output_slots, has_slot}
 use Rattle.sof_io.specs.Takes.{bytes_given, taken as input_taken}
 use Rattle.sof_io.specs.Puts.{room_at, with_piece}
@@ -14,7 +14,8 @@ use Rattle.sof_io.proofs.OutputLaws.{room_at-with_piece, with_piece-unknown, wit
 use Rattle.fw_components.specs.Tables.{Tables, held_frames, capacity_at}
 use Rattle.fw_components.specs.Changes.{has_id}
 use Rattle.fw_components.specs.Frames.{words_at, channels_at, with_taken, pushed}
-use Rattle.fw_schedule.proofs.FrameBytes.{frames-read, frames_in-both, bytes-more}
+use Rattle.fw_ring.proofs.ReadFrames.{frames_in-both}
+use Rattle.fw_schedule.proofs.FrameBytes.{bytes-more}
 use Rattle.fw_schedule.proofs.OneBuffer.{has-pushed, channels-pushed, capacity-pushed, most-pushed, pushed-twice, has-taken, channels-taken, frames-taken, taken-twice}
 
 -- ---- counts
@@ -23,20 +24,6 @@ pub width-most : (format : Format) → width format ≤ 4
 width-most S16 = omega arith
 width-most S24 = omega arith
 width-most S32 = omega arith
-
--- whole frames, by the channels of their buffer
-pub are-whole : (n channels size at : ℕ) → size ≡ n * channels → at ≡ channels → size % at ≡ 0
-are-whole n channels size at count shape = (λ i. count i % shape i) ∙ mul-mod_left n channels
-
-pub how-many : (n channels size at : ℕ) → 1 ≤ channels → size ≡ n * channels → at ≡ channels → size / at ≡ n
-how-many n channels size at some count shape = (λ i. count i / shape i) ∙ mul-div_cancel n (omega (arith, some))
-
--- samples that were read are the frames of their bytes
-pub frames-were-read : (format : Format) (n channels at : ℕ) (samples : List ℤ) (bytes : List ℕ) → 1 ≤ channels → length samples ≡ n * channels → at ≡ channels → samples ≡ frame_in format (n * channels) bytes 0 → frames_of at (length samples / at) samples ≡ frames_in format channels bytes 0 n
-frames-were-read format n channels at samples bytes some count shape is =
-    (λ i. frames_of (shape i) (how-many n channels (length samples) at some count shape i) samples)
-    ∙ ap (frames_of channels n) is
-    ∙ frames-read format channels n bytes
 
 -- ---- inputs
 

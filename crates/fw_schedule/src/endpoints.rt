@@ -7,42 +7,59 @@ ghost use Rattle.fw_components.specs.Tables.{held_frames, capacity_at};
 ghost use Rattle.fw_components.specs.Changes.{has_id};
 ghost use Rattle.fw_components.specs.Frames.{words_at, channels_at, with_taken, pushed};
 
-use crate::samples::{read_samples, write_both};
-use crate::scratch::{MOST, ZEROS};
+use crate::samples::write_both;
+use crate::scratch::{MOST, Scratch, ZEROS};
+use crate::steps::Step;
 use fw_components::Registry;
-use sof_base::{Format, Sample};
 use sof_io::{Inputs, Outputs};
 
-/// An input gives `n` frames of so many channels to a buffer.
+/// The input of a step gives `n` frames to a buffer.
 pub(crate) fn feed_frames(
     registry: &mut Registry,
     io: &mut Inputs,
-    samples: &mut [Sample],
-    bytes: &mut [u8],
-    id: u32,
+    scratch: &mut Scratch,
+    step: &Step,
     buffer: u32,
-    channels: u8,
-    format: Format,
     n: u32,
 )
-    requires scratch { (1536 ≤ length samples.old) × (6144 ≤ length bytes.old) }
-    requires channels { (1 ≤ channels) × (channels ≤ 8) }
+    requires channels { (1 ≤ step.now.channels) × (step.now.channels ≤ 8) }
     requires there { has_id registry.old.buffers buffer ≡ true }
-    requires shape { channels_at registry.old buffer ≡ channels }
+    requires shape { channels_at registry.old buffer ≡ step.now.channels }
     requires fit { length (held_frames registry.old buffer) + n ≤ capacity_at registry.old buffer }
-    ensures tables { registry.new ≡ pushed buffer (frames_in format channels (bytes_given id (n * (channels * width format)) io.old) 0 n) (words_at registry.new buffer) registry.old }
-    ensures inputs { io.new ≡ input_taken id (n * (channels * width format)) io.old }
+    ensures tables { registry.new ≡ pushed buffer (frames_in step.now.format step.now.channels (bytes_given step.now.id (n * (step.now.channels * width step.now.format)) io.old) 0 n) (words_at registry.new buffer) registry.old }
+    ensures inputs { io.new ≡ input_taken step.now.id (n * (step.now.channels * width step.now.format)) io.old }
 {
-    let most = most_frames(channels);
+    let count = n as usize * usize::from(step.channels);
+    if count <= MOST {
+        feed_some(registry, io, scratch, step, buffer, n);
+    } else {
+        feed_parts(registry, io, scratch, step, buffer, n);
+    }
+}
+
+// The same part by part. It stands apart, since few moves are so long.
+#[inline(never)]
+fn feed_parts(
+    registry: &mut Registry,
+    io: &mut Inputs,
+    scratch: &mut Scratch,
+    step: &Step,
+    buffer: u32,
+    n: u32,
+)
+    requires channels { (1 ≤ step.now.channels) × (step.now.channels ≤ 8) }
+    requires there { has_id registry.old.buffers buffer ≡ true }
+    requires shape { channels_at registry.old buffer ≡ step.now.channels }
+    requires fit { length (held_frames registry.old buffer) + n ≤ capacity_at registry.old buffer }
+    ensures tables { registry.new ≡ pushed buffer (frames_in step.now.format step.now.channels (bytes_given step.now.id (n * (step.now.channels * width step.now.format)) io.old) 0 n) (words_at registry.new buffer) registry.old }
+    ensures inputs { io.new ≡ input_taken step.now.id (n * (step.now.channels * width step.now.format)) io.old }
+{
+    let most = most_frames(step.channels);
     let mut fed = n.min(most);
-    feed_some(
-        registry, io, samples, bytes, id, buffer, channels, format, fed,
-    );
+    feed_some(registry, io, scratch, step, buffer, fed);
     while fed < n {
         let more = (n - fed).min(most);
-        feed_some(
-            registry, io, samples, bytes, id, buffer, channels, format, more,
-        );
+        feed_some(registry, io, scratch, step, buffer, more);
         fed += more;
     }
 }
@@ -51,58 +68,76 @@ pub(crate) fn feed_frames(
 fn feed_some(
     registry: &mut Registry,
     io: &mut Inputs,
-    samples: &mut [Sample],
-    bytes: &mut [u8],
-    id: u32,
+    scratch: &mut Scratch,
+    step: &Step,
     buffer: u32,
-    channels: u8,
-    format: Format,
     n: u32,
 )
-    requires scratch { (1536 ≤ length samples.old) × (6144 ≤ length bytes.old) }
-    requires channels { (1 ≤ channels) × (channels ≤ 8) }
-    requires few { n * channels ≤ 1536 }
+    requires channels { (1 ≤ step.now.channels) × (step.now.channels ≤ 8) }
+    requires few { n * step.now.channels ≤ 1536 }
     requires there { has_id registry.old.buffers buffer ≡ true }
-    requires shape { channels_at registry.old buffer ≡ channels }
+    requires shape { channels_at registry.old buffer ≡ step.now.channels }
     requires fit { length (held_frames registry.old buffer) + n ≤ capacity_at registry.old buffer }
-    ensures tables { registry.new ≡ pushed buffer (frames_in format channels (bytes_given id (n * (channels * width format)) io.old) 0 n) (words_at registry.new buffer) registry.old }
-    ensures inputs { io.new ≡ input_taken id (n * (channels * width format)) io.old }
+    ensures tables { registry.new ≡ pushed buffer (frames_in step.now.format step.now.channels (bytes_given step.now.id (n * (step.now.channels * width step.now.format)) io.old) 0 n) (words_at registry.new buffer) registry.old }
+    ensures inputs { io.new ≡ input_taken step.now.id (n * (step.now.channels * width step.now.format)) io.old }
 {
-    let count = n as usize * usize::from(channels);
-    let given = &mut bytes[..count * format.width()];
-    io.take(id, given);
-    let frames = &mut samples[..count];
-    read_samples(format, given, frames);
-    registry.push(buffer, frames);
+    let size = n as usize * usize::from(step.channels) * step.format.width();
+    let given = &mut scratch.bytes[..size];
+    io.take(step.id, given);
+    registry.push_bytes(buffer, step.format, n, given);
 }
 
-/// A buffer gives `n` frames of so many channels to an output.
+/// A buffer gives `n` frames to the output of a step.
 pub(crate) fn drain_frames(
     registry: &mut Registry,
     out: &mut Outputs,
-    bytes: &mut [u8],
-    id: u32,
+    scratch: &mut Scratch,
+    step: &Step,
     buffer: u32,
-    channels: u8,
-    format: Format,
     n: u32,
 )
-    requires scratch { 6144 ≤ length bytes.old }
-    requires channels { (1 ≤ channels) × (channels ≤ 8) }
+    requires channels { (1 ≤ step.now.channels) × (step.now.channels ≤ 8) }
     requires there { has_id registry.old.buffers buffer ≡ true }
-    requires shape { channels_at registry.old buffer ≡ channels }
+    requires shape { channels_at registry.old buffer ≡ step.now.channels }
     requires held { n ≤ length (held_frames registry.old buffer) }
-    requires room { n * (channels * width format) ≤ room_at id out.old }
+    requires room { n * (step.now.channels * width step.now.format) ≤ room_at step.now.id out.old }
     ensures tables { registry.new ≡ with_taken buffer n registry.old }
-    ensures size { length (frames_out format (take n (held_frames registry.old buffer))) ≡ n * (channels * width format) }
-    ensures outputs { out.new ≡ with_piece id (frames_out format (take n (held_frames registry.old buffer))) out.old }
+    ensures size { length (frames_out step.now.format (take n (held_frames registry.old buffer))) ≡ n * (step.now.channels * width step.now.format) }
+    ensures outputs { out.new ≡ with_piece step.now.id (frames_out step.now.format (take n (held_frames registry.old buffer))) out.old }
 {
-    let most = most_frames(channels);
+    let count = n as usize * usize::from(step.channels);
+    if count <= MOST {
+        drain_some(registry, out, scratch, step, buffer, n);
+    } else {
+        drain_parts(registry, out, scratch, step, buffer, n);
+    }
+}
+
+// The same part by part. It stands apart, since few moves are so long.
+#[inline(never)]
+fn drain_parts(
+    registry: &mut Registry,
+    out: &mut Outputs,
+    scratch: &mut Scratch,
+    step: &Step,
+    buffer: u32,
+    n: u32,
+)
+    requires channels { (1 ≤ step.now.channels) × (step.now.channels ≤ 8) }
+    requires there { has_id registry.old.buffers buffer ≡ true }
+    requires shape { channels_at registry.old buffer ≡ step.now.channels }
+    requires held { n ≤ length (held_frames registry.old buffer) }
+    requires room { n * (step.now.channels * width step.now.format) ≤ room_at step.now.id out.old }
+    ensures tables { registry.new ≡ with_taken buffer n registry.old }
+    ensures size { length (frames_out step.now.format (take n (held_frames registry.old buffer))) ≡ n * (step.now.channels * width step.now.format) }
+    ensures outputs { out.new ≡ with_piece step.now.id (frames_out step.now.format (take n (held_frames registry.old buffer))) out.old }
+{
+    let most = most_frames(step.channels);
     let mut drained = n.min(most);
-    drain_some(registry, out, bytes, id, buffer, channels, format, drained);
+    drain_some(registry, out, scratch, step, buffer, drained);
     while drained < n {
         let more = (n - drained).min(most);
-        drain_some(registry, out, bytes, id, buffer, channels, format, more);
+        drain_some(registry, out, scratch, step, buffer, more);
         drained += more;
     }
 }
@@ -111,29 +146,26 @@ pub(crate) fn drain_frames(
 fn drain_some(
     registry: &mut Registry,
     out: &mut Outputs,
-    bytes: &mut [u8],
-    id: u32,
+    scratch: &mut Scratch,
+    step: &Step,
     buffer: u32,
-    channels: u8,
-    format: Format,
     n: u32,
 )
-    requires scratch { 6144 ≤ length bytes.old }
-    requires channels { (1 ≤ channels) × (channels ≤ 8) }
-    requires few { n * channels ≤ 1536 }
+    requires channels { (1 ≤ step.now.channels) × (step.now.channels ≤ 8) }
+    requires few { n * step.now.channels ≤ 1536 }
     requires there { has_id registry.old.buffers buffer ≡ true }
-    requires shape { channels_at registry.old buffer ≡ channels }
+    requires shape { channels_at registry.old buffer ≡ step.now.channels }
     requires held { n ≤ length (held_frames registry.old buffer) }
-    requires room { n * (channels * width format) ≤ room_at id out.old }
+    requires room { n * (step.now.channels * width step.now.format) ≤ room_at step.now.id out.old }
     ensures tables { registry.new ≡ with_taken buffer n registry.old }
-    ensures size { length (frames_out format (take n (held_frames registry.old buffer))) ≡ n * (channels * width format) }
-    ensures outputs { out.new ≡ with_piece id (frames_out format (take n (held_frames registry.old buffer))) out.old }
+    ensures size { length (frames_out step.now.format (take n (held_frames registry.old buffer))) ≡ n * (step.now.channels * width step.now.format) }
+    ensures outputs { out.new ≡ with_piece step.now.id (frames_out step.now.format (take n (held_frames registry.old buffer))) out.old }
 {
-    let size = n as usize * usize::from(channels) * format.width();
-    let written = &mut bytes[..size];
+    let size = n as usize * usize::from(step.channels) * step.format.width();
+    let written = &mut scratch.bytes[..size];
     let (front, back) = registry.spans(buffer, n);
-    write_both(format, front, back, written);
-    out.put(id, written);
+    write_both(step.format, front, back, written);
+    out.put(step.id, written);
     registry.shorten(buffer, n);
 }
 

@@ -1,25 +1,19 @@
 // Room that the frames of an endpoint pass through.
-use sof_base::Sample;
-
 /// The most samples that pass at once: 192 frames of 8 channels, or more of fewer.
 pub(crate) const MOST: usize = 1536;
 
 /// The most zeros that pass at once.
 pub(crate) const ZEROS: usize = 256;
 
-/// Room for the samples that pass at once, and for their bytes. What stands there means nothing between two moves.
+/// Room for the bytes of the samples that pass at once. What stands there means nothing between two moves.
 #[derive(Drop)]
 pub struct Scratch {
-    pub(crate) samples: [Sample; 1536],
     pub(crate) bytes: [u8; 6144],
 }
 
 impl Scratch {
     /// New room.
     pub fn new() -> Scratch {
-        Scratch {
-            samples: [0; 1536],
-            bytes: [0; 6144],
-        }
+        Scratch { bytes: [0; 6144] }
     }
 }

@@ -154,17 +154,7 @@ fn feed_into(
         io.new ≡ input_taken step.now.id (n * (step.now.channels * width step.now.format)) io.old }
 {
     let n = step.quota.min(registry.free(buffer));
-    feed_frames(
-        registry,
-        io,
-        &mut scratch.samples,
-        &mut scratch.bytes,
-        step.id,
-        buffer,
-        step.channels,
-        step.format,
-        n,
-    );
+    feed_frames(registry, io, scratch, step, buffer, n);
 }
 
 // A sink moves frames out of its buffer.
@@ -210,16 +200,7 @@ fn drain_from(
         out.new ≡ with_piece step.now.id (frames_out step.now.format (take n (held_frames registry.old buffer)) ++ replicate ((least_by step.now.kind step.now.quota - n) * (step.now.channels * width step.now.format)) 0) out.old }
 {
     let n = step.quota.min(registry.held(buffer));
-    drain_frames(
-        registry,
-        out,
-        &mut scratch.bytes,
-        step.id,
-        buffer,
-        step.channels,
-        step.format,
-        n,
-    );
+    drain_frames(registry, out, scratch, step, buffer, n);
     let least = least(step.kind, step.quota);
     let frame = usize::from(step.channels) * step.format.width();
     let zeros = least.saturating_sub(n) as usize * frame;

@@ -1,7 +1,7 @@
 // A region, its pieces, and a ring over one of them.
 use fw_heap::Region;
 use fw_ring::Ring;
-use sof_base::NoMemory;
+use sof_base::{Format, NoMemory};
 use std::alloc::Global;
 
 // A region without a byte is full.
@@ -82,6 +82,25 @@ fn round_the_end(alloc: Global) -> Result<bool, NoMemory> {
     Ok(right)
 }
 
+// The same ring, where the last four samples come as bytes.
+fn bytes_round_the_end(alloc: Global) -> Result<bool, NoMemory> {
+    let mut region = Region::new(alloc, 64)?;
+    region.limit(64);
+    let mut right = false;
+    if let Ok(piece) = region.carve(64) {
+        let mut ring = Ring::over(piece, 8, 2);
+        ring.push_frames(&[1, 2, 3, 4, 5, 6]);
+        ring.take(2);
+        ring.push_bytes(Format::S16, 2, &[1, 0, 2, 0, 255, 255, 0, 128]);
+        let (front, back) = ring.spans(3);
+        right = matches!(front, [5, 6, 65536, 131072]);
+        right = right && matches!(back, [-65536, -2147483648]);
+        region.give(ring.into_piece());
+    }
+    region.close();
+    Ok(right)
+}
+
 #[test]
 fn no_piece_without_a_byte(rt: HostRuntime) {
     let full = without_a_byte(rt.alloc());
@@ -97,5 +116,11 @@ fn pieces_are_rounded_and_come_back(rt: HostRuntime) {
 #[test]
 fn frames_lie_round_the_end_of_a_piece(rt: HostRuntime) {
     let right = round_the_end(rt.alloc());
+    assert!(rt; matches!(right, Ok(true)));
+}
+
+#[test]
+fn bytes_lie_round_the_end(rt: HostRuntime) {
+    let right = bytes_round_the_end(rt.alloc());
     assert!(rt; matches!(right, Ok(true)));
 }

@@ -2,8 +2,8 @@ use Rattle.std.proofs.Common.{◌≡◌, ◌∙◌, ap, ℕ, ◌+◌, ◌-◌, �
 use Rattle.std.proofs.lemmas.Int.{to_z-of_z}
 use Rattle.sof_base.specs.declared.format.Format.TheVariants.{S24}
 use Rattle.sof_base.specs.Samples.{sample_in_of}
-use Rattle.fw_schedule.proofs.SampleRuns.{read-more}
-use Rattle.fw_schedule.proofs.samples.read_24.Goals as goal
+use Rattle.fw_ring.proofs.ReadRuns.{read-more}
+use Rattle.fw_ring.proofs.samples.read_24.Goals as goal
 
 pub loop-word-preserved : goal.loop-word-preserved
 loop-word-preserved c =

@@ -7,6 +7,7 @@ use Rattle.sof_desk.specs.Desk.{DeskPlace, Slot, Put, Create, Open, Acted, WasRe
 use Rattle.sof_desk.specs.OutFiles.{OutView, slots_of, SameBeside, GivesFiles}
 use Rattle.sof_desk.specs.InFiles.{InView, opens_of, left_in_file, SameLeftBeside, KeepsLeft, LeavesOf}
 use Rattle.sof_desk.specs.RealDesk.{RealDesk, real, is_slot_of, slots_with}
+use Rattle.sof_desk.specs.Troubles.{Noted, Notes}
 use Rattle.sof_desk.proofs.OpenSlots.{is_slot-after}
 use Rattle.sof_desk.proofs.ActsOfShelf.{kept_faults, failed_faults}
 
@@ -20,6 +21,11 @@ untold false part = refl
 
 as_many : (old new : List OutView) → slots_of new ≡ slots_of old → length new ≡ length old
 as_many old new slots = sym (length-map new (λ f. f.slot)) ∙ ap length slots ∙ length-map old (λ f. f.slot)
+
+-- a failure that was noted is counted
+pub notes-count : (done : Bool) (before after : Noted) → Notes done before after → after.count ≡ (if done then before.count else one_more before.count)
+notes-count true before after same = ap (λ (n : Noted). n.count) same
+notes-count false before after noting = ap (λ (n : Noted). n.count) noting.1
 
 -- a piece that keeps the slots, reaches its file and counts its failure
 pub puts : (to : DeskPlace) (piece : List ℕ) (ok done : Bool) (old mid new : RealDesk) → mid ≡ old → ok ≡ done → slots_of new.files ≡ slots_of mid.files → GivesFiles (Put to piece) done mid.files new.files → new.inputs ≡ mid.inputs → new.faults ≡ (if done then mid.faults else one_more mid.faults) → Acted real (Put to piece) ok old new

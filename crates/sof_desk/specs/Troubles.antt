@@ -1,5 +1,5 @@
 -- The failures of a desk over real files.
-use Rattle.std.specs.Prelude.{◌≡◌, ℕ, List, string_bytes, Option, Some}
+use Rattle.std.specs.Prelude.{◌≡◌, ℕ, Bool, true, false, List, string_bytes, Option, Some}
 use Rattle.std.specs.Option.{option_or}
 use Rattle.sof_desk.specs.declared.trouble.Subject.{Subject}
 use Rattle.sof_desk.specs.declared.trouble.Subject.TheVariants.{File, SomeFile, Output}
@@ -20,3 +20,8 @@ pub record Noted : Type 0 where
 -- after one more failure: the first one stays
 abbrev pub noted : Trouble → Noted → Noted
 noted trouble before = record { count = one_more before.count; first = option_or before.first (Some trouble) }
+
+-- what a call notes: nothing where it was done, and else why it failed
+abbrev pub Notes : Bool → Noted → Noted → Type 0
+Notes true before after = after ≡ before
+Notes false before after = (trouble : Trouble) × (after ≡ noted trouble before)

@@ -155,8 +155,7 @@ impl<R: Files + Print + Drop> Desk for OsDesk<R> {
     }
 
     fn append(&mut self, slot: u32, piece: &[u8]) -> Result<(), DeskFailed> {
-        let done = append_in(&mut self.files, slot, piece);
-        self.troubles.answer(done)
+        append_in(&mut self.files, slot, piece, &mut self.troubles)
     }
 
     fn open(&mut self, slot: u32, name: &str) -> Result<(), DeskFailed> {

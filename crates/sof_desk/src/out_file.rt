@@ -3,9 +3,12 @@ ghost use Rattle.std.specs.Prelude.{◌≡◌, nat_eq, position, true, [], is_ok
 ghost use Rattle.std.specs.Io.KnownBytes.{Keeps};
 ghost use Rattle.sof_desk.specs.OutFiles.{slots_of, given_at, SameBeside, SameGiven, NoneKept};
 ghost use Rattle.sof_desk.specs.Transfers.{Writes};
+ghost use Rattle.sof_desk.specs.Troubles.{Notes};
 
-use crate::transfer::write_filling;
+use crate::calls::DeskFailed;
+use crate::transfer::{keep, write_filling};
 use crate::trouble::{Subject, Trouble};
+use crate::troubles::Troubles;
 use std::alloc::Global;
 use std::io;
 use std::io::{BufWriter, ErrorKind, Write};
@@ -50,14 +53,33 @@ impl<F: Write + Drop> OutFile<F> {
         })
     }
 
-    /// Takes a piece whole, or a prefix of it up to a failure.
-    pub fn append(&mut self, piece: &[u8]) -> Result<(), Trouble>
+    /// Takes a piece whole, or a prefix of it up to a failure, which is noted.
+    pub fn append(&mut self, piece: &[u8], troubles: &mut Troubles) -> Result<(), DeskFailed>
         ensures slot { self.new.slot ≡ self.old.slot }
         ensures given { Writes piece.now (is_ok result) self.old.given self.new.given }
+        ensures notes { Notes (is_ok result) troubles.old troubles.new }
+    {
+        // Most pieces fit, and pass without a word of why they may not.
+        let kept = keep(&mut self.file, piece);
+        if kept == piece.len() {
+            return Ok(());
+        }
+        self.append_rest(&piece[kept..], troubles)
+    }
+
+    // The same for what does not fit.
+    #[inline(never)]
+    fn append_rest(&mut self, piece: &[u8], troubles: &mut Troubles) -> Result<(), DeskFailed>
+        ensures slot { self.new.slot ≡ self.old.slot }
+        ensures given { Writes piece.now (is_ok result) self.old.given self.new.given }
+        ensures notes { Notes (is_ok result) troubles.old troubles.new }
     {
         match write_filling(&mut self.file, piece) {
             Ok(()) => Ok(()),
-            Err(reason) => Err(self.trouble(reason)),
+            Err(reason) => {
+                troubles.note(self.trouble(reason));
+                Err(DeskFailed)
+            }
         }
     }
 
@@ -85,22 +107,28 @@ pub fn place_of<F: Write + Drop>(files: &[OutFile<F>], slot: u32) -> Option<usiz
     files.iter().position(|opened| opened.slot == slot)
 }
 
-/// Gives a piece to the file that is open under a slot; fails where there is none or it did not take all of the piece.
+/// Gives a piece to the file that is open under a slot; fails where there is none or it did not take all of the piece, and notes
+/// that.
 pub fn append_in<F: Write + Drop>(
     files: &mut [OutFile<F>],
     slot: u32,
     piece: &[u8],
-) -> Result<(), Trouble>
+    troubles: &mut Troubles,
+) -> Result<(), DeskFailed>
     ensures slots { slots_of files.new ≡ slots_of files.old }
     ensures given { Writes piece.now (is_ok result) (given_at slot files.old) (given_at slot files.new) }
     ensures others { SameBeside slot files.old files.new }
+    ensures notes { Notes (is_ok result) troubles.old troubles.new }
 {
     match place_of(files, slot) {
-        Some(place) => files[place].append(piece),
-        None => Err(Trouble {
-            subject: Subject::SomeFile,
-            reason: io::Error::from(ErrorKind::NotFound),
-        }),
+        Some(place) => files[place].append(piece, troubles),
+        None => {
+            troubles.note(Trouble {
+                subject: Subject::SomeFile,
+                reason: io::Error::from(ErrorKind::NotFound),
+            });
+            Err(DeskFailed)
+        }
     }
 }
 

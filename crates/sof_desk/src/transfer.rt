@@ -1,6 +1,7 @@
 // Whole transfers by readers and writers that may move fewer bytes than they are asked to.
-ghost use Rattle.std.specs.Prelude.{MatchResult, is_ok};
+ghost use Rattle.std.specs.Prelude.{◌≤◌, take, length, MatchResult, is_ok};
 ghost use Rattle.std.specs.Io.Buffered.{writer_contents};
+ghost use Rattle.std.specs.Io.KnownBytes.{Appends};
 ghost use Rattle.sof_desk.specs.Desk.{Answers};
 ghost use Rattle.sof_desk.specs.Transfers.{Writes, load_fault};
 
@@ -64,6 +65,21 @@ pub fn write_all<W: Write>(to: &mut W, piece: &[u8]) -> io::Result<()>
         }
     }
     Ok(())
+}
+
+/// Gives a piece to a buffer that has room for more than it, and tells how many of its bytes were taken.
+pub fn keep<W: Write + Drop>(to: &mut BufWriter<W>, piece: &[u8]) -> usize
+    ensures bound { result ≤ length piece.now }
+    ensures given { Appends (writer_contents W.contents to.old) (writer_contents W.contents to.new) (take result piece.now) }
+{
+    if piece.len() >= to.capacity().saturating_sub(to.buffer().len()) {
+        return 0;
+    }
+    match to.write(piece) {
+        Ok(taken) => taken,
+        // All is as it was, and the next write tells why.
+        Err(_) => 0,
+    }
 }
 
 /// Writes a piece whole, or a prefix of it up to a failure. A piece that does not fit fills the buffer before its rest is written.

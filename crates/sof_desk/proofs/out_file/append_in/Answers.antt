@@ -28,3 +28,6 @@ returns-in-Some-clause-others g c =
     let found = sym c.place_of.ensures ∙ c.in-Some.is in
     let first = is_first (under (λ f. f.slot) c.args.slot) files c.in-Some.place c.index-files-place.result found in
     beside c.args.slot files c.in-Some.place c.append.new.self found (c.append.ensures.slot ∙ same_number _ _ first.passes)
+
+pub returns-in-None-clause-notes : goal.returns-in-None-clause-notes
+returns-in-None-clause-notes g c = (_, c.note.ensures)

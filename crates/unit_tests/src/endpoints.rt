@@ -1,7 +1,6 @@
 // Inputs and outputs as lists of bytes.
 use sof_base::INPUT_BYTES;
 use sof_io::{Inputs, Outputs};
-use std::alloc::Global;
 use std::test::Fail;
 
 // Puts a piece behind the bytes of a slot; whether it could.
@@ -63,45 +62,6 @@ fn an_unknown_input_gives_zeros(rt: HostRuntime) -> Result<(), Fail> {
     assert_eq!(rt; inputs.held(8), 0);
     inputs.take(7, &mut bytes);
     assert_eq!(rt; bytes, [1, 2]);
-    Ok(())
-}
-
-// Fills a slot with so many sevens; whether it could.
-fn fill_sevens(alloc: Global, inputs: &mut Inputs, slot: u32, count: usize) -> Result<bool, Fail> {
-    let piece = vec![in alloc; 7u8; count]?;
-    Ok(fill(inputs, slot, piece.as_slice()))
-}
-
-// Takes so many bytes of a slot; whether all are sevens.
-fn take_sevens(alloc: Global, inputs: &mut Inputs, slot: u32, count: usize) -> Result<bool, Fail> {
-    let mut out = vec![in alloc; 0u8; count]?;
-    inputs.take(slot, out.as_mut_slice());
-    Ok(out.iter().all(|byte| *byte == 7))
-}
-
-// The memory of an input has 1048576 bytes.
-#[test]
-fn an_input_goes_on_at_the_beginning_of_its_memory(rt: HostRuntime) -> Result<(), Fail> {
-    let mut inputs = Inputs::new(rt.alloc())?;
-    inputs.add(3)?;
-    assert!(rt; fill_sevens(rt.alloc(), &mut inputs, 3, 1_048_570)?);
-    assert_eq!(rt; inputs.held(3), 1_048_570);
-    assert!(rt; !fill(&mut inputs, 3, &[1, 2, 3, 4, 5, 6, 7]));
-    assert!(rt; take_sevens(rt.alloc(), &mut inputs, 3, 1_048_570)?);
-    // six come to lie at its end, and four at its beginning
-    assert!(rt; fill(&mut inputs, 3, &[11, 12, 13, 14, 15, 16, 17, 18, 19, 20]));
-    let mut bytes = [9u8; 8];
-    inputs.take(3, &mut bytes);
-    assert_eq!(rt; bytes, [11, 12, 13, 14, 15, 16, 17, 18]);
-    assert_eq!(rt; inputs.held(3), 2);
-    inputs.take(3, &mut bytes);
-    assert_eq!(rt; bytes, [19, 20, 0, 0, 0, 0, 0, 0]);
-    // once more round: these lie from byte 4 on, then two at its end and three at its beginning
-    assert!(rt; fill_sevens(rt.alloc(), &mut inputs, 3, 1_048_570)?);
-    assert!(rt; take_sevens(rt.alloc(), &mut inputs, 3, 1_048_570)?);
-    assert!(rt; fill(&mut inputs, 3, &[21, 22, 23, 24, 25]));
-    inputs.take(3, &mut bytes);
-    assert_eq!(rt; bytes, [21, 22, 23, 24, 25, 0, 0, 0]);
     Ok(())
 }
 

@@ -3,7 +3,7 @@ use Rattle.std.proofs.Common.{◌≡◌, refl, sym, ap, ◌∙◌, ℕ, ◌+◌,
 use Rattle.std.proofs.Math.Seq.{take-add}
 use Rattle.sof_base.specs.declared.format.Format.{Format}
 use Rattle.sof_base.specs.Samples.{Frame, frame_out, frames_out, samples_of}
-use Rattle.fw_schedule.proofs.SampleRuns.{frame_out-append}
+use Rattle.sof_io.proofs.SampleRuns.{frame_out-append}
 
 -- the bytes of frames are those of their samples
 pub bytes-of-frames : (format : Format) (fs : List Frame) → frame_out format (samples_of fs) ≡ frames_out format fs

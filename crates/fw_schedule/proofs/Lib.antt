@@ -1,4 +1,3 @@
-mod SampleRuns
 mod FrameBytes
 mod OneBuffer
 mod Parts

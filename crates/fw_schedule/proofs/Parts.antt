@@ -1,22 +1,20 @@
 -- An endpoint's frames that pass part by part are those that pass at once.
 use Rattle.std.proofs.Common.{◌≡◌, refl, sym, ap, ◌∙◌, subst, ℕ, ◌+◌, ◌*◌, ◌≤◌, List, ◌++◌, take, drop, length, Bool, true, false, arith, length-drop, length-append}
 use Rattle.std.proofs.lemmas.List.FromFn.{length-map-range_with_len}
-use Rattle.std.proofs.Math.Nat.{mul-le-mul_right}
 use Rattle.sof_base.specs.declared.format.Format.{Format}
 use Rattle.sof_base.specs.declared.format.Format.TheVariants.{S16, S24, S32}
 use Rattle.sof_base.specs.Ports.{InputView, OutputView}
-use Rattle.sof_base.specs.Samples.{Frame, width, frames_in, frames_out}
+use Rattle.sof_base.specs.Samples.{Frame, width, frames_in}
 use Rattle.sof_io.specs.Bound.{output_slots, has_slot}
 use Rattle.sof_io.specs.Takes.{bytes_given, taken as input_taken}
 use Rattle.sof_io.specs.Puts.{room_at, with_piece}
 use Rattle.sof_io.proofs.InputLaws.{length-given, taken-taken, given-more}
-use Rattle.sof_io.proofs.OutputLaws.{room_at-with_piece, with_piece-unknown, with_piece-with_piece}
+use Rattle.sof_io.proofs.OutputLaws.{room_at-with_piece, with_piece-unknown}
 use Rattle.fw_components.specs.Tables.{Tables, held_frames, capacity_at}
 use Rattle.fw_components.specs.Changes.{has_id}
-use Rattle.fw_components.specs.Frames.{words_at, channels_at, with_taken, pushed}
+use Rattle.fw_components.specs.Frames.{words_at, channels_at, pushed}
 use Rattle.fw_ring.proofs.ReadFrames.{frames_in-both}
-use Rattle.fw_schedule.proofs.FrameBytes.{bytes-more}
-use Rattle.fw_schedule.proofs.OneBuffer.{has-pushed, channels-pushed, capacity-pushed, most-pushed, pushed-twice, has-taken, channels-taken, frames-taken, taken-twice}
+use Rattle.fw_schedule.proofs.OneBuffer.{has-pushed, channels-pushed, capacity-pushed, most-pushed, pushed-twice}
 
 -- ---- counts
 
@@ -87,58 +85,3 @@ room-left id n k piece out size room = by (has_slot id (output_slots out)) refl
     by : (h : Bool) → has_slot id (output_slots out) ≡ h → k ≤ room_at id (with_piece id piece out)
     by true it = let left = room_at-with_piece id piece out it in omega (arith, left, size, room)
     by false it = let same : room_at id (with_piece id piece out) ≡ room_at id out = ap (room_at id) (with_piece-unknown id piece out it) in omega (arith, same, room)
-
--- a buffer has so many channels, and holds so many frames, for whose bytes there is room
-pub record CanDrain (id b channels : ℕ) (format : Format) (n : ℕ) (t : Tables) (out : List OutputView) : Type 0 where
-  pub there : has_id t.buffers b ≡ true
-  pub shape : channels_at t b ≡ channels
-  pub held : n ≤ length (held_frames t b)
-  pub room : n * (channels * width format) ≤ room_at id out
-
--- it has lost so many frames, and an output has got their bytes
-pub record IsDrained (id b channels : ℕ) (format : Format) (n : ℕ) (t : Tables) (out : List OutputView) (t' : Tables) (out' : List OutputView) : Type 0 where
-  pub tables : t' ≡ with_taken b n t
-  pub size : length (frames_out format (take n (held_frames t b))) ≡ n * (channels * width format)
-  pub outputs : out' ≡ with_piece id (frames_out format (take n (held_frames t b))) out
-
-pub can-drain-less : (id b channels : ℕ) (format : Format) (n m : ℕ) (t : Tables) (out : List OutputView) → m ≤ n → CanDrain id b channels format n t out → CanDrain id b channels format m t out
-can-drain-less id b channels format n m t out less can = record {
-  there = can.there;
-  shape = can.shape;
-  held = omega (arith, less, can.held);
-  room = let fewer = mul-le-mul_right (channels * width format) less in omega (arith, fewer, can.room);
-}
-
-module _ (id b channels : ℕ) (format : Format) (a k : ℕ) (t t1 : Tables) (out out1 : List OutputView) (first : IsDrained id b channels format a t out t1 out1) where
-  abbrev piece : List ℕ
-  piece = frames_out format (take a (held_frames t b))
-
-  left : held_frames t1 b ≡ drop a (held_frames t b)
-  left = ap (λ (x : Tables). held_frames x b) first.tables ∙ frames-taken b a t
-
-  pub can-drain-on : CanDrain id b channels format (a + k) t out → CanDrain id b channels format k t1 out1
-  can-drain-on can = record {
-    there = ap (λ (x : Tables). has_id x.buffers b) first.tables ∙ has-taken b a t b ∙ can.there;
-    shape = ap (λ (x : Tables). channels_at x b) first.tables ∙ channels-taken b a t b ∙ can.shape;
-    held = let rest = ap length left in let size = length-drop a (held_frames t b) in omega (arith, rest, size, can.held);
-    room =
-        let m = channels * width format in
-        let sum : (a + k) * m ≡ a * m + k * m = omega arith in
-        subst (λ (o : List OutputView). k * m ≤ room_at id o) (sym first.outputs) (room-left id (a * m) (k * m) piece out first.size (subst (λ n. n ≤ room_at id out) sum can.room));
-  }
-
-  pub drained-more : (t2 : Tables) (out2 : List OutputView) → IsDrained id b channels format k t1 out1 t2 out2 → IsDrained id b channels format (a + k) t out t2 out2
-  drained-more t2 out2 next =
-      let rest : frames_out format (take k (held_frames t1 b)) ≡ frames_out format (take k (drop a (held_frames t b))) = ap (λ (fs : List Frame). frames_out format (take k fs)) left in
-      let all : piece ++ frames_out format (take k (held_frames t1 b)) ≡ frames_out format (take (a + k) (held_frames t b)) =
-      ap (λ (bytes : List ℕ). piece ++ bytes) rest ∙ sym (bytes-more format a k (held_frames t b)) in
-      let sum : a * (channels * width format) + k * (channels * width format) ≡ (a + k) * (channels * width format) = omega arith in
-      record {
-        tables = next.tables ∙ ap (with_taken b k) first.tables ∙ taken-twice b a k t;
-        size = ap length (sym all) ∙ length-append piece (frames_out format (take k (held_frames t1 b))) ∙ (λ i. first.size i + next.size i) ∙ sum;
-        outputs =
-            next.outputs
-            ∙ ap (with_piece id (frames_out format (take k (held_frames t1 b)))) first.outputs
-            ∙ with_piece-with_piece id piece (frames_out format (take k (held_frames t1 b))) out
-            ∙ ap (λ (bytes : List ℕ). with_piece id bytes out) all;
-      }

@@ -7,7 +7,6 @@ ghost use Rattle.fw_components.specs.Tables.{held_frames, capacity_at};
 ghost use Rattle.fw_components.specs.Changes.{has_id};
 ghost use Rattle.fw_components.specs.Frames.{words_at, channels_at, with_taken, pushed};
 
-use crate::samples::write_both;
 use crate::scratch::{MOST, Scratch, ZEROS};
 use crate::steps::Step;
 use fw_components::Registry;
@@ -91,12 +90,10 @@ fn feed_some(
 pub(crate) fn drain_frames(
     registry: &mut Registry,
     out: &mut Outputs,
-    scratch: &mut Scratch,
     step: &Step,
     buffer: u32,
     n: u32,
 )
-    requires channels { (1 ≤ step.now.channels) × (step.now.channels ≤ 8) }
     requires there { has_id registry.old.buffers buffer ≡ true }
     requires shape { channels_at registry.old buffer ≡ step.now.channels }
     requires held { n ≤ length (held_frames registry.old buffer) }
@@ -105,67 +102,8 @@ pub(crate) fn drain_frames(
     ensures size { length (frames_out step.now.format (take n (held_frames registry.old buffer))) ≡ n * (step.now.channels * width step.now.format) }
     ensures outputs { out.new ≡ with_piece step.now.id (frames_out step.now.format (take n (held_frames registry.old buffer))) out.old }
 {
-    let count = n as usize * usize::from(step.channels);
-    if count <= MOST {
-        drain_some(registry, out, scratch, step, buffer, n);
-    } else {
-        drain_parts(registry, out, scratch, step, buffer, n);
-    }
-}
-
-// The same part by part. It stands apart, since few moves are so long.
-#[inline(never)]
-fn drain_parts(
-    registry: &mut Registry,
-    out: &mut Outputs,
-    scratch: &mut Scratch,
-    step: &Step,
-    buffer: u32,
-    n: u32,
-)
-    requires channels { (1 ≤ step.now.channels) × (step.now.channels ≤ 8) }
-    requires there { has_id registry.old.buffers buffer ≡ true }
-    requires shape { channels_at registry.old buffer ≡ step.now.channels }
-    requires held { n ≤ length (held_frames registry.old buffer) }
-    requires room { n * (step.now.channels * width step.now.format) ≤ room_at step.now.id out.old }
-    ensures tables { registry.new ≡ with_taken buffer n registry.old }
-    ensures size { length (frames_out step.now.format (take n (held_frames registry.old buffer))) ≡ n * (step.now.channels * width step.now.format) }
-    ensures outputs { out.new ≡ with_piece step.now.id (frames_out step.now.format (take n (held_frames registry.old buffer))) out.old }
-{
-    let most = most_frames(step.channels);
-    let mut drained = n.min(most);
-    drain_some(registry, out, scratch, step, buffer, drained);
-    while drained < n {
-        let more = (n - drained).min(most);
-        drain_some(registry, out, scratch, step, buffer, more);
-        drained += more;
-    }
-}
-
-// The same for no more than there is room for.
-fn drain_some(
-    registry: &mut Registry,
-    out: &mut Outputs,
-    scratch: &mut Scratch,
-    step: &Step,
-    buffer: u32,
-    n: u32,
-)
-    requires channels { (1 ≤ step.now.channels) × (step.now.channels ≤ 8) }
-    requires few { n * step.now.channels ≤ 1536 }
-    requires there { has_id registry.old.buffers buffer ≡ true }
-    requires shape { channels_at registry.old buffer ≡ step.now.channels }
-    requires held { n ≤ length (held_frames registry.old buffer) }
-    requires room { n * (step.now.channels * width step.now.format) ≤ room_at step.now.id out.old }
-    ensures tables { registry.new ≡ with_taken buffer n registry.old }
-    ensures size { length (frames_out step.now.format (take n (held_frames registry.old buffer))) ≡ n * (step.now.channels * width step.now.format) }
-    ensures outputs { out.new ≡ with_piece step.now.id (frames_out step.now.format (take n (held_frames registry.old buffer))) out.old }
-{
-    let size = n as usize * usize::from(step.channels) * step.format.width();
-    let written = &mut scratch.bytes[..size];
     let (front, back) = registry.spans(buffer, n);
-    write_both(step.format, front, back, written);
-    out.put(step.id, written);
+    out.put_samples(step.id, step.format, front, back);
     registry.shorten(buffer, n);
 }
 

@@ -4,7 +4,6 @@
 mod endpoints;
 mod ends;
 mod ordering;
-mod samples;
 mod schedules;
 mod scratch;
 mod spots;

@@ -116,7 +116,7 @@ fn carry(
     if reads(step.kind) {
         feed(registry, io, scratch, step);
     } else if writes(step.kind) {
-        drain(registry, out, scratch, step, inlets);
+        drain(registry, out, step, inlets);
     } else {
         process(registry, step, inlets);
     }
@@ -158,13 +158,7 @@ fn feed_into(
 }
 
 // A sink moves frames out of its buffer.
-fn drain(
-    registry: &mut Registry,
-    out: &mut Outputs,
-    scratch: &mut Scratch,
-    step: &Step,
-    inlets: &[u32],
-)
+fn drain(registry: &mut Registry, out: &mut Outputs, step: &Step, inlets: &[u32])
     requires can { CanTick registry.old }
     requires step { IsStepOf (view_by registry.old) inlets.now step.now }
     requires active { active (view_by registry.old) step.now.id ≡ true }
@@ -176,18 +170,12 @@ fn drain(
 {
     let _comps = registry.comps();
     if let Some(buffer) = step.inlets(inlets).first() {
-        drain_from(registry, out, scratch, step, *buffer);
+        drain_from(registry, out, step, *buffer);
     }
 }
 
 // It writes as many frames as its buffer holds, and zeros behind them where its kind writes its quota.
-fn drain_from(
-    registry: &mut Registry,
-    out: &mut Outputs,
-    scratch: &mut Scratch,
-    step: &Step,
-    buffer: u32,
-)
+fn drain_from(registry: &mut Registry, out: &mut Outputs, step: &Step, buffer: u32)
     requires there { has_id registry.old.buffers buffer ≡ true }
     requires channels { (1 ≤ step.now.channels) × (step.now.channels ≤ 8) }
     requires shape { channels_at registry.old buffer ≡ step.now.channels }
@@ -200,7 +188,7 @@ fn drain_from(
         out.new ≡ with_piece step.now.id (frames_out step.now.format (take n (held_frames registry.old buffer)) ++ replicate ((least_by step.now.kind step.now.quota - n) * (step.now.channels * width step.now.format)) 0) out.old }
 {
     let n = step.quota.min(registry.held(buffer));
-    drain_frames(registry, out, scratch, step, buffer, n);
+    drain_frames(registry, out, step, buffer, n);
     let least = least(step.kind, step.quota);
     let frame = usize::from(step.channels) * step.format.width();
     let zeros = least.saturating_sub(n) as usize * frame;

@@ -1,4 +1,5 @@
 mod Places
+pub mod SampleRuns
 pub mod NextBytes
 mod RoundBytes
 mod InputBytes

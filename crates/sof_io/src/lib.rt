@@ -6,6 +6,7 @@ mod inputs;
 mod output;
 mod outputs;
 mod round;
+mod samples;
 
 pub use inputs::Inputs;
 pub use outputs::Outputs;

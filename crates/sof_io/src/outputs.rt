@@ -1,12 +1,13 @@
 // All outputs.
-ghost use Rattle.std.specs.Prelude.{◌≡◌, ◌==◌, ◌<◌, ◌≤◌, [], false, length, nat_eq, slice_get, nat_lt, OnOk, OnErr, Ok, Some, position};
+ghost use Rattle.std.specs.Prelude.{◌≡◌, ◌==◌, ◌+◌, ◌*◌, ◌<◌, ◌≤◌, ◌++◌, [], false, length, nat_eq, slice_get, nat_lt, OnOk, OnErr, Ok, Some, position};
 ghost use Rattle.std.specs.List.Sorted.{IsStrictlyIncreasing};
 ghost use Rattle.sof_base.specs.Ports.{HasRoom, drained};
+ghost use Rattle.sof_base.specs.Samples.{width, frame_out};
 ghost use Rattle.sof_io.specs.Bound.{output_slots, has_slot};
 ghost use Rattle.sof_io.specs.Puts.{with_slot, bytes_at, room_at, with_piece};
 
 use crate::output::Output;
-use sof_base::NoMemory;
+use sof_base::{Format, NoMemory, Sample};
 use std::alloc::Global;
 use std::marker::Model;
 
@@ -100,6 +101,17 @@ impl Outputs {
     {
         if let Some(k) = place_of(self.outputs.as_slice(), slot) {
             self.outputs[k].put(piece);
+        }
+    }
+
+    /// Puts samples, and those behind them, in a format behind a slot's bytes; it has room for theirs. An unknown slot drops them. This
+    /// takes no memory.
+    pub fn put_samples(&mut self, slot: u32, format: Format, front: &[Sample], back: &[Sample])
+        requires { (length front.now + length back.now) * width format ≤ room_at slot self.old }
+        ensures { self.new ≡ with_piece slot (frame_out format (front.now ++ back.now)) self.old }
+    {
+        if let Some(k) = place_of(self.outputs.as_slice(), slot) {
+            self.outputs[k].put_samples(format, front, back);
         }
     }
 

@@ -1,7 +1,7 @@
 use Rattle.std.proofs.Common.{◌≡◌, ◌*◌, take}
 use Rattle.sof_base.specs.declared.format.Format.TheVariants.{S32}
 use Rattle.sof_base.specs.Samples.{frame_out}
-use Rattle.fw_schedule.proofs.samples.write_32.Given as goal
+use Rattle.sof_io.proofs.samples.write_32.Given as goal
 
 abbrev pub invariant-loop-word : goal.invariant-loop-word
 invariant-loop-word l = record {

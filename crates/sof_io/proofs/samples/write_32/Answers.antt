@@ -3,8 +3,8 @@ use Rattle.std.proofs.lemmas.Int.{to_z-of_z}
 use borrow.Rule.Slice.PartMut.{put_mid}
 use Rattle.sof_base.specs.declared.format.Format.TheVariants.{S32}
 use Rattle.sof_base.specs.Samples.{sample_out_of}
-use Rattle.fw_schedule.proofs.SampleRuns.{write-more}
-use Rattle.fw_schedule.proofs.samples.write_32.Goals as goal
+use Rattle.sof_io.proofs.SampleRuns.{write-more}
+use Rattle.sof_io.proofs.samples.write_32.Goals as goal
 
 pub loop-word-preserved : goal.loop-word-preserved
 loop-word-preserved c =

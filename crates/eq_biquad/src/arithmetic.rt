@@ -38,12 +38,12 @@ pub fn inner(section: Section, first: i128, x: Sample) -> Sample
 /// The same from the parts of the first number, for sums that do not fit or are held. They are few.
 #[cold]
 #[inline(never)]
-fn inner_again(section: &Section, near: Near, x: Sample) -> i64
-    requires { nat_abs (near.ahead +ℤ near.fed) < 7 * 2 ^ 61 }
-    ensures inner { (first : ℤ) → near.ahead +ℤ near.fed ≡ first +ℤ pos 536870912 → result ≡ next_inner (law_section section.now) first x }
+fn inner_again(section: &Section, ahead: i64, fed: i64, x: Sample) -> i64
+    requires { nat_abs (ahead +ℤ fed) < 7 * 2 ^ 61 }
+    ensures inner { (first : ℤ) → ahead +ℤ fed ≡ first +ℤ pos 536870912 → result ≡ next_inner (law_section section.now) first x }
     ensures held { FitsSigned w32 result }
 {
-    let first = i128::from(near.ahead) + i128::from(near.fed) - 536870912;
+    let first = i128::from(ahead) + i128::from(fed) - 536870912;
     i64::from(inner(*section, first, x))
 }
 
@@ -72,21 +72,19 @@ fn size(a: i32) -> u64
     u64::from(a.unsigned_abs())
 }
 
-/// The next inner value of a section, from the parts of its first number and its input.
-pub fn inner_near(section: &Section, near: Near, x: Sample) -> i64
-    requires { nat_abs (near.ahead +ℤ near.fed) + nat_abs section.now.b0 * 2 ^ 31 < 7 * 2 ^ 61 }
-    ensures inner { (first : ℤ) → near.ahead +ℤ near.fed ≡ first +ℤ pos 536870912 → result ≡ next_inner (law_section section.now) first x }
+/// The next inner value of a section, from the two parts of its first number and its input.
+pub fn inner_near(section: &Section, ahead: i64, fed: i64, x: Sample) -> i64
+    requires { nat_abs (ahead +ℤ fed) + nat_abs section.now.b0 * 2 ^ 31 < 7 * 2 ^ 61 }
+    ensures inner { (first : ℤ) → ahead +ℤ fed ≡ first +ℤ pos 536870912 → result ≡ next_inner (law_section section.now) first x }
     ensures held { FitsSigned w32 result }
 {
     // A sum of that size that does not fit in 64 bits wraps to one that is not within 2^61.
-    let sum = times(section.b0, x)
-        .wrapping_add(near.ahead)
-        .wrapping_add(near.fed);
+    let sum = times(section.b0, x).wrapping_add(ahead).wrapping_add(fed);
     let w = sum >> 30;
     if -2147483648 <= w && w <= 2147483647 {
         w
     } else {
-        inner_again(section, near, x)
+        inner_again(section, ahead, fed, x)
     }
 }
 

@@ -118,7 +118,7 @@ fn pass_narrow(section: &Section, numbers: Numbers, samples: &mut [Sample], at: 
     for frame in 0..at.frames {
         let place = frame * at.channels + at.channel;
         let x = samples[place];
-        let w = inner_near(section, near, x);
+        let w = inner_near(section, near.ahead, near.fed, x);
         samples[place] = scaled(w as i32, copy.gain, bits);
         near = next_near(copy, near.second, x, w);
     }

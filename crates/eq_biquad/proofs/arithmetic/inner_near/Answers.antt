@@ -1,4 +1,4 @@
-use Rattle.std.proofs.Common.{◌≡◌, ap, ◌∙◌, arith, rules, ℕ, ◌+◌, ◌*◌, ◌^◌, ◌<◌, ◌≤◌, ℤ, pos, ◌+ℤ◌, ◌*ℤ◌, nat_abs, w32, w64, FitsSigned}
+use Rattle.std.proofs.Common.{◌≡◌, ap, sym, subst, ◌∙◌, arith, rules, ℕ, ◌+◌, ◌*◌, ◌^◌, ◌<◌, ◌≤◌, ℤ, pos, ◌+ℤ◌, ◌*ℤ◌, nat_abs, w32, w64, FitsSigned, to_z, of_z}
 use Rattle.std.specs.Int.{int_div_euclid}
 use Rattle.std.proofs.lemmas.Int.{ints, to_z-of_z}
 use Rattle.sof_base.specs.Samples.{sat}
@@ -14,19 +14,23 @@ same-sum : (p a f b first : ℤ) → p ≡ b → a +ℤ f ≡ first +ℤ pos 536
 same-sum p a f b first is parts = omega (arith, ints, is, parts)
 
 pub inner_again-requires : goal.inner_again-requires
-inner_again-requires c = omega (arith, c.requires)
+inner_again-requires c =
+    let same : to_z w64 (of_z w64 c.args.ahead) +ℤ to_z w64 (of_z w64 c.args.fed) ≡ c.args.ahead +ℤ c.args.fed = λ i. to_z-of_z w64 c.args.ahead c.ranges.ahead i +ℤ to_z-of_z w64 c.args.fed c.ranges.fed i in
+    subst (λ z. nat_abs z < 7 * 2 ^ 61) (sym same) (omega (arith, c.requires))
 
 pub returns-then-w-le2147483647-clause-inner : goal.returns-then-w-le2147483647-clause-inner
 returns-then-w-le2147483647-clause-inner c = λ first parts.
-    let p = c.times.result in let near = c.args.near in
+    let p = c.times.result in let ahead = c.args.ahead in let fed = c.args.fed in
     let fit_b0 : FitsSigned w32 c.args.section.now.b0 = search rules in
     let is : p ≡ c.args.section.now.b0 *ℤ c.args.x = search rules in
     let low = product-within c.args.section.now.b0 c.args.x p is c.ranges.x in
-    let fit_ahead : FitsSigned w64 near.ahead = search rules in
-    let fit_fed : FitsSigned w64 near.fed = search rules in
-    let held : FitsSigned w32 (shifted p near.ahead near.fed) = search rules in
-    near-inner p near.ahead near.fed (fits p (omega (arith, c.times.ensures.within))) fit_ahead fit_fed (sum-within p near.ahead near.fed (nat_abs c.args.section.now.b0 * 2 ^ 31) (7 * 2 ^ 61) low c.requires) held
-    ∙ ap (λ z. sat 32 (int_div_euclid z (pos 1073741824))) (same-sum p near.ahead near.fed (c.args.section.now.b0 *ℤ c.args.x) first is parts)
+    let fit_ahead : FitsSigned w64 ahead = search rules in
+    let fit_fed : FitsSigned w64 fed = search rules in
+    let held : FitsSigned w32 (shifted p ahead fed) = search rules in
+    near-inner p ahead fed (fits p (omega (arith, c.times.ensures.within))) fit_ahead fit_fed (sum-within p ahead fed (nat_abs c.args.section.now.b0 * 2 ^ 31) (7 * 2 ^ 61) low c.requires) held
+    ∙ ap (λ z. sat 32 (int_div_euclid z (pos 1073741824))) (same-sum p ahead fed (c.args.section.now.b0 *ℤ c.args.x) first is parts)
 
 pub returns-else-w-geminus2147483648-clause-inner : goal.returns-else-w-geminus2147483648-clause-inner
-returns-else-w-geminus2147483648-clause-inner c = λ first parts. wider c.inner_again.result c.inner_again.ensures.held ∙ c.inner_again.ensures.inner first parts ∙ ap (next_inner (law_section c.args.section.now) first) (to_z-of_z w32 c.args.x c.ranges.x)
+returns-else-w-geminus2147483648-clause-inner c = λ first parts.
+    let same : to_z w64 (of_z w64 c.args.ahead) +ℤ to_z w64 (of_z w64 c.args.fed) ≡ c.args.ahead +ℤ c.args.fed = λ i. to_z-of_z w64 c.args.ahead c.ranges.ahead i +ℤ to_z-of_z w64 c.args.fed c.ranges.fed i in
+    wider c.inner_again.result c.inner_again.ensures.held ∙ c.inner_again.ensures.inner first (same ∙ parts) ∙ ap (next_inner (law_section c.args.section.now) first) (to_z-of_z w32 c.args.x c.ranges.x)

@@ -81,9 +81,9 @@ fn feed_some(
     ensures inputs { io.new ≡ input_taken step.now.id (n * (step.now.channels * width step.now.format)) io.old }
 {
     let size = n as usize * usize::from(step.channels) * step.format.width();
-    let given = &mut scratch.bytes[..size];
-    io.take(step.id, given);
+    let given = io.peek(step.id, &mut scratch.bytes[..size]);
     registry.push_bytes(buffer, step.format, n, given);
+    io.skip(step.id, size);
 }
 
 /// A buffer gives `n` frames to the output of a step.

@@ -98,11 +98,39 @@ impl Input {
         ensures moved { self.new ≡ after_input (length out.old) self.old }
         ensures bytes { out.new ≡ next_bytes (length out.old) self.old.left }
     {
+        self.copy(out);
+        self.skip(out.len());
+    }
+
+    /// The next bytes, as many as `room` has: where they lie, if they lie in one piece, and else copied into `room`, with zeros past
+    /// the end.
+    pub fn peek<'a>(&'a self, room: &'a mut [u8]) -> &'a [u8]
+        ensures { result.now ≡ next_bytes (length room.old) self.now.left }
+    {
+        let n = room.len();
+        if n <= self.held && n <= self.bytes.len() - self.start {
+            return &self.bytes.as_slice()[self.start..self.start + n];
+        }
+        self.copy(room);
+        room
+    }
+
+    /// Moves on by `n` bytes.
+    pub fn skip(&mut self, n: usize)
+        ensures { self.new ≡ after_input n self.old }
+    {
+        let count = self.held.min(n);
+        self.start = after(self.bytes.len(), self.start, count);
+        self.held -= count;
+        self.position = self.position.saturating_add(n);
+    }
+
+    // Fills `out` with the next bytes, and with zeros past the end.
+    fn copy(&self, out: &mut [u8])
+        ensures { out.new ≡ next_bytes (length out.old) self.now.left }
+    {
         let count = self.held.min(out.len());
         copy_out(self.bytes.as_slice(), self.start, &mut out[..count]);
         out[count..].fill(0);
-        self.start = after(self.bytes.len(), self.start, count);
-        self.held -= count;
-        self.position = self.position.saturating_add(out.len());
     }
 }

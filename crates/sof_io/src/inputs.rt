@@ -142,6 +142,29 @@ impl Inputs {
             None => out.fill(0),
         }
     }
+
+    /// The next bytes of a slot, as many as `room` has: where they lie, if they lie in one piece, and else in `room`. Past the end, and
+    /// for an unknown slot, the bytes are zeros. Nothing is taken yet.
+    pub fn peek<'a>(&'a self, slot: u32, room: &'a mut [u8]) -> &'a [u8]
+        ensures { result.now ≡ bytes_given slot (length room.old) self.now }
+    {
+        match place_of(self.inputs.as_slice(), slot) {
+            Some(k) => self.inputs[k].peek(room),
+            None => {
+                room.fill(0);
+                room
+            }
+        }
+    }
+
+    /// Moves on by `n` bytes of a slot, as where they are taken. This takes no memory.
+    pub fn skip(&mut self, slot: u32, n: usize)
+        ensures { self.new ≡ taken slot n self.old }
+    {
+        if let Some(k) = place_of(self.inputs.as_slice(), slot) {
+            self.inputs[k].skip(n);
+        }
+    }
 }
 
 // The place of a slot among the inputs.

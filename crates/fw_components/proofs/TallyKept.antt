@@ -1,21 +1,27 @@
 -- Which changes keep the numbers of a registry.
-use Rattle.std.proofs.Common.{◌≡◌, refl, ℕ, ℤ, List, Bool, true, false, cond, map, ◌==◌}
+use Rattle.std.proofs.Common.{◌≡◌, refl, sym, ap, ◌∙◌, ℕ, ℤ, List, [], ◌∷◌, Bool, true, false, cond, map, filter, length, ◌==◌, ◌&&◌, Option}
+use Rattle.std.proofs.lemmas.Bool.{or_parts, or_from}
+use Rattle.std.specs.List.{list_any}
 use Rattle.sof_base.specs.Samples.{Frame}
+use Rattle.sof_base.specs.declared.format.Params.{Params}
+use Rattle.stream_law.specs.declared.graph.Join.{Join}
 use Rattle.stream_law.specs.declared.stream.Phase.{Phase}
 use Rattle.stream_law.specs.Order.{is_among}
+use Rattle.stream_law.specs.Ways.{is_capture, is_running_phase, is_live_phase}
+use Rattle.fw_places.specs.Walks.{leads_by}
 use Rattle.sof_base.specs.declared.part.Part.{Part}
 use Rattle.fw_components.specs.declared.component.Component.{Component}
 use Rattle.fw_components.specs.declared.component.Unit as units
 use Rattle.fw_components.specs.declared.component.Unit.TheVariants.{Host, Dai, Volume, Mixer, Mux, Eq, Buffer, Pipeline}
 use Rattle.fw_components.specs.Tables.{Tables, kind_by}
-use Rattle.fw_components.specs.Changes.{with_ended, ended_unit}
+use Rattle.fw_components.specs.Changes.{with_ended, ended_unit, set_at, set_unit}
 use Rattle.fw_components.specs.Frames.{begun_at, begun_by, begun_unit, pushed_at, pushed_by, taken_at, taken_by}
 use Rattle.fw_components.specs.Parts.{parted_at, parted_by, parted_unit}
 use Rattle.fw_components.specs.Processed.{drained_at, run_at, run_by, run_unit}
 use Rattle.fw_components.specs.Values.{valued_at, valued_unit}
 use Rattle.fw_components.specs.Kept.{IsKept}
-use Rattle.fw_components.specs.Tally.{IsTallied, has_phase}
-use Rattle.fw_components.proofs.Tallying.{comps-tallied, buffers-tallied}
+use Rattle.fw_components.specs.Tally.{IsTallied, has_phase, passes, with_one}
+use Rattle.fw_components.proofs.Tallying.{counted, phase-live, runs-live, comps-tallied, counts-tallied, buffers-tallied}
 
 -- ---- each change keeps streams and kinds
 
@@ -118,6 +124,57 @@ drained-id looked n c = by (is_among looked c.id)
     by true = refl
     by false = refl
 
+-- ---- a stream that is in no such phase, before nor after
+
+-- a component of this id is a host in such a phase
+abbrev is-in : (Phase → Bool) → ℕ → Component → Bool
+is-in is id c = c.id == id && has_phase is c.unit
+
+set-none : (is : Phase → Bool) (phase : Phase) (params : Option Params) → is phase ≡ false → (u : units.Unit) → has_phase is (set_unit phase params u) ≡ false
+set-none is phase params none (Host capture was before piece) = none
+set-none is phase params none (Dai capture format piece) = refl
+set-none is phase params none (Volume gains piece) = refl
+set-none is phase params none (Mixer piece) = refl
+set-none is phase params none (Mux choice piece) = refl
+set-none is phase params none (Eq eq next remaining) = refl
+set-none is phase params none (Buffer size ring source sink) = refl
+set-none is phase params none (Pipeline sched period complete piece) = refl
+
+module _ (is : Phase → Bool) (id : ℕ) (phase : Phase) (params : Option Params) (none : is phase ≡ false) (joins : List Join) (x : ℕ) where
+  set-passes : (c : Component) → is-in is id c ≡ false → passes is joins x (set_at id phase params c) ≡ passes is joins x c
+  set-passes c out = by (c.id == id) out
+    where
+      set : Component
+      set = record { id = c.id; pipe = c.pipe; channels = c.channels; unit = set_unit phase params c.unit }
+
+      by : (h : Bool) → (h && has_phase is c.unit) ≡ false → passes is joins x (cond {A = Component} h set c) ≡ passes is joins x c
+      by true none_now =
+          ap (λ h. h && leads_by (is_capture (kind_by set.unit)) joins c.id x) (set-none is phase params none c.unit)
+          ∙ sym (ap (λ h. h && leads_by (is_capture (kind_by c.unit)) joins c.id x) none_now)
+      by false any = refl
+
+  set-counted : (cs : List Component) → list_any (is-in is id) cs ≡ false → length (filter (passes is joins x) (map (set_at id phase params) cs)) ≡ length (filter (passes is joins x) cs)
+  set-counted [] out = refl
+  set-counted (c ∷ cs) out =
+      let parts = or_parts (is-in is id c) (list_any (is-in is id) cs) out in
+      counted (passes is joins x) (set_at id phase params c) (map (set_at id phase params) cs)
+      ∙ ap (λ (a : Bool × ℕ). with_one a.0 a.1) (λ i. (set-passes c parts.0 i, set-counted cs parts.1 i))
+      ∙ sym (counted (passes is joins x) c cs)
+
+-- what is not Live is not Running
+in-live : (id : ℕ) (c : Component) → is-in is_live_phase id c ≡ false → is-in is_running_phase id c ≡ false
+in-live id c out = by (c.id == id) out
+  where
+    by : (h : Bool) → (h && has_phase is_live_phase c.unit) ≡ false → (h && has_phase is_running_phase c.unit) ≡ false
+    by true none = runs-live c.unit none
+    by false none = refl
+
+any-live : (id : ℕ) (cs : List Component) → list_any (is-in is_live_phase id) cs ≡ false → list_any (is-in is_running_phase id) cs ≡ false
+any-live id [] out = refl
+any-live id (c ∷ cs) out =
+    let parts = or_parts (is-in is_live_phase id c) (list_any (is-in is_live_phase id) cs) out in
+    or_from (is-in is_running_phase id c) (list_any (is-in is_running_phase id) cs) (in-live id c parts.0) (any-live id cs parts.1)
+
 -- ---- the tables after a change
 
 module _ (t : Tables) (kept : IsKept t) (running live : List ℕ) (tied : IsTallied t running live) (id : ℕ) where
@@ -160,3 +217,9 @@ module _ (t : Tables) (kept : IsKept t) (running live : List ℕ) (tied : IsTall
       let drained = map (drained_at looked n) t.buffers in
       let two = buffers-tallied (record { comps = comps; buffers = t.buffers; pipes = t.pipes; joins = t.joins }) now.named.comps running live one (drained_at looked n) drained refl (drained-id looked n) in
       buffers-tallied (record { comps = comps; buffers = drained; pipes = t.pipes; joins = t.joins }) now.named.comps running live two (pushed_at fed frames v) buffers moved (at-same (λ c. c.id) (pushed_by frames v) (λ c. refl) fed)
+
+  pub set-tallied : (phase : Phase) (params : Option Params) → is_live_phase phase ≡ false → list_any (is-in is_live_phase id) t.comps ≡ false → (new : List Component) → new ≡ map (set_at id phase params) t.comps → IsKept (record { comps = new; buffers = t.buffers; pipes = t.pipes; joins = t.joins }) → IsTallied (record { comps = new; buffers = t.buffers; pipes = t.pipes; joins = t.joins }) running live
+  set-tallied phase params none out new is now = counts-tallied t kept.named.comps running live tied (set_at id phase params) new is now.named.comps
+      (at-same (λ c. c.id) (with_unit (set_unit phase params)) (λ c. refl) id)
+      (λ x. set-counted is_running_phase id phase params (phase-live phase none) t.joins x t.comps (any-live id t.comps out))
+      (λ x. set-counted is_live_phase id phase params none t.joins x t.comps out)

@@ -22,7 +22,7 @@ use Rattle.fw_components.proofs.Listed.{ids-are}
 
 -- ---- how many of a list pass
 
-counted : {X : Type 0} (p : X → Bool) (x : X) (xs : List X) → length (filter p (x ∷ xs)) ≡ with_one (p x) (length (filter p xs))
+pub counted : {X : Type 0} (p : X → Bool) (x : X) (xs : List X) → length (filter p (x ∷ xs)) ≡ with_one (p x) (length (filter p xs))
 counted {X} p x xs = by (p x)
   where
     by : (h : Bool) → length (cond h (x ∷ filter p xs) (filter p xs)) ≡ with_one h (length (filter p xs))
@@ -93,14 +93,14 @@ passing-is is t up x = streams-counted (λ s. is s.phase && on_way (graph_of t) 
 -- ---- one host
 
 -- what is Running is Live
+pub phase-live : (phase : Phase) → is_live_phase phase ≡ false → is_running_phase phase ≡ false
+phase-live phases.Idle none = refl
+phase-live phases.Prepared none = refl
+phase-live phases.Running none = none
+phase-live phases.Paused none = refl
+
 pub runs-live : (unit : units.Unit) → has_phase is_live_phase unit ≡ false → has_phase is_running_phase unit ≡ false
-runs-live (Host capture phase params piece) none = by phase none
-  where
-    by : (f : Phase) → is_live_phase f ≡ false → is_running_phase f ≡ false
-    by phases.Idle none = refl
-    by phases.Prepared none = refl
-    by phases.Running none = none
-    by phases.Paused none = refl
+runs-live (Host capture phase params piece) none = phase-live phase none
 runs-live (Dai capture format piece) none = refl
 runs-live (Volume gains piece) none = refl
 runs-live (Mixer piece) none = refl
@@ -169,30 +169,46 @@ same-ids : (t u : Tables) → map (λ c. c.id) u.comps ≡ map (λ c. c.id) t.co
 same-ids t u comps buffers = sym (ids-are u _ refl) ∙ ap (λ (a : List ℕ × List ℕ). a.0 ++ a.1) (λ i. (comps i, buffers i)) ∙ ids-are t _ refl
 
 module _ (t : Tables) (up : Ascends (λ c. c.id) t.comps) (running live : List ℕ) (tied : IsTallied t running live) where
+  -- as many hosts in such a phase that have x on their way
+  abbrev AsMany : (Phase → Bool) → Tables → Type 0
+  AsMany is u = (x : ℕ) → length (filter (passes is t.joins x) u.comps) ≡ length (filter (passes is t.joins x) t.comps)
+
   -- the same components and buffers, joins and streams
-  still : (u : Tables) → Ascends (λ c. c.id) u.comps → ids_of u ≡ ids_of t → u.joins ≡ t.joins → ((is : Phase → Bool) (x : ℕ) → length (filter (passes is t.joins x) u.comps) ≡ length (filter (passes is t.joins x) t.comps)) → IsTallied u running live
-  still u high named along same = record {
-    runs = by is_running_phase running tied.runs;
-    lives = by is_live_phase live tied.lives;
+  still : (u : Tables) → Ascends (λ c. c.id) u.comps → ids_of u ≡ ids_of t → u.joins ≡ t.joins → AsMany is_running_phase u → AsMany is_live_phase u → IsTallied u running live
+  still u high named along same_running same_live = record {
+    runs = by is_running_phase running same_running tied.runs;
+    lives = by is_live_phase live same_live tied.lives;
   }
     where
-      by : (is : Phase → Bool) (tally : List ℕ) → ((x : ℕ) → is_listed (ids_of t) x ≡ true → get_or tally (place_in (ids_of t) x) 0 ≡ passing is t x) → (x : ℕ) → is_listed (ids_of u) x ≡ true → get_or tally (place_in (ids_of u) x) 0 ≡ passing is u x
-      by is tally tells x there =
+      by : (is : Phase → Bool) (tally : List ℕ) → AsMany is u → ((x : ℕ) → is_listed (ids_of t) x ≡ true → get_or tally (place_in (ids_of t) x) 0 ≡ passing is t x) → (x : ℕ) → is_listed (ids_of u) x ≡ true → get_or tally (place_in (ids_of u) x) 0 ≡ passing is u x
+      by is tally same tells x there =
           ap (λ (xs : List ℕ). get_or tally (place_in xs x) 0) named
           ∙ tells x (ap (λ (xs : List ℕ). is_listed xs x) (sym named) ∙ there)
           ∙ passing-is is t up x
-          ∙ sym (same is x)
+          ∙ sym (same x)
           ∙ ap (λ (js : List Join). length (filter (passes is js x) u.comps)) (sym along)
           ∙ sym (passing-is is u high x)
+
+  -- components that keep their ids, and as many of them pass
+  pub counts-tallied : (change : Component → Component) (new : List Component) → new ≡ map change t.comps → Ascends (λ c. c.id) new
+      → ((c : Component) → (change c).id ≡ c.id)
+      → ((x : ℕ) → length (filter (passes is_running_phase t.joins x) (map change t.comps)) ≡ length (filter (passes is_running_phase t.joins x) t.comps))
+      → ((x : ℕ) → length (filter (passes is_live_phase t.joins x) (map change t.comps)) ≡ length (filter (passes is_live_phase t.joins x) t.comps))
+      → IsTallied (record { comps = new; buffers = t.buffers; pipes = t.pipes; joins = t.joins }) running live
+  counts-tallied change new is high ids runs lives = still (record { comps = new; buffers = t.buffers; pipes = t.pipes; joins = t.joins }) high
+      (same-ids t (record { comps = new; buffers = t.buffers; pipes = t.pipes; joins = t.joins }) (ap (map (λ c. c.id)) is ∙ map-ids change ids t.comps) refl)
+      refl
+      (λ x. ap (λ (cs : List Component). length (filter (passes is_running_phase t.joins x) cs)) is ∙ runs x)
+      (λ x. ap (λ (cs : List Component). length (filter (passes is_live_phase t.joins x) cs)) is ∙ lives x)
 
   -- components that keep their ids, their kinds and their streams
   pub comps-tallied : (change : Component → Component) (new : List Component) → new ≡ map change t.comps → Ascends (λ c. c.id) new
       → ((c : Component) → (change c).id ≡ c.id) → ((is : Phase → Bool) (c : Component) → has_phase is (change c).unit ≡ has_phase is c.unit) → ((c : Component) → kind_by (change c).unit ≡ kind_by c.unit)
       → IsTallied (record { comps = new; buffers = t.buffers; pipes = t.pipes; joins = t.joins }) running live
-  comps-tallied change new is high ids phases kinds = still (record { comps = new; buffers = t.buffers; pipes = t.pipes; joins = t.joins }) high
-      (same-ids t (record { comps = new; buffers = t.buffers; pipes = t.pipes; joins = t.joins }) (ap (map (λ c. c.id)) is ∙ map-ids change ids t.comps) refl)
-      refl
-      (λ f x. ap (λ (cs : List Component). length (filter (passes f t.joins x) cs)) is ∙ map-counted (passes f t.joins x) change (λ c. ap (λ (a : Bool × Kind × ℕ). a.0 && leads_by (is_capture a.1) t.joins a.2 x) (λ i. (phases f c i, kinds c i, ids c i))) t.comps)
+  comps-tallied change new is high ids phases kinds = counts-tallied change new is high ids (same is_running_phase) (same is_live_phase)
+    where
+      same : (f : Phase → Bool) (x : ℕ) → length (filter (passes f t.joins x) (map change t.comps)) ≡ length (filter (passes f t.joins x) t.comps)
+      same f x = map-counted (passes f t.joins x) change (λ c. ap (λ (a : Bool × Kind × ℕ). a.0 && leads_by (is_capture a.1) t.joins a.2 x) (λ i. (phases f c i, kinds c i, ids c i))) t.comps
 
   -- buffers that keep their ids
   pub buffers-tallied : (change : Component → Component) (new : List Component) → new ≡ map change t.buffers → ((c : Component) → (change c).id ≡ c.id)
@@ -200,10 +216,11 @@ module _ (t : Tables) (up : Ascends (λ c. c.id) t.comps) (running live : List �
   buffers-tallied change new is ids = still (record { comps = t.comps; buffers = new; pipes = t.pipes; joins = t.joins }) up
       (same-ids t (record { comps = t.comps; buffers = new; pipes = t.pipes; joins = t.joins }) refl (ap (map (λ c. c.id)) is ∙ map-ids change ids t.buffers))
       refl
-      (λ f x. refl)
+      (λ x. refl)
+      (λ x. refl)
 
   pub pipes-tallied : (new : List Component) → IsTallied (record { comps = t.comps; buffers = t.buffers; pipes = new; joins = t.joins }) running live
-  pipes-tallied new = still (record { comps = t.comps; buffers = t.buffers; pipes = new; joins = t.joins }) up refl refl (λ f x. refl)
+  pipes-tallied new = still (record { comps = t.comps; buffers = t.buffers; pipes = new; joins = t.joins }) up refl refl (λ x. refl) (λ x. refl)
 
 -- the same graph and streams
 pub seen-tallied : (t u : Tables) (running live : List ℕ) → graph_of u ≡ graph_of t → streams_of u ≡ streams_of t → IsTallied t running live → IsTallied u running live

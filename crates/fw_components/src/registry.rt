@@ -14,7 +14,7 @@ use crate::hints::Hints;
 use crate::table::{
     complete_in, end_in, give_all, join_in, place, place_of, set_stream_in, take_at, value_in,
 };
-use crate::tallies::Tallies;
+use crate::tallies::{Tallies, counts, is_counted};
 use crate::workspace::Workspace;
 use fw_heap::Region;
 use sof_base::{Bounded, Errno, NoMemory, Params};
@@ -196,7 +196,11 @@ impl Registry {
         requires stream { IsStreamOf (is_idle_phase phase) params }
         ensures { self.new ≡ record { comps = map (set_at host phase params) self.old.comps; buffers = self.old.buffers; pipes = self.old.pipes; joins = self.old.joins } }
     {
+        let was_counted = is_counted(self.comps.as_slice(), host);
         set_stream_in(&mut self.comps, host, phase, params);
+        if !was_counted && !counts(phase) {
+            return;
+        }
         self.tallies
             .recount(&self.comps, &self.buffers, &self.joins);
     }

@@ -1,5 +1,5 @@
 // How many streams have each component and buffer on their way.
-ghost use Rattle.std.specs.Prelude.{◌≡◌, ◌<◌, ◌≤◌, ◌+◌, ℕ, List, true, false, filter, length, slice_index_or};
+ghost use Rattle.std.specs.Prelude.{◌≡◌, ◌==◌, ◌&&◌, ◌<◌, ◌≤◌, ◌+◌, ℕ, List, true, false, filter, length, slice_index_or};
 ghost use Rattle.std.specs.List.{list_any};
 ghost use Rattle.stream_law.specs.Ways.{is_running_phase, is_live_phase, is_capture};
 ghost use Rattle.fw_places.specs.Walks.{is_listed, place_in};
@@ -41,6 +41,22 @@ impl Tallies {
         let places = places_of(comps, buffers, joins);
         count_all(comps, &places, &mut self.running, &mut self.live);
     }
+}
+
+/// Whether a component of this id is a host whose stream is Running or Paused.
+pub(crate) fn is_counted(comps: &[Component], id: u32) -> bool
+    ensures { result ≡ list_any (λ c. c.id == id && has_phase is_live_phase c.unit) comps.now }
+{
+    comps
+        .iter()
+        .any(|comp| comp.id == id && is_live(&comp.unit))
+}
+
+/// Whether a phase is Running or Paused.
+pub(crate) fn counts(phase: Phase) -> bool
+    ensures { result ≡ is_live_phase phase }
+{
+    matches!(phase, Phase::Running | Phase::Paused)
 }
 
 // Whether a stream is Running or Paused.
@@ -103,7 +119,7 @@ fn is_live(unit: &Unit) -> bool
     ensures { result ≡ has_phase is_live_phase unit.now }
 {
     match unit {
-        Unit::Host { phase, .. } => matches!(phase, Phase::Running | Phase::Paused),
+        Unit::Host { phase, .. } => counts(*phase),
         Unit::Dai { .. } => false,
         Unit::Volume { .. } => false,
         Unit::Mixer { .. } => false,

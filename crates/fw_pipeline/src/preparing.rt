@@ -107,25 +107,29 @@ fn is_way_ready(registry: &Registry, places: &Places, host: u32) -> bool
     requires { IsChartOf registry.now places.now }
     ensures { result ≡ has_ready_way (graph_of registry.now) host }
 {
-    has_ready_comps(registry, places, host) && has_ready_buffers(registry, places, host)
+    let marks = way(registry, places, host);
+    has_ready_comps(registry, places, host, &marks)
+        && has_ready_buffers(registry, places, host, &marks)
 }
 
-// Whether all components on its way are.
-fn has_ready_comps(registry: &Registry, places: &Places, host: u32) -> bool
-    requires { IsChartOf registry.now places.now }
+// Whether all components on its way, which is marked, are.
+fn has_ready_comps(registry: &Registry, places: &Places, host: u32, marks: &[bool]) -> bool
+    requires chart { IsChartOf registry.now places.now }
+    requires size { length marks.now ≡ 257 }
+    requires marked { (x : ℕ) → is_listed places.now.ids x ≡ true → is_marked places.now.ids marks.now x ≡ on_way (graph_of registry.now) host x }
     ensures { result ≡ list_all (λ c. not (on_way (graph_of registry.now) host c.id) || is_ready (graph_of registry.now) c) (graph_of registry.now).comps }
 {
-    let marks = way(registry, places, host);
-    are_comps_ready(registry, registry.comps(), places, &marks)
+    are_comps_ready(registry, registry.comps(), places, marks)
 }
 
-// Whether all buffers on its way are.
-fn has_ready_buffers(registry: &Registry, places: &Places, host: u32) -> bool
-    requires { IsChartOf registry.now places.now }
+// Whether all buffers on its way, which is marked, are.
+fn has_ready_buffers(registry: &Registry, places: &Places, host: u32, marks: &[bool]) -> bool
+    requires chart { IsChartOf registry.now places.now }
+    requires size { length marks.now ≡ 257 }
+    requires marked { (x : ℕ) → is_listed places.now.ids x ≡ true → is_marked places.now.ids marks.now x ≡ on_way (graph_of registry.now) host x }
     ensures { result ≡ list_all (λ e. not (on_way (graph_of registry.now) host e.buffer) || is_edge_ready (graph_of registry.now) e) (graph_of registry.now).edges }
 {
-    let marks = way(registry, places, host);
-    are_buffers_ready(registry, registry.buffers(), places, &marks)
+    are_buffers_ready(registry, registry.buffers(), places, marks)
 }
 
 // Whether each of these components that is marked is ready.

@@ -1,14 +1,15 @@
 -- A chart of ids and joins.
-use Rattle.std.proofs.Common.{◌≡◌, refl, sym, ap, ◌∙◌, subst, ℕ, zero, suc, drop, ◌+◌, ◌≤◌, ◌<◌, List, [], ◌∷◌, Bool, true, false, length, map, take, get_or, replicate, set, ◌==◌, ◌&&◌, ◌||◌, Some, None, not, cond, ◌≢◌, arith, get_or-set_other, get_or-set_same}
-use Rattle.std.proofs.lemmas.Bool.{true≢false, false≢true, and_parts, and_from, eqb-true, eq-eqb, ltb-false, false_from_ne_true}
+use Rattle.std.proofs.Common.{◌≡◌, refl, sym, ap, ◌∙◌, subst, ℕ, zero, suc, drop, ◌+◌, ◌≤◌, ◌<◌, ◌%◌, ltb, List, [], ◌∷◌, Bool, true, false, length, map, take, get_or, replicate, set, ◌==◌, ◌&&◌, ◌||◌, Some, None, not, cond, ◌≢◌, arith, get_or-set_other, get_or-set_same}
+use Rattle.std.proofs.lemmas.Bool.{true≢false, false≢true, and_parts, and_from, eqb-true, eq-eqb, ltb-true, ltb-false, false_from_ne_true}
 use Rattle.std.proofs.lemmas.List.{get_or-replicate, length-replicate}
+use Rattle.std.proofs.lemmas.List.Sums.{fails_before_first}
 use Rattle.std.specs.Prelude.{position, unwrap_or, nat_lt}
 use Rattle.std.specs.List.{AllByRecursion}
 use Rattle.stream_law.specs.declared.graph.Join.{Join}
 use Rattle.stream_law.proofs.Members.{IsIn, in-all, in-each, in-any, any-in}
 use Rattle.fw_places.specs.Walks.{is_listed, place_in, by_places, near_of, far_of, IsListed, IsWithin, IsClosed, leads_by, is_marked, is_reached}
 use Rattle.fw_places.specs.Charts.{by_ids, IsChart}
-use Rattle.fw_places.proofs.Reaching.{at-place, reach-closed, both-true, mapped}
+use Rattle.fw_places.proofs.Reaching.{at-place, in-at, reach-closed, both-true, mapped}
 
 -- ---- joins there and back
 
@@ -103,6 +104,23 @@ place-is ids x = by (nat_lt (place_in ids x) (length ids)) refl
     by : (h : Bool) → nat_lt (place_in ids x) (length ids) ≡ h → unwrap_or (cond h (Some (place_in ids x)) None) (length ids) ≡ place_in ids x
     by true e = refl
     by false e = let past : length ids ≤ place_in ids x = ltb-false (place_in ids x) (length ids) e in omega (arith, past, place-most ids x)
+
+-- a place of an id is its first where no id that ends so stands before
+pub noted-first : (ids firsts : List ℕ) → ((k : ℕ) → k < length ids → get_or firsts (get_or ids k 0 % 256) 0 ≤ k) → (x first : ℕ) → first ≡ get_or firsts (x % 256) 0 → first < length ids → get_or ids first 0 ≡ x → first ≡ place_in ids x
+noted-first ids firsts noted x first is low here = omega (arith, no_later, no_earlier)
+  where
+    at : (place_in ids x < length ids) × (get_or ids (place_in ids x) 0 ≡ x)
+    at = at-place ids x (in-any (λ y. y == x) ids (get_or ids first 0) (in-at ids first low) (eq-eqb (get_or ids first 0) x here))
+
+    no_later : first ≤ place_in ids x
+    no_later = omega (arith, is, ap (λ n. get_or firsts (n % 256) 0) at.1, noted (place_in ids x) at.0)
+
+    no_earlier : place_in ids x ≤ first
+    no_earlier = by (ltb first (place_in ids x)) refl
+      where
+        by : (h : Bool) → ltb first (place_in ids x) ≡ h → place_in ids x ≤ first
+        by true before = absurd (true≢false (sym (eq-eqb (get_or ids first 0) x here) ∙ fails_before_first (λ y. y == x) ids first 0 (ltb-true first (place_in ids x) before)))
+        by false after = ltb-false first (place_in ids x) after
 
 -- one more is written
 pub written-more : {X Y : Type 0} (f : X → Y) (xs : List X) (ys : List Y) (i : ℕ) (y : Y) (d : X) → i < length xs → i < length ys → take i ys ≡ map f (take i xs) → y ≡ f (get_or xs i d) → take (suc i) (set ys i y) ≡ map f (take (suc i) xs)

@@ -21,7 +21,7 @@ at-place (y ∷ ids) x there = by (y == x) refl there (at-place ids x)
     by true is there rest = subst stands (sym is) (omega arith, eqb-true y x is)
     by false is there rest = let r = rest there in let e : suc (place_in ids x) ≡ 1 + place_in ids x = omega arith in subst stands (sym is) (omega (arith, r.0), subst (λ (k : ℕ). get_or (y ∷ ids) k 0 ≡ x) e r.1)
 
-in-at : (ids : List ℕ) (k : ℕ) → k < length ids → IsIn (get_or ids k 0) ids
+pub in-at : (ids : List ℕ) (k : ℕ) → k < length ids → IsIn (get_or ids k 0) ids
 in-at [] k low = absurd (omega (arith, low))
 in-at (y ∷ ids) zero low = inl refl
 in-at (y ∷ ids) (suc k) low = inr (in-at ids k (omega (arith, low)))

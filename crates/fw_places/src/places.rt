@@ -1,5 +1,5 @@
 // Ids by places, and joins between these.
-ghost use Rattle.std.specs.Prelude.{◌≡◌, ◌==◌, ◌&&◌, ◌≤◌, ℕ, true, false, length, map, take, position, slice_set, slice_index_or};
+ghost use Rattle.std.specs.Prelude.{◌≡◌, ◌==◌, ◌&&◌, ◌<◌, ◌≤◌, ◌%◌, ℕ, true, false, length, map, take, position, slice_set, slice_index_or};
 ghost use Rattle.std.specs.List.{list_any, AllByRecursion};
 ghost use Rattle.fw_places.specs.Walks.{is_listed, IsListed, place_in, by_places, leads_by, is_marked, is_reached};
 ghost use Rattle.fw_places.specs.Leaving.{AreFound};
@@ -149,12 +149,52 @@ fn resolve(joins: &[Join], ids: &[u32], ends: &mut [Join])
     requires few { length ids.now ≤ 256 }
     ensures { take (length joins.now) ends.new ≡ map (by_places ids.now) joins.now }
 {
+    let mut firsts = [256; 256];
+    note(ids, &mut firsts);
     for i in 0..joins.len() {
         ends[i] = Join {
-            source: place_of(ids, joins[i].source) as u32,
-            sink: place_of(ids, joins[i].sink) as u32,
+            source: place_by(ids, &firsts, joins[i].source) as u32,
+            sink: place_by(ids, &firsts, joins[i].sink) as u32,
         };
     }
+}
+
+// Notes for each last byte no later place than the first of the ids that end so.
+fn note(ids: &[u32], firsts: &mut [u16])
+    requires size { length firsts.old ≡ 256 }
+    requires few { length ids.now ≤ 256 }
+    ensures size { length firsts.new ≡ 256 }
+    ensures noted { (k : ℕ) → k < length ids.now → slice_index_or firsts.new (slice_index_or ids.now k 0 % 256) 0 ≤ k }
+{
+    for k in 0..ids.len() {
+        lower(firsts, (ids[k] % 256) as usize, k as u16);
+    }
+}
+
+// Notes a place, unless an earlier one is noted.
+fn lower(firsts: &mut [u16], byte: usize, place: u16)
+    requires { byte < length firsts.old }
+    ensures size { length firsts.new ≡ length firsts.old }
+    ensures noted { slice_index_or firsts.new byte 0 ≤ place }
+    ensures most { (b : ℕ) → slice_index_or firsts.new b 0 ≤ slice_index_or firsts.old b 0 }
+{
+    if place < firsts[byte] {
+        firsts[byte] = place;
+    }
+}
+
+// The place of an id, first looked for where its last byte is noted; where it is not there, the place behind the last.
+fn place_by(ids: &[u32], firsts: &[u16], id: u32) -> usize
+    requires size { length firsts.now ≡ 256 }
+    requires noted { (k : ℕ) → k < length ids.now → slice_index_or firsts.now (slice_index_or ids.now k 0 % 256) 0 ≤ k }
+    ensures place { result ≡ place_in ids.now id }
+    ensures within { result ≤ length ids.now }
+{
+    let first = usize::from(firsts[(id % 256) as usize]);
+    if first < ids.len() && ids[first] == id {
+        return first;
+    }
+    place_of(ids, id)
 }
 
 // The place of an id; where it is not there, the place behind the last.

@@ -216,7 +216,7 @@ fn all_suit(registry: &Registry, comps: &[Component], places: &Places, host: u32
         .all(|one| suits_all(registry, comps, places, host, p, one))
 }
 
-// Whether one suits each of these.
+// Whether one suits each of these: one without parameters suits all.
 fn suits_all(
     registry: &Registry,
     comps: &[Component],
@@ -228,6 +228,9 @@ fn suits_all(
     requires { IsChartOf registry.now places.now }
     ensures { result ≡ list_all (λ d. suits registry.now host p one.now d) comps.now }
 {
+    if shape(one, host, p).is_none() {
+        return true;
+    }
     comps
         .iter()
         .all(|other| suits_one(registry, places, host, p, one, other))

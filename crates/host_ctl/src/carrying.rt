@@ -1,7 +1,6 @@
 // What each call does once its tests have passed, for the control at a place: the record changes after the reply.
 ghost use Rattle.std.specs.Prelude.{◌≡◌, ◌<◌, ◌≤◌, ◌+◌, ◌*◌, ◌++◌, [], unwrap_or, length, IfOk, Some, is_some, true};
 ghost use Rattle.sof_base.specs.Ports.{HasRoom};
-ghost use Rattle.mbox_link.specs.Calls.{world};
 ghost use Rattle.mbox_link.specs.BlobParts.{parts};
 ghost use Rattle.tplg_plan.specs.Ranges.{is_initial};
 ghost use Rattle.tplg_plan.specs.Sound.{IsSound};
@@ -13,6 +12,7 @@ ghost use Rattle.host_widgets.specs.HostActs.{Put};
 ghost use Rattle.host_widgets.specs.HostActs as acts;
 ghost use Rattle.host_widgets.specs.Orders.{Carried};
 ghost use Rattle.host_widgets.specs.ActCarried.{ActCarried};
+ghost use Rattle.host_widgets.specs.Sides.{SameSide, world_of};
 ghost use Rattle.host_ctl.specs.ControlAsks as asks;
 ghost use Rattle.host_ctl.specs.ControlOrders as orders;
 ghost use Rattle.host_ctl.specs.ControlOrders.{MaySet, MayInstall, HasBlob, PartsPass, is_lost};
@@ -21,14 +21,13 @@ ghost use Rattle.host_ctl.specs.ControlPlaces.{control_here, record_here, with_v
 use crate::asking::channels_of;
 use arrayvec::ArrayVec;
 use host_widgets::{
-    Answer, ControlRec, HostFault, Power, Record, hear, link_down, part_count, pass, same_numbers,
-    send_parts, set_message,
+    Answer, ControlRec, HostFault, Power, Record, Side, hear, link_down, part_count, pass,
+    same_numbers, send_parts, set_message,
 };
 use ipc3_codec::{Body, Message};
 use mbox_link::Dsp;
 use sof_base::{Bounded, Part};
-use sof_io::{Inputs, Outputs};
-use tplg_plan::{ControlKind, Plan};
+use tplg_plan::ControlKind;
 
 // One value is for all channels.
 fn spread(channels: u8, values: &[u32]) -> Bounded<u32, 8>
@@ -75,57 +74,49 @@ fn keep(kept: &mut Record, place: usize, values: &Bounded<u32, 8>)
 
 // A control is set while the power is on.
 fn put<P: Dsp>(
-    plan: &Plan,
-    kept: &mut Record,
-    heap: u32,
-    dsp: &mut P,
-    io: &mut Inputs,
-    out: &mut Outputs,
+    side: &mut Side<'_, P>,
     place: usize,
     values: &Bounded<u32, 8>,
 ) -> Result<(), HostFault>
-    requires plan { IsSound plan.now }
-    requires agree { Agrees P.means plan.now kept.old dsp.old }
-    requires room { HasRoom (61440 * P.means.pending dsp.old) out.old }
-    requires power { kept.old.power ≡ Power.On }
-    requires place { place < length plan.now.controls }
-    requires values { MaySet (control_here plan.now place).kind values.now }
-    ensures act { ActCarried P.means plan.now heap (Put (control_here plan.now place).comp values.now) kept.old kept.new
-        (world dsp.old io.old out.old) (world dsp.new io.new out.new) result }
-    ensures agree { Agrees P.means plan.now kept.new dsp.new }
+    requires plan { IsSound side.old.plan.now }
+    requires agree { Agrees P.means side.old.plan.now side.old.kept.now side.old.dsp.now }
+    requires room { HasRoom (61440 * P.means.pending side.old.dsp.now) side.old.out.now }
+    requires power { side.old.kept.now.power ≡ Power.On }
+    requires place { place < length side.old.plan.now.controls }
+    requires values { MaySet (control_here side.old.plan.now place).kind values.now }
+    ensures act { ActCarried P.means side.old.plan.now side.old.heap (Put (control_here side.old.plan.now place).comp values.now) side.old.kept.now side.new.kept.now
+        (world_of side.old) (world_of side.new) result }
+    ensures agree { Agrees P.means side.old.plan.now side.new.kept.now side.new.dsp.now }
+    ensures same { SameSide side.old side.new }
 {
-    let control = &plan.controls.items()[place];
+    let control = &side.plan.controls.items()[place];
     let message = set_message(control.comp, &control.kind, values);
-    pass(&message, plan, kept, heap, dsp, io, out)?;
-    keep(kept, place, values);
+    pass(&message, side)?;
+    keep(side.kept, place, values);
     Ok(())
 }
 
 /// A control is set: where the power is off, the record alone changes.
 pub fn set<P: Dsp>(
-    plan: &Plan,
-    kept: &mut Record,
-    heap: u32,
-    dsp: &mut P,
-    io: &mut Inputs,
-    out: &mut Outputs,
+    side: &mut Side<'_, P>,
     place: usize,
     values: &Bounded<u32, 8>,
 ) -> Result<(), HostFault>
-    requires plan { IsSound plan.now }
-    requires agree { Agrees P.means plan.now kept.old dsp.old }
-    requires room { HasRoom (61440 * P.means.pending dsp.old) out.old }
-    requires loaded { kept.old.power ≡ Power.Unloaded → ⊥ }
-    requires place { place < length plan.now.controls }
-    requires values { MaySet (control_here plan.now place).kind values.now }
-    ensures carried { Carried P.means plan.now heap (orders.put_order plan.now kept.old (control_here plan.now place).comp values.now) kept.old kept.new
-        (world dsp.old io.old out.old) (world dsp.new io.new out.new) result }
-    ensures agree { Agrees P.means plan.now kept.new dsp.new }
+    requires plan { IsSound side.old.plan.now }
+    requires agree { Agrees P.means side.old.plan.now side.old.kept.now side.old.dsp.now }
+    requires room { HasRoom (61440 * P.means.pending side.old.dsp.now) side.old.out.now }
+    requires loaded { side.old.kept.now.power ≡ Power.Unloaded → ⊥ }
+    requires place { place < length side.old.plan.now.controls }
+    requires values { MaySet (control_here side.old.plan.now place).kind values.now }
+    ensures carried { Carried P.means side.old.plan.now side.old.heap (orders.put_order side.old.plan.now side.old.kept.now (control_here side.old.plan.now place).comp values.now) side.old.kept.now side.new.kept.now
+        (world_of side.old) (world_of side.new) result }
+    ensures agree { Agrees P.means side.old.plan.now side.new.kept.now side.new.dsp.now }
+    ensures same { SameSide side.old side.new }
 {
-    match kept.power {
-        Power::On => put(plan, kept, heap, dsp, io, out, place, values),
+    match side.kept.power {
+        Power::On => put(side, place, values),
         Power::Unloaded | Power::Off => {
-            keep(kept, place, values);
+            keep(side.kept, place, values);
             Ok(())
         }
     }
@@ -154,82 +145,58 @@ fn is_lost(passed: &Result<(), HostFault>) -> bool
 }
 
 // Sends a blob to an equaliser in its parts. A failed link cuts the device and takes the record down.
-fn pass_parts<P: Dsp>(
-    comp: u32,
-    blob: &[u8],
-    plan: &Plan,
-    kept: &mut Record,
-    heap: u32,
-    dsp: &mut P,
-    io: &mut Inputs,
-    out: &mut Outputs,
-) -> Result<(), HostFault>
+fn pass_parts<P: Dsp>(side: &mut Side<'_, P>, comp: u32, blob: &[u8]) -> Result<(), HostFault>
     requires blob { is_blob blob.now ≡ true }
-    requires kept { IsRecordOf plan.now kept.old }
-    requires on { is_some (P.means.on dsp.old) ≡ true }
-    requires room { HasRoom (61440 * P.means.pending dsp.old) out.old }
-    ensures { PartsPass P.means plan.now heap comp blob.now kept.old kept.new
-        (world dsp.old io.old out.old) (world dsp.new io.new out.new) result }
+    requires kept { IsRecordOf side.old.plan.now side.old.kept.now }
+    requires on { is_some (P.means.on side.old.dsp.now) ≡ true }
+    requires room { HasRoom (61440 * P.means.pending side.old.dsp.now) side.old.out.now }
+    ensures passes { PartsPass P.means side.old.plan.now side.old.heap comp blob.now side.old.kept.now side.new.kept.now
+        (world_of side.old) (world_of side.new) result }
+    ensures same { SameSide side.old side.new }
 {
-    let passed = send_parts(comp, blob, dsp, io, out);
+    let passed = send_parts(comp, blob, side.dsp, side.io, side.out);
     if is_lost(&passed) {
-        link_down(plan, kept, heap, dsp, io, out);
+        link_down(side.plan, side.kept, side.heap, side.dsp, side.io, side.out);
     }
     passed
 }
 
 // An equaliser gets a blob while the power is on. The record changes once its last part has passed.
-fn install<P: Dsp>(
-    plan: &Plan,
-    kept: &mut Record,
-    heap: u32,
-    dsp: &mut P,
-    io: &mut Inputs,
-    out: &mut Outputs,
-    place: usize,
-    blob: &[u8],
-) -> Result<(), HostFault>
-    requires plan { IsSound plan.now }
-    requires agree { Agrees P.means plan.now kept.old dsp.old }
-    requires room { HasRoom (61440 * P.means.pending dsp.old) out.old }
-    requires power { kept.old.power ≡ Power.On }
-    requires place { place < length plan.now.controls }
-    requires blob { MayInstall (control_here plan.now place).kind blob.now }
-    ensures carried { Carried P.means plan.now heap (orders.bytes_order_at plan.now kept.old (control_here plan.now place).comp blob.now) kept.old kept.new
-        (world dsp.old io.old out.old) (world dsp.new io.new out.new) result }
-    ensures agree { Agrees P.means plan.now kept.new dsp.new }
+fn install<P: Dsp>(side: &mut Side<'_, P>, place: usize, blob: &[u8]) -> Result<(), HostFault>
+    requires plan { IsSound side.old.plan.now }
+    requires agree { Agrees P.means side.old.plan.now side.old.kept.now side.old.dsp.now }
+    requires room { HasRoom (61440 * P.means.pending side.old.dsp.now) side.old.out.now }
+    requires power { side.old.kept.now.power ≡ Power.On }
+    requires place { place < length side.old.plan.now.controls }
+    requires blob { MayInstall (control_here side.old.plan.now place).kind blob.now }
+    ensures carried { Carried P.means side.old.plan.now side.old.heap (orders.bytes_order_at side.old.plan.now side.old.kept.now (control_here side.old.plan.now place).comp blob.now) side.old.kept.now side.new.kept.now
+        (world_of side.old) (world_of side.new) result }
+    ensures agree { Agrees P.means side.old.plan.now side.new.kept.now side.new.dsp.now }
+    ensures same { SameSide side.old side.new }
 {
-    let comp = plan.controls.items()[place].comp;
-    pass_parts(comp, blob, plan, kept, heap, dsp, io, out)?;
-    keep_blob(kept, place, blob);
+    let comp = side.plan.controls.items()[place].comp;
+    pass_parts(side, comp, blob)?;
+    keep_blob(side.kept, place, blob);
     Ok(())
 }
 
 /// An equaliser gets a blob: where the power is off, the record alone changes.
-pub fn set_bytes<P: Dsp>(
-    plan: &Plan,
-    kept: &mut Record,
-    heap: u32,
-    dsp: &mut P,
-    io: &mut Inputs,
-    out: &mut Outputs,
-    place: usize,
-    blob: &[u8],
-) -> Result<(), HostFault>
-    requires plan { IsSound plan.now }
-    requires agree { Agrees P.means plan.now kept.old dsp.old }
-    requires room { HasRoom (61440 * P.means.pending dsp.old) out.old }
-    requires loaded { kept.old.power ≡ Power.Unloaded → ⊥ }
-    requires place { place < length plan.now.controls }
-    requires blob { MayInstall (control_here plan.now place).kind blob.now }
-    ensures carried { Carried P.means plan.now heap (orders.bytes_order_at plan.now kept.old (control_here plan.now place).comp blob.now) kept.old kept.new
-        (world dsp.old io.old out.old) (world dsp.new io.new out.new) result }
-    ensures agree { Agrees P.means plan.now kept.new dsp.new }
+pub fn set_bytes<P: Dsp>(side: &mut Side<'_, P>, place: usize, blob: &[u8]) -> Result<(), HostFault>
+    requires plan { IsSound side.old.plan.now }
+    requires agree { Agrees P.means side.old.plan.now side.old.kept.now side.old.dsp.now }
+    requires room { HasRoom (61440 * P.means.pending side.old.dsp.now) side.old.out.now }
+    requires loaded { side.old.kept.now.power ≡ Power.Unloaded → ⊥ }
+    requires place { place < length side.old.plan.now.controls }
+    requires blob { MayInstall (control_here side.old.plan.now place).kind blob.now }
+    ensures carried { Carried P.means side.old.plan.now side.old.heap (orders.bytes_order_at side.old.plan.now side.old.kept.now (control_here side.old.plan.now place).comp blob.now) side.old.kept.now side.new.kept.now
+        (world_of side.old) (world_of side.new) result }
+    ensures agree { Agrees P.means side.old.plan.now side.new.kept.now side.new.dsp.now }
+    ensures same { SameSide side.old side.new }
 {
-    match kept.power {
-        Power::On => install(plan, kept, heap, dsp, io, out, place, blob),
+    match side.kept.power {
+        Power::On => install(side, place, blob),
         Power::Unloaded | Power::Off => {
-            keep_blob(kept, place, blob);
+            keep_blob(side.kept, place, blob);
             Ok(())
         }
     }
@@ -247,33 +214,25 @@ fn values_of(body: Body) -> Answer
 }
 
 // The firmware is asked for the values of a volume or a mux.
-fn ask<P: Dsp>(
-    plan: &Plan,
-    kept: &mut Record,
-    heap: u32,
-    dsp: &mut P,
-    io: &mut Inputs,
-    out: &mut Outputs,
-    place: usize,
-    command: u32,
-) -> Result<Answer, HostFault>
-    requires plan { IsSound plan.now }
-    requires agree { Agrees P.means plan.now kept.old dsp.old }
-    requires room { HasRoom (61440 * P.means.pending dsp.old) out.old }
-    requires power { kept.old.power ≡ Power.On }
-    requires place { place < length plan.now.controls }
-    requires command { orders.value_command (control_here plan.now place).kind ≡ Some command }
-    ensures act { ActCarried P.means plan.now heap (acts.Ask (control_here plan.now place).comp 0) kept.old kept.new
-        (world dsp.old io.old out.old) (world dsp.new io.new out.new) (orders.outcome_of result) }
-    ensures answered { IfOk result (λ a. a ≡ orders.control_answer (control_here plan.now place).kind (record_here kept.old place)) }
-    ensures still { IfOk result (λ a. kept.new ≡ kept.old) }
-    ensures agree { Agrees P.means plan.now kept.new dsp.new }
+fn ask<P: Dsp>(side: &mut Side<'_, P>, place: usize, command: u32) -> Result<Answer, HostFault>
+    requires plan { IsSound side.old.plan.now }
+    requires agree { Agrees P.means side.old.plan.now side.old.kept.now side.old.dsp.now }
+    requires room { HasRoom (61440 * P.means.pending side.old.dsp.now) side.old.out.now }
+    requires power { side.old.kept.now.power ≡ Power.On }
+    requires place { place < length side.old.plan.now.controls }
+    requires command { orders.value_command (control_here side.old.plan.now place).kind ≡ Some command }
+    ensures act { ActCarried P.means side.old.plan.now side.old.heap (acts.Ask (control_here side.old.plan.now place).comp 0) side.old.kept.now side.new.kept.now
+        (world_of side.old) (world_of side.new) (orders.outcome_of result) }
+    ensures answered { IfOk result (λ a. a ≡ orders.control_answer (control_here side.old.plan.now place).kind (record_here side.old.kept.now place)) }
+    ensures still { IfOk result (λ a. side.new.kept.now ≡ side.old.kept.now) }
+    ensures agree { Agrees P.means side.old.plan.now side.new.kept.now side.new.dsp.now }
+    ensures same { SameSide side.old side.new }
 {
     let message = Message::GetValue {
-        id: plan.controls.items()[place].comp,
+        id: side.plan.controls.items()[place].comp,
         command,
     };
-    let reply = hear(&message, plan, kept, heap, dsp, io, out)?;
+    let reply = hear(&message, side)?;
     Ok(values_of(reply.body))
 }
 
@@ -322,36 +281,32 @@ fn append_reply(told: &mut ArrayVec<u8, 1024>, body: &Body)
 // The firmware is asked for each part of the blob that an equaliser has by the record, of which there are so many. What the
 // replies carry is put together.
 fn ask_all<P: Dsp>(
-    plan: &Plan,
-    kept: &mut Record,
-    heap: u32,
-    dsp: &mut P,
-    io: &mut Inputs,
-    out: &mut Outputs,
+    side: &mut Side<'_, P>,
     place: usize,
     count: u32,
     told: &mut ArrayVec<u8, 1024>,
 ) -> Result<(), HostFault>
-    requires plan { IsSound plan.now }
-    requires agree { Agrees P.means plan.now kept.old dsp.old }
-    requires room { HasRoom (61440 * P.means.pending dsp.old) out.old }
-    requires power { kept.old.power ≡ Power.On }
-    requires place { place < length plan.now.controls }
-    requires kind { HasBlob (control_here plan.now place).kind }
-    requires count { count ≡ parts (record_here kept.old place).blob }
+    requires plan { IsSound side.old.plan.now }
+    requires agree { Agrees P.means side.old.plan.now side.old.kept.now side.old.dsp.now }
+    requires room { HasRoom (61440 * P.means.pending side.old.dsp.now) side.old.out.now }
+    requires power { side.old.kept.now.power ≡ Power.On }
+    requires place { place < length side.old.plan.now.controls }
+    requires kind { HasBlob (control_here side.old.plan.now place).kind }
+    requires count { count ≡ parts (record_here side.old.kept.now place).blob }
     requires empty { told.old.items ≡ [] }
-    ensures carried { Carried P.means plan.now heap (orders.reading_order kept.old (Some (control_here plan.now place, record_here kept.old place))) kept.old kept.new
-        (world dsp.old io.old out.old) (world dsp.new io.new out.new) result }
-    ensures told { IfOk result (λ done. told.new.items ≡ (record_here kept.old place).blob) }
-    ensures still { IfOk result (λ done. kept.new ≡ kept.old) }
-    ensures agree { Agrees P.means plan.now kept.new dsp.new }
+    ensures carried { Carried P.means side.old.plan.now side.old.heap (orders.reading_order side.old.kept.now (Some (control_here side.old.plan.now place, record_here side.old.kept.now place))) side.old.kept.now side.new.kept.now
+        (world_of side.old) (world_of side.new) result }
+    ensures told { IfOk result (λ done. told.new.items ≡ (record_here side.old.kept.now place).blob) }
+    ensures still { IfOk result (λ done. side.new.kept.now ≡ side.old.kept.now) }
+    ensures agree { Agrees P.means side.old.plan.now side.new.kept.now side.new.dsp.now }
+    ensures same { SameSide side.old side.new }
 {
     for index in 0..count {
         let message = Message::GetData {
-            id: plan.controls.items()[place].comp,
+            id: side.plan.controls.items()[place].comp,
             index,
         };
-        let reply = hear(&message, plan, kept, heap, dsp, io, out)?;
+        let reply = hear(&message, side)?;
         append_reply(told, &reply.body);
     }
     Ok(())
@@ -369,57 +324,43 @@ fn bytes_answer(told: &ArrayVec<u8, 1024>) -> Answer
 }
 
 // What the firmware says of an equaliser: each part of its blob is asked for.
-fn ask_parts<P: Dsp>(
-    plan: &Plan,
-    kept: &mut Record,
-    heap: u32,
-    dsp: &mut P,
-    io: &mut Inputs,
-    out: &mut Outputs,
-    place: usize,
-) -> Result<Answer, HostFault>
-    requires plan { IsSound plan.now }
-    requires agree { Agrees P.means plan.now kept.old dsp.old }
-    requires room { HasRoom (61440 * P.means.pending dsp.old) out.old }
-    requires power { kept.old.power ≡ Power.On }
-    requires place { place < length plan.now.controls }
-    requires kind { HasBlob (control_here plan.now place).kind }
-    ensures carried { Carried P.means plan.now heap (orders.reading_order kept.old (Some (control_here plan.now place, record_here kept.old place))) kept.old kept.new
-        (world dsp.old io.old out.old) (world dsp.new io.new out.new) (orders.outcome_of result) }
-    ensures answered { IfOk result (λ a. a ≡ orders.control_answer (control_here plan.now place).kind (record_here kept.old place)) }
-    ensures still { IfOk result (λ a. kept.new ≡ kept.old) }
-    ensures agree { Agrees P.means plan.now kept.new dsp.new }
+fn ask_parts<P: Dsp>(side: &mut Side<'_, P>, place: usize) -> Result<Answer, HostFault>
+    requires plan { IsSound side.old.plan.now }
+    requires agree { Agrees P.means side.old.plan.now side.old.kept.now side.old.dsp.now }
+    requires room { HasRoom (61440 * P.means.pending side.old.dsp.now) side.old.out.now }
+    requires power { side.old.kept.now.power ≡ Power.On }
+    requires place { place < length side.old.plan.now.controls }
+    requires kind { HasBlob (control_here side.old.plan.now place).kind }
+    ensures carried { Carried P.means side.old.plan.now side.old.heap (orders.reading_order side.old.kept.now (Some (control_here side.old.plan.now place, record_here side.old.kept.now place))) side.old.kept.now side.new.kept.now
+        (world_of side.old) (world_of side.new) (orders.outcome_of result) }
+    ensures answered { IfOk result (λ a. a ≡ orders.control_answer (control_here side.old.plan.now place).kind (record_here side.old.kept.now place)) }
+    ensures still { IfOk result (λ a. side.new.kept.now ≡ side.old.kept.now) }
+    ensures agree { Agrees P.means side.old.plan.now side.new.kept.now side.new.dsp.now }
+    ensures same { SameSide side.old side.new }
 {
-    let count = parts_of(kept.controls.items()[place].blob.items());
+    let count = parts_of(side.kept.controls.items()[place].blob.items());
     let mut told: ArrayVec<u8, 1024> = ArrayVec::new();
-    ask_all(plan, kept, heap, dsp, io, out, place, count, &mut told)?;
+    ask_all(side, place, count, &mut told)?;
     Ok(bytes_answer(&told))
 }
 
 /// What the firmware says of a control: its values are asked for, or each part of its blob.
-pub fn read<P: Dsp>(
-    plan: &Plan,
-    kept: &mut Record,
-    heap: u32,
-    dsp: &mut P,
-    io: &mut Inputs,
-    out: &mut Outputs,
-    place: usize,
-) -> Result<Answer, HostFault>
-    requires plan { IsSound plan.now }
-    requires agree { Agrees P.means plan.now kept.old dsp.old }
-    requires room { HasRoom (61440 * P.means.pending dsp.old) out.old }
-    requires power { kept.old.power ≡ Power.On }
-    requires place { place < length plan.now.controls }
-    ensures carried { Carried P.means plan.now heap (orders.reading_order kept.old (Some (control_here plan.now place, record_here kept.old place))) kept.old kept.new
-        (world dsp.old io.old out.old) (world dsp.new io.new out.new) (orders.outcome_of result) }
-    ensures answered { IfOk result (λ a. a ≡ orders.control_answer (control_here plan.now place).kind (record_here kept.old place)) }
-    ensures still { IfOk result (λ a. kept.new ≡ kept.old) }
-    ensures agree { Agrees P.means plan.now kept.new dsp.new }
+pub fn read<P: Dsp>(side: &mut Side<'_, P>, place: usize) -> Result<Answer, HostFault>
+    requires plan { IsSound side.old.plan.now }
+    requires agree { Agrees P.means side.old.plan.now side.old.kept.now side.old.dsp.now }
+    requires room { HasRoom (61440 * P.means.pending side.old.dsp.now) side.old.out.now }
+    requires power { side.old.kept.now.power ≡ Power.On }
+    requires place { place < length side.old.plan.now.controls }
+    ensures carried { Carried P.means side.old.plan.now side.old.heap (orders.reading_order side.old.kept.now (Some (control_here side.old.plan.now place, record_here side.old.kept.now place))) side.old.kept.now side.new.kept.now
+        (world_of side.old) (world_of side.new) (orders.outcome_of result) }
+    ensures answered { IfOk result (λ a. a ≡ orders.control_answer (control_here side.old.plan.now place).kind (record_here side.old.kept.now place)) }
+    ensures still { IfOk result (λ a. side.new.kept.now ≡ side.old.kept.now) }
+    ensures agree { Agrees P.means side.old.plan.now side.new.kept.now side.new.dsp.now }
+    ensures same { SameSide side.old side.new }
 {
-    match plan.controls.items()[place].kind {
-        ControlKind::Volume { .. } => ask(plan, kept, heap, dsp, io, out, place, 0),
-        ControlKind::Choice { .. } => ask(plan, kept, heap, dsp, io, out, place, 1),
-        ControlKind::Blob { .. } => ask_parts(plan, kept, heap, dsp, io, out, place),
+    match side.plan.controls.items()[place].kind {
+        ControlKind::Volume { .. } => ask(side, place, 0),
+        ControlKind::Choice { .. } => ask(side, place, 1),
+        ControlKind::Blob { .. } => ask_parts(side, place),
     }
 }

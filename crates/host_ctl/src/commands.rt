@@ -16,7 +16,7 @@ ghost use Rattle.host_ctl.specs.ControlOrders.{set_order, bytes_order, get_order
 use crate::asking::{installable_place, named_place, readable_place, settable_place};
 use crate::carrying;
 use crate::carrying::all_values;
-use host_widgets::{Answer, ControlRec, HostFault, Record};
+use host_widgets::{Answer, ControlRec, HostFault, Record, Side};
 use mbox_link::Dsp;
 use sof_base::Name44;
 use sof_io::{Inputs, Outputs};
@@ -48,7 +48,18 @@ pub fn set<P: Dsp>(
 {
     let place = settable_place(plan, kept, name, values)?;
     let all = all_values(&plan.controls.items()[place].kind, values);
-    carrying::set(plan, kept, heap, dsp, io, out, place, &all)
+    carrying::set(
+        &mut Side {
+            plan,
+            heap,
+            kept,
+            dsp,
+            io,
+            out,
+        },
+        place,
+        &all,
+    )
 }
 
 /// An equaliser has this blob: the firmware from the next tick on where the power is on, once the last of its parts has passed,
@@ -77,7 +88,18 @@ pub fn set_bytes<P: Dsp>(
     ensures agree { Agrees P.means plan.now kept.new dsp.new }
 {
     let place = installable_place(plan, kept, name, blob)?;
-    carrying::set_bytes(plan, kept, heap, dsp, io, out, place, blob)
+    carrying::set_bytes(
+        &mut Side {
+            plan,
+            heap,
+            kept,
+            dsp,
+            io,
+            out,
+        },
+        place,
+        blob,
+    )
 }
 
 // What the record says of a control.
@@ -137,5 +159,15 @@ pub fn read<P: Dsp>(
     ensures agree { Agrees P.means plan.now kept.new dsp.new }
 {
     let place = readable_place(plan, kept, name)?;
-    carrying::read(plan, kept, heap, dsp, io, out, place)
+    carrying::read(
+        &mut Side {
+            plan,
+            heap,
+            kept,
+            dsp,
+            io,
+            out,
+        },
+        place,
+    )
 }

@@ -1,7 +1,6 @@
 // What each call does once its tests have passed, for the stream at a place: the record changes after the reply.
 ghost use Rattle.std.specs.Prelude.{◌≡◌, ◌<◌, ◌*◌, true, None, length, if◌then◌else◌};
 ghost use Rattle.sof_base.specs.Ports.{HasRoom};
-ghost use Rattle.mbox_link.specs.Calls.{world};
 ghost use Rattle.tplg_plan.specs.Sound.{IsSound};
 ghost use Rattle.host_widgets.specs.HostRecord.{closed};
 ghost use Rattle.host_widgets.specs.Host.{Agrees};
@@ -10,14 +9,13 @@ ghost use Rattle.host_widgets.specs.Orders.{Carried};
 ghost use Rattle.host_pcm.specs.Asks.{stream_at, takes_ask, range_fault, stream_caps, with_stream_at};
 ghost use Rattle.host_pcm.specs.StreamOrders.{host_at, place_order};
 ghost use Rattle.host_widgets.specs.ActCarried.{ActCarried};
+ghost use Rattle.host_widgets.specs.Sides.{SameSide, world_of};
 
 use crate::asking::Ask;
-use host_widgets::{Found, HostFault, Power, Record, StreamRec, Trigger, pass};
+use host_widgets::{Found, HostFault, Power, Record, Side, StreamRec, Trigger, pass};
 use ipc3_codec::Message;
 use mbox_link::Dsp;
 use sof_base::Params;
-use sof_io::{Inputs, Outputs};
-use tplg_plan::Plan;
 
 // How far a stream is after a trigger.
 fn triggered(what: Trigger) -> Found
@@ -38,35 +36,27 @@ fn direction(capture: bool) -> u32
 }
 
 /// A stream has parameters.
-pub fn prepare<P: Dsp>(
-    plan: &Plan,
-    kept: &mut Record,
-    heap: u32,
-    dsp: &mut P,
-    io: &mut Inputs,
-    out: &mut Outputs,
-    place: usize,
-    p: Params,
-) -> Result<(), HostFault>
-    requires plan { IsSound plan.now }
-    requires agree { Agrees P.means plan.now kept.old dsp.old }
-    requires room { HasRoom (61440 * P.means.pending dsp.old) out.old }
-    requires power { kept.old.power ≡ Power.On }
-    requires place { place < length plan.now.streams }
-    requires found { takes_ask (Ask.Preparing p) (stream_at kept.old place).found ≡ true }
-    requires range { range_fault (stream_caps plan.now place) (Ask.Preparing p) ≡ None }
-    ensures act { ActCarried P.means plan.now heap (Prepare (host_at plan.now place) p) kept.old kept.new
-        (world dsp.old io.old out.old) (world dsp.new io.new out.new) result }
-    ensures agree { Agrees P.means plan.now kept.new dsp.new }
+pub fn prepare<P: Dsp>(side: &mut Side<'_, P>, place: usize, p: Params) -> Result<(), HostFault>
+    requires plan { IsSound side.old.plan.now }
+    requires agree { Agrees P.means side.old.plan.now side.old.kept.now side.old.dsp.now }
+    requires room { HasRoom (61440 * P.means.pending side.old.dsp.now) side.old.out.now }
+    requires power { side.old.kept.now.power ≡ Power.On }
+    requires place { place < length side.old.plan.now.streams }
+    requires found { takes_ask (Ask.Preparing p) (stream_at side.old.kept.now place).found ≡ true }
+    requires range { range_fault (stream_caps side.old.plan.now place) (Ask.Preparing p) ≡ None }
+    ensures act { ActCarried P.means side.old.plan.now side.old.heap (Prepare (host_at side.old.plan.now place) p) side.old.kept.now side.new.kept.now
+        (world_of side.old) (world_of side.new) result }
+    ensures agree { Agrees P.means side.old.plan.now side.new.kept.now side.new.dsp.now }
+    ensures same { SameSide side.old side.new }
 {
-    let stream = &plan.streams.items()[place];
+    let stream = &side.plan.streams.items()[place];
     let message = Message::PcmParams {
         host: stream.host,
         direction: direction(stream.capture),
         params: p,
     };
-    pass(&message, plan, kept, heap, dsp, io, out)?;
-    kept.streams.put(
+    pass(&message, side)?;
+    side.kept.streams.put(
         place,
         StreamRec {
             found: Found::Prepared,
@@ -77,30 +67,22 @@ pub fn prepare<P: Dsp>(
 }
 
 /// A stream is triggered.
-pub fn trigger<P: Dsp>(
-    plan: &Plan,
-    kept: &mut Record,
-    heap: u32,
-    dsp: &mut P,
-    io: &mut Inputs,
-    out: &mut Outputs,
-    place: usize,
-    what: Trigger,
-) -> Result<(), HostFault>
-    requires plan { IsSound plan.now }
-    requires agree { Agrees P.means plan.now kept.old dsp.old }
-    requires room { HasRoom (61440 * P.means.pending dsp.old) out.old }
-    requires power { kept.old.power ≡ Power.On }
-    requires place { place < length plan.now.streams }
-    requires found { takes_ask (Ask.Triggering what) (stream_at kept.old place).found ≡ true }
-    ensures act { ActCarried P.means plan.now heap (Trig (host_at plan.now place) what) kept.old kept.new
-        (world dsp.old io.old out.old) (world dsp.new io.new out.new) result }
-    ensures agree { Agrees P.means plan.now kept.new dsp.new }
+pub fn trigger<P: Dsp>(side: &mut Side<'_, P>, place: usize, what: Trigger) -> Result<(), HostFault>
+    requires plan { IsSound side.old.plan.now }
+    requires agree { Agrees P.means side.old.plan.now side.old.kept.now side.old.dsp.now }
+    requires room { HasRoom (61440 * P.means.pending side.old.dsp.now) side.old.out.now }
+    requires power { side.old.kept.now.power ≡ Power.On }
+    requires place { place < length side.old.plan.now.streams }
+    requires found { takes_ask (Ask.Triggering what) (stream_at side.old.kept.now place).found ≡ true }
+    ensures act { ActCarried P.means side.old.plan.now side.old.heap (Trig (host_at side.old.plan.now place) what) side.old.kept.now side.new.kept.now
+        (world_of side.old) (world_of side.new) result }
+    ensures agree { Agrees P.means side.old.plan.now side.new.kept.now side.new.dsp.now }
+    ensures same { SameSide side.old side.new }
 {
-    let host = plan.streams.items()[place].host;
-    let params = kept.streams.items()[place].params;
-    pass(&what.message(host), plan, kept, heap, dsp, io, out)?;
-    kept.streams.put(
+    let host = side.plan.streams.items()[place].host;
+    let params = side.kept.streams.items()[place].params;
+    pass(&what.message(host), side)?;
+    side.kept.streams.put(
         place,
         StreamRec {
             found: triggered(what),
@@ -111,36 +93,21 @@ pub fn trigger<P: Dsp>(
 }
 
 // A stream that is prepared is without parameters, and closed.
-fn free<P: Dsp>(
-    plan: &Plan,
-    kept: &mut Record,
-    heap: u32,
-    dsp: &mut P,
-    io: &mut Inputs,
-    out: &mut Outputs,
-    place: usize,
-) -> Result<(), HostFault>
-    requires plan { IsSound plan.now }
-    requires agree { Agrees P.means plan.now kept.old dsp.old }
-    requires room { HasRoom (61440 * P.means.pending dsp.old) out.old }
-    requires power { kept.old.power ≡ Power.On }
-    requires place { place < length plan.now.streams }
-    requires found { (stream_at kept.old place).found ≡ Found.Prepared }
-    ensures act { ActCarried P.means plan.now heap (Free (host_at plan.now place)) kept.old kept.new
-        (world dsp.old io.old out.old) (world dsp.new io.new out.new) result }
-    ensures agree { Agrees P.means plan.now kept.new dsp.new }
+fn free<P: Dsp>(side: &mut Side<'_, P>, place: usize) -> Result<(), HostFault>
+    requires plan { IsSound side.old.plan.now }
+    requires agree { Agrees P.means side.old.plan.now side.old.kept.now side.old.dsp.now }
+    requires room { HasRoom (61440 * P.means.pending side.old.dsp.now) side.old.out.now }
+    requires power { side.old.kept.now.power ≡ Power.On }
+    requires place { place < length side.old.plan.now.streams }
+    requires found { (stream_at side.old.kept.now place).found ≡ Found.Prepared }
+    ensures act { ActCarried P.means side.old.plan.now side.old.heap (Free (host_at side.old.plan.now place)) side.old.kept.now side.new.kept.now
+        (world_of side.old) (world_of side.new) result }
+    ensures agree { Agrees P.means side.old.plan.now side.new.kept.now side.new.dsp.now }
+    ensures same { SameSide side.old side.new }
 {
-    let host = plan.streams.items()[place].host;
-    pass(
-        &Message::PcmFree { id: host },
-        plan,
-        kept,
-        heap,
-        dsp,
-        io,
-        out,
-    )?;
-    shut(kept, place);
+    let host = side.plan.streams.items()[place].host;
+    pass(&Message::PcmFree { id: host }, side)?;
+    shut(side.kept, place);
     Ok(())
 }
 
@@ -159,81 +126,60 @@ fn shut(kept: &mut Record, place: usize)
 }
 
 // A stream that moves or is held is stopped, and freed.
-fn stop_and_free<P: Dsp>(
-    plan: &Plan,
-    kept: &mut Record,
-    heap: u32,
-    dsp: &mut P,
-    io: &mut Inputs,
-    out: &mut Outputs,
-    place: usize,
-) -> Result<(), HostFault>
-    requires plan { IsSound plan.now }
-    requires agree { Agrees P.means plan.now kept.old dsp.old }
-    requires room { HasRoom (61440 * P.means.pending dsp.old) out.old }
-    requires power { kept.old.power ≡ Power.On }
-    requires place { place < length plan.now.streams }
-    requires found { takes_ask (Ask.Triggering Trigger.Stop) (stream_at kept.old place).found ≡ true }
-    ensures carried { Carried P.means plan.now heap (place_order plan.now kept.old place Ask.Closing) kept.old kept.new
-        (world dsp.old io.old out.old) (world dsp.new io.new out.new) result }
-    ensures agree { Agrees P.means plan.now kept.new dsp.new }
+fn stop_and_free<P: Dsp>(side: &mut Side<'_, P>, place: usize) -> Result<(), HostFault>
+    requires plan { IsSound side.old.plan.now }
+    requires agree { Agrees P.means side.old.plan.now side.old.kept.now side.old.dsp.now }
+    requires room { HasRoom (61440 * P.means.pending side.old.dsp.now) side.old.out.now }
+    requires power { side.old.kept.now.power ≡ Power.On }
+    requires place { place < length side.old.plan.now.streams }
+    requires found { takes_ask (Ask.Triggering Trigger.Stop) (stream_at side.old.kept.now place).found ≡ true }
+    ensures carried { Carried P.means side.old.plan.now side.old.heap (place_order side.old.plan.now side.old.kept.now place Ask.Closing) side.old.kept.now side.new.kept.now
+        (world_of side.old) (world_of side.new) result }
+    ensures agree { Agrees P.means side.old.plan.now side.new.kept.now side.new.dsp.now }
+    ensures same { SameSide side.old side.new }
 {
-    trigger(plan, kept, heap, dsp, io, out, place, Trigger::Stop)?;
-    free(plan, kept, heap, dsp, io, out, place)
+    trigger(side, place, Trigger::Stop)?;
+    free(side, place)
 }
 
 // A stream is closed while the power is on.
-fn close_on<P: Dsp>(
-    plan: &Plan,
-    kept: &mut Record,
-    heap: u32,
-    dsp: &mut P,
-    io: &mut Inputs,
-    out: &mut Outputs,
-    place: usize,
-) -> Result<(), HostFault>
-    requires plan { IsSound plan.now }
-    requires agree { Agrees P.means plan.now kept.old dsp.old }
-    requires room { HasRoom (61440 * P.means.pending dsp.old) out.old }
-    requires power { kept.old.power ≡ Power.On }
-    requires place { place < length plan.now.streams }
-    ensures carried { Carried P.means plan.now heap (place_order plan.now kept.old place Ask.Closing) kept.old kept.new
-        (world dsp.old io.old out.old) (world dsp.new io.new out.new) result }
-    ensures agree { Agrees P.means plan.now kept.new dsp.new }
+fn close_on<P: Dsp>(side: &mut Side<'_, P>, place: usize) -> Result<(), HostFault>
+    requires plan { IsSound side.old.plan.now }
+    requires agree { Agrees P.means side.old.plan.now side.old.kept.now side.old.dsp.now }
+    requires room { HasRoom (61440 * P.means.pending side.old.dsp.now) side.old.out.now }
+    requires power { side.old.kept.now.power ≡ Power.On }
+    requires place { place < length side.old.plan.now.streams }
+    ensures carried { Carried P.means side.old.plan.now side.old.heap (place_order side.old.plan.now side.old.kept.now place Ask.Closing) side.old.kept.now side.new.kept.now
+        (world_of side.old) (world_of side.new) result }
+    ensures agree { Agrees P.means side.old.plan.now side.new.kept.now side.new.dsp.now }
+    ensures same { SameSide side.old side.new }
 {
-    match kept.streams.items()[place].found {
-        Found::Running | Found::Paused => stop_and_free(plan, kept, heap, dsp, io, out, place),
-        Found::Prepared => free(plan, kept, heap, dsp, io, out, place),
+    match side.kept.streams.items()[place].found {
+        Found::Running | Found::Paused => stop_and_free(side, place),
+        Found::Prepared => free(side, place),
         Found::Closed | Found::Open | Found::On => {
-            shut(kept, place);
+            shut(side.kept, place);
             Ok(())
         }
     }
 }
 
 /// A stream is closed: where it has parameters and the power is on, it is stopped where it runs or is paused, and freed.
-pub fn close<P: Dsp>(
-    plan: &Plan,
-    kept: &mut Record,
-    heap: u32,
-    dsp: &mut P,
-    io: &mut Inputs,
-    out: &mut Outputs,
-    place: usize,
-) -> Result<(), HostFault>
-    requires plan { IsSound plan.now }
-    requires agree { Agrees P.means plan.now kept.old dsp.old }
-    requires room { HasRoom (61440 * P.means.pending dsp.old) out.old }
-    requires loaded { kept.old.power ≡ Power.Unloaded → ⊥ }
-    requires place { place < length plan.now.streams }
-    ensures carried { Carried P.means plan.now heap (place_order plan.now kept.old place Ask.Closing) kept.old kept.new
-        (world dsp.old io.old out.old) (world dsp.new io.new out.new) result }
-    ensures agree { Agrees P.means plan.now kept.new dsp.new }
+pub fn close<P: Dsp>(side: &mut Side<'_, P>, place: usize) -> Result<(), HostFault>
+    requires plan { IsSound side.old.plan.now }
+    requires agree { Agrees P.means side.old.plan.now side.old.kept.now side.old.dsp.now }
+    requires room { HasRoom (61440 * P.means.pending side.old.dsp.now) side.old.out.now }
+    requires loaded { side.old.kept.now.power ≡ Power.Unloaded → ⊥ }
+    requires place { place < length side.old.plan.now.streams }
+    ensures carried { Carried P.means side.old.plan.now side.old.heap (place_order side.old.plan.now side.old.kept.now place Ask.Closing) side.old.kept.now side.new.kept.now
+        (world_of side.old) (world_of side.new) result }
+    ensures agree { Agrees P.means side.old.plan.now side.new.kept.now side.new.dsp.now }
+    ensures same { SameSide side.old side.new }
 {
-    match kept.power {
-        Power::On => close_on(plan, kept, heap, dsp, io, out, place),
+    match side.kept.power {
+        Power::On => close_on(side, place),
         Power::Unloaded | Power::Off => {
-            shut(kept, place);
+            shut(side.kept, place);
             Ok(())
         }
     }

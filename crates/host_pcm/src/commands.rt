@@ -7,13 +7,14 @@
 ghost use Rattle.std.specs.Prelude.{◌≡◌, ◌≤◌, ◌*◌};
 ghost use Rattle.sof_base.specs.Ports.{HasRoom};
 ghost use Rattle.mbox_link.specs.Calls.{world};
+ghost use Rattle.host_widgets.specs.Sides.{SameSide, world_of};
 ghost use Rattle.tplg_plan.specs.Sound.{IsSound};
 ghost use Rattle.host_widgets.specs.Host.{Agrees};
 ghost use Rattle.host_pcm.specs.StreamOrders.{Asked};
 
 use crate::asking::{Ask, tested};
 use crate::carrying;
-use host_widgets::{Found, HostFault, Record, StreamRec, Trigger};
+use host_widgets::{Found, HostFault, Record, Side, StreamRec, Trigger};
 use mbox_link::Dsp;
 use sof_base::{Name44, Params};
 use sof_io::{Inputs, Outputs};
@@ -69,30 +70,33 @@ pub fn params<P: Dsp>(
     ensures agree { Agrees P.means plan.now kept.new dsp.new }
 {
     let place = tested(plan, kept, name, Ask::Preparing(p))?;
-    carrying::prepare(plan, kept, heap, dsp, io, out, place, p)
+    carrying::prepare(
+        &mut Side {
+            plan,
+            heap,
+            kept,
+            dsp,
+            io,
+            out,
+        },
+        place,
+        p,
+    )
 }
 
 // A stream is triggered.
-fn trigger<P: Dsp>(
-    plan: &Plan,
-    kept: &mut Record,
-    heap: u32,
-    dsp: &mut P,
-    io: &mut Inputs,
-    out: &mut Outputs,
-    name: &Name44,
-    what: Trigger,
-) -> Result<(), HostFault>
-    requires plan { IsSound plan.now }
-    requires agree { Agrees P.means plan.now kept.old dsp.old }
-    requires heap { heap ≤ P.means.most dsp.old }
-    requires room { HasRoom (61440 * P.means.pending dsp.old) out.old }
-    ensures asked { Asked P.means plan.now heap name.now (Ask.Triggering what) kept.old kept.new
-        (world dsp.old io.old out.old) (world dsp.new io.new out.new) result }
-    ensures agree { Agrees P.means plan.now kept.new dsp.new }
+fn trigger<P: Dsp>(side: &mut Side<'_, P>, name: &Name44, what: Trigger) -> Result<(), HostFault>
+    requires plan { IsSound side.old.plan.now }
+    requires agree { Agrees P.means side.old.plan.now side.old.kept.now side.old.dsp.now }
+    requires heap { side.old.heap ≤ P.means.most side.old.dsp.now }
+    requires room { HasRoom (61440 * P.means.pending side.old.dsp.now) side.old.out.now }
+    ensures asked { Asked P.means side.old.plan.now side.old.heap name.now (Ask.Triggering what) side.old.kept.now side.new.kept.now
+        (world_of side.old) (world_of side.new) result }
+    ensures agree { Agrees P.means side.old.plan.now side.new.kept.now side.new.dsp.now }
+    ensures same { SameSide side.old side.new }
 {
-    let place = tested(plan, kept, name, Ask::Triggering(what))?;
-    carrying::trigger(plan, kept, heap, dsp, io, out, place, what)
+    let place = tested(side.plan, side.kept, name, Ask::Triggering(what))?;
+    carrying::trigger(side, place, what)
 }
 
 /// A prepared stream runs. `Off`: the power is off.
@@ -113,7 +117,18 @@ pub fn start<P: Dsp>(
         (world dsp.old io.old out.old) (world dsp.new io.new out.new) result }
     ensures agree { Agrees P.means plan.now kept.new dsp.new }
 {
-    trigger(plan, kept, heap, dsp, io, out, name, Trigger::Start)
+    trigger(
+        &mut Side {
+            plan,
+            heap,
+            kept,
+            dsp,
+            io,
+            out,
+        },
+        name,
+        Trigger::Start,
+    )
 }
 
 /// A stream that runs or is paused is prepared. `Off`: the power is off.
@@ -134,7 +149,18 @@ pub fn stop<P: Dsp>(
         (world dsp.old io.old out.old) (world dsp.new io.new out.new) result }
     ensures agree { Agrees P.means plan.now kept.new dsp.new }
 {
-    trigger(plan, kept, heap, dsp, io, out, name, Trigger::Stop)
+    trigger(
+        &mut Side {
+            plan,
+            heap,
+            kept,
+            dsp,
+            io,
+            out,
+        },
+        name,
+        Trigger::Stop,
+    )
 }
 
 /// A stream that runs is paused. `Off`: the power is off.
@@ -155,7 +181,18 @@ pub fn pause<P: Dsp>(
         (world dsp.old io.old out.old) (world dsp.new io.new out.new) result }
     ensures agree { Agrees P.means plan.now kept.new dsp.new }
 {
-    trigger(plan, kept, heap, dsp, io, out, name, Trigger::Pause)
+    trigger(
+        &mut Side {
+            plan,
+            heap,
+            kept,
+            dsp,
+            io,
+            out,
+        },
+        name,
+        Trigger::Pause,
+    )
 }
 
 /// A paused stream runs. `Off`: the power is off.
@@ -176,7 +213,18 @@ pub fn release<P: Dsp>(
         (world dsp.old io.old out.old) (world dsp.new io.new out.new) result }
     ensures agree { Agrees P.means plan.now kept.new dsp.new }
 {
-    trigger(plan, kept, heap, dsp, io, out, name, Trigger::Release)
+    trigger(
+        &mut Side {
+            plan,
+            heap,
+            kept,
+            dsp,
+            io,
+            out,
+        },
+        name,
+        Trigger::Release,
+    )
 }
 
 /// A stream that is not closed is closed: where the power is on, it is stopped where it runs or is paused, and freed where it
@@ -199,5 +247,15 @@ pub fn close<P: Dsp>(
     ensures agree { Agrees P.means plan.now kept.new dsp.new }
 {
     let place = tested(plan, kept, name, Ask::Closing)?;
-    carrying::close(plan, kept, heap, dsp, io, out, place)
+    carrying::close(
+        &mut Side {
+            plan,
+            heap,
+            kept,
+            dsp,
+            io,
+            out,
+        },
+        place,
+    )
 }

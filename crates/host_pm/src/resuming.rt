@@ -12,6 +12,7 @@ ghost use Rattle.host_widgets.specs.Acts.{direction_of};
 ghost use Rattle.tplg_plan.specs.Sound.{IsSound};
 ghost use Rattle.host_widgets.specs.Expected.{phase_of};
 ghost use Rattle.host_widgets.specs.Host.{Agrees, IsRecordOf};
+ghost use Rattle.host_widgets.specs.Sides.{SameSide, world_of};
 ghost use Rattle.host_widgets.specs.Orders.{ActsCame, Carried, Tested, resuming};
 ghost use Rattle.host_widgets.specs.ViewOf.{record_view};
 ghost use Rattle.host_pm.specs.InTurn.{InTurn};
@@ -19,7 +20,7 @@ ghost use Rattle.host_pm.specs.PowerTests.{resume_fault};
 ghost use Rattle.host_pm.specs.Resumed.{ResumeLeft};
 
 use crate::telling::tell;
-use host_widgets::{Found, HostFault, Power, Record, StreamRec, bring_up};
+use host_widgets::{Found, HostFault, Power, Record, Side, StreamRec, bring_up};
 use ipc3_codec::Message;
 use mbox_link::Dsp;
 use sof_io::{Inputs, Outputs};
@@ -80,58 +81,46 @@ fn prepare_all<P: Dsp>(
 }
 
 // Sends a freshly booted device all that the record says, up to the first message that does not pass.
-fn bring_back<P: Dsp>(
-    plan: &Plan,
-    kept: &mut Record,
-    heap: u32,
-    dsp: &mut P,
-    io: &mut Inputs,
-    out: &mut Outputs,
-) -> Result<(), HostFault>
-    requires plan { IsSound plan.now }
-    requires kept { IsRecordOf plan.now kept.old }
-    requires rests { list_any (λ r. is_live_phase (phase_of r.found)) kept.old.streams ≡ false }
-    requires booted { P.means.on dsp.old ≡ Some (fresh heap) }
-    requires room { HasRoom (61440 * P.means.pending dsp.old) out.old }
-    ensures acts { ActsCame P.means plan.now heap false (bring_back plan.now kept.old) kept.old kept.new (world dsp.old io.old out.old) (world dsp.new io.new out.new) result }
-    ensures kept { kept.new ≡ kept.old }
-    ensures shows { result ≡ Ok tt → option_map view_of (P.means.on dsp.new) ≡ Some (record_view plan.now kept.old) }
-    ensures left { ResumeLeft P.means plan.now heap kept.old dsp.old result dsp.new }
-    ensures inputs { io.new ≡ io.old }
-    ensures outputs { out.new ≡ out.old }
+fn bring_back<P: Dsp>(side: &mut Side<'_, P>) -> Result<(), HostFault>
+    requires plan { IsSound side.old.plan.now }
+    requires kept { IsRecordOf side.old.plan.now side.old.kept.now }
+    requires rests { list_any (λ r. is_live_phase (phase_of r.found)) side.old.kept.now.streams ≡ false }
+    requires booted { P.means.on side.old.dsp.now ≡ Some (fresh side.old.heap) }
+    requires room { HasRoom (61440 * P.means.pending side.old.dsp.now) side.old.out.now }
+    ensures acts { ActsCame P.means side.old.plan.now side.old.heap false (bring_back side.old.plan.now side.old.kept.now) side.old.kept.now side.new.kept.now (world_of side.old) (world_of side.new) result }
+    ensures kept { side.new.kept.now ≡ side.old.kept.now }
+    ensures shows { result ≡ Ok tt → option_map view_of (P.means.on side.new.dsp.now) ≡ Some (record_view side.old.plan.now side.old.kept.now) }
+    ensures left { ResumeLeft P.means side.old.plan.now side.old.heap side.old.kept.now side.old.dsp.now result side.new.dsp.now }
+    ensures inputs { side.new.io.now ≡ side.old.io.now }
+    ensures outputs { side.new.out.now ≡ side.old.out.now }
+    ensures same { SameSide side.old side.new }
 {
     // That no two inputs have one slot, and no position is out of range, is what keeps a silent tick silent.
-    let _inputs = io.len();
-    bring_up(plan, kept, heap, dsp, io, out)?;
-    prepare_all(plan, kept, dsp, io, out)
+    let _inputs = side.io.len();
+    bring_up(side.plan, side.kept, side.heap, side.dsp, side.io, side.out)?;
+    prepare_all(side.plan, side.kept, side.dsp, side.io, side.out)
 }
 
 // Boots the device, brings it up and prepares its streams. A failure cuts it, and the record stays.
-fn power_up<P: Dsp>(
-    plan: &Plan,
-    kept: &mut Record,
-    heap: u32,
-    dsp: &mut P,
-    io: &mut Inputs,
-    out: &mut Outputs,
-) -> Result<(), HostFault>
-    requires plan { IsSound plan.now }
-    requires agree { Agrees P.means plan.now kept.old dsp.old }
-    requires heap { heap ≤ P.means.most dsp.old }
-    requires room { HasRoom (61440 * P.means.pending dsp.old) out.old }
-    requires power { kept.old.power ≡ Power.Off }
-    ensures carried { Carried P.means plan.now heap (resuming plan.now kept.old) kept.old kept.new (world dsp.old io.old out.old) (world dsp.new io.new out.new) result }
-    ensures agree { Agrees P.means plan.now kept.new dsp.new }
-    ensures left { ResumeLeft P.means plan.now heap kept.old dsp.old result dsp.new }
-    ensures inputs { io.new ≡ io.old }
-    ensures outputs { out.new ≡ out.old }
+fn power_up<P: Dsp>(side: &mut Side<'_, P>) -> Result<(), HostFault>
+    requires plan { IsSound side.old.plan.now }
+    requires agree { Agrees P.means side.old.plan.now side.old.kept.now side.old.dsp.now }
+    requires heap { side.old.heap ≤ P.means.most side.old.dsp.now }
+    requires room { HasRoom (61440 * P.means.pending side.old.dsp.now) side.old.out.now }
+    requires power { side.old.kept.now.power ≡ Power.Off }
+    ensures carried { Carried P.means side.old.plan.now side.old.heap (resuming side.old.plan.now side.old.kept.now) side.old.kept.now side.new.kept.now (world_of side.old) (world_of side.new) result }
+    ensures agree { Agrees P.means side.old.plan.now side.new.kept.now side.new.dsp.now }
+    ensures left { ResumeLeft P.means side.old.plan.now side.old.heap side.old.kept.now side.old.dsp.now result side.new.dsp.now }
+    ensures inputs { side.new.io.now ≡ side.old.io.now }
+    ensures outputs { side.new.out.now ≡ side.old.out.now }
+    ensures same { SameSide side.old side.new }
 {
-    dsp.boot(heap);
-    if let Err(fault) = bring_back(plan, kept, heap, dsp, io, out) {
-        dsp.cut();
+    side.dsp.boot(side.heap);
+    if let Err(fault) = bring_back(side) {
+        side.dsp.cut();
         return Err(fault);
     }
-    kept.power = Power::On;
+    side.kept.power = Power::On;
     Ok(())
 }
 
@@ -163,6 +152,13 @@ pub fn resume<P: Dsp>(
     match kept.power {
         Power::Unloaded => Err(HostFault::NotLoaded),
         Power::On => Err(HostFault::State(Found::On)),
-        Power::Off => power_up(plan, kept, heap, dsp, io, out),
+        Power::Off => power_up(&mut Side {
+            plan,
+            heap,
+            kept,
+            dsp,
+            io,
+            out,
+        }),
     }
 }

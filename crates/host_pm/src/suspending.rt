@@ -6,13 +6,14 @@ ghost use Rattle.tplg_plan.specs.Sound.{IsSound};
 ghost use Rattle.host_widgets.specs.ActLists.{stop_by, go_down};
 ghost use Rattle.host_widgets.specs.Host.{Agrees};
 ghost use Rattle.host_widgets.specs.HostActs.{Save};
+ghost use Rattle.host_widgets.specs.Sides.{SameSide, world_of};
 ghost use Rattle.host_widgets.specs.Orders.{Carried, Tested, suspending};
 ghost use Rattle.host_widgets.specs.Walk.{first_of, goes_past};
 ghost use Rattle.host_pm.specs.InTurn.{InTurn};
 ghost use Rattle.host_pm.specs.PowerTests.{suspend_fault};
 
 use crate::telling::tell;
-use host_widgets::{Found, HostFault, Power, Record, Trigger, link_down};
+use host_widgets::{Found, HostFault, Power, Record, Side, Trigger, link_down};
 use ipc3_codec::Message;
 use mbox_link::Dsp;
 use sof_io::{Inputs, Outputs};
@@ -100,23 +101,17 @@ fn send_down<P: Dsp>(
 }
 
 // Sends all messages, and cuts the device whatever they came to.
-fn go_down<P: Dsp>(
-    plan: &Plan,
-    kept: &mut Record,
-    heap: u32,
-    dsp: &mut P,
-    io: &mut Inputs,
-    out: &mut Outputs,
-) -> Result<(), HostFault>
-    requires plan { IsSound plan.now }
-    requires agree { Agrees P.means plan.now kept.old dsp.old }
-    requires room { HasRoom (61440 * P.means.pending dsp.old) out.old }
-    requires power { kept.old.power ≡ Power.On }
-    ensures carried { Carried P.means plan.now heap (suspending plan.now kept.old) kept.old kept.new (world dsp.old io.old out.old) (world dsp.new io.new out.new) result }
-    ensures agree { Agrees P.means plan.now kept.new dsp.new }
+fn go_down<P: Dsp>(side: &mut Side<'_, P>) -> Result<(), HostFault>
+    requires plan { IsSound side.old.plan.now }
+    requires agree { Agrees P.means side.old.plan.now side.old.kept.now side.old.dsp.now }
+    requires room { HasRoom (61440 * P.means.pending side.old.dsp.now) side.old.out.now }
+    requires power { side.old.kept.now.power ≡ Power.On }
+    ensures carried { Carried P.means side.old.plan.now side.old.heap (suspending side.old.plan.now side.old.kept.now) side.old.kept.now side.new.kept.now (world_of side.old) (world_of side.new) result }
+    ensures agree { Agrees P.means side.old.plan.now side.new.kept.now side.new.dsp.now }
+    ensures same { SameSide side.old side.new }
 {
-    let sent = send_down(plan, kept, dsp, io, out);
-    link_down(plan, kept, heap, dsp, io, out);
+    let sent = send_down(side.plan, side.kept, side.dsp, side.io, side.out);
+    link_down(side.plan, side.kept, side.heap, side.dsp, side.io, side.out);
     sent
 }
 
@@ -145,6 +140,13 @@ pub fn suspend<P: Dsp>(
     match kept.power {
         Power::Unloaded => Err(HostFault::NotLoaded),
         Power::Off => Err(HostFault::Off),
-        Power::On => go_down(plan, kept, heap, dsp, io, out),
+        Power::On => go_down(&mut Side {
+            plan,
+            heap,
+            kept,
+            dsp,
+            io,
+            out,
+        }),
     }
 }

@@ -62,3 +62,4 @@ pub mod OneOrder
 pub mod ChangedPlaces
 pub mod ActReasons
 pub mod Consequences
+pub mod SidesKept

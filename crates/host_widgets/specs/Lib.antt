@@ -17,3 +17,4 @@ pub mod Orders
 pub mod Named
 pub mod ActCarried
 pub mod WalkRows
+pub mod Sides

@@ -15,6 +15,7 @@ mod naming;
 mod parts;
 mod passing;
 mod sending;
+mod side;
 mod trigger;
 mod unloading;
 
@@ -29,5 +30,6 @@ pub use naming::is_named;
 pub use parts::{part_count, send_parts};
 pub use passing::{hear, pass};
 pub use sending::send;
+pub use side::Side;
 pub use trigger::Trigger;
 pub use unloading::unload;

@@ -5,41 +5,37 @@ ghost use Rattle.mbox_link.specs.Calls.{world};
 ghost use Rattle.tplg_plan.specs.Sound.{IsSound};
 ghost use Rattle.host_widgets.specs.Kept.{first_record, with_power};
 ghost use Rattle.host_widgets.specs.Host.{Agrees, BroughtUp, SucceedsExactly};
+ghost use Rattle.host_widgets.specs.Sides.{SameSide, world_of};
 ghost use Rattle.host_widgets.specs.Orders.{Carried, Tested, brought_end, fault_of_load, loading};
 
 use crate::answers::HostFault;
 use crate::bringing_up::bring_up;
 use crate::kept::{Power, Record};
+use crate::side::Side;
 use mbox_link::Dsp;
 use sof_io::{Inputs, Outputs};
 use tplg_plan::Plan;
 
 // Boots the device and brings it up. A failure cuts it; the record changes only once all has passed.
-fn power_up<P: Dsp>(
-    plan: &Plan,
-    kept: &mut Record,
-    heap: u32,
-    dsp: &mut P,
-    io: &mut Inputs,
-    out: &mut Outputs,
-) -> Result<(), HostFault>
-    requires plan { IsSound plan.now }
-    requires kept { kept.old ≡ first_record plan.now }
-    requires off { P.means.on dsp.old ≡ None }
-    requires heap { heap ≤ P.means.most dsp.old }
-    requires room { HasRoom (61440 * P.means.pending dsp.old) out.old }
-    ensures carried { Carried P.means plan.now heap (loading plan.now kept.old) kept.old kept.new (world dsp.old io.old out.old) (world dsp.new io.new out.new) result }
-    ensures left { BroughtUp P.means plan.now heap (first_record plan.now) dsp.old result dsp.new }
-    ensures kept { kept.new ≡ (brought_end (with_power Power.On) (first_record plan.now) kept.old result).0 }
-    ensures inputs { io.new ≡ io.old }
-    ensures outputs { out.new ≡ out.old }
+fn power_up<P: Dsp>(side: &mut Side<'_, P>) -> Result<(), HostFault>
+    requires plan { IsSound side.old.plan.now }
+    requires kept { side.old.kept.now ≡ first_record side.old.plan.now }
+    requires off { P.means.on side.old.dsp.now ≡ None }
+    requires heap { side.old.heap ≤ P.means.most side.old.dsp.now }
+    requires room { HasRoom (61440 * P.means.pending side.old.dsp.now) side.old.out.now }
+    ensures carried { Carried P.means side.old.plan.now side.old.heap (loading side.old.plan.now side.old.kept.now) side.old.kept.now side.new.kept.now (world_of side.old) (world_of side.new) result }
+    ensures left { BroughtUp P.means side.old.plan.now side.old.heap (first_record side.old.plan.now) side.old.dsp.now result side.new.dsp.now }
+    ensures kept { side.new.kept.now ≡ (brought_end (with_power Power.On) (first_record side.old.plan.now) side.old.kept.now result).0 }
+    ensures inputs { side.new.io.now ≡ side.old.io.now }
+    ensures outputs { side.new.out.now ≡ side.old.out.now }
+    ensures same { SameSide side.old side.new }
 {
-    dsp.boot(heap);
-    if let Err(fault) = bring_up(plan, kept, heap, dsp, io, out) {
-        dsp.cut();
+    side.dsp.boot(side.heap);
+    if let Err(fault) = bring_up(side.plan, side.kept, side.heap, side.dsp, side.io, side.out) {
+        side.dsp.cut();
         return Err(fault);
     }
-    kept.power = Power::On;
+    side.kept.power = Power::On;
     Ok(())
 }
 
@@ -73,7 +69,14 @@ pub fn load<P: Dsp>(
     ensures outputs { out.new ≡ out.old }
 {
     match kept.power {
-        Power::Unloaded => power_up(plan, kept, heap, dsp, io, out),
+        Power::Unloaded => power_up(&mut Side {
+            plan,
+            heap,
+            kept,
+            dsp,
+            io,
+            out,
+        }),
         Power::On | Power::Off => Err(HostFault::Loaded),
     }
 }

@@ -2,18 +2,16 @@
 ghost use Rattle.std.specs.Prelude.{◌≡◌, ◌*◌, is_some, true};
 ghost use Rattle.sof_base.specs.Ports.{HasRoom};
 ghost use Rattle.ipc3_codec.specs.Messages.{message_spelling};
-ghost use Rattle.mbox_link.specs.Calls.{world};
 ghost use Rattle.host_widgets.specs.Host.{IsRecordOf};
 ghost use Rattle.host_widgets.specs.ActCarried.{Replied, Passes, is_down};
+ghost use Rattle.host_widgets.specs.Sides.{SameSide, world_of};
 
 use crate::answers::HostFault;
 use crate::going_down::link_down;
-use crate::kept::Record;
 use crate::sending::send;
+use crate::side::Side;
 use ipc3_codec::{Message, Reply};
 use mbox_link::Dsp;
-use sof_io::{Inputs, Outputs};
-use tplg_plan::Plan;
 
 // Whether the link failed.
 fn is_down(answer: &Result<Reply, HostFault>) -> bool
@@ -23,44 +21,28 @@ fn is_down(answer: &Result<Reply, HostFault>) -> bool
 }
 
 /// Sends the message of an act, and hands on its reply. A failed link cuts the device and takes the record down.
-pub fn hear<P: Dsp>(
-    message: &Message,
-    plan: &Plan,
-    kept: &mut Record,
-    heap: u32,
-    dsp: &mut P,
-    io: &mut Inputs,
-    out: &mut Outputs,
-) -> Result<Reply, HostFault>
-    requires kept { IsRecordOf plan.now kept.old }
-    requires on { is_some (P.means.on dsp.old) ≡ true }
-    requires room { HasRoom (61440 * P.means.pending dsp.old) out.old }
-    ensures { Replied P.means heap (message_spelling message.now) kept.old kept.new
-        (world dsp.old io.old out.old) (world dsp.new io.new out.new) result }
+pub fn hear<P: Dsp>(message: &Message, side: &mut Side<'_, P>) -> Result<Reply, HostFault>
+    requires kept { IsRecordOf side.old.plan.now side.old.kept.now }
+    requires on { is_some (P.means.on side.old.dsp.now) ≡ true }
+    requires room { HasRoom (61440 * P.means.pending side.old.dsp.now) side.old.out.now }
+    ensures replied { Replied P.means side.old.heap (message_spelling message.now) side.old.kept.now side.new.kept.now (world_of side.old) (world_of side.new) result }
+    ensures same { SameSide side.old side.new }
 {
-    let answer = send(message, dsp, io, out);
+    let answer = send(message, side.dsp, side.io, side.out);
     if is_down(&answer) {
-        link_down(plan, kept, heap, dsp, io, out);
+        link_down(side.plan, side.kept, side.heap, side.dsp, side.io, side.out);
     }
     answer
 }
 
 /// The same for an act whose reply says nothing more.
-pub fn pass<P: Dsp>(
-    message: &Message,
-    plan: &Plan,
-    kept: &mut Record,
-    heap: u32,
-    dsp: &mut P,
-    io: &mut Inputs,
-    out: &mut Outputs,
-) -> Result<(), HostFault>
-    requires kept { IsRecordOf plan.now kept.old }
-    requires on { is_some (P.means.on dsp.old) ≡ true }
-    requires room { HasRoom (61440 * P.means.pending dsp.old) out.old }
-    ensures { Passes P.means heap (message_spelling message.now) kept.old kept.new
-        (world dsp.old io.old out.old) (world dsp.new io.new out.new) result }
+pub fn pass<P: Dsp>(message: &Message, side: &mut Side<'_, P>) -> Result<(), HostFault>
+    requires kept { IsRecordOf side.old.plan.now side.old.kept.now }
+    requires on { is_some (P.means.on side.old.dsp.now) ≡ true }
+    requires room { HasRoom (61440 * P.means.pending side.old.dsp.now) side.old.out.now }
+    ensures passes { Passes P.means side.old.heap (message_spelling message.now) side.old.kept.now side.new.kept.now (world_of side.old) (world_of side.new) result }
+    ensures same { SameSide side.old side.new }
 {
-    hear(message, plan, kept, heap, dsp, io, out)?;
+    hear(message, side)?;
     Ok(())
 }

@@ -1,5 +1,5 @@
 use Rattle.std.proofs.Common.{refl, subst, sym, ap, ◌∙◌}
-use Rattle.mbox_link.specs.Calls.{world}
+use Rattle.host_widgets.specs.Sides.{world_of}
 use Rattle.host_widgets.specs.Host.{Outcome}
 use Rattle.host_widgets.specs.HostActs as acts
 use Rattle.host_widgets.specs.ActCarried.{ActCarried}
@@ -12,60 +12,60 @@ use Rattle.host_ctl.proofs.carrying.ask.Goals as goal
 pub returns-in_err-reply-clause-act : goal.returns-in_err-reply-clause-act
 returns-in_err-reply-clause-act g c =
     let means = g.P.Dsp.means in
-    let plan = c.args.plan.now in
-    let kept = c.args.kept.now in
-    let w = world c.args.dsp.now c.args.io.now c.args.out.now in
-    let v = world c.hear.new.dsp c.hear.new.io c.hear.new.out in
+    let plan = c.args.side.now.plan.now in
+    let kept = c.args.side.now.kept.now in
+    let w = world_of c.args.side.now in
+    let v = world_of c.hear.new.side in
     let comp = place-control plan c.args.place c.requires.place c.items.result.now _ c.items.ensures in
-    subst (λ (o : Outcome). ActCarried means plan c.args.heap (acts.Ask (control_here plan c.args.place).comp 0) kept c.hear.new.kept w v o) (sym (ap outcome_of (handed c.from_residual.result c.in_err-reply.field-0.0 c.from_residual.ensures)))
-    (ask-ended means plan c.requires.plan c.args.heap c.args.place c.requires.place kept w c.requires.agree c.requires.power c.args.command c.requires.command _ _ refl comp c.hear.new.kept v c.hear.result c.hear.ensures c.in_err-reply.field-0.0 c.in_err-reply.was).0
+    subst (λ (o : Outcome). ActCarried means plan c.args.side.now.heap (acts.Ask (control_here plan c.args.place).comp 0) kept c.hear.new.side.kept.now w v o) (sym (ap outcome_of (handed c.from_residual.result c.in_err-reply.field-0.0 c.from_residual.ensures)))
+    (ask-ended means plan c.requires.plan c.args.side.now.heap c.args.place c.requires.place kept w c.requires.agree c.requires.power c.args.command c.requires.command _ _ refl comp c.hear.new.side.kept.now v c.hear.result c.hear.ensures.replied c.in_err-reply.field-0.0 c.in_err-reply.was).0
 
 pub returns-in_err-reply-clause-agree : goal.returns-in_err-reply-clause-agree
 returns-in_err-reply-clause-agree g c =
     let means = g.P.Dsp.means in
-    let plan = c.args.plan.now in
-    let kept = c.args.kept.now in
-    let w = world c.args.dsp.now c.args.io.now c.args.out.now in
-    let v = world c.hear.new.dsp c.hear.new.io c.hear.new.out in
+    let plan = c.args.side.now.plan.now in
+    let kept = c.args.side.now.kept.now in
+    let w = world_of c.args.side.now in
+    let v = world_of c.hear.new.side in
     let comp = place-control plan c.args.place c.requires.place c.items.result.now _ c.items.ensures in
-    (ask-ended means plan c.requires.plan c.args.heap c.args.place c.requires.place kept w c.requires.agree c.requires.power c.args.command c.requires.command _ _ refl comp c.hear.new.kept v c.hear.result c.hear.ensures c.in_err-reply.field-0.0 c.in_err-reply.was).1
+    (ask-ended means plan c.requires.plan c.args.side.now.heap c.args.place c.requires.place kept w c.requires.agree c.requires.power c.args.command c.requires.command _ _ refl comp c.hear.new.side.kept.now v c.hear.result c.hear.ensures.replied c.in_err-reply.field-0.0 c.in_err-reply.was).1
 
 pub returns-clause-act : goal.returns-clause-act
 returns-clause-act g c =
     let means = g.P.Dsp.means in
-    let plan = c.args.plan.now in
-    let kept = c.args.kept.now in
-    let w = world c.args.dsp.now c.args.io.now c.args.out.now in
-    let v = world c.hear.new.dsp c.hear.new.io c.hear.new.out in
+    let plan = c.args.side.now.plan.now in
+    let kept = c.args.side.now.kept.now in
+    let w = world_of c.args.side.now in
+    let v = world_of c.hear.new.side in
     let comp = place-control plan c.args.place c.requires.place c.items.result.now _ c.items.ensures in
-    (ask-done means plan c.requires.plan c.args.heap c.args.place c.requires.place kept w c.requires.agree c.requires.power c.args.command c.requires.command _ _ refl comp c.hear.new.kept v c.hear.result c.hear.ensures c.in_ok-reply.reply c.in_ok-reply.was).0
+    (ask-done means plan c.requires.plan c.args.side.now.heap c.args.place c.requires.place kept w c.requires.agree c.requires.power c.args.command c.requires.command _ _ refl comp c.hear.new.side.kept.now v c.hear.result c.hear.ensures.replied c.in_ok-reply.reply c.in_ok-reply.was).0
 
 pub returns-clause-answered : goal.returns-clause-answered
 returns-clause-answered g c =
     let means = g.P.Dsp.means in
-    let plan = c.args.plan.now in
-    let kept = c.args.kept.now in
-    let w = world c.args.dsp.now c.args.io.now c.args.out.now in
-    let v = world c.hear.new.dsp c.hear.new.io c.hear.new.out in
+    let plan = c.args.side.now.plan.now in
+    let kept = c.args.side.now.kept.now in
+    let w = world_of c.args.side.now in
+    let v = world_of c.hear.new.side in
     let comp = place-control plan c.args.place c.requires.place c.items.result.now _ c.items.ensures in
-    c.values_of.ensures ∙ ask-said means plan c.requires.plan c.args.heap c.args.place c.requires.place kept w c.requires.agree c.requires.power c.args.command c.requires.command _ _ refl comp c.hear.new.kept v c.hear.result c.hear.ensures c.in_ok-reply.reply c.in_ok-reply.was
+    c.values_of.ensures ∙ ask-said means plan c.requires.plan c.args.side.now.heap c.args.place c.requires.place kept w c.requires.agree c.requires.power c.args.command c.requires.command _ _ refl comp c.hear.new.side.kept.now v c.hear.result c.hear.ensures.replied c.in_ok-reply.reply c.in_ok-reply.was
 
 pub returns-clause-still : goal.returns-clause-still
 returns-clause-still g c =
     let means = g.P.Dsp.means in
-    let plan = c.args.plan.now in
-    let kept = c.args.kept.now in
-    let w = world c.args.dsp.now c.args.io.now c.args.out.now in
-    let v = world c.hear.new.dsp c.hear.new.io c.hear.new.out in
+    let plan = c.args.side.now.plan.now in
+    let kept = c.args.side.now.kept.now in
+    let w = world_of c.args.side.now in
+    let v = world_of c.hear.new.side in
     let comp = place-control plan c.args.place c.requires.place c.items.result.now _ c.items.ensures in
-    ask-still means plan c.requires.plan c.args.heap c.args.place c.requires.place kept w c.requires.agree c.requires.power c.args.command c.requires.command _ _ refl comp c.hear.new.kept v c.hear.result c.hear.ensures c.in_ok-reply.reply c.in_ok-reply.was
+    ask-still means plan c.requires.plan c.args.side.now.heap c.args.place c.requires.place kept w c.requires.agree c.requires.power c.args.command c.requires.command _ _ refl comp c.hear.new.side.kept.now v c.hear.result c.hear.ensures.replied c.in_ok-reply.reply c.in_ok-reply.was
 
 pub returns-clause-agree : goal.returns-clause-agree
 returns-clause-agree g c =
     let means = g.P.Dsp.means in
-    let plan = c.args.plan.now in
-    let kept = c.args.kept.now in
-    let w = world c.args.dsp.now c.args.io.now c.args.out.now in
-    let v = world c.hear.new.dsp c.hear.new.io c.hear.new.out in
+    let plan = c.args.side.now.plan.now in
+    let kept = c.args.side.now.kept.now in
+    let w = world_of c.args.side.now in
+    let v = world_of c.hear.new.side in
     let comp = place-control plan c.args.place c.requires.place c.items.result.now _ c.items.ensures in
-    (ask-done means plan c.requires.plan c.args.heap c.args.place c.requires.place kept w c.requires.agree c.requires.power c.args.command c.requires.command _ _ refl comp c.hear.new.kept v c.hear.result c.hear.ensures c.in_ok-reply.reply c.in_ok-reply.was).1
+    (ask-done means plan c.requires.plan c.args.side.now.heap c.args.place c.requires.place kept w c.requires.agree c.requires.power c.args.command c.requires.command _ _ refl comp c.hear.new.side.kept.now v c.hear.result c.hear.ensures.replied c.in_ok-reply.reply c.in_ok-reply.was).1

@@ -15,12 +15,12 @@ use Rattle.host_ctl.proofs.carrying.ask_parts.Goals as goal
 
 pub bounds-items-place : goal.bounds-items-place
 bounds-items-place g c =
-    subst (λ (rs : List ControlRec). c.args.place < length rs) (sym c.items.ensures) (within c.args.plan.now c.requires.plan c.args.kept.now c.requires.agree.record_is c.args.place c.requires.place)
+    subst (λ (rs : List ControlRec). c.args.place < length rs) (sym c.items.ensures) (within c.args.side.now.plan.now c.requires.plan c.args.side.now.kept.now c.requires.agree.record_is c.args.place c.requires.place)
 
 pub parts_of-count-requires : goal.parts_of-count-requires
 parts_of-count-requires g c =
-    let plan = c.args.plan.now in
-    let kept = c.args.kept.now in
+    let plan = c.args.side.now.plan.now in
+    let kept = c.args.side.now.kept.now in
     let is = c.requires.agree.record_is in
     let i = c.args.place in
     let kind = blob-kind (control_here plan i).kind c.requires.kind in
@@ -30,8 +30,8 @@ parts_of-count-requires g c =
 
 pub ask_all-requires-clause-count : goal.ask_all-requires-clause-count
 ask_all-requires-clause-count g c =
-    let plan = c.args.plan.now in
-    let kept = c.args.kept.now in
+    let plan = c.args.side.now.plan.now in
+    let kept = c.args.side.now.kept.now in
     let i = c.args.place in
     let there = within plan c.requires.plan kept c.requires.agree.record_is i c.requires.place in
     let same = ap (λ (r : ControlRec). r.blob) (place-record kept.controls i there c.items.result.now _ c.items.ensures) in
@@ -39,8 +39,8 @@ ask_all-requires-clause-count g c =
 
 pub returns-clause-answered : goal.returns-clause-answered
 returns-clause-answered g c =
-    let plan = c.args.plan.now in
-    let kept = c.args.kept.now in
+    let plan = c.args.side.now.plan.now in
+    let kept = c.args.side.now.kept.now in
     let i = c.args.place in
     let kind = blob-kind (control_here plan i).kind c.requires.kind in
     let same : c.ask_all.new.told.items ≡ (record_here kept i).blob = subst (λ (o : Outcome). IfOk o (λ done. c.ask_all.new.told.items ≡ (record_here kept i).blob)) c.in_ok-ask_all.was c.ask_all.ensures.told in

@@ -1,5 +1,5 @@
 use Rattle.std.proofs.Common.{◌<◌, ℕ, length, subst, sym, ap}
-use Rattle.mbox_link.specs.Calls.{world}
+use Rattle.host_widgets.specs.Sides.{world_of}
 use Rattle.tplg_plan.specs.declared.plans.ControlPlan.{ControlPlan}
 use Rattle.host_widgets.specs.declared.kept.Record.{Record}
 use Rattle.host_widgets.specs.Host.{Outcome}
@@ -14,39 +14,40 @@ use Rattle.host_ctl.proofs.ControlsThere.{within}
 use Rattle.host_ctl.proofs.carrying.install.Goals as goal
 
 pub pass_parts-requires-clause-blob : goal.pass_parts-requires-clause-blob
-pass_parts-requires-clause-blob g c = a-blob c.args.plan.now c.requires.plan c.args.kept.now c.requires.agree.record_is c.args.place c.requires.place c.args.blob.now c.requires.blob
+pass_parts-requires-clause-blob g c = a-blob c.args.side.now.plan.now c.requires.plan c.args.side.now.kept.now c.requires.agree.record_is c.args.place c.requires.place c.args.blob.now c.requires.blob
 
 pub pass_parts-requires-clause-on : goal.pass_parts-requires-clause-on
-pass_parts-requires-clause-on g c = is-powered g.P.Dsp.means c.args.plan.now c.args.kept.now c.args.dsp.now c.requires.agree c.requires.power
+pass_parts-requires-clause-on g c = is-powered g.P.Dsp.means c.args.side.now.plan.now c.args.side.now.kept.now c.args.side.now.dsp.now c.requires.agree c.requires.power
 
 pub returns-in_err-pass_parts : goal.returns-in_err-pass_parts
 returns-in_err-pass_parts g c =
     let means = g.P.Dsp.means in
-    let plan = c.args.plan.now in
-    let kept = c.args.kept.now in
-    let w = world c.args.dsp.now c.args.io.now c.args.out.now in
-    let v = world c.pass_parts.new.dsp c.pass_parts.new.io c.pass_parts.new.out in
+    let plan = c.args.side.now.plan.now in
+    let kept = c.args.side.now.kept.now in
+    let w = world_of c.args.side.now in
+    let v = world_of c.pass_parts.new.side in
     let comp = place-control plan c.args.place c.requires.place c.items.result.now c.index-items-place.result c.items.ensures in
-    let x = subst (λ (id : ℕ). PartsPass means plan c.args.heap id c.args.blob.now kept c.pass_parts.new.kept w v c.pass_parts.result) (ap (λ (k : ControlPlan). k.comp) comp) c.pass_parts.ensures in
-    let both = parts-ended plan c.requires.plan kept c.requires.agree.record_is c.args.place c.requires.place c.args.blob.now c.requires.blob means c.args.heap w c.requires.agree c.requires.power c.pass_parts.new.kept v c.pass_parts.result x c.in_err-pass_parts.field-0.0 c.in_err-pass_parts.was in
+    let x = subst (λ (id : ℕ). PartsPass means plan c.args.side.now.heap id c.args.blob.now kept c.pass_parts.new.side.kept.now w v c.pass_parts.result) (ap (λ (k : ControlPlan). k.comp) comp) c.pass_parts.ensures.passes in
+    let both = parts-ended plan c.requires.plan kept c.requires.agree.record_is c.args.place c.requires.place c.args.blob.now c.requires.blob means c.args.side.now.heap w c.requires.agree c.requires.power c.pass_parts.new.side.kept.now v c.pass_parts.result x c.in_err-pass_parts.field-0.0 c.in_err-pass_parts.was in
     record {
-      carried = subst (λ (o : Outcome). Carried means plan c.args.heap (bytes_order_at plan kept (control_here plan c.args.place).comp c.args.blob.now) kept c.pass_parts.new.kept w v o) (sym (handed_on c.from_residual.result c.in_err-pass_parts.field-0.0 c.from_residual.ensures)) both.0;
+      carried = subst (λ (o : Outcome). Carried means plan c.args.side.now.heap (bytes_order_at plan kept (control_here plan c.args.place).comp c.args.blob.now) kept c.pass_parts.new.side.kept.now w v o) (sym (handed_on c.from_residual.result c.in_err-pass_parts.field-0.0 c.from_residual.ensures)) both.0;
       agree = both.1;
+      same = c.pass_parts.ensures.same;
     }
 
 pub keep_blob-requires : goal.keep_blob-requires
 keep_blob-requires g c =
     let means = g.P.Dsp.means in
-    let plan = c.args.plan.now in
-    let kept = c.args.kept.now in
+    let plan = c.args.side.now.plan.now in
+    let kept = c.args.side.now.kept.now in
     let is = c.requires.agree.record_is in
-    let w = world c.args.dsp.now c.args.io.now c.args.out.now in
-    let v = world c.pass_parts.new.dsp c.pass_parts.new.io c.pass_parts.new.out in
+    let w = world_of c.args.side.now in
+    let v = world_of c.pass_parts.new.side in
     let comp = place-control plan c.args.place c.requires.place c.items.result.now c.index-items-place.result c.items.ensures in
-    let x = subst (λ (id : ℕ). PartsPass means plan c.args.heap id c.args.blob.now kept c.pass_parts.new.kept w v c.pass_parts.result) (ap (λ (k : ControlPlan). k.comp) comp) c.pass_parts.ensures in
+    let x = subst (λ (id : ℕ). PartsPass means plan c.args.side.now.heap id c.args.blob.now kept c.pass_parts.new.side.kept.now w v c.pass_parts.result) (ap (λ (k : ControlPlan). k.comp) comp) c.pass_parts.ensures.passes in
     record {
       place = subst (λ (now : Record). c.args.place < length now.controls)
-          (sym (parts-still plan c.requires.plan kept is c.args.place c.requires.place c.args.blob.now c.requires.blob means c.args.heap w c.requires.agree c.requires.power c.pass_parts.new.kept v c.pass_parts.result x c.in_ok-pass_parts.was))
+          (sym (parts-still plan c.requires.plan kept is c.args.place c.requires.place c.args.blob.now c.requires.blob means c.args.side.now.heap w c.requires.agree c.requires.power c.pass_parts.new.side.kept.now v c.pass_parts.result x c.in_ok-pass_parts.was))
           (within plan c.requires.plan kept is c.args.place c.requires.place);
       few = (blob-long c.args.blob.now (a-blob plan c.requires.plan kept is c.args.place c.requires.place c.args.blob.now c.requires.blob)).1;
     }
@@ -54,11 +55,12 @@ keep_blob-requires g c =
 pub returns : goal.returns
 returns g c =
     let means = g.P.Dsp.means in
-    let plan = c.args.plan.now in
-    let kept = c.args.kept.now in
-    let w = world c.args.dsp.now c.args.io.now c.args.out.now in
-    let v = world c.pass_parts.new.dsp c.pass_parts.new.io c.pass_parts.new.out in
+    let plan = c.args.side.now.plan.now in
+    let kept = c.args.side.now.kept.now in
+    let w = world_of c.args.side.now in
+    let v = world_of c.pass_parts.new.side in
     let comp = place-control plan c.args.place c.requires.place c.items.result.now c.index-items-place.result c.items.ensures in
-    let x = subst (λ (id : ℕ). PartsPass means plan c.args.heap id c.args.blob.now kept c.pass_parts.new.kept w v c.pass_parts.result) (ap (λ (k : ControlPlan). k.comp) comp) c.pass_parts.ensures in
-    let both = parts-done plan c.requires.plan kept c.requires.agree.record_is c.args.place c.requires.place c.args.blob.now c.requires.blob means c.args.heap w c.requires.agree c.requires.power c.pass_parts.new.kept v c.pass_parts.result x c.in_ok-pass_parts.was c.keep_blob.new.kept c.keep_blob.ensures in
-    record { carried = both.0; agree = both.1 }
+    let x = subst (λ (id : ℕ). PartsPass means plan c.args.side.now.heap id c.args.blob.now kept c.pass_parts.new.side.kept.now w v c.pass_parts.result) (ap (λ (k : ControlPlan). k.comp) comp) c.pass_parts.ensures.passes in
+    let both = parts-done plan c.requires.plan kept c.requires.agree.record_is c.args.place c.requires.place c.args.blob.now c.requires.blob means c.args.side.now.heap w c.requires.agree c.requires.power c.pass_parts.new.side.kept.now v c.pass_parts.result x c.in_ok-pass_parts.was c.keep_blob.new.kept c.keep_blob.ensures in
+    let same = c.pass_parts.ensures.same in
+    record { carried = both.0; agree = both.1; same = record { plan = same.plan; heap = same.heap; kept = same.kept; dsp = same.dsp; io = same.io; out = same.out } }

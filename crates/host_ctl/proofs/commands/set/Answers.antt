@@ -1,7 +1,9 @@
-use Rattle.std.proofs.Common.{◌≡◌, ℕ, List, unwrap_or, subst, sym, ap, ◌∙◌}
-use Rattle.mbox_link.specs.Calls.{world}
+use Rattle.std.proofs.Common.{◌≡◌, ℕ, List, unwrap_or, subst, sym, ap, ◌∙◌, rules}
+use Rattle.mbox_link.specs.Calls.{World, world}
+use Rattle.host_widgets.specs.Sides.{world_of}
 use Rattle.tplg_plan.specs.declared.plans.ControlPlan.{ControlPlan}
-use Rattle.host_widgets.specs.Orders.{Order, Carried}
+use Rattle.host_widgets.specs.declared.kept.Record.{Record}
+use Rattle.host_widgets.specs.Orders.{Order, Carried, Tested}
 use Rattle.host_ctl.specs.ControlAsks.{channels_of, spread, set_fault}
 use Rattle.host_ctl.specs.ControlOrders.{MaySet, put_order, set_order}
 use Rattle.host_ctl.specs.ControlPlaces.{control_here}
@@ -51,9 +53,10 @@ returns-clause-asked g c =
     let at = c.in_ok-place.ensures.place in
     let low = place-low plan name i at in
     let named = named-here plan c.requires.plan kept c.requires.agree.record_is i low name at in
-    let v = world c.set.new.dsp c.set.new.io c.set.new.out in
+    let v = world_of c.set.new.side in
     let k = control_here plan i in
     let all : c.all_values-all.result ≡ spread (unwrap_or (channels_of k.kind) 0) c.args.values.now = c.all_values-all.ensures ∙ ap (λ (x : ControlPlan). spread (unwrap_or (channels_of x.kind) 0) c.args.values.now) (place-control plan i low c.items.result.now _ c.items.ensures) in
-    tested-late means plan c.args.heap (set_fault plan kept name c.args.values.now) (set_order plan kept name c.args.values.now) kept w c.set.new.kept v c.set.result c.in_ok-place.ensures.none
-    (subst (λ (o : Order). Carried means plan c.args.heap o kept c.set.new.kept w v c.set.result)
-    (ap (put_order plan kept k.comp) all ∙ set-named means plan c.requires.plan c.args.heap i low kept w c.requires.agree name named c.args.values.now) c.set.ensures.carried)
+    subst (λ (e : Record × World g.row.P.Denot). Tested means plan c.args.heap (set_fault plan kept name c.args.values.now) (set_order plan kept name c.args.values.now) kept e.0 w e.1 c.set.result) (search rules)
+    (tested-late means plan c.args.heap (set_fault plan kept name c.args.values.now) (set_order plan kept name c.args.values.now) kept w c.set.new.side.kept.now v c.set.result c.in_ok-place.ensures.none
+    (subst (λ (o : Order). Carried means plan c.args.heap o kept c.set.new.side.kept.now w v c.set.result)
+    (ap (put_order plan kept k.comp) all ∙ set-named means plan c.requires.plan c.args.heap i low kept w c.requires.agree name named c.args.values.now) c.set.ensures.carried))

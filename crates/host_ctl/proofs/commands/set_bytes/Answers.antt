@@ -1,6 +1,8 @@
-use Rattle.std.proofs.Common.{subst}
-use Rattle.mbox_link.specs.Calls.{world}
-use Rattle.host_widgets.specs.Orders.{Order, Carried}
+use Rattle.std.proofs.Common.{subst, rules}
+use Rattle.mbox_link.specs.Calls.{World, world}
+use Rattle.host_widgets.specs.Sides.{world_of}
+use Rattle.host_widgets.specs.declared.kept.Record.{Record}
+use Rattle.host_widgets.specs.Orders.{Order, Carried, Tested}
 use Rattle.host_ctl.specs.ControlAsks.{bytes_fault}
 use Rattle.host_ctl.specs.ControlOrders.{bytes_order}
 use Rattle.host_ctl.specs.ControlPlaces.{control_here}
@@ -32,7 +34,8 @@ returns-clause-asked g c =
     let at = c.in_ok-place.ensures.place in
     let low = place-low plan name i at in
     let named = named-here plan c.requires.plan kept c.requires.agree.record_is i low name at in
-    let v = world c.set_bytes.new.dsp c.set_bytes.new.io c.set_bytes.new.out in
-    tested-late means plan c.args.heap (bytes_fault plan kept name c.args.blob.now) (bytes_order plan kept name c.args.blob.now) kept w c.set_bytes.new.kept v c.set_bytes.result c.in_ok-place.ensures.none
-    (subst (λ (o : Order). Carried means plan c.args.heap o kept c.set_bytes.new.kept w v c.set_bytes.result)
-    (bytes-named means plan c.requires.plan c.args.heap i low kept w c.requires.agree name named c.args.blob.now) c.set_bytes.ensures.carried)
+    let v = world_of c.set_bytes.new.side in
+    subst (λ (e : Record × World g.row.P.Denot). Tested means plan c.args.heap (bytes_fault plan kept name c.args.blob.now) (bytes_order plan kept name c.args.blob.now) kept e.0 w e.1 c.set_bytes.result) (search rules)
+    (tested-late means plan c.args.heap (bytes_fault plan kept name c.args.blob.now) (bytes_order plan kept name c.args.blob.now) kept w c.set_bytes.new.side.kept.now v c.set_bytes.result c.in_ok-place.ensures.none
+    (subst (λ (o : Order). Carried means plan c.args.heap o kept c.set_bytes.new.side.kept.now w v c.set_bytes.result)
+    (bytes-named means plan c.requires.plan c.args.heap i low kept w c.requires.agree name named c.args.blob.now) c.set_bytes.ensures.carried))

@@ -1,5 +1,5 @@
 use Rattle.std.proofs.Common.{Ok, refl, ap, subst, sym}
-use Rattle.mbox_link.specs.Calls.{world}
+use Rattle.host_widgets.specs.Sides.{world_of}
 use Rattle.tplg_plan.specs.declared.plans.StreamPlan.{StreamPlan}
 use Rattle.host_widgets.specs.declared.kept.Record.{Record}
 use Rattle.host_widgets.specs.HostActs.{Free}
@@ -14,44 +14,44 @@ use Rattle.host_pcm.proofs.carrying.free.Goals as goal
 pub returns-in_err-pass-clause-act : goal.returns-in_err-pass-clause-act
 returns-in_err-pass-clause-act g c =
     let means = g.P.Dsp.means in
-    let plan = c.args.plan.now in
-    let kept = c.args.kept.now in
-    let w = world c.args.dsp.now c.args.io.now c.args.out.now in
-    let v = world c.pass.new.dsp c.pass.new.io c.pass.new.out in
+    let plan = c.args.side.now.plan.now in
+    let kept = c.args.side.now.kept.now in
+    let w = world_of c.args.side.now in
+    let v = world_of c.pass.new.side in
     let host = ap (λ (s : StreamPlan). s.host) (place-stream plan c.args.place c.requires.place c.items.result.now _ c.items.ensures) in
-    subst (λ (o : Outcome). ActCarried means plan c.args.heap (Free (host_at plan c.args.place)) kept c.pass.new.kept w v o) (sym (handed_on c.from_residual.result c.in_err-pass.field-0.0 c.from_residual.ensures))
-    (free-ended means plan c.requires.plan c.args.heap c.args.place c.requires.place kept w c.requires.agree c.requires.power c.requires.found _ _ refl host c.pass.new.kept v c.pass.result c.pass.ensures c.in_err-pass.field-0.0 c.in_err-pass.was).0
+    subst (λ (o : Outcome). ActCarried means plan c.args.side.now.heap (Free (host_at plan c.args.place)) kept c.pass.new.side.kept.now w v o) (sym (handed_on c.from_residual.result c.in_err-pass.field-0.0 c.from_residual.ensures))
+    (free-ended means plan c.requires.plan c.args.side.now.heap c.args.place c.requires.place kept w c.requires.agree c.requires.power c.requires.found _ _ refl host c.pass.new.side.kept.now v c.pass.result c.pass.ensures.passes c.in_err-pass.field-0.0 c.in_err-pass.was).0
 
 pub returns-in_err-pass-clause-agree : goal.returns-in_err-pass-clause-agree
 returns-in_err-pass-clause-agree g c =
     let means = g.P.Dsp.means in
-    let plan = c.args.plan.now in
-    let kept = c.args.kept.now in
-    let w = world c.args.dsp.now c.args.io.now c.args.out.now in
-    let v = world c.pass.new.dsp c.pass.new.io c.pass.new.out in
+    let plan = c.args.side.now.plan.now in
+    let kept = c.args.side.now.kept.now in
+    let w = world_of c.args.side.now in
+    let v = world_of c.pass.new.side in
     let host = ap (λ (s : StreamPlan). s.host) (place-stream plan c.args.place c.requires.place c.items.result.now _ c.items.ensures) in
-    (free-ended means plan c.requires.plan c.args.heap c.args.place c.requires.place kept w c.requires.agree c.requires.power c.requires.found _ _ refl host c.pass.new.kept v c.pass.result c.pass.ensures c.in_err-pass.field-0.0 c.in_err-pass.was).1
+    (free-ended means plan c.requires.plan c.args.side.now.heap c.args.place c.requires.place kept w c.requires.agree c.requires.power c.requires.found _ _ refl host c.pass.new.side.kept.now v c.pass.result c.pass.ensures.passes c.in_err-pass.field-0.0 c.in_err-pass.was).1
 
 pub returns-clause-act : goal.returns-clause-act
 returns-clause-act g c =
     let means = g.P.Dsp.means in
-    let plan = c.args.plan.now in
-    let kept = c.args.kept.now in
-    let w = world c.args.dsp.now c.args.io.now c.args.out.now in
-    let v = world c.pass.new.dsp c.pass.new.io c.pass.new.out in
+    let plan = c.args.side.now.plan.now in
+    let kept = c.args.side.now.kept.now in
+    let w = world_of c.args.side.now in
+    let v = world_of c.pass.new.side in
     let host = ap (λ (s : StreamPlan). s.host) (place-stream plan c.args.place c.requires.place c.items.result.now _ c.items.ensures) in
-    subst (λ (new : Record). ActCarried means plan c.args.heap (Free (host_at plan c.args.place)) kept new w v (Ok tt)) (sym c.shut.ensures)
-    (free-done means plan c.requires.plan c.args.heap c.args.place c.requires.place kept w c.requires.agree c.requires.power c.requires.found _ _ refl host c.pass.new.kept v c.pass.result c.pass.ensures c.in_ok-pass.was _
+    subst (λ (new : Record). ActCarried means plan c.args.side.now.heap (Free (host_at plan c.args.place)) kept new w v (Ok tt)) (sym c.shut.ensures)
+    (free-done means plan c.requires.plan c.args.side.now.heap c.args.place c.requires.place kept w c.requires.agree c.requires.power c.requires.found _ _ refl host c.pass.new.side.kept.now v c.pass.result c.pass.ensures.passes c.in_ok-pass.was _
     refl _ refl).0
 
 pub returns-clause-agree : goal.returns-clause-agree
 returns-clause-agree g c =
     let means = g.P.Dsp.means in
-    let plan = c.args.plan.now in
-    let kept = c.args.kept.now in
-    let w = world c.args.dsp.now c.args.io.now c.args.out.now in
-    let v = world c.pass.new.dsp c.pass.new.io c.pass.new.out in
+    let plan = c.args.side.now.plan.now in
+    let kept = c.args.side.now.kept.now in
+    let w = world_of c.args.side.now in
+    let v = world_of c.pass.new.side in
     let host = ap (λ (s : StreamPlan). s.host) (place-stream plan c.args.place c.requires.place c.items.result.now _ c.items.ensures) in
     subst (λ (new : Record). Agrees means plan new v.device) (sym c.shut.ensures)
-    (free-done means plan c.requires.plan c.args.heap c.args.place c.requires.place kept w c.requires.agree c.requires.power c.requires.found _ _ refl host c.pass.new.kept v c.pass.result c.pass.ensures c.in_ok-pass.was _
+    (free-done means plan c.requires.plan c.args.side.now.heap c.args.place c.requires.place kept w c.requires.agree c.requires.power c.requires.found _ _ refl host c.pass.new.side.kept.now v c.pass.result c.pass.ensures.passes c.in_ok-pass.was _
     refl _ refl).1

@@ -1,5 +1,5 @@
 use Rattle.std.proofs.Common.{refl}
-use Rattle.mbox_link.specs.Calls.{world}
+use Rattle.host_widgets.specs.Sides.{world_of}
 use Rattle.host_widgets.specs.declared.answers.Answer.TheVariants.{Done}
 use Rattle.host_widgets.specs.HostActs.{Trig}
 use Rattle.host_pcm.specs.declared.asking.Ask.TheVariants.{Triggering}
@@ -11,11 +11,11 @@ use Rattle.host_pcm.proofs.commands.trigger.Goals as goal
 pub returns-clause-asked : goal.returns-clause-asked
 returns-clause-asked g c =
     let means = g.P.Dsp.means in
-    let plan = c.args.plan.now in
-    let kept = c.args.kept.now in
-    let w = world c.args.dsp.now c.args.io.now c.args.out.now in
-    let v = world c.trigger.new.dsp c.trigger.new.io c.trigger.new.out in
+    let plan = c.args.side.now.plan.now in
+    let kept = c.args.side.now.kept.now in
+    let w = world_of c.args.side.now in
+    let v = world_of c.trigger.new.side in
     let k = c.in_ok-place.place in
     let at = found_place plan kept c.args.name.now (Triggering c.args.what) c.tested.result k c.tested.ensures.place c.tested.ensures.none c.in_ok-place.was in
-    asked-late plan kept c.args.name.now (Triggering c.args.what) means c.args.heap w k c.trigger.new.kept v c.trigger.result at
-    (one-order means plan c.args.heap (Trig (host_at plan k) c.args.what) (λ now. now) Done kept c.trigger.new.kept w v c.trigger.result (at.stood.powered refl) c.trigger.ensures.act (λ passed. refl))
+    asked-late plan kept c.args.name.now (Triggering c.args.what) means c.args.side.now.heap w k c.trigger.new.side.kept.now v c.trigger.result at
+    (one-order means plan c.args.side.now.heap (Trig (host_at plan k) c.args.what) (λ now. now) Done kept c.trigger.new.side.kept.now w v c.trigger.result (at.stood.powered refl) c.trigger.ensures.act (λ passed. refl))

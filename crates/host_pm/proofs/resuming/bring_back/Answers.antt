@@ -1,6 +1,7 @@
 use Rattle.std.proofs.Common.{refl, ap, subst, sym, ◌∙◌, is_some, length, zip, false}
 use Rattle.std.specs.List.{flat_map}
 use Rattle.sof_base.specs.Ports.{Io}
+use Rattle.host_widgets.specs.Sides.{world_of}
 use Rattle.mbox_link.specs.Calls.{world}
 use Rattle.host_widgets.specs.ActLists.{bring_up, bring_back, prepare_acts}
 use Rattle.host_widgets.specs.Host.{BroughtUp, Outcome, ticks_put}
@@ -18,24 +19,24 @@ prepare_all-requires-clause-streams g c = ap (λ (r : Record). length r.streams)
 pub prepare_all-requires-clause-on : goal.prepare_all-requires-clause-on
 prepare_all-requires-clause-on g c =
     let came = c.bring_up.ensures.acts in
-    did-on g.P.Dsp.means c.args.plan.now c.args.heap false (bring_up c.args.plan.now c.args.kept.now) came.meetings c.args.kept.now (world c.args.dsp.now c.args.io.now c.args.out.now) (world c.bring_up.new.dsp c.bring_up.new.io c.bring_up.new.out) came.did (ap is_some c.requires.booted)
+    did-on g.P.Dsp.means c.args.side.now.plan.now c.args.side.now.heap false (bring_up c.args.side.now.plan.now c.args.side.now.kept.now) came.meetings c.args.side.now.kept.now (world_of c.args.side.now) (world c.bring_up.new.dsp c.bring_up.new.io c.bring_up.new.out) came.did (ap is_some c.requires.booted)
 
 pub prepare_all-requires-clause-room : goal.prepare_all-requires-clause-room
 prepare_all-requires-clause-room g c =
     let came = c.bring_up.ensures.acts in
-    did-room g.P.Dsp.means c.args.plan.now c.args.heap false (bring_up c.args.plan.now c.args.kept.now) came.meetings c.args.kept.now (world c.args.dsp.now c.args.io.now c.args.out.now) (world c.bring_up.new.dsp c.bring_up.new.io c.bring_up.new.out) came.did c.requires.room
+    did-room g.P.Dsp.means c.args.side.now.plan.now c.args.side.now.heap false (bring_up c.args.side.now.plan.now c.args.side.now.kept.now) came.meetings c.args.side.now.kept.now (world_of c.args.side.now) (world c.bring_up.new.dsp c.bring_up.new.io c.bring_up.new.out) came.did c.requires.room
 
 pub returns-in_err-bring_up-clause-acts : goal.returns-in_err-bring_up-clause-acts
 returns-in_err-bring_up-clause-acts g c =
     let means = g.P.Dsp.means in
-    let plan = c.args.plan.now in
-    let kept = c.args.kept.now in
-    let w = world c.args.dsp.now c.args.io.now c.args.out.now in
+    let plan = c.args.side.now.plan.now in
+    let kept = c.args.side.now.kept.now in
+    let w = world_of c.args.side.now in
     let m = world c.bring_up.new.dsp c.bring_up.new.io c.bring_up.new.out in
     let fault = c.in_err-bring_up.field-0.0 in
-    let x = subst (λ (o : Outcome). ActsCame means plan c.args.heap false (bring_up plan kept) kept c.bring_up.new.kept w m o) c.in_err-bring_up.was c.bring_up.ensures.acts in
-    subst (λ (r : Record). ActsCame means plan c.args.heap false (bring_back plan kept) kept r w m c.from_residual.result) (sym c.bring_up.ensures.kept)
-    (back-failed means plan c.args.heap c.requires.plan kept c.requires.kept c.requires.rests c.bring_up.new.kept w m fault c.from_residual.result x (handed_on c.from_residual.result fault c.from_residual.ensures))
+    let x = subst (λ (o : Outcome). ActsCame means plan c.args.side.now.heap false (bring_up plan kept) kept c.bring_up.new.kept w m o) c.in_err-bring_up.was c.bring_up.ensures.acts in
+    subst (λ (r : Record). ActsCame means plan c.args.side.now.heap false (bring_back plan kept) kept r w m c.from_residual.result) (sym c.bring_up.ensures.kept)
+    (back-failed means plan c.args.side.now.heap c.requires.plan kept c.requires.kept c.requires.rests c.bring_up.new.kept w m fault c.from_residual.result x (handed_on c.from_residual.result fault c.from_residual.ensures))
 
 pub returns-in_err-bring_up-clause-shows : goal.returns-in_err-bring_up-clause-shows
 returns-in_err-bring_up-clause-shows g c ok = absurd (cc (sym (handed_on c.from_residual.result c.in_err-bring_up.field-0.0 c.from_residual.ensures) ∙ ok))
@@ -43,29 +44,29 @@ returns-in_err-bring_up-clause-shows g c ok = absurd (cc (sym (handed_on c.from_
 pub returns-clause-acts : goal.returns-clause-acts
 returns-clause-acts g c =
     let means = g.P.Dsp.means in
-    let plan = c.args.plan.now in
-    let kept = c.args.kept.now in
-    let w = world c.args.dsp.now c.args.io.now c.args.out.now in
+    let plan = c.args.side.now.plan.now in
+    let kept = c.args.side.now.kept.now in
+    let w = world_of c.args.side.now in
     let m = world c.bring_up.new.dsp c.bring_up.new.io c.bring_up.new.out in
     let v = world c.prepare_all.new.dsp c.prepare_all.new.io c.prepare_all.new.out in
-    let x = subst (λ (o : Outcome). ActsCame means plan c.args.heap false (bring_up plan kept) kept c.bring_up.new.kept w m o) c.in_ok-bring_up.was c.bring_up.ensures.acts in
-    let left = subst (λ (o : Outcome). BroughtUp means plan c.args.heap kept c.args.dsp.now o c.bring_up.new.dsp) c.in_ok-bring_up.was c.bring_up.ensures.left in
+    let x = subst (λ (o : Outcome). ActsCame means plan c.args.side.now.heap false (bring_up plan kept) kept c.bring_up.new.kept w m o) c.in_ok-bring_up.was c.bring_up.ensures.acts in
+    let left = subst (λ (o : Outcome). BroughtUp means plan c.args.side.now.heap kept c.args.side.now.dsp.now o c.bring_up.new.dsp) c.in_ok-bring_up.was c.bring_up.ensures.left in
     let turn = subst (λ (r : Record). InTurn means plan false (flat_map prepare_acts (zip plan.streams r.streams)) m v c.prepare_all.result) c.bring_up.ensures.kept c.prepare_all.ensures in
-    subst (λ (r : Record). ActsCame means plan c.args.heap false (bring_back plan kept) kept r w v c.prepare_all.result) (sym c.bring_up.ensures.kept)
-    (back-came means plan c.args.heap c.requires.plan kept c.requires.kept c.requires.rests c.bring_up.new.kept w m v c.prepare_all.result x (ticks_put means c.args.dsp.now c.bring_up.new.dsp) left turn)
+    subst (λ (r : Record). ActsCame means plan c.args.side.now.heap false (bring_back plan kept) kept r w v c.prepare_all.result) (sym c.bring_up.ensures.kept)
+    (back-came means plan c.args.side.now.heap c.requires.plan kept c.requires.kept c.requires.rests c.bring_up.new.kept w m v c.prepare_all.result x (ticks_put means c.args.side.now.dsp.now c.bring_up.new.dsp) left turn)
 
 pub returns-clause-shows : goal.returns-clause-shows
 returns-clause-shows g c ok =
     let means = g.P.Dsp.means in
-    let plan = c.args.plan.now in
-    let kept = c.args.kept.now in
-    let w = world c.args.dsp.now c.args.io.now c.args.out.now in
+    let plan = c.args.side.now.plan.now in
+    let kept = c.args.side.now.kept.now in
+    let w = world_of c.args.side.now in
     let m = world c.bring_up.new.dsp c.bring_up.new.io c.bring_up.new.out in
     let v = world c.prepare_all.new.dsp c.prepare_all.new.io c.prepare_all.new.out in
-    let x = subst (λ (o : Outcome). ActsCame means plan c.args.heap false (bring_up plan kept) kept c.bring_up.new.kept w m o) c.in_ok-bring_up.was c.bring_up.ensures.acts in
-    let left = subst (λ (o : Outcome). BroughtUp means plan c.args.heap kept c.args.dsp.now o c.bring_up.new.dsp) c.in_ok-bring_up.was c.bring_up.ensures.left in
+    let x = subst (λ (o : Outcome). ActsCame means plan c.args.side.now.heap false (bring_up plan kept) kept c.bring_up.new.kept w m o) c.in_ok-bring_up.was c.bring_up.ensures.acts in
+    let left = subst (λ (o : Outcome). BroughtUp means plan c.args.side.now.heap kept c.args.side.now.dsp.now o c.bring_up.new.dsp) c.in_ok-bring_up.was c.bring_up.ensures.left in
     let turn = subst (λ (r : Record). InTurn means plan false (flat_map prepare_acts (zip plan.streams r.streams)) m v c.prepare_all.result) c.bring_up.ensures.kept c.prepare_all.ensures in
-    back-shows means plan c.args.heap c.requires.plan kept c.requires.kept c.requires.rests c.bring_up.new.kept w m v c.prepare_all.result x (ticks_put means c.args.dsp.now c.bring_up.new.dsp) left turn ok
+    back-shows means plan c.args.side.now.heap c.requires.plan kept c.requires.kept c.requires.rests c.bring_up.new.kept w m v c.prepare_all.result x (ticks_put means c.args.side.now.dsp.now c.bring_up.new.dsp) left turn ok
 
 pub returns-in_err-bring_up-clause-left : goal.returns-in_err-bring_up-clause-left
 returns-in_err-bring_up-clause-left g c ok = absurd (cc (sym (handed_on c.from_residual.result c.in_err-bring_up.field-0.0 c.from_residual.ensures) ∙ ok))
@@ -73,16 +74,16 @@ returns-in_err-bring_up-clause-left g c ok = absurd (cc (sym (handed_on c.from_r
 pub returns-clause-left : goal.returns-clause-left
 returns-clause-left g c ok =
     let means = g.P.Dsp.means in
-    let plan = c.args.plan.now in
-    let kept = c.args.kept.now in
-    let w = world c.args.dsp.now c.args.io.now c.args.out.now in
+    let plan = c.args.side.now.plan.now in
+    let kept = c.args.side.now.kept.now in
+    let w = world_of c.args.side.now in
     let m = world c.bring_up.new.dsp c.bring_up.new.io c.bring_up.new.out in
     let v = world c.prepare_all.new.dsp c.prepare_all.new.io c.prepare_all.new.out in
-    let x = subst (λ (o : Outcome). ActsCame means plan c.args.heap false (bring_up plan kept) kept c.bring_up.new.kept w m o) c.in_ok-bring_up.was c.bring_up.ensures.acts in
-    let left = subst (λ (o : Outcome). BroughtUp means plan c.args.heap kept c.args.dsp.now o c.bring_up.new.dsp) c.in_ok-bring_up.was c.bring_up.ensures.left in
+    let x = subst (λ (o : Outcome). ActsCame means plan c.args.side.now.heap false (bring_up plan kept) kept c.bring_up.new.kept w m o) c.in_ok-bring_up.was c.bring_up.ensures.acts in
+    let left = subst (λ (o : Outcome). BroughtUp means plan c.args.side.now.heap kept c.args.side.now.dsp.now o c.bring_up.new.dsp) c.in_ok-bring_up.was c.bring_up.ensures.left in
     let turn = subst (λ (r : Record). InTurn means plan false (flat_map prepare_acts (zip plan.streams r.streams)) m v c.prepare_all.result) c.bring_up.ensures.kept c.prepare_all.ensures in
-    let are : AreInputs c.args.io.now = record { distinct = c.len-inputs.ensures.distinct; positions = c.len-inputs.ensures.within } in
-    back-left means plan c.args.heap c.requires.plan kept c.requires.kept c.requires.rests c.bring_up.new.kept w m v c.prepare_all.result x (ticks_put means c.args.dsp.now c.bring_up.new.dsp) left turn refl
+    let are : AreInputs c.args.side.now.io.now = record { distinct = c.len-inputs.ensures.distinct; positions = c.len-inputs.ensures.within } in
+    back-left means plan c.args.side.now.heap c.requires.plan kept c.requires.kept c.requires.rests c.bring_up.new.kept w m v c.prepare_all.result x (ticks_put means c.args.side.now.dsp.now c.bring_up.new.dsp) left turn refl
     (subst AreInputs (sym c.bring_up.ensures.inputs) are) ok
 
 -- ---- the endpoints
@@ -90,33 +91,33 @@ returns-clause-left g c ok =
 pub returns-clause-inputs : goal.returns-clause-inputs
 returns-clause-inputs g c =
     let means = g.P.Dsp.means in
-    let plan = c.args.plan.now in
-    let kept = c.args.kept.now in
-    let w = world c.args.dsp.now c.args.io.now c.args.out.now in
+    let plan = c.args.side.now.plan.now in
+    let kept = c.args.side.now.kept.now in
+    let w = world_of c.args.side.now in
     let m = world c.bring_up.new.dsp c.bring_up.new.io c.bring_up.new.out in
     let v = world c.prepare_all.new.dsp c.prepare_all.new.io c.prepare_all.new.out in
-    let x = subst (λ (o : Outcome). ActsCame means plan c.args.heap false (bring_up plan kept) kept c.bring_up.new.kept w m o) c.in_ok-bring_up.was c.bring_up.ensures.acts in
-    let left = subst (λ (o : Outcome). BroughtUp means plan c.args.heap kept c.args.dsp.now o c.bring_up.new.dsp) c.in_ok-bring_up.was c.bring_up.ensures.left in
+    let x = subst (λ (o : Outcome). ActsCame means plan c.args.side.now.heap false (bring_up plan kept) kept c.bring_up.new.kept w m o) c.in_ok-bring_up.was c.bring_up.ensures.acts in
+    let left = subst (λ (o : Outcome). BroughtUp means plan c.args.side.now.heap kept c.args.side.now.dsp.now o c.bring_up.new.dsp) c.in_ok-bring_up.was c.bring_up.ensures.left in
     let turn = subst (λ (r : Record). InTurn means plan false (flat_map prepare_acts (zip plan.streams r.streams)) m v c.prepare_all.result) c.bring_up.ensures.kept c.prepare_all.ensures in
-    let are : AreInputs c.args.io.now = record { distinct = c.len-inputs.ensures.distinct; positions = c.len-inputs.ensures.within } in
+    let are : AreInputs c.args.side.now.io.now = record { distinct = c.len-inputs.ensures.distinct; positions = c.len-inputs.ensures.within } in
     ap (λ (io : Io). io.inputs)
-    (back-io means plan c.args.heap c.requires.plan kept c.requires.kept c.requires.rests c.bring_up.new.kept w m v c.prepare_all.result x (ticks_put means c.args.dsp.now c.bring_up.new.dsp) left turn refl
+    (back-io means plan c.args.side.now.heap c.requires.plan kept c.requires.kept c.requires.rests c.bring_up.new.kept w m v c.prepare_all.result x (ticks_put means c.args.side.now.dsp.now c.bring_up.new.dsp) left turn refl
     (subst AreInputs (sym c.bring_up.ensures.inputs) are))
     ∙ c.bring_up.ensures.inputs
 
 pub returns-clause-outputs : goal.returns-clause-outputs
 returns-clause-outputs g c =
     let means = g.P.Dsp.means in
-    let plan = c.args.plan.now in
-    let kept = c.args.kept.now in
-    let w = world c.args.dsp.now c.args.io.now c.args.out.now in
+    let plan = c.args.side.now.plan.now in
+    let kept = c.args.side.now.kept.now in
+    let w = world_of c.args.side.now in
     let m = world c.bring_up.new.dsp c.bring_up.new.io c.bring_up.new.out in
     let v = world c.prepare_all.new.dsp c.prepare_all.new.io c.prepare_all.new.out in
-    let x = subst (λ (o : Outcome). ActsCame means plan c.args.heap false (bring_up plan kept) kept c.bring_up.new.kept w m o) c.in_ok-bring_up.was c.bring_up.ensures.acts in
-    let left = subst (λ (o : Outcome). BroughtUp means plan c.args.heap kept c.args.dsp.now o c.bring_up.new.dsp) c.in_ok-bring_up.was c.bring_up.ensures.left in
+    let x = subst (λ (o : Outcome). ActsCame means plan c.args.side.now.heap false (bring_up plan kept) kept c.bring_up.new.kept w m o) c.in_ok-bring_up.was c.bring_up.ensures.acts in
+    let left = subst (λ (o : Outcome). BroughtUp means plan c.args.side.now.heap kept c.args.side.now.dsp.now o c.bring_up.new.dsp) c.in_ok-bring_up.was c.bring_up.ensures.left in
     let turn = subst (λ (r : Record). InTurn means plan false (flat_map prepare_acts (zip plan.streams r.streams)) m v c.prepare_all.result) c.bring_up.ensures.kept c.prepare_all.ensures in
-    let are : AreInputs c.args.io.now = record { distinct = c.len-inputs.ensures.distinct; positions = c.len-inputs.ensures.within } in
+    let are : AreInputs c.args.side.now.io.now = record { distinct = c.len-inputs.ensures.distinct; positions = c.len-inputs.ensures.within } in
     ap (λ (io : Io). io.outputs)
-    (back-io means plan c.args.heap c.requires.plan kept c.requires.kept c.requires.rests c.bring_up.new.kept w m v c.prepare_all.result x (ticks_put means c.args.dsp.now c.bring_up.new.dsp) left turn refl
+    (back-io means plan c.args.side.now.heap c.requires.plan kept c.requires.kept c.requires.rests c.bring_up.new.kept w m v c.prepare_all.result x (ticks_put means c.args.side.now.dsp.now c.bring_up.new.dsp) left turn refl
     (subst AreInputs (sym c.bring_up.ensures.inputs) are))
     ∙ c.bring_up.ensures.outputs

@@ -1,8 +1,10 @@
-use Rattle.std.proofs.Common.{Err, refl, ap}
-use Rattle.mbox_link.specs.Calls.{world}
+use Rattle.std.proofs.Common.{Err, refl, ap, rules, subst}
+use Rattle.host_widgets.specs.Sides.{world_of}
+use Rattle.mbox_link.specs.Calls.{World, world}
 use Rattle.host_widgets.specs.declared.answers.HostFault.TheVariants.{NotLoaded, State}
 use Rattle.host_widgets.specs.declared.kept.Found.TheVariants.{On}
-use Rattle.host_widgets.specs.Orders.{resuming}
+use Rattle.host_widgets.specs.declared.kept.Record.{Record}
+use Rattle.host_widgets.specs.Orders.{Tested, resuming}
 use Rattle.host_widgets.proofs.LoadOrders.{told-early, done-late}
 use Rattle.host_pm.specs.PowerTests.{resume_fault}
 use Rattle.host_pm.proofs.resuming.resume.Goals as goal
@@ -26,5 +28,6 @@ returns-in-Off-clause-carried g c =
     let plan = c.args.plan.now in
     let kept = c.args.kept.now in
     let w = world c.args.dsp.now c.args.io.now c.args.out.now in
-    let v = world c.power_up.new.dsp c.power_up.new.io c.power_up.new.out in
-    done-late g.P.Dsp.means plan c.args.heap (resume_fault kept.power) (resuming plan kept) kept c.power_up.new.kept w v c.power_up.result (ap resume_fault c.in-Off.is) c.power_up.ensures.carried
+    let v = world_of c.power_up.new.side in
+    subst (λ (e : Record × World g.row.P.Denot). Tested g.P.Dsp.means plan c.args.heap (resume_fault kept.power) (resuming plan kept) kept e.0 w e.1 c.power_up.result) (search rules)
+    (done-late g.P.Dsp.means plan c.args.heap (resume_fault kept.power) (resuming plan kept) kept c.power_up.new.side.kept.now w v c.power_up.result (ap resume_fault c.in-Off.is) c.power_up.ensures.carried)

@@ -1,7 +1,9 @@
-use Rattle.std.proofs.Common.{Err, refl, ap}
-use Rattle.mbox_link.specs.Calls.{world}
+use Rattle.std.proofs.Common.{Err, refl, ap, rules, subst}
+use Rattle.host_widgets.specs.Sides.{world_of}
+use Rattle.mbox_link.specs.Calls.{World, world}
 use Rattle.host_widgets.specs.declared.answers.HostFault.TheVariants.{NotLoaded, Off}
-use Rattle.host_widgets.specs.Orders.{suspending}
+use Rattle.host_widgets.specs.declared.kept.Record.{Record}
+use Rattle.host_widgets.specs.Orders.{Tested, suspending}
 use Rattle.host_widgets.proofs.LoadOrders.{told-early, done-late}
 use Rattle.host_pm.specs.PowerTests.{suspend_fault}
 use Rattle.host_pm.proofs.suspending.suspend.Goals as goal
@@ -25,5 +27,6 @@ returns-in-On-clause-carried g c =
     let plan = c.args.plan.now in
     let kept = c.args.kept.now in
     let w = world c.args.dsp.now c.args.io.now c.args.out.now in
-    let v = world c.go_down.new.dsp c.go_down.new.io c.go_down.new.out in
-    done-late g.P.Dsp.means plan c.args.heap (suspend_fault kept.power) (suspending plan kept) kept c.go_down.new.kept w v c.go_down.result (ap suspend_fault c.in-On.is) c.go_down.ensures.carried
+    let v = world_of c.go_down.new.side in
+    subst (λ (e : Record × World g.row.P.Denot). Tested g.P.Dsp.means plan c.args.heap (suspend_fault kept.power) (suspending plan kept) kept e.0 w e.1 c.go_down.result) (search rules)
+    (done-late g.P.Dsp.means plan c.args.heap (suspend_fault kept.power) (suspending plan kept) kept c.go_down.new.side.kept.now w v c.go_down.result (ap suspend_fault c.in-On.is) c.go_down.ensures.carried)

@@ -1,8 +1,8 @@
 // The thin graph's file with one byte changed: what its reader says.
+use crate::stated::{fault_of, put_byte};
 use crate::thin::thin_graph;
-use std::alloc::Global;
 use std::test::Fail;
-use tplg_read::{TplgFault, read};
+use tplg_read::TplgFault;
 
 /// A place, the byte that stands there then, and the fault.
 struct Changed {
@@ -98,13 +98,6 @@ const CHANGES: [Changed; 16] = [
     },
 ];
 
-fn fault_of(alloc: Global, bytes: &[u8]) -> Option<TplgFault> {
-    match read(alloc, bytes) {
-        Ok(_topology) => None,
-        Err(fault) => Some(fault),
-    }
-}
-
 #[test]
 fn each_changed_byte_is_told(rt: HostRuntime) -> Result<(), Fail> {
     let alloc = rt.alloc();
@@ -112,13 +105,10 @@ fn each_changed_byte_is_told(rt: HostRuntime) -> Result<(), Fail> {
     assert_eq!(rt; bytes.len(), 2020);
     assert_eq!(rt; fault_of(alloc, &bytes), None);
     for changed in &CHANGES {
-        let byte = bytes.get_mut(changed.at).ok_or("past the end")?;
-        let before = *byte;
-        *byte = changed.byte;
         let at = changed.at;
+        let before = put_byte(&mut bytes, at, changed.byte)?;
         assert_eq!(rt; fault_of(alloc, &bytes), changed.fault, "at {at}");
-        let byte = bytes.get_mut(changed.at).ok_or("past the end")?;
-        *byte = before;
+        put_byte(&mut bytes, at, before)?;
     }
     Ok(())
 }

@@ -1,8 +1,8 @@
 // The thin graph's file, cut at each length: what its reader says.
+use crate::stated::fault_of;
 use crate::thin::thin_graph;
-use std::alloc::Global;
 use std::test::Fail;
-use tplg_read::{TplgFault, read};
+use tplg_read::TplgFault;
 
 // Where the blocks begin.
 const STARTS: [usize; 6] = [0, 168, 356, 584, 772, 1072];
@@ -19,13 +19,6 @@ fn cut_fault(length: usize) -> Option<TplgFault> {
         }
     }
     fault
-}
-
-fn fault_of(alloc: Global, bytes: &[u8]) -> Option<TplgFault> {
-    match read(alloc, bytes) {
-        Ok(_topology) => None,
-        Err(fault) => Some(fault),
-    }
 }
 
 #[test]

@@ -1,18 +1,17 @@
 // Each fault at each kind of record: what the reader says of a file that has one of each, with some bytes changed.
-use crate::stated::{host_limits, named, put_header, route, widget, written};
+use crate::stated::{
+    fault_of, named, put_byte, put_header, put_pcm, put_route, put_widget, widget, written,
+};
 use sof_base::Items;
 use std::alloc::Global;
 use std::test::Fail;
-use tplg_build::{Choices, SourceControl, SourcePcm, TopologySource, WidgetKind};
+use tplg_build::{Choices, SourceControl, SourceWidget, TopologySource, WidgetKind};
 use tplg_model::token_number::BUFFER_SIZE;
 use tplg_model::{Block, Body, Control, Widget, block_type};
 use tplg_read::{TplgFault, read};
 
-// A volume with a mixer control, a mux with an enum, an effect with a bytes control, a buffer with an array, a route and a
-// PCM.
-fn one_of_most(alloc: Global) -> Result<TopologySource, Fail> {
-    let mut source = TopologySource::new(alloc);
-    let volume = SourceControl::Volume {
+fn volume(alloc: Global) -> Result<SourceWidget, Fail> {
+    let control = SourceControl::Volume {
         name: named(b"Master")?,
         channels: 2,
         min: 0,
@@ -21,37 +20,47 @@ fn one_of_most(alloc: Global) -> Result<TopologySource, Fail> {
         tlv_step: 200,
         tlv_mute: 1,
     };
-    let pga = widget(alloc, WidgetKind::Pga, b"VOL0", b"")?;
-    source.widgets.push(pga.with_control(volume)?)?;
-    let mux = widget(alloc, WidgetKind::Mux, b"MUX0", b"")?;
-    source.widgets.push(mux.with_control(choice(alloc)?)?)?;
-    let blob = SourceControl::Blob {
+    Ok(widget(alloc, WidgetKind::Pga, b"VOL0", b"")?.with_control(control)?)
+}
+
+fn mux(alloc: Global) -> Result<SourceWidget, Fail> {
+    let mut items = Items::new(alloc);
+    items.push(named(b"First")?)?;
+    let control = SourceControl::Choice {
+        name: named(b"Source")?,
+        items: Choices::of(items),
+    };
+    Ok(widget(alloc, WidgetKind::Mux, b"MUX0", b"")?.with_control(control)?)
+}
+
+fn effect(alloc: Global) -> Result<SourceWidget, Fail> {
+    let control = SourceControl::Blob {
         name: named(b"Filter")?,
         max: 0,
         blob: Items::new(alloc),
     };
-    let effect = widget(alloc, WidgetKind::Effect, b"EQ0", b"")?;
-    source.widgets.push(effect.with_control(blob)?)?;
-    let buffer = widget(alloc, WidgetKind::Buffer, b"B0", b"")?;
-    source.widgets.push(buffer.with_number(BUFFER_SIZE, 768)?)?;
-    source.routes.push(route(b"VOL0", b"B0")?)?;
-    source.pcms.push(SourcePcm {
-        name: named(b"Main")?,
-        id: 0,
-        limits: host_limits(),
-        playback: Some(named(b"P0")?),
-        capture: None,
-    })?;
-    Ok(source)
+    Ok(widget(alloc, WidgetKind::Effect, b"EQ0", b"")?.with_control(control)?)
 }
 
-fn choice(alloc: Global) -> Result<SourceControl, Fail> {
-    let mut items = Items::new(alloc);
-    items.push(named(b"First")?)?;
-    Ok(SourceControl::Choice {
-        name: named(b"Source")?,
-        items: Choices::of(items),
-    })
+fn buffer(alloc: Global) -> Result<SourceWidget, Fail> {
+    Ok(widget(alloc, WidgetKind::Buffer, b"B0", b"")?.with_number(BUFFER_SIZE, 768)?)
+}
+
+fn put_widgets(alloc: Global, source: &mut TopologySource) -> Result<(), Fail> {
+    put_widget(source, volume(alloc)?)?;
+    put_widget(source, mux(alloc)?)?;
+    put_widget(source, effect(alloc)?)?;
+    put_widget(source, buffer(alloc)?)
+}
+
+// A volume with a mixer control, a mux with an enum, an effect with a bytes control, a buffer with an array, a route and a
+// PCM.
+fn one_of_most(alloc: Global) -> Result<TopologySource, Fail> {
+    let mut source = TopologySource::new(alloc);
+    put_widgets(alloc, &mut source)?;
+    put_route(&mut source, b"VOL0", b"B0")?;
+    put_pcm(&mut source)?;
+    Ok(source)
 }
 
 // A manifest of 4 bytes, and the rest behind it, each in a block of its own.
@@ -155,8 +164,7 @@ const CHANGES: [(usize, usize, u8, TplgFault); 76] = [
 fn changed(alloc: Global, at: usize, count: usize, byte: u8) -> Result<Vec<u8>, Fail> {
     let mut file = one_of_each(alloc)?;
     for i in 0..count {
-        let place = file.get_mut(at.wrapping_add(i)).ok_or("past the end")?;
-        *place = byte;
+        put_byte(&mut file, at.wrapping_add(i), byte)?;
     }
     Ok(file)
 }
@@ -211,13 +219,6 @@ fn a_file_with_one_of_each_is_read(rt: HostRuntime) -> Result<(), Fail> {
         );
     }
     Ok(())
-}
-
-fn fault_of(alloc: Global, bytes: &[u8]) -> Option<TplgFault> {
-    match read(alloc, bytes) {
-        Ok(_topology) => None,
-        Err(fault) => Some(fault),
-    }
 }
 
 #[test]

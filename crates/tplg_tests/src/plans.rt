@@ -1,10 +1,12 @@
 // The thin graph's plan, graphs that are not thin, and the gain of a volume's value.
+use crate::stated::put_byte;
 use crate::thin::thin_graph;
-use sof_base::Format;
+use sof_base::{Format, Name44};
 use std::alloc::Global;
+use std::process::Abort;
 use std::test::Fail;
-use stream_law::{Edge, Join, Kind, Pipe};
-use tplg_graph::{ControlKind, Plan, PlanFault, gain, is_thin, need, plan};
+use stream_law::{Comp, Edge, Graph, Join, Kind, Pipe};
+use tplg_graph::{ControlKind, Plan, PlanFault, StreamPlan, WidgetPlan, gain, is_thin, need, plan};
 use tplg_model::Topology;
 use tplg_read::read;
 
@@ -28,15 +30,14 @@ fn planned(alloc: Global) -> Result<(Plan, u64), Fail> {
     Ok((plan, bytes))
 }
 
-#[test]
-fn the_thin_graph_is_planned(rt: HostRuntime) -> Result<(), Fail> {
-    let alloc = rt.alloc();
-    let (plan, _bytes) = planned(alloc)?;
-    let comps = plan.graph.comps.items();
+fn comps_are_told(rt: &impl Abort, comps: &[Comp]) {
     assert_eq!(rt; comps.len(), 2);
     assert_eq!(rt; comps[0].kind, Kind::HostPlay);
     assert_eq!(rt; comps[1].kind, Kind::DaiPlay(Format::S32));
     assert_eq!(rt; (comps[0].id, comps[1].id, comps[1].pipe), (0, 2, 1));
+}
+
+fn edges_are_told(rt: &impl Abort, edges: &[Edge]) {
     let edge = Edge {
         buffer: 1,
         pipe: 1,
@@ -44,7 +45,10 @@ fn the_thin_graph_is_planned(rt: HostRuntime) -> Result<(), Fail> {
         source: Some(0),
         sink: Some(2),
     };
-    assert_eq!(rt; plan.graph.edges.items(), [edge].as_slice());
+    assert_eq!(rt; edges, [edge].as_slice());
+}
+
+fn pipes_are_told(rt: &impl Abort, pipes: &[Pipe]) {
     let pipe = Pipe {
         id: 3,
         index: 1,
@@ -52,29 +56,67 @@ fn the_thin_graph_is_planned(rt: HostRuntime) -> Result<(), Fail> {
         period: 1000,
         complete: true,
     };
-    assert_eq!(rt; plan.graph.pipes.items(), [pipe].as_slice());
-    let joins = [Join { source: 0, sink: 1 }, Join { source: 1, sink: 2 }];
-    assert_eq!(rt; plan.graph.joins.items(), joins.as_slice());
+    assert_eq!(rt; pipes, [pipe].as_slice());
+}
+
+fn joins_are_told(rt: &impl Abort, joins: &[Join]) {
+    let want = [Join { source: 0, sink: 1 }, Join { source: 1, sink: 2 }];
+    assert_eq!(rt; joins, want.as_slice());
+}
+
+fn graph_is_told(rt: &impl Abort, graph: &Graph) {
+    comps_are_told(rt, graph.comps.items());
+    edges_are_told(rt, graph.edges.items());
+    pipes_are_told(rt, graph.pipes.items());
+    joins_are_told(rt, graph.joins.items());
+}
+
+#[test]
+fn the_thin_graph_is_planned(rt: HostRuntime) -> Result<(), Fail> {
+    let (plan, _bytes) = planned(rt.alloc())?;
+    graph_is_told(&rt, &plan.graph);
     Ok(())
+}
+
+fn streams_are_told(rt: &impl Abort, streams: &[StreamPlan]) {
+    assert_eq!(rt; streams.len(), 1);
+    assert_eq!(rt; (streams[0].host, streams[0].capture), (0, false));
+    assert_eq!(rt; streams[0].caps.name.as_bytes(), b"P0".as_slice());
+}
+
+fn names_are_told(rt: &impl Abort, names: &[Name44]) {
+    assert_eq!(rt; names.len(), 4);
+    assert_eq!(rt; names[2].as_bytes(), b"DAI0".as_slice());
+}
+
+fn words_are_told(rt: &impl Abort, widgets: &[WidgetPlan]) {
+    assert_eq!(rt; widgets.len(), 4);
+    assert_eq!(rt; (widgets[0].frame_fmt, widgets[2].frame_fmt), (2, 2));
+}
+
+fn plan_is_told(rt: &impl Abort, plan: &Plan) {
+    streams_are_told(rt, plan.streams.items());
+    assert!(rt; plan.controls.items().is_empty());
+    names_are_told(rt, plan.names.items());
+    words_are_told(rt, plan.widgets.items());
 }
 
 #[test]
 fn its_plan_has_streams_names_and_words(rt: HostRuntime) -> Result<(), Fail> {
-    let alloc = rt.alloc();
-    let (plan, bytes) = planned(alloc)?;
-    let streams = plan.streams.items();
-    assert_eq!(rt; streams.len(), 1);
-    assert_eq!(rt; (streams[0].host, streams[0].capture), (0, false));
-    assert_eq!(rt; streams[0].caps.name.as_bytes(), b"P0".as_slice());
-    assert!(rt; plan.controls.items().is_empty());
-    let names = plan.names.items();
-    assert_eq!(rt; names.len(), 4);
-    assert_eq!(rt; names[2].as_bytes(), b"DAI0".as_slice());
-    let widgets = plan.widgets.items();
-    assert_eq!(rt; widgets.len(), 4);
-    assert_eq!(rt; (widgets[0].frame_fmt, widgets[2].frame_fmt), (2, 2));
+    let (plan, bytes) = planned(rt.alloc())?;
+    plan_is_told(&rt, &plan);
     assert_eq!(rt; bytes, 992);
     Ok(())
+}
+
+// Whether the graph is thin with these bytes changed.
+fn thin_with(alloc: Global, changes: &[(usize, u8)]) -> Result<bool, Fail> {
+    let mut bytes = thin_graph(alloc)?;
+    for &(at, changed) in changes {
+        put_byte(&mut bytes, at, changed)?;
+    }
+    let topology = topology_of(alloc, &bytes)?;
+    Ok(is_thin(alloc, &topology)?)
 }
 
 // A period of 1001 µs, two widgets of one name, a DAI of another format, a route from a name of no widget.
@@ -87,13 +129,7 @@ fn other_graphs_are_not_thin(rt: HostRuntime) -> Result<(), Fail> {
         &[(540, b'f')],
         &[(896, b'Q')],
     ] {
-        let mut bytes = thin_graph(alloc)?;
-        for (at, changed) in changes {
-            let byte = bytes.get_mut(*at).ok_or("past the end")?;
-            *byte = *changed;
-        }
-        let topology = topology_of(alloc, &bytes)?;
-        assert!(rt; !is_thin(alloc, &topology)?);
+        assert!(rt; !thin_with(alloc, changes)?);
     }
     Ok(())
 }
@@ -119,24 +155,23 @@ fn a_value_of_a_volume_has_its_gain(rt: HostRuntime) -> Result<(), Fail> {
 // What an item is depends on its rule.
 #[test]
 fn a_fault_names_its_item(rt: HostRuntime) -> Result<(), Fail> {
-    let alloc = rt.alloc();
-    let count = PlanFault::Rule { rule: 1, item: 2 };
-    let route = PlanFault::Rule { rule: 4, item: 0 };
-    let widget = PlanFault::Rule { rule: 6, item: 3 };
-    let component = PlanFault::Rule { rule: 14, item: 5 };
-    let counts = format!(in alloc; "{count}")?;
-    let routes = format!(in alloc; "{route}")?;
-    let widgets = format!(in alloc; "{widget}")?;
-    let components = format!(in alloc; "{component}")?;
-    assert_eq!(rt; counts.as_str(), "rule 1, count 2: there are too many");
-    assert_eq!(rt; routes.as_str(), "rule 4, route 0: it joins two buffers");
-    assert_eq!(rt;
-        widgets.as_str(),
-        "rule 6, widget 3: its kind needs another number of routes"
-    );
-    assert_eq!(rt;
-        components.as_str(),
-        "rule 14, component 5: it is on a cycle, or plays into a capture"
-    );
+    for (rule, item, text) in [
+        (1, 2, "rule 1, count 2: there are too many"),
+        (4, 0, "rule 4, route 0: it joins two buffers"),
+        (
+            6,
+            3,
+            "rule 6, widget 3: its kind needs another number of routes",
+        ),
+        (
+            14,
+            5,
+            "rule 14, component 5: it is on a cycle, or plays into a capture",
+        ),
+    ] {
+        let fault = PlanFault::Rule { rule, item };
+        let told = format!(in rt.alloc(); "{fault}")?;
+        assert_eq!(rt; told.as_str(), text);
+    }
     Ok(())
 }

@@ -2,8 +2,11 @@
 use sof_base::Name44;
 use std::alloc::Global;
 use std::test::Fail;
-use tplg_build::{PcmLimits, SourceRoute, SourceWidget, TopologySource, WidgetKind, build};
+use tplg_build::{
+    PcmLimits, SourcePcm, SourceRoute, SourceWidget, TopologySource, WidgetKind, build,
+};
 use tplg_model::{ABI, HEADER_BYTES, MAGIC};
+use tplg_read::{TplgFault, read};
 use tplg_write::write;
 
 pub fn named(text: &[u8]) -> Result<Name44, Fail> {
@@ -23,15 +26,37 @@ pub fn widget(
     Ok(SourceWidget::new(alloc, kind, named(name)?, named(sname)?, 1))
 }
 
-pub fn route(source: &[u8], sink: &[u8]) -> Result<SourceRoute, Fail> {
-    Ok(SourceRoute {
-        source: named(source)?,
-        sink: named(sink)?,
-    })
+/// States a widget more.
+pub fn put_widget(source: &mut TopologySource, widget: SourceWidget) -> Result<(), Fail> {
+    source.widgets.push(widget)?;
+    Ok(())
 }
 
-/// s16, s24 and s32, 8000 to 192000 frames a second, 1 to 8 samples a frame.
-pub fn host_limits() -> PcmLimits {
+/// States a route more, from one name to another.
+pub fn put_route(source: &mut TopologySource, from: &[u8], to: &[u8]) -> Result<(), Fail> {
+    let route = SourceRoute {
+        source: named(from)?,
+        sink: named(to)?,
+    };
+    source.routes.push(route)?;
+    Ok(())
+}
+
+/// States the PCM `Main`, which plays by the caps `P0`.
+pub fn put_pcm(source: &mut TopologySource) -> Result<(), Fail> {
+    let pcm = SourcePcm {
+        name: named(b"Main")?,
+        id: 0,
+        limits: host_limits(),
+        playback: Some(named(b"P0")?),
+        capture: None,
+    };
+    source.pcms.push(pcm)?;
+    Ok(())
+}
+
+// s16, s24 and s32, 8000 to 192000 frames a second, 1 to 8 samples a frame.
+fn host_limits() -> PcmLimits {
     PcmLimits {
         formats: 1092,
         rate_min: 8000,
@@ -55,4 +80,20 @@ pub fn put_header(out: &mut Vec<u8>, kind: u32, bytes: u32) -> Result<(), Fail> 
         out.extend_from_slice(&word.to_le_bytes())?;
     }
     Ok(())
+}
+
+/// Puts a byte at a place, and gives the one that stood there.
+pub fn put_byte(bytes: &mut [u8], at: usize, byte: u8) -> Result<u8, Fail> {
+    let place = bytes.get_mut(at).ok_or("past the end")?;
+    let before = *place;
+    *place = byte;
+    Ok(before)
+}
+
+/// The fault of a file's bytes; none where they are a topology's.
+pub fn fault_of(alloc: Global, bytes: &[u8]) -> Option<TplgFault> {
+    match read(alloc, bytes) {
+        Ok(_topology) => None,
+        Err(fault) => Some(fault),
+    }
 }

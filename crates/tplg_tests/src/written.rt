@@ -1,5 +1,5 @@
 // A topology that was read is written again.
-use crate::stated::put_header;
+use crate::stated::{put_byte, put_header};
 use crate::thin::thin_graph;
 use std::alloc::Global;
 use std::test::Fail;
@@ -35,10 +35,8 @@ fn a_thin_graph_is_written_as_it_was(rt: HostRuntime) -> Result<(), Fail> {
 fn what_readers_ignore_is_written_plainly(rt: HostRuntime) -> Result<(), Fail> {
     let file = thin_graph(rt.alloc())?;
     let mut changed = thin_graph(rt.alloc())?;
-    let padding = changed.get_mut(80).ok_or("short")?;
-    *padding = 7;
-    let size = changed.get_mut(36).ok_or("short")?;
-    *size = 1;
+    put_byte(&mut changed, 80, 7)?;
+    put_byte(&mut changed, 36, 1)?;
     let out = written_again(rt.alloc(), &changed)?;
     assert_eq!(rt; out.get(1..), file.get(0..));
     Ok(())

@@ -1,4 +1,5 @@
 // The thin graph's file with one byte changed: what its reader says.
+use crate::same::same;
 use crate::stated::{fault_of, put_byte};
 use crate::thin::thin_graph;
 use std::test::Fail;
@@ -102,12 +103,12 @@ const CHANGES: [Changed; 16] = [
 fn each_changed_byte_is_told(rt: HostRuntime) -> Result<(), Fail> {
     let alloc = rt.alloc();
     let mut bytes = thin_graph(alloc)?;
-    assert_eq!(rt; bytes.len(), 2020);
-    assert_eq!(rt; fault_of(alloc, &bytes), None);
+    same(&rt, &"its end", &bytes.len(), &2020);
+    same(&rt, &"no byte", &fault_of(alloc, &bytes), &None);
     for changed in &CHANGES {
         let at = changed.at;
         let before = put_byte(&mut bytes, at, changed.byte)?;
-        assert_eq!(rt; fault_of(alloc, &bytes), changed.fault, "at {at}");
+        same(&rt, &at, &fault_of(alloc, &bytes), &changed.fault);
         put_byte(&mut bytes, at, before)?;
     }
     Ok(())

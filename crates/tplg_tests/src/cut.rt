@@ -1,4 +1,5 @@
 // The thin graph's file, cut at each length: what its reader says.
+use crate::same::same;
 use crate::stated::fault_of;
 use crate::thin::thin_graph;
 use std::test::Fail;
@@ -25,10 +26,10 @@ fn cut_fault(length: usize) -> Option<TplgFault> {
 fn a_file_that_is_cut_is_told(rt: HostRuntime) -> Result<(), Fail> {
     let alloc = rt.alloc();
     let file = thin_graph(alloc)?;
-    assert_eq!(rt; file.len(), 2020);
+    same(&rt, &"its end", &file.len(), &2020);
     for length in 0..2020 {
         let cut = file.get(..length).ok_or("past the end")?;
-        assert_eq!(rt; fault_of(alloc, cut), cut_fault(length), "cut at {length}");
+        same(&rt, &length, &fault_of(alloc, cut), &cut_fault(length));
     }
     Ok(())
 }

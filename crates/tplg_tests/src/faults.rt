@@ -1,6 +1,8 @@
 // Each fault at each kind of record: what the reader says of a file that has one of each, with some bytes changed.
+use crate::same::same;
 use crate::stated::{
-    fault_of, named, put_byte, put_header, put_pcm, put_route, put_widget, widget, written,
+    fault_of, named, put_byte, put_header, put_pcm, put_route, put_widget, topology_of, widget,
+    written,
 };
 use sof_base::Items;
 use std::alloc::Global;
@@ -8,7 +10,7 @@ use std::test::Fail;
 use tplg_build::{Choices, SourceControl, SourceWidget, TopologySource, WidgetKind};
 use tplg_model::token_number::BUFFER_SIZE;
 use tplg_model::{Block, Body, Control, Widget, block_type};
-use tplg_read::{TplgFault, read};
+use tplg_read::TplgFault;
 
 fn volume(alloc: Global) -> Result<SourceWidget, Fail> {
     let control = SourceControl::Volume {
@@ -197,11 +199,9 @@ fn records_of(block: &Block) -> &'static str {
 #[test]
 fn a_file_with_one_of_each_is_read(rt: HostRuntime) -> Result<(), Fail> {
     let alloc = rt.alloc();
-    let Ok(topology) = read(alloc, &one_of_each(alloc)?) else {
-        return Err("a fault")?;
-    };
+    let topology = topology_of(alloc, &one_of_each(alloc)?).ok_or("a fault")?;
     let blocks = topology.blocks.items();
-    assert_eq!(rt; blocks.len(), 7);
+    same(&rt, &"the end", &blocks.len(), &7);
     let records = [
         "manifests",
         "mixer",
@@ -212,11 +212,8 @@ fn a_file_with_one_of_each_is_read(rt: HostRuntime) -> Result<(), Fail> {
         "PCMs",
     ];
     for place in 0..7usize {
-        assert_eq!(rt;
-            blocks.get(place).map(|block| records_of(block)),
-            records.get(place).copied(),
-            "block {place}"
-        );
+        let read = blocks.get(place).map(|block| records_of(block));
+        same(&rt, &place, &read, &records.get(place).copied());
     }
     Ok(())
 }
@@ -225,11 +222,11 @@ fn a_file_with_one_of_each_is_read(rt: HostRuntime) -> Result<(), Fail> {
 fn each_fault_of_each_record_is_told(rt: HostRuntime) -> Result<(), Fail> {
     let alloc = rt.alloc();
     let file = one_of_each(alloc)?;
-    assert_eq!(rt; file.len(), 4324);
-    assert_eq!(rt; fault_of(alloc, &file), None);
+    same(&rt, &"its end", &file.len(), &4324);
+    same(&rt, &"no byte", &fault_of(alloc, &file), &None);
     for &(at, count, byte, fault) in &CHANGES {
         let file = changed(alloc, at, count, byte)?;
-        assert_eq!(rt; fault_of(alloc, &file), Some(fault), "at {at}");
+        same(&rt, &at, &fault_of(alloc, &file), &Some(fault));
     }
     Ok(())
 }

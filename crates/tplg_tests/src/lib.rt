@@ -10,6 +10,8 @@ mod faults;
 #[cfg(test)]
 mod plans;
 #[cfg(test)]
+mod same;
+#[cfg(test)]
 mod stated;
 #[cfg(test)]
 mod thin;

@@ -1,5 +1,6 @@
 // The thin graph's plan, graphs that are not thin, and the gain of a volume's value.
-use crate::stated::put_byte;
+use crate::same::same;
+use crate::stated::{put_byte, topology_of};
 use crate::thin::thin_graph;
 use sof_base::{Format, Name44};
 use std::alloc::Global;
@@ -7,19 +8,10 @@ use std::process::Abort;
 use std::test::Fail;
 use stream_law::{Comp, Edge, Graph, Join, Kind, Pipe};
 use tplg_graph::{ControlKind, Plan, PlanFault, StreamPlan, WidgetPlan, gain, is_thin, need, plan};
-use tplg_model::Topology;
-use tplg_read::read;
-
-fn topology_of(alloc: Global, bytes: &[u8]) -> Result<Topology, Fail> {
-    match read(alloc, bytes) {
-        Ok(topology) => Ok(topology),
-        Err(_fault) => Err("no topology")?,
-    }
-}
 
 /// The thin graph's plan and its need in bytes.
 fn planned(alloc: Global) -> Result<(Plan, u64), Fail> {
-    let topology = topology_of(alloc, &thin_graph(alloc)?)?;
+    let topology = topology_of(alloc, &thin_graph(alloc)?).ok_or("no topology")?;
     if !is_thin(alloc, &topology)? {
         return Err("not thin")?;
     }
@@ -32,9 +24,10 @@ fn planned(alloc: Global) -> Result<(Plan, u64), Fail> {
 
 fn comps_are_told(rt: &impl Abort, comps: &[Comp]) {
     assert_eq!(rt; comps.len(), 2);
-    assert_eq!(rt; comps[0].kind, Kind::HostPlay);
-    assert_eq!(rt; comps[1].kind, Kind::DaiPlay(Format::S32));
-    assert_eq!(rt; (comps[0].id, comps[1].id, comps[1].pipe), (0, 2, 1));
+    same(rt, &0, &comps[0].kind, &Kind::HostPlay);
+    same(rt, &1, &comps[1].kind, &Kind::DaiPlay(Format::S32));
+    same(rt, &0, &comps[0].id, &0);
+    same(rt, &1, &(comps[1].id, comps[1].pipe), &(2, 1));
 }
 
 fn edges_are_told(rt: &impl Abort, edges: &[Edge]) {
@@ -45,7 +38,7 @@ fn edges_are_told(rt: &impl Abort, edges: &[Edge]) {
         source: Some(0),
         sink: Some(2),
     };
-    assert_eq!(rt; edges, [edge].as_slice());
+    same(rt, &"the edges", &edges, &[edge].as_slice());
 }
 
 fn pipes_are_told(rt: &impl Abort, pipes: &[Pipe]) {
@@ -56,12 +49,12 @@ fn pipes_are_told(rt: &impl Abort, pipes: &[Pipe]) {
         period: 1000,
         complete: true,
     };
-    assert_eq!(rt; pipes, [pipe].as_slice());
+    same(rt, &"the pipelines", &pipes, &[pipe].as_slice());
 }
 
 fn joins_are_told(rt: &impl Abort, joins: &[Join]) {
     let want = [Join { source: 0, sink: 1 }, Join { source: 1, sink: 2 }];
-    assert_eq!(rt; joins, want.as_slice());
+    same(rt, &"the joins", &joins, &want.as_slice());
 }
 
 fn graph_is_told(rt: &impl Abort, graph: &Graph) {
@@ -80,23 +73,38 @@ fn the_thin_graph_is_planned(rt: HostRuntime) -> Result<(), Fail> {
 
 fn streams_are_told(rt: &impl Abort, streams: &[StreamPlan]) {
     assert_eq!(rt; streams.len(), 1);
-    assert_eq!(rt; (streams[0].host, streams[0].capture), (0, false));
-    assert_eq!(rt; streams[0].caps.name.as_bytes(), b"P0".as_slice());
+    same(
+        rt,
+        &"a stream",
+        &(streams[0].host, streams[0].capture),
+        &(0, false),
+    );
+    same(
+        rt,
+        &"a stream",
+        &streams[0].caps.name.as_bytes(),
+        &b"P0".as_slice(),
+    );
 }
 
 fn names_are_told(rt: &impl Abort, names: &[Name44]) {
     assert_eq!(rt; names.len(), 4);
-    assert_eq!(rt; names[2].as_bytes(), b"DAI0".as_slice());
+    same(rt, &2, &names[2].as_bytes(), &b"DAI0".as_slice());
 }
 
 fn words_are_told(rt: &impl Abort, widgets: &[WidgetPlan]) {
     assert_eq!(rt; widgets.len(), 4);
-    assert_eq!(rt; (widgets[0].frame_fmt, widgets[2].frame_fmt), (2, 2));
+    same(
+        rt,
+        &"widgets 0 and 2",
+        &(widgets[0].frame_fmt, widgets[2].frame_fmt),
+        &(2, 2),
+    );
 }
 
 fn plan_is_told(rt: &impl Abort, plan: &Plan) {
     streams_are_told(rt, plan.streams.items());
-    assert!(rt; plan.controls.items().is_empty());
+    same(rt, &"the controls", &plan.controls.items().len(), &0);
     names_are_told(rt, plan.names.items());
     words_are_told(rt, plan.widgets.items());
 }
@@ -105,7 +113,7 @@ fn plan_is_told(rt: &impl Abort, plan: &Plan) {
 fn its_plan_has_streams_names_and_words(rt: HostRuntime) -> Result<(), Fail> {
     let (plan, bytes) = planned(rt.alloc())?;
     plan_is_told(&rt, &plan);
-    assert_eq!(rt; bytes, 992);
+    same(&rt, &"the need", &bytes, &992);
     Ok(())
 }
 
@@ -115,7 +123,7 @@ fn thin_with(alloc: Global, changes: &[(usize, u8)]) -> Result<bool, Fail> {
     for &(at, changed) in changes {
         put_byte(&mut bytes, at, changed)?;
     }
-    let topology = topology_of(alloc, &bytes)?;
+    let topology = topology_of(alloc, &bytes).ok_or("no topology")?;
     Ok(is_thin(alloc, &topology)?)
 }
 
@@ -145,10 +153,9 @@ fn a_value_of_a_volume_has_its_gain(rt: HostRuntime) -> Result<(), Fail> {
         tlv_step: 200,
         tlv_mute: 1,
     };
-    assert_eq!(rt;
-        (gain(&volume, 31), gain(&volume, 32), gain(&volume, 0)),
-        (52056, 65536, 0)
-    );
+    for (value, want) in [(31, 52056), (32, 65536), (0, 0)] {
+        same(&rt, &value, &gain(&volume, value), &want);
+    }
     Ok(())
 }
 
@@ -171,7 +178,7 @@ fn a_fault_names_its_item(rt: HostRuntime) -> Result<(), Fail> {
     ] {
         let fault = PlanFault::Rule { rule, item };
         let told = format!(in rt.alloc(); "{fault}")?;
-        assert_eq!(rt; told.as_str(), text);
+        same(&rt, &rule, &told.as_str(), &text);
     }
     Ok(())
 }

@@ -5,7 +5,7 @@ use std::test::Fail;
 use tplg_build::{
     PcmLimits, SourcePcm, SourceRoute, SourceWidget, TopologySource, WidgetKind, build,
 };
-use tplg_model::{ABI, HEADER_BYTES, MAGIC};
+use tplg_model::{ABI, HEADER_BYTES, MAGIC, Topology};
 use tplg_read::{TplgFault, read};
 use tplg_write::write;
 
@@ -88,6 +88,14 @@ pub fn put_byte(bytes: &mut [u8], at: usize, byte: u8) -> Result<u8, Fail> {
     let before = *place;
     *place = byte;
     Ok(before)
+}
+
+/// The topology of a file's bytes.
+pub fn topology_of(alloc: Global, bytes: &[u8]) -> Option<Topology> {
+    match read(alloc, bytes) {
+        Ok(topology) => Some(topology),
+        Err(_fault) => None,
+    }
 }
 
 /// The fault of a file's bytes; none where they are a topology's.

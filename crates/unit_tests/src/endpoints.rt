@@ -1,7 +1,18 @@
 // Inputs and outputs as lists of bytes.
+use crate::same::same;
 use sof_base::INPUT_BYTES;
 use sof_io::{Inputs, Outputs};
+use std::process::Abort;
 use std::test::Fail;
+
+// A slot has an input, from now on.
+fn add_input(inputs: &mut Inputs, slot: u32) -> Result<(), Fail> {
+    if inputs.has(slot) {
+        return Err("it has one")?;
+    }
+    inputs.add(slot)?;
+    Ok(())
+}
 
 // Puts a piece behind the bytes of a slot; whether it could.
 fn fill(inputs: &mut Inputs, slot: u32, piece: &[u8]) -> bool {
@@ -16,6 +27,10 @@ fn fill(inputs: &mut Inputs, slot: u32, piece: &[u8]) -> bool {
     true
 }
 
+fn fills(rt: &impl Abort, inputs: &mut Inputs, slot: u32, piece: &[u8]) {
+    same(rt, &slot, &fill(inputs, slot, piece), &true);
+}
+
 // No more bytes come of a slot; whether it is there.
 fn end(inputs: &mut Inputs, slot: u32) -> bool {
     if !inputs.has(slot) {
@@ -25,106 +40,144 @@ fn end(inputs: &mut Inputs, slot: u32) -> bool {
     true
 }
 
+fn ends(rt: &impl Abort, inputs: &mut Inputs, slot: u32) {
+    same(rt, &slot, &end(inputs, slot), &true);
+}
+
+// A slot has an input that holds so many bytes; whether more come.
+fn holds(rt: &impl Abort, inputs: &Inputs, slot: u32, held: usize, ended: bool) {
+    assert!(rt; inputs.has(slot), "at {slot}");
+    same(rt, &slot, &inputs.held(slot), &held);
+    same(rt, &slot, &inputs.ended(slot), &ended);
+}
+
+// A slot gives these bytes, and then holds so many.
+fn takes(
+    rt: &impl Abort,
+    inputs: &mut Inputs,
+    slot: u32,
+    out: &mut [u8],
+    want: &[u8],
+    held: usize,
+) {
+    inputs.take(slot, out);
+    same(rt, &slot, &&*out, &want);
+    same(rt, &slot, &inputs.held(slot), &held);
+}
+
 #[test]
 fn an_input_gives_its_bytes_and_then_zeros(rt: HostRuntime) -> Result<(), Fail> {
     let mut inputs = Inputs::new(rt.alloc())?;
-    assert!(rt; !inputs.has(7));
-    inputs.add(7)?;
-    assert!(rt; inputs.has(7));
-    assert_eq!(rt; inputs.held(7), 0);
-    assert!(rt; fill(&mut inputs, 7, &[1, 2, 3]));
-    assert!(rt; fill(&mut inputs, 7, &[4, 5]));
-    assert_eq!(rt; inputs.held(7), 5);
-    assert!(rt; end(&mut inputs, 7));
-    assert!(rt; inputs.has(7));
-    assert!(rt; inputs.ended(7));
-    assert_eq!(rt; inputs.held(7), 5);
+    same(&rt, &7, &inputs.has(7), &false);
+    add_input(&mut inputs, 7)?;
+    holds(&rt, &inputs, 7, 0, false);
+    fills(&rt, &mut inputs, 7, &[1, 2, 3]);
+    fills(&rt, &mut inputs, 7, &[4, 5]);
+    holds(&rt, &inputs, 7, 5, false);
+    ends(&rt, &mut inputs, 7);
+    holds(&rt, &inputs, 7, 5, true);
     let mut bytes = [9u8; 4];
-    inputs.take(7, &mut bytes);
-    assert_eq!(rt; bytes, [1, 2, 3, 4]);
-    assert_eq!(rt; inputs.held(7), 1);
-    inputs.take(7, &mut bytes);
-    assert_eq!(rt; bytes, [5, 0, 0, 0]);
-    assert_eq!(rt; inputs.held(7), 0);
-    inputs.take(7, &mut bytes);
-    assert_eq!(rt; bytes, [0, 0, 0, 0]);
+    takes(&rt, &mut inputs, 7, &mut bytes, &[1, 2, 3, 4], 1);
+    takes(&rt, &mut inputs, 7, &mut bytes, &[5, 0, 0, 0], 0);
+    takes(&rt, &mut inputs, 7, &mut bytes, &[0, 0, 0, 0], 0);
     Ok(())
 }
 
 #[test]
 fn an_unknown_input_gives_zeros(rt: HostRuntime) -> Result<(), Fail> {
     let mut inputs = Inputs::new(rt.alloc())?;
-    inputs.add(7)?;
-    assert!(rt; fill(&mut inputs, 7, &[1, 2]));
+    add_input(&mut inputs, 7)?;
+    fills(&rt, &mut inputs, 7, &[1, 2]);
     let mut bytes = [9u8; 2];
-    inputs.take(8, &mut bytes);
-    assert_eq!(rt; bytes, [0, 0]);
-    assert_eq!(rt; inputs.held(8), 0);
-    inputs.take(7, &mut bytes);
-    assert_eq!(rt; bytes, [1, 2]);
+    takes(&rt, &mut inputs, 8, &mut bytes, &[0, 0], 0);
+    takes(&rt, &mut inputs, 7, &mut bytes, &[1, 2], 0);
     Ok(())
+}
+
+// The slot that wants bytes of which an input is to hold so many.
+fn wants(rt: &impl Abort, inputs: &Inputs, level: usize, want: Option<u32>) {
+    same(rt, &level, &inputs.wanting(level), &want);
 }
 
 #[test]
 fn the_first_input_wants_that_holds_too_little(rt: HostRuntime) -> Result<(), Fail> {
     let mut inputs = Inputs::new(rt.alloc())?;
-    assert!(rt; inputs.wanting(4).is_none());
-    inputs.add(9)?;
-    inputs.add(2)?;
-    inputs.add(5)?;
-    assert_eq!(rt; inputs.len(), 3);
-    assert!(rt; inputs.wanting(4) == Some(2));
-    assert!(rt; fill(&mut inputs, 2, &[1, 2, 3, 4]));
-    assert!(rt; inputs.wanting(4) == Some(5));
-    assert!(rt; inputs.wanting(5) == Some(2));
-    assert!(rt; end(&mut inputs, 5));
-    assert!(rt; inputs.wanting(4) == Some(9));
-    assert!(rt; end(&mut inputs, 9));
-    assert!(rt; inputs.wanting(4).is_none());
-    let mut byte = [9u8];
-    inputs.take(2, &mut byte);
-    assert_eq!(rt; byte, [1]);
-    assert!(rt; inputs.wanting(4) == Some(2));
+    wants(&rt, &inputs, 4, None);
+    add_input(&mut inputs, 9)?;
+    add_input(&mut inputs, 2)?;
+    add_input(&mut inputs, 5)?;
+    same(&rt, &"the end", &inputs.len(), &3);
+    wants(&rt, &inputs, 4, Some(2));
+    fills(&rt, &mut inputs, 2, &[1, 2, 3, 4]);
+    wants(&rt, &inputs, 4, Some(5));
+    wants(&rt, &inputs, 5, Some(2));
+    ends(&rt, &mut inputs, 5);
+    wants(&rt, &inputs, 4, Some(9));
+    ends(&rt, &mut inputs, 9);
+    wants(&rt, &inputs, 4, None);
+    takes(&rt, &mut inputs, 2, &mut [9u8], &[1], 3);
+    wants(&rt, &inputs, 4, Some(2));
     Ok(())
+}
+
+// A slot has an output, from now on.
+fn add_output(outputs: &mut Outputs, slot: u32) -> Result<(), Fail> {
+    if outputs.has(slot) {
+        return Err("it has one")?;
+    }
+    outputs.add(slot)?;
+    Ok(())
+}
+
+fn puts(rt: &impl Abort, outputs: &mut Outputs, slot: u32, piece: &[u8]) {
+    assert!(rt; piece.len() <= outputs.room(slot), "at {slot}");
+    outputs.put(slot, piece);
+}
+
+// A slot's output has these bytes, and room for so many.
+fn has_bytes(rt: &impl Abort, outputs: &Outputs, slot: u32, want: &[u8], room: usize) {
+    same(rt, &slot, &outputs.bytes(slot), &want);
+    same(rt, &slot, &outputs.room(slot), &room);
 }
 
 #[test]
 fn an_output_holds_its_pieces_until_it_is_drained(rt: HostRuntime) -> Result<(), Fail> {
     let mut outputs = Outputs::new(rt.alloc())?;
-    assert!(rt; outputs.is_empty());
-    outputs.add(5)?;
-    assert_eq!(rt; outputs.room(5), 1048576);
-    outputs.put(5, &[1, 2]);
-    outputs.put(5, &[3]);
-    assert_eq!(rt; outputs.bytes(5), [1, 2, 3].as_slice());
-    assert_eq!(rt; outputs.room(5), 1048573);
+    same(&rt, &"the start", &outputs.is_empty(), &true);
+    add_output(&mut outputs, 5)?;
+    has_bytes(&rt, &outputs, 5, &[], 1048576);
+    puts(&rt, &mut outputs, 5, &[1, 2]);
+    puts(&rt, &mut outputs, 5, &[3]);
+    has_bytes(&rt, &outputs, 5, &[1, 2, 3], 1048573);
     outputs.drain();
-    assert_eq!(rt; outputs.bytes(5).len(), 0);
-    assert_eq!(rt; outputs.room(5), 1048576);
+    has_bytes(&rt, &outputs, 5, &[], 1048576);
     Ok(())
 }
 
 #[test]
 fn an_unknown_output_drops_its_pieces(rt: HostRuntime) -> Result<(), Fail> {
     let mut outputs = Outputs::new(rt.alloc())?;
-    outputs.put(5, &[1, 2]);
-    assert_eq!(rt; outputs.bytes(5).len(), 0);
-    assert_eq!(rt; outputs.room(5), usize::MAX);
+    puts(&rt, &mut outputs, 5, &[1, 2]);
+    has_bytes(&rt, &outputs, 5, &[], usize::MAX);
     Ok(())
+}
+
+// At a place stands the output of a slot, with so many bytes.
+fn stands(rt: &impl Abort, outputs: &Outputs, place: usize, slot: u32, bytes: usize) {
+    assert!(rt; place < outputs.len(), "at {place}");
+    let output = outputs.at(place);
+    same(rt, &place, &output.0, &slot);
+    same(rt, &place, &output.1.len(), &bytes);
 }
 
 #[test]
 fn outputs_stand_by_ascending_slot(rt: HostRuntime) -> Result<(), Fail> {
     let mut outputs = Outputs::new(rt.alloc())?;
-    outputs.add(9)?;
-    outputs.add(2)?;
-    outputs.put(9, &[4, 4]);
-    assert_eq!(rt; outputs.len(), 2);
-    let first = outputs.at(0);
-    assert_eq!(rt; first.0, 2);
-    assert_eq!(rt; first.1.len(), 0);
-    let second = outputs.at(1);
-    assert_eq!(rt; second.0, 9);
-    assert_eq!(rt; second.1.len(), 2);
+    add_output(&mut outputs, 9)?;
+    add_output(&mut outputs, 2)?;
+    puts(&rt, &mut outputs, 9, &[4, 4]);
+    same(&rt, &"the end", &outputs.len(), &2);
+    stands(&rt, &outputs, 0, 2, 0);
+    stands(&rt, &outputs, 1, 9, 2);
     Ok(())
 }

@@ -10,4 +10,6 @@ mod lines;
 #[cfg(test)]
 mod messages;
 #[cfg(test)]
+mod same;
+#[cfg(test)]
 mod tokens;

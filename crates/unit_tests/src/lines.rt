@@ -1,7 +1,9 @@
 // Scripts and the lines of answers.
+use crate::same::same;
 use host_widgets::{Answer, Found, HostFault};
 use sof_base::{Bounded, Errno, Format, Name44};
-use sof_script::{Command, Line, ScriptFault, parse, ticks, write_answer};
+use sof_script::{Binding, Command, Line, Numbered, ScriptFault, parse, ticks, write_answer};
+use std::process::Abort;
 use std::test::Fail;
 
 // The line and the cause of a script's fault; none where it is a script.
@@ -15,6 +17,55 @@ fn fault(rt: &HostRuntime, text: &str) -> Option<(u32, u8)> {
     }
 }
 
+fn bindings_are_read(rt: &impl Abort, bindings: &[Binding]) {
+    assert_eq!(rt; bindings.len(), 2);
+    let input = &bindings[0];
+    same(rt, &"a binding", &(input.line, input.input), &(3, true));
+    same(
+        rt,
+        &"a binding",
+        &input.endpoint.as_bytes(),
+        &b"H 1".as_slice(),
+    );
+    same(rt, &"a binding", &input.file.as_str(), &"a b");
+}
+
+fn params_are_read(rt: &impl Abort, command: &Command) {
+    if let Command::Params(name, params) = command {
+        same(rt, &"params", &name.as_bytes(), &b"PCM0P".as_slice());
+        same(rt, &"params", &(params.rate, params.channels), &(48000, 2));
+        same(rt, &"params", &params.format, &Format::S16);
+    }
+}
+
+fn values_are_read(rt: &impl Abort, command: &Command) {
+    if let Command::Set(_, values) = command {
+        same(rt, &"set", &values.items(), &[31, 0].as_slice());
+    }
+}
+
+fn bytes_are_read(rt: &impl Abort, command: &Command) {
+    if let Command::Bytes(_, bytes) = command {
+        same(rt, &"bytes", &bytes.items(), &[255, 0].as_slice());
+    }
+}
+
+fn commands_are_read(rt: &impl Abort, commands: &[Numbered]) {
+    assert_eq!(rt; commands.len(), 8);
+    same(
+        rt,
+        &"its lines",
+        &(commands[0].line, commands[7].line),
+        &(4, 12),
+    );
+    same(rt, &"its first", &word_of(&commands[0].command), &"load");
+    params_are_read(rt, &commands[1].command);
+    values_are_read(rt, &commands[2].command);
+    bytes_are_read(rt, &commands[3].command);
+    assert!(rt; matches!(&commands[4].command, Command::Refuse(3, -22)));
+    same(rt, &"its last", &word_of(&commands[7].command), &"show");
+}
+
 #[test]
 fn lines_are_read(rt: HostRuntime) -> Result<(), Fail> {
     let text =
@@ -23,31 +74,11 @@ fn lines_are_read(rt: HostRuntime) -> Result<(), Fail> {
     let Ok(script) = parse(rt.alloc(), text.as_bytes()) else {
         return Err("no script")?;
     };
-    assert_eq!(rt; script.bindings.items().len(), 2);
-    let input = &script.bindings.items()[0];
-    assert_eq!(rt; (input.line, input.input), (3, true));
-    assert_eq!(rt; input.endpoint.as_bytes(), b"H 1".as_slice());
-    assert_eq!(rt; input.file.as_str(), "a b");
+    bindings_are_read(&rt, script.bindings.items());
     let commands = script.commands.items();
     assert_eq!(rt; commands.len(), 8);
-    assert_eq!(rt; ticks(&script), 60016);
-    assert_eq!(rt; (commands[0].line, commands[7].line), (4, 12));
-    assert!(rt; matches!(&commands[0].command, Command::Load));
-    if let Command::Params(name, params) = &commands[1].command {
-        assert_eq!(rt; name.as_bytes(), b"PCM0P".as_slice());
-        assert_eq!(rt;
-            (params.rate, params.channels, params.format),
-            (48000, 2, Format::S16)
-        );
-    }
-    if let Command::Set(_, values) = &commands[2].command {
-        assert_eq!(rt; values.items(), [31, 0].as_slice());
-    }
-    if let Command::Bytes(_, bytes) = &commands[3].command {
-        assert_eq!(rt; bytes.items(), [255, 0].as_slice());
-    }
-    assert!(rt; matches!(&commands[4].command, Command::Refuse(3, -22)));
-    assert!(rt; matches!(&commands[7].command, Command::Show));
+    same(&rt, &"ticks", &ticks(&script), &60016);
+    commands_are_read(&rt, commands);
     Ok(())
 }
 
@@ -117,7 +148,7 @@ fn each_kind_of_line_is_read(rt: HostRuntime) {
         ("lose 3", "lose"),
     ];
     for (text, word) in rows {
-        assert_eq!(rt; only_word(&rt, text), Some(word));
+        same(&rt, &text, &only_word(&rt, text), &Some(word));
     }
 }
 
@@ -137,7 +168,7 @@ fn each_cause_is_told(rt: HostRuntime) {
         ("\t#\"\n\nlose 100001\nload 1", 3, 5),
     ];
     for (text, line, cause) in rows {
-        assert_eq!(rt; fault(&rt, text), Some((line, cause)));
+        same(&rt, &text, &fault(&rt, text), &Some((line, cause)));
     }
 }
 
@@ -167,7 +198,7 @@ fn answers_say_their_lines(rt: HostRuntime) -> Result<(), Fail> {
     let mut line = Line::new();
     for (number, answer, text) in rows {
         write_answer(number, &answer, &mut line);
-        assert_eq!(rt; line.bytes(), text.as_bytes());
+        same(&rt, &text, &line.bytes(), &text.as_bytes());
     }
     Ok(())
 }
@@ -176,6 +207,6 @@ fn answers_say_their_lines(rt: HostRuntime) -> Result<(), Fail> {
 fn a_fault_names_its_line_and_its_cause(rt: HostRuntime) -> Result<(), Fail> {
     let fault = ScriptFault::Line { line: 7, cause: 2 };
     let text = format!(in rt.alloc(); "{fault}")?;
-    assert_eq!(rt; text.as_str(), "line 7: quote");
+    same(&rt, &"the fault", &text.as_str(), &"line 7: quote");
     Ok(())
 }

@@ -1,6 +1,8 @@
 // Worked rows of messages and replies as bytes.
+use crate::same::same;
 use ipc3_codec::{Body, CodecFault, Message, Reply, decode, decode_reply, encode, encode_reply};
 use sof_base::{Bounded, Format, Params, Part, PartBytes};
+use std::process::Abort;
 use std::test::Fail;
 
 /// The word at a place.
@@ -11,16 +13,26 @@ fn word(out: &[u8; 384], at: usize) -> u32 {
     u32::from_le_bytes([out[at], out[at + 1], out[at + 2], out[at + 3]])
 }
 
+/// These bytes come first.
+fn begins(rt: &impl Abort, out: &[u8; 384], want: &[u8]) {
+    same(rt, &"the front", &out.get(..want.len()), &Some(want));
+}
+
+/// Words at their places.
+fn has_words(rt: &impl Abort, out: &[u8; 384], words: &[(usize, u32)]) {
+    for &(at, want) in words {
+        same(rt, &at, &word(out, at), &want);
+    }
+}
+
 #[test]
 fn a_connection_is_spelled(rt: HostRuntime) {
     let mut out = [255; 384];
     let connection = Message::Connect { source: 0, sink: 1 };
     let long = encode(&connection, &mut out);
     let want = [0x10, 0, 0, 0, 0, 0, 0x03, 0x30, 0, 0, 0, 0, 1, 0, 0, 0];
-    assert_eq!(rt; long, 16);
-    for i in 0..16 {
-        assert_eq!(rt; out[i], want[i], "at {i}");
-    }
+    same(&rt, &"its size", &long, &16);
+    begins(&rt, &out, &want);
     assert!(rt; matches!(&decode(&out), Ok(Message::Connect { source: 0, sink: 1 })));
 }
 
@@ -29,10 +41,8 @@ fn a_trigger_is_spelled(rt: HostRuntime) {
     let mut out = [255; 384];
     let long = encode(&Message::TrigStart { id: 0 }, &mut out);
     let want = [0x0C, 0, 0, 0, 0, 0, 0x04, 0x60, 0, 0, 0, 0];
-    assert_eq!(rt; long, 12);
-    for i in 0..12 {
-        assert_eq!(rt; out[i], want[i], "at {i}");
-    }
+    same(&rt, &"its size", &long, &12);
+    begins(&rt, &out, &want);
     assert!(rt; matches!(&decode(&out), Ok(Message::TrigStart { id: 0 })));
 }
 
@@ -49,7 +59,7 @@ fn parameters_are_spelled(rt: HostRuntime) {
         direction: 1,
         params,
     };
-    assert_eq!(rt; encode(&message, &mut out), 108);
+    same(&rt, &"its size", &encode(&message, &mut out), &108);
     // Size, command, host; the stream's size and host buffer; direction, format, rate.
     for (at, want) in [
         (0, 108),
@@ -71,7 +81,7 @@ fn parameters_are_spelled(rt: HostRuntime) {
         (96, 0),
         (104, 0),
     ] {
-        assert_eq!(rt; word(&out, at), want, "at {at}");
+        same(&rt, &at, &word(&out, at), &want);
     }
     assert!(rt;
         matches!(
@@ -97,8 +107,8 @@ fn values_are_spelled(rt: HostRuntime) {
         command: 0,
         values,
     };
-    assert_eq!(rt; encode(&message, &mut out), 108);
-    for (at, want) in [
+    same(&rt, &"its size", &encode(&message, &mut out), &108);
+    let words = [
         (0, 108),
         (4, 0x5001_0000),
         (8, 0),
@@ -112,9 +122,8 @@ fn values_are_spelled(rt: HostRuntime) {
         (96, 31),
         (100, 1),
         (104, 33),
-    ] {
-        assert_eq!(rt; word(&out, at), want, "at {at}");
-    }
+    ];
+    has_words(&rt, &out, &words);
     assert!(rt;
         matches!(
             &decode(&out),
@@ -141,8 +150,13 @@ fn a_part_is_spelled(rt: HostRuntime) {
         index: 0,
         bytes,
     };
-    assert_eq!(rt; encode(&Message::SetData { id: 2, part }, &mut out), 384);
-    for (at, want) in [
+    same(
+        &rt,
+        &"its size",
+        &encode(&Message::SetData { id: 2, part }, &mut out),
+        &384,
+    );
+    let words = [
         (0, 384),
         (4, 0x5003_0000),
         (16, 5),
@@ -153,9 +167,8 @@ fn a_part_is_spelled(rt: HostRuntime) {
         (120, 0x0505_0505),
         (124, 0x0909_0909),
         (380, 0x0909_0909),
-    ] {
-        assert_eq!(rt; word(&out, at), want, "at {at}");
-    }
+    ];
+    has_words(&rt, &out, &words);
     assert!(rt; matches!(&decode(&out), Ok(Message::SetData { id: 2, .. })));
     // The payload's first byte is the place of a part that is too short.
     out[0] = 127;
@@ -171,10 +184,8 @@ fn replies_are_spelled(rt: HostRuntime) {
     };
     let long = encode_reply(&refusal, &mut out);
     let want = [0x0C, 0, 0, 0, 0, 0, 0, 0x10, 0xEA, 0xFF, 0xFF, 0xFF];
-    assert_eq!(rt; long, 12);
-    for i in 0..12 {
-        assert_eq!(rt; out[i], want[i], "at {i}");
-    }
+    same(&rt, &"its size", &long, &12);
+    begins(&rt, &out, &want);
     assert!(rt;
         matches!(
             &decode_reply(&out),
@@ -189,17 +200,16 @@ fn replies_are_spelled(rt: HostRuntime) {
         error: 0,
         body: Body::Values(values),
     };
-    assert_eq!(rt; encode_reply(&answer, &mut out), 100);
-    for (at, want) in [
+    same(&rt, &"its size", &encode_reply(&answer, &mut out), &100);
+    let words = [
         (0, 100),
         (4, 0x1000_0000),
         (12, 0),
         (16, 1),
         (56, 1),
         (96, 32),
-    ] {
-        assert_eq!(rt; word(&out, at), want, "at {at}");
-    }
+    ];
+    has_words(&rt, &out, &words);
     assert!(rt;
         matches!(
             &decode_reply(&out),

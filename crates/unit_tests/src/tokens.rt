@@ -1,4 +1,6 @@
 // Vendor arrays, read and written.
+use crate::same::same;
+use std::alloc::Global;
 use std::test::*;
 use tplg_model::{NumberTuple, TextTuple, TokenArray};
 use tplg_tokens::{TokenFault, read_arrays, write_arrays};
@@ -74,32 +76,43 @@ fn arrays_are_written_as_they_were_read(rt: HostRuntime) -> Result<(), Fail> {
     let mut expected = Vec::from_slice(rt.alloc(), &[1, 2])?;
     expected.extend_from_slice(&bytes)?;
     let out = written_again(&rt, &bytes)?;
-    assert_eq!(rt; out.as_slice(), expected.as_slice());
+    same(&rt, &"the end", &out.as_slice(), &expected.as_slice());
     Ok(())
+}
+
+fn fault_of(alloc: Global, bytes: &[u8]) -> Option<TokenFault> {
+    read_arrays(alloc, bytes).err()
 }
 
 #[test]
 fn faults_are_told_in_their_order(rt: HostRuntime) -> Result<(), Fail> {
-    let short = &SIZE_768[..19];
-    assert_eq!(rt;
-        read_arrays(rt.alloc(), short).err(),
-        Some(TokenFault::Short(0))
+    same(
+        &rt,
+        &"a cut",
+        &fault_of(rt.alloc(), &SIZE_768[..19]),
+        &Some(TokenFault::Short(0)),
     );
     let mut bytes = Vec::from_slice(rt.alloc(), &SIZE_768)?;
     bytes.extend_from_slice(&[1, 0, 0, 0, 6, 0, 0, 0, 0, 0, 0])?;
-    assert_eq!(rt;
-        read_arrays(rt.alloc(), &bytes).err(),
-        Some(TokenFault::Short(20))
+    same(
+        &rt,
+        &31,
+        &fault_of(rt.alloc(), &bytes),
+        &Some(TokenFault::Short(20)),
     );
     bytes.push(0)?;
-    assert_eq!(rt;
-        read_arrays(rt.alloc(), &bytes).err(),
-        Some(TokenFault::Kind(20, 6))
+    same(
+        &rt,
+        &32,
+        &fault_of(rt.alloc(), &bytes),
+        &Some(TokenFault::Kind(20, 6)),
     );
     bytes[24] = 5;
-    assert_eq!(rt;
-        read_arrays(rt.alloc(), &bytes).err(),
-        Some(TokenFault::Size(20))
+    same(
+        &rt,
+        &24,
+        &fault_of(rt.alloc(), &bytes),
+        &Some(TokenFault::Size(20)),
     );
     Ok(())
 }

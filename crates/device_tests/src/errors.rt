@@ -1,6 +1,6 @@
 // What each message is answered in a state, with each of its errors. A state is what messages lead to from a boot; what is refused
 // leaves it, so that the rows of a state follow one another.
-use crate::steps::{BUSY, DONE, INVALID, NO_DEVICE, NO_MEMORY, answers};
+use crate::steps::{BUSY, DONE, INVALID, NO_DEVICE, NO_MEMORY, answered};
 use ipc3_codec::{CompWords, Message};
 use sof_base::{Bounded, Format, Params, Part};
 use std::alloc::Global;
@@ -155,9 +155,7 @@ fn ids_and_indices_that_are_used(rt: HostRuntime) -> Result<(), Fail> {
         (pipeline(9, 9, 2), DONE),
         (host(10, 9, 0), DONE),
     ];
-    let wrong = answers(rt.alloc(), 4096, &thin(), &rows)?;
-    assert_eq!(rt; wrong, None);
-    Ok(())
+    answered(&rt, rt.alloc(), 4096, &thin(), &rows)
 }
 
 #[test]
@@ -172,9 +170,7 @@ fn no_hole_of_a_full_heap(rt: HostRuntime) -> Result<(), Fail> {
         (Message::CompFree { id: 0 }, DONE),
         (pipeline(7, 1, 0), DONE),
     ];
-    let wrong = answers(rt.alloc(), 64, &[host(0, 1, 0)], &rows)?;
-    assert_eq!(rt; wrong, None);
-    Ok(())
+    answered(&rt, rt.alloc(), 64, &[host(0, 1, 0)], &rows)
 }
 
 // ---- what is joined and completed
@@ -218,9 +214,7 @@ fn joins(rt: HostRuntime) -> Result<(), Fail> {
         (join(6, 8), INVALID),
         (join(6, 2), DONE),
     ];
-    let wrong = answers(rt.alloc(), 4096, &state, &rows)?;
-    assert_eq!(rt; wrong, None);
-    Ok(())
+    answered(&rt, rt.alloc(), 4096, &state, &rows)
 }
 
 // A capture stream through a mixer, prepared, and a DAI that captures into a buffer.
@@ -248,9 +242,7 @@ fn a_way_that_would_grow(rt: HostRuntime) -> Result<(), Fail> {
         (Message::PcmFree { id: 4 }, DONE),
         (join(7, 2), DONE),
     ];
-    let wrong = answers(rt.alloc(), 4096, &state, &rows)?;
-    assert_eq!(rt; wrong, None);
-    Ok(())
+    answered(&rt, rt.alloc(), 4096, &state, &rows)
 }
 
 #[test]
@@ -266,9 +258,7 @@ fn pipelines_are_completed(rt: HostRuntime) -> Result<(), Fail> {
         (Message::PipeComplete { id: 3 }, DONE),
         (Message::PipeComplete { id: 3 }, BUSY),
     ];
-    let wrong = answers(rt.alloc(), 4096, &parts(), &rows)?;
-    assert_eq!(rt; wrong, None);
-    Ok(())
+    answered(&rt, rt.alloc(), 4096, &parts(), &rows)
 }
 
 // ---- what is freed
@@ -293,9 +283,7 @@ fn pieces_of_a_pipeline_that_is_not_complete_are_freed(rt: HostRuntime) -> Resul
         (Message::PipeFree { id: 3 }, DONE),
         (Message::PipeFree { id: 3 }, NO_DEVICE),
     ];
-    let wrong = answers(rt.alloc(), 4096, &parts(), &rows)?;
-    assert_eq!(rt; wrong, None);
-    Ok(())
+    answered(&rt, rt.alloc(), 4096, &parts(), &rows)
 }
 
 // A buffer on the way of a prepared stream is in a complete pipeline, so that is told first.
@@ -316,9 +304,7 @@ fn pieces_of_a_prepared_stream_are_held(rt: HostRuntime) -> Result<(), Fail> {
         (Message::BufferFree { id: 1 }, DONE),
         (Message::CompFree { id: 0 }, DONE),
     ];
-    let wrong = answers(rt.alloc(), 4096, &thin(), &rows)?;
-    assert_eq!(rt; wrong, None);
-    Ok(())
+    answered(&rt, rt.alloc(), 4096, &thin(), &rows)
 }
 
 // ---- values and data
@@ -350,9 +336,7 @@ fn values_are_set_and_got(rt: HostRuntime) -> Result<(), Fail> {
         (Message::GetValue { id: 1, command: 0 }, INVALID),
         (Message::GetValue { id: 1, command: 1 }, DONE),
     ];
-    let wrong = answers(rt.alloc(), 4096, &state, &rows)?;
-    assert_eq!(rt; wrong, None);
-    Ok(())
+    answered(&rt, rt.alloc(), 4096, &state, &rows)
 }
 
 #[test]
@@ -365,9 +349,7 @@ fn data_of_no_equaliser(rt: HostRuntime) -> Result<(), Fail> {
         (Message::GetData { id: 0, index: 0 }, INVALID),
         (Message::GetData { id: 1, index: 0 }, INVALID),
     ];
-    let wrong = answers(rt.alloc(), 4096, &parts(), &rows)?;
-    assert_eq!(rt; wrong, None);
-    Ok(())
+    answered(&rt, rt.alloc(), 4096, &parts(), &rows)
 }
 
 // ---- streams
@@ -399,9 +381,7 @@ fn parameters_of_a_way_that_is_not_ready(rt: HostRuntime) -> Result<(), Fail> {
         (params(0, 0, 8000), DONE),
         (params(0, 0, 192000), DONE),
     ];
-    let wrong = answers(rt.alloc(), 4096, &parts(), &rows)?;
-    assert_eq!(rt; wrong, None);
-    Ok(())
+    answered(&rt, rt.alloc(), 4096, &parts(), &rows)
 }
 
 // Two hosts play into a mixer, which no edge leaves at first.
@@ -431,9 +411,7 @@ fn parameters_that_do_not_agree(rt: HostRuntime) -> Result<(), Fail> {
         (params(6, 0, 96000), INVALID),
         (params(6, 0, 48000), DONE),
     ];
-    let wrong = answers(rt.alloc(), 4096, &state, &rows)?;
-    assert_eq!(rt; wrong, None);
-    Ok(())
+    answered(&rt, rt.alloc(), 4096, &state, &rows)
 }
 
 #[test]
@@ -482,9 +460,7 @@ fn a_stream_in_each_phase(rt: HostRuntime) -> Result<(), Fail> {
         (Message::PcmFree { id: 0 }, DONE),
         (Message::PcmFree { id: 0 }, INVALID),
     ];
-    let wrong = answers(rt.alloc(), 4096, &thin(), &rows)?;
-    assert_eq!(rt; wrong, None);
-    Ok(())
+    answered(&rt, rt.alloc(), 4096, &thin(), &rows)
 }
 
 // ---- a full registry
@@ -522,7 +498,5 @@ fn a_full_registry_refuses_the_next(rt: HostRuntime) -> Result<(), Fail> {
         (pipeline(301, 301, 0), NO_MEMORY),
     ];
     let state = full(rt.alloc())?;
-    let wrong = answers(rt.alloc(), 16384, &state, &rows)?;
-    assert_eq!(rt; wrong, None);
-    Ok(())
+    answered(&rt, rt.alloc(), 16384, &state, &rows)
 }

@@ -2,10 +2,9 @@
 ghost use Rattle.std.specs.Prelude.{◌≤◌};
 
 use crate::messages::{HOST, S32, component};
-use crate::steps::{INVALID, NO_DEVICE, Step, done, play};
+use crate::steps::{INVALID, NO_DEVICE, Step, done, played};
 use ipc3_codec::{CompWords, Message};
 use sof_base::{Bounded, Part};
-use sof_io::Inputs;
 use std::test::Fail;
 
 // The words of a blob of one channel and one section. The bytes behind them, by which it has three parts, mean nothing.
@@ -141,10 +140,7 @@ fn a_blob_is_in_force_with_its_last_part(rt: HostRuntime) -> Result<(), Fail> {
         without(3),
         Step::Holds(4160, 1),
     ];
-    let mut io = Inputs::new(rt.alloc())?;
-    let other = play(rt.alloc(), 4160, &equaliser(), &mut io, &steps)?;
-    assert_eq!(rt; other, None);
-    Ok(())
+    played(&rt, rt.alloc(), 4160, &equaliser(), &steps)
 }
 
 #[test]
@@ -164,10 +160,7 @@ fn what_breaks_the_order_leaves_what_is_staged(rt: HostRuntime) -> Result<(), Fa
         refused(part(2)),
         Step::Part(7, part(2)),
     ];
-    let mut io = Inputs::new(rt.alloc())?;
-    let other = play(rt.alloc(), 4160, &equaliser(), &mut io, &steps)?;
-    assert_eq!(rt; other, None);
-    Ok(())
+    played(&rt, rt.alloc(), 4160, &equaliser(), &steps)
 }
 
 #[test]
@@ -181,10 +174,7 @@ fn what_is_no_blob_leaves_what_is_staged(rt: HostRuntime) -> Result<(), Fail> {
         refused(no_blob()),
         Step::Part(7, part(2)),
     ];
-    let mut io = Inputs::new(rt.alloc())?;
-    let other = play(rt.alloc(), 4160, &equaliser(), &mut io, &steps)?;
-    assert_eq!(rt; other, None);
-    Ok(())
+    played(&rt, rt.alloc(), 4160, &equaliser(), &steps)
 }
 
 #[test]
@@ -200,10 +190,7 @@ fn part_0_begins_anew(rt: HostRuntime) -> Result<(), Fail> {
         refused(part(1)),
         Step::Part(7, part(0)),
     ];
-    let mut io = Inputs::new(rt.alloc())?;
-    let other = play(rt.alloc(), 4160, &equaliser(), &mut io, &steps)?;
-    assert_eq!(rt; other, None);
-    Ok(())
+    played(&rt, rt.alloc(), 4160, &equaliser(), &steps)
 }
 
 #[test]
@@ -226,8 +213,5 @@ fn parts_are_an_equalisers(rt: HostRuntime) -> Result<(), Fail> {
         Step::Told(Message::GetData { id: 0, index: 0 }, INVALID),
         Step::Told(Message::GetData { id: 9, index: 0 }, NO_DEVICE),
     ];
-    let mut io = Inputs::new(rt.alloc())?;
-    let other = play(rt.alloc(), 64, &[component(0, S32, HOST)], &mut io, &steps)?;
-    assert_eq!(rt; other, None);
-    Ok(())
+    played(&rt, rt.alloc(), 64, &[component(0, S32, HOST)], &steps)
 }

@@ -2,10 +2,9 @@
 use crate::messages::{
     DAI, HOST, S32, VOLUME, amplified, buffer, component, gains, pipeline, stereo, thin,
 };
-use crate::steps::{BUSY, INVALID, NO_DEVICE, NO_MEMORY, Step, TWO_VALUES, done, play};
+use crate::steps::{BUSY, INVALID, NO_DEVICE, NO_MEMORY, Step, TWO_VALUES, done, played};
 use ipc3_codec::{CompWords, Message};
 use sof_base::{Bounded, Part};
-use sof_io::Inputs;
 use std::test::Fail;
 
 #[test]
@@ -19,19 +18,13 @@ fn bytes_that_are_no_message_are_not_valid(rt: HostRuntime) -> Result<(), Fail> 
         ),
         Step::Holds(0, 0),
     ];
-    let mut io = Inputs::new(rt.alloc())?;
-    let other = play(rt.alloc(), 992, &[], &mut io, &steps)?;
-    assert_eq!(rt; other, None);
-    Ok(())
+    played(&rt, rt.alloc(), 992, &[], &steps)
 }
 
 #[test]
 fn one_stream_fits_in_992_bytes(rt: HostRuntime) -> Result<(), Fail> {
     let steps = [Step::Holds(992, 4)];
-    let mut io = Inputs::new(rt.alloc())?;
-    let other = play(rt.alloc(), 992, &thin(), &mut io, &steps)?;
-    assert_eq!(rt; other, None);
-    Ok(())
+    played(&rt, rt.alloc(), 992, &thin(), &steps)
 }
 
 #[test]
@@ -43,19 +36,13 @@ fn its_pipeline_does_not_fit_in_976_bytes(rt: HostRuntime) -> Result<(), Fail> {
         Step::Told(pipeline(3, 2, 1000), NO_MEMORY),
         Step::Holds(928, 3),
     ];
-    let mut io = Inputs::new(rt.alloc())?;
-    let other = play(rt.alloc(), 976, &[], &mut io, &steps)?;
-    assert_eq!(rt; other, None);
-    Ok(())
+    played(&rt, rt.alloc(), 976, &[], &steps)
 }
 
 #[test]
 fn all_pieces_go_with_a_cut(rt: HostRuntime) -> Result<(), Fail> {
     let steps = [Step::Holds(1856, 6), Step::Cut, Step::Holds(0, 0)];
-    let mut io = Inputs::new(rt.alloc())?;
-    let other = play(rt.alloc(), 1856, &amplified(S32), &mut io, &steps)?;
-    assert_eq!(rt; other, None);
-    Ok(())
+    played(&rt, rt.alloc(), 1856, &amplified(S32), &steps)
 }
 
 #[test]
@@ -72,10 +59,7 @@ fn the_gains_of_a_volume_are_set_and_got_until_it_is_freed(rt: HostRuntime) -> R
         Step::Told(Message::GetValue { id: 7, command: 0 }, NO_DEVICE),
         Step::Holds(0, 0),
     ];
-    let mut io = Inputs::new(rt.alloc())?;
-    let other = play(rt.alloc(), 992, &[], &mut io, &steps)?;
-    assert_eq!(rt; other, None);
-    Ok(())
+    played(&rt, rt.alloc(), 992, &[], &steps)
 }
 
 #[test]
@@ -95,10 +79,7 @@ fn a_graph_is_freed_from_its_pipeline_on(rt: HostRuntime) -> Result<(), Fail> {
         Step::Holds(0, 0),
         Step::Told(Message::CompFree { id: 0 }, NO_DEVICE),
     ];
-    let mut io = Inputs::new(rt.alloc())?;
-    let other = play(rt.alloc(), 992, &thin(), &mut io, &steps)?;
-    assert_eq!(rt; other, None);
-    Ok(())
+    played(&rt, rt.alloc(), 992, &thin(), &steps)
 }
 
 // A part of one byte for this id.
@@ -136,8 +117,5 @@ fn each_other_message_is_answered_by_its_row(rt: HostRuntime) -> Result<(), Fail
         Step::Told(gains(0, 1, 1), INVALID),
         Step::Holds(64, 1),
     ];
-    let mut io = Inputs::new(rt.alloc())?;
-    let other = play(rt.alloc(), 992, &[], &mut io, &steps)?;
-    assert_eq!(rt; other, None);
-    Ok(())
+    played(&rt, rt.alloc(), 992, &[], &steps)
 }

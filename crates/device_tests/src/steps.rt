@@ -7,6 +7,7 @@ use mbox_link::Dsp;
 use sof_base::Part;
 use sof_io::{Inputs, Outputs};
 use std::alloc::Global;
+use std::process::Abort;
 use std::test::Fail;
 
 /// The front of the reply to a message that is done and tells nothing.
@@ -76,9 +77,9 @@ pub(crate) fn silent(times: u8, output: u32) -> Step {
 /// The greatest heap of a device here, in bytes: 128 components or buffers of the least size fit.
 const ROOM: u32 = 16384;
 
-/// Which of these messages is answered first with another error than stands in the front beside it, on a device with a heap of so
+// Which of these messages is answered first with another error than stands in the front beside it, on a device with a heap of so
 /// many bytes that has done the messages of a state.
-pub(crate) fn answers(
+fn answers(
     alloc: Global,
     heap: u32,
     state: &[Message],
@@ -102,9 +103,24 @@ pub(crate) fn answers(
     Ok(None)
 }
 
-/// Which of the steps comes to something else first, on a device with a heap of so many bytes that has done the messages of a
+/// Each of these messages is answered with the error in the front beside it.
+pub(crate) fn answered(
+    rt: &impl Abort,
+    alloc: Global,
+    heap: u32,
+    state: &[Message],
+    rows: &[(Message, [u8; 12])],
+) -> Result<(), Fail>
+    requires { heap ≤ 16384 }
+{
+    let wrong = answers(alloc, heap, state, rows)?;
+    assert_eq!(rt; wrong, None);
+    Ok(())
+}
+
+// Which of the steps comes to something else first, on a device with a heap of so many bytes that has done the messages of a
 /// graph.
-pub(crate) fn play(
+fn play(
     alloc: Global,
     heap: u32,
     graph: &[Message],
@@ -116,6 +132,36 @@ pub(crate) fn play(
     let mut firmware = Firmware::new(alloc, ROOM)?;
     firmware.boot(heap);
     made_and_played(alloc, &mut firmware, graph, io, steps)
+}
+
+/// Each of the steps comes to what it says, with these inputs.
+pub(crate) fn played_with(
+    rt: &impl Abort,
+    alloc: Global,
+    heap: u32,
+    graph: &[Message],
+    io: &mut Inputs,
+    steps: &[Step],
+) -> Result<(), Fail>
+    requires { heap ≤ 16384 }
+{
+    let other = play(alloc, heap, graph, io, steps)?;
+    assert_eq!(rt; other, None);
+    Ok(())
+}
+
+/// The same without inputs.
+pub(crate) fn played(
+    rt: &impl Abort,
+    alloc: Global,
+    heap: u32,
+    graph: &[Message],
+    steps: &[Step],
+) -> Result<(), Fail>
+    requires { heap ≤ 16384 }
+{
+    let mut io = Inputs::new(alloc)?;
+    played_with(rt, alloc, heap, graph, &mut io, steps)
 }
 
 // The same on a device that is on.

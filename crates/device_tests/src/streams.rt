@@ -2,7 +2,7 @@
 ghost use Rattle.std.specs.Prelude.{◌≤◌, length};
 
 use crate::messages::{S16, S32, amplified, capture, gains, mixed, mono, slow, stereo, thin};
-use crate::steps::{INVALID, Step, done, play, silent, tick};
+use crate::steps::{INVALID, Step, done, played_with, silent, tick};
 use ipc3_codec::Message;
 use sof_io::Inputs;
 use std::alloc::Global;
@@ -43,9 +43,7 @@ fn a_stream_runs_from_its_start_to_its_stop(rt: HostRuntime) -> Result<(), Fail>
         silent(1, 2),
     ];
     let mut io = input(rt.alloc(), 0, &[1, 2, 3, 4, 5])?;
-    let other = play(rt.alloc(), 992, &thin(), &mut io, &steps)?;
-    assert_eq!(rt; other, None);
-    Ok(())
+    played_with(&rt, rt.alloc(), 992, &thin(), &mut io, &steps)
 }
 
 // Two ticks of two channels: the first all 1, the second all 2.
@@ -65,9 +63,7 @@ fn a_stream_goes_on_behind_its_pause(rt: HostRuntime) -> Result<(), Fail> {
         tick(4, 384, [0, 0, 2, 0, 0, 0, 2, 0, 0, 0, 2, 0]),
     ];
     let mut io = ones_and_twos(rt.alloc())?;
-    let other = play(rt.alloc(), 1856, &amplified(S32), &mut io, &steps)?;
-    assert_eq!(rt; other, None);
-    Ok(())
+    played_with(&rt, rt.alloc(), 1856, &amplified(S32), &mut io, &steps)
 }
 
 #[test]
@@ -81,9 +77,7 @@ fn a_pipeline_of_ten_ms_runs_at_each_tenth_tick(rt: HostRuntime) -> Result<(), F
         tick(2, 3840, [0; 12]),
     ];
     let mut io = ones_and_twos(rt.alloc())?;
-    let other = play(rt.alloc(), 4096, &slow(), &mut io, &steps)?;
-    assert_eq!(rt; other, None);
-    Ok(())
+    played_with(&rt, rt.alloc(), 4096, &slow(), &mut io, &steps)
 }
 
 #[test]
@@ -94,9 +88,7 @@ fn a_capture_gives_the_frames_of_its_dai_to_its_host(rt: HostRuntime) -> Result<
         tick(2, 192, [0, 0, 1, 2, 0, 0, 0, 0, 0, 0, 0, 0]),
     ];
     let mut io = input(rt.alloc(), 0, &[1, 2])?;
-    let other = play(rt.alloc(), 992, &capture(), &mut io, &steps)?;
-    assert_eq!(rt; other, None);
-    Ok(())
+    played_with(&rt, rt.alloc(), 992, &capture(), &mut io, &steps)
 }
 
 #[test]
@@ -108,9 +100,7 @@ fn a_volume_multiplies_by_its_gain(rt: HostRuntime) -> Result<(), Fail> {
         tick(4, 192, [0xab, 0x65, 0, 0, 0, 0, 0, 0, 0, 0, 0, 0]),
     ];
     let mut io = input(rt.alloc(), 0, &[0xff, 0x7f])?;
-    let other = play(rt.alloc(), 1856, &amplified(S16), &mut io, &steps)?;
-    assert_eq!(rt; other, None);
-    Ok(())
+    played_with(&rt, rt.alloc(), 1856, &amplified(S16), &mut io, &steps)
 }
 
 // Inputs of both hosts: one of 1000s, and one of ones.
@@ -136,9 +126,7 @@ fn a_mixer_adds_the_streams_that_run(rt: HostRuntime) -> Result<(), Fail> {
         tick(2, 384, [0, 0, 0xe9, 3, 0, 0, 0xe9, 3, 0, 0, 0xe9, 3]),
     ];
     let mut io = inputs(rt.alloc())?;
-    let other = play(rt.alloc(), 4096, &mixed(), &mut io, &steps)?;
-    assert_eq!(rt; other, None);
-    Ok(())
+    played_with(&rt, rt.alloc(), 4096, &mixed(), &mut io, &steps)
 }
 
 #[test]
@@ -151,7 +139,5 @@ fn a_mixer_refuses_a_second_rate(rt: HostRuntime) -> Result<(), Fail> {
         tick(2, 384, [0, 0, 0xe8, 3, 0, 0, 0xe8, 3, 0, 0, 0xe8, 3]),
     ];
     let mut io = inputs(rt.alloc())?;
-    let other = play(rt.alloc(), 4096, &mixed(), &mut io, &steps)?;
-    assert_eq!(rt; other, None);
-    Ok(())
+    played_with(&rt, rt.alloc(), 4096, &mixed(), &mut io, &steps)
 }

@@ -1,5 +1,6 @@
 // Compiles over a desk that fails: a front of the file and of its line is left, and the status is 3.
 use crate::runs::run_over;
+use crate::same::same;
 use sof_desk::MemDesk;
 use std::alloc::Global;
 use std::test::Fail;
@@ -32,10 +33,8 @@ fn compiled(alloc: Global, room: usize, call: u32, passes: u32) -> Result<Left, 
     desk.fail_call(call, passes)?;
     let words = ["compile", "a.toml", "a.tplg"];
     let ending = run_over(alloc, words.as_slice(), ROOM, &mut desk)?;
-    let mut said = Vec::new(alloc);
-    said.extend_from_slice(desk.said())?;
-    let mut out = Vec::new(alloc);
-    out.extend_from_slice(desk.file("a.tplg").ok_or("no file")?)?;
+    let said = Vec::from_slice(alloc, desk.said())?;
+    let out = Vec::from_slice(alloc, desk.file("a.tplg").ok_or("no file")?)?;
     Ok(Left {
         status: ending.status,
         on: ending.on,
@@ -48,10 +47,20 @@ fn compiled(alloc: Global, room: usize, call: u32, passes: u32) -> Result<Left, 
 #[test]
 fn a_compile_that_fails_leaves_a_front_of_its_file_and_line(rt: HostRuntime) -> Result<(), Fail> {
     let whole = compiled(rt.alloc(), 168, 5, 0)?;
-    assert_eq!(rt; whole.status, 0);
-    assert_eq!(rt; whole.said.as_slice(), b"wrote 168\n".as_slice());
-    assert_eq!(rt; whole.out.len(), 168);
-    assert_eq!(rt; whole.out.get(..4), Some(b"CoSA".as_slice()));
+    same(&rt, &"its status", &whole.status, &0);
+    same(
+        &rt,
+        &"what is said",
+        &whole.said.as_slice(),
+        &b"wrote 168\n".as_slice(),
+    );
+    same(&rt, &"the file", &whole.out.len(), &168);
+    same(
+        &rt,
+        &"the file",
+        &whole.out.get(..4),
+        &Some(b"CoSA".as_slice()),
+    );
     for (call, passes, bytes, said) in [
         (1u32, 0u32, 0usize, b"".as_slice()),
         (2, 0, 0, b""),
@@ -59,13 +68,14 @@ fn a_compile_that_fails_leaves_a_front_of_its_file_and_line(rt: HostRuntime) -> 
         (4, 3, 168, b"wro"),
     ] {
         let left = compiled(rt.alloc(), 168, call, passes)?;
-        assert_eq!(rt; left.status, 3, "call {call}");
-        assert!(rt; !left.on, "call {call}");
-        assert_eq!(rt; left.said.as_slice(), said, "call {call}");
-        assert_eq!(rt;
-            Some(left.out.as_slice()),
-            whole.out.get(..bytes),
-            "call {call}"
+        same(&rt, &call, &left.status, &3);
+        same(&rt, &call, &left.on, &false);
+        same(&rt, &call, &left.said.as_slice(), &said);
+        same(
+            &rt,
+            &call,
+            &Some(left.out.as_slice()),
+            &whole.out.get(..bytes),
         );
     }
     Ok(())
@@ -76,8 +86,13 @@ fn a_compile_that_fails_leaves_a_front_of_its_file_and_line(rt: HostRuntime) -> 
 fn a_file_without_room_leaves_a_front_of_its_bytes(rt: HostRuntime) -> Result<(), Fail> {
     let whole = compiled(rt.alloc(), 168, 5, 0)?;
     let left = compiled(rt.alloc(), 167, 5, 0)?;
-    assert_eq!(rt; left.status, 3);
-    assert!(rt; left.said.is_empty());
-    assert_eq!(rt; Some(left.out.as_slice()), whole.out.get(..167));
+    same(&rt, &"its status", &left.status, &3);
+    same(&rt, &"what is said", &left.said.len(), &0);
+    same(
+        &rt,
+        &"the file",
+        &Some(left.out.as_slice()),
+        &whole.out.get(..167),
+    );
     Ok(())
 }

@@ -1,6 +1,7 @@
 // Runs over a desk that fails: a front of the whole run is left, and the status is 3.
 use crate::graphs::{THIN, graph};
 use crate::played::{played, played_thin};
+use crate::same::same;
 use std::test::Fail;
 
 // The first call loads the topology. The fifth says the second line of the show. The third of a broken topology says its
@@ -14,15 +15,20 @@ fn a_call_that_fails_leaves_a_front_of_what_is_said(rt: HostRuntime) -> Result<(
     ] {
         let failing = Some((call, passes));
         let outcome = played_thin(rt.alloc(), "992", b"load\nshow\nload\n", failing)?;
-        assert_eq!(rt; outcome.ending.status, 3, "call {call}");
-        assert_eq!(rt; outcome.ending.on, on, "call {call}");
-        assert_eq!(rt; outcome.said.as_slice(), said, "call {call}");
+        same(&rt, &call, &outcome.ending.status, &3);
+        same(&rt, &call, &outcome.ending.on, &on);
+        same(&rt, &call, &outcome.said.as_slice(), &said);
     }
     let words = ["play", "992", "a.tplg", "s.txt"];
     let script = Some(b"load\n".as_slice());
     let outcome = played(rt.alloc(), words.as_slice(), b"CoS", script, Some((3, 6)))?;
-    assert_eq!(rt; outcome.ending.status, 3);
-    assert_eq!(rt; outcome.said.as_slice(), b"topolo".as_slice());
+    same(&rt, &"its status", &outcome.ending.status, &3);
+    same(
+        &rt,
+        &"what is said",
+        &outcome.said.as_slice(),
+        &b"topolo".as_slice(),
+    );
     Ok(())
 }
 
@@ -49,12 +55,13 @@ fn a_check_that_fails_leaves_a_front_of_its_lines(rt: HostRuntime) -> Result<(),
         let failing = Some((call, passes));
         let words = ["check", "a.tplg"];
         let outcome = played(alloc, words.as_slice(), &topology, None, failing)?;
-        assert_eq!(rt; outcome.ending.status, status, "call {call}");
-        assert!(rt; !outcome.ending.on, "call {call}");
-        assert_eq!(rt;
-            Some(outcome.said.as_slice()),
-            COUNTS.get(..length),
-            "call {call}"
+        same(&rt, &call, &outcome.ending.status, &status);
+        same(&rt, &call, &outcome.ending.on, &false);
+        same(
+            &rt,
+            &call,
+            &Some(outcome.said.as_slice()),
+            &COUNTS.get(..length),
         );
     }
     Ok(())

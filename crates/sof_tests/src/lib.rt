@@ -15,6 +15,8 @@ mod rows;
 #[cfg(test)]
 mod runs;
 #[cfg(test)]
+mod same;
+#[cfg(test)]
 mod sounds;
 
 pub use counted::check_rows;

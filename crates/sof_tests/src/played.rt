@@ -35,8 +35,7 @@ pub fn played(
         desk.fail_call(call, written)?;
     }
     let ending = run_over(alloc, words, ROOM, &mut desk)?;
-    let mut said = Vec::new(alloc);
-    said.extend_from_slice(desk.said())?;
+    let said = Vec::from_slice(alloc, desk.said())?;
     Ok(Outcome { ending, said })
 }
 

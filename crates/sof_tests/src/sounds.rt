@@ -2,6 +2,7 @@
 use crate::graphs::{VOLUME, graph};
 use crate::played::Failing;
 use crate::runs::run_over;
+use crate::same::same;
 use sof_desk::MemDesk;
 use std::alloc::Global;
 use std::test::Fail;
@@ -47,10 +48,8 @@ fn sounded(alloc: Global, script: &[u8], input: &[u8], failing: Failing) -> Resu
 fn sounded_over(alloc: Global, desk: &mut MemDesk) -> Result<Sound, Fail> {
     let words = ["play", "1856", "a.tplg", "s.txt"];
     let ending = run_over(alloc, words.as_slice(), ROOM, desk)?;
-    let mut said = Vec::new(alloc);
-    said.extend_from_slice(desk.said())?;
-    let mut out = Vec::new(alloc);
-    out.extend_from_slice(desk.file("out.raw").ok_or("no output")?)?;
+    let said = Vec::from_slice(alloc, desk.said())?;
+    let out = Vec::from_slice(alloc, desk.file("out.raw").ok_or("no output")?)?;
     Ok(Sound {
         status: ending.status,
         said,
@@ -88,13 +87,15 @@ fn ten_ticks(alloc: Global, failing: Failing) -> Result<Sound, Fail> {
 fn ten_ticks_are_played(rt: HostRuntime) -> Result<(), Fail> {
     let alloc = rt.alloc();
     let sound = ten_ticks(alloc, None)?;
-    assert_eq!(rt; sound.status, 0);
-    assert_eq!(rt;
-        sound.said.as_slice(),
-        b"3 ok\n4 ok\n5 ok\n6 ok\n7 ok\n8 ok\n9 ok\n".as_slice()
+    same(&rt, &"its status", &sound.status, &0);
+    same(
+        &rt,
+        &"what is said",
+        &sound.said.as_slice(),
+        &b"3 ok\n4 ok\n5 ok\n6 ok\n7 ok\n8 ok\n9 ok\n".as_slice(),
     );
     let whole = repeated(alloc, &[0, 0, 0xff, 0x7f], 960)?;
-    assert_eq!(rt; sound.out.as_slice(), whole.as_slice());
+    same(&rt, &"the output", &sound.out.as_slice(), &whole.as_slice());
     Ok(())
 }
 
@@ -108,9 +109,19 @@ fn reads_of_one_byte_play_the_same(rt: HostRuntime) -> Result<(), Fail> {
     desk.read_at_most(1);
     let sound = sounded_over(alloc, &mut desk)?;
     let whole = ten_ticks(alloc, None)?;
-    assert_eq!(rt; sound.status, 0);
-    assert_eq!(rt; sound.said.as_slice(), whole.said.as_slice());
-    assert_eq!(rt; sound.out.as_slice(), whole.out.as_slice());
+    same(&rt, &"its status", &sound.status, &0);
+    same(
+        &rt,
+        &"what is said",
+        &sound.said.as_slice(),
+        &whole.said.as_slice(),
+    );
+    same(
+        &rt,
+        &"the output",
+        &sound.out.as_slice(),
+        &whole.out.as_slice(),
+    );
     Ok(())
 }
 
@@ -119,13 +130,15 @@ fn reads_of_one_byte_play_the_same(rt: HostRuntime) -> Result<(), Fail> {
 fn an_append_that_fails_leaves_a_front_of_the_sound(rt: HostRuntime) -> Result<(), Fail> {
     let alloc = rt.alloc();
     let sound = ten_ticks(alloc, Some((13, 100)))?;
-    assert_eq!(rt; sound.status, 3);
-    assert_eq!(rt;
-        sound.said.as_slice(),
-        b"3 ok\n4 ok\n5 ok\n6 ok\n".as_slice()
+    same(&rt, &"its status", &sound.status, &3);
+    same(
+        &rt,
+        &"what is said",
+        &sound.said.as_slice(),
+        &b"3 ok\n4 ok\n5 ok\n6 ok\n".as_slice(),
     );
     let front = repeated(alloc, &[0, 0, 0xff, 0x7f], 217)?;
-    assert_eq!(rt; sound.out.as_slice(), front.as_slice());
+    same(&rt, &"the output", &sound.out.as_slice(), &front.as_slice());
     Ok(())
 }
 
@@ -145,9 +158,9 @@ fn each_call_that_fails_leaves_fronts(rt: HostRuntime) -> Result<(), Fail> {
     let alloc = rt.alloc();
     let whole = ten_ticks(alloc, None)?;
     for call in 1..24u32 {
-        assert!(rt; leaves_fronts(alloc, call, &whole)?, "call {call}");
+        same(&rt, &call, &leaves_fronts(alloc, call, &whole)?, &true);
     }
     let later = ten_ticks(alloc, Some((24, 0)))?;
-    assert_eq!(rt; later.status, 0);
+    same(&rt, &"its status", &later.status, &0);
     Ok(())
 }

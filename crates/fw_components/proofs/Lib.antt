@@ -16,7 +16,6 @@ mod MadeLaws
 mod MoveAgain
 mod MovedLaws
 mod PartKept
-mod PartLaws
 mod Positions
 mod ProcessLaws
 mod Putting

@@ -15,7 +15,8 @@ use Rattle.fw_components.specs.declared.component.Unit.TheVariants.{Host, Dai, V
 use Rattle.fw_components.specs.Tables.{Tables, graph_of, comp_by, kind_by, setting_by}
 use Rattle.fw_components.specs.Kept.{IsKept, IsStreaming, is_plain}
 use Rattle.fw_components.specs.Changes.{is_there}
-use Rattle.fw_components.specs.Parts.{part_or, part_got, staging_in, takes_part, parted_unit, parted_by, parted_at, parted, part_set, staging_after, IsParted, AreJoined}
+use Rattle.fw_parts.specs.Staged.{staging_in, IsSoFar}
+use Rattle.fw_components.specs.Parts.{part_or, part_got, takes_part, parted_unit, parted_by, parted_at, parted, part_set, staging_after, IsParted}
 use Rattle.fw_components.proofs.Begun.{at-id, at-unit}
 use Rattle.fw_components.proofs.KeptLaws.{comps-changed}
 
@@ -49,7 +50,7 @@ module _ (part : Part) (words : List ℤ) where
 -- ---- and tables
 
 module _ (t : Tables) (kept : IsKept t) (id : ℕ) (part : Part) where
-  pub parted-kept : (words : List ℤ) (bytes : List ℕ) (new : List Component) → AreJoined part bytes → new ≡ map (parted_at id part words) t.comps → IsKept (record { comps = new; buffers = t.buffers; pipes = t.pipes; joins = t.joins })
+  pub parted-kept : (words : List ℤ) (bytes : List ℕ) (new : List Component) → IsSoFar part bytes → new ≡ map (parted_at id part words) t.comps → IsKept (record { comps = new; buffers = t.buffers; pipes = t.pipes; joins = t.joins })
   parted-kept words bytes new joined is =
       comps-changed t kept (parted_at id part words) new (at-id (parted_by part words) (λ c. refl) id)
       (at-unit (λ u. is_plain u ≡ true) (parted_by part words) (λ c. parted-plain part words c.id c.unit) id)

@@ -9,6 +9,7 @@ use Rattle.eq_biquad.specs.EqState.{staged_of}
 use Rattle.stream_law.specs.State.{Staging}
 use Rattle.stream_law.specs.Seen.{fresh_numbers}
 use Rattle.mbox_link.specs.Step.{keeps_order, staged_bytes, part_at}
+use Rattle.fw_parts.specs.Staged.{staging_in, fits_behind}
 use Rattle.fw_components.specs.declared.component.Component.{Component}
 use Rattle.fw_components.specs.declared.component.Unit as units
 use Rattle.fw_components.specs.declared.component.Unit.TheVariants.{Eq}
@@ -33,12 +34,6 @@ part_told (Err e) = Err e.0
 
 -- ---- parts that are staged
 
--- what is staged under an id while more of the blob is to come: the header, and 260 bytes of each part
-abbrev pub staging_in : ℕ → List ℕ → ℕ → ℕ → Option Staging
-staging_in id staged next remaining =
-    if remaining == 0 then None
-    else Some (record { eq = id; bytes = take (32 + 260 * next) staged; next = next; remaining = remaining })
-
 abbrev pub staging_one : ℕ → units.Unit → Option Staging
 staging_one id (Eq eq next remaining) = staging_in id (staged_of eq) next remaining
 staging_one id unit = None
@@ -46,10 +41,6 @@ staging_one id unit = None
 -- the bytes that are staged, with this part behind them
 abbrev pub joined_bytes : ℕ → units.Unit → Part → List ℕ
 joined_bytes id unit part = staged_bytes (staging_one id unit) part
-
--- a part is the next one, and with the last one the bytes are a blob
-abbrev pub fits_behind : Option Staging → Part → Bool
-fits_behind staged part = keeps_order staged part && (not (part.remaining == 0) || is_blob (staged_bytes staged part))
 
 -- an equaliser takes such a part, and nothing else takes any
 abbrev pub takes_part : ℕ → units.Unit → Part → Bool
@@ -102,15 +93,6 @@ pub record IsParted (part : Part) (id : ℕ) (old new : units.Unit) : Type 0 whe
 abbrev pub IsPartedBy : Part → Option Component → Option Component → Type 0
 IsPartedBy part (Some old) (Some new) = IsParted part old.id old.unit new.unit
 IsPartedBy part old new = Unit {0}
-
--- ---- bytes that can be staged or put in force
-
--- with the last part they are a blob; else they are as many as came with all parts so far, and with what remains within a blob
-pub record AreJoined (part : Part) (bytes : List ℕ) : Type 0 where
-  pub few : length bytes ≤ 1024
-  pub blob : part.remaining ≡ 0 → IsBlob bytes
-  pub count : (part.remaining == 0) ≡ false → length bytes ≡ 292 + 260 * part.index
-  pub within : (part.remaining == 0) ≡ false → 260 * (part.index + 1) + part.remaining ≤ 992
 
 -- a component takes the part, and these are its bytes then
 abbrev pub IsTakenBy : Part → List ℕ → Option Component → Type 0

@@ -12,7 +12,8 @@ use Rattle.fw_components.specs.declared.component.Component.{Component}
 use Rattle.fw_components.specs.declared.component.Unit as units
 use Rattle.fw_components.specs.declared.component.Unit.TheVariants.{Host, Dai, Volume, Mixer, Mux, Eq, Buffer, Pipeline}
 use Rattle.fw_components.specs.Tables.{staging_by, with_staging_by}
-use Rattle.fw_components.specs.Parts.{staging_in, staging_one, parted_by, parted_at}
+use Rattle.fw_parts.specs.Staged.{staging_in}
+use Rattle.fw_components.specs.Parts.{staging_one, parted_by, parted_at}
 
 -- ---- one after the other
 

@@ -34,7 +34,8 @@ use Rattle.fw_components.specs.declared.component.Unit as units
 use Rattle.fw_components.specs.declared.component.Unit.TheVariants.{Host, Dai, Volume, Mixer, Mux, Eq, Buffer, Pipeline}
 use Rattle.fw_components.specs.Tables.{Tables, all_of, graph_of, view_by, comp_by, kind_by, setting_by, streams_by, streams_of, staging_by, staging_of, rings_of, histories_of, numbers_by, piece_of, with_stream_by}
 use Rattle.fw_components.specs.Values.{left_with}
-use Rattle.fw_components.specs.Parts.{part_or, part_got, staging_in, staging_one, joined_bytes, fits_behind, takes_part, parted_unit, parted_by, parted_at, parted, part_set, staging_after, IsParted, IsPartedBy}
+use Rattle.fw_parts.specs.Staged.{staging_in, fits_behind}
+use Rattle.fw_components.specs.Parts.{part_or, part_got, staging_one, joined_bytes, takes_part, parted_unit, parted_by, parted_at, parted, part_set, staging_after, IsParted, IsPartedBy}
 use Rattle.fw_walks.proofs.Naming.{find-map}
 use Rattle.fw_pipeline.specs.States.{AreOf}
 use Rattle.fw_pipeline.proofs.StateAfter.{histories-each}

@@ -1,6 +1,6 @@
 use Rattle.std.proofs.Common.{◌≡◌, ◌∙◌, refl, sym, ap, ◌+◌, ◌*◌, ◌++◌, ◌==◌, take, length, cond, List, ℕ, arith}
-use Rattle.fw_components.proofs.PartLaws.{join-is}
-use Rattle.fw_components.proofs.parts.join.Goals as goal
+use Rattle.fw_parts.proofs.PartLaws.{join-is}
+use Rattle.fw_parts.proofs.staging.join.Goals as goal
 
 pub returns-clause-bytes : goal.returns-clause-bytes
 returns-clause-bytes c =

@@ -2,8 +2,8 @@ use Rattle.std.proofs.Common.{◌∙◌, sym, ap, ◌+◌, ◌*◌, ◌==◌, co
 use Rattle.std.proofs.lemmas.Bool.{true≢false, eqb-true}
 use Rattle.eq_biquad.specs.EqState.{staged_of, numbers_of}
 use Rattle.stream_law.specs.Seen.{fresh_numbers}
-use Rattle.fw_components.proofs.PartLaws.{eq-put, staged-front}
-use Rattle.fw_components.proofs.parts.put.Goals as goal
+use Rattle.fw_parts.proofs.PartLaws.{eq-put, staged-front}
+use Rattle.fw_parts.proofs.staging.put.Goals as goal
 
 pub install-requires : goal.install-requires
 install-requires c = c.requires.blob (eqb-true c.args.part.now.remaining 0 (sym c.is_last.ensures ∙ c.if-is_last.true))

@@ -1,6 +1,6 @@
 use Rattle.std.proofs.Common.{◌∙◌, refl, sym, arith, rules}
-use Rattle.fw_components.proofs.PartLaws.{cut-none, cut-told, some-own}
-use Rattle.fw_components.proofs.parts.cut.Goals as goal
+use Rattle.fw_parts.proofs.PartLaws.{cut-none, cut-told, some-own}
+use Rattle.fw_parts.proofs.cutting.cut.Goals as goal
 
 pub returns-then-index-count_of : goal.returns-then-index-count_of
 returns-then-index-count_of c = cut-none c.args.blob.now c.args.index c.count_of.result c.count_of.ensures (search rules)

@@ -13,8 +13,7 @@ use Rattle.eq_biquad.specs.EqState.{EqState}
 use Rattle.stream_law.specs.State.{Staging}
 use Rattle.mbox_link.specs.BlobParts.{parts, blob_part, left_behind}
 use Rattle.mbox_link.specs.Step.{bytes_left, is_next, keeps_order, staged_bytes}
-use Rattle.fw_components.specs.Frames.{piece_with_words}
-use Rattle.fw_components.specs.Parts.{staging_in, fits_behind, AreJoined}
+use Rattle.fw_parts.specs.Staged.{staging_in, fits_behind, IsSoFar}
 
 -- what is staged where something remains
 pub staged-some : (id : ℕ) (staged : List ℕ) (next remaining : ℕ) → (remaining == 0) ≡ false → staging_in id staged next remaining ≡ Some (record { eq = id; bytes = take (32 + 260 * next) staged; next = next; remaining = remaining })
@@ -134,7 +133,7 @@ join-is old mid new header own tail index at end mid_is at_is end_is within old_
         ∙ sym (ap (λ h. cond h header (take (32 + 260 * index) old)) later)
 
 -- and what may become of them
-pub are-joined : (id : ℕ) (staged : List ℕ) (next remaining : ℕ) (part : Part) (bytes : List ℕ) → 260 * next + remaining ≤ 992 → keeps_order (staging_in id staged next remaining) part ≡ true → (part.remaining ≡ 0 → IsBlob bytes) → length bytes ≡ 32 + 260 * part.index + length part.bytes → AreJoined part bytes
+pub are-joined : (id : ℕ) (staged : List ℕ) (next remaining : ℕ) (part : Part) (bytes : List ℕ) → 260 * next + remaining ≤ 992 → keeps_order (staging_in id staged next remaining) part ≡ true → (part.remaining ≡ 0 → IsBlob bytes) → length bytes ≡ 32 + 260 * part.index + length part.bytes → IsSoFar part bytes
 are-joined id staged next remaining part bytes within order blob long = record {
   few = omega (arith, long, order-fits id staged next remaining part within order);
   blob = blob;
@@ -164,7 +163,7 @@ joined-wrong id staged next remaining part bytes order wrong is =
 
 -- ---- an equaliser with other words
 
-pub eq-put : (old new : EqState) (blob : List ℕ) → new.blob ≡ blob → new.piece.home ≡ old.piece.home → new.piece.place ≡ old.piece.place → new.piece.size ≡ old.piece.size → new ≡ record { blob = blob; piece = piece_with_words new.piece.words old.piece }
+pub eq-put : (old new : EqState) (blob : List ℕ) → new.blob ≡ blob → new.piece.home ≡ old.piece.home → new.piece.place ≡ old.piece.place → new.piece.size ≡ old.piece.size → new ≡ record { blob = blob; piece = record old.piece { words = new.piece.words } }
 eq-put old new blob is home place size = λ i. record { blob = is i; piece = record { home = home i; place = place i; size = size i; words = new.piece.words } }
 
 -- bytes that are staged from the first on stand in front

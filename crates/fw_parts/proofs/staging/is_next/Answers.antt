@@ -1,8 +1,8 @@
 use Rattle.std.proofs.Common.{◌∙◌, refl, sym, ap, ◌==◌, true, false, take}
 use Rattle.std.specs.Str.{bytes_eq}
 use Rattle.mbox_link.specs.Step.{bytes_left}
-use Rattle.fw_components.proofs.PartLaws.{next-told}
-use Rattle.fw_components.proofs.parts.is_next.Goals as goal
+use Rattle.fw_parts.proofs.PartLaws.{next-told}
+use Rattle.fw_parts.proofs.staging.is_next.Goals as goal
 
 pub returns-then-not-is_in_turn : goal.returns-then-not-is_in_turn
 returns-then-not-is_in_turn c = λ id.

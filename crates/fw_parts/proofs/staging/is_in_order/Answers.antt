@@ -1,7 +1,7 @@
 use Rattle.std.proofs.Common.{◌∙◌, sym, ap, ◌==◌, ◌&&◌, ◌||◌, length}
 use Rattle.std.proofs.lemmas.Bool.{false≢true}
-use Rattle.fw_components.proofs.PartLaws.{order-fits}
-use Rattle.fw_components.proofs.parts.is_in_order.Goals as goal
+use Rattle.fw_parts.proofs.PartLaws.{order-fits}
+use Rattle.fw_parts.proofs.staging.is_in_order.Goals as goal
 
 pub returns-then-is_due-clause-order : goal.returns-then-is_due-clause-order
 returns-then-is_due-clause-order c = λ id.

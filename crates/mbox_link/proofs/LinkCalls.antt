@@ -4,7 +4,7 @@ use Rattle.sof_base.specs.Ports.{Io, OutputView, HasRoom}
 use Rattle.stream_law.specs.State.{FwState}
 use Rattle.mbox_link.specs.Step.{error_reply}
 use Rattle.mbox_link.specs.Exchange.{ticks, IsRefusal, Rose, Stepped, more}
-use Rattle.mbox_link.specs.Calls.{World, Meaning, Exchanged, Tick, Led}
+use Rattle.mbox_link.specs.Calls.{World, Meaning, Exchanged, Tick, Led, MovesBy}
 use Rattle.mbox_link.specs.declared.fates.Fate.TheVariants.{Pass, Refuse, Drop, Lose}
 use Rattle.mbox_link.specs.Meetings.{planned, without_entry, lags}
 use Rattle.mbox_link.specs.Fates.{AreEntriesApart, AreHeld, IsError}
@@ -64,6 +64,9 @@ module _ {P : Type 0} (means : Meaning P) (request : List ℕ) (w : World (Wire 
     room : (answer : Option (List ℕ)) → Late means (next_lag old) request answer (inner w) (at dsp io) → (n : ℕ) → HasRoom (61440 * (lags old.entries + means.pending old.device) + n) w.io.outputs → HasRoom (61440 * (left + means.pending dsp) + n) io.outputs
     room answer late = room-held (lags old.entries) left (next_lag old) (means.pending old.device) (means.pending dsp) w.io.outputs io.outputs all-is late.room
 
+    moves : (answer : Option (List ℕ)) → Late means (next_lag old) request answer (inner w) (at dsp io) → MovesBy (61440 * ((lags old.entries + means.pending old.device) - (left + means.pending dsp))) w.io.inputs io.inputs
+    moves answer late = subst (λ n. MovesBy (61440 * n) w.io.inputs io.inputs) (sym (fell late.steady.pending)) late.moves
+
     -- the step, by what is pending of the link
     stepped : (answer : Option (List ℕ)) → Late means (next_lag old) request answer (inner w) (at dsp io) → (s : FwState) → means.on old.device ≡ Some s →
         Stepped (Rose (means.refusals old.device) (means.refusals dsp)) (Rose (means.faults old.device) (means.faults dsp)) (place ((lags old.entries + means.pending old.device) - (left + means.pending dsp)) s) request answer (means.on dsp) io
@@ -78,6 +81,7 @@ module _ {P : Type 0} (means : Meaning P) (request : List ℕ) (w : World (Wire 
           did = ((m, came, rw (← fate) x), refl);
           step = λ s on. rw (← fate) (Stepped-raise (place ((lags old.entries + means.pending old.device) - (left + means.pending dsp)) s) request answer (means.on dsp) io inr inr (stepped answer late s on));
           room = room answer late;
+          moves = moves answer late;
           boots = late.boots;
           steady = rw (← fate) record { faults = (omega arith, late.steady.faults); refusals = (omega arith, late.steady.refusals); boots = late.steady.boots; pending = less dsp late.steady.pending; most = late.steady.most };
         }
@@ -90,6 +94,7 @@ module _ {P : Type 0} (means : Meaning P) (request : List ℕ) (w : World (Wire 
           did = ((m, came, rw (← fate) (refl, lost, x)), refl);
           step = λ s on. rw (← fate) ((after s on).0, Rose-more old.dropped (means.faults old.device) (means.faults dsp), (after s on).1);
           room = room lost late;
+          moves = moves lost late;
           boots = late.boots;
           steady = rw (← fate) record { faults = (no_fewer, late.steady.faults); refusals = (omega arith, late.steady.refusals); boots = late.steady.boots; pending = less dsp late.steady.pending; most = late.steady.most };
         }
@@ -112,6 +117,9 @@ module _ {P : Type 0} (means : Meaning P) (request : List ℕ) (w : World (Wire 
     room_left : (n : ℕ) → HasRoom (61440 * (lags old.entries + means.pending old.device) + n) w.io.outputs → HasRoom (61440 * (left + means.pending m.device) + n) m.io.outputs
     room_left = room-held (lags old.entries) left (next_lag old) (means.pending old.device) (means.pending m.device) w.io.outputs m.io.outputs all-is ticks_room
 
+    moves_so_far : MovesBy (61440 * ((lags old.entries + means.pending old.device) - (left + means.pending m.device))) w.io.inputs m.io.inputs
+    moves_so_far = subst (λ n. MovesBy (61440 * n) w.io.inputs m.io.inputs) (sym gone) so_far.moves
+
     -- it has the state and the endpoints of these ticks
     state_is : (s : FwState) → means.on old.device ≡ Some s → let p = ticks ((lags old.entries + means.pending old.device) - (left + means.pending m.device)) (s, w.io) in (means.on m.device ≡ Some p.0) × (m.io ≡ p.1)
     state_is s on = subst (λ (n : ℕ). (means.on m.device ≡ Some (ticks n (s, w.io)).0) × (m.io ≡ (ticks n (s, w.io)).1)) (sym gone) (so_far.on s on)
@@ -123,6 +131,7 @@ module _ {P : Type 0} (means : Meaning P) (request : List ℕ) (w : World (Wire 
           did = ((m, came, rw (← fate) (refl, refl)), refl);
           step = λ s on. rw (← fate) ((state_is s on).1, Rose-more old.dropped (means.faults old.device) (means.faults m.device), inr (state_is s on).0);
           room = room_left;
+          moves = moves_so_far;
           boots = so_far.boots;
           steady = rw (← fate) record { faults = (no_fewer, still.faults); refusals = (omega arith, still.refusals); boots = still.boots; pending = less m.device few; most = still.most };
         }
@@ -135,6 +144,7 @@ module _ {P : Type 0} (means : Meaning P) (request : List ℕ) (w : World (Wire 
           did = ((m, came, rw (← fate) (refl, refl)), refl);
           step = λ s on. rw (← fate) ((state_is s on).1, inr (Rose-more old.refused (means.refusals old.device) (means.refusals m.device), refusal, (state_is s on).0));
           room = room_left;
+          moves = moves_so_far;
           boots = so_far.boots;
           steady = rw (← fate) record { faults = (omega arith, still.faults); refusals = (no_fewer, still.refusals); boots = still.boots; pending = less m.device few; most = still.most };
         }

@@ -3,6 +3,7 @@ use Rattle.std.specs.Prelude.{◌≡◌, ◌+◌, ◌-◌, ◌*◌, ◌≤◌, �
 use Rattle.sof_base.specs.Ports.{InputView, OutputView, Io, HasRoom}
 use Rattle.sof_base.specs.declared.limits.TheConstants.{TURN_BYTES}
 use Rattle.stream_law.specs.State.{FwState}
+use Rattle.stream_law.specs.Stands.{position_of}
 use Rattle.mbox_link.specs.Step.{fresh}
 use Rattle.mbox_link.specs.Exchange.{ticked, ticks, Stepped, Rose, NoneFell, more}
 
@@ -49,6 +50,10 @@ pub record Quiet {D : Type 0} (means : Meaning D) (old new : D) : Type 0 where
   pub pending : means.pending new ≡ means.pending old
   pub most : means.most new ≡ means.most old
 
+-- the position of no input rises by more than so many bytes
+abbrev pub MovesBy : ℕ → List InputView → List InputView → Type 0
+MovesBy most old new = (slot : ℕ) → position_of new slot ≤ position_of old slot + most
+
 -- what a boot does
 pub record BootedDevice {D : Type 0} (means : Meaning D) (heap : ℕ) (old new : D) : Type 0 where
   pub did : means.boot heap old new
@@ -69,6 +74,7 @@ pub record Exchanged {D : Type 0} (means : Meaning D) (request : List ℕ) (answ
   pub did : means.exchange request answer w v
   pub step : (s : FwState) → means.on w.device ≡ Some s → Stepped (Rose (means.refusals w.device) (means.refusals v.device)) (Rose (means.faults w.device) (means.faults v.device)) (ticks (means.pending w.device - means.pending v.device) (s, w.io)) request answer (means.on v.device) v.io
   pub room : (n : ℕ) → HasRoom (TURN_BYTES * means.pending w.device + n) w.io.outputs → HasRoom (TURN_BYTES * means.pending v.device + n) v.io.outputs
+  pub moves : MovesBy (TURN_BYTES * (means.pending w.device - means.pending v.device)) w.io.inputs v.io.inputs
   pub boots : means.boots v.device ≡ means.boots w.device
   pub steady : Steady means w.device v.device
 
@@ -78,6 +84,7 @@ pub record Ticked {D : Type 0} (means : Meaning D) (w v : World D) : Type 0 wher
   pub on : (s : FwState) → means.on w.device ≡ Some s → (means.on v.device ≡ Some (ticked (s, w.io)).0) × (v.io ≡ (ticked (s, w.io)).1)
   pub off : means.on w.device ≡ None → (means.on v.device ≡ None) × (v.io ≡ w.io)
   pub room : (n : ℕ) → HasRoom (n + TURN_BYTES) w.io.outputs → HasRoom n v.io.outputs
+  pub moves : MovesBy TURN_BYTES w.io.inputs v.io.inputs
   pub boots : means.boots v.device ≡ means.boots w.device
   pub quiet : Quiet means w.device v.device
 

@@ -52,7 +52,8 @@ pub trait Dsp: Drop {
         ensures did { Exchanged means request.now (answered result reply.new)
             (world self.old io.old out.old) (world self.new io.new out.new) };
 
-    /// A tick where it is on, else nothing. It puts at most `TURN_BYTES`, 61440, to each output.
+    /// A tick where it is on, else nothing. It takes at most `TURN_BYTES`, 61440, from each input, and puts at most as many to each
+    /// output.
     fn tick(&mut self, io: &mut Inputs, out: &mut Outputs)
         requires room { HasRoom TURN_BYTES out.old }
         ensures { Ticked means (world self.old io.old out.old) (world self.new io.new out.new) };

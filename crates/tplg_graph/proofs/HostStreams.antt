@@ -1,8 +1,8 @@
 -- The streams of a well-formed topology are its hosts.
-use Rattle.std.proofs.Common.{◌≡◌, refl, ap, ◌∙◌, ℕ, List, [], ◌∷◌, length, map, Bool, true, false, not, ◌&&◌, ◌||◌, ◌==◌, Option, Some, None, slice_get, option_and_then}
+use Rattle.std.proofs.Common.{◌≡◌, refl, ap, ◌∙◌, ℕ, List, [], ◌∷◌, length, map, Bool, true, false, cond, not, ◌&&◌, ◌||◌, ◌==◌, Option, Some, None, slice_get, option_and_then}
 use Rattle.std.specs.Option.{option_map}
-use Rattle.std.specs.List.{list_any, list_all, filter_map, cons_option, range_with_len}
-use Rattle.std.proofs.lemmas.Bool.{and_parts}
+use Rattle.std.specs.List.{find, list_any, list_all, filter_map, cons_option, range_with_len}
+use Rattle.std.proofs.lemmas.Bool.{false≢true, and_parts}
 use Rattle.stream_law.specs.declared.graph.Comp.{Comp}
 use Rattle.stream_law.specs.declared.graph.Join.{Join}
 use Rattle.stream_law.specs.declared.graph.Setting.TheVariants.{Nothing}
@@ -21,7 +21,6 @@ use Rattle.tplg_rules.specs.RuleTable.{is_host_widget, has_pcm, hosts_rule}
 use Rattle.tplg_plan.specs.Sound.{host_of}
 use Rattle.tplg_graph.proofs.Interpreted.{of-interpreted, weaker, or-front}
 use Rattle.tplg_graph.proofs.KeyedLists.{passes-at}
-use Rattle.tplg_graph.proofs.ThinLaw.{caps-found}
 
 -- two lists over the same numbers
 same-lists : {X Y Z : Type 0} (g : X → Z) (h : Y → Option Z) (f : ℕ → Option X) (k : ℕ → Option Y) → ((i : ℕ) → option_map g (f i) ≡ option_and_then h (k i)) → (is : List ℕ) → map g (filter_map f is) ≡ filter_map h (filter_map k is)
@@ -33,6 +32,15 @@ same-lists {X} {Y} {Z} g h f k same (i ∷ is) = by_heads (f i) (k i) (same i) (
     by_heads None (Some y) e rest = rest ∙ ap (λ (z : Option Z). cons_option z (filter_map h (filter_map k is))) e
     by_heads (Some x) None e rest = cc
     by_heads (Some x) (Some y) e rest = ap (λ l. g x ∷ l) rest ∙ ap (λ (z : Option Z). cons_option z (filter_map h (filter_map k is))) e
+
+-- where some caps pass a test, there is a first that does
+caps-found : (p : PcmCaps → Bool) (pcms : List PcmCaps) → list_any p pcms ≡ true → (x : PcmCaps) × (find p pcms ≡ Some x)
+caps-found p [] h = absurd (false≢true h)
+caps-found p (x ∷ xs) h = by_test (p x) refl h (caps-found p xs)
+  where
+    by_test : (b : Bool) → p x ≡ b → (b || list_any p xs) ≡ true → (list_any p xs ≡ true → (y : PcmCaps) × (find p xs ≡ Some y)) → (y : PcmCaps) × (cond b (Some x) (find p xs) ≡ Some y)
+    by_test true e h rest = (x, refl)
+    by_test false e h rest = rest h
 
 -- a stream's host, and whether it captures
 abbrev host_pair : StreamPlan → ℕ × Bool

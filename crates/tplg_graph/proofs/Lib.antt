@@ -1,10 +1,8 @@
-pub mod ThinTests
 pub mod GraphSize
 pub mod Interpreted
 pub mod GraphNeed
 pub mod OrderableEnds
 pub mod OrderableIds
-pub mod ThinLaw
 pub mod JoinedWalks
 pub mod PlanLaws
 pub mod Known

@@ -1,8 +1,8 @@
 -- What an id of a well-formed topology names: a component, a buffer or a pipeline.
-use Rattle.std.proofs.Common.{◌≡◌, refl, sym, ap, subst, ◌∙◌, ℕ, List, length, Bool, true, false, cond, not, ◌||◌, ◌==◌, is_some, Option, Some, None, ◌⊎◌, inl, inr, slice_get, unwrap_or, option_and_then, arith}
+use Rattle.std.proofs.Common.{◌≡◌, refl, sym, ap, subst, ◌∙◌, ℕ, ◌≤◌, List, length, Bool, true, false, cond, not, ◌||◌, ◌==◌, is_some, Option, Some, None, ◌⊎◌, inl, inr, slice_get, unwrap_or, option_and_then, nat_le, arith}
 use Rattle.std.specs.Option.{option_map}
 use Rattle.std.specs.List.{AllByRecursion}
-use Rattle.std.proofs.lemmas.Bool.{false≢true, and_parts, eq-eqb, eqb-true}
+use Rattle.std.proofs.lemmas.Bool.{false≢true, and_parts, eq-eqb, eqb-true, leb-true}
 use Rattle.std.proofs.lemmas.Option.{slice_get-map, same_Some}
 use Rattle.stream_law.specs.declared.graph.Kind.{Kind}
 use Rattle.stream_law.specs.declared.graph.Comp.{Comp}
@@ -14,6 +14,8 @@ use Rattle.stream_law.specs.Ways.{comp_of, edge_of}
 use Rattle.tplg_widgets.specs.declared.entry.Role.{Role}
 use Rattle.tplg_widgets.specs.declared.entry.Role.TheVariants.{HostPlay, HostCapture, Dai, Volume, Mixer, Mux, Eq, Buffer, Scheduler}
 use Rattle.tplg_widgets.specs.declared.entry.Entry.{Entry}
+use Rattle.tplg_widgets.specs.declared.route_end.End.{End}
+use Rattle.tplg_widgets.specs.declared.route_end.End.TheVariants as an_end
 use Rattle.tplg_plan.specs.declared.plans.WidgetPlan.{WidgetPlan}
 use Rattle.tplg_widgets.specs.declared.tokens.FormatToken.{FormatToken}
 use Rattle.tplg_widgets.specs.Entries.{is_interpreted, is_buffer_entry, is_scheduler, is_component, is_buffer_role, is_scheduler_role, is_component_role, interpreted}
@@ -33,7 +35,6 @@ use Rattle.tplg_graph.proofs.ByIds.{of-component, made_edge, keyed-components, k
 use Rattle.tplg_widgets.proofs.ListLengths.{cond-none, no-kind}
 use Rattle.tplg_graph.proofs.Interpreted.{all-interpreted}
 use Rattle.tplg_graph.proofs.OrderableEnds.{component-kind, component-end, IsComp, IsBuf, Good, find-good, apart}
-use Rattle.tplg_graph.proofs.ThinLaw.{size-of, component-of}
 
 -- the graph of these widgets and real routes
 abbrev pub graph_of : List Entry → List Join → Graph
@@ -192,6 +193,15 @@ passed es js rule id b =
     let parts = and_parts (ins_of js id == 1) (outs_of js id == 1) h in
     (eqb-true (ins_of js id) 1 parts.0, eqb-true (outs_of js id) 1 parts.1)
 
+-- a size in bounds
+record IsSize (n : ℕ) : Type 0 where
+  pub least : 16 ≤ n
+  pub most : n ≤ 16777184
+
+size-of : (o : Option ℕ) → is_size o ≡ true → IsSize (unwrap_or o 0)
+size-of None h = absurd (false≢true h)
+size-of (Some n) h = record { least = leb-true 16 n (and_parts (nat_le 16 n) (nat_le n 16777184) h).0; most = leb-true n 16777184 (and_parts (nat_le 16 n) (nat_le n 16777184) h).1 }
+
 names-buffer : (es : List Entry) (js : List Join) → AllByRecursion (Good (interpreted es)) js → HoldsAll (buffers_rule es js) → HoldsAll (sizes_rule es) → (id : ℕ) (e : Entry) → slice_get (interpreted es) id ≡ Some e → is_buffer_entry e ≡ true → Names (graph_of es js) id (widget_plan e)
 names-buffer es js good rule sizes id e there sort =
     let b : IsBuf (interpreted es) id = record { entry = e; there = there; sort = sort } in
@@ -222,6 +232,12 @@ names-buffer es js good rule sizes id e there sort =
 period-of : (o : Option ℕ) → is_period o ≡ true → is_period (Some (unwrap_or o 0)) ≡ true
 period-of None h = absurd (false≢true h)
 period-of (Some p) h = h
+
+component-of : (x : End) → is_component_end x ≡ true → (c : ℕ) × (x ≡ an_end.Component c)
+component-of (an_end.Component c) h = (c, refl)
+component-of (an_end.Buffer c) h = absurd (false≢true h)
+component-of an_end.Other h = absurd (false≢true h)
+component-of an_end.Missing h = absurd (false≢true h)
 
 names-pipe : (es : List Entry) (js : List Join) → HoldsAll (scheds_rule es) → HoldsAll (periods_rule es) → (id : ℕ) (e : Entry) → slice_get (interpreted es) id ≡ Some e → is_scheduler e ≡ true → Names (graph_of es js) id (widget_plan e)
 names-pipe es js scheds periods id e there sort =

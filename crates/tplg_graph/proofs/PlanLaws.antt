@@ -1,11 +1,10 @@
 -- What is so of the plan of a well-formed topology.
-use Rattle.std.proofs.Common.{◌≡◌, sym, subst, suc, All, Result, Ok, Err, OnOk, IfOk}
+use Rattle.std.proofs.Common.{◌≡◌, sym, subst, suc, Result, Ok, Err, OnOk, IfOk}
 use Rattle.tplg_model.specs.declared.block.Topology.{Topology}
 use Rattle.tplg_plan.specs.declared.plans.Plan.{Plan}
 use Rattle.tplg_rules.specs.declared.plan_fault.PlanFault.{PlanFault}
 use Rattle.stream_law.specs.Ways.{components}
 use Rattle.tplg_widgets.specs.Entries.{entries_of, interpreted}
-use Rattle.tplg_widgets.specs.Ends.{ends_in}
 use Rattle.tplg_widgets.specs.PcmList.{pcms_of}
 use Rattle.tplg_widgets.specs.Ends.{joins_of}
 use Rattle.tplg_graph.specs.PlanOf.{plan_of}
@@ -13,9 +12,6 @@ use Rattle.tplg_plan.specs.HeapNeed.{IsSmall, need_on}
 use Rattle.tplg_graph.specs.TopologyNeed.{need_of}
 use Rattle.tplg_rules.specs.Cycles.{Reaches}
 use Rattle.tplg_graph.specs.Orderable.{IsOrderable, IsAcyclic}
-use Rattle.tplg_graph.specs.Thin.{IsThin}
-use Rattle.tplg_plan.specs.ThinPlan.{IsThinPlan}
-use Rattle.tplg_plan.specs.WidgetWords.{FitsWords}
 use Rattle.tplg_rules.specs.WellFormed.{IsWellFormed}
 use Rattle.tplg_graph.proofs.GraphSize.{small}
 use Rattle.tplg_graph.proofs.GraphNeed.{graph-need}
@@ -23,7 +19,6 @@ use Rattle.tplg_graph.proofs.OrderableEnds.{all-known}
 use Rattle.tplg_graph.proofs.OrderableIds.{comps-distinct, comps-below}
 use Rattle.tplg_graph.proofs.Known.{known-source, known-sink, joined-source}
 use Rattle.tplg_graph.proofs.JoinedWalks.{walk-joined}
-use Rattle.tplg_graph.proofs.ThinLaw.{thin-plan, entries-quiet}
 
 -- a fact on a well-formed topology's plan
 pub on-plan : (t : Topology) (r : Result Plan PlanFault) (P : Plan → Type 0) → OnOk r (IsWellFormed t) → IfOk r (λ p. p ≡ plan_of t) → (IsWellFormed t → P (plan_of t)) → IfOk r P
@@ -53,11 +48,3 @@ is-acyclic t w (c, n, walk) =
     let r : Reaches (plan_of t).graph.edges c c = (n, walk-joined (plan_of t).graph (suc n) c c walk) in
     let known = joined-source (components (plan_of t).graph) (plan_of t).graph.edges c r.1.0 (all-known t) r.1.1 in
     w.1.1.1.1.1.1.1.1.1.1.1.1.1.0 c (comps-below ps (joins_of t) c known) r
-
--- rule 11 is the eleventh
-thin-of : (t : Topology) → IsWellFormed t → IsThin t → All FitsWords (plan_of t).widgets → IsThinPlan (plan_of t)
-thin-of t w thin fit = thin-plan (entries_of t) (ends_in t) (pcms_of t) (record { widgets = thin.widgets; form = thin.form }) w.1.1.1.1.1.1.1.1.1.1.0 (entries-quiet t) fit
-
-pub is-thin-plan : (t : Topology) (r : Result Plan PlanFault) → OnOk r (IsWellFormed t) → IfOk r (λ p. p ≡ plan_of t) → IfOk r (λ p. All FitsWords p.widgets) → IfOk r (λ p. IsThin t → IsThinPlan p)
-is-thin-plan t (Ok p) w e fit = λ thin. subst IsThinPlan (sym e) (thin-of t w thin (subst (λ q. All FitsWords q.widgets) e fit))
-is-thin-plan t (Err x) w e fit = tt

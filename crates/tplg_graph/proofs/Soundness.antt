@@ -1,5 +1,5 @@
 -- The plan of a well-formed topology is sound.
-use Rattle.std.proofs.Common.{◌≡◌, refl, sym, subst, ℕ, ◌<◌, List, [], ◌∷◌, length, true, not, ◌||◌, All, Result, Ok, Err, OnOk, IfOk, arith}
+use Rattle.std.proofs.Common.{◌≡◌, refl, sym, subst, ℕ, ◌<◌, List, [], ◌∷◌, length, true, not, ◌||◌, slice_get, All, Result, Ok, Err, OnOk, IfOk, arith}
 use Rattle.std.specs.List.{list_all, AllByRecursion}
 use Rattle.std.proofs.lemmas.Bool.{and_parts, and_from}
 use Rattle.std.proofs.lemmas.Option.{slice_get_within, get_or_from_slice_get}
@@ -16,22 +16,27 @@ use Rattle.tplg_graph.specs.PlanOf.{plan_of}
 use Rattle.tplg_plan.specs.Printable.{is_widget_name}
 use Rattle.tplg_plan.specs.Sound.{IsSound}
 use Rattle.tplg_plan.specs.WidgetWords.{FitsWords}
+use Rattle.tplg_rules.specs.Rules.{HoldsAll}
+use Rattle.tplg_rules.specs.RuleTable.{names_rule}
 use Rattle.tplg_rules.specs.WellFormed.{IsWellFormed}
 use Rattle.tplg_graph.proofs.ByIds.{implied, keyed-components, keyed-edges, keyed-pipes}
 use Rattle.tplg_graph.proofs.DistinctIndices.{distinct-indices}
 use Rattle.tplg_graph.proofs.FittingKinds.{kinds-fit}
 use Rattle.tplg_graph.proofs.GraphSize.{small}
 use Rattle.tplg_graph.proofs.HostStreams.{hosts-are}
-use Rattle.tplg_graph.proofs.Interpreted.{all-interpreted}
+use Rattle.tplg_graph.proofs.Interpreted.{all-interpreted, of-interpreted, weaker, or-front}
 use Rattle.tplg_graph.proofs.KeyedLists.{all-at, all-below, ascends}
 use Rattle.tplg_graph.proofs.LiveKinds.{entries-matched, few-controls, keyed-controls, live-controls}
 use Rattle.tplg_graph.proofs.NamedIds.{named-ids}
 use Rattle.tplg_graph.proofs.OrderableEnds.{Good, good-blocks}
 use Rattle.tplg_graph.proofs.Pipelines.{comps-piped, edges-piped}
-use Rattle.tplg_graph.proofs.ThinLaw.{named}
 use Rattle.tplg_graph.proofs.WalkedJoins.{are-sides, are-passed, are-apart}
 
 -- ---- names and words
+
+-- each interpreted widget has a name that can be printed
+named : (es ps : List Entry) → ps ≡ interpreted es → HoldsAll (names_rule es) → list_all (λ e. not (is_interpreted e) || is_widget_name e.name) ps ≡ true
+named es ps same kept = of-interpreted es ps _ same (λ k h. weaker (slice_get es k) _ _ (λ e. or-front (not (is_interpreted e)) (is_widget_name e.name) _) (kept k h))
 
 long : (ps : List Entry) → length (names_on ps) ≡ length (widgets_on ps)
 long [] = refl

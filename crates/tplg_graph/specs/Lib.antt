@@ -2,5 +2,3 @@ pub mod PlanLists
 pub mod TopologyNeed
 pub mod PlanOf
 pub mod Orderable
-pub mod Thin
-pub mod ThinTest

@@ -5,9 +5,7 @@
 mod control_lists;
 mod plan_lists;
 mod planning;
-mod thin_form;
 
 pub use planning::plan;
-pub use thin_form::is_thin;
 pub use tplg_plan::{ControlKind, ControlPlan, Plan, StreamPlan, WidgetPlan, gain, need};
 pub use tplg_rules::PlanFault;

@@ -2,13 +2,11 @@
 ghost use Rattle.std.specs.Prelude.{◌≡◌, ◌<◌, ◌^◌, ℕ, All, length, IfOk, IfErr, OnOk};
 ghost use Rattle.tplg_plan.specs.HeapNeed.{IsSmall, need_on};
 ghost use Rattle.tplg_plan.specs.Sound.{IsSound};
-ghost use Rattle.tplg_plan.specs.ThinPlan.{IsThinPlan};
 ghost use Rattle.tplg_plan.specs.WidgetWords.{FitsWords};
 ghost use Rattle.tplg_rules.specs.Rules.{AllHold};
 ghost use Rattle.tplg_rules.specs.WellFormed as rules;
 ghost use Rattle.tplg_graph.specs.Orderable.{IsOrderable, IsAcyclic};
 ghost use Rattle.tplg_graph.specs.PlanOf as law;
-ghost use Rattle.tplg_graph.specs.Thin.{IsThin};
 ghost use Rattle.tplg_graph.specs.TopologyNeed.{need_of};
 
 use crate::control_lists::controls;
@@ -124,7 +122,6 @@ pub fn plan(alloc: Global, topology: &Topology) -> Result<Plan, PlanFault>
     ensures kept { rules.IsWellFormed topology.now → IfErr result (λ e. e ≡ PlanFault.OutOfMemory) }
     ensures broken { (rule item : ℕ) → rules.Breaks topology.now rule item → rules.Tells rule item result }
     ensures fit { IfOk result (λ p. All FitsWords p.widgets) }
-    ensures thin { IfOk result (λ p. IsThin topology.now → IsThinPlan p) }
     ensures small { IfOk result (λ p. IsSmall p.graph) }
     ensures need { IfOk result (λ p. need_on p.graph ≡ need_of topology.now) }
     ensures orderable { IfOk result (λ p. IsOrderable p.graph) }

@@ -1,5 +1,5 @@
 -- The laws of a block.
-use Rattle.std.proofs.Common.{◌≡◌, ℕ, ◌+◌, ◌-◌, ◌^◌, ◌≤◌, ◌<◌, ◌⊎◌, inl, inr, Bool, true, false, cond, eqb, ltb, List, [], ◌∷◌, ◌++◌, length, take, drop, Some, None, Result, Ok, Err, refl, sym, ap, subst, ◌∙◌, arith, length-append, append_assoc}
+use Rattle.std.proofs.Common.{◌≡◌, ℕ, ◌+◌, ◌-◌, ◌^◌, ◌≤◌, ◌<◌, ◌⊎◌, inl, inr, Bool, true, false, cond, eqb, ltb, List, [], ◌∷◌, ◌++◌, length, take, drop, Option, Some, None, Result, Ok, Err, refl, sym, ap, subst, ◌∙◌, arith, length-append, append_assoc}
 use Rattle.std.proofs.lemmas.Bool.{eqb-true, eqb-false, ne_eqb, ltb-false, le-ltb}
 use Rattle.std.proofs.lemmas.List.{take_at, drop_at}
 use Rattle.std.proofs.Math.Seq.{take-add}
@@ -13,7 +13,7 @@ use Rattle.sof_base.proofs.FieldLaws.{IsBytes, IsBytes-part, length-part, slots_
 use Rattle.sof_base.proofs.Fitting.{Fits-append, Fits-split, Fits-length, Fits-fixed, is_fixed}
 use Rattle.tplg_model.specs.Outcomes.{◌>>=◌}
 use Rattle.tplg_model.specs.Spelling.{IsRoute, route_cells, IsManifest, manifest_cells, IsPcm, pcm_cells, IsWidget, widget_cells, body_cells, block_type, count_of, HasNoRecords, HasOwnForm, IsStorable, BlockValue, header_slots, block_cells, AreRecords, IsBlock}
-use Rattle.tplg_model.specs.Reading.{route_step, manifest_step, pcm_step, widget_step, all_items, body_at, header_then, block_with, block_step}
+use Rattle.tplg_model.specs.Reading.{route_step, manifest_step, pcm_step, widget_step, all_items, body_at, unless_fault, block_with, block_step}
 use Rattle.tplg_model.specs.File.{RouteFault, ManifestFault, PcmFault, WidgetFault, header_fault, PayloadFault, BlockFault}
 use Rattle.tplg_model.proofs.FaultLaws.{bind_ok, ok_same, only_first}
 use Rattle.tplg_model.proofs.ItemLaws.{Took, IsItem, all_take, all_again, all_found, all_only}
@@ -142,62 +142,32 @@ record Right (bytes : List ℕ) : Type 0 where
   header_size : word_at bytes 16 ≡ 36
   room : word_at bytes 24 ≤ length bytes - 36
 
--- the five tests
-tests_ok : {A : Type 0} (a b c d e : Bool) (p q r s t : TplgFault) (right : Result A TplgFault) (x : A) → cond a (Err p) (cond b (cond c (cond d (cond e (Err q) right) (Err r)) (Err s)) (Err t)) ≡ Ok x
-    → (a ≡ false) × (b ≡ true) × (c ≡ true) × (d ≡ true) × (e ≡ false) × (right ≡ Ok x)
-tests_ok true b c d e p q r s t right x h = absurd cc
-tests_ok false false c d e p q r s t right x h = absurd cc
-tests_ok false true false d e p q r s t right x h = absurd cc
-tests_ok false true true false e p q r s t right x h = absurd cc
-tests_ok false true true true true p q r s t right x h = absurd cc
-tests_ok false true true true false p q r s t right x h = (refl, refl, refl, refl, refl, h)
+-- where the five tests find no fault, each is passed
+tests_passed : (a b c d e : Bool) (p q r s t : TplgFault) → cond a (Some p) (cond b (cond c (cond d (cond e (Some q) None) (Some r)) (Some s)) (Some t)) ≡ None
+    → (a ≡ false) × (b ≡ true) × (c ≡ true) × (d ≡ true) × (e ≡ false)
+tests_passed true b c d e p q r s t h = absurd cc
+tests_passed false false c d e p q r s t h = absurd cc
+tests_passed false true false d e p q r s t h = absurd cc
+tests_passed false true true false e p q r s t h = absurd cc
+tests_passed false true true true true p q r s t h = absurd cc
+tests_passed false true true true false p q r s t h = (refl, refl, refl, refl, refl)
 
-tests_err : {A : Type 0} (a b c d e : Bool) (p q r s t : TplgFault) (right : Result A TplgFault) (f : TplgFault) → cond a (Err p) (cond b (cond c (cond d (cond e (Err q) right) (Err r)) (Err s)) (Err t)) ≡ Err f
-    → (cond a (Some p) (cond b (cond c (cond d (cond e (Some q) None) (Some r)) (Some s)) (Some t)) ≡ Some f)
-    ⊎ ((cond a (Some p) (cond b (cond c (cond d (cond e (Some q) None) (Some r)) (Some s)) (Some t)) ≡ None) × (right ≡ Err f))
-tests_err true b c d e p q r s t right f h = inl cc
-tests_err false false c d e p q r s t right f h = inl cc
-tests_err false true false d e p q r s t right f h = inl cc
-tests_err false true true false e p q r s t right f h = inl cc
-tests_err false true true true true p q r s t right f h = inl cc
-tests_err false true true true false p q r s t right f h = inr (refl, h)
+unless_ok : {A : Type 0} (o : Option TplgFault) (right : Result A TplgFault) (x : A) → unless_fault o right ≡ Ok x → (o ≡ None) × (right ≡ Ok x)
+unless_ok None right x h = (refl, h)
+unless_ok (Some fault) right x h = absurd cc
 
-tests_bad : {A : Type 0} (a b c d e : Bool) (p q r s t : TplgFault) (right : Result A TplgFault) (f : TplgFault)
-    → cond a (Some p) (cond b (cond c (cond d (cond e (Some q) None) (Some r)) (Some s)) (Some t)) ≡ Some f
-    → cond a (Err p) (cond b (cond c (cond d (cond e (Err q) right) (Err r)) (Err s)) (Err t)) ≡ Err f
-tests_bad true b c d e p q r s t right f h = cc
-tests_bad false false c d e p q r s t right f h = cc
-tests_bad false true false d e p q r s t right f h = cc
-tests_bad false true true false e p q r s t right f h = cc
-tests_bad false true true true true p q r s t right f h = cc
-tests_bad false true true true false p q r s t right f h = absurd cc
-
-tests_good : {A : Type 0} (a b c d e : Bool) (p q r s t : TplgFault) (right : Result A TplgFault)
-    → cond a (Some p) (cond b (cond c (cond d (cond e (Some q) None) (Some r)) (Some s)) (Some t)) ≡ None
-    → cond a (Err p) (cond b (cond c (cond d (cond e (Err q) right) (Err r)) (Err s)) (Err t)) ≡ right
-tests_good true b c d e p q r s t right h = absurd cc
-tests_good false false c d e p q r s t right h = absurd cc
-tests_good false true false d e p q r s t right h = absurd cc
-tests_good false true true false e p q r s t right h = absurd cc
-tests_good false true true true true p q r s t right h = absurd cc
-tests_good false true true true false p q r s t right h = refl
+unless_err : {A : Type 0} (o : Option TplgFault) (right : Result A TplgFault) (f : TplgFault) → unless_fault o right ≡ Err f → (o ≡ Some f) ⊎ ((o ≡ None) × (right ≡ Err f))
+unless_err None right f h = inr (refl, h)
+unless_err (Some fault) right f h = inl cc
 
 module _ {A : Type 0} (at : ℕ) (bytes : List ℕ) (right : Result A TplgFault) where
-  header_ok : (x : A) → header_then at bytes right ≡ Ok x → Right bytes × (right ≡ Ok x)
+  header_ok : (x : A) → unless_fault (header_fault at bytes) right ≡ Ok x → Right bytes × (right ≡ Ok x)
   header_ok x e =
-      let t = tests_ok (ltb (length bytes) 36) (eqb (word_at bytes 0) 0x41536F43) (eqb (word_at bytes 4) 5) (eqb (word_at bytes 16) 36) (ltb (length bytes - 36) (word_at bytes 24)) (Truncated at) (Truncated at) (HeaderSize at) (Abi at (word_at bytes 4)) (Magic at) right x e in
-      (record { long = ltb-false _ _ t.0; magic = eqb-true _ _ t.1; abi = eqb-true _ _ t.2; header_size = eqb-true _ _ t.3; room = ltb-false _ _ t.4 }, t.5)
+      let u = unless_ok (header_fault at bytes) right x e in
+      let t = tests_passed (ltb (length bytes) 36) (eqb (word_at bytes 0) 0x41536F43) (eqb (word_at bytes 4) 5) (eqb (word_at bytes 16) 36) (ltb (length bytes - 36) (word_at bytes 24)) (Truncated at) (Truncated at) (HeaderSize at) (Abi at (word_at bytes 4)) (Magic at) u.0 in
+      (record { long = ltb-false _ _ t.0; magic = eqb-true _ _ t.1; abi = eqb-true _ _ t.2; header_size = eqb-true _ _ t.3; room = ltb-false _ _ t.4 }, u.1)
 
-  header_err : (f : TplgFault) → header_then at bytes right ≡ Err f → (header_fault at bytes ≡ Some f) ⊎ ((header_fault at bytes ≡ None) × (right ≡ Err f))
-  header_err f e = tests_err (ltb (length bytes) 36) (eqb (word_at bytes 0) 0x41536F43) (eqb (word_at bytes 4) 5) (eqb (word_at bytes 16) 36) (ltb (length bytes - 36) (word_at bytes 24)) (Truncated at) (Truncated at) (HeaderSize at) (Abi at (word_at bytes 4)) (Magic at) right f e
-
-  header_bad : (f : TplgFault) → header_fault at bytes ≡ Some f → header_then at bytes right ≡ Err f
-  header_bad f e = tests_bad (ltb (length bytes) 36) (eqb (word_at bytes 0) 0x41536F43) (eqb (word_at bytes 4) 5) (eqb (word_at bytes 16) 36) (ltb (length bytes - 36) (word_at bytes 24)) (Truncated at) (Truncated at) (HeaderSize at) (Abi at (word_at bytes 4)) (Magic at) right f e
-
-  header_good : header_fault at bytes ≡ None → header_then at bytes right ≡ right
-  header_good e = tests_good (ltb (length bytes) 36) (eqb (word_at bytes 0) 0x41536F43) (eqb (word_at bytes 4) 5) (eqb (word_at bytes 16) 36) (ltb (length bytes - 36) (word_at bytes 24)) (Truncated at) (Truncated at) (HeaderSize at) (Abi at (word_at bytes 4)) (Magic at) right e
-
-  header_right : Right bytes → header_then at bytes right ≡ right
+  header_right : Right bytes → unless_fault (header_fault at bytes) right ≡ right
   header_right r =
       let long = le-ltb (length bytes) 36 r.long in
       let room = le-ltb (length bytes - 36) (word_at bytes 24) r.room in
@@ -214,7 +184,7 @@ payload_of bytes = part bytes 36 (word_at bytes 24)
 read_body : ℕ → List ℕ → Result Body TplgFault
 read_body at bytes = body_at (word_at bytes 12) (word_at bytes 32) (at + 36) (payload_of bytes)
 
-block_read : (at : ℕ) (bytes : List ℕ) → block_step at bytes ≡ header_then at bytes (read_body at bytes >>= λ body. Ok (block_with body bytes, 36 + word_at bytes 24))
+block_read : (at : ℕ) (bytes : List ℕ) → block_step at bytes ≡ unless_fault (header_fault at bytes) (read_body at bytes >>= λ body. Ok (block_with body bytes, 36 + word_at bytes 24))
 unfolding block_step read_body payload_of
 block_read at bytes = refl
 
@@ -295,14 +265,14 @@ block_some at bytes x n e =
 pub block_found : (at : ℕ) (bytes : List ℕ) (f : TplgFault) → IsBytes bytes → block_step at bytes ≡ Err f → BlockFault at bytes f
 unfolding read_body payload_of
 block_found at bytes f h e =
-    elim (header_err at bytes (read_body at bytes >>= λ body. Ok (block_with body bytes, 36 + word_at bytes 24)) f (sym (block_read at bytes) ∙ e)) [
+    elim (unless_err (header_fault at bytes) (read_body at bytes >>= λ body. Ok (block_with body bytes, 36 + word_at bytes 24)) f (sym (block_read at bytes) ∙ e)) [
       | inl bad ↦ inl bad
       | inr p ↦ inr (p.0, body_found (word_at bytes 12) (word_at bytes 32) (at + 36) (payload_of bytes) f (IsBytes-part bytes 36 (word_at bytes 24) h) (only_first (read_body at bytes) (λ body. (block_with body bytes, 36 + word_at bytes 24)) f p.1))
     ]
 
 pub block_only : (at : ℕ) (bytes : List ℕ) (f : TplgFault) → BlockFault at bytes f → block_step at bytes ≡ Err f
 unfolding read_body payload_of
-block_only at bytes f (inl bad) = block_read at bytes ∙ header_bad at bytes (read_body at bytes >>= λ body. Ok (block_with body bytes, 36 + word_at bytes 24)) f bad
+block_only at bytes f (inl bad) = block_read at bytes ∙ ap (λ (o : Option TplgFault). unless_fault o (read_body at bytes >>= λ body. Ok (block_with body bytes, 36 + word_at bytes 24))) bad
 block_only at bytes f (inr p) =
     let body : read_body at bytes ≡ Err f = body_only (word_at bytes 12) (word_at bytes 32) (at + 36) (payload_of bytes) f p.1 in
-    block_read at bytes ∙ header_good at bytes (read_body at bytes >>= λ b. Ok (block_with b bytes, 36 + word_at bytes 24)) p.0 ∙ (rw body refl)
+    block_read at bytes ∙ ap (λ (o : Option TplgFault). unless_fault o (read_body at bytes >>= λ b. Ok (block_with b bytes, 36 + word_at bytes 24))) p.0 ∙ (rw body refl)

@@ -8,7 +8,6 @@ pub mod PcmLaws
 pub mod ElementLaws
 pub mod ArrayLaws
 pub mod ArrayListLaws
-pub mod ArrayCellLaws
 pub mod ControlLaws
 pub mod WidgetLaws
 pub mod BlockLaws

@@ -3,7 +3,6 @@
 use Rattle.std.specs.Prelude.{◌≡◌, ℕ, zero, suc, ◌+◌, ◌*◌, ◌<◌, ◌≤◌, ◌^◌, ◌==◌, nat_lt, if◌then◌else◌, List, [], ◌∷◌, ◌++◌, length, drop, Option, Some, None, Result, Ok, Err}
 use Rattle.std.specs.List.{flat_map}
 use Rattle.std.specs.Int.{w32, to_le_bytes}
-use Rattle.sof_base.specs.Cells.{Cell, fixed}
 use Rattle.sof_base.specs.Slots.{part, word_at}
 use Rattle.tplg_model.specs.declared.array_type.TheConstants.{UUID, STRING, BOOL, SHORT}
 use Rattle.tplg_model.specs.declared.tokens.UuidTuple.{UuidTuple}
@@ -57,10 +56,6 @@ array_spelling a = to_le_bytes w32 (array_size a) ++ (to_le_bytes w32 (array_typ
 -- arrays, one after the other
 abbrev pub arrays_spelling : List TokenArray → List ℕ
 arrays_spelling arrays = flat_map array_spelling arrays
-
--- arrays as cells: no byte of them is loose
-abbrev pub arrays_cells : List TokenArray → List Cell
-arrays_cells arrays = fixed (arrays_spelling arrays)
 
 -- bytes are these arrays
 abbrev pub AreArraysOf : List ℕ → List TokenArray → Type 0

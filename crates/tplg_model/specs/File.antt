@@ -1,6 +1,6 @@
 -- Which bytes are the file of a topology, and which fault of bytes is the first.
 use Rattle.std.specs.Prelude.{◌≡◌, ℕ, ◌+◌, ◌-◌, ◌<◌, Bool, true, ◌&&◌, List, [], ◌∷◌, ◌++◌, length, Option, Some, None, ◌⊎◌, nat_lt, ◌==◌, if◌then◌else◌}
-use Rattle.sof_base.specs.Cells.{Cell, Fits, written, is_loose}
+use Rattle.sof_base.specs.Cells.{Cell, Fits, written}
 use Rattle.sof_base.specs.Slots.{word_at, has_name, part}
 use Rattle.tplg_model.specs.declared.block_header.TheConstants.{MAGIC, ABI, HEADER_BYTES}
 use Rattle.tplg_model.specs.declared.block_type.TheConstants.{DAPM_GRAPH, DAPM_WIDGET, PCM, MANIFEST}
@@ -20,10 +20,6 @@ topology_cells t = items_cells block_cells t.blocks
 -- the bytes that are written
 abbrev pub spelling : Topology → List ℕ
 spelling t = written (topology_cells t)
-
--- a place that holds a size word which is ignored, or a byte behind a name's first 0
-abbrev pub IsLoose : Topology → ℕ → Type 0
-IsLoose t i = is_loose (topology_cells t) i ≡ true
 
 -- the values of a topology of the program
 abbrev pub IsTopology : Topology → Type 0
@@ -122,7 +118,8 @@ abbrev pub RecordsFault : {A : Type 0} → (A → List Cell) → (A → Type 0) 
 RecordsFault cells Is Fault n at bytes f = ItemsFault cells Is Fault n at bytes f ⊎ BytesLeft cells Is n at bytes f
 
 -- the head is whole, and an item behind it is at fault
-pub record BehindHead {A B : Type 0} (head_cells : A → List Cell) (IsHead : A → Type 0) (count : A → ℕ) (cells : B → List Cell) (Is : B → Type 0) (Fault : ℕ → List ℕ → TplgFault → Type 0) (at : ℕ) (bytes : List ℕ) (f : TplgFault) : Type 0 where
+pub record BehindHead {A B : Type 0} (head_cells : A → List Cell) (IsHead : A → Type 0) (count : A → ℕ)
+    (cells : B → List Cell) (Is : B → Type 0) (Fault : ℕ → List ℕ → TplgFault → Type 0) (at : ℕ) (bytes : List ℕ) (f : TplgFault) : Type 0 where
   pub head : A
   pub front : List ℕ
   pub rest : List ℕ

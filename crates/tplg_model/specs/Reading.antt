@@ -1,12 +1,11 @@
 -- Reading from left to right, with the first fault that is met. What is read at a place takes the place and the bytes from it on.
-use Rattle.std.specs.Prelude.{ℕ, zero, suc, ◌+◌, ◌-◌, List, [], ◌∷◌, length, drop, Result, Ok, Err, nat_lt, ◌==◌, if◌then◌else◌}
+use Rattle.std.specs.Prelude.{ℕ, zero, suc, ◌+◌, ◌-◌, List, [], ◌∷◌, length, drop, Option, Some, None, Result, Ok, Err, nat_lt, ◌==◌, if◌then◌else◌}
 use Rattle.std.specs.Int.{w32, cast_signed}
 use Rattle.sof_base.specs.Slots.{word_at, half_at, long_at, name_at, has_name, words_at, part}
-use Rattle.tplg_model.specs.declared.block_header.TheConstants.{MAGIC, ABI, HEADER_BYTES}
 use Rattle.tplg_model.specs.declared.block_type.TheConstants.{DAPM_GRAPH, DAPM_WIDGET, PCM, MANIFEST}
 use Rattle.tplg_model.specs.declared.control_kind.TheConstants as control_kind
 use Rattle.tplg_model.specs.declared.fault.TplgFault.{TplgFault}
-use Rattle.tplg_model.specs.declared.fault.TplgFault.TheVariants.{Truncated, Magic, Abi, HeaderSize, Payload, Name, ControlKind, Tokens}
+use Rattle.tplg_model.specs.declared.fault.TplgFault.TheVariants.{Payload, Name, ControlKind, Tokens}
 use Rattle.tplg_model.specs.declared.tokens.TokenArray.{TokenArray}
 use Rattle.tplg_model.specs.declared.block.Route.{Route}
 use Rattle.tplg_model.specs.declared.block.Manifest.{Manifest}
@@ -23,6 +22,7 @@ use Rattle.tplg_model.specs.declared.widget.Widget.{Widget}
 use Rattle.tplg_model.specs.Arrays.{ArrayFault, arrays_of}
 use Rattle.tplg_model.specs.Outcomes.{◌>>=◌}
 use Rattle.tplg_model.specs.Spelling.{WidgetHead, BlockValue}
+use Rattle.tplg_model.specs.File.{header_fault}
 
 -- ---- fields
 
@@ -54,7 +54,8 @@ all_items step n at bytes = do
   if x.1 == length bytes then Ok x.0 else Err (Payload (at + x.1))
 
 -- a head, and behind it as many items as it says
-unfoldable pub headed_at : {A B : Type 0} → (ℕ → List ℕ → Result (A × ℕ) TplgFault) → (A → ℕ) → (ℕ → List ℕ → Result (B × ℕ) TplgFault) → ℕ → List ℕ → Result ((A × List B) × ℕ) TplgFault
+unfoldable pub headed_at : {A B : Type 0} → (ℕ → List ℕ → Result (A × ℕ) TplgFault) → (A → ℕ) → (ℕ → List ℕ → Result (B × ℕ) TplgFault)
+    → ℕ → List ℕ → Result ((A × List B) × ℕ) TplgFault
 headed_at head count step at bytes = do
   a ← head at bytes
   bs ← items_at step (count a.0) (at + a.1) (drop a.1 bytes)
@@ -300,18 +301,10 @@ body_at kind count at payload =
     else if kind == MANIFEST then (all_items manifest_step count at payload >>= λ ms. Ok (Manifests ms))
     else Ok (Other kind count payload)
 
--- the first fault of a header, where there is one
-abbrev pub header_then : {A : Type 0} → ℕ → List ℕ → Result A TplgFault → Result A TplgFault
-header_then at bytes right =
-    if nat_lt (length bytes) 36 then Err (Truncated at)
-    else if word_at bytes 0 == MAGIC then
-    if word_at bytes 4 == ABI then
-    if word_at bytes 16 == HEADER_BYTES then
-    if nat_lt (length bytes - 36) (word_at bytes 24) then Err (Truncated at)
-    else right
-    else Err (HeaderSize at)
-    else Err (Abi at (word_at bytes 4))
-    else Err (Magic at)
+-- an outcome, where no fault stands before it
+abbrev pub unless_fault : {A : Type 0} → Option TplgFault → Result A TplgFault → Result A TplgFault
+unless_fault (Some fault) outcome = Err fault
+unless_fault None outcome = outcome
 
 -- a block of a body, with three words of its header
 abbrev pub block_with : Body → List ℕ → BlockValue
@@ -320,7 +313,7 @@ block_with body bytes = record { version = word_at bytes 8; vendor_type = word_a
 -- the block at the front of bytes
 unfoldable pub block_step : ℕ → List ℕ → Result (BlockValue × ℕ) TplgFault
 block_step at bytes =
-    header_then at bytes (body_at (word_at bytes 12) (word_at bytes 32) (at + 36) (part bytes 36 (word_at bytes 24)) >>= λ body.
+    unless_fault (header_fault at bytes) (body_at (word_at bytes 12) (word_at bytes 32) (at + 36) (part bytes 36 (word_at bytes 24)) >>= λ body.
     Ok (block_with body bytes, 36 + word_at bytes 24))
 
 -- items up to the end; the first number is at least that of the bytes

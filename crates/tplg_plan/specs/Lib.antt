@@ -2,6 +2,5 @@ pub mod Ranges
 pub mod Printable
 pub mod HeapNeed
 pub mod WidgetWords
-pub mod ThinPlan
 pub mod Sound
 pub mod GainOf

@@ -63,7 +63,7 @@ pub record IsPipelineOf (g : Graph) (widget : WidgetPlan) (p : Pipe) : Type 0 wh
   pub sched : Comp
   pub scheduled : comp_of g p.sched ≡ Some sched
 
--- an id names one of the three, and no other
+-- the id of a component, and of no buffer or pipeline
 pub record NamesComponent (g : Graph) (id : ℕ) (widget : WidgetPlan) : Type 0 where
   pub comp : Comp
   pub there : comp_of g id ≡ Some comp
@@ -71,6 +71,7 @@ pub record NamesComponent (g : Graph) (id : ℕ) (widget : WidgetPlan) : Type 0 
   pub no_pipe : pipe_at g id ≡ None
   pub is : IsComponentOf widget comp
 
+-- the id of a buffer, and of no component or pipeline
 pub record NamesBuffer (g : Graph) (id : ℕ) (widget : WidgetPlan) : Type 0 where
   pub edge : Edge
   pub no_comp : comp_of g id ≡ None
@@ -78,6 +79,7 @@ pub record NamesBuffer (g : Graph) (id : ℕ) (widget : WidgetPlan) : Type 0 whe
   pub no_pipe : pipe_at g id ≡ None
   pub is : IsBufferOf g widget edge
 
+-- the id of a pipeline, and of no component or buffer
 pub record NamesPipeline (g : Graph) (id : ℕ) (widget : WidgetPlan) : Type 0 where
   pub pipe : Pipe
   pub no_comp : comp_of g id ≡ None
@@ -85,14 +87,22 @@ pub record NamesPipeline (g : Graph) (id : ℕ) (widget : WidgetPlan) : Type 0 w
   pub there : pipe_at g id ≡ Some pipe
   pub is : IsPipelineOf g widget pipe
 
+-- an id names one of the three, and no other
 abbrev pub Names : Graph → ℕ → WidgetPlan → Type 0
 Names g id widget = NamesComponent g id widget ⊎ (NamesBuffer g id widget ⊎ NamesPipeline g id widget)
 
 -- ---- joins
 
+-- a join from a component to a buffer that has it as its source, and one from a buffer to a component that is its sink
+abbrev pub FillsBuffer : Graph → Join → Type 0
+FillsBuffer g j = (c : Comp) × (e : Edge) × (comp_of g j.source ≡ Some c) × (edge_of g j.sink ≡ Some e) × (e.source ≡ Some j.source)
+
+abbrev pub DrainsBuffer : Graph → Join → Type 0
+DrainsBuffer g j = (e : Edge) × (c : Comp) × (edge_of g j.source ≡ Some e) × (comp_of g j.sink ≡ Some c) × (e.sink ≡ Some j.sink)
+
 -- a join is a side of its buffer, and the only one there
 pub record IsSideOf (g : Graph) (j : Join) : Type 0 where
-  pub between : ((c : Comp) × (e : Edge) × (comp_of g j.source ≡ Some c) × (edge_of g j.sink ≡ Some e) × (e.source ≡ Some j.source)) ⊎ ((e : Edge) × (c : Comp) × (edge_of g j.source ≡ Some e) × (comp_of g j.sink ≡ Some c) × (e.sink ≡ Some j.sink))
+  pub between : FillsBuffer g j ⊎ DrainsBuffer g j
   pub open_ends : leads g.joins (length g.joins) j.sink j.source ≡ false
 
 -- a buffer has one join in and one out
@@ -118,6 +128,7 @@ IsControlOf (Volume min max channels tlv_min tlv_step tlv_mute) kind =
 IsControlOf (Choice items) kind = (kind ≡ kinds.Mux) × (1 ≤ items) × (items ≤ 16)
 IsControlOf (Blob most initial) kind = (kind ≡ kinds.Eq) × (is_initial initial ≡ true)
 
+-- the component that a live control names is in the graph, and of the control's kind
 pub record IsLive (g : Graph) (k : ControlPlan) : Type 0 where
   pub comp : Comp
   pub there : comp_of g k.comp ≡ Some comp
@@ -125,6 +136,7 @@ pub record IsLive (g : Graph) (k : ControlPlan) : Type 0 where
 
 -- ---- all of it
 
+-- a plan in its limits, whose ids, joins, pipelines, streams and controls agree with one another
 pub record IsSound (plan : Plan) : Type 0 where
   -- the limits
   pub comps : length plan.graph.comps ≤ 128

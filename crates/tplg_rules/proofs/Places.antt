@@ -11,7 +11,7 @@ use Rattle.tplg_widgets.specs.declared.entry.Entry.{Entry}
 use Rattle.tplg_widgets.specs.Entries.{is_interpreted}
 use Rattle.tplg_widgets.specs.Names.{is_interpreted_named}
 use Rattle.tplg_plan.specs.Printable.{is_widget_name}
-use Rattle.tplg_rules.specs.RuleTable.{at, name_at, name_holds}
+use Rattle.tplg_rules.specs.RuleTable.{at, name_holds}
 use Rattle.tplg_widgets.specs.Names.{is_number}
 
 -- a place that passes is the first where none before it passes
@@ -50,8 +50,11 @@ at-agree {X} xs k f g same = by_place (slice_get_cases xs k).1
     by_place (inl h) = ap (λ o. option_map_or f o true) h.2 ∙ same h.0 h.1 h.3 ∙ sym (ap (λ o. option_map_or g o true) h.2)
     by_place (inr h) = ap (λ o. option_map_or f o true) h.1 ∙ sym (ap (λ o. option_map_or g o true) h.1)
 
--- the rules by places and tables say what the table of rules says
-pub names-agree : (es : List Entry) (k : ℕ) → name_at es k ≡ name_holds es k
+-- a name differs from those of all earlier interpreted widgets where its widget is the first of it
+abbrev pub is_named_first : List Entry → ℕ → Entry → Bool
+is_named_first es k e = not (is_interpreted e) || (is_widget_name e.name && is_number (position (is_interpreted_named e.name) es) k)
+
+pub names-agree : (es : List Entry) (k : ℕ) → at es k (is_named_first es k) ≡ name_holds es k
 names-agree es k = at-agree es k _ _ (λ e within here. by_test e within here (is_interpreted e) refl)
   where
     by_test : (e : Entry) → k < length es → get_or es k e ≡ e → (b : Bool) → is_interpreted e ≡ b → (not (is_interpreted e) || (is_widget_name e.name && is_number (position (is_interpreted_named e.name) es) k)) ≡ (not (is_interpreted e) || (is_widget_name e.name && not (list_any (is_interpreted_named e.name) (take k es))))

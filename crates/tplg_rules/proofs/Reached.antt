@@ -1,5 +1,6 @@
 -- What is seen is reached, and where nothing more is found all that is reached is seen.
-use Rattle.std.proofs.Common.{◌≡◌, refl, sym, ap, subst, ◌∙◌, ℕ, zero, suc, ◌<◌, ◌≤◌, List, [], ◌∷◌, ◌++◌, length, get_or, true, false, ◌==◌, ◌&&◌, ◌⊎◌, inl, inr, Option, Some, None, nat_eq, arith}
+use Rattle.std.proofs.Common.{◌≡◌, refl, sym, ap, subst, ◌∙◌, ℕ, zero, suc, ◌<◌, ◌≤◌, List, [], ◌∷◌, ◌++◌, length, get_or, Bool, true, false, not, ◌==◌, ◌&&◌, ◌||◌, ◌⊎◌, inl, inr, Option, Some, None, nat_eq, arith}
+use Rattle.std.specs.Option.{option_map_or}
 use Rattle.std.specs.List.{list_any, filter_map, cons_option, IsDistinct}
 use Rattle.std.proofs.lemmas.Bool.{false≢true, true≢false, eqb-true, eq-eqb, and_parts, and_from, not-true, not_from_false, or_left, or_right, or_cases, or_parts, cases_Bool}
 use Rattle.std.proofs.lemmas.List.Folds.{list_any_at}
@@ -7,9 +8,21 @@ use Rattle.stream_law.specs.declared.graph.Edge.{Edge}
 use Rattle.stream_law.specs.Ways.{is_end}
 use Rattle.tplg_rules.specs.Cycles.{are_joined, EdgeWalk, Reaches}
 use Rattle.stream_law.specs.Order.{is_among}
-use Rattle.tplg_rules.specs.Reach.{is_from, is_new, leads_on, IsFound}
+use Rattle.tplg_rules.specs.Reach.{IsFound, IsClosed}
 use Rattle.tplg_rules.proofs.Among.{push_cases, distinct-push, distinct-le}
 use Rattle.tplg_rules.proofs.Among.{is_end-some}
+
+-- an end that is the start, or seen
+abbrev pub is_from : ℕ → List ℕ → Option ℕ → Bool
+is_from from seen end = option_map_or (λ a. (a == from) || is_among seen a) end false
+
+-- an end that is not seen
+abbrev pub is_new : List ℕ → Option ℕ → Bool
+is_new seen end = option_map_or (λ b. not (is_among seen b)) end false
+
+-- an edge from the start or what is seen to what is not
+abbrev pub leads_on : ℕ → List ℕ → Edge → Bool
+leads_on from seen e = is_from from seen e.source && is_new seen e.sink
 
 -- one more edge at the end of a walk
 pub walk_end : (edges : List Edge) (n a c b : ℕ) → EdgeWalk edges n a c → are_joined edges c b ≡ true → EdgeWalk edges (suc n) a b
@@ -40,7 +53,7 @@ found_at edges from seen k d b within f n e =
     }
 
 -- where no edge leads on, an edge from what is seen leads to what is seen
-closed : (edges : List Edge) (from : ℕ) (seen : List ℕ) → list_any (leads_on from seen) edges ≡ false → (a b : ℕ) → (a ≡ from) ⊎ (is_among seen a ≡ true) → are_joined edges a b ≡ true → is_among seen b ≡ true
+pub closed : (edges : List Edge) (from : ℕ) (seen : List ℕ) → list_any (leads_on from seen) edges ≡ false → IsClosed edges from seen
 closed [] from seen none a b behind j = absurd (false≢true j)
 closed (e ∷ es) from seen none a b behind j =
     let parts = or_parts (leads_on from seen e) (list_any (leads_on from seen) es) none in
@@ -109,9 +122,9 @@ Seen-more edges from seen b f s = record { distinct = distinct-push seen b s.dis
 pub Seen-few : (edges : List Edge) (from : ℕ) (seen : List ℕ) → Seen edges from seen → length seen ≤ length edges
 Seen-few edges from seen s = let few = distinct-le seen (sinks_of edges) s.distinct s.there in omega (arith, few, length-sinks_of edges)
 
-all_seen : (edges : List Edge) (from : ℕ) (seen : List ℕ) → list_any (leads_on from seen) edges ≡ false → (n a b : ℕ) → (a ≡ from) ⊎ (is_among seen a ≡ true) → EdgeWalk edges (suc n) a b → is_among seen b ≡ true
-all_seen edges from seen none zero a b behind w = ap (is_among seen) (sym w.2) ∙ closed edges from seen none a w.0 behind w.1
-all_seen edges from seen none (suc n) a b behind w = all_seen edges from seen none n w.0 b (inr (closed edges from seen none a w.0 behind w.1)) w.2
+all_seen : (edges : List Edge) (from : ℕ) (seen : List ℕ) → IsClosed edges from seen → (n a b : ℕ) → (a ≡ from) ⊎ (is_among seen a ≡ true) → EdgeWalk edges (suc n) a b → is_among seen b ≡ true
+all_seen edges from seen closed zero a b behind w = ap (is_among seen) (sym w.2) ∙ closed a w.0 behind w.1
+all_seen edges from seen closed (suc n) a b behind w = all_seen edges from seen closed n w.0 b (inr (closed a w.0 behind w.1)) w.2
 
-pub Seen-all : (edges : List Edge) (from : ℕ) (seen : List ℕ) → list_any (leads_on from seen) edges ≡ false → Seen edges from seen → (b : ℕ) → Reaches edges from b → is_among seen b ≡ true
-Seen-all edges from seen none s b r = all_seen edges from seen none r.0 from b (inl refl) r.1
+pub Seen-all : (edges : List Edge) (from : ℕ) (seen : List ℕ) → IsClosed edges from seen → Seen edges from seen → (b : ℕ) → Reaches edges from b → is_among seen b ≡ true
+Seen-all edges from seen closed s b r = all_seen edges from seen closed r.0 from b (inl refl) r.1

@@ -1,5 +1,5 @@
 -- The table of rules: what each says of an item.
-use Rattle.std.specs.Prelude.{ℕ, List, length, take, position, count_by, Bool, true, false, not, ◌&&◌, ◌||◌, ◌==◌, nat_le, Option, Some, None, slice_get, if◌then◌else◌}
+use Rattle.std.specs.Prelude.{ℕ, List, length, take, count_by, Bool, true, false, not, ◌&&◌, ◌||◌, ◌==◌, nat_le, Option, Some, None, slice_get, if◌then◌else◌}
 use Rattle.std.specs.Option.{option_map_or}
 use Rattle.std.specs.List.{list_any}
 use Rattle.std.specs.Str.{bytes_eq}
@@ -19,7 +19,7 @@ use Rattle.tplg_plan.specs.Ranges.{is_period}
 use Rattle.tplg_widgets.specs.Entries.{is_interpreted, is_buffer_entry, is_component, is_scheduler, is_dai, is_host_play, is_host_capture, is_effect, has_control, id_of}
 use Rattle.tplg_widgets.specs.PcmList.{is_side_of}
 use Rattle.tplg_rules.specs.ControlRanges.{is_live_in_range}
-use Rattle.tplg_widgets.specs.Names.{is_interpreted_named, is_number}
+use Rattle.tplg_widgets.specs.Names.{is_interpreted_named}
 use Rattle.tplg_widgets.specs.Ends.{end_named}
 use Rattle.tplg_widgets.specs.GraphLists.{is_sink}
 use Rattle.tplg_plan.specs.Printable.{is_widget_name}
@@ -50,10 +50,6 @@ name_holds es k = at es k (λ e. not (is_interpreted e) || (is_widget_name e.nam
 
 abbrev pub names_rule : List Entry → Rule
 names_rule es = item_test 2 (length es) (name_holds es)
-
--- the same by places: it is the first of its name
-abbrev pub name_at : List Entry → ℕ → Bool
-name_at es k = at es k (λ e. not (is_interpreted e) || (is_widget_name e.name && is_number (position (is_interpreted_named e.name) es) k))
 
 -- ---- 3: both ends of each route name a widget
 

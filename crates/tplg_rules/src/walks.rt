@@ -1,6 +1,6 @@
 // What is reached along the edges of a graph.
-ghost use Rattle.std.specs.Prelude.{◌≡◌, ◌<◌, ◌≤◌, ◌↔◌, ℕ, length, Some, None, true, false, IfSome, IfNone, IsTrue};
-ghost use Rattle.std.specs.List.{list_any};
+ghost use Rattle.std.specs.Prelude.{◌≡◌, ◌≤◌, ◌↔◌, ◌==◌, ◌||◌, ℕ, length, not, true, false, IfSome, IfNone};
+ghost use Rattle.std.specs.Option.{option_map_or};
 ghost use Rattle.stream_law.specs.Order as order;
 ghost use Rattle.tplg_rules.specs.Cycles as law;
 ghost use Rattle.tplg_rules.specs.Reach as reach;
@@ -16,7 +16,7 @@ fn is_among(ids: &[u32], id: u32) -> bool
 }
 
 fn is_from(end: Option<u32>, from: u32, seen: &[u32]) -> bool
-    ensures { result ≡ reach.is_from from seen.now end }
+    ensures { result ≡ option_map_or (λ id. (id == from) || order.is_among seen.now id) end false }
 {
     match end {
         None => false,
@@ -25,7 +25,7 @@ fn is_from(end: Option<u32>, from: u32, seen: &[u32]) -> bool
 }
 
 fn is_new(end: Option<u32>, seen: &[u32]) -> bool
-    ensures { result ≡ reach.is_new seen.now end }
+    ensures { result ≡ option_map_or (λ id. not (order.is_among seen.now id)) end false }
 {
     match end {
         None => false,
@@ -36,7 +36,7 @@ fn is_new(end: Option<u32>, seen: &[u32]) -> bool
 /// The sink of an edge that leads from the start, or from what is seen, to what is not.
 fn found(edges: &[Edge], from: u32, seen: &[u32]) -> Option<u32>
     ensures some { IfSome result (λ b. reach.IsFound edges.now from seen.now b) }
-    ensures none { IfNone result (list_any (reach.leads_on from seen.now) edges.now ≡ false) }
+    ensures none { IfNone result (reach.IsClosed edges.now from seen.now) }
 {
     for e in edges {
         if is_from(e.source, from, seen) && is_new(e.sink, seen) {

@@ -1,10 +1,11 @@
 // What rules 2, 8, 9, 10 and 12 say of a widget.
-ghost use Rattle.std.specs.Prelude.{◌≡◌};
+ghost use Rattle.std.specs.Prelude.{◌≡◌, ◌&&◌, ◌||◌, not, position};
 ghost use Rattle.std.specs.List.{list_all};
 ghost use Rattle.tplg_plan.specs.Printable as printable;
 ghost use Rattle.tplg_plan.specs.Ranges.{is_period};
-ghost use Rattle.tplg_widgets.specs.Entries.{id_of};
+ghost use Rattle.tplg_widgets.specs.Entries.{id_of, is_interpreted};
 ghost use Rattle.tplg_widgets.specs.GraphLists.{is_sink};
+ghost use Rattle.tplg_widgets.specs.Names.{is_interpreted_named, is_number};
 ghost use Rattle.tplg_rules.specs.RuleTable as law;
 
 use crate::route_rules::id_at;
@@ -33,7 +34,7 @@ fn is_widget_name(bytes: &[u8]) -> bool
 
 /// Whether the widget of this number, where it is interpreted, has a widget's name and is the first of it.
 fn is_named_first(widgets: &Widgets, k: usize) -> bool
-    ensures { result ≡ law.name_at widgets.now k }
+    ensures { result ≡ law.at widgets.now k (λ e. not (is_interpreted e) || (printable.is_widget_name e.name && is_number (position (is_interpreted_named e.name) widgets.now) k)) }
 {
     match widgets.all().get(k) {
         None => true,

@@ -4,7 +4,7 @@ use Rattle.tplg_plan.specs.HeapNeed.{IsSmall, need_on}
 use Rattle.tplg_graph.specs.TopologyNeed.{need_of}
 use Rattle.tplg_graph.specs.Orderable.{IsOrderable, IsAcyclic}
 use Rattle.tplg_rules.proofs.RuleTellings.{kept, broken}
-use Rattle.tplg_graph.proofs.PlanLaws.{on-plan, is-small, is-need, is-orderable, is-acyclic, is-thin-plan}
+use Rattle.tplg_graph.proofs.PlanLaws.{on-plan, is-small, is-need, is-orderable, is-acyclic}
 use Rattle.tplg_graph.proofs.Soundness.{is-sound-plan}
 use Rattle.tplg_graph.proofs.planning.plan.Goals as goal
 
@@ -13,9 +13,6 @@ returns-clause-kept c = kept (rules_of c.args.topology.now) c.plan_in_form.resul
 
 pub returns-clause-broken : goal.returns-clause-broken
 returns-clause-broken c = broken (rules_of c.args.topology.now) c.plan_in_form.result c.plan_in_form.ensures.ok c.plan_in_form.ensures.err
-
-pub returns-clause-thin : goal.returns-clause-thin
-returns-clause-thin c = is-thin-plan c.args.topology.now c.plan_in_form.result c.plan_in_form.ensures.ok c.plan_in_form.ensures.lists c.plan_in_form.ensures.fit
 
 pub returns-clause-small : goal.returns-clause-small
 returns-clause-small c = on-plan c.args.topology.now c.plan_in_form.result (λ p. IsSmall p.graph) c.plan_in_form.ensures.ok c.plan_in_form.ensures.lists (is-small c.args.topology.now)

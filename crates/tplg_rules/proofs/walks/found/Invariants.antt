@@ -1,6 +1,6 @@
 use Rattle.std.proofs.Common.{◌≡◌, take, false}
 use Rattle.std.specs.List.{list_any}
-use Rattle.tplg_rules.specs.Reach.{leads_on}
+use Rattle.tplg_rules.proofs.Reached.{leads_on}
 use Rattle.tplg_rules.proofs.walks.found.Given as goal
 
 abbrev pub invariant-loop-e : goal.invariant-loop-e

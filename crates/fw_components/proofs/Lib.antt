@@ -6,7 +6,6 @@ mod GoneKept
 mod Hinted
 mod Ids
 pub mod HostWays
-mod InTurn
 mod Inserting
 mod Joining
 mod KeptLaws

@@ -1,7 +1,7 @@
 -- Tables once a part of a blob came.
 use Rattle.std.proofs.Common.{◌≡◌, refl, sym, ap, ◌∙◌, ℕ, ◌+◌, ◌*◌, ◌≤◌, List, [], ◌∷◌, map, length, take, Bool, true, false, cond, not, ◌==◌, Option, Some, None, Result, Ok, Err, ℤ, negsuc, arith}
 use Rattle.std.proofs.lemmas.Bool.{eqb-true}
-use Rattle.std.specs.Prelude.{find, option_map, option_and_then}
+use Rattle.std.specs.Prelude.{position, find, option_map, option_and_then}
 use Rattle.std.specs.Option.{option_map_or}
 use Rattle.sof_base.specs.declared.part.Part.{Part}
 use Rattle.eq_biquad.specs.EqState.{EqState, staged_of, numbers_of}
@@ -15,10 +15,11 @@ use Rattle.fw_components.specs.declared.component.Unit.TheVariants.{Host, Dai, V
 use Rattle.fw_components.specs.Tables.{Tables, graph_of, comp_by, kind_by, setting_by}
 use Rattle.fw_components.specs.Kept.{IsKept, IsStreaming, is_plain}
 use Rattle.fw_components.specs.Changes.{is_there}
-use Rattle.fw_parts.specs.Staged.{staging_in, IsSoFar}
+use Rattle.fw_parts.specs.Staged.{staging_in, CanBeStaged}
 use Rattle.fw_components.specs.Parts.{part_or, part_got, takes_part, parted_unit, parted_by, parted_at, parted, part_set, staging_after, IsParted}
 use Rattle.fw_components.proofs.Begun.{at-id, at-unit}
 use Rattle.fw_components.proofs.KeptLaws.{comps-changed}
+use Rattle.fw_components.proofs.Taking.{never-found-by}
 
 -- ---- what a unit keeps
 
@@ -50,7 +51,7 @@ module _ (part : Part) (words : List ℤ) where
 -- ---- and tables
 
 module _ (t : Tables) (kept : IsKept t) (id : ℕ) (part : Part) where
-  pub parted-kept : (words : List ℤ) (bytes : List ℕ) (new : List Component) → IsSoFar part bytes → new ≡ map (parted_at id part words) t.comps → IsKept (record { comps = new; buffers = t.buffers; pipes = t.pipes; joins = t.joins })
+  pub parted-kept : (words : List ℤ) (bytes : List ℕ) (new : List Component) → CanBeStaged part bytes → new ≡ map (parted_at id part words) t.comps → IsKept (record { comps = new; buffers = t.buffers; pipes = t.pipes; joins = t.joins })
   parted-kept words bytes new joined is =
       comps-changed t kept (parted_at id part words) new (at-id (parted_by part words) (λ c. refl) id)
       (at-unit (λ u. is_plain u ≡ true) (parted_by part words) (λ c. parted-plain part words c.id c.unit) id)
@@ -66,9 +67,13 @@ module _ (t : Tables) (id : ℕ) (part : Part) (words : List ℤ) where
   set-row : Bool → Bool → Result Tables ℤ
   set-row there takes = cond (not there) (Err (negsuc 18)) (cond takes (Ok (parted id part words t)) (Err (negsuc 21)))
 
-  pub part-none : is_there t id ≡ false → Err (negsuc 18) ≡ part_set t id part words
+  pub part-unplaced : (e : ℤ) → None ≡ position (λ c. c.id == id) t.comps → e ≡ cond (is_there t id) (negsuc 21) (negsuc 18) → Err e ≡ part_set t id part words
   unfolding set-row
-  part-none gone = ap (λ h. set-row h (takes-it (find (λ c. c.id == id) t.comps))) (sym gone)
+  part-unplaced e none is = ap (λ (k : ℤ). Err k) is ∙ by (is_there t id) ∙ ap (λ (o : Option Component). set-row (is_there t id) (takes-it o)) (sym (never-found-by id t.comps none))
+    where
+      by : (h : Bool) → Err (cond h (negsuc 21) (negsuc 18)) ≡ set-row h false
+      by true = refl
+      by false = refl
 
   pub part-refused : is_there t id ≡ true → takes-it (find (λ c. c.id == id) t.comps) ≡ false → Err (negsuc 21) ≡ part_set t id part words
   unfolding set-row
@@ -107,13 +112,13 @@ module _ (t : Tables) (id index : ℕ) where
       by None = refl
       by (Some c) = refl
 
-  pub got-none : is_there t id ≡ false → Err (negsuc 18) ≡ part_got t id index
+  pub got-unplaced : (e : ℤ) → None ≡ position (λ c. c.id == id) t.comps → e ≡ cond (is_there t id) (negsuc 21) (negsuc 18) → Err e ≡ part_got t id index
   unfolding got-row
-  got-none gone = ap (λ h. got-row h (part_at (graph_of t) id index)) (sym gone)
-
-  pub got-past : is_there t id ≡ true → find (λ c. c.id == id) t.comps ≡ None → Err (negsuc 21) ≡ part_got t id index
-  unfolding got-row
-  got-past there none = ap (λ (p : Bool × Option Part). got-row p.0 p.1) (λ i. (sym there i, sym (part-in None none) i))
+  got-unplaced e none is = ap (λ (k : ℤ). Err k) is ∙ by (is_there t id) ∙ ap (got-row (is_there t id)) (sym (part-in None (never-found-by id t.comps none)))
+    where
+      by : (h : Bool) → Err (cond h (negsuc 21) (negsuc 18)) ≡ got-row h None
+      by true = refl
+      by false = refl
 
   pub got-found : (c : Component) (o : Option Part) → is_there t id ≡ true → Some c ≡ find (λ c. c.id == id) t.comps → o ≡ part_by (kind_by c.unit) (setting_by c.unit) index → part_or o ≡ part_got t id index
   unfolding got-row

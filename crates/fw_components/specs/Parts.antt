@@ -1,14 +1,12 @@
 -- The parts in which an equaliser's blob comes and goes.
-use Rattle.std.specs.Prelude.{◌≡◌, ℕ, ◌+◌, ◌*◌, ◌≤◌, List, take, length, map, Bool, true, false, ◌==◌, ◌&&◌, ◌||◌, not, Option, Some, None, Result, Ok, Err, ℤ, negsuc, find, if◌then◌else◌}
+use Rattle.std.specs.Prelude.{◌≡◌, ℕ, ◌+◌, List, map, Bool, true, false, ◌==◌, not, Option, Some, None, Result, Ok, Err, ℤ, negsuc, find, if◌then◌else◌}
 use Rattle.std.specs.Option.{option_map_or}
 use Rattle.sof_base.specs.declared.errno.Errno.{Errno}
 use Rattle.sof_base.specs.declared.part.Part.{Part}
-use Rattle.sof_base.specs.Blob.{IsBlob}
-use Rattle.sof_base.specs.BlobFaults.{is_blob}
 use Rattle.eq_biquad.specs.EqState.{staged_of}
 use Rattle.stream_law.specs.State.{Staging}
 use Rattle.stream_law.specs.Seen.{fresh_numbers}
-use Rattle.mbox_link.specs.Step.{keeps_order, staged_bytes, part_at}
+use Rattle.mbox_link.specs.Step.{staged_bytes, part_at}
 use Rattle.fw_parts.specs.Staged.{staging_in, fits_behind}
 use Rattle.fw_components.specs.declared.component.Component.{Component}
 use Rattle.fw_components.specs.declared.component.Unit as units

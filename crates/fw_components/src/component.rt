@@ -10,6 +10,14 @@ use fw_ring::Ring;
 use sof_base::{Bounded, Format, Params};
 use stream_law::Phase;
 
+// The commands of IPC3 for the gains of a volume and the choice of a mux.
+const CTRL_VOLUME: u32 = 0;
+
+const CTRL_ENUM: u32 = 1;
+
+// The greatest gain, 256 in units of 1/65536.
+const GREATEST_GAIN: u32 = 16_777_216;
+
 /// What a component is, with its piece. An equaliser has the number of the part that is next and how many bytes remain; a buffer
 /// has the components that are joined to it.
 pub enum Unit {
@@ -66,31 +74,13 @@ impl Unit {
     pub(crate) fn is_buffer(&self) -> bool
         ensures { result ≡ is_buffer self.now }
     {
-        match self {
-            Unit::Host { .. } => false,
-            Unit::Dai { .. } => false,
-            Unit::Volume { .. } => false,
-            Unit::Mixer { .. } => false,
-            Unit::Mux { .. } => false,
-            Unit::Eq { .. } => false,
-            Unit::Buffer { .. } => true,
-            Unit::Pipeline { .. } => false,
-        }
+        matches!(self, Unit::Buffer { .. })
     }
 
     pub(crate) fn is_pipeline(&self) -> bool
         ensures { result ≡ is_pipeline self.now }
     {
-        match self {
-            Unit::Host { .. } => false,
-            Unit::Dai { .. } => false,
-            Unit::Volume { .. } => false,
-            Unit::Mixer { .. } => false,
-            Unit::Mux { .. } => false,
-            Unit::Eq { .. } => false,
-            Unit::Buffer { .. } => false,
-            Unit::Pipeline { .. } => true,
-        }
+        matches!(self, Unit::Pipeline { .. })
     }
 }
 
@@ -180,7 +170,7 @@ impl Component {
             Unit::Host { .. } => None,
             Unit::Dai { .. } => None,
             Unit::Volume { gains, .. } => {
-                if command == 0 {
+                if command == CTRL_VOLUME {
                     Some(gains.copied())
                 } else {
                     None
@@ -188,7 +178,7 @@ impl Component {
             }
             Unit::Mixer { .. } => None,
             Unit::Mux { choice, .. } => {
-                if command == 1 {
+                if command == CTRL_ENUM {
                     Bounded::new(&[*choice])
                 } else {
                     None
@@ -208,10 +198,10 @@ impl Component {
             Unit::Host { .. } => false,
             Unit::Dai { .. } => false,
             Unit::Volume { gains, .. } => {
-                command == 0 && values.len() == gains.items().len() && are_gains(values)
+                command == CTRL_VOLUME && values.len() == gains.items().len() && are_gains(values)
             }
             Unit::Mixer { .. } => false,
-            Unit::Mux { .. } => command == 1 && values.len() == 1,
+            Unit::Mux { .. } => command == CTRL_ENUM && values.len() == 1,
             Unit::Eq { .. } => false,
             Unit::Buffer { .. } => false,
             Unit::Pipeline { .. } => false,
@@ -223,5 +213,5 @@ impl Component {
 fn are_gains(gains: &[u32]) -> bool
     ensures { result ≡ list_all (λ v. nat_le v 16777216) gains.now }
 {
-    gains.iter().all(|gain| *gain <= 16777216)
+    gains.iter().all(|gain| *gain <= GREATEST_GAIN)
 }

@@ -127,32 +127,14 @@ impl Component {
     pub(crate) fn comes_from(&self, id: u32) -> bool
         ensures { result ≡ comes_from id self.now }
     {
-        match &self.unit {
-            Unit::Host { .. } => false,
-            Unit::Dai { .. } => false,
-            Unit::Volume { .. } => false,
-            Unit::Mixer { .. } => false,
-            Unit::Mux { .. } => false,
-            Unit::Eq { .. } => false,
-            Unit::Buffer { source, .. } => is_end(*source, id),
-            Unit::Pipeline { .. } => false,
-        }
+        matches!(&self.unit, Unit::Buffer { source, .. } if is_end(*source, id))
     }
 
     /// Whether it is a buffer that goes to this component.
     pub(crate) fn goes_to(&self, id: u32) -> bool
         ensures { result ≡ goes_to id self.now }
     {
-        match &self.unit {
-            Unit::Host { .. } => false,
-            Unit::Dai { .. } => false,
-            Unit::Volume { .. } => false,
-            Unit::Mixer { .. } => false,
-            Unit::Mux { .. } => false,
-            Unit::Eq { .. } => false,
-            Unit::Buffer { sink, .. } => is_end(*sink, id),
-            Unit::Pipeline { .. } => false,
-        }
+        matches!(&self.unit, Unit::Buffer { sink, .. } if is_end(*sink, id))
     }
 
     /// How many samples a frame of a buffer has, 1 to 8.

@@ -6,7 +6,7 @@ ghost use Rattle.fw_components.specs.Tables.{kind_by, setting_by};
 ghost use Rattle.fw_components.specs.Frames.{words_of};
 ghost use Rattle.fw_components.specs.Kept.{IsStreaming};
 ghost use Rattle.fw_components.specs.Values.{left_with};
-ghost use Rattle.fw_parts.specs.Staged.{IsSoFar};
+ghost use Rattle.fw_parts.specs.Staged.{CanBeStaged};
 ghost use Rattle.fw_components.specs.Parts.{part_got, part_told, joined_bytes, takes_part, parted_by, words_in, parted_at, part_set, IsParted, IsPartedBy, IsTakenBy};
 
 use crate::component::{Component, Unit};
@@ -35,7 +35,7 @@ impl Component {
     fn with_part(&self, part: &Part) -> Option<Bounded<u8, 1024>>
         requires { IsStreaming self.now.unit }
         ensures bytes { result ≡ (if takes_part self.now.id self.now.unit part.now then Some (joined_bytes self.now.id self.now.unit part.now) else None) }
-        ensures joined { IfSome result (λ bytes. IsSoFar part.now bytes) }
+        ensures joined { IfSome result (λ bytes. CanBeStaged part.now bytes) }
     {
         match &self.unit {
             Unit::Host { .. } => None,
@@ -57,7 +57,7 @@ impl Component {
     fn put_part(&mut self, part: &Part, bytes: &[u8])
         requires taken { takes_part self.old.id self.old.unit part.now ≡ true }
         requires bytes { bytes.now ≡ joined_bytes self.old.id self.old.unit part.now }
-        requires joined { IsSoFar part.now bytes.now }
+        requires joined { CanBeStaged part.now bytes.now }
         ensures component { self.new ≡ parted_by part.now (words_of self.new) self.old }
         ensures parted { IsParted part.now self.old.id self.old.unit self.new.unit }
     {
@@ -83,7 +83,7 @@ fn put_at(components: &mut Vec<Component>, at: usize, id: u32, part: &Part, byte
     requires place { Some at ≡ position (λ c. c.id == id) components.old.items }
     requires ascends { Ascends (λ c. c.id) components.old.items }
     requires bytes { IsTakenBy part.now bytes.now (find (λ c. c.id == id) components.old.items) }
-    requires joined { IsSoFar part.now bytes.now }
+    requires joined { CanBeStaged part.now bytes.now }
     ensures items { components.new.items ≡ map (parted_at id part.now (words_in components.new.items id)) components.old.items }
     ensures parted { IsPartedBy part.now (find (λ c. c.id == id) components.old.items) (find (λ c. c.id == id) components.new.items) }
     ensures capacity { vec_capacity components.new ≡ vec_capacity components.old }
@@ -92,34 +92,27 @@ fn put_at(components: &mut Vec<Component>, at: usize, id: u32, part: &Part, byte
 }
 
 impl Registry {
-    /// The part of this number of the blob in force at an equaliser.
+    /// The part of this number, counted from 0, of the blob in force at an equaliser. -19 where the id names nothing, and -22 where it
+    /// names no equaliser or there is no part of this number.
     pub fn part(&self, id: u32, index: u32) -> Result<Part, Errno>
         ensures { part_told result ≡ part_got self.now id index }
     {
-        if self.find(id).is_none() {
-            return Err(Errno::NO_DEVICE);
-        }
-        let Some(at) = self.comp_hints.place_of(self.comps.as_slice(), id) else {
-            return Err(Errno::INVALID);
-        };
+        let at = self.comp_place(id)?;
         match self.comps[at].part(index) {
             Some(part) => Ok(part),
             None => Err(Errno::INVALID),
         }
     }
 
-    /// Stages a part of an equaliser's blob behind those before it; the last one puts the blob in force, and an epoch begins.
+    /// Stages a part of an equaliser's blob behind those before it; the last one puts the blob in force, and an epoch begins. -19 where
+    /// the id names nothing; -22 where it names no equaliser, the part is not the next one, or it is the last and the bytes are no
+    /// blob. Then nothing changes.
     pub fn set_part(&mut self, id: u32, part: &Part) -> Result<(), Errno>
         ensures answer { left_with self.new result ≡ part_set self.old id part.now (words_in self.new.comps id) }
         ensures kept { OnErr result (self.new ≡ self.old) }
         ensures parted { OnOk result (IsPartedBy part.now (find (λ c. c.id == id) self.old.comps) (find (λ c. c.id == id) self.new.comps)) }
     {
-        if self.find(id).is_none() {
-            return Err(Errno::NO_DEVICE);
-        }
-        let Some(at) = self.comp_hints.place_of(self.comps.as_slice(), id) else {
-            return Err(Errno::INVALID);
-        };
+        let at = self.comp_place(id)?;
         let Some(bytes) = self.comps[at].with_part(part) else {
             return Err(Errno::INVALID);
         };

@@ -1,10 +1,9 @@
 // All components, buffers and pipelines, and their joins.
-ghost use Rattle.std.specs.Prelude.{OnErr, find, ◌≡◌, ◌+◌, ◌==◌, ◌&&◌, ◌<◌, ◌≤◌, ◌++◌, ◌∷◌, [], length, position, IfOk, vec_len, vec_capacity, filter, not, OnOk, IfErr, IsErr, ◌↔◌, true, false, map, slice_index_or, slice_get, option_copied};
+ghost use Rattle.std.specs.Prelude.{OnErr, ◌≡◌, ◌+◌, ◌==◌, ◌&&◌, ◌<◌, ◌≤◌, ◌++◌, ◌∷◌, [], length, position, IfOk, vec_len, vec_capacity, filter, not, OnOk, IfErr, IsErr, ◌↔◌, Some, None, if◌then◌else◌, negsuc, true, false, map, slice_index_or, slice_get, option_copied};
 ghost use Rattle.fw_components.specs.declared.component.Component.{Component};
 ghost use Rattle.fw_components.specs.Tables.{all_of, is_host_unit, held_frames, capacity_at};
-ghost use Rattle.std.specs.Option.{option_map_or};
 ghost use Rattle.std.specs.List.{list_any, AllByRecursion};
-ghost use Rattle.fw_components.specs.Values.{takes_values, values_set, left_with, unit_values_at, answer_told};
+ghost use Rattle.fw_components.specs.Values.{values_set, left_with, unit_values_at, answer_told};
 ghost use Rattle.fw_components.specs.Kept.{IsStreamOf};
 ghost use Rattle.mbox_link.specs.Step.{touches};
 ghost use Rattle.fw_components.specs.Changes.{added, is_idle_phase, is_full, is_there, IsNew, has_new_index, completed_at, with_ended, set_at, found, IsFoundOf, IsOfHome, given_found, given_all, has_id, tables_without, can_join, tables_with_join};
@@ -21,6 +20,15 @@ use sof_base::{Bounded, Errno, NoMemory, Params};
 use std::alloc::Global;
 use std::marker::Model;
 use stream_law::{Join, Phase};
+
+// How many of each there may be; two joins for each buffer.
+const MOST_COMPONENTS: usize = 128;
+
+const MOST_BUFFERS: usize = 128;
+
+const MOST_PIPELINES: usize = 32;
+
+const MOST_JOINS: usize = 256;
 
 /// At most 128 components, 128 buffers and 32 pipelines with their pieces, and the joins of components and buffers, in memory that
 /// was reserved for them.
@@ -58,19 +66,19 @@ impl Registry {
         ensures { IfOk result (λ registry. registry ≡ record { comps = []; buffers = []; pipes = []; joins = [] }) }
     {
         let workspace = Workspace::new(alloc)?;
-        let Ok(comps) = Vec::with_capacity(alloc, 128) else {
+        let Ok(comps) = Vec::with_capacity(alloc, MOST_COMPONENTS) else {
             return Err(NoMemory);
         };
-        let Ok(buffers) = Vec::with_capacity(alloc, 128) else {
+        let Ok(buffers) = Vec::with_capacity(alloc, MOST_BUFFERS) else {
             comps.destroy_empty();
             return Err(NoMemory);
         };
-        let Ok(pipes) = Vec::with_capacity(alloc, 32) else {
+        let Ok(pipes) = Vec::with_capacity(alloc, MOST_PIPELINES) else {
             comps.destroy_empty();
             buffers.destroy_empty();
             return Err(NoMemory);
         };
-        let Ok(joins) = Vec::with_capacity(alloc, 256) else {
+        let Ok(joins) = Vec::with_capacity(alloc, MOST_JOINS) else {
             comps.destroy_empty();
             buffers.destroy_empty();
             pipes.destroy_empty();
@@ -144,7 +152,7 @@ impl Registry {
         ensures err { IfErr result (λ full. (full.component ≡ component) × (self.new ≡ self.old)) }
     {
         if component.unit.is_buffer() {
-            if self.buffers.len() >= 128 {
+            if self.buffers.len() >= MOST_BUFFERS {
                 return Err(RegistryFull { component });
             }
             place(&mut self.buffers, component);
@@ -154,13 +162,13 @@ impl Registry {
             return Ok(());
         }
         if component.unit.is_pipeline() {
-            if self.pipes.len() >= 32 {
+            if self.pipes.len() >= MOST_PIPELINES {
                 return Err(RegistryFull { component });
             }
             place(&mut self.pipes, component);
             return Ok(());
         }
-        if self.comps.len() >= 128 {
+        if self.comps.len() >= MOST_COMPONENTS {
             return Err(RegistryFull { component });
         }
         place(&mut self.comps, component);
@@ -278,45 +286,48 @@ impl Registry {
         }
     }
 
-    /// The values of a volume by command 0, and of a mux by command 1.
+    /// By command 0 the gains of a volume, each 0 to 16777216 where 65536 is 1, and by command 1 the choice of a mux. -19 where the id
+    /// names nothing, and -22 where it has no values by this command.
     pub fn values(&self, id: u32, command: u32) -> Result<Bounded<u32, 8>, Errno>
         ensures { answer_told result ≡ unit_values_at self.now id command }
     {
-        if self.find(id).is_none() {
-            return Err(Errno::NO_DEVICE);
-        }
-        let Some(at) = self.comp_hints.place_of(self.comps.as_slice(), id) else {
-            return Err(Errno::INVALID);
-        };
+        let at = self.comp_place(id)?;
         match self.comps[at].values(command) {
             Some(values) => Ok(values),
             None => Err(Errno::INVALID),
         }
     }
 
-    /// Sets the gains of a volume by command 0, and the choice of a mux by command 1.
+    /// Sets the gains of a volume by command 0, as many as it has and each at most 16777216, and the choice of a mux by command 1.
+    /// -19 where the id names nothing, and -22 where it does not take these values by this command; then nothing changes.
     pub fn set_values(&mut self, id: u32, command: u32, values: &[u32]) -> Result<(), Errno>
         ensures answer { left_with self.new result ≡ values_set self.old id command values.now }
         ensures kept { OnErr result (self.new ≡ self.old) }
     {
-        if self.find(id).is_none() {
-            return Err(Errno::NO_DEVICE);
-        }
-        if !self.takes(id, command, values) {
+        let at = self.comp_place(id)?;
+        if !self.comps[at].takes(command, values) {
             return Err(Errno::INVALID);
         }
         value_in(&mut self.comps, id, values);
         Ok(())
     }
 
-    // Whether a component takes values by a command.
-    fn takes(&self, id: u32, command: u32, values: &[u32]) -> bool
-        ensures { result ≡ option_map_or (λ c. takes_values c.unit command values.now) (find (λ c. c.id == id) self.now.comps) false }
+    /// The place of a component among those that are neither buffers nor pipelines; -19 where the id names nothing, and -22 where it
+    /// names a buffer or a pipeline.
+    pub(crate) fn comp_place(&self, id: u32) -> Result<usize, Errno>
+        ensures place { IfOk result (λ at. Some at ≡ position (λ c. c.id == id) self.now.comps) }
+        ensures there { IfOk result (λ at. is_there self.now id ≡ true) }
+        ensures below { IfOk result (λ at. at < length self.now.comps) }
+        ensures none { IfErr result (λ e. None ≡ position (λ c. c.id == id) self.now.comps) }
+        ensures err { IfErr result (λ e. e.0 ≡ (if is_there self.now id then negsuc 21 else negsuc 18)) }
     {
-        match self.comp_hints.place_of(self.comps.as_slice(), id) {
-            Some(at) => self.comps[at].takes(command, values),
-            None => false,
+        if let Some(at) = self.comp_hints.place_of(self.comps.as_slice(), id) {
+            return Ok(at);
         }
+        if self.find(id).is_none() {
+            return Err(Errno::NO_DEVICE);
+        }
+        Err(Errno::INVALID)
     }
 
     /// Gives the memory back, once nothing is there.

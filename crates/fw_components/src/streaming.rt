@@ -30,9 +30,9 @@ impl Registry {
         }
     }
 
-    /// Puts the frames of these samples behind those of this buffer, which has room for them: `samples` has a sample of each
-    /// channel for each frame. This takes no memory.
-    pub fn push(&mut self, buffer: u32, samples: &[Sample])
+    // Puts the frames of these samples behind those of this buffer, which has room for them: `samples` has a sample of each
+    // channel for each frame.
+    fn push(&mut self, buffer: u32, samples: &[Sample])
         requires there { has_id self.old.buffers buffer ≡ true }
         requires whole { length samples.now % channels_at self.old buffer ≡ 0 }
         requires fit { length (held_frames self.old buffer) + length samples.now / channels_at self.old buffer ≤ capacity_at self.old buffer }
@@ -60,9 +60,9 @@ impl Registry {
         );
     }
 
-    /// Takes as many frames as `samples` has room for from this buffer, which holds them, and writes their samples, a sample of
-    /// each channel for each frame. This takes no memory.
-    pub fn draw(&mut self, buffer: u32, samples: &mut [Sample])
+    // Takes as many frames as `samples` has room for from this buffer, which holds them, and writes their samples, a sample of
+    // each channel for each frame.
+    fn draw(&mut self, buffer: u32, samples: &mut [Sample])
         requires there { has_id self.old.buffers buffer ≡ true }
         requires whole { length samples.old % channels_at self.old buffer ≡ 0 }
         requires held { length samples.old / channels_at self.old buffer ≤ length (held_frames self.old buffer) }
@@ -92,7 +92,8 @@ impl Registry {
         shorten_in(&self.buffer_hints, &mut self.buffers, buffer, n);
     }
 
-    /// Puts the frames of these samples behind those of the buffer that comes from this component; it has room for them.
+    /// Puts the frames of these samples behind those of the buffer that comes from this component, which has room for them: `samples`
+    /// has a sample of each channel for each frame. This takes no memory.
     pub fn feed(&mut self, id: u32, samples: &[Sample])
         requires there { list_any (comes_from id) self.old.buffers ≡ true }
         requires whole { length samples.now % channels_at self.old (out_id self.old id) ≡ 0 }
@@ -108,7 +109,7 @@ impl Registry {
     }
 
     /// Takes as many frames as `samples` has room for from the buffer that goes to this component, which holds them, and writes
-    /// their samples.
+    /// their samples, a sample of each channel for each frame. This takes no memory.
     pub fn pull(&mut self, id: u32, samples: &mut [Sample])
         requires there { list_any (goes_to id) self.old.buffers ≡ true }
         requires whole { length samples.old % channels_at self.old (in_id self.old id) ≡ 0 }

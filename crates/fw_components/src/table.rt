@@ -39,29 +39,13 @@ pub(crate) fn place(components: &mut Vec<Component>, component: Component)
 }
 
 /// The pipeline of this id is complete.
-fn complete_all(components: &mut [Component], id: u32)
-    ensures { components.new ≡ map (completed_at id) components.old }
-{
-    for i in 0..components.len() {
-        components[i].complete(id);
-    }
-}
-
-/// The host of this id has this phase and these parameters.
-fn set_streams(components: &mut [Component], id: u32, phase: Phase, params: Option<Params>)
-    ensures { components.new ≡ map (set_at id phase params) components.old }
-{
-    for i in 0..components.len() {
-        components[i].set_stream(id, phase, params);
-    }
-}
-
-/// The pipeline of this id is complete.
 pub(crate) fn complete_in(components: &mut Vec<Component>, id: u32)
     ensures items { components.new.items ≡ map (completed_at id) components.old.items }
     ensures capacity { vec_capacity components.new ≡ vec_capacity components.old }
 {
-    complete_all(components, id);
+    for component in components.iter_mut() {
+        component.complete(id);
+    }
 }
 
 /// The host of this id has this phase and these parameters.
@@ -74,7 +58,9 @@ pub(crate) fn set_stream_in(
     ensures items { components.new.items ≡ map (set_at id phase params) components.old.items }
     ensures capacity { vec_capacity components.new ≡ vec_capacity components.old }
 {
-    set_streams(components, id, phase, params);
+    for component in components.iter_mut() {
+        component.set_stream(id, phase, params);
+    }
 }
 
 /// Takes out the component of this id, which stands at this place.
@@ -103,28 +89,12 @@ pub(crate) fn give_all(components: &mut Vec<Component>, region: &mut Region)
 }
 
 /// The ring of the buffer of this id is empty.
-fn end_all(components: &mut [Component], id: u32)
-    ensures { components.new ≡ map (with_ended id) components.old }
-{
-    for i in 0..components.len() {
-        components[i].end(id);
-    }
-}
-
-/// The ring of the buffer of this id is empty.
 pub(crate) fn end_in(components: &mut Vec<Component>, id: u32)
     ensures items { components.new.items ≡ map (with_ended id) components.old.items }
     ensures capacity { vec_capacity components.new ≡ vec_capacity components.old }
 {
-    end_all(components, id);
-}
-
-/// The buffers have the side joined that a join is at.
-fn join_all(components: &mut [Component], join: Join)
-    ensures { components.new ≡ map (joined_at join) components.old }
-{
-    for i in 0..components.len() {
-        components[i].join(join);
+    for component in components.iter_mut() {
+        component.end(id);
     }
 }
 
@@ -133,15 +103,8 @@ pub(crate) fn join_in(components: &mut Vec<Component>, join: Join)
     ensures items { components.new.items ≡ map (joined_at join) components.old.items }
     ensures capacity { vec_capacity components.new ≡ vec_capacity components.old }
 {
-    join_all(components, join);
-}
-
-/// The component of this id has these values.
-fn value_all(components: &mut [Component], id: u32, values: &[u32])
-    ensures { components.new ≡ map (valued_at id values.now) components.old }
-{
-    for i in 0..components.len() {
-        components[i].set_values(id, values);
+    for component in components.iter_mut() {
+        component.join(join);
     }
 }
 
@@ -150,5 +113,7 @@ pub(crate) fn value_in(components: &mut Vec<Component>, id: u32, values: &[u32])
     ensures items { components.new.items ≡ map (valued_at id values.now) components.old.items }
     ensures capacity { vec_capacity components.new ≡ vec_capacity components.old }
 {
-    value_all(components, id, values);
+    for component in components.iter_mut() {
+        component.set_values(id, values);
+    }
 }

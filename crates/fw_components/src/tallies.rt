@@ -118,46 +118,25 @@ fn add(tally: &mut [u32], marks: &[bool])
 fn is_live(unit: &Unit) -> bool
     ensures { result ≡ has_phase is_live_phase unit.now }
 {
-    match unit {
-        Unit::Host { phase, .. } => counts(*phase),
-        Unit::Dai { .. } => false,
-        Unit::Volume { .. } => false,
-        Unit::Mixer { .. } => false,
-        Unit::Mux { .. } => false,
-        Unit::Eq { .. } => false,
-        Unit::Buffer { .. } => false,
-        Unit::Pipeline { .. } => false,
-    }
+    matches!(unit, Unit::Host { phase, .. } if counts(*phase))
 }
 
 // Whether a unit is a host whose stream is Running.
 fn is_running(unit: &Unit) -> bool
     ensures { result ≡ has_phase is_running_phase unit.now }
 {
-    match unit {
-        Unit::Host { phase, .. } => matches!(phase, Phase::Running),
-        Unit::Dai { .. } => false,
-        Unit::Volume { .. } => false,
-        Unit::Mixer { .. } => false,
-        Unit::Mux { .. } => false,
-        Unit::Eq { .. } => false,
-        Unit::Buffer { .. } => false,
-        Unit::Pipeline { .. } => false,
-    }
+    matches!(
+        unit,
+        Unit::Host {
+            phase: Phase::Running,
+            ..
+        }
+    )
 }
 
 // Whether a unit is a capture's host.
 fn captures(unit: &Unit) -> bool
     ensures { result ≡ is_capture (kind_by unit.now) }
 {
-    match unit {
-        Unit::Host { capture, .. } => *capture,
-        Unit::Dai { .. } => false,
-        Unit::Volume { .. } => false,
-        Unit::Mixer { .. } => false,
-        Unit::Mux { .. } => false,
-        Unit::Eq { .. } => false,
-        Unit::Buffer { .. } => false,
-        Unit::Pipeline { .. } => false,
-    }
+    matches!(unit, Unit::Host { capture: true, .. })
 }

@@ -13,7 +13,7 @@ use Rattle.eq_biquad.specs.EqState.{EqState}
 use Rattle.stream_law.specs.State.{Staging}
 use Rattle.mbox_link.specs.BlobParts.{parts, blob_part, left_behind}
 use Rattle.mbox_link.specs.Step.{bytes_left, is_next, keeps_order, staged_bytes}
-use Rattle.fw_parts.specs.Staged.{staging_in, fits_behind, IsSoFar}
+use Rattle.fw_parts.specs.Staged.{staging_in, fits_behind, CanBeStaged}
 
 -- what is staged where something remains
 pub staged-some : (id : ℕ) (staged : List ℕ) (next remaining : ℕ) → (remaining == 0) ≡ false → staging_in id staged next remaining ≡ Some (record { eq = id; bytes = take (32 + 260 * next) staged; next = next; remaining = remaining })
@@ -133,7 +133,7 @@ join-is old mid new header own tail index at end mid_is at_is end_is within old_
         ∙ sym (ap (λ h. cond h header (take (32 + 260 * index) old)) later)
 
 -- and what may become of them
-pub are-joined : (id : ℕ) (staged : List ℕ) (next remaining : ℕ) (part : Part) (bytes : List ℕ) → 260 * next + remaining ≤ 992 → keeps_order (staging_in id staged next remaining) part ≡ true → (part.remaining ≡ 0 → IsBlob bytes) → length bytes ≡ 32 + 260 * part.index + length part.bytes → IsSoFar part bytes
+pub are-joined : (id : ℕ) (staged : List ℕ) (next remaining : ℕ) (part : Part) (bytes : List ℕ) → 260 * next + remaining ≤ 992 → keeps_order (staging_in id staged next remaining) part ≡ true → (part.remaining ≡ 0 → IsBlob bytes) → length bytes ≡ 32 + 260 * part.index + length part.bytes → CanBeStaged part bytes
 are-joined id staged next remaining part bytes within order blob long = record {
   few = omega (arith, long, order-fits id staged next remaining part within order);
   blob = blob;

@@ -16,8 +16,8 @@ staging_in id staged next remaining =
 abbrev pub fits_behind : Option Staging → Part → Bool
 fits_behind staged part = keeps_order staged part && (not (part.remaining == 0) || is_blob (staged_bytes staged part))
 
--- bytes that can be staged or put in force: with the last part they are a blob; else they are as many as came with all parts so far, and with what remains within a blob
-pub record IsSoFar (part : Part) (bytes : List ℕ) : Type 0 where
+-- bytes with all parts up to this one: a blob with the last part, and else as many as its number says, with room for what remains
+pub record CanBeStaged (part : Part) (bytes : List ℕ) : Type 0 where
   pub few : length bytes ≤ 1024
   pub blob : part.remaining ≡ 0 → IsBlob bytes
   pub count : (part.remaining == 0) ≡ false → length bytes ≡ 292 + 260 * part.index

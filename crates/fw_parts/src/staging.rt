@@ -7,7 +7,7 @@ ghost use Rattle.sof_base.specs.BlobFaults.{is_blob};
 ghost use Rattle.eq_biquad.specs.EqState.{staged_of, numbers_of};
 ghost use Rattle.stream_law.specs.Seen.{fresh_numbers};
 ghost use Rattle.mbox_link.specs.Step.{bytes_left, keeps_order, is_next as is_next_of, staged_bytes};
-ghost use Rattle.fw_parts.specs.Staged.{staging_in, fits_behind, IsSoFar};
+ghost use Rattle.fw_parts.specs.Staged.{staging_in, fits_behind, CanBeStaged};
 
 use eq_biquad::{Eq, check};
 use sof_base::{Bounded, Part};
@@ -122,7 +122,7 @@ pub fn joined(eq: &Eq, next: u32, remaining: u32, part: &Part) -> Option<Bounded
     requires { 260 * next + remaining ≤ 992 }
     ensures bytes { (id : ℕ) → let staged = staging_in id (staged_of eq.now) next remaining in
         result ≡ (if fits_behind staged part.now then Some (staged_bytes staged part.now) else None) }
-    ensures joined { IfSome result (λ bytes. IsSoFar part.now bytes) }
+    ensures joined { IfSome result (λ bytes. CanBeStaged part.now bytes) }
 {
     let mut bytes = [0; 1024];
     eq.staged(&mut bytes);
@@ -138,7 +138,7 @@ pub fn joined(eq: &Eq, next: u32, remaining: u32, part: &Part) -> Option<Bounded
 
 /// Stages these bytes, or puts them in force if a part is the last.
 pub fn put(eq: &mut Eq, next: &mut u32, remaining: &mut u32, part: &Part, bytes: &[u8])
-    requires { IsSoFar part.now bytes.now }
+    requires { CanBeStaged part.now bytes.now }
     ensures equaliser { eq.new ≡ record { blob = if part.now.remaining == 0 then bytes.now else eq.old.blob; piece = record eq.old.piece { words = eq.new.piece.words } } }
     ensures next { next.new ≡ (if part.now.remaining == 0 then 0 else part.now.index + 1) }
     ensures remaining { remaining.new ≡ part.now.remaining }

@@ -3,7 +3,7 @@ use Rattle.std.specs.Prelude.{IfSome}
 use Rattle.std.proofs.lemmas.List.{length-take-le}
 use Rattle.eq_biquad.specs.EqState.{staged_of}
 use Rattle.mbox_link.specs.Step.{keeps_order}
-use Rattle.fw_parts.specs.Staged.{staging_in, IsSoFar}
+use Rattle.fw_parts.specs.Staged.{staging_in, CanBeStaged}
 use Rattle.fw_parts.proofs.PartLaws.{are-joined, joined-some, joined-disordered, joined-wrong, some-whole}
 use Rattle.fw_parts.proofs.staging.joined.Goals as goal
 use Rattle.fw_parts.proofs.staging.joined.Goals.{After-new}
@@ -21,7 +21,7 @@ returns-then-not-is_right-clause-bytes c = λ id.
     (c.join-end.ensures.bytes ∙ ap (λ (xs : List ℕ). cond (c.args.part.now.index == 0) c.args.part.now.header (take (32 + 260 * c.args.part.now.index) xs) ++ c.args.part.now.bytes) c.staged.ensures)
 
 -- the bytes come back whole, and can be staged or put in force
-joined-here : (c : After-new) → (c.new.result ≡ Some (take c.join-end.result c.join-end.new.bytes)) × IsSoFar c.args.part.now (take c.join-end.result c.join-end.new.bytes)
+joined-here : (c : After-new) → (c.new.result ≡ Some (take c.join-end.result c.join-end.new.bytes)) × CanBeStaged c.args.part.now (take c.join-end.result c.join-end.new.bytes)
 joined-here c =
     let part = c.args.part.now in
     let bytes = take c.join-end.result c.join-end.new.bytes in
@@ -32,7 +32,7 @@ joined-here c =
     (some-whole c.new.result bytes 1024 (omega (arith, long, fits)) c.new.ensures, are-joined 0 (staged_of c.args.eq.now) c.args.next c.args.remaining part bytes c.requires order (c.is_right.ensures.blob c.if-not-is_right.false) long)
 
 pub returns-clause-joined : goal.returns-clause-joined
-returns-clause-joined c = subst (λ (o : Option (List ℕ)). IfSome o (λ bytes. IsSoFar c.args.part.now bytes)) (sym (joined-here c).0) (joined-here c).1
+returns-clause-joined c = subst (λ (o : Option (List ℕ)). IfSome o (λ bytes. CanBeStaged c.args.part.now bytes)) (sym (joined-here c).0) (joined-here c).1
 
 pub returns-clause-bytes : goal.returns-clause-bytes
 returns-clause-bytes c = λ id.

@@ -1,46 +1,41 @@
-use Rattle.std.proofs.Common.{◌≡◌, ◌≤◌, ◌∙◌, sym, ap, subst, ◌==◌, Some, true, Ok, List, find, rules}
+use Rattle.std.proofs.Common.{◌≡◌, ◌<◌, ◌≤◌, ◌∙◌, sym, ap, subst, ◌==◌, Some, Ok, List, find, length, Err, rules}
 use Rattle.std.specs.Prelude.{position}
 use Rattle.fw_components.specs.declared.component.Component.{Component}
-use Rattle.fw_components.specs.Tables.{Tables, all_of}
-use Rattle.fw_components.specs.Changes.{is_there}
-use Rattle.fw_components.specs.Parts.{joined_bytes, takes_part, words_in, parted, part_set, IsPartedBy, IsTakenBy}
+use Rattle.fw_components.specs.Tables.{Tables}
+use Rattle.fw_components.specs.Values.{left_with}
+use Rattle.fw_components.specs.Parts.{joined_bytes, takes_part, words_in, parted, IsPartedBy, IsTakenBy}
 use Rattle.fw_components.specs.Laid.{tables_of}
-use Rattle.fw_components.proofs.Taking.{taken-found, never-found-by}
-use Rattle.fw_components.proofs.Told.{gone-by, there-by}
-use Rattle.fw_components.proofs.PartKept.{parted-kept, part-none, part-refused, part-done, not-taken, is-taken, takes-it}
+use Rattle.fw_components.proofs.Told.{standing}
+use Rattle.fw_components.proofs.PartKept.{parted-kept, part-unplaced, part-refused, part-done, not-taken, is-taken, takes-it}
 use Rattle.fw_components.proofs.TallyKept.{parted-tallied}
 use Rattle.fw_components.proofs.registry.Registry.set_part.Goals as goal
 
-pub returns-then-is_none-clause-answer : goal.returns-then-is_none-clause-answer
-returns-then-is_none-clause-answer c = part-none c.args.self.now c.args.id c.args.part.now (words_in c.args.self.now.comps c.args.id) (gone-by c.args.id (all_of c.args.self.now) c.find.result c.find.ensures (search rules))
+pub returns-in_err-at-clause-answer : goal.returns-in_err-at-clause-answer
+returns-in_err-at-clause-answer c =
+    let gone : c.from_residual.result ≡ Err c.in_err-at.field-0.0 = search rules in
+    ap (left_with c.args.self.now) gone ∙ part-unplaced c.args.self.now c.args.id c.args.part.now (words_in c.args.self.now.comps c.args.id) _ c.in_err-at.ensures.none c.in_err-at.ensures.err
+
+pub index-requires : goal.index-requires
+index-requires c =
+    let low : c.in_ok-at.at < length c.self.inside.comps.items = subst (λ (t : Tables). c.in_ok-at.at < length t.comps) (sym c.self.view_is) c.in_ok-at.ensures.below in
+    search rules
 
 pub returns-in_default-clause-answer : goal.returns-in_default-clause-answer
 returns-in_default-clause-answer c =
-    let t = tables_of c.self.inside in
     let w = words_in c.args.self.now.comps c.args.id in
-    let there : is_there c.args.self.now c.args.id ≡ true = there-by c.args.id (all_of c.args.self.now) c.find.result c.find.ensures (search rules) in
-    let here : is_there t c.args.id ≡ true = ap (λ (t : Tables). is_there t c.args.id) c.self.view_is ∙ there in
-    part-refused t c.args.id c.args.part.now w here (ap (takes-it t c.args.id c.args.part.now w) (never-found-by c.args.id t.comps (c.in_default.ensures ∙ ap (position (λ (y : Component). y.id == c.args.id)) c.as_slice.ensures.value)))
-    ∙ ap (λ (t : Tables). part_set t c.args.id c.args.part.now w) c.self.view_is
-
-pub returns-in_default-with_part-clause-answer : goal.returns-in_default-with_part-clause-answer
-returns-in_default-with_part-clause-answer c =
-    let t = tables_of c.self.inside in
     let x = c.index.result.now in
-    let w = words_in c.args.self.now.comps c.args.id in
-    let there : is_there c.args.self.now c.args.id ≡ true = there-by c.args.id (all_of c.args.self.now) c.find.result c.find.ensures (search rules) in
-    let here : is_there t c.args.id ≡ true = ap (λ (t : Tables). is_there t c.args.id) c.self.view_is ∙ there in
-    let it : Some x ≡ find (λ y. y.id == c.args.id) t.comps = ap (λ (y : Component). Some y) c.index.ensures ∙ taken-found c.args.id t.comps c.in-Some.at x (c.in-Some.ensures ∙ ap (position (λ (y : Component). y.id == c.args.id)) c.as_slice.ensures.value) in
-    part-refused t c.args.id c.args.part.now w here (ap (takes-it t c.args.id c.args.part.now w) (sym it) ∙ not-taken (takes_part x.id x.unit c.args.part.now) (joined_bytes x.id x.unit c.args.part.now) c.in_default-with_part.ensures.bytes)
-    ∙ ap (λ (t : Tables). part_set t c.args.id c.args.part.now w) c.self.view_is
+    let it : Some x ≡ find (λ y. y.id == c.args.id) c.args.self.now.comps = standing c.args.id c.self.inside.comps.items c.args.self.now.comps c.in_ok-at.at x (ap (λ (t : Tables). t.comps) c.self.view_is) c.in_ok-at.ensures.place c.index.ensures in
+    part-refused c.args.self.now c.args.id c.args.part.now w c.in_ok-at.ensures.there (ap (takes-it c.args.self.now c.args.id c.args.part.now w) (sym it) ∙ not-taken (takes_part x.id x.unit c.args.part.now) (joined_bytes x.id x.unit c.args.part.now) c.in_default.ensures.bytes)
+
+pub put_at-requires-clause-place : goal.put_at-requires-clause-place
+put_at-requires-clause-place c = c.in_ok-at.ensures.place ∙ ap (λ (t : Tables). position (λ (y : Component). y.id == c.args.id) t.comps) (sym c.self.view_is)
 
 pub put_at-requires-clause-bytes : goal.put_at-requires-clause-bytes
 put_at-requires-clause-bytes c =
-    let t = tables_of c.self.inside in
     let x = c.index.result.now in
-    let it : Some x ≡ find (λ y. y.id == c.args.id) t.comps = ap (λ (y : Component). Some y) c.index.ensures ∙ taken-found c.args.id t.comps c.in-Some.at x (c.in-Some.ensures ∙ ap (position (λ (y : Component). y.id == c.args.id)) c.as_slice.ensures.value) in
-    let taken = is-taken (takes_part x.id x.unit c.args.part.now) (joined_bytes x.id x.unit c.args.part.now) c.in-Some-with_part.bytes c.in-Some-with_part.ensures.bytes in
-    subst (IsTakenBy c.args.part.now c.items.result.now) it (taken.0, c.items.ensures.value ∙ taken.1)
+    let it : Some x ≡ find (λ y. y.id == c.args.id) c.args.self.now.comps = standing c.args.id c.self.inside.comps.items c.args.self.now.comps c.in_ok-at.at x (ap (λ (t : Tables). t.comps) c.self.view_is) c.in_ok-at.ensures.place c.index.ensures in
+    let taken = is-taken (takes_part x.id x.unit c.args.part.now) (joined_bytes x.id x.unit c.args.part.now) c.in-Some.bytes c.in-Some.ensures.bytes in
+    subst (λ (t : Tables). IsTakenBy c.args.part.now c.items.result.now (find (λ y. y.id == c.args.id) t.comps)) (sym c.self.view_is) (subst (IsTakenBy c.args.part.now c.items.result.now) it (taken.0, c.items.ensures.value ∙ taken.1))
 
 pub invariant_of-self : goal.invariant_of-self
 invariant_of-self c = record {
@@ -48,22 +43,20 @@ invariant_of-self c = record {
   buffers = c.self.invariant.buffers;
   pipes = c.self.invariant.pipes;
   joins = c.self.invariant.joins;
-  kept = parted-kept (tables_of c.self.inside) c.self.invariant.kept c.args.id c.args.part.now _ c.in-Some-with_part.bytes c.put_at.new.components.items c.in-Some-with_part.ensures.joined c.put_at.ensures.items;
-  tallied = parted-tallied (tables_of c.self.inside) c.self.invariant.kept c.self.inside.tallies.running c.self.inside.tallies.live c.self.invariant.tallied c.args.id c.args.part.now _ c.put_at.new.components.items c.put_at.ensures.items (parted-kept (tables_of c.self.inside) c.self.invariant.kept c.args.id c.args.part.now _ c.in-Some-with_part.bytes c.put_at.new.components.items c.in-Some-with_part.ensures.joined c.put_at.ensures.items);
+  kept = parted-kept (tables_of c.self.inside) c.self.invariant.kept c.args.id c.args.part.now _ c.in-Some.bytes c.put_at.new.components.items c.in-Some.ensures.joined c.put_at.ensures.items;
+  tallied = parted-tallied (tables_of c.self.inside) c.self.invariant.kept c.self.inside.tallies.running c.self.inside.tallies.live c.self.invariant.tallied c.args.id c.args.part.now _ c.put_at.new.components.items c.put_at.ensures.items (parted-kept (tables_of c.self.inside) c.self.invariant.kept c.args.id c.args.part.now _ c.in-Some.bytes c.put_at.new.components.items c.in-Some.ensures.joined c.put_at.ensures.items);
 }
 
 pub returns-clause-answer : goal.returns-clause-answer
 returns-clause-answer c =
     let s = c.self.inside in
-    let t = tables_of s in
-    let x = c.index.result.now in
     let w = words_in c.put_at.new.components.items c.args.id in
-    let there : is_there c.args.self.now c.args.id ≡ true = there-by c.args.id (all_of c.args.self.now) c.find.result c.find.ensures (search rules) in
-    let it : Some x ≡ find (λ y. y.id == c.args.id) t.comps = ap (λ (y : Component). Some y) c.index.ensures ∙ taken-found c.args.id t.comps c.in-Some.at x (c.in-Some.ensures ∙ ap (position (λ (y : Component). y.id == c.args.id)) c.as_slice.ensures.value) in
-    let taken = is-taken (takes_part x.id x.unit c.args.part.now) (joined_bytes x.id x.unit c.args.part.now) c.in-Some-with_part.bytes c.in-Some-with_part.ensures.bytes in
+    let x = c.index.result.now in
+    let it : Some x ≡ find (λ y. y.id == c.args.id) c.args.self.now.comps = standing c.args.id c.self.inside.comps.items c.args.self.now.comps c.in_ok-at.at x (ap (λ (t : Tables). t.comps) c.self.view_is) c.in_ok-at.ensures.place c.index.ensures in
+    let taken = is-taken (takes_part x.id x.unit c.args.part.now) (joined_bytes x.id x.unit c.args.part.now) c.in-Some.bytes c.in-Some.ensures.bytes in
     ap (λ (cs : List Component). Ok (record { comps = cs; buffers = s.buffers.items; pipes = s.pipes.items; joins = s.joins.items })) c.put_at.ensures.items
     ∙ ap (λ (t : Tables). Ok (parted c.args.id c.args.part.now w t)) c.self.view_is
-    ∙ part-done c.args.self.now c.args.id c.args.part.now w there (ap (λ (t : Tables). takes-it t c.args.id c.args.part.now w (find (λ y. y.id == c.args.id) t.comps)) (sym c.self.view_is) ∙ ap (takes-it t c.args.id c.args.part.now w) (sym it) ∙ taken.0)
+    ∙ part-done c.args.self.now c.args.id c.args.part.now w c.in_ok-at.ensures.there (ap (takes-it c.args.self.now c.args.id c.args.part.now w) (sym it) ∙ taken.0)
 
 pub returns-clause-parted : goal.returns-clause-parted
 returns-clause-parted c = subst (λ (t : Tables). IsPartedBy c.args.part.now (find (λ y. y.id == c.args.id) t.comps) (find (λ y. y.id == c.args.id) c.put_at.new.components.items)) c.self.view_is c.put_at.ensures.parted

@@ -1,5 +1,5 @@
 -- All pieces that are given back leave one hole.
-use Rattle.std.proofs.Common.{◌≡◌, refl, sym, ap, ◌∙◌, subst, ℕ, ◌+◌, ◌≤◌, List, [], ◌∷◌, map, filter, not, find, Option, Some, Bool, true, false, cond, ◌==◌, ◌||◌, arith}
+use Rattle.std.proofs.Common.{◌≡◌, refl, sym, ap, ◌∙◌, subst, ℕ, ◌+◌, ◌≤◌, List, [], ◌∷◌, map, filter, not, find, Some, Bool, true, false, cond, ◌==◌, ◌||◌, arith}
 use Rattle.std.specs.Prelude.{nat_lt}
 use Rattle.std.specs.List.{list_any, AllByRecursion, IsDistinct}
 use Rattle.std.proofs.lemmas.Bool.{eq-eqb, eqb-true}
@@ -7,7 +7,7 @@ use Rattle.sof_base.specs.declared.hole.Hole.{Hole}
 use Rattle.sof_base.specs.Holes.{total, fresh_holes, Spaced}
 use Rattle.stream_law.specs.State.{PieceView, HeapView}
 use Rattle.stream_law.specs.Placed.{placed, HasDistinct}
-use Rattle.stream_law.proofs.Placing.{find-placed_there, list_any-placed}
+use Rattle.stream_law.proofs.Placing.{find-placed_there}
 use Rattle.mbox_link.specs.Step.{without_piece, holes_after_free}
 use Rattle.row_laws.specs.Tiled.{IsTiled}
 use Rattle.row_laws.proofs.Tiling.{give-tiled}

@@ -10,7 +10,7 @@ use Rattle.ipc3_codec.specs.Replies.{reply_spelling}
 use Rattle.stream_law.specs.State.{FwState}
 use Rattle.mbox_link.specs.Step.{step, replied, row_of, body_of, error_reply}
 use Rattle.mbox_link.specs.Exchange.{Stepped, Rose, ticked}
-use Rattle.mbox_link.specs.Calls.{World, Exchanged, Ticked}
+use Rattle.mbox_link.specs.Calls.{World, Exchanged, Ticked, MovesBy}
 use Rattle.fw_heap.specs.Regions.{RegionState}
 use Rattle.fw_components.specs.Tables.{Tables}
 use Rattle.fw_core.specs.Held.{state_in}
@@ -28,6 +28,7 @@ firmware-exchanged request answer w v done =
       did = (refl, refl);
       step = λ f is. step-done (Rose [] []) (Rose [] []) w.device.state f w.io request is;
       room = λ n room. room;
+      moves = λ slot. omega arith;
       boots = refl;
       steady = record { faults = tt; refusals = tt; boots = omega arith; pending = omega arith; most = refl };
     })
@@ -46,13 +47,13 @@ said-at t r clock request (Ok said) told = told clock
 said-at t r clock request (Err error) told = told
 
 -- a device that answers so has done the step
-pub step-answered : (on : Bool) (boots clock : ℕ) (t u : Tables) (r s : RegionState) (answer : Result Body Errno) (request : List ℕ) (old : Chip) → record { state = cond on (Some (state_in t r clock)) None; boots = boots; most = r.size } ≡ old → is_some old.state ≡ true → IsRow (λ f. row_of f (decoded request)) t u r s answer → IfOk answer (λ said. (clock : ℕ) → said ≡ body_of (state_in t r clock) (decoded request)) → (record { state = cond on (Some (state_in u s clock)) None; boots = boots; most = s.size } ≡ with_state (stepped old.state request) old) × (reply_to old.state request ≡ Some (reply_spelling (reply_with answer)))
+pub step-answered : (on : Bool) (boots clock : ℕ) (t u : Tables) (r s : RegionState) (answer : Result Body Errno) (request : List ℕ) (old : Chip) → record { state = cond on (Some (state_in t r clock)) None; boots = boots; most = r.size; home = r.home } ≡ old → is_some old.state ≡ true → IsRow (λ f. row_of f (decoded request)) t u r s answer → IfOk answer (λ said. (clock : ℕ) → said ≡ body_of (state_in t r clock) (decoded request)) → (record { state = cond on (Some (state_in u s clock)) None; boots = boots; most = s.size; home = s.home } ≡ with_state (stepped old.state request) old) × (reply_to old.state request ≡ Some (reply_spelling (reply_with answer)))
 unfolding step
 step-answered true boots clock t u r s answer request old was on row told =
     let f = state_in t r clock in let g = state_in u s clock in
     let done : replied f (body_of f (decoded request)) (row_of f (decoded request)) ≡ (g, reply_spelling (reply_with answer)) = replied-by f g answer (body_of f (decoded request)) (row_of f (decoded request)) (row.told clock) (said-at t r clock request answer told) (same-state t u r s clock answer row.kept) in
-    subst (λ (d : Chip). (record { state = Some g; boots = boots; most = s.size } ≡ with_state (stepped d.state request) d) × (reply_to d.state request ≡ Some (reply_spelling (reply_with answer)))) was
-    (λ i. record { state = Some (sym done i).0; boots = boots; most = row.size i }, ap (λ (p : FwState × List ℕ). Some p.1) done)
+    subst (λ (d : Chip). (record { state = Some g; boots = boots; most = s.size; home = s.home } ≡ with_state (stepped d.state request) d) × (reply_to d.state request ≡ Some (reply_spelling (reply_with answer)))) was
+    (λ i. record { state = Some (sym done i).0; boots = boots; most = row.same.1 i; home = row.same.0 i }, ap (λ (p : FwState × List ℕ). Some p.1) done)
 step-answered false boots clock t u r s answer request old was on row told = absurd (false≢true (ap (λ (d : Chip). is_some d.state) was ∙ on))
 
 -- ---- a tick
@@ -65,6 +66,7 @@ module _ (w v : World Chip) where
     on = λ f is. absurd (none-some (sym off ∙ is));
     off = λ still. (ap (λ (x : World Chip). x.device.state) same ∙ off, ap (λ (x : World Chip). x.io) same);
     room = room;
+    moves = subst (λ (x : World Chip). MovesBy 61440 w.io.inputs x.io.inputs) (sym same) (λ slot. omega arith);
     boots = ap (λ (x : World Chip). x.device.boots) same;
     quiet = record { faults = refl; refusals = refl; pending = refl; most = ap (λ (x : World Chip). x.device.most) same };
   }
@@ -73,14 +75,16 @@ module _ (w v : World Chip) where
       none-some e = cc e
 
   -- where it is on
-  pub ticked-on : (f : FwState) → w.device.state ≡ Some f → v ≡ record { device = with_state (Some (ticked (f, w.io)).0) w.device; io = (ticked (f, w.io)).1 } → (room : (n : ℕ) → HasRoom (n + 61440) w.io.outputs → HasRoom n v.io.outputs) → Ticked firmware w v
-  ticked-on f on is room = record {
+  pub ticked-on : (f : FwState) → w.device.state ≡ Some f → v ≡ record { device = with_state (Some (ticked (f, w.io)).0) w.device; io = (ticked (f, w.io)).1 } → (room : (n : ℕ) → HasRoom (n + 61440) w.io.outputs → HasRoom n v.io.outputs) →
+      MovesBy 61440 w.io.inputs (ticked (f, w.io)).1.inputs → Ticked firmware w v
+  ticked-on f on is room moves = record {
     did = is ∙ sym (ap (λ o. after_tick o w) on);
     on = λ g at.
         let same : f ≡ g = some-same f g (sym on ∙ at) in
         (ap (λ (x : World Chip). x.device.state) is ∙ ap (λ (h : FwState). Some (ticked (h, w.io)).0) same, ap (λ (x : World Chip). x.io) is ∙ ap (λ (h : FwState). (ticked (h, w.io)).1) same);
     off = λ off. absurd (some-none (sym on ∙ off));
     room = room;
+    moves = subst (λ (x : World Chip). MovesBy 61440 w.io.inputs x.io.inputs) (sym is) moves;
     boots = ap (λ (x : World Chip). x.device.boots) is;
     quiet = record { faults = refl; refusals = refl; pending = refl; most = ap (λ (x : World Chip). x.device.most) is };
   }

@@ -1,31 +1,29 @@
 -- The rows that join and complete: the graph alone changes.
-use Rattle.std.proofs.Common.{◌≡◌, refl, sym, ap, ◌∙◌, subst, ℕ, List, [], ◌∷◌, ◌++◌, map, Bool, true, false, cond, not, ◌&&◌, ◌||◌, ◌==◌, Option, Some, None, Result, Ok, Err, ℤ, find}
+use Rattle.std.proofs.Common.{◌≡◌, refl, sym, ap, ◌∙◌, subst, ℕ, List, [], ◌∷◌, ◌++◌, map, Bool, true, false, cond, not, ◌&&◌, ◌==◌, Option, Some, None, Result, Ok, Err, ℤ, find}
 use Rattle.std.specs.Prelude.{OnErr, OnOk}
 use Rattle.std.specs.List.{AllByRecursion, IsDistinct}
 use Rattle.sof_base.specs.declared.errno.Errno.{Errno}
 use Rattle.stream_law.specs.declared.graph.Comp.{Comp}
 use Rattle.stream_law.specs.declared.graph.Join.{Join}
 use Rattle.stream_law.specs.declared.graph.Pipe.{Pipe}
-use Rattle.stream_law.specs.State.{FwState, View, RingView, History, Staging, HeapView, PieceView, view_of}
+use Rattle.stream_law.specs.State.{FwState, view_of}
 use Rattle.stream_law.specs.Placed.{HasDistinct}
-use Rattle.stream_law.specs.Joins.{would_cycle, would_reach, would_grow, with_join as graph_with_join}
+use Rattle.stream_law.specs.Joins.{with_join as graph_with_join}
 use Rattle.stream_law.proofs.Members.{IsIn}
-use Rattle.stream_law.proofs.Placing.{Ascends-distinct}
 use Rattle.mbox_link.specs.Step.{no_device, busy, invalid, is_used, has_comp, is_joined, is_refused_join, connect, completed, complete_pipe, pipe_complete, with_pipes}
 use Rattle.row_laws.specs.Tiled.{heap_bytes}
-use Rattle.row_laws.specs.Kept.{IsKeptState}
 use Rattle.row_laws.proofs.RowKept.{connect-kept, pipe_complete-kept}
 use Rattle.fw_heap.specs.Regions.{RegionState}
 use Rattle.fw_components.specs.declared.component.Component.{Component}
 use Rattle.fw_components.specs.declared.component.Unit as units
 use Rattle.fw_components.specs.declared.component.Unit.TheVariants.{Host, Dai, Volume, Mixer, Mux, Eq, Buffer, Pipeline}
 use Rattle.fw_components.specs.Frames.{channels_by}
-use Rattle.fw_components.specs.Tables.{Tables, all_of, view_by, graph_of, ring_by, rings_of, histories_of, staging_of, carved_pieces, comp_by}
+use Rattle.fw_components.specs.Tables.{Tables, all_of, view_by, ring_by, rings_of, histories_of, staging_of, carved_pieces, comp_by}
 use Rattle.fw_components.specs.Changes.{joined_at, sunk_unit, sourced_unit, tables_with_join, completed_at}
 use Rattle.fw_pipeline.specs.Rows as rows
-use Rattle.fw_pipeline.specs.States.{AreOf}
-use Rattle.fw_core.specs.Held.{state_in, HasChannels, IsPieceHeld}
-use Rattle.fw_core.specs.Answers.{answer_of, IsRow}
+use Rattle.fw_schedule.specs.Ticks.{HasChannels}
+use Rattle.fw_core.specs.Held.{state_in, IsPieceHeld}
+use Rattle.fw_core.specs.Answers.{IsRow}
 use Rattle.fw_core.proofs.RowLaws.{told-by, row-is, on-ok}
 use Rattle.fw_core.proofs.Seats.{seat, seats-pieces, seats-homes, seat-joined, seat-completed, map-kept, map-both, in-map}
 use Rattle.fw_core.proofs.Histories.{history, AreThere, one-key, there-all, histories-are}
@@ -145,7 +143,7 @@ module _ (t u : Tables) (r : RegionState) (source sink : ℕ) (held : IsPieceHel
       row-is (λ f. connect f source sink) t u r r answer held
       (λ clock. told-by answer (connect (state_in t r clock) source sink) (view_by u) (state_in u r clock) (views (state_in t r clock)) (λ g is view. on-ok answer done (connect-leads rings clock g is view)))
       (connect-kept source sink) (λ f g kept is. ap (λ (x : FwState). heap_bytes x.heap) (sym (connect-done f g source sink is)))
-      (on-ok answer done (λ done. seats-homes r.home (all_of t) (all_of u) (joined-seats done) held.homes)) (on-ok answer done connect-channels) refl refl (err-same t u r answer kept)
+      (on-ok answer done (λ done. seats-homes r.home (all_of t) (all_of u) (joined-seats done) held.homes)) (on-ok answer done connect-channels) (refl, refl, refl) (err-same t u r answer kept)
 
 -- ---- PIPE_COMPLETE
 
@@ -197,4 +195,4 @@ module _ (t u : Tables) (r : RegionState) (id : ℕ) (held : IsPieceHeld t r) wh
       row-is (λ f. pipe_complete f id) t u r r answer held
       (λ clock. told-by answer (pipe_complete (state_in t r clock) id) (view_by u) (state_in u r clock) (views (state_in t r clock)) (λ g is view. on-ok answer done (complete-leads clock g is view)))
       (pipe_complete-kept id) (λ f g kept is. ap (λ (x : FwState). heap_bytes x.heap) (sym (complete-done f g id is)))
-      (on-ok answer done (λ done. seats-homes r.home (all_of t) (all_of u) (completed-seats done) held.homes)) (on-ok answer done complete-channels) refl refl (err-same t u r answer kept)
+      (on-ok answer done (λ done. seats-homes r.home (all_of t) (all_of u) (completed-seats done) held.homes)) (on-ok answer done complete-channels) (refl, refl, refl) (err-same t u r answer kept)

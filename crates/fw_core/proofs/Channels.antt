@@ -1,8 +1,8 @@
 -- What is Live has the channels of its stream: each row leaves it so.
-use Rattle.std.proofs.Common.{◌≡◌, refl, sym, ap, ◌∙◌, subst, ℕ, List, [], ◌∷◌, ◌++◌, map, filter, length, Bool, true, false, cond, not, ◌&&◌, ◌||◌, ◌==◌, Option, Some, None, Result, Ok, Err, ℤ, inl, inr, find}
-use Rattle.std.specs.Prelude.{nat_le, option_and_then, ◌⊎◌}
+use Rattle.std.proofs.Common.{◌≡◌, refl, sym, ap, ◌∙◌, subst, ℕ, List, [], ◌∷◌, ◌++◌, map, length, Bool, true, false, cond, not, ◌&&◌, ◌||◌, ◌==◌, Some, None, Ok, Err, inl, inr}
+use Rattle.std.specs.Prelude.{nat_le, ◌⊎◌}
 use Rattle.std.specs.List.{AllByRecursion, list_any}
-use Rattle.std.proofs.lemmas.Bool.{true≢false, false≢true, and_parts, and_from, or_parts, or_left, or_right, or_cases, eq-eqb}
+use Rattle.std.proofs.lemmas.Bool.{false≢true, and_parts, and_from, or_parts, or_left, or_right, or_cases, eq-eqb}
 use Rattle.sof_base.specs.declared.format.Params.{Params}
 use Rattle.stream_law.specs.declared.graph.Comp.{Comp}
 use Rattle.stream_law.specs.declared.graph.Edge.{Edge}
@@ -15,19 +15,19 @@ use Rattle.stream_law.specs.declared.stream.StreamView.{StreamView}
 use Rattle.stream_law.specs.declared.stream.Phase.{Phase}
 use Rattle.stream_law.specs.declared.stream.Phase.TheVariants.{Idle, Prepared, Running, Paused}
 use Rattle.stream_law.specs.State.{FwState, View, view_of}
-use Rattle.stream_law.specs.Ways.{components, buffers, comp_of, live, channels_of, is_live_phase, on_way, agree}
+use Rattle.stream_law.specs.Ways.{components, buffers, live, channels_of, is_live_phase, on_way, agree}
 use Rattle.stream_law.specs.Order.{is_among}
 use Rattle.stream_law.specs.Joins.{would_cycle, would_reach, would_grow, with_join}
 use Rattle.stream_law.specs.Seen.{seen}
-use Rattle.stream_law.proofs.Members.{IsIn, in-all, in-each, in-any}
+use Rattle.stream_law.proofs.Members.{IsIn, in-all, in-each}
 use Rattle.mbox_link.specs.Step as rows
 use Rattle.row_laws.specs.Wired.{is_node}
 use Rattle.row_laws.specs.Played.{AreStreamsPlayable, KeepsLive}
 use Rattle.row_laws.specs.Kept.{IsKeptState}
-use Rattle.row_laws.proofs.Fewer.{all-filter, filter-every}
+use Rattle.row_laws.proofs.Fewer.{filter-every}
 use Rattle.row_laws.proofs.FreeKept.{comp_free-live, comp_free-channels, buffer_free-live, buffer_free-channels}
-use Rattle.row_laws.proofs.Growing.{all-placed, hosts-apart, live-wider, channels-wider}
-use Rattle.row_laws.proofs.Joined.{among-map, among-left, among-right}
+use Rattle.row_laws.proofs.Growing.{hosts-apart, live-wider, channels-wider}
+use Rattle.row_laws.proofs.Joined.{among-left, among-right}
 use Rattle.row_laws.proofs.Joining.{live-joined, channels-joined}
 use Rattle.row_laws.proofs.Longer.{live-longer, channels-longer, live-other, channels-other}
 use Rattle.row_laws.proofs.NewKept.{unused-node}
@@ -42,7 +42,7 @@ use Rattle.fw_components.specs.Frames.{channels_by}
 use Rattle.fw_pipeline.specs.declared.phases.Trigger.{Trigger}
 use Rattle.fw_pipeline.specs.declared.phases.Trigger.TheVariants as what
 use Rattle.fw_pipeline.specs.Triggers.{triggered}
-use Rattle.fw_core.specs.Held.{HasChannels}
+use Rattle.fw_schedule.specs.Ticks.{HasChannels}
 use Rattle.fw_core.proofs.RowLaws.{pass, passed, same-ok, not-false, new-tests}
 
 -- ---- lists that fit a view

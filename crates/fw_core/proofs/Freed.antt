@@ -1,12 +1,12 @@
 -- The rows that free a component, a buffer or a pipeline.
-use Rattle.std.proofs.Common.{◌≡◌, refl, sym, ap, ◌∙◌, subst, ℕ, ◌<◌, List, [], ◌∷◌, ◌++◌, map, filter, Bool, true, false, cond, not, ◌&&◌, ◌||◌, ◌==◌, Option, Some, None, Result, Ok, Err, ℤ, find, option_map, inl, inr, take, ◌+◌, ◌*◌}
+use Rattle.std.proofs.Common.{◌≡◌, refl, sym, ap, ◌∙◌, subst, ℕ, ◌<◌, List, [], ◌∷◌, ◌++◌, map, filter, Bool, true, false, cond, not, ◌||◌, ◌==◌, Option, Some, None, Result, Ok, Err, find, option_map, inl, inr, take, ◌+◌, ◌*◌}
 use Rattle.std.specs.Prelude.{OnErr, OnOk, nat_lt, ◌⊎◌}
 use Rattle.std.specs.List.{AllByRecursion, list_any}
-use Rattle.std.proofs.lemmas.Bool.{true≢false, eq-eqb, eqb-true, lt-ltb, ltb-true, or_parts, or_right, false_from_ne_true}
+use Rattle.std.proofs.lemmas.Bool.{true≢false, eqb-true, lt-ltb, ltb-true, or_parts, or_right, false_from_ne_true}
 use Rattle.sof_base.specs.declared.errno.Errno.{Errno}
 use Rattle.sof_base.specs.declared.hole.Hole.{Hole}
 use Rattle.stream_law.specs.declared.graph.Pipe.{Pipe}
-use Rattle.stream_law.specs.State.{FwState, View, PieceView, RingView, Staging, History, view_of}
+use Rattle.stream_law.specs.State.{FwState, PieceView, Staging, view_of}
 use Rattle.stream_law.specs.Placed.{placed, AreAbove, Ascends, HasDistinct}
 use Rattle.stream_law.proofs.Members.{IsIn, any-in, in-any, in-all, find-in, kept-in}
 use Rattle.stream_law.proofs.Placing.{AreAbove-below, AreAbove-filter, Ascends-filter, find-placed}
@@ -19,25 +19,26 @@ use Rattle.row_laws.specs.RowLaws.{RowIsKept}
 use Rattle.row_laws.proofs.RowKept.{comp_free-kept, buffer_free-kept, pipe_free-kept}
 use Rattle.row_laws.proofs.FreeKept.{no-buffer, no-comp, free-whole}
 use Rattle.row_laws.proofs.Fewer.{all-filter, distinct-filter}
-use Rattle.eq_biquad.specs.EqState.{EqState, staged_of}
+use Rattle.eq_biquad.specs.EqState.{staged_of}
 use Rattle.fw_heap.specs.declared.run.Home.{Home}
 use Rattle.fw_heap.specs.Regions.{RegionState}
 use Rattle.fw_components.specs.declared.component.Component.{Component}
 use Rattle.fw_components.specs.declared.component.Unit as units
 use Rattle.fw_components.specs.declared.component.Unit.TheVariants.{Host, Dai, Volume, Mixer, Mux, Eq, Buffer, Pipeline}
 use Rattle.fw_components.specs.Tables.{Tables, all_of, view_by, graph_of, ring_by, rings_of, histories_of, staging_by, staging_of, carved_pieces, pieces_by, piece_by, with_staging_by}
-use Rattle.fw_components.specs.Changes.{has_id, tables_without, without_by, given_found, given_by, found, IsOfHome}
+use Rattle.fw_components.specs.Changes.{has_id, tables_without, without_by, given_found, found, IsOfHome}
 use Rattle.fw_walks.proofs.Naming.{comp-named, edge-named, pipe-named}
 use Rattle.fw_pipeline.specs.declared.freeing.Item.{Item}
 use Rattle.fw_pipeline.specs.declared.freeing.Item.TheVariants as items
 use Rattle.fw_pipeline.specs.Rows as rows
-use Rattle.fw_pipeline.specs.States.{AreOf}
+use Rattle.fw_components.specs.States.{AreOf}
 use Rattle.fw_pipeline.proofs.FreeRows.{comp-left, buffer-left, pipe-left}
-use Rattle.fw_core.specs.Held.{state_in, HasChannels, IsPieceHeld}
-use Rattle.fw_core.specs.Answers.{answer_of, IsRow}
+use Rattle.fw_schedule.specs.Ticks.{HasChannels}
+use Rattle.fw_core.specs.Held.{state_in, IsPieceHeld}
+use Rattle.fw_core.specs.Answers.{IsRow}
 use Rattle.fw_core.proofs.RowLaws.{told-by, row-is, on-ok, pass, passed, same-ok, not-false}
 use Rattle.fw_core.proofs.Back.{placed-apart, placed-others, filter-apart}
-use Rattle.fw_core.proofs.Histories.{history, AreThere, there-all, there-less, histories-are}
+use Rattle.fw_core.proofs.Histories.{AreThere, there-all, there-less, histories-are}
 use Rattle.fw_core.proofs.Changed.{state-is, same-comps}
 use Rattle.fw_core.proofs.Channels.{Fits, moves, frames, IsSame, channels-are, pipes-same, comp_free-same, buffer_free-same}
 
@@ -346,7 +347,7 @@ freed-is what t u r s id held answer rings views done holes same kept =
     row-is (λ f. rows.row_of_free what f id) t u r s answer held
     (λ clock. told-by answer (rows.row_of_free what (state_in t r clock) id) (view_by u) (state_in u s clock) (views (state_in t r clock)) (λ g is view. on-both answer done holes (λ d h. freed-leads what t u r s id held rings clock g is view d h)))
     (freed-kept what id) (λ f g kept is. freed-whole what id f g kept is)
-    (on-ok answer done (λ d. subst (λ home. AreOf home u) (sym same.0) (subst (AreOf r.home) (sym d) (left-homes r.home t id held.homes)))) (on-ok answer done (λ d. freed-channels t u r s id held d what)) same.2 same.1 kept
+    (on-ok answer done (λ d. subst (λ home. AreOf home u) (sym same.0) (subst (AreOf r.home) (sym d) (left-homes r.home t id held.homes)))) (on-ok answer done (λ d. freed-channels t u r s id held d what)) same kept
   where
     on-both : {X A B C : Type 0} (answer : Result X Errno) → OnOk answer A → OnOk answer B → (A → B → C) → OnOk answer C
     on-both (Ok done) a b to = to a b

@@ -1,7 +1,6 @@
 -- The histories of a state that is kept are those of the tables that have its view.
-use Rattle.std.proofs.Common.{◌≡◌, refl, sym, ap, ◌∙◌, subst, ℕ, List, [], ◌∷◌, map, filter, Bool, true, false, cond, ◌==◌, inl, inr, Option, Some, ℤ, find}
+use Rattle.std.proofs.Common.{◌≡◌, refl, sym, ap, ◌∙◌, subst, ℕ, List, [], ◌∷◌, map, filter, Bool, true, false, cond, ◌==◌, inl, inr, Some, find}
 use Rattle.std.specs.List.{AllByRecursion}
-use Rattle.std.proofs.lemmas.Bool.{true≢false}
 use Rattle.stream_law.specs.declared.graph.Comp.{Comp}
 use Rattle.stream_law.specs.State.{FwState, View, History, view_of}
 use Rattle.stream_law.specs.Ways.{components}

@@ -1,18 +1,17 @@
 -- A firmware's fields where it is off, and where it is on.
-use Rattle.std.proofs.Common.{zero-add, ◌≡◌, refl, sym, ap, ◌∙◌, subst, ℕ, ◌+◌, List, [], Bool, true, false, cond, Option, Some, None, arith}
+use Rattle.std.proofs.Common.{zero-add, ◌≡◌, refl, sym, ap, ◌∙◌, subst, ℕ, ◌+◌, Bool, true, false, cond, Some, None, arith}
 use Rattle.std.proofs.lemmas.Bool.{false≢true}
 use Rattle.std.specs.Prelude.{is_some}
 use Rattle.sof_base.specs.Holes.{total, usable_of, fresh_holes}
 use Rattle.stream_law.specs.State.{FwState}
 use Rattle.mbox_link.specs.Step.{fresh}
-use Rattle.row_laws.specs.Tiled.{carved_bytes}
 use Rattle.row_laws.specs.Kept.{IsKeptState}
 use Rattle.row_laws.proofs.HoleLists.{total-fresh}
 use Rattle.row_laws.proofs.BootKept.{boot-kept}
 use Rattle.fw_heap.specs.Regions.{RegionState}
-use Rattle.fw_components.specs.Tables.{Tables, all_of, carved_pieces}
+use Rattle.fw_components.specs.Tables.{Tables, all_of}
 use Rattle.fw_components.specs.Changes.{given_all}
-use Rattle.fw_pipeline.specs.States.{AreOf, with_tables}
+use Rattle.fw_components.specs.States.{AreOf, with_tables}
 use Rattle.fw_core.specs.declared.firmware.Firmware.TheInside.{Inside}
 use Rattle.fw_core.specs.Held.{state_in, IsPieceHeld}
 use Rattle.fw_core.specs.Device.{Chip, used_of}

@@ -17,3 +17,5 @@ pub mod Channels
 pub mod Played
 pub mod Ticks
 pub mod Scheduled
+pub mod InputMoves
+pub mod Bare

@@ -1,10 +1,9 @@
 -- The rows that bring a component, a buffer or a pipeline.
-use Rattle.std.proofs.Common.{◌≡◌, refl, sym, ap, ◌∙◌, subst, ℕ, ◌<◌, ◌≤◌, ◌+◌, ◌*◌, List, [], ◌∷◌, ◌++◌, map, filter, length, Bool, true, false, cond, not, ◌&&◌, ◌||◌, ◌==◌, Option, Some, None, Result, Ok, Err, ℤ, inl, inr, take, arith}
-use Rattle.std.specs.Prelude.{OnErr, OnOk, nat_lt, nat_le, ◌⊎◌}
+use Rattle.std.proofs.Common.{◌≡◌, refl, sym, ap, ◌∙◌, subst, ℕ, ◌<◌, ◌≤◌, List, [], ◌∷◌, ◌++◌, map, length, Bool, true, false, cond, not, ◌||◌, ◌==◌, Option, None, Result, Ok, Err, ℤ, inl, inr, arith}
+use Rattle.std.specs.Prelude.{nat_lt, nat_le, ◌⊎◌}
 use Rattle.std.proofs.lemmas.List.{length-map}
-use Rattle.std.specs.List.{AllByRecursion, list_any}
-use Rattle.std.proofs.lemmas.Bool.{true≢false, eq-eqb, eqb-true, lt-ltb, le-ltb, leb-true, ltb-true, ltb-false, or_parts}
-use Rattle.sof_base.specs.declared.errno.Errno.{Errno}
+use Rattle.std.specs.List.{AllByRecursion}
+use Rattle.std.proofs.lemmas.Bool.{true≢false, eq-eqb, lt-ltb, le-ltb, leb-true, ltb-true, ltb-false, or_parts}
 use Rattle.sof_base.specs.declared.format.Params.{Params}
 use Rattle.sof_base.specs.Holes.{rounded, fits, first_fit, carved}
 use Rattle.stream_law.specs.declared.graph.Comp.{Comp}
@@ -12,12 +11,11 @@ use Rattle.stream_law.specs.declared.graph.Edge.{Edge}
 use Rattle.stream_law.specs.declared.graph.Pipe.{Pipe}
 use Rattle.stream_law.specs.declared.graph.Kind.{Kind}
 use Rattle.stream_law.specs.declared.graph.Kind.TheVariants as kinds
-use Rattle.stream_law.specs.declared.graph.Setting.{Setting}
 use Rattle.stream_law.specs.declared.stream.StreamView.{StreamView}
 use Rattle.stream_law.specs.declared.stream.Phase.{Phase}
 use Rattle.stream_law.specs.declared.stream.Phase.TheVariants.{Idle, Prepared, Running, Paused}
-use Rattle.stream_law.specs.State.{FwState, View, PieceView, RingView, Staging, History, view_of}
-use Rattle.stream_law.specs.Placed.{placed, AreAbove, Ascends, HasDistinct}
+use Rattle.stream_law.specs.State.{FwState, PieceView, RingView, Staging, view_of}
+use Rattle.stream_law.specs.Placed.{placed, AreAbove, Ascends}
 use Rattle.stream_law.proofs.Members.{IsIn, in-any}
 use Rattle.stream_law.proofs.Placing.{AreAbove-below, map-placed}
 use Rattle.mbox_link.specs.Step as rows
@@ -25,7 +23,6 @@ use Rattle.ipc3_codec.specs.Allowed.{is_buffer_size, is_period_allowed}
 use Rattle.row_laws.specs.Tiled.{heap_bytes}
 use Rattle.row_laws.specs.Wired.{is_node}
 use Rattle.row_laws.specs.Kept.{IsKeptState, IsSettingOf}
-use Rattle.row_laws.specs.RowLaws.{RowIsKept}
 use Rattle.row_laws.proofs.RowKept.{comp_new-kept, buffer_new-kept, pipe_new-kept}
 use Rattle.row_laws.proofs.Growing.{all-placed}
 use Rattle.row_laws.proofs.NewKept.{unused-node}
@@ -38,14 +35,13 @@ use Rattle.fw_ring.specs.RingState.{RingState}
 use Rattle.fw_components.specs.declared.component.Component.{Component}
 use Rattle.fw_components.specs.declared.component.Unit as units
 use Rattle.fw_components.specs.declared.component.Unit.TheVariants.{Host, Dai, Volume, Mixer, Mux, Eq, Buffer, Pipeline}
-use Rattle.fw_components.specs.Tables.{Tables, all_of, view_by, graph_of, comp_by, edge_by, pipe_by, kind_by, setting_by, piece_of, piece_by, pieces_by, carved_pieces, ring_by, rings_of, streams_by, streams_of, staging_by, staging_of, histories_of, with_stream_by, with_staging_by, is_buffer, is_pipeline}
-use Rattle.fw_components.specs.Changes.{has_id, IsOfHome, IsNew, is_idle_phase, added, added_by, is_there}
-use Rattle.fw_components.specs.Kept.{IsNamed}
+use Rattle.fw_components.specs.Tables.{Tables, view_by, graph_of, comp_by, edge_by, pipe_by, kind_by, setting_by, piece_of, piece_by, pieces_by, carved_pieces, ring_by, rings_of, streams_by, streams_of, staging_by, histories_of, with_stream_by, with_staging_by, is_buffer, is_pipeline}
+use Rattle.fw_components.specs.Changes.{has_id, IsOfHome, IsNew, is_idle_phase, added, added_by}
 use Rattle.fw_walks.proofs.Naming.{comp-named, edge-named, pipe-named}
-use Rattle.fw_pipeline.specs.States.{AreOf}
-use Rattle.fw_core.specs.Held.{state_in, HasChannels, IsPieceHeld}
-use Rattle.fw_core.specs.Making.{IsIn as LiesIn}
-use Rattle.fw_core.specs.Answers.{answer_of, IsRow}
+use Rattle.fw_components.specs.States.{AreOf}
+use Rattle.fw_schedule.specs.Ticks.{HasChannels}
+use Rattle.fw_core.specs.Held.{state_in, IsPieceHeld}
+use Rattle.fw_core.specs.Answers.{IsRow}
 use Rattle.fw_core.proofs.RowLaws.{row-is, new-tests}
 use Rattle.fw_core.proofs.Histories.{history, AreThere, there-all, histories-are}
 use Rattle.fw_core.proofs.Changed.{state-is, same-comps}
@@ -369,8 +365,8 @@ module _ (t : Tables) (r s : RegionState) (c : Component) (bytes : ℕ) (held : 
 
 -- ---- each row
 
-same-usable : (r s : RegionState) (n : ℕ) → s ≡ carves n r → (s.usable ≡ r.usable) × (s.size ≡ r.size)
-same-usable r s n is = (ap (λ (x : RegionState). x.usable) is, ap (λ (x : RegionState). x.size) is)
+same-region : (r s : RegionState) (n : ℕ) → s ≡ carves n r → (s.home ≡ r.home) × (s.size ≡ r.size) × (s.usable ≡ r.usable)
+same-region r s n is = (ap (λ (x : RegionState). x.home) is, ap (λ (x : RegionState). x.size) is, ap (λ (x : RegionState). x.usable) is)
 
 -- COMP_NEW
 pub comp-is : (t u : Tables) (r s : RegionState) (c : Component) (bytes : ℕ) → IsPieceHeld t r → IsCarved bytes r s c → rows.is_used (graph_of t) c.id ≡ false → Ascends (λ (x : Component). x.id) t.comps → IsNew c.unit → is_buffer c.unit ≡ false → is_pipeline c.unit ≡ false → bytes ≡ rows.comp_bytes (kind_by c.unit)
@@ -381,7 +377,7 @@ comp-is t u r s c bytes held so unused up new plain other size still few right d
     (comp_new-kept c.id c.pipe (kind_by c.unit) (setting_by c.unit) right)
     (λ f g kept e. let tests = new-tests (rows.is_used f.graph c.id) (rows.is_complete f.graph c.pipe) (nat_le 128 (length f.graph.comps)) (rows.has_hole f (rows.comp_bytes (kind_by c.unit))) (rows.with_comp c.id c.pipe (kind_by c.unit) (setting_by c.unit) f) g e in
     ap (λ (x : FwState). heap_bytes x.heap) (sym tests.2) ∙ carve-whole f c.id (rows.comp_bytes (kind_by c.unit)) kept (some-bytes (kind_by c.unit)) tests.1 tests.0)
-    (subst (AreOf s.home) (sym is) (comp-homes t r s c bytes held so unused)) (λ row. channels row) (same-usable r s (rounded bytes) so.left).0 (same-usable r s (rounded bytes) so.left).1 tt
+    (subst (AreOf s.home) (sym is) (comp-homes t r s c bytes held so unused)) (λ row. channels row) (same-region r s (rounded bytes) so.left) tt
   where
     is : u ≡ with_component c t
     is = done ∙ (λ i. added_by (plain i) (other i) c t)
@@ -414,7 +410,7 @@ buffer-is t u r s id pipe size ring held so unused empty still few right done =
     (buffer_new-kept id pipe size right)
     (λ f g kept e. let tests = new-tests (rows.is_used f.graph id) (rows.is_complete f.graph pipe) (nat_le 128 (length f.graph.edges)) (rows.has_hole f (rows.buffer_bytes size)) (rows.with_buffer id pipe size f) g e in
     ap (λ (x : FwState). heap_bytes x.heap) (sym tests.2) ∙ carve-whole f id (rows.buffer_bytes size) kept (omega arith) tests.1 tests.0)
-    (subst (AreOf s.home) (sym done) (buffer-homes t r s c (rows.buffer_bytes size) held so unused)) (λ row. channels row) (same-usable r s (rounded (rows.buffer_bytes size)) so.left).0 (same-usable r s (rounded (rows.buffer_bytes size)) so.left).1 tt
+    (subst (AreOf s.home) (sym done) (buffer-homes t r s c (rows.buffer_bytes size) held so unused)) (λ row. channels row) (same-region r s (rounded (rows.buffer_bytes size)) so.left) tt
   where
     c : Component
     c = new_buffer id pipe size ring
@@ -460,7 +456,7 @@ pipe-is t u r s id index sched period piece held so unused still few right done 
     (pipe_new-kept id index sched period right)
     (λ f g kept e. let tests = new-tests (rows.is_used f.graph id) (rows.has_index f.graph index) (nat_le 32 (length f.graph.pipes)) (rows.has_hole f rows.pipe_bytes) (rows.with_pipe id index sched period f) g e in
     ap (λ (x : FwState). heap_bytes x.heap) (sym tests.2) ∙ carve-whole f id rows.pipe_bytes kept (omega arith) tests.1 tests.0)
-    (subst (AreOf s.home) (sym done) (pipe-homes t r s c rows.pipe_bytes held so unused)) (λ row. channels row) (same-usable r s (rounded rows.pipe_bytes) so.left).0 (same-usable r s (rounded rows.pipe_bytes) so.left).1 tt
+    (subst (AreOf s.home) (sym done) (pipe-homes t r s c rows.pipe_bytes held so unused)) (λ row. channels row) (same-region r s (rounded rows.pipe_bytes) so.left) tt
   where
     c : Component
     c = new_pipeline id index sched period piece

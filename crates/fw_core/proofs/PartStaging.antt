@@ -1,7 +1,6 @@
 -- What is staged at the equalisers of a table once a part came.
-use Rattle.std.proofs.Common.{◌≡◌, refl, sym, ap, ◌∙◌, subst, ℕ, ◌+◌, ◌*◌, ◌<◌, List, [], ◌∷◌, map, filter, take, Bool, true, false, cond, not, ◌==◌, Option, Some, None, ℤ, find, arith}
-use Rattle.std.specs.Prelude.{nat_lt}
-use Rattle.std.proofs.lemmas.Bool.{true≢false, false≢true, eqb-true, eqb-false, eq-eqb, lt-ltb, le-ltb, false_from_ne_true}
+use Rattle.std.proofs.Common.{◌≡◌, refl, sym, ap, ◌∙◌, subst, ℕ, ◌+◌, ◌*◌, ◌<◌, List, [], ◌∷◌, map, take, Bool, true, false, cond, not, ◌==◌, Option, Some, None, ℤ, find, arith}
+use Rattle.std.proofs.lemmas.Bool.{eqb-true, eq-eqb, lt-ltb, le-ltb, false_from_ne_true}
 use Rattle.sof_base.specs.declared.part.Part.{Part}
 use Rattle.eq_biquad.specs.EqState.{staged_of}
 use Rattle.stream_law.specs.State.{Staging}
@@ -12,7 +11,6 @@ use Rattle.fw_components.specs.declared.component.Component.{Component}
 use Rattle.fw_components.specs.declared.component.Unit as units
 use Rattle.fw_components.specs.declared.component.Unit.TheVariants.{Host, Dai, Volume, Mixer, Mux, Eq, Buffer, Pipeline}
 use Rattle.fw_components.specs.Tables.{staging_by, with_staging_by}
-use Rattle.fw_parts.specs.Staged.{staging_in}
 use Rattle.fw_components.specs.Parts.{staging_one, parted_by, parted_at}
 
 -- ---- one after the other

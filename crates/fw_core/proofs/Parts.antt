@@ -1,20 +1,20 @@
 -- The rows of parts of a blob.
-use Rattle.std.proofs.Common.{◌≡◌, refl, sym, ap, ◌∙◌, subst, ℕ, ◌+◌, List, [], ◌∷◌, ◌++◌, map, filter, length, Bool, true, false, cond, not, ◌&&◌, ◌||◌, ◌==◌, Option, Some, None, Result, Ok, Err, ℤ, negsuc, find, option_map, inl, inr}
-use Rattle.std.specs.Prelude.{OnErr, OnOk, IfOk, is_some, option_and_then}
+use Rattle.std.proofs.Common.{◌≡◌, refl, sym, ap, ◌∙◌, subst, ℕ, ◌+◌, List, [], ◌∷◌, ◌++◌, map, filter, Bool, true, false, cond, not, ◌&&◌, ◌||◌, ◌==◌, Option, Some, None, Result, Ok, Err, ℤ, negsuc, find, option_map, inl, inr}
+use Rattle.std.specs.Prelude.{OnErr, OnOk, is_some}
 use Rattle.std.specs.List.{AllByRecursion}
 use Rattle.std.specs.Option.{option_map_or}
 use Rattle.std.proofs.lemmas.Bool.{true≢false, false≢true, eqb-true, eq-eqb, and_parts, false_from_ne_true}
 use Rattle.sof_base.specs.declared.errno.Errno.{Errno}
+use Rattle.sof_base.specs.declared.hole.Hole.{Hole}
 use Rattle.sof_base.specs.declared.part.Part.{Part}
 use Rattle.sof_base.specs.BlobFaults.{is_blob}
 use Rattle.eq_biquad.specs.EqState.{staged_of}
 use Rattle.stream_law.specs.declared.graph.Comp.{Comp}
-use Rattle.stream_law.specs.declared.graph.Graph.{Graph}
 use Rattle.stream_law.specs.declared.graph.Kind.{Kind}
 use Rattle.stream_law.specs.declared.graph.Setting.{Setting}
 use Rattle.stream_law.specs.declared.graph.Setting.TheVariants.{Blob}
 use Rattle.stream_law.specs.declared.stream.StreamView.{StreamView}
-use Rattle.stream_law.specs.State.{FwState, View, RingView, Staging, History, view_of}
+use Rattle.stream_law.specs.State.{FwState, View, RingView, Staging, History}
 use Rattle.stream_law.specs.Made.{blob}
 use Rattle.stream_law.specs.Placed.{Ascends}
 use Rattle.stream_law.specs.Seen.{flows, ring_seen, is_equaliser, equalises, goes_on, blob_in, fresh_numbers, numbers_in, history_seen, seen}
@@ -32,23 +32,24 @@ use Rattle.fw_heap.specs.Regions.{RegionState}
 use Rattle.fw_components.specs.declared.component.Component.{Component}
 use Rattle.fw_components.specs.declared.component.Unit as units
 use Rattle.fw_components.specs.declared.component.Unit.TheVariants.{Host, Dai, Volume, Mixer, Mux, Eq, Buffer, Pipeline}
-use Rattle.fw_components.specs.Tables.{Tables, all_of, graph_of, view_by, comp_by, kind_by, setting_by, streams_by, streams_of, staging_by, staging_of, rings_of, histories_of, numbers_by, piece_of, with_stream_by}
+use Rattle.fw_components.specs.Tables.{Tables, all_of, graph_of, view_by, comp_by, kind_by, setting_by, streams_by, streams_of, staging_by, rings_of, numbers_by, with_stream_by}
 use Rattle.fw_components.specs.Values.{left_with}
 use Rattle.fw_parts.specs.Staged.{staging_in, fits_behind}
-use Rattle.fw_components.specs.Parts.{part_or, part_got, staging_one, joined_bytes, takes_part, parted_unit, parted_by, parted_at, parted, part_set, staging_after, IsParted, IsPartedBy}
+use Rattle.fw_components.specs.Parts.{part_or, part_got, staging_one, joined_bytes, takes_part, parted_unit, parted_by, parted_at, parted, part_set, IsParted, IsPartedBy}
 use Rattle.fw_walks.proofs.Naming.{find-map}
-use Rattle.fw_pipeline.specs.States.{AreOf}
+use Rattle.fw_components.specs.States.{AreOf, state_over}
 use Rattle.fw_pipeline.proofs.StateAfter.{histories-each}
-use Rattle.fw_core.specs.Held.{state_in, HasChannels, IsPieceHeld}
+use Rattle.fw_schedule.specs.Ticks.{HasChannels}
+use Rattle.fw_core.specs.Held.{state_in, IsPieceHeld}
 use Rattle.fw_core.specs.Answers.{answer_of, IsRow}
-use Rattle.fw_core.proofs.RowLaws.{row-is, on-ok, pass}
+use Rattle.fw_core.proofs.RowLaws.{row-is}
 use Rattle.fw_core.proofs.Seats.{seat, seats-pieces, seats-homes, map-kept, map-both, in-map}
 use Rattle.fw_core.proofs.Histories.{history, one-key}
 use Rattle.fw_core.proofs.Changed.{state-is, comps-distinct}
 use Rattle.fw_core.proofs.Streams.{err-same}
 use Rattle.fw_core.proofs.Values.{there-used, comp-found}
 use Rattle.fw_core.proofs.Channels.{Fits, moves, frames, IsSame, channels-are, fits-map, set_value-same}
-use Rattle.fw_core.proofs.PartStaging.{put, IsUnder, under-own, staging-found, staging-parted}
+use Rattle.fw_core.proofs.PartStaging.{put, staging-found, staging-parted}
 
 -- ---- GET_DATA
 
@@ -57,16 +58,16 @@ pub record IsPartGot (f : FwState) (id index : ℕ) (o : Result Part ℤ) : Type
   pub done : (part : Part) → o ≡ Ok part → (rows.get_data f id index ≡ Ok f) × (rows.part_at f.graph id index ≡ Some part)
   pub refused : (e : ℤ) → o ≡ Err e → rows.get_data f id index ≡ Err e
 
-pub part-got : (t : Tables) (r : RegionState) (clock id index : ℕ) → IsPartGot (state_in t r clock) id index (part_got t id index)
-part-got t r clock id index = subst (λ (h : Bool). IsPartGot (state_in t r clock) id index (cond (not h) (Err (negsuc 18)) (part_or (rows.part_at (graph_of t) id index)))) (sym (there-used t id)) (by (rows.is_used (graph_of t) id) refl (rows.part_at (graph_of t) id index) refl)
+pub part-got : (t : Tables) (holes : List Hole) (clock id index : ℕ) → IsPartGot (state_over t holes clock) id index (part_got t id index)
+part-got t holes clock id index = subst (λ (h : Bool). IsPartGot (state_over t holes clock) id index (cond (not h) (Err (negsuc 18)) (part_or (rows.part_at (graph_of t) id index)))) (sym (there-used t id)) (by (rows.is_used (graph_of t) id) refl (rows.part_at (graph_of t) id index) refl)
   where
     f : FwState
-    f = state_in t r clock
+    f = state_over t holes clock
 
     row_by : Bool → Option Part → Result FwState ℤ
-    row_by used o = cond (not used) (Err rows.no_device) (cond (not (is_some o)) (Err rows.invalid) (Ok (state_in t r clock)))
+    row_by used o = cond (not used) (Err rows.no_device) (cond (not (is_some o)) (Err rows.invalid) (Ok (state_over t holes clock)))
 
-    by : (used : Bool) → rows.is_used (graph_of t) id ≡ used → (o : Option Part) → rows.part_at (graph_of t) id index ≡ o → IsPartGot (state_in t r clock) id index (cond (not used) (Err (negsuc 18)) (part_or o))
+    by : (used : Bool) → rows.is_used (graph_of t) id ≡ used → (o : Option Part) → rows.part_at (graph_of t) id index ≡ o → IsPartGot (state_over t holes clock) id index (cond (not used) (Err (negsuc 18)) (part_or o))
     by false is o at = record {
       done = λ part e. cc e;
       refused = λ e same. ap (λ h. row_by h (rows.part_at (graph_of t) id index)) is ∙ out e same;
@@ -581,4 +582,4 @@ module _ (t u : Tables) (r : RegionState) (id : ℕ) (part : Part) (words : List
   part-set-is keeps answer is kept seen =
       row-is (λ f. rows.set_data f id part) t u r r answer held
       (λ clock. told-set clock answer is seen) keeps (λ f g kept is. set-heap f g is)
-      (on-done answer is done-homes) (on-done answer is (λ done row. done-channels done)) refl refl (err-same t u r answer kept)
+      (on-done answer is done-homes) (on-done answer is (λ done row. done-channels done)) (refl, refl, refl) (err-same t u r answer kept)

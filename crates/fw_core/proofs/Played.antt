@@ -1,12 +1,12 @@
 -- What is Live has the channels of its stream after a row of streams.
-use Rattle.std.proofs.Common.{◌≡◌, refl, sym, ap, ◌∙◌, subst, ℕ, List, [], ◌∷◌, ◌++◌, map, Bool, true, false, cond, not, ◌&&◌, ◌==◌, Option, Some, Result, Ok, ℤ, inl, inr}
+use Rattle.std.proofs.Common.{◌≡◌, refl, sym, ap, ◌∙◌, subst, ℕ, List, [], ◌∷◌, ◌++◌, map, Bool, true, false, cond, not, ◌&&◌, ◌==◌, Option, Some, Ok, inl, inr}
 use Rattle.std.specs.List.{AllByRecursion}
 use Rattle.std.proofs.lemmas.Bool.{true≢false, false≢true}
 use Rattle.sof_base.specs.declared.format.Params.{Params}
 use Rattle.stream_law.specs.declared.stream.StreamView.{StreamView}
 use Rattle.stream_law.specs.declared.stream.Phase.{Phase}
 use Rattle.stream_law.specs.declared.stream.Phase.TheVariants.{Prepared}
-use Rattle.stream_law.specs.State.{FwState, View}
+use Rattle.stream_law.specs.State.{View}
 use Rattle.stream_law.specs.Ways.{components, buffers, live, channels_of}
 use Rattle.stream_law.specs.Order.{is_among}
 use Rattle.stream_law.specs.Seen.{flows}
@@ -14,7 +14,6 @@ use Rattle.stream_law.proofs.Members.{IsIn, in-all, in-each}
 use Rattle.mbox_link.specs.Step as rows
 use Rattle.row_laws.specs.Kept.{IsKeptState}
 use Rattle.fw_heap.specs.Regions.{RegionState}
-use Rattle.fw_ring.specs.RingState.{RingState}
 use Rattle.fw_components.specs.declared.component.Component.{Component}
 use Rattle.fw_components.specs.declared.component.Unit as units
 use Rattle.fw_components.specs.declared.component.Unit.TheVariants.{Host, Dai, Volume, Mixer, Mux, Eq, Buffer, Pipeline}
@@ -25,7 +24,8 @@ use Rattle.fw_components.specs.Frames.{channels_by, begun_by, begun_unit}
 use Rattle.fw_pipeline.specs.declared.phases.Trigger.{Trigger}
 use Rattle.fw_pipeline.specs.Triggers.{triggered, phase_after, params_after, params_of, begins, begun_in, settled_in, IsBegun, BecomeEach, IsTriggered}
 use Rattle.fw_pipeline.proofs.StateAfter.{set-id}
-use Rattle.fw_core.specs.Held.{state_in, HasChannels, IsPieceHeld}
+use Rattle.fw_schedule.specs.Ticks.{HasChannels}
+use Rattle.fw_core.specs.Held.{state_in, IsPieceHeld}
 use Rattle.fw_core.proofs.Seats.{in-map}
 use Rattle.fw_core.proofs.Channels.{Fits, moves, frames, fits-map, IsChange, change-channels, change-lives, params-change, params-less, triggered-change, comp-among, buffer-among}
 

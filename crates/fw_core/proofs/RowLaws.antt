@@ -1,5 +1,5 @@
 -- Rows that are done, and what they leave.
-use Rattle.std.proofs.Common.{◌≡◌, refl, sym, ap, ◌∙◌, subst, ℕ, List, Bool, true, false, cond, not, ◌||◌, Result, Ok, Err, ℤ}
+use Rattle.std.proofs.Common.{◌≡◌, refl, sym, ap, ◌∙◌, subst, ℕ, Bool, true, false, cond, not, ◌||◌, Result, Ok, Err, ℤ}
 use Rattle.std.specs.Prelude.{OnErr, OnOk}
 use Rattle.std.proofs.lemmas.Bool.{or_parts}
 use Rattle.sof_base.specs.declared.errno.Errno.{Errno}
@@ -11,8 +11,9 @@ use Rattle.row_laws.specs.RowLaws.{RowIsKept}
 use Rattle.fw_heap.specs.Regions.{RegionState}
 use Rattle.fw_components.specs.Tables.{Tables}
 use Rattle.fw_pipeline.specs.Rows as rows
-use Rattle.fw_pipeline.specs.States.{AreOf}
-use Rattle.fw_core.specs.Held.{state_in, HasChannels, IsPieceHeld}
+use Rattle.fw_components.specs.States.{AreOf}
+use Rattle.fw_schedule.specs.Ticks.{HasChannels}
+use Rattle.fw_core.specs.Held.{state_in, IsPieceHeld}
 use Rattle.fw_core.specs.Answers.{answer_of, IsRow}
 
 -- a row that is done passes each of its tests
@@ -58,21 +59,21 @@ told-by (Err error) (Err e) v s is leads = ap (λ (n : ℤ). let r : Result FwSt
 pub row-is : {X : Type 0} (row : FwState → Result FwState ℤ) (t u : Tables) (r s : RegionState) (answer : Result X Errno) → IsPieceHeld t r
     → ((clock : ℕ) → answer_of (state_in u s clock) answer ≡ row (state_in t r clock))
     → RowIsKept row → ((f g : FwState) → IsKeptState f → row f ≡ Ok g → heap_bytes g.heap ≡ heap_bytes f.heap)
-    → OnOk answer (AreOf s.home u) → OnOk answer (row (state_in t r 0) ≡ Ok (state_in u s 0) → HasChannels u) → s.usable ≡ r.usable → s.size ≡ r.size → OnErr answer ((u ≡ t) × (s ≡ r)) → IsRow row t u r s answer
-row-is {X} row t u r s answer held told keeps whole homes channels usable size kept = record { told = told; held = by answer told homes channels kept; size = size; kept = kept }
+    → OnOk answer (AreOf s.home u) → OnOk answer (row (state_in t r 0) ≡ Ok (state_in u s 0) → HasChannels u) → ((s.home ≡ r.home) × (s.size ≡ r.size) × (s.usable ≡ r.usable)) → OnErr answer ((u ≡ t) × (s ≡ r)) → IsRow row t u r s answer
+row-is {X} row t u r s answer held told keeps whole homes channels same kept = record { told = told; held = by answer told homes channels kept; same = same; kept = kept }
   where
     by : (answer : Result X Errno) → ((clock : ℕ) → answer_of (state_in u s clock) answer ≡ row (state_in t r clock)) → OnOk answer (AreOf s.home u) → OnOk answer (row (state_in t r 0) ≡ Ok (state_in u s 0) → HasChannels u) → OnErr answer ((u ≡ t) × (s ≡ r)) → IsPieceHeld u s
     by (Ok done) told homes channels kept = record {
       kept = λ clock. keeps (state_in t r clock) (state_in u s clock) (held.kept clock) (sym (told clock));
       homes = homes;
-      whole = whole (state_in t r 0) (state_in u s 0) (held.kept 0) (sym (told 0)) ∙ held.whole ∙ sym usable;
+      whole = whole (state_in t r 0) (state_in u s 0) (held.kept 0) (sym (told 0)) ∙ held.whole ∙ sym same.2;
       channels = channels (sym (told 0));
     }
     by (Err error) told homes channels kept = subst (λ (p : Tables × RegionState). IsPieceHeld p.0 p.1) (λ i. (sym kept.0 i, sym kept.1 i)) held
 
 -- where nothing changes
 pub row-stays : {X : Type 0} (row : FwState → Result FwState ℤ) (t : Tables) (r : RegionState) (answer : Result X Errno) → IsPieceHeld t r → ((clock : ℕ) → answer_of (state_in t r clock) answer ≡ row (state_in t r clock)) → IsRow row t t r r answer
-row-stays {X} row t r answer held told = record { told = told; held = held; size = refl; kept = by answer }
+row-stays {X} row t r answer held told = record { told = told; held = held; same = (refl, refl, refl); kept = by answer }
   where
     by : (answer : Result X Errno) → OnErr answer ((t ≡ t) × (r ≡ r))
     by (Ok done) = tt

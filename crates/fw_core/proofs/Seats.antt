@@ -9,7 +9,7 @@ use Rattle.fw_heap.specs.declared.run.Home.{Home}
 use Rattle.fw_components.specs.declared.component.Component.{Component}
 use Rattle.fw_components.specs.declared.component.Unit as units
 use Rattle.fw_components.specs.declared.component.Unit.TheVariants.{Host, Dai, Volume, Mixer, Mux, Eq, Buffer, Pipeline}
-use Rattle.fw_components.specs.Tables.{piece_of, piece_by, pieces_by, numbers_by}
+use Rattle.fw_components.specs.Tables.{piece_of, piece_by, pieces_by}
 use Rattle.fw_components.specs.Changes.{IsOfHome, joined_at, sunk_unit, sourced_unit, completed_at, completed_unit}
 use Rattle.fw_components.specs.Values.{valued_at, valued_unit}
 

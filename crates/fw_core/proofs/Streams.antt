@@ -1,26 +1,23 @@
 -- The rows of streams: their states are told by the calls themselves.
-use Rattle.std.proofs.Common.{◌≡◌, refl, sym, ap, ◌∙◌, subst, ℕ, Bool, true, false, cond, Result, Ok, Err, ℤ, arith}
-use Rattle.std.specs.Prelude.{◌≤◌, OnErr, OnOk, nat_le}
+use Rattle.std.proofs.Common.{◌≡◌, refl, ap, subst, ℕ, Bool, cond, Result, Ok, Err, ℤ}
+use Rattle.std.specs.Prelude.{OnErr, OnOk}
 use Rattle.sof_base.specs.declared.errno.Errno.{Errno}
 use Rattle.sof_base.specs.declared.format.Params.{Params}
-use Rattle.stream_law.specs.declared.stream.Phase.TheVariants.{Idle, Prepared, Running, Paused}
+use Rattle.stream_law.specs.declared.stream.Phase.TheVariants.{Prepared, Running, Paused}
 use Rattle.stream_law.specs.State.{FwState}
-use Rattle.stream_law.specs.Seen.{ring_seen}
-use Rattle.ipc3_codec.specs.Allowed.{is_channels}
 use Rattle.mbox_link.specs.Step.{is_moving, pcm_params, is_prepared, is_running, is_paused, no_device, invalid}
 use Rattle.row_laws.specs.Tiled.{heap_bytes}
-use Rattle.row_laws.specs.Kept.{IsKeptState}
 use Rattle.row_laws.specs.RowLaws.{RowIsKept}
-use Rattle.row_laws.proofs.RowKept.{pcm_params-kept, pcm_free-kept, trigger-kept, leaves-prepared, leaves-moving, leaves-running, leaves-paused}
+use Rattle.row_laws.proofs.RowKept.{pcm_free-kept, trigger-kept, leaves-prepared, leaves-moving, leaves-running, leaves-paused}
 use Rattle.fw_heap.specs.Regions.{RegionState}
-use Rattle.fw_components.specs.Tables.{Tables, view_by, rings_of}
+use Rattle.fw_components.specs.Tables.{Tables}
 use Rattle.fw_pipeline.specs.declared.phases.Trigger.{Trigger}
 use Rattle.fw_pipeline.specs.declared.phases.Trigger.TheVariants as what
-use Rattle.fw_pipeline.specs.States.{AreOf, with_tables, told_state}
+use Rattle.fw_pipeline.specs.Rows.{told_state}
 use Rattle.fw_pipeline.specs.Triggers.{triggered}
-use Rattle.fw_core.specs.Held.{state_in, IsPieceHeld}
-use Rattle.fw_core.specs.Answers.{answer_of, IsRow}
-use Rattle.fw_core.proofs.RowLaws.{row-is, pass}
+use Rattle.fw_core.specs.Held.{state_in}
+use Rattle.fw_core.specs.Answers.{answer_of}
+use Rattle.fw_core.proofs.RowLaws.{pass}
 
 -- ---- what they keep
 

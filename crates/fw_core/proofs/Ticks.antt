@@ -1,15 +1,14 @@
 -- A tick of a firmware that is on.
-use Rattle.std.proofs.Common.{◌≡◌, refl, sym, ap, ◌∙◌, subst, ℕ}
+use Rattle.std.proofs.Common.{sym, ap, ◌∙◌, subst, ℕ}
 use Rattle.sof_base.specs.Ports.{Io}
-use Rattle.stream_law.specs.State.{FwState, HeapView}
+use Rattle.stream_law.specs.State.{FwState}
 use Rattle.stream_law.specs.Move.{Move, next_clock}
-use Rattle.mbox_link.specs.Exchange.{ticked}
 use Rattle.row_laws.specs.Tiled.{heap_bytes}
 use Rattle.row_laws.specs.Kept.{IsKeptState}
 use Rattle.row_laws.proofs.TickKept.{tick-kept}
 use Rattle.fw_heap.specs.Regions.{RegionState}
 use Rattle.fw_components.specs.Tables.{Tables}
-use Rattle.fw_pipeline.specs.States.{AreOf}
+use Rattle.fw_components.specs.States.{AreOf}
 use Rattle.fw_schedule.specs.Ticks.{CanTick}
 use Rattle.fw_core.specs.Held.{state_in, IsPieceHeld}
 use Rattle.fw_core.proofs.Laid.{kept-clock}
@@ -19,8 +18,7 @@ can-tick t r held = record {
   wired = (held.kept 0).wired;
   linked = (held.kept 0).linked;
   played = (held.kept 0).played;
-  channels = held.channels.comps;
-  frames = held.channels.buffers;
+  channels = held.channels;
 }
 
 -- what is so between messages is so after a tick
@@ -29,5 +27,5 @@ tick-held t u r clock io after held moved can homes = record {
   kept = λ n. kept-clock (state_in u r (next_clock clock)) n (subst IsKeptState (sym moved.state) (tick-kept (state_in t r clock) io (held.kept clock)));
   homes = homes;
   whole = ap (λ (f : FwState). heap_bytes f.heap) moved.state ∙ held.whole;
-  channels = record { comps = can.channels; buffers = can.frames };
+  channels = can.channels;
 }

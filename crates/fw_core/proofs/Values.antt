@@ -1,15 +1,16 @@
 -- The rows of values.
 use Rattle.std.proofs.Common.{◌≡◌, refl, sym, ap, ◌∙◌, subst, ℕ, List, [], ◌∷◌, ◌++◌, map, length, Bool, true, false, cond, not, ◌&&◌, ◌||◌, ◌==◌, Option, Some, None, Result, Ok, Err, ℤ, negsuc, find, option_map, inl, inr, arith}
-use Rattle.std.specs.Prelude.{OnErr, OnOk, IfOk, is_some, nat_le, option_and_then}
+use Rattle.std.specs.Prelude.{OnErr, OnOk, is_some, nat_le, option_and_then}
 use Rattle.std.specs.List.{AllByRecursion, list_any, list_all}
 use Rattle.std.specs.Option.{option_map_or}
 use Rattle.std.proofs.lemmas.Bool.{eqb-true, and_parts}
 use Rattle.sof_base.specs.declared.errno.Errno.{Errno}
+use Rattle.sof_base.specs.declared.hole.Hole.{Hole}
 use Rattle.stream_law.specs.declared.graph.Comp.{Comp}
 use Rattle.stream_law.specs.declared.graph.Setting.{Setting}
 use Rattle.stream_law.specs.declared.graph.Setting.TheVariants.{Gains, Choice}
 use Rattle.stream_law.specs.declared.stream.StreamView.{StreamView}
-use Rattle.stream_law.specs.State.{FwState, View, Staging, view_of}
+use Rattle.stream_law.specs.State.{FwState, Staging, view_of}
 use Rattle.stream_law.specs.Ways.{comp_of}
 use Rattle.stream_law.proofs.Members.{IsIn, find-in}
 use Rattle.mbox_link.specs.Step as rows
@@ -19,14 +20,15 @@ use Rattle.fw_heap.specs.Regions.{RegionState}
 use Rattle.fw_components.specs.declared.component.Component.{Component}
 use Rattle.fw_components.specs.declared.component.Unit as units
 use Rattle.fw_components.specs.declared.component.Unit.TheVariants.{Host, Dai, Volume, Mixer, Mux, Eq, Buffer, Pipeline}
-use Rattle.fw_components.specs.Tables.{Tables, all_of, graph_of, view_by, comp_by, kind_by, setting_by, streams_by, streams_of, staging_by, staging_of, rings_of, histories_of, numbers_by, with_stream_by, with_staging_by}
+use Rattle.fw_components.specs.Tables.{Tables, all_of, graph_of, view_by, comp_by, kind_by, setting_by, streams_by, staging_by, numbers_by, with_stream_by, with_staging_by}
 use Rattle.fw_components.specs.Changes.{has_id, is_there}
-use Rattle.fw_components.specs.Values.{unit_values, values_or, unit_values_at, answer_told, takes_values, valued_unit, valued_at, valued, values_set, left_with}
+use Rattle.fw_components.specs.States.{state_over}
+use Rattle.fw_components.specs.Values.{unit_values, values_or, unit_values_at, takes_values, valued_unit, valued_at, valued, values_set, left_with}
 use Rattle.fw_walks.proofs.Naming.{used-named, find-map}
-use Rattle.fw_walks.proofs.OnWays.{any-map}
-use Rattle.fw_core.specs.Held.{state_in, HasChannels, IsPieceHeld}
+use Rattle.fw_schedule.specs.Ticks.{HasChannels}
+use Rattle.fw_core.specs.Held.{state_in, IsPieceHeld}
 use Rattle.fw_core.specs.Answers.{answer_of, IsRow}
-use Rattle.fw_core.proofs.RowLaws.{row-is, row-stays, on-ok}
+use Rattle.fw_core.proofs.RowLaws.{row-is, on-ok}
 use Rattle.fw_core.proofs.Seats.{seat, seats-pieces, seats-homes, seat-valued, map-kept, map-both, in-map}
 use Rattle.fw_core.proofs.Histories.{history, AreThere, one-key, there-all, histories-are}
 use Rattle.fw_core.proofs.Changed.{state-is, comps-distinct, same-comps}
@@ -84,16 +86,16 @@ pub record IsGot (f : FwState) (id command : ℕ) (o : Result (List ℕ) ℤ) : 
   pub done : (values : List ℕ) → o ≡ Ok values → (rows.get_value f id command ≡ Ok f) × (rows.control_values_at f.graph id command ≡ Some values)
   pub refused : (e : ℤ) → o ≡ Err e → rows.get_value f id command ≡ Err e
 
-pub got : (t : Tables) (r : RegionState) (clock id command : ℕ) → IsGot (state_in t r clock) id command (unit_values_at t id command)
-got t r clock id command = subst (λ (p : Bool × Option (List ℕ)). IsGot (state_in t r clock) id command (cond (not p.0) (Err (negsuc 18)) (values_or p.1))) (λ i. (sym (there-used t id) i, values-found t id command i)) (by (rows.is_used (graph_of t) id) refl (rows.control_values_at (graph_of t) id command) refl)
+pub got : (t : Tables) (holes : List Hole) (clock id command : ℕ) → IsGot (state_over t holes clock) id command (unit_values_at t id command)
+got t holes clock id command = subst (λ (p : Bool × Option (List ℕ)). IsGot (state_over t holes clock) id command (cond (not p.0) (Err (negsuc 18)) (values_or p.1))) (λ i. (sym (there-used t id) i, values-found t id command i)) (by (rows.is_used (graph_of t) id) refl (rows.control_values_at (graph_of t) id command) refl)
   where
     f : FwState
-    f = state_in t r clock
+    f = state_over t holes clock
 
     row_by : Bool → Option (List ℕ) → Result FwState ℤ
-    row_by used o = cond (not used) (Err rows.no_device) (cond (not (is_some o)) (Err rows.invalid) (Ok (state_in t r clock)))
+    row_by used o = cond (not used) (Err rows.no_device) (cond (not (is_some o)) (Err rows.invalid) (Ok (state_over t holes clock)))
 
-    by : (used : Bool) → rows.is_used (graph_of t) id ≡ used → (o : Option (List ℕ)) → rows.control_values_at (graph_of t) id command ≡ o → IsGot (state_in t r clock) id command (cond (not used) (Err (negsuc 18)) (values_or o))
+    by : (used : Bool) → rows.is_used (graph_of t) id ≡ used → (o : Option (List ℕ)) → rows.control_values_at (graph_of t) id command ≡ o → IsGot (state_over t holes clock) id command (cond (not used) (Err (negsuc 18)) (values_or o))
     by false is o at = record {
       done = λ values e. cc e;
       refused = λ e same. ap (λ h. row_by h (rows.control_values_at (graph_of t) id command)) is ∙ out e same;
@@ -352,4 +354,4 @@ module _ (t u : Tables) (r : RegionState) (id command : ℕ) (values : List ℕ)
   set-is answer is kept =
       row-is (λ f. rows.set_value f id command values) t u r r answer held
       (λ clock. told-set clock answer is) (set_value-kept id command values) (λ f g kept is. set-heap f g is)
-      (on-ok answer (set-tables answer is) (λ done. seats-homes r.home (all_of t) (all_of u) (ap (λ (x : Tables). map seat (all_of x)) done ∙ valued-seats) held.homes)) (on-ok answer (set-tables answer is) set-channels) refl refl (err-same t u r answer kept)
+      (on-ok answer (set-tables answer is) (λ done. seats-homes r.home (all_of t) (all_of u) (ap (λ (x : Tables). map seat (all_of x)) done ∙ valued-seats) held.homes)) (on-ok answer (set-tables answer is) set-channels) (refl, refl, refl) (err-same t u r answer kept)

@@ -1,16 +1,18 @@
 -- The firmware as a value, and what each call does to it.
 use Rattle.std.specs.Prelude.{◌≡◌, ℕ, List, [], Option, Some, None}
 use Rattle.stream_law.specs.State.{FwState}
+use Rattle.fw_heap.specs.declared.run.Home.{Home}
 use Rattle.mbox_link.specs.Step.{step, fresh}
 use Rattle.mbox_link.specs.Exchange.{ticked, more}
 use Rattle.mbox_link.specs.Calls.{World, Meaning}
 use Rattle.row_laws.specs.Tiled.{carved_bytes}
 
--- a firmware: off, or on with a state; how often it was booted; and the greatest heap in bytes
+-- a firmware: off, or on with a state; how often it was booted; the greatest heap in bytes; and the region of its heap
 pub record Chip : Type 0 where
   pub state : Option FwState
   pub boots : ℕ
   pub most : ℕ
+  pub home : Home
 
 -- how many bytes of its heap are carved, 0 where it is off
 abbrev pub used_of : Option FwState → ℕ
@@ -28,7 +30,7 @@ reply_to (Some f) request = Some (step f request).1
 
 -- the chip with another state
 abbrev pub with_state : Option FwState → Chip → Chip
-with_state state chip = record { state = state; boots = chip.boots; most = chip.most }
+with_state state chip = record chip { state = state }
 
 -- after a tick, which moves nothing where it is off
 abbrev pub after_tick : Option FwState → World Chip → World Chip
@@ -45,7 +47,7 @@ firmware =
       boots = λ chip. chip.boots;
       pending = λ chip. 0;
       most = λ chip. chip.most;
-      boot = λ heap w v. v ≡ record { state = Some (fresh heap); boots = more w.boots; most = w.most };
+      boot = λ heap w v. v ≡ record w { state = Some (fresh heap); boots = more w.boots };
       cut = λ w v. v ≡ with_state None w;
       exchange = λ request answer w v. (answer ≡ reply_to w.device.state request) × (v ≡ record { device = with_state (stepped w.device.state request) w.device; io = w.io });
       tick = λ w v. v ≡ after_tick w.device.state w;

@@ -16,6 +16,7 @@ chip_of f = record {
   state = if f.on then Some (state_in f.registry f.region f.clock) else None;
   boots = f.boots;
   most = f.region.size;
+  home = f.region.home;
 }
 
 -- Where it is on, what is so between messages. Where it is off, nothing is there, and all pieces are back. Where its schedule is

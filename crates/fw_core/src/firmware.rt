@@ -1,6 +1,6 @@
 // The firmware, its making and its end.
 ghost use Rattle.std.specs.Prelude.{◌≡◌, ◌&&◌, IfOk, None, Some, true, is_some};
-ghost use Rattle.fw_pipeline.specs.States.{with_tables};
+ghost use Rattle.fw_components.specs.States.{AreOf, with_tables};
 ghost use Rattle.stream_law.specs.State.{FwState};
 ghost use Rattle.fw_core.specs.Device.{used_of, stepped, reply_to, with_state};
 ghost use Rattle.fw_core.specs.Laid.{no_tables};
@@ -18,8 +18,8 @@ use std::alloc::Global;
 use std::marker::Model;
 
 /// A DSP that answers each message with the firmware's step: its registry, the region that its pieces are carved from, its clock
-/// in ticks, the schedule that its ticks go by, which is made anew after a message that may have changed it, and the room that
-/// frames of endpoints pass through. Its link never fails.
+/// in ticks, the schedule that its ticks go by, which is made anew after a message that may have changed it, and the room for bytes
+/// of inputs that do not lie in one piece. Its link never fails.
 pub struct Firmware {
     pub(crate) on: bool,
     pub(crate) boots: u64,
@@ -46,7 +46,7 @@ impl Firmware {
     /// A firmware that is off and was never booted, with a greatest heap of `room` bytes. All that it will ever need is
     /// reserved here.
     pub fn new(alloc: Global, room: u32) -> Result<Firmware, NoMemory>
-        ensures { IfOk result (λ f. f ≡ record { state = None; boots = 0; most = room }) }
+        ensures { IfOk result (λ f. (f.state ≡ None) × (f.boots ≡ 0) × (f.most ≡ room)) }
     {
         let region = Region::new(alloc, room)?;
         match Registry::new(alloc) {
@@ -77,10 +77,12 @@ impl Firmware {
         self.region.used()
     }
 
-    /// Its components, buffers and pipelines: those of its state where it is on, and none where it is off.
+    /// Its components, buffers and pipelines: those of its state where it is on, and none where it is off. Each piece that they hold,
+    /// with the rings and the histories in it, is of its region.
     pub fn registry(&self) -> &Registry
         ensures on { (f : FwState) → self.now.state ≡ Some f → with_tables result.now f ≡ f }
         ensures off { self.now.state ≡ None → result.now ≡ no_tables }
+        ensures homes { AreOf self.now.home result.now }
     {
         &self.registry
     }

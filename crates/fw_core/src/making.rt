@@ -23,7 +23,8 @@ const PIPE_BYTES: u32 = 64;
 
 const BUFFER_BYTES: u32 = 32;
 
-/// A component of these words, in the pipeline of this index. A host brings a stream without parameters.
+/// A component of these words, in the pipeline of this index. A host brings a stream without parameters. Refused with -16 where the id
+/// is used or the pipeline is complete, and -12 where there are 128 components or no hole holds its size.
 pub(crate) fn comp_new(
     registry: &mut Registry,
     region: &mut Region,
@@ -42,7 +43,7 @@ pub(crate) fn comp_new(
     if registry.comps().len() >= 128 {
         return Err(Errno::NO_MEMORY);
     }
-    let Ok(piece) = region.carve(bytes_of(words, frame_fmt)) else {
+    let Ok(piece) = region.carve(bytes_of(words)) else {
         return Err(Errno::NO_MEMORY);
     };
     add(
@@ -58,7 +59,7 @@ pub(crate) fn comp_new(
 }
 
 /// A buffer of so many bytes, in the pipeline of this index, joined to nothing. Its ring lies behind the first 32 bytes of its
-/// piece.
+/// piece. Refused with -16 where the id is used or the pipeline is complete, and -12 where there are 128 buffers or no hole holds it.
 pub(crate) fn buffer_new(
     registry: &mut Registry,
     region: &mut Region,
@@ -96,7 +97,8 @@ pub(crate) fn buffer_new(
     Ok(())
 }
 
-/// A pipeline of this index that is not complete.
+/// A pipeline of this index that is not complete. Refused with -16 where the id is used or a pipeline has the index, and -12 where there
+/// are 32 pipelines or no hole holds it.
 pub(crate) fn pipe_new(
     registry: &mut Registry,
     region: &mut Region,

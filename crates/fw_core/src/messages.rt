@@ -4,7 +4,7 @@ ghost use Rattle.ipc3_codec.specs.Messages.{decoded, IsAllowed};
 ghost use Rattle.mbox_link.specs.Step.{row, row_of, body, body_of};
 ghost use Rattle.row_laws.specs.RowLaws.{HasBytes};
 ghost use Rattle.fw_core.specs.Held.{IsPieceHeld, state_in};
-ghost use Rattle.fw_core.specs.Answers.{IsRow};
+ghost use Rattle.fw_core.specs.Answers.{IsRow, bare_answer};
 
 use crate::controls::{get_part, get_value, set_part, set_value};
 use crate::making::{buffer_new, comp_new, pipe_new};
@@ -39,23 +39,6 @@ fn handle(registry: &mut Registry, region: &mut Region, message: &Message) -> Re
     ensures row { IsRow (λ f. row f message.now) registry.old registry.new region.old region.new result }
     ensures body { IfOk result (λ said. (clock : ℕ) → said ≡ body (state_in registry.old region.old clock) message.now) }
 {
-    if let Message::GetValue { id, command } = *message {
-        return get_value(registry, region, id, command);
-    }
-    if let Message::GetData { id, index } = *message {
-        return get_part(registry, region, id, index);
-    }
-    act(registry, region, message)?;
-    Ok(Body::Nothing)
-}
-
-// Does what a message says, or tells why not.
-fn act(registry: &mut Registry, region: &mut Region, message: &Message) -> Result<(), Errno>
-    requires allowed { IsAllowed message.now }
-    requires bytes { HasBytes message.now }
-    requires held { IsPieceHeld registry.old region.old }
-    ensures { IsRow (λ f. row f message.now) registry.old registry.new region.old region.new result }
-{
     match message {
         Message::CompNew {
             id,
@@ -63,46 +46,48 @@ fn act(registry: &mut Registry, region: &mut Region, message: &Message) -> Resul
             frame_fmt,
             kind,
             ..
-        } => comp_new(registry, region, *id, *pipe, *kind, *frame_fmt),
-        Message::CompFree { id } => free_row(registry, region, *id, Item::Component),
+        } => bare(comp_new(registry, region, *id, *pipe, *kind, *frame_fmt)),
         Message::BufferNew { id, pipe, size, .. } => {
-            buffer_new(registry, region, *id, *pipe, *size)
+            bare(buffer_new(registry, region, *id, *pipe, *size))
         }
-        Message::BufferFree { id } => free_row(registry, region, *id, Item::Buffer),
         Message::PipeNew {
             id,
             pipe,
             sched,
             period,
             ..
-        } => pipe_new(registry, region, *id, *pipe, *sched, *period),
-        Message::PipeFree { id } => free_row(registry, region, *id, Item::Pipeline),
-        Message::Connect { source, sink } => connect(registry, region, *source, *sink),
-        Message::PipeComplete { id } => pipe_complete(registry, region, *id),
+        } => bare(pipe_new(registry, region, *id, *pipe, *sched, *period)),
+        Message::Connect { source, sink } => bare(connect(registry, *source, *sink)),
+        Message::PipeComplete { id } => bare(pipe_complete(registry, *id)),
+        Message::CompFree { id } => bare(free_row(registry, region, *id, Item::Component)),
+        Message::BufferFree { id } => bare(free_row(registry, region, *id, Item::Buffer)),
+        Message::PipeFree { id } => bare(free_row(registry, region, *id, Item::Pipeline)),
         Message::SetValue {
             id,
             command,
             values,
-        } => set_value(registry, region, *id, *command, values),
-        Message::GetValue { id, command } => match get_value(registry, region, *id, *command) {
-            Ok(_) => Ok(()),
-            Err(error) => Err(error),
-        },
-        Message::SetData { id, part } => set_part(registry, region, *id, part),
-        Message::GetData { id, index } => match get_part(registry, region, *id, *index) {
-            Ok(_) => Ok(()),
-            Err(error) => Err(error),
-        },
+        } => bare(set_value(registry, *id, *command, values)),
+        Message::GetValue { id, command } => get_value(registry, *id, *command),
+        Message::SetData { id, part } => bare(set_part(registry, *id, part)),
+        Message::GetData { id, index } => get_part(registry, *id, *index),
         Message::PcmParams {
             host,
             direction,
             params,
-        } => pcm_params(registry, region, *host, *direction, *params),
-        Message::PcmFree { id } => trigger_row(registry, region, *id, Trigger::Free),
-        Message::TrigStart { id } => trigger_row(registry, region, *id, Trigger::Start),
-        Message::TrigStop { id } => trigger_row(registry, region, *id, Trigger::Stop),
-        Message::TrigPause { id } => trigger_row(registry, region, *id, Trigger::Pause),
-        Message::TrigRelease { id } => trigger_row(registry, region, *id, Trigger::Release),
-        Message::CtxSave => Ok(()),
+        } => bare(pcm_params(registry, *host, *direction, *params)),
+        Message::PcmFree { id } => bare(trigger_row(registry, *id, Trigger::Free)),
+        Message::TrigStart { id } => bare(trigger_row(registry, *id, Trigger::Start)),
+        Message::TrigStop { id } => bare(trigger_row(registry, *id, Trigger::Stop)),
+        Message::TrigPause { id } => bare(trigger_row(registry, *id, Trigger::Pause)),
+        Message::TrigRelease { id } => bare(trigger_row(registry, *id, Trigger::Release)),
+        Message::CtxSave => Ok(Body::Nothing),
     }
+}
+
+// The answer to a message that tells nothing.
+fn bare(answer: Result<(), Errno>) -> Result<Body, Errno>
+    ensures { result ≡ bare_answer answer }
+{
+    answer?;
+    Ok(Body::Nothing)
 }

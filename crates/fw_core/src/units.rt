@@ -1,5 +1,5 @@
 // What a new component is, by the words of its message, and how many bytes it takes.
-ghost use Rattle.std.specs.Prelude.{◌≡◌, ◌≤◌, ◌<◌, replicate, false};
+ghost use Rattle.std.specs.Prelude.{ℕ, ◌≡◌, ◌≤◌, ◌<◌, replicate, false};
 ghost use Rattle.sof_base.specs.Holes.{rounded};
 ghost use Rattle.mbox_link.specs.Step.{comp_bytes, sample_format, kind_of as named_kind, first_setting as named_setting};
 ghost use Rattle.ipc3_codec.specs.Messages.{IsKind};
@@ -75,9 +75,9 @@ fn frame_format(number: u32) -> Format
     }
 }
 
-/// The stated size of a component, in bytes.
-pub(crate) fn bytes_of(words: CompWords, _frame_fmt: u32) -> u32
-    ensures size { result ≡ comp_bytes (named_kind words _frame_fmt) }
+/// The stated size of a component, in bytes, whatever its frame format.
+pub(crate) fn bytes_of(words: CompWords) -> u32
+    ensures size { (frame_fmt : ℕ) → result ≡ comp_bytes (named_kind words frame_fmt) }
     ensures some { 0 < result }
 {
     match words {

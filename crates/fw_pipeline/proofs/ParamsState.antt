@@ -23,7 +23,7 @@ use Rattle.fw_walks.specs.declared.streams.Sort.TheVariants as sorts
 use Rattle.fw_walks.specs.Streams.{is_of, any_stream}
 use Rattle.fw_walks.proofs.OnWays.{any-map, any-each, any-streams}
 use Rattle.fw_pipeline.specs.Preparing.{is_moving_at}
-use Rattle.fw_pipeline.specs.States.{with_tables}
+use Rattle.fw_components.specs.States.{with_tables}
 use Rattle.fw_pipeline.proofs.Faces.{face, faces-set, faces-all, staging-same, pieces-same}
 use Rattle.fw_pipeline.proofs.TriggerDoes.{set_tables}
 use Rattle.fw_pipeline.proofs.StateAfter.{histories-each, history-own, set-numbers, set-id}

@@ -26,7 +26,7 @@ use Rattle.fw_walks.proofs.Naming.{find-map}
 use Rattle.fw_components.proofs.HostWays.{find-own}
 use Rattle.fw_pipeline.specs.declared.phases.Trigger.{Trigger}
 use Rattle.fw_heap.specs.declared.run.Home.{Home}
-use Rattle.fw_pipeline.specs.States.{AreOf, with_tables}
+use Rattle.fw_components.specs.States.{AreOf, with_tables}
 use Rattle.fw_pipeline.specs.Triggers.{phase_after, params_after, params_of, begins, begun_in, settled_in, IsBegun, BecomeEach, IsTriggered}
 use Rattle.fw_pipeline.proofs.Begins.{become-read}
 use Rattle.fw_pipeline.proofs.Faces.{Face, face, face-begun, face-set, faces-set, staging-same, pieces-same, faces-all, homes-same}

@@ -16,7 +16,7 @@ use Rattle.fw_components.specs.Kept.{IsKept}
 use Rattle.fw_places.specs.Walks.{is_marked}
 use Rattle.fw_pipeline.specs.declared.phases.Trigger.{Trigger}
 use Rattle.fw_pipeline.specs.Rows.{view_after, with_view}
-use Rattle.fw_pipeline.specs.States.{AreOf, with_tables}
+use Rattle.fw_components.specs.States.{AreOf, with_tables}
 use Rattle.fw_pipeline.specs.Settling.{begins_by}
 use Rattle.fw_pipeline.specs.Triggers.{triggered, leaves, phase_after, params_after, params_of, settled_in, begins, IsBegun, BecomeEach, IsTriggered}
 use Rattle.fw_pipeline.proofs.TriggerRows.{changed_by, trigger-done, streams-ascend, streams-changed}

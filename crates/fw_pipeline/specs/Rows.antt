@@ -6,7 +6,8 @@ use Rattle.stream_law.specs.declared.graph.Graph.{Graph}
 use Rattle.stream_law.specs.State.{FwState, View, view_of}
 use Rattle.stream_law.specs.Ways.{is_capture}
 use Rattle.fw_components.specs.declared.component.Component as parts
-use Rattle.fw_components.specs.Tables.{kind_by}
+use Rattle.fw_components.specs.Tables.{Tables, kind_by}
+use Rattle.fw_components.specs.States.{with_tables}
 use Rattle.mbox_link.specs.Step.{comp_free, buffer_free, pipe_free}
 use Rattle.fw_pipeline.specs.declared.freeing.Item.{Item}
 use Rattle.fw_pipeline.specs.declared.freeing.Item.TheVariants as items
@@ -27,6 +28,11 @@ view_after (Err e) = Err e
 abbrev pub view_answer : {X : Type 0} → View → Result X Errno → Result View ℤ
 view_answer v (Ok done) = Ok v
 view_answer v (Err error) = Err error.0
+
+-- the state that a call left in tables where it was done, or its negative error
+abbrev pub told_state : {X : Type 0} → Tables → FwState → Result X Errno → Result FwState ℤ
+told_state t f (Ok done) = Ok (with_tables t f)
+told_state t f (Err error) = Err error.0
 
 -- ---- pipelines
 

@@ -12,8 +12,8 @@ ghost use Rattle.fw_components.specs.Kept.{IsKept};
 ghost use Rattle.fw_components.specs.Tables.{ids_of};
 ghost use Rattle.fw_walks.specs.Charts.{IsChartOf};
 ghost use Rattle.fw_places.specs.Walks.{is_listed, is_marked};
-ghost use Rattle.fw_pipeline.specs.Rows.{view_answer, view_after, with_view};
-ghost use Rattle.fw_pipeline.specs.States.{with_tables, told_state};
+ghost use Rattle.fw_pipeline.specs.Rows.{view_answer, view_after, with_view, told_state};
+ghost use Rattle.fw_components.specs.States.{with_tables};
 ghost use Rattle.fw_pipeline.specs.Preparing.{is_moving_at, is_refused, shape_by, suits};
 
 use crate::freeing::is_complete;

@@ -6,8 +6,8 @@ ghost use Rattle.stream_law.specs.State.{FwState};
 ghost use Rattle.mbox_link.specs.Step.{has_kind, is_stream_phase, is_host as is_end_of_stream, kind_at as named_kind};
 ghost use Rattle.fw_components.specs.Tables.{view_by, graph_of, streams_of, rings_of};
 ghost use Rattle.fw_components.specs.Kept.{IsKept};
-ghost use Rattle.fw_pipeline.specs.Rows.{view_answer, view_after, with_view};
-ghost use Rattle.fw_pipeline.specs.States.{AreOf, with_tables, told_state};
+ghost use Rattle.fw_pipeline.specs.Rows.{view_answer, view_after, with_view, told_state};
+ghost use Rattle.fw_components.specs.States.{AreOf, with_tables};
 ghost use Rattle.fw_heap.specs.declared.run.Home.{Home};
 ghost use Rattle.fw_pipeline.specs.Triggers.{triggered, leaves as is_left, params_of, left_by, IsTriggered};
 

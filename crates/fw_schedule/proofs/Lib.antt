@@ -6,7 +6,7 @@ mod DistinctEdges
 mod MetStreams
 mod TurnsSeen
 mod KeptEnds
-mod Running
+pub mod Running
 mod ShownEnds
 mod NoFrames
 mod NextFrames
@@ -16,7 +16,7 @@ mod Still
 mod Stages
 mod Along
 mod Fed
-mod Growing
+pub mod Growing
 mod Drained
 mod Least
 mod Processed
@@ -24,7 +24,7 @@ mod AtPlaces
 mod InletRooms
 mod StepLaws
 mod Looking
-mod InOrder
+pub mod InOrder
 mod Rising
 mod InTurn
 pub mod ScheduleLaws

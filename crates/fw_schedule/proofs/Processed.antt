@@ -267,7 +267,7 @@ module _ (t : Tables) (kept : IsKept t) (can : CanTick t) (id : ℕ) (there : Is
   wide =
       let same = eqb-true own.0.id id own-in.1 in
       ap (λ (o : Option Component). option_map_or (λ c. c.channels) o 0) own.1
-      ∙ in-all (λ (c : Component). live v c.id ≡ true → c.channels ≡ channels_of v c.id) t.comps own.0 can.channels own-in.0 (ap (live v) same ∙ active-live v can.wired can.linked can.played id now)
+      ∙ in-all (λ (c : Component). live v c.id ≡ true → c.channels ≡ channels_of v c.id) t.comps own.0 can.channels.comps own-in.0 (ap (live v) same ∙ active-live v can.wired can.linked can.played id now)
       ∙ ap (channels_of v) same
 
   -- what is looked at can be taken from, and what is fed has room

@@ -23,7 +23,7 @@ use Rattle.fw_components.specs.Changes.{has_id, IsOfHome}
 use Rattle.fw_components.specs.Kept.{IsKept, IsBuffering}
 use Rattle.fw_components.specs.Frames.{channels_by, taken_unit, taken_at, with_taken, pushed_unit, pushed_at, pushed, with_frames}
 use Rattle.fw_components.specs.Processed.{drained_at, run_unit, run_at, processed}
-use Rattle.fw_pipeline.specs.States.{AreOf}
+use Rattle.fw_components.specs.States.{AreOf}
 use Rattle.fw_schedule.specs.Ticks.{CanTick}
 use Rattle.fw_schedule.specs.Stages.{bare_unit, bare_by, bare_of, heard_ring}
 use Rattle.fw_schedule.proofs.OneBuffer.{taken-frames}
@@ -241,14 +241,13 @@ CanBy v t = AreWide v t.comps × AreFramed v t.buffers
 pub can-still : (t u : Tables) → bare_of t ≡ bare_of u → CanTick t → CanTick u
 can-still t u same can =
     let view = view-still t u same in
-    let bare : CanBy (view_by t) (bare_of t) = (wide-in (view_by t) t.comps can.channels, framed-in (view_by t) t.buffers can.frames) in
+    let bare : CanBy (view_by t) (bare_of t) = (wide-in (view_by t) t.comps can.channels.comps, framed-in (view_by t) t.buffers can.channels.buffers) in
     let moved : CanBy (view_by u) (bare_of u) = subst (λ (p : View × Tables). CanBy p.0 p.1) (λ i. (view i, same i)) bare in
     record {
       wired = subst (λ (v : View). IsWired v.graph) view can.wired;
       linked = subst (λ (v : View). HasJoinedSides v.graph) view can.linked;
       played = subst AreStreamsPlayable view can.played;
-      channels = wide-out (view_by u) u.comps moved.0;
-      frames = framed-out (view_by u) u.buffers moved.1;
+      channels = record { comps = wide-out (view_by u) u.comps moved.0; buffers = framed-out (view_by u) u.buffers moved.1 };
     }
 
 -- ---- rings

@@ -32,6 +32,7 @@ impl Schedule {
         let spots = Spots::of(registry);
         let order = order(registry);
         let places = order.as_slice();
+        // For the proof alone, which takes from it what a registry keeps.
         let _buffers = registry.buffers();
         let mut steps: ArrayVec<Step, 128> = ArrayVec::new();
         let mut inlets: ArrayVec<u32, 128> = ArrayVec::new();

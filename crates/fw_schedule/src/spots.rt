@@ -71,6 +71,7 @@ fn meet_host(spots: &mut [Spot], places: &Places, host: &Component)
         slice_index_or spots.new (place_in places.now.ids x) bare_spot
         ≡ spot_met host.now.unit (leads_by (is_capture (kind_by host.now.unit)) places.now.joins host.now.id x) (slice_index_or spots.old (place_in places.now.ids x) bare_spot) }
 {
+    // For the proof alone: there are at most 256 ids.
     let _ids = places.ids();
     if has_stream(&host.unit, Sort::Live) {
         let stream = stream_in(&host.unit);

@@ -16,7 +16,7 @@ ghost use Rattle.fw_heap.specs.declared.run.Home.{Home};
 ghost use Rattle.fw_components.specs.Tables.{graph_of, view_by, held_frames, capacity_at};
 ghost use Rattle.fw_components.specs.Changes.{has_id};
 ghost use Rattle.fw_components.specs.Frames.{words_at, channels_at, with_taken, pushed};
-ghost use Rattle.fw_pipeline.specs.States.{with_tables, AreOf};
+ghost use Rattle.fw_components.specs.States.{with_tables, AreOf};
 ghost use Rattle.fw_schedule.specs.Ticks.{CanTick, io_of};
 ghost use Rattle.fw_schedule.specs.Schedules.{IsScheduleOf, IsStepOf};
 ghost use Rattle.fw_schedule.specs.Outputs.{is_output_kind, least_by};
@@ -64,6 +64,7 @@ pub fn tick_by(
     ensures region { (home : Home) → AreOf home registry.old → AreOf home registry.new }
     ensures room { (n : ℕ) → HasRoom (n + 61440) out.old → HasRoom n out.new }
 {
+    // For the proof alone, which takes from these what a registry, inputs and outputs keep.
     let _comps = registry.comps();
     let _inputs = io.len();
     let _outputs = out.len();
@@ -131,6 +132,7 @@ fn feed(registry: &mut Registry, io: &mut Inputs, scratch: &mut Scratch, step: &
     ensures bare { bare_of registry.new ≡ bare_of registry.old }
     ensures moved { (clock : ℕ) (outputs : List OutputView) → runs (view_by registry.old) clock step.now.id ≡ true → Moves clock step.now.id registry.old io.old outputs registry.new io.new outputs }
 {
+    // For the proof alone, which takes from it what a registry keeps.
     let _comps = registry.comps();
     if let Some(buffer) = step.fed {
         feed_into(registry, io, scratch, step, buffer);
@@ -168,6 +170,7 @@ fn drain(registry: &mut Registry, out: &mut Outputs, step: &Step, inlets: &[u32]
     ensures grew { Grew (step.now.id ∷ []) out.old out.new }
     ensures moved { (clock : ℕ) (inputs : List InputView) → runs (view_by registry.old) clock step.now.id ≡ true → Moves clock step.now.id registry.old inputs out.old registry.new inputs out.new }
 {
+    // For the proof alone, which takes from it what a registry keeps.
     let _comps = registry.comps();
     if let Some(buffer) = step.inlets(inlets).first() {
         drain_from(registry, out, step, *buffer);
@@ -204,6 +207,7 @@ fn process(registry: &mut Registry, step: &Step, inlets: &[u32])
     ensures bare { bare_of registry.new ≡ bare_of registry.old }
     ensures moved { (clock : ℕ) (inputs : List InputView) (outputs : List OutputView) → runs (view_by registry.old) clock step.now.id ≡ true → Moves clock step.now.id registry.old inputs outputs registry.new inputs outputs }
 {
+    // For the proof alone, which takes from it what a registry keeps.
     let _comps = registry.comps();
     let Some(buffer) = step.fed else {
         return;
@@ -230,6 +234,7 @@ fn pass(registry: &mut Registry, id: u32, most: u32, looked: &[u32], buffer: u32
 {
     moves_are_seen();
     moves_are_ticks();
+    // For the proof alone, which takes from it what a registry keeps.
     let _comps = registry.comps();
     if looked.is_empty() {
         return;

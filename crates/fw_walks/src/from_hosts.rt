@@ -31,6 +31,7 @@ pub fn mark_hosts(comps: &[Component], places: &Places, sort: Sort, capture: boo
     ensures hosts { (x : ℕ) → is_listed places.now.ids x ≡ true → is_marked places.now.ids result x ≡ list_any (λ c. c.id == x && is_host_of sort capture c) comps.now }
     ensures past { slice_index_or result (length places.now.ids) false ≡ false }
 {
+    // For the proof alone: there are at most 256 ids.
     let _ids = places.ids();
     let mut marks = [false; 257];
     for comp in comps {

@@ -1,4 +1,4 @@
-use Rattle.std.proofs.Common.{◌∙◌, sym, ap, Ok, Err}
+use Rattle.std.proofs.Common.{sym, ap, [], Ok, Err}
 use Rattle.std.specs.Prelude.{Option}
 use Rattle.sof_base.specs.declared.part.Part.{Part}
 use Rattle.ipc3_codec.specs.declared.reply.Body.TheVariants as bodies
@@ -8,13 +8,13 @@ use Rattle.fw_core.proofs.Parts.{part-got}
 use Rattle.fw_core.proofs.controls.get_part.Goals as goal
 
 pub returns-in-Ok-clause-row : goal.returns-in-Ok-clause-row
-returns-in-Ok-clause-row c =
-    row-stays (λ f. get_data f c.args.id c.args.index) c.args.registry.now c.args._region.now (Ok (bodies.Part c.in-Ok.part)) c.requires (λ clock. sym ((part-got c.args.registry.now c.args._region.now clock c.args.id c.args.index).done c.in-Ok.part (sym c.in-Ok.ensures)).0)
+returns-in-Ok-clause-row c = λ r held.
+    row-stays (λ f. get_data f c.args.id c.args.index) c.args.registry.now r (Ok (bodies.Part c.in-Ok.part)) held (λ clock. sym ((part-got c.args.registry.now r.holes clock c.args.id c.args.index).done c.in-Ok.part (sym c.in-Ok.ensures)).0)
 
 pub returns-in-Ok-clause-body : goal.returns-in-Ok-clause-body
 returns-in-Ok-clause-body c =
-    ap (λ (o : Option Part). part_body o) (sym ((part-got c.args.registry.now c.args._region.now 0 c.args.id c.args.index).done c.in-Ok.part (sym c.in-Ok.ensures)).1)
+    ap (λ (o : Option Part). part_body o) (sym ((part-got c.args.registry.now [] 0 c.args.id c.args.index).done c.in-Ok.part (sym c.in-Ok.ensures)).1)
 
 pub returns-in-Err-clause-row : goal.returns-in-Err-clause-row
-returns-in-Err-clause-row c =
-    row-stays (λ f. get_data f c.args.id c.args.index) c.args.registry.now c.args._region.now (Err c.in-Err.error) c.requires (λ clock. sym ((part-got c.args.registry.now c.args._region.now clock c.args.id c.args.index).refused c.in-Err.error.0 (sym c.in-Err.ensures)))
+returns-in-Err-clause-row c = λ r held.
+    row-stays (λ f. get_data f c.args.id c.args.index) c.args.registry.now r (Err c.in-Err.error) held (λ clock. sym ((part-got c.args.registry.now r.holes clock c.args.id c.args.index).refused c.in-Err.error.0 (sym c.in-Err.ensures)))

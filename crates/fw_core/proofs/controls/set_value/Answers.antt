@@ -4,4 +4,4 @@ use Rattle.fw_core.proofs.Values.{set-is}
 use Rattle.fw_core.proofs.controls.set_value.Goals as goal
 
 pub returns : goal.returns
-returns c = set-is c.args.registry.now c.set_values.new.self c.args._region.now c.args.id c.args.command c.args.values.now c.requires c.set_values.result (c.set_values.ensures.answer ∙ ap (λ (xs : List ℕ). values_set c.args.registry.now c.args.id c.args.command xs) c.items.ensures.value) c.set_values.ensures.kept
+returns c = λ r held. set-is c.args.registry.now c.set_values.new.self r c.args.id c.args.command c.args.values.now held c.set_values.result (c.set_values.ensures.answer ∙ ap (λ (xs : List ℕ). values_set c.args.registry.now c.args.id c.args.command xs) c.items.ensures.value) c.set_values.ensures.kept

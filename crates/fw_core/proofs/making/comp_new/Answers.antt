@@ -1,13 +1,9 @@
-use Rattle.std.proofs.Common.{◌≡◌, refl, sym, ap, ◌∙◌, subst, false, length, List, Ok}
-use Rattle.std.specs.Prelude.{nat_le}
-use Rattle.sof_base.specs.Holes.{rounded}
-use Rattle.stream_law.specs.declared.graph.Comp.{Comp}
+use Rattle.std.proofs.Common.{refl, sym, ap, ◌∙◌, subst, Ok}
 use Rattle.stream_law.specs.declared.graph.Kind.{Kind}
 use Rattle.stream_law.specs.declared.graph.Setting.{Setting}
-use Rattle.mbox_link.specs.Step.{comp_new, comp_bytes, kind_of, first_setting}
+use Rattle.mbox_link.specs.Step.{comp_new, comp_bytes}
 use Rattle.row_laws.specs.Kept.{IsSettingOf}
 use Rattle.row_laws.proofs.Fitting.{first-fits}
-use Rattle.fw_heap.specs.Regions.{carves}
 use Rattle.fw_components.specs.declared.component.Component.{Component}
 use Rattle.fw_components.specs.Tables.{comp_by, kind_by, setting_by}
 use Rattle.fw_core.specs.Answers.{IsRow}
@@ -24,7 +20,7 @@ returns c =
     let x : Component = record { id = c.args.id; pipe = c.args.pipe; channels = 1; unit = c.unit_of.result } in
     let own = c.in-Ok.ensures {u = tt} in
     let made = c.unit_of.ensures in
-    let bytes = c.bytes_of.ensures.size in
+    let bytes = c.bytes_of.ensures.size c.args.frame_fmt in
     let so : IsCarved c.bytes_of.result r s x = record {
       home = made.piece.home ∙ own.piece.0;
       place = made.piece.place ∙ own.piece.2;

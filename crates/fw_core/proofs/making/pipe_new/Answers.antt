@@ -1,5 +1,4 @@
-use Rattle.std.proofs.Common.{◌≡◌, refl, sym, ap, ◌∙◌, false, not, ◌==◌, ◌&&◌, List}
-use Rattle.std.specs.List.{list_any}
+use Rattle.std.proofs.Common.{◌≡◌, refl, sym, ap, ◌∙◌, false, not, ◌==◌}
 use Rattle.stream_law.specs.declared.graph.Pipe.{Pipe}
 use Rattle.mbox_link.specs.Step.{pipe_bytes, has_index}
 use Rattle.fw_components.specs.Tables.{graph_of, pipe_by}

@@ -7,7 +7,7 @@ use Rattle.mbox_link.specs.Step.{set_stream}
 use Rattle.fw_components.specs.Tables.{Tables, view_by, graph_of, streams_of, edge_by, pipe_by}
 use Rattle.fw_pipeline.specs.Preparing.{is_moving_at}
 use Rattle.fw_pipeline.specs.Rows.{view_after, with_view}
-use Rattle.fw_pipeline.specs.States.{with_tables}
+use Rattle.fw_components.specs.States.{with_tables}
 use Rattle.stream_law.specs.declared.stream.Phase.TheVariants.{Prepared}
 use Rattle.fw_pipeline.proofs.ParamsRow.{params-refused, params-done, moving-is, host-there, goes-passes, rate-passes, rest-passes}
 use Rattle.fw_pipeline.proofs.ParamsState.{state-prepared}

@@ -10,7 +10,7 @@ use Rattle.stream_law.specs.declared.graph.Kind.TheVariants.{HostPlay}
 use Rattle.stream_law.specs.Order.{order}
 use Rattle.stream_law.specs.Move.{after_moves, blob_of, next_clock, audio_after}
 use Rattle.fw_components.specs.Tables.{graph_of, view_by}
-use Rattle.fw_pipeline.specs.States.{with_tables}
+use Rattle.fw_components.specs.States.{with_tables}
 use Rattle.fw_places.proofs.Marking.{all-at}
 use Rattle.fw_schedule.specs.declared.steps.Step.{Step}
 use Rattle.fw_schedule.specs.Schedules.{IsStepOf}

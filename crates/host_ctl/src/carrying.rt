@@ -7,7 +7,7 @@ ghost use Rattle.tplg_plan.specs.Sound.{IsSound};
 ghost use Rattle.sof_base.specs.BlobFaults.{is_blob};
 ghost use Rattle.ipc3_codec.specs.declared.reply.Body.TheVariants as bodies;
 ghost use Rattle.host_widgets.specs.declared.answers.Answer.TheVariants as answers;
-ghost use Rattle.host_widgets.specs.Host.{Agrees, IsRecordOf};
+ghost use Rattle.host_widgets.specs.Host.{Agrees};
 ghost use Rattle.host_widgets.specs.HostActs.{Put};
 ghost use Rattle.host_widgets.specs.HostActs as acts;
 ghost use Rattle.host_widgets.specs.Orders.{Carried};
@@ -147,7 +147,6 @@ fn is_lost(passed: &Result<(), HostFault>) -> bool
 // Sends a blob to an equaliser in its parts. A failed link cuts the device and takes the record down.
 fn pass_parts<P: Dsp>(side: &mut Side<'_, P>, comp: u32, blob: &[u8]) -> Result<(), HostFault>
     requires blob { is_blob blob.now ≡ true }
-    requires kept { IsRecordOf side.old.plan.now side.old.kept.now }
     requires on { is_some (P.means.on side.old.dsp.now) ≡ true }
     requires room { HasRoom (61440 * P.means.pending side.old.dsp.now) side.old.out.now }
     ensures passes { PartsPass P.means side.old.plan.now side.old.heap comp blob.now side.old.kept.now side.new.kept.now

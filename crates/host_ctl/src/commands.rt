@@ -4,7 +4,7 @@
 // that send may answer `Refused(e)`: the message was answered with the negative error e, and the record stays; and `LinkDown`:
 // the exchange failed, so the device is cut, the record says that the power is off, and streams that ran or were paused are
 // prepared.
-ghost use Rattle.std.specs.Prelude.{◌≡◌, ◌≤◌, ◌<◌, ◌^◌, ◌*◌, IfOk, length};
+ghost use Rattle.std.specs.Prelude.{◌≡◌, ◌<◌, ◌^◌, ◌*◌, IfOk, length};
 ghost use Rattle.sof_base.specs.Ports.{HasRoom};
 ghost use Rattle.mbox_link.specs.Calls.{world};
 ghost use Rattle.tplg_plan.specs.Sound.{IsSound};
@@ -39,7 +39,6 @@ pub fn set<P: Dsp>(
 ) -> Result<(), HostFault>
     requires plan { IsSound plan.now }
     requires agree { Agrees P.means plan.now kept.old dsp.old }
-    requires heap { heap ≤ P.means.most dsp.old }
     requires room { HasRoom (61440 * P.means.pending dsp.old) out.old }
     requires few { length values.now < 2 ^ 32 }
     ensures asked { Tested P.means plan.now heap (set_fault plan.now kept.old name.now values.now) (set_order plan.now kept.old name.now values.now) kept.old kept.new
@@ -80,7 +79,6 @@ pub fn set_bytes<P: Dsp>(
 ) -> Result<(), HostFault>
     requires plan { IsSound plan.now }
     requires agree { Agrees P.means plan.now kept.old dsp.old }
-    requires heap { heap ≤ P.means.most dsp.old }
     requires room { HasRoom (61440 * P.means.pending dsp.old) out.old }
     requires few { length blob.now < 2 ^ 32 }
     ensures asked { Tested P.means plan.now heap (bytes_fault plan.now kept.old name.now blob.now) (bytes_order plan.now kept.old name.now blob.now) kept.old kept.new
@@ -149,7 +147,6 @@ pub fn read<P: Dsp>(
 ) -> Result<Answer, HostFault>
     requires plan { IsSound plan.now }
     requires agree { Agrees P.means plan.now kept.old dsp.old }
-    requires heap { heap ≤ P.means.most dsp.old }
     requires room { HasRoom (61440 * P.means.pending dsp.old) out.old }
     ensures asked { Tested P.means plan.now heap (read_fault plan.now kept.old name.now) (read_order plan.now kept.old name.now) kept.old kept.new
         (world dsp.old io.old out.old) (world dsp.new io.new out.new) (outcome_of result) }

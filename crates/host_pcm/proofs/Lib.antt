@@ -1,6 +1,3 @@
-pub mod TakenActs
-pub mod StreamAnswers
-pub mod StreamsTaken
 pub mod Places
 pub mod StreamCalls
 pub mod OneOrders

@@ -24,11 +24,12 @@ use Rattle.host_widgets.proofs.OneActLaws.{IsPlain, IsStreamAct, stream-taken}
 use Rattle.host_widgets.proofs.WalksHold.{AreTaken, none-taken, plainly-taken}
 use Rattle.host_pcm.specs.declared.asking.Ask.{Ask}
 use Rattle.host_pcm.specs.declared.asking.Ask.TheVariants.{Opening, Preparing, Triggering, Closing}
-use Rattle.host_pcm.specs.Asks.{stream_at, stream_place, stream_caps, takes_trigger, takes_params, early_fault, named_fault}
+use Rattle.host_widgets.specs.StreamStands.{takes_trigger, takes_params}
+use Rattle.host_pcm.specs.Asks.{stream_at, stream_place, stream_caps, early_fault, named_fault}
 use Rattle.host_pcm.specs.StreamOrders.{host_at, asking_order, place_order, stream_order}
 use Rattle.host_pcm.proofs.HostTests.{Stood, found_place}
 use Rattle.host_pcm.proofs.StreamCalls.{ranges}
-use Rattle.host_pcm.proofs.StreamsTaken.{trig-is, free-is, prepare-is}
+use Rattle.host_widgets.proofs.StreamsTaken.{trig-is, free-is, prepare-is}
 
 -- a stream that was stopped is prepared
 all-stopped : (host : ℕ) (ss : List StreamPlan) (rs : List StreamRec) → AllAt (λ r. r.found ≡ Prepared) host ss (changed (λ (s : StreamPlan). s.host) host (triggered_stream Stop) ss rs)

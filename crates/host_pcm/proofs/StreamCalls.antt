@@ -28,13 +28,15 @@ use Rattle.host_widgets.proofs.StreamPlaces.{place-has, place-all}
 use Rattle.host_widgets.proofs.OneActLaws.{IsStreamAct, stream-shown}
 use Rattle.host_widgets.proofs.ActsCome.{IsAnswered}
 use Rattle.host_pcm.specs.declared.asking.Ask.TheVariants.{Preparing}
-use Rattle.host_pcm.specs.Asks.{stream_at, takes_trigger, takes_params, range_fault, stream_caps, with_stream_at}
+use Rattle.host_widgets.specs.StreamStands.{takes_trigger, takes_params}
+use Rattle.host_pcm.specs.Asks.{stream_at, range_fault, stream_caps, with_stream_at}
 use Rattle.host_pcm.specs.StreamRanges.{has_rate, has_channels, is_within}
 use Rattle.host_pcm.specs.StreamOrders.{host_at, shut}
 use Rattle.host_widgets.specs.ActCarried.{Passes, PlainEnd, ActCarried}
 use Rattle.host_widgets.proofs.ActSteps.{done, ended}
-use Rattle.host_pcm.proofs.Places.{place-changed, place-goes}
-use Rattle.host_pcm.proofs.StreamsTaken.{trig-is, free-is, prepare-is, trig-comes, free-comes, prepare-comes}
+use Rattle.host_widgets.proofs.PlannedStreams.{place-goes}
+use Rattle.host_pcm.proofs.Places.{place-changed}
+use Rattle.host_widgets.proofs.StreamsTaken.{trig-is, free-is, prepare-is, trig-comes, free-comes, prepare-comes}
 
 -- ---- ranges
 

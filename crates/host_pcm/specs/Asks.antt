@@ -5,14 +5,13 @@ use Rattle.tplg_plan.specs.declared.plans.Plan.{Plan}
 use Rattle.host_widgets.specs.declared.answers.HostFault.{HostFault}
 use Rattle.host_widgets.specs.declared.answers.HostFault.TheVariants.{NoSuch, State, Off}
 use Rattle.host_widgets.specs.declared.kept.Found.{Found}
-use Rattle.host_widgets.specs.declared.kept.Found.TheVariants.{Closed, Open, Prepared, Running, Paused}
+use Rattle.host_widgets.specs.declared.kept.Found.TheVariants.{Closed}
 use Rattle.host_widgets.specs.declared.kept.Power.{Power}
 use Rattle.host_widgets.specs.declared.kept.Power.TheVariants as powers
 use Rattle.host_widgets.specs.declared.kept.StreamRec.{StreamRec}
 use Rattle.host_widgets.specs.declared.kept.Record.{Record}
-use Rattle.host_widgets.specs.declared.trigger.Trigger.{Trigger}
-use Rattle.host_widgets.specs.declared.trigger.Trigger.TheVariants.{Start, Stop, Pause, Release}
 use Rattle.host_widgets.specs.HostRecord.{closed, no_stream}
+use Rattle.host_widgets.specs.StreamStands.{takes_trigger, takes_params}
 use Rattle.host_widgets.specs.Named.{is_named, loaded_fault}
 use Rattle.host_pcm.specs.StreamRanges.{params_fault}
 use Rattle.host_pcm.specs.declared.asking.Ask.{Ask}
@@ -24,24 +23,9 @@ use Rattle.host_pcm.specs.declared.asking.Ask.TheVariants.{Opening, Preparing, T
 abbrev pub stream_place : Plan → List ℕ → Option ℕ
 stream_place plan name = position (λ s. is_named plan name s.host) plan.streams
 
--- a stream that stands so may be triggered so
-abbrev pub takes_trigger : Trigger → Found → Bool
-takes_trigger Start Prepared = true
-takes_trigger Stop Running = true
-takes_trigger Stop Paused = true
-takes_trigger Pause Running = true
-takes_trigger Release Paused = true
-takes_trigger what found = false
-
 abbrev pub is_closed : Found → Bool
 is_closed Closed = true
 is_closed found = false
-
--- without parameters, or with some and at rest
-abbrev pub takes_params : Found → Bool
-takes_params Open = true
-takes_params Prepared = true
-takes_params found = false
 
 -- a stream that stands so may be asked this
 abbrev pub takes_ask : Ask → Found → Bool

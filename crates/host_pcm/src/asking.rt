@@ -1,5 +1,6 @@
 // What is asked of a stream, and the tests before any message.
 ghost use Rattle.std.specs.Prelude.{◌≡◌, IfOk, IfErr, Some, None, get_or, length};
+ghost use Rattle.host_widgets.specs.StreamStands as stands;
 ghost use Rattle.host_pcm.specs.Asks as asks;
 ghost use Rattle.host_pcm.specs.Asks.{early_fault, stream_place};
 
@@ -24,7 +25,7 @@ pub enum Ask {
 
 // Whether a stream that stands so may be triggered so.
 fn takes_trigger(what: Trigger, found: Found) -> bool
-    ensures { result ≡ asks.takes_trigger what found }
+    ensures { result ≡ stands.takes_trigger what found }
 {
     match (what, found) {
         (Trigger::Start, Found::Prepared) => true,

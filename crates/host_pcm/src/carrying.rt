@@ -1,5 +1,5 @@
 // What each call does once its tests have passed, for the stream at a place: the record changes after the reply.
-ghost use Rattle.std.specs.Prelude.{◌≡◌, ◌<◌, ◌*◌, true, None, length, if◌then◌else◌};
+ghost use Rattle.std.specs.Prelude.{◌≡◌, ◌<◌, ◌*◌, true, None, length};
 ghost use Rattle.sof_base.specs.Ports.{HasRoom};
 ghost use Rattle.tplg_plan.specs.Sound.{IsSound};
 ghost use Rattle.host_widgets.specs.HostRecord.{closed};
@@ -12,7 +12,7 @@ ghost use Rattle.host_widgets.specs.ActCarried.{ActCarried};
 ghost use Rattle.host_widgets.specs.Sides.{SameSide, world_of};
 
 use crate::asking::Ask;
-use host_widgets::{Found, HostFault, Power, Record, Side, StreamRec, Trigger, pass};
+use host_widgets::{Found, HostFault, Power, Record, Side, StreamRec, Trigger, direction, pass};
 use ipc3_codec::Message;
 use mbox_link::Dsp;
 use sof_base::Params;
@@ -26,13 +26,6 @@ fn triggered(what: Trigger) -> Found
         Trigger::Stop => Found::Prepared,
         Trigger::Pause => Found::Paused,
     }
-}
-
-// A stream's direction in messages: 0 for playback, 1 for capture.
-fn direction(capture: bool) -> u32
-    ensures { result ≡ (if capture then 1 else 0) }
-{
-    if capture { 1 } else { 0 }
 }
 
 /// A stream has parameters.

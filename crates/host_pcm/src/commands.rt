@@ -4,7 +4,7 @@
 // stream stands so. Those that send may answer `Refused(e)`: a message was answered with the negative error e, and what
 // passed before it stands; and `LinkDown`: an exchange failed, so the device is cut, the record says that the power is off,
 // and streams that ran or were paused are prepared.
-ghost use Rattle.std.specs.Prelude.{◌≡◌, ◌≤◌, ◌*◌};
+ghost use Rattle.std.specs.Prelude.{◌≡◌, ◌*◌};
 ghost use Rattle.sof_base.specs.Ports.{HasRoom};
 ghost use Rattle.mbox_link.specs.Calls.{world};
 ghost use Rattle.host_widgets.specs.Sides.{SameSide, world_of};
@@ -63,7 +63,6 @@ pub fn params<P: Dsp>(
 ) -> Result<(), HostFault>
     requires plan { IsSound plan.now }
     requires agree { Agrees P.means plan.now kept.old dsp.old }
-    requires heap { heap ≤ P.means.most dsp.old }
     requires room { HasRoom (61440 * P.means.pending dsp.old) out.old }
     ensures asked { Asked P.means plan.now heap name.now (Ask.Preparing p) kept.old kept.new
         (world dsp.old io.old out.old) (world dsp.new io.new out.new) result }
@@ -88,7 +87,6 @@ pub fn params<P: Dsp>(
 fn trigger<P: Dsp>(side: &mut Side<'_, P>, name: &Name44, what: Trigger) -> Result<(), HostFault>
     requires plan { IsSound side.old.plan.now }
     requires agree { Agrees P.means side.old.plan.now side.old.kept.now side.old.dsp.now }
-    requires heap { side.old.heap ≤ P.means.most side.old.dsp.now }
     requires room { HasRoom (61440 * P.means.pending side.old.dsp.now) side.old.out.now }
     ensures asked { Asked P.means side.old.plan.now side.old.heap name.now (Ask.Triggering what) side.old.kept.now side.new.kept.now
         (world_of side.old) (world_of side.new) result }
@@ -111,7 +109,6 @@ pub fn start<P: Dsp>(
 ) -> Result<(), HostFault>
     requires plan { IsSound plan.now }
     requires agree { Agrees P.means plan.now kept.old dsp.old }
-    requires heap { heap ≤ P.means.most dsp.old }
     requires room { HasRoom (61440 * P.means.pending dsp.old) out.old }
     ensures asked { Asked P.means plan.now heap name.now (Ask.Triggering Trigger.Start) kept.old kept.new
         (world dsp.old io.old out.old) (world dsp.new io.new out.new) result }
@@ -143,7 +140,6 @@ pub fn stop<P: Dsp>(
 ) -> Result<(), HostFault>
     requires plan { IsSound plan.now }
     requires agree { Agrees P.means plan.now kept.old dsp.old }
-    requires heap { heap ≤ P.means.most dsp.old }
     requires room { HasRoom (61440 * P.means.pending dsp.old) out.old }
     ensures asked { Asked P.means plan.now heap name.now (Ask.Triggering Trigger.Stop) kept.old kept.new
         (world dsp.old io.old out.old) (world dsp.new io.new out.new) result }
@@ -175,7 +171,6 @@ pub fn pause<P: Dsp>(
 ) -> Result<(), HostFault>
     requires plan { IsSound plan.now }
     requires agree { Agrees P.means plan.now kept.old dsp.old }
-    requires heap { heap ≤ P.means.most dsp.old }
     requires room { HasRoom (61440 * P.means.pending dsp.old) out.old }
     ensures asked { Asked P.means plan.now heap name.now (Ask.Triggering Trigger.Pause) kept.old kept.new
         (world dsp.old io.old out.old) (world dsp.new io.new out.new) result }
@@ -207,7 +202,6 @@ pub fn release<P: Dsp>(
 ) -> Result<(), HostFault>
     requires plan { IsSound plan.now }
     requires agree { Agrees P.means plan.now kept.old dsp.old }
-    requires heap { heap ≤ P.means.most dsp.old }
     requires room { HasRoom (61440 * P.means.pending dsp.old) out.old }
     ensures asked { Asked P.means plan.now heap name.now (Ask.Triggering Trigger.Release) kept.old kept.new
         (world dsp.old io.old out.old) (world dsp.new io.new out.new) result }
@@ -240,7 +234,6 @@ pub fn close<P: Dsp>(
 ) -> Result<(), HostFault>
     requires plan { IsSound plan.now }
     requires agree { Agrees P.means plan.now kept.old dsp.old }
-    requires heap { heap ≤ P.means.most dsp.old }
     requires room { HasRoom (61440 * P.means.pending dsp.old) out.old }
     ensures asked { Asked P.means plan.now heap name.now Ask.Closing kept.old kept.new
         (world dsp.old io.old out.old) (world dsp.new io.new out.new) result }

@@ -41,9 +41,9 @@ use Rattle.host_widgets.proofs.StreamPlaces.{streams-ascend, place-has, place-al
 use Rattle.host_widgets.proofs.StreamRows.{AllAt}
 use Rattle.host_widgets.proofs.StandingOn.{same-now}
 use Rattle.host_widgets.proofs.WalksHold.{AreTaken, HaveLaw}
-use Rattle.host_pcm.specs.Asks.{takes_trigger}
-use Rattle.host_pcm.proofs.StreamAnswers.{all-at}
-use Rattle.host_pcm.proofs.StreamsTaken.{trig-is, trig-comes}
+use Rattle.host_widgets.specs.StreamStands.{takes_trigger}
+use Rattle.host_widgets.proofs.StreamAnswers.{all-at}
+use Rattle.host_widgets.proofs.StreamsTaken.{trig-is, trig-comes}
 use Rattle.host_pm.proofs.TurnsCome.{IsMet, AreMet}
 
 -- ---- one stream

@@ -35,9 +35,9 @@ use Rattle.host_widgets.proofs.RecordsStay.{may}
 use Rattle.host_widgets.proofs.SilentTicks.{at}
 use Rattle.host_widgets.proofs.StreamPlaces.{streams-ascend}
 use Rattle.host_widgets.proofs.StreamRows.{AllAt}
-use Rattle.host_pcm.specs.Asks.{takes_trigger}
-use Rattle.host_pcm.proofs.StreamAnswers.{all-at}
-use Rattle.host_pcm.proofs.StreamsTaken.{trig-is, trig-comes}
+use Rattle.host_widgets.specs.StreamStands.{takes_trigger}
+use Rattle.host_widgets.proofs.StreamAnswers.{all-at}
+use Rattle.host_widgets.proofs.StreamsTaken.{trig-is, trig-comes}
 use Rattle.host_pm.specs.FromScratch.{IsFromScratch, TakesActs, start_acts, start_by}
 use Rattle.host_pm.proofs.GoingDown.{elsewhere}
 use Rattle.host_pm.proofs.TurnsCome.{AreMet}

@@ -41,7 +41,7 @@ use Rattle.host_widgets.proofs.Exchanges.{came as exchange-came, verdict-number}
 use Rattle.host_widgets.proofs.Effects.{row-decoded}
 use Rattle.host_widgets.proofs.SilentTicks.{at, AreInputs, IsStill, ticks-still}
 use Rattle.host_widgets.proofs.StandingStill.{none-live, rings-distinct}
-use Rattle.host_pcm.proofs.TakenActs.{last-test}
+use Rattle.host_widgets.proofs.TakenActs.{last-test}
 use Rattle.host_pm.proofs.TurnsCome.{AreMet}
 use Rattle.host_pm.proofs.Unprepared.{empty-seen}
 

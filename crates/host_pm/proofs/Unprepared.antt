@@ -37,9 +37,9 @@ use Rattle.host_widgets.proofs.ReadyWays.{has_host}
 use Rattle.host_widgets.proofs.RecordsStay.{may, Less, record-less}
 use Rattle.host_widgets.proofs.StreamPlaces.{streams-ascend, place-has, place-all}
 use Rattle.host_widgets.proofs.StreamRows.{AllAt, agrees}
-use Rattle.host_pcm.specs.Asks.{takes_params}
-use Rattle.host_pcm.proofs.StreamAnswers.{all-at, rests}
-use Rattle.host_pcm.proofs.StreamsTaken.{prepare-comes}
+use Rattle.host_widgets.specs.StreamStands.{takes_params}
+use Rattle.host_widgets.proofs.StreamAnswers.{all-at, rests}
+use Rattle.host_widgets.proofs.StreamsTaken.{prepare-comes}
 use Rattle.host_pm.proofs.GoingDown.{elsewhere}
 use Rattle.host_pm.proofs.TurnsCome.{IsMet, AreMet}
 

@@ -20,18 +20,11 @@ ghost use Rattle.host_pm.specs.PowerTests.{resume_fault};
 ghost use Rattle.host_pm.specs.Resumed.{ResumeLeft};
 
 use crate::telling::tell;
-use host_widgets::{Found, HostFault, Power, Record, Side, StreamRec, bring_up};
+use host_widgets::{Found, HostFault, Power, Record, Side, StreamRec, bring_up, direction};
 use ipc3_codec::Message;
 use mbox_link::Dsp;
 use sof_io::{Inputs, Outputs};
 use tplg_plan::{Plan, StreamPlan};
-
-// A stream's direction in messages: 0 for playback, 1 for capture.
-fn direction(capture: bool) -> u32
-    ensures { result ≡ (if capture then 1 else 0) }
-{
-    if capture { 1 } else { 0 }
-}
 
 // A stream that is prepared has its parameters again.
 fn prepare<P: Dsp>(

@@ -1,5 +1,5 @@
 // The device goes down.
-ghost use Rattle.std.specs.Prelude.{◌≡◌, ◌≤◌, ◌*◌, [], ◌∷◌, is_some, true, length};
+ghost use Rattle.std.specs.Prelude.{◌≡◌, ◌*◌, [], ◌∷◌, is_some, true, length};
 ghost use Rattle.sof_base.specs.Ports.{HasRoom};
 ghost use Rattle.mbox_link.specs.Calls.{world};
 ghost use Rattle.tplg_plan.specs.Sound.{IsSound};
@@ -132,7 +132,6 @@ pub fn suspend<P: Dsp>(
 ) -> Result<(), HostFault>
     requires plan { IsSound plan.now }
     requires agree { Agrees P.means plan.now kept.old dsp.old }
-    requires heap { heap ≤ P.means.most dsp.old }
     requires room { HasRoom (61440 * P.means.pending dsp.old) out.old }
     ensures carried { Tested P.means plan.now heap (suspend_fault kept.old.power) (suspending plan.now kept.old) kept.old kept.new (world dsp.old io.old out.old) (world dsp.new io.new out.new) result }
     ensures agree { Agrees P.means plan.now kept.new dsp.new }

@@ -45,6 +45,10 @@ pub mod RecordsStay
 pub mod ActsShow
 pub mod ActsStand
 pub mod OneActLaws
+pub mod TakenActs
+pub mod StreamAnswers
+pub mod StreamsTaken
+pub mod PlannedStreams
 pub mod BuildingActs
 pub mod LoadOrders
 pub mod LoadEnds
@@ -63,3 +67,4 @@ pub mod ChangedPlaces
 pub mod ActReasons
 pub mod Consequences
 pub mod SidesKept
+pub mod NeedLaws

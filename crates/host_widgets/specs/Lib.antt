@@ -3,6 +3,7 @@ pub mod Controls
 pub mod Acts
 pub mod Kept
 pub mod HostActs
+pub mod StreamStands
 pub mod ActMessages
 pub mod ActLists
 pub mod Expected
@@ -18,3 +19,4 @@ pub mod Named
 pub mod ActCarried
 pub mod WalkRows
 pub mod Sides
+pub mod NeedLaws

@@ -12,7 +12,7 @@ ghost use Rattle.host_widgets.specs.HostActs.{Make, Join, Finish};
 ghost use Rattle.host_widgets.specs.Acts.{widget_ids};
 ghost use Rattle.host_widgets.specs.ActLists.{control_acts, bring_up};
 ghost use Rattle.host_widgets.specs.ActCalls.{ActsSent};
-ghost use Rattle.host_widgets.specs.Host.{IsRecordOf, BroughtUp};
+ghost use Rattle.host_widgets.specs.Host.{AreControls, BroughtUp};
 ghost use Rattle.host_widgets.specs.Orders.{ActsCame};
 
 use crate::answers::HostFault;
@@ -76,7 +76,7 @@ fn put_controls<P: Dsp>(
     out: &mut Outputs,
 ) -> Result<(), HostFault>
     requires plan { IsSound plan.now }
-    requires kept { IsRecordOf plan.now kept.now }
+    requires controls { AreControls plan.now.controls kept.now.controls }
     requires on { is_some (P.means.on dsp.old) ≡ true }
     requires room { HasRoom (61440 * P.means.pending dsp.old) out.old }
     ensures { ActsSent P.means plan.now (flat_map control_acts (controls_of plan.now kept.now)) (world dsp.old io.old out.old) (world dsp.new io.new out.new) result }
@@ -146,7 +146,7 @@ fn send_list<P: Dsp>(
     out: &mut Outputs,
 ) -> Result<(), HostFault>
     requires plan { IsSound plan.now }
-    requires kept { IsRecordOf plan.now kept.now }
+    requires controls { AreControls plan.now.controls kept.now.controls }
     requires few { length plan.now.widgets < 2 ^ 32 }
     requires on { is_some (P.means.on dsp.old) ≡ true }
     requires room { HasRoom (61440 * P.means.pending dsp.old) out.old }
@@ -174,7 +174,7 @@ pub fn bring_up<P: Dsp>(
     out: &mut Outputs,
 ) -> Result<(), HostFault>
     requires plan { IsSound plan.now }
-    requires kept { IsRecordOf plan.now kept.old }
+    requires controls { AreControls plan.now.controls kept.old.controls }
     requires booted { P.means.on dsp.old ≡ Some (fresh heap) }
     requires room { HasRoom (61440 * P.means.pending dsp.old) out.old }
     // What its messages met, and what they came to.

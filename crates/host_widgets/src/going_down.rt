@@ -48,10 +48,10 @@ pub fn link_down<P: Dsp>(
     io: &mut Inputs,
     out: &mut Outputs,
 )
-    requires kept { IsRecordOf plan.now kept.old }
     ensures calls { Did P.means Cut (world dsp.old io.old out.old) (world dsp.new io.new out.new) }
     ensures kept { kept.new ≡ went_down kept.old }
-    ensures agree { Agrees P.means plan.now kept.new dsp.new }
+    // A record of the plan agrees with the device then.
+    ensures agree { IsRecordOf plan.now kept.old → Agrees P.means plan.now kept.new dsp.new }
 {
     dsp.cut();
     kept.power = Power::Off;

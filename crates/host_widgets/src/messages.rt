@@ -1,5 +1,5 @@
-// The messages that bring a device up.
-ghost use Rattle.std.specs.Prelude.{◌≡◌, ◌==◌, find};
+// What messages say of components, buffers, pipelines and streams.
+ghost use Rattle.std.specs.Prelude.{◌≡◌, ◌==◌, find, if◌then◌else◌};
 ghost use Rattle.stream_law.specs.Ways.{comp_of, edge_of};
 ghost use Rattle.host_widgets.specs.Controls.{control_of};
 ghost use Rattle.host_widgets.specs.Acts as acts;
@@ -8,6 +8,13 @@ use crate::controls::volume_words;
 use ipc3_codec::{CompWords, Message};
 use stream_law::{Comp, Edge, Kind};
 use tplg_plan::{Plan, WidgetPlan};
+
+/// A stream's direction in messages: 0 for playback, 1 for capture.
+pub fn direction(capture: bool) -> u32
+    ensures { result ≡ (if capture then 1 else 0) }
+{
+    if capture { 1 } else { 0 }
+}
 
 // The words of a component's kind: 0 is playback and 1 is capture.
 fn component_words(plan: &Plan, id: u32, kind: Kind, words: &WidgetPlan) -> CompWords

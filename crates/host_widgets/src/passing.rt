@@ -2,7 +2,6 @@
 ghost use Rattle.std.specs.Prelude.{◌≡◌, ◌*◌, is_some, true};
 ghost use Rattle.sof_base.specs.Ports.{HasRoom};
 ghost use Rattle.ipc3_codec.specs.Messages.{message_spelling};
-ghost use Rattle.host_widgets.specs.Host.{IsRecordOf};
 ghost use Rattle.host_widgets.specs.ActCarried.{Replied, Passes, is_down};
 ghost use Rattle.host_widgets.specs.Sides.{SameSide, world_of};
 
@@ -22,7 +21,6 @@ fn is_down(answer: &Result<Reply, HostFault>) -> bool
 
 /// Sends the message of an act, and hands on its reply. A failed link cuts the device and takes the record down.
 pub fn hear<P: Dsp>(message: &Message, side: &mut Side<'_, P>) -> Result<Reply, HostFault>
-    requires kept { IsRecordOf side.old.plan.now side.old.kept.now }
     requires on { is_some (P.means.on side.old.dsp.now) ≡ true }
     requires room { HasRoom (61440 * P.means.pending side.old.dsp.now) side.old.out.now }
     ensures replied { Replied P.means side.old.heap (message_spelling message.now) side.old.kept.now side.new.kept.now (world_of side.old) (world_of side.new) result }
@@ -37,7 +35,6 @@ pub fn hear<P: Dsp>(message: &Message, side: &mut Side<'_, P>) -> Result<Reply, 
 
 /// The same for an act whose reply says nothing more.
 pub fn pass<P: Dsp>(message: &Message, side: &mut Side<'_, P>) -> Result<(), HostFault>
-    requires kept { IsRecordOf side.old.plan.now side.old.kept.now }
     requires on { is_some (P.means.on side.old.dsp.now) ≡ true }
     requires room { HasRoom (61440 * P.means.pending side.old.dsp.now) side.old.out.now }
     ensures passes { Passes P.means side.old.heap (message_spelling message.now) side.old.kept.now side.new.kept.now (world_of side.old) (world_of side.new) result }

@@ -1,6 +1,5 @@
 // What was loaded is let go.
-ghost use Rattle.std.specs.Prelude.{◌≡◌, ◌≤◌, ◌<◌, ◌*◌, length, map};
-ghost use Rattle.sof_base.specs.Ports.{HasRoom};
+ghost use Rattle.std.specs.Prelude.{◌≡◌, length, map};
 ghost use Rattle.mbox_link.specs.Calls.{world};
 ghost use Rattle.tplg_plan.specs.Sound.{IsSound};
 ghost use Rattle.host_widgets.specs.HostRecord.{closed};
@@ -68,8 +67,6 @@ pub fn unload<P: Dsp>(
 ) -> Result<(), HostFault>
     requires plan { IsSound plan.now }
     requires agree { Agrees P.means plan.now kept.old dsp.old }
-    requires heap { heap ≤ P.means.most dsp.old }
-    requires room { HasRoom (61440 * P.means.pending dsp.old) out.old }
     // What was loaded is let go; else nothing changes, and no call is made.
     ensures carried { Tested P.means plan.now heap (unload_fault kept.old.power) (unloading plan.now kept.old) kept.old kept.new (world dsp.old io.old out.old) (world dsp.new io.new out.new) result }
     ensures agree { Agrees P.means plan.now kept.new dsp.new }

@@ -5,10 +5,9 @@ use Rattle.ipc3_codec.specs.Messages.{message_spelling}
 use Rattle.mbox_link.specs.BlobParts.{parts, blob_part}
 use Rattle.host_widgets.specs.Sides.{world_of}
 use Rattle.tplg_plan.specs.declared.plans.ControlPlan.{ControlPlan}
-use Rattle.tplg_plan.specs.declared.plans.Plan.{Plan}
 use Rattle.host_widgets.specs.declared.kept.Record.{Record}
 use Rattle.host_widgets.specs.ActCarried.{Replied}
-use Rattle.host_widgets.specs.Host.{Agrees, IsRecordOf, Outcome}
+use Rattle.host_widgets.specs.Host.{Agrees, Outcome}
 use Rattle.host_widgets.specs.Orders.{Carried}
 use Rattle.host_widgets.proofs.PlainOrders.{CarriedBy}
 use Rattle.host_widgets.proofs.SidesKept.{same-on}
@@ -29,11 +28,6 @@ loop-index-init g c = record {
   told = c.requires.empty;
   ahead = ahead-none g.P.Dsp.means c.args.side.now.plan.now c.args.side.now.heap (control_here c.args.side.now.plan.now c.args.place).comp c.args.count c.args.side.now.kept.now (world_of c.args.side.now) c.requires.agree;
 }
-
-pub hear-requires-clause-kept : goal.hear-requires-clause-kept
-hear-requires-clause-kept g c =
-    let inv = c.loop-index.invariant in
-    subst (λ (p : Plan × Record). IsRecordOf p.0 p.1) (λ i. ((sym inv.same.plan i).now, sym inv.stays i)) inv.ahead.agrees.record_is
 
 pub hear-requires-clause-on : goal.hear-requires-clause-on
 hear-requires-clause-on g c = is-powered g.P.Dsp.means c.args.side.now.plan.now c.args.side.now.kept.now c.loop-index.side.dsp.now c.loop-index.invariant.ahead.agrees c.requires.power

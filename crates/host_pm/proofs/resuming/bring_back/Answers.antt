@@ -13,6 +13,9 @@ use Rattle.host_pm.specs.InTurn.{InTurn}
 use Rattle.host_pm.proofs.PowerOrders.{back-failed, back-came, back-shows, back-io, back-left}
 use Rattle.host_pm.proofs.resuming.bring_back.Goals as goal
 
+pub bring_up-requires-clause-controls : goal.bring_up-requires-clause-controls
+bring_up-requires-clause-controls g c = c.requires.kept.controls
+
 pub prepare_all-requires-clause-streams : goal.prepare_all-requires-clause-streams
 prepare_all-requires-clause-streams g c = ap (λ (r : Record). length r.streams) c.bring_up.ensures.kept ∙ c.requires.kept.streams
 

@@ -8,7 +8,7 @@ use Rattle.host_widgets.specs.HostActs.{Act}
 use Rattle.host_widgets.specs.Host.{Outcome}
 use Rattle.host_widgets.specs.Walk.{goes_past}
 use Rattle.host_widgets.proofs.Walks.{handed_on}
-use Rattle.host_pcm.proofs.Places.{place-goes, place-stream}
+use Rattle.host_widgets.proofs.PlannedStreams.{place-goes, place-stream}
 use Rattle.host_pm.specs.InTurn.{InTurn}
 use Rattle.host_pm.proofs.Loops.{SoFar, at-first, none-ahead, one-more, one-ends, few-prepares}
 use Rattle.host_pm.proofs.Turns.{none-past}

@@ -26,3 +26,6 @@ returns-clause-carried g c =
     let sent = world c.send_down-sent.new.dsp c.send_down-sent.new.io c.send_down-sent.new.out in
     let v = world c.link_down.new.dsp c.link_down.new.io c.link_down.new.out in
     went-down means plan c.args.side.now.heap c.requires.plan kept c.link_down.new.kept c.requires.agree.record_is w sent v c.send_down-sent.result s.0 s.1 s.2 c.send_down-sent.ensures c.link_down.ensures.calls c.link_down.ensures.kept
+
+pub returns-clause-agree : goal.returns-clause-agree
+returns-clause-agree g c = c.link_down.ensures.agree c.requires.agree.record_is

@@ -19,25 +19,25 @@ returns-clause-acts g c =
     let w = world c.args.dsp.now c.args.io.now c.args.out.now in
     let v = world c.send_list.new.dsp c.send_list.new.io c.send_list.new.out in
     let are : AreInputs c.args.io.now = record { distinct = c.len-inputs.ensures.distinct; positions = c.len-inputs.ensures.within } in
-    list-came g.P.Dsp.means c.args.plan.now c.args.heap c.args.kept.now w v (brings c.args.plan.now c.args.heap c.args.kept.now c.requires.plan c.requires.kept.controls) (bring-leaves c.args.plan.now c.args.kept.now c.requires.plan) are c.requires.booted c.send_list.result c.send_list.ensures
+    list-came g.P.Dsp.means c.args.plan.now c.args.heap c.args.kept.now w v (brings c.args.plan.now c.args.heap c.args.kept.now c.requires.plan c.requires.controls) (bring-leaves c.args.plan.now c.args.kept.now c.requires.plan) are c.requires.booted c.send_list.result c.send_list.ensures
 
 pub returns-clause-left : goal.returns-clause-left
 returns-clause-left g c =
     let w = world c.args.dsp.now c.args.io.now c.args.out.now in
     let v = world c.send_list.new.dsp c.send_list.new.io c.send_list.new.out in
     let are : AreInputs c.args.io.now = record { distinct = c.len-inputs.ensures.distinct; positions = c.len-inputs.ensures.within } in
-    list-leaves g.P.Dsp.means c.args.plan.now c.args.heap c.args.kept.now w v (brings c.args.plan.now c.args.heap c.args.kept.now c.requires.plan c.requires.kept.controls) (bring-leaves c.args.plan.now c.args.kept.now c.requires.plan) are c.requires.booted c.send_list.result c.send_list.ensures
+    list-leaves g.P.Dsp.means c.args.plan.now c.args.heap c.args.kept.now w v (brings c.args.plan.now c.args.heap c.args.kept.now c.requires.plan c.requires.controls) (bring-leaves c.args.plan.now c.args.kept.now c.requires.plan) are c.requires.booted c.send_list.result c.send_list.ensures
 
 pub returns-clause-inputs : goal.returns-clause-inputs
 returns-clause-inputs g c =
     let w = world c.args.dsp.now c.args.io.now c.args.out.now in
     let v = world c.send_list.new.dsp c.send_list.new.io c.send_list.new.out in
     let are : AreInputs c.args.io.now = record { distinct = c.len-inputs.ensures.distinct; positions = c.len-inputs.ensures.within } in
-    ap (λ (io : Io). io.inputs) (list-io g.P.Dsp.means c.args.plan.now c.args.heap c.args.kept.now w v (brings c.args.plan.now c.args.heap c.args.kept.now c.requires.plan c.requires.kept.controls) (bring-leaves c.args.plan.now c.args.kept.now c.requires.plan) are c.requires.booted c.send_list.result c.send_list.ensures)
+    ap (λ (io : Io). io.inputs) (list-io g.P.Dsp.means c.args.plan.now c.args.heap c.args.kept.now w v (brings c.args.plan.now c.args.heap c.args.kept.now c.requires.plan c.requires.controls) (bring-leaves c.args.plan.now c.args.kept.now c.requires.plan) are c.requires.booted c.send_list.result c.send_list.ensures)
 
 pub returns-clause-outputs : goal.returns-clause-outputs
 returns-clause-outputs g c =
     let w = world c.args.dsp.now c.args.io.now c.args.out.now in
     let v = world c.send_list.new.dsp c.send_list.new.io c.send_list.new.out in
     let are : AreInputs c.args.io.now = record { distinct = c.len-inputs.ensures.distinct; positions = c.len-inputs.ensures.within } in
-    ap (λ (io : Io). io.outputs) (list-io g.P.Dsp.means c.args.plan.now c.args.heap c.args.kept.now w v (brings c.args.plan.now c.args.heap c.args.kept.now c.requires.plan c.requires.kept.controls) (bring-leaves c.args.plan.now c.args.kept.now c.requires.plan) are c.requires.booted c.send_list.result c.send_list.ensures)
+    ap (λ (io : Io). io.outputs) (list-io g.P.Dsp.means c.args.plan.now c.args.heap c.args.kept.now w v (brings c.args.plan.now c.args.heap c.args.kept.now c.requires.plan c.requires.controls) (bring-leaves c.args.plan.now c.args.kept.now c.requires.plan) are c.requires.booted c.send_list.result c.send_list.ensures)

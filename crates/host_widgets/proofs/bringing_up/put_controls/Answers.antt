@@ -16,7 +16,7 @@ use Rattle.host_widgets.proofs.bringing_up.put_controls.Goals as goal
 
 pub bounds-items-place-in-loop-place : goal.bounds-items-place-in-loop-place
 bounds-items-place-in-loop-place g c =
-    omega (arith, c.loop-place-test.true, ap length c.items-count.ensures, ap length c.items-in-loop-place.ensures, same-length c.args.plan.now.controls c.args.kept.now.controls c.requires.kept.controls)
+    omega (arith, c.loop-place-test.true, ap length c.items-count.ensures, ap length c.items-in-loop-place.ensures, same-length c.args.plan.now.controls c.args.kept.now.controls c.requires.controls)
 
 pub put_control-requires-clause-first : goal.put_control-requires-clause-first
 put_control-requires-clause-first g c =
@@ -26,8 +26,8 @@ put_control-requires-clause-first g c =
 pub put_control-requires-clause-blob : goal.put_control-requires-clause-blob
 put_control-requires-clause-blob g c =
     ap (λ (r : ControlRec). is_initial r.blob) c.index-items-place-in-loop-place.is
-    ∙ initial-here c.args.plan.now c.args.kept.now c.requires.plan c.requires.kept.controls c.items-in-loop-place.result.now c.items-in-loop-place.ensures c.loop-place.place c.index-items-place-in-loop-place.result
-    (omega (arith, c.loop-place-test.true, ap length c.items-count.ensures, ap length c.items-in-loop-place.ensures, same-length c.args.plan.now.controls c.args.kept.now.controls c.requires.kept.controls))
+    ∙ initial-here c.args.plan.now c.args.kept.now c.requires.plan c.requires.controls c.items-in-loop-place.result.now c.items-in-loop-place.ensures c.loop-place.place c.index-items-place-in-loop-place.result
+    (omega (arith, c.loop-place-test.true, ap length c.items-count.ensures, ap length c.items-in-loop-place.ensures, same-length c.args.plan.now.controls c.args.kept.now.controls c.requires.controls))
 
 pub put_control-requires-clause-on : goal.put_control-requires-clause-on
 put_control-requires-clause-on g c = sent-on g.P.Dsp.means c.args.plan.now _ _ _ passing c.loop-place.invariant c.requires.on
@@ -45,8 +45,8 @@ returns-in_err-put_control g c =
     let k = c.index-items-place.result in
     let r = c.index-items-place-in-loop-place.result in
     let few : i < length plan.controls = omega (arith, c.loop-place-test.true, ap length c.items-count.ensures) in
-    let within : i < length (controls_of plan kept) = omega (arith, few, pairs-long plan.controls kept.controls c.requires.kept.controls) in
-    let here : get_or (controls_of plan kept) i (k, r) ≡ (k, r) = pair-at plan.controls kept.controls c.requires.kept.controls i k r few (c.index-items-place.is ∙ ap (λ (ks : List ControlPlan). get_or ks i k) c.items.ensures) (c.index-items-place-in-loop-place.is ∙ ap (λ (rs : List ControlRec). get_or rs i r) c.items-in-loop-place.ensures) in
+    let within : i < length (controls_of plan kept) = omega (arith, few, pairs-long plan.controls kept.controls c.requires.controls) in
+    let here : get_or (controls_of plan kept) i (k, r) ≡ (k, r) = pair-at plan.controls kept.controls c.requires.controls i k r few (c.index-items-place.is ∙ ap (λ (ks : List ControlPlan). get_or ks i k) c.items.ensures) (c.index-items-place-in-loop-place.is ∙ ap (λ (rs : List ControlRec). get_or rs i r) c.items-in-loop-place.ensures) in
     sent-stops g.P.Dsp.means plan control_acts (controls_of plan kept) (controls_of plan kept) refl i (k, r) within
     (world c.args.dsp.now c.args.io.now c.args.out.now) m v c.loop-place.invariant c.put_control.result
     (subst (λ (p : Pair). ActsSent g.P.Dsp.means plan (control_acts p) m v c.put_control.result) (sym here) c.put_control.ensures)
@@ -63,8 +63,8 @@ loop-place-preserved g c =
     let k = c.index-items-place.result in
     let r = c.index-items-place-in-loop-place.result in
     let few : i < length plan.controls = omega (arith, c.loop-place-test.true, ap length c.items-count.ensures) in
-    let within : i < length (controls_of plan kept) = omega (arith, few, pairs-long plan.controls kept.controls c.requires.kept.controls) in
-    let here : get_or (controls_of plan kept) i (k, r) ≡ (k, r) = pair-at plan.controls kept.controls c.requires.kept.controls i k r few (c.index-items-place.is ∙ ap (λ (ks : List ControlPlan). get_or ks i k) c.items.ensures) (c.index-items-place-in-loop-place.is ∙ ap (λ (rs : List ControlRec). get_or rs i r) c.items-in-loop-place.ensures) in
+    let within : i < length (controls_of plan kept) = omega (arith, few, pairs-long plan.controls kept.controls c.requires.controls) in
+    let here : get_or (controls_of plan kept) i (k, r) ≡ (k, r) = pair-at plan.controls kept.controls c.requires.controls i k r few (c.index-items-place.is ∙ ap (λ (ks : List ControlPlan). get_or ks i k) c.items.ensures) (c.index-items-place-in-loop-place.is ∙ ap (λ (rs : List ControlRec). get_or rs i r) c.items-in-loop-place.ensures) in
     sent-all g.P.Dsp.means plan control_acts (controls_of plan kept) (controls_of plan kept) refl i (k, r) within
     (world c.args.dsp.now c.args.io.now c.args.out.now) m v c.loop-place.invariant c.put_control.result
     (subst (λ (p : Pair). ActsSent g.P.Dsp.means plan (control_acts p) m v c.put_control.result) (sym here) c.put_control.ensures)
@@ -74,5 +74,5 @@ pub returns : goal.returns
 returns g c =
     let plan = c.args.plan.now in
     let kept = c.args.kept.now in
-    let past : length (controls_of plan kept) ≤ c.loop-place.place = omega (arith, c.loop-place-test.false, ap length c.items-count.ensures, pairs-long plan.controls kept.controls c.requires.kept.controls) in
+    let past : length (controls_of plan kept) ≤ c.loop-place.place = omega (arith, c.loop-place-test.false, ap length c.items-count.ensures, pairs-long plan.controls kept.controls c.requires.controls) in
     subst (λ (ps : List Pair). ActsSent g.P.Dsp.means plan (flat_map control_acts ps) (world c.args.dsp.now c.args.io.now c.args.out.now) (world c.loop-place.dsp c.loop-place.io c.loop-place.out) passing) (take_all c.loop-place.place (controls_of plan kept) past) c.loop-place.invariant

@@ -2,14 +2,16 @@ use Rattle.std.proofs.Common.{◌∙◌, refl, sym, subst}
 use Rattle.host_widgets.specs.Sides.{world_of}
 use Rattle.mbox_link.specs.Calls.{world}
 use Rattle.host_widgets.specs.declared.kept.Power.TheVariants.{Unloaded, On}
+use Rattle.host_widgets.specs.declared.kept.Record.{Record}
 use Rattle.host_widgets.specs.Kept.{with_power}
-use Rattle.host_widgets.specs.Host.{IsRecordOf}
+use Rattle.host_widgets.specs.Host.{AreControls}
 use Rattle.host_widgets.proofs.Records.{closed-record}
 use Rattle.host_widgets.proofs.LoadOrders.{load-passed, load-failed}
 use Rattle.host_widgets.proofs.loading.power_up.Goals as goal
 
-pub bring_up-requires-clause-kept : goal.bring_up-requires-clause-kept
-bring_up-requires-clause-kept g c = subst (IsRecordOf c.args.side.now.plan.now) (sym c.requires.kept) (closed-record Unloaded c.args.side.now.plan.now)
+pub bring_up-requires-clause-controls : goal.bring_up-requires-clause-controls
+bring_up-requires-clause-controls g c =
+    subst (λ (r : Record). AreControls c.args.side.now.plan.now.controls r.controls) (sym c.requires.kept) (closed-record Unloaded c.args.side.now.plan.now).controls
 
 pub returns-in-Err-clause-carried : goal.returns-in-Err-clause-carried
 returns-in-Err-clause-carried g c =

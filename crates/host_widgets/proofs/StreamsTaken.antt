@@ -23,9 +23,9 @@ use Rattle.host_widgets.proofs.OneActLaws.{IsStreamAct, stream-taken}
 use Rattle.host_widgets.proofs.ReadyWays.{has_host}
 use Rattle.host_widgets.proofs.StreamFits.{trigger-fits, free-fits, params-fit}
 use Rattle.host_widgets.proofs.StreamRows.{AllAt}
-use Rattle.host_pcm.specs.Asks.{takes_trigger, takes_params}
-use Rattle.host_pcm.proofs.StreamAnswers.{trig-answered, free-answered, prepare-answered}
-use Rattle.host_pcm.proofs.TakenActs.{trig-act, free-act, prepare-act}
+use Rattle.host_widgets.specs.StreamStands.{takes_trigger, takes_params}
+use Rattle.host_widgets.proofs.StreamAnswers.{trig-answered, free-answered, prepare-answered}
+use Rattle.host_widgets.proofs.TakenActs.{trig-act, free-act, prepare-act}
 
 module _ (plan : Plan) (sound : IsSound plan) (kept : Record) (is : IsRecordOf plan kept) (host : ℕ) (some : has_host plan.streams host ≡ true) where
   abbrev pub Stand : (StreamRec → Type 0) → Type 0

@@ -29,7 +29,7 @@ use Rattle.host_widgets.specs.OneAct.{own}
 use Rattle.host_widgets.specs.ViewOf.{record_view, record_setting}
 use Rattle.host_widgets.specs.Host.{IsRecordOf}
 use Rattle.host_widgets.proofs.ActsShow.{trig-seen, free-seen, prepare-seen}
-use Rattle.host_pcm.specs.Asks.{takes_trigger, takes_params}
+use Rattle.host_widgets.specs.StreamStands.{takes_trigger, takes_params}
 use Rattle.host_widgets.proofs.ReadyWays.{has_host}
 use Rattle.host_widgets.proofs.StreamRows.{AllAt, changes, prepares}
 use Rattle.host_widgets.proofs.ActsCome.{answer_by}

@@ -21,7 +21,7 @@ use Rattle.host_widgets.specs.declared.trigger.Trigger.TheVariants.{Start, Stop,
 use Rattle.host_widgets.specs.HostRecord.{closed, may_have, are_in_range}
 use Rattle.host_widgets.specs.Acts.{direction_of}
 use Rattle.host_widgets.specs.Expected.{phase_of}
-use Rattle.host_pcm.specs.Asks.{takes_trigger, takes_params}
+use Rattle.host_widgets.specs.StreamStands.{takes_trigger, takes_params}
 use Rattle.host_widgets.specs.declared.kept.Record.{Record}
 use Rattle.host_widgets.specs.HostActs.{Act, Trig, Free, Prepare, prepared_stream, triggered_stream, triggered_found}
 use Rattle.host_widgets.specs.ActMessages.{act_message}

@@ -1,9 +1,10 @@
 -- What is said: the lines of faults, halts, commands and units.
-use Rattle.std.specs.Prelude.{ℕ, Bool, true, false, ◌==◌, if◌then◌else◌, List, [], ◌∷◌, ◌++◌, codes, decimal}
+use Rattle.std.specs.Prelude.{ℕ, Bool, true, false, if◌then◌else◌, List, [], ◌∷◌, ◌++◌, codes, decimal}
 use Rattle.tplg_model.specs.declared.fault.TplgFault.{TplgFault}
 use Rattle.tplg_model.specs.declared.fault.TplgFault.TheVariants.{Magic, Abi, HeaderSize, Truncated, Payload, Name, ControlKind, Tokens, OutOfMemory}
 use Rattle.sof_script.specs.declared.script.Command.{Command}
 use Rattle.sof_script.specs.declared.script.Command.TheVariants.{Show}
+use Rattle.sof_script.specs.Faults.{cause_words}
 use Rattle.sof_script.specs.Text.{answer_line}
 use Rattle.sof_session.specs.Written.{Out}
 use Rattle.sof_run.specs.declared.prepare.Halt.{Halt}
@@ -33,17 +34,6 @@ topology_fault_words OutOfMemory = []
 -- the line of a fault
 abbrev pub fault_line : TplgFault → List ℕ
 fault_line fault = with_newline (codes "topology " ++ topology_fault_words fault)
-
--- the cause of a script's line at fault
-abbrev pub cause_words : ℕ → List ℕ
-cause_words n =
-    if n == 1 then codes "byte"
-    else if n == 2 then codes "quote"
-    else if n == 3 then codes "word"
-    else if n == 4 then codes "count"
-    else if n == 5 then codes "number"
-    else if n == 6 then codes "hex"
-    else codes "name"
 
 -- the line of a rule of a topology that fails, with its least item
 abbrev pub rule_line : ℕ → ℕ → List ℕ

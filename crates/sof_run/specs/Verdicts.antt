@@ -15,7 +15,7 @@ use Rattle.sof_run.specs.Bindings.{wrong_binding}
 use Rattle.sof_run.specs.Lines.{halt_line, halt_status}
 use Rattle.sof_run.specs.Prepared.{ticks_of}
 
--- neither file has
+-- neither file is longer than its limit
 abbrev pub Fit : List ℕ → List ℕ → Type 0
 Fit topology script = (length topology ≤ 1048576) × (length script ≤ 1048576)
 

@@ -87,7 +87,6 @@ fn do_earlier_tick<D: Desk, P: Dsp>(
     inputs: &mut Inputs,
     outputs: &mut Outputs,
 ) -> bool
-    requires few { session.old.link.sent < 2 ^ 63 }
     requires files { HaveFiles D.means inputs.old outputs.old desk.old }
     requires empty { drained outputs.old ≡ outputs.old }
     ensures phase { (numbered : Numbered) (n : ℕ) → numbered.command ≡ Tick n → Phase D.means P.means (unit_todo (record { numbered = numbered; last = false })) result

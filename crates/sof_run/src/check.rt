@@ -10,8 +10,8 @@ ghost use Rattle.sof_run.specs.Checking as law;
 ghost use Rattle.sof_run.specs.Checking.{check, count_line, counts_of, counts_on};
 
 use crate::files::{LIMIT, fetch, status_of, stop_for};
+use crate::lines::say_digits;
 use crate::prepare::{Halt, ruled_plan, topology_in};
-use itoa::Buffer;
 use sof_desk::{Desk, DeskFailed};
 use sof_script::Line;
 use std::alloc::Global;
@@ -32,10 +32,9 @@ fn write_count(word: &[u8], count: u64, line: &mut Line)
     requires { length word.now ≤ 20 }
     ensures { line.new ≡ with_newline (count_line word.now count) }
 {
-    let mut digits = Buffer::new();
     line.clear();
     line.say(word);
-    line.say(digits.format(count).as_bytes());
+    say_digits(count, line);
     line.say(b"\n");
 }
 

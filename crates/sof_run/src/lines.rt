@@ -1,22 +1,22 @@
 // The lines that are said where files make no run, and where a source is refused.
 ghost use Rattle.std.specs.Prelude.{◌≡◌, ◌+◌, ◌≤◌, ◌++◌, [], ◌∷◌, length, decimal};
 ghost use Rattle.sof_run.specs.Compiling.{list_word as word_of, source_line};
-ghost use Rattle.sof_run.specs.Lines.{topology_fault_words, fault_line, cause_words, script_line, halt_line, halt_status, with_newline};
+ghost use Rattle.sof_run.specs.Lines.{topology_fault_words, fault_line, script_line, halt_line, halt_status, with_newline};
 
 use crate::prepare::Halt;
 use itoa::Buffer;
-use sof_script::Line;
+use sof_script::{Line, cause_word};
 use tplg_compile::{List, SourceFault};
 use tplg_read::TplgFault;
 
-// A place in bytes, behind the bytes of the line.
-fn say_place(at: usize, line: &mut Line)
+/// A number in decimal digits, behind the bytes of the line.
+pub fn say_digits(number: u64, line: &mut Line)
     requires { length line.old + 40 ≤ 2304 }
-    ensures said { line.new ≡ line.old ++ decimal at }
+    ensures said { line.new ≡ line.old ++ decimal number }
     ensures longer { length line.new ≤ length line.old + 40 }
 {
     let mut digits = Buffer::new();
-    line.say(digits.format(at).as_bytes());
+    line.say(digits.format(number).as_bytes());
 }
 
 // A word and a place, behind the bytes of the line.
@@ -26,7 +26,7 @@ fn say_at(word: &[u8], at: usize, line: &mut Line)
     ensures longer { length line.new ≤ length line.old + length word.now + 40 }
 {
     line.say(word);
-    say_place(at, line);
+    say_digits(at as u64, line);
 }
 
 // A word, a place and the number that was found there.
@@ -68,22 +68,6 @@ fn write_fault(fault: TplgFault, line: &mut Line)
     line.say(b"\n");
 }
 
-// The word of a cause.
-fn cause_word(cause: u8) -> &'static [u8]
-    ensures word { result.now ≡ cause_words cause }
-    ensures short { length result.now ≤ 6 }
-{
-    match cause {
-        1 => b"byte",
-        2 => b"quote",
-        3 => b"word",
-        4 => b"count",
-        5 => b"number",
-        6 => b"hex",
-        _ => b"name",
-    }
-}
-
 // The line of a script's line at fault, with its newline.
 fn write_script(number: u32, cause: &[u8], line: &mut Line)
     requires { length cause.now ≤ 20 }
@@ -101,10 +85,9 @@ fn write_script(number: u32, cause: &[u8], line: &mut Line)
 fn write_ticks(sum: u64, line: &mut Line)
     ensures { line.new ≡ halt_line (Halt.Ticks sum) }
 {
-    let mut digits = Buffer::new();
     line.clear();
     line.say(b"ticks ");
-    line.say(digits.format(sum).as_bytes());
+    say_digits(sum, line);
     line.say(b"\n");
 }
 
@@ -129,7 +112,7 @@ pub fn write_halt(halt: Halt, line: &mut Line)
         Halt::Script {
             line: number,
             cause,
-        } => write_script(number, cause_word(cause), line),
+        } => write_script(number, cause_word(cause).as_bytes(), line),
         Halt::Ticks(sum) => write_ticks(sum, line),
         Halt::Broken(fault) => write_fault(fault, line),
         Halt::Rule { rule, item } => write_rule(b"topology rule ", rule, item, line),

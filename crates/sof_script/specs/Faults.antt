@@ -1,5 +1,5 @@
 -- What it means that a line of a script is told.
-use Rattle.std.specs.Prelude.{◌≡◌, ℕ, ◌+◌, List, [], ◌∷◌, ◌++◌, length, Ok, Err}
+use Rattle.std.specs.Prelude.{◌≡◌, ℕ, ◌+◌, ◌==◌, List, [], ◌∷◌, ◌++◌, length, Ok, Err, codes, if◌then◌else◌}
 use Rattle.sof_script.specs.declared.items.Item.{Item}
 use Rattle.sof_script.specs.declared.reading.ScriptFault.{ScriptFault}
 use Rattle.sof_script.specs.declared.reading.ScriptFault.TheVariants.{Line, OutOfMemory}
@@ -25,3 +25,14 @@ pub record IsFirstFault (bytes : List ℕ) (number cause : ℕ) : Type 0 where
 abbrev pub IsToldOf : List ℕ → ScriptFault → Type 0
 IsToldOf bytes (Line number cause) = IsFirstFault bytes number cause
 IsToldOf bytes OutOfMemory = Unit {0}
+
+-- what is said of a cause, from its number
+abbrev pub cause_words : ℕ → List ℕ
+cause_words n =
+    if n == 1 then codes "byte"
+    else if n == 2 then codes "quote"
+    else if n == 3 then codes "word"
+    else if n == 4 then codes "count"
+    else if n == 5 then codes "number"
+    else if n == 6 then codes "hex"
+    else codes "name"

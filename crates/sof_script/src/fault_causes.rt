@@ -1,4 +1,6 @@
 // What can be wrong with a line. Where several causes hold, the least is told.
+ghost use Rattle.std.specs.Prelude.{◌≡◌, ◌≤◌, length};
+ghost use Rattle.sof_script.specs.Faults.{cause_words};
 
 /// A byte outside 0x20 to 0x7E and tab.
 pub const BYTE: u8 = 1;
@@ -22,7 +24,10 @@ pub const HEX: u8 = 6;
 pub const NAME: u8 = 7;
 
 /// The word of a cause, as it stands behind the number of its line.
-pub fn cause_word(cause: u8) -> &'static str {
+pub fn cause_word(cause: u8) -> &'static str
+    ensures word { result.now ≡ cause_words cause }
+    ensures short { length result.now ≤ 6 }
+{
     match cause {
         BYTE => "byte",
         QUOTE => "quote",

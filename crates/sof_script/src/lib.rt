@@ -14,6 +14,7 @@ mod values;
 mod words;
 
 pub use answer::{say_bytes, say_values, write_answer};
+pub use fault_causes::cause_word;
 pub use reading::{ScriptFault, parse};
 pub use script::{Binding, Command, Numbered, Script, ticks};
 pub use sof_base::Line;

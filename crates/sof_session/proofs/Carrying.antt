@@ -17,8 +17,8 @@ use Rattle.host_widgets.specs.Walk.{Walked, walk}
 use Rattle.host_widgets.specs.ActCalls.{next_of, calls_of}
 use Rattle.host_widgets.specs.Orders.{Order, Carried, goes_on_after_refusal, end_by}
 use Rattle.sof_session.specs.Commands.{carried, answer_by}
-use Rattle.sof_session.specs.SessionStep.{known_of}
-use Rattle.sof_session.proofs.Doings.{doing_by, doing-so}
+use Rattle.sof_session.specs.SessionStep.{DidAsMet, known_of}
+use Rattle.sof_session.proofs.Doings.{DidSo, doing_by, doing-so, did-as-met}
 use Rattle.sof_session.proofs.LinkWalks.{Agreed, Same, walks-agree}
 use Rattle.sof_session.proofs.CalmDoings.{doing-calm}
 
@@ -72,9 +72,14 @@ module _ {P : Type 0} (means : Meaning P) (heap : ℕ) where
     few-begun : c.begun.device.sent + length c.meetings < 2 ^ 64 - 1
     few-begun = omega (arith, few, first.sent)
 
+    did : DidSo doing c.begun.device.sent c.begun.device.entries c.meetings
+    did = doing-so c.begun.device.sent c.begun.device.entries c.meetings few-begun
+
+    pub carried-met : DidAsMet doing (queue_of w.device) c.meetings
+    carried-met = subst (λ (q : Queue). DidAsMet doing q c.meetings) first.queue (did-as-met doing c.begun.device.sent c.begun.device.entries c.meetings did)
+
     agreed : Agreed means plan heap (goes_on_after_refusal o.manner) doing kept c.meetings o.acts c.begun c.sent
-    agreed = walks-agree means plan heap (goes_on_after_refusal o.manner) doing o.acts c.meetings kept c.begun c.sent c.walked (first.pending ∙ none) begun-fated.held
-        (doing-so c.begun.device.sent c.begun.device.entries c.meetings (omega (arith, few-begun)))
+    agreed = walks-agree means plan heap (goes_on_after_refusal o.manner) doing o.acts c.meetings kept c.begun c.sent c.walked (first.pending ∙ none) begun-fated.held did
 
     abbrev pub written : Walked Queue
     written = walk plan heap (goes_on_after_refusal o.manner) (next_meeting doing) kept (queue_of w.device) o.acts

@@ -62,7 +62,7 @@ use Rattle.sof_session.proofs.InputMoves.{IsInRange, AllInRange, ticks_in, all-a
 
 -- ---- streams whose parameters are in range
 
-abbrev AreFew : Option Params → Type 0
+abbrev pub AreFew : Option Params → Type 0
 AreFew None = Unit {0}
 AreFew (Some p) = (p.rate ≤ 192000) × (p.channels ≤ 8)
 
@@ -161,11 +161,11 @@ module _ (plan : Plan) (sound : IsSound plan) (kept : Record) (few : AllFew kept
 -- ---- acts
 
 -- an act gives a stream no parameters but some in range
-abbrev IsFewAct : Act → Type 0
+abbrev pub IsFewAct : Act → Type 0
 IsFewAct (Prepare host params) = AreFew (Some params)
 IsFewAct act = Unit {0}
 
-abbrev AreFewActs : List Act → Type 0
+abbrev pub AreFewActs : List Act → Type 0
 AreFewActs acts = AllByRecursion IsFewAct acts
 
 after-few : (plan : Plan) (act : Act) (kept : Record) → IsFewAct act → AllFew kept.streams → AllFew (after plan act kept).streams
@@ -248,10 +248,10 @@ module _ (plan : Plan) (sound : IsSound plan) (heap : ℕ) (goes_on : Bool) (doi
 -- ---- orders
 
 -- its acts give no stream parameters but some in range, and of its first moments at most one is a tick, which no act follows
-record IsPacedOrder (o : Order) : Type 0 where
-  acts : AreFewActs o.acts
-  range : AllInRange o.first
-  ticks : (ticks_in o.first ≡ 0) ⊎ ((ticks_in o.first ≤ 1) × (o.acts ≡ []))
+pub record IsPacedOrder (o : Order) : Type 0 where
+  pub acts : AreFewActs o.acts
+  pub range : AllInRange o.first
+  pub ticks : (ticks_in o.first ≡ 0) ⊎ ((ticks_in o.first ≤ 1) × (o.acts ≡ []))
 
 few-append : (xs ys : List Act) → AreFewActs xs → AreFewActs ys → AreFewActs (xs ++ ys)
 few-append [] ys first rest = rest
@@ -373,7 +373,7 @@ asked-paced : (plan : Plan) (kept : Record) (asked : Option (List ℕ × asks.As
 asked-paced plan kept None none = quiet-paced _
 asked-paced plan kept (Some (name, ask)) none = stream-paced plan kept name ask none
 
-order-paced : (plan : Plan) (kept : Record) → AllFew kept.streams → (command : Command) → fault_of plan kept command ≡ None → IsPacedOrder (order_of plan kept command)
+pub order-paced : (plan : Plan) (kept : Record) → AllFew kept.streams → (command : Command) → fault_of plan kept command ≡ None → IsPacedOrder (order_of plan kept command)
 order-paced plan kept few commands.Load none = record { acts = few-up plan kept; range = tt; ticks = inl refl }
 order-paced plan kept few commands.Unload none = unload-paced plan kept
 order-paced plan kept few commands.Show none = quiet-paced _
@@ -391,7 +391,7 @@ order-paced plan kept few command none = asked-paced plan kept (asking command) 
 -- ---- a command
 
 -- its last moment, if any, is a cut
-end-paced : (manner : Manner) (plan : Plan) (done : Record → Record) (start now : Record) (o : Outcome) → AllInRange (end_by manner plan done start now o).1 × (ticks_in (end_by manner plan done start now o).1 ≡ 0)
+pub end-paced : (manner : Manner) (plan : Plan) (done : Record → Record) (start now : Record) (o : Outcome) → AllInRange (end_by manner plan done start now o).1 × (ticks_in (end_by manner plan done start now o).1 ≡ 0)
 end-paced Plain plan done start now (Ok passed) = (tt, refl)
 end-paced Plain plan done start now (Err LinkDown) = (tt, refl)
 end-paced Plain plan done start now (Err fault) = (tt, refl)

@@ -14,6 +14,7 @@ use Rattle.host_widgets.specs.declared.answers.HostFault.TheVariants.{Refused}
 use Rattle.host_widgets.specs.Host.{errno, judged, verdict}
 use Rattle.host_widgets.proofs.ReplyErrors.{decoded-error, negative-fits}
 use Rattle.mbox_link.specs.Meetings.{Meeting, Doing, fate_met, planned, without_entry}
+use Rattle.sof_session.specs.SessionStep.{DidAsMet}
 use Rattle.host_widgets.specs.OneAct.{own}
 use Rattle.host_widgets.specs.ActCalls.{came_to}
 
@@ -75,3 +76,11 @@ doing-so sent entries (m ∷ ms) few =
   where
     other : (number : ℕ) → more sent < number → (number == more sent) ≡ false
     other number later = grind (arith, later)
+
+-- so it did what they met
+pub did-as-met : (doing : Doing) (sent : ℕ) (entries : List Entry) (ms : List Meeting) → DidSo doing sent entries ms → DidAsMet doing (record { sent = sent; entries = entries }) ms
+did-as-met doing sent entries [] so = tt
+did-as-met doing sent entries (m ∷ ms) so = (
+  (λ passes. subst (λ (fate : Fate). fate_met fate (doing (more sent)) ≡ fate_met fate m.fate) passes so.0),
+  did-as-met doing (more sent) (without_entry (more sent) entries) ms so.1,
+)

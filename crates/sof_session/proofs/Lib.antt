@@ -6,6 +6,7 @@ pub mod Keeping
 pub mod Writings
 pub mod SameDoings
 pub mod SameNext
+pub mod RankedRuns
 pub mod OneRun
 pub mod RunBoots
 pub mod StepCounts

@@ -75,7 +75,7 @@ module _ {P : Type 0} (means : Meaning P) (old new : Seat P) (io : Io) (empty : 
           none = λ stayed number. refl;
           known_is = c.known_so ∙ ap (λ (x : Came). x.known) (sym (nexts calm));
           answer_is = c.answer_so ∙ ap (λ (x : Came). x.answer) (sym (nexts calm));
-          calls = subst (λ (b : Bool). CallsBy means old.plan old.heap (next.order_of old.plan old.kept command) old.kept new.kept w v answer b (fault_of old.plan old.kept command)) (sym plans) (c.device_so, refl);
+          calls = subst (λ (b : Bool). CallsBy means old.plan old.heap calm (next.order_of old.plan old.kept command) old.kept new.kept w v answer b (fault_of old.plan old.kept command)) (sym plans) (c.device_so, refl);
           stands = subst (Standing means w v) (c.moments_so ∙ ap (λ (x : Came). x.moments) (sym (nexts calm))) (stays-standing means w v (ap means.on c.device_so) refl empty);
         }
 
@@ -112,6 +112,6 @@ show_stepped means old io empty = record {
   none = λ stayed number. refl;
   known_is = refl;
   answer_is = refl;
-  calls = (Ok tt, record { meetings = []; begun = at old.link io; sent = at old.link io; first = refl; walked = (refl, refl); came = refl; ends = (refl, refl) }, refl);
+  calls = (Ok tt, record { meetings = []; begun = at old.link io; sent = at old.link io; first = refl; walked = (refl, refl); came = refl; ends = (refl, refl) }, refl, tt);
   stands = stays-standing means (at old.link io) (at old.link io) refl refl empty;
 }

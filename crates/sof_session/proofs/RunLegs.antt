@@ -167,11 +167,11 @@ module _ {P : Type 0} (means : Meaning P) (g : Ground) where
     is-record = subst (λ (k : Known). IsRecordOf g.plan k.kept) is-at.known_is (subst (λ (plan : Plan). IsRecordOf plan seat'.kept) is-at.plan_is c.agrees.agree.record_is)
 
     pub steadily : Steady means seat.link.device seat'.link.device
-    steadily = step-inside means seat.plan seat.heap seat.kept seat'.kept (world seat.link inputs (empty_outputs slots)) (world seat'.link inputs' c.outputs) out.answer command c.stepped.calls
+    steadily = step-inside means seat.plan seat.heap seat.kept seat'.kept (world seat.link inputs (empty_outputs slots)) (world seat'.link inputs' c.outputs) out.answer command doing c.stepped.calls
 
     pub booted : means.boots seat'.link.device ≡ raised (boots_in come.moments) (means.boots seat.link.device)
     booted =
-        step-boots means seat.plan seat.heap seat.kept seat'.kept (world seat.link inputs (empty_outputs slots)) (world seat'.link inputs' c.outputs) out.answer command c.stepped.calls doing
+        step-boots means seat.plan seat.heap seat.kept seat'.kept (world seat.link inputs (empty_outputs slots)) (world seat'.link inputs' c.outputs) out.answer command doing c.stepped.calls
         ∙ ap (λ (x : Came). raised (boots_in x.moments) (means.boots seat.link.device)) to
 
     -- and those behind it

@@ -41,10 +41,10 @@ module _ {P : Type 0} (means : Meaning P) (plan : Plan) (heap : ℕ) where
 
   -- a command
   module _ (kept kept' : Record) (w v : World (Wire P)) (answer : Answer) where
-    calls-inside : (o : Order) (b : Bool) (fault : Option HostFault) → CallsBy means plan heap o kept kept' w v answer b fault → Inside w v
-    calls-inside o true fault calls = Steady-none means w.device.device v.device.device calls.0
-    calls-inside o false (Some fault) calls = same_world w v calls
-    calls-inside o false None calls = order-inside o kept kept' w v calls.0 calls.1
+    calls-inside : (doing : Doing) (o : Order) (b : Bool) (fault : Option HostFault) → CallsBy means plan heap doing o kept kept' w v answer b fault → Inside w v
+    calls-inside doing o true fault calls = Steady-none means w.device.device v.device.device calls.0
+    calls-inside doing o false (Some fault) calls = same_world w v calls
+    calls-inside doing o false None calls = order-inside o kept kept' w v calls.0 calls.1
 
     abbrev known : Known
     known = known_of w.device kept
@@ -52,20 +52,20 @@ module _ {P : Type 0} (means : Meaning P) (plan : Plan) (heap : ℕ) where
     abbrev BootsBy : Came → Type 0
     BootsBy c = means.boots v.device.device ≡ raised (boots_in c.moments) (means.boots w.device.device)
 
-    tested-boots : (doing : Doing) (o : Order) (fault : Option HostFault) → CallsBy means plan heap o kept kept' w v answer false fault → BootsBy (tested plan heap doing known o fault)
+    tested-boots : (doing : Doing) (o : Order) (fault : Option HostFault) → CallsBy means plan heap doing o kept kept' w v answer false fault → BootsBy (tested plan heap doing known o fault)
     tested-boots doing o (Some fault) calls = ap (λ (x : World (Wire P)). means.boots x.device.device) calls
     tested-boots doing o None calls =
         order-boots (link means) plan heap o kept kept' w v calls.0 calls.1 ∙ sym (carried-boots plan heap doing known o (means.boots w.device.device))
 
-    module _ (command : Command) (calls : CallsBy means plan heap (order_of plan kept command) kept kept' w v answer (is_plan command) (fault_of plan kept command)) where
+    module _ (command : Command) (doing : Doing) (calls : CallsBy means plan heap doing (order_of plan kept command) kept kept' w v answer (is_plan command) (fault_of plan kept command)) where
       pub step-inside : Inside w v
-      step-inside = calls-inside (order_of plan kept command) (is_plan command) (fault_of plan kept command) calls
+      step-inside = calls-inside doing (order_of plan kept command) (is_plan command) (fault_of plan kept command) calls
 
       abbrev Calls : Bool → Type 0
-      Calls b = CallsBy means plan heap (order_of plan kept command) kept kept' w v answer b (fault_of plan kept command)
+      Calls b = CallsBy means plan heap doing (order_of plan kept command) kept kept' w v answer b (fault_of plan kept command)
 
-      pub step-boots : (doing : Doing) → BootsBy (next plan heap doing known command)
-      step-boots doing =
+      pub step-boots : BootsBy (next plan heap doing known command)
+      step-boots =
           elim (cases_Bool (is_plan command)) [
             | inl is ↦
                 let p = is-planned plan heap known command is in

@@ -1,114 +1,130 @@
--- How far a session's step moves its inputs, where the device and the inputs stand at a place of a run.
-use Rattle.std.proofs.Common.{◌≡◌, refl, sym, ap, ◌∙◌, subst, ℕ, ◌+◌, ◌*◌, ◌-◌, ◌≤◌, List, [], ◌∷◌, ◌++◌, Bool, true, false, ◌||◌, cond, ◌==◌, Option, Some, None, inl, inr, arith}
-use Rattle.std.specs.Prelude.{find}
-use Rattle.std.specs.Option.{option_map_or}
-use Rattle.std.proofs.lemmas.Bool.{cases_Bool, false≢true}
-use Rattle.sof_base.specs.Ports.{Io, InputView}
-use Rattle.stream_law.specs.State.{FwState}
-use Rattle.stream_law.specs.Table.{number_of}
-use Rattle.stream_law.specs.Past.{Moment, Cut, Tick, Past, new_life}
-use Rattle.stream_law.specs.Stands.{Stands, HasRead, HoldsWhereOn, SameView, Reads, is_bound, position_of}
-use Rattle.stream_law.proofs.Standing.{Stands-cut}
-use Rattle.mbox_link.specs.Calls.{World, Meaning}
+-- How far a session's step moves its inputs: by the ticks before its messages, or by its own.
+use Rattle.std.proofs.Common.{◌≡◌, refl, sym, ap, ◌∙◌, subst, ℕ, ◌+◌, ◌*◌, ◌-◌, ◌≤◌, List, [], ◌∷◌, Bool, true, false, Option, Some, None, ⊎_elim, ◌⊎◌, arith}
+use Rattle.sof_base.specs.Ports.{Io}
+use Rattle.stream_law.specs.Past.{Moment, Boot, Cut, Now, Tick}
+use Rattle.stream_law.specs.Stands.{position_of}
+use Rattle.mbox_link.specs.Calls.{World, Meaning, Led, MovesBy}
+use Rattle.mbox_link.specs.Link.{link}
+use Rattle.mbox_link.specs.Meetings.{Meeting}
 use Rattle.mbox_link.specs.Wire.{Wire}
+use Rattle.tplg_plan.specs.declared.plans.Plan.{Plan}
 use Rattle.host_widgets.specs.declared.answers.Answer.{Answer}
-use Rattle.host_widgets.specs.declared.kept.Power.{Power}
-use Rattle.host_widgets.specs.declared.kept.Power.TheVariants.{Unloaded, On, Off}
-use Rattle.host_widgets.specs.Orders.{where_on}
+use Rattle.host_widgets.specs.declared.answers.HostFault.{HostFault}
+use Rattle.host_widgets.specs.declared.kept.Record.{Record}
+use Rattle.host_widgets.specs.ActCalls.{ActsDid, Onwards, calls_of, next_of}
+use Rattle.host_widgets.specs.Host.{Outcome}
+use Rattle.host_widgets.specs.HostActs.{Act}
+use Rattle.host_widgets.specs.OneAct.{one_act}
+use Rattle.host_widgets.specs.Orders.{Order, Carried, end_by, goes_on_after_refusal}
+use Rattle.host_widgets.specs.Walk.{walk, goes_past}
 use Rattle.sof_script.specs.declared.script.Command.{Command}
-use Rattle.sof_script.specs.declared.script.Command.TheVariants as commands
-use Rattle.sof_session.specs.Agreement.{AreAgreed, Powered}
-use Rattle.sof_session.specs.Commands.{next}
-use Rattle.sof_session.specs.Fills.{input_ends}
+use Rattle.sof_session.specs.Agreement.{AreAgreed}
+use Rattle.sof_session.specs.Commands.{order_of, is_plan}
+use Rattle.sof_session.specs.CommandTests.{fault_of}
 use Rattle.sof_session.specs.Seat.{Seat}
-use Rattle.sof_session.specs.SessionStep.{StandsAt, MovesBy, known_of}
+use Rattle.sof_session.specs.SessionStep.{CallsBy}
 use Rattle.sof_session.proofs.Agreement.{at}
-use Rattle.sof_session.proofs.CommandMoves.{few-record, record-in-range, next-paced}
-use Rattle.sof_session.proofs.InputMoves.{IsInRange, AllInRange, empty-in-range, leads-moves, ticks_in}
+use Rattle.sof_session.proofs.CommandMoves.{few-record, order-paced, end-paced}
+use Rattle.sof_session.proofs.InputMoves.{ticks_in}
 use Rattle.sof_session.proofs.Stepping.{SteppedIn}
 
--- ---- positions
+module _ {D : Type 0} (means : Meaning D) where
+  -- ---- moments
 
-abbrev is_in : List (ℕ × Bool) → ℕ → Bool
-is_in [] slot = false
-is_in (x ∷ xs) slot = (x.0 == slot) || is_in xs slot
+  -- so many ticks were made of themselves
+  record HasTicked (n : ℕ) (w v : World D) : Type 0 where
+    pending : means.pending v.device ≡ means.pending w.device
+    moves : MovesBy (61440 * n) w.io.inputs v.io.inputs
 
--- which slots are bound, by those of the inputs
-bound-by : (inputs : List InputView) (slot : ℕ) → is_bound inputs slot ≡ is_in (input_ends inputs) slot
-bound-by [] slot = refl
-bound-by (x ∷ xs) slot = ap (λ (b : Bool). (x.slot == slot) || b) (bound-by xs slot)
+  ticked-none : (w v : World D) → v ≡ w → HasTicked 0 w v
+  ticked-none w v same = subst (HasTicked 0 w) (sym same) (record { pending = refl; moves = λ slot. omega arith })
 
--- an input that is not bound has no position
-unbound-zero : (inputs : List InputView) (slot : ℕ) → is_bound inputs slot ≡ false → position_of inputs slot ≡ 0
-unbound-zero [] slot = λ none. refl
-unbound-zero (x ∷ xs) slot = by (x.slot == slot) (unbound-zero xs slot)
-  where
-    by : (h : Bool) → (is_bound xs slot ≡ false → position_of xs slot ≡ 0) → (h || is_bound xs slot) ≡ false → option_map_or (λ (y : InputView). y.position) (cond h (Some x) (find (λ (y : InputView). y.slot == slot) xs)) 0 ≡ 0
-    by true rest none = absurd (false≢true (sym none))
-    by false rest none = rest none
+  -- behind a call that leaves the endpoints
+  ticked-behind : (n : ℕ) (w m v : World D) → means.pending m.device ≡ means.pending w.device → m.io ≡ w.io → HasTicked n m v → HasTicked n w v
+  ticked-behind n w m v pending io rest = record {
+    pending = rest.pending ∙ pending;
+    moves = subst (λ (x : Io). MovesBy (61440 * n) x.inputs v.io.inputs) io rest.moves;
+  }
 
--- where pasts moved by so much, so did the inputs
-inputs-moved : (whole : List (ℕ × List ℕ)) (old new : List InputView) (p q : Past) (most slot : ℕ) → HasRead whole old p → HasRead whole new q → is_bound new slot ≡ is_bound old slot → number_of q.positions slot ≤ number_of p.positions slot + most → position_of new slot ≤ position_of old slot + most
-inputs-moved whole old new p q most slot before after same moved =
-    elim (cases_Bool (is_bound old slot)) [
-      | inl bound ↦ let first = before.positions slot bound in let last = after.positions slot (same ∙ bound) in omega (arith, first, last, moved)
-      | inr free ↦ let none = unbound-zero new slot (same ∙ free) in omega (arith, none)
-    ]
+  moments-ticked : (heap : ℕ) (ms : List Moment) (w v : World D) → Led means w (calls_of heap ms) v → HasTicked (ticks_in ms) w v
+  moments-ticked heap [] w v led = ticked-none w v led
+  moments-ticked heap (Boot ∷ ms) w v led = ticked-behind (ticks_in ms) w led.0 v led.1.0.quiet.pending led.1.1 (moments-ticked heap ms led.0 v led.2)
+  moments-ticked heap (Cut ∷ ms) w v led = ticked-behind (ticks_in ms) w led.0 v led.1.0.quiet.pending led.1.1 (moments-ticked heap ms led.0 v led.2)
+  moments-ticked heap (Now view fresh ∷ ms) w v led = moments-ticked heap ms w v led
+  moments-ticked heap (Tick ∷ ms) w v led =
+      let rest = moments-ticked heap ms led.0 v led.2 in
+      record {
+        pending = rest.pending ∙ led.1.quiet.pending;
+        moves = λ slot. let first : position_of led.0.io.inputs slot ≤ position_of w.io.inputs slot + 61440 = led.1.moves slot in omega (arith, first, rest.moves slot);
+      }
+
+  -- ---- acts
+
+  -- no tick was made but those that are not pending any more
+  record HasSent (w v : World D) : Type 0 where
+    pending : means.pending v.device ≤ means.pending w.device
+    moves : MovesBy (61440 * (means.pending w.device - means.pending v.device)) w.io.inputs v.io.inputs
+
+  sent-none : (w v : World D) → v ≡ w → HasSent w v
+  sent-none w v same = subst (HasSent w) (sym same) (record { pending = omega arith; moves = λ slot. omega arith })
+
+  sent-then : (w m v : World D) → HasSent w m → HasSent m v → HasSent w v
+  sent-then w m v first then = record {
+    pending = omega (arith, first.pending, then.pending);
+    moves = λ slot.
+        (let now : position_of m.io.inputs slot ≤ position_of w.io.inputs slot + 61440 * (means.pending w.device - means.pending m.device) = first.moves slot in
+        omega (arith, first.pending, then.pending, now, then.moves slot));
+  }
+
+  acts-sent : (plan : Plan) (heap : ℕ) (goes_on : Bool) (kept : Record) (acts : List Act) (ms : List Meeting) (w v : World D) → ActsDid means plan heap goes_on kept acts ms w v → HasSent w v
+  acts-sent plan heap goes_on kept [] ms w v did = sent-none w v did.1
+  acts-sent plan heap goes_on kept (act ∷ acts) [] w v did = absurd did
+  acts-sent plan heap goes_on kept (act ∷ acts) (m ∷ ms) w v did =
+      sent-then w did.0 v (record { pending = did.1.exchanged.steady.pending; moves = did.1.exchanged.moves })
+      (by (goes_past goes_on (one_act plan heap kept act m).outcome) did.2 (λ rest. acts-sent plan heap goes_on (one_act plan heap kept act m).kept acts ms did.0 v rest))
+    where
+      by : (b : Bool) → Onwards b ms did.0 v (ActsDid means plan heap goes_on (one_act plan heap kept act m).kept acts ms did.0 v) →
+          (ActsDid means plan heap goes_on (one_act plan heap kept act m).kept acts ms did.0 v → HasSent did.0 v) → HasSent did.0 v
+      by true rest on = on rest
+      by false over on = sent-none did.0 v over.1
+
+  -- ---- an order
+
+  -- its first moments, its acts and its last moments, of which no tick is
+  order-moves : (plan : Plan) (heap : ℕ) (o : Order) (kept kept' : Record) (w v : World D) (result : Outcome) → Carried means plan heap o kept kept' w v result → means.pending w.device ≤ 16 →
+      (ticks_in o.first ≡ 0) ⊎ ((ticks_in o.first ≤ 1) × (o.acts ≡ [])) → MovesBy 983040 w.io.inputs v.io.inputs
+  order-moves plan heap o kept kept' w v result c few paced slot =
+      let met = walk plan heap (goes_on_after_refusal o.manner) next_of kept c.meetings o.acts in
+      let first = moments-ticked heap o.first w c.begun c.first in
+      let last = moments-ticked heap (end_by o.manner plan o.done kept met.kept met.outcome).1 c.sent v c.ends.1 in
+      let none = (end-paced o.manner plan o.done kept met.kept met.outcome).1 in
+      let sent = acts-sent plan heap (goes_on_after_refusal o.manner) kept o.acts c.meetings c.begun c.sent c.walked in
+      let begun : position_of c.begun.io.inputs slot ≤ position_of w.io.inputs slot + 61440 * ticks_in o.first = first.moves slot in
+      let over : position_of v.io.inputs slot ≤ position_of c.sent.io.inputs slot = let at = last.moves slot in omega (arith, at, none) in
+      ⊎_elim
+      (λ (zero : ticks_in o.first ≡ 0).
+      (let walked : position_of c.sent.io.inputs slot ≤ position_of c.begun.io.inputs slot + 61440 * (means.pending c.begun.device - means.pending c.sent.device) = sent.moves slot in
+      omega (arith, few, zero, first.pending, sent.pending, begun, walked, over)))
+      (λ (one : (ticks_in o.first ≤ 1) × (o.acts ≡ [])).
+      (let still : c.sent ≡ c.begun = (subst (λ (acts : List Act). ActsDid means plan heap (goes_on_after_refusal o.manner) kept acts c.meetings c.begun c.sent) one.1 c.walked).1 in
+      let stays : position_of c.sent.io.inputs slot ≡ position_of c.begun.io.inputs slot = ap (λ (x : World D). position_of x.io.inputs slot) still in
+      omega (arith, one.0, begun, stays, over)))
+      paced
 
 -- ---- a step
 
-module _ {P : Type 0} (means : Meaning P) (old new : Seat P) (io io' : Io) (agreed : AreAgreed means old) (same : input_ends io'.inputs ≡ input_ends io.inputs) (answer : Answer) (command : Command) (stepped : SteppedIn means old new io io' answer command) where
-  abbrev w : World (Wire P)
-  w = at old.link io
+module _ {P : Type 0} (means : Meaning P) (old new : Seat P) (io io' : Io) (agreed : AreAgreed means old) (answer : Answer) (command : Command) where
+  pub step-moves : SteppedIn means old new io io' answer command → MovesBy 983040 io.inputs io'.inputs
+  step-moves stepped = by (is_plan command) (fault_of old.plan old.kept command) refl stepped.calls
+    where
+      still : io' ≡ io → MovesBy 983040 io.inputs io'.inputs
+      still same = subst (λ (x : Io). MovesBy 983040 io.inputs x.inputs) (sym same) (λ slot. omega arith)
 
-  abbrev v : World (Wire P)
-  v = at new.link io'
-
-  abbrev moments : List Moment
-  moments = (next old.plan old.heap stepped.doing (known_of old.link old.kept) command).moments
-
-  paced : AllInRange moments × (ticks_in moments ≤ 16)
-  paced = next-paced old.plan agreed.sound old.heap stepped.doing (known_of old.link old.kept) agreed.agree.record_is agreed.fated.held.few command
-
-  -- from a place in range
-  from-range : (most : ℕ) → ticks_in moments * 61440 ≤ most → (whole : List (ℕ × List ℕ)) (before : List Moment) (past : Past) → StandsAt means whole before past w → IsInRange past.view → (slot : ℕ) → position_of io'.inputs slot ≤ position_of io.inputs slot + most
-  from-range most few whole before past stood range slot =
-      let s = stepped.stands whole before past stood in
-      let by = leads-moves whole slot moments past s.0 s.1 range paced.0 in
-      let read : HasRead whole io.inputs past = subst (HasRead whole io.inputs) stood.1 stood.0.read in
-      let later : HasRead whole io'.inputs s.0 = subst (HasRead whole io'.inputs) s.2.1 s.2.0.read in
-      inputs-moved whole io.inputs io'.inputs past s.0 most slot read later (bound-by io'.inputs slot ∙ ap (λ (ends : List (ℕ × Bool)). is_in ends slot) same ∙ sym (bound-by io.inputs slot)) (omega (arith, by.1, few))
-
-  -- one that is off is as good as cut
-  from-off : (most : ℕ) → ticks_in moments * 61440 ≤ most → means.on old.link.device ≡ None → (whole : List (ℕ × List ℕ)) (before : List Moment) (past : Past) → StandsAt means whole before past w → (slot : ℕ) → position_of io'.inputs slot ≤ position_of io.inputs slot + most
-  unfolding Stands-cut
-  from-off most few off whole before past stood slot =
-      let reads : Reads whole io.inputs before = record { past = stood.0.past; led = stood.0.led; read = stood.0.read } in
-      let cut : StandsAt means whole (before ++ Cut ∷ []) (new_life false stood.0.past) w = subst (λ (o : Option FwState). (stands : Stands o whole io.inputs (before ++ Cut ∷ [])) × (stands.past ≡ new_life false stood.0.past)) (sym off) (Stands-cut whole io.inputs before reads, refl) in
-      from-range most few whole (before ++ Cut ∷ []) (new_life false stood.0.past) cut empty-in-range slot
-
-  -- one that is on has the view of the record
-  from-on : (most : ℕ) → ticks_in moments * 61440 ≤ most → (power : Power) → Powered means old power → MovesBy means most w v
-  from-on most few Unloaded powered whole before past stood = from-off most few powered whole before past stood
-  from-on most few Off powered whole before past stood = from-off most few powered whole before past stood
-  from-on most few On powered whole before past stood =
-      let holds = subst (λ (o : Option FwState). HoldsWhereOn SameView o stood.0.past) powered.1 stood.0.holds in
-      let is = sym powered.2.view ∙ holds.view ∙ ap (λ (p : Past). p.view) stood.1 in
-      from-range most few whole before past stood (subst IsInRange is (record-in-range old.plan agreed.sound old.kept (few-record old.plan old.kept agreed.agree.record_is)))
-
-  pub step-moves : MovesBy means 983040 w v
-  step-moves = from-on 983040 (let few = paced.1 in omega (arith, few)) old.kept.power agreed.powered
-
-  -- a command whose moments have at most one tick
-  pub few-moves : ticks_in moments ≤ 1 → MovesBy means 61440 w v
-  few-moves few = from-on 61440 (omega (arith, few)) old.kept.power agreed.powered
-
--- a tick, whatever its number
-module _ {P : Type 0} (means : Meaning P) (old new : Seat P) (io io' : Io) (agreed : AreAgreed means old) (same : input_ends io'.inputs ≡ input_ends io.inputs) (answer : Answer) (number : ℕ) (stepped : SteppedIn means old new io io' answer (commands.Tick number)) where
-  one-at-most : (power : Power) → ticks_in (where_on power (Tick ∷ []) ++ []) ≤ 1
-  one-at-most On = omega arith
-  one-at-most Unloaded = omega arith
-  one-at-most Off = omega arith
-
-  pub tick-moves : MovesBy means 61440 (at old.link io) (at new.link io')
-  tick-moves = few-moves means old new io io' agreed same answer (commands.Tick number) stepped (one-at-most old.kept.power)
+      by : (plans : Bool) (fault : Option HostFault) → fault_of old.plan old.kept command ≡ fault →
+          CallsBy means old.plan old.heap stepped.doing (order_of old.plan old.kept command) old.kept new.kept (at old.link io) (at new.link io') answer plans fault → MovesBy 983040 io.inputs io'.inputs
+      by true fault is calls = still calls.1
+      by false (Some fault) is calls = still (ap (λ (w : World (Wire P)). w.io) calls)
+      by false None is calls =
+          let few = few-record old.plan old.kept agreed.agree.record_is in
+          order-moves (link means) old.plan old.heap (order_of old.plan old.kept command) old.kept new.kept (at old.link io) (at new.link io') calls.0 calls.1
+          (omega (arith, agreed.fated.held.few, agreed.pending)) (order-paced old.plan old.kept few command is).ticks

@@ -24,7 +24,7 @@ use Rattle.sof_session.specs.SessionStep.{CommandDone, StandsAt, CallsBy, known_
 use Rattle.sof_session.specs.SessionCalls.{ports}
 use Rattle.sof_session.specs.Written.{written_between, written_in}
 use Rattle.sof_session.proofs.Agreement.{at}
-use Rattle.sof_session.proofs.Carrying.{doing, carried-known, carried-answer, carried-calm}
+use Rattle.sof_session.proofs.Carrying.{doing, carried-known, carried-answer, carried-met, carried-calm}
 use Rattle.sof_session.proofs.Writings.{gained-written}
 
 module _ {P : Type 0} (means : Meaning P) (w v : World (Wire P)) where
@@ -54,8 +54,8 @@ module _ {P : Type 0} (means : Meaning P) (plan : Plan) (heap : ℕ) (command : 
 
   -- a command that plans nothing is tested, and then its order is carried out
   module _ (nexts : (doing : Doing) (known : Known) → next plan heap doing known command ≡ tested plan heap doing known (order_of plan known.kept command) (fault_of plan known.kept command)) (plans : is_plan command ≡ false) where
-    abbrev CallsSo : Bool → Option HostFault → Type 0
-    CallsSo planned fault = CallsBy means plan heap (order_of plan kept command) kept kept' w v answer planned fault
+    abbrev CallsSo : Doing → Bool → Option HostFault → Type 0
+    CallsSo doing planned fault = CallsBy means plan heap doing (order_of plan kept command) kept kept' w v answer planned fault
 
     -- a test failed
     pub early-stepped : (fault : HostFault) → fault_of plan kept command ≡ Some fault → answer ≡ Fault fault → v ≡ w → kept' ≡ kept → drained w.io.outputs ≡ w.io.outputs → SteppedSo
@@ -66,7 +66,7 @@ module _ {P : Type 0} (means : Meaning P) (plan : Plan) (heap : ℕ) (command : 
           none = λ stayed number. refl;
           known_is = (λ i. known_of (same i).device (stays i)) ∙ ap (λ (c : Came). c.known) (sym next-is);
           answer_is = said ∙ ap (λ (c : Came). c.answer) (sym next-is);
-          calls = subst (λ (x : Bool × Option HostFault). CallsSo x.0 x.1) (λ i. (sym plans i, sym fails i)) same;
+          calls = subst (λ (x : Bool × Option HostFault). CallsSo calm x.0 x.1) (λ i. (sym plans i, sym fails i)) same;
           stands = subst (Standing means w v) (ap (λ (c : Came). c.moments) (sym next-is)) (stays-standing means w v (ap (λ (x : World (Wire P)). means.on x.device.device) same) (ap (λ (x : World (Wire P)). x.io) same) empty);
         }
 
@@ -87,7 +87,8 @@ module _ {P : Type 0} (means : Meaning P) (plan : Plan) (heap : ℕ) (command : 
         none = λ stayed. carried-calm means heap plan (order_of plan kept command) kept kept' w v result c none fated few (record { faults = stayed.faults; refusals = stayed.refusals });
         known_is = carried-known means heap plan (order_of plan kept command) kept kept' w v result c none fated few ∙ ap (λ (x : Came). x.known) (sym next-is);
         answer_is = said ∙ carried-answer means heap plan (order_of plan kept command) kept kept' w v result c none fated few ∙ ap (λ (x : Came). x.answer) (sym next-is);
-        calls = subst (λ (x : Bool × Option HostFault). CallsSo x.0 x.1) (λ i. (sym plans i, sym passes i)) (result, c, said);
+        calls = subst (λ (x : Bool × Option HostFault). CallsSo does x.0 x.1) (λ i. (sym plans i, sym passes i))
+            (result, c, said, carried-met means heap plan (order_of plan kept command) kept kept' w v result c none fated few);
         stands = subst (Standing means w v) (ap (λ (x : Came). x.moments) (sym next-is)) standing;
       }
 

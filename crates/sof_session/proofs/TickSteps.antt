@@ -1,5 +1,5 @@
 -- What a tick does to a session.
-use Rattle.std.proofs.Common.{◌≡◌, false, refl, sym, ap, subst, ℕ, ◌+◌, ◌<◌, ◌-◌, ◌^◌, [], ◌∷◌, length, Option, Some, Ok, arith}
+use Rattle.std.proofs.Common.{◌≡◌, refl, sym, ap, subst, ℕ, [], ◌∷◌, Option, Some, Ok}
 use Rattle.std.proofs.lemmas.List.{append-nil}
 use Rattle.sof_base.specs.Ports.{Io, drained}
 use Rattle.stream_law.specs.State.{FwState, view_of}
@@ -8,6 +8,7 @@ use Rattle.stream_law.specs.Stands.{IsPlayable}
 use Rattle.mbox_link.specs.Calls.{World, Meaning}
 use Rattle.mbox_link.specs.Wire.{Wire}
 use Rattle.mbox_link.specs.Link.{link}
+use Rattle.mbox_link.specs.Meetings.{calm, queue_of}
 use Rattle.tplg_plan.specs.Sound.{IsSound}
 use Rattle.host_widgets.specs.declared.answers.Answer.TheVariants.{Done}
 use Rattle.host_widgets.specs.declared.kept.Power.{Power}
@@ -19,11 +20,11 @@ use Rattle.host_widgets.proofs.StandingOn.{StandsOn, one-tick}
 use Rattle.sof_script.specs.declared.script.Command.TheVariants as commands
 use Rattle.sof_session.specs.Agreement.{AreAgreed, Powered}
 use Rattle.sof_session.specs.Seat.{Seat}
-use Rattle.sof_session.specs.SessionStep.{CommandDone}
+use Rattle.sof_session.specs.SessionStep.{CommandDone, DidAsMet}
 use Rattle.sof_session.proofs.Agreement.{at}
-use Rattle.sof_session.proofs.FewMeetings.{few-meetings}
+use Rattle.sof_session.proofs.Carrying.{quietly}
 use Rattle.sof_session.proofs.TickAgreement.{TickedBy}
-use Rattle.sof_session.proofs.Stepping.{Standing, late-stepped, standing-by, stays-standing}
+use Rattle.sof_session.proofs.Stepping.{Standing, standing-by, stays-standing}
 
 -- ---- a tick of a device that is on
 
@@ -61,13 +62,25 @@ module _ {P : Type 0} (means : Meaning P) (old new : Seat P) (io io' : Io) (empt
   stands sound Unloaded same powered = stays-standing means w v (ap (λ (x : Wire P). means.on x.device) same.0) same.1 empty
   stands sound Off same powered = stays-standing means w v (ap (λ (x : Wire P). means.on x.device) same.0) same.1 empty
 
-  pub tick_stepped : AreAgreed means old → old.link.sent < 2 ^ 63 → new.kept ≡ old.kept → TickedBy means old.kept.power old.link new.link io io' → (number : ℕ) →
+  -- nothing is sent
+  queued : (power : Power) → TickedBy means power old.link new.link io io' → queue_of new.link ≡ queue_of old.link
+  queued On tick = (quietly means old.heap (Tick ∷ []) w v (v, tick, refl)).queue
+  queued Unloaded same = ap queue_of same.0
+  queued Off same = ap queue_of same.0
+
+  none-met : (kept : new.kept ≡ old.kept) (power : Power) (tick : TickedBy means power old.link new.link io io') → DidAsMet calm (queue_of old.link) (carries kept power tick).meetings
+  unfolding carries
+  none-met kept On tick = tt
+  none-met kept Unloaded same = tt
+  none-met kept Off same = tt
+
+  pub tick_stepped : AreAgreed means old → new.kept ≡ old.kept → TickedBy means old.kept.power old.link new.link io io' → (number : ℕ) →
       CommandDone means old.plan old.heap (commands.Tick number) old.kept new.kept w v Done
-  tick_stepped agreed few kept calls number =
-      let c = carries kept old.kept.power calls in
-      late-stepped means old.plan old.heap (commands.Tick number) old.kept new.kept w v Done (λ doing known. refl) refl refl (Ok tt) c agreed.pending agreed.fated
-      (fewer c) refl
-      (subst (Standing means w v) (sym (append-nil (where_on old.kept.power (Tick ∷ [])))) (stands agreed.sound old.kept.power calls agreed.powered))
-    where
-      fewer : (c : CarriedSo old.kept.power) → old.link.sent + length c.meetings < 2 ^ 64 - 1
-      fewer c = omega (arith, few, few-meetings (link means) old.plan old.heap false [] c.meetings old.kept c.begun c.sent c.walked)
+  tick_stepped agreed kept calls number = record {
+    doing = calm;
+    none = λ stayed number. refl;
+    known_is = λ i. record { kept = kept i; queue = queued old.kept.power calls i };
+    answer_is = refl;
+    calls = (Ok tt, carries kept old.kept.power calls, refl, none-met kept old.kept.power calls);
+    stands = subst (Standing means w v) (sym (append-nil (where_on old.kept.power (Tick ∷ [])))) (stands agreed.sound old.kept.power calls agreed.powered);
+  }

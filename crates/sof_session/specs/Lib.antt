@@ -10,3 +10,4 @@ pub mod SessionCalls
 pub mod Fills
 pub mod Lives
 pub mod RunOver
+pub mod RunLaws

@@ -1,13 +1,13 @@
 -- What a command does to a session over any device.
-use Rattle.std.specs.Prelude.{◌≡◌, ℕ, ◌+◌, ◌≤◌, map, List, ◌++◌, Bool, true, false, Option, Some, None}
+use Rattle.std.specs.Prelude.{◌≡◌, ℕ, map, List, [], ◌∷◌, ◌++◌, Bool, true, false, Option, Some, None}
 use Rattle.stream_law.specs.Past.{Moment, Past, Leads}
-use Rattle.stream_law.specs.Stands.{Stands, position_of}
+use Rattle.stream_law.specs.Stands.{Stands}
 use Rattle.mbox_link.specs.declared.fates.Fate.TheVariants.{Pass}
-use Rattle.mbox_link.specs.Exchange.{Rose}
+use Rattle.mbox_link.specs.Exchange.{Rose, more}
 use Rattle.mbox_link.specs.Calls.{World, Meaning}
 use Rattle.mbox_link.specs.Wire.{Wire}
 use Rattle.mbox_link.specs.Link.{link}
-use Rattle.mbox_link.specs.Meetings.{Doing, queue_of}
+use Rattle.mbox_link.specs.Meetings.{Meeting, Doing, Queue, queue_of, planned, without_entry}
 use Rattle.tplg_plan.specs.declared.plans.Plan.{Plan}
 use Rattle.host_widgets.specs.declared.answers.Answer.{Answer}
 use Rattle.host_widgets.specs.declared.answers.HostFault.{HostFault}
@@ -28,34 +28,38 @@ pub record Calm {D : Type 0} (means : Meaning D) (old new : D) : Type 0 where
 abbrev pub StandsAt : {P : Type 0} → Meaning P → List (ℕ × List ℕ) → List Moment → Past → World (Wire P) → Type 0
 StandsAt means whole moments past w = (stands : Stands (means.on w.device.device) whole w.io.inputs moments) × (stands.past ≡ past)
 
+-- These doings of a device are what messages met, one after another from this queue on: where a message was planned to pass, the fate
+-- that it met is the device's own.
+abbrev pub DidAsMet : Doing → Queue → List Meeting → Type 0
+DidAsMet doing queue [] = Unit {0}
+DidAsMet doing queue (m ∷ ms) =
+    let n = more queue.sent in
+    ((planned queue.entries n).fate ≡ Pass → doing n ≡ m.fate) × DidAsMet doing (record { sent = n; entries = without_entry n queue.entries }) ms
+
 -- The calls of a command: none where a test fails or something is planned, and else those of its order, by which it answers what
--- they came to.
-abbrev pub CallsBy : {P : Type 0} → Meaning P → Plan → ℕ → Order → Record → Record → World (Wire P) → World (Wire P) → Answer → Bool → Option HostFault → Type 0
-CallsBy means plan heap order kept kept' w v answer true fault = (v.device.device ≡ w.device.device) × (v.io ≡ w.io)
-CallsBy means plan heap order kept kept' w v answer false (Some fault) = v ≡ w
-CallsBy means plan heap order kept kept' w v answer false None =
-    (result : Outcome) × Carried (link means) plan heap order kept kept' w v result × (answer ≡ answer_by order.answer result)
+-- they came to. What the device did is what their messages met.
+abbrev pub CallsBy : {P : Type 0} → Meaning P → Plan → ℕ → Doing → Order → Record → Record → World (Wire P) → World (Wire P) → Answer → Bool → Option HostFault → Type 0
+CallsBy means plan heap doing order kept kept' w v answer true fault = (v.device.device ≡ w.device.device) × (v.io ≡ w.io)
+CallsBy means plan heap doing order kept kept' w v answer false (Some fault) = v ≡ w
+CallsBy means plan heap doing order kept kept' w v answer false None =
+    (result : Outcome) × (carried : Carried (link means) plan heap order kept kept' w v result) × (answer ≡ answer_by order.answer result)
+    × DidAsMet doing (queue_of w.device) carried.meetings
 
 -- what the host and the link know
 abbrev pub known_of : {P : Type 0} → Wire P → Record → Known
 known_of wire kept = record { kept = kept; queue = queue_of wire }
 
 -- What a command does over any device. There are doings of the device, none where its counts did not rise, by which what is
--- known after it and its answer are the written ones; its calls are those of its order, and no others; and where the device and
--- the inputs stood at a place of a run, they stand at its next, and the outputs hold what was written.
+-- known after it and its answer are the written ones; its calls are those of its order, and no others, and their messages met these
+-- doings; and where the device and the inputs stood at a place of a run, they stand at its next, and the outputs hold what was
+-- written.
 pub record CommandDone {P : Type 0} (means : Meaning P) (plan : Plan) (heap : ℕ) (command : Command) (kept kept' : Record) (w v : World (Wire P)) (answer : Answer) : Type 0 where
   pub doing : Doing
   pub none : Calm means w.device.device v.device.device → (number : ℕ) → doing number ≡ Pass
   pub known_is : known_of v.device kept' ≡ (next plan heap doing (known_of w.device kept) command).known
   pub answer_is : answer ≡ (next plan heap doing (known_of w.device kept) command).answer
-  pub calls : CallsBy means plan heap (order_of plan kept command) kept kept' w v answer (is_plan command) (fault_of plan kept command)
+  pub calls : CallsBy means plan heap doing (order_of plan kept command) kept kept' w v answer (is_plan command) (fault_of plan kept command)
   pub stands : (whole : List (ℕ × List ℕ)) (before : List Moment) (past : Past) → StandsAt means whole before past w →
       let moments = (next plan heap doing (known_of w.device kept) command).moments in
       (past' : Past) × Leads whole past moments past' × StandsAt means whole (before ++ moments) past' v
       × (written_in v.io.outputs ≡ written_between (map (λ o. o.slot) w.io.outputs) past past')
-
--- Where the device and the inputs stand at a place of a run, the position of each input moves by at most so many bytes.
-abbrev pub MovesBy : {P : Type 0} → Meaning P → ℕ → World (Wire P) → World (Wire P) → Type 0
-MovesBy means most w v =
-    (whole : List (ℕ × List ℕ)) (before : List Moment) (past : Past) → StandsAt means whole before past w →
-    (slot : ℕ) → position_of v.io.inputs slot ≤ position_of w.io.inputs slot + most

@@ -1,9 +1,11 @@
 //! A session: a host with its device behind a link, which carries out a script's commands and shows how everything stands.
 #![tactic(auto)]
 
+mod laws;
 mod session;
 mod show;
 mod streams;
 mod words;
 
+pub use laws::one_run;
 pub use session::Session;

@@ -1,7 +1,7 @@
 // A host with its device behind a link.
 ghost use Rattle.std.specs.Prelude.{◌≡◌, ℕ, ◌+◌, ◌<◌, ◌≤◌, ◌^◌, true, false, length, MatchResult};
 ghost use Rattle.sof_base.specs.Ports.{HasRoom, drained};
-ghost use Rattle.mbox_link.specs.Calls.{world};
+ghost use Rattle.mbox_link.specs.Calls.{MovesBy, world};
 ghost use Rattle.mbox_link.specs.Fates.{IsMeant};
 ghost use Rattle.mbox_link.specs.Link.{link};
 ghost use Rattle.tplg_plan.specs.Sound.{IsSound};
@@ -14,7 +14,7 @@ ghost use Rattle.sof_session.specs.Commands.{answer_by};
 ghost use Rattle.sof_session.specs.Fills.{input_ends};
 ghost use Rattle.sof_session.specs.Seat.{new_seat};
 ghost use Rattle.sof_session.specs.SessionCalls.{LoadRan, UnloadRan, SuspendRan, ResumeRan, ControlRan, told_answer, PlanRan, LagRan, plan_answer, StreamRan, ports};
-ghost use Rattle.sof_session.specs.SessionStep.{CommandDone, MovesBy};
+ghost use Rattle.sof_session.specs.SessionStep.{CommandDone};
 ghost use Rattle.sof_session.specs.Show.{show_lines, IsLineAt};
 
 use crate::show::show_line;
@@ -130,7 +130,7 @@ impl<P: Dsp> Session<P> {
         ensures heap { self.new.heap ≡ self.old.heap }
         ensures slots { output_slots out.new ≡ output_slots out.old }
         ensures ends { input_ends io.new ≡ input_ends io.old }
-        ensures moved { MovesBy P.means 983040 (world self.old.link io.old out.old) (world self.new.link io.new out.new) }
+        ensures moved { MovesBy 983040 io.old io.new }
         ensures sent { self.new.link.sent ≤ self.old.link.sent + most_sent command.now }
         ensures still { is_tick command.now ≡ false → (link P.means).pending self.old.link ≡ 0 → (io.new ≡ io.old) × (out.new ≡ out.old) }
     {
@@ -165,7 +165,6 @@ impl<P: Dsp> Session<P> {
     /// One tick of a device that is on; one that is off is not called. It is what `step` does for `Tick`, whatever its number, without
     /// an answer. The outputs are empty before it, and hold what it wrote after it.
     pub fn tick(&mut self, io: &mut Inputs, out: &mut Outputs)
-        requires few { self.old.link.sent < 2 ^ 63 }
         requires empty { drained out.old ≡ out.old }
         ensures stepped { (number : ℕ) → CommandDone P.means self.old.plan self.old.heap (Command.Tick number) self.old.kept self.new.kept (world self.old.link io.old out.old) (world self.new.link io.new out.new) Answer.Done }
         ensures agreed { AreAgreed P.means self.new }
@@ -173,7 +172,7 @@ impl<P: Dsp> Session<P> {
         ensures heap { self.new.heap ≡ self.old.heap }
         ensures slots { output_slots out.new ≡ output_slots out.old }
         ensures ends { input_ends io.new ≡ input_ends io.old }
-        ensures moved { MovesBy P.means 61440 (world self.old.link io.old out.old) (world self.new.link io.new out.new) }
+        ensures moved { MovesBy 61440 io.old io.new }
         ensures sent { self.new.link.sent ≡ self.old.link.sent }
     {
         match self.kept.power {
@@ -216,7 +215,6 @@ impl<P: Dsp> Session<P> {
 
     // Cuts the device and forgets what was loaded.
     fn unload(&mut self, io: &mut Inputs, out: &mut Outputs) -> Answer
-        requires { HasRoom 983040 out.old }
         ensures ran { UnloadRan P.means self.old self.new (ports io.old out.old) (ports io.new out.new) result }
         ensures agreed { AreAgreed P.means self.old }
         ensures later { AreAgreed P.means self.new }

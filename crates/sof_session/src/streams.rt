@@ -1,5 +1,5 @@
 // What is asked of a stream, by the host's call for it.
-ghost use Rattle.std.specs.Prelude.{◌≤◌, ◌*◌};
+ghost use Rattle.std.specs.Prelude.{◌*◌};
 ghost use Rattle.sof_base.specs.Ports.{HasRoom};
 ghost use Rattle.mbox_link.specs.Calls.{world};
 ghost use Rattle.tplg_plan.specs.Sound.{IsSound};
@@ -26,7 +26,6 @@ pub fn ask_stream<P: Dsp>(
 ) -> Result<(), HostFault>
     requires plan { IsSound plan.now }
     requires agree { Agrees P.means plan.now kept.old dsp.old }
-    requires heap { heap ≤ P.means.most dsp.old }
     requires room { HasRoom (61440 * P.means.pending dsp.old) out.old }
     ensures asked { Asked P.means plan.now heap name.now ask kept.old kept.new
         (world dsp.old io.old out.old) (world dsp.new io.new out.new) result }

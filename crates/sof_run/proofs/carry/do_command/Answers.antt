@@ -91,6 +91,3 @@ returns-clause-sent g c = omega (arith, c.do_round.ensures.sent, c.loop.invarian
 
 pub do_round-requires-clause-plan : goal.do_round-requires-clause-plan
 do_round-requires-clause-plan g c = subst IsSound (sym c.loop.invariant.plan) c.requires.plan
-
-pub do_earlier_tick-requires-clause-few : goal.do_earlier_tick-requires-clause-few
-do_earlier_tick-requires-clause-few g c = omega (arith, c.loop.invariant.sent, c.requires.few)

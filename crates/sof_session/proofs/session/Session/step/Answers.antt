@@ -1,4 +1,4 @@
-use Rattle.std.proofs.Common.{ℤ, refl, subst, sym, ap, arith}
+use Rattle.std.proofs.Common.{ℤ, refl, subst, sym, arith}
 use Rattle.mbox_link.specs.declared.fates.Fate.TheVariants.{Refuse, Drop, Lose}
 use Rattle.mbox_link.specs.Fates.{IsError}
 use Rattle.host_widgets.specs.declared.answers.Answer.{Answer}
@@ -9,7 +9,6 @@ use Rattle.host_ctl.specs.ControlAsks.{set_fault, bytes_fault, get_fault, read_f
 use Rattle.host_ctl.specs.ControlOrders.{set_order, bytes_order, get_order, read_order}
 use Rattle.sof_script.specs.declared.script.Command.{Command}
 use Rattle.sof_script.specs.declared.script.Command.TheVariants as commands
-use Rattle.sof_session.specs.Fills.{input_ends}
 use Rattle.sof_session.specs.SessionCalls.{PlanRan, ports}
 use Rattle.sof_session.proofs.AskedSteps.{calls-by, asked_step, stream_few}
 use Rattle.sof_session.proofs.ControlSteps.{set-call, bytes-call, get-call, read-call, control_step, control_few}
@@ -27,9 +26,6 @@ use Rattle.sof_session.proofs.session.Session.step.Goals as goal
 
 pub load-requires : goal.load-requires
 load-requires g c = all-room c.args.out.now c.requires.empty 983040 (omega arith)
-
-pub unload-requires : goal.unload-requires
-unload-requires g c = all-room c.args.out.now c.requires.empty 983040 (omega arith)
 
 pub suspend-requires : goal.suspend-requires
 suspend-requires g c = all-room c.args.out.now c.requires.empty 983040 (omega arith)
@@ -436,102 +432,92 @@ returns-in-Read-clause-sent g c =
 pub returns-in-Load-clause-moved : goal.returns-in-Load-clause-moved
 returns-in-Load-clause-moved g c =
     let done = c.load in
-    step-moves g.P.Dsp.means c.args.self.now done.new.self (ports c.args.io.now c.args.out.now) (ports done.new.io done.new.out) done.ensures.agreed (ap input_ends done.ensures.inputs) done.result c.args.command.now (returns-in-Load-clause-stepped g c)
+    step-moves g.P.Dsp.means c.args.self.now done.new.self (ports c.args.io.now c.args.out.now) (ports done.new.io done.new.out) done.ensures.agreed done.result c.args.command.now (returns-in-Load-clause-stepped g c)
 
 pub returns-in-Suspend-clause-moved : goal.returns-in-Suspend-clause-moved
 returns-in-Suspend-clause-moved g c =
     let done = c.suspend in
-    step-moves g.P.Dsp.means c.args.self.now done.new.self (ports c.args.io.now c.args.out.now) (ports done.new.io done.new.out) done.ensures.agreed done.ensures.ends done.result c.args.command.now (returns-in-Suspend-clause-stepped g c)
+    step-moves g.P.Dsp.means c.args.self.now done.new.self (ports c.args.io.now c.args.out.now) (ports done.new.io done.new.out) done.ensures.agreed done.result c.args.command.now (returns-in-Suspend-clause-stepped g c)
 
 pub returns-in-Resume-clause-moved : goal.returns-in-Resume-clause-moved
 returns-in-Resume-clause-moved g c =
     let done = c.resume in
-    step-moves g.P.Dsp.means c.args.self.now done.new.self (ports c.args.io.now c.args.out.now) (ports done.new.io done.new.out) done.ensures.agreed (ap input_ends done.ensures.inputs) done.result c.args.command.now (returns-in-Resume-clause-stepped g c)
+    step-moves g.P.Dsp.means c.args.self.now done.new.self (ports c.args.io.now c.args.out.now) (ports done.new.io done.new.out) done.ensures.agreed done.result c.args.command.now (returns-in-Resume-clause-stepped g c)
 
 pub returns-in-Unload-clause-moved : goal.returns-in-Unload-clause-moved
 returns-in-Unload-clause-moved g c =
     let done = c.unload in
-    step-moves g.P.Dsp.means c.args.self.now done.new.self (ports c.args.io.now c.args.out.now) (ports done.new.io done.new.out) done.ensures.agreed (ap input_ends done.ensures.inputs) done.result c.args.command.now (returns-in-Unload-clause-stepped g c)
+    step-moves g.P.Dsp.means c.args.self.now done.new.self (ports c.args.io.now c.args.out.now) (ports done.new.io done.new.out) done.ensures.agreed done.result c.args.command.now (returns-in-Unload-clause-stepped g c)
 
 pub returns-in-Open-clause-moved : goal.returns-in-Open-clause-moved
 returns-in-Open-clause-moved g c =
     let done = c.ask in
-    step-moves g.P.Dsp.means c.args.self.now done.new.self (ports c.args.io.now c.args.out.now) (ports done.new.io done.new.out) done.ensures.agreed done.ensures.ends done.result c.args.command.now (returns-in-Open-clause-stepped g c)
+    step-moves g.P.Dsp.means c.args.self.now done.new.self (ports c.args.io.now c.args.out.now) (ports done.new.io done.new.out) done.ensures.agreed done.result c.args.command.now (returns-in-Open-clause-stepped g c)
 
 pub returns-in-Params-clause-moved : goal.returns-in-Params-clause-moved
 returns-in-Params-clause-moved g c =
     let done = c.ask-in-Params in
-    step-moves g.P.Dsp.means c.args.self.now done.new.self (ports c.args.io.now c.args.out.now) (ports done.new.io done.new.out) done.ensures.agreed done.ensures.ends done.result c.args.command.now (returns-in-Params-clause-stepped g c)
+    step-moves g.P.Dsp.means c.args.self.now done.new.self (ports c.args.io.now c.args.out.now) (ports done.new.io done.new.out) done.ensures.agreed done.result c.args.command.now (returns-in-Params-clause-stepped g c)
 
 pub returns-in-Start-clause-moved : goal.returns-in-Start-clause-moved
 returns-in-Start-clause-moved g c =
     let done = c.ask-in-Start in
-    step-moves g.P.Dsp.means c.args.self.now done.new.self (ports c.args.io.now c.args.out.now) (ports done.new.io done.new.out) done.ensures.agreed done.ensures.ends done.result c.args.command.now (returns-in-Start-clause-stepped g c)
+    step-moves g.P.Dsp.means c.args.self.now done.new.self (ports c.args.io.now c.args.out.now) (ports done.new.io done.new.out) done.ensures.agreed done.result c.args.command.now (returns-in-Start-clause-stepped g c)
 
 pub returns-in-Stop-clause-moved : goal.returns-in-Stop-clause-moved
 returns-in-Stop-clause-moved g c =
     let done = c.ask-in-Stop in
-    step-moves g.P.Dsp.means c.args.self.now done.new.self (ports c.args.io.now c.args.out.now) (ports done.new.io done.new.out) done.ensures.agreed done.ensures.ends done.result c.args.command.now (returns-in-Stop-clause-stepped g c)
+    step-moves g.P.Dsp.means c.args.self.now done.new.self (ports c.args.io.now c.args.out.now) (ports done.new.io done.new.out) done.ensures.agreed done.result c.args.command.now (returns-in-Stop-clause-stepped g c)
 
 pub returns-in-Pause-clause-moved : goal.returns-in-Pause-clause-moved
 returns-in-Pause-clause-moved g c =
     let done = c.ask-in-Pause in
-    step-moves g.P.Dsp.means c.args.self.now done.new.self (ports c.args.io.now c.args.out.now) (ports done.new.io done.new.out) done.ensures.agreed done.ensures.ends done.result c.args.command.now (returns-in-Pause-clause-stepped g c)
+    step-moves g.P.Dsp.means c.args.self.now done.new.self (ports c.args.io.now c.args.out.now) (ports done.new.io done.new.out) done.ensures.agreed done.result c.args.command.now (returns-in-Pause-clause-stepped g c)
 
 pub returns-in-Release-clause-moved : goal.returns-in-Release-clause-moved
 returns-in-Release-clause-moved g c =
     let done = c.ask-in-Release in
-    step-moves g.P.Dsp.means c.args.self.now done.new.self (ports c.args.io.now c.args.out.now) (ports done.new.io done.new.out) done.ensures.agreed done.ensures.ends done.result c.args.command.now (returns-in-Release-clause-stepped g c)
+    step-moves g.P.Dsp.means c.args.self.now done.new.self (ports c.args.io.now c.args.out.now) (ports done.new.io done.new.out) done.ensures.agreed done.result c.args.command.now (returns-in-Release-clause-stepped g c)
 
 pub returns-in-Close-clause-moved : goal.returns-in-Close-clause-moved
 returns-in-Close-clause-moved g c =
     let done = c.ask-in-Close in
-    step-moves g.P.Dsp.means c.args.self.now done.new.self (ports c.args.io.now c.args.out.now) (ports done.new.io done.new.out) done.ensures.agreed done.ensures.ends done.result c.args.command.now (returns-in-Close-clause-stepped g c)
+    step-moves g.P.Dsp.means c.args.self.now done.new.self (ports c.args.io.now c.args.out.now) (ports done.new.io done.new.out) done.ensures.agreed done.result c.args.command.now (returns-in-Close-clause-stepped g c)
 
 pub returns-in-Set-clause-moved : goal.returns-in-Set-clause-moved
 returns-in-Set-clause-moved g c =
     let done = c.set in
-    step-moves g.P.Dsp.means c.args.self.now done.new.self (ports c.args.io.now c.args.out.now) (ports done.new.io done.new.out) done.ensures.agreed done.ensures.ends done.result c.args.command.now (returns-in-Set-clause-stepped g c)
+    step-moves g.P.Dsp.means c.args.self.now done.new.self (ports c.args.io.now c.args.out.now) (ports done.new.io done.new.out) done.ensures.agreed done.result c.args.command.now (returns-in-Set-clause-stepped g c)
 
 pub returns-in-Bytes-clause-moved : goal.returns-in-Bytes-clause-moved
 returns-in-Bytes-clause-moved g c =
     let done = c.set_bytes in
-    step-moves g.P.Dsp.means c.args.self.now done.new.self (ports c.args.io.now c.args.out.now) (ports done.new.io done.new.out) done.ensures.agreed done.ensures.ends done.result c.args.command.now (returns-in-Bytes-clause-stepped g c)
+    step-moves g.P.Dsp.means c.args.self.now done.new.self (ports c.args.io.now c.args.out.now) (ports done.new.io done.new.out) done.ensures.agreed done.result c.args.command.now (returns-in-Bytes-clause-stepped g c)
 
 pub returns-in-Get-clause-moved : goal.returns-in-Get-clause-moved
 returns-in-Get-clause-moved g c =
     let done = c.get in
-    step-moves g.P.Dsp.means c.args.self.now done.new.self (ports c.args.io.now c.args.out.now) (ports done.new.io done.new.out) done.ensures.agreed (ap input_ends done.ensures.inputs) done.result c.args.command.now (returns-in-Get-clause-stepped g c)
+    step-moves g.P.Dsp.means c.args.self.now done.new.self (ports c.args.io.now c.args.out.now) (ports done.new.io done.new.out) done.ensures.agreed done.result c.args.command.now (returns-in-Get-clause-stepped g c)
 
 pub returns-in-Read-clause-moved : goal.returns-in-Read-clause-moved
 returns-in-Read-clause-moved g c =
     let done = c.read in
-    step-moves g.P.Dsp.means c.args.self.now done.new.self (ports c.args.io.now c.args.out.now) (ports done.new.io done.new.out) done.ensures.agreed done.ensures.ends done.result c.args.command.now (returns-in-Read-clause-stepped g c)
+    step-moves g.P.Dsp.means c.args.self.now done.new.self (ports c.args.io.now c.args.out.now) (ports done.new.io done.new.out) done.ensures.agreed done.result c.args.command.now (returns-in-Read-clause-stepped g c)
 
 pub returns-in-Refuse-clause-moved : goal.returns-in-Refuse-clause-moved
-returns-in-Refuse-clause-moved g c =
-    let io = ports c.args.io.now c.args.out.now in
-    step-moves g.P.Dsp.means c.args.self.now c.plan_fate.new.self io io c.plan_fate.ensures.agreed refl c.plan_fate.result c.args.command.now (returns-in-Refuse-clause-stepped g c)
+returns-in-Refuse-clause-moved g c slot = omega arith
 
 pub returns-in-Drop-clause-moved : goal.returns-in-Drop-clause-moved
-returns-in-Drop-clause-moved g c =
-    let io = ports c.args.io.now c.args.out.now in
-    step-moves g.P.Dsp.means c.args.self.now c.plan_fate-in-Drop.new.self io io c.plan_fate-in-Drop.ensures.agreed refl c.plan_fate-in-Drop.result c.args.command.now (returns-in-Drop-clause-stepped g c)
+returns-in-Drop-clause-moved g c slot = omega arith
 
 pub returns-in-Lose-clause-moved : goal.returns-in-Lose-clause-moved
-returns-in-Lose-clause-moved g c =
-    let io = ports c.args.io.now c.args.out.now in
-    step-moves g.P.Dsp.means c.args.self.now c.plan_fate-in-Lose.new.self io io c.plan_fate-in-Lose.ensures.agreed refl c.plan_fate-in-Lose.result c.args.command.now (returns-in-Lose-clause-stepped g c)
+returns-in-Lose-clause-moved g c slot = omega arith
 
 pub returns-in-Lag-clause-moved : goal.returns-in-Lag-clause-moved
-returns-in-Lag-clause-moved g c =
-    let io = ports c.args.io.now c.args.out.now in
-    step-moves g.P.Dsp.means c.args.self.now c.plan_lag.new.self io io c.plan_lag.ensures.agreed refl c.plan_lag.result c.args.command.now (returns-in-Lag-clause-stepped g c)
+returns-in-Lag-clause-moved g c slot = omega arith
 
 pub returns-in-Show-clause-moved : goal.returns-in-Show-clause-moved
-returns-in-Show-clause-moved g c =
-    let io = ports c.args.io.now c.args.out.now in
-    step-moves g.P.Dsp.means c.args.self.now c.args.self.now io io c.show.ensures.agreed refl c.show.result c.args.command.now (returns-in-Show-clause-stepped g c)
+returns-in-Show-clause-moved g c slot = omega arith
 
 pub returns-in-Tick-clause-moved : goal.returns-in-Tick-clause-moved
-returns-in-Tick-clause-moved g c whole before past stood slot = let moved = c.tick.ensures.moved whole before past stood slot in omega (arith, moved)
+returns-in-Tick-clause-moved g c slot = let moved = c.tick.ensures.moved slot in omega (arith, moved)

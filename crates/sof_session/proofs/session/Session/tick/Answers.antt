@@ -1,9 +1,7 @@
 use Rattle.std.proofs.Common.{sym, subst, refl, arith, ap, ℕ, Bool, List}
-use Rattle.host_widgets.specs.declared.answers.Answer.TheVariants.{Done}
 use Rattle.host_widgets.specs.declared.kept.Power.{Power}
 use Rattle.sof_session.specs.SessionCalls.{ports}
 use Rattle.sof_session.proofs.TickAgreement.{TickedBy, off-ticked, AreAgreed-ticked, ticked-ends}
-use Rattle.sof_session.proofs.StepMoves.{tick-moves}
 use Rattle.sof_session.proofs.TickSteps.{tick_stepped}
 use Rattle.sof_session.proofs.Writings.{all-room}
 use Rattle.sof_session.proofs.session.Session.tick.Goals as goal
@@ -32,7 +30,7 @@ returns-in-On-clause-stepped g c =
     let after = ports done.new.io done.new.out in
     let tick = subst (λ (power : Power). TickedBy means power inside.link done.new.self before after) (sym c.in-On.is) done.ensures in
     rw (← c.self.view_is)
-    (tick_stepped means (record { link = inside.link; kept = inside.kept; plan = inside.plan; heap = inside.heap }) (record { link = done.new.self; kept = inside.kept; plan = inside.plan; heap = inside.heap }) before after c.requires.empty c.self.invariant (rw (← c.self.view_is) at c.requires.few) refl tick)
+    (tick_stepped means (record { link = inside.link; kept = inside.kept; plan = inside.plan; heap = inside.heap }) (record { link = done.new.self; kept = inside.kept; plan = inside.plan; heap = inside.heap }) before after c.requires.empty c.self.invariant refl tick)
 
 pub returns-in-On-clause-agreed : goal.returns-in-On-clause-agreed
 returns-in-On-clause-agreed g c =
@@ -72,22 +70,12 @@ returns-in-Unloaded-clause-stepped g c =
     let inside = c.self.inside in
     let io = ports c.args.io.now c.args.out.now in
     rw (← c.self.view_is)
-    (tick_stepped means (record { link = inside.link; kept = inside.kept; plan = inside.plan; heap = inside.heap }) (record { link = inside.link; kept = inside.kept; plan = inside.plan; heap = inside.heap }) io io c.requires.empty c.self.invariant (rw (← c.self.view_is) at c.requires.few) refl (off-ticked means inside.kept.power inside.link io c.in-Unloaded.is))
+    (tick_stepped means (record { link = inside.link; kept = inside.kept; plan = inside.plan; heap = inside.heap }) (record { link = inside.link; kept = inside.kept; plan = inside.plan; heap = inside.heap }) io io c.requires.empty c.self.invariant refl (off-ticked means inside.kept.power inside.link io c.in-Unloaded.is))
 
 -- ---- how far the inputs moved
 
 pub returns-in-On-clause-moved : goal.returns-in-On-clause-moved
-returns-in-On-clause-moved g c =
-    let means = g.P.Dsp.means in
-    let inside = c.self.inside in
-    let done = c.tick in
-    let before = ports c.args.io.now c.args.out.now in
-    let after = ports done.new.io done.new.out in
-    let tick = subst (λ (power : Power). TickedBy means power inside.link done.new.self before after) (sym c.in-On.is) done.ensures in
-    let same = ap (λ (x : List ℕ × List (ℕ × Bool)). x.1) (ticked-ends means (record { link = inside.link; kept = inside.kept; plan = inside.plan; heap = inside.heap }) done.new.self before after c.self.invariant tick) in
-    rw (← c.self.view_is)
-    (tick-moves means (record { link = inside.link; kept = inside.kept; plan = inside.plan; heap = inside.heap }) (record { link = done.new.self; kept = inside.kept; plan = inside.plan; heap = inside.heap }) before after c.self.invariant same Done 0
-    (tick_stepped means (record { link = inside.link; kept = inside.kept; plan = inside.plan; heap = inside.heap }) (record { link = done.new.self; kept = inside.kept; plan = inside.plan; heap = inside.heap }) before after c.requires.empty c.self.invariant (rw (← c.self.view_is) at c.requires.few) refl tick 0))
+returns-in-On-clause-moved g c slot = c.tick.ensures.moves slot
 
 pub returns-in-Unloaded-clause-moved : goal.returns-in-Unloaded-clause-moved
-returns-in-Unloaded-clause-moved g c whole before past stood slot = omega arith
+returns-in-Unloaded-clause-moved g c slot = omega arith

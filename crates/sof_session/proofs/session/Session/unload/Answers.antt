@@ -1,12 +1,6 @@
 use Rattle.sof_session.specs.SessionCalls.{ports}
-use Rattle.sof_session.proofs.Agreement.{pending-room}
 use Rattle.sof_session.proofs.CallAgreement.{AreAgreed-unloaded}
 use Rattle.sof_session.proofs.session.Session.unload.Goals as goal
-
-pub unload-unloaded-requires-clause-room : goal.unload-unloaded-requires-clause-room
-unload-unloaded-requires-clause-room g c =
-    let inside = c.self.inside in
-    pending-room g.P.Dsp.means (record { link = inside.link; kept = inside.kept; plan = inside.plan; heap = inside.heap }) c.self.invariant c.args.out.now c.requires
 
 pub invariant_of-self : goal.invariant_of-self
 invariant_of-self g c =

@@ -1,6 +1,6 @@
 // What each message is answered in a state, with each of its errors. A state is what messages lead to from a boot; what is refused
 // leaves it, so that the rows of a state follow one another.
-use crate::steps::{BUSY, DONE, INVALID, NO_DEVICE, NO_MEMORY, answered};
+use crate::steps::{BUSY, DONE, INVALID, NO_DEVICE, NO_MEMORY, ONE_VALUE, TWO_VALUES, answered};
 use ipc3_codec::{CompWords, Message};
 use sof_base::{Bounded, Format, Params, Part};
 use std::alloc::Global;
@@ -332,9 +332,9 @@ fn values_are_set_and_got(rt: HostRuntime) -> Result<(), Fail> {
         (Message::GetValue { id: 2, command: 0 }, INVALID),
         (Message::GetValue { id: 3, command: 1 }, INVALID),
         (Message::GetValue { id: 0, command: 1 }, INVALID),
-        (Message::GetValue { id: 0, command: 0 }, DONE),
+        (Message::GetValue { id: 0, command: 0 }, TWO_VALUES),
         (Message::GetValue { id: 1, command: 0 }, INVALID),
-        (Message::GetValue { id: 1, command: 1 }, DONE),
+        (Message::GetValue { id: 1, command: 1 }, ONE_VALUE),
     ];
     answered(&rt, rt.alloc(), 4096, &state, &rows)
 }

@@ -2,6 +2,8 @@
 #![tactic(auto)]
 
 #[cfg(test)]
+mod drawn;
+#[cfg(test)]
 mod errors;
 #[cfg(test)]
 mod messages;
@@ -9,6 +11,8 @@ mod messages;
 mod parts;
 #[cfg(test)]
 mod rows;
+#[cfg(test)]
+mod same;
 #[cfg(test)]
 mod steps;
 #[cfg(test)]

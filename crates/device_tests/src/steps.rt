@@ -13,6 +13,9 @@ use std::test::Fail;
 /// The front of the reply to a message that is done and tells nothing.
 pub(crate) const DONE: [u8; 12] = [12, 0, 0, 0, 0, 0, 0, 0x10, 0, 0, 0, 0];
 
+/// The front of a reply that tells one value.
+pub(crate) const ONE_VALUE: [u8; 12] = [100, 0, 0, 0, 0, 0, 0, 0x10, 0, 0, 0, 0];
+
 /// The front of a reply that tells two values.
 pub(crate) const TWO_VALUES: [u8; 12] = [108, 0, 0, 0, 0, 0, 0, 0x10, 0, 0, 0, 0];
 
@@ -77,8 +80,8 @@ pub(crate) fn silent(times: u8, output: u32) -> Step {
 /// The greatest heap of a device here, in bytes: 128 components or buffers of the least size fit.
 const ROOM: u32 = 16384;
 
-// Which of these messages is answered first with another error than stands in the front beside it, on a device with a heap of so
-/// many bytes that has done the messages of a state.
+// Which of these messages is answered first with another front than stands beside it, on a device with a heap of so
+// many bytes that has done the messages of a state.
 fn answers(
     alloc: Global,
     heap: u32,
@@ -95,15 +98,14 @@ fn answers(
         }
     }
     for (place, (message, front)) in rows.iter().enumerate() {
-        let said = front_of(&reply(alloc, &mut firmware, message)?);
-        if said[8..] != front[8..] {
+        if front_of(&reply(alloc, &mut firmware, message)?) != *front {
             return Ok(Some(place));
         }
     }
     Ok(None)
 }
 
-/// Each of these messages is answered with the error in the front beside it.
+/// Each of these messages is answered with the front beside it.
 pub(crate) fn answered(
     rt: &impl Abort,
     alloc: Global,
@@ -119,7 +121,7 @@ pub(crate) fn answered(
 }
 
 // Which of the steps comes to something else first, on a device with a heap of so many bytes that has done the messages of a
-/// graph.
+// graph.
 fn play(
     alloc: Global,
     heap: u32,

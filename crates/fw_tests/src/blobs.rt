@@ -1,5 +1,7 @@
 // Blobs that stand in the source.
+use crate::same::same;
 use eq_biquad::{EqFault, check};
+use std::process::Abort;
 use std::test::Fail;
 
 fn put(blob: &mut [u8], at: usize, word: u32) {
@@ -87,6 +89,47 @@ fn a_blob_of_three_responses_is_right(rt: HostRuntime) -> Result<(), Fail> {
         assert_eq!(rt; check(&blob), Err(fault));
     }
     Ok(())
+}
+
+// The words of that blob that can be neither 0 nor 4294967295, and what is said then: the magic, the header's size, the numbers of
+// channels and of responses, and each response's two numbers of sections. An assignment or a shift may be 0 or -1, and no other word
+// is looked at.
+const NEITHER: [(usize, EqFault); 10] = [
+    (0, EqFault::Magic),
+    (8, EqFault::HeaderSize),
+    (36, EqFault::Channels),
+    (40, EqFault::Responses),
+    (68, EqFault::Sections(0)),
+    (72, EqFault::Sections(0)),
+    (316, EqFault::Sections(1)),
+    (320, EqFault::Sections(1)),
+    (564, EqFault::Sections(2)),
+    (568, EqFault::Sections(2)),
+];
+
+// What is said of the blob with 0 or with 4294967295 at a place.
+fn said_of_either(at: usize) -> Result<(), EqFault> {
+    for (place, fault) in NEITHER {
+        if place == at {
+            return Err(fault);
+        }
+    }
+    Ok(())
+}
+
+fn each_word_is_told(rt: &impl Abort, word: u32) {
+    for place in 0..175 {
+        let at = 4 * place;
+        let mut blob = three_responses();
+        put(&mut blob, at, word);
+        same(rt, &word, &(at, check(&blob)), &(at, said_of_either(at)));
+    }
+}
+
+#[test]
+fn each_word_of_a_blob_is_told(rt: HostRuntime) {
+    each_word_is_told(&rt, 0);
+    each_word_is_told(&rt, 4294967295);
 }
 
 #[test]

@@ -15,3 +15,5 @@ mod kernels;
 mod parts;
 #[cfg(test)]
 mod registry;
+#[cfg(test)]
+mod same;

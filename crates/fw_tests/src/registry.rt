@@ -93,7 +93,12 @@ fn one_host(alloc: Global) -> Result<bool, NoMemory> {
     Ok(right)
 }
 
-// Four frames of two channels are put into a buffer, the first is drawn, and the buffer is empty once it ends.
+// Four frames of two channels, of 32 bits: 1 and 2, 3 and 4, and so on.
+static FRAMES: [u8; 32] = [
+    1, 0, 0, 0, 2, 0, 0, 0, 3, 0, 0, 0, 4, 0, 0, 0, 5, 0, 0, 0, 6, 0, 0, 0, 7, 0, 0, 0, 8, 0, 0, 0,
+];
+
+// Four frames of two channels are put into a buffer, the first is taken, and the buffer is empty once it ends.
 fn fed_by_a_host(alloc: Global) -> Result<bool, NoMemory> {
     let mut registry = Registry::new(alloc)?;
     let mut region = match Region::new(alloc, 128) {
@@ -141,10 +146,10 @@ fn fed_by_a_host(alloc: Global) -> Result<bool, NoMemory> {
     }
     registry.join(3, 5);
     registry.begin(5, params);
-    registry.feed(3, &[1, 2, 3, 4]);
-    registry.push(5, &[5, 6, 7, 8]);
-    let mut first = [0; 2];
-    registry.draw(5, &mut first);
+    registry.push_bytes(5, Format::S32, 4, &FRAMES);
+    let (front, back) = registry.spans(5, 1);
+    let right = front == [1, 2].as_slice() && back.is_empty();
+    registry.shorten(5, 1);
     let held = registry.held(5);
     let free = registry.free(5);
     registry.end(5);
@@ -153,7 +158,7 @@ fn fed_by_a_host(alloc: Global) -> Result<bool, NoMemory> {
     registry.remove(3, &mut region);
     registry.close();
     region.close();
-    Ok(first == [1, 2] && held == 3 && free == 1 && left == 0)
+    Ok(right && held == 3 && free == 1 && left == 0)
 }
 
 #[test]

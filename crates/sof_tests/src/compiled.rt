@@ -8,12 +8,39 @@ use std::test::Fail;
 /// The greatest heap of the firmware, in bytes.
 const ROOM: u32 = 16777216;
 
-/// The source of a topology of one widget. Its file has 168 bytes.
+/// The source of a topology of one widget.
 const SOURCE: &[u8] = b"[[widget]]
 kind = \"input\"
 name = \"T\"
 index = 7
 ";
+
+// The words of its file that are not 0: the header of a block of the pipeline 7 with one widget record of 132 bytes, and the record's
+// size and name.
+const WORDS: [(usize, [u8; 4]); 9] = [
+    (0, *b"CoSA"),
+    // the ABI, the type of a block of widgets, the header's bytes, those behind it, the index and the count
+    (4, [5, 0, 0, 0]),
+    (12, [5, 0, 0, 0]),
+    (16, [36, 0, 0, 0]),
+    (24, [132, 0, 0, 0]),
+    (28, [7, 0, 0, 0]),
+    (32, [1, 0, 0, 0]),
+    // the record's size word; its id, an input's, is 0
+    (36, [132, 0, 0, 0]),
+    (44, *b"T\0\0\0"),
+];
+
+// The bytes of its file.
+fn file() -> [u8; 168] {
+    let mut bytes = [0; 168];
+    for (at, word) in WORDS {
+        if at <= 164 {
+            bytes[at..at + 4].copy_from_slice(&word);
+        }
+    }
+    bytes
+}
 
 // What a compile left: its status, whether the device is on, what was said and the bytes of the file.
 #[derive(Debug, Drop)]
@@ -54,13 +81,7 @@ fn a_compile_that_fails_leaves_a_front_of_its_file_and_line(rt: HostRuntime) -> 
         &whole.said.as_slice(),
         &b"wrote 168\n".as_slice(),
     );
-    same(&rt, &"the file", &whole.out.len(), &168);
-    same(
-        &rt,
-        &"the file",
-        &whole.out.get(..4),
-        &Some(b"CoSA".as_slice()),
-    );
+    same(&rt, &"the file", &whole.out.as_slice(), &file().as_slice());
     for (call, passes, bytes, said) in [
         (1u32, 0u32, 0usize, b"".as_slice()),
         (2, 0, 0, b""),

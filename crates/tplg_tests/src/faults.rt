@@ -1,4 +1,5 @@
 // Each fault at each kind of record: what the reader says of a file that has one of each, with some bytes changed.
+use crate::amplified::volume;
 use crate::same::same;
 use crate::stated::{
     fault_of, named, put_byte, put_header, put_pcm, put_route, put_widget, topology_of, widget,
@@ -11,19 +12,6 @@ use tplg_build::{Choices, SourceControl, SourceWidget, TopologySource, WidgetKin
 use tplg_model::token_number::BUFFER_SIZE;
 use tplg_model::{Block, Body, Control, Widget, block_type};
 use tplg_read::TplgFault;
-
-fn volume(alloc: Global) -> Result<SourceWidget, Fail> {
-    let control = SourceControl::Volume {
-        name: named(b"Master")?,
-        channels: 2,
-        min: 0,
-        max: 32,
-        tlv_min: -6400,
-        tlv_step: 200,
-        tlv_mute: 1,
-    };
-    Ok(widget(alloc, WidgetKind::Pga, b"VOL0", b"")?.with_control(control)?)
-}
 
 fn mux(alloc: Global) -> Result<SourceWidget, Fail> {
     let mut items = Items::new(alloc);

@@ -2,6 +2,8 @@
 #![tactic(auto)]
 
 #[cfg(test)]
+mod amplified;
+#[cfg(test)]
 mod changed;
 #[cfg(test)]
 mod cut;

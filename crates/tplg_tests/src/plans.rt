@@ -1,4 +1,4 @@
-// The thin graph's plan, graphs that are not thin, and the gain of a volume's value.
+// The thin graph's plan, the rules that it breaks with some bytes changed, and the gain of a volume's value.
 use crate::same::same;
 use crate::stated::{put_byte, topology_of};
 use crate::thin::thin_graph;
@@ -7,14 +7,11 @@ use std::alloc::Global;
 use std::process::Abort;
 use std::test::Fail;
 use stream_law::{Comp, Edge, Graph, Join, Kind, Pipe};
-use tplg_graph::{ControlKind, Plan, PlanFault, StreamPlan, WidgetPlan, gain, is_thin, need, plan};
+use tplg_graph::{ControlKind, Plan, PlanFault, StreamPlan, WidgetPlan, gain, need, plan};
 
 /// The thin graph's plan and its need in bytes.
 fn planned(alloc: Global) -> Result<(Plan, u64), Fail> {
     let topology = topology_of(alloc, &thin_graph(alloc)?).ok_or("no topology")?;
-    if !is_thin(alloc, &topology)? {
-        return Err("not thin")?;
-    }
     let Ok(plan) = plan(alloc, &topology) else {
         return Err("no plan")?;
     };
@@ -117,27 +114,30 @@ fn its_plan_has_streams_names_and_words(rt: HostRuntime) -> Result<(), Fail> {
     Ok(())
 }
 
-// Whether the graph is thin with these bytes changed.
-fn thin_with(alloc: Global, changes: &[(usize, u8)]) -> Result<bool, Fail> {
+// Why there is no plan of the graph with these bytes changed; none where there is one.
+fn fault_with(alloc: Global, changes: &[(usize, u8)]) -> Result<Option<PlanFault>, Fail> {
     let mut bytes = thin_graph(alloc)?;
     for &(at, changed) in changes {
         put_byte(&mut bytes, at, changed)?;
     }
     let topology = topology_of(alloc, &bytes).ok_or("no topology")?;
-    Ok(is_thin(alloc, &topology)?)
+    match plan(alloc, &topology) {
+        Ok(_plan) => Ok(None),
+        Err(fault) => Ok(Some(fault)),
+    }
 }
 
 // A period of 1001 µs, two widgets of one name, a DAI of another format, a route from a name of no widget.
 #[test]
-fn other_graphs_are_not_thin(rt: HostRuntime) -> Result<(), Fail> {
-    let alloc = rt.alloc();
-    for changes in [
-        [(768usize, 0xe9u8)].as_slice(),
-        &[(400, b'B'), (402, 0), (403, 0), (401, b'0')],
-        &[(540, b'f')],
-        &[(896, b'Q')],
+fn other_graphs_break_a_rule(rt: HostRuntime) -> Result<(), Fail> {
+    for (changes, rule, item) in [
+        ([(768usize, 0xe9u8)].as_slice(), 9, 3),
+        (&[(400, b'B'), (402, 0), (403, 0), (401, b'0')], 2, 2),
+        (&[(540, b'f')], 10, 2),
+        (&[(896, b'Q')], 3, 0),
     ] {
-        assert!(rt; !thin_with(alloc, changes)?);
+        let want = Some(PlanFault::Rule { rule, item });
+        same(&rt, &rule, &fault_with(rt.alloc(), changes)?, &want);
     }
     Ok(())
 }

@@ -5,23 +5,26 @@ use std::test::Fail;
 use tplg_build::{SourceWidget, TopologySource, WidgetKind};
 use tplg_model::token_number::{BUFFER_SIZE, COMP_FORMAT, SCHED_PERIOD};
 
-fn buffer(alloc: Global) -> Result<SourceWidget, Fail> {
-    Ok(widget(alloc, WidgetKind::Buffer, b"B0", b"")?.with_number(BUFFER_SIZE, 768)?)
+/// A buffer of 768 bytes.
+pub fn buffer(alloc: Global, name: &[u8]) -> Result<SourceWidget, Fail> {
+    Ok(widget(alloc, WidgetKind::Buffer, name, b"")?.with_number(BUFFER_SIZE, 768)?)
 }
 
-fn dai(alloc: Global) -> Result<SourceWidget, Fail> {
+/// The DAI, of 32 bits.
+pub fn dai(alloc: Global) -> Result<SourceWidget, Fail> {
     let format = named(b"s32le")?;
     Ok(widget(alloc, WidgetKind::DaiOut, b"DAI0", b"")?.with_text(COMP_FORMAT, &format)?)
 }
 
-fn pipeline(alloc: Global) -> Result<SourceWidget, Fail> {
+/// The pipeline of the DAI, of 1000 µs.
+pub fn pipeline(alloc: Global) -> Result<SourceWidget, Fail> {
     let scheduler = widget(alloc, WidgetKind::Scheduler, b"PIPE1", b"DAI0")?;
     Ok(scheduler.with_number(SCHED_PERIOD, 1000)?)
 }
 
 fn put_widgets(alloc: Global, source: &mut TopologySource) -> Result<(), Fail> {
     put_widget(source, widget(alloc, WidgetKind::AifIn, b"PCM0P", b"P0")?)?;
-    put_widget(source, buffer(alloc)?)?;
+    put_widget(source, buffer(alloc, b"B0")?)?;
     put_widget(source, dai(alloc)?)?;
     put_widget(source, pipeline(alloc)?)
 }

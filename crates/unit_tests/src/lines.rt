@@ -31,23 +31,28 @@ fn bindings_are_read(rt: &impl Abort, bindings: &[Binding]) {
 }
 
 fn params_are_read(rt: &impl Abort, command: &Command) {
-    if let Command::Params(name, params) = command {
-        same(rt, &"params", &name.as_bytes(), &b"PCM0P".as_slice());
-        same(rt, &"params", &(params.rate, params.channels), &(48000, 2));
-        same(rt, &"params", &params.format, &Format::S16);
-    }
+    let Command::Params(name, params) = command else {
+        return same(rt, &"the second", &word_of(command), &"params");
+    };
+    same(rt, &"params", &name.as_bytes(), &b"PCM0P".as_slice());
+    same(rt, &"params", &(params.rate, params.channels), &(48000, 2));
+    same(rt, &"params", &params.format, &Format::S16);
 }
 
 fn values_are_read(rt: &impl Abort, command: &Command) {
-    if let Command::Set(_, values) = command {
-        same(rt, &"set", &values.items(), &[31, 0].as_slice());
-    }
+    let Command::Set(name, values) = command else {
+        return same(rt, &"the third", &word_of(command), &"set");
+    };
+    same(rt, &"set", &name.as_bytes(), &b"C".as_slice());
+    same(rt, &"set", &values.items(), &[31, 0].as_slice());
 }
 
 fn bytes_are_read(rt: &impl Abort, command: &Command) {
-    if let Command::Bytes(_, bytes) = command {
-        same(rt, &"bytes", &bytes.items(), &[255, 0].as_slice());
-    }
+    let Command::Bytes(name, bytes) = command else {
+        return same(rt, &"the fourth", &word_of(command), &"bytes");
+    };
+    same(rt, &"bytes", &name.as_bytes(), &b"EQ".as_slice());
+    same(rt, &"bytes", &bytes.items(), &[255, 0].as_slice());
 }
 
 fn commands_are_read(rt: &impl Abort, commands: &[Numbered]) {
@@ -193,7 +198,14 @@ fn answers_say_their_lines(rt: HostRuntime) -> Result<(), Fail> {
             Answer::Fault(HostFault::Refused(Errno(-12))),
             "7 refused -12",
         ),
+        (8, Answer::Fault(HostFault::NotLoaded), "8 not loaded"),
+        (9, Answer::Fault(HostFault::Loaded), "9 loaded"),
         (10, Answer::PlanFull, "10 plan full"),
+        (11, Answer::Fault(HostFault::Off), "11 off"),
+        (12, Answer::Fault(HostFault::Range(44101)), "12 range 44101"),
+        (13, Answer::Fault(HostFault::LinkDown), "13 link down"),
+        (14, Answer::Fault(HostFault::Blob(9)), "14 blob 9"),
+        (15, Answer::Show, "15 show"),
     ];
     let mut line = Line::new();
     for (number, answer, text) in rows {

@@ -3,16 +3,11 @@ use Rattle.std.specs.Fmt.{digits}
 use Rattle.sof_base.specs.Slots.{until_zero}
 use Rattle.tplg_model.specs.TokenValues.{number_of, text_of}
 use Rattle.tplg_rules.specs.RuleTest.{ruling_of}
-use Rattle.tplg_graph.specs.ThinTest.{thin_test}
 use Rattle.sof_tests.proofs.rows.load_and_show_rows.Goals as goal
 
 pub returns-clause-rules : goal.returns-clause-rules
 unfolding ruling_of number_of text_of until_zero
 returns-clause-rules c = refl
-
-pub returns-clause-thin : goal.returns-clause-thin
-unfolding thin_test number_of text_of until_zero
-returns-clause-thin c = refl
 
 pub returns-clause-need : goal.returns-clause-need
 unfolding number_of

@@ -1,4 +1,4 @@
-"""The bytes of files that are too large to be kept in a case, each from one line of its `made`.
+"""The bytes of files that a case does not keep, since they are large or a line tells better where they come from, by its `made`.
 
 A line is FILE, a blank, a recipe and its arguments; FILE is a path in the case, as `in.raw`, `stdout` or `expected/out.raw`.
 A line that begins with '#' is a remark. Several lines of one FILE are joined.
@@ -8,6 +8,9 @@ A line that begins with '#' is a remark. Several lines of one FILE are joined.
   lines FIRST LAST TEXT  a line for each number from FIRST to LAST; `{n}` in TEXT is the number
   text TEXT              one line
   widened SIZE FILE      the 16-bit samples of FILE as 32-bit ones, as far as SIZE bytes go, and then zeros
+  section FILE CHANNELS FIRST COUNT NUMBER ..
+                         the frames of 16-bit samples of FILE from FIRST on, as 32-bit ones that pass an equaliser's section of these
+                         numbers: a2, a1, b2, b1, b0, shift and gain
   changed FILE AT HEX    FILE with these bytes at a place
   front COUNT FILE       the first COUNT bytes of FILE
   graph NAME             tests/graphs/NAME.tplg
@@ -36,6 +39,30 @@ def widened(size, samples):
     return bytes(wide)
 
 
+def clipped(number):
+    return max(-(2**31), min(2**31 - 1, number))
+
+
+def sections(samples, channels, numbers):
+    """Each channel's samples through a section that begins with zeros."""
+    a2, a1, b2, b1, b0, shift, gain = numbers
+    passed = list(samples)
+    for channel in range(channels):
+        x1 = x2 = w1 = w2 = 0
+        for i in range(channel, len(samples), channels):
+            x = samples[i]
+            w = clipped((b0 * x + b1 * x1 + b2 * x2 + a1 * w1 + a2 * w2 + 2**29) // 2**30)
+            passed[i] = clipped((w * gain + 2 ** (13 + shift)) // 2 ** (14 + shift))
+            x1, x2, w1, w2 = x, x1, w, w1
+    return passed
+
+
+def section(data, channels, first, count, *numbers):
+    narrow = struct.unpack(f"<{len(data) // 2}h", data)[channels * first : channels * (first + count)]
+    wide = sections([sample * 65536 for sample in narrow], channels, numbers)
+    return struct.pack(f"<{len(wide)}i", *wide)
+
+
 def changed(data, at, new):
     return data[:at] + new + data[at + len(new) :]
 
@@ -57,6 +84,9 @@ def bytes_of(recipe, rest, files):
         return "".join(text.replace("{n}", str(n)) + "\n" for n in range(int(first), int(last) + 1)).encode()
     if recipe == "text":
         return (rest + "\n").encode()
+    if recipe == "section":
+        file, *words = rest.split()
+        return section(files[file], *(int(word) for word in words))
     if recipe == "widened":
         size, name = rest.split()
         return widened(int(size), files[name])

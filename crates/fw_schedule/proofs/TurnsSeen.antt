@@ -1,21 +1,18 @@
 -- The turns of a registry's components are those of its graph.
-use Rattle.std.proofs.Common.{◌≡◌, refl, sym, ap, ◌∙◌, ℕ, zero, suc, ◌+◌, ◌-◌, ◌<◌, List, [], ◌∷◌, map, filter, length, get_or, count_by, Option, Some, None, Bool, true, false, cond, not, ◌&&◌, ◌==◌, arith}
+use Rattle.std.proofs.Common.{◌≡◌, refl, sym, ap, ◌∙◌, ℕ, zero, suc, ◌+◌, ◌<◌, List, [], ◌∷◌, map, length, get_or, count_by, Option, Some, None, true, false, cond, ◌&&◌, ◌==◌, arith}
+use Rattle.std.proofs.Math.Bool.{and-true}
 use Rattle.std.proofs.lemmas.Bool.{eq-eqb}
 use Rattle.std.proofs.lemmas.List.Sums.{sum_by-cons}
 use Rattle.std.specs.Prelude.{find, is_some}
 use Rattle.std.specs.List.{AllByRecursion}
 use Rattle.std.specs.Option.{option_map_or}
 use Rattle.stream_law.specs.declared.graph.Edge.{Edge}
-use Rattle.stream_law.specs.declared.turns.Turn as law
 use Rattle.stream_law.specs.Placed.{Ascends}
 use Rattle.stream_law.specs.Ways.{is_end}
-use Rattle.stream_law.specs.Waiting as waiting
 use Rattle.stream_law.specs.Waiting.{same_end, is_found, is_open, leads_from, waits}
 use Rattle.row_laws.proofs.Found.{found-each}
 use Rattle.fw_components.specs.declared.component.Component.{Component}
 use Rattle.fw_components.specs.Tables.{edge_by, source_by, sink_by}
-use Rattle.fw_schedule.specs.declared.ordering.Turn.{Turn}
-use Rattle.fw_schedule.specs.Turns.{shown, waits_lowered}
 use Rattle.fw_schedule.proofs.DistinctEdges.{edges-distinct}
 
 -- ---- each edge is found by its buffer
@@ -56,31 +53,8 @@ waited edges id (c ∷ cs) found =
 pub waits-are : (bs : List Component) (id : ℕ) → Ascends (λ c. c.id) bs → count_by (λ b. is_end (sink_by b.unit) id && is_some (source_by b.unit)) bs ≡ waits (map edge_by bs) [] id
 waits-are bs id up = waited (map edge_by bs) id bs (are-found bs up)
 
--- ---- turns as they are shown
+-- ---- which lead
 
-pub shown-lowered : (end : Option ℕ) (ts : List Turn) → map shown (map (waits_lowered end) ts) ≡ map (waiting.lowered end) (map shown ts)
-shown-lowered end [] = refl
-shown-lowered end (t ∷ ts) = λ i. one (is_end end t.id) i ∷ shown-lowered end ts i
-  where
-    one : (h : Bool) → shown (cond h (record { place = t.place; id = t.id; waits = t.waits - 1 }) t) ≡ cond h (record { place = t.place; id = t.id; waits = t.waits - 1 }) (shown t)
-    one true = refl
-    one false = refl
-
-pub shown-without : (id : ℕ) (ts : List Turn) → map shown (filter (λ t. not (t.id == id)) ts) ≡ filter (λ t. not (t.id == id)) (map shown ts)
-shown-without id [] = refl
-shown-without id (t ∷ ts) = by (not (t.id == id)) (shown-without id ts)
-  where
-    by : (h : Bool) → map shown (filter (λ t. not (t.id == id)) ts) ≡ filter (λ t. not (t.id == id)) (map shown ts) → map shown (cond h (t ∷ filter (λ t. not (t.id == id)) ts) (filter (λ t. not (t.id == id)) ts)) ≡ cond h (shown t ∷ filter (λ t. not (t.id == id)) (map shown ts)) (filter (λ t. not (t.id == id)) (map shown ts))
-    by true rest = ap (λ (ls : List law.Turn). shown t ∷ ls) rest
-    by false rest = rest
-
--- one buffer that is freed, as its edge is
-pub shown-freed : (edges : List Edge) (id : ℕ) (c : Component) (old new : List Turn) → is_found edges (edge_by c) ≡ true → new ≡ cond (is_end (source_by c.unit) id) (map (waits_lowered (sink_by c.unit)) old) old → map shown new ≡ cond (leads_from edges id (edge_by c)) (map (waiting.lowered (sink_by c.unit)) (map shown old)) (map shown old)
-shown-freed edges id c old new found is =
-    ap (map shown) is
-    ∙ by (is_end (source_by c.unit) id)
-    ∙ ap (λ h. cond (is_end (source_by c.unit) id && h) (map (waiting.lowered (sink_by c.unit)) (map shown old)) (map shown old)) (sym found)
-  where
-    by : (h : Bool) → map shown (cond h (map (waits_lowered (sink_by c.unit)) old) old) ≡ cond (h && true) (map (waiting.lowered (sink_by c.unit)) (map shown old)) (map shown old)
-    by true = shown-lowered (sink_by c.unit) old
-    by false = refl
+-- an edge that is found by its buffer leads from its source
+pub leads-found : (edges : List Edge) (id : ℕ) (e : Edge) → is_found edges e ≡ true → leads_from edges id e ≡ is_end e.source id
+leads-found edges id e found = ap (λ h. is_end e.source id && h) found ∙ and-true (is_end e.source id)

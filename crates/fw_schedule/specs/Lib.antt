@@ -1,7 +1,6 @@
 -- What a tick over the registry asks and leaves.
 pub mod Units
 pub mod Spots
-pub mod Turns
 pub mod Outputs
 pub mod Ticks
 pub mod Stages

@@ -17,4 +17,5 @@ pub use laws::{
 };
 pub use ordering::{Cycle, order, order_of};
 pub use stream::{Phase, StreamView};
+pub use turns::{Turn, lower_waits, next_turn, remove_turn};
 pub use worked::{epoch_row, equaliser_rows, gain_rows, join_rows, order_row, run_rows, tick_rows};

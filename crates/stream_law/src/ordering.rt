@@ -7,7 +7,7 @@ ghost use Rattle.stream_law.specs.Waiting.{freed};
 ghost use Rattle.stream_law.specs.Walks.{HasAll, HasCycle, HasEnds};
 
 use crate::graph::{Comp, Edge, Graph};
-use crate::turns::{Turn, free, let_go, next, turns};
+use crate::turns::{Turn, free, next_turn, remove_turn, turns};
 use arrayvec::ArrayVec;
 use sof_base::Bounded;
 
@@ -15,11 +15,11 @@ use sof_base::Bounded;
 #[derive(Clone, Copy, Debug, PartialEq, Eq)]
 pub struct Cycle;
 
-// A component is placed: its turn is let go, and what is left waits no longer for its edges.
+// A component is placed: its turn is removed, and what is left waits no longer for its edges.
 fn place(edges: &[Edge], turn: Turn, left: &mut ArrayVec<Turn, 128>)
     ensures { left.new.items ≡ map (freed edges.now turn.id edges.now) (filter (λ t. not (t.id == turn.id)) left.old.items) }
 {
-    let_go(left, turn.id);
+    remove_turn(left, turn.id);
     free(edges, turn.id, left.as_mut_slice());
 }
 
@@ -49,7 +49,7 @@ pub fn order_of(comps: &[Comp], edges: &[Edge]) -> Result<Bounded<u16, 128>, Cyc
 {
     let mut left = turns(comps, edges);
     let mut places: ArrayVec<u16, 128> = ArrayVec::new();
-    while let Some(turn) = next(left.as_slice()) {
+    while let Some(turn) = next_turn(left.as_slice()) {
         places.push(turn.place);
         place(edges, turn, &mut left);
     }

@@ -108,8 +108,8 @@ fn better(best: Option<Turn>, turn: Turn) -> Option<Turn>
     }
 }
 
-/// The turn that is next: of those that wait for nothing, that of the least id.
-pub fn next(left: &[Turn]) -> Option<Turn>
+/// The turn that is next: of those that wait for nothing, that of the least id. There is none where each of them waits.
+pub fn next_turn(left: &[Turn]) -> Option<Turn>
     ensures { result ≡ law.best_of None left.now }
 {
     let mut best = None;
@@ -133,8 +133,8 @@ fn lowered(end: Option<u32>, turn: Turn) -> Turn
     }
 }
 
-// Each component at this end waits for one edge less.
-fn lower(left: &mut [Turn], end: Option<u32>)
+/// The component at this end of an edge waits for one edge less, or still for none. The other turns stay as they are.
+pub fn lower_waits(left: &mut [Turn], end: Option<u32>)
     ensures { left.new ≡ map (law.lowered end) left.old }
 {
     for turn in left.iter_mut() {
@@ -147,7 +147,7 @@ fn free_edge(edges: &[Edge], e: &Edge, id: u32, left: &mut [Turn])
     ensures { left.new ≡ (if law.leads_from edges.now id e.now then map (law.lowered e.now.sink) left.old else left.old) }
 {
     if is_end(e.source, id) && is_found(edges, e) {
-        lower(left, e.sink);
+        lower_waits(left, e.sink);
     }
 }
 
@@ -160,8 +160,8 @@ pub fn free(edges: &[Edge], id: u32, left: &mut [Turn])
     }
 }
 
-/// The turns without that of a component.
-pub fn let_go(left: &mut ArrayVec<Turn, 128>, id: u32)
+/// The turns without that of a component. The others stay as they are, one after another.
+pub fn remove_turn(left: &mut ArrayVec<Turn, 128>, id: u32)
     ensures { left.new.items ≡ filter (λ t. not (t.id == id)) left.old.items }
 {
     left.retain(|turn| turn.id != id);

@@ -1,8 +1,7 @@
 use Rattle.std.proofs.Common.{◌≡◌, map, take}
 use Rattle.stream_law.specs.Waiting.{freed}
 use Rattle.fw_components.specs.Tables.{edge_by}
-use Rattle.fw_schedule.specs.Turns.{shown}
 use Rattle.fw_schedule.proofs.ordering.free.Given as goal
 
 abbrev pub invariant-loop-buffer : goal.invariant-loop-buffer
-invariant-loop-buffer l = map shown l.left ≡ map (freed (map edge_by l.buffers) l.id (take l.buffer-index (map edge_by l.buffers))) (map shown l.initial.left)
+invariant-loop-buffer l = l.left ≡ map (freed (map edge_by l.buffers) l.id (take l.buffer-index (map edge_by l.buffers))) l.initial.left

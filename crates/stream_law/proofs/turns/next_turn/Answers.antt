@@ -2,7 +2,7 @@ use Rattle.std.proofs.Common.{sym, ap, ◌∙◌, ◌+◌, drop}
 use Rattle.std.proofs.lemmas.List.{drop_all}
 use Rattle.stream_law.specs.Waiting.{best_of}
 use Rattle.stream_law.proofs.TurnLaws.{best_of-more}
-use Rattle.stream_law.proofs.turns.next.Goals as goal
+use Rattle.stream_law.proofs.turns.next_turn.Goals as goal
 
 pub loop-turn-preserved : goal.loop-turn-preserved
 loop-turn-preserved c =

@@ -1,9 +1,0 @@
-use Rattle.stream_law.proofs.TurnLaws.{map_step, map_end}
-use Rattle.fw_schedule.specs.Turns.{waits_lowered}
-use Rattle.fw_schedule.proofs.ordering.lower.Goals as goal
-
-pub loop-turn-preserved : goal.loop-turn-preserved
-loop-turn-preserved c = map_step (waits_lowered c.args.end) c.loop-turn.turn-index c.args.left.now c.loop-turn.left _ c.lowered.result c.loop-turn-test.true c.loop-turn.invariant c.lowered.ensures
-
-pub returns : goal.returns
-returns c = map_end (waits_lowered c.args.end) c.loop-turn.turn-index c.args.left.now c.loop-turn.left c.loop-turn-test.false c.loop-turn.invariant

@@ -14,30 +14,21 @@ use Rattle.tplg_rules.specs.RuleTest.{ruling_of}
 use Rattle.tplg_rules.proofs.RuleTests.{whole_none, none_whole, some_breaks}
 use Rattle.sof_run.specs.declared.prepare.Halt.{Halt}
 use Rattle.sof_run.specs.declared.prepare.Halt.TheVariants as halts
-use Rattle.sof_run.specs.Words.{play_of}
 use Rattle.sof_run.specs.Todo.{End, Says, DoneBy, RanOn}
 use Rattle.sof_run.specs.Lines.{no_memory_line, with_newline, halt_line, halt_status}
 use Rattle.sof_run.specs.Play.{lines_todo}
 use Rattle.sof_run.specs.Checking.{check_of, counts_of, checked_rules, checked_file, checked, checked_todo, check}
-use Rattle.sof_run.specs.Compiling.{compile_of}
-use Rattle.sof_run.specs.Stressing.{stress_of}
 use Rattle.sof_run.specs.Forms.{todo_for, todo_of}
 use Rattle.sof_run.specs.TopologyBytes.{AreBytes, IsFile, IsBroken}
 use Rattle.sof_run.specs.Checks.{IsWrong, IsRight, saying, CheckVerdict, Spoke, IsFront, WroteText, Checks}
+use Rattle.sof_run.proofs.Requests.{check_asked}
 use Rattle.sof_run.proofs.Steps.{no_turns}
 use Rattle.sof_run.proofs.SaidLines.{said, front_behind, nothing, behind, put, took, Parted, line_failed, line_parted}
 
 -- ---- the words
 
--- no words have both forms
-apart : (room : ℕ) (words : List (List ℕ)) (name : List ℕ) → check_of words ≡ Some name → play_of room words ≡ None
-apart room [] name is = absurd (cc is)
-apart room (verb ∷ []) name is = absurd (cc is)
-apart room (verb ∷ topology ∷ []) name is = refl
-apart room (verb ∷ topology ∷ more ∷ words) name is = absurd (cc is)
-
 checks_alone : (room sent : ℕ) (words : List (List ℕ)) (name : List ℕ) → check_of words ≡ Some name → todo_of room sent words ≡ check name
-checks_alone room sent words name is = λ i. todo_for room sent (apart room words name is i) (is i) (compile_of words) (stress_of words)
+checks_alone room sent words name is = ap (todo_for room sent) (check_asked room words name is)
 
 -- ---- the device
 

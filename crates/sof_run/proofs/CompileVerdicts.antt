@@ -12,38 +12,22 @@ use Rattle.tplg_compile.specs.declared.source_fault.SourceFault.TheVariants as f
 use Rattle.tplg_compile.specs.Compiled.{IsCompiled, IsCompileFault}
 use Rattle.tplg_compile.specs.InOrder.{compiled_of}
 use Rattle.tplg_compile.proofs.CompileLaws.{compiled_take, compiled_again, text_fault_take}
-use Rattle.sof_run.specs.Words.{Form, play_of}
 use Rattle.sof_run.specs.Todo.{Todo, End, Do, Says, DoneBy, RanOn}
 use Rattle.sof_run.specs.Lines.{no_memory_line, with_newline}
 use Rattle.sof_run.specs.Play.{lines_todo}
-use Rattle.sof_run.specs.Checking.{check_of}
 use Rattle.sof_run.specs.Compiling.{CompileNames, compile_of, source_line, source_status, wrote_line, file_todo, compiled_todo, compile}
-use Rattle.sof_run.specs.Stressing.{stress_of}
+use Rattle.sof_run.specs.Requests.{Request, Compile, request_of}
 use Rattle.sof_run.specs.Forms.{todo_for, todo_of}
 use Rattle.sof_run.specs.Checks.{saying, Spoke, IsFront}
 use Rattle.sof_run.specs.Compiles.{making, CompileVerdict, compiled_at, MadeFile, WroteFile, MakesTopology, Compiles}
+use Rattle.sof_run.proofs.Requests.{compile_asked}
 use Rattle.sof_run.proofs.Steps.{no_turns}
 use Rattle.sof_run.proofs.SaidLines.{said, none_more, nothing, behind, line_parted}
 
 -- ---- the words
 
--- no words have two forms
-pub no_play : (room : ℕ) (words : List (List ℕ)) (names : CompileNames) → compile_of words ≡ Some names → play_of room words ≡ None
-no_play room [] names is = absurd (cc is)
-no_play room (verb ∷ []) names is = absurd (cc is)
-no_play room (verb ∷ source ∷ []) names is = absurd (cc is)
-no_play room (verb ∷ source ∷ out ∷ []) names is = refl
-no_play room (verb ∷ source ∷ out ∷ more ∷ words) names is = absurd (cc is)
-
-pub no_check : (words : List (List ℕ)) (names : CompileNames) → compile_of words ≡ Some names → check_of words ≡ None
-no_check [] names is = absurd (cc is)
-no_check (verb ∷ []) names is = absurd (cc is)
-no_check (verb ∷ source ∷ []) names is = absurd (cc is)
-no_check (verb ∷ source ∷ out ∷ []) names is = refl
-no_check (verb ∷ source ∷ out ∷ more ∷ words) names is = absurd (cc is)
-
 compiles_alone : (room sent : ℕ) (words : List (List ℕ)) (names : CompileNames) → compile_of words ≡ Some names → todo_of room sent words ≡ compile names
-compiles_alone room sent words names is = λ i. todo_for room sent (no_play room words names is i) (no_check words names is i) (is i) (stress_of words)
+compiles_alone room sent words names is = ap (todo_for room sent) (compile_asked room words names is)
 
 -- ---- the device
 
@@ -283,21 +267,15 @@ module _ {D : Type 0} (means : DeskMeaning D) where
         let same : e ≡ led.0 = subst (λ cs. DeskLed means led.0 cs e) goes.2.1 led.2 in
         inr (inr (inr (inr (goes.2.2, ([], (no_memory_line, refl), nothing means d e (λ place. ap (λ x. means.wrote x place) same ∙ loaded.wrote place))))))
 
--- ---- what was made is a topology, by the form of the words
+-- ---- what was made is a topology, by what the words ask for
 
-module _ {D : Type 0} (means : DeskMeaning D) (words : List (List ℕ)) (old : D) (status : ℕ) where
-  pub play_makes : (room : ℕ) (f : Form) → play_of room words ≡ Some f → MakesTopology means words old status
-  play_makes room f is = λ names text t source got zero. absurd (cc (sym (no_play room words names source.named) ∙ is))
+module _ {D : Type 0} (means : DeskMeaning D) (room : ℕ) (words : List (List ℕ)) (old : D) (status : ℕ) where
+  pub other_makes : (r : Option Request) → request_of room words ≡ r → ((names : CompileNames) → r ≡ Some (Compile names) → ⊥) → MakesTopology means words old status
+  other_makes r is other = λ names text t source got zero. absurd (other names (sym is ∙ compile_asked room words names source.named))
 
-  pub check_makes : (name : List ℕ) → check_of words ≡ Some name → MakesTopology means words old status
-  check_makes name is = λ names text t source got zero. absurd (cc (sym (no_check words names source.named) ∙ is))
-
-  pub none_makes : compile_of words ≡ None → MakesTopology means words old status
-  none_makes is = λ names text t source got zero. absurd (cc (sym is ∙ source.named))
-
-  pub compile_makes : (names : CompileNames) → compile_of words ≡ Some names → (status ≡ 0 → (text : List ℕ) (t : Topology) → means.holds old names.source ≡ Some text → compiled_of text ≡ Ok t → IsTopology t) → MakesTopology means words old status
+  pub compile_makes : (names : CompileNames) → request_of room words ≡ Some (Compile names) → (status ≡ 0 → (text : List ℕ) (t : Topology) → means.holds old names.source ≡ Some text → compiled_of text ≡ Ok t → IsTopology t) → MakesTopology means words old status
   compile_makes names is sound = λ others text t source got zero.
-      let same : others ≡ names = cc (sym source.named ∙ is) in
+      let same : others ≡ names = cc (sym (compile_asked room words others source.named) ∙ is) in
       sound zero text t (ap (λ (n : CompileNames). means.holds old n.source) (sym same) ∙ source.told) got
 
 module _ {D P : Type 0} (means : DeskMeaning D) (dsp : Meaning P) (words : List (List ℕ)) (old new : D) (room sent : ℕ) (p q : Life P) (status : ℕ) (ran : RanOn means dsp (todo_of room sent words) old p status new q) (makes : MakesTopology means words old status) where

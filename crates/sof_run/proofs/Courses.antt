@@ -13,7 +13,7 @@ use Rattle.sof_script.specs.Commands.{Bound}
 use Rattle.sof_session.specs.Written.{Out}
 use Rattle.sof_session.specs.Lives.{Task, Begin, Carry, Fill, Turn}
 use Rattle.sof_run.specs.declared.prepare.Halt.{Halt}
-use Rattle.sof_run.specs.Words.{Form, play_of}
+use Rattle.sof_run.specs.Words.{Form}
 use Rattle.sof_run.specs.Todo.{Todo, End, Stop, Ask, Do, Step, Refill, Free, Says, Over, reading, DoneBy}
 use Rattle.sof_run.specs.Bindings.{bound_slot, bound_inputs, bound_outputs, bound_slots}
 use Rattle.sof_run.specs.Rounds.{Round, rounds_of}
@@ -21,16 +21,17 @@ use Rattle.sof_run.specs.Lines.{no_memory_line, with_newline, lines_after}
 use Rattle.sof_run.specs.Prepared.{Prepared, Ready, Halted, prepared}
 use Rattle.sof_run.specs.Play.{WithPorts, prepared_todo, lines_todo, rounds_todo, session_todo, bindings_todo, binding_todo, play}
 use Rattle.sof_run.specs.Pieces.{Piece, pieces_of}
-use Rattle.sof_run.specs.Checking.{check_of, checked, checked_todo, counts_of}
-use Rattle.sof_run.specs.Compiling.{CompileNames, compile_of, compiled_todo}
+use Rattle.sof_run.specs.Checking.{checked, checked_todo, counts_of}
+use Rattle.sof_run.specs.Compiling.{compiled_todo}
 use Rattle.sof_stress.specs.declared.counts.Counts.{Counts}
 use Rattle.sof_stress.specs.Draws.{stream_count}
 use Rattle.sof_stress.specs.StressPorts.{dai_slot}
 use Rattle.sof_stress.specs.CommandTurns.{CommandTurn, turn_counted, no_counts}
 use Rattle.sof_stress.specs.StressRun.{stress_begins, stress_turns}
-use Rattle.sof_run.specs.Stressing.{stress_of, stress_lines, counted_todo, told_todo, stress}
+use Rattle.sof_run.specs.Stressing.{stress_lines, counted_todo, told_todo, stress}
+use Rattle.sof_run.specs.Requests.{Request, Play, Check, Compile, Stress, request_of}
 use Rattle.sof_run.specs.Forms.{todo_for, todo_of}
-use Rattle.sof_run.specs.Calls.{Item, Calls, Turns, Memory, Course, before_course, saying, last_line, load_course, turning, filling_by, filling, putting, units, bindings, files, playing, counting, making, counting_turns, telling, stressing, by_form, heard_in, Wants, Made, FollowsCourse}
+use Rattle.sof_run.specs.Calls.{Item, Calls, Turns, Memory, Course, before_course, saying, last_line, load_course, turning, filling_by, filling, putting, units, bindings, files, playing, counting, making, counting_turns, telling, stressing, heard_in, Wants, Made, FollowsCourse, course_for}
 use Rattle.sof_run.proofs.WrittenPieces.{puts, puts_flush}
 
 -- ---- what is to do, unrolled
@@ -205,14 +206,14 @@ stressing-same room sent seed heard turns =
     counted-same (dai_slot (stream_count seed)) (stress_turns seed) no_counts (told_todo sent) (telling sent) heard turns
     (λ counts turns. lines-same (stress_lines (record counts { messages = sent })) heard turns)))
 
-form-same : (room sent : ℕ) (o : Option Form) (c : Option (List ℕ)) (s : Option CompileNames) (n : Option ℕ) (heard : List Heard) (turns : List Turn) → unrolled (todo_for room sent o c s n) heard turns ≡ by_form room sent o c s n heard turns
-form-same room sent (Some form) c s n heard turns = playing-same form heard turns
-form-same room sent None (Some name) s n heard turns = loading-same name 1048576 (codes "too long topology\n") heard _ _ (λ bytes heard. ap (before_course (Memory ∷ [])) (counting-same (checked bytes) heard turns))
-form-same room sent None None (Some names) n heard turns = loading-same names.source 1048576 (codes "too long source\n") heard _ _ (λ text heard. ap (before_course (Memory ∷ [])) (making-same names.out (compiled_of text) heard turns))
-form-same room sent None None None (Some seed) heard turns = stressing-same room sent seed heard turns
-form-same room sent None None None None heard turns = refl
+request-same : (room sent : ℕ) (r : Option Request) (heard : List Heard) (turns : List Turn) → unrolled (todo_for room sent r) heard turns ≡ course_for room sent r heard turns
+request-same room sent (Some (Play form)) heard turns = playing-same form heard turns
+request-same room sent (Some (Check name)) heard turns = loading-same name 1048576 (codes "too long topology\n") heard _ _ (λ bytes heard. ap (before_course (Memory ∷ [])) (counting-same (checked bytes) heard turns))
+request-same room sent (Some (Compile names)) heard turns = loading-same names.source 1048576 (codes "too long source\n") heard _ _ (λ text heard. ap (before_course (Memory ∷ [])) (making-same names.out (compiled_of text) heard turns))
+request-same room sent (Some (Stress seed)) heard turns = stressing-same room sent seed heard turns
+request-same room sent None heard turns = refl
 
 -- what was done is the course of the words, or its front
 pub follows : (room sent : ℕ) (words : List (List ℕ)) (turns : List Turn) (calls : List DeskCall) (status : ℕ) → DoneBy (todo_of room sent words) turns calls status → FollowsCourse room sent words turns calls status
 follows room sent words turns calls status goes =
-    subst (λ (c : Course). IsMade c turns calls status) (form-same room sent (play_of room words) (check_of words) (compile_of words) (stress_of words) (heard_in calls) turns) (made (todo_of room sent words) turns calls status goes)
+    subst (λ (c : Course). IsMade c turns calls status) (request-same room sent (request_of room words) (heard_in calls) turns) (made (todo_of room sent words) turns calls status goes)

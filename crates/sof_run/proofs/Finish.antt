@@ -1,7 +1,7 @@
 -- All that `run` ensures, from what it did.
-use Rattle.std.proofs.Common.{◌≡◌, ◌⊎◌, inl, inr, ℕ, ◌≤◌, nat_lt, true, false, List, [], ◌∷◌, Option, Some, None, refl, sym, ap, ◌∙◌, subst, arith}
+use Rattle.std.proofs.Common.{◌≡◌, ◌⊎◌, inl, inr, ℕ, ◌≤◌, nat_lt, false, List, Option, Some, None, refl, sym, ap, ◌∙◌, subst, arith, codes}
 use Rattle.std.proofs.lemmas.Bool.Decides.{nat_tests}
-use Rattle.sof_desk.specs.Desk.{DeskMeaning, DeskCall, Load, Did, Read as ReadCall, CountRose}
+use Rattle.sof_desk.specs.Desk.{DeskMeaning, DeskCall, CountRose}
 use Rattle.mbox_link.specs.Calls.{Meaning}
 use Rattle.tplg_model.specs.declared.block.Topology.{Topology}
 use Rattle.tplg_model.proofs.FileLaws.{topology_again}
@@ -9,15 +9,15 @@ use Rattle.tplg_graph.specs.PlanOf.{plan_of}
 use Rattle.tplg_rules.proofs.RuleTests.{whole_none}
 use Rattle.sof_script.specs.Commands.{Read}
 use Rattle.sof_session.specs.Lives.{Bare, Turn, Turns}
-use Rattle.sof_run.specs.Words.{Form, play_of}
-use Rattle.sof_run.specs.Todo.{Todo, DoneBy}
+use Rattle.sof_run.specs.Todo.{Todo, Says, DoneBy}
 use Rattle.sof_run.specs.Throughout.{Throughout}
 use Rattle.sof_run.specs.Rounds.{rounds_of}
 use Rattle.sof_run.specs.Prepared.{Ready, ticks_of, prepared, prepared_script, prepared_ticks, prepared_topology, prepared_rules, prepared_bindings}
 use Rattle.sof_run.specs.Play.{play}
-use Rattle.sof_run.specs.Checking.{check, check_of}
-use Rattle.sof_run.specs.Compiling.{CompileNames, compile, compile_of}
-use Rattle.sof_run.specs.Stressing.{stress_of, stress}
+use Rattle.sof_run.specs.Checking.{check}
+use Rattle.sof_run.specs.Compiling.{compile}
+use Rattle.sof_run.specs.Stressing.{stress}
+use Rattle.sof_run.specs.Requests.{Request, Play, Check, Compile, Stress, request_of}
 use Rattle.sof_run.specs.Forms.{todo_for, todo_of}
 use Rattle.sof_run.specs.Ends.{IsEarly, Worded}
 use Rattle.sof_run.specs.Verdicts.{MakeRun, Judged}
@@ -25,6 +25,8 @@ use Rattle.sof_run.specs.Plays.{Plays, Unbegun, PlaysWhole, ground_in}
 use Rattle.sof_run.specs.Todo.{Gave}
 use Rattle.sof_run.specs.Run.{Left}
 use Rattle.sof_run.specs.Calls.{FollowsCourse}
+use Rattle.sof_run.proofs.Requests.{play_asked, nothing_asked, formless_asked}
+use Rattle.sof_run.proofs.SaidLines.{said}
 use Rattle.sof_run.proofs.Judging.{judge}
 use Rattle.sof_run.proofs.PlanWords.{sound_plan}
 use Rattle.sof_run.proofs.ScriptRanges.{script_sound}
@@ -48,41 +50,34 @@ not_late status (inr (inr (inr (inr (inl is))))) (inr late) = cc (sym is ∙ lat
 not_late status (inr (inr (inr (inr (inr is))))) (inl late) = cc (sym is ∙ late)
 not_late status (inr (inr (inr (inr (inr is))))) (inr late) = cc (sym is ∙ late)
 
-pub words_other : (room sent : ℕ) (o : Option Form) (c : Option (List ℕ)) (s : Option CompileNames) (n : Option ℕ) → Throughout (λ n. n ≡ 3 → ⊥) (λ name. Unit {0}) (todo_for room sent o c s n)
-words_other room sent None None None None = λ e. cc e
-words_other room sent None None None (Some seed) = stress_all (λ n. n ≡ 3 → ⊥) (λ name. Unit {0}) room sent seed (λ e. cc e) (λ e. cc e)
-words_other room sent None None (Some names) n = compile_all (λ n. n ≡ 3 → ⊥) (λ name. Unit {0}) names (λ e. cc e) (λ e. cc e) (λ e. cc e) (λ e. cc e) tt
-words_other room sent None (Some name) s n = check_all (λ n. n ≡ 3 → ⊥) (λ name. Unit {0}) name (λ e. cc e) (λ e. cc e) (λ e. cc e) (λ e. cc e) tt
-words_other room sent (Some form) c s n = play_all (λ n. n ≡ 3 → ⊥) (λ name. Unit {0}) form (λ e. cc e) (λ e. cc e) (λ e. cc e) (λ e. cc e) (λ e. cc e) (λ e. cc e) (λ name. tt)
+pub words_other : (room sent : ℕ) (r : Option Request) → Throughout (λ n. n ≡ 3 → ⊥) (λ name. Unit {0}) (todo_for room sent r)
+words_other room sent None = λ e. cc e
+words_other room sent (Some (Stress seed)) = stress_all (λ n. n ≡ 3 → ⊥) (λ name. Unit {0}) room sent seed (λ e. cc e) (λ e. cc e)
+words_other room sent (Some (Compile names)) = compile_all (λ n. n ≡ 3 → ⊥) (λ name. Unit {0}) names (λ e. cc e) (λ e. cc e) (λ e. cc e) (λ e. cc e) tt
+words_other room sent (Some (Check name)) = check_all (λ n. n ≡ 3 → ⊥) (λ name. Unit {0}) name (λ e. cc e) (λ e. cc e) (λ e. cc e) (λ e. cc e) tt
+words_other room sent (Some (Play form)) = play_all (λ n. n ≡ 3 → ⊥) (λ name. Unit {0}) form (λ e. cc e) (λ e. cc e) (λ e. cc e) (λ e. cc e) (λ e. cc e) (λ e. cc e) (λ name. tt)
 
 -- status 1 is that of words without a form
-one_only : (room sent : ℕ) (o : Option Form) (c : Option (List ℕ)) (s : Option CompileNames) (n : Option ℕ) (turns : List Turn) (calls : List DeskCall) (status : ℕ) → DoneBy (todo_for room sent o c s n) turns calls status → status ≡ 1 → (o ≡ None) × (c ≡ None) × (s ≡ None) × (n ≡ None)
-one_only room sent None None None None turns calls status goes one = (refl, refl, refl, refl)
-one_only room sent None None None (Some seed) turns calls status goes one =
+one_only : (room sent : ℕ) (r : Option Request) (turns : List Turn) (calls : List DeskCall) (status : ℕ) → DoneBy (todo_for room sent r) turns calls status → status ≡ 1 → r ≡ None
+one_only room sent None turns calls status goes one = refl
+one_only room sent (Some (Stress seed)) turns calls status goes one =
     absurd (ends (λ n. n ≡ 1 → ⊥) (λ name. Unit {0}) (stress room sent seed) turns calls status goes (stress_all (λ n. n ≡ 1 → ⊥) (λ name. Unit {0}) room sent seed (λ e. cc e) (λ e. cc e)) (λ e. cc e) one)
-one_only room sent None None (Some names) n turns calls status goes one =
+one_only room sent (Some (Compile names)) turns calls status goes one =
     absurd (ends (λ n. n ≡ 1 → ⊥) (λ name. Unit {0}) (compile names) turns calls status goes (compile_all (λ n. n ≡ 1 → ⊥) (λ name. Unit {0}) names (λ e. cc e) (λ e. cc e) (λ e. cc e) (λ e. cc e) tt) (λ e. cc e) one)
-one_only room sent None (Some name) s n turns calls status goes one =
+one_only room sent (Some (Check name)) turns calls status goes one =
     absurd (ends (λ n. n ≡ 1 → ⊥) (λ name. Unit {0}) (check name) turns calls status goes (check_all (λ n. n ≡ 1 → ⊥) (λ name. Unit {0}) name (λ e. cc e) (λ e. cc e) (λ e. cc e) (λ e. cc e) tt) (λ e. cc e) one)
-one_only room sent (Some form) c s n turns calls status goes one =
+one_only room sent (Some (Play form)) turns calls status goes one =
     absurd (ends (λ n. n ≡ 1 → ⊥) (λ name. Unit {0}) (play form) turns calls status goes (play_all (λ n. n ≡ 1 → ⊥) (λ name. Unit {0}) form (λ e. cc e) (λ e. cc e) (λ e. cc e) (λ e. cc e) (λ e. cc e) (λ e. cc e) (λ name. tt)) (λ e. cc e) one)
 
-one_each : (room sent : ℕ) (o : Option Form) (c : Option (List ℕ)) (s : Option CompileNames) (n : Option ℕ) (turns : List Turn) (calls : List DeskCall) (status : ℕ) → DoneBy (todo_for room sent o c s n) turns calls status → o ≡ None → c ≡ None → s ≡ None → n ≡ None → (status ≡ 1) ⊎ (status ≡ 3)
-one_each room sent None None None None turns [] status goes no_play no_check no_compile no_stress = absurd goes
-one_each room sent None None None None turns (Load name limit heard ∷ calls) status goes no_play no_check no_compile no_stress = absurd goes
-one_each room sent None None None None turns (ReadCall n size got ∷ calls) status goes no_play no_check no_compile no_stress = absurd goes
-one_each room sent None None None None turns (Did act true ∷ calls) status goes no_play no_check no_compile no_stress = inl goes.3
-one_each room sent None None None None turns (Did act false ∷ calls) status goes no_play no_check no_compile no_stress = inr goes.3
-one_each room sent None None None (Some seed) turns calls status goes no_play no_check no_compile no_stress = absurd (cc no_stress)
-one_each room sent None None (Some names) n turns calls status goes no_play no_check no_compile no_stress = absurd (cc no_compile)
-one_each room sent None (Some name) s n turns calls status goes no_play no_check no_compile no_stress = absurd (cc no_check)
-one_each room sent (Some form) c s n turns calls status goes no_play no_check no_compile no_stress = absurd (cc no_play)
+one_each : (turns : List Turn) (calls : List DeskCall) (status : ℕ) → Says (codes "words\n") 1 turns calls status → (status ≡ 1) ⊎ (status ≡ 3)
+one_each turns calls status says = elim (said (codes "words\n") 1 turns calls status says) [ inl three ↦ inr three | inr one ↦ inl one.0 ]
 
 pub worded : (room sent : ℕ) (words : List (List ℕ)) (turns : List Turn) (calls : List DeskCall) (status : ℕ) → DoneBy (todo_of room sent words) turns calls status → Worded room words status
 worded room sent words turns calls status goes =
     record {
-      only = one_only room sent (play_of room words) (check_of words) (compile_of words) (stress_of words) turns calls status goes;
-      each = one_each room sent (play_of room words) (check_of words) (compile_of words) (stress_of words) turns calls status goes;
+      only = λ one. nothing_asked room words (one_only room sent (request_of room words) turns calls status goes one);
+      each = λ no_play no_check no_compile no_stress.
+          one_each turns calls status (subst (λ r. DoneBy (todo_for room sent r) turns calls status) (formless_asked room words no_play no_check no_compile no_stress) goes);
     }
 
 -- ---- the files
@@ -101,9 +96,6 @@ files_ready topology script t read is =
 -- ---- all
 
 module _ {D P : Type 0} (means : DeskMeaning D) (dsp : Meaning P) (words : List (List ℕ)) (old new : D) (p q : P) (status : ℕ) (sent : ℕ) (gave : Gave means dsp (todo_of (dsp.most p) sent words) old p status new q) where
-  abbrev form : Option Form
-  form = play_of (dsp.most p) words
-
   abbrev todo : Todo
   todo = todo_of (dsp.most p) sent words
 
@@ -111,10 +103,10 @@ module _ {D P : Type 0} (means : DeskMeaning D) (dsp : Meaning P) (words : List 
   goes = gave.ran.played.goes
 
   other : Throughout (λ n. n ≡ 3 → ⊥) (λ name. Unit {0}) todo
-  other = words_other (dsp.most p) sent form (check_of words) (compile_of words) (stress_of words)
+  other = words_other (dsp.most p) sent (request_of (dsp.most p) words)
 
   turns_last : TurnsLast todo
-  turns_last = words_last (dsp.most p) sent form (check_of words) (compile_of words) (stress_of words)
+  turns_last = words_last (dsp.most p) sent (request_of (dsp.most p) words)
 
   pub course_made : FollowsCourse (dsp.most p) sent words gave.ran.turns gave.ran.played.calls status
   course_made = follows (dsp.most p) sent words gave.ran.turns gave.ran.played.calls status goes
@@ -139,7 +131,7 @@ module _ {D P : Type 0} (means : DeskMeaning D) (dsp : Meaning P) (words : List 
   pub judged : Judged means (dsp.most p) words old gave.ran.played.calls status
   judged form topology script is_form is_topology is_script bytes =
       judge topology script means form gave.ran.turns gave.ran.played.calls status old new is_topology is_script bytes
-      (subst (λ o. DoneBy (todo_for (dsp.most p) sent o (check_of words) (compile_of words) (stress_of words)) gave.ran.turns gave.ran.played.calls status) is_form goes) gave.ran.played.led
+      (subst (λ r. DoneBy (todo_for (dsp.most p) sent r) gave.ran.turns gave.ran.played.calls status) (play_asked (dsp.most p) words form is_form) goes) gave.ran.played.led
 
   pub plays_whole : dsp.on p ≡ None → PlaysWhole means dsp words old new status p gave.last
   plays_whole off run =
@@ -147,7 +139,7 @@ module _ {D P : Type 0} (means : DeskMeaning D) (dsp : Meaning P) (words : List 
       let turns = gave.ran.turns in
       let ready = files_ready run.topology run.script run.t run.read run.make_run in
       let whole = sound_plan run.t run.make_run.file.0 run.make_run.whole in
-      let same : todo ≡ play run.form = ap (λ o. todo_for (dsp.most p) sent o (check_of words) (compile_of words) (stress_of words)) run.is_form in
+      let same : todo ≡ play run.form = ap (todo_for (dsp.most p) sent) (play_asked (dsp.most p) words run.form run.is_form) in
       let next : Next means (play run.form) turns status old new = record { calls = gave.ran.played.calls; goes = subst (λ x. DoneBy x turns gave.ran.played.calls status) same goes; led = gave.ran.played.led } in
       let sound = script_sound run.script run.read (omega (arith, run.fit.1)) run.make_run.lines.0 in
       (elim (play_goes means dsp run.form run.topology run.script plan run.read ready turns status old new p gave.last gave.ran.turned run.is_topology run.is_script run.fit.0 run.fit.1 run.given next) as (λ w. Plays means dsp (ground_in run) (rounds_of run.read.commands) old new status p gave.last ⊎ Unbegun means (ground_in run).slots old new status p gave.last) [

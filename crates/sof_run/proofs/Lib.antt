@@ -6,6 +6,7 @@ pub mod Commands
 pub mod BrokenFiles
 pub mod Plays
 pub mod Statuses
+pub mod Requests
 pub mod Throughout
 pub mod Judging
 pub mod Finish

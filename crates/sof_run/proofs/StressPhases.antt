@@ -1,5 +1,5 @@
 -- What `stress` did, put together from its session and its lines.
-use Rattle.std.proofs.Common.{◌≡◌, ◌⊎◌, inl, inr, ℕ, Bool, true, false, List, [], ◌∷◌, map, Option, Some, None, refl, sym, ◌∙◌, subst, if◌then◌else◌}
+use Rattle.std.proofs.Common.{◌≡◌, ◌⊎◌, inl, inr, ℕ, Bool, true, false, List, [], ◌∷◌, map, Option, Some, refl, sym, ◌∙◌, subst, if◌then◌else◌}
 use Rattle.sof_desk.specs.Desk.{DeskMeaning, DeskCall}
 use Rattle.mbox_link.specs.Calls.{Meaning}
 use Rattle.tplg_plan.specs.Sound.{IsSound}
@@ -10,22 +10,15 @@ use Rattle.sof_stress.specs.Draws.{stream_count}
 use Rattle.sof_stress.specs.StressPorts.{dai_slot}
 use Rattle.sof_stress.specs.CommandTurns.{CommandTurn, turn_counted, all_counted, no_counts, tasks_of}
 use Rattle.sof_stress.specs.StressRun.{Stresses, sent_in, stress_begins, stress_plan, stress_turns}
-use Rattle.sof_run.specs.Words.{Form, play_of}
+use Rattle.sof_run.specs.Words.{Form}
 use Rattle.sof_run.specs.Lines.{no_memory_line}
 use Rattle.sof_run.specs.Todo.{Todo, End, Stop, Step, DoneBy, Played, Gave, DeskPhase}
 use Rattle.sof_run.specs.Play.{lines_todo, play}
-use Rattle.sof_run.specs.Checking.{check_of}
-use Rattle.sof_run.specs.Compiling.{compile_of}
-use Rattle.sof_run.specs.Stressing.{stress_of, stress_lines, counted_todo, told_todo}
+use Rattle.sof_run.specs.Stressing.{stress_lines, counted_todo, told_todo}
+use Rattle.sof_run.specs.Requests.{Request, Play, Stress, request_of}
 use Rattle.sof_run.specs.Forms.{todo_for, todo_of, GaveSent, StressGave}
 use Rattle.sof_run.proofs.Steps.{free_off}
-
--- no words have both forms
-no_stress : (room : ℕ) (words : List (List ℕ)) (form : Form) → play_of room words ≡ Some form → stress_of words ≡ None
-no_stress room [] form is = refl
-no_stress room (verb ∷ []) form is = refl
-no_stress room (verb ∷ number ∷ []) form is = absurd (cc is)
-no_stress room (verb ∷ number ∷ more ∷ words) form is = refl
+use Rattle.sof_run.proofs.Requests.{stress_asked}
 
 -- turns of these tasks are made and counted, and then comes what is next
 counted_on : (slot : ℕ) (todo : List CommandTurn) (counts : Counts) (next : Counts → Todo) (turns : List Turn) (calls : List DeskCall) (status : ℕ) → map (λ (turn : Turn). turn.task) turns ≡ tasks_of todo →
@@ -90,47 +83,33 @@ module _ {D P : Type 0} (means : DeskMeaning D) (dsp : Meaning P) where
   -- ---- by the words
 
   module _ (words : List (List ℕ)) (old new : D) (p q : P) (status : ℕ) where
-    pub stress_gave : (seed : ℕ) → stress_of words ≡ Some seed → StressGave means dsp seed old p status new q → GaveSent means dsp words (λ sent. todo_for (dsp.most p) sent None None None (stress_of words)) old p status new q
-    stress_gave seed is given =
-        by (stress_of words) is
-      where
-        by : (o : Option ℕ) → o ≡ Some seed → GaveSent means dsp words (λ sent. todo_for (dsp.most p) sent None None None o) old p status new q
-        by None some = absurd (cc some)
-        by (Some n) some =
-            let same : n ≡ seed = cc some in
-            subst (λ m. GaveSent means dsp words (λ sent. todo_for (dsp.most p) sent None None None (Some m)) old p status new q) (sym same)
-            record {
-              sent = given.sent;
-              gave = given.gave;
-              is_sent = given.is_sent;
-              sound = λ other is_other. let one : other ≡ seed = cc (sym is_other ∙ is) in subst (λ m. (given.gave.ran.turns ≡ []) ⊎ IsSound (stress_plan m)) (sym one) given.sound;
-            }
+    -- what was done is by what the words ask for
+    gave_for : (r : Option Request) → request_of (dsp.most p) words ≡ r → GaveSent means dsp words (λ sent. todo_for (dsp.most p) sent r) old p status new q → GaveSent means dsp words (λ sent. todo_of (dsp.most p) sent words) old p status new q
+    gave_for r is given = subst (λ r. GaveSent means dsp words (λ sent. todo_for (dsp.most p) sent r) old p status new q) (sym is) given
 
-    -- what was done on the desk alone
-    pub alone_gave : (todo : ℕ → Todo) → Played means (todo 0) old [] status new → GaveSent means dsp words todo old p status new p
-    alone_gave todo played = record {
-      sent = 0;
-      gave = record { last = Bare p; is = refl; exit = refl; ran = record { turns = []; turned = refl; played = played } };
-      is_sent = refl;
-      sound = λ seed is. inl refl;
-    }
-
-    -- what was done with no number of messages
-    pub plain_gave : (todo : Todo) → stress_of words ≡ None → Gave means dsp todo old p status new q → GaveSent means dsp words (λ sent. todo) old p status new q
-    plain_gave todo none given = record {
+    pub play_gave : (form : Form) → request_of (dsp.most p) words ≡ Some (Play form) → Gave means dsp (play form) old p status new q → GaveSent means dsp words (λ sent. todo_of (dsp.most p) sent words) old p status new q
+    play_gave form is given = gave_for (Some (Play form)) is (record {
       sent = sent_in given.last;
       gave = given;
       is_sent = refl;
-      sound = λ seed is. absurd (cc (sym none ∙ is));
-    }
+      sound = λ seed stress. absurd (cc (sym is ∙ stress_asked (dsp.most p) words seed stress));
+    })
 
-    -- the words of `play` are not those of `stress`
-    pub play_gave : (form : Form) → play_of (dsp.most p) words ≡ Some form → Gave means dsp (play form) old p status new q → GaveSent means dsp words (λ sent. todo_of (dsp.most p) sent words) old p status new q
-    play_gave form is given =
-        subst (λ o. GaveSent means dsp words (λ sent. todo_for (dsp.most p) sent o (check_of words) (compile_of words) (stress_of words)) old p status new q) (sym is)
-        (plain_gave (play form) (no_stress (dsp.most p) words form is) given)
+    pub stress_gave : (seed : ℕ) → request_of (dsp.most p) words ≡ Some (Stress seed) → StressGave means dsp seed old p status new q → GaveSent means dsp words (λ sent. todo_of (dsp.most p) sent words) old p status new q
+    stress_gave seed is given = gave_for (Some (Stress seed)) is (record {
+      sent = given.sent;
+      gave = given.gave;
+      is_sent = given.is_sent;
+      sound = λ other stress.
+          let same : seed ≡ other = cc (sym is ∙ stress_asked (dsp.most p) words other stress) in
+          subst (λ n. (given.gave.ran.turns ≡ []) ⊎ IsSound (stress_plan n)) same given.sound;
+    })
 
-    -- other words
-    pub other_gave : play_of (dsp.most p) words ≡ None → GaveSent means dsp words (λ sent. todo_for (dsp.most p) sent None (check_of words) (compile_of words) (stress_of words)) old p status new q → GaveSent means dsp words (λ sent. todo_of (dsp.most p) sent words) old p status new q
-    other_gave none given =
-        subst (λ o. GaveSent means dsp words (λ sent. todo_for (dsp.most p) sent o (check_of words) (compile_of words) (stress_of words)) old p status new q) (sym none) given
+  -- what was done on the desk alone
+  pub alone_gave : (words : List (List ℕ)) (old new : D) (p : P) (status : ℕ) (r : Option Request) → request_of (dsp.most p) words ≡ r → Played means (todo_for (dsp.most p) 0 r) old [] status new → GaveSent means dsp words (λ sent. todo_of (dsp.most p) sent words) old p status new p
+  alone_gave words old new p status r is played = gave_for words old new p p status r is (record {
+    sent = 0;
+    gave = record { last = Bare p; is = refl; exit = refl; ran = record { turns = []; turned = refl; played = played } };
+    is_sent = refl;
+    sound = λ seed stress. inl refl;
+  })

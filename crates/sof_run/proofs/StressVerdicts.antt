@@ -1,10 +1,7 @@
 -- What `stress` ensures, from what it did.
-use Rattle.std.proofs.Common.{◌≡◌, ◌⊎◌, inl, inr, ℕ, ◌≤◌, nat_le, Bool, true, false, List, [], ◌∷◌, ◌++◌, map, Option, Some, None, refl, sym, ◌∙◌, ap, subst, codes, arith, if◌then◌else◌}
+use Rattle.std.proofs.Common.{◌≡◌, ◌⊎◌, inl, inr, ℕ, ◌≤◌, true, false, List, [], ◌∷◌, ◌++◌, map, Some, None, sym, ◌∙◌, ap, subst}
 use Rattle.std.specs.List.{concat}
-use Rattle.std.specs.Str.{bytes_eq}
 use Rattle.std.proofs.lemmas.List.{append-nil}
-use Rattle.std.proofs.lemmas.Bool.Decides.{nat_tests}
-use Rattle.std.proofs.lemmas.Slice.Eq.{bytes_eq-Decides}
 use Rattle.sof_desk.specs.Desk.{DeskMeaning, Spoken, Slot, DeskCall, Load, Did, Read, DeskLed}
 use Rattle.mbox_link.specs.Calls.{Meaning}
 use Rattle.tplg_plan.specs.Sound.{IsSound}
@@ -19,72 +16,23 @@ use Rattle.sof_stress.specs.StressPorts.{dai_slot}
 use Rattle.sof_stress.specs.CommandTurns.{CommandTurn, turn_counted, all_counted, no_counts, tasks_of}
 use Rattle.sof_stress.specs.StressRun.{sent_in, stress_begins, stress_counts, stress_ground, stress_plan, stress_turns}
 use Rattle.sof_stress.proofs.StressOver.{stress-over}
-use Rattle.sof_run.specs.Words.{at_most, decimal_number, play_of}
 use Rattle.sof_run.specs.Lines.{no_memory_line, with_newline}
 use Rattle.sof_run.specs.Todo.{Todo, End, Says, DoneBy}
 use Rattle.sof_run.specs.Play.{lines_todo}
 use Rattle.sof_run.specs.Plays.{Unbegun}
 use Rattle.sof_run.specs.Checks.{IsFront}
-use Rattle.sof_run.specs.Checking.{check_of}
-use Rattle.sof_run.specs.Compiling.{compile_of}
-use Rattle.sof_run.specs.Stressing.{at_least_one, stress_of, stress_lines, counted_todo, told_todo, stress}
+use Rattle.sof_run.specs.Stressing.{stress_of, stress_lines, counted_todo, told_todo, stress}
 use Rattle.sof_run.specs.Stresses.{stress_text, StressRan, StressesWhole}
 use Rattle.sof_run.specs.Forms.{todo_for, todo_of, GaveSent}
+use Rattle.sof_run.proofs.Requests.{stress_most, stress_asked}
 use Rattle.sof_run.proofs.Steps.{no_turns}
 use Rattle.sof_run.proofs.SaidLines.{line_parted}
 use Rattle.sof_run.proofs.CheckVerdicts.{lines_parted}
 
 -- ---- the words
 
-no_play : (room : ℕ) (words : List (List ℕ)) (seed : ℕ) → stress_of words ≡ Some seed → play_of room words ≡ None
-no_play room [] seed is = refl
-no_play room (verb ∷ []) seed is = refl
-no_play room (verb ∷ number ∷ []) seed is = refl
-no_play room (verb ∷ number ∷ more ∷ words) seed is = absurd (cc is)
-
-no_compile : (words : List (List ℕ)) (seed : ℕ) → stress_of words ≡ Some seed → compile_of words ≡ None
-no_compile [] seed is = refl
-no_compile (verb ∷ []) seed is = refl
-no_compile (verb ∷ number ∷ []) seed is = refl
-no_compile (verb ∷ number ∷ more ∷ words) seed is = absurd (cc is)
-
--- the number is at most 1000
-least_by : (b : Bool) (n seed : ℕ) → (if b then Some n else None) ≡ Some seed → n ≡ seed
-least_by true n seed is = cc is
-least_by false n seed is = absurd (cc is)
-
-most_by : (o : Option ℕ) (seed : ℕ) → at_least_one (at_most 1000 o) ≡ Some seed → seed ≤ 1000
-most_by None seed is = absurd (cc is)
-most_by (Some n) seed is = by (nat_le n 1000) refl is
-  where
-    by : (b : Bool) → nat_le n 1000 ≡ b → at_least_one (if b then Some n else None) ≡ Some seed → seed ≤ 1000
-    by true le is = let same : n ≡ seed = least_by (nat_le 1 n) n seed is in grind (arith, nat_tests, same, le)
-    by false le is = absurd (cc is)
-
-verb_by : (b : Bool) (o : Option ℕ) (seed : ℕ) → (if b then o else None) ≡ Some seed → (b ≡ true) × (o ≡ Some seed)
-verb_by true o seed is = (refl, is)
-verb_by false o seed is = absurd (cc is)
-
-small : (words : List (List ℕ)) (seed : ℕ) → stress_of words ≡ Some seed → seed ≤ 1000
-small [] seed is = absurd (cc is)
-small (verb ∷ []) seed is = absurd (cc is)
-small (verb ∷ number ∷ []) seed is = most_by (decimal_number number) seed (verb_by (bytes_eq verb (codes "stress")) (at_least_one (at_most 1000 (decimal_number number))) seed is).1
-small (verb ∷ number ∷ more ∷ words) seed is = absurd (cc is)
-
--- a verb is not two
-not_both : (verb : List ℕ) → bytes_eq verb (codes "stress") ≡ true → bytes_eq verb (codes "check") ≡ false
-not_both verb is = ap (λ v. bytes_eq v (codes "check")) ((bytes_eq-Decides verb (codes "stress")).0 is)
-
-no_check : (words : List (List ℕ)) (seed : ℕ) → stress_of words ≡ Some seed → check_of words ≡ None
-no_check [] seed is = absurd (cc is)
-no_check (verb ∷ []) seed is = absurd (cc is)
-no_check (verb ∷ number ∷ []) seed is =
-    let other = not_both verb (verb_by (bytes_eq verb (codes "stress")) (at_least_one (at_most 1000 (decimal_number number))) seed is).0 in
-    rw other refl
-no_check (verb ∷ number ∷ more ∷ words) seed is = absurd (cc is)
-
 stress_alone : (room sent : ℕ) (words : List (List ℕ)) (seed : ℕ) → stress_of words ≡ Some seed → todo_of room sent words ≡ stress room sent seed
-stress_alone room sent words seed is = λ i. todo_for room sent (no_play room words seed is i) (no_check words seed is i) (no_compile words seed is i) (is i)
+stress_alone room sent words seed is = ap (todo_for room sent) (stress_asked room words seed is)
 
 -- ---- the turns
 
@@ -179,4 +127,4 @@ module _ {D P : Type 0} (means : DeskMeaning D) (dsp : Meaning P) (words : List 
       by [] calls planned turned led (inl goes) = absurd goes
       by (begins ∷ turns) calls (inl none) turned led (inl goes) = absurd (cc none)
       by (begins ∷ turns) calls (inr sound) turned led (inl goes) =
-          inl (stress_ran means dsp seed (small words seed is) old new status p last off sound given.sent given.is_sent begins turns calls goes.0 goes.1 turned led)
+          inl (stress_ran means dsp seed (stress_most words seed is) old new status p last off sound given.sent given.is_sent begins turns calls goes.0 goes.1 turned led)

@@ -33,6 +33,7 @@ use Rattle.sof_stress.specs.StressPorts.{dai_slot}
 use Rattle.sof_stress.specs.CommandTurns.{CommandTurn, turn_counted, no_counts}
 use Rattle.sof_stress.specs.StressRun.{stress_turns}
 use Rattle.sof_run.specs.Stressing.{stress_lines, counted_todo, told_todo, stress}
+use Rattle.sof_run.specs.Requests.{Request, Play, Check, Compile, Stress}
 use Rattle.sof_run.specs.Forms.{todo_for}
 use Rattle.sof_run.specs.Throughout.{Throughout}
 use Rattle.sof_run.proofs.Statuses.{IsLate, OpensNone, TurnsLast, ends}
@@ -169,12 +170,12 @@ stress_last room sent seed = λ out. (
   counted_puts (dai_slot (stream_count seed)) (stress_turns seed) no_counts (told_todo sent) (λ counts. lines_puts (stress_lines (record counts { messages = sent })) End tt),
 )
 
-pub words_last : (room sent : ℕ) (o : Option Form) (c : Option (List ℕ)) (s : Option CompileNames) (n : Option ℕ) → TurnsLast (todo_for room sent o c s n)
-words_last room sent None None None None = tt
-words_last room sent None None None (Some seed) = stress_last room sent seed
-words_last room sent None None (Some names) n = λ text. compiled_last names.out (compiled_of text)
-words_last room sent None (Some name) s n = λ bytes. checked_last (checked bytes)
-words_last room sent (Some form) c s n = λ topology script. prepared_last form.heap (prepared topology script)
+pub words_last : (room sent : ℕ) (r : Option Request) → TurnsLast (todo_for room sent r)
+words_last room sent None = tt
+words_last room sent (Some (Stress seed)) = stress_last room sent seed
+words_last room sent (Some (Compile names)) = λ text. compiled_last names.out (compiled_of text)
+words_last room sent (Some (Check name)) = λ bytes. checked_last (checked bytes)
+words_last room sent (Some (Play form)) = λ topology script. prepared_last form.heap (prepared topology script)
 
 -- files that make a run end with 0 or 3, or memory was wanting
 pub ready_ends : (heap : ℕ) (plan : Plan) (read : Read) (turns : List Turn) (calls : List DeskCall) (status : ℕ) → DoneBy (ready_todo heap plan read) turns calls status → IsLate status ⊎ (status ≡ 7)

@@ -11,21 +11,22 @@ use Rattle.sof_script.specs.Commands.{Bound}
 use Rattle.sof_session.specs.Written.{Out}
 use Rattle.sof_session.specs.Lives.{Task, Begin, Carry, Fill, Turn}
 use Rattle.sof_run.specs.declared.prepare.Halt.{Halt}
-use Rattle.sof_run.specs.Words.{Form, play_of}
+use Rattle.sof_run.specs.Words.{Form}
 use Rattle.sof_run.specs.Bindings.{bound_slot, bound_inputs, bound_slots}
 use Rattle.sof_run.specs.Rounds.{Round, rounds_of}
 use Rattle.sof_run.specs.Todo.{reading}
 use Rattle.sof_run.specs.Lines.{no_memory_line, halt_line, halt_status, with_newline}
 use Rattle.sof_run.specs.Prepared.{Prepared, Ready, Halted, prepared}
 use Rattle.sof_run.specs.Pieces.{Piece, pieces_of}
-use Rattle.sof_run.specs.Checking.{check_of, checked, counts_of}
+use Rattle.sof_run.specs.Checking.{checked, counts_of}
 use Rattle.sof_stress.specs.declared.counts.Counts.{Counts}
 use Rattle.sof_stress.specs.Draws.{stream_count}
 use Rattle.sof_stress.specs.StressPorts.{dai_slot}
 use Rattle.sof_stress.specs.CommandTurns.{CommandTurn, turn_counted, no_counts}
 use Rattle.sof_stress.specs.StressRun.{stress_begins, stress_turns}
-use Rattle.sof_run.specs.Compiling.{CompileNames, compile_of, source_line, source_status, wrote_line}
-use Rattle.sof_run.specs.Stressing.{stress_of, stress_lines}
+use Rattle.sof_run.specs.Compiling.{CompileNames, source_line, source_status, wrote_line}
+use Rattle.sof_run.specs.Stressing.{stress_lines}
+use Rattle.sof_run.specs.Requests.{Request, Play, Check, Compile, Stress, request_of}
 
 -- ---- the list
 
@@ -139,16 +140,17 @@ stressing room sent seed turns =
 
 -- ---- all words
 
-abbrev pub by_form : ℕ → ℕ → Option Form → Option (List ℕ) → Option CompileNames → Option ℕ → List Heard → List Turn → Course
-by_form room sent (Some form) name names seed heard turns = playing form heard turns
-by_form room sent None (Some name) names seed heard turns = checking name heard
-by_form room sent None None (Some names) seed heard turns = compiling names heard
-by_form room sent None None None (Some seed) heard turns = stressing room sent seed turns
-by_form room sent None None None None heard turns = last_line (codes "words\n") 1
+-- the course where this is asked for, or nothing is
+abbrev pub course_for : ℕ → ℕ → Option Request → List Heard → List Turn → Course
+course_for room sent (Some (Play form)) heard turns = playing form heard turns
+course_for room sent (Some (Check name)) heard turns = checking name heard
+course_for room sent (Some (Compile names)) heard turns = compiling names heard
+course_for room sent (Some (Stress seed)) heard turns = stressing room sent seed turns
+course_for room sent None heard turns = last_line (codes "words\n") 1
 
 -- the course of these words, over a device of this room; a stress has sent so many messages at its end
 abbrev pub course : ℕ → ℕ → List (List ℕ) → List Heard → List Turn → Course
-course room sent words heard turns = by_form room sent (play_of room words) (check_of words) (compile_of words) (stress_of words) heard turns
+course room sent words heard turns = course_for room sent (request_of room words) heard turns
 
 -- ---- what was made of it
 

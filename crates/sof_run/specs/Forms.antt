@@ -1,6 +1,5 @@
 -- What `run` has to do, by the form of its words.
 use Rattle.std.specs.Prelude.{◌≡◌, ◌⊎◌, ℕ, List, [], Option, Some, None, codes}
-use Rattle.sof_run.specs.Words.{Form, play_of}
 use Rattle.sof_desk.specs.Desk.{DeskMeaning}
 use Rattle.mbox_link.specs.Calls.{Meaning}
 use Rattle.tplg_plan.specs.Sound.{IsSound}
@@ -8,22 +7,22 @@ use Rattle.sof_session.specs.Lives.{Turn}
 use Rattle.sof_stress.specs.StressRun.{sent_in, stress_plan}
 use Rattle.sof_run.specs.Todo.{Todo, Stop, Gave}
 use Rattle.sof_run.specs.Play.{play}
-use Rattle.sof_run.specs.Checking.{check, check_of}
-use Rattle.sof_run.specs.Compiling.{CompileNames, compile, compile_of}
+use Rattle.sof_run.specs.Checking.{check}
+use Rattle.sof_run.specs.Compiling.{compile}
 use Rattle.sof_run.specs.Stressing.{stress, stress_of}
+use Rattle.sof_run.specs.Requests.{Request, Play, Check, Compile, Stress, request_of}
 
--- What `play` is given, or the file of `check`, or the files of `compile`, or the number of `stress`, or none of them. A stress
--- has sent so many messages at its end.
-abbrev pub todo_for : ℕ → ℕ → Option Form → Option (List ℕ) → Option CompileNames → Option ℕ → Todo
-todo_for room sent (Some form) name names seed = play form
-todo_for room sent None (Some name) names seed = check name
-todo_for room sent None None (Some names) seed = compile names
-todo_for room sent None None None (Some seed) = stress room sent seed
-todo_for room sent None None None None = Stop (codes "words\n") 1
+-- what is to do where this is asked for, or nothing is, over a device of this room; a stress has sent so many messages at its end
+abbrev pub todo_for : ℕ → ℕ → Option Request → Todo
+todo_for room sent (Some (Play form)) = play form
+todo_for room sent (Some (Check name)) = check name
+todo_for room sent (Some (Compile names)) = compile names
+todo_for room sent (Some (Stress seed)) = stress room sent seed
+todo_for room sent None = Stop (codes "words\n") 1
 
 -- all that `run` does with these words, over a device of this room
 abbrev pub todo_of : ℕ → ℕ → List (List ℕ) → Todo
-todo_of room sent words = todo_for room sent (play_of room words) (check_of words) (compile_of words) (stress_of words)
+todo_of room sent words = todo_for room sent (request_of room words)
 
 -- a plan that a stress begins a session over is sound
 abbrev pub BeginsSound : List (List ℕ) → List Turn → Type 0

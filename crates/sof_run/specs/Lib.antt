@@ -8,6 +8,7 @@ pub mod Play
 pub mod Checking
 pub mod Compiling
 pub mod Stressing
+pub mod Requests
 pub mod Forms
 pub mod Opening
 pub mod Refills

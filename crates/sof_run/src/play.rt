@@ -5,11 +5,8 @@ ghost use Rattle.sof_run.specs.Words.{form as form_of};
 ghost use Rattle.sof_script.specs.Commands.{script_read};
 ghost use Rattle.sof_run.specs.Halts.{IsCarriable, IsInRange};
 ghost use Rattle.sof_run.specs.Play.{play, ready_todo};
-ghost use Rattle.sof_run.specs.Checking.{check_of};
-ghost use Rattle.sof_run.specs.Compiling.{compile_of};
 ghost use Rattle.sof_run.specs.Compiles.{MakesTopology};
-ghost use Rattle.sof_run.specs.Stressing.{stress_of};
-ghost use Rattle.sof_run.specs.Forms.{GaveSent, todo_for, todo_of};
+ghost use Rattle.sof_run.specs.Forms.{GaveSent, todo_of};
 ghost use Rattle.sof_run.specs.Run.{Whole};
 
 use crate::carry::do_commands;
@@ -19,7 +16,7 @@ use crate::files::{LIMIT, fetch, status_of, stop, stop_for};
 use crate::opening::open_all;
 use crate::prepare::{Halt, Ready, prepare};
 use crate::stress::do_stress;
-use crate::words::{Form, read_check, read_compile, read_play, read_stress};
+use crate::words::{Form, Request, read_request};
 use mbox_link::Dsp;
 use sof_desk::Desk;
 use sof_io::{Inputs, Outputs};
@@ -104,53 +101,6 @@ fn do_play<D: Desk, P: Dsp>(alloc: Global, form: Form<'_>, desk: &mut D, dsp: P)
     }
 }
 
-// All that words ask for that are those of `stress` or have no form.
-fn do_numbers<D: Desk, P: Dsp>(alloc: Global, words: &[String], desk: &mut D, dsp: P) -> Ended<P>
-    requires off { P.means.on dsp ≡ None }
-    requires pending { P.means.pending dsp ≡ 0 }
-    ensures { GaveSent D.means P.means (map string_bytes words.now) (λ sent. todo_for (P.means.most dsp) sent None None None (stress_of (map string_bytes words.now))) desk.old dsp result.status desk.new result.dsp }
-{
-    match read_stress(words) {
-        Some(seed) => do_stress(alloc, seed, desk, dsp),
-        None => Ended {
-            status: stop(desk, b"words\n", 1),
-            dsp,
-        },
-    }
-}
-
-// All that words ask for that are neither those of `play` nor those of `check`.
-fn do_source<D: Desk, P: Dsp>(alloc: Global, words: &[String], desk: &mut D, dsp: P) -> Ended<P>
-    requires off { P.means.on dsp ≡ None }
-    requires pending { P.means.pending dsp ≡ 0 }
-    ensures gave { GaveSent D.means P.means (map string_bytes words.now) (λ sent. todo_for (P.means.most dsp) sent None None (compile_of (map string_bytes words.now)) (stress_of (map string_bytes words.now))) desk.old dsp result.status desk.new result.dsp }
-    ensures sound { MakesTopology D.means (map string_bytes words.now) desk.old result.status }
-{
-    match read_compile(words) {
-        Some(names) => Ended {
-            status: do_compile(alloc, names, desk),
-            dsp,
-        },
-        None => do_numbers(alloc, words, desk, dsp),
-    }
-}
-
-// All that words ask for that are not those of `play`.
-fn do_other<D: Desk, P: Dsp>(alloc: Global, words: &[String], desk: &mut D, dsp: P) -> Ended<P>
-    requires off { P.means.on dsp ≡ None }
-    requires pending { P.means.pending dsp ≡ 0 }
-    ensures gave { GaveSent D.means P.means (map string_bytes words.now) (λ sent. todo_for (P.means.most dsp) sent None (check_of (map string_bytes words.now)) (compile_of (map string_bytes words.now)) (stress_of (map string_bytes words.now))) desk.old dsp result.status desk.new result.dsp }
-    ensures sound { MakesTopology D.means (map string_bytes words.now) desk.old result.status }
-{
-    match read_check(words) {
-        Some(name) => Ended {
-            status: do_check(alloc, name, desk),
-            dsp,
-        },
-        None => do_source(alloc, words, desk, dsp),
-    }
-}
-
 // All that the words ask for.
 fn do_words<D: Desk, P: Dsp>(alloc: Global, words: &[String], desk: &mut D, dsp: P) -> Ended<P>
     requires off { P.means.on dsp ≡ None }
@@ -158,9 +108,21 @@ fn do_words<D: Desk, P: Dsp>(alloc: Global, words: &[String], desk: &mut D, dsp:
     ensures gave { GaveSent D.means P.means (map string_bytes words.now) (λ sent. todo_of (P.means.most dsp) sent (map string_bytes words.now)) desk.old dsp result.status desk.new result.dsp }
     ensures sound { MakesTopology D.means (map string_bytes words.now) desk.old result.status }
 {
-    match read_play(words, dsp.room()) {
-        Some(form) => do_play(alloc, form, desk, dsp),
-        None => do_other(alloc, words, desk, dsp),
+    match read_request(words, dsp.room()) {
+        Some(Request::Play(form)) => do_play(alloc, form, desk, dsp),
+        Some(Request::Check(name)) => Ended {
+            status: do_check(alloc, name, desk),
+            dsp,
+        },
+        Some(Request::Compile(names)) => Ended {
+            status: do_compile(alloc, names, desk),
+            dsp,
+        },
+        Some(Request::Stress(seed)) => do_stress(alloc, seed, desk, dsp),
+        None => Ended {
+            status: stop(desk, b"words\n", 1),
+            dsp,
+        },
     }
 }
 

@@ -5,6 +5,7 @@ ghost use Rattle.sof_run.specs.Words.{play_of, form, decimal_number, at_most, is
 ghost use Rattle.sof_run.specs.Checking.{check_of};
 ghost use Rattle.sof_run.specs.Compiling.{compile_of, names};
 ghost use Rattle.sof_run.specs.Stressing.{stress_of};
+ghost use Rattle.sof_run.specs.Requests.{request, request_of};
 
 /// What `play` is given: the heap in bytes, and the names of its two files.
 #[derive(Clone, Copy, Debug)]
@@ -50,8 +51,8 @@ fn is_play(word: &str) -> bool
     word == "play"
 }
 
-/// `play HEAP TOPOLOGY SCRIPT`, with a heap of at most `room` bytes.
-pub fn read_play<'a>(words: &'a [String], room: u32) -> Option<Form<'a>>
+// `play HEAP TOPOLOGY SCRIPT`, with a heap of at most `room` bytes.
+fn read_play<'a>(words: &'a [String], room: u32) -> Option<Form<'a>>
     ensures { MatchOption result
         (play_of room (map string_bytes words.now) ≡ None)
         (λ f. play_of room (map string_bytes words.now) ≡ Some (form f.heap f.topology.now f.script.now)) }
@@ -86,8 +87,8 @@ fn is_check(word: &str) -> bool
     word == "check"
 }
 
-/// `check TOPOLOGY`: the name of its file.
-pub fn read_check(words: &[String]) -> Option<&str>
+// `check TOPOLOGY`: the name of its file.
+fn read_check(words: &[String]) -> Option<&str>
     ensures { MatchOption result
         (check_of (map string_bytes words.now) ≡ None)
         (λ name. check_of (map string_bytes words.now) ≡ Some name.now) }
@@ -118,8 +119,8 @@ fn is_compile(word: &str) -> bool
     word == "compile"
 }
 
-/// `compile SOURCE OUT`: the names of its files.
-pub fn read_compile(words: &[String]) -> Option<Names<'_>>
+// `compile SOURCE OUT`: the names of its files.
+fn read_compile(words: &[String]) -> Option<Names<'_>>
     ensures { MatchOption result
         (compile_of (map string_bytes words.now) ≡ None)
         (λ n. compile_of (map string_bytes words.now) ≡ Some (names n.source.now n.out.now)) }
@@ -147,8 +148,8 @@ fn is_stress(word: &str) -> bool
     word == "stress"
 }
 
-/// `stress N`: its number, from 1 to 1000.
-pub fn read_stress(words: &[String]) -> Option<u32>
+// `stress N`: its number, from 1 to 1000.
+fn read_stress(words: &[String]) -> Option<u32>
     ensures value { result ≡ stress_of (map string_bytes words.now) }
     ensures most { IfSome result (λ seed. seed ≤ 1000) }
 {
@@ -163,4 +164,36 @@ pub fn read_stress(words: &[String]) -> Option<u32>
         return None;
     }
     Some(seed)
+}
+
+/// What the words of a command line ask for.
+#[derive(Clone, Copy, Debug)]
+pub enum Request<'a> {
+    /// A script is played over the graph of a topology.
+    Play(Form<'a>),
+    /// The topology file of this name is checked.
+    Check(&'a str),
+    /// The topology file of a source is made.
+    Compile(Names<'a>),
+    /// What this number draws, from 1 to 1000, is carried out.
+    Stress(u32),
+}
+
+/// What the words ask for, over a device with a room of so many bytes.
+pub fn read_request(words: &[String], room: u32) -> Option<Request<'_>>
+    ensures { MatchOption result
+        (request_of room (map string_bytes words.now) ≡ None)
+        (λ r. request_of room (map string_bytes words.now) ≡ Some (request r)) }
+{
+    if let Some(form) = read_play(words, room) {
+        return Some(Request::Play(form));
+    }
+    if let Some(name) = read_check(words) {
+        return Some(Request::Check(name));
+    }
+    if let Some(names) = read_compile(words) {
+        return Some(Request::Compile(names));
+    }
+    let seed = read_stress(words)?;
+    Some(Request::Stress(seed))
 }

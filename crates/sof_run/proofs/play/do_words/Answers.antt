@@ -1,18 +1,62 @@
-use Rattle.std.proofs.Common.{map, string_bytes}
+use Rattle.std.proofs.Common.{Some, None, map, string_bytes}
 use Rattle.sof_run.specs.Words.{form}
-use Rattle.sof_run.proofs.CompileVerdicts.{play_makes}
-use Rattle.sof_run.proofs.StressPhases.{play_gave, other_gave}
+use Rattle.sof_run.specs.Compiling.{names}
+use Rattle.sof_run.specs.Requests.{Play, Check, Compile, Stress}
+use Rattle.sof_run.proofs.Requests.{asked_within}
+use Rattle.sof_run.proofs.CompileVerdicts.{other_makes, compile_makes}
+use Rattle.sof_run.proofs.StressPhases.{play_gave, stress_gave, alone_gave}
 use Rattle.sof_run.proofs.play.do_words.Goals as goal
 
-pub returns-in-Some-clause-gave : goal.returns-in-Some-clause-gave
-returns-in-Some-clause-gave g c =
-    play_gave g.D.Desk.means g.P.Dsp.means (map string_bytes c.args.words.now) _ _ _ _ _ (form c.in-Some.form.heap c.in-Some.form.topology.now c.in-Some.form.script.now)
-    (rw c.room.ensures at c.in-Some.ensures) c.do_play.ensures
+pub do_play-requires-clause-fits : goal.do_play-requires-clause-fits
+do_play-requires-clause-fits g c =
+    asked_within (g.P.Dsp.means.most c.args.dsp) (map string_bytes c.args.words.now) (Play (form c.in-Some-Play.form.heap c.in-Some-Play.form.topology.now c.in-Some-Play.form.script.now))
+    (rw (c.in-Some-Play.field-0-is, c.room.ensures) at c.in-Some-Play.ensures)
+
+pub do_stress-requires-clause-most : goal.do_stress-requires-clause-most
+do_stress-requires-clause-most g c =
+    asked_within (g.P.Dsp.means.most c.args.dsp) (map string_bytes c.args.words.now) (Stress c.in-Some-Stress.seed) (rw (c.in-Some-Stress.field-0-is, c.room.ensures) at c.in-Some-Stress.ensures)
+
+pub returns-in-Some-Play-clause-gave : goal.returns-in-Some-Play-clause-gave
+returns-in-Some-Play-clause-gave g c =
+    play_gave g.D.Desk.means g.P.Dsp.means (map string_bytes c.args.words.now) _ _ _ _ _ (form c.in-Some-Play.form.heap c.in-Some-Play.form.topology.now c.in-Some-Play.form.script.now)
+    (rw (c.in-Some-Play.field-0-is, c.room.ensures) at c.in-Some-Play.ensures) c.do_play.ensures
+
+pub returns-in-Some-Play-clause-sound : goal.returns-in-Some-Play-clause-sound
+returns-in-Some-Play-clause-sound g c =
+    other_makes g.D.Desk.means (g.P.Dsp.means.most c.args.dsp) (map string_bytes c.args.words.now) c.args.desk.now _ _ (rw (c.in-Some-Play.field-0-is, c.room.ensures) at c.in-Some-Play.ensures) (λ names e. cc e)
+
+pub returns-in-Some-Check-clause-gave : goal.returns-in-Some-Check-clause-gave
+returns-in-Some-Check-clause-gave g c =
+    alone_gave g.D.Desk.means g.P.Dsp.means (map string_bytes c.args.words.now) _ _ _ _ (Some (Check c.in-Some-Check.name.now))
+    (rw (c.in-Some-Check.field-0-is, c.room.ensures) at c.in-Some-Check.ensures) c.do_check.ensures
+
+pub returns-in-Some-Check-clause-sound : goal.returns-in-Some-Check-clause-sound
+returns-in-Some-Check-clause-sound g c =
+    other_makes g.D.Desk.means (g.P.Dsp.means.most c.args.dsp) (map string_bytes c.args.words.now) c.args.desk.now _ _ (rw (c.in-Some-Check.field-0-is, c.room.ensures) at c.in-Some-Check.ensures) (λ names e. cc e)
+
+pub returns-in-Some-Compile-clause-gave : goal.returns-in-Some-Compile-clause-gave
+returns-in-Some-Compile-clause-gave g c =
+    alone_gave g.D.Desk.means g.P.Dsp.means (map string_bytes c.args.words.now) _ _ _ _ (Some (Compile (names c.in-Some-Compile.names.source.now c.in-Some-Compile.names.out.now)))
+    (rw (c.in-Some-Compile.field-0-is, c.room.ensures) at c.in-Some-Compile.ensures) c.do_compile.ensures.played
+
+pub returns-in-Some-Compile-clause-sound : goal.returns-in-Some-Compile-clause-sound
+returns-in-Some-Compile-clause-sound g c =
+    compile_makes g.D.Desk.means (g.P.Dsp.means.most c.args.dsp) (map string_bytes c.args.words.now) c.args.desk.now _ (names c.in-Some-Compile.names.source.now c.in-Some-Compile.names.out.now)
+    (rw (c.in-Some-Compile.field-0-is, c.room.ensures) at c.in-Some-Compile.ensures) c.do_compile.ensures.sound
+
+pub returns-in-Some-Stress-clause-gave : goal.returns-in-Some-Stress-clause-gave
+returns-in-Some-Stress-clause-gave g c =
+    stress_gave g.D.Desk.means g.P.Dsp.means (map string_bytes c.args.words.now) _ _ _ _ _ c.in-Some-Stress.seed
+    (rw (c.in-Some-Stress.field-0-is, c.room.ensures) at c.in-Some-Stress.ensures) c.do_stress.ensures
+
+pub returns-in-Some-Stress-clause-sound : goal.returns-in-Some-Stress-clause-sound
+returns-in-Some-Stress-clause-sound g c =
+    other_makes g.D.Desk.means (g.P.Dsp.means.most c.args.dsp) (map string_bytes c.args.words.now) c.args.desk.now _ _ (rw (c.in-Some-Stress.field-0-is, c.room.ensures) at c.in-Some-Stress.ensures) (λ names e. cc e)
 
 pub returns-in-None-clause-gave : goal.returns-in-None-clause-gave
 returns-in-None-clause-gave g c =
-    other_gave g.D.Desk.means g.P.Dsp.means (map string_bytes c.args.words.now) _ _ _ _ _ (rw c.room.ensures at c.in-None.ensures) c.do_other.ensures.gave
+    alone_gave g.D.Desk.means g.P.Dsp.means (map string_bytes c.args.words.now) _ _ _ _ None (rw c.room.ensures at c.in-None.ensures) c.stop.ensures
 
-pub returns-in-Some-clause-sound : goal.returns-in-Some-clause-sound
-returns-in-Some-clause-sound g c =
-    play_makes g.D.Desk.means (map string_bytes c.args.words.now) c.args.desk.now _ _ _ c.in-Some.ensures
+pub returns-in-None-clause-sound : goal.returns-in-None-clause-sound
+returns-in-None-clause-sound g c =
+    other_makes g.D.Desk.means (g.P.Dsp.means.most c.args.dsp) (map string_bytes c.args.words.now) c.args.desk.now _ None (rw c.room.ensures at c.in-None.ensures) (λ names e. cc e)

@@ -1,5 +1,5 @@
--- After a load, an unload, a suspend, a resume and a call that sends acts alone, as one on a stream, the two sides agree again.
-use Rattle.std.proofs.Common.{◌≡◌, ⊎_elim, ℕ, false, List, [], Option, Some, None, Ok, Err, refl, sym, ap, subst, ◌∙◌}
+-- After a load, an unload, a suspend, a resume and a call that sends acts alone, the two sides agree again.
+use Rattle.std.proofs.Common.{◌≡◌, ⊎_elim, false, List, [], Option, Some, None, Ok, Err, refl, sym, ap, subst, ◌∙◌}
 use Rattle.sof_base.specs.Ports.{Io}
 use Rattle.mbox_link.specs.Calls.{World, Meaning}
 use Rattle.mbox_link.specs.Link.{link}
@@ -17,10 +17,6 @@ use Rattle.host_widgets.specs.StateOf.{loaded_state}
 use Rattle.host_widgets.proofs.LoadEnds.{failed-off}
 use Rattle.host_widgets.proofs.LoadOrders.{unloading_at}
 use Rattle.host_widgets.proofs.WalksHold.{AreTaken}
-use Rattle.host_pcm.specs.declared.asking.Ask.{Ask}
-use Rattle.host_pcm.specs.Asks.{early_fault}
-use Rattle.host_pcm.specs.StreamOrders.{Asked, stream_order}
-use Rattle.host_pcm.proofs.OrdersTaken.{asked-taken}
 use Rattle.host_pm.specs.PowerTests.{suspend_fault, resume_fault}
 use Rattle.host_pm.specs.Resumed.{ResumeLeft}
 use Rattle.sof_session.specs.Agreement.{AreAgreed, Powered}
@@ -29,7 +25,7 @@ use Rattle.sof_session.proofs.Agreement.{at, seat_with, Kept, kept-by, Shows, He
 use Rattle.sof_session.proofs.Keeping.{Keeps-loaded}
 use Rattle.sof_session.proofs.OrderCalls.{carried-led}
 use Rattle.sof_session.proofs.OrderStands.{sending, cut-off, met, sent-left}
-use Rattle.sof_session.proofs.SentOrders.{IsSent, sent-stream}
+use Rattle.sof_session.proofs.SentOrders.{IsSent, IsSentCall}
 
 module _ {P : Type 0} (means : Meaning P) (old : Seat P) (wire : Wire P) (io io' : Io) (agreed : AreAgreed means old) (kept : Record) (agree : Agrees (link means) old.plan kept wire) (result : Outcome) where
   abbrev new : Seat P
@@ -116,13 +112,8 @@ module _ {P : Type 0} (means : Meaning P) (old : Seat P) (wire : Wire P) (io io'
         (λ u. kept-here means old wire io io' agreed kept agree shows _ u.state u.is_on u.keeps_now)
         (sent-left means old.heap old.plan agreed.sound acts done answer old.kept kept (at old.link io) (at wire io') result c powered.0 powered.1 agreed.agree.record_is powered.2 taken)
 
-  pub AreAgreed-sent : (test : Option HostFault) (o : Order) → (test ≡ None → IsSent old.kept o) → (test ≡ None → AreTaken old.plan false old.kept o.acts) → Tested (link means) old.plan old.heap test o old.kept kept (at old.link io) (at wire io') result → AreAgreed means new
-  AreAgreed-sent test o sent taken tested = by-test test o tested (λ none c. found (sent none) c (taken none))
+  pub AreAgreed-sent : (test : Option HostFault) (o : Order) → IsSentCall old.plan old.kept test o → Tested (link means) old.plan old.heap test o old.kept kept (at old.link io) (at wire io') result → AreAgreed means new
+  AreAgreed-sent test o call tested = by-test test o tested (λ none c. found (call.sent none) c (call.taken none))
     where
       found : (s : IsSent old.kept o) → CarriedSo o → AreTaken old.plan false old.kept o.acts → Found
       found s c are = sent-found s.acts s.done s.answer old.kept.power agreed.powered (subst CarriedSo s.is c) (subst (λ (x : Order). AreTaken old.plan false old.kept x.acts) s.is are)
-
-  -- one on a stream, in every sound plan
-  pub AreAgreed-asked : (name : List ℕ) (ask : Ask) → Asked (link means) old.plan old.heap name ask old.kept kept (at old.link io) (at wire io') result → AreAgreed means new
-  AreAgreed-asked name ask asked = AreAgreed-sent (early_fault old.plan old.kept name ask) (stream_order old.plan old.kept name ask) (λ none. sent-stream old.plan old.kept name ask)
-      (asked-taken old.plan agreed.sound old.kept agreed.agree.record_is name ask) (record { early = asked.early; late = asked.late })

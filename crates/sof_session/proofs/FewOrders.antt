@@ -15,7 +15,7 @@ use Rattle.sof_session.specs.CommandTests.{asking, fault_of}
 use Rattle.sof_session.specs.Commands.{asked_order, order_of}
 use Rattle.sof_session.specs.CommandRanges.{most_sent}
 use Rattle.sof_session.proofs.SentOrders.{few-sent, few-stream}
-use Rattle.sof_session.proofs.ControlSteps.{sent-set, sent-get, sent-read, sent-bytes}
+use Rattle.sof_session.proofs.ControlCalls.{sent-set, sent-get, sent-read, sent-bytes}
 use Rattle.sof_session.proofs.PowerSteps.{few-down}
 use Rattle.sof_session.proofs.ResumeSteps.{few-back}
 use Rattle.sof_session.proofs.SameNext.{due, acts_due}
@@ -44,3 +44,8 @@ few-order plan sound command kept is = few-due (order_of plan kept command) (fau
     few (commands.Get name) none = few-sent kept (order_of plan kept (commands.Get name)) (sent-get plan kept name)
     few (commands.Read name) none = few-sent kept (order_of plan kept (commands.Read name)) (sent-read plan sound kept is name)
     few command none = few-asked plan kept (asking command)
+
+-- no command sends more than 900 messages
+pub few-most : (command : Command) → most_sent command ≤ 900
+few-most (commands.Tick n) = omega arith
+few-most command = omega arith

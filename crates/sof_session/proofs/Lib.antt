@@ -36,12 +36,13 @@ pub mod PlanCounts
 pub mod PartCounts
 pub mod SentOrders
 pub mod SentSteps
-pub mod ControlSteps
-pub mod AskedSteps
+pub mod ControlCalls
 pub mod ActsLed
 pub mod OrderCalls
 pub mod CallAgreement
 pub mod TickAgreement
 pub mod PlanAgreement
 pub mod StepCommands
-pub mod AskedStays
+pub mod SentStays
+pub mod CallStays
+pub mod StepDone

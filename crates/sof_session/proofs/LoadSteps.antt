@@ -1,5 +1,5 @@
 -- What a load does to a session.
-use Rattle.std.proofs.Common.{◌≡◌, ⊎_elim, false, refl, sym, ap, ◌∙◌, subst, zero-add, ℕ, ◌+◌, ◌<◌, ◌≤◌, ◌-◌, ◌%◌, ◌^◌, List, [], ◌∷◌, ◌++◌, length, Option, Some, None, Ok, Err, arith}
+use Rattle.std.proofs.Common.{◌≡◌, ⊎_elim, false, refl, sym, ap, ◌∙◌, subst, zero-add, ℕ, ◌+◌, ◌<◌, ◌-◌, ◌%◌, ◌^◌, List, [], ◌∷◌, ◌++◌, length, Option, Some, None, Ok, Err, arith}
 use Rattle.std.proofs.lemmas.List.{append-nil}
 use Rattle.sof_base.specs.Ports.{Io, drained}
 use Rattle.stream_law.specs.State.{FwState}
@@ -36,7 +36,6 @@ use Rattle.sof_session.specs.SessionCalls.{LoadRan}
 use Rattle.sof_session.proofs.Agreement.{at}
 use Rattle.sof_session.proofs.BuildStands.{AtRest, rest_view, rest-quiet, loaded-rests, brought-stands, brought-reads}
 use Rattle.sof_session.proofs.FewMeetings.{few-meetings}
-use Rattle.sof_session.proofs.OrderCalls.{carried-sent}
 use Rattle.sof_session.proofs.OrderStands.{moments-are, cut-leads}
 use Rattle.sof_session.proofs.OrderStands as after_order
 use Rattle.sof_session.proofs.Stepping.{early-stepped, late-stepped, standing-by}
@@ -125,24 +124,16 @@ module _ {P : Type 0} (means : Meaning P) (old new : Seat P) (io io' : Io) (agre
 
   -- ---- the load
 
-  pub load_stepped : io' ≡ io → drained io.outputs ≡ io.outputs → (answer : Answer) → LoadRan means old new io io' answer → CommandDone means old.plan old.heap commands.Load old.kept new.kept w v answer
-  load_stepped same empty answer ran = by (fault_of_load old.kept.power) refl
+  pub load_stepped : drained io.outputs ≡ io.outputs → (answer : Answer) → LoadRan means old new io io' answer → CommandDone means old.plan old.heap commands.Load old.kept new.kept w v answer
+  load_stepped empty answer ran = by (fault_of_load old.kept.power) refl
     where
       by : (test : Option HostFault) → fault_of_load old.kept.power ≡ test → CommandDone means old.plan old.heap commands.Load old.kept new.kept w v answer
       by (Some fault) is =
-          let e = ran.tested.early fault is in
-          early-stepped means old.plan old.heap commands.Load old.kept new.kept w v answer (λ doing known. refl) refl fault is (ran.said ∙ ap (answer_by Done) e.0) e.1 e.2 empty
+          let e = ran.call.tested.early fault is in
+          early-stepped means old.plan old.heap commands.Load old.kept new.kept w v answer (λ doing known. refl) refl fault is (ran.call.said ∙ ap (answer_by Done) e.0) e.1 e.2 empty
       by None is =
-          let c = ran.tested.late is in
+          let c = ran.call.tested.late is in
           let unloaded = was-unloaded old.kept.power is in
-          late-stepped means old.plan old.heap commands.Load old.kept new.kept w v answer (λ doing known. refl) refl is ran.outcome c agreed.pending agreed.fated (few-messages unloaded ran.outcome c ran.left)
-          ran.said
-          (standing-by means w v (written unloaded ran.outcome c ran.left) (load-leads-on unloaded ran.outcome c ran.left same) empty)
-
-  -- it sends at most 900 messages
-  pub load_few : (answer : Answer) → LoadRan means old new io io' answer → new.link.sent ≤ old.link.sent + 900
-  load_few answer ran = by (fault_of_load old.kept.power) refl
-    where
-      by : (test : Option HostFault) → fault_of_load old.kept.power ≡ test → new.link.sent ≤ old.link.sent + 900
-      by (Some fault) is = let same : new.link.sent ≡ old.link.sent = ap (λ (x : World (Wire P)). x.device.sent) (ran.tested.early fault is).1 in omega (arith, same)
-      by None is = omega (arith, carried-sent means old.plan old.heap order old.kept new.kept w v ran.outcome (ran.tested.late is), few-acts old.plan old.kept agreed.sound agreed.agree.record_is.controls)
+          late-stepped means old.plan old.heap commands.Load old.kept new.kept w v answer (λ doing known. refl) refl is ran.call.outcome c agreed.pending agreed.fated (few-messages unloaded ran.call.outcome c ran.left)
+          ran.call.said
+          (standing-by means w v (written unloaded ran.call.outcome c ran.left) (load-leads-on unloaded ran.call.outcome c ran.left ran.same) empty)

@@ -1,7 +1,8 @@
--- After a fate or a lag was planned the two sides agree again.
+-- After a fate or a lag was planned the two sides agree again, and the rest stays.
 use Rattle.std.proofs.Common.{◌≡◌, ℕ, ◌+◌, List, Bool, true, ℤ, pos, negsuc, Result, Ok, Err, refl, sym, subst, arith}
 use Rattle.std.specs.Prelude.{nat_le}
 use Rattle.std.proofs.lemmas.Bool.{and_parts, false≢true, leb-true, ltb-true}
+use Rattle.sof_base.specs.Ports.{Io}
 use Rattle.mbox_link.specs.declared.fates.Entry.{Entry}
 use Rattle.mbox_link.specs.declared.fates.Fate.{Fate}
 use Rattle.mbox_link.specs.declared.fates.PlanFull.{PlanFull}
@@ -16,6 +17,7 @@ use Rattle.host_widgets.specs.declared.kept.Power.TheVariants.{Unloaded, On, Off
 use Rattle.sof_session.specs.Agreement.{AreAgreed, Powered}
 use Rattle.sof_session.specs.CommandRanges.{is_refusal}
 use Rattle.sof_session.specs.Seat.{Seat}
+use Rattle.sof_session.specs.SessionCalls.{Stays}
 
 -- an error of a script is one of a refusal
 pub is-error : (e : ℤ) → is_refusal e ≡ true → IsError e
@@ -71,3 +73,7 @@ module _ {P : Type 0} (means : Meaning P) (old : Seat P) where
     AreAgreed-lagged k ticks wire outcome plan =
         let n = old.link.sent + k in
         agreed-so (has_lag_room n ticks old.link.entries) (with_lag n ticks old.link.entries) (held-lag n ticks old.link.entries agreed.fated.held) wire outcome plan
+
+    -- what that leaves, whatever the endpoints are
+    pub link-stays : (wire : Wire P) → AreAgreed means (seat_by wire) → (io : Io) → Stays means old (seat_by wire) io io
+    link-stays wire later io = record { agreed = agreed; later = later; plan = refl; heap = refl; slots = refl; ends = refl; still = λ none. refl }

@@ -1,5 +1,5 @@
 -- What a planned fate, a planned lag and a show do to a session.
-use Rattle.std.proofs.Common.{◌≡◌, refl, sym, ap, ◌∙◌, subst, ℕ, ◌+◌, Bool, true, false, List, [], Result, Ok, Err, ◌≤◌, arith}
+use Rattle.std.proofs.Common.{◌≡◌, refl, sym, ap, ◌∙◌, subst, ℕ, ◌+◌, Bool, true, false, List, [], Result, Ok, Err}
 use Rattle.sof_base.specs.Ports.{Io, drained}
 use Rattle.mbox_link.specs.declared.fates.Entry.{Entry}
 use Rattle.mbox_link.specs.declared.fates.Fate.{Fate}
@@ -79,11 +79,6 @@ module _ {P : Type 0} (means : Meaning P) (old new : Seat P) (io : Io) (empty : 
           stands = subst (Standing means w v) (c.moments_so ∙ ap (λ (x : Came). x.moments) (sym (nexts calm))) (stays-standing means w v (ap means.on c.device_so) refl empty);
         }
 
-    -- the link sends nothing for them
-    few_so : (outcome : Result (Unit {0}) PlanFull) → PlannedSo room entries old.link outcome new.link → new.link.sent ≤ old.link.sent
-    few_so (Ok done) plan = let same : new.link.sent ≡ old.link.sent = ap (λ (x : Wire P). x.sent) plan.1 in omega (arith, same)
-    few_so (Err full) plan = let same : new.link.sent ≡ old.link.sent = ap (λ (x : Wire P). x.sent) plan.1 in omega (arith, same)
-
   -- ---- a fate
 
   pub plan_stepped : (k : ℕ) (fate : Fate) (command : Command) →
@@ -92,17 +87,11 @@ module _ {P : Type 0} (means : Meaning P) (old new : Seat P) (io : Io) (empty : 
   plan_stepped k fate command nexts plans answer ran =
       planned_so (has_room (old.link.sent + k) old.link.entries) (with_fate (old.link.sent + k) fate old.link.entries) command nexts plans answer ran.outcome ran.planned ran.kept ran.said
 
-  pub plan_few : (k : ℕ) (fate : Fate) (answer : Answer) → PlanRan k fate old new answer → new.link.sent ≤ old.link.sent
-  plan_few k fate answer ran = few_so (has_room (old.link.sent + k) old.link.entries) (with_fate (old.link.sent + k) fate old.link.entries) ran.outcome ran.planned
-
   -- ---- a lag
 
   pub lag_stepped : (k ticks : ℕ) (answer : Answer) → LagRan k ticks old new answer → CommandDone means old.plan old.heap (commands.Lag k ticks) old.kept new.kept w v answer
   lag_stepped k ticks answer ran =
       planned_so (has_lag_room (old.link.sent + k) ticks old.link.entries) (with_lag (old.link.sent + k) ticks old.link.entries) (commands.Lag k ticks) (λ doing. refl) refl answer ran.outcome ran.planned ran.kept ran.said
-
-  pub lag_few : (k ticks : ℕ) (answer : Answer) → LagRan k ticks old new answer → new.link.sent ≤ old.link.sent
-  lag_few k ticks answer ran = few_so (has_lag_room (old.link.sent + k) ticks old.link.entries) (with_lag (old.link.sent + k) ticks old.link.entries) ran.outcome ran.planned
 
 -- ---- a show
 

@@ -32,11 +32,10 @@ use Rattle.sof_session.specs.Agreement.{AreAgreed, Powered}
 use Rattle.sof_session.specs.Commands.{answer_by}
 use Rattle.sof_session.specs.Seat.{Seat}
 use Rattle.sof_session.specs.SessionStep.{CommandDone}
-use Rattle.sof_session.specs.SessionCalls.{SuspendRan}
+use Rattle.sof_session.specs.SessionCalls.{CallRan}
 use Rattle.sof_session.proofs.ActsLed.{acts-io, acts-ends}
 use Rattle.sof_session.proofs.Agreement.{at}
 use Rattle.sof_session.proofs.FewMeetings.{few-meetings}
-use Rattle.sof_session.proofs.OrderCalls.{carried-sent}
 use Rattle.sof_session.proofs.OrderStands.{by-down, cut-leads}
 use Rattle.sof_session.proofs.OrderStands as after_order
 use Rattle.sof_session.proofs.Stepping.{early-stepped, late-stepped, standing-by}
@@ -138,7 +137,7 @@ module _ {P : Type 0} (means : Meaning P) (old new : Seat P) (io io' : Io) (agre
   o = suspending old.plan old.kept
 
   abbrev Ran : Answer → Type 0
-  Ran answer = SuspendRan means old new io io' answer
+  Ran answer = CallRan means (suspend_fault old.kept.power) o old new io io' answer
 
   -- its acts came to a device that keeps the record, which they leave so or whose link failed
   acts-read : (power : Power) → power ≡ On → Powered means old power → (result : Outcome) (c : Carried (link means) old.plan old.heap o old.kept new.kept w v result) → ReadsOn (means.on old.link.device) io c.sent.io (after_order.met means old.heap old.plan o old.kept new.kept w v result c).moments
@@ -171,11 +170,3 @@ module _ {P : Type 0} (means : Meaning P) (old new : Seat P) (io io' : Io) (agre
           (standing-by means w v written
           (cut-leads means old.heap old.plan o old.kept new.kept w v ran.outcome c agreed.pending agreed.fated fewer (means.on old.link.device) refl
           (acts-read old.kept.power (was-on old.kept.power is) agreed.powered ran.outcome c)) empty)
-
-  -- it sends at most 900 messages
-  pub suspend_few : (answer : Answer) → Ran answer → new.link.sent ≤ old.link.sent + 900
-  suspend_few answer ran = by (suspend_fault old.kept.power) refl
-    where
-      by : (test : Option HostFault) → suspend_fault old.kept.power ≡ test → new.link.sent ≤ old.link.sent + 900
-      by (Some fault) is = let same : new.link.sent ≡ old.link.sent = ap (λ (x : World (Wire P)). x.device.sent) (ran.tested.early fault is).1 in omega (arith, same)
-      by None is = omega (arith, carried-sent means old.plan old.heap o old.kept new.kept w v ran.outcome (ran.tested.late is), few-down old.plan old.kept agreed.sound)

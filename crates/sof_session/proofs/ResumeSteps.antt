@@ -49,7 +49,6 @@ use Rattle.sof_session.specs.SessionCalls.{ResumeRan}
 use Rattle.sof_session.proofs.Agreement.{at}
 use Rattle.sof_session.proofs.BuildStands.{AtRest, IsQuiet, brought-stands, brought-reads, record-quiet, resumed-rests}
 use Rattle.sof_session.proofs.FewMeetings.{few-meetings}
-use Rattle.sof_session.proofs.OrderCalls.{carried-sent}
 use Rattle.sof_session.proofs.OrderStands.{moments-are, cut-leads}
 use Rattle.sof_session.proofs.OrderStands as after_order
 use Rattle.sof_session.proofs.PlanCounts.{few-streams_and_controls}
@@ -185,25 +184,17 @@ module _ {P : Type 0} (means : Meaning P) (old new : Seat P) (io io' : Io) (agre
   abbrev b : World (Wire P)
   b = at new.link io'
 
-  pub resume_stepped : io' ≡ io → drained io.outputs ≡ io.outputs → (answer : Answer) → ResumeRan means old new io io' answer → CommandDone means old.plan old.heap commands.Resume old.kept new.kept a b answer
-  resume_stepped same empty answer ran = by (resume_fault old.kept.power) refl
+  pub resume_stepped : drained io.outputs ≡ io.outputs → (answer : Answer) → ResumeRan means old new io io' answer → CommandDone means old.plan old.heap commands.Resume old.kept new.kept a b answer
+  resume_stepped empty answer ran = by (resume_fault old.kept.power) refl
     where
       by : (test : Option HostFault) → resume_fault old.kept.power ≡ test → CommandDone means old.plan old.heap commands.Resume old.kept new.kept a b answer
       by (Some fault) is =
-          let e = ran.tested.early fault is in
-          early-stepped means old.plan old.heap commands.Resume old.kept new.kept a b answer (λ doing known. refl) refl fault is (ran.said ∙ ap (answer_by Done) e.0) e.1 e.2 empty
+          let e = ran.call.tested.early fault is in
+          early-stepped means old.plan old.heap commands.Resume old.kept new.kept a b answer (λ doing known. refl) refl fault is (ran.call.said ∙ ap (answer_by Done) e.0) e.1 e.2 empty
       by None is =
-          let c = ran.tested.late is in
+          let c = ran.call.tested.late is in
           let off = was-off old.kept.power is in
-          late-stepped means old.plan old.heap commands.Resume old.kept new.kept a b answer (λ doing known. refl) refl is ran.outcome c agreed.pending agreed.fated (few-sent means old new.link io io' agreed new.kept ran.outcome c few off ran.left same)
-          ran.said
-          (standing-by means a b (written means old new.link io io' agreed new.kept ran.outcome c few off ran.left same)
-          (resume-leads means old new.link io io' agreed new.kept ran.outcome c few off ran.left same) empty)
-
-  -- it sends at most 900 messages
-  pub resume_few : (answer : Answer) → ResumeRan means old new io io' answer → new.link.sent ≤ old.link.sent + 900
-  resume_few answer ran = by (resume_fault old.kept.power) refl
-    where
-      by : (test : Option HostFault) → resume_fault old.kept.power ≡ test → new.link.sent ≤ old.link.sent + 900
-      by (Some fault) is = let same : new.link.sent ≡ old.link.sent = ap (λ (x : World (Wire P)). x.device.sent) (ran.tested.early fault is).1 in omega (arith, same)
-      by None is = omega (arith, carried-sent means old.plan old.heap (resuming old.plan old.kept) old.kept new.kept a b ran.outcome (ran.tested.late is), few-back old.plan old.kept agreed.sound agreed.agree.record_is.controls)
+          late-stepped means old.plan old.heap commands.Resume old.kept new.kept a b answer (λ doing known. refl) refl is ran.call.outcome c agreed.pending agreed.fated (few-sent means old new.link io io' agreed new.kept ran.call.outcome c few off ran.left ran.same)
+          ran.call.said
+          (standing-by means a b (written means old new.link io io' agreed new.kept ran.call.outcome c few off ran.left ran.same)
+          (resume-leads means old new.link io io' agreed new.kept ran.call.outcome c few off ran.left ran.same) empty)

@@ -1,5 +1,5 @@
 -- What a command is, by the arm of a step that it comes to.
-use Rattle.std.proofs.Common.{◌≡◌, ◌≤◌, ◌+◌, ℕ, ℤ, to_z, of_z, true, ap, subst, sym, arith}
+use Rattle.std.proofs.Common.{◌≡◌, ◌≤◌, ℕ, ℤ, to_z, of_z, true, subst, sym}
 use Rattle.std.specs.Prelude.{nat_le}
 use Rattle.std.specs.Int.{w32}
 use Rattle.std.specs.Int.RustNames.{FitsSigned}
@@ -9,7 +9,7 @@ use Rattle.mbox_link.specs.Fates.{IsError}
 use Rattle.host_widgets.proofs.ReplyErrors.{negative-fits}
 use Rattle.sof_script.specs.declared.script.Command.{Command}
 use Rattle.sof_script.specs.declared.script.Command.TheVariants as commands
-use Rattle.sof_session.specs.CommandRanges.{is_ahead, is_lag, is_refusal, is_in_range, most_sent}
+use Rattle.sof_session.specs.CommandRanges.{is_ahead, is_lag, is_refusal, is_in_range}
 
 -- a command in range, by what it is
 pub in-range-of : (command other : Command) → command ≡ other → is_in_range command ≡ true → is_in_range other ≡ true
@@ -24,10 +24,6 @@ refuse-in k e is = and_parts (is_ahead k) (is_refusal e) is
 -- an error number is what its 32 bits say
 pub as-is : (e : ℤ) → IsError e → to_z w32 (of_z w32 e) ≡ e
 as-is e meant = to_z-of_z w32 e (subst (FitsSigned w32) (sym meant.is) (negative-fits meant.code meant.small))
-
--- messages that were sent, by what a command is
-pub few-by : (command other : Command) (old new : ℕ) → command ≡ other → most_sent other ≡ 900 → new ≤ old + 900 → new ≤ old + most_sent command
-few-by command other old new is most few = omega (arith, ap most_sent is, most, few)
 
 pub lag-in : (k ticks : ℕ) → is_in_range (commands.Lag k ticks) ≡ true → (1 ≤ k) × (ticks ≤ 16)
 lag-in k ticks is =

@@ -1,5 +1,5 @@
 -- What an unload does to a session.
-use Rattle.std.proofs.Common.{◌≡◌, false, refl, sym, ap, ◌∙◌, subst, ◌+◌, ◌<◌, ◌≤◌, ◌-◌, ◌^◌, List, [], ◌∷◌, length, Option, Some, None, arith}
+use Rattle.std.proofs.Common.{◌≡◌, false, refl, sym, ap, ◌∙◌, subst, ◌+◌, ◌<◌, ◌-◌, ◌^◌, List, [], ◌∷◌, length, Option, Some, None, arith}
 use Rattle.std.proofs.lemmas.List.{append-nil}
 use Rattle.sof_base.specs.Ports.{Io, drained}
 use Rattle.stream_law.specs.State.{FwState}
@@ -20,11 +20,10 @@ use Rattle.sof_script.specs.declared.script.Command.TheVariants as commands
 use Rattle.sof_session.specs.Agreement.{AreAgreed}
 use Rattle.sof_session.specs.Seat.{Seat}
 use Rattle.sof_session.specs.SessionStep.{CommandDone}
-use Rattle.sof_session.specs.SessionCalls.{UnloadRan}
+use Rattle.sof_session.specs.SessionCalls.{CallRan}
 use Rattle.sof_session.specs.Commands.{answer_by}
 use Rattle.sof_session.proofs.Agreement.{at}
 use Rattle.sof_session.proofs.FewMeetings.{few-meetings}
-use Rattle.sof_session.proofs.OrderCalls.{carried-sent}
 use Rattle.sof_session.proofs.Stepping.{Standing, early-stepped, late-stepped, standing-by, stays-standing}
 
 module _ {P : Type 0} (means : Meaning P) (old new : Seat P) (io io' : Io) (agreed : AreAgreed means old) (few : old.link.sent < 2 ^ 63) (empty : drained io.outputs ≡ io.outputs) where
@@ -54,7 +53,7 @@ module _ {P : Type 0} (means : Meaning P) (old new : Seat P) (io io' : Io) (agre
   stands Unloaded outcome c = let still : v ≡ w = c.ends.1 ∙ c.walked.1 ∙ c.first in stays-standing means w v (ap (λ (x : World (Wire P)). means.on x.device.device) still) (ap (λ (x : World (Wire P)). x.io) still) empty
   stands Off outcome c = let still : v ≡ w = c.ends.1 ∙ c.walked.1 ∙ c.first in stays-standing means w v (ap (λ (x : World (Wire P)). means.on x.device.device) still) (ap (λ (x : World (Wire P)). x.io) still) empty
 
-  pub unload_stepped : (answer : Answer) → UnloadRan means old new io io' answer → CommandDone means old.plan old.heap commands.Unload old.kept new.kept w v answer
+  pub unload_stepped : (answer : Answer) → CallRan means (unload_fault old.kept.power) (unloading old.plan old.kept) old new io io' answer → CommandDone means old.plan old.heap commands.Unload old.kept new.kept w v answer
   unload_stepped answer ran = by (unload_fault old.kept.power) refl
     where
       by : (test : Option HostFault) → unload_fault old.kept.power ≡ test → CommandDone means old.plan old.heap commands.Unload old.kept new.kept w v answer
@@ -66,11 +65,3 @@ module _ {P : Type 0} (means : Meaning P) (old new : Seat P) (io io' : Io) (agre
           let fewer : old.link.sent + length c.meetings < 2 ^ 64 - 1 = omega (arith, few, few-meetings (link means) old.plan old.heap false [] c.meetings old.kept c.begun c.sent c.walked) in
           late-stepped means old.plan old.heap commands.Unload old.kept new.kept w v answer (λ doing known. refl) refl is ran.outcome c agreed.pending agreed.fated fewer
           ran.said (subst (Standing means w v) (sym (append-nil (moments_at old.kept.power))) (stands old.kept.power ran.outcome c))
-
--- it sends no message
-pub unload_few : {P : Type 0} (means : Meaning P) (old new : Seat P) (io io' : Io) (answer : Answer) → UnloadRan means old new io io' answer → new.link.sent ≤ old.link.sent
-unload_few means old new io io' answer ran = by (unload_fault old.kept.power) refl
-  where
-    by : (test : Option HostFault) → unload_fault old.kept.power ≡ test → new.link.sent ≤ old.link.sent
-    by (Some fault) is = let same : new.link.sent ≡ old.link.sent = ap (λ (x : World (Wire _)). x.device.sent) (ran.tested.early fault is).1 in omega (arith, same)
-    by None is = let few = carried-sent means old.plan old.heap (unloading old.plan old.kept) old.kept new.kept (at old.link io) (at new.link io') ran.outcome (ran.tested.late is) in omega (arith, few)

@@ -1,6 +1,7 @@
 //! A session: a host with its device behind a link, which carries out a script's commands and shows how everything stands.
 #![tactic(auto)]
 
+mod answers;
 mod laws;
 mod session;
 mod show;

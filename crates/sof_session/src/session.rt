@@ -1,62 +1,39 @@
 // A host with its device behind a link.
 ghost use Rattle.std.specs.Prelude.{◌≡◌, ℕ, ◌+◌, ◌<◌, ◌≤◌, ◌^◌, true, false, length, MatchResult};
-ghost use Rattle.sof_base.specs.Ports.{HasRoom, drained};
+ghost use Rattle.sof_base.specs.Ports.{Io, HasRoom, drained};
 ghost use Rattle.mbox_link.specs.Calls.{MovesBy, world};
 ghost use Rattle.mbox_link.specs.Fates.{IsMeant};
 ghost use Rattle.mbox_link.specs.Link.{link};
 ghost use Rattle.tplg_plan.specs.Sound.{IsSound};
+ghost use Rattle.host_widgets.specs.Orders.{unload_fault, unloading, suspending};
+ghost use Rattle.host_pcm.specs.Asks.{early_fault};
+ghost use Rattle.host_pcm.specs.StreamOrders.{stream_order};
+ghost use Rattle.host_pm.specs.PowerTests.{suspend_fault};
 ghost use Rattle.host_ctl.specs.ControlAsks.{set_fault, bytes_fault, get_fault, read_fault};
 ghost use Rattle.host_ctl.specs.ControlOrders.{set_order, bytes_order, get_order, read_order};
 ghost use Rattle.sof_io.specs.Bound.{output_slots};
 ghost use Rattle.sof_session.specs.Agreement.{AreAgreed};
 ghost use Rattle.sof_session.specs.CommandRanges.{is_in_range, is_tick, most_sent};
-ghost use Rattle.sof_session.specs.Commands.{answer_by};
 ghost use Rattle.sof_session.specs.Fills.{input_ends};
 ghost use Rattle.sof_session.specs.Seat.{new_seat};
-ghost use Rattle.sof_session.specs.SessionCalls.{LoadRan, UnloadRan, SuspendRan, ResumeRan, ControlRan, told_answer, PlanRan, LagRan, plan_answer, StreamRan, ports};
+ghost use Rattle.sof_session.specs.SessionCalls.{Stays, CallRan, LoadRan, ResumeRan, PlanRan, LagRan, ports};
 ghost use Rattle.sof_session.specs.SessionStep.{CommandDone};
 ghost use Rattle.sof_session.specs.Show.{show_lines, IsLineAt};
 
+use crate::answers::{answer_of, plan_answer, told_answer};
 use crate::show::show_line;
 use crate::streams::ask_stream;
 use host_ctl::{get, read, set, set_bytes};
 use host_pcm::Ask;
 use host_pm::{resume, suspend};
-use host_widgets::{Answer, HostFault, Power, Record, Trigger, load, unload};
-use mbox_link::{Dsp, Fate, FaultLink, NoRoom, PlanFull};
+use host_widgets::{Answer, Power, Record, Trigger, load, unload};
+use mbox_link::{Dsp, Fate, FaultLink, NoRoom};
 use sof_base::{Bounded, Name44, NoMemory};
 use sof_io::{Inputs, Outputs};
 use sof_script::{Command, Line};
 use std::alloc::Global;
 use std::marker::Model;
 use tplg_plan::Plan;
-
-// What a call answers that answers nothing else once it is done.
-fn answer_of(done: Result<(), HostFault>) -> Answer
-    ensures { result ≡ answer_by Answer.Done done }
-{
-    match done {
-        Ok(()) => Answer::Done,
-        Err(fault) => Answer::Fault(fault),
-    }
-}
-
-// What a call answers that tells something once it is done.
-fn told_answer(asked: Result<Answer, HostFault>) -> Answer
-    ensures { result ≡ told_answer asked }
-{
-    asked.unwrap_or_else(Answer::Fault)
-}
-
-// The answer where a fate or a lag was planned, or where there was no room for it.
-fn plan_answer(planned: Result<(), PlanFull>) -> Answer
-    ensures { result ≡ plan_answer planned }
-{
-    match planned {
-        Ok(()) => Answer::Done,
-        Err(PlanFull) => Answer::PlanFull,
-    }
-}
 
 /// A host that keeps its record of a device behind a link. The device is on with the view that the record says, with a heap
 /// as the load left it and a ring for each buffer; or off.
@@ -195,12 +172,7 @@ impl<P: Dsp> Session<P> {
     fn load(&mut self, io: &mut Inputs, out: &mut Outputs) -> Answer
         requires { HasRoom 983040 out.old }
         ensures ran { LoadRan P.means self.old self.new (ports io.old out.old) (ports io.new out.new) result }
-        ensures agreed { AreAgreed P.means self.old }
-        ensures later { AreAgreed P.means self.new }
-        ensures plan { self.new.plan ≡ self.old.plan }
-        ensures heap { self.new.heap ≡ self.old.heap }
-        ensures inputs { io.new ≡ io.old }
-        ensures outputs { out.new ≡ out.old }
+        ensures stays { Stays P.means self.old self.new (ports io.old out.old) (ports io.new out.new) }
     {
         let loaded = load(
             &self.plan,
@@ -215,13 +187,8 @@ impl<P: Dsp> Session<P> {
 
     // Cuts the device and forgets what was loaded.
     fn unload(&mut self, io: &mut Inputs, out: &mut Outputs) -> Answer
-        ensures ran { UnloadRan P.means self.old self.new (ports io.old out.old) (ports io.new out.new) result }
-        ensures agreed { AreAgreed P.means self.old }
-        ensures later { AreAgreed P.means self.new }
-        ensures plan { self.new.plan ≡ self.old.plan }
-        ensures heap { self.new.heap ≡ self.old.heap }
-        ensures inputs { io.new ≡ io.old }
-        ensures outputs { out.new ≡ out.old }
+        ensures ran { CallRan P.means (unload_fault self.old.kept.power) (unloading self.old.plan self.old.kept) self.old self.new (ports io.old out.old) (ports io.new out.new) result }
+        ensures stays { Stays P.means self.old self.new (ports io.old out.old) (ports io.new out.new) }
     {
         let unloaded = unload(
             &self.plan,
@@ -237,14 +204,8 @@ impl<P: Dsp> Session<P> {
     // Stops all that moves, and cuts the device.
     fn suspend(&mut self, io: &mut Inputs, out: &mut Outputs) -> Answer
         requires { HasRoom 983040 out.old }
-        ensures ran { SuspendRan P.means self.old self.new (ports io.old out.old) (ports io.new out.new) result }
-        ensures agreed { AreAgreed P.means self.old }
-        ensures later { AreAgreed P.means self.new }
-        ensures plan { self.new.plan ≡ self.old.plan }
-        ensures heap { self.new.heap ≡ self.old.heap }
-        ensures slots { output_slots out.new ≡ output_slots out.old }
-        ensures ends { input_ends io.new ≡ input_ends io.old }
-        ensures still { (link P.means).pending self.old.link ≡ 0 → (io.new ≡ io.old) × (out.new ≡ out.old) }
+        ensures ran { CallRan P.means (suspend_fault self.old.kept.power) (suspending self.old.plan self.old.kept) self.old self.new (ports io.old out.old) (ports io.new out.new) result }
+        ensures stays { Stays P.means self.old self.new (ports io.old out.old) (ports io.new out.new) }
     {
         let suspended = suspend(
             &self.plan,
@@ -261,12 +222,7 @@ impl<P: Dsp> Session<P> {
     fn resume(&mut self, io: &mut Inputs, out: &mut Outputs) -> Answer
         requires { HasRoom 983040 out.old }
         ensures ran { ResumeRan P.means self.old self.new (ports io.old out.old) (ports io.new out.new) result }
-        ensures agreed { AreAgreed P.means self.old }
-        ensures later { AreAgreed P.means self.new }
-        ensures plan { self.new.plan ≡ self.old.plan }
-        ensures heap { self.new.heap ≡ self.old.heap }
-        ensures inputs { io.new ≡ io.old }
-        ensures outputs { out.new ≡ out.old }
+        ensures stays { Stays P.means self.old self.new (ports io.old out.old) (ports io.new out.new) }
     {
         let resumed = resume(
             &self.plan,
@@ -288,14 +244,8 @@ impl<P: Dsp> Session<P> {
         out: &mut Outputs,
     ) -> Answer
         requires { HasRoom 983040 out.old }
-        ensures ran { ControlRan P.means (set_fault self.old.plan self.old.kept name.now values.now) (set_order self.old.plan self.old.kept name.now values.now) self.old self.new (ports io.old out.old) (ports io.new out.new) result }
-        ensures agreed { AreAgreed P.means self.old }
-        ensures later { AreAgreed P.means self.new }
-        ensures plan { self.new.plan ≡ self.old.plan }
-        ensures heap { self.new.heap ≡ self.old.heap }
-        ensures slots { output_slots out.new ≡ output_slots out.old }
-        ensures ends { input_ends io.new ≡ input_ends io.old }
-        ensures still { (link P.means).pending self.old.link ≡ 0 → (io.new ≡ io.old) × (out.new ≡ out.old) }
+        ensures ran { CallRan P.means (set_fault self.old.plan self.old.kept name.now values.now) (set_order self.old.plan self.old.kept name.now values.now) self.old self.new (ports io.old out.old) (ports io.new out.new) result }
+        ensures stays { Stays P.means self.old self.new (ports io.old out.old) (ports io.new out.new) }
     {
         let done = set(
             &self.plan,
@@ -319,14 +269,8 @@ impl<P: Dsp> Session<P> {
         out: &mut Outputs,
     ) -> Answer
         requires { HasRoom 983040 out.old }
-        ensures ran { ControlRan P.means (bytes_fault self.old.plan self.old.kept name.now blob.now) (bytes_order self.old.plan self.old.kept name.now blob.now) self.old self.new (ports io.old out.old) (ports io.new out.new) result }
-        ensures agreed { AreAgreed P.means self.old }
-        ensures later { AreAgreed P.means self.new }
-        ensures plan { self.new.plan ≡ self.old.plan }
-        ensures heap { self.new.heap ≡ self.old.heap }
-        ensures slots { output_slots out.new ≡ output_slots out.old }
-        ensures ends { input_ends io.new ≡ input_ends io.old }
-        ensures still { (link P.means).pending self.old.link ≡ 0 → (io.new ≡ io.old) × (out.new ≡ out.old) }
+        ensures ran { CallRan P.means (bytes_fault self.old.plan self.old.kept name.now blob.now) (bytes_order self.old.plan self.old.kept name.now blob.now) self.old self.new (ports io.old out.old) (ports io.new out.new) result }
+        ensures stays { Stays P.means self.old self.new (ports io.old out.old) (ports io.new out.new) }
     {
         let done = set_bytes(
             &self.plan,
@@ -343,13 +287,8 @@ impl<P: Dsp> Session<P> {
 
     // What the record says of the control of this name.
     fn get(&mut self, name: &Name44, io: &mut Inputs, out: &mut Outputs) -> Answer
-        ensures ran { ControlRan P.means (get_fault self.old.plan self.old.kept name.now) (get_order self.old.plan self.old.kept name.now) self.old self.new (ports io.old out.old) (ports io.new out.new) result }
-        ensures agreed { AreAgreed P.means self.old }
-        ensures later { AreAgreed P.means self.new }
-        ensures plan { self.new.plan ≡ self.old.plan }
-        ensures heap { self.new.heap ≡ self.old.heap }
-        ensures inputs { io.new ≡ io.old }
-        ensures outputs { out.new ≡ out.old }
+        ensures ran { CallRan P.means (get_fault self.old.plan self.old.kept name.now) (get_order self.old.plan self.old.kept name.now) self.old self.new (ports io.old out.old) (ports io.new out.new) result }
+        ensures stays { Stays P.means self.old self.new (ports io.old out.old) (ports io.new out.new) }
     {
         let told = get(
             &self.plan,
@@ -366,14 +305,8 @@ impl<P: Dsp> Session<P> {
     // What the firmware says of the control of this name.
     fn read(&mut self, name: &Name44, io: &mut Inputs, out: &mut Outputs) -> Answer
         requires { HasRoom 983040 out.old }
-        ensures ran { ControlRan P.means (read_fault self.old.plan self.old.kept name.now) (read_order self.old.plan self.old.kept name.now) self.old self.new (ports io.old out.old) (ports io.new out.new) result }
-        ensures agreed { AreAgreed P.means self.old }
-        ensures later { AreAgreed P.means self.new }
-        ensures plan { self.new.plan ≡ self.old.plan }
-        ensures heap { self.new.heap ≡ self.old.heap }
-        ensures slots { output_slots out.new ≡ output_slots out.old }
-        ensures ends { input_ends io.new ≡ input_ends io.old }
-        ensures still { (link P.means).pending self.old.link ≡ 0 → (io.new ≡ io.old) × (out.new ≡ out.old) }
+        ensures ran { CallRan P.means (read_fault self.old.plan self.old.kept name.now) (read_order self.old.plan self.old.kept name.now) self.old self.new (ports io.old out.old) (ports io.new out.new) result }
+        ensures stays { Stays P.means self.old self.new (ports io.old out.old) (ports io.new out.new) }
     {
         let told = read(
             &self.plan,
@@ -393,10 +326,7 @@ impl<P: Dsp> Session<P> {
         requires meant { IsMeant fate }
         requires few { self.old.link.sent < 2 ^ 63 }
         ensures ran { PlanRan k fate self.old self.new result }
-        ensures agreed { AreAgreed P.means self.old }
-        ensures later { AreAgreed P.means self.new }
-        ensures plan { self.new.plan ≡ self.old.plan }
-        ensures heap { self.new.heap ≡ self.old.heap }
+        ensures stays { (io : Io) → Stays P.means self.old self.new io io }
     {
         let planned = self.link.plan(k, fate);
         plan_answer(planned)
@@ -408,10 +338,7 @@ impl<P: Dsp> Session<P> {
         requires short { ticks ≤ 16 }
         requires few { self.old.link.sent < 2 ^ 63 }
         ensures ran { LagRan k ticks self.old self.new result }
-        ensures agreed { AreAgreed P.means self.old }
-        ensures later { AreAgreed P.means self.new }
-        ensures plan { self.new.plan ≡ self.old.plan }
-        ensures heap { self.new.heap ≡ self.old.heap }
+        ensures stays { (io : Io) → Stays P.means self.old self.new io io }
     {
         let planned = self.link.lag(k, ticks);
         plan_answer(planned)
@@ -420,14 +347,8 @@ impl<P: Dsp> Session<P> {
     // Makes the host's call for what is asked of the stream of this name.
     fn ask(&mut self, name: &Name44, ask: Ask, io: &mut Inputs, out: &mut Outputs) -> Answer
         requires { HasRoom 983040 out.old }
-        ensures ran { StreamRan P.means name.now ask self.old self.new (ports io.old out.old) (ports io.new out.new) result }
-        ensures agreed { AreAgreed P.means self.old }
-        ensures later { AreAgreed P.means self.new }
-        ensures plan { self.new.plan ≡ self.old.plan }
-        ensures heap { self.new.heap ≡ self.old.heap }
-        ensures slots { output_slots out.new ≡ output_slots out.old }
-        ensures ends { input_ends io.new ≡ input_ends io.old }
-        ensures still { (link P.means).pending self.old.link ≡ 0 → (io.new ≡ io.old) × (out.new ≡ out.old) }
+        ensures ran { CallRan P.means (early_fault self.old.plan self.old.kept name.now ask) (stream_order self.old.plan self.old.kept name.now ask) self.old self.new (ports io.old out.old) (ports io.new out.new) result }
+        ensures stays { Stays P.means self.old self.new (ports io.old out.old) (ports io.new out.new) }
     {
         let asked = ask_stream(
             &self.plan,

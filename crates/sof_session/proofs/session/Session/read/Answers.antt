@@ -1,57 +1,10 @@
-use Rattle.std.proofs.Common.{◌∙◌, ap, ℕ, Bool, List}
-use Rattle.sof_base.specs.Ports.{Io}
-use Rattle.host_ctl.specs.ControlAsks.{read_fault}
+use Rattle.std.proofs.Common.{◌∙◌}
 use Rattle.host_ctl.specs.ControlOrders.{read_order, outcome_of}
 use Rattle.sof_session.specs.SessionCalls.{ports}
 use Rattle.sof_session.proofs.Agreement.{pending-room}
-use Rattle.sof_session.proofs.AskedStays.{sent-io, sent-ends}
-use Rattle.sof_session.proofs.CallAgreement.{AreAgreed-sent}
-use Rattle.sof_session.proofs.ControlSteps.{read-call, told-answers}
+use Rattle.sof_session.proofs.CallStays.{sent-stays}
+use Rattle.sof_session.proofs.ControlCalls.{read-call, told-answers}
 use Rattle.sof_session.proofs.session.Session.read.Goals as goal
-
-pub invariant_of-self : goal.invariant_of-self
-invariant_of-self g c =
-    let inside = c.self.inside in
-    let done = c.read-told in
-    let call = read-call inside.plan c.self.invariant.sound inside.kept c.self.invariant.agree.record_is c.args.name.now in
-    AreAgreed-sent g.P.Dsp.means (record { link = inside.link; kept = inside.kept; plan = inside.plan; heap = inside.heap }) done.new.dsp (ports c.args.io.now c.args.out.now) (ports done.new.io done.new.out) c.self.invariant done.new.kept done.ensures.agree (outcome_of done.result)
-    (read_fault inside.plan inside.kept c.args.name.now) (read_order inside.plan inside.kept c.args.name.now) call.sent call.taken done.ensures.asked
-
-pub returns-clause-later : goal.returns-clause-later
-returns-clause-later g c =
-    let inside = c.self.inside in
-    let done = c.read-told in
-    let call = read-call inside.plan c.self.invariant.sound inside.kept c.self.invariant.agree.record_is c.args.name.now in
-    AreAgreed-sent g.P.Dsp.means (record { link = inside.link; kept = inside.kept; plan = inside.plan; heap = inside.heap }) done.new.dsp (ports c.args.io.now c.args.out.now) (ports done.new.io done.new.out) c.self.invariant done.new.kept done.ensures.agree (outcome_of done.result)
-    (read_fault inside.plan inside.kept c.args.name.now) (read_order inside.plan inside.kept c.args.name.now) call.sent call.taken done.ensures.asked
-
-pub returns-clause-slots : goal.returns-clause-slots
-returns-clause-slots g c =
-    let inside = c.self.inside in
-    let done = c.read-told in
-    let call = read-call inside.plan c.self.invariant.sound inside.kept c.self.invariant.agree.record_is c.args.name.now in
-    ap (λ (x : List ℕ × List (ℕ × Bool)). x.0)
-    (sent-ends g.P.Dsp.means (record { link = inside.link; kept = inside.kept; plan = inside.plan; heap = inside.heap }) done.new.dsp (ports c.args.io.now c.args.out.now) (ports done.new.io done.new.out) c.self.invariant done.new.kept done.ensures.agree (outcome_of done.result)
-    (read_fault inside.plan inside.kept c.args.name.now) (read_order inside.plan inside.kept c.args.name.now) call.sent done.ensures.asked)
-
-pub returns-clause-ends : goal.returns-clause-ends
-returns-clause-ends g c =
-    let inside = c.self.inside in
-    let done = c.read-told in
-    let call = read-call inside.plan c.self.invariant.sound inside.kept c.self.invariant.agree.record_is c.args.name.now in
-    ap (λ (x : List ℕ × List (ℕ × Bool)). x.1)
-    (sent-ends g.P.Dsp.means (record { link = inside.link; kept = inside.kept; plan = inside.plan; heap = inside.heap }) done.new.dsp (ports c.args.io.now c.args.out.now) (ports done.new.io done.new.out) c.self.invariant done.new.kept done.ensures.agree (outcome_of done.result)
-    (read_fault inside.plan inside.kept c.args.name.now) (read_order inside.plan inside.kept c.args.name.now) call.sent done.ensures.asked)
-
--- where no tick is pending, none came
-pub returns-clause-still : goal.returns-clause-still
-returns-clause-still g c none =
-    let inside = c.self.inside in
-    let done = c.read-told in
-    let call = read-call inside.plan c.self.invariant.sound inside.kept c.self.invariant.agree.record_is c.args.name.now in
-    let same = sent-io g.P.Dsp.means (record { link = inside.link; kept = inside.kept; plan = inside.plan; heap = inside.heap }) done.new.dsp (ports c.args.io.now c.args.out.now) (ports done.new.io done.new.out) c.self.invariant done.new.kept done.ensures.agree (outcome_of done.result)
-    (read_fault inside.plan inside.kept c.args.name.now) (read_order inside.plan inside.kept c.args.name.now) call.sent done.ensures.asked (rw (← c.self.view_is) at none) in
-    (ap (λ (io : Io). io.inputs) same, ap (λ (io : Io). io.outputs) same)
 
 pub read-told-requires-clause-room : goal.read-told-requires-clause-room
 read-told-requires-clause-room g c =
@@ -63,3 +16,19 @@ returns-clause-ran g c =
     let inside = c.self.inside in
     let done = c.read-told in
     rw (← c.self.view_is) record { outcome = outcome_of done.result; tested = done.ensures.asked; said = c.told_answer.ensures ∙ told-answers done.result (read_order inside.plan inside.kept c.args.name.now).answer done.ensures.answered }
+
+pub returns-clause-stays : goal.returns-clause-stays
+returns-clause-stays g c =
+    let inside = c.self.inside in
+    let done = c.read-told in
+    rw (← c.self.view_is)
+    (sent-stays g.P.Dsp.means (record { link = inside.link; kept = inside.kept; plan = inside.plan; heap = inside.heap }) done.new.dsp (ports c.args.io.now c.args.out.now) (ports done.new.io done.new.out) c.self.invariant done.new.kept done.ensures.agree (outcome_of done.result)
+    (read-call inside.plan c.self.invariant.sound inside.kept c.self.invariant.agree.record_is c.args.name.now) done.ensures.asked)
+
+pub invariant_of-self : goal.invariant_of-self
+invariant_of-self g c =
+    let inside = c.self.inside in
+    let done = c.read-told in
+    let stays = sent-stays g.P.Dsp.means (record { link = inside.link; kept = inside.kept; plan = inside.plan; heap = inside.heap }) done.new.dsp (ports c.args.io.now c.args.out.now) (ports done.new.io done.new.out) c.self.invariant done.new.kept done.ensures.agree (outcome_of done.result)
+    (read-call inside.plan c.self.invariant.sound inside.kept c.self.invariant.agree.record_is c.args.name.now) done.ensures.asked in
+    stays.later

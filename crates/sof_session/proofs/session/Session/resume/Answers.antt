@@ -1,19 +1,8 @@
 use Rattle.sof_session.specs.SessionCalls.{ports}
 use Rattle.sof_session.proofs.Agreement.{pending-room}
-use Rattle.sof_session.proofs.CallAgreement.{AreAgreed-resumed}
+use Rattle.sof_session.proofs.CallStays.{resume-stays}
+use Rattle.sof_session.proofs.Stepping.{same-ports}
 use Rattle.sof_session.proofs.session.Session.resume.Goals as goal
-
-pub invariant_of-self : goal.invariant_of-self
-invariant_of-self g c =
-    let inside = c.self.inside in
-    let done = c.resume-resumed in
-    AreAgreed-resumed g.P.Dsp.means (record { link = inside.link; kept = inside.kept; plan = inside.plan; heap = inside.heap }) done.new.dsp (ports c.args.io.now c.args.out.now) (ports done.new.io done.new.out) c.self.invariant done.new.kept done.ensures.agree done.result done.ensures.carried done.ensures.left
-
-pub returns-clause-later : goal.returns-clause-later
-returns-clause-later g c =
-    let inside = c.self.inside in
-    let done = c.resume-resumed in
-    AreAgreed-resumed g.P.Dsp.means (record { link = inside.link; kept = inside.kept; plan = inside.plan; heap = inside.heap }) done.new.dsp (ports c.args.io.now c.args.out.now) (ports done.new.io done.new.out) c.self.invariant done.new.kept done.ensures.agree done.result done.ensures.carried done.ensures.left
 
 pub resume-resumed-requires-clause-room : goal.resume-resumed-requires-clause-room
 resume-resumed-requires-clause-room g c =
@@ -23,4 +12,24 @@ resume-resumed-requires-clause-room g c =
 pub returns-clause-ran : goal.returns-clause-ran
 returns-clause-ran g c =
     let done = c.resume-resumed in
-    rw (← c.self.view_is) record { outcome = done.result; tested = done.ensures.carried; left = done.ensures.left; said = c.answer_of.ensures }
+    rw (← c.self.view_is) record {
+      call = record { outcome = done.result; tested = done.ensures.carried; said = c.answer_of.ensures };
+      left = done.ensures.left;
+      same = same-ports c.args.io.now done.new.io c.args.out.now done.new.out done.ensures.inputs done.ensures.outputs;
+    }
+
+pub returns-clause-stays : goal.returns-clause-stays
+returns-clause-stays g c =
+    let inside = c.self.inside in
+    let done = c.resume-resumed in
+    rw (← c.self.view_is)
+    (resume-stays g.P.Dsp.means (record { link = inside.link; kept = inside.kept; plan = inside.plan; heap = inside.heap }) done.new.dsp (ports c.args.io.now c.args.out.now) (ports done.new.io done.new.out) c.self.invariant done.new.kept done.ensures.agree done.result done.ensures.carried done.ensures.left
+    (same-ports c.args.io.now done.new.io c.args.out.now done.new.out done.ensures.inputs done.ensures.outputs))
+
+pub invariant_of-self : goal.invariant_of-self
+invariant_of-self g c =
+    let inside = c.self.inside in
+    let done = c.resume-resumed in
+    let stays = resume-stays g.P.Dsp.means (record { link = inside.link; kept = inside.kept; plan = inside.plan; heap = inside.heap }) done.new.dsp (ports c.args.io.now c.args.out.now) (ports done.new.io done.new.out) c.self.invariant done.new.kept done.ensures.agree done.result done.ensures.carried done.ensures.left
+    (same-ports c.args.io.now done.new.io c.args.out.now done.new.out done.ensures.inputs done.ensures.outputs) in
+    stays.later

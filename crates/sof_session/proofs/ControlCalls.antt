@@ -1,10 +1,8 @@
--- What a call on a control does to a session: values or a blob that are set, told by the record, or asked of the firmware.
-use Rattle.std.proofs.Common.{◌≡◌, refl, sym, ap, subst, ◌∙◌, ℕ, ◌+◌, ◌<◌, ◌≤◌, ◌^◌, false, List, [], ◌∷◌, length, Option, Some, None, Result, Ok, Err, unwrap_or, arith}
+-- Calls on controls as calls that send acts: values or a blob that are set, told by the record, or asked of the firmware.
+use Rattle.std.proofs.Common.{◌≡◌, refl, sym, ap, subst, ◌∙◌, ℕ, ◌≤◌, false, List, [], ◌∷◌, length, Option, Some, None, Result, Ok, Err, unwrap_or, arith}
 use Rattle.std.specs.Prelude.{IfOk}
 use Rattle.std.specs.Option.{option_and_then}
 use Rattle.std.proofs.lemmas.List.{length-map}
-use Rattle.sof_base.specs.Ports.{Io, InputView, OutputView, drained}
-use Rattle.mbox_link.specs.Calls.{Meaning}
 use Rattle.tplg_plan.specs.declared.plans.Plan.{Plan}
 use Rattle.tplg_plan.specs.declared.plans.ControlPlan.{ControlPlan}
 use Rattle.tplg_plan.specs.declared.plans.ControlKind.{ControlKind}
@@ -23,9 +21,9 @@ use Rattle.host_widgets.specs.ActLists.{part_acts}
 use Rattle.host_widgets.specs.HostActs.{Put, Part, Ask, with_values, with_blob}
 use Rattle.host_widgets.specs.Kept.{control_at, with_control}
 use Rattle.host_widgets.specs.Named.{is_named}
-use Rattle.host_widgets.specs.Orders.{Order, quiet, sends}
+use Rattle.host_widgets.specs.Orders.{quiet, sends}
 use Rattle.host_widgets.proofs.ControlLists.{Takes, takes-by}
-use Rattle.host_widgets.proofs.WalksHold.{AreTaken, none-taken}
+use Rattle.host_widgets.proofs.WalksHold.{none-taken}
 use Rattle.host_ctl.specs.ControlAsks.{channels_of, spread, named_control, set_fault, installing_fault, bytes_fault, get_fault, read_fault}
 use Rattle.host_ctl.specs.ControlOrders.{MayInstall, setting_order, set_order, installing_order, bytes_order, control_told, named_at, get_order, control_answer, ask_acts, reading_order, read_order, outcome_of}
 use Rattle.host_ctl.specs.ControlPlaces.{control_place, control_here, record_here}
@@ -34,15 +32,10 @@ use Rattle.host_ctl.proofs.ControlsThere.{live, at-here, was-here, named-here, l
 use Rattle.host_ctl.proofs.BlobTaken.{bytes-taken}
 use Rattle.host_ctl.proofs.BlobTests.{installable}
 use Rattle.host_ctl.proofs.OrdersTaken.{set-taken, read-taken}
-use Rattle.sof_script.specs.declared.script.Command.{Command}
-use Rattle.sof_session.specs.Agreement.{AreAgreed}
 use Rattle.sof_session.specs.Commands.{answer_by}
-use Rattle.sof_session.specs.Seat.{Seat}
-use Rattle.sof_session.specs.SessionCalls.{ControlRan, ports, told_answer}
+use Rattle.sof_session.specs.SessionCalls.{told_answer}
 use Rattle.sof_session.proofs.PartCounts.{few-numbers, few-kept}
-use Rattle.sof_session.proofs.SentOrders.{IsSent, sends-answer}
-use Rattle.sof_session.proofs.SentSteps.{IsCarriedBy, sent_stepped, sent_few}
-use Rattle.sof_session.proofs.Stepping.{SteppedIn}
+use Rattle.sof_session.proofs.SentOrders.{IsSent, IsSentCall, sends-answer}
 
 -- ---- their orders send few acts, or none
 
@@ -113,22 +106,17 @@ sent-read plan sound kept is name = by (control_place plan name) refl
 
 -- ---- the calls
 
--- where no test fails, an order of few acts, and of acts that are taken
-pub record IsControlCall (plan : Plan) (kept : Record) (test : Option HostFault) (o : Order) : Type 0 where
-  pub sent : test ≡ None → IsSent kept o
-  pub taken : test ≡ None → AreTaken plan false kept o.acts
-
 module _ (plan : Plan) (sound : IsSound plan) (kept : Record) (is : IsRecordOf plan kept) (name : List ℕ) where
-  pub set-call : (values : List ℕ) → IsControlCall plan kept (set_fault plan kept name values) (set_order plan kept name values)
+  pub set-call : (values : List ℕ) → IsSentCall plan kept (set_fault plan kept name values) (set_order plan kept name values)
   set-call values = record { sent = λ none. sent-set plan kept name values; taken = set-taken plan sound kept is name values }
 
-  pub bytes-call : (blob : List ℕ) → IsControlCall plan kept (bytes_fault plan kept name blob) (bytes_order plan kept name blob)
+  pub bytes-call : (blob : List ℕ) → IsSentCall plan kept (bytes_fault plan kept name blob) (bytes_order plan kept name blob)
   bytes-call blob = record { sent = sent-bytes plan kept name blob; taken = bytes-taken plan sound kept is name blob }
 
-  pub get-call : IsControlCall plan kept (get_fault plan kept name) (get_order plan kept name)
+  pub get-call : IsSentCall plan kept (get_fault plan kept name) (get_order plan kept name)
   get-call = record { sent = λ none. sent-get plan kept name; taken = λ none. none-taken plan false kept }
 
-  pub read-call : IsControlCall plan kept (read_fault plan kept name) (read_order plan kept name)
+  pub read-call : IsSentCall plan kept (read_fault plan kept name) (read_order plan kept name)
   read-call = record { sent = λ none. sent-read plan sound kept is name; taken = read-taken plan sound kept is name }
 
 -- ---- what they answer once they are done
@@ -152,17 +140,3 @@ installing-answers plan kept blob (Some k) = sends-answer kept.power (part_acts 
 
 pub bytes-answers : (plan : Plan) (kept : Record) (name blob : List ℕ) → (bytes_order plan kept name blob).answer ≡ Done
 bytes-answers plan kept name blob = installing-answers plan kept blob (named_control plan name)
-
--- ---- a step
-
--- by what the command is
-pub control_step : {P : Type 0} (means : Meaning P) (old new : Seat P) (inputs inputs' : List InputView) (outputs outputs' : List OutputView) → AreAgreed means old → old.link.sent < 2 ^ 63 →
-    drained outputs ≡ outputs → (command other : Command) → command ≡ other → (test : Option HostFault) (o : Order) → IsCarriedBy old.plan old.heap old.kept other test o → IsControlCall old.plan old.kept test o →
-    (answer : Answer) → ControlRan means test o old new (ports inputs outputs) (ports inputs' outputs') answer → SteppedIn means old new (ports inputs outputs) (ports inputs' outputs') answer command
-control_step means old new inputs inputs' outputs outputs' agreed few empty command other is test o by_these call answer ran =
-    subst (SteppedIn means old new (ports inputs outputs) (ports inputs' outputs') answer) (sym is)
-    (sent_stepped means old new (ports inputs outputs) (ports inputs' outputs') agreed few empty other test o by_these call.sent call.taken answer ran.outcome ran.tested ran.said)
-
--- it sends at most 900 messages
-pub control_few : {P : Type 0} (means : Meaning P) (old new : Seat P) (io io' : Io) (test : Option HostFault) (o : Order) → IsControlCall old.plan old.kept test o → (answer : Answer) → ControlRan means test o old new io io' answer → new.link.sent ≤ old.link.sent + 900
-control_few means old new io io' test o call answer ran = sent_few means old new io io' test o call.sent ran.outcome ran.tested

@@ -1,6 +1,6 @@
 -- A call that sends acts alone leaves the endpoints as they are where no tick is pending, and else their slots, and which inputs
--- have ended: one on a stream is so.
-use Rattle.std.proofs.Common.{◌≡◌, ⊎_elim, ℕ, false, List, [], ◌∷◌, Option, Some, None, refl, ap, subst, ◌∙◌}
+-- have ended.
+use Rattle.std.proofs.Common.{◌≡◌, ⊎_elim, false, List, [], ◌∷◌, Option, Some, None, refl, ap, subst, ◌∙◌}
 use Rattle.sof_base.specs.Ports.{Io}
 use Rattle.stream_law.specs.Past.{Moment, Cut}
 use Rattle.mbox_link.specs.Calls.{World, Meaning, Led}
@@ -14,16 +14,13 @@ use Rattle.host_widgets.specs.declared.kept.Record.{Record}
 use Rattle.host_widgets.specs.HostActs.{Act}
 use Rattle.host_widgets.specs.ActCalls.{calls_of}
 use Rattle.host_widgets.specs.Host.{Outcome, Agrees}
-use Rattle.host_widgets.specs.Orders.{Order, Carried, Tested, quiet, sends}
-use Rattle.host_pcm.specs.declared.asking.Ask.{Ask}
-use Rattle.host_pcm.specs.Asks.{early_fault}
-use Rattle.host_pcm.specs.StreamOrders.{Asked, stream_order}
+use Rattle.host_widgets.specs.Orders.{Order, Carried, Tested, sends}
 use Rattle.sof_session.specs.Agreement.{AreAgreed, Powered}
 use Rattle.sof_session.specs.Seat.{Seat}
 use Rattle.sof_session.proofs.Agreement.{at}
 use Rattle.sof_session.proofs.ActsLed.{acts-io, acts-ends}
 use Rattle.sof_session.proofs.OrderStands.{sending, last, plain-cuts}
-use Rattle.sof_session.proofs.SentOrders.{IsSent, sent-stream}
+use Rattle.sof_session.proofs.SentOrders.{IsSent}
 use Rattle.sof_session.proofs.Writings.{bound_ends}
 
 module _ {P : Type 0} (means : Meaning P) (old : Seat P) (wire : Wire P) (io io' : Io) (agreed : AreAgreed means old) (kept : Record) (agree : Agrees (link means) old.plan kept wire) (result : Outcome) where
@@ -81,18 +78,3 @@ module _ {P : Type 0} (means : Meaning P) (old : Seat P) (wire : Wire P) (io io'
         by : (t : Option HostFault) → test ≡ t → bound_ends io' ≡ bound_ends io
         by (Some fault) is = ap (λ (x : World (Wire P)). bound_ends x.io) (tested.early fault is).1
         by None is = let s : IsSent old.kept o = sent is in ends-by s.acts s.done s.answer old.kept.power agreed.powered (subst (CarriedSo s.acts s.done s.answer) s.is (tested.late is))
-
-  -- one without acts always does
-  pub quiet-io : (test : Option HostFault) (answer : Answer) → Tested (link means) old.plan old.heap test (quiet answer) old.kept kept w v result → io' ≡ io
-  quiet-io test answer tested = by test refl
-    where
-      by : (t : Option HostFault) → test ≡ t → io' ≡ io
-      by (Some fault) is = ap (λ (x : World (Wire P)). x.io) (tested.early fault is).1
-      by None is = let c = tested.late is in ap (λ (x : World (Wire P)). x.io) (c.ends.1 ∙ c.walked.1 ∙ c.first)
-
-  module _ (name : List ℕ) (ask : Ask) (asked : Asked (link means) old.plan old.heap name ask old.kept kept w v result) where
-    pub asked-io : (link means).pending old.link ≡ 0 → io' ≡ io
-    asked-io none = sent-io (early_fault old.plan old.kept name ask) (stream_order old.plan old.kept name ask) (λ none. sent-stream old.plan old.kept name ask) (record { early = asked.early; late = asked.late }) none
-
-    pub asked-ends : bound_ends io' ≡ bound_ends io
-    asked-ends = sent-ends (early_fault old.plan old.kept name ask) (stream_order old.plan old.kept name ask) (λ none. sent-stream old.plan old.kept name ask) (record { early = asked.early; late = asked.late })

@@ -3,4 +3,5 @@ pub mod StreamCalls
 pub mod OneOrders
 pub mod AtRest
 pub mod HostTests
+pub mod AsksCarried
 pub mod OrdersTaken

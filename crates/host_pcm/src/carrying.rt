@@ -7,7 +7,7 @@ ghost use Rattle.host_widgets.specs.Host.{Agrees};
 ghost use Rattle.host_widgets.specs.HostActs.{Prepare, Trig, Free, triggered_found};
 ghost use Rattle.host_widgets.specs.Orders.{Carried};
 ghost use Rattle.host_pcm.specs.Asks.{stream_at, takes_ask, range_fault, stream_caps, with_stream_at};
-ghost use Rattle.host_pcm.specs.StreamOrders.{host_at, place_order};
+ghost use Rattle.host_pcm.specs.StreamOrders.{host_at, opened_stream, place_order};
 ghost use Rattle.host_widgets.specs.ActCarried.{ActCarried};
 ghost use Rattle.host_widgets.specs.Sides.{SameSide, world_of};
 
@@ -26,6 +26,20 @@ fn triggered(what: Trigger) -> Found
         Trigger::Stop => Found::Prepared,
         Trigger::Pause => Found::Paused,
     }
+}
+
+/// A stream is open in the record.
+pub fn open(kept: &mut Record, place: usize)
+    requires { place < length kept.old.streams }
+    ensures { kept.new ≡ with_stream_at place (opened_stream closed) kept.old }
+{
+    kept.streams.put(
+        place,
+        StreamRec {
+            found: Found::Open,
+            params: None,
+        },
+    );
 }
 
 /// A stream has parameters.

@@ -1,4 +1,4 @@
-// The host's calls on streams, in the order of the table. Each takes no memory.
+// The host's calls on streams: one for whatever is asked, and one for each ask, in the order of the table. Each takes no memory.
 //
 // All of them may answer `NotLoaded`: nothing is loaded; `NoSuch(name)`: no stream has this name; and `State(found)`: the
 // stream stands so. Those that send may answer `Refused(e)`: a message was answered with the negative error e, and what
@@ -7,18 +7,59 @@
 ghost use Rattle.std.specs.Prelude.{◌≡◌, ◌*◌};
 ghost use Rattle.sof_base.specs.Ports.{HasRoom};
 ghost use Rattle.mbox_link.specs.Calls.{world};
-ghost use Rattle.host_widgets.specs.Sides.{SameSide, world_of};
 ghost use Rattle.tplg_plan.specs.Sound.{IsSound};
 ghost use Rattle.host_widgets.specs.Host.{Agrees};
 ghost use Rattle.host_pcm.specs.StreamOrders.{Asked};
 
 use crate::asking::{Ask, tested};
 use crate::carrying;
-use host_widgets::{Found, HostFault, Record, Side, StreamRec, Trigger};
+use host_widgets::{HostFault, Record, Side, Trigger};
 use mbox_link::Dsp;
 use sof_base::{Name44, Params};
 use sof_io::{Inputs, Outputs};
 use tplg_plan::Plan;
+
+/// Carries out what is asked of the stream of this name: `Opening` is `open`, `Preparing` is `params`, `Triggering` is `start`, `stop`,
+/// `pause` or `release` by its trigger, and `Closing` is `close`.
+///
+/// `Off`: the power is off, of a `Preparing` or a `Triggering`. `Range(n)`: of a `Preparing`, as `params` says. `Refused(e)` and
+/// `LinkDown`: of all but an `Opening`, which sends nothing.
+pub fn ask<P: Dsp>(
+    plan: &Plan,
+    kept: &mut Record,
+    heap: u32,
+    dsp: &mut P,
+    io: &mut Inputs,
+    out: &mut Outputs,
+    name: &Name44,
+    ask: Ask,
+) -> Result<(), HostFault>
+    requires plan { IsSound plan.now }
+    requires agree { Agrees P.means plan.now kept.old dsp.old }
+    requires room { HasRoom (61440 * P.means.pending dsp.old) out.old }
+    ensures asked { Asked P.means plan.now heap name.now ask kept.old kept.new
+        (world dsp.old io.old out.old) (world dsp.new io.new out.new) result }
+    ensures agree { Agrees P.means plan.now kept.new dsp.new }
+{
+    let place = tested(plan, kept, name, ask)?;
+    let mut side = Side {
+        plan,
+        heap,
+        kept,
+        dsp,
+        io,
+        out,
+    };
+    match ask {
+        Ask::Opening => {
+            carrying::open(side.kept, place);
+            Ok(())
+        }
+        Ask::Preparing(p) => carrying::prepare(&mut side, place, p),
+        Ask::Triggering(what) => carrying::trigger(&mut side, place, what),
+        Ask::Closing => carrying::close(&mut side, place),
+    }
+}
 
 /// A closed stream is open. Nothing is sent, and the power may be off.
 pub fn open<P: Dsp>(
@@ -37,13 +78,7 @@ pub fn open<P: Dsp>(
     ensures agree { Agrees P.means plan.now kept.new dsp.new }
 {
     let place = tested(plan, kept, name, Ask::Opening)?;
-    kept.streams.put(
-        place,
-        StreamRec {
-            found: Found::Open,
-            params: None,
-        },
-    );
+    carrying::open(kept, place);
     Ok(())
 }
 
@@ -68,33 +103,7 @@ pub fn params<P: Dsp>(
         (world dsp.old io.old out.old) (world dsp.new io.new out.new) result }
     ensures agree { Agrees P.means plan.now kept.new dsp.new }
 {
-    let place = tested(plan, kept, name, Ask::Preparing(p))?;
-    carrying::prepare(
-        &mut Side {
-            plan,
-            heap,
-            kept,
-            dsp,
-            io,
-            out,
-        },
-        place,
-        p,
-    )
-}
-
-// A stream is triggered.
-fn trigger<P: Dsp>(side: &mut Side<'_, P>, name: &Name44, what: Trigger) -> Result<(), HostFault>
-    requires plan { IsSound side.old.plan.now }
-    requires agree { Agrees P.means side.old.plan.now side.old.kept.now side.old.dsp.now }
-    requires room { HasRoom (61440 * P.means.pending side.old.dsp.now) side.old.out.now }
-    ensures asked { Asked P.means side.old.plan.now side.old.heap name.now (Ask.Triggering what) side.old.kept.now side.new.kept.now
-        (world_of side.old) (world_of side.new) result }
-    ensures agree { Agrees P.means side.old.plan.now side.new.kept.now side.new.dsp.now }
-    ensures same { SameSide side.old side.new }
-{
-    let place = tested(side.plan, side.kept, name, Ask::Triggering(what))?;
-    carrying::trigger(side, place, what)
+    ask(plan, kept, heap, dsp, io, out, name, Ask::Preparing(p))
 }
 
 /// A prepared stream runs. `Off`: the power is off.
@@ -114,17 +123,15 @@ pub fn start<P: Dsp>(
         (world dsp.old io.old out.old) (world dsp.new io.new out.new) result }
     ensures agree { Agrees P.means plan.now kept.new dsp.new }
 {
-    trigger(
-        &mut Side {
-            plan,
-            heap,
-            kept,
-            dsp,
-            io,
-            out,
-        },
+    ask(
+        plan,
+        kept,
+        heap,
+        dsp,
+        io,
+        out,
         name,
-        Trigger::Start,
+        Ask::Triggering(Trigger::Start),
     )
 }
 
@@ -145,17 +152,15 @@ pub fn stop<P: Dsp>(
         (world dsp.old io.old out.old) (world dsp.new io.new out.new) result }
     ensures agree { Agrees P.means plan.now kept.new dsp.new }
 {
-    trigger(
-        &mut Side {
-            plan,
-            heap,
-            kept,
-            dsp,
-            io,
-            out,
-        },
+    ask(
+        plan,
+        kept,
+        heap,
+        dsp,
+        io,
+        out,
         name,
-        Trigger::Stop,
+        Ask::Triggering(Trigger::Stop),
     )
 }
 
@@ -176,17 +181,15 @@ pub fn pause<P: Dsp>(
         (world dsp.old io.old out.old) (world dsp.new io.new out.new) result }
     ensures agree { Agrees P.means plan.now kept.new dsp.new }
 {
-    trigger(
-        &mut Side {
-            plan,
-            heap,
-            kept,
-            dsp,
-            io,
-            out,
-        },
+    ask(
+        plan,
+        kept,
+        heap,
+        dsp,
+        io,
+        out,
         name,
-        Trigger::Pause,
+        Ask::Triggering(Trigger::Pause),
     )
 }
 
@@ -207,17 +210,15 @@ pub fn release<P: Dsp>(
         (world dsp.old io.old out.old) (world dsp.new io.new out.new) result }
     ensures agree { Agrees P.means plan.now kept.new dsp.new }
 {
-    trigger(
-        &mut Side {
-            plan,
-            heap,
-            kept,
-            dsp,
-            io,
-            out,
-        },
+    ask(
+        plan,
+        kept,
+        heap,
+        dsp,
+        io,
+        out,
         name,
-        Trigger::Release,
+        Ask::Triggering(Trigger::Release),
     )
 }
 
@@ -239,16 +240,5 @@ pub fn close<P: Dsp>(
         (world dsp.old io.old out.old) (world dsp.new io.new out.new) result }
     ensures agree { Agrees P.means plan.now kept.new dsp.new }
 {
-    let place = tested(plan, kept, name, Ask::Closing)?;
-    carrying::close(
-        &mut Side {
-            plan,
-            heap,
-            kept,
-            dsp,
-            io,
-            out,
-        },
-        place,
-    )
+    ask(plan, kept, heap, dsp, io, out, name, Ask::Closing)
 }

@@ -8,4 +8,4 @@ mod commands;
 mod ranges;
 
 pub use asking::Ask;
-pub use commands::{close, open, params, pause, release, start, stop};
+pub use commands::{ask, close, open, params, pause, release, start, stop};

@@ -5,7 +5,6 @@ mod answers;
 mod laws;
 mod session;
 mod show;
-mod streams;
 mod words;
 
 pub use laws::one_run;

@@ -22,7 +22,6 @@ ghost use Rattle.sof_session.specs.Show.{show_lines, IsLineAt};
 
 use crate::answers::{answer_of, plan_answer, told_answer};
 use crate::show::show_line;
-use crate::streams::ask_stream;
 use host_ctl::{get, read, set, set_bytes};
 use host_pcm::Ask;
 use host_pm::{resume, suspend};
@@ -350,7 +349,7 @@ impl<P: Dsp> Session<P> {
         ensures ran { CallRan P.means (early_fault self.old.plan self.old.kept name.now ask) (stream_order self.old.plan self.old.kept name.now ask) self.old self.new (ports io.old out.old) (ports io.new out.new) result }
         ensures stays { Stays P.means self.old self.new (ports io.old out.old) (ports io.new out.new) }
     {
-        let asked = ask_stream(
+        let asked = host_pcm::ask(
             &self.plan,
             &mut self.kept,
             self.heap,

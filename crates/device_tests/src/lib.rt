@@ -14,6 +14,8 @@ mod rows;
 #[cfg(test)]
 mod same;
 #[cfg(test)]
+mod small;
+#[cfg(test)]
 mod steps;
 #[cfg(test)]
 mod streams;

@@ -7,7 +7,8 @@ use Rattle.std.specs.Prelude.{position, unwrap_or, nat_lt, is_some}
 use Rattle.std.specs.List.{AllByRecursion, list_any, position_or_len}
 use Rattle.stream_law.specs.declared.graph.Join.{Join}
 use Rattle.stream_law.proofs.Members.{in-all, in-each}
-use Rattle.fw_places.specs.Walks.{is_listed, place_in, IsListed}
+use Rattle.stream_law.specs.Order.{is_among}
+use Rattle.fw_places.specs.Walks.{place_in, IsListed}
 use Rattle.fw_places.proofs.Reaching.{at-place}
 use Rattle.fw_components.specs.declared.component.Component.{Component}
 use Rattle.fw_components.specs.Tables.{Tables, all_of, source_by, sink_by, comp_by, edge_by, ids_of}
@@ -31,9 +32,9 @@ ids-are t ids is = is ∙ ap (λ (p : List ℕ × List ℕ). p.0 ++ p.1) (λ i. 
     buffers-map (c ∷ cs) = ap (λ xs. c.id ∷ xs) (buffers-map cs)
 
 -- an id is listed where it is a component's or a buffer's
-pub listed-is : (t : Tables) (x : ℕ) → is_listed (ids_of t) x ≡ (has_id t.comps x || has_id t.buffers x)
+pub listed-is : (t : Tables) (x : ℕ) → is_among (ids_of t) x ≡ (has_id t.comps x || has_id t.buffers x)
 listed-is t x =
-    ap (λ (ids : List ℕ). is_listed ids x) (sym (ids-are t _ refl))
+    ap (λ (ids : List ℕ). is_among ids x) (sym (ids-are t _ refl))
     ∙ list_any-append (λ y. y == x) (map (λ c. c.id) t.comps) (map (λ c. c.id) t.buffers)
     ∙ ap (λ (p : Bool × Bool). p.0 || p.1) (λ i. (ids-map t.comps x i, ids-map t.buffers x i))
 

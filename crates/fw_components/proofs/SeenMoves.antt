@@ -11,10 +11,9 @@ use Rattle.stream_law.specs.declared.stream.StreamView.{StreamView}
 use Rattle.stream_law.specs.State.{History, Staging, View}
 use Rattle.stream_law.specs.Order.{is_among}
 use Rattle.stream_law.specs.Placed.{Ascends}
-use Rattle.stream_law.specs.Seen.{equalises, is_equaliser}
-use Rattle.stream_law.specs.Move.{blob_of}
+use Rattle.stream_law.specs.Seen.{equalises, is_equaliser, blob_in}
 use Rattle.stream_law.specs.Ways.{comp_of, channels_of}
-use Rattle.stream_law.specs.Made.{frames_made, only_slice, chosen_slice, frames_at as frames_of_each}
+use Rattle.stream_law.specs.Made.{frames_made, only_slice}
 use Rattle.stream_law.specs.Made as made
 use Rattle.stream_law.specs.Equaliser.{passed_frames, numbers_after}
 use Rattle.fw_components.specs.declared.component.Component.{Component}
@@ -266,7 +265,7 @@ find-comp id (c ∷ cs) = by (c.id == id) (find-comp id cs)
 
 -- an equaliser's numbers after them
 module _ (id n : ℕ) (looked : List ℕ) (t : Tables) (wide : channels_of (view_by t) id ≡ channels_moved t id) where
-  pub tick-numbers : option_map_or (λ x. is_equaliser x.kind) (comp_of (graph_of t) id) false ≡ true → numbers_after (blob_of (view_by t) id) (channels_of (view_by t) id) (eq_numbers_at t id) (only_slice (slices_in t.buffers looked n)) ≡ numbers_made_at t id looked n
+  pub tick-numbers : option_map_or (λ x. is_equaliser x.kind) (comp_of (graph_of t) id) false ≡ true → numbers_after (blob_in (view_by t) id) (channels_of (view_by t) id) (eq_numbers_at t id) (only_slice (slices_in t.buffers looked n)) ≡ numbers_made_at t id looked n
   tick-numbers kind =
       subst (λ (o : Option Comp). option_map_or (λ x. is_equaliser x.kind) o false ≡ true → numbers_after (option_map_or (λ x. made.blob x.setting) o []) (channels_of (view_by t) id) (eq_numbers_at t id) (only_slice (slices_in t.buffers looked n)) ≡ numbers_made_at t id looked n)
       (sym (find-comp id t.comps)) (found (find (λ c. c.id == id) t.comps) wide) kind

@@ -11,7 +11,8 @@ use Rattle.stream_law.specs.declared.stream.StreamView.{StreamView}
 use Rattle.stream_law.specs.Placed.{Ascends}
 use Rattle.stream_law.specs.Ways.{components, buffers, on_way, is_capture, is_live_phase, is_running_phase}
 use Rattle.stream_law.proofs.Members.{IsIn}
-use Rattle.fw_places.specs.Walks.{is_listed, place_in, leads_by}
+use Rattle.stream_law.specs.Order.{is_among}
+use Rattle.fw_places.specs.Walks.{place_in, leads_by}
 use Rattle.fw_components.specs.declared.component.Component.{Component}
 use Rattle.fw_components.specs.declared.component.Unit as units
 use Rattle.fw_components.specs.declared.component.Unit.TheVariants.{Host, Dai, Volume, Mixer, Mux, Eq, Buffer, Pipeline}
@@ -120,11 +121,11 @@ marked-passes is joins x c held mark back phase held_so capture led =
 
 module _ (is : Phase → Bool) (t : Tables) (up : Ascends (λ c. c.id) t.comps) (ids : List ℕ) (joins : List Join) (tally : List ℕ) where
   pub all-tallied : ids ≡ ids_of t → joins ≡ t.joins
-      → ((x : ℕ) → is_listed ids x ≡ true → get_or tally (place_in ids x) 0 ≡ length (filter (passes is joins x) t.comps))
-      → (x : ℕ) → is_listed (ids_of t) x ≡ true → get_or tally (place_in (ids_of t) x) 0 ≡ passing is t x
+      → ((x : ℕ) → is_among ids x ≡ true → get_or tally (place_in ids x) 0 ≡ length (filter (passes is joins x) t.comps))
+      → (x : ℕ) → is_among (ids_of t) x ≡ true → get_or tally (place_in (ids_of t) x) 0 ≡ passing is t x
   all-tallied named along counts x there =
       ap (λ (xs : List ℕ). get_or tally (place_in xs x) 0) (sym named)
-      ∙ counts x (ap (λ (xs : List ℕ). is_listed xs x) named ∙ there)
+      ∙ counts x (ap (λ (xs : List ℕ). is_among xs x) named ∙ there)
       ∙ ap (λ (js : List Join). length (filter (passes is js x) t.comps)) along
       ∙ sym (passing-is is t up x)
 
@@ -180,10 +181,10 @@ module _ (t : Tables) (up : Ascends (λ c. c.id) t.comps) (running live : List �
     lives = by is_live_phase live same_live tied.lives;
   }
     where
-      by : (is : Phase → Bool) (tally : List ℕ) → AsMany is u → ((x : ℕ) → is_listed (ids_of t) x ≡ true → get_or tally (place_in (ids_of t) x) 0 ≡ passing is t x) → (x : ℕ) → is_listed (ids_of u) x ≡ true → get_or tally (place_in (ids_of u) x) 0 ≡ passing is u x
+      by : (is : Phase → Bool) (tally : List ℕ) → AsMany is u → ((x : ℕ) → is_among (ids_of t) x ≡ true → get_or tally (place_in (ids_of t) x) 0 ≡ passing is t x) → (x : ℕ) → is_among (ids_of u) x ≡ true → get_or tally (place_in (ids_of u) x) 0 ≡ passing is u x
       by is tally same tells x there =
           ap (λ (xs : List ℕ). get_or tally (place_in xs x) 0) named
-          ∙ tells x (ap (λ (xs : List ℕ). is_listed xs x) (sym named) ∙ there)
+          ∙ tells x (ap (λ (xs : List ℕ). is_among xs x) (sym named) ∙ there)
           ∙ passing-is is t up x
           ∙ sym (same x)
           ∙ ap (λ (js : List Join). length (filter (passes is js x) u.comps)) (sym along)
@@ -229,10 +230,10 @@ seen-tallied t u running live graph streams tied = record {
   lives = by is_live_phase live tied.lives;
 }
   where
-    by : (is : Phase → Bool) (tally : List ℕ) → ((x : ℕ) → is_listed (ids_of t) x ≡ true → get_or tally (place_in (ids_of t) x) 0 ≡ passing is t x) → (x : ℕ) → is_listed (ids_of u) x ≡ true → get_or tally (place_in (ids_of u) x) 0 ≡ passing is u x
+    by : (is : Phase → Bool) (tally : List ℕ) → ((x : ℕ) → is_among (ids_of t) x ≡ true → get_or tally (place_in (ids_of t) x) 0 ≡ passing is t x) → (x : ℕ) → is_among (ids_of u) x ≡ true → get_or tally (place_in (ids_of u) x) 0 ≡ passing is u x
     by is tally tells x there =
         ap (λ (g : Graph). get_or tally (place_in (components g ++ buffers g) x) 0) graph
-        ∙ tells x (ap (λ (g : Graph). is_listed (components g ++ buffers g) x) (sym graph) ∙ there)
+        ∙ tells x (ap (λ (g : Graph). is_among (components g ++ buffers g) x) (sym graph) ∙ there)
         ∙ ap (λ (a : Graph × List StreamView). length (filter (λ s. is s.phase && on_way a.0 s.host x) a.1)) (λ i. (sym graph i, sym streams i))
 
 -- what is counted of equal lists

@@ -3,7 +3,8 @@ use Rattle.std.specs.Prelude.{◌≡◌, ◌+◌, ℕ, Bool, true, false, ◌&&�
 use Rattle.stream_law.specs.declared.graph.Join.{Join}
 use Rattle.stream_law.specs.declared.stream.Phase.{Phase}
 use Rattle.stream_law.specs.Ways.{on_way, is_running_phase, is_live_phase, is_capture}
-use Rattle.fw_places.specs.Walks.{is_listed, place_in, leads_by}
+use Rattle.stream_law.specs.Order.{is_among}
+use Rattle.fw_places.specs.Walks.{place_in, leads_by}
 use Rattle.fw_components.specs.declared.component.Unit as units
 use Rattle.fw_components.specs.declared.component.Unit.TheVariants.{Host}
 use Rattle.fw_components.specs.declared.component.Component.{Component}
@@ -15,8 +16,8 @@ passing is t x = length (filter (λ s. is s.phase && on_way (graph_of t) s.host 
 
 -- at the place of each component and buffer: how many Running streams have it on their way, and how many Running or Paused ones
 pub record IsTallied (t : Tables) (running live : List ℕ) : Type 0 where
-  pub runs : (x : ℕ) → is_listed (ids_of t) x ≡ true → slice_index_or running (place_in (ids_of t) x) 0 ≡ passing is_running_phase t x
-  pub lives : (x : ℕ) → is_listed (ids_of t) x ≡ true → slice_index_or live (place_in (ids_of t) x) 0 ≡ passing is_live_phase t x
+  pub runs : (x : ℕ) → is_among (ids_of t) x ≡ true → slice_index_or running (place_in (ids_of t) x) 0 ≡ passing is_running_phase t x
+  pub lives : (x : ℕ) → is_among (ids_of t) x ≡ true → slice_index_or live (place_in (ids_of t) x) 0 ≡ passing is_live_phase t x
 
 -- ---- the same, host by host
 

@@ -10,8 +10,7 @@ ghost use Rattle.stream_law.specs.Joins.{joined_edge};
 ghost use Rattle.stream_law.specs.declared.graph.Join.{Join};
 ghost use Rattle.stream_law.specs.Ways.{comp_of, channels_of};
 ghost use Rattle.stream_law.specs.Made.{frames_made, only_slice};
-ghost use Rattle.stream_law.specs.Move.{blob_of};
-ghost use Rattle.stream_law.specs.Seen.{is_equaliser};
+ghost use Rattle.stream_law.specs.Seen.{is_equaliser, blob_in};
 ghost use Rattle.stream_law.specs.Equaliser.{passed_frames, numbers_after};
 ghost use Rattle.mbox_link.specs.Step.{completed, set_stream};
 ghost use Rattle.fw_components.specs.declared.component.Component.{Component};
@@ -86,5 +85,5 @@ pub fn moves_are_ticks()
     ensures frames { (id n : ℕ) (looked : List ℕ) (read : List Frame) (t : Tables) → moves_at t id (length looked) ≡ true → channels_of (view_by t) id ≡ channels_moved t id →
         frames_made (view_by t) id n read (slices_in t.buffers looked n) (λ blob channels frames. passed_frames blob channels (eq_numbers_at t id) frames) ≡ made_at t id looked n }
     ensures numbers { (id n : ℕ) (looked : List ℕ) (t : Tables) → option_map_or (λ x. is_equaliser x.kind) (comp_of (graph_of t) id) false ≡ true → channels_of (view_by t) id ≡ channels_moved t id →
-        numbers_after (blob_of (view_by t) id) (channels_of (view_by t) id) (eq_numbers_at t id) (only_slice (slices_in t.buffers looked n)) ≡ numbers_made_at t id looked n }
+        numbers_after (blob_in (view_by t) id) (channels_of (view_by t) id) (eq_numbers_at t id) (only_slice (slices_in t.buffers looked n)) ≡ numbers_made_at t id looked n }
 {}

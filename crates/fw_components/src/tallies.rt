@@ -2,7 +2,8 @@
 ghost use Rattle.std.specs.Prelude.{◌≡◌, ◌==◌, ◌&&◌, ◌<◌, ◌≤◌, ◌+◌, ℕ, List, true, false, filter, length, slice_index_or};
 ghost use Rattle.std.specs.List.{list_any};
 ghost use Rattle.stream_law.specs.Ways.{is_running_phase, is_live_phase, is_capture};
-ghost use Rattle.fw_places.specs.Walks.{is_listed, place_in};
+ghost use Rattle.stream_law.specs.Order.{is_among};
+ghost use Rattle.fw_places.specs.Walks.{place_in};
 ghost use Rattle.fw_components.specs.declared.component.Component.{Component};
 ghost use Rattle.fw_components.specs.Kept.{AreJoined};
 ghost use Rattle.fw_components.specs.Tables.{kind_by};
@@ -71,8 +72,8 @@ fn count_all(comps: &[Component], places: &Places, running: &mut [u32], live: &m
     requires few { length comps.now ≤ 128 }
     requires sizes { (length running.old ≡ 256) × (length live.old ≡ 256) }
     requires none { (k : ℕ) → (slice_index_or running.old k 0 ≡ 0) × (slice_index_or live.old k 0 ≡ 0) }
-    ensures runs { (x : ℕ) → is_listed places.now.ids x ≡ true → slice_index_or running.new (place_in places.now.ids x) 0 ≡ length (filter (passes is_running_phase places.now.joins x) comps.now) }
-    ensures lives { (x : ℕ) → is_listed places.now.ids x ≡ true → slice_index_or live.new (place_in places.now.ids x) 0 ≡ length (filter (passes is_live_phase places.now.joins x) comps.now) }
+    ensures runs { (x : ℕ) → is_among places.now.ids x ≡ true → slice_index_or running.new (place_in places.now.ids x) 0 ≡ length (filter (passes is_running_phase places.now.joins x) comps.now) }
+    ensures lives { (x : ℕ) → is_among places.now.ids x ≡ true → slice_index_or live.new (place_in places.now.ids x) 0 ≡ length (filter (passes is_live_phase places.now.joins x) comps.now) }
 {
     for comp in comps {
         count(comp, places, running, live);
@@ -85,8 +86,8 @@ fn count(comp: &Component, places: &Places, running: &mut [u32], live: &mut [u32
     requires few { (k : ℕ) → (slice_index_or running.old k 0 ≤ 128) × (slice_index_or live.old k 0 ≤ 128) }
     ensures sizes { (length running.new ≡ 256) × (length live.new ≡ 256) }
     ensures most { (k : ℕ) → (slice_index_or running.new k 0 ≤ slice_index_or running.old k 0 + 1) × (slice_index_or live.new k 0 ≤ slice_index_or live.old k 0 + 1) }
-    ensures runs { (x : ℕ) → is_listed places.now.ids x ≡ true → slice_index_or running.new (place_in places.now.ids x) 0 ≡ with_one (passes is_running_phase places.now.joins x comp.now) (slice_index_or running.old (place_in places.now.ids x) 0) }
-    ensures lives { (x : ℕ) → is_listed places.now.ids x ≡ true → slice_index_or live.new (place_in places.now.ids x) 0 ≡ with_one (passes is_live_phase places.now.joins x comp.now) (slice_index_or live.old (place_in places.now.ids x) 0) }
+    ensures runs { (x : ℕ) → is_among places.now.ids x ≡ true → slice_index_or running.new (place_in places.now.ids x) 0 ≡ with_one (passes is_running_phase places.now.joins x comp.now) (slice_index_or running.old (place_in places.now.ids x) 0) }
+    ensures lives { (x : ℕ) → is_among places.now.ids x ≡ true → slice_index_or live.new (place_in places.now.ids x) 0 ≡ with_one (passes is_live_phase places.now.joins x comp.now) (slice_index_or live.old (place_in places.now.ids x) 0) }
 {
     if !is_live(&comp.unit) {
         return;

@@ -15,7 +15,7 @@ use Rattle.stream_law.specs.declared.stream.StreamView.{StreamView}
 use Rattle.stream_law.specs.declared.stream.Phase.{Phase}
 use Rattle.stream_law.specs.declared.stream.Phase.TheVariants.{Idle, Prepared, Running, Paused}
 use Rattle.stream_law.specs.State.{FwState, View, view_of}
-use Rattle.stream_law.specs.Ways.{components, buffers, live, channels_of, is_live_phase, on_way, agree}
+use Rattle.stream_law.specs.Ways.{components, buffers, live, channels_of, is_live_phase, on_way, agree, is_running_phase}
 use Rattle.stream_law.specs.Order.{is_among}
 use Rattle.stream_law.specs.Joins.{would_cycle, would_reach, would_grow, with_join}
 use Rattle.stream_law.specs.Seen.{seen}
@@ -172,7 +172,7 @@ change-lives f g to change less x now = back f.streams (sym (ap (λ (v : View). 
 pub params-change : (host direction : ℕ) (p : Params) (f g : FwState) → IsKeptState f → rows.pcm_params f host direction p ≡ Ok g → IsChange f g (rows.set_stream host Prepared (Some p))
 params-change host direction p f g kept is =
     let new : FwState = seen (rows.with_params f host p) None f in
-    let moving : Bool = rows.is_stream_phase rows.is_moving (rows.phase_at f host) in
+    let moving : Bool = rows.is_stream_phase is_live_phase (rows.phase_at f host) in
     let kind : Bool = not (rows.has_kind (λ kind. rows.goes kind direction) (rows.kind_at f.graph host)) in
     let wrong : Bool = (((kind || moving) || not (rows.is_rate p.rate)) || not (rows.is_way_ready f.graph host)) || not (agree (rows.with_params f host p)) in
     let a = pass (not (rows.is_used f.graph host)) rows.no_device (cond wrong (Err rows.invalid) (Ok new)) g is in
@@ -202,8 +202,8 @@ changed-is f g host from to is =
 
 pub triggered-change : (t : Trigger) (host : ℕ) (f g : FwState) → IsKeptState f → triggered t f host ≡ Ok g → (to : StreamView → StreamView) × IsChange f g to
 triggered-change what.Start host f g kept is = (rows.set_phase host Running, record { view = (changed-is f g host rows.is_prepared (rows.set_phase host Running) is).0; keeps = keeps-phase host Running f.streams })
-triggered-change what.Stop host f g kept is = (rows.set_phase host Prepared, record { view = (changed-is f g host rows.is_moving (rows.set_phase host Prepared) is).0; keeps = keeps-phase host Prepared f.streams })
-triggered-change what.Pause host f g kept is = (rows.set_phase host Paused, record { view = (changed-is f g host rows.is_running (rows.set_phase host Paused) is).0; keeps = keeps-phase host Paused f.streams })
+triggered-change what.Stop host f g kept is = (rows.set_phase host Prepared, record { view = (changed-is f g host is_live_phase (rows.set_phase host Prepared) is).0; keeps = keeps-phase host Prepared f.streams })
+triggered-change what.Pause host f g kept is = (rows.set_phase host Paused, record { view = (changed-is f g host is_running_phase (rows.set_phase host Paused) is).0; keeps = keeps-phase host Paused f.streams })
 triggered-change what.Release host f g kept is = (rows.set_phase host Running, record { view = (changed-is f g host rows.is_paused (rows.set_phase host Running) is).0; keeps = keeps-phase host Running f.streams })
 triggered-change what.Free host f g kept is =
     let c = changed-is f g host rows.is_prepared (rows.set_stream host Idle None) is in

@@ -10,7 +10,7 @@ use Rattle.stream_law.specs.State.{FwState, PieceView, Staging, view_of}
 use Rattle.stream_law.specs.Placed.{placed, AreAbove, Ascends, HasDistinct}
 use Rattle.stream_law.proofs.Members.{IsIn, any-in, in-any, in-all, find-in, kept-in}
 use Rattle.stream_law.proofs.Placing.{AreAbove-below, AreAbove-filter, Ascends-filter, find-placed}
-use Rattle.mbox_link.specs.Step.{no_device, busy, invalid, is_used, has_comp, has_edge, has_pipe, has_complete_pipe, is_held, is_index_held, touches, comp_free, buffer_free, pipe_free, free_pipe, without_comp, without_buffer, without_pipe, without_piece}
+use Rattle.mbox_link.specs.Step.{no_device, busy, invalid, is_used, has_comp, has_edge, has_pipe, has_complete_pipe, is_held, is_index_held, touches, comp_free, buffer_free, pipe_free, free_pipe, without_comp, without_buffer, without_pipe}
 use Rattle.mbox_link.specs.Step as step
 use Rattle.row_laws.specs.Tiled.{heap_bytes}
 use Rattle.row_laws.specs.Wired.{is_node}

@@ -10,11 +10,12 @@ use Rattle.stream_law.specs.Ways.{active, live, channels_of}
 use Rattle.stream_law.specs.Moves.{quota, least, may_move, looked_at, fed_by, frames_to_move}
 use Rattle.stream_law.specs.Order.{is_among, order}
 use Rattle.stream_law.specs.Endpoints.{format_of, reads}
-use Rattle.stream_law.specs.Move.{Audio, after_move, after_moves, audio_of, audio_after, blob_of, bytes_moved, frames_moved, next_clock}
+use Rattle.stream_law.specs.Move.{Audio, after_move, after_moves, audio_of, audio_after, bytes_moved, frames_moved, next_clock}
 use Rattle.stream_law.specs.Stands.{position_of}
 use Rattle.stream_law.proofs.Among.{value_of-updated_among, value_of-updated_apart}
 use Rattle.stream_law.proofs.Keyed.{value_of-keyed, find-remade}
 use Rattle.stream_law.proofs.Silent.{active-live, frames_to_move-idle}
+use Rattle.stream_law.specs.Seen.{blob_in}
 use Rattle.mbox_link.specs.Exchange.{ticked}
 use Rattle.mbox_link.specs.Calls.{MovesBy}
 use Rattle.row_laws.specs.Wired.{IsWired}
@@ -89,7 +90,7 @@ tick-moves f io wired played slot =
     let audio = audio_after f io in
     let began : number_of (audio_of f io).positions slot ≡ position_of io.inputs slot = value_of-keyed (λ (x : InputView). x.slot) (λ x. x.position) 0 io.inputs slot in
     let ended = find-remade (λ (x : InputView). x.slot) (λ x. x.position) (λ (x : InputView). record x { position = number_of audio.positions x.slot; left = list_of audio.left x.slot }) (number_of audio.positions) 0 (λ x. refl) (λ x. refl) io.inputs slot in
-    let few = all-few v wired played (blob_of v) (next_clock f.clock) slot (order f.graph) (order-distinct f.graph) (audio_of f io) in
+    let few = all-few v wired played (blob_in v) (next_clock f.clock) slot (order f.graph) (order-distinct f.graph) (audio_of f io) in
     by_bound (is_among (map (λ (x : InputView). x.slot) io.inputs) slot) ended began few
   where
     by_bound : (h : Bool) → position_of (ticked (f, io)).1.inputs slot ≡ cond h (number_of (audio_after f io).positions slot) 0 → number_of (audio_of f io).positions slot ≡ position_of io.inputs slot

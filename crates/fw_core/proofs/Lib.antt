@@ -9,8 +9,11 @@ pub mod Streams
 pub mod Changed
 pub mod Values
 pub mod PartStaging
+pub mod PartGot
+pub mod PartedUnits
 pub mod Parts
 pub mod Freed
+pub mod BothPlaced
 pub mod Made
 pub mod Gains
 pub mod Channels

@@ -5,7 +5,8 @@ use Rattle.sof_base.specs.declared.errno.Errno.{Errno}
 use Rattle.sof_base.specs.declared.format.Params.{Params}
 use Rattle.stream_law.specs.declared.stream.Phase.TheVariants.{Prepared, Running, Paused}
 use Rattle.stream_law.specs.State.{FwState}
-use Rattle.mbox_link.specs.Step.{is_moving, pcm_params, is_prepared, is_running, is_paused, no_device, invalid}
+use Rattle.stream_law.specs.Ways.{is_live_phase, is_running_phase}
+use Rattle.mbox_link.specs.Step.{pcm_params, is_prepared, is_paused, no_device, invalid}
 use Rattle.row_laws.specs.Tiled.{heap_bytes}
 use Rattle.row_laws.specs.RowLaws.{RowIsKept}
 use Rattle.row_laws.proofs.RowKept.{pcm_free-kept, trigger-kept, leaves-prepared, leaves-moving, leaves-running, leaves-paused}
@@ -23,8 +24,8 @@ use Rattle.fw_core.proofs.RowLaws.{pass}
 
 pub triggered-kept : (t : Trigger) (host : ℕ) → RowIsKept (λ f. triggered t f host)
 triggered-kept what.Start host f g kept is = trigger-kept host is_prepared Running leaves-prepared refl f g kept is
-triggered-kept what.Stop host f g kept is = trigger-kept host is_moving Prepared leaves-moving refl f g kept is
-triggered-kept what.Pause host f g kept is = trigger-kept host is_running Paused leaves-running refl f g kept is
+triggered-kept what.Stop host f g kept is = trigger-kept host is_live_phase Prepared leaves-moving refl f g kept is
+triggered-kept what.Pause host f g kept is = trigger-kept host is_running_phase Paused leaves-running refl f g kept is
 triggered-kept what.Release host f g kept is = trigger-kept host is_paused Running leaves-paused refl f g kept is
 triggered-kept what.Free host f g kept is = pcm_free-kept host f g kept is
 

@@ -8,6 +8,7 @@ use Rattle.std.proofs.lemmas.Bool.{true≢false, or_left, or_right, or_parts, eq
 use Rattle.stream_law.specs.Placed.{Ascends}
 use Rattle.stream_law.proofs.Members.{IsIn, in-all, in-any}
 use Rattle.stream_law.proofs.Placing.{Ascends-distinct}
+use Rattle.stream_law.specs.Order.{is_among}
 use Rattle.row_laws.proofs.Found.{found-each}
 use Rattle.fw_components.specs.declared.component.Component.{Component}
 use Rattle.fw_components.specs.declared.component.Unit as units
@@ -16,7 +17,6 @@ use Rattle.fw_components.specs.Tables.{Tables, all_of}
 use Rattle.fw_components.specs.Changes.{has_id, is_there, found}
 use Rattle.fw_components.specs.Kept.{IsKept, AreIdsApart}
 use Rattle.fw_components.specs.Frames.{begun, begun_at, begun_by, words_of, IsFreshBy, staged_at, staged_of_one}
-use Rattle.fw_places.specs.Walks.{is_listed}
 use Rattle.fw_components.specs.Tables.{ids_of}
 use Rattle.fw_components.proofs.Listed.{listed-is}
 use Rattle.fw_walks.proofs.Naming.{find-map}
@@ -190,20 +190,20 @@ module _ (t u : Tables) (kept : IsKept t) (id channels : ℕ) (words : List ℤ)
 module _ (channels : ℕ) (test : ℕ → Bool) where
   -- of all ids these begin that are among the first and pass
   abbrev pub AreBegun : List ℕ → List Component → List Component → Type 0
-  AreBegun ids cs ds = BecomeEach (λ c d. IsBegun channels (is_listed ids c.id && test c.id) c d) cs ds
+  AreBegun ids cs ds = BecomeEach (λ c d. IsBegun channels (is_among ids c.id && test c.id) c d) cs ds
 
   abbrev pub FirstBegun : List ℕ → Tables → Tables → Type 0
-  FirstBegun ids t u = HaveBegun channels (λ x. is_listed ids x && test x) t u
+  FirstBegun ids t u = HaveBegun channels (λ x. is_among ids x && test x) t u
 
   pub none-begun : (t : Tables) → FirstBegun [] t t
   none-begun t = (become-same (λ c d. IsBegun channels false c d) (λ c. refl) t.comps, (become-same (λ c d. IsBegun channels false c d) (λ c. refl) t.buffers, (become-same (λ c d. IsBegun channels false c d) (λ c. refl) t.pipes, refl)))
 
   -- x is one of the first or the next, and passes
-  more-pass : (ids : List ℕ) (i d x : ℕ) → i < length ids → (is_listed (take (i + 1) ids) x && test x) ≡ ((is_listed (take i ids) x && test x) || (get_or ids i d == x && test x))
+  more-pass : (ids : List ℕ) (i d x : ℕ) → i < length ids → (is_among (take (i + 1) ids) x && test x) ≡ ((is_among (take i ids) x && test x) || (get_or ids i d == x && test x))
   more-pass ids i d x low =
-      ap (λ (xs : List ℕ). is_listed xs x && test x) (take_more ids i d low)
+      ap (λ (xs : List ℕ). is_among xs x && test x) (take_more ids i d low)
       ∙ ap (λ h. h && test x) (list_any-append (λ y. y == x) (take i ids) (get_or ids i d ∷ []))
-      ∙ by (is_listed (take i ids) x) (get_or ids i d == x) (test x)
+      ∙ by (is_among (take i ids) x) (get_or ids i d == x) (test x)
     where
       by : (a b c : Bool) → ((a || (b || false)) && c) ≡ ((a && c) || (b && c))
       by true true true = refl
@@ -216,9 +216,9 @@ module _ (channels : ℕ) (test : ℕ → Bool) where
   module _ (ids : List ℕ) (i d : ℕ) (low : i < length ids) where
     begun-list : (pass : test (get_or ids i d) ≡ true) → (cs ds es : List Component) → AreBegun (take i ids) cs ds → BecomeEach (λ c d'. IsBegun channels (c.id == get_or ids i d) c d') ds es → AreBegun (take (i + 1) ids) cs es
     begun-list pass cs ds es so_far next =
-        become-next (λ c d. IsBegun channels (is_listed (take i ids) c.id && test c.id) c d) (λ c d'. IsBegun channels (c.id == get_or ids i d) c d') (λ c e. IsBegun channels (is_listed (take (i + 1) ids) c.id && test c.id) c e) (λ c x e first second.
-        subst (λ h. IsBegun channels h c e) (sym (more-pass ids i d c.id low ∙ ap (λ h. (is_listed (take i ids) c.id && test c.id) || h) (turned c.id)))
-        (begun-next channels (is_listed (take i ids) c.id && test c.id) (c.id == get_or ids i d) c x e first (subst (λ n. IsBegun channels (n == get_or ids i d) x e) (begun-id channels _ c x first) second))) cs ds es so_far next
+        become-next (λ c d. IsBegun channels (is_among (take i ids) c.id && test c.id) c d) (λ c d'. IsBegun channels (c.id == get_or ids i d) c d') (λ c e. IsBegun channels (is_among (take (i + 1) ids) c.id && test c.id) c e) (λ c x e first second.
+        subst (λ h. IsBegun channels h c e) (sym (more-pass ids i d c.id low ∙ ap (λ h. (is_among (take i ids) c.id && test c.id) || h) (turned c.id)))
+        (begun-next channels (is_among (take i ids) c.id && test c.id) (c.id == get_or ids i d) c x e first (subst (λ n. IsBegun channels (n == get_or ids i d) x e) (begun-id channels _ c x first) second))) cs ds es so_far next
       where
         turned : (x : ℕ) → (get_or ids i d == x && test x) ≡ (x == get_or ids i d)
         turned x = by (x == get_or ids i d) refl
@@ -232,30 +232,30 @@ module _ (channels : ℕ) (test : ℕ → Bool) where
     more-begun t u w so_far pass one = (begun-list pass t.comps u.comps w.comps so_far.0 one.0, (begun-list pass t.buffers u.buffers w.buffers so_far.1.0 one.1.0, (begun-list pass t.pipes u.pipes w.pipes so_far.1.1.0 one.1.1.0, one.1.1.1 ∙ so_far.1.1.1)))
 
     passed-list : (fail : test (get_or ids i d) ≡ false) → (cs ds : List Component) → AreBegun (take i ids) cs ds → AreBegun (take (i + 1) ids) cs ds
-    passed-list fail cs ds so_far = become-other (λ c d. IsBegun channels (is_listed (take i ids) c.id && test c.id) c d) (λ c d. IsBegun channels (is_listed (take (i + 1) ids) c.id && test c.id) c d) cs ds (λ c x there first. subst (λ h. IsBegun channels h c x) (sym (more-pass ids i d c.id low ∙ stays c.id)) first) so_far
+    passed-list fail cs ds so_far = become-other (λ c d. IsBegun channels (is_among (take i ids) c.id && test c.id) c d) (λ c d. IsBegun channels (is_among (take (i + 1) ids) c.id && test c.id) c d) cs ds (λ c x there first. subst (λ h. IsBegun channels h c x) (sym (more-pass ids i d c.id low ∙ stays c.id)) first) so_far
       where
-        stays : (x : ℕ) → ((is_listed (take i ids) x && test x) || (get_or ids i d == x && test x)) ≡ (is_listed (take i ids) x && test x)
+        stays : (x : ℕ) → ((is_among (take i ids) x && test x) || (get_or ids i d == x && test x)) ≡ (is_among (take i ids) x && test x)
         stays x = by (get_or ids i d == x) refl
           where
             last : (a b : Bool) → b ≡ false → (a || b) ≡ a
             last true b none = refl
             last false b none = none
 
-            by : (h : Bool) → (get_or ids i d == x) ≡ h → ((is_listed (take i ids) x && test x) || (h && test x)) ≡ (is_listed (take i ids) x && test x)
-            by true same = last (is_listed (take i ids) x && test x) (test x) (ap test (sym (eqb-true (get_or ids i d) x same)) ∙ fail)
-            by false other = last (is_listed (take i ids) x && test x) false refl
+            by : (h : Bool) → (get_or ids i d == x) ≡ h → ((is_among (take i ids) x && test x) || (h && test x)) ≡ (is_among (take i ids) x && test x)
+            by true same = last (is_among (take i ids) x && test x) (test x) (ap test (sym (eqb-true (get_or ids i d) x same)) ∙ fail)
+            by false other = last (is_among (take i ids) x && test x) false refl
 
     -- one more stays as it is
     pub more-passed : (t u : Tables) → FirstBegun (take i ids) t u → test (get_or ids i d) ≡ false → FirstBegun (take (i + 1) ids) t u
     more-passed t u so_far fail = (passed-list fail t.comps u.comps so_far.0, (passed-list fail t.buffers u.buffers so_far.1.0, (passed-list fail t.pipes u.pipes so_far.1.1.0, so_far.1.1.1)))
 
   -- all that are listed
-  listed-begun : (ids : List ℕ) (cs ds : List Component) → ((c : Component) → IsIn c cs → is_listed ids c.id ≡ true) → AreBegun ids cs ds → BecomeEach (λ c d. IsBegun channels (test c.id) c d) cs ds
-  listed-begun ids cs ds listed each = become-other (λ c d. IsBegun channels (is_listed ids c.id && test c.id) c d) (λ c d. IsBegun channels (test c.id) c d) cs ds (λ c d there first. subst (λ h. IsBegun channels (h && test c.id) c d) (listed c there) first) each
+  listed-begun : (ids : List ℕ) (cs ds : List Component) → ((c : Component) → IsIn c cs → is_among ids c.id ≡ true) → AreBegun ids cs ds → BecomeEach (λ c d. IsBegun channels (test c.id) c d) cs ds
+  listed-begun ids cs ds listed each = become-other (λ c d. IsBegun channels (is_among ids c.id && test c.id) c d) (λ c d. IsBegun channels (test c.id) c d) cs ds (λ c d there first. subst (λ h. IsBegun channels (h && test c.id) c d) (listed c there) first) each
 
   module _ (t u : Tables) (kept : IsKept t) (ids : List ℕ) (are : ids ≡ ids_of t) (all : FirstBegun ids t u) where
-    at-listed : (x : ℕ) → is_listed ids x ≡ (has_id t.comps x || has_id t.buffers x)
-    at-listed x = ap (λ (xs : List ℕ). is_listed xs x) are ∙ listed-is t x
+    at-listed : (x : ℕ) → is_among ids x ≡ (has_id t.comps x || has_id t.buffers x)
+    at-listed x = ap (λ (xs : List ℕ). is_among xs x) are ∙ listed-is t x
 
     pub comps-begun : BecomeEach (λ c d. IsBegun channels (test c.id) c d) t.comps u.comps
     comps-begun = listed-begun ids t.comps u.comps (λ c there. at-listed c.id ∙ or_left (has_id t.comps c.id) _ (in-any (λ d. d.id == c.id) t.comps c there (eq-eqb c.id c.id refl))) all.0
@@ -264,9 +264,9 @@ module _ (channels : ℕ) (test : ℕ → Bool) where
     buffers-begun = listed-begun ids t.buffers u.buffers (λ c there. at-listed c.id ∙ or_right (has_id t.comps c.id) _ (in-any (λ d. d.id == c.id) t.buffers c there (eq-eqb c.id c.id refl))) all.1.0
 
     pub pipes-stay : u.pipes ≡ t.pipes
-    pipes-stay = become-is (λ c d. IsBegun channels (is_listed ids c.id && test c.id) c d) (λ c. c) t.pipes u.pipes (λ c d there first. subst (λ h. IsBegun channels (h && test c.id) c d) (unlisted c there) first) all.1.1.0 ∙ map-id t.pipes
+    pipes-stay = become-is (λ c d. IsBegun channels (is_among ids c.id && test c.id) c d) (λ c. c) t.pipes u.pipes (λ c d there first. subst (λ h. IsBegun channels (h && test c.id) c d) (unlisted c there) first) all.1.1.0 ∙ map-id t.pipes
       where
-        unlisted : (c : Component) → IsIn c t.pipes → is_listed ids c.id ≡ false
+        unlisted : (c : Component) → IsIn c t.pipes → is_among ids c.id ≡ false
         unlisted c there = at-listed c.id ∙ ap (λ (p : Bool × Bool). p.0 || p.1) (λ i. (in-all (λ (d : Component). has_id t.comps d.id ≡ false) t.pipes c kept.named.comps_pipes there i, in-all (λ (d : Component). has_id t.buffers d.id ≡ false) t.pipes c kept.named.buffers_pipes there i))
 
         map-id : (cs : List Component) → map (λ (c : Component). c) cs ≡ cs
@@ -300,7 +300,7 @@ id-there t ids are i low = by (has_id t.comps x) refl
     in-at (y ∷ xs) (suc k) low = inr (in-at xs k (omega (arith, low)))
 
     listed : (has_id t.comps x || has_id t.buffers x) ≡ true
-    listed = sym (listed-is t x) ∙ ap (λ (xs : List ℕ). is_listed xs x) (sym are) ∙ in-any (λ y. y == x) ids x (in-at ids i low) (eq-eqb x x refl)
+    listed = sym (listed-is t x) ∙ ap (λ (xs : List ℕ). is_among xs x) (sym are) ∙ in-any (λ y. y == x) ids x (in-at ids i low) (eq-eqb x x refl)
 
     split : is_there t x ≡ (has_id t.comps x || (has_id t.buffers x || has_id t.pipes x))
     split = list_any-append (λ c. c.id == x) t.comps (t.buffers ++ t.pipes) ∙ ap (λ h. has_id t.comps x || h) (list_any-append (λ c. c.id == x) t.buffers t.pipes)

@@ -11,6 +11,7 @@ use Rattle.stream_law.specs.Ways.{leads, reaches, on_way, is_capture, components
 use Rattle.stream_law.specs.Joins.{is_play, with_join, has_grown, would_cycle, would_reach, would_grow}
 use Rattle.stream_law.proofs.Members.{IsIn, any-in, in-any, in-all, in-each}
 use Rattle.stream_law.proofs.Walking.{Walks, path-of, walks-lead, walk-on, walk-in, through}
+use Rattle.stream_law.specs.Order.{is_among}
 use Rattle.row_laws.proofs.Joined.{buffers-joined}
 use Rattle.fw_components.specs.declared.component.Component.{Component}
 use Rattle.fw_components.specs.declared.component.Unit as units
@@ -23,7 +24,7 @@ use Rattle.fw_walks.proofs.Naming.{comp-named, edge-named}
 use Rattle.fw_walks.specs.Streams.{is_of, any_stream, is_host_of}
 use Rattle.fw_pipeline.specs.Rows.{is_growing}
 use Rattle.fw_walks.specs.declared.streams.Sort.TheVariants as sorts
-use Rattle.fw_places.specs.Walks.{leads_by, is_listed, is_marked}
+use Rattle.fw_places.specs.Walks.{leads_by, is_marked}
 use Rattle.fw_components.specs.Tables.{ids_of}
 use Rattle.fw_places.proofs.Reaching.{both-true}
 use Rattle.fw_components.proofs.HostWays.{find-own}
@@ -124,8 +125,8 @@ module _ (g : Graph) (j : Join) where
 
 -- ---- a way that grows
 
-module _ (joins : List Join) (j : Join) (ids : List ℕ) (ends : (is_listed ids j.source ≡ true) × (is_listed ids j.sink ≡ true)) (host : ℕ) where
-  member : (x : ℕ) → is_listed ids x ≡ true → IsIn x ids
+module _ (joins : List Join) (j : Join) (ids : List ℕ) (ends : (is_among ids j.source ≡ true) × (is_among ids j.sink ≡ true)) (host : ℕ) where
+  member : (x : ℕ) → is_among ids x ≡ true → IsIn x ids
   member x there = let r = any-in (λ y. y == x) ids there in subst (λ y. IsIn y ids) (eqb-true r.0 x r.2) r.1
 
   not-true : (h : Bool) → h ≡ false → not h ≡ true
@@ -179,8 +180,8 @@ module _ (joins : List Join) (j : Join) (ids : List ℕ) (ends : (is_listed ids 
 
 -- ---- by what is marked
 
-pub any-marked : (p : Component → Bool) (q : ℕ → Bool) (ids : List ℕ) (marks : List Bool) (cs : List Component) → AllByRecursion (λ c. is_listed ids c.id ≡ true) cs → ((x : ℕ) → is_listed ids x ≡ true → is_marked ids marks x ≡ q x) → list_any (λ c. p c && is_marked ids marks c.id) cs ≡ list_any (λ c. p c && q c.id) cs
-any-marked p q ids marks cs listed same = any-each (λ c. p c && is_marked ids marks c.id) (λ c. p c && q c.id) cs (λ c there. ap (λ h. p c && h) (same c.id (in-all (λ (c : Component). is_listed ids c.id ≡ true) cs c listed there)))
+pub any-marked : (p : Component → Bool) (q : ℕ → Bool) (ids : List ℕ) (marks : List Bool) (cs : List Component) → AllByRecursion (λ c. is_among ids c.id ≡ true) cs → ((x : ℕ) → is_among ids x ≡ true → is_marked ids marks x ≡ q x) → list_any (λ c. p c && is_marked ids marks c.id) cs ≡ list_any (λ c. p c && q c.id) cs
+any-marked p q ids marks cs listed same = any-each (λ c. p c && is_marked ids marks c.id) (λ c. p c && q c.id) cs (λ c there. ap (λ h. p c && h) (same c.id (in-all (λ (c : Component). is_among ids c.id ≡ true) cs c listed there)))
 
 -- ---- by one walk from all hosts of playbacks
 
@@ -214,14 +215,14 @@ crossed joins cs reached is =
     any-each (λ b. is_capture (kind_by b.unit) && reached b.id) (λ b. is_capture (kind_by b.unit) && list_any (λ a. is_play (kind_by a.unit) && leads_by false joins a.id b.id) cs) cs (λ b there. ap (λ h. is_capture (kind_by b.unit) && h) (is b.id ∙ any-each (λ a. is_host_of sorts.All false a && leads_by false joins a.id b.id) (λ a. is_play (kind_by a.unit) && leads_by false joins a.id b.id) cs (λ a here. ap (λ h. h && leads_by false joins a.id b.id) (plays-are a.unit))))
     ∙ turned (λ (a : Component). is_play (kind_by a.unit)) (λ (b : Component). is_capture (kind_by b.unit)) (λ (a b : Component). leads_by false joins a.id b.id) cs
 
-pub comps-listed : (t : Tables) (ids : List ℕ) → ids ≡ ids_of t → AllByRecursion (λ c. is_listed ids c.id ≡ true) t.comps
-comps-listed t ids is = in-each (λ (c : Component). is_listed ids c.id ≡ true) t.comps (λ c there. ap (λ (xs : List ℕ). is_listed xs c.id) is ∙ listed-is t c.id ∙ or_left (has_id t.comps c.id) _ (in-any (λ d. d.id == c.id) t.comps c there (eq-eqb c.id c.id refl)))
+pub comps-listed : (t : Tables) (ids : List ℕ) → ids ≡ ids_of t → AllByRecursion (λ c. is_among ids c.id ≡ true) t.comps
+comps-listed t ids is = in-each (λ (c : Component). is_among ids c.id ≡ true) t.comps (λ c there. ap (λ (xs : List ℕ). is_among xs c.id) is ∙ listed-is t c.id ∙ or_left (has_id t.comps c.id) _ (in-any (λ d. d.id == c.id) t.comps c there (eq-eqb c.id c.id refl)))
 
 way-by : (g : Graph) (comp : Comp) (id x : ℕ) → comp_of g id ≡ Some comp → on_way g id x ≡ cond (is_capture comp.kind) (all_lead g.joins x id) (all_lead g.joins id x)
 unfolding on_way reaches
 way-by g comp id x found = ap (λ (o : Option Comp). cond (option_map_or (λ c. is_capture c.kind) o false) (all_lead g.joins x id) (all_lead g.joins id x)) found
 
-module _ (t : Tables) (kept : IsKept t) (j : Join) (ends : (is_listed (ids_of t) j.source ≡ true) × (is_listed (ids_of t) j.sink ≡ true)) where
+module _ (t : Tables) (kept : IsKept t) (j : Join) (ends : (is_among (ids_of t) j.source ≡ true) × (is_among (ids_of t) j.sink ≡ true)) where
   abbrev g : Graph
   g = graph_of t
 
@@ -237,17 +238,17 @@ module _ (t : Tables) (kept : IsKept t) (j : Join) (ends : (is_listed (ids_of t)
       by false = grows-on t.joins j (ids_of t) ends c.id
 
   module _ (ids : List ℕ) (is : ids ≡ ids_of t) (to_source to_sink from_source from_sink : List Bool)
-      (a : (x : ℕ) → is_listed ids x ≡ true → is_marked ids to_source x ≡ leads_by true t.joins j.source x)
-      (b : (x : ℕ) → is_listed ids x ≡ true → is_marked ids to_sink x ≡ leads_by true t.joins j.sink x)
-      (c : (x : ℕ) → is_listed ids x ≡ true → is_marked ids from_source x ≡ leads_by false t.joins j.source x)
-      (d : (x : ℕ) → is_listed ids x ≡ true → is_marked ids from_sink x ≡ leads_by false t.joins j.sink x) where
+      (a : (x : ℕ) → is_among ids x ≡ true → is_marked ids to_source x ≡ leads_by true t.joins j.source x)
+      (b : (x : ℕ) → is_among ids x ≡ true → is_marked ids to_sink x ≡ leads_by true t.joins j.sink x)
+      (c : (x : ℕ) → is_among ids x ≡ true → is_marked ids from_source x ≡ leads_by false t.joins j.source x)
+      (d : (x : ℕ) → is_among ids x ≡ true → is_marked ids from_sink x ≡ leads_by false t.joins j.sink x) where
     grown : (x : Component) → IsIn x t.comps → is_growing ids to_source to_sink from_source from_sink x ≡ any_stream (λ s. is_of sorts.Set s && has_grown g (with_join g j) s.host) x.id x.unit
     grown x there =
         ap (λ h. any_stream (is_of sorts.Set) 0 x.unit && h) (by (is_capture (kind_by x.unit)) ∙ sym (host-grows x there))
         ∙ sym (stream-of sorts.Set (has_grown g (with_join g j)) x.id x.unit)
       where
-        listed : is_listed ids x.id ≡ true
-        listed = in-all (λ (c : Component). is_listed ids c.id ≡ true) t.comps x (comps-listed t ids is) there
+        listed : is_among ids x.id ≡ true
+        listed = in-all (λ (c : Component). is_among ids c.id ≡ true) t.comps x (comps-listed t ids is) there
 
         by : (h : Bool) → cond h (is_marked ids from_sink x.id && not (is_marked ids from_source x.id)) (is_marked ids to_source x.id && not (is_marked ids to_sink x.id)) ≡ cond h (all_lead t.joins j.sink x.id && not (all_lead t.joins j.source x.id)) (all_lead t.joins x.id j.source && not (all_lead t.joins x.id j.sink))
         by true = ap (λ (p : Bool × Bool). p.0 && not p.1) (λ i. (d x.id listed i, c x.id listed i))
@@ -272,15 +273,15 @@ unfolding would_cycle
 cycle-marked g from to = refl
 
 -- a component and a buffer are listed
-pub ends-listed : (t : Tables) (source sink : ℕ) → takes_join (graph_of t) source sink ≡ true → (is_listed (ids_of t) source ≡ true) × (is_listed (ids_of t) sink ≡ true)
+pub ends-listed : (t : Tables) (source sink : ℕ) → takes_join (graph_of t) source sink ≡ true → (is_among (ids_of t) source ≡ true) × (is_among (ids_of t) sink ≡ true)
 ends-listed t source sink takes = by (or_cases (leads_in (graph_of t) source sink && has_free_out (graph_of t) source (kind_at (graph_of t) source)) (leads_out (graph_of t) source sink && has_free_in (graph_of t) sink (kind_at (graph_of t) sink)) takes)
   where
-    comp : (x : ℕ) → has_comp (graph_of t) x ≡ true → is_listed (ids_of t) x ≡ true
+    comp : (x : ℕ) → has_comp (graph_of t) x ≡ true → is_among (ids_of t) x ≡ true
     comp x there = listed-is t x ∙ or_left (has_id t.comps x) _ (comp-named t x ∙ there)
 
-    edge : (x : ℕ) → has_edge (graph_of t) x ≡ true → is_listed (ids_of t) x ≡ true
+    edge : (x : ℕ) → has_edge (graph_of t) x ≡ true → is_among (ids_of t) x ≡ true
     edge x there = listed-is t x ∙ or_right (has_id t.comps x) _ (edge-named t x ∙ there)
 
-    by : ((leads_in (graph_of t) source sink && has_free_out (graph_of t) source (kind_at (graph_of t) source)) ≡ true) ⊎ ((leads_out (graph_of t) source sink && has_free_in (graph_of t) sink (kind_at (graph_of t) sink)) ≡ true) → (is_listed (ids_of t) source ≡ true) × (is_listed (ids_of t) sink ≡ true)
+    by : ((leads_in (graph_of t) source sink && has_free_out (graph_of t) source (kind_at (graph_of t) source)) ≡ true) ⊎ ((leads_out (graph_of t) source sink && has_free_in (graph_of t) sink (kind_at (graph_of t) sink)) ≡ true) → (is_among (ids_of t) source ≡ true) × (is_among (ids_of t) sink ≡ true)
     by (inl e) = let p = and_parts (has_comp (graph_of t) source) (has_edge (graph_of t) sink) (and_parts (leads_in (graph_of t) source sink) _ e).0 in (comp source p.0, edge sink p.1)
     by (inr e) = let p = and_parts (has_edge (graph_of t) source) (has_comp (graph_of t) sink) (and_parts (leads_out (graph_of t) source sink) _ e).0 in (edge source p.0, comp sink p.1)

@@ -5,45 +5,34 @@ use Rattle.std.specs.List.{list_any}
 use Rattle.std.proofs.lemmas.Bool.{false≢true, true≢false, false_from_ne_true, and_from, eqb-true}
 use Rattle.sof_base.specs.declared.format.Params.{Params}
 use Rattle.stream_law.specs.declared.graph.Comp.{Comp}
-use Rattle.stream_law.specs.declared.stream.Phase.{Phase}
-use Rattle.stream_law.specs.declared.stream.Phase.TheVariants.{Idle, Prepared, Running, Paused}
+use Rattle.stream_law.specs.declared.stream.Phase.TheVariants.{Prepared}
 use Rattle.stream_law.specs.declared.stream.StreamView.{StreamView}
 use Rattle.stream_law.specs.Placed.{Ascends, AreAbove}
-use Rattle.stream_law.specs.State.{FwState, View}
+use Rattle.stream_law.specs.State.{FwState, View, view_of}
 use Rattle.stream_law.specs.Seen.{seen}
 use Rattle.stream_law.specs.Ways.{is_live_phase, agree}
 use Rattle.stream_law.proofs.Members.{find-in, in-any}
-use Rattle.mbox_link.specs.Step.{no_device, invalid, is_used, has_kind, goes, kind_at, is_stream_phase, is_moving, phase_at, is_rate, is_way_ready, with_params, set_stream, pcm_params}
+use Rattle.mbox_link.specs.Step.{no_device, invalid, is_used, has_kind, goes, kind_at, is_stream_phase, phase_at, is_rate, is_way_ready, with_params, set_stream, pcm_params, is_refused_params}
 use Rattle.fw_components.specs.declared.component.Component.{Component}
 use Rattle.fw_components.specs.declared.component.Unit as units
 use Rattle.fw_components.specs.declared.component.Unit.TheVariants.{Host, Dai, Volume, Mixer, Mux, Eq, Buffer, Pipeline}
 use Rattle.fw_components.specs.Tables.{streams_by, with_stream_by, kind_by, comp_by, is_host_unit}
 use Rattle.fw_walks.specs.declared.streams.Sort.TheVariants as sorts
 use Rattle.fw_walks.specs.Streams.{is_of, any_stream}
-use Rattle.fw_pipeline.specs.Preparing.{is_moving_at, is_refused}
+use Rattle.fw_pipeline.specs.Preparing.{is_moving_at}
 use Rattle.fw_walks.proofs.Naming.{find-map}
 
--- why parameters are refused with -22
-abbrev refusal : FwState → ℕ → ℕ → Params → Bool → Bool
-refusal f host direction p moving = not (has_kind (λ kind. goes kind direction) (kind_at f.graph host)) || moving || not (is_rate p.rate) || not (is_way_ready f.graph host) || not (agree (with_params f host p))
+module _ (f : FwState) (host direction : ℕ) (p : Params) (used : is_used f.graph host ≡ true) (moving : Bool) (moves : moving ≡ is_stream_phase is_live_phase (phase_at f host)) where
+  by-tests : (h : Bool) → is_refused_params (view_of f) host direction p moving ≡ h → pcm_params f host direction p ≡ cond h (Err invalid) (Ok (seen (with_params f host p) None f))
+  by-tests h is = ap (λ (q : Bool × Bool). let r : Result FwState ℤ = cond (not q.0) (Err no_device) (cond q.1 (Err invalid) (Ok (seen (with_params f host p) None f))) in r) (λ i. (used i, (ap (is_refused_params (view_of f) host direction p) (sym moves) ∙ is) i))
 
-module _ (f : FwState) (host direction : ℕ) (p : Params) (used : is_used f.graph host ≡ true) (moving : Bool) (moves : moving ≡ is_stream_phase is_moving (phase_at f host)) where
-  by-tests : (h : Bool) → refusal f host direction p moving ≡ h → pcm_params f host direction p ≡ cond h (Err invalid) (Ok (seen (with_params f host p) None f))
-  by-tests h is = ap (λ (q : Bool × Bool). let r : Result FwState ℤ = cond (not q.0) (Err no_device) (cond q.1 (Err invalid) (Ok (seen (with_params f host p) None f))) in r) (λ i. (used i, (ap (refusal f host direction p) (sym moves) ∙ is) i))
-
-  pub params-refused : refusal f host direction p moving ≡ true → pcm_params f host direction p ≡ Err invalid
+  pub params-refused : is_refused_params (view_of f) host direction p moving ≡ true → pcm_params f host direction p ≡ Err invalid
   params-refused is = by-tests true is
 
-  pub params-done : refusal f host direction p moving ≡ false → pcm_params f host direction p ≡ Ok (seen (with_params f host p) None f)
+  pub params-done : is_refused_params (view_of f) host direction p moving ≡ false → pcm_params f host direction p ≡ Ok (seen (with_params f host p) None f)
   params-done is = by-tests false is
 
 -- ---- the phase of a host's stream
-
-phases-move : (phase : Phase) → is_live_phase phase ≡ is_moving phase
-phases-move Idle = refl
-phases-move Prepared = refl
-phases-move Running = refl
-phases-move Paused = refl
 
 still-above : (cs : List Component) (n host : ℕ) → host ≤ n → AreAbove (λ c. c.id) n cs → is_moving_at cs host ≡ false
 unfolding AreAbove
@@ -52,13 +41,13 @@ still-above (c ∷ cs) n host le up =
     let other : (c.id == host) ≡ false = false_from_ne_true _ (λ e. let same = eqb-true c.id host e in absurd (omega (arith, same, le, up.0))) in
     ap (λ h. (h && any_stream (is_of sorts.Live) 0 c.unit) || is_moving_at cs host) other ∙ still-above cs n host le up.1
 
-moved : (id host : ℕ) (unit : units.Unit) (h : Bool) → (id == host) ≡ h → (rest : Bool) → (h ≡ true → rest ≡ false) → (ss : List StreamView) → rest ≡ is_stream_phase is_moving (option_map (λ (s : StreamView). s.phase) (find (λ s. s.host == host) ss)) → ((h && any_stream (is_of sorts.Live) 0 unit) || rest) ≡ is_stream_phase is_moving (option_map (λ (s : StreamView). s.phase) (find (λ s. s.host == host) (with_stream_by id unit ss)))
-moved id host (Host capture phase params piece) true is rest none ss so = ap (λ h. is_live_phase phase || h) (none refl) ∙ last (is_live_phase phase) ∙ phases-move phase ∙ sym (ap (λ h. is_stream_phase is_moving (option_map (λ (s : StreamView). s.phase) (cond h (Some (record { host = id; phase = phase; params = params })) (find (λ s. s.host == host) ss)))) is)
+moved : (id host : ℕ) (unit : units.Unit) (h : Bool) → (id == host) ≡ h → (rest : Bool) → (h ≡ true → rest ≡ false) → (ss : List StreamView) → rest ≡ is_stream_phase is_live_phase (option_map (λ (s : StreamView). s.phase) (find (λ s. s.host == host) ss)) → ((h && any_stream (is_of sorts.Live) 0 unit) || rest) ≡ is_stream_phase is_live_phase (option_map (λ (s : StreamView). s.phase) (find (λ s. s.host == host) (with_stream_by id unit ss)))
+moved id host (Host capture phase params piece) true is rest none ss so = ap (λ h. is_live_phase phase || h) (none refl) ∙ last (is_live_phase phase) ∙ sym (ap (λ h. is_stream_phase is_live_phase (option_map (λ (s : StreamView). s.phase) (cond h (Some (record { host = id; phase = phase; params = params })) (find (λ s. s.host == host) ss)))) is)
   where
     last : (h : Bool) → (h || false) ≡ h
     last true = refl
     last false = refl
-moved id host (Host capture phase params piece) false is rest none ss so = so ∙ sym (ap (λ h. is_stream_phase is_moving (option_map (λ (s : StreamView). s.phase) (cond h (Some (record { host = id; phase = phase; params = params })) (find (λ s. s.host == host) ss)))) is)
+moved id host (Host capture phase params piece) false is rest none ss so = so ∙ sym (ap (λ h. is_stream_phase is_live_phase (option_map (λ (s : StreamView). s.phase) (cond h (Some (record { host = id; phase = phase; params = params })) (find (λ s. s.host == host) ss)))) is)
 moved id host (Dai capture format piece) true is rest none ss so = so
 moved id host (Dai capture format piece) false is rest none ss so = so
 moved id host (Volume gains piece) true is rest none ss so = so
@@ -74,7 +63,7 @@ moved id host (Buffer size ring source sink) false is rest none ss so = so
 moved id host (Pipeline sched period complete piece) true is rest none ss so = so
 moved id host (Pipeline sched period complete piece) false is rest none ss so = so
 
-pub moving-is : (cs : List Component) (host : ℕ) → Ascends (λ c. c.id) cs → is_moving_at cs host ≡ is_stream_phase is_moving (option_map (λ (s : StreamView). s.phase) (find (λ s. s.host == host) (streams_by cs)))
+pub moving-is : (cs : List Component) (host : ℕ) → Ascends (λ c. c.id) cs → is_moving_at cs host ≡ is_stream_phase is_live_phase (option_map (λ (s : StreamView). s.phase) (find (λ s. s.host == host) (streams_by cs)))
 unfolding Ascends
 moving-is [] host up = refl
 moving-is (c ∷ cs) host up = moved c.id host c.unit (c.id == host) refl (is_moving_at cs host) (λ e. let same = eqb-true c.id host e in still-above cs c.id host (omega (arith, same)) up.0) (streams_by cs) (moving-is cs host up.1)
@@ -105,7 +94,7 @@ goes-passes true b c d e is = refl
 goes-passes false b c d e is = absurd (true≢false is)
 
 -- and so does that of the rate
-pub rate-passes : (v : View) (host direction : ℕ) (p : Params) (moving : Bool) → is_refused v host direction p moving ≡ false → is_rate p.rate ≡ true
+pub rate-passes : (v : View) (host direction : ℕ) (p : Params) (moving : Bool) → is_refused_params v host direction p moving ≡ false → is_rate p.rate ≡ true
 rate-passes v host direction p moving is = by (has_kind (λ kind. goes kind direction) (kind_at v.graph host)) moving (is_rate p.rate) (not (is_way_ready v.graph host)) (not (agree (record { graph = v.graph; streams = map (set_stream host Prepared (Some p)) v.streams }))) is
   where
     by : (a b c d e : Bool) → (((((not a || b) || not c) || d) || e)) ≡ false → c ≡ true
@@ -115,7 +104,7 @@ rate-passes v host direction p moving is = by (has_kind (λ kind. goes kind dire
     by false b c d e is = absurd (true≢false is)
 
 -- and so does that of the phase
-pub rest-passes : (v : View) (host direction : ℕ) (p : Params) (moving : Bool) → is_refused v host direction p moving ≡ false → moving ≡ false
+pub rest-passes : (v : View) (host direction : ℕ) (p : Params) (moving : Bool) → is_refused_params v host direction p moving ≡ false → moving ≡ false
 rest-passes v host direction p moving is = by (has_kind (λ kind. goes kind direction) (kind_at v.graph host)) moving (not (is_rate p.rate)) (not (is_way_ready v.graph host)) (not (agree (record { graph = v.graph; streams = map (set_stream host Prepared (Some p)) v.streams }))) is
   where
     by : (a b c d e : Bool) → (((((not a || b) || c) || d) || e)) ≡ false → b ≡ false

@@ -10,12 +10,13 @@ use Rattle.stream_law.specs.declared.graph.Edge.{Edge}
 use Rattle.stream_law.specs.declared.graph.Graph.{Graph}
 use Rattle.stream_law.specs.Ways.{leads, reaches, on_way, is_capture, comp_of, same_shape}
 use Rattle.stream_law.proofs.Members.{IsIn, in-any}
+use Rattle.stream_law.specs.Order.{is_among}
 use Rattle.mbox_link.specs.Step.{has_kind, kind_at, is_ready_comp, is_ready_edge}
 use Rattle.fw_components.specs.declared.component.Component.{Component}
 use Rattle.fw_components.specs.Tables.{Tables, graph_of, comp_by, edge_by}
 use Rattle.fw_components.specs.Changes.{has_id}
 use Rattle.fw_components.specs.Tables.{ids_of}
-use Rattle.fw_places.specs.Walks.{leads_by, is_listed, is_marked}
+use Rattle.fw_places.specs.Walks.{leads_by, is_marked}
 use Rattle.fw_components.proofs.Listed.{listed-is}
 use Rattle.fw_pipeline.specs.Preparing.{shape_by, suits}
 
@@ -40,12 +41,12 @@ way-flag g host x = by (comp_of g host)
     by None = refl
     by (Some c) = side (is_capture c.kind)
 
-module _ (t : Tables) (ids : List ℕ) (is : ids ≡ ids_of t) (host : ℕ) (marks : List Bool) (on : (x : ℕ) → is_listed ids x ≡ true → is_marked ids marks x ≡ on_way (graph_of t) host x) where
-  comp-listed : (c : Component) → IsIn c t.comps → is_listed ids c.id ≡ true
-  comp-listed c there = ap (λ (xs : List ℕ). is_listed xs c.id) is ∙ listed-is t c.id ∙ or_left (has_id t.comps c.id) _ (in-any (λ d. d.id == c.id) t.comps c there (eq-eqb c.id c.id refl))
+module _ (t : Tables) (ids : List ℕ) (is : ids ≡ ids_of t) (host : ℕ) (marks : List Bool) (on : (x : ℕ) → is_among ids x ≡ true → is_marked ids marks x ≡ on_way (graph_of t) host x) where
+  comp-listed : (c : Component) → IsIn c t.comps → is_among ids c.id ≡ true
+  comp-listed c there = ap (λ (xs : List ℕ). is_among xs c.id) is ∙ listed-is t c.id ∙ or_left (has_id t.comps c.id) _ (in-any (λ d. d.id == c.id) t.comps c there (eq-eqb c.id c.id refl))
 
-  buffer-listed : (c : Component) → IsIn c t.buffers → is_listed ids c.id ≡ true
-  buffer-listed c there = ap (λ (xs : List ℕ). is_listed xs c.id) is ∙ listed-is t c.id ∙ or_right (has_id t.comps c.id) _ (in-any (λ d. d.id == c.id) t.buffers c there (eq-eqb c.id c.id refl))
+  buffer-listed : (c : Component) → IsIn c t.buffers → is_among ids c.id ≡ true
+  buffer-listed c there = ap (λ (xs : List ℕ). is_among xs c.id) is ∙ listed-is t c.id ∙ or_right (has_id t.comps c.id) _ (in-any (λ d. d.id == c.id) t.buffers c there (eq-eqb c.id c.id refl))
 
   pub comps-marked : list_all (λ c. not (is_marked ids marks c.id) || is_ready_comp (graph_of t) (comp_by c)) t.comps ≡ list_all (λ c. not (on_way (graph_of t) host c.id) || is_ready_comp (graph_of t) c) (graph_of t).comps
   comps-marked =

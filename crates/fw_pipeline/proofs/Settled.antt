@@ -10,6 +10,7 @@ use Rattle.stream_law.specs.Ways.{live, live_end, source_of, sink_of, edge_of}
 use Rattle.stream_law.specs.Seen.{flows}
 use Rattle.stream_law.proofs.Members.{IsIn, in-all}
 use Rattle.stream_law.proofs.Placing.{Ascends-distinct}
+use Rattle.stream_law.specs.Order.{is_among}
 use Rattle.row_laws.proofs.Found.{found-each}
 use Rattle.fw_components.specs.declared.component.Component.{Component}
 use Rattle.fw_components.specs.declared.component.Unit as units
@@ -17,7 +18,7 @@ use Rattle.fw_components.specs.declared.component.Unit.TheVariants.{Host, Dai, V
 use Rattle.fw_components.specs.Tables.{Tables, view_by, graph_of, edge_by, source_by, sink_by}
 use Rattle.fw_components.specs.Kept.{IsKept}
 use Rattle.fw_components.specs.Changes.{with_ended, ended_unit}
-use Rattle.fw_places.specs.Walks.{is_listed, is_marked}
+use Rattle.fw_places.specs.Walks.{is_marked}
 use Rattle.fw_walks.proofs.Naming.{find-map}
 use Rattle.fw_pipeline.specs.Triggers.{settled_in}
 use Rattle.fw_pipeline.specs.Settling.{is_end_marked, flows_by, ended_unless}
@@ -78,7 +79,7 @@ map-twice f g h (c ∷ cs) same = ap (λ (p : Component × List Component). p.0 
 
 -- those of the first ids are settled
 abbrev pub among_of : Tables → List ℕ → Component → Component
-among_of t ids c = cond (is_listed ids c.id) (settled_in (view_by t) c) c
+among_of t ids c = cond (is_among ids c.id) (settled_in (view_by t) c) c
 
 abbrev pub SettledFirst : Tables → ℕ → Tables → Type 0
 SettledFirst t n u = u ≡ record { comps = t.comps; buffers = map (among_of t (take n (map (λ (c : Component). c.id) t.buffers))) t.buffers; pipes = t.pipes; joins = t.joins }
@@ -123,7 +124,7 @@ module _ (t : Tables) (kept : IsKept t) where
       by false = (refl, ended-ends c.unit)
 
   among-read : (ids : List ℕ) (c : Component) → ((among ids c).id ≡ c.id) × ((source_by (among ids c).unit ≡ source_by c.unit) × (sink_by (among ids c).unit ≡ sink_by c.unit))
-  among-read ids c = by (is_listed ids c.id)
+  among-read ids c = by (is_among ids c.id)
     where
       by : (h : Bool) → ((cond h (settled_in v c) c).id ≡ c.id) × ((source_by (cond h (settled_in v c) c).unit ≡ source_by c.unit) × (sink_by (cond h (settled_in v c) c).unit ≡ sink_by c.unit))
       by true = settled-read c
@@ -156,11 +157,11 @@ module _ (t : Tables) (kept : IsKept t) where
       in-at (c ∷ cs) zero d low = inl refl
       in-at (c ∷ cs) (suc k) d low = inr (in-at cs k d (omega (arith, low)))
 
-      more-listed : (x : ℕ) → is_listed (take (n + 1) names) x ≡ (is_listed (take n names) x || one.id == x)
+      more-listed : (x : ℕ) → is_among (take (n + 1) names) x ≡ (is_among (take n names) x || one.id == x)
       more-listed x =
-          ap (λ (xs : List ℕ). is_listed xs x) (take_more names n 0 (omega (arith, low, length-map (λ (c : Component). c.id) t.buffers)))
+          ap (λ (xs : List ℕ). is_among xs x) (take_more names n 0 (omega (arith, low, length-map (λ (c : Component). c.id) t.buffers)))
           ∙ list_any-append (λ y. y == x) (take n names) (get_or names n 0 ∷ [])
-          ∙ ap (λ h. is_listed (take n names) x || h) (last (get_or names n 0 == x) ∙ ap (λ k. k == x) (map-at (λ (c : Component). c.id) t.buffers n d 0 low))
+          ∙ ap (λ h. is_among (take n names) x || h) (last (get_or names n 0 == x) ∙ ap (λ k. k == x) (map-at (λ (c : Component). c.id) t.buffers n d 0 low))
         where
           last : (h : Bool) → (h || false) ≡ h
           last true = refl
@@ -183,13 +184,13 @@ module _ (t : Tables) (kept : IsKept t) where
           other : (one.id == c.id) ≡ false → (x : Component) → x.id ≡ c.id → with_ended one.id x ≡ x
           other apart x same = ap (λ h. cond h (ended_by x) x) (false_from_ne_true (x.id == one.id) (λ e. true≢false (sym (eq-eqb one.id c.id (sym (eqb-true x.id one.id e) ∙ same)) ∙ apart)))
 
-          by : (h : Bool) → (one.id == c.id) ≡ h → with_ended one.id (among (take n names) c) ≡ cond (is_listed (take n names) c.id || h) (settled_in v c) c
-          by true is = now (eqb-true one.id c.id is) (is_listed (take n names) c.id) ∙ sym (ap (λ h. cond h (settled_in v c) c) (some (is_listed (take n names) c.id)))
+          by : (h : Bool) → (one.id == c.id) ≡ h → with_ended one.id (among (take n names) c) ≡ cond (is_among (take n names) c.id || h) (settled_in v c) c
+          by true is = now (eqb-true one.id c.id is) (is_among (take n names) c.id) ∙ sym (ap (λ h. cond h (settled_in v c) c) (some (is_among (take n names) c.id)))
             where
               some : (h : Bool) → (h || true) ≡ true
               some true = refl
               some false = refl
-          by false is = other is (among (take n names) c) (among-read (take n names) c).0 ∙ ap (λ h. cond h (settled_in v c) c) (sym (last (is_listed (take n names) c.id)))
+          by false is = other is (among (take n names) c) (among-read (take n names) c).0 ∙ ap (λ h. cond h (settled_in v c) c) (sym (last (is_among (take n names) c.id)))
             where
               last : (h : Bool) → (h || false) ≡ h
               last true = refl
@@ -208,9 +209,9 @@ module _ (t : Tables) (kept : IsKept t) where
           any same false true = sym (full same)
           any same false false = refl
 
-          by : (h : Bool) → (one.id == c.id) ≡ h → among (take n names) c ≡ cond (is_listed (take n names) c.id || h) (settled_in v c) c
-          by true is = any (eqb-true one.id c.id is) (is_listed (take n names) c.id) (is_listed (take n names) c.id || true)
-          by false is = ap (λ h. cond h (settled_in v c) c) (sym (last (is_listed (take n names) c.id)))
+          by : (h : Bool) → (one.id == c.id) ≡ h → among (take n names) c ≡ cond (is_among (take n names) c.id || h) (settled_in v c) c
+          by true is = any (eqb-true one.id c.id is) (is_among (take n names) c.id) (is_among (take n names) c.id || true)
+          by false is = ap (λ h. cond h (settled_in v c) c) (sym (last (is_among (take n names) c.id)))
             where
               last : (h : Bool) → (h || false) ≡ h
               last true = refl
@@ -245,7 +246,7 @@ module _ (t : Tables) (kept : IsKept t) where
       ap (λ (ids : List ℕ). map (among ids) t.buffers) (take_all n names (omega (arith, end, length-map (λ (c : Component). c.id) t.buffers)))
       ∙ map-each (among names) (settled_in v) t.buffers (λ c there. ap (λ h. cond h (settled_in v c) c) (listed t.buffers c there)))
     where
-      listed : (cs : List Component) (c : Component) → IsIn c cs → is_listed (map (λ (c : Component). c.id) cs) c.id ≡ true
+      listed : (cs : List Component) (c : Component) → IsIn c cs → is_among (map (λ (c : Component). c.id) cs) c.id ≡ true
       listed [] c there = absurd there
-      listed (d ∷ cs) c (inl same) = ap (λ h. h || is_listed (map (λ (c : Component). c.id) cs) c.id) (eq-eqb d.id c.id (ap (λ (x : Component). x.id) (sym same)))
+      listed (d ∷ cs) c (inl same) = ap (λ h. h || is_among (map (λ (c : Component). c.id) cs) c.id) (eq-eqb d.id c.id (ap (λ (x : Component). x.id) (sym same)))
       listed (d ∷ cs) c (inr more) = or_right (d.id == c.id) _ (listed cs c more)

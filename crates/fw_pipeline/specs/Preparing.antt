@@ -1,11 +1,8 @@
 -- Whether a stream may have parameters, by the components of a registry.
-use Rattle.std.specs.Prelude.{ℕ, ◌==◌, ◌&&◌, ◌||◌, not, map, List, Bool, Option, Some, None, if◌then◌else◌}
+use Rattle.std.specs.Prelude.{ℕ, ◌==◌, ◌&&◌, ◌||◌, not, List, Bool, Option, Some, None, if◌then◌else◌}
 use Rattle.std.specs.List.{list_any}
 use Rattle.sof_base.specs.declared.format.Params.{Params}
-use Rattle.stream_law.specs.declared.stream.Phase.TheVariants.{Prepared}
-use Rattle.stream_law.specs.State.{View}
-use Rattle.stream_law.specs.Ways.{on_way, agree, same_shape}
-use Rattle.mbox_link.specs.Step.{has_kind, goes, kind_at, is_rate, is_way_ready, set_stream}
+use Rattle.stream_law.specs.Ways.{on_way, same_shape}
 use Rattle.fw_components.specs.declared.component.Component.{Component}
 use Rattle.fw_components.specs.declared.component.Unit as units
 use Rattle.fw_components.specs.declared.component.Unit.TheVariants.{Host}
@@ -17,11 +14,6 @@ use Rattle.fw_components.specs.Tables.{ids_of}
 -- the stream of a host is Running or Paused
 abbrev pub is_moving_at : List Component → ℕ → Bool
 is_moving_at cs host = list_any (λ c. c.id == host && any_stream (is_of sorts.Live) 0 c.unit) cs
-
--- parameters are refused with -22 in a view, by whether the host's stream is Running or Paused
-abbrev pub is_refused : View → ℕ → ℕ → Params → Bool → Bool
-is_refused v host direction p moving =
-    not (has_kind (λ kind. goes kind direction) (kind_at v.graph host)) || moving || not (is_rate p.rate) || not (is_way_ready v.graph host) || not (agree (record { graph = v.graph; streams = map (set_stream host Prepared (Some p)) v.streams }))
 
 -- the parameters that a component's stream would have once a host's has these
 abbrev pub shape_in : Bool → Params → units.Unit → Option Params

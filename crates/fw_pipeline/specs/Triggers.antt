@@ -4,7 +4,7 @@ use Rattle.sof_base.specs.declared.format.Params.{Params}
 use Rattle.stream_law.specs.declared.stream.Phase.{Phase}
 use Rattle.stream_law.specs.declared.stream.Phase.TheVariants.{Idle, Prepared, Running, Paused}
 use Rattle.stream_law.specs.State.{FwState, View}
-use Rattle.stream_law.specs.Ways.{live, channels_of}
+use Rattle.stream_law.specs.Ways.{live, channels_of, is_live_phase, is_running_phase}
 use Rattle.stream_law.specs.Seen.{flows}
 use Rattle.mbox_link.specs.Step as rows
 use Rattle.fw_components.specs.declared.component.Component.{Component}
@@ -19,16 +19,16 @@ use Rattle.fw_pipeline.specs.declared.phases.Trigger.TheVariants.{Start, Stop, P
 -- the row that does what is asked for
 abbrev pub triggered : Trigger → FwState → ℕ → Result FwState ℤ
 triggered Start f host = rows.trigger f host rows.is_prepared Running
-triggered Stop f host = rows.trigger f host rows.is_moving Prepared
-triggered Pause f host = rows.trigger f host rows.is_running Paused
+triggered Stop f host = rows.trigger f host is_live_phase Prepared
+triggered Pause f host = rows.trigger f host is_running_phase Paused
 triggered Release f host = rows.trigger f host rows.is_paused Running
 triggered Free f host = rows.pcm_free f host
 
 -- the phases that it leaves, the phase that it leads to, and the parameters that it keeps
 abbrev pub leaves : Trigger → Phase → Bool
 leaves Start = rows.is_prepared
-leaves Stop = rows.is_moving
-leaves Pause = rows.is_running
+leaves Stop = is_live_phase
+leaves Pause = is_running_phase
 leaves Release = rows.is_paused
 leaves Free = rows.is_prepared
 

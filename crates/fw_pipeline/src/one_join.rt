@@ -4,11 +4,12 @@ ghost use Rattle.std.specs.Prelude.{◌≡◌, ◌&&◌, ◌||◌, ℕ, length, 
 ghost use Rattle.std.specs.List.{list_any, AllByRecursion};
 ghost use Rattle.stream_law.specs.Joins.{is_play, would_cycle, would_reach, would_grow};
 ghost use Rattle.stream_law.specs.Ways.{is_capture};
+ghost use Rattle.stream_law.specs.Order.{is_among};
 ghost use Rattle.mbox_link.specs.Step.{takes_join};
 ghost use Rattle.fw_components.specs.Tables.{graph_of, streams_of, kind_by};
 ghost use Rattle.fw_components.specs.Kept.{IsKept};
 ghost use Rattle.fw_walks.specs.Charts.{IsChartOf};
-ghost use Rattle.fw_places.specs.Walks.{leads_by, is_listed, is_marked as is_marked_at};
+ghost use Rattle.fw_places.specs.Walks.{leads_by, is_marked as is_marked_at};
 ghost use Rattle.fw_pipeline.specs.Rows.{is_growing as would_lead_on};
 
 use fw_components::{Component, Registry};
@@ -34,7 +35,7 @@ fn closes(registry: &Registry, places: &Places, source: u32, sink: u32, from_sin
     requires chart { IsChartOf registry.now places.now }
     requires takes { takes_join (graph_of registry.now) source sink ≡ true }
     requires size { length from_sink.now ≡ 257 }
-    requires from_sink { (x : ℕ) → is_listed places.now.ids x ≡ true → is_marked_at places.now.ids from_sink.now x ≡ leads_by false places.now.joins sink x }
+    requires from_sink { (x : ℕ) → is_among places.now.ids x ≡ true → is_marked_at places.now.ids from_sink.now x ≡ leads_by false places.now.joins sink x }
     ensures cycle { result ≡ would_cycle (graph_of registry.now) source sink }
     ensures kept { IsKept registry.now }
 {
@@ -54,8 +55,8 @@ fn meets(
     requires chart { IsChartOf registry.now places.now }
     requires takes { takes_join (graph_of registry.now) source sink ≡ true }
     requires sizes { (length to_source.now ≡ 257) × (length from_sink.now ≡ 257) }
-    requires to_source { (x : ℕ) → is_listed places.now.ids x ≡ true → is_marked_at places.now.ids to_source.now x ≡ leads_by true places.now.joins source x }
-    requires from_sink { (x : ℕ) → is_listed places.now.ids x ≡ true → is_marked_at places.now.ids from_sink.now x ≡ leads_by false places.now.joins sink x }
+    requires to_source { (x : ℕ) → is_among places.now.ids x ≡ true → is_marked_at places.now.ids to_source.now x ≡ leads_by true places.now.joins source x }
+    requires from_sink { (x : ℕ) → is_among places.now.ids x ≡ true → is_marked_at places.now.ids from_sink.now x ≡ leads_by false places.now.joins sink x }
     ensures { result ≡ would_reach (graph_of registry.now) source sink }
 {
     meet(registry.comps(), places, to_source, from_sink)
@@ -63,7 +64,7 @@ fn meets(
 
 // The same by what leads to the source and what the sink leads to.
 fn meet(comps: &[Component], places: &Places, to_source: &[bool], from_sink: &[bool]) -> bool
-    requires listed { AllByRecursion (λ c. is_listed places.now.ids c.id ≡ true) comps.now }
+    requires listed { AllByRecursion (λ c. is_among places.now.ids c.id ≡ true) comps.now }
     requires to_source { length to_source.now ≡ 257 }
     requires from_sink { length from_sink.now ≡ 257 }
     ensures { result ≡ (list_any (λ a. is_play (kind_by a.unit) && list_any (λ b. is_capture (kind_by b.unit) && leads_by false places.now.joins a.id b.id) comps.now) comps.now || (list_any (λ c. is_play (kind_by c.unit) && is_marked_at places.now.ids to_source.now c.id) comps.now && list_any (λ c. is_capture (kind_by c.unit) && is_marked_at places.now.ids from_sink.now c.id) comps.now)) }
@@ -84,8 +85,8 @@ fn grows(
     requires chart { IsChartOf registry.now places.now }
     requires takes { takes_join (graph_of registry.now) source sink ≡ true }
     requires sizes { (length to_source.now ≡ 257) × (length from_sink.now ≡ 257) }
-    requires to_source { (x : ℕ) → is_listed places.now.ids x ≡ true → is_marked_at places.now.ids to_source.now x ≡ leads_by true places.now.joins source x }
-    requires from_sink { (x : ℕ) → is_listed places.now.ids x ≡ true → is_marked_at places.now.ids from_sink.now x ≡ leads_by false places.now.joins sink x }
+    requires to_source { (x : ℕ) → is_among places.now.ids x ≡ true → is_marked_at places.now.ids to_source.now x ≡ leads_by true places.now.joins source x }
+    requires from_sink { (x : ℕ) → is_among places.now.ids x ≡ true → is_marked_at places.now.ids from_sink.now x ≡ leads_by false places.now.joins sink x }
     ensures { result ≡ would_grow (graph_of registry.now) (streams_of registry.now) source sink }
 {
     let to_sink = places.reached(sink, true);
@@ -102,7 +103,7 @@ fn grows(
 
 // Whether a capture's host is reached from a playback's, by one walk from all hosts of playbacks.
 fn crosses(comps: &[Component], places: &Places) -> bool
-    requires { AllByRecursion (λ c. is_listed places.now.ids c.id ≡ true) comps.now }
+    requires { AllByRecursion (λ c. is_among places.now.ids c.id ≡ true) comps.now }
     ensures { result ≡ list_any (λ a. is_play (kind_by a.unit) && list_any (λ b. is_capture (kind_by b.unit) && leads_by false places.now.joins a.id b.id) comps.now) comps.now }
 {
     let mut marks = mark_hosts(comps, places, Sort::All, false);

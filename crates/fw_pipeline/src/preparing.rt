@@ -5,16 +5,17 @@ ghost use Rattle.stream_law.specs.declared.stream.Phase.TheVariants as phases;
 ghost use Rattle.stream_law.specs.Ways.{on_way, agree, is_capture, same_shape as alike};
 ghost use Rattle.stream_law.specs.State.{FwState};
 ghost use Rattle.stream_law.specs.Seen.{ring_seen};
-ghost use Rattle.mbox_link.specs.Step.{pcm_params, has_kind, goes as has_direction, kind_at as named_kind, is_rate, is_way_ready as has_ready_way, is_ready_comp as is_ready, is_ready_edge as is_edge_ready, set_stream};
+ghost use Rattle.stream_law.specs.Order.{is_among};
+ghost use Rattle.mbox_link.specs.Step.{pcm_params, has_kind, goes as has_direction, kind_at as named_kind, is_rate, is_way_ready as has_ready_way, is_ready_comp as is_ready, is_ready_edge as is_edge_ready, set_stream, is_refused_params};
 ghost use Rattle.fw_components.specs.Tables.{view_by, graph_of, streams_of, rings_of, comp_by, edge_by};
 ghost use Rattle.fw_components.specs.Changes.{set_at};
 ghost use Rattle.fw_components.specs.Kept.{IsKept};
 ghost use Rattle.fw_components.specs.Tables.{ids_of};
 ghost use Rattle.fw_walks.specs.Charts.{IsChartOf};
-ghost use Rattle.fw_places.specs.Walks.{is_listed, is_marked};
+ghost use Rattle.fw_places.specs.Walks.{is_marked};
 ghost use Rattle.fw_pipeline.specs.Rows.{view_answer, view_after, with_view, told_state};
 ghost use Rattle.fw_components.specs.States.{with_tables};
-ghost use Rattle.fw_pipeline.specs.Preparing.{is_moving_at, is_refused, shape_by, suits};
+ghost use Rattle.fw_pipeline.specs.Preparing.{is_moving_at, shape_by, suits};
 
 use crate::freeing::is_complete;
 use fw_components::{Component, Registry, Unit, settings_are_seen};
@@ -48,7 +49,7 @@ pub fn params(registry: &mut Registry, host: u32, direction: u32, p: Params) -> 
 
 // Whether these parameters are refused for a host's stream.
 fn refuses(registry: &Registry, host: u32, direction: u32, p: Params) -> bool
-    ensures refused { result ≡ is_refused (view_by registry.now) host direction p (is_moving_at registry.now.comps host) }
+    ensures refused { result ≡ is_refused_params (view_by registry.now) host direction p (is_moving_at registry.now.comps host) }
     ensures kept { IsKept registry.now }
 {
     let places = registry.places();
@@ -102,7 +103,7 @@ fn has_right_rate(rate: u32) -> bool
 }
 
 // Whether all that is on the way of a host's stream is ready.
-#[tactic(auto, unfolding(mbox_link::specs::Step::is_way_ready))]
+#[tactic(auto, unfolding(mbox_link::specs::StreamRows::is_way_ready))]
 fn is_way_ready(registry: &Registry, places: &Places, host: u32) -> bool
     requires { IsChartOf registry.now places.now }
     ensures { result ≡ has_ready_way (graph_of registry.now) host }
@@ -116,7 +117,7 @@ fn is_way_ready(registry: &Registry, places: &Places, host: u32) -> bool
 fn has_ready_comps(registry: &Registry, places: &Places, host: u32, marks: &[bool]) -> bool
     requires chart { IsChartOf registry.now places.now }
     requires size { length marks.now ≡ 257 }
-    requires marked { (x : ℕ) → is_listed places.now.ids x ≡ true → is_marked places.now.ids marks.now x ≡ on_way (graph_of registry.now) host x }
+    requires marked { (x : ℕ) → is_among places.now.ids x ≡ true → is_marked places.now.ids marks.now x ≡ on_way (graph_of registry.now) host x }
     ensures { result ≡ list_all (λ c. not (on_way (graph_of registry.now) host c.id) || is_ready (graph_of registry.now) c) (graph_of registry.now).comps }
 {
     are_comps_ready(registry, registry.comps(), places, marks)
@@ -126,7 +127,7 @@ fn has_ready_comps(registry: &Registry, places: &Places, host: u32, marks: &[boo
 fn has_ready_buffers(registry: &Registry, places: &Places, host: u32, marks: &[bool]) -> bool
     requires chart { IsChartOf registry.now places.now }
     requires size { length marks.now ≡ 257 }
-    requires marked { (x : ℕ) → is_listed places.now.ids x ≡ true → is_marked places.now.ids marks.now x ≡ on_way (graph_of registry.now) host x }
+    requires marked { (x : ℕ) → is_among places.now.ids x ≡ true → is_marked places.now.ids marks.now x ≡ on_way (graph_of registry.now) host x }
     ensures { result ≡ list_all (λ e. not (on_way (graph_of registry.now) host e.buffer) || is_edge_ready (graph_of registry.now) e) (graph_of registry.now).edges }
 {
     are_buffers_ready(registry, registry.buffers(), places, marks)
@@ -182,7 +183,7 @@ fn is_buffer_ready(registry: &Registry, buffer: &Component) -> bool
 /// What is on the way of a host's stream.
 pub(crate) fn way(registry: &Registry, places: &Places, host: u32) -> [bool; 257]
     requires { IsChartOf registry.now places.now }
-    ensures { (x : ℕ) → is_listed places.now.ids x ≡ true → is_marked places.now.ids result x ≡ on_way (graph_of registry.now) host x }
+    ensures { (x : ℕ) → is_among places.now.ids x ≡ true → is_marked places.now.ids result x ≡ on_way (graph_of registry.now) host x }
 {
     places.reached(host, captures_at(registry, host))
 }

@@ -7,7 +7,8 @@ use Rattle.std.specs.Prelude.{position, unwrap_or, nat_lt}
 use Rattle.std.specs.List.{AllByRecursion}
 use Rattle.stream_law.specs.declared.graph.Join.{Join}
 use Rattle.stream_law.proofs.Members.{IsIn, in-all, in-each, in-any, any-in}
-use Rattle.fw_places.specs.Walks.{is_listed, place_in, by_places, near_of, far_of, IsListed, IsWithin, IsClosed, leads_by, is_marked, is_reached}
+use Rattle.stream_law.specs.Order.{is_among}
+use Rattle.fw_places.specs.Walks.{place_in, by_places, near_of, far_of, IsListed, IsWithin, IsClosed, leads_by, is_marked, is_reached}
 use Rattle.fw_places.specs.Charts.{by_ids, IsChart}
 use Rattle.fw_places.proofs.Reaching.{at-place, in-at, reach-closed, both-true, mapped}
 
@@ -34,45 +35,45 @@ module _ (ids : List ℕ) (joins ends : List Join) (count : ℕ) (is : take coun
 
 -- ---- what is reached from one id
 
-pub place-past : (ids : List ℕ) (x : ℕ) → is_listed ids x ≡ false → place_in ids x ≡ length ids
+pub place-past : (ids : List ℕ) (x : ℕ) → is_among ids x ≡ false → place_in ids x ≡ length ids
 place-past [] x none = refl
 place-past (y ∷ ids) x none = by (y == x) refl none (place-past ids x)
   where
-    by : (h : Bool) → (y == x) ≡ h → (h || is_listed ids x) ≡ false → (is_listed ids x ≡ false → place_in ids x ≡ length ids) → place_in (y ∷ ids) x ≡ suc (length ids)
+    by : (h : Bool) → (y == x) ≡ h → (h || is_among ids x) ≡ false → (is_among ids x ≡ false → place_in ids x ≡ length ids) → place_in (y ∷ ids) x ≡ suc (length ids)
     by true is none rest = absurd (true≢false none)
     by false is none rest = ap (λ h. cond (not h) (1 + place_in ids x) 0) is ∙ (let e : 1 + place_in ids x ≡ suc (length ids) = omega (arith, rest none) in e)
 
 pub place-most : (ids : List ℕ) (x : ℕ) → place_in ids x ≤ length ids
-place-most ids x = by (is_listed ids x) refl
+place-most ids x = by (is_among ids x) refl
   where
-    by : (h : Bool) → is_listed ids x ≡ h → place_in ids x ≤ length ids
+    by : (h : Bool) → is_among ids x ≡ h → place_in ids x ≤ length ids
     by true there = omega (arith, (at-place ids x there).0)
     by false none = omega (arith, place-past ids x none)
 
-pub member-listed : (ids : List ℕ) (x : ℕ) → IsIn x ids → is_listed ids x ≡ true
+pub member-listed : (ids : List ℕ) (x : ℕ) → IsIn x ids → is_among ids x ≡ true
 member-listed ids x there = in-any (λ y. y == x) ids x there (eq-eqb x x refl)
 
-pub listed-member : (ids : List ℕ) (x : ℕ) → is_listed ids x ≡ true → IsIn x ids
+pub listed-member : (ids : List ℕ) (x : ℕ) → is_among ids x ≡ true → IsIn x ids
 listed-member ids x there = let r = any-in (λ y. y == x) ids there in subst (λ y. IsIn y ids) (eqb-true r.0 x r.2) r.1
 
 -- where a walk ends at what is listed, it begins at what is listed
-pub begins-listed : (back : Bool) (ids : List ℕ) (joins : List Join) → AllByRecursion (IsListed ids) joins → (a b : ℕ) → leads_by back joins a b ≡ true → is_listed ids b ≡ true → is_listed ids a ≡ true
-begins-listed true ids joins listed a b led there = reach-closed false joins (is_listed ids) (in-each _ joins (λ j here is. (in-all (IsListed ids) joins j listed here).1)) b a led there
-begins-listed false ids joins listed a b led there = reach-closed true joins (is_listed ids) (in-each _ joins (λ j here is. (in-all (IsListed ids) joins j listed here).0)) b a led there
+pub begins-listed : (back : Bool) (ids : List ℕ) (joins : List Join) → AllByRecursion (IsListed ids) joins → (a b : ℕ) → leads_by back joins a b ≡ true → is_among ids b ≡ true → is_among ids a ≡ true
+begins-listed true ids joins listed a b led there = reach-closed false joins (is_among ids) (in-each _ joins (λ j here is. (in-all (IsListed ids) joins j listed here).1)) b a led there
+begins-listed false ids joins listed a b led there = reach-closed true joins (is_among ids) (in-each _ joins (λ j here is. (in-all (IsListed ids) joins j listed here).0)) b a led there
 
-pub one-reached : (back : Bool) (ids : List ℕ) (joins : List Join) → AllByRecursion (IsListed ids) joins → (n : ℕ) → length ids < n → (id x : ℕ) → is_listed ids x ≡ true → is_reached back ids joins (set (replicate n false) (place_in ids id) true) x ≡ leads_by back joins id x
+pub one-reached : (back : Bool) (ids : List ℕ) (joins : List Join) → AllByRecursion (IsListed ids) joins → (n : ℕ) → length ids < n → (id x : ℕ) → is_among ids x ≡ true → is_reached back ids joins (set (replicate n false) (place_in ids id) true) x ≡ leads_by back joins id x
 one-reached back ids joins listed n few id x there = both-true _ _ forth back_again
   where
     marks : List Bool
     marks = set (replicate n false) (place_in ids id) true
 
     same-place : (s : ℕ) → IsIn s ids → place_in ids s ≡ place_in ids id → s ≡ id
-    same-place s here same = by (is_listed ids id) refl
+    same-place s here same = by (is_among ids id) refl
       where
         at : (place_in ids s < length ids) × (get_or ids (place_in ids s) 0 ≡ s)
         at = at-place ids s (member-listed ids s here)
 
-        by : (h : Bool) → is_listed ids id ≡ h → s ≡ id
+        by : (h : Bool) → is_among ids id ≡ h → s ≡ id
         by true is = sym at.1 ∙ ap (λ k. get_or ids k 0) same ∙ (at-place ids id is).1
         by false none = absurd (omega (arith, at.0, same, place-past ids id none))
 

@@ -4,7 +4,8 @@ use Rattle.std.proofs.lemmas.Bool.{true≢false, false≢true, or_left, or_right
 use Rattle.std.proofs.lemmas.List.{length-set, length-replicate}
 use Rattle.std.proofs.lemmas.List.Folds.{list_any-append}
 use Rattle.stream_law.specs.declared.graph.Join.{Join}
-use Rattle.fw_places.specs.Walks.{near_of, far_of, unmarked, is_listed, place_in, IsClosed}
+use Rattle.stream_law.specs.Order.{is_among}
+use Rattle.fw_places.specs.Walks.{near_of, far_of, unmarked, place_in, IsClosed}
 use Rattle.fw_places.specs.Leaving.{no_join, last_from, AreFound, GoOn}
 use Rattle.fw_places.proofs.Marking.{unmarked-set, unmarked-most, each-at, none-marked}
 use Rattle.fw_places.proofs.Reaching.{at-place}
@@ -130,9 +131,9 @@ module _ (marks : List Bool) (found : List ℕ) (x : ℕ) (are : AreFound marks 
     all = λ k is. list_any-append (λ y. y == k) found (x ∷ []) ∙ by k is (k == x) refl;
   }
     where
-      by : (k : ℕ) → get_or (set marks x true) k false ≡ true → (h : Bool) → (k == x) ≡ h → (is_listed found k || (x == k || false)) ≡ true
-      by k is true same = or_right (is_listed found k) _ (or_left (x == k) false (eq-eqb x k (sym (eqb-true k x same))))
-      by k is false other = or_left (is_listed found k) _ (are.all k (sym (get_or-set_other marks x k true false (λ e. true≢false (sym (eq-eqb k x e) ∙ other))) ∙ is))
+      by : (k : ℕ) → get_or (set marks x true) k false ≡ true → (h : Bool) → (k == x) ≡ h → (is_among found k || (x == k || false)) ≡ true
+      by k is true same = or_right (is_among found k) _ (or_left (x == k) false (eq-eqb x k (sym (eqb-true k x same))))
+      by k is false other = or_left (is_among found k) _ (are.all k (sym (get_or-set_other marks x k true false (λ e. true≢false (sym (eq-eqb k x e) ∙ other))) ∙ is))
 
   pub go-one : GoOn marks (set marks x true) found (found ++ x ∷ [])
   go-one = record { size = length-set marks x true; kept = kept-one; longer = omega (arith, longer-by); same = λ j below. get-front found (x ∷ []) j below }
@@ -166,7 +167,7 @@ unmarked-next marks k low h is = let e : k + 1 ≡ suc k = omega arith in ap (λ
 pub record AreFirst (marks : List Bool) (found : List ℕ) (k : ℕ) : Type 0 where
   pub room : length found + unmarked (take k marks) ≡ k
   pub marked : (j : ℕ) → j < length found → get_or marks (get_or found j 0) false ≡ true
-  pub all : (m : ℕ) → m < k → get_or marks m false ≡ true → is_listed found m ≡ true
+  pub all : (m : ℕ) → m < k → get_or marks m false ≡ true → is_among found m ≡ true
 
 pub first-none : (marks : List Bool) → AreFirst marks [] 0
 first-none marks = record { room = refl; marked = λ j low. absurd (omega (arith, low)); all = λ m low. absurd (omega (arith, low)) }
@@ -178,16 +179,16 @@ module _ (marks : List Bool) (found : List ℕ) (k : ℕ) (are : AreFirst marks 
     marked = λ j below. below_more (λ j. get_or marks (get_or (found ++ k ∷ []) j 0) false ≡ true) (length found)
         (λ j below. ap (λ (n : ℕ). get_or marks n false) (get-front found (k ∷ []) j below) ∙ are.marked j below)
         (ap (λ (n : ℕ). get_or marks n false) (get-last found k) ∙ is) j (omega (arith, below, length-append found (k ∷ [])));
-    all = below_more (λ m. get_or marks m false ≡ true → is_listed (found ++ k ∷ []) m ≡ true) k
-        (λ m below e. list_any-append (λ y. y == m) found (k ∷ []) ∙ or_left (is_listed found m) _ (are.all m below e))
-        (λ e. list_any-append (λ y. y == k) found (k ∷ []) ∙ or_right (is_listed found k) _ (or_left (k == k) false (eq-eqb k k refl)));
+    all = below_more (λ m. get_or marks m false ≡ true → is_among (found ++ k ∷ []) m ≡ true) k
+        (λ m below e. list_any-append (λ y. y == m) found (k ∷ []) ∙ or_left (is_among found m) _ (are.all m below e))
+        (λ e. list_any-append (λ y. y == k) found (k ∷ []) ∙ or_right (is_among found k) _ (or_left (k == k) false (eq-eqb k k refl)));
   }
 
   pub first-passed : get_or marks k false ≡ false → AreFirst marks found (k + 1)
   first-passed is = record {
     room = (let e : unmarked (take (k + 1) marks) ≡ unmarked (take k marks) + 1 = unmarked-next marks k low false is in omega (arith, e, are.room));
     marked = are.marked;
-    all = below_more (λ m. get_or marks m false ≡ true → is_listed found m ≡ true) k are.all (λ e. absurd (true≢false (sym e ∙ is)));
+    all = below_more (λ m. get_or marks m false ≡ true → is_among found m ≡ true) k are.all (λ e. absurd (true≢false (sym e ∙ is)));
   }
 
 pub first-all : (marks : List Bool) (found : List ℕ) (k : ℕ) → AreFirst marks found k → length marks ≤ k → take k marks ≡ marks → k ≡ length marks → AreFound marks found

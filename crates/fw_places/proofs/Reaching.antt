@@ -5,19 +5,20 @@ use Rattle.std.specs.List.{AllByRecursion}
 use Rattle.stream_law.specs.declared.graph.Join.{Join}
 use Rattle.stream_law.proofs.Members.{IsIn, in-all, in-each, any-in, in-any}
 use Rattle.stream_law.proofs.Walking.{Path, path-of, walks-lead, walk-on}
-use Rattle.fw_places.specs.Walks.{near_of, far_of, leads_by, is_listed, place_in, by_places, IsListed, IsClosed, is_marked, is_reached}
+use Rattle.stream_law.specs.Order.{is_among}
+use Rattle.fw_places.specs.Walks.{near_of, far_of, leads_by, place_in, by_places, IsListed, IsClosed, is_marked, is_reached}
 
 -- ---- places
 
 -- an id that is listed stands at its place
-pub at-place : (ids : List ℕ) (x : ℕ) → is_listed ids x ≡ true → (place_in ids x < length ids) × (get_or ids (place_in ids x) 0 ≡ x)
+pub at-place : (ids : List ℕ) (x : ℕ) → is_among ids x ≡ true → (place_in ids x < length ids) × (get_or ids (place_in ids x) 0 ≡ x)
 at-place [] x none = absurd (false≢true none)
 at-place (y ∷ ids) x there = by (y == x) refl there (at-place ids x)
   where
     stands : Bool → Type 0
     stands h = (cond (not h) (1 + place_in ids x) 0 < suc (length ids)) × (get_or (y ∷ ids) (cond (not h) (1 + place_in ids x) 0) 0 ≡ x)
 
-    by : (h : Bool) → (y == x) ≡ h → (h || is_listed ids x) ≡ true → (is_listed ids x ≡ true → (place_in ids x < length ids) × (get_or ids (place_in ids x) 0 ≡ x)) → (place_in (y ∷ ids) x < suc (length ids)) × (get_or (y ∷ ids) (place_in (y ∷ ids) x) 0 ≡ x)
+    by : (h : Bool) → (y == x) ≡ h → (h || is_among ids x) ≡ true → (is_among ids x ≡ true → (place_in ids x < length ids) × (get_or ids (place_in ids x) 0 ≡ x)) → (place_in (y ∷ ids) x < suc (length ids)) × (get_or (y ∷ ids) (place_in (y ∷ ids) x) 0 ≡ x)
     by true is there rest = subst stands (sym is) (omega arith, eqb-true y x is)
     by false is there rest = let r = rest there in let e : suc (place_in ids x) ≡ 1 + place_in ids x = omega arith in subst stands (sym is) (omega (arith, r.0), subst (λ (k : ℕ). get_or (y ∷ ids) k 0 ≡ x) e r.1)
 
@@ -89,27 +90,27 @@ module _ (back : Bool) (ids : List ℕ) (joins : List Join) (listed : AllByRecur
       by false = refl
 
   -- at the place of an id that is listed
-  p-on : (x : ℕ) → is_listed ids x ≡ true → p (place_in ids x) ≡ true → on x ≡ true
+  p-on : (x : ℕ) → is_among ids x ≡ true → p (place_in ids x) ≡ true → on x ≡ true
   p-on x there is =
       let at = at-place ids x there in
       let low : not (ltb (place_in ids x) (length ids)) ≡ false = ap not (lt-ltb (place_in ids x) (length ids) at.0) in
       let first : not (place_in ids (get_or ids (place_in ids x) 0) == place_in ids x) ≡ false = ap not (eq-eqb (place_in ids (get_or ids (place_in ids x) 0)) (place_in ids x) (ap (place_in ids) at.1)) in
       ap on (sym at.1) ∙ ap (λ (h : Bool × Bool). (h.0 || h.1) || on (get_or ids (place_in ids x) 0)) (λ i. (sym low i, sym first i)) ∙ is
 
-  on-p : (x : ℕ) → is_listed ids x ≡ true → on x ≡ true → p (place_in ids x) ≡ true
+  on-p : (x : ℕ) → is_among ids x ≡ true → on x ≡ true → p (place_in ids x) ≡ true
   on-p x there is = or_right (not (ltb (place_in ids x) (length ids)) || not (place_in ids (get_or ids (place_in ids x) 0) == place_in ids x)) _ (ap on (at-place ids x there).1 ∙ is)
 
-  near-listed : (j : Join) → IsIn j joins → is_listed ids (near_of back j) ≡ true
+  near-listed : (j : Join) → IsIn j joins → is_among ids (near_of back j) ≡ true
   near-listed j there = by back (in-all (IsListed ids) joins j listed there)
     where
-      by : (h : Bool) → IsListed ids j → is_listed ids (near_of h j) ≡ true
+      by : (h : Bool) → IsListed ids j → is_among ids (near_of h j) ≡ true
       by true both = both.1
       by false both = both.0
 
-  far-listed : (j : Join) → IsIn j joins → is_listed ids (far_of back j) ≡ true
+  far-listed : (j : Join) → IsIn j joins → is_among ids (far_of back j) ≡ true
   far-listed j there = by back (in-all (IsListed ids) joins j listed there)
     where
-      by : (h : Bool) → IsListed ids j → is_listed ids (far_of h j) ≡ true
+      by : (h : Bool) → IsListed ids j → is_among ids (far_of h j) ≡ true
       by true both = both.0
       by false both = both.1
 
@@ -137,7 +138,7 @@ module _ (back : Bool) (ids : List ℕ) (joins : List Join) (listed : AllByRecur
       ((k : ℕ) → get_or old k false ≡ true → get_or new k false ≡ true)
       → IsClosed back (map (by_places ids) joins) (λ k. get_or new k false)
       → ((q : ℕ → Bool) → IsClosed back (map (by_places ids) joins) q → ((k : ℕ) → get_or old k false ≡ true → q k ≡ true) → (k : ℕ) → get_or new k false ≡ true → q k ≡ true)
-      → (x : ℕ) → is_listed ids x ≡ true → is_marked ids new x ≡ is_reached back ids joins old x
+      → (x : ℕ) → is_among ids x ≡ true → is_marked ids new x ≡ is_reached back ids joins old x
   marks-reach kept closed least x there = both-true _ _ (λ is. p-on x there (least p p-closed p-begins (place_in ids x) is)) (λ is.
       let s = any-in (λ s. is_marked ids old s && leads_by back joins s x) ids is in
       let both = and_parts (is_marked ids old s.0) (leads_by back joins s.0 x) s.2 in

@@ -1,7 +1,8 @@
 -- Which joins leave a place, and the places that a walk has found.
 use Rattle.std.specs.Prelude.{◌≡◌, ℕ, zero, suc, ◌+◌, ◌<◌, ◌≤◌, List, length, Bool, true, false, ◌==◌, if◌then◌else◌, slice_index_or}
 use Rattle.stream_law.specs.declared.graph.Join.{Join}
-use Rattle.fw_places.specs.Walks.{near_of, unmarked, is_listed}
+use Rattle.stream_law.specs.Order.{is_among}
+use Rattle.fw_places.specs.Walks.{near_of, unmarked}
 
 abbrev pub no_join : Join
 no_join = record { source = 0; sink = 0 }
@@ -19,7 +20,7 @@ HasLinks back joins before = (n : ℕ) → n < length joins → slice_index_or b
 pub record AreFound (marks : List Bool) (found : List ℕ) : Type 0 where
   pub room : length found + unmarked marks ≤ length marks
   pub marked : (j : ℕ) → j < length found → slice_index_or marks (slice_index_or found j 0) false ≡ true
-  pub all : (k : ℕ) → slice_index_or marks k false ≡ true → is_listed found k ≡ true
+  pub all : (k : ℕ) → slice_index_or marks k false ≡ true → is_among found k ≡ true
 
 -- what was marked stays so, and more may be found behind what was found
 pub record GoOn (marks marks' : List Bool) (found found' : List ℕ) : Type 0 where

@@ -3,6 +3,7 @@ use Rattle.std.specs.Prelude.{◌≡◌, ℕ, suc, ◌<◌, List, [], ◌∷◌,
 use Rattle.std.specs.List.{AllByRecursion, list_any, position_or_len}
 use Rattle.stream_law.specs.declared.graph.Join.{Join}
 use Rattle.stream_law.specs.Ways.{leads}
+use Rattle.stream_law.specs.Order.{is_among}
 
 -- the end of a join that a walk comes from, and the one that it leads to: where walks go back, its sink and its source
 abbrev pub near_of : Bool → Join → ℕ
@@ -32,10 +33,6 @@ abbrev pub leads_by : Bool → List Join → ℕ → ℕ → Bool
 leads_by true joins a b = leads joins (length joins) b a
 leads_by false joins a b = leads joins (length joins) a b
 
--- an id is one of a list
-abbrev pub is_listed : List ℕ → ℕ → Bool
-is_listed ids x = list_any (λ y. y == x) ids
-
 -- the place of an id in a list; where it is not there, the place behind the last
 abbrev pub place_in : List ℕ → ℕ → ℕ
 place_in ids x = position_or_len (λ y. y == x) ids
@@ -46,7 +43,7 @@ by_places ids j = record { source = place_in ids j.source; sink = place_in ids j
 
 -- both ends of a join are listed
 abbrev pub IsListed : List ℕ → Join → Type 0
-IsListed ids j = (is_listed ids j.source ≡ true) × (is_listed ids j.sink ≡ true)
+IsListed ids j = (is_among ids j.source ≡ true) × (is_among ids j.sink ≡ true)
 
 -- an id is marked at its place
 abbrev pub is_marked : List ℕ → List Bool → ℕ → Bool

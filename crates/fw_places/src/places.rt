@@ -1,7 +1,8 @@
 // Ids by places, and joins between these.
 ghost use Rattle.std.specs.Prelude.{◌≡◌, ◌==◌, ◌&&◌, ◌<◌, ◌≤◌, ◌%◌, ℕ, true, false, length, map, take, position, slice_set, slice_index_or};
 ghost use Rattle.std.specs.List.{list_any, AllByRecursion};
-ghost use Rattle.fw_places.specs.Walks.{is_listed, IsListed, place_in, by_places, leads_by, is_marked, is_reached};
+ghost use Rattle.stream_law.specs.Order.{is_among};
+ghost use Rattle.fw_places.specs.Walks.{IsListed, place_in, by_places, leads_by, is_marked, is_reached};
 ghost use Rattle.fw_places.specs.Leaving.{AreFound};
 
 use crate::walk::{find_marked, spread};
@@ -62,7 +63,7 @@ impl Places {
 
     /// What walks lead to from one id, or from what walks lead to it where they go back.
     pub fn reached(&self, id: u32, back: bool) -> [bool; 257]
-        ensures { (x : ℕ) → is_listed self.now.ids x ≡ true → is_marked self.now.ids result x ≡ leads_by back self.now.joins id x }
+        ensures { (x : ℕ) → is_among self.now.ids x ≡ true → is_marked self.now.ids result x ≡ leads_by back self.now.joins id x }
     {
         let _ = &self.ids;
         let place = self.place(id);
@@ -103,7 +104,7 @@ impl Places {
     pub fn spread(&self, marks: &mut [bool], back: bool)
         requires { length marks.old ≡ 257 }
         ensures past { slice_index_or marks.old (length self.now.ids) false ≡ false → slice_index_or marks.new (length self.now.ids) false ≡ false }
-        ensures reached { (x : ℕ) → is_listed self.now.ids x ≡ true → is_marked self.now.ids marks.new x ≡ is_reached back self.now.ids self.now.joins marks.old x }
+        ensures reached { (x : ℕ) → is_among self.now.ids x ≡ true → is_marked self.now.ids marks.new x ≡ is_reached back self.now.ids self.now.joins marks.old x }
     {
         let _ = &self.ids;
         let mut found = ArrayVec::new();
@@ -116,7 +117,7 @@ impl Places {
         requires size { length marks.old ≡ 257 }
         requires found { AreFound marks.old found.old.items }
         ensures past { slice_index_or marks.old (length self.now.ids) false ≡ false → slice_index_or marks.new (length self.now.ids) false ≡ false }
-        ensures reached { (x : ℕ) → is_listed self.now.ids x ≡ true → is_marked self.now.ids marks.new x ≡ is_reached back self.now.ids self.now.joins marks.old x }
+        ensures reached { (x : ℕ) → is_among self.now.ids x ≡ true → is_marked self.now.ids marks.new x ≡ is_reached back self.now.ids self.now.joins marks.old x }
     {
         spread(marks, found, &self.ends[..self.count], back);
     }

@@ -15,7 +15,7 @@ use Rattle.stream_law.specs.Ways.{ins, outs, comp_of, source_of, sink_of, is_end
 use Rattle.stream_law.specs.Moves.{chooses, runs, quota, looks, fed, fed_by, is_empty}
 use Rattle.stream_law.specs.Made.{only_slice}
 use Rattle.stream_law.specs.Endpoints.{format_of, bytes_of_frames, bytes_written}
-use Rattle.stream_law.specs.Move.{Audio, after_move, blob_of, ring_length, ring_room, frames_moved, looked_now, fronts, bytes_moved, bytes_now}
+use Rattle.stream_law.specs.Move.{Audio, after_move, ring_length, ring_room, frames_moved, looked_now, fronts, bytes_moved, bytes_now}
 use Rattle.fw_components.specs.Tables.{Tables, graph_of, view_by, held_frames}
 use Rattle.fw_components.specs.Frames.{with_taken}
 use Rattle.fw_components.specs.Kept.{IsKept}
@@ -27,7 +27,7 @@ use Rattle.fw_schedule.proofs.ByKind.{chooses-of, written-of, reads-of, format-o
 use Rattle.fw_schedule.proofs.Still.{frames-heard}
 use Rattle.fw_schedule.proofs.Stages.{drained as drained-stage}
 use Rattle.fw_schedule.proofs.Along.{IsThere, IsAt, fits, in-at, only-passes}
-use Rattle.stream_law.specs.Seen.{is_equaliser, equalises}
+use Rattle.stream_law.specs.Seen.{is_equaliser, equalises, blob_in}
 use Rattle.stream_law.specs.declared.graph.Comp.{Comp}
 use Rattle.std.specs.Option.{option_map_or}
 
@@ -102,7 +102,7 @@ module _ (t : Tables) (kept : IsKept t) (can : CanTick t) (id : ℕ) (there : Is
 
   module _ (began : Tables) (start : Io) (inputs : List InputView) (outputs : List OutputView) (a : Audio) (ends : AreEnds start a) (stage : IsStage began start t inputs outputs a) (clock : ℕ) (run : runs v clock id ≡ true) where
     abbrev blobs : ℕ → List ℕ
-    blobs = blob_of (view_by t)
+    blobs = blob_in (view_by t)
 
     feed : fed_by v id ≡ []
     feed = ap (filter (fed v)) outs-none

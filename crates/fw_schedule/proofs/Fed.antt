@@ -16,7 +16,8 @@ use Rattle.stream_law.specs.Moves.{capacity, runs, quota, looks, fed, fed_by, is
 use Rattle.stream_law.specs.Made.{only_slice}
 use Rattle.stream_law.specs.Endpoints.{is_input, format_of, bytes_of_frames, bytes_written}
 use Rattle.stream_law.specs.Equaliser.{passed_frames}
-use Rattle.stream_law.specs.Move.{Audio, after_move, blob_of, ring_length, ring_room, frames_moved, looked_now, fronts, made_now, bytes_moved, bytes_now}
+use Rattle.stream_law.specs.Move.{Audio, after_move, ring_length, ring_room, frames_moved, looked_now, fronts, made_now, bytes_moved, bytes_now}
+use Rattle.stream_law.specs.Seen.{blob_in}
 use Rattle.fw_components.specs.Tables.{Tables, graph_of, view_by, held_frames, capacity_at}
 use Rattle.fw_components.specs.Frames.{pushed}
 use Rattle.fw_components.specs.Kept.{IsKept}
@@ -66,7 +67,7 @@ module _ (t : Tables) (kept : IsKept t) (can : CanTick t) (id : ℕ) (there : Is
 
   module _ (began : Tables) (start : Io) (inputs : List InputView) (outputs : List OutputView) (a : Audio) (ends : AreEnds start a) (stage : IsStage began start t inputs outputs a) (clock : ℕ) (run : runs v clock id ≡ true) where
     abbrev blobs : ℕ → List ℕ
-    blobs = blob_of (view_by t)
+    blobs = blob_in (view_by t)
 
     look : looked_now v blobs clock id a ≡ []
     look = ap (filter (looks v (ring_length v blobs clock id a) id)) ins-none

@@ -10,8 +10,8 @@ use Rattle.stream_law.specs.State.{View, RingView, History}
 use Rattle.stream_law.specs.Table.{list_of, number_of}
 use Rattle.stream_law.specs.Placed.{HasDistinct}
 use Rattle.stream_law.specs.Order.{is_among}
-use Rattle.stream_law.specs.Seen.{equalises}
-use Rattle.stream_law.specs.Move.{Audio, after_move, after_moves, blob_of}
+use Rattle.stream_law.specs.Seen.{equalises, blob_in}
+use Rattle.stream_law.specs.Move.{Audio, after_move, after_moves}
 use Rattle.stream_law.proofs.Keyed.{keyed, keyed-values, map-same, all-from, all-both}
 use Rattle.stream_law.proofs.Placing.{Ascends-distinct}
 use Rattle.row_laws.proofs.Fewer.{distinct-filter}
@@ -61,8 +61,8 @@ after-end v blobs clock (d ∷ cs) c a = after-end v blobs clock cs c (after_mov
 
 -- how far a tick has come: these have moved, and those are left
 pub record IsOnWay (began : Tables) (start : Io) (clock : ℕ) (a : Audio) (moved left : List ℕ) (t : Tables) (inputs' : List InputView) (outputs' : List OutputView) : Type 0 where
-  pub stage : IsStage began start t inputs' outputs' (after_moves (view_by began) (blob_of (view_by began)) clock moved a)
-  pub ends : AreEnds start (after_moves (view_by began) (blob_of (view_by began)) clock moved a)
+  pub stage : IsStage began start t inputs' outputs' (after_moves (view_by began) (blob_in (view_by began)) clock moved a)
+  pub ends : AreEnds start (after_moves (view_by began) (blob_in (view_by began)) clock moved a)
   pub single : IsDistinct nat_eq left
   pub room : AllByRecursion (λ c. 61440 ≤ room_at c outputs') left
   pub grew : (new : List OutputView) → Grew left outputs' new → Grew (moved ++ left) start.outputs new
@@ -73,14 +73,14 @@ unfolding IsDistinct
 on-step began start clock a moved c left t inputs outputs on u inputs' outputs' grew moves =
     let v = view_by began in
     let view : view_by t ≡ view_by began = view-still t began on.stage.bare in
-    let so_far = after_moves (view_by began) (blob_of (view_by began)) clock moved a in
+    let so_far = after_moves (view_by began) (blob_in (view_by began)) clock moved a in
     let step = moves began start so_far on.ends on.stage in
     record {
       stage =
           subst (IsStage began start u inputs' outputs')
-          ((λ i. after_move (view i) (blob_of (view i)) clock c (after_moves (view_by began) (blob_of (view_by began)) clock moved a)) ∙ sym (after-end (view_by began) (blob_of (view_by began)) clock moved c a))
+          ((λ i. after_move (view i) (blob_in (view i)) clock c (after_moves (view_by began) (blob_in (view_by began)) clock moved a)) ∙ sym (after-end (view_by began) (blob_in (view_by began)) clock moved c a))
           step;
-      ends = subst (AreEnds start) (sym (after-end (view_by began) (blob_of (view_by began)) clock moved c a)) (on-moved (view_by began) (blob_of (view_by began)) clock c start (after_moves (view_by began) (blob_of (view_by began)) clock moved a) on.ends);
+      ends = subst (AreEnds start) (sym (after-end (view_by began) (blob_in (view_by began)) clock moved c a)) (on-moved (view_by began) (blob_in (view_by began)) clock c start (after_moves (view_by began) (blob_in (view_by began)) clock moved a) on.ends);
       single = on.single.1;
       room = room-behind c left outputs outputs' grew on.single.0 on.room.1;
       grew = λ new rest. subst (λ cs. Grew cs start.outputs new) (sym (joined moved)) (on.grew new (grew-then c left outputs outputs' new (apart-among c left on.single.0) grew rest));

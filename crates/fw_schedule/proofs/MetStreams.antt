@@ -13,12 +13,13 @@ use Rattle.stream_law.specs.declared.stream.StreamView.{StreamView}
 use Rattle.stream_law.specs.State.{View}
 use Rattle.stream_law.specs.Ways.{live, active, live_params, on_way, is_live_phase, is_running_phase}
 use Rattle.stream_law.proofs.Members.{IsIn, any-in, in-any}
+use Rattle.stream_law.specs.Order.{is_among}
 use Rattle.fw_components.specs.declared.component.Component.{Component}
 use Rattle.fw_components.specs.declared.component.Unit as units
 use Rattle.fw_components.specs.declared.component.Unit.TheVariants.{Host, Dai, Volume, Mixer, Mux, Eq, Buffer, Pipeline}
 use Rattle.fw_components.specs.Tables.{Tables, graph_of, view_by, streams_by, with_stream_by}
 use Rattle.fw_components.specs.Kept.{IsKept}
-use Rattle.fw_places.specs.Walks.{is_listed, place_in}
+use Rattle.fw_places.specs.Walks.{place_in}
 use Rattle.fw_components.specs.Tables.{ids_of}
 use Rattle.fw_walks.proofs.LiveMarks.{live-listed}
 use Rattle.fw_schedule.specs.declared.spots.Spot.{Spot}
@@ -164,7 +165,7 @@ module _ (g : Graph) (x : ℕ) where
 
 -- what is so by these streams, of each component and buffer
 abbrev pub AreMet : Graph → List StreamView → List ℕ → List Spot → Type 0
-AreMet g ss ids spots = (x : ℕ) → is_listed ids x ≡ true → IsSpot (record { graph = g; streams = ss }) x (get_or spots (place_in ids x) bare_spot)
+AreMet g ss ids spots = (x : ℕ) → is_among ids x ≡ true → IsSpot (record { graph = g; streams = ss }) x (get_or spots (place_in ids x) bare_spot)
 
 pub bare-is : (g : Graph) (x : ℕ) → IsSpot (record { graph = g; streams = [] }) x bare_spot
 unfolding live active
@@ -191,8 +192,8 @@ not-live v x none = record {
 }
 
 pub are-spots : (t : Tables) → IsKept t → (s : Spots) → s.places.ids ≡ ids_of t → AreMet (graph_of t) (streams_by t.comps) s.places.ids s.spots → AreSpots t s
-are-spots t kept s is all = record { each = λ x. by x (is_listed s.places.ids x) refl }
+are-spots t kept s is all = record { each = λ x. by x (is_among s.places.ids x) refl }
   where
-    by : (x : ℕ) (h : Bool) → is_listed s.places.ids x ≡ h → IsSpot (view_by t) x (cond h (get_or s.spots (place_in s.places.ids x) bare_spot) bare_spot)
+    by : (x : ℕ) (h : Bool) → is_among s.places.ids x ≡ h → IsSpot (view_by t) x (cond h (get_or s.spots (place_in s.places.ids x) bare_spot) bare_spot)
     by x true there = all x there
     by x false none = not-live (view_by t) x (false_from_ne_true (live (view_by t) x) (λ e. true≢false (sym (live-listed t kept s.places.ids is x e) ∙ none)))

@@ -17,10 +17,10 @@ use Rattle.stream_law.specs.Joins.{fits_kind}
 use Rattle.stream_law.specs.Moves.{runs, quota, chooses, is_choosy, looks, looked_at, fed, fed_by, is_empty, least}
 use Rattle.stream_law.specs.Order.{is_among}
 use Rattle.stream_law.specs.Made.{only_slice, frames_made}
-use Rattle.stream_law.specs.Seen.{is_equaliser, equalises}
+use Rattle.stream_law.specs.Seen.{is_equaliser, equalises, blob_in}
 use Rattle.stream_law.specs.Endpoints.{is_input, format_of, bytes_of_frames, bytes_by, bytes_written}
 use Rattle.stream_law.specs.Equaliser.{passed_frames, numbers_after}
-use Rattle.stream_law.specs.Move.{Audio, after_move, blob_of, ring_length, ring_room, frames_moved, looked_now, fronts, made_now, bytes_moved, bytes_now}
+use Rattle.stream_law.specs.Move.{Audio, after_move, ring_length, ring_room, frames_moved, looked_now, fronts, made_now, bytes_moved, bytes_now}
 use Rattle.stream_law.proofs.Members.{IsIn, in-all, in-any, find-in, filter-most}
 use Rattle.stream_law.proofs.Placing.{Ascends-distinct}
 use Rattle.stream_law.proofs.Feeding.{frames_made_same, looked-parts}
@@ -290,7 +290,7 @@ module _ (t : Tables) (kept : IsKept t) (can : CanTick t) (id : ℕ) (there : Is
 
   module _ (began : Tables) (start : Io) (inputs : List InputView) (outputs : List OutputView) (a : Audio) (ends : AreEnds start a) (stage : IsStage began start t inputs outputs a) (clock : ℕ) (run : runs v clock id ≡ true) where
     abbrev blobs : ℕ → List ℕ
-    blobs = blob_of (view_by t)
+    blobs = blob_in (view_by t)
 
     silent : bytes_now v blobs clock id a ≡ []
     silent =
@@ -379,12 +379,12 @@ module _ (t : Tables) (kept : IsKept t) (can : CanTick t) (id : ℕ) (there : Is
           (histories-law : histories_of u ≡ map (with_numbers id (eq_numbers_at u id)) (histories_of t))
           (staging-law : staging_of u ≡ staging_of t)
           (made-law : (read : List Frame) → frames_made v id n read (slices_in t.buffers looked n) (λ blob channels frames. passed_frames blob channels (eq_numbers_at t id) frames) ≡ made_at t id looked n)
-          (numbers-law : option_map_or (λ x. is_equaliser x.kind) (comp_of (graph_of t) id) false ≡ true → numbers_after (blob_of v id) (channels_of v id) (eq_numbers_at t id) (only_slice (slices_in t.buffers looked n)) ≡ eq_numbers_at u id) where
+          (numbers-law : option_map_or (λ x. is_equaliser x.kind) (comp_of (graph_of t) id) false ≡ true → numbers_after (blob_in v id) (channels_of v id) (eq_numbers_at t id) (only_slice (slices_in t.buffers looked n)) ≡ eq_numbers_at u id) where
         made : made_now v blobs clock id a ≡ made_at t id looked n
         made =
             (λ i. frames_made v id (frames i) (frames_in (format_of v id) (channels_of v id) (list_of a.left id) 0 (frames i)) (sym slices i) (λ blob channels frames. passed_frames blob channels (list_of a.numbers id) frames))
             ∙ frames_made_same v id n (frames_in (format_of v id) (channels_of v id) (list_of a.left id) 0 n) (slices_in t.buffers looked n) (λ blob channels frames. passed_frames blob channels (list_of a.numbers id) frames) (λ blob channels frames. passed_frames blob channels (eq_numbers_at t id) frames)
-            (λ kind. ap (λ (numbers : List ℤ). passed_frames (blob_of v id) (channels_of v id) numbers (only_slice (slices_in t.buffers looked n))) (sym (numbers-now (equal-by kind))))
+            (λ kind. ap (λ (numbers : List ℤ). passed_frames (blob_in v id) (channels_of v id) numbers (only_slice (slices_in t.buffers looked n))) (sym (numbers-now (equal-by kind))))
             ∙ made-law (frames_in (format_of v id) (channels_of v id) (list_of a.left id) 0 n)
 
         next : Audio
@@ -425,7 +425,7 @@ module _ (t : Tables) (kept : IsKept t) (can : CanTick t) (id : ℕ) (there : Is
                 let equal : equalises v id ≡ true = (λ i. equalises (view-still t began stage.bare i) (sym (eqb-true h.comp id same) i)) ∙ each.0 in
                 let kind = (and_parts (live v id) (option_map_or (λ x. is_equaliser x.kind) (comp_of (graph_of t) id) false) equal).1 in
                 let numbers : eq_numbers_at u id ≡ numbers_after (blobs id) (channels_of v id) (list_of a.numbers id) (only_slice (fronts v blobs clock id a)) =
-                sym (numbers-law kind) ∙ (λ i. numbers_after (blob_of v id) (channels_of v id) (numbers-now equal i) (only_slice (slices i))) in
+                sym (numbers-law kind) ∙ (λ i. numbers_after (blob_in v id) (channels_of v id) (numbers-now equal i) (only_slice (slices i))) in
                 ap (history h.comp) numbers
                 ∙ sym (ap (λ q. history h.comp (cond q (numbers_after (blobs id) (channels_of v id) (list_of a.numbers id) (only_slice (fronts v blobs clock id a))) (list_of a.numbers h.comp))) (eqb-turned id h.comp ∙ same))
             by false other = sym (ap (λ q. history h.comp (cond q (numbers_after (blobs id) (channels_of v id) (list_of a.numbers id) (only_slice (fronts v blobs clock id a))) (list_of a.numbers h.comp))) (eqb-turned id h.comp ∙ other))

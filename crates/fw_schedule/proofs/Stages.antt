@@ -11,9 +11,9 @@ use Rattle.stream_law.specs.Table.{table, list_of, number_of}
 use Rattle.stream_law.specs.Ways.{channels_of}
 use Rattle.stream_law.specs.Moves.{fed_by}
 use Rattle.stream_law.specs.Made.{only_slice}
-use Rattle.stream_law.specs.Seen.{equalises}
+use Rattle.stream_law.specs.Seen.{equalises, blob_in}
 use Rattle.stream_law.specs.Equaliser.{numbers_after}
-use Rattle.stream_law.specs.Move.{Audio, after_move, blob_of, frames_moved, looked_now, fronts, made_now, bytes_moved, bytes_now, io_after}
+use Rattle.stream_law.specs.Move.{Audio, after_move, frames_moved, looked_now, fronts, made_now, bytes_moved, bytes_now, io_after}
 use Rattle.fw_components.specs.declared.component.Component.{Component}
 use Rattle.fw_components.specs.Tables.{Tables, view_by, rings_of, histories_of, numbers_by}
 use Rattle.fw_components.specs.Frames.{with_taken, pushed, with_frames}
@@ -78,10 +78,10 @@ module _ (began : Tables) (start : Io) (t : Tables) (inputs : List InputView) (o
   v = view_by t
 
   abbrev blobs : ℕ → List ℕ
-  blobs = blob_of (view_by t)
+  blobs = blob_in (view_by t)
 
   abbrev next : Audio
-  next = after_move (view_by t) (blob_of (view_by t)) clock c a
+  next = after_move (view_by t) (blob_in (view_by t)) clock c a
 
   -- numbers that no frame changes
   numbers-still : only_slice (fronts v blobs clock c a) ≡ [] → (x : ℕ) → list_of a.numbers x ≡ list_of next.numbers x

@@ -3,11 +3,12 @@ use Rattle.std.specs.Prelude.{◌≡◌, ℕ, List, [], ◌∷◌, Bool, true, f
 use Rattle.sof_base.specs.declared.format.Params.{Params}
 use Rattle.stream_law.specs.State.{View}
 use Rattle.stream_law.specs.Ways.{live, active, live_params, is_running_phase}
+use Rattle.stream_law.specs.Order.{is_among}
 use Rattle.fw_components.specs.declared.component.Unit as units
 use Rattle.fw_components.specs.Tables.{Tables, view_by}
 use Rattle.fw_walks.specs.declared.streams.Sort.TheVariants.{Live}
 use Rattle.fw_walks.specs.Streams.{is_of, any_stream}
-use Rattle.fw_places.specs.Walks.{is_listed, place_in}
+use Rattle.fw_places.specs.Walks.{place_in}
 use Rattle.fw_schedule.specs.Units.{stream_by}
 use Rattle.fw_schedule.specs.declared.spots.Spot.{Spot}
 use Rattle.fw_schedule.specs.declared.spots.Spots.{Spots}
@@ -24,7 +25,7 @@ bare_spot = record { live = false; active = false; params = None }
 
 -- the spot of a component or a buffer; all else is on the way of nothing
 abbrev pub spot_at : Spots → ℕ → Spot
-spot_at s x = if is_listed s.places.ids x then slice_index_or s.spots (place_in s.places.ids x) bare_spot else bare_spot
+spot_at s x = if is_among s.places.ids x then slice_index_or s.spots (place_in s.places.ids x) bare_spot else bare_spot
 
 -- each spot says what is so of its id
 pub record AreSpots (t : Tables) (s : Spots) : Type 0 where

@@ -5,7 +5,8 @@ use Rattle.stream_law.specs.Order.{is_among}
 use Rattle.stream_law.specs.Placed.{HasDistinct}
 use Rattle.stream_law.specs.State.{RingView, History}
 use Rattle.stream_law.specs.Table.{number_of, list_of}
-use Rattle.stream_law.specs.Move.{Audio, io_after, after_move, blob_of}
+use Rattle.stream_law.specs.Move.{Audio, io_after, after_move}
+use Rattle.stream_law.specs.Seen.{blob_in}
 use Rattle.fw_components.specs.declared.component.Unit as units
 use Rattle.fw_components.specs.declared.component.Unit.TheVariants.{Eq, Buffer}
 use Rattle.fw_components.specs.declared.component.Component.{Component}
@@ -53,7 +54,7 @@ pub record AreEnds (start : Io) (a : Audio) : Type 0 where
 abbrev pub Moves : (clock id : ℕ) → Tables → List InputView → List OutputView → Tables → List InputView → List OutputView → Type 0
 Moves clock id t inputs outputs t' inputs' outputs' =
     (began : Tables) (start : Io) (a : Audio) → AreEnds start a → IsStage began start t inputs outputs a
-    → IsStage began start t' inputs' outputs' (after_move (view_by t) (blob_of (view_by t)) clock id a)
+    → IsStage began start t' inputs' outputs' (after_move (view_by t) (blob_in (view_by t)) clock id a)
 
 -- outputs of the same slots, of which those of some slots alone are longer, by at most 61440 bytes
 abbrev pub Grew : List ℕ → List OutputView → List OutputView → Type 0

@@ -1,8 +1,9 @@
 // What is Live and Active, at the place of each component and buffer.
 ghost use Rattle.std.specs.Prelude.{◌≡◌, true, ℕ, slice_index_or, length};
 ghost use Rattle.stream_law.specs.Ways.{is_capture, is_running_phase};
+ghost use Rattle.stream_law.specs.Order.{is_among};
 ghost use Rattle.fw_components.specs.Tables.{kind_by};
-ghost use Rattle.fw_places.specs.Walks.{is_listed, place_in, leads_by};
+ghost use Rattle.fw_places.specs.Walks.{place_in, leads_by};
 ghost use Rattle.fw_schedule.specs.Spots.{AreSpots, bare_spot, spot_at, met, spot_met, met_where};
 
 use crate::units::stream_in;
@@ -67,7 +68,7 @@ impl Spots {
 // Notes what is on the way of a host's stream, where it is Running or Paused.
 fn meet_host(spots: &mut [Spot], places: &Places, host: &Component)
     requires { length spots.old ≡ 257 }
-    ensures { (x : ℕ) → is_listed places.now.ids x ≡ true →
+    ensures { (x : ℕ) → is_among places.now.ids x ≡ true →
         slice_index_or spots.new (place_in places.now.ids x) bare_spot
         ≡ spot_met host.now.unit (leads_by (is_capture (kind_by host.now.unit)) places.now.joins host.now.id x) (slice_index_or spots.old (place_in places.now.ids x) bare_spot) }
 {

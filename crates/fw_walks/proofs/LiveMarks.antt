@@ -7,6 +7,7 @@ use Rattle.std.specs.List.{list_any, AllByRecursion}
 use Rattle.stream_law.specs.declared.graph.Join.{Join}
 use Rattle.stream_law.specs.Ways.{live, on_way, is_capture, is_live_phase}
 use Rattle.stream_law.proofs.Members.{IsIn, in-each, in-all, in-any, any-in}
+use Rattle.stream_law.specs.Order.{is_among}
 use Rattle.fw_components.specs.declared.component.Component.{Component}
 use Rattle.fw_components.specs.Tables.{Tables, graph_of, view_by, kind_by}
 use Rattle.fw_components.specs.Changes.{has_id}
@@ -14,7 +15,7 @@ use Rattle.fw_components.specs.Kept.{IsKept}
 use Rattle.fw_walks.specs.declared.streams.Sort.{Sort}
 use Rattle.fw_walks.specs.declared.streams.Sort.TheVariants as sorts
 use Rattle.fw_walks.specs.Streams.{is_of, any_stream, is_host_of}
-use Rattle.fw_places.specs.Walks.{IsListed, is_listed, place_in, is_marked, is_reached, leads_by}
+use Rattle.fw_places.specs.Walks.{IsListed, place_in, is_marked, is_reached, leads_by}
 use Rattle.fw_components.specs.Tables.{ids_of}
 use Rattle.fw_places.proofs.Reaching.{at-place, both-true}
 use Rattle.fw_places.proofs.Charts.{listed-member, place-past, begins-listed}
@@ -35,7 +36,7 @@ any-or p q (x ∷ xs) = by (p x) (list_any p xs) (q x) (list_any q xs) ∙ ap (�
 -- ---- hosts, one after another
 
 -- what is listed is marked where it is the one that was marked last, or was marked before
-set-marked : (ids : List ℕ) (marks : List Bool) (a : ℕ) → is_listed ids a ≡ true → length ids < length marks → (x : ℕ) → is_listed ids x ≡ true → is_marked ids (set marks (place_in ids a) true) x ≡ (a == x || is_marked ids marks x)
+set-marked : (ids : List ℕ) (marks : List Bool) (a : ℕ) → is_among ids a ≡ true → length ids < length marks → (x : ℕ) → is_among ids x ≡ true → is_marked ids (set marks (place_in ids a) true) x ≡ (a == x || is_marked ids marks x)
 set-marked ids marks a at low x there = by (a == x) refl
   where
     here : place_in ids a < length marks
@@ -46,7 +47,7 @@ set-marked ids marks a at low x there = by (a == x) refl
     by false other = get_or-set_other marks (place_in ids a) (place_in ids x) true false (λ e. true≢false (sym (eq-eqb a x (sym (at-place ids a at).1 ∙ ap (λ (k : ℕ). get_or ids k 0) (sym e) ∙ (at-place ids x there).1)) ∙ other))
 
 -- nothing is marked behind the last
-pub past-stays : (ids : List ℕ) (marks : List Bool) (a : ℕ) → is_listed ids a ≡ true → get_or marks (length ids) false ≡ false → get_or (set marks (place_in ids a) true) (length ids) false ≡ false
+pub past-stays : (ids : List ℕ) (marks : List Bool) (a : ℕ) → is_among ids a ≡ true → get_or marks (length ids) false ≡ false → get_or (set marks (place_in ids a) true) (length ids) false ≡ false
 past-stays ids marks a at none = get_or-set_other marks (place_in ids a) (length ids) true false (λ e. absurd (omega (arith, e, (at-place ids a at).0))) ∙ none
 
 any-more : (q : Component → Bool) (cs : List Component) (i : ℕ) (d : Component) → i < length cs → list_any q (take (i + 1) cs) ≡ (list_any q (take i cs) || q (get_or cs i d))
@@ -58,9 +59,9 @@ any-more q cs i d low = ap (list_any q) (take_more cs i d low) ∙ list_any-appe
 
 module _ (sort : Sort) (capture : Bool) (ids : List ℕ) (cs : List Component) (i : ℕ) (d : Component) (low : i < length cs) where
   abbrev pub AreHosts : List Bool → ℕ → Type 0
-  AreHosts marks n = (x : ℕ) → is_listed ids x ≡ true → is_marked ids marks x ≡ list_any (λ c. c.id == x && is_host_of sort capture c) (take n cs)
+  AreHosts marks n = (x : ℕ) → is_among ids x ≡ true → is_marked ids marks x ≡ list_any (λ c. c.id == x && is_host_of sort capture c) (take n cs)
 
-  pub host-marked : (marks : List Bool) → AreHosts marks i → is_listed ids (get_or cs i d).id ≡ true → length ids < length marks → is_host_of sort capture (get_or cs i d) ≡ true → AreHosts (set marks (place_in ids (get_or cs i d).id) true) (i + 1)
+  pub host-marked : (marks : List Bool) → AreHosts marks i → is_among ids (get_or cs i d).id ≡ true → length ids < length marks → is_host_of sort capture (get_or cs i d) ≡ true → AreHosts (set marks (place_in ids (get_or cs i d).id) true) (i + 1)
   host-marked marks so_far at room is = λ x there.
       set-marked ids marks (get_or cs i d).id at room x there
       ∙ ap (λ h. (get_or cs i d).id == x || h) (so_far x there)
@@ -86,8 +87,8 @@ module _ (sort : Sort) (capture : Bool) (ids : List ℕ) (cs : List Component) (
 
 -- ---- what walks from them reach
 
-module _ (p : Component → Bool) (back : Bool) (ids : List ℕ) (joins : List Join) (cs : List Component) (listed : AllByRecursion (λ c. is_listed ids c.id ≡ true) cs)
-    (marks : List Bool) (hosts : (x : ℕ) → is_listed ids x ≡ true → is_marked ids marks x ≡ list_any (λ c. c.id == x && p c) cs) (x : ℕ) where
+module _ (p : Component → Bool) (back : Bool) (ids : List ℕ) (joins : List Join) (cs : List Component) (listed : AllByRecursion (λ c. is_among ids c.id ≡ true) cs)
+    (marks : List Bool) (hosts : (x : ℕ) → is_among ids x ≡ true → is_marked ids marks x ≡ list_any (λ c. c.id == x && p c) cs) (x : ℕ) where
   pub hosts-reach : is_reached back ids joins marks x ≡ list_any (λ c. p c && leads_by back joins c.id x) cs
   hosts-reach = both-true _ _ (λ e.
       let s = any-in (λ s. is_marked ids marks s && leads_by back joins s x) ids e in
@@ -97,15 +98,15 @@ module _ (p : Component → Bool) (back : Bool) (ids : List ℕ) (joins : List J
       in-any (λ c. p c && leads_by back joins c.id x) cs c.0 c.1 (and_from (p c.0) _ own.1 (subst (λ n. leads_by back joins n x ≡ true) (sym (eqb-true c.0.id s.0 own.0)) both.1))) (λ e.
       let c = any-in (λ c. p c && leads_by back joins c.id x) cs e in
       let both = and_parts (p c.0) _ c.2 in
-      let here = in-all (λ (c : Component). is_listed ids c.id ≡ true) cs c.0 listed c.1 in
+      let here = in-all (λ (c : Component). is_among ids c.id ≡ true) cs c.0 listed c.1 in
       in-any (λ s. is_marked ids marks s && leads_by back joins s x) ids c.0.id (listed-member ids c.0.id here) (and_from (is_marked ids marks c.0.id) _ (hosts c.0.id here ∙ in-any (λ d. d.id == c.0.id && p d) cs c.0 c.1 (and_from (c.0.id == c.0.id) _ (eq-eqb c.0.id c.0.id refl) both.0)) both.1))
 
 module _ (t : Tables) (kept : IsKept t) (ids : List ℕ) (is : ids ≡ ids_of t) where
-  host-listed : (c : Component) → IsIn c t.comps → is_listed ids c.id ≡ true
-  host-listed c there = ap (λ (xs : List ℕ). is_listed xs c.id) is ∙ listed-is t c.id ∙ or_left (has_id t.comps c.id) _ (in-any (λ d. d.id == c.id) t.comps c there (eq-eqb c.id c.id refl))
+  host-listed : (c : Component) → IsIn c t.comps → is_among ids c.id ≡ true
+  host-listed c there = ap (λ (xs : List ℕ). is_among xs c.id) is ∙ listed-is t c.id ∙ or_left (has_id t.comps c.id) _ (in-any (λ d. d.id == c.id) t.comps c there (eq-eqb c.id c.id refl))
 
-  pub hosts-listed : AllByRecursion (λ c. is_listed ids c.id ≡ true) t.comps
-  hosts-listed = in-each (λ (c : Component). is_listed ids c.id ≡ true) t.comps host-listed
+  pub hosts-listed : AllByRecursion (λ c. is_among ids c.id ≡ true) t.comps
+  hosts-listed = in-each (λ (c : Component). is_among ids c.id ≡ true) t.comps host-listed
 
   abbrev ahead : ℕ → Component → Bool
   ahead x c = is_host_of sorts.Live false c && leads_by false t.joins c.id x
@@ -130,28 +131,28 @@ module _ (t : Tables) (kept : IsKept t) (ids : List ℕ) (is : ids ≡ ids_of t)
       by false k a b = refl
 
   -- what is Live is a component or a buffer
-  pub live-listed : (x : ℕ) → live (view_by t) x ≡ true → is_listed ids x ≡ true
+  pub live-listed : (x : ℕ) → live (view_by t) x ≡ true → is_among ids x ≡ true
   live-listed x e = by (or_cases (list_any (ahead x) t.comps) (list_any (behind x) t.comps) (live-either x ∙ e))
     where
       joins : AllByRecursion (IsListed ids) t.joins
       joins = subst (λ (xs : List ℕ). AllByRecursion (IsListed xs) t.joins) (sym is) (joins-listed t kept)
 
-      by : (list_any (ahead x) t.comps ≡ true) ⊎ (list_any (behind x) t.comps ≡ true) → is_listed ids x ≡ true
+      by : (list_any (ahead x) t.comps ≡ true) ⊎ (list_any (behind x) t.comps ≡ true) → is_among ids x ≡ true
       by (inl led) = let c = any-in (ahead x) t.comps led in begins-listed true ids t.joins joins x c.0.id (and_parts (is_host_of sorts.Live false c.0) _ c.2).1 (host-listed c.0 c.1)
       by (inr led) = let c = any-in (behind x) t.comps led in begins-listed false ids t.joins joins x c.0.id (and_parts (is_host_of sorts.Live true c.0) _ c.2).1 (host-listed c.0 c.1)
 
   -- marks of both kinds of hosts, spread and put together
   pub live-marked : (front back front' back' all : List Bool)
-      → ((x : ℕ) → is_listed ids x ≡ true → is_marked ids front x ≡ list_any (λ c. c.id == x && is_host_of sorts.Live false c) t.comps)
-      → ((x : ℕ) → is_listed ids x ≡ true → is_marked ids back x ≡ list_any (λ c. c.id == x && is_host_of sorts.Live true c) t.comps)
-      → ((x : ℕ) → is_listed ids x ≡ true → is_marked ids front' x ≡ is_reached false ids t.joins front x)
-      → ((x : ℕ) → is_listed ids x ≡ true → is_marked ids back' x ≡ is_reached true ids t.joins back x)
+      → ((x : ℕ) → is_among ids x ≡ true → is_marked ids front x ≡ list_any (λ c. c.id == x && is_host_of sorts.Live false c) t.comps)
+      → ((x : ℕ) → is_among ids x ≡ true → is_marked ids back x ≡ list_any (λ c. c.id == x && is_host_of sorts.Live true c) t.comps)
+      → ((x : ℕ) → is_among ids x ≡ true → is_marked ids front' x ≡ is_reached false ids t.joins front x)
+      → ((x : ℕ) → is_among ids x ≡ true → is_marked ids back' x ≡ is_reached true ids t.joins back x)
       → get_or front' (length ids) false ≡ false → get_or back' (length ids) false ≡ false
       → ((k : ℕ) → get_or all k false ≡ (get_or front' k false || get_or back' k false))
       → (x : ℕ) → is_marked ids all x ≡ live (view_by t) x
-  live-marked front back front' back' all first second led leading past_front past_back both x = by (is_listed ids x) refl
+  live-marked front back front' back' all first second led leading past_front past_back both x = by (is_among ids x) refl
     where
-      by : (h : Bool) → is_listed ids x ≡ h → is_marked ids all x ≡ live (view_by t) x
+      by : (h : Bool) → is_among ids x ≡ h → is_marked ids all x ≡ live (view_by t) x
       by true there =
           both _
           ∙ ap (λ (p : Bool × Bool). p.0 || p.1) (λ i. ((led x there ∙ hosts-reach (is_host_of sorts.Live false) false ids t.joins t.comps hosts-listed front first x) i, (leading x there ∙ hosts-reach (is_host_of sorts.Live true) true ids t.joins t.comps hosts-listed back second x) i))

@@ -6,6 +6,7 @@ use Rattle.std.specs.List.{list_any}
 use Rattle.stream_law.specs.declared.stream.StreamView.{StreamView}
 use Rattle.stream_law.specs.Ways.{on_way, is_capture}
 use Rattle.stream_law.proofs.Members.{IsIn, in-any}
+use Rattle.stream_law.specs.Order.{is_among}
 use Rattle.fw_components.specs.declared.component.Component.{Component}
 use Rattle.fw_components.specs.declared.component.Unit as units
 use Rattle.fw_components.specs.declared.component.Unit.TheVariants.{Host, Dai, Volume, Mixer, Mux, Eq, Buffer, Pipeline}
@@ -14,7 +15,7 @@ use Rattle.fw_components.specs.Changes.{has_id}
 use Rattle.fw_walks.specs.declared.streams.Sort.{Sort}
 use Rattle.fw_walks.specs.declared.streams.Sort.TheVariants.{All, Live, Running, Set}
 use Rattle.fw_walks.specs.Streams.{is_of, any_stream, is_met}
-use Rattle.fw_places.specs.Walks.{leads_by, is_listed, is_marked}
+use Rattle.fw_places.specs.Walks.{leads_by, is_marked}
 use Rattle.fw_components.specs.Tables.{ids_of}
 use Rattle.fw_components.specs.Kept.{IsKept}
 use Rattle.fw_components.proofs.Listed.{listed-is}
@@ -73,10 +74,10 @@ module _ (sort : Sort) (q : ℕ → Bool) where
 -- ---- what is on the ways of streams
 
 module _ (t : Tables) (kept : IsKept t) (sort : Sort) (id : ℕ) (ids : List ℕ) (is : ids ≡ ids_of t) (before behind : List Bool)
-    (led : (x : ℕ) → is_listed ids x ≡ true → is_marked ids before x ≡ leads_by true t.joins id x)
-    (leading : (x : ℕ) → is_listed ids x ≡ true → is_marked ids behind x ≡ leads_by false t.joins id x) where
-  listed : (c : Component) → IsIn c t.comps → is_listed ids c.id ≡ true
-  listed c there = ap (λ (xs : List ℕ). is_listed xs c.id) is ∙ listed-is t c.id ∙ or_left (has_id t.comps c.id) _ (in-any (λ d. d.id == c.id) t.comps c there (eq-eqb c.id c.id refl))
+    (led : (x : ℕ) → is_among ids x ≡ true → is_marked ids before x ≡ leads_by true t.joins id x)
+    (leading : (x : ℕ) → is_among ids x ≡ true → is_marked ids behind x ≡ leads_by false t.joins id x) where
+  listed : (c : Component) → IsIn c t.comps → is_among ids c.id ≡ true
+  listed c there = ap (λ (xs : List ℕ). is_among xs c.id) is ∙ listed-is t c.id ∙ or_left (has_id t.comps c.id) _ (in-any (λ d. d.id == c.id) t.comps c there (eq-eqb c.id c.id refl))
 
   met : (c : Component) → IsIn c t.comps → is_met sort ids before behind c ≡ any_stream (λ s. is_of sort s && on_way (graph_of t) s.host id) c.id c.unit
   met c there =

@@ -2,10 +2,11 @@
 ghost use Rattle.std.specs.Prelude.{◌≡◌, ◌==◌, ◌&&◌, ◌||◌, ℕ, true, false, length, slice_index_or};
 ghost use Rattle.std.specs.List.{list_any, AllByRecursion};
 ghost use Rattle.stream_law.specs.Ways.{live as is_live};
+ghost use Rattle.stream_law.specs.Order.{is_among};
 ghost use Rattle.fw_components.specs.Tables.{view_by};
 ghost use Rattle.fw_walks.specs.Charts.{IsChartOf};
 ghost use Rattle.fw_walks.specs.Streams.{is_host_of};
-ghost use Rattle.fw_places.specs.Walks.{is_listed, is_marked};
+ghost use Rattle.fw_places.specs.Walks.{is_marked};
 
 use crate::kinds::captures;
 use crate::streams::{Sort, has_stream};
@@ -27,8 +28,8 @@ pub fn live_marks(registry: &Registry, places: &Places) -> [bool; 257]
 
 /// Marks the hosts of playbacks, or of captures, whose streams are of a sort.
 pub fn mark_hosts(comps: &[Component], places: &Places, sort: Sort, capture: bool) -> [bool; 257]
-    requires { AllByRecursion (λ c. is_listed places.now.ids c.id ≡ true) comps.now }
-    ensures hosts { (x : ℕ) → is_listed places.now.ids x ≡ true → is_marked places.now.ids result x ≡ list_any (λ c. c.id == x && is_host_of sort capture c) comps.now }
+    requires { AllByRecursion (λ c. is_among places.now.ids c.id ≡ true) comps.now }
+    ensures hosts { (x : ℕ) → is_among places.now.ids x ≡ true → is_marked places.now.ids result x ≡ list_any (λ c. c.id == x && is_host_of sort capture c) comps.now }
     ensures past { slice_index_or result (length places.now.ids) false ≡ false }
 {
     // For the proof alone: there are at most 256 ids.

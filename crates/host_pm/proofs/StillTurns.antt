@@ -135,7 +135,7 @@ module _ (plan : Plan) (heap : ℕ) where
   row-rested : (t : ℕ) (host : ℕ) (p : Params) (f f' : FwState) → IsRested t f → row f (act_message plan (Prepare host p)) ≡ Ok f' → IsRested t f'
   row-rested t host p f f' rested done =
       let v = fw.with_params f host p in
-      let l = last-test (not (fw.is_used f.graph host)) (not (fw.has_kind (λ kind. fw.goes kind (direction_of plan host)) (fw.kind_at f.graph host))) (fw.is_stream_phase fw.is_moving (fw.phase_at f host))
+      let l = last-test (not (fw.is_used f.graph host)) (not (fw.has_kind (λ kind. fw.goes kind (direction_of plan host)) (fw.kind_at f.graph host))) (fw.is_stream_phase is_live_phase (fw.phase_at f host))
       (not (fw.is_rate p.rate)) (not (fw.is_way_ready f.graph host)) (agree v) no_device invalid (seen v None f) f' done in
       subst (IsRested t) l.1 (seen-rested t v f (ap not (none-set host p f.streams (not-true (list_any (λ (s : StreamView). is_live_phase s.phase) f.streams) rested.silent))) rested)
 

@@ -14,7 +14,7 @@ use Rattle.stream_law.specs.Seen.{seen, ring_seen, flows}
 use Rattle.stream_law.specs.Placed.{AreAbove, Ascends}
 use Rattle.stream_law.specs.State.{RingView, FwState, View}
 use Rattle.stream_law.specs.Ways.{agree, is_live_phase}
-use Rattle.mbox_link.specs.Step.{fresh, set_stream, is_moving, is_rate, invalid}
+use Rattle.mbox_link.specs.Step.{fresh, set_stream, is_rate, invalid}
 use Rattle.tplg_plan.specs.declared.plans.Plan.{Plan}
 use Rattle.tplg_plan.specs.declared.plans.StreamPlan.{StreamPlan}
 use Rattle.tplg_plan.specs.Sound.{IsSound}
@@ -217,7 +217,7 @@ module _ (plan : Plan) where
         agrees-so =
             ap (λ (ss : List StreamView). agree (record { graph = graph_by plan now; streams = ss })) same
             ∙ agrees plan sound setting now.streams is.streams host some (shown_state now) refl is.shapes p (and_parts (is_rate p.rate) _ range).0
-            (all-at (λ r. takes_params r.found ≡ true) (λ r. is_moving (phase_of r.found) ≡ false) (λ r. rests r.found) host plan.streams now.streams all)
+            (all-at (λ r. takes_params r.found ≡ true) (λ r. is_live_phase (phase_of r.found) ≡ false) (λ r. rests r.found) host plan.streams now.streams all)
 
         by : (b : Bool) → not b ≡ true → (if b then Some (errno invalid) else None) ≡ None
         by true is_not = absurd (false≢true is_not)

@@ -8,6 +8,7 @@ use Rattle.stream_law.specs.declared.stream.Phase.TheVariants as phases
 use Rattle.stream_law.specs.declared.stream.StreamView.{StreamView}
 use Rattle.stream_law.specs.State.{FwState, View, view_of}
 use Rattle.stream_law.specs.Seen.{seen}
+use Rattle.stream_law.specs.Ways.{is_live_phase, is_running_phase}
 use Rattle.mbox_link.specs.Step as fw
 use Rattle.mbox_link.specs.Step.{row, set_phase, set_stream, invalid, no_device}
 use Rattle.tplg_plan.specs.declared.plans.Plan.{Plan}
@@ -79,8 +80,8 @@ module _ (plan : Plan) (kept : Record) (f f' : FwState) (shows : view_of f ≡ r
 
   pub trig-seen : (host : ℕ) (what : Trigger) → row f (act_message plan (Trig host what)) ≡ Ok f' → f' ≡ seen (record_view plan (after plan (Trig host what) kept)) None f
   trig-seen host Start done = changed-seen host fw.is_prepared (set_phase host phases.Running) (after plan (Trig host Start) kept) refl (set-phase-shown host Start plan.streams kept.streams) done
-  trig-seen host Stop done = changed-seen host fw.is_moving (set_phase host phases.Prepared) (after plan (Trig host Stop) kept) refl (set-phase-shown host Stop plan.streams kept.streams) done
-  trig-seen host Pause done = changed-seen host fw.is_running (set_phase host phases.Paused) (after plan (Trig host Pause) kept) refl (set-phase-shown host Pause plan.streams kept.streams) done
+  trig-seen host Stop done = changed-seen host is_live_phase (set_phase host phases.Prepared) (after plan (Trig host Stop) kept) refl (set-phase-shown host Stop plan.streams kept.streams) done
+  trig-seen host Pause done = changed-seen host is_running_phase (set_phase host phases.Paused) (after plan (Trig host Pause) kept) refl (set-phase-shown host Pause plan.streams kept.streams) done
   trig-seen host Release done = changed-seen host fw.is_paused (set_phase host phases.Running) (after plan (Trig host Release) kept) refl (set-phase-shown host Release plan.streams kept.streams) done
 
   pub free-seen : (host : ℕ) → row f (act_message plan (Free host)) ≡ Ok f' → f' ≡ seen (record_view plan (after plan (Free host) kept)) None f

@@ -10,12 +10,12 @@ use Rattle.stream_law.specs.declared.graph.Comp.{Comp}
 use Rattle.stream_law.specs.declared.graph.Edge.{Edge}
 use Rattle.stream_law.specs.declared.graph.Graph.{Graph}
 use Rattle.stream_law.specs.declared.stream.StreamView.{StreamView}
-use Rattle.stream_law.specs.Ways.{comp_of, edge_of, buffers, ins, outs, reaches, on_way, is_capture, touch}
+use Rattle.stream_law.specs.Ways.{comp_of, edge_of, buffers, ins, outs, reaches, on_way, is_capture, touch, is_complete}
 use Rattle.stream_law.specs.Joins.{fits_kind}
 use Rattle.mbox_link.specs.Step.{with_comps, kind_at, has_kind, is_host, goes, is_used, has_edge, has_pipe, is_ready_comp, is_ready_edge, is_way_ready}
 use Rattle.tplg_plan.specs.declared.plans.Plan.{Plan}
 use Rattle.tplg_plan.specs.declared.plans.StreamPlan.{StreamPlan}
-use Rattle.tplg_plan.specs.Sound.{IsSound, host_by, host_of, has_pipeline}
+use Rattle.tplg_plan.specs.Sound.{IsSound, host_by, host_of}
 use Rattle.host_widgets.specs.Acts.{direction_by, direction_of}
 use Rattle.host_widgets.proofs.LookedUp.{find-map, any-found}
 use Rattle.host_widgets.proofs.NamedIds.{buffer-found, each-comp, each-edge}
@@ -65,7 +65,7 @@ module _ (plan : Plan) (sound : IsSound plan) where
     abbrev after : Graph
     after = set_as setting plan.graph
 
-    comps-ready : (host : ℕ) (cs : List Comp) → AllByRecursion (λ (c : Comp). has_pipeline plan.graph c.pipe ≡ true) cs →
+    comps-ready : (host : ℕ) (cs : List Comp) → AllByRecursion (λ (c : Comp). is_complete plan.graph c.pipe ≡ true) cs →
         list_all (λ (c : Comp). fits_kind c.kind (length (ins plan.graph c.id)) (length (outs plan.graph c.id))) cs ≡ true →
         list_all (λ (c : Comp). not (on_way after host c.id) || is_ready_comp after c) (map (set_by setting) cs) ≡ true
     comps-ready host [] piped fits = refl
@@ -73,10 +73,10 @@ module _ (plan : Plan) (sound : IsSound plan) where
         let parts = and_parts (fits_kind c.kind (length (ins plan.graph c.id)) (length (outs plan.graph c.id))) (list_all (λ (x : Comp). fits_kind x.kind (length (ins plan.graph x.id)) (length (outs plan.graph x.id))) cs) fits in
         and_from (not (on_way after host c.id) || is_ready_comp after (set_by setting c)) (list_all (λ (x : Comp). not (on_way after host x.id) || is_ready_comp after x) (map (set_by setting) cs))
         (or_right (not (on_way after host c.id)) (is_ready_comp after (set_by setting c))
-        (and_from (has_pipeline plan.graph c.pipe) (fits_kind c.kind (length (ins plan.graph c.id)) (length (outs plan.graph c.id))) piped.0 parts.0))
+        (and_from (is_complete plan.graph c.pipe) (fits_kind c.kind (length (ins plan.graph c.id)) (length (outs plan.graph c.id))) piped.0 parts.0))
         (comps-ready host cs piped.1 parts.1)
 
-    edges-ready : (host : ℕ) (es : List Edge) → AllByRecursion (λ (e : Edge). has_pipeline plan.graph e.pipe ≡ true) es → AllByRecursion (λ (e : Edge). edge_of plan.graph e.buffer ≡ Some e) es →
+    edges-ready : (host : ℕ) (es : List Edge) → AllByRecursion (λ (e : Edge). is_complete plan.graph e.pipe ≡ true) es → AllByRecursion (λ (e : Edge). edge_of plan.graph e.buffer ≡ Some e) es →
         list_all (λ (e : Edge). not (on_way after host e.buffer) || is_ready_edge after e) es ≡ true
     edges-ready host [] piped there = refl
     edges-ready host (e ∷ es) piped there =

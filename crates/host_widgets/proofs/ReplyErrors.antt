@@ -7,7 +7,7 @@ use Rattle.std.specs.Int.RustNames.{FitsSigned}
 use Rattle.ipc3_codec.specs.declared.reply.Reply.{Reply}
 use Rattle.ipc3_codec.specs.declared.reply.Body.{Body}
 use Rattle.ipc3_codec.specs.declared.reply.Body.TheVariants.{Nothing, Values, Part}
-use Rattle.ipc3_codec.specs.Messages.{unless_fault}
+use Rattle.ipc3_codec.specs.Messages.{faultless}
 use Rattle.ipc3_codec.specs.Replies.{decoded_reply, reply_fault, reply_of, reply_spelling}
 use Rattle.ipc3_codec.proofs.Spelled.{decoded_reply-spelling}
 use Rattle.sof_base.specs.Slots.{slots_cells, slot_cells, word_at}
@@ -44,7 +44,7 @@ word-zero Nothing = refl
 word-zero (Values values) = refl
 word-zero (Part part) = refl
 
-what-reads : (fault : Option CodecFault) (r reply : Reply) → unless_fault fault r ≡ Ok reply → r ≡ reply
+what-reads : (fault : Option CodecFault) (r reply : Reply) → faultless fault r ≡ Ok reply → r ≡ reply
 what-reads None r reply is = cc is
 what-reads (Some f) r reply is = absurd (cc is)
 

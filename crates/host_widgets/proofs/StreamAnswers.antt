@@ -9,6 +9,7 @@ use Rattle.stream_law.specs.declared.stream.Phase.TheVariants as phases
 use Rattle.stream_law.specs.declared.stream.StreamView.{StreamView}
 use Rattle.stream_law.specs.State.{FwState, view_of}
 use Rattle.stream_law.specs.Seen.{seen}
+use Rattle.stream_law.specs.Ways.{is_live_phase, is_running_phase}
 use Rattle.mbox_link.specs.Step as fw
 use Rattle.mbox_link.specs.Step.{row, invalid, set_phase, set_stream, with_params, stream_changed, is_rate}
 use Rattle.tplg_plan.specs.declared.plans.Plan.{Plan}
@@ -37,8 +38,8 @@ use Rattle.host_widgets.proofs.ActsCome.{answer_by}
 -- the phases from which a trigger leads
 abbrev pub from_of : Trigger → Phase → Bool
 from_of Start = fw.is_prepared
-from_of Stop = fw.is_moving
-from_of Pause = fw.is_running
+from_of Stop = is_live_phase
+from_of Pause = is_running_phase
 from_of Release = fw.is_paused
 
 pub from-phase : (what : Trigger) (found : Found) → takes_trigger what found ≡ true → from_of what (phase_of found) ≡ true
@@ -67,7 +68,7 @@ from-phase Release Running is = absurd (cc is)
 from-phase Release Paused is = refl
 from-phase Release Found_On is = absurd (cc is)
 
-pub rests : (found : Found) → takes_params found ≡ true → fw.is_moving (phase_of found) ≡ false
+pub rests : (found : Found) → takes_params found ≡ true → is_live_phase (phase_of found) ≡ false
 rests Closed is = absurd (cc is)
 rests Open is = refl
 rests Prepared is = refl
@@ -105,8 +106,8 @@ module _ (plan : Plan) (sound : IsSound plan) (kept : Record) (is : IsRecordOf p
     where
       by : (what : Trigger) → Stand (λ r. from_of what (phase_of r.found) ≡ true) → IsAnswered (Trig host what)
       by Start all = let done = does fw.is_prepared (set_phase host phases.Running) all in done ∙ ap Ok (trig-seen plan kept f (changed_to (set_phase host phases.Running)) shows host Start done)
-      by Stop all = let done = does fw.is_moving (set_phase host phases.Prepared) all in done ∙ ap Ok (trig-seen plan kept f (changed_to (set_phase host phases.Prepared)) shows host Stop done)
-      by Pause all = let done = does fw.is_running (set_phase host phases.Paused) all in done ∙ ap Ok (trig-seen plan kept f (changed_to (set_phase host phases.Paused)) shows host Pause done)
+      by Stop all = let done = does is_live_phase (set_phase host phases.Prepared) all in done ∙ ap Ok (trig-seen plan kept f (changed_to (set_phase host phases.Prepared)) shows host Stop done)
+      by Pause all = let done = does is_running_phase (set_phase host phases.Paused) all in done ∙ ap Ok (trig-seen plan kept f (changed_to (set_phase host phases.Paused)) shows host Pause done)
       by Release all = let done = does fw.is_paused (set_phase host phases.Running) all in done ∙ ap Ok (trig-seen plan kept f (changed_to (set_phase host phases.Running)) shows host Release done)
 
   -- a stream that is prepared is freed
@@ -123,7 +124,7 @@ module _ (plan : Plan) (sound : IsSound plan) (kept : Record) (is : IsRecordOf p
       next = seen (with_params f host p) None f
 
       whole : row f (act_message plan (Prepare host p)) ≡ (if list_any (conflicts plan host p) (zip plan.streams kept.streams) then Err invalid else Ok next)
-      whole = prepares plan sound setting kept.streams is.streams host some f shows is.shapes p rate (all-at (λ r. takes_params r.found ≡ true) (λ r. fw.is_moving (phase_of r.found) ≡ false) (λ r. rests r.found) host plan.streams kept.streams all)
+      whole = prepares plan sound setting kept.streams is.streams host some f shows is.shapes p rate (all-at (λ r. takes_params r.found ≡ true) (λ r. is_live_phase (phase_of r.found) ≡ false) (λ r. rests r.found) host plan.streams kept.streams all)
 
       by : (b : Bool) → row f (act_message plan (Prepare host p)) ≡ (if b then Err invalid else Ok next) →
           row f (act_message plan (Prepare host p)) ≡ answer_by (if b then Some (errno invalid) else None) (seen (record_view plan (after plan (Prepare host p) kept)) None f)

@@ -12,8 +12,8 @@ use Rattle.stream_law.specs.declared.stream.Phase.TheVariants as phases
 use Rattle.stream_law.specs.declared.stream.StreamView.{StreamView}
 use Rattle.stream_law.specs.State.{FwState, View, view_of}
 use Rattle.stream_law.specs.Seen.{seen}
-use Rattle.stream_law.specs.Ways.{agree, same_shape}
-use Rattle.mbox_link.specs.Step.{invalid, no_device, is_used, is_rate, is_way_ready, is_host, goes, has_kind, is_stream_phase, is_moving, kind_at, phase_at, set_stream, with_params, stream_changed, pcm_params}
+use Rattle.stream_law.specs.Ways.{agree, same_shape, is_live_phase}
+use Rattle.mbox_link.specs.Step.{invalid, no_device, is_used, is_rate, is_way_ready, is_host, goes, has_kind, is_stream_phase, kind_at, phase_at, set_stream, with_params, stream_changed, pcm_params}
 use Rattle.tplg_plan.specs.declared.plans.Plan.{Plan}
 use Rattle.tplg_plan.specs.declared.plans.StreamPlan.{StreamPlan}
 use Rattle.tplg_plan.specs.Sound.{IsSound}
@@ -94,7 +94,7 @@ module _ (plan : Plan) (sound : IsSound plan) (setting : Comp → Setting) (rs :
         λ i. if not (used i) then Err no_device else if not (kind i && phase i) then Err invalid else Ok (seen (record { graph = f.graph; streams = map to f.streams }) None f)
 
     -- Parameters with a known rate, for a stream that does not move: they are refused exactly where the stream conflicts with another.
-    module _ (were : agree view ≡ true) (p : Params) (rate : is_rate p.rate ≡ true) (rests : AllAt (λ r. is_moving (phase_of r.found) ≡ false) host plan.streams rs) where
+    module _ (were : agree view ≡ true) (p : Params) (rate : is_rate p.rate ≡ true) (rests : AllAt (λ r. is_live_phase (phase_of r.found) ≡ false) host plan.streams rs) where
       pub agrees : agree (with_params f host p) ≡ not (list_any (conflicts plan host p) (zip plan.streams rs))
       agrees =
           ap (λ (v : View). agree (record { graph = v.graph; streams = map (set_stream host phases.Prepared (Some p)) v.streams })) shows
@@ -107,9 +107,9 @@ module _ (plan : Plan) (sound : IsSound plan) (setting : Comp → Setting) (rs :
           let used : is_used f.graph host ≡ true = ap (λ (v : View). is_used v.graph host) shows ∙ host-used plan sound setting host some in
           let kind : has_kind (λ kind. goes kind (direction_of plan host)) (kind_at f.graph host) ≡ true =
           ap (λ (v : View). has_kind (λ kind. goes kind (direction_of plan host)) (kind_at v.graph host)) shows ∙ host-goes plan sound setting host some in
-          let moves : is_stream_phase is_moving (phase_at f host) ≡ false =
-          ap (λ (v : View). is_stream_phase is_moving (option_map (λ (s : StreamView). s.phase) (find (λ (s : StreamView). s.host == host) v.streams))) shows
-          ∙ phase-shown is_moving false host plan.streams rs same some rests in
+          let moves : is_stream_phase is_live_phase (phase_at f host) ≡ false =
+          ap (λ (v : View). is_stream_phase is_live_phase (option_map (λ (s : StreamView). s.phase) (find (λ (s : StreamView). s.host == host) v.streams))) shows
+          ∙ phase-shown is_live_phase false host plan.streams rs same some rests in
           let ready : is_way_ready f.graph host ≡ true = ap (λ (v : View). is_way_ready v.graph host) shows ∙ way-ready plan sound setting host in
           (λ i. if not (used i) then Err no_device else if not (kind i) || moves i || not (rate i) || not (ready i) || not (agrees i) then Err invalid else Ok (seen (with_params f host p) None f))
           ∙ ap (λ (b : Bool). if b then Err invalid else Ok (seen (with_params f host p) None f)) (not-not (list_any (conflicts plan host p) (zip plan.streams rs)))

@@ -168,6 +168,6 @@ module _ (plan : Plan) (kept : Record) (is : IsRecordOf plan kept) (host : ℕ) 
       agrees : (f f' : FwState) → row f (act_message plan (Prepare host p)) ≡ Ok f' → agree (view_of f') ≡ true
       agrees f f' done =
           let v = fw.with_params f host p in
-          let l = last-test (not (fw.is_used f.graph host)) (not (fw.has_kind (λ kind. fw.goes kind (direction_of plan host)) (fw.kind_at f.graph host))) (fw.is_stream_phase fw.is_moving (fw.phase_at f host))
+          let l = last-test (not (fw.is_used f.graph host)) (not (fw.has_kind (λ kind. fw.goes kind (direction_of plan host)) (fw.kind_at f.graph host))) (fw.is_stream_phase is_live_phase (fw.phase_at f host))
           (not (fw.is_rate p.rate)) (not (fw.is_way_ready f.graph host)) (agree v) no_device invalid (seen v None f) f' done in
           ap (λ (g : FwState). agree (view_of g)) (sym l.1) ∙ l.0

@@ -15,7 +15,7 @@ use Rattle.ipc3_codec.specs.declared.fault.CodecFault.{CodecFault}
 use Rattle.ipc3_codec.specs.declared.fault.CodecFault.TheVariants.{Short, SizeWord}
 use Rattle.ipc3_codec.specs.Commands.{command_number, command_numbered}
 use Rattle.ipc3_codec.specs.Places.{Place, is_bad, field_fault}
-use Rattle.ipc3_codec.specs.Messages.{is_sized, body_fault, places_of, message_of, message_fault, unless_fault, decoded_body, decoded, size_of, command_of, body_slots, message_slots, IsAllowed, IsMessage, Means}
+use Rattle.ipc3_codec.specs.Messages.{is_sized, body_fault, places_of, message_of, message_fault, faultless, decoded_body, decoded, size_of, command_of, body_slots, message_slots, IsAllowed, IsMessage, Means}
 use Rattle.ipc3_codec.proofs.Places.{find-none, none-AllGood}
 use Rattle.ipc3_codec.proofs.Spellings.{command_is, command_again, values_width, values_named}
 use Rattle.ipc3_codec.proofs.PlacesToWords.{Found, body_found}
@@ -85,12 +85,12 @@ Means-Carries b m is means =
 -- ---- from the places to the words, and back
 
 -- the answer is a message: no fault
-pub decoded_parts : {A : Type 0} (o : Option CodecFault) (x y : A) → unless_fault o x ≡ Ok y → (o ≡ None) × (x ≡ y)
+pub decoded_parts : {A : Type 0} (o : Option CodecFault) (x y : A) → faultless o x ≡ Ok y → (o ≡ None) × (x ≡ y)
 decoded_parts None x y e = (refl, cc)
 decoded_parts (Some f) x y e = absurd cc
 
 -- the answer is a fault
-pub fault_parts : {A : Type 0} (o : Option CodecFault) (x : A) (f : CodecFault) → unless_fault o x ≡ Err f → o ≡ Some f
+pub fault_parts : {A : Type 0} (o : Option CodecFault) (x : A) (f : CodecFault) → faultless o x ≡ Err f → o ≡ Some f
 fault_parts None x f e = absurd cc
 fault_parts (Some g) x f e = cc
 
@@ -111,7 +111,7 @@ message_only b m h =
     let c = command_of m in
     let answers : Answers b m = body_only b m h.room h.same h.allowed in
     let number : command_numbered (word_at b 4) ≡ Some c = ap command_numbered h.command ∙ command_again c in
-    ap (decoded_body b) number ∙ ap (λ (o : Option Place). unless_fault (field_fault o) (message_of b c)) (find-none b (places_of b c) answers.good) ∙ ap Ok answers.is
+    ap (decoded_body b) number ∙ ap (λ (o : Option Place). faultless (field_fault o) (message_of b c)) (find-none b (places_of b c) answers.good) ∙ ap Ok answers.is
 
 -- ---- what is decoded, and what is not
 
@@ -144,7 +144,7 @@ body_faults b (Some c) f e = fault_parts (field_fault (find (is_bad b) (places_o
 
 body_faults_only : (b : List ℕ) (o : Option CommandWord) (f : CodecFault) → body_fault b o ≡ Some f → decoded_body b o ≡ Err f
 body_faults_only b None f e = cc
-body_faults_only b (Some c) f e = ap (λ (o : Option CodecFault). unless_fault o (message_of b c)) e
+body_faults_only b (Some c) f e = ap (λ (o : Option CodecFault). faultless o (message_of b c)) e
 
 header_faults : {A : Type 0} (short sized : Bool) (r : Result A CodecFault) (o : Option CodecFault) (f : CodecFault) → (r ≡ Err f → o ≡ Some f) → cond short (Err Short) (cond (not sized) (Err SizeWord) r) ≡ Err f → cond short (Some Short) (cond (not sized) (Some SizeWord) o) ≡ Some f
 header_faults true sized r o f h e = cc

@@ -5,7 +5,7 @@ use Rattle.std.proofs.lemmas.Bool.{leb-true, le-leb, and_parts, not-false}
 use Rattle.std.specs.Prelude.{nat_le}
 use Rattle.sof_base.specs.Slots.{word_at}
 use Rattle.ipc3_codec.specs.Places.{Place, any_run, is_bad, field_fault}
-use Rattle.ipc3_codec.specs.Messages.{unless_fault}
+use Rattle.ipc3_codec.specs.Messages.{faultless}
 use Rattle.ipc3_codec.specs.declared.fault.CodecFault.{CodecFault}
 use Rattle.ipc3_codec.specs.declared.fault.CodecFault.TheVariants.{Field}
 use Rattle.ipc3_codec.specs.Reading.{◌>>=◌, number_in, word_in, read_as, run_in}
@@ -75,12 +75,12 @@ AllGood-from b n (place ∷ places) room ends allowed =
 -- ---- words that are read one after the other
 
 -- x, or the first bad place
-pub read_as-is : {A : Type 0} (b : List ℕ) (places : List Place) (x : A) → read_as b places x ≡ unless_fault (field_fault (find (is_bad b) places)) x
+pub read_as-is : {A : Type 0} (b : List ℕ) (places : List Place) (x : A) → read_as b places x ≡ faultless (field_fault (find (is_bad b) places)) x
 unfolding word_in
 read_as-is b [] x = refl
 read_as-is b (place ∷ places) x =
     let w : Result ℕ CodecFault = Ok (number_in b place) in
-    elim (is_bad b place) as (λ t. (cond t (Err (Field place.at)) w >>= λ _. read_as b places x) ≡ unless_fault (field_fault (cond t (Some place) (find (is_bad b) places))) x) [ true ↦ refl | false ↦ read_as-is b places x ]
+    elim (is_bad b place) as (λ t. (cond t (Err (Field place.at)) w >>= λ _. read_as b places x) ≡ faultless (field_fault (cond t (Some place) (find (is_bad b) places))) x) [ true ↦ refl | false ↦ read_as-is b places x ]
 
 -- what is read, and what follows it
 pub read_as-append : {A B : Type 0} (b : List ℕ) (ps qs : List Place) (x : A) (y : B) (f : A → Result B CodecFault) → f x ≡ read_as b qs y → (read_as b ps x >>= f) ≡ read_as b (ps ++ qs) y

@@ -21,7 +21,7 @@ use Rattle.ipc3_codec.specs.declared.fault.CodecFault.TheVariants.{Short, SizeWo
 use Rattle.ipc3_codec.specs.Places.{Place, any_words, any_bytes, word_of, is_bad, field_fault}
 use Rattle.ipc3_codec.specs.StreamWords.{host_buffer_slots}
 use Rattle.ipc3_codec.specs.ControlWords.{control_slots, takes_command, takes_count, takes_remaining, value_slots, values_in, part_in, part_slots, control_rest_places, payload_places}
-use Rattle.ipc3_codec.specs.Messages.{is_sized, unless_fault}
+use Rattle.ipc3_codec.specs.Messages.{is_sized, faultless}
 use Rattle.ipc3_codec.specs.Replies.{IsBody, IsReply, MeansReply, TakesCommand, reply_size, reply_slots, is_body_type, body_kind, body_places, reply_places, reply_fault, body_with, reply_of, decoded_reply}
 use Rattle.ipc3_codec.proofs.Places.{AllGood, AllGood-from, AllGood-append, AllGood-split, good_at, none-AllGood, find-none}
 use Rattle.ipc3_codec.proofs.Spellings.{number_at, fields_from, length-values_at, values_width, values_named, values_room, values_found, ValuesAre, values_only, part_found}
@@ -295,7 +295,7 @@ decoded_reply_only b r is means =
     let command = header.command in
     let none : reply_fault b ≡ None = rw (long, sized, command, find-none b (reply_places b) answers.good) refl in
     let error : error_at b ≡ r.error = ap (cast_signed w32) header.error_word ∙ to_z-of_z w32 r.error is.0 in
-    ap (λ (o : Option CodecFault). unless_fault o (reply_of b)) none ∙ ap Ok (ap (λ (e : ℤ). reply_with e (reply_of b).body) error ∙ ap (reply_with r.error) answers.is)
+    ap (λ (o : Option CodecFault). faultless o (reply_of b)) none ∙ ap Ok (ap (λ (e : ℤ). reply_with e (reply_of b).body) error ∙ ap (reply_with r.error) answers.is)
 
 -- ---- what a decoder answered
 
@@ -314,4 +314,4 @@ decoded_reply_fault b f e = fault_parts (reply_fault b) (reply_of b) f e
 
 pub decoded_reply_fault_only : (b : List ℕ) (f : CodecFault) → reply_fault b ≡ Some f → decoded_reply b ≡ Err f
 unfolding decoded_reply
-decoded_reply_fault_only b f e = ap (λ (o : Option CodecFault). unless_fault o (reply_of b)) e
+decoded_reply_fault_only b f e = ap (λ (o : Option CodecFault). faultless o (reply_of b)) e

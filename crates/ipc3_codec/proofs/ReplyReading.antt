@@ -13,7 +13,7 @@ use Rattle.ipc3_codec.specs.declared.fault.CodecFault.{CodecFault}
 use Rattle.ipc3_codec.specs.declared.fault.CodecFault.TheVariants.{Short, SizeWord, Command}
 use Rattle.ipc3_codec.specs.Places.{Place, any_words, word_of, is_bad, field_fault}
 use Rattle.ipc3_codec.specs.ControlWords.{control_rest_places, payload_places, values_in, part_in}
-use Rattle.ipc3_codec.specs.Messages.{is_sized, unless_fault}
+use Rattle.ipc3_codec.specs.Messages.{is_sized, faultless}
 use Rattle.ipc3_codec.specs.Replies.{is_body_type, body_kind, body_places, reply_places, reply_fault, body_with, reply_of, decoded_reply}
 use Rattle.ipc3_codec.specs.Reading.{◌>>=◌, framed, read_as, type_in, kind_in, control_in, part_read, values_read, payload_in, body_in, framed_reply_in}
 use Rattle.ipc3_codec.proofs.Places.{read_as-is, then_read}
@@ -45,18 +45,18 @@ whole_body : (b : List ℕ) (t : Bool) (r : Result Body CodecFault) (places : Li
 whole_body b true r places body e = refl
 whole_body b false r places body e = e
 
-body_is : (b : List ℕ) → (body_in b >>= λ body. Ok (record { error = cast_signed w32 (word_at b 8); body = body })) ≡ unless_fault (field_fault (find (is_bad b) (reply_places b))) (reply_of b)
+body_is : (b : List ℕ) → (body_in b >>= λ body. Ok (record { error = cast_signed w32 (word_at b 8); body = body })) ≡ faultless (field_fault (find (is_bad b) (reply_places b))) (reply_of b)
 unfolding body_in
 body_is b =
     last_read b _ (reply_places b) (reply_of b).body (reply_of b) (λ (body : Body). Ok (record { error = cast_signed w32 (word_at b 8); body = body })) (whole_body b (eqb (word_at b 0) 12) _ (body_places b (body_kind b)) (body_with b (body_kind b)) (some_body b)) refl
     ∙ read_as-is b (reply_places b) (reply_of b)
 
-command_is : (b : List ℕ) (t : Bool) (r : Result Reply CodecFault) (fault : Option CodecFault) (x : Reply) (f : CodecFault) → r ≡ unless_fault fault x → cond t r (Err f) ≡ unless_fault (cond (not t) (Some f) fault) x
+command_is : (b : List ℕ) (t : Bool) (r : Result Reply CodecFault) (fault : Option CodecFault) (x : Reply) (f : CodecFault) → r ≡ faultless fault x → cond t r (Err f) ≡ faultless (cond (not t) (Some f) fault) x
 command_is b true r fault x f e = e
 command_is b false r fault x f e = refl
 
 -- a header's faults, and those behind it
-behind_header : {A : Type 0} (short sized : Bool) (b : List ℕ) (f : List ℕ → Result A CodecFault) (fault : Option CodecFault) (m : A) → f b ≡ unless_fault fault m → (cond short (Err Short) (cond (not sized) (Err SizeWord) (Ok b)) >>= f) ≡ unless_fault (cond short (Some Short) (cond (not sized) (Some SizeWord) fault)) m
+behind_header : {A : Type 0} (short sized : Bool) (b : List ℕ) (f : List ℕ → Result A CodecFault) (fault : Option CodecFault) (m : A) → f b ≡ faultless fault m → (cond short (Err Short) (cond (not sized) (Err SizeWord) (Ok b)) >>= f) ≡ faultless (cond short (Some Short) (cond (not sized) (Some SizeWord) fault)) m
 behind_header true sized b f fault m e = refl
 behind_header false false b f fault m e = refl
 behind_header false true b f fault m e = e

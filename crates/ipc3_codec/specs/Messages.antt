@@ -1,5 +1,5 @@
 -- The host's messages, after SOF's IPC3 (ABI 3): which words each has, and how bytes are read as one. All places are in bytes from 0.
-use Rattle.std.specs.Prelude.{◌≡◌, ℕ, ◌+◌, ◌*◌, ◌≤◌, Bool, true, ◌&&◌, not, List, [], ◌∷◌, ◌++◌, length, take, Option, Some, None, Result, Ok, Err, find, nat_lt, nat_le, ◌==◌, if◌then◌else◌}
+use Rattle.std.specs.Prelude.{◌≡◌, ℕ, ◌+◌, ◌*◌, ◌≤◌, Bool, true, ◌&&◌, not, List, [], ◌∷◌, ◌++◌, length, take, Option, Some, None, Result, Ok, Err, find, nat_lt, nat_le, if◌then◌else◌}
 use Rattle.sof_base.specs.Cells.{Fits, written}
 use Rattle.sof_base.specs.Slots.{Slot, Word, Size, slots_cells, AreSlots, word_at}
 use Rattle.ipc3_codec.specs.declared.command.CommandWord.{CommandWord}
@@ -273,14 +273,14 @@ message_of b commands.TrigPause = TrigPause (word_at b 8)
 message_of b commands.TrigRelease = TrigRelease (word_at b 8)
 
 -- a fault, or else a value
-abbrev pub unless_fault : {A : Type 0} → Option CodecFault → A → Result A CodecFault
-unless_fault None m = Ok m
-unless_fault (Some f) m = Err f
+abbrev pub faultless : {A : Type 0} → Option CodecFault → A → Result A CodecFault
+faultless None m = Ok m
+faultless (Some f) m = Err f
 
 -- bytes of a command: the first bad place, or the message
 abbrev pub decoded_body : List ℕ → Option CommandWord → Result Message CodecFault
 decoded_body b None = Err (Command (word_at b 4))
-decoded_body b (Some command) = unless_fault (field_fault (find (is_bad b) (places_of b command))) (message_of b command)
+decoded_body b (Some command) = faultless (field_fault (find (is_bad b) (places_of b command))) (message_of b command)
 
 -- bytes as a message: their first fault, or the message that they carry
 unfoldable pub decoded : List ℕ → Result Message CodecFault

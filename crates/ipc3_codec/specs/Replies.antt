@@ -15,7 +15,7 @@ use Rattle.ipc3_codec.specs.declared.fault.CodecFault.{CodecFault}
 use Rattle.ipc3_codec.specs.declared.fault.CodecFault.TheVariants.{Short, SizeWord, Command}
 use Rattle.ipc3_codec.specs.Places.{Place, any_words, word_of, is_bad, field_fault}
 use Rattle.ipc3_codec.specs.ControlWords.{takes_command, takes_count, takes_remaining, control_slots, value_slots, part_slots, control_rest_places, payload_places, values_in, part_in}
-use Rattle.ipc3_codec.specs.Messages.{is_sized, unless_fault}
+use Rattle.ipc3_codec.specs.Messages.{is_sized, faultless}
 
 -- how many bytes a reply needs: 12, or a ctrl_data and what stands behind it
 abbrev pub reply_size : Body → ℕ
@@ -104,4 +104,4 @@ reply_of b = record { error = cast_signed w32 (word_at b 8); body = if word_at b
 
 -- bytes as a reply: their first fault, or the reply that they carry
 unfoldable pub decoded_reply : List ℕ → Result Reply CodecFault
-decoded_reply b = unless_fault (reply_fault b) (reply_of b)
+decoded_reply b = faultless (reply_fault b) (reply_of b)

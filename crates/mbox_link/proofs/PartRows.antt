@@ -1,5 +1,5 @@
 -- Worked rows of SET_DATA and GET_DATA, which the definitions give by computing alone.
-use Rattle.std.proofs.Common.{◌≡◌, refl, ℕ, List, [], ◌∷◌, ◌++◌, take, replicate, true, Some, None, Ok, Err, ℤ, pos}
+use Rattle.std.proofs.Common.{◌≡◌, refl, ℕ, List, [], ◌∷◌, ◌++◌, take, replicate, true, Some, Ok, Err, ℤ, pos}
 use Rattle.sof_base.specs.Slots.{words_bytes, word_at, zeros}
 use Rattle.sof_base.specs.BlobFaults.{blob_fault}
 use Rattle.sof_base.specs.declared.part.Part.{Part}

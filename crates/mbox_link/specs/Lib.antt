@@ -1,4 +1,13 @@
 pub mod BlobParts
+pub mod ErrorNumbers
+pub mod NamedIds
+pub mod HeapPieces
+pub mod NewRows
+pub mod JoinRows
+pub mod FreeRows
+pub mod ValueRows
+pub mod DataRows
+pub mod StreamRows
 pub mod Step
 pub mod Exchange
 pub mod Calls

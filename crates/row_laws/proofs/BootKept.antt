@@ -1,11 +1,11 @@
 -- A boot makes a state that is kept.
-use Rattle.std.proofs.Common.{◌≡◌, refl, ℕ, subst, sym, arith}
+use Rattle.std.proofs.Common.{refl, ℕ, arith}
 use Rattle.std.specs.List.{IsDistinct}
 use Rattle.sof_base.specs.Holes.{usable_of}
 use Rattle.stream_law.specs.Placed.{Ascends}
 use Rattle.stream_law.specs.Ways.{agree}
 use Rattle.mbox_link.specs.Step.{fresh}
-use Rattle.row_laws.specs.Tiled.{IsTiled, heap_bytes, fresh_heap}
+use Rattle.row_laws.specs.Tiled.{fresh_heap}
 use Rattle.row_laws.specs.Kept.{IsKeptState}
 use Rattle.row_laws.proofs.Tiling.{fresh-tiled, retiled}
 

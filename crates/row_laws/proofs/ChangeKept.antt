@@ -1,5 +1,5 @@
 -- A join more, or another setting of a component.
-use Rattle.std.proofs.Common.{◌≡◌, refl, sym, ap, ◌∙◌, subst, ℕ, ◌+◌, ◌≤◌, List, [], ◌∷◌, ◌++◌, length, map, filter, Option, Some, None, Bool, true, false, cond, ◌==◌, ◌&&◌, arith, length-append}
+use Rattle.std.proofs.Common.{◌≡◌, refl, sym, ap, ◌∙◌, subst, ℕ, List, [], ◌∷◌, map, filter, Some, Bool, true, false, ◌==◌, arith, length-append}
 use Rattle.std.proofs.lemmas.Bool.{true≢false, and_parts, eqb-true}
 use Rattle.std.proofs.lemmas.List.{length-map}
 use Rattle.std.specs.Option.{option_map_or}
@@ -8,26 +8,24 @@ use Rattle.stream_law.specs.declared.graph.Setting.{Setting}
 use Rattle.stream_law.specs.declared.graph.Comp.{Comp}
 use Rattle.stream_law.specs.declared.graph.Edge.{Edge}
 use Rattle.stream_law.specs.declared.graph.Join.{Join}
-use Rattle.stream_law.specs.declared.graph.Graph.{Graph}
 use Rattle.stream_law.specs.declared.stream.StreamView.{StreamView}
 use Rattle.stream_law.specs.State.{FwState, View, RingView, view_of}
 use Rattle.stream_law.specs.Ways.{comp_of, components, buffers, live, channels_of}
 use Rattle.stream_law.specs.Joins.{joined_edge, with_join, would_cycle, would_grow}
 use Rattle.stream_law.specs.Made.{blob}
-use Rattle.stream_law.specs.Seen.{flows, is_equaliser, equalises, blob_in}
+use Rattle.stream_law.specs.Seen.{flows, is_equaliser, equalises}
 use Rattle.ipc3_codec.specs.Allowed.{is_buffer_size}
 use Rattle.mbox_link.specs.Step.{is_joined, takes_join, with_comps, with_setting}
-use Rattle.row_laws.specs.Wired.{sides_joined}
 use Rattle.row_laws.specs.Played.{AreStreamsPlayable}
 use Rattle.row_laws.specs.Kept.{IsKeptState, IsSettingOf, numbers_held}
 use Rattle.row_laws.proofs.Ascending.{ascends-keys}
-use Rattle.row_laws.proofs.Fewer.{all-any, filter-every}
+use Rattle.row_laws.proofs.Fewer.{filter-every}
 use Rattle.row_laws.proofs.Histories.{equalisers-same, equalisers-set, held-same, histories-by}
 use Rattle.row_laws.proofs.Fitting.{all-set}
 use Rattle.row_laws.proofs.Joined.{buffers-joined, joined-size, among-left}
 use Rattle.row_laws.proofs.Joining.{played-joined, wired-joined, live-joined, channels-joined, flows-joined}
 use Rattle.row_laws.proofs.Linking.{linked-joined}
-use Rattle.stream_law.proofs.Members.{IsIn, in-each, kept-in, in-any}
+use Rattle.stream_law.proofs.Members.{IsIn, in-each, kept-in}
 use Rattle.row_laws.proofs.Near.{in-comps}
 use Rattle.row_laws.proofs.Pieced.{pieces-joined}
 use Rattle.row_laws.proofs.RingViews.{each-key, by-keys, seen-same}

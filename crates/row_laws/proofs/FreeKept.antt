@@ -1,5 +1,5 @@
 -- A component, a buffer or a pipeline less.
-use Rattle.std.proofs.Common.{◌≡◌, refl, sym, ap, ◌∙◌, subst, ℕ, List, [], ◌∷◌, map, filter, Some, Bool, true, false, cond, not, ◌==◌, ◌||◌, arith}
+use Rattle.std.proofs.Common.{◌≡◌, refl, sym, ap, ◌∙◌, subst, ℕ, List, [], ◌∷◌, filter, Some, Bool, true, false, cond, not, ◌==◌, ◌||◌, arith}
 use Rattle.std.proofs.lemmas.Bool.{true≢false, false_from_ne_true, or_parts, eqb-true}
 use Rattle.std.specs.Prelude.{find, option_map, is_some}
 use Rattle.std.specs.Option.{option_map_or}
@@ -7,9 +7,8 @@ use Rattle.std.specs.List.{list_any, AllByRecursion}
 use Rattle.stream_law.specs.declared.graph.Comp.{Comp}
 use Rattle.stream_law.specs.declared.graph.Edge.{Edge}
 use Rattle.stream_law.specs.declared.graph.Pipe.{Pipe}
-use Rattle.stream_law.specs.declared.graph.Graph.{Graph}
 use Rattle.stream_law.specs.declared.stream.StreamView.{StreamView}
-use Rattle.stream_law.specs.State.{FwState, HeapView, PieceView, View, RingView, Staging, view_of}
+use Rattle.stream_law.specs.State.{FwState, PieceView, View, RingView, Staging, view_of}
 use Rattle.stream_law.specs.Ways.{comp_of, components, live, channels_of}
 use Rattle.stream_law.specs.Made.{blob}
 use Rattle.stream_law.specs.Seen.{flows, ring_seen, equalises}

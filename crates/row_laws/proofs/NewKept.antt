@@ -1,11 +1,10 @@
 -- A component, a buffer or a pipeline more.
-use Rattle.std.proofs.Common.{◌≡◌, refl, sym, ap, ◌∙◌, subst, ℕ, ◌+◌, ◌<◌, ◌≤◌, List, [], ◌∷◌, map, length, filter, None, Bool, true, false, cond, ◌==◌, ◌&&◌, arith}
+use Rattle.std.proofs.Common.{◌≡◌, refl, sym, ap, subst, ℕ, ◌+◌, ◌<◌, ◌≤◌, List, [], map, length, filter, None, Bool, true, false, cond, ◌==◌, ◌&&◌, arith}
 use Rattle.std.proofs.lemmas.Bool.{or_parts}
 use Rattle.std.proofs.lemmas.List.{length-map}
-use Rattle.std.specs.Prelude.{option_map, find}
+use Rattle.std.specs.Prelude.{option_map}
 use Rattle.std.specs.Option.{option_map_or}
 use Rattle.std.specs.List.{IsDistinct, list_any, AllByRecursion}
-use Rattle.sof_base.specs.Samples.{Frame}
 use Rattle.stream_law.specs.declared.graph.Kind.{Kind}
 use Rattle.stream_law.specs.declared.graph.Kind.TheVariants.{HostPlay, HostCapture, DaiPlay, DaiCapture, Volume, Mixer, Mux, Eq}
 use Rattle.stream_law.specs.declared.graph.Setting.{Setting}
@@ -17,12 +16,12 @@ use Rattle.stream_law.specs.declared.stream.Phase.TheVariants.{Idle}
 use Rattle.stream_law.specs.declared.stream.StreamView.{StreamView}
 use Rattle.stream_law.specs.Placed.{placed, Ascends, HasDistinct}
 use Rattle.stream_law.specs.State.{FwState, HeapView, View, RingView, view_of}
-use Rattle.stream_law.specs.Ways.{comp_of, components, live, channels_of}
+use Rattle.stream_law.specs.Ways.{comp_of, components, live}
 use Rattle.stream_law.specs.Made.{blob}
-use Rattle.stream_law.specs.Seen.{flows, ring_seen, equalises, blob_in}
+use Rattle.stream_law.specs.Seen.{flows, ring_seen, equalises}
 use Rattle.stream_law.proofs.Placing.{length-placed, find-placed_apart, Ascends-placed, HasDistinct-placed}
 use Rattle.ipc3_codec.specs.Allowed.{is_buffer_size, is_period_allowed}
-use Rattle.mbox_link.specs.Step.{comp_bytes, buffer_bytes, pipe_bytes, heap_with_piece, with_comp, with_buffer, with_pipe, with_pipes, with_host_stream, completed, has_hole, has_index, is_used, has_comp, has_edge, has_pipe, kind_at}
+use Rattle.mbox_link.specs.Step.{comp_bytes, buffer_bytes, pipe_bytes, heap_with_piece, with_comp, with_buffer, with_pipe, with_pipes, with_host_stream, completed, has_hole, has_index, is_used, has_comp, has_edge, has_pipe}
 use Rattle.row_laws.specs.Tiled.{IsTiled, heap_bytes}
 use Rattle.row_laws.specs.Wired.{is_node}
 use Rattle.row_laws.specs.Kept.{IsKeptState, IsSettingOf, ArePieces, numbers_held}

@@ -21,7 +21,7 @@ use Rattle.stream_law.proofs.Placing.{Ascends-placed, Ascends-filter}
 use Rattle.mbox_link.specs.Step.{has_kind, kind_at, with_setting, unstaged, with_blob_at, blob_installed}
 use Rattle.row_laws.specs.Kept.{IsKeptState, IsSettingOf, IsStaged, numbers_held}
 use Rattle.row_laws.proofs.Ascending.{ascends-keys}
-use Rattle.row_laws.proofs.ChangeKept.{set-live, set-channels, set-played}
+use Rattle.row_laws.proofs.ChangeKept.{set-channels, set-played}
 use Rattle.row_laws.proofs.Fewer.{all-filter}
 use Rattle.row_laws.proofs.Fitting.{all-set}
 use Rattle.row_laws.proofs.Growing.{all-placed}

@@ -1,5 +1,5 @@
 -- The pieces of a heap, one for each id.
-use Rattle.std.proofs.Common.{◌≡◌, refl, sym, ap, ◌∙◌, subst, ℕ, suc, ◌+◌, ◌/◌, ◌≤◌, List, [], ◌∷◌, map, length, Bool, true, false, cond, inl, inr, ◌==◌, ◌||◌, arith}
+use Rattle.std.proofs.Common.{◌≡◌, refl, sym, ap, ◌∙◌, subst, ℕ, suc, List, [], ◌∷◌, map, length, Bool, true, false, cond, ◌==◌, ◌||◌, arith}
 use Rattle.std.proofs.lemmas.Bool.{true≢false, false_from_ne_true, or_left, or_right, eqb-true, eq-eqb}
 use Rattle.std.proofs.lemmas.List.{length-map}
 use Rattle.std.specs.List.{list_any, AllByRecursion}

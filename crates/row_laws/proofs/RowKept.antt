@@ -1,5 +1,5 @@
 -- A row that is done keeps what every state keeps.
-use Rattle.std.proofs.Common.{◌≡◌, refl, sym, ap, ◌∙◌, subst, ℕ, ◌+◌, ◌≤◌, List, [], ◌∷◌, map, length, Option, Some, None, Bool, true, false, cond, not, ◌==◌, ◌&&◌, ◌||◌, Result, Ok, Err, ℤ}
+use Rattle.std.proofs.Common.{◌≡◌, refl, sym, subst, ℕ, ◌+◌, List, map, length, Option, Some, None, Bool, true, false, cond, not, ◌==◌, ◌&&◌, ◌||◌, Result, Ok, Err, ℤ}
 use Rattle.std.proofs.lemmas.Bool.{true≢false, and_parts, or_parts, leb-true, leb-false}
 use Rattle.std.specs.Prelude.{nat_le, find, is_some, is_none, option_and_then}
 use Rattle.std.specs.Option.{option_map_or}
@@ -17,9 +17,8 @@ use Rattle.stream_law.specs.declared.graph.Pipe.{Pipe}
 use Rattle.stream_law.specs.declared.graph.Join.{Join}
 use Rattle.stream_law.specs.declared.stream.Phase.{Phase}
 use Rattle.stream_law.specs.declared.stream.Phase.TheVariants.{Idle, Prepared, Running, Paused}
-use Rattle.stream_law.specs.declared.stream.StreamView.{StreamView}
-use Rattle.stream_law.specs.State.{FwState, Staging}
-use Rattle.stream_law.specs.Ways.{comp_of, agree}
+use Rattle.stream_law.specs.State.{FwState, Staging, view_of}
+use Rattle.stream_law.specs.Ways.{comp_of, agree, is_live_phase, is_running_phase}
 use Rattle.stream_law.specs.Joins.{would_cycle, would_reach, would_grow, with_join}
 use Rattle.stream_law.specs.Seen.{is_equaliser, seen}
 use Rattle.ipc3_codec.specs.Allowed.{is_buffer_size, is_period_allowed, is_channels}
@@ -27,7 +26,7 @@ use Rattle.ipc3_codec.specs.declared.message.Message.{Message}
 use Rattle.ipc3_codec.specs.declared.message.Message.TheVariants as messages
 use Rattle.ipc3_codec.specs.declared.fault.CodecFault.{CodecFault}
 use Rattle.ipc3_codec.specs.Messages.{decoded, IsMessage, IsAllowed, Means}
-use Rattle.mbox_link.specs.Step.{row, row_of, body, body_of, replied, step, kind_of, first_setting, no_memory, busy, no_device, invalid, is_used, is_complete, has_index, has_comp, has_edge, has_hole, comp_bytes, buffer_bytes, pipe_bytes, with_comp, comp_new, with_buffer, buffer_new, with_pipe, pipe_new, with_pipes, completed, complete_pipe, pipe_complete, is_joined, takes_join, is_refused_join, connect, has_complete_pipe, touches, is_held, is_index_held, without_comp, comp_free, without_buffer, buffer_free, without_pipe, free_pipe, pipe_free, new_setting, with_comps, with_setting, value_set, set_value, control_values_at, get_value, staging_at, keeps_order, staged_bytes, with_staged, blob_installed, part_staged, set_data, part_at, get_data, has_kind, is_stream_phase, is_host, goes, is_rate, is_way_ready, kind_at, phase_at, is_moving, is_prepared, is_running, is_paused, set_stream, set_phase, with_params, pcm_params, stream_changed, pcm_free, trigger}
+use Rattle.mbox_link.specs.Step.{row, row_of, body, body_of, replied, step, kind_of, first_setting, no_memory, busy, no_device, invalid, is_used, is_complete, has_index, has_comp, has_edge, has_hole, comp_bytes, buffer_bytes, pipe_bytes, with_comp, comp_new, with_buffer, buffer_new, with_pipe, pipe_new, with_pipes, completed, complete_pipe, pipe_complete, is_joined, takes_join, is_refused_join, connect, has_complete_pipe, touches, is_held, is_index_held, without_comp, comp_free, without_buffer, buffer_free, without_pipe, free_pipe, pipe_free, new_setting, with_comps, with_setting, value_set, set_value, control_values_at, get_value, staging_at, keeps_order, staged_bytes, with_staged, blob_installed, part_staged, set_data, part_at, get_data, has_kind, is_stream_phase, is_host, goes, is_rate, is_way_ready, kind_at, phase_at, is_prepared, is_paused, set_stream, set_phase, with_params, pcm_params, is_refused_params, pcm_free, trigger}
 use Rattle.row_laws.specs.Played.{is_idle}
 use Rattle.row_laws.specs.Kept.{IsKeptState, IsSettingOf, IsStaged}
 use Rattle.row_laws.specs.RowLaws.{IsPart, HasBytes}
@@ -216,10 +215,10 @@ get_data-kept id index f g kept is =
 pub pcm_params-kept : (host direction : ℕ) (p : Params) → is_channels p.channels ≡ true → (f g : FwState) → IsKeptState f → pcm_params f host direction p ≡ Ok g → IsKeptState g
 pcm_params-kept host direction p few f g kept is =
     let new : FwState = seen (with_params f host p) None f in
-    let wrong : Bool = (((not (has_kind (λ kind. goes kind direction) (kind_at f.graph host)) || is_stream_phase is_moving (phase_at f host)) || not (is_rate p.rate)) || not (is_way_ready f.graph host)) || not (agree (with_params f host p)) in
+    let wrong : Bool = is_refused_params (view_of f) host direction p (is_stream_phase is_live_phase (phase_at f host)) in
     let used = pass (not (is_used f.graph host)) no_device (cond wrong (Err invalid) (Ok new)) g is in
     let right = pass wrong invalid (Ok new) g used.1 in
-    let tests = params-pass (has_kind (λ kind. goes kind direction) (kind_at f.graph host)) (is_stream_phase is_moving (phase_at f host)) (is_rate p.rate) (is_way_ready f.graph host) (agree (with_params f host p)) right.0 in
+    let tests = params-pass (has_kind (λ kind. goes kind direction) (kind_at f.graph host)) (is_stream_phase is_live_phase (phase_at f host)) (is_rate p.rate) (is_way_ready f.graph host) (agree (with_params f host p)) right.0 in
     let bounds = and_parts (nat_le 1 p.channels) (nat_le p.channels 8) few in
     done new g right.1 (kept-streams f kept (set_stream host Prepared (Some p)) (keeps-params host p f.streams kept.played.hosts tests.1)
     (played-params f.graph host p f.streams (leb-true 1 p.channels bounds.0, leb-true p.channels 8 bounds.1) tests.2 tests.3 tests.4 kept.played))
@@ -253,13 +252,13 @@ leaves-prepared Prepared e = refl
 leaves-prepared Running e = refl
 leaves-prepared Paused e = refl
 
-pub leaves-moving : (p : Phase) → is_moving p ≡ true → not (is_idle p) ≡ true
+pub leaves-moving : (p : Phase) → is_live_phase p ≡ true → not (is_idle p) ≡ true
 leaves-moving Idle e = absurd (true≢false (sym e))
 leaves-moving Prepared e = refl
 leaves-moving Running e = refl
 leaves-moving Paused e = refl
 
-pub leaves-running : (p : Phase) → is_running p ≡ true → not (is_idle p) ≡ true
+pub leaves-running : (p : Phase) → is_running_phase p ≡ true → not (is_idle p) ≡ true
 leaves-running Idle e = absurd (true≢false (sym e))
 leaves-running Prepared e = refl
 leaves-running Running e = refl
@@ -292,8 +291,8 @@ row-kept (messages.GetData id index) allowed bytes f g kept is = get_data-kept i
 row-kept (messages.PcmParams host direction params) allowed bytes f g kept is = pcm_params-kept host direction params allowed.1 f g kept is
 row-kept (messages.PcmFree id) allowed bytes f g kept is = pcm_free-kept id f g kept is
 row-kept (messages.TrigStart id) allowed bytes f g kept is = trigger-kept id is_prepared Running leaves-prepared refl f g kept is
-row-kept (messages.TrigStop id) allowed bytes f g kept is = trigger-kept id is_moving Prepared leaves-moving refl f g kept is
-row-kept (messages.TrigPause id) allowed bytes f g kept is = trigger-kept id is_running Paused leaves-running refl f g kept is
+row-kept (messages.TrigStop id) allowed bytes f g kept is = trigger-kept id is_live_phase Prepared leaves-moving refl f g kept is
+row-kept (messages.TrigPause id) allowed bytes f g kept is = trigger-kept id is_running_phase Paused leaves-running refl f g kept is
 row-kept (messages.TrigRelease id) allowed bytes f g kept is = trigger-kept id is_paused Running leaves-paused refl f g kept is
 row-kept messages.CtxSave allowed bytes f g kept is = ctx_save-kept f g kept is
 

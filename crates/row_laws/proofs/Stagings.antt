@@ -7,7 +7,6 @@ use Rattle.std.specs.Str.{bytes_eq}
 use Rattle.std.specs.List.{list_any, AllByRecursion}
 use Rattle.sof_base.specs.declared.part.Part.{Part}
 use Rattle.sof_base.proofs.FieldLaws.{IsBytes}
-use Rattle.stream_law.specs.declared.graph.Kind.{Kind}
 use Rattle.stream_law.specs.declared.graph.Graph.{Graph}
 use Rattle.stream_law.specs.State.{Staging}
 use Rattle.stream_law.specs.Seen.{is_equaliser}
@@ -16,7 +15,6 @@ use Rattle.mbox_link.specs.Step.{has_comp, has_kind, kind_at, bytes_left, is_nex
 use Rattle.row_laws.specs.Kept.{IsStaged}
 use Rattle.row_laws.specs.RowLaws.{IsPart}
 use Rattle.row_laws.proofs.Growing.{all-by, some-found}
-use Rattle.row_laws.proofs.Fewer.{all-any, all-both}
 use Rattle.row_laws.proofs.PartBytes.{bytes-append}
 
 -- where a component's kind is the same

@@ -11,7 +11,7 @@ use Rattle.stream_law.specs.declared.stream.Phase.TheVariants.{Idle, Prepared, R
 use Rattle.stream_law.specs.declared.stream.StreamView.{StreamView}
 use Rattle.stream_law.specs.Placed.{HasDistinct}
 use Rattle.stream_law.specs.Ways.{touch, same_shape, agree, is_live_phase}
-use Rattle.mbox_link.specs.Step.{has_kind, is_host, kind_at, is_stream_phase, set_stream, set_phase, is_rate, is_way_ready, is_moving, is_prepared}
+use Rattle.mbox_link.specs.Step.{has_kind, is_host, kind_at, is_stream_phase, set_stream, set_phase, is_rate, is_way_ready, is_prepared}
 use Rattle.row_laws.specs.Played.{IsStreamSet, IsSetBy, AreStreamsPlayable, KeepsLive, is_idle}
 use Rattle.row_laws.proofs.Found.{found-each}
 
@@ -152,7 +152,7 @@ prepared-still Idle e = refl
 prepared-still Running e = absurd (false≢true e)
 prepared-still Paused e = absurd (false≢true e)
 
-moving-live : (phase : Phase) → is_moving phase ≡ false → is_live_phase phase ≡ false
+moving-live : (phase : Phase) → is_live_phase phase ≡ false → is_live_phase phase ≡ false
 moving-live Prepared e = refl
 moving-live Idle e = refl
 moving-live Running e = e
@@ -165,8 +165,8 @@ all-by f (s ∷ ss) all = (f s all.0, all-by f ss all.1)
 pub keeps-free : (host : ℕ) (ss : List StreamView) → HasDistinct (λ s. s.host) ss → is_stream_phase is_prepared (phase_in ss host) ≡ true → KeepsLive (set_stream host Idle None) ss
 keeps-free host ss apart is = keeps-stream host Idle None ss (all-by (λ s f e. prepared-still s.phase (f e)) ss (each-phase is_prepared true host ss apart is))
 
-pub keeps-params : (host : ℕ) (p : Params) (ss : List StreamView) → HasDistinct (λ s. s.host) ss → is_stream_phase is_moving (phase_in ss host) ≡ false → KeepsLive (set_stream host Prepared (Some p)) ss
-keeps-params host p ss apart is = keeps-stream host Prepared (Some p) ss (all-by (λ s f e. moving-live s.phase (f e)) ss (each-other is_moving host ss apart is))
+pub keeps-params : (host : ℕ) (p : Params) (ss : List StreamView) → HasDistinct (λ s. s.host) ss → is_stream_phase is_live_phase (phase_in ss host) ≡ false → KeepsLive (set_stream host Prepared (Some p)) ss
+keeps-params host p ss apart is = keeps-stream host Prepared (Some p) ss (all-by (λ s f e. moving-live s.phase (f e)) ss (each-other is_live_phase host ss apart is))
 
 pub played-params : (g : Graph) (host : ℕ) (p : Params) (ss : List StreamView) → (1 ≤ p.channels) × (p.channels ≤ 8) → is_rate p.rate ≡ true → is_way_ready g host ≡ true → agree (record { graph = g; streams = map (set_stream host Prepared (Some p)) ss }) ≡ true → AreStreamsPlayable (record { graph = g; streams = ss }) → AreStreamsPlayable (record { graph = g; streams = map (set_stream host Prepared (Some p)) ss })
 played-params g host p ss few rate ready agrees was =

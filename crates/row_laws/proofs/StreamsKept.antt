@@ -1,11 +1,10 @@
 -- A state whose streams are changed.
-use Rattle.std.proofs.Common.{◌≡◌, refl, sym, ap, ◌∙◌, subst, ℕ, List, [], ◌∷◌, length, map, filter, Option, Some, None, Bool, true, false, cond, not, ◌==◌, ◌&&◌, ◌||◌, ℤ, arith}
+use Rattle.std.proofs.Common.{◌≡◌, refl, sym, ap, ◌∙◌, ℕ, List, [], ◌∷◌, length, map, filter, Option, Some, None, Bool, true, false, cond, ◌==◌, ◌&&◌, ◌||◌, arith}
 use Rattle.std.proofs.lemmas.Bool.{false≢true, and_parts, and_from, eqb-true, eq-eqb}
 use Rattle.std.proofs.lemmas.List.{length-map}
 use Rattle.std.specs.Prelude.{find}
 use Rattle.std.specs.Option.{option_map_or}
-use Rattle.std.specs.List.{list_any, AllByRecursion}
-use Rattle.stream_law.specs.declared.graph.Graph.{Graph}
+use Rattle.std.specs.List.{AllByRecursion}
 use Rattle.stream_law.specs.declared.stream.StreamView.{StreamView}
 use Rattle.stream_law.specs.State.{FwState, View, History, view_of}
 use Rattle.stream_law.specs.Ways.{comp_of, components, buffers, live}
@@ -14,13 +13,12 @@ use Rattle.stream_law.specs.Seen.{is_equaliser, equalises, goes_on, blob_in, fre
 use Rattle.stream_law.specs.Ways.{channels_of}
 use Rattle.stream_law.proofs.Among.{is_among-filter}
 use Rattle.row_laws.specs.Played.{AreStreamsPlayable, KeepsLive}
-use Rattle.row_laws.specs.Kept.{IsKeptState, AreHistories, numbers_held}
+use Rattle.row_laws.specs.Kept.{IsKeptState, numbers_held}
 use Rattle.row_laws.proofs.Ascending.{ascends-keys, hosts-kept}
 use Rattle.row_laws.proofs.Histories.{held-same}
 use Rattle.row_laws.proofs.Joined.{among-left}
 use Rattle.stream_law.proofs.Members.{IsIn, in-each, kept-in, in-any}
 use Rattle.row_laws.proofs.RingViews.{buffers-seen, seen-twice}
-use Rattle.row_laws.proofs.Stagings.{staged-all}
 use Rattle.row_laws.proofs.Stays.{channels-stay}
 
 -- a member of a list of ids is among them

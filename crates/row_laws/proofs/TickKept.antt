@@ -1,13 +1,13 @@
 -- A tick keeps what every state keeps.
-use Rattle.std.proofs.Common.{◌≡◌, refl, sym, ap, ◌∙◌, subst, ℕ, zero, suc, ◌+◌, ◌*◌, List, [], ◌∷◌, ◌++◌, length, map, drop, take, replicate, Option, Some, None, Bool, true, false, cond, not, inl, inr, ◌⊎◌, ◌==◌, ◌&&◌, ◌||◌, ℤ, pos, arith, length-append}
+use Rattle.std.proofs.Common.{◌≡◌, refl, sym, ap, ◌∙◌, ℕ, zero, suc, ◌+◌, ◌*◌, List, [], ◌∷◌, ◌++◌, length, map, drop, take, replicate, Option, Some, None, Bool, true, false, cond, inl, inr, ◌⊎◌, ◌==◌, ◌&&◌, ◌||◌, ℤ, pos, arith, length-append}
 use Rattle.std.proofs.lemmas.Bool.{true≢false, false≢true, and_parts, eqb-true, eq-eqb, or_left, or_right}
 use Rattle.std.proofs.lemmas.List.{length-replicate}
 use Rattle.std.proofs.Math.Seq.{drop-nil}
 use Rattle.std.specs.Prelude.{find, slice_get}
 use Rattle.std.specs.Option.{option_map_or}
-use Rattle.std.specs.List.{list_any, AllByRecursion}
+use Rattle.std.specs.List.{AllByRecursion}
 use Rattle.sof_base.specs.Equations.{Section, section_output}
-use Rattle.sof_base.specs.Samples.{Frame, frames_in, sample_of, silence}
+use Rattle.sof_base.specs.Samples.{Frame, frames_in, sample_of}
 use Rattle.sof_base.specs.Ports.{Io}
 use Rattle.stream_law.specs.declared.graph.Kind.{Kind}
 use Rattle.stream_law.specs.declared.graph.Kind.TheVariants.{HostPlay, HostCapture, DaiPlay, DaiCapture, Volume, Mixer, Mux, Eq}
@@ -15,19 +15,18 @@ use Rattle.stream_law.specs.declared.graph.Setting.{Setting}
 use Rattle.stream_law.specs.declared.graph.Comp.{Comp}
 use Rattle.stream_law.specs.State.{FwState, View, RingView, History, view_of}
 use Rattle.stream_law.specs.Table.{table, list_of, updated}
-use Rattle.stream_law.specs.Ways.{comp_of, source_of, sink_of, outs, is_end, live, live_end, active, active_end, channels_of, inputs}
+use Rattle.stream_law.specs.Ways.{comp_of, source_of, sink_of, outs, is_end, live, live_end, active_end, channels_of, inputs}
 use Rattle.stream_law.specs.Moves.{fed, fed_by}
 use Rattle.stream_law.specs.Order.{is_among, order}
 use Rattle.stream_law.specs.Made.{frames_made, frames_by, only_slice, chosen_slice}
 use Rattle.stream_law.specs.Endpoints.{format_of}
-use Rattle.stream_law.specs.Equaliser.{sections_of, passed_sections, passed_channels, passed_frames, numbers_after, next_inner, next_numbers, number_at}
-use Rattle.stream_law.specs.Move.{Audio, after_move, after_moves, frames_moved, looked_now, fronts, made_now, blob_of, audio_of, audio_after, next_clock, state_after}
+use Rattle.stream_law.specs.Equaliser.{sections_of, passed_sections, passed_channels, passed_frames, numbers_after, next_inner, number_at}
+use Rattle.stream_law.specs.Move.{Audio, after_move, after_moves, frames_moved, looked_now, fronts, made_now, audio_of, audio_after, next_clock}
 use Rattle.stream_law.specs.Seen.{flows, ring_seen, blob_in, fresh_from, fresh_numbers}
 use Rattle.stream_law.proofs.Among.{is_among-filter}
 use Rattle.stream_law.proofs.Keyed.{keys-remade}
 use Rattle.stream_law.proofs.Silent.{active-live, frames_to_move-idle}
 use Rattle.stream_law.proofs.Tables.{value_of-updated_cases}
-use Rattle.sof_base.specs.declared.format.Format.{Format}
 use Rattle.mbox_link.specs.Exchange.{ticked}
 use Rattle.row_laws.specs.Kept.{IsKeptState, numbers_held}
 use Rattle.stream_law.proofs.Members.{IsIn, in-each}
@@ -74,23 +73,23 @@ module _ (v : View) (t c : ℕ) (a : Audio) where
   equalise blob channels frames = passed_frames blob channels (list_of a.numbers c) frames
 
   abbrev slices : ℕ → List (ℕ × List Frame)
-  slices n = table (looked_now v (blob_of v) t c a) (λ b. take n (list_of a.rings b))
+  slices n = table (looked_now v (blob_in v) t c a) (λ b. take n (list_of a.rings b))
 
   none-by : (kind : Kind) (setting : Setting) → frames_by kind setting v c 0 [] (slices 0) equalise ≡ []
   none-by HostPlay setting = refl
   none-by HostCapture setting = refl
   none-by (DaiPlay format) setting = refl
   none-by (DaiCapture format) setting = refl
-  none-by Volume setting = ap (map _) (none-taken (looked_now v (blob_of v) t c a) a.rings)
+  none-by Volume setting = ap (map _) (none-taken (looked_now v (blob_in v) t c a) a.rings)
   none-by Mixer setting = refl
   none-by Mux setting = by (slice_get (inputs v.graph c) _)
     where
       by : (o : Option ℕ) → chosen_slice (slices 0) (channels_of v c) 0 o ≡ []
       by None = refl
-      by (Some b) = none-chosen (looked_now v (blob_of v) t c a) a.rings b
-  none-by Eq setting = ap (passed_frames _ _ (list_of a.numbers c)) (none-taken (looked_now v (blob_of v) t c a) a.rings)
+      by (Some b) = none-chosen (looked_now v (blob_in v) t c a) a.rings b
+  none-by Eq setting = ap (passed_frames _ _ (list_of a.numbers c)) (none-taken (looked_now v (blob_in v) t c a) a.rings)
 
-  made-none : frames_moved v (blob_of v) t c a ≡ 0 → made_now v (blob_of v) t c a ≡ []
+  made-none : frames_moved v (blob_in v) t c a ≡ 0 → made_now v (blob_in v) t c a ≡ []
   unfolding frames_made
   made-none none =
       ap (λ n. frames_made v c n (frames_in (format_of v c) (channels_of v c) (list_of a.left c) 0 n) (slices n) equalise) none ∙ by (comp_of v.graph c)
@@ -128,7 +127,7 @@ AreEmpty v a = (b : ℕ) → flows v b ≡ false → list_of a.rings b ≡ []
 
 module _ (v : View) (t : ℕ) where
   -- what feeds such a ring makes nothing
-  feeds-none : (c b : ℕ) (a : Audio) → is_among (fed_by v c) b ≡ true → flows v b ≡ false → made_now v (blob_of v) t c a ≡ []
+  feeds-none : (c b : ℕ) (a : Audio) → is_among (fed_by v c) b ≡ true → flows v b ≡ false → made_now v (blob_in v) t c a ≡ []
   unfolding flows fed
   feeds-none c b a there dead =
       let parts = and_parts (fed v b) (is_among (outs v.graph c) b) (sym (is_among-filter (fed v) (outs v.graph c) b) ∙ there) in
@@ -137,39 +136,39 @@ module _ (v : View) (t : ℕ) where
       let end = dead-source (live v b) (live_end v (source_of v.graph b)) (live_end v (sink_of v.graph b)) is_fed.0 (active-heard v (sink_of v.graph b) is_fed.1) dead in
       made-none v t c a (frames_to_move-idle v t _ _ c (active-live v c (dead-end v c (source_of v.graph b) from.0 end)))
 
-  empty-one : (c : ℕ) (a : Audio) → AreEmpty v a → AreEmpty v (after_move v (blob_of v) t c a)
-  empty-one c a was b dead = fed-part (value_of-updated_cases [] (fed_by v c) (λ b. list_of a.rings b ++ made_now v (blob_of v) t c a) dropped b)
+  empty-one : (c : ℕ) (a : Audio) → AreEmpty v a → AreEmpty v (after_move v (blob_in v) t c a)
+  empty-one c a was b dead = fed-part (value_of-updated_cases [] (fed_by v c) (λ b. list_of a.rings b ++ made_now v (blob_in v) t c a) dropped b)
     where
       dropped : List (ℕ × List Frame)
-      dropped = updated (looked_now v (blob_of v) t c a) (λ b. drop (frames_moved v (blob_of v) t c a) (list_of a.rings b)) a.rings
+      dropped = updated (looked_now v (blob_in v) t c a) (λ b. drop (frames_moved v (blob_in v) t c a) (list_of a.rings b)) a.rings
 
-      looked-part : ((is_among (looked_now v (blob_of v) t c a) b ≡ true) × (list_of dropped b ≡ drop (frames_moved v (blob_of v) t c a) (list_of a.rings b))) ⊎ ((is_among (looked_now v (blob_of v) t c a) b ≡ false) × (list_of dropped b ≡ list_of a.rings b)) → list_of dropped b ≡ []
-      looked-part (inl p) = p.1 ∙ ap (drop (frames_moved v (blob_of v) t c a)) (was b dead) ∙ drop-nil (frames_moved v (blob_of v) t c a)
+      looked-part : ((is_among (looked_now v (blob_in v) t c a) b ≡ true) × (list_of dropped b ≡ drop (frames_moved v (blob_in v) t c a) (list_of a.rings b))) ⊎ ((is_among (looked_now v (blob_in v) t c a) b ≡ false) × (list_of dropped b ≡ list_of a.rings b)) → list_of dropped b ≡ []
+      looked-part (inl p) = p.1 ∙ ap (drop (frames_moved v (blob_in v) t c a)) (was b dead) ∙ drop-nil (frames_moved v (blob_in v) t c a)
       looked-part (inr p) = p.1 ∙ was b dead
 
-      fed-part : ((is_among (fed_by v c) b ≡ true) × (list_of (after_move v (blob_of v) t c a).rings b ≡ list_of a.rings b ++ made_now v (blob_of v) t c a)) ⊎ ((is_among (fed_by v c) b ≡ false) × (list_of (after_move v (blob_of v) t c a).rings b ≡ list_of dropped b)) → list_of (after_move v (blob_of v) t c a).rings b ≡ []
+      fed-part : ((is_among (fed_by v c) b ≡ true) × (list_of (after_move v (blob_in v) t c a).rings b ≡ list_of a.rings b ++ made_now v (blob_in v) t c a)) ⊎ ((is_among (fed_by v c) b ≡ false) × (list_of (after_move v (blob_in v) t c a).rings b ≡ list_of dropped b)) → list_of (after_move v (blob_in v) t c a).rings b ≡ []
       fed-part (inl p) = p.1 ∙ ap (λ (q : List Frame × List Frame). q.0 ++ q.1) (λ i. (was b dead i, feeds-none c b a p.0 dead i))
-      fed-part (inr p) = p.1 ∙ looked-part (value_of-updated_cases [] (looked_now v (blob_of v) t c a) (λ b. drop (frames_moved v (blob_of v) t c a) (list_of a.rings b)) a.rings b)
+      fed-part (inr p) = p.1 ∙ looked-part (value_of-updated_cases [] (looked_now v (blob_in v) t c a) (λ b. drop (frames_moved v (blob_in v) t c a) (list_of a.rings b)) a.rings b)
 
-  empty-all : (cs : List ℕ) (a : Audio) → AreEmpty v a → AreEmpty v (after_moves v (blob_of v) t cs a)
+  empty-all : (cs : List ℕ) (a : Audio) → AreEmpty v a → AreEmpty v (after_moves v (blob_in v) t cs a)
   empty-all [] a was = was
-  empty-all (c ∷ cs) a was = empty-all cs (after_move v (blob_of v) t c a) (empty-one c a was)
+  empty-all (c ∷ cs) a was = empty-all cs (after_move v (blob_in v) t c a) (empty-one c a was)
 
   -- ---- and an equaliser keeps as many numbers
 
-  held-one : (x c : ℕ) (a : Audio) → length (list_of a.numbers x) ≡ numbers_held v x → length (list_of (after_move v (blob_of v) t c a).numbers x) ≡ numbers_held v x
+  held-one : (x c : ℕ) (a : Audio) → length (list_of a.numbers x) ≡ numbers_held v x → length (list_of (after_move v (blob_in v) t c a).numbers x) ≡ numbers_held v x
   held-one x c a was = by (value_of-updated_cases [] (c ∷ []) after a.numbers x)
     where
       after : ℕ → List ℤ
-      after c' = numbers_after (blob_of v c') (channels_of v c') (list_of a.numbers c') (only_slice (fronts v (blob_of v) t c a))
+      after c' = numbers_after (blob_in v c') (channels_of v c') (list_of a.numbers c') (only_slice (fronts v (blob_in v) t c a))
 
-      by : ((is_among (c ∷ []) x ≡ true) × (list_of (after_move v (blob_of v) t c a).numbers x ≡ after x)) ⊎ ((is_among (c ∷ []) x ≡ false) × (list_of (after_move v (blob_of v) t c a).numbers x ≡ list_of a.numbers x)) → length (list_of (after_move v (blob_of v) t c a).numbers x) ≡ numbers_held v x
-      by (inl p) = ap (λ (ns : List ℤ). length ns) p.1 ∙ length-after (blob_in v x) (channels_of v x) (list_of a.numbers x) (only_slice (fronts v (blob_of v) t c a)) was
+      by : ((is_among (c ∷ []) x ≡ true) × (list_of (after_move v (blob_in v) t c a).numbers x ≡ after x)) ⊎ ((is_among (c ∷ []) x ≡ false) × (list_of (after_move v (blob_in v) t c a).numbers x ≡ list_of a.numbers x)) → length (list_of (after_move v (blob_in v) t c a).numbers x) ≡ numbers_held v x
+      by (inl p) = ap (λ (ns : List ℤ). length ns) p.1 ∙ length-after (blob_in v x) (channels_of v x) (list_of a.numbers x) (only_slice (fronts v (blob_in v) t c a)) was
       by (inr p) = ap (λ (ns : List ℤ). length ns) p.1 ∙ was
 
-  held-all : (x : ℕ) (cs : List ℕ) (a : Audio) → length (list_of a.numbers x) ≡ numbers_held v x → length (list_of (after_moves v (blob_of v) t cs a).numbers x) ≡ numbers_held v x
+  held-all : (x : ℕ) (cs : List ℕ) (a : Audio) → length (list_of a.numbers x) ≡ numbers_held v x → length (list_of (after_moves v (blob_in v) t cs a).numbers x) ≡ numbers_held v x
   held-all x [] a was = was
-  held-all x (c ∷ cs) a was = held-all x cs (after_move v (blob_of v) t c a) (held-one x c a was)
+  held-all x (c ∷ cs) a was = held-all x cs (after_move v (blob_in v) t c a) (held-one x c a was)
 
 -- ---- a whole tick
 

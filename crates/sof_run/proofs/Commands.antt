@@ -24,7 +24,7 @@ use Rattle.sof_session.specs.Written.{Out, Written, written_in}
 use Rattle.sof_session.proofs.Writings.{empty-outputs}
 use Rattle.sof_session.specs.Lives.{Life, Seated, Turn, Turned, Carry}
 use Rattle.sof_run.specs.Todo as todo
-use Rattle.sof_run.specs.Todo.{Todo, Do, Refill, Played, DeskPhase, LeadsOn, PhaseFails, Phase}
+use Rattle.sof_run.specs.Todo.{Todo, Refill, Played, DeskPhase, LeadsOn, PhaseFails, Phase}
 use Rattle.sof_run.specs.Rounds.{Round, rounds_after, command_rounds, rounds_of}
 use Rattle.sof_run.specs.Lines.{is_show, with_newline, lines_after}
 use Rattle.sof_run.specs.Play.{flush_todo, lines_todo, unit_todo, round_todo, rounds_todo, commands_todo}

@@ -1,13 +1,12 @@
 -- The input that is read next, and what a read leaves to be read.
-use Rattle.std.proofs.Common.{◌≡◌, ℕ, suc, ◌+◌, ◌-◌, ◌<◌, ◌≤◌, Bool, true, false, not, eqb, nat_eq, nat_lt, if◌then◌else◌, List, [], ◌∷◌, length, Option, Some, None, refl, sym, subst, inl, inr, arith}
+use Rattle.std.proofs.Common.{◌≡◌, ℕ, suc, ◌+◌, ◌-◌, ◌<◌, Bool, true, false, not, eqb, nat_eq, nat_lt, if◌then◌else◌, List, [], ◌∷◌, length, Some, refl, sym, subst, inl, inr, arith}
 use Rattle.std.proofs.lemmas.Bool.{cases_Bool, and_parts, eq-eqb, eqb-true}
 use Rattle.std.proofs.lemmas.Bool.Decides.{nat_tests}
 use Rattle.std.proofs.lemmas.List.{length-append}
 use Rattle.std.specs.List.{AllByRecursion, IsDistinct}
 use Rattle.sof_base.specs.Ports.{InputView}
 use Rattle.sof_io.specs.Bound.{input_slots, has_slot}
-use Rattle.sof_io.specs.Takes.{left_at}
-use Rattle.sof_io.specs.Fills.{fuller_input, ended_input, is_wanting, wanting, held_at, has_ended, filled_at, ended_at}
+use Rattle.sof_io.specs.Fills.{is_wanting, wanting, held_at, has_ended, filled_at, ended_at}
 use Rattle.sof_session.specs.Fills.{next_read, after_read}
 
 -- the slot is there, more bytes of it may come, and it holds fewer than a level

@@ -16,8 +16,8 @@ use Rattle.stream_law.specs.Endpoints.{reads, bytes_of_frames, bytes_written}
 use Rattle.stream_law.specs.Made.{only_slice}
 use Rattle.sof_base.specs.Ports.{Io, InputView}
 use Rattle.stream_law.specs.Stands.{left_of, is_bound, KeepsCounts, lying, Holds, HasRead, Stands, StandsBuilding, BothSilent, SeesSilent}
-use Rattle.stream_law.specs.Move.{Audio, blob_of, audio_of, audio_after, state_after, io_after, next_clock, Move}
-use Rattle.stream_law.specs.Seen.{flows, equalises}
+use Rattle.stream_law.specs.Move.{Audio, audio_of, audio_after, state_after, io_after, next_clock, Move}
+use Rattle.stream_law.specs.Seen.{flows, equalises, blob_in}
 use Rattle.stream_law.proofs.Among.{value_of-updated_kept}
 use Rattle.stream_law.proofs.Silent.{silent-dead, silent-fed, silent-runs, HasPlaces, Unmoved, unmoved-all}
 use Rattle.stream_law.proofs.Rounds.{counts_by, ticked_by}
@@ -198,7 +198,7 @@ Stands-tick_building f f' whole io io' moments stands move = record {
             omega (arith, same)
 
     unmoved : Unmoved (audio_of f io) audio
-    unmoved = unmoved-all (view_of f) stands.holds.view.0 (blob_of (view_of f)) (next_clock f.clock) (order f.graph) (audio_of f io) low
+    unmoved = unmoved-all (view_of f) stands.holds.view.0 (blob_in (view_of f)) (next_clock f.clock) (order f.graph) (audio_of f io) low
 
     still_holds : Holds BothSilent (state_after f audio) (after whole p kept silent)
     still_holds = record {

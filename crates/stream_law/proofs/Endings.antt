@@ -1,12 +1,7 @@
 -- An equaliser by its numbers is one by index.
-use Rattle.std.proofs.Common.{◌≡◌, sym, ap, ◌∙◌, ℕ, ◌+◌, ◌*◌, ◌%◌, ◌^◌, List, ◌++◌, map, take, drop, length, arith, pos, ◌*ℤ◌}
-use Rattle.std.specs.List.{range_with_len}
-use Rattle.std.proofs.lemmas.List.{drop-drop, drop_at}
-use Rattle.std.specs.Int.{w16, w32, from_le_bytes}
-use Rattle.sof_base.specs.Slots.{half_at, word_at}
-use Rattle.sof_base.specs.declared.format.Format.{Format}
-use Rattle.sof_base.specs.declared.format.Format.TheVariants.{S16, S24, S32}
-use Rattle.sof_base.specs.Samples.{Frame, frames_in, frame_in, sample_in_of, width, signed_of}
+use Rattle.std.proofs.Common.{◌≡◌, sym, ap, ◌∙◌, ℕ, ◌+◌, List, ◌++◌, drop, length}
+use Rattle.std.proofs.lemmas.List.{drop_at}
+use Rattle.sof_base.specs.Samples.{Frame}
 use Rattle.stream_law.specs.Epochs.{equalised, history_of}
 use Rattle.stream_law.specs.Past.{equalised_after}
 use Rattle.stream_law.proofs.Equalising.{equalised-append, history_of-append, length-equalised}

@@ -18,9 +18,8 @@ use Rattle.stream_law.specs.declared.graph.Kind.TheVariants.{HostPlay, HostCaptu
 use Rattle.stream_law.specs.declared.graph.Setting.{Setting}
 use Rattle.stream_law.specs.declared.graph.Comp.{Comp}
 use Rattle.stream_law.specs.Order.{is_among}
-use Rattle.stream_law.specs.Move.{blob_of}
 use Rattle.stream_law.specs.Stands.{KeepsCounts}
-use Rattle.stream_law.specs.Seen.{is_equaliser}
+use Rattle.stream_law.specs.Seen.{is_equaliser, blob_in}
 use Rattle.stream_law.proofs.Silent.{active-live, frames_to_move-idle}
 use Rattle.stream_law.proofs.Among.{is_among-filter, value_of-updated_among, value_of-updated_apart}
 use Rattle.stream_law.proofs.Standing.{find-absent}
@@ -54,7 +53,7 @@ min_either true m n = refl
 min_either false m n = refl
 
 -- what frames are made depends on the equaliser alone at what it takes
-pub frames_made_same : (v : View) (c n : ℕ) (read : List Frame) (slices : List (ℕ × List Frame)) (f g : List ℕ → ℕ → List Frame → List Frame) → (option_map_or (λ x. is_equaliser x.kind) (comp_of v.graph c) false ≡ true → f (blob_of v c) (channels_of v c) (only_slice slices) ≡ g (blob_of v c) (channels_of v c) (only_slice slices)) → frames_made v c n read slices f ≡ frames_made v c n read slices g
+pub frames_made_same : (v : View) (c n : ℕ) (read : List Frame) (slices : List (ℕ × List Frame)) (f g : List ℕ → ℕ → List Frame → List Frame) → (option_map_or (λ x. is_equaliser x.kind) (comp_of v.graph c) false ≡ true → f (blob_in v c) (channels_of v c) (only_slice slices) ≡ g (blob_in v c) (channels_of v c) (only_slice slices)) → frames_made v c n read slices f ≡ frames_made v c n read slices g
 unfolding frames_made
 frames_made_same v c n read slices f g same = by_comp (comp_of v.graph c) refl
   where

@@ -1,18 +1,14 @@
 -- More bytes behind what an input has given change nothing of the past.
-use Rattle.std.proofs.Common.{◌≡◌, refl, sym, ap, ◌∙◌, subst, ℕ, ◌+◌, ◌*◌, ◌%◌, ◌^◌, ◌<◌, ◌≤◌, List, [], ◌∷◌, ◌++◌, take, drop, length, Option, Some, None, Bool, true, false, cond, ◌==◌, inl, inr, ◌⊎◌, arith, pos, ◌*ℤ◌}
+use Rattle.std.proofs.Common.{◌≡◌, refl, sym, ap, ◌∙◌, subst, ℕ, ◌+◌, ◌≤◌, List, [], ◌∷◌, ◌++◌, drop, length, Option, Some, None, Bool, true, false, cond, ◌==◌, inl, inr, ◌⊎◌, arith}
 use Rattle.std.proofs.lemmas.Bool.{true≢false, eqb-true, true_from_ne_false}
-use Rattle.std.proofs.lemmas.List.{drop-append-le, take-append-le, length-drop}
-use Rattle.std.specs.Int.{w16, w32, from_le_bytes}
-use Rattle.sof_base.specs.Slots.{half_at, word_at}
+use Rattle.std.proofs.lemmas.List.{drop-append-le}
 use Rattle.std.specs.Option.{option_map_or}
-use Rattle.sof_base.specs.declared.format.Format.{Format}
-use Rattle.sof_base.specs.declared.format.Format.TheVariants.{S16, S24, S32}
 use Rattle.stream_law.specs.declared.graph.Kind.{Kind}
 use Rattle.stream_law.specs.declared.graph.Kind.TheVariants.{HostPlay, HostCapture, DaiPlay, DaiCapture, Volume, Mixer, Mux, Eq}
 use Rattle.stream_law.specs.declared.graph.Setting.{Setting}
 use Rattle.stream_law.specs.declared.graph.Comp.{Comp}
 use Rattle.stream_law.specs.Table.{number_of, list_of, updated}
-use Rattle.sof_base.specs.Samples.{Frame, signed_of, sample_in_of, frame_in, frames_in, width}
+use Rattle.sof_base.specs.Samples.{Frame}
 use Rattle.stream_law.specs.State.{View, FwState}
 use Rattle.stream_law.specs.Ways.{comp_of, components, buffers, source_of, channels_of}
 use Rattle.stream_law.specs.Made.{frames_made, frames_by}

@@ -12,9 +12,9 @@ use Rattle.stream_law.specs.Counts.{Counts, frames_held, frames_free, moved_by, 
 use Rattle.stream_law.specs.Past.{part_of, Past, frames_now, made_after, epoch_after, position_after, bytes_put, slices, equalised_after, frames_read}
 use Rattle.stream_law.specs.Made.{frames_made, only_slice}
 use Rattle.stream_law.specs.Order.{is_among}
-use Rattle.stream_law.specs.Move.{Audio, after_move, after_moves, bytes_moved, blob_of, frames_moved, made_now, rings_after, fronts, looked_now, ring_length, ring_room}
+use Rattle.stream_law.specs.Move.{Audio, after_move, after_moves, bytes_moved, frames_moved, made_now, rings_after, fronts, looked_now, ring_length, ring_room}
 use Rattle.stream_law.specs.Equaliser.{passed_frames, numbers_after}
-use Rattle.stream_law.specs.Seen.{equalises, is_equaliser}
+use Rattle.stream_law.specs.Seen.{equalises, is_equaliser, blob_in}
 use Rattle.stream_law.specs.Epochs.{history_of}
 use Rattle.stream_law.specs.Endpoints.{format_of, reads, bytes_of_frames, bytes_written}
 use Rattle.sof_base.proofs.SampleLaws.{frames_in-drop}
@@ -103,14 +103,14 @@ module _ (whole : List (ℕ × List ℕ)) (old : Past) (t : ℕ) (n : List (ℕ 
       alone a h = let same : c ≡ a = cc in ap (is_among done) (sym same) ∙ turn.apart
 
   -- at its turn c finds what the equations say
-  module _ (blob_of : ℕ → List ℕ) (done : List ℕ) (c : ℕ) (a : Audio) (turn : AtTurn old.view.graph done c) (lies : (b : ℕ) → list_of a.rings b ≡ lying_at done b) where
-    held_is : (b : ℕ) → is_end (sink_of old.view.graph b) c ≡ true → ring_length old.view blob_of t c a b ≡ frames_held old.counts new.put b
+  module _ (blob_in : ℕ → List ℕ) (done : List ℕ) (c : ℕ) (a : Audio) (turn : AtTurn old.view.graph done c) (lies : (b : ℕ) → list_of a.rings b ≡ lying_at done b) where
+    held_is : (b : ℕ) → is_end (sink_of old.view.graph b) c ≡ true → ring_length old.view blob_in t c a b ≡ frames_held old.counts new.put b
     held_is b e =
         let low : number_of old.counts.taken b ≤ number_of new.put b = omega (arith, s.kept.no_more_taken b, put-le b) in
         ap length (lies b ∙ lying_at-into done c turn b (is_end-some (sink_of old.view.graph b) c e))
         ∙ length-part_of (list_of made b) (number_of old.counts.taken b) (number_of new.put b - number_of old.counts.taken b) (omega (arith, length_made b))
 
-    room_is : (b : ℕ) → is_end (source_of old.view.graph b) c ≡ true → ring_room old.view blob_of t c a b ≡ frames_free old.view old.counts b
+    room_is : (b : ℕ) → is_end (source_of old.view.graph b) c ≡ true → ring_room old.view blob_in t c a b ≡ frames_free old.view old.counts b
     room_is b e =
         let low : number_of old.counts.taken b ≤ number_of old.counts.put b = s.kept.no_more_taken b in
         ap (λ k. capacity old.view b - k) (
@@ -118,13 +118,13 @@ module _ (whole : List (ℕ × List ℕ)) (old : Past) (t : ℕ) (n : List (ℕ 
         ∙ length-part_of (list_of made b) (number_of old.counts.taken b) (number_of old.counts.put b - number_of old.counts.taken b) (omega (arith, length_made b, put-le b)))
 
     -- so it moves what they say
-    moving_is : frames_moved old.view blob_of t c a ≡ number_of n c
+    moving_is : frames_moved old.view blob_in t c a ≡ number_of n c
     moving_is =
-        frames_to_move_same old.view t (ring_length old.view blob_of t c a) (frames_held old.counts new.put) (ring_room old.view blob_of t c a) (frames_free old.view old.counts) c held_is room_is
+        frames_to_move_same old.view t (ring_length old.view blob_in t c a) (frames_held old.counts new.put) (ring_room old.view blob_in t c a) (frames_free old.view old.counts) c held_is room_is
         ∙ sym (ap (λ l. number_of l c) s.counting.moves ∙ value_of-table_among 0 (components old.view.graph) (frames_to_move old.view t (frames_held old.counts new.put) (frames_free old.view old.counts)) c turn.there)
 
-    looked_is : looked_now old.view blob_of t c a ≡ looked_at old.view (frames_held old.counts new.put) c
-    looked_is = looked_at_same old.view (ring_length old.view blob_of t c a) (frames_held old.counts new.put) c held_is
+    looked_is : looked_now old.view blob_in t c a ≡ looked_at old.view (frames_held old.counts new.put) c
+    looked_is = looked_at_same old.view (ring_length old.view blob_in t c a) (frames_held old.counts new.put) c held_is
 
     n-le : (b : ℕ) → is_among (looked_at old.view (frames_held old.counts new.put) c) b ≡ true → number_of n c ≤ frames_held old.counts new.put b
     n-le b there = subst (λ k. k ≤ frames_held old.counts new.put b)
@@ -132,10 +132,10 @@ module _ (whole : List (ℕ × List ℕ)) (old : Past) (t : ℕ) (n : List (ℕ 
         (frames_to_move-le_held old.view t (frames_held old.counts new.put) (frames_free old.view old.counts) c b there)
 
     -- and takes the slices that they name
-    fronts_are : fronts old.view blob_of t c a ≡ slices whole old n new.put made c
+    fronts_are : fronts old.view blob_in t c a ≡ slices whole old n new.put made c
     fronts_are =
-        ap (λ ids. table ids (λ b. take (frames_moved old.view blob_of t c a) (list_of a.rings b))) looked_is
-        ∙ table_same_among (looked_at old.view (frames_held old.counts new.put) c) (λ b. take (frames_moved old.view blob_of t c a) (list_of a.rings b)) (λ b. part_of (list_of made b) (number_of old.counts.taken b) (number_of n c)) (λ b there.
+        ap (λ ids. table ids (λ b. take (frames_moved old.view blob_in t c a) (list_of a.rings b))) looked_is
+        ∙ table_same_among (looked_at old.view (frames_held old.counts new.put) c) (λ b. take (frames_moved old.view blob_in t c a) (list_of a.rings b)) (λ b. part_of (list_of made b) (number_of old.counts.taken b) (number_of n c)) (λ b there.
         ap (λ m. take m (list_of a.rings b)) moving_is
         ∙ ap (take (number_of n c)) (lies b ∙ lying_at-into done c turn b (is_end-some (sink_of old.view.graph b) c (looked-parts old.view (frames_held old.counts new.put) c b there).1))
         ∙ take-part_of (list_of made b) (number_of old.counts.taken b) (number_of new.put b - number_of old.counts.taken b) (number_of n c) (n-le b there))
@@ -231,30 +231,30 @@ module _ (whole : List (ℕ × List ℕ)) (old : Past) (t : ℕ) (n : List (ℕ 
             ∙ ap (λ h. taken + cond (h || is_among done c) (number_of n c) 0) (eq-eqb c c refl)
 
     -- the rings after c has moved
-    pub rings_step : made_now old.view blob_of t c a ≡ frames_now whole old n new.put made c → (b : ℕ) → list_of (rings_after old.view blob_of t c a) b ≡ lying_at (c ∷ done) b
+    pub rings_step : made_now old.view blob_in t c a ≡ frames_now whole old n new.put made c → (b : ℕ) → list_of (rings_after old.view blob_in t c a) b ≡ lying_at (c ∷ done) b
     rings_step makes b = by_fed (is_among (fed_by old.view c) b) refl
       where
         dropped : List (ℕ × List Frame)
-        dropped = updated (looked_now old.view blob_of t c a) (λ b. drop (frames_moved old.view blob_of t c a) (list_of a.rings b)) a.rings
+        dropped = updated (looked_now old.view blob_in t c a) (λ b. drop (frames_moved old.view blob_in t c a) (list_of a.rings b)) a.rings
 
         stays : is_among (fed_by old.view c) b ≡ false → is_among (looked_at old.view (frames_held old.counts new.put) c) b ≡ false → lying_at done b ≡ lying_at (c ∷ done) b
         stays f l = ap (λ (p : ℕ × ℕ). part_of (list_of made b) p.0 (p.1 - p.0)) (λ i. (sym (taken_at-stays b l) i, sym (put_at-stays b f) i))
 
         by_looked : is_among (fed_by old.view c) b ≡ false → (h : Bool) → is_among (looked_at old.view (frames_held old.counts new.put) c) b ≡ h → list_of dropped b ≡ lying_at (c ∷ done) b
         by_looked f true h =
-            value_of-updated_among [] (looked_now old.view blob_of t c a) (λ b. drop (frames_moved old.view blob_of t c a) (list_of a.rings b)) a.rings b (ap (λ ids. is_among ids b) looked_is ∙ h)
+            value_of-updated_among [] (looked_now old.view blob_in t c a) (λ b. drop (frames_moved old.view blob_in t c a) (list_of a.rings b)) a.rings b (ap (λ ids. is_among ids b) looked_is ∙ h)
             ∙ ap (λ (p : ℕ × List Frame). drop p.0 p.1) (λ i. (moving_is i, lies b i))
             ∙ lying_at-looked b h
         by_looked f false h =
-            value_of-updated_apart [] (looked_now old.view blob_of t c a) (λ b. drop (frames_moved old.view blob_of t c a) (list_of a.rings b)) a.rings b (ap (λ ids. is_among ids b) looked_is ∙ h)
+            value_of-updated_apart [] (looked_now old.view blob_in t c a) (λ b. drop (frames_moved old.view blob_in t c a) (list_of a.rings b)) a.rings b (ap (λ ids. is_among ids b) looked_is ∙ h)
             ∙ lies b ∙ stays f h
 
-        by_fed : (h : Bool) → is_among (fed_by old.view c) b ≡ h → list_of (rings_after old.view blob_of t c a) b ≡ lying_at (c ∷ done) b
+        by_fed : (h : Bool) → is_among (fed_by old.view c) b ≡ h → list_of (rings_after old.view blob_in t c a) b ≡ lying_at (c ∷ done) b
         by_fed true h =
-            value_of-updated_among [] (fed_by old.view c) (λ b. list_of a.rings b ++ made_now old.view blob_of t c a) dropped b h
+            value_of-updated_among [] (fed_by old.view c) (λ b. list_of a.rings b ++ made_now old.view blob_in t c a) dropped b h
             ∙ ap (λ (p : List Frame × List Frame). p.0 ++ p.1) (λ i. (lies b i, makes i))
             ∙ lying_at-fed b h
-        by_fed false h = value_of-updated_apart [] (fed_by old.view c) (λ b. list_of a.rings b ++ made_now old.view blob_of t c a) dropped b h ∙ by_looked h (is_among (looked_at old.view (frames_held old.counts new.put) c) b) refl
+        by_fed false h = value_of-updated_apart [] (fed_by old.view c) (λ b. list_of a.rings b ++ made_now old.view blob_in t c a) dropped b h ∙ by_looked h (is_among (looked_at old.view (frames_held old.counts new.put) c) b) refl
 
   -- ---- all that a tick goes through
 
@@ -267,7 +267,7 @@ module _ (whole : List (ℕ × List ℕ)) (old : Past) (t : ℕ) (n : List (ℕ 
   -- the audio is as if those of done had moved by the equations
   pub record Midway (bound done : List ℕ) (a : Audio) : Type 0 where
     pub rings : (b : ℕ) → list_of a.rings b ≡ lying_at done b
-    pub numbers : (c : ℕ) → equalises old.view c ≡ true → list_of a.numbers c ≡ history_of (blob_of old.view c) (channels_of old.view c) (epoch_at done c)
+    pub numbers : (c : ℕ) → equalises old.view c ≡ true → list_of a.numbers c ≡ history_of (blob_in old.view c) (channels_of old.view c) (epoch_at done c)
     pub positions : (c : ℕ) → is_among bound c ≡ true → number_of a.positions c ≡ min (position_at done c) (2 ^ 64 - 1)
     pub left : (c : ℕ) → list_of a.left c ≡ drop (position_at done c) (list_of whole c)
     pub written : (c : ℕ) → list_of a.written c ≡ cond (is_among done c) (bytes_put whole old n new.put made t c) []
@@ -293,49 +293,49 @@ module _ (whole : List (ℕ × List ℕ)) (old : Past) (t : ℕ) (n : List (ℕ 
 
   -- one component moves at its turn
   module _ (bound done : List ℕ) (c : ℕ) (a : Audio) (turn : AtTurn old.view.graph done c) (mid : Midway bound done a) where
-    moves_n : frames_moved old.view (blob_of old.view) t c a ≡ number_of n c
-    moves_n = moving_is (blob_of old.view) done c a turn mid.rings
+    moves_n : frames_moved old.view (blob_in old.view) t c a ≡ number_of n c
+    moves_n = moving_is (blob_in old.view) done c a turn mid.rings
 
-    takes_slices : fronts old.view (blob_of old.view) t c a ≡ slices whole old n new.put made c
-    takes_slices = fronts_are (blob_of old.view) done c a turn mid.rings
+    takes_slices : fronts old.view (blob_in old.view) t c a ≡ slices whole old n new.put made c
+    takes_slices = fronts_are (blob_in old.view) done c a turn mid.rings
 
     left_is : list_of a.left c ≡ drop (number_of old.positions c) (list_of whole c)
     left_is = mid.left c ∙ ap (λ k. drop k (list_of whole c)) (cond-false (is_among done c) (position_after whole old n new.put made c) (number_of old.positions c) turn.apart)
 
-    numbers_are : equalises old.view c ≡ true → list_of a.numbers c ≡ history_of (blob_of old.view c) (channels_of old.view c) (list_of old.epochs c)
-    numbers_are there = mid.numbers c there ∙ ap (history_of (blob_of old.view c) (channels_of old.view c)) (cond-false (is_among done c) (epoch_after whole old n new.put made c) (list_of old.epochs c) turn.apart)
+    numbers_are : equalises old.view c ≡ true → list_of a.numbers c ≡ history_of (blob_in old.view c) (channels_of old.view c) (list_of old.epochs c)
+    numbers_are there = mid.numbers c there ∙ ap (history_of (blob_in old.view c) (channels_of old.view c)) (cond-false (is_among done c) (epoch_after whole old n new.put made c) (list_of old.epochs c) turn.apart)
 
     -- it makes what the equations say
-    makes_frames : made_now old.view (blob_of old.view) t c a ≡ frames_now whole old n new.put made c
+    makes_frames : made_now old.view (blob_in old.view) t c a ≡ frames_now whole old n new.put made c
     makes_frames =
         ap (λ (p : ℕ × List (ℕ × List Frame)). frames_made old.view c p.0 (frames_in (format_of old.view c) (channels_of old.view c) (list_of a.left c) 0 p.0) p.1 (λ blob channels frames. passed_frames blob channels (list_of a.numbers c) frames)) (λ i. (moves_n i, takes_slices i))
         ∙ ap (λ read. frames_made old.view c (number_of n c) read (slices whole old n new.put made c) (λ blob channels frames. passed_frames blob channels (list_of a.numbers c) frames)) (ap (λ bytes. frames_in (format_of old.view c) (channels_of old.view c) bytes 0 (number_of n c)) left_is ∙ frames_in-drop (format_of old.view c) (channels_of old.view c) (list_of whole c) (number_of old.positions c) (number_of n c))
         ∙ frames_made_same old.view c (number_of n c) (frames_read old.view c (list_of whole c) (number_of old.positions c) (number_of n c)) (slices whole old n new.put made c) (λ blob channels frames. passed_frames blob channels (list_of a.numbers c) frames) (equalised_after (list_of old.epochs c)) (by_life (live old.view c) refl)
       where
-        by_life : (l : Bool) → live old.view c ≡ l → option_map_or (λ x. is_equaliser x.kind) (comp_of old.view.graph c) false ≡ true → passed_frames (blob_of old.view c) (channels_of old.view c) (list_of a.numbers c) (only_slice (slices whole old n new.put made c)) ≡ equalised_after (list_of old.epochs c) (blob_of old.view c) (channels_of old.view c) (only_slice (slices whole old n new.put made c))
+        by_life : (l : Bool) → live old.view c ≡ l → option_map_or (λ x. is_equaliser x.kind) (comp_of old.view.graph c) false ≡ true → passed_frames (blob_in old.view c) (channels_of old.view c) (list_of a.numbers c) (only_slice (slices whole old n new.put made c)) ≡ equalised_after (list_of old.epochs c) (blob_in old.view c) (channels_of old.view c) (only_slice (slices whole old n new.put made c))
         by_life true l kind =
-            ap (λ numbers. passed_frames (blob_of old.view c) (channels_of old.view c) numbers (only_slice (slices whole old n new.put made c))) (numbers_are (and_from (live old.view c) (option_map_or (λ x. is_equaliser x.kind) (comp_of old.view.graph c) false) l kind))
-            ∙ passed_frames-history (blob_of old.view c) (channels_of old.view c) (list_of old.epochs c) (only_slice (slices whole old n new.put made c))
+            ap (λ numbers. passed_frames (blob_in old.view c) (channels_of old.view c) numbers (only_slice (slices whole old n new.put made c))) (numbers_are (and_from (live old.view c) (option_map_or (λ x. is_equaliser x.kind) (comp_of old.view.graph c) false) l kind))
+            ∙ passed_frames-history (blob_in old.view c) (channels_of old.view c) (list_of old.epochs c) (only_slice (slices whole old n new.put made c))
         by_life false l kind = let none = only_slice-still c (still c turn.there l) in
-            ap (passed_frames (blob_of old.view c) (channels_of old.view c) (list_of a.numbers c)) none
-            ∙ passed_frames-history (blob_of old.view c) (channels_of old.view c) (list_of old.epochs c) []
-            ∙ ap (equalised_after (list_of old.epochs c) (blob_of old.view c) (channels_of old.view c)) (sym none)
+            ap (passed_frames (blob_in old.view c) (channels_of old.view c) (list_of a.numbers c)) none
+            ∙ passed_frames-history (blob_in old.view c) (channels_of old.view c) (list_of old.epochs c) []
+            ∙ ap (equalised_after (list_of old.epochs c) (blob_in old.view c) (channels_of old.view c)) (sym none)
 
-    bytes_are : bytes_moved old.view (blob_of old.view) t c a ≡ cond (reads old.view c) (bytes_of_frames old.view c (number_of n c)) 0
+    bytes_are : bytes_moved old.view (blob_in old.view) t c a ≡ cond (reads old.view c) (bytes_of_frames old.view c (number_of n c)) 0
     bytes_are = ap (λ m. cond (reads old.view c) (bytes_of_frames old.view c m) 0) moves_n
 
-    midway_step : Midway bound (c ∷ done) (after_move old.view (blob_of old.view) t c a)
+    midway_step : Midway bound (c ∷ done) (after_move old.view (blob_in old.view) t c a)
     midway_step = record {
-      rings = rings_step (blob_of old.view) done c a turn mid.rings makes_frames;
+      rings = rings_step (blob_in old.view) done c a turn mid.rings makes_frames;
       numbers = λ d there. numbers_now d (c == d) refl there;
       positions = λ d there.
-          one_more done c (λ x. min (position_after whole old n new.put made x) (2 ^ 64 - 1)) (λ x. min (number_of old.positions x) (2 ^ 64 - 1)) (λ x. moved_on (number_of a.positions x) (bytes_moved old.view (blob_of old.view) t c a)) (number_of a.positions d) d
+          one_more done c (λ x. min (position_after whole old n new.put made x) (2 ^ 64 - 1)) (λ x. min (number_of old.positions x) (2 ^ 64 - 1)) (λ x. moved_on (number_of a.positions x) (bytes_moved old.view (blob_in old.view) t c a)) (number_of a.positions d) d
           (λ e. ap (λ (p : ℕ × ℕ). moved_on p.0 p.1) (λ i. (at_c (ap (is_among bound) (eqb-true c d e) ∙ there) i, bytes_are i)) ∙ held_once (number_of old.positions c) (cond (reads old.view c) (bytes_of_frames old.view c (number_of n c)) 0))
           (mid.positions d there ∙ sym (min_either (is_among done d) (position_after whole old n new.put made d) (number_of old.positions d)))
           ∙ min_either ((c == d) || is_among done d) (position_after whole old n new.put made d) (number_of old.positions d);
       left = λ d. left_now d (c == d) refl;
-      written = λ d. one_more done c (bytes_put whole old n new.put made t) (λ _. []) (λ x. list_of a.written x ++ cond (runs old.view t x) (bytes_written old.view c (frames_moved old.view (blob_of old.view) t c a) (quota old.view t x) (only_slice (fronts old.view (blob_of old.view) t c a))) []) (list_of a.written d) d
-          (λ e. ap (λ l. l ++ cond (runs old.view t c) (bytes_written old.view c (frames_moved old.view (blob_of old.view) t c a) (quota old.view t c) (only_slice (fronts old.view (blob_of old.view) t c a))) []) (mid.written c ∙ cond-false (is_among done c) (bytes_put whole old n new.put made t c) [] turn.apart)
+      written = λ d. one_more done c (bytes_put whole old n new.put made t) (λ _. []) (λ x. list_of a.written x ++ cond (runs old.view t x) (bytes_written old.view c (frames_moved old.view (blob_in old.view) t c a) (quota old.view t x) (only_slice (fronts old.view (blob_in old.view) t c a))) []) (list_of a.written d) d
+          (λ e. ap (λ l. l ++ cond (runs old.view t c) (bytes_written old.view c (frames_moved old.view (blob_in old.view) t c a) (quota old.view t c) (only_slice (fronts old.view (blob_in old.view) t c a))) []) (mid.written c ∙ cond-false (is_among done c) (bytes_put whole old n new.put made t c) [] turn.apart)
           ∙ ap (λ (p : ℕ × List (ℕ × List Frame)). cond (runs old.view t c) (bytes_written old.view c p.0 (quota old.view t c) (only_slice p.1)) []) (λ i. (moves_n i, takes_slices i)))
           (mid.written d);
     }
@@ -343,21 +343,21 @@ module _ (whole : List (ℕ × List ℕ)) (old : Past) (t : ℕ) (n : List (ℕ 
         at_c : is_among bound c ≡ true → number_of a.positions c ≡ min (number_of old.positions c) (2 ^ 64 - 1)
         at_c there = mid.positions c there ∙ ap (λ k. min k (2 ^ 64 - 1)) (cond-false (is_among done c) (position_after whole old n new.put made c) (number_of old.positions c) turn.apart)
 
-        left_now : (d : ℕ) (h : Bool) → (c == d) ≡ h → cond h (drop (bytes_moved old.view (blob_of old.view) t c a) (list_of a.left c)) (list_of a.left d) ≡ drop (cond (h || is_among done d) (position_after whole old n new.put made d) (number_of old.positions d)) (list_of whole d)
+        left_now : (d : ℕ) (h : Bool) → (c == d) ≡ h → cond h (drop (bytes_moved old.view (blob_in old.view) t c a) (list_of a.left c)) (list_of a.left d) ≡ drop (cond (h || is_among done d) (position_after whole old n new.put made d) (number_of old.positions d)) (list_of whole d)
         left_now d true h =
             ap (λ (p : ℕ × List ℕ). drop p.0 p.1) (λ i. (bytes_are i, left_is i))
             ∙ drop-drop (cond (reads old.view c) (bytes_of_frames old.view c (number_of n c)) 0) (number_of old.positions c) (list_of whole c)
             ∙ ap (λ x. drop (position_after whole old n new.put made x) (list_of whole x)) (eqb-true c d h)
         left_now d false h = mid.left d
 
-        numbers_now : (d : ℕ) (h : Bool) → (c == d) ≡ h → equalises old.view d ≡ true → cond h (numbers_after (blob_of old.view c) (channels_of old.view c) (list_of a.numbers c) (only_slice (fronts old.view (blob_of old.view) t c a))) (list_of a.numbers d) ≡ history_of (blob_of old.view d) (channels_of old.view d) (cond (h || is_among done d) (epoch_after whole old n new.put made d) (list_of old.epochs d))
+        numbers_now : (d : ℕ) (h : Bool) → (c == d) ≡ h → equalises old.view d ≡ true → cond h (numbers_after (blob_in old.view c) (channels_of old.view c) (list_of a.numbers c) (only_slice (fronts old.view (blob_in old.view) t c a))) (list_of a.numbers d) ≡ history_of (blob_in old.view d) (channels_of old.view d) (cond (h || is_among done d) (epoch_after whole old n new.put made d) (list_of old.epochs d))
         numbers_now d true h there =
-            ap (λ (p : List ℤ × List (ℕ × List Frame)). numbers_after (blob_of old.view c) (channels_of old.view c) p.0 (only_slice p.1)) (λ i. (numbers_are (ap (equalises old.view) (eqb-true c d h) ∙ there) i, takes_slices i))
-            ∙ numbers_after-history (blob_of old.view c) (channels_of old.view c) (list_of old.epochs c) (only_slice (slices whole old n new.put made c))
-            ∙ ap (λ x. history_of (blob_of old.view x) (channels_of old.view x) (epoch_after whole old n new.put made x)) (eqb-true c d h)
+            ap (λ (p : List ℤ × List (ℕ × List Frame)). numbers_after (blob_in old.view c) (channels_of old.view c) p.0 (only_slice p.1)) (λ i. (numbers_are (ap (equalises old.view) (eqb-true c d h) ∙ there) i, takes_slices i))
+            ∙ numbers_after-history (blob_in old.view c) (channels_of old.view c) (list_of old.epochs c) (only_slice (slices whole old n new.put made c))
+            ∙ ap (λ x. history_of (blob_in old.view x) (channels_of old.view x) (epoch_after whole old n new.put made x)) (eqb-true c d h)
         numbers_now d false h there = mid.numbers d there
 
   -- and so do all, one after another
-  pub midway_all : (bound done cs : List ℕ) (a : Audio) → Proceeds old.view.graph done cs → Midway bound done a → (end : List ℕ) × ((c : ℕ) → is_among (components old.view.graph) c ≡ true → is_among end c ≡ true) × Midway bound end (after_moves old.view (blob_of old.view) t cs a)
+  pub midway_all : (bound done cs : List ℕ) (a : Audio) → Proceeds old.view.graph done cs → Midway bound done a → (end : List ℕ) × ((c : ℕ) → is_among (components old.view.graph) c ≡ true → is_among end c ≡ true) × Midway bound end (after_moves old.view (blob_in old.view) t cs a)
   midway_all bound done [] a goes mid = (done, goes, mid)
-  midway_all bound done (c ∷ cs) a goes mid = midway_all bound (c ∷ done) cs (after_move old.view (blob_of old.view) t c a) goes.1 (midway_step bound done c a goes.0 mid)
+  midway_all bound done (c ∷ cs) a goes mid = midway_all bound (c ∷ done) cs (after_move old.view (blob_in old.view) t c a) goes.1 (midway_step bound done c a goes.0 mid)

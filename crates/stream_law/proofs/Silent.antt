@@ -17,10 +17,11 @@ use Rattle.stream_law.specs.Order.{is_among, order}
 use Rattle.stream_law.specs.Made.{only_slice}
 use Rattle.stream_law.specs.Equaliser.{numbers_after}
 use Rattle.stream_law.specs.Endpoints.{reads, bytes_of_frames, bytes_written}
-use Rattle.stream_law.specs.Move.{Audio, after_move, after_moves, frames_moved, looked_now, fronts, bytes_moved, bytes_now, made_now, blob_of, audio_of, audio_after, next_clock, Move}
+use Rattle.stream_law.specs.Move.{Audio, after_move, after_moves, frames_moved, looked_now, fronts, bytes_moved, bytes_now, made_now, audio_of, audio_after, next_clock, Move}
 use Rattle.stream_law.specs.TickLaws.{HasOneOfEach, clocked}
 use Rattle.stream_law.proofs.Among.{is_among-filter, value_of-updated_kept}
 use Rattle.stream_law.proofs.Keyed.{keyed, keyed-values, map-same, all-from, all-both}
+use Rattle.stream_law.specs.Seen.{blob_in}
 
 -- ---- nothing is Live
 
@@ -178,7 +179,7 @@ silent-tick f io silent single = record {
     audio = audio_after f io
 
     unmoved : Unmoved (audio_of f io) audio
-    unmoved = unmoved-all (view_of f) silent (blob_of (view_of f)) (next_clock f.clock) (order f.graph) (audio_of f io) (positions-low io.inputs single.positions)
+    unmoved = unmoved-all (view_of f) silent (blob_in (view_of f)) (next_clock f.clock) (order f.graph) (audio_of f io) (positions-low io.inputs single.positions)
 
     rings : map (λ (r : RingView). record { buffer = r.buffer; frames = list_of audio.rings r.buffer }) f.rings ≡ f.rings
     rings = map-same (λ (r : RingView). record { buffer = r.buffer; frames = list_of audio.rings r.buffer }) f.rings

@@ -7,14 +7,13 @@ use Rattle.std.specs.Prelude.{◌==◌, map, ◌&&◌}
 use Rattle.stream_law.specs.declared.graph.Edge.{Edge}
 use Rattle.stream_law.specs.declared.graph.Comp.{Comp}
 use Rattle.stream_law.specs.Epochs.{history_of}
-use Rattle.stream_law.specs.Move.{blob_of}
 use Rattle.stream_law.proofs.Tables.{value_of-updated_cases}
 use Rattle.stream_law.specs.Table.{number_of, list_of}
 use Rattle.stream_law.specs.State.{View, FwState, view_of}
 use Rattle.stream_law.specs.Ways.{comp_of, channels_of, live, live_end, agree, buffers, components, source_of, sink_of}
 use Rattle.stream_law.specs.Moves.{capacity}
 use Rattle.sof_base.specs.Ports.{InputView}
-use Rattle.stream_law.specs.Seen.{numbers_in, flows, goes_on, equalises, is_equaliser}
+use Rattle.stream_law.specs.Seen.{numbers_in, flows, goes_on, equalises, is_equaliser, blob_in}
 use Rattle.stream_law.specs.Past.{Moment, Boot, Cut, Now, Past, Leads, Follows, start, new_life, after_now, taken_now, epoch_now, part_of}
 use Rattle.stream_law.specs.Stands.{KeepsCounts, HasRead, lying, Reads, StandsBy, Stands, Booted, Sees, StaysAsLive}
 
@@ -164,9 +163,9 @@ Stands-now f f' v fresh whole inputs moments stands sees agrees stays = record {
     equalisers = sees.equalisers;
     rings = λ b. sees.rings b ∙ ap (λ r. cond (flows v b) r []) (stands.holds.rings b) ∙ sym (lying-seen v fresh stands.past b stands.kept);
     histories = λ c there. sees.histories c there
-        ∙ ap (λ w. cond (goes_on w v fresh c) (numbers_in f c) (history_of (blob_of v c) (channels_of v c) [])) stands.holds.view
+        ∙ ap (λ w. cond (goes_on w v fresh c) (numbers_in f c) (history_of (blob_in v c) (channels_of v c) [])) stands.holds.view
         ∙ numbers c (goes_on stands.past.view v fresh c) refl there
-        ∙ ap (history_of (blob_of v c) (channels_of v c)) (sym (epochs-seen v fresh stands.past c there));
+        ∙ ap (history_of (blob_in v c) (channels_of v c)) (sym (epochs-seen v fresh stands.past c there));
   };
   agrees = agrees;
 }
@@ -174,7 +173,7 @@ Stands-now f f' v fresh whole inputs moments stands sees agrees stays = record {
     lives : StaysAsLive stands.past.view v fresh
     lives = subst (λ w. StaysAsLive w v fresh) stands.holds.view stays
 
-    numbers : (c : ℕ) (t : Bool) → goes_on stands.past.view v fresh c ≡ t → equalises v c ≡ true → cond t (numbers_in f c) (history_of (blob_of v c) (channels_of v c) []) ≡ history_of (blob_of v c) (channels_of v c) (cond t (list_of stands.past.epochs c) [])
+    numbers : (c : ℕ) (t : Bool) → goes_on stands.past.view v fresh c ≡ t → equalises v c ≡ true → cond t (numbers_in f c) (history_of (blob_in v c) (channels_of v c) []) ≡ history_of (blob_in v c) (channels_of v c) (cond t (list_of stands.past.epochs c) [])
     numbers c true e there = let same = lives.equaliser c there e in
         stands.holds.histories c same.0 ∙ ap (λ (q : List ℕ × ℕ). history_of q.0 q.1 (list_of stands.past.epochs c)) (λ i. (sym same.1 i, sym same.2 i))
     numbers c false e there = refl

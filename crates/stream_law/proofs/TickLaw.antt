@@ -18,8 +18,8 @@ use Rattle.stream_law.specs.StreamLaws.{IsRanked}
 use Rattle.stream_law.specs.Order.{is_among, order}
 use Rattle.sof_base.specs.Ports.{Io, InputView}
 use Rattle.stream_law.specs.Stands.{is_bound, KeepsCounts, lying, Holds, HasRead, Stands, SameView, IsPlayable}
-use Rattle.stream_law.specs.Move.{Audio, after_moves, blob_of, next_clock, audio_of, audio_after, state_after, io_after, Move}
-use Rattle.stream_law.specs.Seen.{flows, equalises, is_equaliser}
+use Rattle.stream_law.specs.Move.{Audio, after_moves, next_clock, audio_of, audio_after, state_after, io_after, Move}
+use Rattle.stream_law.specs.Seen.{flows, equalises, is_equaliser, blob_in}
 use Rattle.stream_law.proofs.Among.{value_of-table_among, value_of-table_apart, value_of-updated_among, value_of-updated_apart}
 use Rattle.stream_law.proofs.OneSolution.{frames_to_move-le_held, frames_to_move-le_room, solves}
 use Rattle.stream_law.proofs.Rounds.{moves_in, counts_by, made_in, ticked_by}
@@ -202,7 +202,7 @@ module _ (whole : List (ℕ × List ℕ)) (p : Past) (n : List (ℕ × ℕ)) (ne
             find-remade (λ (h : History). h.comp) (λ h. h.numbers) (λ h. record { comp = h.comp; numbers = list_of a.numbers h.comp }) (list_of a.numbers) [] (λ h. refl) (λ h. refl) f.histories c
             ∙ cond-true (is_among (map (λ h. h.comp) f.histories) c) (list_of a.numbers c) [] (holds.equalisers c there)
             ∙ mid.numbers c there
-            ∙ ap (history_of (blob_of p.view c) (channels_of p.view c)) (epoch_end playable end all c there);
+            ∙ ap (history_of (blob_in p.view c) (channels_of p.view c)) (epoch_end playable end all c there);
       }
         where
           nowhere : {d : ℕ} → None ≡ Some d → ⊥
@@ -303,8 +303,8 @@ module _ (f : FwState) (whole : List (ℕ × List ℕ)) (io : Io) (moments : Lis
       frames = solves_made whole p n new.put rank ranked ranks low
 
   -- the schedule of the state is that of the past
-  same_audio : audio_after f io ≡ after_moves p.view (blob_of p.view) ((p.clock + 1) % 2 ^ 32) (order p.view.graph) (audio_of f io)
-  same_audio = ap (λ (w : View × ℕ). after_moves w.0 (blob_of w.0) (next_clock w.1) (order w.0.graph) (audio_of f io)) (λ i. (stands.holds.view i, stands.holds.clock i))
+  same_audio : audio_after f io ≡ after_moves p.view (blob_in p.view) ((p.clock + 1) % 2 ^ 32) (order p.view.graph) (audio_of f io)
+  same_audio = ap (λ (w : View × ℕ). after_moves w.0 (blob_in w.0) (next_clock w.1) (order w.0.graph) (audio_of f io)) (λ i. (stands.holds.view i, stands.holds.clock i))
 
   pub ended : (end : List ℕ) × ((c : ℕ) → is_among (components p.view.graph) c ≡ true → is_among end c ≡ true) × Midway whole p ((p.clock + 1) % 2 ^ 32) n new made solution (map (λ x. x.slot) io.inputs) end (audio_after f io)
   ended =

@@ -1,13 +1,13 @@
 -- The firmware's tick: each component moves once, in order, over rings that are lists of frames.
 use Rattle.std.specs.Prelude.{◌≡◌, ℕ, ◌+◌, ◌-◌, ◌%◌, ◌^◌, List, [], ◌∷◌, ◌++◌, map, length, take, drop, ℤ, if◌then◌else◌}
-use Rattle.std.specs.Option.{option_map_or}
 use Rattle.sof_base.specs.Samples.{Frame, frames_in}
 use Rattle.sof_base.specs.Ports.{Io, InputView, moved_on}
 use Rattle.stream_law.specs.State.{FwState, View, view_of}
 use Rattle.stream_law.specs.Table.{table, updated, list_of, number_of}
-use Rattle.stream_law.specs.Ways.{comp_of, channels_of}
+use Rattle.stream_law.specs.Ways.{channels_of}
 use Rattle.stream_law.specs.Moves.{capacity, runs, quota, looked_at, fed_by, frames_to_move}
 use Rattle.stream_law.specs.Order.{order}
+use Rattle.stream_law.specs.Seen.{blob_in}
 use Rattle.stream_law.specs.Made.{frames_made, only_slice, blob}
 use Rattle.stream_law.specs.Endpoints.{format_of, reads, bytes_of_frames, bytes_written}
 use Rattle.stream_law.specs.Equaliser.{passed_frames, numbers_after}
@@ -79,10 +79,6 @@ after_moves v blob_of t (c ∷ cs) a = after_moves v blob_of t cs (after_move v 
 
 -- ---- a whole tick of a state
 
--- the blob that is in force at a component, empty where there is none
-abbrev pub blob_of : View → ℕ → List ℕ
-blob_of v c = option_map_or (λ x. blob x.setting) (comp_of v.graph c) []
-
 -- the clock of the next tick
 abbrev pub next_clock : ℕ → ℕ
 next_clock clock = (clock + 1) % 2 ^ 32
@@ -99,7 +95,7 @@ audio_of f io = record {
 
 -- what it ends with
 abbrev pub audio_after : FwState → Io → Audio
-audio_after f io = after_moves (view_of f) (blob_of (view_of f)) (next_clock f.clock) (order f.graph) (audio_of f io)
+audio_after f io = after_moves (view_of f) (blob_in (view_of f)) (next_clock f.clock) (order f.graph) (audio_of f io)
 
 -- the state after a tick that ends so
 abbrev pub state_after : FwState → Audio → FwState

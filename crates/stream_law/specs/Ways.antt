@@ -87,6 +87,12 @@ unfoldable pub on_way : Graph → ℕ → ℕ → Bool
 on_way g host x =
     if option_map_or (λ c. is_capture c.kind) (comp_of g host) false then reaches g x host else reaches g host x
 
+-- ---- pipelines
+
+-- a complete pipeline has this index
+abbrev pub is_complete : Graph → ℕ → Bool
+is_complete g index = list_any (λ p. p.index == index && p.complete) g.pipes
+
 -- ---- Live and Active
 
 -- Running or Paused

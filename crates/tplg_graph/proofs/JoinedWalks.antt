@@ -5,7 +5,6 @@ use Rattle.std.proofs.lemmas.Bool.{eq-eqb, and_from, or_left, or_right}
 use Rattle.stream_law.specs.declared.graph.Edge.{Edge}
 use Rattle.stream_law.specs.declared.graph.Graph.{Graph}
 use Rattle.stream_law.specs.Ways.{is_end}
-use Rattle.stream_law.specs.Walks.{LeadsTo}
 use Rattle.stream_law.specs.Walks as law
 use Rattle.tplg_rules.specs.Cycles.{are_joined, EdgeWalk}
 

@@ -29,7 +29,7 @@ use Rattle.tplg_rules.specs.RuleTable.{is_joined_through, ins_of, outs_of, is_co
 use Rattle.tplg_plan.specs.Ranges.{is_period}
 use Rattle.tplg_graph.specs.PlanOf.{graph_on}
 use Rattle.tplg_plan.specs.Sound as sound
-use Rattle.tplg_plan.specs.Sound.{has_number, IsComponentOf, IsBufferOf, IsPipelineOf, Names}
+use Rattle.tplg_plan.specs.Sound.{has_number, Names}
 use Rattle.tplg_graph.proofs.KeyedLists.{by-key, passes-at, some-first}
 use Rattle.tplg_graph.proofs.ByIds.{of-component, made_edge, keyed-components, keyed-edges, keyed-pipes, nothing-past, at-id, implied}
 use Rattle.tplg_widgets.proofs.ListLengths.{cond-none, no-kind}

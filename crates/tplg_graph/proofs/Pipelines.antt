@@ -8,6 +8,7 @@ use Rattle.stream_law.specs.declared.graph.Comp.{Comp}
 use Rattle.stream_law.specs.declared.graph.Edge.{Edge}
 use Rattle.stream_law.specs.declared.graph.Pipe.{Pipe}
 use Rattle.stream_law.specs.declared.graph.Join.{Join}
+use Rattle.stream_law.specs.Ways.{is_complete}
 use Rattle.tplg_widgets.specs.declared.entry.Entry.{Entry}
 use Rattle.tplg_widgets.specs.declared.route_end.End.{End}
 use Rattle.tplg_widgets.specs.declared.route_end.End.TheVariants.{Buffer, Component, Other, Missing}
@@ -17,7 +18,6 @@ use Rattle.tplg_widgets.specs.GraphLists.{component_at, components_on, edge_at, 
 use Rattle.tplg_graph.specs.PlanLists.{component_end, pipeline_of}
 use Rattle.tplg_graph.specs.PlanOf.{graph_on}
 use Rattle.tplg_rules.specs.Rules.{HoldsAll}
-use Rattle.tplg_plan.specs.Sound.{has_pipeline}
 use Rattle.tplg_rules.specs.RuleTable.{is_of_index, schedules, is_scheduled, is_component_end, indices_rule, scheds_rule}
 use Rattle.tplg_graph.proofs.ByIds.{of-component, of-edge, implied}
 use Rattle.tplg_widgets.proofs.Indexed.{indexed, by-index}
@@ -79,7 +79,7 @@ module _ (es : List Entry) (js : List Join) (indices : HoldsAll (indices_rule es
   ps = interpreted es
 
   -- that of a widget's index
-  there : (k : ℕ) (e : Entry) → slice_get ps k ≡ Some e → has_pipeline (graph_on es ps js) e.index ≡ true
+  there : (k : ℕ) (e : Entry) → slice_get ps k ≡ Some e → is_complete (graph_on es ps js) e.index ≡ true
   there k e at =
       let all : list_all (λ x. is_scheduled ps x.index) ps ≡ true = of-interpreted es ps (λ x. is_scheduled ps x.index) refl indices in
       let named : list_all (is_named es) ps ≡ true = of-interpreted es ps (is_named es) refl scheds in
@@ -88,10 +88,10 @@ module _ (es : List Entry) (js : List Join) (indices : HoldsAll (indices_rule es
       ap (list_any (is_pipeline e.index)) (by-index (pipeline_of es) ps)
       ∙ made-there es e.index 0 ps named (some-passes (schedules e.index) ps (eqb-true (count_by (schedules e.index) ps) 1 one))
 
-  pub comps-piped : AllByRecursion (λ (c : Comp). has_pipeline (graph_on es ps js) c.pipe ≡ true) (components_on ps js)
-  comps-piped = all-made (λ (c : Comp). has_pipeline (graph_on es ps js) c.pipe ≡ true) (component_at ps js) 0 (length ps)
-      (λ k c low is. let o = of-component ps js k c is in ap (has_pipeline (graph_on es ps js)) o.pipe ∙ there k o.entry o.there)
+  pub comps-piped : AllByRecursion (λ (c : Comp). is_complete (graph_on es ps js) c.pipe ≡ true) (components_on ps js)
+  comps-piped = all-made (λ (c : Comp). is_complete (graph_on es ps js) c.pipe ≡ true) (component_at ps js) 0 (length ps)
+      (λ k c low is. let o = of-component ps js k c is in ap (is_complete (graph_on es ps js)) o.pipe ∙ there k o.entry o.there)
 
-  pub edges-piped : AllByRecursion (λ (e : Edge). has_pipeline (graph_on es ps js) e.pipe ≡ true) (edges_on ps js)
-  edges-piped = all-made (λ (e : Edge). has_pipeline (graph_on es ps js) e.pipe ≡ true) (edge_at ps js) 0 (length ps)
-      (λ k e low is. let o = of-edge ps js k e is in ap (has_pipeline (graph_on es ps js)) o.pipe ∙ there k o.entry o.there)
+  pub edges-piped : AllByRecursion (λ (e : Edge). is_complete (graph_on es ps js) e.pipe ≡ true) (edges_on ps js)
+  edges-piped = all-made (λ (e : Edge). is_complete (graph_on es ps js) e.pipe ≡ true) (edge_at ps js) 0 (length ps)
+      (λ k e low is. let o = of-edge ps js k e is in ap (is_complete (graph_on es ps js)) o.pipe ∙ there k o.entry o.there)

@@ -1,41 +1,19 @@
 -- The lists of a topology's graph, and its plan.
 use Rattle.std.specs.Prelude.{List}
-use Rattle.stream_law.specs.declared.graph.Comp.{Comp}
-use Rattle.stream_law.specs.declared.graph.Edge.{Edge}
-use Rattle.stream_law.specs.declared.graph.Pipe.{Pipe}
 use Rattle.stream_law.specs.declared.graph.Join.{Join}
 use Rattle.stream_law.specs.declared.graph.Graph.{Graph}
 use Rattle.tplg_model.specs.declared.block.Topology.{Topology}
 use Rattle.tplg_widgets.specs.declared.entry.Entry.{Entry}
 use Rattle.tplg_plan.specs.declared.plans.Plan.{Plan}
-use Rattle.tplg_plan.specs.declared.plans.StreamPlan.{StreamPlan}
-use Rattle.tplg_plan.specs.declared.plans.ControlPlan.{ControlPlan}
 use Rattle.tplg_widgets.specs.declared.pcm_caps.PcmCaps.{PcmCaps}
 use Rattle.tplg_widgets.specs.Entries.{entries_of, interpreted}
 use Rattle.tplg_widgets.specs.WiringValue.{WiringValue, wiring_of}
-use Rattle.tplg_widgets.specs.PcmList.{pcms_of}
 use Rattle.tplg_widgets.specs.GraphLists.{components_on, edges_on}
 use Rattle.tplg_graph.specs.PlanLists.{pipes_on, streams_on, controls_on, names_on, widgets_on}
-use Rattle.tplg_widgets.specs.Ends.{joins_of}
 
 -- the interpreted widgets: an id is a place in this list
 abbrev pub ids : Topology → List Entry
 ids t = interpreted (entries_of t)
-
-abbrev pub components_of : Topology → List Comp
-components_of t = components_on (ids t) (joins_of t)
-
-abbrev pub edges_of : Topology → List Edge
-edges_of t = edges_on (ids t) (joins_of t)
-
-abbrev pub pipelines_of : Topology → List Pipe
-pipelines_of t = pipes_on (entries_of t) (ids t)
-
-abbrev pub planned_streams : Topology → List StreamPlan
-planned_streams t = streams_on (ids t) (pcms_of t)
-
-abbrev pub live_controls_of : Topology → List ControlPlan
-live_controls_of t = controls_on (ids t)
 
 -- over the widgets, the interpreted ones and the real routes: the graph
 abbrev pub graph_on : List Entry → List Entry → List Join → Graph

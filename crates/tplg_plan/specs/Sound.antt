@@ -1,6 +1,6 @@
 -- What is so of the plan of every well-formed topology, list by list.
-use Rattle.std.specs.Prelude.{◌≡◌, ◌⊎◌, ℕ, ◌<◌, ◌≤◌, length, map, find, count_by, Bool, true, false, ◌==◌, ◌&&◌, Option, Some, None, slice_get}
-use Rattle.std.specs.List.{AllByRecursion, list_all, list_any, filter_map}
+use Rattle.std.specs.Prelude.{◌≡◌, ◌⊎◌, ℕ, ◌<◌, ◌≤◌, length, map, find, count_by, Bool, true, false, ◌==◌, Option, Some, None, slice_get}
+use Rattle.std.specs.List.{AllByRecursion, list_all, filter_map}
 use Rattle.stream_law.specs.declared.graph.Kind.{Kind}
 use Rattle.stream_law.specs.declared.graph.Kind.TheVariants as kinds
 use Rattle.stream_law.specs.declared.graph.Kind.TheVariants.{HostPlay, HostCapture, DaiPlay, DaiCapture}
@@ -11,7 +11,7 @@ use Rattle.stream_law.specs.declared.graph.Pipe.{Pipe}
 use Rattle.stream_law.specs.declared.graph.Join.{Join}
 use Rattle.stream_law.specs.declared.graph.Graph.{Graph}
 use Rattle.stream_law.specs.Placed.{Ascends, HasDistinct}
-use Rattle.stream_law.specs.Ways.{comp_of, edge_of, ins, outs, leads}
+use Rattle.stream_law.specs.Ways.{comp_of, edge_of, ins, outs, leads, is_complete}
 use Rattle.stream_law.specs.Joins.{fits_kind, crosses}
 use Rattle.tplg_plan.specs.declared.plans.Plan.{Plan}
 use Rattle.tplg_plan.specs.declared.plans.WidgetPlan.{WidgetPlan}
@@ -28,10 +28,6 @@ use Rattle.tplg_plan.specs.WidgetWords.{FitsWords}
 -- the pipeline of this id
 abbrev pub pipe_at : Graph → ℕ → Option Pipe
 pipe_at g id = find (λ p. p.id == id) g.pipes
-
--- a complete pipeline has this index
-abbrev pub has_pipeline : Graph → ℕ → Bool
-has_pipeline g index = list_any (λ p. p.index == index && p.complete) g.pipes
 
 -- the host writes a DAI's format by its number
 abbrev pub has_number : Kind → ℕ → Bool
@@ -162,8 +158,8 @@ pub record IsSound (plan : Plan) : Type 0 where
   pub fits : list_all (λ c. fits_kind c.kind (length (ins plan.graph c.id)) (length (outs plan.graph c.id))) plan.graph.comps ≡ true
   pub apart : crosses plan.graph ≡ false
   -- each component and each buffer has a complete pipeline
-  pub comps_piped : AllByRecursion (λ c. has_pipeline plan.graph c.pipe ≡ true) plan.graph.comps
-  pub edges_piped : AllByRecursion (λ e. has_pipeline plan.graph e.pipe ≡ true) plan.graph.edges
+  pub comps_piped : AllByRecursion (λ c. is_complete plan.graph c.pipe ≡ true) plan.graph.comps
+  pub edges_piped : AllByRecursion (λ e. is_complete plan.graph e.pipe ≡ true) plan.graph.edges
   -- hosts are streams, and live controls belong to components
   pub hosts : map (λ s. (s.host, s.capture)) plan.streams ≡ filter_map host_of plan.graph.comps
   pub controls_ascend : Ascends (λ k. k.comp) plan.controls

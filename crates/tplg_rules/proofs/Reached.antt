@@ -8,7 +8,7 @@ use Rattle.stream_law.specs.declared.graph.Edge.{Edge}
 use Rattle.stream_law.specs.Ways.{is_end}
 use Rattle.tplg_rules.specs.Cycles.{are_joined, EdgeWalk, Reaches}
 use Rattle.stream_law.specs.Order.{is_among}
-use Rattle.tplg_rules.specs.Reach.{IsFound, IsClosed}
+use Rattle.tplg_rules.specs.Reach.{IsFound, IsSaturated}
 use Rattle.tplg_rules.proofs.Among.{push_cases, distinct-push, distinct-le}
 use Rattle.tplg_rules.proofs.Among.{is_end-some}
 
@@ -53,7 +53,7 @@ found_at edges from seen k d b within f n e =
     }
 
 -- where no edge leads on, an edge from what is seen leads to what is seen
-pub closed : (edges : List Edge) (from : ℕ) (seen : List ℕ) → list_any (leads_on from seen) edges ≡ false → IsClosed edges from seen
+pub closed : (edges : List Edge) (from : ℕ) (seen : List ℕ) → list_any (leads_on from seen) edges ≡ false → IsSaturated edges from seen
 closed [] from seen none a b behind j = absurd (false≢true j)
 closed (e ∷ es) from seen none a b behind j =
     let parts = or_parts (leads_on from seen e) (list_any (leads_on from seen) es) none in
@@ -122,9 +122,9 @@ Seen-more edges from seen b f s = record { distinct = distinct-push seen b s.dis
 pub Seen-few : (edges : List Edge) (from : ℕ) (seen : List ℕ) → Seen edges from seen → length seen ≤ length edges
 Seen-few edges from seen s = let few = distinct-le seen (sinks_of edges) s.distinct s.there in omega (arith, few, length-sinks_of edges)
 
-all_seen : (edges : List Edge) (from : ℕ) (seen : List ℕ) → IsClosed edges from seen → (n a b : ℕ) → (a ≡ from) ⊎ (is_among seen a ≡ true) → EdgeWalk edges (suc n) a b → is_among seen b ≡ true
+all_seen : (edges : List Edge) (from : ℕ) (seen : List ℕ) → IsSaturated edges from seen → (n a b : ℕ) → (a ≡ from) ⊎ (is_among seen a ≡ true) → EdgeWalk edges (suc n) a b → is_among seen b ≡ true
 all_seen edges from seen closed zero a b behind w = ap (is_among seen) (sym w.2) ∙ closed a w.0 behind w.1
 all_seen edges from seen closed (suc n) a b behind w = all_seen edges from seen closed n w.0 b (inr (closed a w.0 behind w.1)) w.2
 
-pub Seen-all : (edges : List Edge) (from : ℕ) (seen : List ℕ) → IsClosed edges from seen → Seen edges from seen → (b : ℕ) → Reaches edges from b → is_among seen b ≡ true
+pub Seen-all : (edges : List Edge) (from : ℕ) (seen : List ℕ) → IsSaturated edges from seen → Seen edges from seen → (b : ℕ) → Reaches edges from b → is_among seen b ≡ true
 Seen-all edges from seen closed s b r = all_seen edges from seen closed r.0 from b (inl refl) r.1

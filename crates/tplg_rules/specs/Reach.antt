@@ -12,5 +12,5 @@ pub record IsFound (edges : List Edge) (from : ℕ) (seen : List ℕ) (b : ℕ) 
   pub edge : are_joined edges source b ≡ true
 
 -- each edge from the start, or from an id that is seen, leads to one that is seen
-abbrev pub IsClosed : List Edge → ℕ → List ℕ → Type 0
-IsClosed edges from seen = (a b : ℕ) → (a ≡ from) ⊎ (is_among seen a ≡ true) → are_joined edges a b ≡ true → is_among seen b ≡ true
+abbrev pub IsSaturated : List Edge → ℕ → List ℕ → Type 0
+IsSaturated edges from seen = (a b : ℕ) → (a ≡ from) ⊎ (is_among seen a ≡ true) → are_joined edges a b ≡ true → is_among seen b ≡ true

@@ -36,7 +36,7 @@ fn is_new(end: Option<u32>, seen: &[u32]) -> bool
 /// The sink of an edge that leads from the start, or from what is seen, to what is not.
 fn found(edges: &[Edge], from: u32, seen: &[u32]) -> Option<u32>
     ensures some { IfSome result (λ b. reach.IsFound edges.now from seen.now b) }
-    ensures none { IfNone result (reach.IsClosed edges.now from seen.now) }
+    ensures none { IfNone result (reach.IsSaturated edges.now from seen.now) }
 {
     for e in edges {
         if is_from(e.source, from, seen) && is_new(e.sink, seen) {

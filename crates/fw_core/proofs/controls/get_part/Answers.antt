@@ -4,7 +4,7 @@ use Rattle.sof_base.specs.declared.part.Part.{Part}
 use Rattle.ipc3_codec.specs.declared.reply.Body.TheVariants as bodies
 use Rattle.mbox_link.specs.Step.{get_data, part_body}
 use Rattle.fw_core.proofs.RowLaws.{row-stays}
-use Rattle.fw_core.proofs.Parts.{part-got}
+use Rattle.fw_core.proofs.PartGot.{part-got}
 use Rattle.fw_core.proofs.controls.get_part.Goals as goal
 
 pub returns-in-Ok-clause-row : goal.returns-in-Ok-clause-row

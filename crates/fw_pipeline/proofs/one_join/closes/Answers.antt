@@ -1,14 +1,15 @@
 use Rattle.std.proofs.Common.{◌≡◌, ap, ◌∙◌, ℕ, List, true, false}
 use Rattle.fw_components.specs.Tables.{Tables, graph_of}
 use Rattle.stream_law.specs.declared.graph.Join.{Join}
-use Rattle.fw_places.specs.Walks.{leads_by, is_listed}
+use Rattle.stream_law.specs.Order.{is_among}
+use Rattle.fw_places.specs.Walks.{leads_by}
 use Rattle.fw_pipeline.proofs.OneJoin.{cycle-marked, ends-listed}
 use Rattle.fw_pipeline.proofs.one_join.closes.Goals as goal
 
 pub returns-clause-cycle : goal.returns-clause-cycle
 returns-clause-cycle c =
     let t : Tables = c.args.registry.now in
-    let there : is_listed c.args.places.now.ids c.args.source ≡ true = ap (λ (ids : List ℕ). is_listed ids c.args.source) c.requires.chart.ids ∙ (ends-listed t c.args.source c.args.sink c.requires.takes).0 in
+    let there : is_among c.args.places.now.ids c.args.source ≡ true = ap (λ (ids : List ℕ). is_among ids c.args.source) c.requires.chart.ids ∙ (ends-listed t c.args.source c.args.sink c.requires.takes).0 in
     c.has.ensures
     ∙ c.requires.from_sink c.args.source there
     ∙ ap (λ (js : List Join). leads_by false js c.args.sink c.args.source) c.requires.chart.joins

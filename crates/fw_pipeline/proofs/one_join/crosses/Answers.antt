@@ -1,10 +1,9 @@
-use Rattle.std.proofs.Common.{◌∙◌, ℕ, List, Bool, false, ◌&&◌}
-use Rattle.std.specs.List.{list_any}
+use Rattle.std.proofs.Common.{◌∙◌, List, Bool, false}
 use Rattle.stream_law.specs.Ways.{is_capture}
 use Rattle.fw_components.specs.declared.component.Component.{Component}
 use Rattle.fw_components.specs.Tables.{kind_by}
 use Rattle.fw_places.specs.Charts.{Chart}
-use Rattle.fw_places.specs.Walks.{is_reached, leads_by}
+use Rattle.fw_places.specs.Walks.{is_reached}
 use Rattle.fw_walks.specs.declared.streams.Sort.TheVariants as sorts
 use Rattle.fw_walks.specs.Streams.{is_host_of}
 use Rattle.fw_walks.proofs.LiveMarks.{hosts-reach}

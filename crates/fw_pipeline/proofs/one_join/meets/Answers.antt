@@ -5,13 +5,14 @@ use Rattle.std.specs.List.{list_any, AllByRecursion}
 use Rattle.stream_law.specs.declared.graph.Join.{Join}
 use Rattle.stream_law.specs.Joins.{is_play}
 use Rattle.stream_law.specs.Ways.{is_capture}
+use Rattle.stream_law.specs.Order.{is_among}
 use Rattle.fw_places.specs.Charts.{Chart}
-use Rattle.fw_places.specs.Walks.{leads_by, is_listed, is_marked}
+use Rattle.fw_places.specs.Walks.{leads_by, is_marked}
 use Rattle.fw_pipeline.proofs.OneJoin.{any-marked, comps-listed, reach-tables, ends-listed}
 use Rattle.fw_pipeline.proofs.one_join.meets.Goals as goal
 
 pub meet-requires-clause-listed : goal.meet-requires-clause-listed
-meet-requires-clause-listed c = let ids : List ℕ = c.args.places.now.ids in subst (λ (cs : List Component). AllByRecursion (λ c. is_listed ids c.id ≡ true) cs) (sym c.comps.ensures.items) (comps-listed c.args.registry.now c.args.places.now.ids c.requires.chart.ids)
+meet-requires-clause-listed c = let ids : List ℕ = c.args.places.now.ids in subst (λ (cs : List Component). AllByRecursion (λ c. is_among ids c.id ≡ true) cs) (sym c.comps.ensures.items) (comps-listed c.args.registry.now c.args.places.now.ids c.requires.chart.ids)
 
 pub returns : goal.returns
 returns c =

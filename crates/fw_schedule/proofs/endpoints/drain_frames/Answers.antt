@@ -1,5 +1,5 @@
 use Rattle.std.proofs.Common.{◌≡◌, ◌∙◌, ap, sym, subst, ℕ, ◌+◌, ◌*◌, ◌≤◌, ◌++◌, List, length, take, arith, length-append}
-use Rattle.sof_base.specs.Samples.{width, frame_out, frames_out, samples_of}
+use Rattle.sof_base.specs.Samples.{width, frame_out}
 use Rattle.sof_base.proofs.SampleLaws.{length-frame_out}
 use Rattle.sof_io.specs.Puts.{with_piece, room_at}
 use Rattle.fw_components.specs.Tables.{held_frames}

@@ -9,8 +9,9 @@ use Rattle.sof_base.specs.Ports.{OutputView}
 use Rattle.sof_io.specs.Puts.{with_piece}
 use Rattle.stream_law.specs.Ways.{comp_of, ins}
 use Rattle.stream_law.specs.Moves.{quota}
-use Rattle.stream_law.specs.Move.{after_move, blob_of}
+use Rattle.stream_law.specs.Move.{after_move}
 use Rattle.stream_law.specs.Endpoints.{is_input, format_of}
+use Rattle.stream_law.specs.Seen.{blob_in}
 use Rattle.fw_components.specs.Tables.{Tables, graph_of, view_by, held_frames}
 use Rattle.row_laws.proofs.Playing.{active-live}
 use Rattle.fw_schedule.specs.Outputs.{is_output_kind, least_by}
@@ -111,7 +112,7 @@ returns-in-Some-clause-moved c = λ clock inputs run began start a ends stage.
     let n : ℕ = min s.quota (length (held_frames t b)) in
     let kind = same-kind (comp_of (graph_of t) id) there.comp s.kind there.is is.kind in
     let least : least_by s.kind s.quota ≡ least_by there.comp.kind (quota (view_by t) clock id) = (λ i. least_by (kind i) (is.quota clock i)) in
-    subst (λ (p : Tables × List OutputView). IsStage began start p.0 inputs p.1 (after_move (view_by t) (blob_of (view_by t)) clock id a))
+    subst (λ (p : Tables × List OutputView). IsStage began start p.0 inputs p.1 (after_move (view_by t) (blob_in (view_by t)) clock id a))
     (λ i. (
       sym c.drain_from.ensures.tables i,
       sym (c.drain_from.ensures.outputs ∙ (λ j. with_piece id (frames_out (format j) (take n (held_frames t b)) ++ replicate ((least j - n) * (is.channels j * width (format j))) 0) out)) i,

@@ -4,8 +4,9 @@ use Rattle.sof_base.specs.Samples.{width, frames_in}
 use Rattle.sof_base.specs.Ports.{InputView}
 use Rattle.sof_io.specs.Takes.{bytes_given, taken as input_taken}
 use Rattle.stream_law.specs.Ways.{comp_of}
-use Rattle.stream_law.specs.Move.{after_move, blob_of}
+use Rattle.stream_law.specs.Move.{after_move}
 use Rattle.stream_law.specs.Endpoints.{is_input, format_of}
+use Rattle.stream_law.specs.Seen.{blob_in}
 use Rattle.fw_components.specs.Tables.{Tables, graph_of, view_by, held_frames, capacity_at}
 use Rattle.fw_components.specs.Frames.{words_at, pushed}
 use Rattle.row_laws.proofs.Playing.{active-live}
@@ -49,7 +50,7 @@ returns-in-Some-clause-moved c = λ clock outputs run began start a ends stage.
     let format : s.format ≡ format_of (view_by t) id = is.format (or_left (is_input s.kind) (is_output_kind s.kind) c.requires.kind) in
     let n : ℕ = min s.quota (capacity_at t b - length (held_frames t b)) in
     let w = words_at c.feed_into.new.registry b in
-    subst (λ (p : Tables × List InputView). IsStage began start p.0 p.1 outputs (after_move (view_by t) (blob_of (view_by t)) clock id a))
+    subst (λ (p : Tables × List InputView). IsStage began start p.0 p.1 outputs (after_move (view_by t) (blob_in (view_by t)) clock id a))
     (λ i. (
       sym (c.feed_into.ensures.tables ∙ (λ j. pushed b (frames_in (format j) (is.channels j) (bytes_given id (n * (is.channels j * width (format j))) io) 0 n) w t)) i,
       sym (c.feed_into.ensures.inputs ∙ (λ j. input_taken id (n * (is.channels j * width (format j))) io)) i,

@@ -1,6 +1,7 @@
 use Rattle.std.proofs.Common.{◌≡◌, sym, ◌∙◌, [], ◌∷◌, false, arith}
 use Rattle.stream_law.specs.Moves.{runs}
-use Rattle.stream_law.specs.Move.{blob_of, ring_length, ring_room}
+use Rattle.stream_law.specs.Move.{ring_length, ring_room}
+use Rattle.stream_law.specs.Seen.{blob_in}
 use Rattle.fw_components.specs.Tables.{view_by}
 use Rattle.fw_schedule.proofs.Growing.{grew-still}
 use Rattle.fw_schedule.proofs.Moved.{frames-idle, made-idle, writes-idle}
@@ -31,5 +32,5 @@ pub returns-else-runs-clause-moved : goal.returns-else-runs-clause-moved
 returns-else-runs-clause-moved c = λ began start a ends stage.
     let t = c.args.registry.now in let s = c.args.step.now in let is = c.requires.step in let clock = c.args.clock in
     let off : runs (view_by t) clock s.id ≡ false = sym (runs-is (view_by t) clock s.id s.period s.active is.active is.period) ∙ sym c.runs.ensures ∙ c.if-runs.false in
-    let idle = frames-idle (view_by t) clock (ring_length (view_by t) (blob_of (view_by t)) clock s.id a) (ring_room (view_by t) (blob_of (view_by t)) clock s.id a) s.id off in
-    still began start t c.args.io.now c.args.out.now a ends stage clock s.id idle (made-idle (view_by t) (blob_of (view_by t)) clock s.id start a idle) (writes-idle (view_by t) (blob_of (view_by t)) clock s.id start a off)
+    let idle = frames-idle (view_by t) clock (ring_length (view_by t) (blob_in (view_by t)) clock s.id a) (ring_room (view_by t) (blob_in (view_by t)) clock s.id a) s.id off in
+    still began start t c.args.io.now c.args.out.now a ends stage clock s.id idle (made-idle (view_by t) (blob_in (view_by t)) clock s.id start a idle) (writes-idle (view_by t) (blob_in (view_by t)) clock s.id start a off)

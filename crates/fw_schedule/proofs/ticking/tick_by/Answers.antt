@@ -8,7 +8,8 @@ use Rattle.sof_io.specs.Bound.{HasPosition, output_slots}
 use Rattle.sof_io.specs.Puts.{room_at}
 use Rattle.stream_law.specs.declared.graph.Kind.TheVariants.{HostPlay}
 use Rattle.stream_law.specs.Order.{order}
-use Rattle.stream_law.specs.Move.{after_moves, blob_of, next_clock, audio_after}
+use Rattle.stream_law.specs.Move.{after_moves, next_clock, audio_after}
+use Rattle.stream_law.specs.Seen.{blob_in}
 use Rattle.fw_components.specs.Tables.{graph_of, view_by}
 use Rattle.fw_components.specs.States.{with_tables}
 use Rattle.fw_places.proofs.Marking.{all-at}
@@ -88,7 +89,7 @@ returns-clause-moved c = λ f tick.
     take_all i cs (omega (arith, c.loop-i-test.false, length-map steps (λ (s : Step). s.id)))
     ∙ ap (map (λ (s : Step). s.id)) c.as_slice-steps.ensures.value ∙ c.requires.schedule.order in
     let stage : IsStage t0 start t c.loop-i.io c.loop-i.out (audio_after (with_tables t0 f) start) =
-    subst (IsStage t0 start t c.loop-i.io c.loop-i.out) (λ j. after_moves (view_by t0) (blob_of (view_by t0)) (sym tick j) (all j) (audio_from t0 start)) c.loop-i.invariant.stage in
+    subst (IsStage t0 start t c.loop-i.io c.loop-i.out) (λ j. after_moves (view_by t0) (blob_in (view_by t0)) (sym tick j) (all j) (audio_from t0 start)) c.loop-i.invariant.stage in
     record {
       state = λ j. record {
         heap = record { holes = f.heap.holes; pieces = pieces-still t t0 same j };

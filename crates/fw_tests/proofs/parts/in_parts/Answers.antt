@@ -1,4 +1,4 @@
-use Rattle.std.proofs.Common.{◌≡◌, ◌∙◌, sym, ap, subst, length, List}
+use Rattle.std.proofs.Common.{◌∙◌, sym, ap, subst, length, List}
 use Rattle.sof_base.specs.declared.hole.Hole.{Hole}
 use Rattle.sof_base.specs.Holes.{first_fit, carved}
 use Rattle.fw_heap.specs.declared.run.Home.{Home}

@@ -1,19 +1,20 @@
 use Rattle.std.proofs.Common.{◌≡◌, sym, ap, ◌∙◌, subst, ◌==◌, ◌&&◌, true, false, List}
 use Rattle.std.specs.List.{list_any, AllByRecursion}
 use Rattle.stream_law.specs.declared.graph.Join.{Join}
+use Rattle.stream_law.specs.Order.{is_among}
 use Rattle.fw_components.specs.declared.component.Component.{Component}
 use Rattle.fw_components.specs.Tables.{Tables}
 use Rattle.fw_walks.specs.declared.streams.Sort.TheVariants as sorts
 use Rattle.fw_walks.specs.Streams.{is_host_of}
-use Rattle.fw_places.specs.Walks.{is_listed, is_reached}
+use Rattle.fw_places.specs.Walks.{is_reached}
 use Rattle.fw_walks.proofs.LiveMarks.{hosts-listed, live-marked}
 use Rattle.fw_walks.proofs.from_hosts.live_marks.Goals as goal
 
 pub mark_hosts-marks-requires : goal.mark_hosts-marks-requires
-mark_hosts-marks-requires c = subst (λ (cs : List Component). AllByRecursion (λ x. is_listed c.args.places.now.ids x.id ≡ true) cs) (sym c.comps.ensures.items) (hosts-listed c.args.registry.now c.comps.ensures.kept c.args.places.now.ids c.requires.ids)
+mark_hosts-marks-requires c = subst (λ (cs : List Component). AllByRecursion (λ x. is_among c.args.places.now.ids x.id ≡ true) cs) (sym c.comps.ensures.items) (hosts-listed c.args.registry.now c.comps.ensures.kept c.args.places.now.ids c.requires.ids)
 
 pub mark_hosts-behind-requires : goal.mark_hosts-behind-requires
-mark_hosts-behind-requires c = subst (λ (cs : List Component). AllByRecursion (λ x. is_listed c.args.places.now.ids x.id ≡ true) cs) (sym c.comps-2.ensures.items) (hosts-listed c.args.registry.now c.comps.ensures.kept c.args.places.now.ids c.requires.ids)
+mark_hosts-behind-requires c = subst (λ (cs : List Component). AllByRecursion (λ x. is_among c.args.places.now.ids x.id ≡ true) cs) (sym c.comps-2.ensures.items) (hosts-listed c.args.registry.now c.comps.ensures.kept c.args.places.now.ids c.requires.ids)
 
 pub returns : goal.returns
 returns c =

@@ -1,8 +1,9 @@
 use Rattle.std.proofs.Common.{◌≡◌, sym, ap, ◌∙◌, subst, ℕ, ◌+◌, ◌<◌, List, Bool, true, false, length, get_or, set, arith}
 use Rattle.std.proofs.lemmas.List.{length-set}
+use Rattle.stream_law.specs.Order.{is_among}
 use Rattle.fw_components.specs.declared.component.Component.{Component}
 use Rattle.fw_walks.specs.Streams.{is_host_of}
-use Rattle.fw_places.specs.Walks.{is_listed, place_in}
+use Rattle.fw_places.specs.Walks.{place_in}
 use Rattle.fw_places.proofs.Marking.{all-at, none-marked}
 use Rattle.fw_walks.proofs.LiveMarks.{AreHosts, host-marked, host-passed, past-stays}
 use Rattle.fw_walks.proofs.from_hosts.mark_hosts.Goals as goal
@@ -15,7 +16,7 @@ pub loop-comp-preserved : goal.loop-comp-preserved
 loop-comp-preserved c =
     let cs : List Component = c.args.comps.now in let i = c.loop-comp.comp-index in let d : Component = c.comp-item.result in
     let ids : List ℕ = c.args.places.now.ids in
-    let at : is_listed ids (get_or cs i d).id ≡ true = all-at (λ (x : Component). is_listed ids x.id ≡ true) cs i d c.loop-comp-test.true c.requires in
+    let at : is_among ids (get_or cs i d).id ≡ true = all-at (λ (x : Component). is_among ids x.id ≡ true) cs i d c.loop-comp-test.true c.requires in
     let few : length ids < 257 = omega (arith, c.ids-ids.ensures.few) in
     elim c.if-is_host_of.branch [
       | then-is_host_of w ↦

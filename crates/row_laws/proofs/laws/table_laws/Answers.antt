@@ -1,6 +1,7 @@
 use Rattle.std.proofs.Common.{refl}
 use Rattle.stream_law.specs.declared.stream.Phase.TheVariants.{Prepared, Running, Paused}
-use Rattle.mbox_link.specs.Step.{is_moving, is_prepared, is_running, is_paused}
+use Rattle.stream_law.specs.Ways.{is_live_phase, is_running_phase}
+use Rattle.mbox_link.specs.Step.{is_prepared, is_paused}
 use Rattle.row_laws.proofs.RowKept.{comp_new-kept, buffer_new-kept, pipe_new-kept, connect-kept, pipe_complete-kept, comp_free-kept, buffer_free-kept, pipe_free-kept, set_value-kept, get_value-kept, set_data-kept, get_data-kept, pcm_params-kept, pcm_free-kept, ctx_save-kept, trigger-kept, leaves-moving, leaves-prepared, leaves-running, leaves-paused}
 use Rattle.row_laws.proofs.laws.table_laws.Goals as goal
 
@@ -53,10 +54,10 @@ pub returns-clause-trig_start : goal.returns-clause-trig_start
 returns-clause-trig_start c host = trigger-kept host is_prepared Running leaves-prepared refl
 
 pub returns-clause-trig_stop : goal.returns-clause-trig_stop
-returns-clause-trig_stop c host = trigger-kept host is_moving Prepared leaves-moving refl
+returns-clause-trig_stop c host = trigger-kept host is_live_phase Prepared leaves-moving refl
 
 pub returns-clause-trig_pause : goal.returns-clause-trig_pause
-returns-clause-trig_pause c host = trigger-kept host is_running Paused leaves-running refl
+returns-clause-trig_pause c host = trigger-kept host is_running_phase Paused leaves-running refl
 
 pub returns-clause-trig_release : goal.returns-clause-trig_release
 returns-clause-trig_release c host = trigger-kept host is_paused Running leaves-paused refl

@@ -1,6 +1,6 @@
-use Rattle.std.proofs.Common.{◌≡◌, sym, subst, ap, ◌∙◌, ℕ, List, [], ◌∷◌, ◌++◌, ◌<◌, length, length-append, arith, lit<}
+use Rattle.std.proofs.Common.{◌≡◌, subst, ℕ, List, [], ◌∷◌, ◌++◌, ◌<◌, length, length-append, arith, lit<}
 use Rattle.stream_law.specs.declared.graph.Edge.{Edge}
-use Rattle.tplg_rules.specs.Reach.{IsFound, IsClosed}
+use Rattle.tplg_rules.specs.Reach.{IsFound, IsSaturated}
 use Rattle.tplg_rules.proofs.Reached.{Seen, Seen-none, Seen-more, Seen-few, Seen-all}
 use Rattle.tplg_rules.proofs.walks.reached.Goals as goal
 
@@ -27,4 +27,4 @@ pub loop-id-preserved : goal.loop-id-preserved
 loop-id-preserved c = rw c.push.ensures.items (more c.args.edges.now c.args.from c.as_slice.result.now c.loop-id.seen.items c.in-Some.id c.as_slice.ensures.value c.in-Some.ensures.some c.loop-id.invariant)
 
 pub returns : goal.returns
-returns c = λ b. (c.loop-id.invariant.reached b, Seen-all c.args.edges.now c.args.from c.loop-id.seen.items (subst (IsClosed c.args.edges.now c.args.from) c.as_slice.ensures.value c.in_default.ensures.none) c.loop-id.invariant b)
+returns c = λ b. (c.loop-id.invariant.reached b, Seen-all c.args.edges.now c.args.from c.loop-id.seen.items (subst (IsSaturated c.args.edges.now c.args.from) c.as_slice.ensures.value c.in_default.ensures.none) c.loop-id.invariant b)

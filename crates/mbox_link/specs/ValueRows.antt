@@ -1,0 +1,50 @@
+-- The rows of SET_VALUE and GET_VALUE.
+use Rattle.std.specs.Prelude.{ℕ, ◌&&◌, not, List, [], ◌∷◌, map, length, Option, Some, None, Result, Ok, Err, ℤ, nat_le, is_some, option_and_then, ◌==◌, if◌then◌else◌}
+use Rattle.std.specs.List.{list_all}
+use Rattle.stream_law.specs.declared.graph.Kind.{Kind}
+use Rattle.stream_law.specs.declared.graph.Kind.TheVariants.{Volume, Mux}
+use Rattle.stream_law.specs.declared.graph.Setting.{Setting}
+use Rattle.stream_law.specs.declared.graph.Setting.TheVariants.{Gains, Choice}
+use Rattle.stream_law.specs.declared.graph.Comp.{Comp}
+use Rattle.stream_law.specs.declared.graph.Graph.{Graph}
+use Rattle.stream_law.specs.State.{FwState}
+use Rattle.stream_law.specs.Ways.{comp_of}
+use Rattle.mbox_link.specs.ErrorNumbers.{no_device, invalid}
+use Rattle.mbox_link.specs.NamedIds.{is_used}
+use Rattle.mbox_link.specs.NewRows.{with_comps}
+
+-- what values set at a component: a volume takes as many gains as it has, of at most 16777216, by command 0; and a mux a choice by command 1
+abbrev pub new_setting : Kind → Setting → ℕ → List ℕ → Option Setting
+new_setting Volume (Gains gains) command values =
+    if command == 0 && (length values == length gains && list_all (λ v. nat_le v 16777216) values) then Some (Gains values) else None
+new_setting Mux setting command (v ∷ []) = if command == 1 then Some (Choice v) else None
+new_setting kind setting command values = None
+
+abbrev pub with_setting : ℕ → Setting → Comp → Comp
+with_setting id setting c = if c.id == id then record c { setting = setting } else c
+
+-- they are in force from the next tick
+abbrev pub value_set : FwState → ℕ → Option Setting → Result FwState ℤ
+value_set f id None = Err invalid
+value_set f id (Some setting) = Ok (record f { graph = with_comps (map (with_setting id setting) f.graph.comps) f.graph })
+
+abbrev pub set_value : FwState → ℕ → ℕ → List ℕ → Result FwState ℤ
+set_value f id command values =
+    if not (is_used f.graph id) then Err no_device
+    else value_set f id (option_and_then (λ c. new_setting c.kind c.setting command values) (comp_of f.graph id))
+
+-- the values of a component: the gains of a volume by command 0, and the choice of a mux by command 1
+abbrev pub control_values : Kind → Setting → ℕ → Option (List ℕ)
+control_values Volume (Gains gains) command = if command == 0 then Some gains else None
+control_values Mux (Choice k) command = if command == 1 then Some (k ∷ []) else None
+control_values kind setting command = None
+
+abbrev pub control_values_at : Graph → ℕ → ℕ → Option (List ℕ)
+control_values_at g id command = option_and_then (λ c. control_values c.kind c.setting command) (comp_of g id)
+
+-- the state stays, and the reply carries the values
+abbrev pub get_value : FwState → ℕ → ℕ → Result FwState ℤ
+get_value f id command =
+    if not (is_used f.graph id) then Err no_device
+    else if not (is_some (control_values_at f.graph id command)) then Err invalid
+    else Ok f

@@ -2,9 +2,9 @@
 use crate::messages::{
     DAI, HOST, S32, VOLUME, amplified, buffer, component, gains, pipeline, stereo, thin,
 };
+use crate::small::set_data;
 use crate::steps::{BUSY, INVALID, NO_DEVICE, NO_MEMORY, Step, TWO_VALUES, done, played};
 use ipc3_codec::{CompWords, Message};
-use sof_base::{Bounded, Part};
 use std::test::Fail;
 
 #[test]
@@ -82,19 +82,6 @@ fn a_graph_is_freed_from_its_pipeline_on(rt: HostRuntime) -> Result<(), Fail> {
     played(&rt, rt.alloc(), 992, &thin(), &steps)
 }
 
-// A part of one byte for this id.
-fn part(id: u32) -> Message {
-    Message::SetData {
-        id,
-        part: Part {
-            header: [0; 32],
-            remaining: 0,
-            index: 0,
-            bytes: Bounded::new(&[0]).unwrap_or(Bounded::empty()),
-        },
-    }
-}
-
 #[test]
 fn each_other_message_is_answered_by_its_row(rt: HostRuntime) -> Result<(), Fail> {
     let steps = [
@@ -110,8 +97,8 @@ fn each_other_message_is_answered_by_its_row(rt: HostRuntime) -> Result<(), Fail
         Step::Told(Message::TrigRelease { id: 0 }, INVALID),
         Step::Told(Message::PipeComplete { id: 0 }, INVALID),
         Step::Told(Message::Connect { source: 0, sink: 0 }, INVALID),
-        Step::Told(part(0), INVALID),
-        Step::Told(part(9), NO_DEVICE),
+        Step::Told(set_data(0), INVALID),
+        Step::Told(set_data(9), NO_DEVICE),
         Step::Told(Message::GetData { id: 0, index: 0 }, INVALID),
         Step::Told(Message::GetData { id: 9, index: 0 }, NO_DEVICE),
         Step::Told(gains(0, 1, 1), INVALID),

@@ -5,7 +5,7 @@ use Rattle.fw_ring.specs.RingState.{RingState, SameRing}
 use Rattle.eq_biquad.specs.EqState.{EqState, OnlyNumbers}
 use Rattle.fw_components.specs.declared.component.Component.{Component}
 use Rattle.fw_components.specs.declared.component.Unit as units
-use Rattle.fw_components.specs.declared.component.Unit.TheVariants.{Host, Dai, Volume, Mixer, Mux, Eq, Buffer, Pipeline}
+use Rattle.fw_components.specs.declared.component.Unit.TheVariants.{Buffer}
 use Rattle.fw_components.specs.Tables.{Tables}
 use Rattle.fw_components.specs.Kept.{IsKept, IsBuffering, IsPiping, IsStreaming, is_plain, sides_by}
 use Rattle.fw_components.specs.Frames.{piece_with_words, begun_unit, begun_by, begun_at, taken_unit, taken_by, taken_at, pushed_ring, pushed_unit, pushed_by, pushed_at}
@@ -33,94 +33,40 @@ none-copied n xs none long = empty xs (omega (arith, none, long)) ∙ sym (ap sa
 -- ---- each change keeps what a unit is
 
 begun-streaming : (channels : ℕ) → (words : List ℤ) → (u : units.Unit) → IsStreaming u → IsStreaming (begun_unit channels words u)
-begun-streaming channels words (Host capture phase params piece) e = e
-begun-streaming channels words (Dai capture format piece) e = e
-begun-streaming channels words (Volume gains piece) e = e
-begun-streaming channels words (Mixer piece) e = e
-begun-streaming channels words (Mux choice piece) e = e
-begun-streaming channels words (Eq eq next remaining) e = e
 begun-streaming channels words (Buffer size ring source sink) e = e
-begun-streaming channels words (Pipeline sched period complete piece) e = e
+begun-streaming channels words u e = e
 
 begun-plain : (channels : ℕ) → (words : List ℤ) → (u : units.Unit) → is_plain u ≡ true → is_plain (begun_unit channels words u) ≡ true
-begun-plain channels words (Host capture phase params piece) e = e
-begun-plain channels words (Dai capture format piece) e = e
-begun-plain channels words (Volume gains piece) e = e
-begun-plain channels words (Mixer piece) e = e
-begun-plain channels words (Mux choice piece) e = e
-begun-plain channels words (Eq eq next remaining) e = e
 begun-plain channels words (Buffer size ring source sink) e = e
-begun-plain channels words (Pipeline sched period complete piece) e = e
+begun-plain channels words u e = e
 
 begun-buffering : (channels : ℕ) → (words : List ℤ) → (u : units.Unit) → IsBuffering u → IsBuffering (begun_unit channels words u)
-begun-buffering channels words (Host capture phase params piece) e = e
-begun-buffering channels words (Dai capture format piece) e = e
-begun-buffering channels words (Volume gains piece) e = e
-begun-buffering channels words (Mixer piece) e = e
-begun-buffering channels words (Mux choice piece) e = e
-begun-buffering channels words (Eq eq next remaining) e = e
 begun-buffering channels words (Buffer size ring source sink) e = e
-begun-buffering channels words (Pipeline sched period complete piece) e = e
+begun-buffering channels words u e = e
 
 begun-piping : (channels : ℕ) → (words : List ℤ) → (u : units.Unit) → IsPiping u → IsPiping (begun_unit channels words u)
-begun-piping channels words (Host capture phase params piece) e = e
-begun-piping channels words (Dai capture format piece) e = e
-begun-piping channels words (Volume gains piece) e = e
-begun-piping channels words (Mixer piece) e = e
-begun-piping channels words (Mux choice piece) e = e
-begun-piping channels words (Eq eq next remaining) e = e
 begun-piping channels words (Buffer size ring source sink) e = e
-begun-piping channels words (Pipeline sched period complete piece) e = e
+begun-piping channels words u e = e
 
 begun-sides : (channels : ℕ) → (words : List ℤ) → (u : units.Unit) → sides_by (begun_unit channels words u) ≡ sides_by u
-begun-sides channels words (Host capture phase params piece) = refl
-begun-sides channels words (Dai capture format piece) = refl
-begun-sides channels words (Volume gains piece) = refl
-begun-sides channels words (Mixer piece) = refl
-begun-sides channels words (Mux choice piece) = refl
-begun-sides channels words (Eq eq next remaining) = refl
 begun-sides channels words (Buffer size ring source sink) = refl
-begun-sides channels words (Pipeline sched period complete piece) = refl
+begun-sides channels words u = refl
 
 pub taken-buffering : (n : ℕ) → (u : units.Unit) → IsBuffering u → IsBuffering (taken_unit n u)
-taken-buffering n (Host capture phase params piece) e = e
-taken-buffering n (Dai capture format piece) e = e
-taken-buffering n (Volume gains piece) e = e
-taken-buffering n (Mixer piece) e = e
-taken-buffering n (Mux choice piece) e = e
-taken-buffering n (Eq eq next remaining) e = e
 taken-buffering n (Buffer size ring source sink) e = e
-taken-buffering n (Pipeline sched period complete piece) e = e
+taken-buffering n u e = e
 
 pub taken-sides : (n : ℕ) → (u : units.Unit) → sides_by (taken_unit n u) ≡ sides_by u
-taken-sides n (Host capture phase params piece) = refl
-taken-sides n (Dai capture format piece) = refl
-taken-sides n (Volume gains piece) = refl
-taken-sides n (Mixer piece) = refl
-taken-sides n (Mux choice piece) = refl
-taken-sides n (Eq eq next remaining) = refl
 taken-sides n (Buffer size ring source sink) = refl
-taken-sides n (Pipeline sched period complete piece) = refl
+taken-sides n u = refl
 
 pub pushed-buffering : (frames : List Frame) → (words : List ℤ) → (u : units.Unit) → IsBuffering u → IsBuffering (pushed_unit frames words u)
-pushed-buffering frames words (Host capture phase params piece) e = e
-pushed-buffering frames words (Dai capture format piece) e = e
-pushed-buffering frames words (Volume gains piece) e = e
-pushed-buffering frames words (Mixer piece) e = e
-pushed-buffering frames words (Mux choice piece) e = e
-pushed-buffering frames words (Eq eq next remaining) e = e
 pushed-buffering frames words (Buffer size ring source sink) e = e
-pushed-buffering frames words (Pipeline sched period complete piece) e = e
+pushed-buffering frames words u e = e
 
 pub pushed-sides : (frames : List Frame) → (words : List ℤ) → (u : units.Unit) → sides_by (pushed_unit frames words u) ≡ sides_by u
-pushed-sides frames words (Host capture phase params piece) = refl
-pushed-sides frames words (Dai capture format piece) = refl
-pushed-sides frames words (Volume gains piece) = refl
-pushed-sides frames words (Mixer piece) = refl
-pushed-sides frames words (Mux choice piece) = refl
-pushed-sides frames words (Eq eq next remaining) = refl
 pushed-sides frames words (Buffer size ring source sink) = refl
-pushed-sides frames words (Pipeline sched period complete piece) = refl
+pushed-sides frames words u = refl
 
 -- ---- a change at one id
 

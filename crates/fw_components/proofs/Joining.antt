@@ -7,7 +7,7 @@ use Rattle.std.specs.List.{list_any, AllByRecursion}
 use Rattle.stream_law.specs.declared.graph.Join.{Join}
 use Rattle.fw_components.specs.declared.component.Component.{Component}
 use Rattle.fw_components.specs.declared.component.Unit as units
-use Rattle.fw_components.specs.declared.component.Unit.TheVariants.{Host, Dai, Volume, Mixer, Mux, Eq, Buffer, Pipeline}
+use Rattle.fw_components.specs.declared.component.Unit.TheVariants.{Buffer}
 use Rattle.fw_components.specs.Tables.{is_buffer, source_by, sink_by}
 use Rattle.mbox_link.specs.Step.{touches}
 use Rattle.fw_components.specs.Changes.{has_id, has_free_source, has_free_sink, joined_at, sourced_unit, sunk_unit}
@@ -27,66 +27,30 @@ side-none (Some end) e = absurd (false≢true e)
 
 -- a set side is at most one more
 sunk-most : (id : ℕ) (u : units.Unit) → sides_by (sunk_unit id u) ≤ sides_by u + 1
-sunk-most id (Host capture phase params piece) = omega arith
-sunk-most id (Dai capture format piece) = omega arith
-sunk-most id (Volume gains piece) = omega arith
-sunk-most id (Mixer piece) = omega arith
-sunk-most id (Mux choice piece) = omega arith
-sunk-most id (Eq eq next remaining) = omega arith
 sunk-most id (Buffer size ring source sink) = omega arith
-sunk-most id (Pipeline sched period complete piece) = omega arith
+sunk-most id u = omega arith
 
 sourced-most : (id : ℕ) (u : units.Unit) → sides_by (sourced_unit id u) ≤ sides_by u + 1
-sourced-most id (Host capture phase params piece) = omega arith
-sourced-most id (Dai capture format piece) = omega arith
-sourced-most id (Volume gains piece) = omega arith
-sourced-most id (Mixer piece) = omega arith
-sourced-most id (Mux choice piece) = omega arith
-sourced-most id (Eq eq next remaining) = omega arith
 sourced-most id (Buffer size ring source sink) = omega arith
-sourced-most id (Pipeline sched period complete piece) = omega arith
+sourced-most id u = omega arith
 
 -- none is lost
 sunk-least : (id : ℕ) (u : units.Unit) → sides_by u ≤ sides_by (sunk_unit id u)
-sunk-least id (Host capture phase params piece) = omega arith
-sunk-least id (Dai capture format piece) = omega arith
-sunk-least id (Volume gains piece) = omega arith
-sunk-least id (Mixer piece) = omega arith
-sunk-least id (Mux choice piece) = omega arith
-sunk-least id (Eq eq next remaining) = omega arith
 sunk-least id (Buffer size ring source sink) = omega (arith, side-most sink)
-sunk-least id (Pipeline sched period complete piece) = omega arith
+sunk-least id u = omega arith
 
 sourced-least : (id : ℕ) (u : units.Unit) → sides_by u ≤ sides_by (sourced_unit id u)
-sourced-least id (Host capture phase params piece) = omega arith
-sourced-least id (Dai capture format piece) = omega arith
-sourced-least id (Volume gains piece) = omega arith
-sourced-least id (Mixer piece) = omega arith
-sourced-least id (Mux choice piece) = omega arith
-sourced-least id (Eq eq next remaining) = omega arith
 sourced-least id (Buffer size ring source sink) = omega (arith, side-most source)
-sourced-least id (Pipeline sched period complete piece) = omega arith
+sourced-least id u = omega arith
 
 -- a free side of a buffer is gained
 sunk-gain : (id : ℕ) (u : units.Unit) → is_buffer u ≡ true → is_none (sink_by u) ≡ true → sides_by u + 1 ≤ sides_by (sunk_unit id u)
-sunk-gain id (Host capture phase params piece) e free = absurd (false≢true e)
-sunk-gain id (Dai capture format piece) e free = absurd (false≢true e)
-sunk-gain id (Volume gains piece) e free = absurd (false≢true e)
-sunk-gain id (Mixer piece) e free = absurd (false≢true e)
-sunk-gain id (Mux choice piece) e free = absurd (false≢true e)
-sunk-gain id (Eq eq next remaining) e free = absurd (false≢true e)
 sunk-gain id (Buffer size ring source sink) e free = omega (arith, side-none sink free)
-sunk-gain id (Pipeline sched period complete piece) e free = absurd (false≢true e)
+sunk-gain id u e free = absurd (false≢true e)
 
 sourced-gain : (id : ℕ) (u : units.Unit) → is_buffer u ≡ true → is_none (source_by u) ≡ true → sides_by u + 1 ≤ sides_by (sourced_unit id u)
-sourced-gain id (Host capture phase params piece) e free = absurd (false≢true e)
-sourced-gain id (Dai capture format piece) e free = absurd (false≢true e)
-sourced-gain id (Volume gains piece) e free = absurd (false≢true e)
-sourced-gain id (Mixer piece) e free = absurd (false≢true e)
-sourced-gain id (Mux choice piece) e free = absurd (false≢true e)
-sourced-gain id (Eq eq next remaining) e free = absurd (false≢true e)
 sourced-gain id (Buffer size ring source sink) e free = omega (arith, side-none source free)
-sourced-gain id (Pipeline sched period complete piece) e free = absurd (false≢true e)
+sourced-gain id u e free = absurd (false≢true e)
 
 -- a join at a component, by where it is at it
 abbrev pub joined_by : Bool → Bool → Join → Component → Component

@@ -10,7 +10,7 @@ use Rattle.stream_law.specs.Placed.{placed, AreAbove, Ascends}
 use Rattle.stream_law.proofs.Placing.{length-placed, Ascends-placed}
 use Rattle.fw_components.specs.declared.component.Component.{Component}
 use Rattle.fw_components.specs.declared.component.Unit as units
-use Rattle.fw_components.specs.declared.component.Unit.TheVariants.{Host, Dai, Volume, Mixer, Mux, Eq, Buffer, Pipeline}
+use Rattle.fw_components.specs.declared.component.Unit.TheVariants.{Host, Volume, Mux, Eq, Buffer, Pipeline}
 use Rattle.fw_components.specs.Tables.{Tables, is_buffer, is_pipeline}
 use Rattle.fw_components.specs.Kept.{IsKept, IsNamed, IsUnitSound, IsBuffering, IsPiping, IsStreamOf, IsStreaming, is_plain, sides, sides_by}
 use Rattle.fw_components.specs.Values.{valued_unit, valued_at}
@@ -55,57 +55,29 @@ length-changed f (c ∷ cs) = ap suc (length-changed f cs)
 -- ---- what is added
 
 pub new-sound : (u : units.Unit) → IsNew u → IsUnitSound u
-new-sound (Host capture phase params piece) fresh = tt
-new-sound (Dai capture format piece) fresh = tt
-new-sound (Volume gains piece) fresh = tt
-new-sound (Mixer piece) fresh = tt
-new-sound (Mux choice piece) fresh = tt
-new-sound (Eq eq next remaining) fresh = tt
 new-sound (Buffer size ring source sink) fresh = fresh.3
 new-sound (Pipeline sched period complete piece) fresh = fresh
+new-sound u fresh = tt
 
 pub new-streaming : (u : units.Unit) → IsNew u → IsStreaming u
 new-streaming (Host capture phase params piece) fresh = subst (λ (o : Option Params). IsStreamOf (is_idle_phase phase) o) (sym fresh.1) fresh.0
-new-streaming (Dai capture format piece) fresh = tt
-new-streaming (Volume gains piece) fresh = tt
-new-streaming (Mixer piece) fresh = tt
-new-streaming (Mux choice piece) fresh = tt
 new-streaming (Eq eq next remaining) fresh = omega (arith, fresh.0, fresh.1)
-new-streaming (Buffer size ring source sink) fresh = tt
-new-streaming (Pipeline sched period complete piece) fresh = tt
+new-streaming u fresh = tt
 
 -- no side of it is joined
 pub new-alone : (u : units.Unit) → IsNew u → sides_by u ≡ 0
-new-alone (Host capture phase params piece) fresh = refl
-new-alone (Dai capture format piece) fresh = refl
-new-alone (Volume gains piece) fresh = refl
-new-alone (Mixer piece) fresh = refl
-new-alone (Mux choice piece) fresh = refl
-new-alone (Eq eq next remaining) fresh = refl
 new-alone (Buffer size ring source sink) fresh = ap (λ (p : Option ℕ × Option ℕ). sides_by (Buffer size ring p.0 p.1)) (λ i. (fresh.0 i, fresh.1 i))
-new-alone (Pipeline sched period complete piece) fresh = refl
+new-alone u fresh = refl
 
 -- ---- a join keeps a buffer
 
 sunk-buffering : (id : ℕ) (u : units.Unit) → IsBuffering u → IsBuffering (sunk_unit id u)
-sunk-buffering id (Host capture phase params piece) e = e
-sunk-buffering id (Dai capture format piece) e = e
-sunk-buffering id (Volume gains piece) e = e
-sunk-buffering id (Mixer piece) e = e
-sunk-buffering id (Mux choice piece) e = e
-sunk-buffering id (Eq eq next remaining) e = e
 sunk-buffering id (Buffer size ring source sink) e = e
-sunk-buffering id (Pipeline sched period complete piece) e = e
+sunk-buffering id u e = e
 
 sourced-buffering : (id : ℕ) (u : units.Unit) → IsBuffering u → IsBuffering (sourced_unit id u)
-sourced-buffering id (Host capture phase params piece) e = e
-sourced-buffering id (Dai capture format piece) e = e
-sourced-buffering id (Volume gains piece) e = e
-sourced-buffering id (Mixer piece) e = e
-sourced-buffering id (Mux choice piece) e = e
-sourced-buffering id (Eq eq next remaining) e = e
 sourced-buffering id (Buffer size ring source sink) e = e
-sourced-buffering id (Pipeline sched period complete piece) e = e
+sourced-buffering id u e = e
 
 joined-buffering : (j : Join) (c : Component) → IsBuffering c.unit → IsBuffering (joined_at j c).unit
 joined-buffering j c e = by (c.id == j.source) (c.id == j.sink)
@@ -277,34 +249,16 @@ module _ (t : Tables) (kept : IsKept t) where
 -- ---- each change keeps ids and what a unit is
 
 completed-pipeline : (u : units.Unit) → IsPiping u → IsPiping (completed_unit u)
-completed-pipeline (Pipeline sched period complete piece) e = e
-completed-pipeline (Host capture phase params piece) e = e
-completed-pipeline (Dai capture format piece) e = e
-completed-pipeline (Volume gains piece) e = e
-completed-pipeline (Mixer piece) e = e
-completed-pipeline (Mux choice piece) e = e
-completed-pipeline (Eq eq next remaining) e = e
 completed-pipeline (Buffer size ring source sink) e = e
+completed-pipeline u e = e
 
 set-plain : (phase : Phase) (params : Option Params) (u : units.Unit) → is_plain u ≡ true → is_plain (set_unit phase params u) ≡ true
 set-plain phase params (Host capture was before piece) e = refl
-set-plain phase params (Dai capture format piece) e = e
-set-plain phase params (Volume gains piece) e = e
-set-plain phase params (Mixer piece) e = e
-set-plain phase params (Mux choice piece) e = e
-set-plain phase params (Eq eq next remaining) e = e
-set-plain phase params (Buffer size ring source sink) e = e
-set-plain phase params (Pipeline sched period complete piece) e = e
+set-plain phase params u e = e
 
 set-streaming : (phase : Phase) (params : Option Params) → IsStreamOf (is_idle_phase phase) params → (u : units.Unit) → IsStreaming u → IsStreaming (set_unit phase params u)
 set-streaming phase params right (Host capture was before piece) e = right
-set-streaming phase params right (Dai capture format piece) e = e
-set-streaming phase params right (Volume gains piece) e = e
-set-streaming phase params right (Mixer piece) e = e
-set-streaming phase params right (Mux choice piece) e = e
-set-streaming phase params right (Eq eq next remaining) e = e
-set-streaming phase params right (Buffer size ring source sink) e = e
-set-streaming phase params right (Pipeline sched period complete piece) e = e
+set-streaming phase params right u e = e
 
 -- a change at one id
 abbrev at : (units.Unit → units.Unit) → ℕ → Component → Component
@@ -338,47 +292,24 @@ pub stream-kept : (t : Tables) → IsKept t → (id : ℕ) (phase : Phase) (para
 stream-kept t kept id phase params right new is = comps-changed t kept (set_at id phase params) new (at-id (set_unit phase params) id) (at-unit (λ u. is_plain u ≡ true) (set_unit phase params) id (set-plain phase params)) (at-unit IsStreaming (set_unit phase params) id (set-streaming phase params right)) is
 
 ended-buffer : (u : units.Unit) → IsBuffering u → IsBuffering (ended_unit u)
-ended-buffer (Pipeline sched period complete piece) e = e
-ended-buffer (Host capture phase params piece) e = e
-ended-buffer (Dai capture format piece) e = e
-ended-buffer (Volume gains piece) e = e
-ended-buffer (Mixer piece) e = e
-ended-buffer (Mux choice piece) e = e
-ended-buffer (Eq eq next remaining) e = e
 ended-buffer (Buffer size ring source sink) e = e
+ended-buffer u e = e
 
 ended-sides : (u : units.Unit) → sides_by (ended_unit u) ≡ sides_by u
-ended-sides (Pipeline sched period complete piece) = refl
-ended-sides (Host capture phase params piece) = refl
-ended-sides (Dai capture format piece) = refl
-ended-sides (Volume gains piece) = refl
-ended-sides (Mixer piece) = refl
-ended-sides (Mux choice piece) = refl
-ended-sides (Eq eq next remaining) = refl
 ended-sides (Buffer size ring source sink) = refl
+ended-sides u = refl
 
 pub ended-kept : (t : Tables) → IsKept t → (id : ℕ) (new : List Component) → new ≡ map (with_ended id) t.buffers → IsKept (record { comps = t.comps; buffers = new; pipes = t.pipes; joins = t.joins })
 ended-kept t kept id new is = buffers-changed t kept (with_ended id) new (at-id ended_unit id) (at-sides ended_unit id ended-sides) (at-unit IsBuffering ended_unit id ended-buffer) is
 
 valued-plain : (values : List ℕ) (u : units.Unit) → is_plain u ≡ true → is_plain (valued_unit values u) ≡ true
-valued-plain values (Host capture phase params piece) e = e
-valued-plain values (Dai capture format piece) e = e
 valued-plain values (Volume gains piece) e = refl
-valued-plain values (Mixer piece) e = e
 valued-plain values (Mux choice piece) e = refl
-valued-plain values (Eq eq next remaining) e = e
-valued-plain values (Buffer size ring source sink) e = e
-valued-plain values (Pipeline sched period complete piece) e = e
+valued-plain values u e = e
 
 valued-streaming : (values : List ℕ) (u : units.Unit) → IsStreaming u → IsStreaming (valued_unit values u)
-valued-streaming values (Host capture phase params piece) e = e
-valued-streaming values (Dai capture format piece) e = e
-valued-streaming values (Volume gains piece) e = e
-valued-streaming values (Mixer piece) e = e
-valued-streaming values (Mux choice piece) e = e
-valued-streaming values (Eq eq next remaining) e = e
 valued-streaming values (Buffer size ring source sink) e = e
-valued-streaming values (Pipeline sched period complete piece) e = e
+valued-streaming values u e = e
 
 pub valued-kept : (t : Tables) → IsKept t → (id : ℕ) (values : List ℕ) (new : List Component) → new ≡ map (valued_at id values) t.comps → IsKept (record { comps = new; buffers = t.buffers; pipes = t.pipes; joins = t.joins })
 valued-kept t kept id values new is = comps-changed t kept (valued_at id values) new (at-id (valued_unit values) id) (at-unit (λ u. is_plain u ≡ true) (valued_unit values) id (valued-plain values)) (at-unit IsStreaming (valued_unit values) id (valued-streaming values)) is

@@ -30,3 +30,4 @@ mod Taking
 mod TallyKept
 mod Tallying
 mod Told
+pub mod Units

@@ -11,7 +11,7 @@ use Rattle.stream_law.specs.declared.graph.Comp.{Comp}
 use Rattle.mbox_link.specs.Step.{staged_bytes, part_by, part_at}
 use Rattle.fw_components.specs.declared.component.Component.{Component}
 use Rattle.fw_components.specs.declared.component.Unit as units
-use Rattle.fw_components.specs.declared.component.Unit.TheVariants.{Host, Dai, Volume, Mixer, Mux, Eq, Buffer, Pipeline}
+use Rattle.fw_components.specs.declared.component.Unit.TheVariants.{Eq, Buffer}
 use Rattle.fw_components.specs.Tables.{Tables, graph_of, comp_by, kind_by, setting_by}
 use Rattle.fw_components.specs.Kept.{IsKept, IsStreaming, is_plain}
 use Rattle.fw_components.specs.Changes.{is_there}
@@ -25,28 +25,16 @@ use Rattle.fw_components.proofs.Taking.{never-found-by}
 
 module _ (part : Part) (words : List ℤ) where
   parted-plain : (id : ℕ) (u : units.Unit) → is_plain u ≡ true → is_plain (parted_unit id part words u) ≡ true
-  parted-plain id (Host capture phase params piece) e = e
-  parted-plain id (Dai capture format piece) e = e
-  parted-plain id (Volume gains piece) e = e
-  parted-plain id (Mixer piece) e = e
-  parted-plain id (Mux choice piece) e = e
-  parted-plain id (Eq eq next remaining) e = e
   parted-plain id (Buffer size ring source sink) e = e
-  parted-plain id (Pipeline sched period complete piece) e = e
+  parted-plain id u e = e
 
   parted-streaming : ((part.remaining == 0) ≡ false → 260 * (part.index + 1) + part.remaining ≤ 992) → (id : ℕ) (u : units.Unit) → IsStreaming u → IsStreaming (parted_unit id part words u)
-  parted-streaming within id (Host capture phase params piece) e = e
-  parted-streaming within id (Dai capture format piece) e = e
-  parted-streaming within id (Volume gains piece) e = e
-  parted-streaming within id (Mixer piece) e = e
-  parted-streaming within id (Mux choice piece) e = e
   parted-streaming within id (Eq eq next remaining) e = by (part.remaining == 0) refl
     where
       by : (h : Bool) → (part.remaining == 0) ≡ h → 260 * (cond h 0 (part.index + 1)) + part.remaining ≤ 992
       by true is = let none : part.remaining ≡ 0 = eqb-true part.remaining 0 is in omega (arith, none)
       by false is = within is
-  parted-streaming within id (Buffer size ring source sink) e = e
-  parted-streaming within id (Pipeline sched period complete piece) e = e
+  parted-streaming within id u e = e
 
 -- ---- and tables
 

@@ -9,7 +9,7 @@ use Rattle.stream_law.specs.Order.{is_among}
 use Rattle.stream_law.proofs.Cycles.{distinct-le}
 use Rattle.fw_components.specs.declared.component.Component.{Component}
 use Rattle.fw_components.specs.declared.component.Unit as units
-use Rattle.fw_components.specs.declared.component.Unit.TheVariants.{Host, Dai, Volume, Mixer, Mux, Eq, Buffer, Pipeline}
+use Rattle.fw_components.specs.declared.component.Unit.TheVariants.{Buffer}
 use Rattle.fw_components.specs.Tables.{Tables, numbers_by}
 use Rattle.fw_components.specs.Changes.{has_id}
 use Rattle.fw_components.specs.Frames.{words_by, words_at, staged_of_one, staged_in, taken_by, pushed_by, pushed_at}
@@ -56,24 +56,12 @@ few-of looked fed channels n cs few d all =
 -- ---- what is so of all tables
 
 run-plain : (w : List ℤ) (u : units.Unit) → is_plain u ≡ true → is_plain (run_unit w u) ≡ true
-run-plain w (Host capture phase params piece) e = e
-run-plain w (Dai capture format piece) e = e
-run-plain w (Volume gains piece) e = e
-run-plain w (Mixer piece) e = e
-run-plain w (Mux choice piece) e = e
-run-plain w (Eq eq next remaining) e = e
 run-plain w (Buffer size ring source sink) e = e
-run-plain w (Pipeline sched period complete piece) e = e
+run-plain w u e = e
 
 run-streaming : (w : List ℤ) (u : units.Unit) → IsStreaming u → IsStreaming (run_unit w u)
-run-streaming w (Host capture phase params piece) e = e
-run-streaming w (Dai capture format piece) e = e
-run-streaming w (Volume gains piece) e = e
-run-streaming w (Mixer piece) e = e
-run-streaming w (Mux choice piece) e = e
-run-streaming w (Eq eq next remaining) e = e
 run-streaming w (Buffer size ring source sink) e = e
-run-streaming w (Pipeline sched period complete piece) e = e
+run-streaming w u e = e
 
 drained-id : (looked : List ℕ) (n : ℕ) (c : Component) → (drained_at looked n c).id ≡ c.id
 drained-id looked n c = by (is_among looked c.id)

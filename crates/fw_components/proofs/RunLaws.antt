@@ -101,14 +101,8 @@ module _ (F : ℕ → List Frame) (a m : ℕ) where
   made-more (Pipeline sched period complete piece) words channels chosen looked is = refl
 
   pub numbers-more : (u : units.Unit) (words : List ℤ) (channels : ℕ) (looked : List ℕ) → numbers_by (run_unit words u) channels ≡ made_numbers u channels (first looked) → made_numbers u channels (all looked) ≡ made_numbers (run_unit words u) channels (rest looked)
-  numbers-more (Host capture phase params piece) words channels looked is = refl
-  numbers-more (Dai capture format piece) words channels looked is = refl
-  numbers-more (Volume gains piece) words channels looked is = refl
-  numbers-more (Mixer piece) words channels looked is = refl
-  numbers-more (Mux choice piece) words channels looked is = refl
   numbers-more (Eq eq next remaining) words channels looked is =
       ap (numbers_after eq.blob channels (numbers_of eq channels)) (only-more looked)
       ∙ numbers_after-append eq.blob channels (numbers_of eq channels) (only_slice (first looked)) (only_slice (rest looked))
       ∙ ap (λ (numbers : List ℤ). numbers_after eq.blob channels numbers (only_slice (rest looked))) (sym is)
-  numbers-more (Buffer size ring source sink) words channels looked is = refl
-  numbers-more (Pipeline sched period complete piece) words channels looked is = refl
+  numbers-more u words channels looked is = refl

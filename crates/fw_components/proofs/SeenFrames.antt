@@ -10,11 +10,12 @@ use Rattle.stream_law.specs.declared.stream.StreamView.{StreamView}
 use Rattle.stream_law.specs.Joins.{joined_edge}
 use Rattle.fw_components.specs.declared.component.Component.{Component}
 use Rattle.fw_components.specs.declared.component.Unit as units
-use Rattle.fw_components.specs.declared.component.Unit.TheVariants.{Host, Dai, Volume, Mixer, Mux, Eq, Buffer, Pipeline}
-use Rattle.fw_components.specs.Tables.{comp_by, edge_by, pipe_by, ring_by, streams_by, with_stream_by, unit_frames, kind_by, setting_by, size_by, source_by, sink_by, sched_by, period_by, complete_by, is_buffer}
-use Rattle.fw_components.specs.Changes.{joined_at, sunk_unit, sourced_unit, ended_unit, with_ended}
+use Rattle.fw_components.specs.declared.component.Unit.TheVariants.{Buffer}
+use Rattle.fw_components.specs.Tables.{comp_by, edge_by, pipe_by, ring_by, streams_by, with_stream_by, setting_by, size_by, source_by, sink_by, sched_by, period_by, complete_by, is_buffer}
+use Rattle.fw_components.specs.Changes.{joined_at, ended_unit, with_ended}
 use Rattle.fw_components.specs.Frames.{begun_unit, begun_by, begun_at, with_frames}
 use Rattle.fw_components.proofs.Joining.{joined_by}
+use Rattle.fw_components.proofs.Units.{sunk-frames, sourced-frames, begun-kind, begun-frames, ended-frames}
 
 -- what is seen of each is seen of all
 pub map-seen : {Y : Type 0} (P : Component → Type 0) (view : Component → Y) (after : Y → Y) (change : Component → Component) → ((c : Component) → P c → view (change c) ≡ after (view c)) → (cs : List Component) → AllByRecursion P cs → map view (map change cs) ≡ map after (map view cs)
@@ -37,105 +38,25 @@ edge_of_unit id pipe u = record { buffer = id; pipe = pipe; size = size_by u; so
 abbrev pipe_of_unit : ℕ → ℕ → units.Unit → Pipe
 pipe_of_unit id pipe u = record { id = id; index = pipe; sched = sched_by u; period = period_by u; complete = complete_by u }
 
-sunk-frames : (id : ℕ) → (u : units.Unit) → unit_frames (sunk_unit id u) ≡ unit_frames u
-sunk-frames id (Host capture phase params piece) = refl
-sunk-frames id (Dai capture format piece) = refl
-sunk-frames id (Volume gains piece) = refl
-sunk-frames id (Mixer piece) = refl
-sunk-frames id (Mux choice piece) = refl
-sunk-frames id (Eq eq next remaining) = refl
-sunk-frames id (Buffer size ring source sink) = refl
-sunk-frames id (Pipeline sched period complete piece) = refl
-
-sourced-frames : (id : ℕ) → (u : units.Unit) → unit_frames (sourced_unit id u) ≡ unit_frames u
-sourced-frames id (Host capture phase params piece) = refl
-sourced-frames id (Dai capture format piece) = refl
-sourced-frames id (Volume gains piece) = refl
-sourced-frames id (Mixer piece) = refl
-sourced-frames id (Mux choice piece) = refl
-sourced-frames id (Eq eq next remaining) = refl
-sourced-frames id (Buffer size ring source sink) = refl
-sourced-frames id (Pipeline sched period complete piece) = refl
-
-begun-kind : (channels : ℕ) → (words : List ℤ) → (u : units.Unit) → kind_by (begun_unit channels words u) ≡ kind_by u
-begun-kind channels words (Host capture phase params piece) = refl
-begun-kind channels words (Dai capture format piece) = refl
-begun-kind channels words (Volume gains piece) = refl
-begun-kind channels words (Mixer piece) = refl
-begun-kind channels words (Mux choice piece) = refl
-begun-kind channels words (Eq eq next remaining) = refl
-begun-kind channels words (Buffer size ring source sink) = refl
-begun-kind channels words (Pipeline sched period complete piece) = refl
-
 begun-setting : (channels : ℕ) → (words : List ℤ) → (u : units.Unit) → setting_by (begun_unit channels words u) ≡ setting_by u
-begun-setting channels words (Host capture phase params piece) = refl
-begun-setting channels words (Dai capture format piece) = refl
-begun-setting channels words (Volume gains piece) = refl
-begun-setting channels words (Mixer piece) = refl
-begun-setting channels words (Mux choice piece) = refl
-begun-setting channels words (Eq eq next remaining) = refl
 begun-setting channels words (Buffer size ring source sink) = refl
-begun-setting channels words (Pipeline sched period complete piece) = refl
-
-begun-frames : (channels : ℕ) → (words : List ℤ) → (u : units.Unit) → unit_frames (begun_unit channels words u) ≡ []
-begun-frames channels words (Host capture phase params piece) = refl
-begun-frames channels words (Dai capture format piece) = refl
-begun-frames channels words (Volume gains piece) = refl
-begun-frames channels words (Mixer piece) = refl
-begun-frames channels words (Mux choice piece) = refl
-begun-frames channels words (Eq eq next remaining) = refl
-begun-frames channels words (Buffer size ring source sink) = refl
-begun-frames channels words (Pipeline sched period complete piece) = refl
+begun-setting channels words u = refl
 
 begun-edge : (id pipe : ℕ) → (channels : ℕ) → (words : List ℤ) → (u : units.Unit) → edge_of_unit id pipe (begun_unit channels words u) ≡ edge_of_unit id pipe u
-begun-edge id pipe channels words (Host capture phase params piece) = refl
-begun-edge id pipe channels words (Dai capture format piece) = refl
-begun-edge id pipe channels words (Volume gains piece) = refl
-begun-edge id pipe channels words (Mixer piece) = refl
-begun-edge id pipe channels words (Mux choice piece) = refl
-begun-edge id pipe channels words (Eq eq next remaining) = refl
 begun-edge id pipe channels words (Buffer size ring source sink) = refl
-begun-edge id pipe channels words (Pipeline sched period complete piece) = refl
+begun-edge id pipe channels words u = refl
 
 begun-pipe : (id pipe : ℕ) → (channels : ℕ) → (words : List ℤ) → (u : units.Unit) → pipe_of_unit id pipe (begun_unit channels words u) ≡ pipe_of_unit id pipe u
-begun-pipe id pipe channels words (Host capture phase params piece) = refl
-begun-pipe id pipe channels words (Dai capture format piece) = refl
-begun-pipe id pipe channels words (Volume gains piece) = refl
-begun-pipe id pipe channels words (Mixer piece) = refl
-begun-pipe id pipe channels words (Mux choice piece) = refl
-begun-pipe id pipe channels words (Eq eq next remaining) = refl
 begun-pipe id pipe channels words (Buffer size ring source sink) = refl
-begun-pipe id pipe channels words (Pipeline sched period complete piece) = refl
+begun-pipe id pipe channels words u = refl
 
 begun-stream : (id : ℕ) → (channels : ℕ) → (words : List ℤ) → (rest : List StreamView) → (u : units.Unit) → with_stream_by id (begun_unit channels words u) rest ≡ with_stream_by id u rest
-begun-stream id channels words rest (Host capture phase params piece) = refl
-begun-stream id channels words rest (Dai capture format piece) = refl
-begun-stream id channels words rest (Volume gains piece) = refl
-begun-stream id channels words rest (Mixer piece) = refl
-begun-stream id channels words rest (Mux choice piece) = refl
-begun-stream id channels words rest (Eq eq next remaining) = refl
 begun-stream id channels words rest (Buffer size ring source sink) = refl
-begun-stream id channels words rest (Pipeline sched period complete piece) = refl
-
-ended-frames : (u : units.Unit) → unit_frames (ended_unit u) ≡ []
-ended-frames (Host capture phase params piece) = refl
-ended-frames (Dai capture format piece) = refl
-ended-frames (Volume gains piece) = refl
-ended-frames (Mixer piece) = refl
-ended-frames (Mux choice piece) = refl
-ended-frames (Eq eq next remaining) = refl
-ended-frames (Buffer size ring source sink) = refl
-ended-frames (Pipeline sched period complete piece) = refl
+begun-stream id channels words rest u = refl
 
 ended-edge : (id pipe : ℕ) → (u : units.Unit) → edge_of_unit id pipe (ended_unit u) ≡ edge_of_unit id pipe u
-ended-edge id pipe (Host capture phase params piece) = refl
-ended-edge id pipe (Dai capture format piece) = refl
-ended-edge id pipe (Volume gains piece) = refl
-ended-edge id pipe (Mixer piece) = refl
-ended-edge id pipe (Mux choice piece) = refl
-ended-edge id pipe (Eq eq next remaining) = refl
 ended-edge id pipe (Buffer size ring source sink) = refl
-ended-edge id pipe (Pipeline sched period complete piece) = refl
+ended-edge id pipe u = refl
 
 -- ---- joins
 
@@ -144,16 +65,10 @@ module _ (j : Join) where
   edge-joined c e = by (c.id == j.source) (c.id == j.sink) c.unit e
     where
       by : (h k : Bool) (u : units.Unit) → is_buffer u ≡ true → edge_by (joined_by h k j (record { id = c.id; pipe = c.pipe; channels = c.channels; unit = u })) ≡ cond h (record { buffer = c.id; pipe = c.pipe; size = size_by u; source = source_by u; sink = Some j.sink }) (cond k (record { buffer = c.id; pipe = c.pipe; size = size_by u; source = Some j.source; sink = sink_by u }) (record { buffer = c.id; pipe = c.pipe; size = size_by u; source = source_by u; sink = sink_by u }))
-      by h k (Host capture phase params piece) e = absurd (false≢true e)
-      by h k (Dai capture format piece) e = absurd (false≢true e)
-      by h k (Volume gains piece) e = absurd (false≢true e)
-      by h k (Mixer piece) e = absurd (false≢true e)
-      by h k (Mux choice piece) e = absurd (false≢true e)
-      by h k (Eq eq next remaining) e = absurd (false≢true e)
-      by h k (Pipeline sched period complete piece) e = absurd (false≢true e)
       by true k (Buffer size ring source sink) e = refl
       by false true (Buffer size ring source sink) e = refl
       by false false (Buffer size ring source sink) e = refl
+      by h k u e = absurd (false≢true e)
 
   pub edges-joined : (cs : List Component) → AllByRecursion (λ c. is_buffer c.unit ≡ true) cs → map edge_by (map (joined_at j) cs) ≡ map (joined_edge j) (map edge_by cs)
   edges-joined cs all = map-seen (λ (c : Component). is_buffer c.unit ≡ true) edge_by (joined_edge j) (joined_at j) edge-joined cs all

@@ -10,7 +10,7 @@ use Rattle.stream_law.specs.declared.graph.Pipe.{Pipe}
 use Rattle.mbox_link.specs.Step.{completed, set_stream}
 use Rattle.fw_components.specs.declared.component.Component.{Component}
 use Rattle.fw_components.specs.declared.component.Unit as units
-use Rattle.fw_components.specs.declared.component.Unit.TheVariants.{Host, Dai, Volume, Mixer, Mux, Eq, Buffer, Pipeline}
+use Rattle.fw_components.specs.declared.component.Unit.TheVariants.{Host, Buffer, Pipeline}
 use Rattle.fw_components.specs.Tables.{comp_by, pipe_by, streams_by, with_stream_by, is_pipeline, kind_by, setting_by, sched_by, period_by, complete_by}
 use Rattle.fw_components.specs.Changes.{completed_at, completed_unit, set_at, set_unit}
 
@@ -32,13 +32,7 @@ completed-one id c e = by (c.id == id) c.unit e
   where
     unit-by : (u : units.Unit) → is_pipeline u ≡ true → pipe-of c.id c.pipe (sched_by (completed_unit u)) (period_by (completed_unit u)) (complete_by (completed_unit u)) ≡ pipe-of c.id c.pipe (sched_by u) (period_by u) true
     unit-by (Pipeline sched period complete piece) e = refl
-    unit-by (Host capture phase params piece) e = absurd (false≢true e)
-    unit-by (Dai capture format piece) e = absurd (false≢true e)
-    unit-by (Volume gains piece) e = absurd (false≢true e)
-    unit-by (Mixer piece) e = absurd (false≢true e)
-    unit-by (Mux choice piece) e = absurd (false≢true e)
-    unit-by (Eq eq next remaining) e = absurd (false≢true e)
-    unit-by (Buffer size ring source sink) e = absurd (false≢true e)
+    unit-by u e = absurd (false≢true e)
 
     by : (h : Bool) (u : units.Unit) → is_pipeline u ≡ true → pipe_by (cond h (record { id = c.id; pipe = c.pipe; channels = c.channels; unit = completed_unit u }) (record { id = c.id; pipe = c.pipe; channels = c.channels; unit = u })) ≡ cond h (pipe-of c.id c.pipe (sched_by u) (period_by u) true) (pipe_by (record { id = c.id; pipe = c.pipe; channels = c.channels; unit = u }))
     by true u e = unit-by u e
@@ -56,14 +50,8 @@ module _ (host : ℕ) (phase : Phase) (params : Option Params) where
     where
       by : (h : Bool) (u : units.Unit) → comp_by (cond h (record { id = c.id; pipe = c.pipe; channels = c.channels; unit = set_unit phase params u }) (record { id = c.id; pipe = c.pipe; channels = c.channels; unit = u })) ≡ record { id = c.id; kind = kind_by u; pipe = c.pipe; setting = setting_by u }
       by false u = refl
-      by true (Host capture was before piece) = refl
-      by true (Dai capture format piece) = refl
-      by true (Volume gains piece) = refl
-      by true (Mixer piece) = refl
-      by true (Mux choice piece) = refl
-      by true (Eq eq next remaining) = refl
       by true (Buffer size ring source sink) = refl
-      by true (Pipeline sched period complete piece) = refl
+      by true u = refl
 
   pub comps-same : (cs : List Component) → map comp_by (map (set_at host phase params) cs) ≡ map comp_by cs
   comps-same [] = refl
@@ -80,20 +68,8 @@ module _ (host : ℕ) (phase : Phase) (params : Option Params) where
   stream-by : (h : Bool) (c : Component) (u : units.Unit) (rest : List StreamView) → (c.id == host) ≡ h → with_stream_by c.id (at h c u).unit (map (set_stream host phase params) rest) ≡ map (set_stream host phase params) (with_stream_by c.id u rest)
   stream-by true c (Host capture was before piece) rest is = ap (λ h. cond {A = StreamView} h (record { host = c.id; phase = phase; params = params }) (record { host = c.id; phase = was; params = before }) ∷ map (set_stream host phase params) rest) (sym is)
   stream-by false c (Host capture was before piece) rest is = ap (λ h. cond {A = StreamView} h (record { host = c.id; phase = phase; params = params }) (record { host = c.id; phase = was; params = before }) ∷ map (set_stream host phase params) rest) (sym is)
-  stream-by true c (Dai capture format piece) rest is = refl
-  stream-by true c (Volume gains piece) rest is = refl
-  stream-by true c (Mixer piece) rest is = refl
-  stream-by true c (Mux choice piece) rest is = refl
-  stream-by true c (Eq eq next remaining) rest is = refl
-  stream-by true c (Buffer size ring source sink) rest is = refl
-  stream-by true c (Pipeline sched period complete piece) rest is = refl
-  stream-by false c (Dai capture format piece) rest is = refl
-  stream-by false c (Volume gains piece) rest is = refl
-  stream-by false c (Mixer piece) rest is = refl
-  stream-by false c (Mux choice piece) rest is = refl
-  stream-by false c (Eq eq next remaining) rest is = refl
-  stream-by false c (Buffer size ring source sink) rest is = refl
-  stream-by false c (Pipeline sched period complete piece) rest is = refl
+  stream-by true c u rest is = refl
+  stream-by false c u rest is = refl
 
   pub streams-set : (cs : List Component) → streams_by (map (set_at host phase params) cs) ≡ map (set_stream host phase params) (streams_by cs)
   streams-set [] = refl

@@ -18,87 +18,41 @@ use Rattle.stream_law.specs.Made as made
 use Rattle.stream_law.specs.Equaliser.{passed_frames, numbers_after}
 use Rattle.fw_components.specs.declared.component.Component.{Component}
 use Rattle.fw_components.specs.declared.component.Unit as units
-use Rattle.fw_components.specs.declared.component.Unit.TheVariants.{Host, Dai, Volume, Mixer, Mux, Eq, Buffer, Pipeline}
+use Rattle.fw_components.specs.declared.component.Unit.TheVariants.{Host, Dai, Eq, Buffer, Pipeline}
 use Rattle.fw_components.specs.Tables.{Tables, comp_by, edge_by, pipe_by, ring_by, streams_by, with_stream_by, staging_by, with_staging_by, kind_by, setting_by, unit_frames, numbers_by, is_buffer, graph_of, view_by, streams_of, histories_of}
 use Rattle.fw_components.specs.Frames.{staged_by, staged_in, staged_of_one, taken_unit, taken_by, pushed_unit, pushed_by, pushed_at, with_frames}
 use Rattle.fw_components.specs.Kept.{IsKept, IsBuffering}
 use Rattle.fw_components.specs.Processed.{moves_of, moves_at, channels_moved, slices_in, chosen_by, made_frames, made_numbers, made_at, eq_numbers_at, numbers_made_at, drained_at, run_unit, run_by, run_at, processed, drained_ring, moved_rings, with_numbers}
 use Rattle.fw_components.proofs.Begun.{at-id}
-use Rattle.fw_components.proofs.MovedLaws.{taken-frames}
+use Rattle.fw_components.proofs.Units.{taken-frames, pushed-frames}
 use Rattle.fw_components.proofs.SeenFrames.{map-same, edge_of_unit}
 use Rattle.fw_components.proofs.StepLaws.{own-found}
 
 -- ---- what each change leaves of a unit
 
 comp-run : (id pipe : ℕ) (w : List ℤ) (u : units.Unit) → ◌≡◌ {A = Comp} (record { id = id; kind = kind_by (run_unit w u); pipe = pipe; setting = setting_by (run_unit w u) }) (record { id = id; kind = kind_by u; pipe = pipe; setting = setting_by u })
-comp-run id pipe w (Host capture phase params piece) = refl
-comp-run id pipe w (Dai capture format piece) = refl
-comp-run id pipe w (Volume gains piece) = refl
-comp-run id pipe w (Mixer piece) = refl
-comp-run id pipe w (Mux choice piece) = refl
-comp-run id pipe w (Eq eq next remaining) = refl
 comp-run id pipe w (Buffer size ring source sink) = refl
-comp-run id pipe w (Pipeline sched period complete piece) = refl
+comp-run id pipe w u = refl
 
 stream-run : (id : ℕ) (w : List ℤ) (rest : List StreamView) (u : units.Unit) → with_stream_by id (run_unit w u) rest ≡ with_stream_by id u rest
-stream-run id w rest (Host capture phase params piece) = refl
-stream-run id w rest (Dai capture format piece) = refl
-stream-run id w rest (Volume gains piece) = refl
-stream-run id w rest (Mixer piece) = refl
-stream-run id w rest (Mux choice piece) = refl
-stream-run id w rest (Eq eq next remaining) = refl
 stream-run id w rest (Buffer size ring source sink) = refl
-stream-run id w rest (Pipeline sched period complete piece) = refl
+stream-run id w rest u = refl
 
 staging-run : (id : ℕ) (w : List ℤ) (rest : List Staging) (u : units.Unit) → staged_by (run_unit w u) ≡ staged_by u → with_staging_by id (run_unit w u) rest ≡ with_staging_by id u rest
-staging-run id w rest (Host capture phase params piece) same = refl
-staging-run id w rest (Dai capture format piece) same = refl
-staging-run id w rest (Volume gains piece) same = refl
-staging-run id w rest (Mixer piece) same = refl
-staging-run id w rest (Mux choice piece) same = refl
 staging-run id w rest (Eq eq next remaining) same = ap (λ (bytes : List ℕ). cond (remaining == 0) rest (record { eq = id; bytes = take (32 + 260 * next) bytes; next = next; remaining = remaining } ∷ rest)) same
-staging-run id w rest (Buffer size ring source sink) same = refl
-staging-run id w rest (Pipeline sched period complete piece) same = refl
+staging-run id w rest u same = refl
 
 edge-taken : (id pipe n : ℕ) (u : units.Unit) → edge_of_unit id pipe (taken_unit n u) ≡ edge_of_unit id pipe u
-edge-taken id pipe n (Host capture phase params piece) = refl
-edge-taken id pipe n (Dai capture format piece) = refl
-edge-taken id pipe n (Volume gains piece) = refl
-edge-taken id pipe n (Mixer piece) = refl
-edge-taken id pipe n (Mux choice piece) = refl
-edge-taken id pipe n (Eq eq next remaining) = refl
 edge-taken id pipe n (Buffer size ring source sink) = refl
-edge-taken id pipe n (Pipeline sched period complete piece) = refl
+edge-taken id pipe n u = refl
 
 edge-pushed : (id pipe : ℕ) (fs : List Frame) (w : List ℤ) (u : units.Unit) → edge_of_unit id pipe (pushed_unit fs w u) ≡ edge_of_unit id pipe u
-edge-pushed id pipe fs w (Host capture phase params piece) = refl
-edge-pushed id pipe fs w (Dai capture format piece) = refl
-edge-pushed id pipe fs w (Volume gains piece) = refl
-edge-pushed id pipe fs w (Mixer piece) = refl
-edge-pushed id pipe fs w (Mux choice piece) = refl
-edge-pushed id pipe fs w (Eq eq next remaining) = refl
 edge-pushed id pipe fs w (Buffer size ring source sink) = refl
-edge-pushed id pipe fs w (Pipeline sched period complete piece) = refl
+edge-pushed id pipe fs w u = refl
 
 taken-buffer : (n : ℕ) (u : units.Unit) → is_buffer (taken_unit n u) ≡ is_buffer u
-taken-buffer n (Host capture phase params piece) = refl
-taken-buffer n (Dai capture format piece) = refl
-taken-buffer n (Volume gains piece) = refl
-taken-buffer n (Mixer piece) = refl
-taken-buffer n (Mux choice piece) = refl
-taken-buffer n (Eq eq next remaining) = refl
 taken-buffer n (Buffer size ring source sink) = refl
-taken-buffer n (Pipeline sched period complete piece) = refl
-
-pushed-frames : (fs : List Frame) (w : List ℤ) (u : units.Unit) → is_buffer u ≡ true → unit_frames (pushed_unit fs w u) ≡ unit_frames u ++ fs
-pushed-frames fs w (Host capture phase params piece) e = absurd (false≢true e)
-pushed-frames fs w (Dai capture format piece) e = absurd (false≢true e)
-pushed-frames fs w (Volume gains piece) e = absurd (false≢true e)
-pushed-frames fs w (Mixer piece) e = absurd (false≢true e)
-pushed-frames fs w (Mux choice piece) e = absurd (false≢true e)
-pushed-frames fs w (Eq eq next remaining) e = absurd (false≢true e)
-pushed-frames fs w (Buffer size ring source sink) e = refl
-pushed-frames fs w (Pipeline sched period complete piece) e = absurd (false≢true e)
+taken-buffer n u = refl
 
 -- ---- the component
 
@@ -271,16 +225,12 @@ module _ (id n : ℕ) (looked : List ℕ) (t : Tables) (wide : channels_of (view
       (sym (find-comp id t.comps)) (found (find (λ c. c.id == id) t.comps) wide) kind
     where
       by : (u : units.Unit) (channels : ℕ) → channels_of (view_by t) id ≡ channels → is_equaliser (kind_by u) ≡ true → numbers_after (made.blob (setting_by u)) (channels_of (view_by t) id) (numbers_by u channels) (only_slice (slices_in t.buffers looked n)) ≡ made_numbers u channels (slices_in t.buffers looked n)
+      by (Eq eq next remaining) channels same e = ap (λ k. numbers_after eq.blob k (numbers_of eq channels) (only_slice (slices_in t.buffers looked n))) same
       by (Host true phase params piece) channels same e = absurd (false≢true e)
       by (Host false phase params piece) channels same e = absurd (false≢true e)
       by (Dai true format piece) channels same e = absurd (false≢true e)
       by (Dai false format piece) channels same e = absurd (false≢true e)
-      by (Volume gains piece) channels same e = absurd (false≢true e)
-      by (Mixer piece) channels same e = absurd (false≢true e)
-      by (Mux choice piece) channels same e = absurd (false≢true e)
-      by (Eq eq next remaining) channels same e = ap (λ k. numbers_after eq.blob k (numbers_of eq channels) (only_slice (slices_in t.buffers looked n))) same
-      by (Buffer size ring source sink) channels same e = absurd (false≢true e)
-      by (Pipeline sched period complete piece) channels same e = absurd (false≢true e)
+      by u channels same e = absurd (false≢true e)
 
       found : (o : Option Component) → channels_of (view_by t) id ≡ option_map_or (λ c. c.channels) o 0 → option_map_or (λ x. is_equaliser x.kind) (option_map comp_by o) false ≡ true →
           numbers_after (option_map_or (λ x. made.blob x.setting) (option_map comp_by o) []) (channels_of (view_by t) id) (option_map_or (λ c. numbers_by c.unit c.channels) o []) (only_slice (slices_in t.buffers looked n)) ≡ option_map_or (λ c. made_numbers c.unit c.channels (slices_in t.buffers looked n)) o []
@@ -303,12 +253,9 @@ module _ (id n : ℕ) (looked : List ℕ) (read : List Frame) (t : Tables) (wide
       by : (u : units.Unit) → moves_of u (length looked) ≡ true → made.frames_by (kind_by u) (setting_by u) (view_by t) id n read slices (λ blob channels frames. passed_frames blob channels (numbers_by u (channels_of (view_by t) id)) frames) ≡ made_frames u (channels_of (view_by t) id) n (chosen_by u id t.joins) slices
       by (Host capture phase params piece) e = absurd (false≢true e)
       by (Dai capture format piece) e = absurd (false≢true e)
-      by (Volume gains piece) e = refl
-      by (Mixer piece) e = refl
-      by (Mux choice piece) e = refl
-      by (Eq eq next remaining) e = refl
       by (Buffer size ring source sink) e = absurd (false≢true e)
       by (Pipeline sched period complete piece) e = absurd (false≢true e)
+      by u e = refl
 
   pub tick-made : moves_at t id (length looked) ≡ true → frames_made (view_by t) id n read slices (λ blob channels frames. passed_frames blob channels (eq_numbers_at t id) frames) ≡ made_at t id looked n
   unfolding frames_made

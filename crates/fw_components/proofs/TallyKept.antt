@@ -12,7 +12,7 @@ use Rattle.fw_places.specs.Walks.{leads_by}
 use Rattle.sof_base.specs.declared.part.Part.{Part}
 use Rattle.fw_components.specs.declared.component.Component.{Component}
 use Rattle.fw_components.specs.declared.component.Unit as units
-use Rattle.fw_components.specs.declared.component.Unit.TheVariants.{Host, Dai, Volume, Mixer, Mux, Eq, Buffer, Pipeline}
+use Rattle.fw_components.specs.declared.component.Unit.TheVariants.{Host, Buffer}
 use Rattle.fw_components.specs.Tables.{Tables, kind_by}
 use Rattle.fw_components.specs.Changes.{with_ended, ended_unit, set_at, set_unit}
 use Rattle.fw_components.specs.Frames.{begun_at, begun_by, begun_unit, pushed_at, pushed_by, taken_at, taken_by}
@@ -22,88 +22,33 @@ use Rattle.fw_components.specs.Values.{valued_at, valued_unit}
 use Rattle.fw_components.specs.Kept.{IsKept}
 use Rattle.fw_components.specs.Tally.{IsTallied, has_phase, passes, with_one}
 use Rattle.fw_components.proofs.Tallying.{counted, phase-live, runs-live, comps-tallied, counts-tallied, buffers-tallied}
+use Rattle.fw_components.proofs.Units.{begun-kind, valued-kind}
 
 -- ---- each change keeps streams and kinds
 
 begun-phase : (is : Phase → Bool) → (channels : ℕ) → (words : List ℤ) → (u : units.Unit) → has_phase is (begun_unit channels words u) ≡ has_phase is u
-begun-phase is channels words (Host capture phase params piece) = refl
-begun-phase is channels words (Dai capture format piece) = refl
-begun-phase is channels words (Volume gains piece) = refl
-begun-phase is channels words (Mixer piece) = refl
-begun-phase is channels words (Mux choice piece) = refl
-begun-phase is channels words (Eq eq next remaining) = refl
 begun-phase is channels words (Buffer size ring source sink) = refl
-begun-phase is channels words (Pipeline sched period complete piece) = refl
-
-begun-kind : (channels : ℕ) → (words : List ℤ) → (u : units.Unit) → kind_by (begun_unit channels words u) ≡ kind_by u
-begun-kind channels words (Host capture phase params piece) = refl
-begun-kind channels words (Dai capture format piece) = refl
-begun-kind channels words (Volume gains piece) = refl
-begun-kind channels words (Mixer piece) = refl
-begun-kind channels words (Mux choice piece) = refl
-begun-kind channels words (Eq eq next remaining) = refl
-begun-kind channels words (Buffer size ring source sink) = refl
-begun-kind channels words (Pipeline sched period complete piece) = refl
+begun-phase is channels words u = refl
 
 valued-phase : (is : Phase → Bool) → (values : List ℕ) → (u : units.Unit) → has_phase is (valued_unit values u) ≡ has_phase is u
-valued-phase is values (Host capture phase params piece) = refl
-valued-phase is values (Dai capture format piece) = refl
-valued-phase is values (Volume gains piece) = refl
-valued-phase is values (Mixer piece) = refl
-valued-phase is values (Mux choice piece) = refl
-valued-phase is values (Eq eq next remaining) = refl
 valued-phase is values (Buffer size ring source sink) = refl
-valued-phase is values (Pipeline sched period complete piece) = refl
-
-valued-kind : (values : List ℕ) → (u : units.Unit) → kind_by (valued_unit values u) ≡ kind_by u
-valued-kind values (Host capture phase params piece) = refl
-valued-kind values (Dai capture format piece) = refl
-valued-kind values (Volume gains piece) = refl
-valued-kind values (Mixer piece) = refl
-valued-kind values (Mux choice piece) = refl
-valued-kind values (Eq eq next remaining) = refl
-valued-kind values (Buffer size ring source sink) = refl
-valued-kind values (Pipeline sched period complete piece) = refl
+valued-phase is values u = refl
 
 parted-phase : (is : Phase → Bool) → (id : ℕ) → (part : Part) → (words : List ℤ) → (u : units.Unit) → has_phase is (parted_unit id part words u) ≡ has_phase is u
-parted-phase is id part words (Host capture phase params piece) = refl
-parted-phase is id part words (Dai capture format piece) = refl
-parted-phase is id part words (Volume gains piece) = refl
-parted-phase is id part words (Mixer piece) = refl
-parted-phase is id part words (Mux choice piece) = refl
-parted-phase is id part words (Eq eq next remaining) = refl
 parted-phase is id part words (Buffer size ring source sink) = refl
-parted-phase is id part words (Pipeline sched period complete piece) = refl
+parted-phase is id part words u = refl
 
 parted-kind : (id : ℕ) → (part : Part) → (words : List ℤ) → (u : units.Unit) → kind_by (parted_unit id part words u) ≡ kind_by u
-parted-kind id part words (Host capture phase params piece) = refl
-parted-kind id part words (Dai capture format piece) = refl
-parted-kind id part words (Volume gains piece) = refl
-parted-kind id part words (Mixer piece) = refl
-parted-kind id part words (Mux choice piece) = refl
-parted-kind id part words (Eq eq next remaining) = refl
 parted-kind id part words (Buffer size ring source sink) = refl
-parted-kind id part words (Pipeline sched period complete piece) = refl
+parted-kind id part words u = refl
 
 run-phase : (is : Phase → Bool) → (words : List ℤ) → (u : units.Unit) → has_phase is (run_unit words u) ≡ has_phase is u
-run-phase is words (Host capture phase params piece) = refl
-run-phase is words (Dai capture format piece) = refl
-run-phase is words (Volume gains piece) = refl
-run-phase is words (Mixer piece) = refl
-run-phase is words (Mux choice piece) = refl
-run-phase is words (Eq eq next remaining) = refl
 run-phase is words (Buffer size ring source sink) = refl
-run-phase is words (Pipeline sched period complete piece) = refl
+run-phase is words u = refl
 
 run-kind : (words : List ℤ) → (u : units.Unit) → kind_by (run_unit words u) ≡ kind_by u
-run-kind words (Host capture phase params piece) = refl
-run-kind words (Dai capture format piece) = refl
-run-kind words (Volume gains piece) = refl
-run-kind words (Mixer piece) = refl
-run-kind words (Mux choice piece) = refl
-run-kind words (Eq eq next remaining) = refl
 run-kind words (Buffer size ring source sink) = refl
-run-kind words (Pipeline sched period complete piece) = refl
+run-kind words u = refl
 
 -- another unit
 abbrev with_unit : (units.Unit → units.Unit) → Component → Component
@@ -132,13 +77,7 @@ is-in is id c = c.id == id && has_phase is c.unit
 
 set-none : (is : Phase → Bool) (phase : Phase) (params : Option Params) → is phase ≡ false → (u : units.Unit) → has_phase is (set_unit phase params u) ≡ false
 set-none is phase params none (Host capture was before piece) = none
-set-none is phase params none (Dai capture format piece) = refl
-set-none is phase params none (Volume gains piece) = refl
-set-none is phase params none (Mixer piece) = refl
-set-none is phase params none (Mux choice piece) = refl
-set-none is phase params none (Eq eq next remaining) = refl
-set-none is phase params none (Buffer size ring source sink) = refl
-set-none is phase params none (Pipeline sched period complete piece) = refl
+set-none is phase params none u = refl
 
 module _ (is : Phase → Bool) (id : ℕ) (phase : Phase) (params : Option Params) (none : is phase ≡ false) (joins : List Join) (x : ℕ) where
   set-passes : (c : Component) → is-in is id c ≡ false → passes is joins x (set_at id phase params c) ≡ passes is joins x c

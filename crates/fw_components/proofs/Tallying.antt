@@ -15,7 +15,7 @@ use Rattle.stream_law.specs.Order.{is_among}
 use Rattle.fw_places.specs.Walks.{place_in, leads_by}
 use Rattle.fw_components.specs.declared.component.Component.{Component}
 use Rattle.fw_components.specs.declared.component.Unit as units
-use Rattle.fw_components.specs.declared.component.Unit.TheVariants.{Host, Dai, Volume, Mixer, Mux, Eq, Buffer, Pipeline}
+use Rattle.fw_components.specs.declared.component.Unit.TheVariants.{Host, Buffer}
 use Rattle.fw_components.specs.Tables.{Tables, ids_of, graph_of, streams_by, streams_of, with_stream_by, kind_by}
 use Rattle.fw_components.specs.Tally.{passing, IsTallied, has_phase, passes, with_one}
 use Rattle.fw_components.proofs.HostWays.{way-is}
@@ -57,13 +57,7 @@ stream-passes p id unit = false
 
 stream-counted : (p : StreamView → Bool) (id : ℕ) (unit : units.Unit) (ss : List StreamView) → length (filter p (with_stream_by id unit ss)) ≡ with_one (stream-passes p id unit) (length (filter p ss))
 stream-counted p id (Host capture phase params piece) ss = counted p (record { host = id; phase = phase; params = params }) ss
-stream-counted p id (Dai capture format piece) ss = refl
-stream-counted p id (Volume gains piece) ss = refl
-stream-counted p id (Mixer piece) ss = refl
-stream-counted p id (Mux choice piece) ss = refl
-stream-counted p id (Eq eq next remaining) ss = refl
-stream-counted p id (Buffer size ring source sink) ss = refl
-stream-counted p id (Pipeline sched period complete piece) ss = refl
+stream-counted p id u ss = refl
 
 streams-counted : (p : StreamView → Bool) (q : Component → Bool) (cs : List Component) → ((c : Component) → IsIn c cs → stream-passes p c.id c.unit ≡ q c) → length (filter p (streams_by cs)) ≡ length (filter q cs)
 streams-counted p q [] same = refl
@@ -73,14 +67,8 @@ streams-counted p q (c ∷ cs) same =
     ∙ sym (counted q c cs)
 
 phase-passes : (is : Phase → Bool) (q : ℕ → Bool) (id : ℕ) (unit : units.Unit) → stream-passes (λ s. is s.phase && q s.host) id unit ≡ (has_phase is unit && q id)
-phase-passes is q id (Host capture phase params piece) = refl
-phase-passes is q id (Dai capture format piece) = refl
-phase-passes is q id (Volume gains piece) = refl
-phase-passes is q id (Mixer piece) = refl
-phase-passes is q id (Mux choice piece) = refl
-phase-passes is q id (Eq eq next remaining) = refl
 phase-passes is q id (Buffer size ring source sink) = refl
-phase-passes is q id (Pipeline sched period complete piece) = refl
+phase-passes is q id u = refl
 
 pub passing-is : (is : Phase → Bool) (t : Tables) → Ascends (λ c. c.id) t.comps → (x : ℕ) → passing is t x ≡ length (filter (passes is t.joins x) t.comps)
 passing-is is t up x = streams-counted (λ s. is s.phase && on_way (graph_of t) s.host x) (passes is t.joins x) t.comps (λ c there.
@@ -102,13 +90,7 @@ phase-live phases.Paused none = refl
 
 pub runs-live : (unit : units.Unit) → has_phase is_live_phase unit ≡ false → has_phase is_running_phase unit ≡ false
 runs-live (Host capture phase params piece) none = phase-live phase none
-runs-live (Dai capture format piece) none = refl
-runs-live (Volume gains piece) none = refl
-runs-live (Mixer piece) none = refl
-runs-live (Mux choice piece) none = refl
-runs-live (Eq eq next remaining) none = refl
-runs-live (Buffer size ring source sink) none = refl
-runs-live (Pipeline sched period complete piece) none = refl
+runs-live u none = refl
 
 -- a mark of what is on the way of a host's stream
 pub marked-passes : (is : Phase → Bool) (joins : List Join) (x : ℕ) (c : Component) (held mark back : Bool) → held ≡ has_phase is c.unit → held ≡ true → back ≡ is_capture (kind_by c.unit) → mark ≡ leads_by back joins c.id x → mark ≡ passes is joins x c

@@ -12,15 +12,8 @@ impl Unit {
     fn complete(&mut self)
         ensures { self.new ≡ completed_unit self.old }
     {
-        match self {
-            Unit::Host { .. } => (),
-            Unit::Dai { .. } => (),
-            Unit::Volume { .. } => (),
-            Unit::Mixer { .. } => (),
-            Unit::Mux { .. } => (),
-            Unit::Eq { .. } => (),
-            Unit::Buffer { .. } => (),
-            Unit::Pipeline { complete, .. } => *complete = true,
+        if let Unit::Pipeline { complete, .. } = self {
+            *complete = true;
         }
     }
 
@@ -28,18 +21,9 @@ impl Unit {
     fn set_stream(&mut self, to: Phase, given: Option<Params>)
         ensures { self.new ≡ set_unit to given self.old }
     {
-        match self {
-            Unit::Host { phase, params, .. } => {
-                *phase = to;
-                *params = given;
-            }
-            Unit::Dai { .. } => (),
-            Unit::Volume { .. } => (),
-            Unit::Mixer { .. } => (),
-            Unit::Mux { .. } => (),
-            Unit::Eq { .. } => (),
-            Unit::Buffer { .. } => (),
-            Unit::Pipeline { .. } => (),
+        if let Unit::Host { phase, params, .. } = self {
+            *phase = to;
+            *params = given;
         }
     }
 
@@ -48,18 +32,13 @@ impl Unit {
         ensures { self.new ≡ valued_unit values.now self.old }
     {
         match self {
-            Unit::Host { .. } => (),
-            Unit::Dai { .. } => (),
             Unit::Volume { gains, .. } => set_gains(gains, values),
-            Unit::Mixer { .. } => (),
             Unit::Mux { choice, .. } => {
                 if let [value, ..] = values {
                     *choice = *value;
                 }
             }
-            Unit::Eq { .. } => (),
-            Unit::Buffer { .. } => (),
-            Unit::Pipeline { .. } => (),
+            _ => (),
         }
     }
 
@@ -67,15 +46,8 @@ impl Unit {
     fn set_source(&mut self, id: u32)
         ensures { self.new ≡ sourced_unit id self.old }
     {
-        match self {
-            Unit::Host { .. } => (),
-            Unit::Dai { .. } => (),
-            Unit::Volume { .. } => (),
-            Unit::Mixer { .. } => (),
-            Unit::Mux { .. } => (),
-            Unit::Eq { .. } => (),
-            Unit::Buffer { source, .. } => *source = Some(id),
-            Unit::Pipeline { .. } => (),
+        if let Unit::Buffer { source, .. } = self {
+            *source = Some(id);
         }
     }
 
@@ -83,15 +55,8 @@ impl Unit {
     fn set_sink(&mut self, id: u32)
         ensures { self.new ≡ sunk_unit id self.old }
     {
-        match self {
-            Unit::Host { .. } => (),
-            Unit::Dai { .. } => (),
-            Unit::Volume { .. } => (),
-            Unit::Mixer { .. } => (),
-            Unit::Mux { .. } => (),
-            Unit::Eq { .. } => (),
-            Unit::Buffer { sink, .. } => *sink = Some(id),
-            Unit::Pipeline { .. } => (),
+        if let Unit::Buffer { sink, .. } = self {
+            *sink = Some(id);
         }
     }
 
@@ -99,15 +64,8 @@ impl Unit {
     fn end(&mut self)
         ensures { self.new ≡ ended_unit self.old }
     {
-        match self {
-            Unit::Host { .. } => (),
-            Unit::Dai { .. } => (),
-            Unit::Volume { .. } => (),
-            Unit::Mixer { .. } => (),
-            Unit::Mux { .. } => (),
-            Unit::Eq { .. } => (),
-            Unit::Buffer { ring, .. } => ring.clear(),
-            Unit::Pipeline { .. } => (),
+        if let Unit::Buffer { ring, .. } = self {
+            ring.clear();
         }
     }
 }

@@ -135,14 +135,8 @@ impl Component {
         ensures { result ≡ length (unit_frames self.now.unit) }
     {
         match &self.unit {
-            Unit::Host { .. } => 0,
-            Unit::Dai { .. } => 0,
-            Unit::Volume { .. } => 0,
-            Unit::Mixer { .. } => 0,
-            Unit::Mux { .. } => 0,
-            Unit::Eq { .. } => 0,
             Unit::Buffer { ring, .. } => ring.len(),
-            Unit::Pipeline { .. } => 0,
+            _ => 0,
         }
     }
 
@@ -151,14 +145,8 @@ impl Component {
         ensures { result + length (unit_frames self.now.unit) ≡ capacity_by self.now.unit }
     {
         match &self.unit {
-            Unit::Host { .. } => 0,
-            Unit::Dai { .. } => 0,
-            Unit::Volume { .. } => 0,
-            Unit::Mixer { .. } => 0,
-            Unit::Mux { .. } => 0,
-            Unit::Eq { .. } => 0,
             Unit::Buffer { ring, .. } => ring.free(),
-            Unit::Pipeline { .. } => 0,
+            _ => 0,
         }
     }
 
@@ -167,8 +155,6 @@ impl Component {
         ensures { result ≡ unit_values self.now.unit command }
     {
         match &self.unit {
-            Unit::Host { .. } => None,
-            Unit::Dai { .. } => None,
             Unit::Volume { gains, .. } => {
                 if command == CTRL_VOLUME {
                     Some(gains.copied())
@@ -176,7 +162,6 @@ impl Component {
                     None
                 }
             }
-            Unit::Mixer { .. } => None,
             Unit::Mux { choice, .. } => {
                 if command == CTRL_ENUM {
                     Bounded::new(&[*choice])
@@ -184,9 +169,7 @@ impl Component {
                     None
                 }
             }
-            Unit::Eq { .. } => None,
-            Unit::Buffer { .. } => None,
-            Unit::Pipeline { .. } => None,
+            _ => None,
         }
     }
 
@@ -195,16 +178,11 @@ impl Component {
         ensures { result ≡ takes_values self.now.unit command values.now }
     {
         match &self.unit {
-            Unit::Host { .. } => false,
-            Unit::Dai { .. } => false,
             Unit::Volume { gains, .. } => {
                 command == CTRL_VOLUME && values.len() == gains.items().len() && are_gains(values)
             }
-            Unit::Mixer { .. } => false,
             Unit::Mux { .. } => command == CTRL_ENUM && values.len() == 1,
-            Unit::Eq { .. } => false,
-            Unit::Buffer { .. } => false,
-            Unit::Pipeline { .. } => false,
+            _ => false,
         }
     }
 }

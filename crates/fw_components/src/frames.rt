@@ -17,17 +17,12 @@ impl Unit {
         ensures staged { staged_by self.new ≡ staged_by self.old }
     {
         match self {
-            Unit::Host { .. } => (),
-            Unit::Dai { .. } => (),
-            Unit::Volume { .. } => (),
-            Unit::Mixer { .. } => (),
-            Unit::Mux { .. } => (),
             Unit::Eq { eq, .. } => eq.clear(),
             Unit::Buffer { ring, .. } => {
                 ring.clear();
                 ring.set_channels(channels);
             }
-            Unit::Pipeline { .. } => (),
+            _ => (),
         }
     }
 
@@ -36,15 +31,8 @@ impl Unit {
         requires { n ≤ length (unit_frames self.old) }
         ensures { self.new ≡ taken_unit n self.old }
     {
-        match self {
-            Unit::Host { .. } => (),
-            Unit::Dai { .. } => (),
-            Unit::Volume { .. } => (),
-            Unit::Mixer { .. } => (),
-            Unit::Mux { .. } => (),
-            Unit::Eq { .. } => (),
-            Unit::Buffer { ring, .. } => ring.take(n),
-            Unit::Pipeline { .. } => (),
+        if let Unit::Buffer { ring, .. } = self {
+            ring.take(n);
         }
     }
 
@@ -54,15 +42,8 @@ impl Unit {
         requires fit { length (unit_frames self.old) + length samples.now / channels_by self.old ≤ capacity_by self.old }
         ensures { self.new ≡ pushed_unit (frames_of (channels_by self.old) (length samples.now / channels_by self.old) samples.now) (piece_of self.new).words self.old }
     {
-        match self {
-            Unit::Host { .. } => (),
-            Unit::Dai { .. } => (),
-            Unit::Volume { .. } => (),
-            Unit::Mixer { .. } => (),
-            Unit::Mux { .. } => (),
-            Unit::Eq { .. } => (),
-            Unit::Buffer { ring, .. } => ring.push_frames(samples),
-            Unit::Pipeline { .. } => (),
+        if let Unit::Buffer { ring, .. } = self {
+            ring.push_frames(samples);
         }
     }
 
@@ -72,15 +53,8 @@ impl Unit {
         requires fit { length (unit_frames self.old) + n ≤ capacity_by self.old }
         ensures { self.new ≡ pushed_unit (frames_in format (channels_by self.old) bytes.now 0 n) (piece_of self.new).words self.old }
     {
-        match self {
-            Unit::Host { .. } => (),
-            Unit::Dai { .. } => (),
-            Unit::Volume { .. } => (),
-            Unit::Mixer { .. } => (),
-            Unit::Mux { .. } => (),
-            Unit::Eq { .. } => (),
-            Unit::Buffer { ring, .. } => ring.push_bytes(format, n, bytes),
-            Unit::Pipeline { .. } => (),
+        if let Unit::Buffer { ring, .. } = self {
+            ring.push_bytes(format, n, bytes);
         }
     }
 }
@@ -144,14 +118,8 @@ impl Component {
         ensures is { result ≡ channels_by self.now.unit }
     {
         match &self.unit {
-            Unit::Host { .. } => 1,
-            Unit::Dai { .. } => 1,
-            Unit::Volume { .. } => 1,
-            Unit::Mixer { .. } => 1,
-            Unit::Mux { .. } => 1,
-            Unit::Eq { .. } => 1,
             Unit::Buffer { ring, .. } => usize::from(ring.channels()),
-            Unit::Pipeline { .. } => 1,
+            _ => 1,
         }
     }
 
@@ -163,17 +131,11 @@ impl Component {
         ensures frames { AreFrames (channels_by self.now.unit) (unit_frames self.now.unit) }
     {
         match &self.unit {
-            Unit::Host { .. } => (&[], &[]),
-            Unit::Dai { .. } => (&[], &[]),
-            Unit::Volume { .. } => (&[], &[]),
-            Unit::Mixer { .. } => (&[], &[]),
-            Unit::Mux { .. } => (&[], &[]),
-            Unit::Eq { .. } => (&[], &[]),
             Unit::Buffer { ring, .. } => {
                 let _held = ring.len();
                 ring.spans(n)
             }
-            Unit::Pipeline { .. } => (&[], &[]),
+            _ => (&[], &[]),
         }
     }
 

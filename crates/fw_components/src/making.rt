@@ -23,14 +23,8 @@ impl Component {
         ensures { result ≡ chosen_by self.now.unit self.now.id joins.now }
     {
         match &self.unit {
-            Unit::Host { .. } => None,
-            Unit::Dai { .. } => None,
-            Unit::Volume { .. } => None,
-            Unit::Mixer { .. } => None,
             Unit::Mux { choice, .. } => input(joins, self.id, *choice),
-            Unit::Eq { .. } => None,
-            Unit::Buffer { .. } => None,
-            Unit::Pipeline { .. } => None,
+            _ => None,
         }
     }
 
@@ -58,8 +52,6 @@ impl Component {
         ensures staged { staged_by self.new.unit ≡ staged_by self.old.unit }
     {
         match &mut self.unit {
-            Unit::Host { .. } => (),
-            Unit::Dai { .. } => (),
             Unit::Volume { gains, .. } => {
                 amplify(
                     looked[0],
@@ -80,8 +72,7 @@ impl Component {
                 copy(looked[0], n, hints, buffers, samples);
                 eq.run(samples, self.channels);
             }
-            Unit::Buffer { .. } => (),
-            Unit::Pipeline { .. } => (),
+            _ => (),
         }
     }
 }

@@ -20,14 +20,8 @@ impl Component {
         ensures { result ≡ part_by (kind_by self.now.unit) (setting_by self.now.unit) index }
     {
         match &self.unit {
-            Unit::Host { .. } => None,
-            Unit::Dai { .. } => None,
-            Unit::Volume { .. } => None,
-            Unit::Mixer { .. } => None,
-            Unit::Mux { .. } => None,
             Unit::Eq { eq, .. } => part_in(eq, index),
-            Unit::Buffer { .. } => None,
-            Unit::Pipeline { .. } => None,
+            _ => None,
         }
     }
 
@@ -38,18 +32,12 @@ impl Component {
         ensures joined { IfSome result (λ bytes. CanBeStaged part.now bytes) }
     {
         match &self.unit {
-            Unit::Host { .. } => None,
-            Unit::Dai { .. } => None,
-            Unit::Volume { .. } => None,
-            Unit::Mixer { .. } => None,
-            Unit::Mux { .. } => None,
             Unit::Eq {
                 eq,
                 next,
                 remaining,
             } => joined(eq, *next, *remaining, part),
-            Unit::Buffer { .. } => None,
-            Unit::Pipeline { .. } => None,
+            _ => None,
         }
     }
 
@@ -61,19 +49,13 @@ impl Component {
         ensures component { self.new ≡ parted_by part.now (words_of self.new) self.old }
         ensures parted { IsParted part.now self.old.id self.old.unit self.new.unit }
     {
-        match &mut self.unit {
-            Unit::Host { .. } => (),
-            Unit::Dai { .. } => (),
-            Unit::Volume { .. } => (),
-            Unit::Mixer { .. } => (),
-            Unit::Mux { .. } => (),
-            Unit::Eq {
-                eq,
-                next,
-                remaining,
-            } => put(eq, next, remaining, part, bytes),
-            Unit::Buffer { .. } => (),
-            Unit::Pipeline { .. } => (),
+        if let Unit::Eq {
+            eq,
+            next,
+            remaining,
+        } = &mut self.unit
+        {
+            put(eq, next, remaining, part, bytes);
         }
     }
 }

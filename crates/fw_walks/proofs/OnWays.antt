@@ -9,7 +9,7 @@ use Rattle.stream_law.proofs.Members.{IsIn, in-any}
 use Rattle.stream_law.specs.Order.{is_among}
 use Rattle.fw_components.specs.declared.component.Component.{Component}
 use Rattle.fw_components.specs.declared.component.Unit as units
-use Rattle.fw_components.specs.declared.component.Unit.TheVariants.{Host, Dai, Volume, Mixer, Mux, Eq, Buffer, Pipeline}
+use Rattle.fw_components.specs.declared.component.Unit.TheVariants.{Host, Buffer}
 use Rattle.fw_components.specs.Tables.{Tables, graph_of, streams_by, streams_of, with_stream_by, kind_by}
 use Rattle.fw_components.specs.Changes.{has_id}
 use Rattle.fw_walks.specs.declared.streams.Sort.{Sort}
@@ -38,14 +38,8 @@ any-next p xs i d low none = ap (list_any p) (drop_more xs i d low) ∙ ap (λ h
 -- ---- streams
 
 stream-more : (p : StreamView → Bool) (id : ℕ) (unit : units.Unit) (ss : List StreamView) → list_any p (with_stream_by id unit ss) ≡ (any_stream p id unit || list_any p ss)
-stream-more p id (Host capture phase params piece) ss = refl
-stream-more p id (Dai capture format piece) ss = refl
-stream-more p id (Volume gains piece) ss = refl
-stream-more p id (Mixer piece) ss = refl
-stream-more p id (Mux choice piece) ss = refl
-stream-more p id (Eq eq next remaining) ss = refl
 stream-more p id (Buffer size ring source sink) ss = refl
-stream-more p id (Pipeline sched period complete piece) ss = refl
+stream-more p id u ss = refl
 
 pub any-streams : (p : StreamView → Bool) (cs : List Component) → list_any p (streams_by cs) ≡ list_any (λ c. any_stream p c.id c.unit) cs
 any-streams p [] = refl
@@ -63,13 +57,7 @@ module _ (sort : Sort) (q : ℕ → Bool) where
       by Live = refl
       by Running = refl
       by Set = refl
-  stream-of id (Dai capture format piece) = refl
-  stream-of id (Volume gains piece) = refl
-  stream-of id (Mixer piece) = refl
-  stream-of id (Mux choice piece) = refl
-  stream-of id (Eq eq next remaining) = refl
-  stream-of id (Buffer size ring source sink) = refl
-  stream-of id (Pipeline sched period complete piece) = refl
+  stream-of id u = refl
 
 -- ---- what is on the ways of streams
 

@@ -58,14 +58,8 @@ pub fn source_in(unit: &Unit) -> Option<u32>
     ensures { result ≡ source_by unit.now }
 {
     match unit {
-        Unit::Host { .. } => None,
-        Unit::Dai { .. } => None,
-        Unit::Volume { .. } => None,
-        Unit::Mixer { .. } => None,
-        Unit::Mux { .. } => None,
-        Unit::Eq { .. } => None,
         Unit::Buffer { source, .. } => *source,
-        Unit::Pipeline { .. } => None,
+        _ => None,
     }
 }
 
@@ -74,14 +68,8 @@ pub fn sink_in(unit: &Unit) -> Option<u32>
     ensures { result ≡ sink_by unit.now }
 {
     match unit {
-        Unit::Host { .. } => None,
-        Unit::Dai { .. } => None,
-        Unit::Volume { .. } => None,
-        Unit::Mixer { .. } => None,
-        Unit::Mux { .. } => None,
-        Unit::Eq { .. } => None,
         Unit::Buffer { sink, .. } => *sink,
-        Unit::Pipeline { .. } => None,
+        _ => None,
     }
 }
 

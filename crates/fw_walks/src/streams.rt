@@ -92,12 +92,6 @@ pub fn has_stream(unit: &Unit, sort: Sort) -> bool
             Sort::Running => matches!(phase, Phase::Running),
             Sort::Set => params.is_some(),
         },
-        Unit::Dai { .. } => false,
-        Unit::Volume { .. } => false,
-        Unit::Mixer { .. } => false,
-        Unit::Mux { .. } => false,
-        Unit::Eq { .. } => false,
-        Unit::Buffer { .. } => false,
-        Unit::Pipeline { .. } => false,
+        _ => false,
     }
 }

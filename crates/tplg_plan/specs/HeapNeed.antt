@@ -9,14 +9,10 @@ use Rattle.stream_law.specs.declared.graph.Graph.{Graph}
 
 -- the stated size of a component in bytes
 abbrev pub component_size : Kind → ℕ
-component_size kind.HostPlay = 64
-component_size kind.HostCapture = 64
-component_size (kind.DaiPlay format) = 64
-component_size (kind.DaiCapture format) = 64
-component_size kind.Volume = 64
 component_size kind.Mixer = 32
 component_size kind.Mux = 32
 component_size kind.Eq = 4160
+component_size _ = 64
 
 abbrev pub components_need : List Comp → ℕ
 components_need comps = sum (map (λ c. component_size c.kind) comps)

@@ -7,7 +7,7 @@ use Rattle.std.specs.Option.{option_map_or}
 use Rattle.std.specs.List.{list_any, list_all, AllByRecursion}
 use Rattle.sof_base.specs.declared.format.Params.{Params}
 use Rattle.stream_law.specs.declared.graph.Kind.{Kind}
-use Rattle.stream_law.specs.declared.graph.Kind.TheVariants.{HostPlay, HostCapture, DaiPlay, DaiCapture, Volume, Mixer, Mux, Eq}
+use Rattle.stream_law.specs.declared.graph.Kind.TheVariants.{HostPlay}
 use Rattle.stream_law.specs.declared.graph.Comp.{Comp}
 use Rattle.stream_law.specs.declared.graph.Edge.{Edge}
 use Rattle.stream_law.specs.declared.graph.Join.{Join}
@@ -36,13 +36,7 @@ streams-few g ss distinct owned = omega (arith, distinct-most (map (λ (s : Stre
 -- no kind plays with no buffer
 never-fits : (k : Kind) → fits_kind k 0 0 ≡ false
 never-fits HostPlay = refl
-never-fits HostCapture = refl
-never-fits (DaiPlay format) = refl
-never-fits (DaiCapture format) = refl
-never-fits Volume = refl
-never-fits Mixer = refl
-never-fits Mux = refl
-never-fits Eq = refl
+never-fits kind = refl
 
 pub reach-here : (g : Graph) (a : ℕ) → reaches g a a ≡ true
 unfolding reaches

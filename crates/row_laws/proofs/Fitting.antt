@@ -5,7 +5,7 @@ use Rattle.std.proofs.lemmas.List.{length-replicate}
 use Rattle.std.specs.Prelude.{find, nat_le, option_and_then}
 use Rattle.std.specs.List.{list_all, AllByRecursion}
 use Rattle.stream_law.specs.declared.graph.Kind.{Kind}
-use Rattle.stream_law.specs.declared.graph.Kind.TheVariants.{HostPlay, HostCapture, DaiPlay, DaiCapture, Volume, Mixer, Mux, Eq}
+use Rattle.stream_law.specs.declared.graph.Kind.TheVariants.{HostPlay, HostCapture, DaiPlay, DaiCapture, Volume, Mux}
 use Rattle.stream_law.specs.declared.graph.Setting.{Setting}
 use Rattle.stream_law.specs.declared.graph.Setting.TheVariants.{Nothing, Gains, Choice, Blob}
 use Rattle.stream_law.specs.declared.graph.Comp.{Comp}
@@ -75,11 +75,7 @@ new-fits Mux old command [] setting fits is = absurd (cc is)
 new-fits Mux old command (v ∷ []) setting fits is = new-choice (command == 1) v setting is
 new-fits Mux old command (v ∷ w ∷ values) setting fits is = absurd (cc is)
 new-fits HostPlay old command values setting fits is = absurd (cc is)
-new-fits HostCapture old command values setting fits is = absurd (cc is)
-new-fits (DaiPlay format) old command values setting fits is = absurd (cc is)
-new-fits (DaiCapture format) old command values setting fits is = absurd (cc is)
-new-fits Mixer old command values setting fits is = absurd (cc is)
-new-fits Eq old command values setting fits is = absurd (cc is)
+new-fits kind old command values setting fits is = absurd (cc is)
 
 -- values fit what is found
 pub values-fit : (g : Graph) (id command : ℕ) (values : List ℕ) (setting : Setting) → AllByRecursion (λ c. IsSettingOf c.kind c.setting) g.comps → option_and_then (λ (c : Comp). new_setting c.kind c.setting command values) (comp_of g id) ≡ Some setting → (c : Comp) → comp_of g id ≡ Some c → IsSettingOf c.kind setting

@@ -6,7 +6,7 @@ use Rattle.std.specs.Option.{option_map_or, option_and_then}
 use Rattle.std.specs.List.{list_any, list_all, AllByRecursion}
 use Rattle.sof_base.specs.declared.format.Params.{Params}
 use Rattle.stream_law.specs.declared.graph.Kind.{Kind}
-use Rattle.stream_law.specs.declared.graph.Kind.TheVariants.{HostPlay, HostCapture, DaiPlay, DaiCapture, Volume, Mixer, Mux, Eq}
+use Rattle.stream_law.specs.declared.graph.Kind.TheVariants.{HostPlay, HostCapture}
 use Rattle.stream_law.specs.declared.graph.Comp.{Comp}
 use Rattle.stream_law.specs.declared.graph.Edge.{Edge}
 use Rattle.stream_law.specs.declared.graph.Pipe.{Pipe}
@@ -91,12 +91,7 @@ fresh_stream id = record { host = id; phase = Idle; params = None }
 pub brought : (P : List StreamView → Type 0) (id : ℕ) (kind : Kind) (ss : List StreamView) → P ss → (is_host kind ≡ true → P (placed (λ s. s.host) (fresh_stream id) ss)) → P (with_host_stream id kind ss)
 brought P id HostPlay ss old new = new refl
 brought P id HostCapture ss old new = new refl
-brought P id (DaiPlay format) ss old new = old
-brought P id (DaiCapture format) ss old new = old
-brought P id Volume ss old new = old
-brought P id Mixer ss old new = old
-brought P id Mux ss old new = old
-brought P id Eq ss old new = old
+brought P id kind ss old new = old
 
 module _ (g : Graph) (c : Comp) (gone : is_node g c.id ≡ false) (wired : IsWired g) (ss : List StreamView) (played : AreStreamsPlayable (record { graph = g; streams = ss })) where
   abbrev wider : Graph

@@ -98,22 +98,11 @@ fits-in Eq m n plain fits = let one = eqb-true m 1 (and_parts (m == 1) (n == 1) 
 pub play-in : (k : Kind) (m n : ℕ) → is_host k ≡ true → is_capture k ≡ false → fits_kind k m n ≡ true → m ≡ 0
 play-in HostPlay m n host play fits = eqb-true m 0 (and_parts (m == 0) (n == 1) fits).0
 play-in HostCapture m n host play fits = absurd (true≢false play)
-play-in (DaiPlay format) m n host play fits = absurd (false≢true host)
-play-in (DaiCapture format) m n host play fits = absurd (false≢true host)
-play-in Volume m n host play fits = absurd (false≢true host)
-play-in Mixer m n host play fits = absurd (false≢true host)
-play-in Mux m n host play fits = absurd (false≢true host)
-play-in Eq m n host play fits = absurd (false≢true host)
+play-in kind m n host play fits = absurd (false≢true host)
 
 pub capture-out : (k : Kind) (m n : ℕ) → is_capture k ≡ true → fits_kind k m n ≡ true → n ≡ 0
 capture-out HostCapture m n capture fits = eqb-true n 0 (and_parts (m == 1) (n == 0) fits).1
-capture-out HostPlay m n capture fits = absurd (false≢true capture)
-capture-out (DaiPlay format) m n capture fits = absurd (false≢true capture)
-capture-out (DaiCapture format) m n capture fits = absurd (false≢true capture)
-capture-out Volume m n capture fits = absurd (false≢true capture)
-capture-out Mixer m n capture fits = absurd (false≢true capture)
-capture-out Mux m n capture fits = absurd (false≢true capture)
-capture-out Eq m n capture fits = absurd (false≢true capture)
+capture-out kind m n capture fits = absurd (false≢true capture)
 
 among-filter : (test : ℕ → Bool) (ids : List ℕ) (b : ℕ) → is_among ids b ≡ true → test b ≡ true → is_among (filter test ids) b ≡ true
 among-filter test [] b here is = here

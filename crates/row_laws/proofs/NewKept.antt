@@ -6,7 +6,7 @@ use Rattle.std.specs.Prelude.{option_map}
 use Rattle.std.specs.Option.{option_map_or}
 use Rattle.std.specs.List.{IsDistinct, list_any, AllByRecursion}
 use Rattle.stream_law.specs.declared.graph.Kind.{Kind}
-use Rattle.stream_law.specs.declared.graph.Kind.TheVariants.{HostPlay, HostCapture, DaiPlay, DaiCapture, Volume, Mixer, Mux, Eq}
+use Rattle.stream_law.specs.declared.graph.Kind.TheVariants.{HostPlay, HostCapture}
 use Rattle.stream_law.specs.declared.graph.Setting.{Setting}
 use Rattle.stream_law.specs.declared.graph.Comp.{Comp}
 use Rattle.stream_law.specs.declared.graph.Edge.{Edge}
@@ -41,23 +41,12 @@ use Rattle.row_laws.proofs.Unreached.{eqb-turned}
 stream-length : (id : ℕ) (kind : Kind) (streams : List StreamView) → length (with_host_stream id kind streams) ≤ length streams + 1
 stream-length id HostPlay streams = omega (arith, length-placed (λ (s : StreamView). s.host) (record { host = id; phase = Idle; params = None }) streams)
 stream-length id HostCapture streams = omega (arith, length-placed (λ (s : StreamView). s.host) (record { host = id; phase = Idle; params = None }) streams)
-stream-length id (DaiPlay format) streams = omega arith
-stream-length id (DaiCapture format) streams = omega arith
-stream-length id Volume streams = omega arith
-stream-length id Mixer streams = omega arith
-stream-length id Mux streams = omega arith
-stream-length id Eq streams = omega arith
+stream-length id kind streams = omega arith
 
 -- a component takes some bytes
 comp-some : (kind : Kind) → 0 < comp_bytes kind
 comp-some HostPlay = omega arith
-comp-some HostCapture = omega arith
-comp-some (DaiPlay format) = omega arith
-comp-some (DaiCapture format) = omega arith
-comp-some Volume = omega arith
-comp-some Mixer = omega arith
-comp-some Mux = omega arith
-comp-some Eq = omega arith
+comp-some kind = omega arith
 
 -- an id that names nothing
 pub no-pipe : (g : Graph) (id : ℕ) → is_used g id ≡ false → has_pipe g id ≡ false

@@ -6,7 +6,7 @@ use Rattle.std.specs.Prelude.{option_map}
 use Rattle.std.specs.Option.{option_map_or}
 use Rattle.sof_base.specs.Blob.{IsBlob}
 use Rattle.stream_law.specs.declared.graph.Kind.{Kind}
-use Rattle.stream_law.specs.declared.graph.Kind.TheVariants.{HostPlay, HostCapture, DaiPlay, DaiCapture, Volume, Mixer, Mux, Eq}
+use Rattle.stream_law.specs.declared.graph.Kind.TheVariants.{Eq}
 use Rattle.stream_law.specs.declared.graph.Setting.TheVariants.{Blob}
 use Rattle.stream_law.specs.declared.graph.Comp.{Comp}
 use Rattle.stream_law.specs.declared.graph.Graph.{Graph}
@@ -64,13 +64,7 @@ blob-fits g id bytes equaliser is c found = by c.kind (sym (ap (λ (o : Option C
   where
     by : (kind : Kind) → is_equaliser kind ≡ true → IsSettingOf kind (Blob bytes)
     by Eq e = inr is
-    by HostPlay e = absurd (false≢true e)
-    by HostCapture e = absurd (false≢true e)
-    by (DaiPlay format) e = absurd (false≢true e)
-    by (DaiCapture format) e = absurd (false≢true e)
-    by Volume e = absurd (false≢true e)
-    by Mixer e = absurd (false≢true e)
-    by Mux e = absurd (false≢true e)
+    by kind e = absurd (false≢true e)
 
 module _ (f : FwState) (kept : IsKeptState f) (id : ℕ) (bytes : List ℕ) (equaliser : has_kind is_equaliser (kind_at f.graph id) ≡ true) (is : IsBlob bytes) where
   abbrev old : View

@@ -10,7 +10,7 @@ use Rattle.sof_base.specs.BlobFaults.{blob_fault, is_blob}
 use Rattle.sof_base.proofs.BlobLaws.{blob-from_no_fault}
 use Rattle.sof_base.proofs.FieldLaws.{IsBytes}
 use Rattle.stream_law.specs.declared.graph.Kind.{Kind}
-use Rattle.stream_law.specs.declared.graph.Kind.TheVariants.{HostPlay, HostCapture, DaiPlay, DaiCapture, Volume, Mixer, Mux, Eq}
+use Rattle.stream_law.specs.declared.graph.Kind.TheVariants.{Eq}
 use Rattle.stream_law.specs.declared.graph.Setting.{Setting}
 use Rattle.stream_law.specs.declared.graph.Comp.{Comp}
 use Rattle.stream_law.specs.declared.graph.Pipe.{Pipe}
@@ -148,14 +148,8 @@ pipe_free-kept id f g kept is =
 
 -- values set nothing at an equaliser
 new-other : (kind : Kind) (old : Setting) (command : ℕ) (values : List ℕ) (setting : Setting) → new_setting kind old command values ≡ Some setting → is_equaliser kind ≡ false
-new-other HostPlay old command values setting is = refl
-new-other HostCapture old command values setting is = refl
-new-other (DaiPlay format) old command values setting is = refl
-new-other (DaiCapture format) old command values setting is = refl
-new-other Volume old command values setting is = refl
-new-other Mixer old command values setting is = refl
-new-other Mux old command values setting is = refl
 new-other Eq old command values setting is = absurd (cc is)
+new-other kind old command values setting is = refl
 
 pub values-other : (found : Option Comp) (command : ℕ) (values : List ℕ) (setting : Setting) → option_and_then (λ (c : Comp). new_setting c.kind c.setting command values) found ≡ Some setting → option_map_or (λ (x : Comp). is_equaliser x.kind) found false ≡ false
 values-other None command values setting is = absurd (cc is)

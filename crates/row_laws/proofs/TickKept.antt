@@ -10,7 +10,7 @@ use Rattle.sof_base.specs.Equations.{Section, section_output}
 use Rattle.sof_base.specs.Samples.{Frame, frames_in, sample_of}
 use Rattle.sof_base.specs.Ports.{Io}
 use Rattle.stream_law.specs.declared.graph.Kind.{Kind}
-use Rattle.stream_law.specs.declared.graph.Kind.TheVariants.{HostPlay, HostCapture, DaiPlay, DaiCapture, Volume, Mixer, Mux, Eq}
+use Rattle.stream_law.specs.declared.graph.Kind.TheVariants.{Volume, Mux, Eq}
 use Rattle.stream_law.specs.declared.graph.Setting.{Setting}
 use Rattle.stream_law.specs.declared.graph.Comp.{Comp}
 use Rattle.stream_law.specs.State.{FwState, View, RingView, History, view_of}
@@ -76,18 +76,14 @@ module _ (v : View) (t c : ℕ) (a : Audio) where
   slices n = table (looked_now v (blob_in v) t c a) (λ b. take n (list_of a.rings b))
 
   none-by : (kind : Kind) (setting : Setting) → frames_by kind setting v c 0 [] (slices 0) equalise ≡ []
-  none-by HostPlay setting = refl
-  none-by HostCapture setting = refl
-  none-by (DaiPlay format) setting = refl
-  none-by (DaiCapture format) setting = refl
   none-by Volume setting = ap (map _) (none-taken (looked_now v (blob_in v) t c a) a.rings)
-  none-by Mixer setting = refl
   none-by Mux setting = by (slice_get (inputs v.graph c) _)
     where
       by : (o : Option ℕ) → chosen_slice (slices 0) (channels_of v c) 0 o ≡ []
       by None = refl
       by (Some b) = none-chosen (looked_now v (blob_in v) t c a) a.rings b
   none-by Eq setting = ap (passed_frames _ _ (list_of a.numbers c)) (none-taken (looked_now v (blob_in v) t c a) a.rings)
+  none-by kind setting = refl
 
   made-none : frames_moved v (blob_in v) t c a ≡ 0 → made_now v (blob_in v) t c a ≡ []
   unfolding frames_made

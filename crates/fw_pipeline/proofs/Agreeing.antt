@@ -8,7 +8,7 @@ use Rattle.stream_law.specs.Ways.{on_way, touch, same_shape, agree}
 use Rattle.mbox_link.specs.Step.{set_stream}
 use Rattle.fw_components.specs.declared.component.Component.{Component}
 use Rattle.fw_components.specs.declared.component.Unit as units
-use Rattle.fw_components.specs.declared.component.Unit.TheVariants.{Host, Dai, Volume, Mixer, Mux, Eq, Buffer, Pipeline}
+use Rattle.fw_components.specs.declared.component.Unit.TheVariants.{Host, Buffer}
 use Rattle.fw_components.specs.Tables.{Tables, graph_of, streams_of, streams_by, with_stream_by}
 use Rattle.fw_components.specs.Changes.{set_at, set_unit}
 use Rattle.fw_components.specs.Tables.{ids_of}
@@ -18,23 +18,11 @@ use Rattle.fw_pipeline.proofs.ReadyWays.{all-map, all-each}
 -- the stream of a host passes; any other unit does
 abbrev every : (StreamView → Bool) → ℕ → units.Unit → Bool
 every q id (Host capture phase params piece) = q (record { host = id; phase = phase; params = params })
-every q id (Dai capture format piece) = true
-every q id (Volume gains piece) = true
-every q id (Mixer piece) = true
-every q id (Mux choice piece) = true
-every q id (Eq eq next remaining) = true
-every q id (Buffer size ring source sink) = true
-every q id (Pipeline sched period complete piece) = true
+every q id u = true
 
 stream-more : (q : StreamView → Bool) (id : ℕ) (unit : units.Unit) (ss : List StreamView) → list_all q (with_stream_by id unit ss) ≡ (every q id unit && list_all q ss)
-stream-more q id (Host capture phase params piece) ss = refl
-stream-more q id (Dai capture format piece) ss = refl
-stream-more q id (Volume gains piece) ss = refl
-stream-more q id (Mixer piece) ss = refl
-stream-more q id (Mux choice piece) ss = refl
-stream-more q id (Eq eq next remaining) ss = refl
 stream-more q id (Buffer size ring source sink) ss = refl
-stream-more q id (Pipeline sched period complete piece) ss = refl
+stream-more q id u ss = refl
 
 all-streams : (q : StreamView → Bool) (cs : List Component) → list_all q (streams_by cs) ≡ list_all (λ c. every q c.id c.unit) cs
 all-streams q [] = refl
@@ -69,20 +57,8 @@ module _ (t : Tables) (host : ℕ) (p : Params) where
   other : (s : StreamView) (id : ℕ) (h : Bool) (unit : units.Unit) → every (λ r. not (touch (graph_of t) s r) || same_shape s.params r.params) id (cond h (set_unit Prepared (Some p) unit) unit) ≡ (same_shape s.params (shape_in h p unit) || not (pair s.host id))
   other s id true (Host capture phase params piece) = turned (pair s.host id) (same_shape s.params (Some p))
   other s id false (Host capture phase params piece) = turned (pair s.host id) (same_shape s.params params)
-  other s id true (Dai capture format piece) = sym (ap (λ h. h || not (pair s.host id)) (one-way s.params))
-  other s id false (Dai capture format piece) = sym (ap (λ h. h || not (pair s.host id)) (one-way s.params))
-  other s id true (Volume gains piece) = sym (ap (λ h. h || not (pair s.host id)) (one-way s.params))
-  other s id false (Volume gains piece) = sym (ap (λ h. h || not (pair s.host id)) (one-way s.params))
-  other s id true (Mixer piece) = sym (ap (λ h. h || not (pair s.host id)) (one-way s.params))
-  other s id false (Mixer piece) = sym (ap (λ h. h || not (pair s.host id)) (one-way s.params))
-  other s id true (Mux choice piece) = sym (ap (λ h. h || not (pair s.host id)) (one-way s.params))
-  other s id false (Mux choice piece) = sym (ap (λ h. h || not (pair s.host id)) (one-way s.params))
-  other s id true (Eq eq next remaining) = sym (ap (λ h. h || not (pair s.host id)) (one-way s.params))
-  other s id false (Eq eq next remaining) = sym (ap (λ h. h || not (pair s.host id)) (one-way s.params))
-  other s id true (Buffer size ring source sink) = sym (ap (λ h. h || not (pair s.host id)) (one-way s.params))
-  other s id false (Buffer size ring source sink) = sym (ap (λ h. h || not (pair s.host id)) (one-way s.params))
-  other s id true (Pipeline sched period complete piece) = sym (ap (λ h. h || not (pair s.host id)) (one-way s.params))
-  other s id false (Pipeline sched period complete piece) = sym (ap (λ h. h || not (pair s.host id)) (one-way s.params))
+  other s id true u = sym (ap (λ h. h || not (pair s.host id)) (one-way s.params))
+  other s id false u = sym (ap (λ h. h || not (pair s.host id)) (one-way s.params))
 
   set-of : (q : StreamView → Bool) (c : Component) → every q (to c).id (to c).unit ≡ every q c.id (cond (c.id == host) (set_unit Prepared (Some p) c.unit) c.unit)
   set-of q c = set-one q c.id c.pipe c.channels (c.id == host) c.unit
@@ -100,20 +76,8 @@ module _ (t : Tables) (host : ℕ) (p : Params) where
   one : (id : ℕ) (h : Bool) (unit : units.Unit) → every body id (cond h (set_unit Prepared (Some p) unit) unit) ≡ list_all (λ d. same_shape (shape_in h p unit) (shape_by host p d) || not (pair id d.id)) t.comps
   one id true (Host capture phase params piece) = others (record { host = id; phase = Prepared; params = Some p })
   one id false (Host capture phase params piece) = others (record { host = id; phase = phase; params = params })
-  one id true (Dai capture format piece) = sym (all-true t.comps)
-  one id false (Dai capture format piece) = sym (all-true t.comps)
-  one id true (Volume gains piece) = sym (all-true t.comps)
-  one id false (Volume gains piece) = sym (all-true t.comps)
-  one id true (Mixer piece) = sym (all-true t.comps)
-  one id false (Mixer piece) = sym (all-true t.comps)
-  one id true (Mux choice piece) = sym (all-true t.comps)
-  one id false (Mux choice piece) = sym (all-true t.comps)
-  one id true (Eq eq next remaining) = sym (all-true t.comps)
-  one id false (Eq eq next remaining) = sym (all-true t.comps)
-  one id true (Buffer size ring source sink) = sym (all-true t.comps)
-  one id false (Buffer size ring source sink) = sym (all-true t.comps)
-  one id true (Pipeline sched period complete piece) = sym (all-true t.comps)
-  one id false (Pipeline sched period complete piece) = sym (all-true t.comps)
+  one id true u = sym (all-true t.comps)
+  one id false u = sym (all-true t.comps)
 
   pub suits-agree : streams_by (map to t.comps) ≡ map (set_stream host Prepared (Some p)) (streams_by t.comps) → list_all (λ c. list_all (λ d. suits t host p c d) t.comps) t.comps ≡ agree (record { graph = graph_of t; streams = map (set_stream host Prepared (Some p)) (streams_of t) })
   unfolding agree

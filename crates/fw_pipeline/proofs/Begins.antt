@@ -12,7 +12,7 @@ use Rattle.stream_law.specs.Order.{is_among}
 use Rattle.row_laws.proofs.Found.{found-each}
 use Rattle.fw_components.specs.declared.component.Component.{Component}
 use Rattle.fw_components.specs.declared.component.Unit as units
-use Rattle.fw_components.specs.declared.component.Unit.TheVariants.{Host, Dai, Volume, Mixer, Mux, Eq, Buffer, Pipeline}
+use Rattle.fw_components.specs.declared.component.Unit.TheVariants.{Buffer}
 use Rattle.fw_components.specs.Tables.{Tables, all_of}
 use Rattle.fw_components.specs.Changes.{has_id, is_there, found}
 use Rattle.fw_components.specs.Kept.{IsKept, AreIdsApart}
@@ -72,28 +72,16 @@ own-words : (channels : ℕ) (words : List ℤ) (c : Component) → begun_by cha
 own-words channels words c = by c.unit
   where
     by : (u : units.Unit) → begun_by channels words (record { id = c.id; pipe = c.pipe; channels = c.channels; unit = u }) ≡ begun_by channels (words_of (begun_by channels words (record { id = c.id; pipe = c.pipe; channels = c.channels; unit = u }))) (record { id = c.id; pipe = c.pipe; channels = c.channels; unit = u })
-    by (Host capture phase params piece) = refl
-    by (Dai capture format piece) = refl
-    by (Volume gains piece) = refl
-    by (Mixer piece) = refl
-    by (Mux choice piece) = refl
-    by (Eq eq next remaining) = refl
     by (Buffer size ring source sink) = refl
-    by (Pipeline sched period complete piece) = refl
+    by u = refl
 
 -- one that begins again
 begun-again : (channels : ℕ) (words before : List ℤ) (c : Component) → begun_by channels words (begun_by channels before c) ≡ begun_by channels words c
 begun-again channels words before c = by c.unit
   where
     by : (u : units.Unit) → begun_by channels words (begun_by channels before (record { id = c.id; pipe = c.pipe; channels = c.channels; unit = u })) ≡ begun_by channels words (record { id = c.id; pipe = c.pipe; channels = c.channels; unit = u })
-    by (Host capture phase params piece) = refl
-    by (Dai capture format piece) = refl
-    by (Volume gains piece) = refl
-    by (Mixer piece) = refl
-    by (Mux choice piece) = refl
-    by (Eq eq next remaining) = refl
     by (Buffer size ring source sink) = refl
-    by (Pipeline sched period complete piece) = refl
+    by u = refl
 
 pub begun-next : (channels : ℕ) (h k : Bool) (c d e : Component) → IsBegun channels h c d → IsBegun channels k d e → IsBegun channels (h || k) c e
 begun-next channels false false c d e first second = second ∙ first

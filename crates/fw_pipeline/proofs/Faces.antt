@@ -9,7 +9,7 @@ use Rattle.stream_law.specs.State.{PieceView, Staging}
 use Rattle.stream_law.specs.Placed.{placed}
 use Rattle.fw_components.specs.declared.component.Component.{Component}
 use Rattle.fw_components.specs.declared.component.Unit as units
-use Rattle.fw_components.specs.declared.component.Unit.TheVariants.{Host, Dai, Volume, Mixer, Mux, Eq, Buffer, Pipeline}
+use Rattle.fw_components.specs.declared.component.Unit.TheVariants.{Eq, Buffer}
 use Rattle.fw_components.specs.Tables.{Tables, all_of, piece_of, comp_by, edge_by, piece_by, pieces_by, staging_by, with_staging_by, streams_by, with_stream_by}
 use Rattle.fw_components.specs.Changes.{IsOfHome, set_at, set_unit, ended_unit}
 use Rattle.fw_heap.specs.declared.run.Home.{Home}
@@ -52,14 +52,8 @@ staging-read [] = refl
 staging-read (c ∷ cs) = by c.unit (staging_by cs) ∙ ap (with_staged c.id (staged_in c.unit)) (staging-read cs)
   where
     by : (u : units.Unit) (ss : List Staging) → with_staging_by c.id u ss ≡ with_staged c.id (staged_in u) ss
-    by (Host capture phase params piece) ss = refl
-    by (Dai capture format piece) ss = refl
-    by (Volume gains piece) ss = refl
-    by (Mixer piece) ss = refl
-    by (Mux choice piece) ss = refl
-    by (Eq eq next remaining) ss = refl
     by (Buffer size ring source sink) ss = refl
-    by (Pipeline sched period complete piece) ss = refl
+    by u ss = refl
 
 pieces-read : (cs : List Component) → pieces_by cs ≡ pieces_from (map face cs)
 unfolding pieces_from
@@ -119,27 +113,15 @@ face-begun channels true c d is = ap face is.0 ∙ by c.unit (sym (ap (λ (x : C
     at n u = record { id = c.id; pipe = c.pipe; channels = n; unit = u }
 
     by : (u : units.Unit) → staged_by (begun_unit channels words u) ≡ staged_by u → face (at channels (begun_unit channels words u)) ≡ face (at c.channels u)
-    by (Host capture phase params piece) same = refl
-    by (Dai capture format piece) same = refl
-    by (Volume gains piece) same = refl
-    by (Mixer piece) same = refl
-    by (Mux choice piece) same = refl
     by (Eq eq next remaining) same = ap (λ (bytes : List ℕ). let f : Face = record { comp = comp_by (at c.channels (Eq eq next remaining)); edge = edge_by (at c.channels (Eq eq next remaining)); piece = piece_by (at c.channels (Eq eq next remaining)); home = eq.piece.home; staged = Some (bytes, (next, remaining)) } in f) same
-    by (Buffer size ring source sink) same = refl
-    by (Pipeline sched period complete piece) same = refl
+    by u same = refl
 
 pub face-ended : (c : Component) → face (record { id = c.id; pipe = c.pipe; channels = c.channels; unit = ended_unit c.unit }) ≡ face c
 face-ended c = by c.unit
   where
     by : (u : units.Unit) → face (record { id = c.id; pipe = c.pipe; channels = c.channels; unit = ended_unit u }) ≡ face (record { id = c.id; pipe = c.pipe; channels = c.channels; unit = u })
-    by (Host capture phase params piece) = refl
-    by (Dai capture format piece) = refl
-    by (Volume gains piece) = refl
-    by (Mixer piece) = refl
-    by (Mux choice piece) = refl
-    by (Eq eq next remaining) = refl
     by (Buffer size ring source sink) = refl
-    by (Pipeline sched period complete piece) = refl
+    by u = refl
 
 module _ (host : ℕ) (phase : Phase) (params : Option Params) where
   pub face-set : (c : Component) → face (set_at host phase params c) ≡ face c
@@ -147,14 +129,8 @@ module _ (host : ℕ) (phase : Phase) (params : Option Params) where
     where
       by : (h : Bool) (u : units.Unit) → face (cond h (record { id = c.id; pipe = c.pipe; channels = c.channels; unit = set_unit phase params u }) (record { id = c.id; pipe = c.pipe; channels = c.channels; unit = u })) ≡ face (record { id = c.id; pipe = c.pipe; channels = c.channels; unit = u })
       by false u = refl
-      by true (Host capture was before piece) = refl
-      by true (Dai capture format piece) = refl
-      by true (Volume gains piece) = refl
-      by true (Mixer piece) = refl
-      by true (Mux choice piece) = refl
-      by true (Eq eq next remaining) = refl
       by true (Buffer size ring source sink) = refl
-      by true (Pipeline sched period complete piece) = refl
+      by true u = refl
 
   pub faces-set : (cs : List Component) → map face (map (set_at host phase params) cs) ≡ map face cs
   faces-set [] = refl
@@ -167,14 +143,8 @@ stream-begun channels false c d is ss = ap (λ (x : Component). with_stream_by x
 stream-begun channels true c d is ss = ap (λ (x : Component). with_stream_by x.id x.unit ss) is.0 ∙ by c.unit
   where
     by : (u : units.Unit) → with_stream_by c.id (begun_unit channels (words_of d) u) ss ≡ with_stream_by c.id u ss
-    by (Host capture phase params piece) = refl
-    by (Dai capture format piece) = refl
-    by (Volume gains piece) = refl
-    by (Mixer piece) = refl
-    by (Mux choice piece) = refl
-    by (Eq eq next remaining) = refl
     by (Buffer size ring source sink) = refl
-    by (Pipeline sched period complete piece) = refl
+    by u = refl
 
 pub streams-begun : (channels : ℕ) (test : ℕ → Bool) (cs ds : List Component) → BecomeEach (λ c d. IsBegun channels (test c.id) c d) cs ds → streams_by ds ≡ streams_by cs
 streams-begun channels test [] [] each = refl

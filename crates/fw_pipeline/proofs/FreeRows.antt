@@ -15,7 +15,7 @@ use Rattle.mbox_link.specs.Step.{no_device, busy, invalid, is_used, has_comp, ha
 use Rattle.fw_heap.specs.declared.run.Home.{Home}
 use Rattle.fw_components.specs.declared.component.Component.{Component}
 use Rattle.fw_components.specs.declared.component.Unit as units
-use Rattle.fw_components.specs.declared.component.Unit.TheVariants.{Host, Dai, Volume, Mixer, Mux, Eq, Buffer, Pipeline}
+use Rattle.fw_components.specs.declared.component.Unit.TheVariants.{Host, Buffer}
 use Rattle.fw_components.specs.Tables.{Tables, all_of, graph_of, streams_by, with_stream_by, comp_by, edge_by, pipe_by}
 use Rattle.fw_components.specs.Changes.{has_id, is_there, found, IsOfHome, IsFoundOf, tables_without, without_by}
 use Rattle.fw_components.specs.Kept.{IsKept, AreIdsApart}
@@ -93,20 +93,10 @@ stream-gone id host (Host capture phase params piece) h is ss = by h is
   where
     by : (h : Bool) → (host == id) ≡ h → cond (not (host == id)) (record { host = host; phase = phase; params = params } ∷ filter (λ s. not (s.host == id)) ss) (filter (λ s. not (s.host == id)) ss) ≡ cond (not h) (record { host = host; phase = phase; params = params } ∷ filter (λ s. not (s.host == id)) ss) (filter (λ s. not (s.host == id)) ss)
     by h is = ap (λ h. cond (not h) (record { host = host; phase = phase; params = params } ∷ filter (λ s. not (s.host == id)) ss) (filter (λ s. not (s.host == id)) ss)) is
-stream-gone id host (Dai capture format piece) true is ss = refl
-stream-gone id host (Dai capture format piece) false is ss = refl
-stream-gone id host (Volume gains piece) true is ss = refl
-stream-gone id host (Volume gains piece) false is ss = refl
-stream-gone id host (Mixer piece) true is ss = refl
-stream-gone id host (Mixer piece) false is ss = refl
-stream-gone id host (Mux choice piece) true is ss = refl
-stream-gone id host (Mux choice piece) false is ss = refl
-stream-gone id host (Eq eq next remaining) true is ss = refl
-stream-gone id host (Eq eq next remaining) false is ss = refl
 stream-gone id host (Buffer size ring source sink) true is ss = refl
 stream-gone id host (Buffer size ring source sink) false is ss = refl
-stream-gone id host (Pipeline sched period complete piece) true is ss = refl
-stream-gone id host (Pipeline sched period complete piece) false is ss = refl
+stream-gone id host u true is ss = refl
+stream-gone id host u false is ss = refl
 
 pub streams-gone : (id : ℕ) (cs : List Component) → streams_by (filter (λ c. not (c.id == id)) cs) ≡ filter (λ s. not (s.host == id)) (streams_by cs)
 streams-gone id [] = refl

@@ -12,7 +12,7 @@ use Rattle.stream_law.specs.Joins.{joined_edge, with_join, would_cycle, would_re
 use Rattle.mbox_link.specs.Step.{no_device, busy, invalid, is_used, has_comp, has_edge, is_joined, takes_join, leads_in, leads_out, has_free_in, has_free_out, kind_at, connect}
 use Rattle.fw_components.specs.declared.component.Component.{Component}
 use Rattle.fw_components.specs.declared.component.Unit as units
-use Rattle.fw_components.specs.declared.component.Unit.TheVariants.{Host, Dai, Volume, Mixer, Mux, Eq, Buffer, Pipeline}
+use Rattle.fw_components.specs.declared.component.Unit.TheVariants.{Buffer}
 use Rattle.fw_components.specs.Tables.{Tables, graph_of, streams_of, view_by, comp_by, edge_by, pipe_by, is_buffer, source_by, sink_by}
 use Rattle.fw_components.specs.Changes.{has_id, can_join, has_free_source, has_free_sink, joined_at, sourced_unit, sunk_unit}
 use Rattle.fw_components.specs.Changes as changes
@@ -66,13 +66,6 @@ may-join t j takes free = by (or_cases (leads_in g j.source j.sink && has_free_o
 -- ---- the join is seen
 
 joined-one : (j : Join) (id pipe channels : ℕ) (unit : units.Unit) → is_buffer unit ≡ true → edge_by (joined_at j (record { id = id; pipe = pipe; channels = channels; unit = unit })) ≡ joined_edge j (edge_by (record { id = id; pipe = pipe; channels = channels; unit = unit }))
-joined-one j id pipe channels (Host capture phase params piece) no_buffer = absurd (false≢true no_buffer)
-joined-one j id pipe channels (Dai capture format piece) no_buffer = absurd (false≢true no_buffer)
-joined-one j id pipe channels (Volume gains piece) no_buffer = absurd (false≢true no_buffer)
-joined-one j id pipe channels (Mixer piece) no_buffer = absurd (false≢true no_buffer)
-joined-one j id pipe channels (Mux choice piece) no_buffer = absurd (false≢true no_buffer)
-joined-one j id pipe channels (Eq eq next remaining) no_buffer = absurd (false≢true no_buffer)
-joined-one j id pipe channels (Pipeline sched period complete piece) no_buffer = absurd (false≢true no_buffer)
 joined-one j id pipe channels (Buffer size ring source sink) is = by (id == j.source) (id == j.sink)
   where
     c : Component
@@ -82,6 +75,7 @@ joined-one j id pipe channels (Buffer size ring source sink) is = by (id == j.so
     by true to = refl
     by false true = refl
     by false false = refl
+joined-one j id pipe channels unit no_buffer = absurd (false≢true no_buffer)
 
 joined-all : (j : Join) (cs : List Component) → AllByRecursion (λ c. IsBuffering c.unit) cs → map edge_by (map (joined_at j) cs) ≡ map (joined_edge j) (map edge_by cs)
 joined-all j [] all = refl

@@ -15,7 +15,7 @@ use Rattle.stream_law.specs.Order.{is_among}
 use Rattle.row_laws.proofs.Joined.{buffers-joined}
 use Rattle.fw_components.specs.declared.component.Component.{Component}
 use Rattle.fw_components.specs.declared.component.Unit as units
-use Rattle.fw_components.specs.declared.component.Unit.TheVariants.{Host, Dai, Volume, Mixer, Mux, Eq, Buffer, Pipeline}
+use Rattle.fw_components.specs.declared.component.Unit.TheVariants.{Host, Dai, Buffer}
 use Rattle.fw_components.specs.Tables.{Tables, graph_of, streams_of, kind_by, comp_by}
 use Rattle.fw_components.specs.Kept.{IsKept}
 use Rattle.fw_components.specs.Changes.{has_id}
@@ -186,16 +186,12 @@ any-marked p q ids marks cs listed same = any-each (λ c. p c && is_marked ids m
 -- ---- by one walk from all hosts of playbacks
 
 plays-are : (unit : units.Unit) → (any_stream (is_of sorts.All) 0 unit && not (is_capture (kind_by unit))) ≡ is_play (kind_by unit)
+plays-are (Buffer size ring source sink) = refl
 plays-are (Host true phase params piece) = refl
 plays-are (Host false phase params piece) = refl
 plays-are (Dai true format piece) = refl
 plays-are (Dai false format piece) = refl
-plays-are (Volume gains piece) = refl
-plays-are (Mixer piece) = refl
-plays-are (Mux choice piece) = refl
-plays-are (Eq eq next remaining) = refl
-plays-are (Buffer size ring source sink) = refl
-plays-are (Pipeline sched period complete piece) = refl
+plays-are u = refl
 
 -- of two that are related one may be sought first
 turned : {X : Type 0} (p q : X → Bool) (r : X → X → Bool) (xs : List X) → list_any (λ b. q b && list_any (λ a. p a && r a b) xs) xs ≡ list_any (λ a. p a && list_any (λ b. q b && r a b) xs) xs

@@ -15,7 +15,7 @@ use Rattle.stream_law.proofs.Members.{find-in, in-any}
 use Rattle.mbox_link.specs.Step.{no_device, invalid, is_used, has_kind, goes, kind_at, is_stream_phase, phase_at, is_rate, is_way_ready, with_params, set_stream, pcm_params, is_refused_params}
 use Rattle.fw_components.specs.declared.component.Component.{Component}
 use Rattle.fw_components.specs.declared.component.Unit as units
-use Rattle.fw_components.specs.declared.component.Unit.TheVariants.{Host, Dai, Volume, Mixer, Mux, Eq, Buffer, Pipeline}
+use Rattle.fw_components.specs.declared.component.Unit.TheVariants.{Host, Dai}
 use Rattle.fw_components.specs.Tables.{streams_by, with_stream_by, kind_by, comp_by, is_host_unit}
 use Rattle.fw_walks.specs.declared.streams.Sort.TheVariants as sorts
 use Rattle.fw_walks.specs.Streams.{is_of, any_stream}
@@ -48,20 +48,8 @@ moved id host (Host capture phase params piece) true is rest none ss so = ap (λ
     last true = refl
     last false = refl
 moved id host (Host capture phase params piece) false is rest none ss so = so ∙ sym (ap (λ h. is_stream_phase is_live_phase (option_map (λ (s : StreamView). s.phase) (cond h (Some (record { host = id; phase = phase; params = params })) (find (λ s. s.host == host) ss)))) is)
-moved id host (Dai capture format piece) true is rest none ss so = so
-moved id host (Dai capture format piece) false is rest none ss so = so
-moved id host (Volume gains piece) true is rest none ss so = so
-moved id host (Volume gains piece) false is rest none ss so = so
-moved id host (Mixer piece) true is rest none ss so = so
-moved id host (Mixer piece) false is rest none ss so = so
-moved id host (Mux choice piece) true is rest none ss so = so
-moved id host (Mux choice piece) false is rest none ss so = so
-moved id host (Eq eq next remaining) true is rest none ss so = so
-moved id host (Eq eq next remaining) false is rest none ss so = so
-moved id host (Buffer size ring source sink) true is rest none ss so = so
-moved id host (Buffer size ring source sink) false is rest none ss so = so
-moved id host (Pipeline sched period complete piece) true is rest none ss so = so
-moved id host (Pipeline sched period complete piece) false is rest none ss so = so
+moved id host u true is rest none ss so = so
+moved id host u false is rest none ss so = so
 
 pub moving-is : (cs : List Component) (host : ℕ) → Ascends (λ c. c.id) cs → is_moving_at cs host ≡ is_stream_phase is_live_phase (option_map (λ (s : StreamView). s.phase) (find (λ s. s.host == host) (streams_by cs)))
 unfolding Ascends
@@ -74,12 +62,7 @@ goes-host : (direction : ℕ) (unit : units.Unit) → goes (kind_by unit) direct
 goes-host direction (Host capture phase params piece) e = refl
 goes-host direction (Dai true format piece) e = absurd (false≢true e)
 goes-host direction (Dai false format piece) e = absurd (false≢true e)
-goes-host direction (Volume gains piece) e = absurd (false≢true e)
-goes-host direction (Mixer piece) e = absurd (false≢true e)
-goes-host direction (Mux choice piece) e = absurd (false≢true e)
-goes-host direction (Eq eq next remaining) e = absurd (false≢true e)
-goes-host direction (Buffer size ring source sink) e = absurd (false≢true e)
-goes-host direction (Pipeline sched period complete piece) e = absurd (false≢true e)
+goes-host direction u e = absurd (false≢true e)
 
 pub host-there : (cs : List Component) (host direction : ℕ) → has_kind (λ kind. goes kind direction) (option_map (λ (c : Comp). c.kind) (find (λ c. c.id == host) (map comp_by cs))) ≡ true → list_any (λ c. c.id == host && is_host_unit c.unit) cs ≡ true
 host-there cs host direction is = by (find (λ c. c.id == host) cs) refl (sym (ap (λ (o : Option Comp). has_kind (λ kind. goes kind direction) (option_map (λ (c : Comp). c.kind) o)) (find-map (λ (c : Comp). c.id == host) comp_by cs)) ∙ is)

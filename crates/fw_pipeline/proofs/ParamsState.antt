@@ -15,7 +15,7 @@ use Rattle.stream_law.proofs.Members.{IsIn, in-any}
 use Rattle.mbox_link.specs.Step.{set_stream}
 use Rattle.fw_components.specs.declared.component.Component.{Component}
 use Rattle.fw_components.specs.declared.component.Unit as units
-use Rattle.fw_components.specs.declared.component.Unit.TheVariants.{Host, Dai, Volume, Mixer, Mux, Eq, Buffer, Pipeline}
+use Rattle.fw_components.specs.declared.component.Unit.TheVariants.{Host}
 use Rattle.fw_components.specs.Tables.{Tables, view_by, graph_of, streams_of, all_of, rings_of, numbers_by}
 use Rattle.fw_components.specs.Changes.{set_at}
 use Rattle.fw_components.specs.Kept.{IsKept}
@@ -56,13 +56,7 @@ module _ (host : ℕ) (p : Params) (t u : Tables) (kept : IsKept t) (set : u ≡
   -- the stream of this host is not Live
   unit-rests : (id : ℕ) (unit : units.Unit) → any_stream (λ s. s.host == host && is_live_phase s.phase) id unit ≡ (id == host && any_stream (is_of sorts.Live) 0 unit)
   unit-rests id (Host capture phase params piece) = refl
-  unit-rests id (Dai capture format piece) = none (id == host)
-  unit-rests id (Volume gains piece) = none (id == host)
-  unit-rests id (Mixer piece) = none (id == host)
-  unit-rests id (Mux choice piece) = none (id == host)
-  unit-rests id (Eq eq next remaining) = none (id == host)
-  unit-rests id (Buffer size ring source sink) = none (id == host)
-  unit-rests id (Pipeline sched period complete piece) = none (id == host)
+  unit-rests id u = none (id == host)
 
   stream-rests : list_any (λ s. s.host == host && is_live_phase s.phase) (streams_of t) ≡ false
   stream-rests =

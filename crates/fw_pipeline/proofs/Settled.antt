@@ -14,7 +14,7 @@ use Rattle.stream_law.specs.Order.{is_among}
 use Rattle.row_laws.proofs.Found.{found-each}
 use Rattle.fw_components.specs.declared.component.Component.{Component}
 use Rattle.fw_components.specs.declared.component.Unit as units
-use Rattle.fw_components.specs.declared.component.Unit.TheVariants.{Host, Dai, Volume, Mixer, Mux, Eq, Buffer, Pipeline}
+use Rattle.fw_components.specs.declared.component.Unit.TheVariants.{Buffer}
 use Rattle.fw_components.specs.Tables.{Tables, view_by, graph_of, edge_by, source_by, sink_by}
 use Rattle.fw_components.specs.Kept.{IsKept}
 use Rattle.fw_components.specs.Changes.{with_ended, ended_unit}
@@ -31,24 +31,12 @@ ended-twice : (c : Component) → ended_by (ended_by c) ≡ ended_by c
 ended-twice c = by c.unit
   where
     by : (u : units.Unit) → ended_by (ended_by (record { id = c.id; pipe = c.pipe; channels = c.channels; unit = u })) ≡ ended_by (record { id = c.id; pipe = c.pipe; channels = c.channels; unit = u })
-    by (Host capture phase params piece) = refl
-    by (Dai capture format piece) = refl
-    by (Volume gains piece) = refl
-    by (Mixer piece) = refl
-    by (Mux choice piece) = refl
-    by (Eq eq next remaining) = refl
     by (Buffer size ring source sink) = refl
-    by (Pipeline sched period complete piece) = refl
+    by u = refl
 
 ended-ends : (u : units.Unit) → (source_by (ended_unit u) ≡ source_by u) × (sink_by (ended_unit u) ≡ sink_by u)
-ended-ends (Host capture phase params piece) = (refl, refl)
-ended-ends (Dai capture format piece) = (refl, refl)
-ended-ends (Volume gains piece) = (refl, refl)
-ended-ends (Mixer piece) = (refl, refl)
-ended-ends (Mux choice piece) = (refl, refl)
-ended-ends (Eq eq next remaining) = (refl, refl)
 ended-ends (Buffer size ring source sink) = (refl, refl)
-ended-ends (Pipeline sched period complete piece) = (refl, refl)
+ended-ends u = (refl, refl)
 
 -- there is one at a place
 pub some-at : (cs : List Component) (k : ℕ) → k < length cs → Component

@@ -17,16 +17,17 @@ use Rattle.stream_law.proofs.Placing.{Ascends-distinct}
 use Rattle.row_laws.proofs.Found.{found-each}
 use Rattle.fw_components.specs.declared.component.Component.{Component}
 use Rattle.fw_components.specs.declared.component.Unit as units
-use Rattle.fw_components.specs.declared.component.Unit.TheVariants.{Host, Dai, Volume, Mixer, Mux, Eq, Buffer, Pipeline}
+use Rattle.fw_components.specs.declared.component.Unit.TheVariants.{Host, Dai, Eq, Buffer}
 use Rattle.fw_components.specs.Tables.{Tables, view_by, is_buffer, graph_of, streams_of, all_of, comp_by, kind_by, setting_by, ring_by, rings_of, unit_frames, numbers_by}
 use Rattle.fw_components.specs.Changes.{set_at, set_unit, ended_unit}
 use Rattle.fw_components.specs.Kept.{IsKept, IsBuffering}
-use Rattle.fw_components.specs.Frames.{begun_by, begun_unit, IsFresh}
+use Rattle.fw_components.specs.Frames.{begun_by, IsFresh}
 use Rattle.fw_walks.proofs.Naming.{find-map}
 use Rattle.fw_components.proofs.HostWays.{find-own}
 use Rattle.fw_pipeline.specs.declared.phases.Trigger.{Trigger}
 use Rattle.fw_heap.specs.declared.run.Home.{Home}
 use Rattle.fw_components.specs.States.{AreOf, with_tables}
+use Rattle.fw_components.proofs.Units.{begun-frames, ended-frames}
 use Rattle.fw_pipeline.specs.Triggers.{phase_after, params_after, params_of, begins, begun_in, settled_in, IsBegun, BecomeEach, IsTriggered}
 use Rattle.fw_pipeline.proofs.Begins.{become-read}
 use Rattle.fw_pipeline.proofs.Faces.{Face, face, face-begun, face-set, faces-set, staging-same, pieces-same, faces-all, homes-same}
@@ -46,26 +47,6 @@ each-settled v (d ∷ cs) is c (inr more) = each-settled v cs (ap (λ (rs : List
     rest : List RingView → List RingView
     rest [] = []
     rest (r ∷ rs) = rs
-
-no-frames : (channels : ℕ) (words : List ℤ) (u : units.Unit) → unit_frames (begun_unit channels words u) ≡ []
-no-frames channels words (Host capture phase params piece) = refl
-no-frames channels words (Dai capture format piece) = refl
-no-frames channels words (Volume gains piece) = refl
-no-frames channels words (Mixer piece) = refl
-no-frames channels words (Mux choice piece) = refl
-no-frames channels words (Eq eq next remaining) = refl
-no-frames channels words (Buffer size ring source sink) = refl
-no-frames channels words (Pipeline sched period complete piece) = refl
-
-none-ended : (u : units.Unit) → unit_frames (ended_unit u) ≡ []
-none-ended (Host capture phase params piece) = refl
-none-ended (Dai capture format piece) = refl
-none-ended (Volume gains piece) = refl
-none-ended (Mixer piece) = refl
-none-ended (Mux choice piece) = refl
-none-ended (Eq eq next remaining) = refl
-none-ended (Buffer size ring source sink) = refl
-none-ended (Pipeline sched period complete piece) = refl
 
 abbrev ring : Component → List Frame → RingView
 ring c frames = record { buffer = c.id; frames = frames }
@@ -94,12 +75,12 @@ module _ (v w : View) where
         where
           over : (h : Bool) → ring_by (cond h x (record { id = x.id; pipe = x.pipe; channels = x.channels; unit = ended_unit x.unit })) ≡ ring x (cond h (unit_frames x.unit) [])
           over true = refl
-          over false = ap (ring x) (none-ended x.unit)
+          over false = ap (ring x) (ended-frames x.unit)
 
       by : (h : Bool) → begins v w c.id ≡ h → ring_by (settled_in w (cond h (begun_by (channels_of w c.id) [] c) c)) ≡ ring_seen w (ring_by c)
       by true e =
           let was : unit_frames c.unit ≡ [] = sym settled ∙ ap (λ h. cond h (unit_frames c.unit) []) (still v c.id (off (live w c.id) (live v c.id) e)) in
-          ended (begun_by (channels_of w c.id) [] c) refl ∙ ap (λ (fs : List Frame). ring c (cond (flows w c.id) fs [])) (no-frames (channels_of w c.id) [] c.unit ∙ sym was)
+          ended (begun_by (channels_of w c.id) [] c) refl ∙ ap (λ (fs : List Frame). ring c (cond (flows w c.id) fs [])) (begun-frames (channels_of w c.id) [] c.unit ∙ sym was)
       by false e = ended c refl
 
   rings-left : (bs : List Component) → ((c : Component) → IsIn c bs → cond (flows v c.id) (unit_frames c.unit) [] ≡ unit_frames c.unit) → map ring_by (map (λ c. settled_in w (begun_in v w c)) bs) ≡ map (ring_seen w) (map ring_by bs)
@@ -151,25 +132,15 @@ fresh-by (Host true phase params piece) fresh e channels = absurd (false≢true 
 fresh-by (Host false phase params piece) fresh e channels = absurd (false≢true e)
 fresh-by (Dai true format piece) fresh e channels = absurd (false≢true e)
 fresh-by (Dai false format piece) fresh e channels = absurd (false≢true e)
-fresh-by (Volume gains piece) fresh e channels = absurd (false≢true e)
-fresh-by (Mixer piece) fresh e channels = absurd (false≢true e)
-fresh-by (Mux choice piece) fresh e channels = absurd (false≢true e)
-fresh-by (Buffer size ring source sink) fresh e channels = absurd (false≢true e)
-fresh-by (Pipeline sched period complete piece) fresh e channels = absurd (false≢true e)
+fresh-by u fresh e channels = absurd (false≢true e)
 
 pub set-numbers : (host : ℕ) (phase : Phase) (params : Option Params) (c : Component) → numbers_by (set_at host phase params c).unit (set_at host phase params c).channels ≡ numbers_by c.unit c.channels
 set-numbers host phase params c = by (c.id == host) c.unit
   where
     by : (h : Bool) (u : units.Unit) → numbers_by (cond {A = Component} h (record { id = c.id; pipe = c.pipe; channels = c.channels; unit = set_unit phase params u }) (record { id = c.id; pipe = c.pipe; channels = c.channels; unit = u })).unit (cond {A = Component} h (record { id = c.id; pipe = c.pipe; channels = c.channels; unit = set_unit phase params u }) (record { id = c.id; pipe = c.pipe; channels = c.channels; unit = u })).channels ≡ numbers_by u c.channels
     by false u = refl
-    by true (Host capture was before piece) = refl
-    by true (Dai capture format piece) = refl
-    by true (Volume gains piece) = refl
-    by true (Mixer piece) = refl
-    by true (Mux choice piece) = refl
-    by true (Eq eq next remaining) = refl
     by true (Buffer size ring source sink) = refl
-    by true (Pipeline sched period complete piece) = refl
+    by true u = refl
 
 pub set-id : (host : ℕ) (phase : Phase) (params : Option Params) (c : Component) → (set_at host phase params c).id ≡ c.id
 set-id host phase params c = by (c.id == host)
@@ -192,13 +163,7 @@ face-buffer channels c buffer = by c.unit buffer
   where
     by : (u : units.Unit) → is_buffer u ≡ true → face (begun_by channels [] (record { id = c.id; pipe = c.pipe; channels = c.channels; unit = u })) ≡ face (record { id = c.id; pipe = c.pipe; channels = c.channels; unit = u })
     by (Buffer size ring source sink) e = refl
-    by (Host capture phase params piece) e = absurd (false≢true e)
-    by (Dai capture format piece) e = absurd (false≢true e)
-    by (Volume gains piece) e = absurd (false≢true e)
-    by (Mixer piece) e = absurd (false≢true e)
-    by (Mux choice piece) e = absurd (false≢true e)
-    by (Eq eq next remaining) e = absurd (false≢true e)
-    by (Pipeline sched period complete piece) e = absurd (false≢true e)
+    by u e = absurd (false≢true e)
 
 faces-left : (w : View) (begun : Component → Component) (bs : List Component) → ((c : Component) → IsIn c bs → face (begun c) ≡ face c) → map face (map (λ c. settled_in w (begun c)) bs) ≡ map face bs
 faces-left w begun [] same = refl

@@ -18,7 +18,7 @@ use Rattle.row_laws.proofs.Found.{found-each}
 use Rattle.mbox_link.specs.Step.{no_device, invalid, is_used, has_kind, is_host, kind_at, is_stream_phase, phase_at, stream_changed, set_phase, set_stream}
 use Rattle.fw_components.specs.declared.component.Component.{Component}
 use Rattle.fw_components.specs.declared.component.Unit as units
-use Rattle.fw_components.specs.declared.component.Unit.TheVariants.{Host, Dai, Volume, Mixer, Mux, Eq, Buffer, Pipeline}
+use Rattle.fw_components.specs.declared.component.Unit.TheVariants.{Host, Dai}
 use Rattle.fw_components.specs.Tables.{Tables, graph_of, view_by, streams_of, comp_by, streams_by, with_stream_by, kind_by, is_host_unit}
 use Rattle.fw_components.specs.Changes.{is_idle_phase}
 use Rattle.fw_components.specs.Kept.{IsKept, IsStreamOf, IsStreaming}
@@ -81,20 +81,8 @@ none-above (c ∷ cs) n host le up =
 told : (id host : ℕ) (unit : units.Unit) (h : Bool) → (id == host) ≡ h → (rest : Option (Phase × Option Params)) → (h ≡ true → rest ≡ None) → (ss : List StreamView) → rest ≡ option_map terms_of (find (λ s. s.host == host) ss) → cond h (stream_in unit) rest ≡ option_map terms_of (find (λ s. s.host == host) (with_stream_by id unit ss))
 told id host (Host capture phase params piece) true is rest none ss so = sym (ap (λ h. option_map terms_of (cond h (Some (record { host = id; phase = phase; params = params })) (find (λ s. s.host == host) ss))) is)
 told id host (Host capture phase params piece) false is rest none ss so = so ∙ sym (ap (λ h. option_map terms_of (cond h (Some (record { host = id; phase = phase; params = params })) (find (λ s. s.host == host) ss))) is)
-told id host (Dai capture format piece) true is rest none ss so = sym (none refl) ∙ so
-told id host (Dai capture format piece) false is rest none ss so = so
-told id host (Volume gains piece) true is rest none ss so = sym (none refl) ∙ so
-told id host (Volume gains piece) false is rest none ss so = so
-told id host (Mixer piece) true is rest none ss so = sym (none refl) ∙ so
-told id host (Mixer piece) false is rest none ss so = so
-told id host (Mux choice piece) true is rest none ss so = sym (none refl) ∙ so
-told id host (Mux choice piece) false is rest none ss so = so
-told id host (Eq eq next remaining) true is rest none ss so = sym (none refl) ∙ so
-told id host (Eq eq next remaining) false is rest none ss so = so
-told id host (Buffer size ring source sink) true is rest none ss so = sym (none refl) ∙ so
-told id host (Buffer size ring source sink) false is rest none ss so = so
-told id host (Pipeline sched period complete piece) true is rest none ss so = sym (none refl) ∙ so
-told id host (Pipeline sched period complete piece) false is rest none ss so = so
+told id host u true is rest none ss so = sym (none refl) ∙ so
+told id host u false is rest none ss so = so
 
 abbrev pub stream_of_one : Option Component → Option (Phase × Option Params)
 stream_of_one o = option_and_then (λ c. stream_in c.unit) o
@@ -172,12 +160,7 @@ module _ (cs : List Component) (up : Ascends (λ c. c.id) cs) (host : ℕ) (what
       unit-by (Host true phase params piece) right = has-params phase params right
       unit-by (Host false phase params piece) right = has-params phase params right
       unit-by (Dai capture format piece) right = none (is_host (kind_by (Dai capture format piece)))
-      unit-by (Volume gains piece) right = refl
-      unit-by (Mixer piece) right = refl
-      unit-by (Mux choice piece) right = refl
-      unit-by (Eq eq next remaining) right = refl
-      unit-by (Buffer size ring source sink) right = refl
-      unit-by (Pipeline sched period complete piece) right = refl
+      unit-by u right = refl
 
       by : (o : Option Component) → find (λ c. c.id == host) cs ≡ o → is_some (left_of o) ≡ (has_kind is_host (option_map (λ c. kind_by c.unit) o) && is_stream_phase (leaves what) (option_map (λ (p : Phase × Option Params). p.0) (stream_of_one o)))
       by None at = refl
@@ -199,13 +182,7 @@ module _ (cs : List Component) (up : Ascends (λ c. c.id) cs) (host : ℕ) (what
 
       by : (u : units.Unit) → IsStreaming u → left_by what u ≡ Some p → (option_and_then (λ (p : Phase × Option Params). p.1) (stream_in u) ≡ Some p) × (((1 ≤ p.channels) × (p.channels ≤ 8)) × (is_rate p.rate ≡ true))
       by (Host capture phase params piece) e is = let same = kept (leaves what phase) params is in (same, right (is_idle_phase phase) params e same)
-      by (Dai capture format piece) e is = absurd (cc is)
-      by (Volume gains piece) e is = absurd (cc is)
-      by (Mixer piece) e is = absurd (cc is)
-      by (Mux choice piece) e is = absurd (cc is)
-      by (Eq eq next remaining) e is = absurd (cc is)
-      by (Buffer size ring source sink) e is = absurd (cc is)
-      by (Pipeline sched period complete piece) e is = absurd (cc is)
+      by u e is = absurd (cc is)
 
 -- and of what is found
 module _ (t : Tables) (kept : IsKept t) (host : ℕ) (what : Trigger) (o : Option Component) (at : find (λ c. c.id == host) t.comps ≡ o) where
@@ -233,13 +210,7 @@ host-unit cs host there = any-each (λ c. c.id == host && is_host_unit c.unit) (
 
     by : (id : ℕ) (unit : units.Unit) → (id == host && is_host_unit unit) ≡ any_stream (λ s. s.host == host) id unit
     by id (Host capture phase params piece) = last (id == host)
-    by id (Dai capture format piece) = none (id == host)
-    by id (Volume gains piece) = none (id == host)
-    by id (Mixer piece) = none (id == host)
-    by id (Mux choice piece) = none (id == host)
-    by id (Eq eq next remaining) = none (id == host)
-    by id (Buffer size ring source sink) = none (id == host)
-    by id (Pipeline sched period complete piece) = none (id == host)
+    by id u = none (id == host)
 
 pub stream-there : (test : Phase → Bool) (host : ℕ) (ss : List StreamView) → is_stream_phase test (option_map (λ (s : StreamView). s.phase) (find (λ s. s.host == host) ss)) ≡ true → list_any (λ s. s.host == host) ss ≡ true
 stream-there test host ss is = by (find (λ s. s.host == host) ss) refl is
@@ -253,13 +224,7 @@ stream-there test host ss is = by (find (λ s. s.host == host) ss) refl is
 stream-above : (n id : ℕ) (unit : units.Unit) (ss : List StreamView) → n < id → AreAbove (λ s. s.host) n ss → AreAbove (λ s. s.host) n (with_stream_by id unit ss)
 unfolding AreAbove
 stream-above n id (Host capture phase params piece) ss lt up = (lt, up)
-stream-above n id (Dai capture format piece) ss lt up = up
-stream-above n id (Volume gains piece) ss lt up = up
-stream-above n id (Mixer piece) ss lt up = up
-stream-above n id (Mux choice piece) ss lt up = up
-stream-above n id (Eq eq next remaining) ss lt up = up
-stream-above n id (Buffer size ring source sink) ss lt up = up
-stream-above n id (Pipeline sched period complete piece) ss lt up = up
+stream-above n id u ss lt up = up
 
 streams-above : (n : ℕ) (cs : List Component) → AreAbove (λ c. c.id) n cs → AreAbove (λ s. s.host) n (streams_by cs)
 unfolding AreAbove
@@ -269,13 +234,7 @@ streams-above n (c ∷ cs) up = stream-above n c.id c.unit (streams_by cs) up.0 
 stream-ascends : (id : ℕ) (unit : units.Unit) (ss : List StreamView) → AreAbove (λ s. s.host) id ss → Ascends (λ s. s.host) ss → Ascends (λ s. s.host) (with_stream_by id unit ss)
 unfolding Ascends
 stream-ascends id (Host capture phase params piece) ss up rest = (up, rest)
-stream-ascends id (Dai capture format piece) ss up rest = rest
-stream-ascends id (Volume gains piece) ss up rest = rest
-stream-ascends id (Mixer piece) ss up rest = rest
-stream-ascends id (Mux choice piece) ss up rest = rest
-stream-ascends id (Eq eq next remaining) ss up rest = rest
-stream-ascends id (Buffer size ring source sink) ss up rest = rest
-stream-ascends id (Pipeline sched period complete piece) ss up rest = rest
+stream-ascends id u ss up rest = rest
 
 pub streams-ascend : (cs : List Component) → Ascends (λ c. c.id) cs → Ascends (λ s. s.host) (streams_by cs)
 unfolding Ascends

@@ -16,7 +16,7 @@ use Rattle.stream_law.proofs.Members.{IsIn, in-all, in-any}
 use Rattle.mbox_link.specs.Step.{set_stream}
 use Rattle.fw_components.specs.declared.component.Component.{Component}
 use Rattle.fw_components.specs.declared.component.Unit as units
-use Rattle.fw_components.specs.declared.component.Unit.TheVariants.{Host, Dai, Volume, Mixer, Mux, Eq, Buffer, Pipeline}
+use Rattle.fw_components.specs.declared.component.Unit.TheVariants.{Buffer}
 use Rattle.fw_components.specs.Tables.{Tables, view_by, graph_of, streams_of, streams_by, comp_by, edge_by, pipe_by, is_buffer}
 use Rattle.fw_components.specs.Changes.{set_at, ended_unit}
 use Rattle.fw_components.specs.Kept.{IsKept, IsBuffering}
@@ -89,13 +89,7 @@ begun-buffer channels words c buffer = by c.unit buffer
   where
     by : (u : units.Unit) → is_buffer u ≡ true → begun_by channels words (record { id = c.id; pipe = c.pipe; channels = c.channels; unit = u }) ≡ begun_by channels [] (record { id = c.id; pipe = c.pipe; channels = c.channels; unit = u })
     by (Buffer size ring source sink) e = refl
-    by (Host capture phase params piece) e = absurd (false≢true e)
-    by (Dai capture format piece) e = absurd (false≢true e)
-    by (Volume gains piece) e = absurd (false≢true e)
-    by (Mixer piece) e = absurd (false≢true e)
-    by (Mux choice piece) e = absurd (false≢true e)
-    by (Eq eq next remaining) e = absurd (false≢true e)
-    by (Pipeline sched period complete piece) e = absurd (false≢true e)
+    by u e = absurd (false≢true e)
 
 map-twice : (f g h : Component → Component) (cs : List Component) → ((c : Component) → f (g c) ≡ h c) → map f (map g cs) ≡ map h cs
 map-twice f g h [] same = refl

@@ -54,17 +54,11 @@ fn terms_of(unit: &Unit) -> (u32, bool)
     ensures { result ≡ (sched_by unit.now, complete_by unit.now) }
 {
     match unit {
-        Unit::Host { .. } => (0, false),
-        Unit::Dai { .. } => (0, false),
-        Unit::Volume { .. } => (0, false),
-        Unit::Mixer { .. } => (0, false),
-        Unit::Mux { .. } => (0, false),
-        Unit::Eq { .. } => (0, false),
-        Unit::Buffer { .. } => (0, false),
         Unit::Pipeline {
             sched,
             complete,
             ..
         } => (*sched, *complete),
+        _ => (0, false),
     }
 }

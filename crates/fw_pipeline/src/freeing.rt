@@ -186,14 +186,8 @@ fn completes(unit: &Unit) -> bool
     ensures { result ≡ complete_by unit.now }
 {
     match unit {
-        Unit::Host { .. } => false,
-        Unit::Dai { .. } => false,
-        Unit::Volume { .. } => false,
-        Unit::Mixer { .. } => false,
-        Unit::Mux { .. } => false,
-        Unit::Eq { .. } => false,
-        Unit::Buffer { .. } => false,
         Unit::Pipeline { complete, .. } => *complete,
+        _ => false,
     }
 }
 

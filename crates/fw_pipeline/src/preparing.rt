@@ -6,7 +6,7 @@ ghost use Rattle.stream_law.specs.Ways.{on_way, agree, is_capture, same_shape as
 ghost use Rattle.stream_law.specs.State.{FwState};
 ghost use Rattle.stream_law.specs.Seen.{ring_seen};
 ghost use Rattle.stream_law.specs.Order.{is_among};
-ghost use Rattle.mbox_link.specs.Step.{pcm_params, has_kind, goes as has_direction, kind_at as named_kind, is_rate, is_way_ready as has_ready_way, is_ready_comp as is_ready, is_ready_edge as is_edge_ready, set_stream, is_refused_params};
+ghost use Rattle.mbox_link.specs.Step.{pcm_params, has_kind, goes as has_direction, kind_at as named_kind, is_way_ready as has_ready_way, is_ready_comp as is_ready, is_ready_edge as is_edge_ready, set_stream, is_refused_params};
 ghost use Rattle.fw_components.specs.Tables.{view_by, graph_of, streams_of, rings_of, comp_by, edge_by};
 ghost use Rattle.fw_components.specs.Changes.{set_at};
 ghost use Rattle.fw_components.specs.Kept.{IsKept};
@@ -23,7 +23,7 @@ use fw_places::Places;
 use fw_walks::{
     Sort, count_ins, count_outs, fits, has_stream, is_used, kind_at, kind_of, sink_in, source_in,
 };
-use sof_base::{Errno, Params};
+use sof_base::{Errno, Params, is_rate};
 use stream_law::{Kind, Phase};
 
 /// A host's stream is Prepared with these parameters. Refused with -19 where the id names nothing, and -22 where it is no host of this
@@ -55,7 +55,7 @@ fn refuses(registry: &Registry, host: u32, direction: u32, p: Params) -> bool
     let places = registry.places();
     !goes_at(registry, host, direction)
         || moves(registry, host)
-        || !has_right_rate(p.rate)
+        || !is_rate(p.rate)
         || !is_way_ready(registry, &places, host)
         || !agrees(registry, &places, host, p)
 }
@@ -93,13 +93,6 @@ fn any_moving(comps: &[Component], host: u32) -> bool
     ensures { result ≡ is_moving_at comps.now host }
 {
     comps.iter().any(|component| component.id == host && has_stream(&component.unit, Sort::Live))
-}
-
-// Whether a stream may have so many frames a second: a multiple of 1000 from 8000 to 192000.
-fn has_right_rate(rate: u32) -> bool
-    ensures { result ≡ is_rate rate }
-{
-    8000 <= rate && rate <= 192000 && rate % 1000 == 0
 }
 
 // Whether all that is on the way of a host's stream is ready.
@@ -265,13 +258,7 @@ fn shape(component: &Component, host: u32, p: Params) -> Option<Params>
                 *params
             }
         }
-        Unit::Dai { .. } => None,
-        Unit::Volume { .. } => None,
-        Unit::Mixer { .. } => None,
-        Unit::Mux { .. } => None,
-        Unit::Eq { .. } => None,
-        Unit::Buffer { .. } => None,
-        Unit::Pipeline { .. } => None,
+        _ => None,
     }
 }
 

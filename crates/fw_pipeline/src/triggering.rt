@@ -63,12 +63,6 @@ fn left(unit: &Unit, what: Trigger) -> Option<Params>
 {
     match unit {
         Unit::Host { phase, params, .. } => { if leaves(what, *phase) { *params } else { None } }
-        Unit::Dai { .. } => None,
-        Unit::Volume { .. } => None,
-        Unit::Mixer { .. } => None,
-        Unit::Mux { .. } => None,
-        Unit::Eq { .. } => None,
-        Unit::Buffer { .. } => None,
-        Unit::Pipeline { .. } => None,
+        _ => None,
     }
 }

@@ -17,7 +17,7 @@ use Rattle.stream_law.proofs.Shapes.{flows-live}
 use Rattle.row_laws.proofs.Near.{fits-comp, at-buffer}
 use Rattle.row_laws.proofs.Playing.{IsAlong, active-ready, along-out, along-in}
 use Rattle.fw_components.specs.declared.component.Unit as units
-use Rattle.fw_components.specs.declared.component.Unit.TheVariants.{Host, Dai, Volume, Mixer, Mux, Eq, Buffer, Pipeline}
+use Rattle.fw_components.specs.declared.component.Unit.TheVariants.{Buffer}
 use Rattle.fw_components.specs.declared.component.Component.{Component}
 use Rattle.fw_components.specs.Tables.{Tables, graph_of, view_by, edge_by, size_by, capacity_by, capacity_at}
 use Rattle.fw_components.specs.Changes.{has_id}
@@ -103,14 +103,8 @@ module _ (t : Tables) (kept : IsKept t) (can : CanTick t) where
       }
     where
       by : (u : units.Unit) → IsBuffering u → size_by u / 4 / channels_by u ≡ capacity_by u
-      by (Host capture phase params piece) is = absurd (false≢true is.0)
-      by (Dai capture format piece) is = absurd (false≢true is.0)
-      by (Volume gains piece) is = absurd (false≢true is.0)
-      by (Mixer piece) is = absurd (false≢true is.0)
-      by (Mux choice piece) is = absurd (false≢true is.0)
-      by (Eq eq next remaining) is = absurd (false≢true is.0)
       by (Buffer size ring source sink) is = ap (λ n. n / ring.channels) (sym is.1)
-      by (Pipeline sched period complete piece) is = absurd (false≢true is.0)
+      by u is = absurd (false≢true is.0)
 
   at-along : (c b : ℕ) → IsAlong v can.wired can.linked can.played c b → IsAt t c b
   at-along c b along = by (find (λ x. x.id == along.edge.buffer) t.buffers) refl

@@ -18,7 +18,7 @@ use Rattle.stream_law.specs.Moves.{is_choosy, chooses, period}
 use Rattle.stream_law.specs.Endpoints.{is_input, format_by, format_of}
 use Rattle.fw_heap.specs.Pieces.{PieceState}
 use Rattle.fw_components.specs.declared.component.Unit as units
-use Rattle.fw_components.specs.declared.component.Unit.TheVariants.{Host, Dai, Volume, Mixer, Mux, Eq, Buffer, Pipeline}
+use Rattle.fw_components.specs.declared.component.Unit.TheVariants.{Host, Dai, Pipeline}
 use Rattle.fw_components.specs.declared.component.Component.{Component}
 use Rattle.fw_components.specs.Tables.{Tables, graph_of, view_by, kind_by, comp_by, pipe_by, period_by, streams_by, with_stream_by}
 use Rattle.stream_law.proofs.Placing.{Ascends-distinct}
@@ -55,13 +55,7 @@ found_format id ss = option_map_or (λ s. option_map_or (λ p. p.format) s.param
 -- a stream of another host
 other-stream : (id own : ℕ) (u : units.Unit) (ss : List StreamView) → (own == id) ≡ false → found_format id (with_stream_by own u ss) ≡ found_format id ss
 other-stream id own (Host capture phase params piece) ss other = ap (λ h. option_map_or (λ s. option_map_or (λ p. p.format) s.params S32) (cond h (Some (record { host = own; phase = phase; params = params })) (find (λ s. s.host == id) ss)) S32) other
-other-stream id own (Dai capture format piece) ss other = refl
-other-stream id own (Volume gains piece) ss other = refl
-other-stream id own (Mixer piece) ss other = refl
-other-stream id own (Mux choice piece) ss other = refl
-other-stream id own (Eq eq next remaining) ss other = refl
-other-stream id own (Buffer size ring source sink) ss other = refl
-other-stream id own (Pipeline sched period complete piece) ss other = refl
+other-stream id own u ss other = refl
 
 -- the stream of a host is found by its id
 stream-found : (id : ℕ) (cs : List Component) (d : Component) → find (λ x. x.id == id) cs ≡ Some d → (capture : Bool) (phase : Phase) (params : Option Params) (piece : PieceState) → d.unit ≡ Host capture phase params piece → found_format id (streams_by cs) ≡ params_format params
@@ -83,25 +77,14 @@ format-is t id d found there is = by d.unit refl is ∙ sym (ap (λ (o : Option 
     by (Host false phase params piece) own is = sym (stream-found id t.comps d found false phase params piece own)
     by (Dai true format piece) own is = refl
     by (Dai false format piece) own is = refl
-    by (Volume gains piece) own is = absurd (false≢true is)
-    by (Mixer piece) own is = absurd (false≢true is)
-    by (Mux choice piece) own is = absurd (false≢true is)
-    by (Eq eq next remaining) own is = absurd (false≢true is)
-    by (Buffer size ring source sink) own is = absurd (false≢true is)
-    by (Pipeline sched period complete piece) own is = absurd (false≢true is)
+    by u own is = absurd (false≢true is)
 
 -- ---- periods and rates
 
 -- a pipeline's period is at most 10000 µs
 period-low : (u : units.Unit) → IsPiping u → period_by u ≤ 10000
-period-low (Host capture phase params piece) is = omega arith
-period-low (Dai capture format piece) is = omega arith
-period-low (Volume gains piece) is = omega arith
-period-low (Mixer piece) is = omega arith
-period-low (Mux choice piece) is = omega arith
-period-low (Eq eq next remaining) is = omega arith
-period-low (Buffer size ring source sink) is = omega arith
 period-low (Pipeline sched period complete piece) is = is.1.1
+period-low u is = omega arith
 
 found-low : (index : ℕ) (ps : List Component) → AllByRecursion (λ p. IsPiping p.unit) ps → option_map_or (λ p. period_by p.unit) (find (λ p. p.pipe == index) ps) 0 ≤ 10000
 found-low index [] all = omega arith
@@ -114,13 +97,7 @@ found-low index (p ∷ ps) all = by (p.pipe == index) (found-low index ps all.1)
 -- a stream's rate is at most 192000
 with-right : (id : ℕ) (u : units.Unit) (ss : List StreamView) → IsStreaming u → AllByRecursion (λ s. IsStreamOf (is_idle_phase s.phase) s.params) ss → AllByRecursion (λ s. IsStreamOf (is_idle_phase s.phase) s.params) (with_stream_by id u ss)
 with-right id (Host capture phase params piece) ss is all = (is, all)
-with-right id (Dai capture format piece) ss is all = all
-with-right id (Volume gains piece) ss is all = all
-with-right id (Mixer piece) ss is all = all
-with-right id (Mux choice piece) ss is all = all
-with-right id (Eq eq next remaining) ss is all = all
-with-right id (Buffer size ring source sink) ss is all = all
-with-right id (Pipeline sched period complete piece) ss is all = all
+with-right id u ss is all = all
 
 streams-right : (cs : List Component) → AllByRecursion (λ c. IsStreaming c.unit) cs → AllByRecursion (λ s. IsStreamOf (is_idle_phase s.phase) s.params) (streams_by cs)
 streams-right [] all = tt

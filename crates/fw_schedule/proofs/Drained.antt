@@ -8,7 +8,7 @@ use Rattle.sof_base.specs.Samples.{width, frames_out}
 use Rattle.sof_base.specs.Ports.{InputView, OutputView, Io}
 use Rattle.sof_io.specs.Puts.{with_piece}
 use Rattle.stream_law.specs.declared.graph.Kind.{Kind}
-use Rattle.stream_law.specs.declared.graph.Kind.TheVariants.{HostPlay, HostCapture, DaiPlay, DaiCapture, Volume, Mixer, Mux, Eq}
+use Rattle.stream_law.specs.declared.graph.Kind.TheVariants.{HostCapture, DaiPlay}
 use Rattle.stream_law.specs.State.{View}
 use Rattle.stream_law.specs.Table.{table, list_of}
 use Rattle.stream_law.specs.Ways.{ins, outs, comp_of, source_of, sink_of, is_end, active, active_end, channels_of, live}
@@ -40,23 +40,12 @@ pub record IsDrain (k : Kind) : Type 0 where
 pub sink-by : (k : Kind) → is_output_kind k ≡ true → IsDrain k
 sink-by HostCapture is = record { more = λ most n. 0; sink = host-capture; least = λ most n. omega arith; plain = refl }
 sink-by (DaiPlay format) is = record { more = λ most n. most - n; sink = dai-play format; least = λ most n. refl; plain = refl }
-sink-by HostPlay is = absurd (false≢true is)
-sink-by (DaiCapture format) is = absurd (false≢true is)
-sink-by Volume is = absurd (false≢true is)
-sink-by Mixer is = absurd (false≢true is)
-sink-by Mux is = absurd (false≢true is)
-sink-by Eq is = absurd (false≢true is)
+sink-by kind is = absurd (false≢true is)
 
 -- a kind writes no more than its quota
 pub least-few : (k : Kind) (q : ℕ) → least_by k q ≤ q
 least-few (DaiPlay format) q = omega arith
-least-few HostPlay q = omega arith
-least-few HostCapture q = omega arith
-least-few (DaiCapture format) q = omega arith
-least-few Volume q = omega arith
-least-few Mixer q = omega arith
-least-few Mux q = omega arith
-least-few Eq q = omega arith
+least-few kind q = omega arith
 
 one-in : (xs : List ℕ) (b : ℕ) → length xs ≡ 1 → slice_get xs 0 ≡ Some b → xs ≡ b ∷ []
 one-in [] b one e = absurd (omega (arith, one))

@@ -8,7 +8,7 @@ use Rattle.sof_base.specs.Samples.{width, frames_in}
 use Rattle.sof_base.specs.Ports.{InputView, OutputView, Io}
 use Rattle.sof_io.specs.Takes.{bytes_given, next_bytes, left_at, taken as input_taken}
 use Rattle.stream_law.specs.declared.graph.Kind.{Kind}
-use Rattle.stream_law.specs.declared.graph.Kind.TheVariants.{HostPlay, HostCapture, DaiPlay, DaiCapture, Volume, Mixer, Mux, Eq}
+use Rattle.stream_law.specs.declared.graph.Kind.TheVariants.{HostPlay, DaiCapture}
 use Rattle.stream_law.specs.State.{View}
 use Rattle.stream_law.specs.Table.{list_of, number_of}
 use Rattle.stream_law.specs.Ways.{ins, outs, source_of, is_end, active, channels_of}
@@ -34,12 +34,7 @@ use Rattle.fw_schedule.proofs.Along.{IsThere, IsAt, fits, out-at, single-some, s
 pub source-by : (k : Kind) → is_input k ≡ true → IsSource k
 source-by HostPlay is = host-play
 source-by (DaiCapture format) is = dai-capture format
-source-by HostCapture is = absurd (false≢true is)
-source-by (DaiPlay format) is = absurd (false≢true is)
-source-by Volume is = absurd (false≢true is)
-source-by Mixer is = absurd (false≢true is)
-source-by Mux is = absurd (false≢true is)
-source-by Eq is = absurd (false≢true is)
+source-by kind is = absurd (false≢true is)
 
 module _ (t : Tables) (kept : IsKept t) (can : CanTick t) (id : ℕ) (there : IsThere (graph_of t) id (λ k. is_input k)) (now : active (view_by t) id ≡ true) where
   abbrev v : View

@@ -16,7 +16,7 @@ use Rattle.stream_law.proofs.Members.{IsIn, any-in, in-any}
 use Rattle.stream_law.specs.Order.{is_among}
 use Rattle.fw_components.specs.declared.component.Component.{Component}
 use Rattle.fw_components.specs.declared.component.Unit as units
-use Rattle.fw_components.specs.declared.component.Unit.TheVariants.{Host, Dai, Volume, Mixer, Mux, Eq, Buffer, Pipeline}
+use Rattle.fw_components.specs.declared.component.Unit.TheVariants.{Host, Buffer}
 use Rattle.fw_components.specs.Tables.{Tables, graph_of, view_by, streams_by, with_stream_by}
 use Rattle.fw_components.specs.Kept.{IsKept}
 use Rattle.fw_places.specs.Walks.{place_in}
@@ -57,14 +57,8 @@ or-all true = refl
 or-all false = refl
 
 stream-end : (id : ℕ) (u : units.Unit) (xs ys : List StreamView) → with_stream_by id u (xs ++ ys) ≡ with_stream_by id u xs ++ ys
-stream-end id (Host capture phase params piece) xs ys = refl
-stream-end id (Dai capture format piece) xs ys = refl
-stream-end id (Volume gains piece) xs ys = refl
-stream-end id (Mixer piece) xs ys = refl
-stream-end id (Mux choice piece) xs ys = refl
-stream-end id (Eq eq next remaining) xs ys = refl
 stream-end id (Buffer size ring source sink) xs ys = refl
-stream-end id (Pipeline sched period complete piece) xs ys = refl
+stream-end id u xs ys = refl
 
 streams-append : (cs ds : List Component) → streams_by (cs ++ ds) ≡ streams_by cs ++ streams_by ds
 streams-append [] ds = refl
@@ -153,13 +147,7 @@ module _ (g : Graph) (x : ℕ) where
 
       by : (u : units.Unit) → IsSpot (of_streams (ss ++ with_stream_by c.id u [])) x (spot_met u w spot)
       by (Host capture phase params piece) = spot-more c.id params ss spot is phase w way
-      by (Dai capture format piece) = same
-      by (Volume gains piece) = same
-      by (Mixer piece) = same
-      by (Mux choice piece) = same
-      by (Eq eq next remaining) = same
-      by (Buffer size ring source sink) = same
-      by (Pipeline sched period complete piece) = same
+      by u = same
 
 -- ---- all streams
 

@@ -5,7 +5,7 @@ use Rattle.std.specs.Option.{option_map_or}
 use Rattle.sof_base.specs.Samples.{Frame, silence}
 use Rattle.sof_base.specs.Equations.{volume_of}
 use Rattle.stream_law.specs.declared.graph.Kind.{Kind}
-use Rattle.stream_law.specs.declared.graph.Kind.TheVariants.{HostPlay, HostCapture, DaiPlay, DaiCapture, Volume, Mixer, Mux, Eq}
+use Rattle.stream_law.specs.declared.graph.Kind.TheVariants.{Volume, Mux, Eq}
 use Rattle.stream_law.specs.declared.graph.Setting.{Setting}
 use Rattle.stream_law.specs.declared.graph.Comp.{Comp}
 use Rattle.stream_law.specs.State.{View}
@@ -39,14 +39,10 @@ module _ (ids : List ℕ) (frames : ℕ → List Frame) where
           by_id false rest = rest
 
   by-kind : (k : Kind) (setting : Setting) (v : View) (c : ℕ) (numbers : List ℤ) → frames_by k setting v c 0 [] slices (λ blob channels frames. passed_frames blob channels numbers frames) ≡ []
-  by-kind HostPlay setting v c numbers = refl
-  by-kind (DaiCapture format) setting v c numbers = refl
   by-kind Volume setting v c numbers = ap (map (volume_of (channels_of v c) (gains setting))) only-none
-  by-kind Mixer setting v c numbers = refl
   by-kind Mux setting v c numbers = chosen-none (channels_of v c) (slice_get (inputs v.graph c) (choice setting))
   by-kind Eq setting v c numbers = ap (passed_frames (blob setting) (channels_of v c) numbers) only-none
-  by-kind HostCapture setting v c numbers = refl
-  by-kind (DaiPlay format) setting v c numbers = refl
+  by-kind kind setting v c numbers = refl
 
   -- a component makes none of them
   pub made-none : (v : View) (c : ℕ) (numbers : List ℤ) → frames_made v c 0 [] slices (λ blob channels frames. passed_frames blob channels numbers frames) ≡ []

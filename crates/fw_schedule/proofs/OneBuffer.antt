@@ -1,60 +1,17 @@
 -- What frames that are pushed into a buffer, or taken from it, leave of the tables.
-use Rattle.std.proofs.Common.{◌≡◌, refl, sym, ap, ◌∙◌, subst, ℕ, zero, suc, ◌+◌, ◌*◌, ◌%◌, ◌/◌, ◌≤◌, List, [], ◌∷◌, ◌++◌, append_assoc, map, drop, length, Bool, true, false, cond, ◌==◌, ◌||◌, Option, Some, None, arith, ℤ, length-append}
+use Rattle.std.proofs.Common.{◌≡◌, refl, sym, ap, ◌∙◌, subst, ℕ, ◌+◌, ◌≤◌, List, [], ◌∷◌, ◌++◌, map, drop, length, Bool, true, false, cond, ◌==◌, ◌||◌, Option, Some, None, arith, ℤ}
 use Rattle.std.proofs.lemmas.Bool.{eqb-true, eq-eqb}
-use Rattle.std.proofs.lemmas.List.{drop-drop}
 use Rattle.std.proofs.Math.Seq.{drop-nil}
-use Rattle.std.proofs.Math.Nat.{mod-add-div, add-mul-mod_self_left}
 use Rattle.std.specs.Prelude.{find, option_map}
 use Rattle.std.specs.List.{list_any}
 use Rattle.std.specs.Option.{option_map_or}
 use Rattle.sof_base.specs.Samples.{Frame}
-use Rattle.fw_ring.specs.RingState.{RingState, capacity_of, place_after}
 use Rattle.fw_components.specs.declared.component.Unit as units
-use Rattle.fw_components.specs.declared.component.Unit.TheVariants.{Host, Dai, Volume, Mixer, Mux, Eq, Buffer, Pipeline}
 use Rattle.fw_components.specs.declared.component.Component.{Component}
 use Rattle.fw_components.specs.Tables.{Tables, unit_frames, capacity_by, held_frames, capacity_at}
 use Rattle.fw_components.specs.Changes.{has_id}
-use Rattle.fw_components.specs.Frames.{channels_by, channels_at, taken_ring, taken_unit, with_taken, pushed_unit, pushed}
-
--- ---- a unit
-
--- a start that goes round twice
-on-twice : (places start a b : ℕ) → place_after places (place_after places start a) b ≡ place_after places start (a + b)
-on-twice zero start a b = refl
-on-twice (suc m) start a b =
-    let whole : start + (a + b) ≡ (start + a) % suc m + b + suc m * ((start + a) / suc m) = omega (arith, mod-add-div (start + a) (suc m)) in
-    sym (ap (λ n. n % suc m) whole ∙ add-mul-mod_self_left ((start + a) % suc m + b) (suc m) ((start + a) / suc m))
-
-ring-twice : (a m : ℕ) (r : RingState) → taken_ring m (taken_ring a r) ≡ taken_ring (a + m) r
-ring-twice a m r =
-    let at : a * r.channels + m * r.channels ≡ (a + m) * r.channels = omega arith in
-    (λ i. record {
-      frames = drop-drop m a r.frames i;
-      words = r.words;
-      channels = r.channels;
-      start = (on-twice (capacity_of r * r.channels) r.start (a * r.channels) (m * r.channels) ∙ ap (place_after (capacity_of r * r.channels) r.start) at) i;
-      piece = r.piece;
-    })
-
-taken-unit : (a m : ℕ) (u : units.Unit) → taken_unit m (taken_unit a u) ≡ taken_unit (a + m) u
-taken-unit a m (Host capture phase params piece) = refl
-taken-unit a m (Dai capture format piece) = refl
-taken-unit a m (Volume gains piece) = refl
-taken-unit a m (Mixer piece) = refl
-taken-unit a m (Mux choice piece) = refl
-taken-unit a m (Eq eq next remaining) = refl
-taken-unit a m (Buffer size ring source sink) = ap (λ r. Buffer size r source sink) (ring-twice a m ring)
-taken-unit a m (Pipeline sched period complete piece) = refl
-
-pushed-unit : (xs ys : List Frame) (v w : List ℤ) (u : units.Unit) → pushed_unit ys w (pushed_unit xs v u) ≡ pushed_unit (xs ++ ys) w u
-pushed-unit xs ys v w (Host capture phase params piece) = refl
-pushed-unit xs ys v w (Dai capture format piece) = refl
-pushed-unit xs ys v w (Volume gains piece) = refl
-pushed-unit xs ys v w (Mixer piece) = refl
-pushed-unit xs ys v w (Mux choice piece) = refl
-pushed-unit xs ys v w (Eq eq next remaining) = refl
-pushed-unit xs ys v w (Buffer size ring source sink) = ap (λ (fs : List Frame). Buffer size (record { frames = fs; words = ring.words; channels = ring.channels; start = ring.start; piece = record { home = ring.piece.home; place = ring.piece.place; size = ring.piece.size; words = w } }) source sink) (append_assoc ring.frames xs ys)
-pushed-unit xs ys v w (Pipeline sched period complete piece) = refl
+use Rattle.fw_components.specs.Frames.{channels_by, channels_at, taken_unit, with_taken, pushed_unit, pushed}
+use Rattle.fw_components.proofs.Units.{taken-unit, pushed-unit, taken-channels, pushed-channels, pushed-capacity, taken-frames, pushed-most}
 
 -- ---- a change of the units under one id
 
@@ -117,58 +74,6 @@ twice-at f g h b is (c ∷ cs) = λ i. one (c.id == b) refl i ∷ twice-at f g h
         ap (λ k. changed_at g b (cond k (to f) c)) it
         ∙ ap (λ k. cond k (to g) c) it
         ∙ sym (ap (λ k. cond k (to h) c) it)
-
--- ---- what stays of a unit
-
-pushed-channels : (fs : List Frame) (w : List ℤ) (u : units.Unit) → channels_by (pushed_unit fs w u) ≡ channels_by u
-pushed-channels fs w (Host capture phase params piece) = refl
-pushed-channels fs w (Dai capture format piece) = refl
-pushed-channels fs w (Volume gains piece) = refl
-pushed-channels fs w (Mixer piece) = refl
-pushed-channels fs w (Mux choice piece) = refl
-pushed-channels fs w (Eq eq next remaining) = refl
-pushed-channels fs w (Buffer size ring source sink) = refl
-pushed-channels fs w (Pipeline sched period complete piece) = refl
-
-pushed-capacity : (fs : List Frame) (w : List ℤ) (u : units.Unit) → capacity_by (pushed_unit fs w u) ≡ capacity_by u
-pushed-capacity fs w (Host capture phase params piece) = refl
-pushed-capacity fs w (Dai capture format piece) = refl
-pushed-capacity fs w (Volume gains piece) = refl
-pushed-capacity fs w (Mixer piece) = refl
-pushed-capacity fs w (Mux choice piece) = refl
-pushed-capacity fs w (Eq eq next remaining) = refl
-pushed-capacity fs w (Buffer size ring source sink) = refl
-pushed-capacity fs w (Pipeline sched period complete piece) = refl
-
-taken-channels : (n : ℕ) (u : units.Unit) → channels_by (taken_unit n u) ≡ channels_by u
-taken-channels n (Host capture phase params piece) = refl
-taken-channels n (Dai capture format piece) = refl
-taken-channels n (Volume gains piece) = refl
-taken-channels n (Mixer piece) = refl
-taken-channels n (Mux choice piece) = refl
-taken-channels n (Eq eq next remaining) = refl
-taken-channels n (Buffer size ring source sink) = refl
-taken-channels n (Pipeline sched period complete piece) = refl
-
-pushed-most : (fs : List Frame) (w : List ℤ) (u : units.Unit) → length (unit_frames (pushed_unit fs w u)) ≤ length (unit_frames u) + length fs
-pushed-most fs w (Host capture phase params piece) = omega arith
-pushed-most fs w (Dai capture format piece) = omega arith
-pushed-most fs w (Volume gains piece) = omega arith
-pushed-most fs w (Mixer piece) = omega arith
-pushed-most fs w (Mux choice piece) = omega arith
-pushed-most fs w (Eq eq next remaining) = omega arith
-pushed-most fs w (Buffer size ring source sink) = omega (arith, length-append ring.frames fs)
-pushed-most fs w (Pipeline sched period complete piece) = omega arith
-
-pub taken-frames : (n : ℕ) (u : units.Unit) → unit_frames (taken_unit n u) ≡ drop n (unit_frames u)
-taken-frames n (Host capture phase params piece) = sym (drop-nil n)
-taken-frames n (Dai capture format piece) = sym (drop-nil n)
-taken-frames n (Volume gains piece) = sym (drop-nil n)
-taken-frames n (Mixer piece) = sym (drop-nil n)
-taken-frames n (Mux choice piece) = sym (drop-nil n)
-taken-frames n (Eq eq next remaining) = sym (drop-nil n)
-taken-frames n (Buffer size ring source sink) = refl
-taken-frames n (Pipeline sched period complete piece) = sym (drop-nil n)
 
 -- what is found has the id
 found-id : (b : ℕ) (cs : List Component) (c : Component) → find (λ c. c.id == b) cs ≡ Some c → c.id ≡ b

@@ -76,23 +76,20 @@ maker-by kinds.Volume is = record { silent = λ v c n most frames. refl; reads =
 maker-by kinds.Eq is = record { silent = λ v c n most frames. refl; reads = refl; single = λ m n h. (two-numbers m n 1 1 h).1; alone = λ m n h picks. (two-numbers m n 1 1 h).0; few = one-few }
 maker-by kinds.Mixer is = record { silent = λ v c n most frames. refl; reads = refl; single = choosy-single; alone = λ m n h picks. absurd (true≢false picks); few = choosy-few }
 maker-by kinds.Mux is = record { silent = λ v c n most frames. refl; reads = refl; single = choosy-single; alone = λ m n h picks. absurd (true≢false picks); few = choosy-few }
-maker-by kinds.HostPlay is = absurd (false≢true is)
-maker-by (kinds.DaiCapture format) is = absurd (false≢true is)
-maker-by kinds.HostCapture is = absurd (false≢true is)
-maker-by (kinds.DaiPlay format) is = absurd (false≢true is)
+maker-by kind is = absurd (false≢true is)
 
 -- a unit of such a kind moves so many
 unit-moves : (u : units.Unit) (inlets : ℕ) → is_plain u ≡ true → (not (is_input (kind_by u)) && not (is_output_kind (kind_by u))) ≡ true → (is_choosy (kind_by u) ≡ false → inlets ≡ 1) → moves_of u inlets ≡ true
-unit-moves (Host true phase params piece) inlets plain is one = absurd (false≢true is)
-unit-moves (Host false phase params piece) inlets plain is one = absurd (false≢true is)
-unit-moves (Dai true format piece) inlets plain is one = absurd (false≢true is)
-unit-moves (Dai false format piece) inlets plain is one = absurd (false≢true is)
 unit-moves (Volume gains piece) inlets plain is one = eq-eqb inlets 1 (one refl)
 unit-moves (Mixer piece) inlets plain is one = refl
 unit-moves (Mux choice piece) inlets plain is one = refl
 unit-moves (Eq eq next remaining) inlets plain is one = eq-eqb inlets 1 (one refl)
 unit-moves (Buffer size ring source sink) inlets plain is one = absurd (false≢true plain)
 unit-moves (Pipeline sched period complete piece) inlets plain is one = absurd (false≢true plain)
+unit-moves (Host true phase params piece) inlets plain is one = absurd (false≢true is)
+unit-moves (Host false phase params piece) inlets plain is one = absurd (false≢true is)
+unit-moves (Dai true format piece) inlets plain is one = absurd (false≢true is)
+unit-moves (Dai false format piece) inlets plain is one = absurd (false≢true is)
 
 -- ---- lists
 

@@ -16,9 +16,9 @@ use Rattle.stream_law.specs.Move.{Audio}
 use Rattle.row_laws.specs.Wired.{IsWired, HasJoinedSides}
 use Rattle.row_laws.specs.Played.{AreStreamsPlayable}
 use Rattle.fw_components.specs.declared.component.Unit as units
-use Rattle.fw_components.specs.declared.component.Unit.TheVariants.{Host, Dai, Volume, Mixer, Mux, Eq, Buffer, Pipeline}
+use Rattle.fw_components.specs.declared.component.Unit.TheVariants.{Buffer}
 use Rattle.fw_components.specs.declared.component.Component.{Component}
-use Rattle.fw_components.specs.Tables.{Tables, piece_of, comp_by, edge_by, kind_by, setting_by, graph_of, streams_by, with_stream_by, view_by, streams_of, ring_by, rings_of, unit_frames, piece_by, pieces_by, carved_pieces, is_buffer}
+use Rattle.fw_components.specs.Tables.{Tables, piece_of, comp_by, edge_by, kind_by, setting_by, graph_of, streams_by, with_stream_by, view_by, streams_of, ring_by, rings_of, unit_frames, piece_by, pieces_by, carved_pieces}
 use Rattle.fw_components.specs.Changes.{has_id, IsOfHome}
 use Rattle.fw_components.specs.Kept.{IsKept, IsBuffering}
 use Rattle.fw_components.specs.Frames.{channels_by, taken_unit, taken_at, with_taken, pushed_unit, pushed_at, pushed, with_frames}
@@ -26,7 +26,7 @@ use Rattle.fw_components.specs.Processed.{drained_at, run_unit, run_at, processe
 use Rattle.fw_components.specs.States.{AreOf}
 use Rattle.fw_schedule.specs.Ticks.{CanTick}
 use Rattle.fw_schedule.specs.Stages.{bare_unit, bare_by, bare_of, heard_ring}
-use Rattle.fw_schedule.proofs.OneBuffer.{taken-frames}
+use Rattle.fw_components.proofs.Units.{taken-frames, pushed-frames}
 
 map-same : {Y : Type 0} (view : Component → Y) (change : Component → Component) → ((c : Component) → view (change c) ≡ view c) → (cs : List Component) → map view (map change cs) ≡ map view cs
 map-same view change same [] = refl
@@ -35,34 +35,16 @@ map-same view change same (c ∷ cs) = λ i. same c i ∷ map-same view change s
 -- ---- what changes of a unit is what is bare of it
 
 taken-bare : (n : ℕ) (u : units.Unit) → bare_unit (taken_unit n u) ≡ bare_unit u
-taken-bare n (Host capture phase params piece) = refl
-taken-bare n (Dai capture format piece) = refl
-taken-bare n (Volume gains piece) = refl
-taken-bare n (Mixer piece) = refl
-taken-bare n (Mux choice piece) = refl
-taken-bare n (Eq eq next remaining) = refl
 taken-bare n (Buffer size ring source sink) = refl
-taken-bare n (Pipeline sched period complete piece) = refl
+taken-bare n u = refl
 
 pushed-bare : (fs : List Frame) (w : List ℤ) (u : units.Unit) → bare_unit (pushed_unit fs w u) ≡ bare_unit u
-pushed-bare fs w (Host capture phase params piece) = refl
-pushed-bare fs w (Dai capture format piece) = refl
-pushed-bare fs w (Volume gains piece) = refl
-pushed-bare fs w (Mixer piece) = refl
-pushed-bare fs w (Mux choice piece) = refl
-pushed-bare fs w (Eq eq next remaining) = refl
 pushed-bare fs w (Buffer size ring source sink) = refl
-pushed-bare fs w (Pipeline sched period complete piece) = refl
+pushed-bare fs w u = refl
 
 run-bare : (w : List ℤ) (u : units.Unit) → bare_unit (run_unit w u) ≡ bare_unit u
-run-bare w (Host capture phase params piece) = refl
-run-bare w (Dai capture format piece) = refl
-run-bare w (Volume gains piece) = refl
-run-bare w (Mixer piece) = refl
-run-bare w (Mux choice piece) = refl
-run-bare w (Eq eq next remaining) = refl
 run-bare w (Buffer size ring source sink) = refl
-run-bare w (Pipeline sched period complete piece) = refl
+run-bare w u = refl
 
 -- a component whose unit changes where a test holds
 where-bare : (f : units.Unit → units.Unit) → ((u : units.Unit) → bare_unit (f u) ≡ bare_unit u) → (h : Bool) (c : Component) → bare_by (cond h (record { id = c.id; pipe = c.pipe; channels = c.channels; unit = f c.unit }) c) ≡ bare_by c
@@ -91,50 +73,26 @@ bare-comp : (c : Component) → comp_by (bare_by c) ≡ comp_by c
 bare-comp c = λ i. record { id = c.id; kind = kind c.unit i; pipe = c.pipe; setting = setting c.unit i }
   where
     kind : (u : units.Unit) → kind_by (bare_unit u) ≡ kind_by u
-    kind (Host capture phase params piece) = refl
-    kind (Dai capture format piece) = refl
-    kind (Volume gains piece) = refl
-    kind (Mixer piece) = refl
-    kind (Mux choice piece) = refl
-    kind (Eq eq next remaining) = refl
     kind (Buffer size ring source sink) = refl
-    kind (Pipeline sched period complete piece) = refl
+    kind u = refl
 
     setting : (u : units.Unit) → setting_by (bare_unit u) ≡ setting_by u
-    setting (Host capture phase params piece) = refl
-    setting (Dai capture format piece) = refl
-    setting (Volume gains piece) = refl
-    setting (Mixer piece) = refl
-    setting (Mux choice piece) = refl
-    setting (Eq eq next remaining) = refl
     setting (Buffer size ring source sink) = refl
-    setting (Pipeline sched period complete piece) = refl
+    setting u = refl
 
 bare-edge : (c : Component) → edge_by (bare_by c) ≡ edge_by c
 bare-edge c = by c.unit
   where
     by : (u : units.Unit) → edge_by (record { id = c.id; pipe = c.pipe; channels = c.channels; unit = bare_unit u }) ≡ edge_by (record { id = c.id; pipe = c.pipe; channels = c.channels; unit = u })
-    by (Host capture phase params piece) = refl
-    by (Dai capture format piece) = refl
-    by (Volume gains piece) = refl
-    by (Mixer piece) = refl
-    by (Mux choice piece) = refl
-    by (Eq eq next remaining) = refl
     by (Buffer size ring source sink) = refl
-    by (Pipeline sched period complete piece) = refl
+    by u = refl
 
 graph-bare : (t : Tables) → graph_of (bare_of t) ≡ graph_of t
 graph-bare t = λ i. record { comps = map-same comp_by bare_by bare-comp t.comps i; edges = map-same edge_by bare_by bare-edge t.buffers i; pipes = (graph_of t).pipes; joins = t.joins }
 
 bare-stream : (id : ℕ) (u : units.Unit) (ss : List StreamView) → with_stream_by id (bare_unit u) ss ≡ with_stream_by id u ss
-bare-stream id (Host capture phase params piece) ss = refl
-bare-stream id (Dai capture format piece) ss = refl
-bare-stream id (Volume gains piece) ss = refl
-bare-stream id (Mixer piece) ss = refl
-bare-stream id (Mux choice piece) ss = refl
-bare-stream id (Eq eq next remaining) ss = refl
 bare-stream id (Buffer size ring source sink) ss = refl
-bare-stream id (Pipeline sched period complete piece) ss = refl
+bare-stream id u ss = refl
 
 streams-bare : (cs : List Component) → streams_by (map bare_by cs) ≡ streams_by cs
 streams-bare [] = refl
@@ -155,14 +113,8 @@ bare-piece : (c : Component) → piece_by (bare_by c) ≡ piece_by c
 bare-piece c = by c.unit
   where
     by : (u : units.Unit) → piece_by (record { id = c.id; pipe = c.pipe; channels = c.channels; unit = bare_unit u }) ≡ piece_by (record { id = c.id; pipe = c.pipe; channels = c.channels; unit = u })
-    by (Host capture phase params piece) = refl
-    by (Dai capture format piece) = refl
-    by (Volume gains piece) = refl
-    by (Mixer piece) = refl
-    by (Mux choice piece) = refl
-    by (Eq eq next remaining) = refl
     by (Buffer size ring source sink) = refl
-    by (Pipeline sched period complete piece) = refl
+    by u = refl
 
 pieces-front : (cs ds es : List Component) → pieces_by ds ≡ pieces_by es → pieces_by (map bare_by cs ++ ds) ≡ pieces_by (cs ++ es)
 pieces-front [] ds es same = same
@@ -175,14 +127,8 @@ pub pieces-still : (t u : Tables) → bare_of t ≡ bare_of u → carved_pieces 
 pieces-still t u same = sym (pieces-bare t) ∙ ap carved_pieces same ∙ pieces-bare u
 
 home-bare : (u : units.Unit) → (piece_of (bare_unit u)).home ≡ (piece_of u).home
-home-bare (Host capture phase params piece) = refl
-home-bare (Dai capture format piece) = refl
-home-bare (Volume gains piece) = refl
-home-bare (Mixer piece) = refl
-home-bare (Mux choice piece) = refl
-home-bare (Eq eq next remaining) = refl
 home-bare (Buffer size ring source sink) = refl
-home-bare (Pipeline sched period complete piece) = refl
+home-bare u = refl
 
 module _ (home : Home) where
   homes-in : (cs ds es : List Component) → (AllByRecursion (IsOfHome home) ds → AllByRecursion (IsOfHome home) es) → AllByRecursion (IsOfHome home) (cs ++ ds) → AllByRecursion (IsOfHome home) (map bare_by cs ++ es)
@@ -202,14 +148,8 @@ module _ (home : Home) where
 -- ---- when a tick can be made
 
 channels-bare : (u : units.Unit) → channels_by (bare_unit u) ≡ channels_by u
-channels-bare (Host capture phase params piece) = refl
-channels-bare (Dai capture format piece) = refl
-channels-bare (Volume gains piece) = refl
-channels-bare (Mixer piece) = refl
-channels-bare (Mux choice piece) = refl
-channels-bare (Eq eq next remaining) = refl
 channels-bare (Buffer size ring source sink) = refl
-channels-bare (Pipeline sched period complete piece) = refl
+channels-bare u = refl
 
 module _ (v : View) where
   abbrev AreWide : List Component → Type 0
@@ -266,16 +206,6 @@ rings-taken b n t = all t.buffers
     all : (cs : List Component) → map ring_by (map (taken_at b n) cs) ≡ map (with_frames (drop n) b) (map ring_by cs)
     all [] = refl
     all (c ∷ cs) = λ i. where-frames (drop n) (taken_unit n) b c (taken-frames n c.unit) i ∷ all cs i
-
-pushed-frames : (fs : List Frame) (w : List ℤ) (u : units.Unit) → is_buffer u ≡ true → unit_frames (pushed_unit fs w u) ≡ unit_frames u ++ fs
-pushed-frames fs w (Host capture phase params piece) is = absurd (false≢true is)
-pushed-frames fs w (Dai capture format piece) is = absurd (false≢true is)
-pushed-frames fs w (Volume gains piece) is = absurd (false≢true is)
-pushed-frames fs w (Mixer piece) is = absurd (false≢true is)
-pushed-frames fs w (Mux choice piece) is = absurd (false≢true is)
-pushed-frames fs w (Eq eq next remaining) is = absurd (false≢true is)
-pushed-frames fs w (Buffer size ring source sink) is = refl
-pushed-frames fs w (Pipeline sched period complete piece) is = absurd (false≢true is)
 
 pub rings-pushed : (b : ℕ) (fs : List Frame) (w : List ℤ) (t : Tables) → IsKept t → rings_of (pushed b fs w t) ≡ map (with_frames (λ own. own ++ fs) b) (rings_of t)
 rings-pushed b fs w t kept = all t.buffers kept.buffering

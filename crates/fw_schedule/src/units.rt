@@ -17,13 +17,7 @@ pub(crate) fn stream_in(unit: &Unit) -> (Phase, Option<Params>)
 {
     match unit {
         Unit::Host { phase, params, .. } => (*phase, *params),
-        Unit::Dai { .. } => (Phase::Idle, None),
-        Unit::Volume { .. } => (Phase::Idle, None),
-        Unit::Mixer { .. } => (Phase::Idle, None),
-        Unit::Mux { .. } => (Phase::Idle, None),
-        Unit::Eq { .. } => (Phase::Idle, None),
-        Unit::Buffer { .. } => (Phase::Idle, None),
-        Unit::Pipeline { .. } => (Phase::Idle, None),
+        _ => (Phase::Idle, None),
     }
 }
 
@@ -37,12 +31,7 @@ pub(crate) fn format_in(unit: &Unit) -> Format
             None => Format::S32,
         },
         Unit::Dai { format, .. } => *format,
-        Unit::Volume { .. } => Format::S32,
-        Unit::Mixer { .. } => Format::S32,
-        Unit::Mux { .. } => Format::S32,
-        Unit::Eq { .. } => Format::S32,
-        Unit::Buffer { .. } => Format::S32,
-        Unit::Pipeline { .. } => Format::S32,
+        _ => Format::S32,
     }
 }
 
@@ -100,13 +89,7 @@ fn period_of(unit: &Unit) -> u32
     ensures { result ≡ period_by unit.now }
 {
     match unit {
-        Unit::Host { .. } => 0,
-        Unit::Dai { .. } => 0,
-        Unit::Volume { .. } => 0,
-        Unit::Mixer { .. } => 0,
-        Unit::Mux { .. } => 0,
-        Unit::Eq { .. } => 0,
-        Unit::Buffer { .. } => 0,
         Unit::Pipeline { period, .. } => *period,
+        _ => 0,
     }
 }

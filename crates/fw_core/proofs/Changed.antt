@@ -16,7 +16,7 @@ use Rattle.row_laws.proofs.RowKept.{connect-kept, pipe_complete-kept}
 use Rattle.fw_heap.specs.Regions.{RegionState}
 use Rattle.fw_components.specs.declared.component.Component.{Component}
 use Rattle.fw_components.specs.declared.component.Unit as units
-use Rattle.fw_components.specs.declared.component.Unit.TheVariants.{Host, Dai, Volume, Mixer, Mux, Eq, Buffer, Pipeline}
+use Rattle.fw_components.specs.declared.component.Unit.TheVariants.{Buffer}
 use Rattle.fw_components.specs.Frames.{channels_by}
 use Rattle.fw_components.specs.Tables.{Tables, all_of, view_by, ring_by, rings_of, histories_of, staging_of, carved_pieces, comp_by}
 use Rattle.fw_components.specs.Changes.{joined_at, sunk_unit, sourced_unit, tables_with_join, completed_at}
@@ -65,24 +65,12 @@ same-comps t r held c d in_c in_d same = ap history (one-key (λ (c : Component)
 
 -- a join leaves ids and channels
 sunk-frames : (id : ℕ) (u : units.Unit) → channels_by (sunk_unit id u) ≡ channels_by u
-sunk-frames id (Host capture phase params piece) = refl
-sunk-frames id (Dai capture format piece) = refl
-sunk-frames id (Volume gains piece) = refl
-sunk-frames id (Mixer piece) = refl
-sunk-frames id (Mux choice piece) = refl
-sunk-frames id (Eq eq next remaining) = refl
 sunk-frames id (Buffer size ring source sink) = refl
-sunk-frames id (Pipeline sched period complete piece) = refl
+sunk-frames id u = refl
 
 sourced-frames : (id : ℕ) (u : units.Unit) → channels_by (sourced_unit id u) ≡ channels_by u
-sourced-frames id (Host capture phase params piece) = refl
-sourced-frames id (Dai capture format piece) = refl
-sourced-frames id (Volume gains piece) = refl
-sourced-frames id (Mixer piece) = refl
-sourced-frames id (Mux choice piece) = refl
-sourced-frames id (Eq eq next remaining) = refl
 sourced-frames id (Buffer size ring source sink) = refl
-sourced-frames id (Pipeline sched period complete piece) = refl
+sourced-frames id u = refl
 
 joined-id : (j : Join) (c : Component) → (joined_at j c).id ≡ c.id
 joined-id j c = by (c.id == j.source) (c.id == j.sink)

@@ -24,7 +24,7 @@ use Rattle.fw_heap.specs.declared.run.Home.{Home}
 use Rattle.fw_heap.specs.Regions.{RegionState}
 use Rattle.fw_components.specs.declared.component.Component.{Component}
 use Rattle.fw_components.specs.declared.component.Unit as units
-use Rattle.fw_components.specs.declared.component.Unit.TheVariants.{Host, Dai, Volume, Mixer, Mux, Eq, Buffer, Pipeline}
+use Rattle.fw_components.specs.declared.component.Unit.TheVariants.{Eq, Buffer}
 use Rattle.fw_components.specs.Tables.{Tables, all_of, view_by, graph_of, ring_by, rings_of, histories_of, staging_by, staging_of, carved_pieces, pieces_by, piece_by, with_staging_by}
 use Rattle.fw_components.specs.Changes.{has_id, tables_without, without_by, given_found, found, IsOfHome}
 use Rattle.fw_walks.proofs.Naming.{comp-named, edge-named, pipe-named}
@@ -138,20 +138,10 @@ stage-gone id eq (Eq e next remaining) h is ss = by h is (remaining == 0)
     by true is true = refl
     by false is true = refl
     by h is false = ap (λ h. cond (not h) (record { eq = eq; bytes = take (32 + 260 * next) (staged_of e); next = next; remaining = remaining } ∷ filter (λ s. not (s.eq == id)) ss) (filter (λ s. not (s.eq == id)) ss)) is
-stage-gone id eq (Host capture phase params piece) true is ss = refl
-stage-gone id eq (Host capture phase params piece) false is ss = refl
-stage-gone id eq (Dai capture format piece) true is ss = refl
-stage-gone id eq (Dai capture format piece) false is ss = refl
-stage-gone id eq (Volume gains piece) true is ss = refl
-stage-gone id eq (Volume gains piece) false is ss = refl
-stage-gone id eq (Mixer piece) true is ss = refl
-stage-gone id eq (Mixer piece) false is ss = refl
-stage-gone id eq (Mux choice piece) true is ss = refl
-stage-gone id eq (Mux choice piece) false is ss = refl
 stage-gone id eq (Buffer size ring source sink) true is ss = refl
 stage-gone id eq (Buffer size ring source sink) false is ss = refl
-stage-gone id eq (Pipeline sched period complete piece) true is ss = refl
-stage-gone id eq (Pipeline sched period complete piece) false is ss = refl
+stage-gone id eq u true is ss = refl
+stage-gone id eq u false is ss = refl
 
 stages-gone : (id : ℕ) (cs : List Component) → staging_by (filter (λ c. not (c.id == id)) cs) ≡ filter (λ s. not (s.eq == id)) (staging_by cs)
 stages-gone id [] = refl

@@ -34,7 +34,7 @@ use Rattle.fw_heap.specs.Pieces.{PieceState}
 use Rattle.fw_ring.specs.RingState.{RingState}
 use Rattle.fw_components.specs.declared.component.Component.{Component}
 use Rattle.fw_components.specs.declared.component.Unit as units
-use Rattle.fw_components.specs.declared.component.Unit.TheVariants.{Host, Dai, Volume, Mixer, Mux, Eq, Buffer, Pipeline}
+use Rattle.fw_components.specs.declared.component.Unit.TheVariants.{Host, Dai, Eq, Buffer, Pipeline}
 use Rattle.fw_components.specs.Tables.{Tables, view_by, graph_of, comp_by, edge_by, pipe_by, kind_by, setting_by, piece_of, piece_by, pieces_by, carved_pieces, ring_by, rings_of, streams_by, streams_of, staging_by, histories_of, with_stream_by, with_staging_by, is_buffer, is_pipeline}
 use Rattle.fw_components.specs.Changes.{has_id, IsOfHome, IsNew, is_idle_phase, added, added_by}
 use Rattle.fw_walks.proofs.Naming.{comp-named, edge-named, pipe-named}
@@ -102,13 +102,7 @@ above-streams n (c ∷ cs) all = by c.unit (above-streams n cs all.1)
   where
     by : (u : units.Unit) → AreAbove (λ (s : StreamView). s.host) n (streams_by cs) → AreAbove (λ (s : StreamView). s.host) n (with_stream_by c.id u (streams_by cs))
     by (Host capture phase params piece) rest = (all.0, rest)
-    by (Dai capture format piece) rest = rest
-    by (Volume gains piece) rest = rest
-    by (Mixer piece) rest = rest
-    by (Mux choice piece) rest = rest
-    by (Eq eq next remaining) rest = rest
-    by (Buffer size ring source sink) rest = rest
-    by (Pipeline sched period complete piece) rest = rest
+    by u rest = rest
 
 -- one that brings no stream
 streams-same : (c : Component) (cs : List Component) → ((ss : List StreamView) → with_stream_by c.id c.unit ss ≡ ss) → streams_by (placed (λ (x : Component). x.id) c cs) ≡ streams_by cs
@@ -127,13 +121,7 @@ streams-more c s (y ∷ ys) host one up = by (nat_lt c.id y.id) refl (streams-mo
   where
     later : nat_lt c.id y.id ≡ false → (u : units.Unit) (ss : List StreamView) → with_stream_by y.id u (placed (λ (s : StreamView). s.host) s ss) ≡ placed (λ (s : StreamView). s.host) s (with_stream_by y.id u ss)
     later e (Host capture phase params piece) ss = sym (ap (λ h. cond h (s ∷ record { host = y.id; phase = phase; params = params } ∷ ss) (record { host = y.id; phase = phase; params = params } ∷ placed (λ (s : StreamView). s.host) s ss)) (ap (λ n. nat_lt n y.id) host ∙ e))
-    later e (Dai capture format piece) ss = refl
-    later e (Volume gains piece) ss = refl
-    later e (Mixer piece) ss = refl
-    later e (Mux choice piece) ss = refl
-    later e (Eq eq next remaining) ss = refl
-    later e (Buffer size ring source sink) ss = refl
-    later e (Pipeline sched period complete piece) ss = refl
+    later e u ss = refl
 
     by : (h : Bool) → nat_lt c.id y.id ≡ h → streams_by (placed (λ (x : Component). x.id) c ys) ≡ placed (λ (s : StreamView). s.host) s (streams_by ys) → streams_by (cond h (c ∷ y ∷ ys) (y ∷ placed (λ (x : Component). x.id) c ys)) ≡ placed (λ (s : StreamView). s.host) s (streams_by (y ∷ ys))
     by true e rest = one (streams_by (y ∷ ys)) ∙ sym (placed-first (λ (s : StreamView). s.host) s (streams_by (y ∷ ys)) (subst (λ n. AreAbove (λ (s : StreamView). s.host) n (streams_by (y ∷ ys))) (sym host) (above-streams c.id (y ∷ ys) (let h = ltb-true c.id y.id e in (h, AreAbove-below (λ (x : Component). x.id) c.id y.id ys h up.0)))))
@@ -157,26 +145,17 @@ streams-new c cs new plain other up = by c.unit refl new plain other
     by : (u : units.Unit) → c.unit ≡ u → IsNew u → is_buffer u ≡ false → is_pipeline u ≡ false → streams_by (placed (λ (x : Component). x.id) c cs) ≡ rows.with_host_stream c.id (kind_by u) (streams_by cs)
     by (Host true phase params piece) is new plain other = host true phase params piece is (idle phase new.0) new.1
     by (Host false phase params piece) is new plain other = host false phase params piece is (idle phase new.0) new.1
-    by (Dai true format piece) is new plain other = streams-same c cs (λ ss. ap (λ (u : units.Unit). with_stream_by c.id u ss) is)
-    by (Dai false format piece) is new plain other = streams-same c cs (λ ss. ap (λ (u : units.Unit). with_stream_by c.id u ss) is)
-    by (Volume gains piece) is new plain other = streams-same c cs (λ ss. ap (λ (u : units.Unit). with_stream_by c.id u ss) is)
-    by (Mixer piece) is new plain other = streams-same c cs (λ ss. ap (λ (u : units.Unit). with_stream_by c.id u ss) is)
-    by (Mux choice piece) is new plain other = streams-same c cs (λ ss. ap (λ (u : units.Unit). with_stream_by c.id u ss) is)
-    by (Eq eq next remaining) is new plain other = streams-same c cs (λ ss. ap (λ (u : units.Unit). with_stream_by c.id u ss) is)
     by (Buffer size ring source sink) is new plain other = cc
     by (Pipeline sched period complete piece) is new plain other = cc
+    by (Dai true format piece) is new plain other = streams-same c cs (λ ss. ap (λ (u : units.Unit). with_stream_by c.id u ss) is)
+    by (Dai false format piece) is new plain other = streams-same c cs (λ ss. ap (λ (u : units.Unit). with_stream_by c.id u ss) is)
+    by unit is new plain other = streams-same c cs (λ ss. ap (λ (u : units.Unit). with_stream_by c.id u ss) is)
 
 -- ---- nothing is staged
 
 stages-none : (id : ℕ) (u : units.Unit) (ss : List Staging) → IsNew u → with_staging_by id u ss ≡ ss
-stages-none id (Host capture phase params piece) ss new = refl
-stages-none id (Dai capture format piece) ss new = refl
-stages-none id (Volume gains piece) ss new = refl
-stages-none id (Mixer piece) ss new = refl
-stages-none id (Mux choice piece) ss new = refl
 stages-none id (Eq eq next remaining) ss new = ap (λ n. with_staging_by id (Eq eq next n) ss) new.1
-stages-none id (Buffer size ring source sink) ss new = refl
-stages-none id (Pipeline sched period complete piece) ss new = refl
+stages-none id u ss new = refl
 
 stages-new : (c : Component) (cs : List Component) → IsNew c.unit → staging_by (placed (λ (x : Component). x.id) c cs) ≡ staging_by cs
 stages-new c [] new = stages-none c.id c.unit [] new
@@ -198,13 +177,7 @@ carve-whole f id bytes kept some hole unused = (carve-tiled (heap_bytes f.heap) 
 
 some-bytes : (k : Kind) → 0 < rows.comp_bytes k
 some-bytes kinds.HostPlay = omega arith
-some-bytes kinds.HostCapture = omega arith
-some-bytes (kinds.DaiPlay format) = omega arith
-some-bytes (kinds.DaiCapture format) = omega arith
-some-bytes kinds.Volume = omega arith
-some-bytes kinds.Mixer = omega arith
-some-bytes kinds.Mux = omega arith
-some-bytes kinds.Eq = omega arith
+some-bytes kind = omega arith
 
 homes-parts : (home : Home) (xs ys : List Component) → AllByRecursion (IsOfHome home) (xs ++ ys) → AllByRecursion (IsOfHome home) xs × AllByRecursion (IsOfHome home) ys
 homes-parts home [] ys all = (tt, all)

@@ -9,7 +9,7 @@ use Rattle.stream_law.specs.Placed.{placed, AreAbove, Ascends}
 use Rattle.mbox_link.specs.Step.{unstaged}
 use Rattle.fw_components.specs.declared.component.Component.{Component}
 use Rattle.fw_components.specs.declared.component.Unit as units
-use Rattle.fw_components.specs.declared.component.Unit.TheVariants.{Host, Dai, Volume, Mixer, Mux, Eq, Buffer, Pipeline}
+use Rattle.fw_components.specs.declared.component.Unit.TheVariants.{Eq}
 use Rattle.fw_components.specs.Tables.{staging_by, with_staging_by}
 use Rattle.fw_components.specs.Parts.{staging_one, parted_by, parted_at}
 
@@ -31,32 +31,20 @@ put None ss = ss
 put (Some s) ss = placed (λ s. s.eq) s ss
 
 front-is : (id : ℕ) (u : units.Unit) (ss : List Staging) → with_staging_by id u ss ≡ in_front (staging_one id u) ss
-front-is id (Host capture phase params piece) ss = refl
-front-is id (Dai capture format piece) ss = refl
-front-is id (Volume gains piece) ss = refl
-front-is id (Mixer piece) ss = refl
-front-is id (Mux choice piece) ss = refl
 front-is id (Eq eq next remaining) ss = by (remaining == 0)
   where
     by : (h : Bool) → cond h ss (record { eq = id; bytes = take (32 + 260 * next) (staged_of eq); next = next; remaining = remaining } ∷ ss) ≡ in_front (cond h None (Some (record { eq = id; bytes = take (32 + 260 * next) (staged_of eq); next = next; remaining = remaining }))) ss
     by true = refl
     by false = refl
-front-is id (Buffer size ring source sink) ss = refl
-front-is id (Pipeline sched period complete piece) ss = refl
+front-is id u ss = refl
 
 pub under-own : (id : ℕ) (u : units.Unit) → IsUnder id (staging_one id u)
-under-own id (Host capture phase params piece) = tt
-under-own id (Dai capture format piece) = tt
-under-own id (Volume gains piece) = tt
-under-own id (Mixer piece) = tt
-under-own id (Mux choice piece) = tt
 under-own id (Eq eq next remaining) = by (remaining == 0)
   where
     by : (h : Bool) → IsUnder id (cond h None (Some (record { eq = id; bytes = take (32 + 260 * next) (staged_of eq); next = next; remaining = remaining })))
     by true = tt
     by false = refl
-under-own id (Buffer size ring source sink) = tt
-under-own id (Pipeline sched period complete piece) = tt
+under-own id u = tt
 
 -- all that is staged is above what the components are above
 staged-above : (n : ℕ) (cs : List Component) → AreAbove (λ c. c.id) n cs → AreAbove (λ s. s.eq) n (staging_by cs)

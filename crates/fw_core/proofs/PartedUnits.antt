@@ -13,7 +13,7 @@ use Rattle.stream_law.proofs.Members.{IsIn}
 use Rattle.mbox_link.specs.Step as rows
 use Rattle.fw_components.specs.declared.component.Component.{Component}
 use Rattle.fw_components.specs.declared.component.Unit as units
-use Rattle.fw_components.specs.declared.component.Unit.TheVariants.{Host, Dai, Volume, Mixer, Mux, Eq, Buffer, Pipeline}
+use Rattle.fw_components.specs.declared.component.Unit.TheVariants.{Host, Dai, Eq, Buffer}
 use Rattle.fw_components.specs.Tables.{comp_by, kind_by, setting_by, streams_by, with_stream_by}
 use Rattle.fw_parts.specs.Staged.{staging_in, fits_behind}
 use Rattle.fw_components.specs.Parts.{staging_one, joined_bytes, takes_part, parted_unit, parted_by, parted_at}
@@ -25,34 +25,16 @@ use Rattle.fw_core.proofs.Channels.{moves, frames}
 
 module _ (id : ℕ) (part : Part) (words : List ℤ) where
   pub parted-kind : (u : units.Unit) → kind_by (parted_unit id part words u) ≡ kind_by u
-  parted-kind (Host capture phase params piece) = refl
-  parted-kind (Dai capture format piece) = refl
-  parted-kind (Volume gains piece) = refl
-  parted-kind (Mixer piece) = refl
-  parted-kind (Mux choice piece) = refl
-  parted-kind (Eq eq next remaining) = refl
   parted-kind (Buffer size ring source sink) = refl
-  parted-kind (Pipeline sched period complete piece) = refl
+  parted-kind u = refl
 
   parted-stream : (u : units.Unit) (ss : List StreamView) → with_stream_by id (parted_unit id part words u) ss ≡ with_stream_by id u ss
-  parted-stream (Host capture phase params piece) ss = refl
-  parted-stream (Dai capture format piece) ss = refl
-  parted-stream (Volume gains piece) ss = refl
-  parted-stream (Mixer piece) ss = refl
-  parted-stream (Mux choice piece) ss = refl
-  parted-stream (Eq eq next remaining) ss = refl
   parted-stream (Buffer size ring source sink) ss = refl
-  parted-stream (Pipeline sched period complete piece) ss = refl
+  parted-stream u ss = refl
 
   parted-seat : (pipe channels : ℕ) (u : units.Unit) → seat (record { id = id; pipe = pipe; channels = channels; unit = parted_unit id part words u }) ≡ seat (record { id = id; pipe = pipe; channels = channels; unit = u })
-  parted-seat pipe channels (Host capture phase params piece) = refl
-  parted-seat pipe channels (Dai capture format piece) = refl
-  parted-seat pipe channels (Volume gains piece) = refl
-  parted-seat pipe channels (Mixer piece) = refl
-  parted-seat pipe channels (Mux choice piece) = refl
-  parted-seat pipe channels (Eq eq next remaining) = refl
   parted-seat pipe channels (Buffer size ring source sink) = refl
-  parted-seat pipe channels (Pipeline sched period complete piece) = refl
+  parted-seat pipe channels u = refl
 
   -- the blob in force is that of the last part, and stays with any other
   pub parted-setting : (u : units.Unit) → takes_part id u part ≡ true → setting_by (parted_unit id part words u) ≡ cond (part.remaining == 0) (Blob (joined_bytes id u part)) (setting_by u)
@@ -61,13 +43,7 @@ module _ (id : ℕ) (part : Part) (words : List ℤ) where
       by : (h : Bool) → Blob (cond h (rows.staged_bytes (staging_in id (staged_of eq) next remaining) part) eq.blob) ≡ cond h (Blob (rows.staged_bytes (staging_in id (staged_of eq) next remaining) part)) (Blob eq.blob)
       by true = refl
       by false = refl
-  parted-setting (Host capture phase params piece) taken = absurd (false≢true taken)
-  parted-setting (Dai capture format piece) taken = absurd (false≢true taken)
-  parted-setting (Volume gains piece) taken = absurd (false≢true taken)
-  parted-setting (Mixer piece) taken = absurd (false≢true taken)
-  parted-setting (Mux choice piece) taken = absurd (false≢true taken)
-  parted-setting (Buffer size ring source sink) taken = absurd (false≢true taken)
-  parted-setting (Pipeline sched period complete piece) taken = absurd (false≢true taken)
+  parted-setting u taken = absurd (false≢true taken)
 
 -- which parts a unit takes is what the row asks of its kind and of what is staged
 pub takes-row : (id : ℕ) (u : units.Unit) (part : Part) → takes_part id u part ≡ (is_equaliser (kind_by u) && fits_behind (staging_one id u) part)
@@ -75,12 +51,7 @@ takes-row id (Host true phase params piece) part = refl
 takes-row id (Host false phase params piece) part = refl
 takes-row id (Dai true format piece) part = refl
 takes-row id (Dai false format piece) part = refl
-takes-row id (Volume gains piece) part = refl
-takes-row id (Mixer piece) part = refl
-takes-row id (Mux choice piece) part = refl
-takes-row id (Eq eq next remaining) part = refl
-takes-row id (Buffer size ring source sink) part = refl
-takes-row id (Pipeline sched period complete piece) part = refl
+takes-row id u part = refl
 
 -- ---- and of lists of components
 

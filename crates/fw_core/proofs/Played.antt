@@ -16,7 +16,7 @@ use Rattle.row_laws.specs.Kept.{IsKeptState}
 use Rattle.fw_heap.specs.Regions.{RegionState}
 use Rattle.fw_components.specs.declared.component.Component.{Component}
 use Rattle.fw_components.specs.declared.component.Unit as units
-use Rattle.fw_components.specs.declared.component.Unit.TheVariants.{Host, Dai, Volume, Mixer, Mux, Eq, Buffer, Pipeline}
+use Rattle.fw_components.specs.declared.component.Unit.TheVariants.{Buffer}
 use Rattle.fw_components.specs.Tables.{Tables, view_by, graph_of, is_buffer}
 use Rattle.fw_components.specs.Changes.{set_at, set_unit, ended_unit}
 use Rattle.fw_components.specs.Kept as tables
@@ -66,23 +66,11 @@ module _ (t u : Tables) (r : RegionState) (host direction : ℕ) (p : Params) (h
 -- one of a buffer that begins has the channels that it begins with
 begun-frames : (channels : ℕ) (u : units.Unit) → is_buffer u ≡ true → channels_by (begun_unit channels [] u) ≡ channels
 begun-frames channels (Buffer size ring source sink) is = refl
-begun-frames channels (Host capture phase params piece) is = cc
-begun-frames channels (Dai capture format piece) is = cc
-begun-frames channels (Volume gains piece) is = cc
-begun-frames channels (Mixer piece) is = cc
-begun-frames channels (Mux choice piece) is = cc
-begun-frames channels (Eq eq next remaining) is = cc
-begun-frames channels (Pipeline sched period complete piece) is = cc
+begun-frames channels u is = cc
 
 ended-frames : (u : units.Unit) → channels_by (ended_unit u) ≡ channels_by u
-ended-frames (Host capture phase params piece) = refl
-ended-frames (Dai capture format piece) = refl
-ended-frames (Volume gains piece) = refl
-ended-frames (Mixer piece) = refl
-ended-frames (Mux choice piece) = refl
-ended-frames (Eq eq next remaining) = refl
 ended-frames (Buffer size ring source sink) = refl
-ended-frames (Pipeline sched period complete piece) = refl
+ended-frames u = refl
 
 settled-frames : (w : View) (c : Component) → frames (settled_in w c) ≡ frames c
 settled-frames w c = by (flows w c.id)

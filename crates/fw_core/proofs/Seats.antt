@@ -8,7 +8,7 @@ use Rattle.stream_law.specs.declared.graph.Join.{Join}
 use Rattle.fw_heap.specs.declared.run.Home.{Home}
 use Rattle.fw_components.specs.declared.component.Component.{Component}
 use Rattle.fw_components.specs.declared.component.Unit as units
-use Rattle.fw_components.specs.declared.component.Unit.TheVariants.{Host, Dai, Volume, Mixer, Mux, Eq, Buffer, Pipeline}
+use Rattle.fw_components.specs.declared.component.Unit.TheVariants.{Buffer}
 use Rattle.fw_components.specs.Tables.{piece_of, piece_by, pieces_by}
 use Rattle.fw_components.specs.Changes.{IsOfHome, joined_at, sunk_unit, sourced_unit, completed_at, completed_unit}
 use Rattle.fw_components.specs.Values.{valued_at, valued_unit}
@@ -66,44 +66,20 @@ seated : (id pipe channels : ℕ) (u w : units.Unit) → piece_of w ≡ piece_of
 seated id pipe channels u w same = λ i. (record { id = id; place = (same i).place; size = (same i).size }, (same i).home)
 
 sunk-piece : (id : ℕ) (u : units.Unit) → piece_of (sunk_unit id u) ≡ piece_of u
-sunk-piece id (Host capture phase params piece) = refl
-sunk-piece id (Dai capture format piece) = refl
-sunk-piece id (Volume gains piece) = refl
-sunk-piece id (Mixer piece) = refl
-sunk-piece id (Mux choice piece) = refl
-sunk-piece id (Eq eq next remaining) = refl
 sunk-piece id (Buffer size ring source sink) = refl
-sunk-piece id (Pipeline sched period complete piece) = refl
+sunk-piece id u = refl
 
 sourced-piece : (id : ℕ) (u : units.Unit) → piece_of (sourced_unit id u) ≡ piece_of u
-sourced-piece id (Host capture phase params piece) = refl
-sourced-piece id (Dai capture format piece) = refl
-sourced-piece id (Volume gains piece) = refl
-sourced-piece id (Mixer piece) = refl
-sourced-piece id (Mux choice piece) = refl
-sourced-piece id (Eq eq next remaining) = refl
 sourced-piece id (Buffer size ring source sink) = refl
-sourced-piece id (Pipeline sched period complete piece) = refl
+sourced-piece id u = refl
 
 completed-piece : (u : units.Unit) → piece_of (completed_unit u) ≡ piece_of u
-completed-piece (Host capture phase params piece) = refl
-completed-piece (Dai capture format piece) = refl
-completed-piece (Volume gains piece) = refl
-completed-piece (Mixer piece) = refl
-completed-piece (Mux choice piece) = refl
-completed-piece (Eq eq next remaining) = refl
 completed-piece (Buffer size ring source sink) = refl
-completed-piece (Pipeline sched period complete piece) = refl
+completed-piece u = refl
 
 valued-piece : (values : List ℕ) (u : units.Unit) → piece_of (valued_unit values u) ≡ piece_of u
-valued-piece values (Host capture phase params piece) = refl
-valued-piece values (Dai capture format piece) = refl
-valued-piece values (Volume gains piece) = refl
-valued-piece values (Mixer piece) = refl
-valued-piece values (Mux choice piece) = refl
-valued-piece values (Eq eq next remaining) = refl
 valued-piece values (Buffer size ring source sink) = refl
-valued-piece values (Pipeline sched period complete piece) = refl
+valued-piece values u = refl
 
 pub seat-joined : (j : Join) (c : Component) → seat (joined_at j c) ≡ seat c
 seat-joined j c = by (c.id == j.source) (c.id == j.sink)

@@ -19,7 +19,7 @@ use Rattle.row_laws.proofs.RowKept.{set_value-kept}
 use Rattle.fw_heap.specs.Regions.{RegionState}
 use Rattle.fw_components.specs.declared.component.Component.{Component}
 use Rattle.fw_components.specs.declared.component.Unit as units
-use Rattle.fw_components.specs.declared.component.Unit.TheVariants.{Host, Dai, Volume, Mixer, Mux, Eq, Buffer, Pipeline}
+use Rattle.fw_components.specs.declared.component.Unit.TheVariants.{Host, Dai, Volume, Mux, Buffer}
 use Rattle.fw_components.specs.Tables.{Tables, all_of, graph_of, view_by, comp_by, kind_by, setting_by, streams_by, staging_by, numbers_by, with_stream_by, with_staging_by}
 use Rattle.fw_components.specs.Changes.{has_id, is_there}
 use Rattle.fw_components.specs.States.{state_over}
@@ -63,16 +63,12 @@ comp-found t id = find-map (λ (x : Comp). x.id == id) comp_by t.comps
 -- ---- GET_VALUE
 
 same-values : (u : units.Unit) (command : ℕ) → unit_values u command ≡ rows.control_values (kind_by u) (setting_by u) command
+same-values (Buffer size ring source sink) command = refl
 same-values (Host true phase params piece) command = refl
 same-values (Host false phase params piece) command = refl
 same-values (Dai true format piece) command = refl
 same-values (Dai false format piece) command = refl
-same-values (Volume gains piece) command = refl
-same-values (Mixer piece) command = refl
-same-values (Mux choice piece) command = refl
-same-values (Eq eq next remaining) command = refl
-same-values (Buffer size ring source sink) command = refl
-same-values (Pipeline sched period complete piece) command = refl
+same-values u command = refl
 
 pub values-found : (t : Tables) (id command : ℕ) → rows.control_values_at (graph_of t) id command ≡ option_and_then (λ c. unit_values c.unit command) (find (λ c. c.id == id) t.comps)
 values-found t id command = ap (λ (o : Option Comp). option_and_then (λ c. rows.control_values c.kind c.setting command) o) (comp-found t id) ∙ by (find (λ c. c.id == id) t.comps)
@@ -130,7 +126,6 @@ new-taken (Volume gains piece) command values e =
     let parts = and_parts (command == 0) (length values == length gains && list_all (λ v. nat_le v 16777216) values) e in
     let more = and_parts (length values == length gains) (list_all (λ v. nat_le v 16777216) values) parts.1 in
     ap (λ h. cond h (Some (Gains values)) None) e ∙ ap (λ h. Some (Gains (cond h values gains))) (sym more.0)
-new-taken (Mixer piece) command values e = cc
 new-taken (Mux choice piece) command [] e = absurd (none (command == 1) e)
   where
     none : (h : Bool) → (h && false) ≡ true → ⊥
@@ -141,17 +136,11 @@ new-taken (Mux choice piece) command (v ∷ w ∷ values) e = absurd (more (comm
   where
     more : (h : Bool) → (h && (length (v ∷ w ∷ values) == 1)) ≡ true → ⊥
     more h e = let two : length (v ∷ w ∷ values) ≡ 1 = eqb-true (length (v ∷ w ∷ values)) 1 (and_parts h (length (v ∷ w ∷ values) == 1) e).1 in omega arith
-new-taken (Eq eq next remaining) command values e = cc
 new-taken (Buffer size ring source sink) command values e = cc
-new-taken (Pipeline sched period complete piece) command values e = cc
+new-taken u command values e = cc
 
 new-none : (u : units.Unit) (command : ℕ) (values : List ℕ) → takes_values u command values ≡ false → rows.new_setting (kind_by u) (setting_by u) command values ≡ None
-new-none (Host true phase params piece) command values e = refl
-new-none (Host false phase params piece) command values e = refl
-new-none (Dai true format piece) command values e = refl
-new-none (Dai false format piece) command values e = refl
 new-none (Volume gains piece) command values e = ap (λ h. cond h (Some (Gains values)) None) e
-new-none (Mixer piece) command values e = refl
 new-none (Mux choice piece) command [] e = refl
 new-none (Mux choice piece) command (v ∷ []) e = ap (λ h. cond h (Some (Choice v)) None) (left (command == 1) e)
   where
@@ -159,52 +148,28 @@ new-none (Mux choice piece) command (v ∷ []) e = ap (λ h. cond h (Some (Choic
     left true e = e
     left false e = refl
 new-none (Mux choice piece) command (v ∷ w ∷ values) e = refl
-new-none (Eq eq next remaining) command values e = refl
-new-none (Buffer size ring source sink) command values e = refl
-new-none (Pipeline sched period complete piece) command values e = refl
+new-none (Host true phase params piece) command values e = refl
+new-none (Host false phase params piece) command values e = refl
+new-none (Dai true format piece) command values e = refl
+new-none (Dai false format piece) command values e = refl
+new-none u command values e = refl
 
 -- what values leave of a unit
 valued-kind : (values : List ℕ) (u : units.Unit) → kind_by (valued_unit values u) ≡ kind_by u
-valued-kind values (Host true phase params piece) = refl
-valued-kind values (Host false phase params piece) = refl
-valued-kind values (Dai true format piece) = refl
-valued-kind values (Dai false format piece) = refl
-valued-kind values (Volume gains piece) = refl
-valued-kind values (Mixer piece) = refl
-valued-kind values (Mux choice piece) = refl
-valued-kind values (Eq eq next remaining) = refl
 valued-kind values (Buffer size ring source sink) = refl
-valued-kind values (Pipeline sched period complete piece) = refl
+valued-kind values u = refl
 
 valued-stream : (values : List ℕ) (id : ℕ) (u : units.Unit) (ss : List StreamView) → with_stream_by id (valued_unit values u) ss ≡ with_stream_by id u ss
-valued-stream values id (Host capture phase params piece) ss = refl
-valued-stream values id (Dai capture format piece) ss = refl
-valued-stream values id (Volume gains piece) ss = refl
-valued-stream values id (Mixer piece) ss = refl
-valued-stream values id (Mux choice piece) ss = refl
-valued-stream values id (Eq eq next remaining) ss = refl
 valued-stream values id (Buffer size ring source sink) ss = refl
-valued-stream values id (Pipeline sched period complete piece) ss = refl
+valued-stream values id u ss = refl
 
 valued-staging : (values : List ℕ) (id : ℕ) (u : units.Unit) (ss : List Staging) → with_staging_by id (valued_unit values u) ss ≡ with_staging_by id u ss
-valued-staging values id (Host capture phase params piece) ss = refl
-valued-staging values id (Dai capture format piece) ss = refl
-valued-staging values id (Volume gains piece) ss = refl
-valued-staging values id (Mixer piece) ss = refl
-valued-staging values id (Mux choice piece) ss = refl
-valued-staging values id (Eq eq next remaining) ss = refl
 valued-staging values id (Buffer size ring source sink) ss = refl
-valued-staging values id (Pipeline sched period complete piece) ss = refl
+valued-staging values id u ss = refl
 
 valued-numbers : (values : List ℕ) (u : units.Unit) (channels : ℕ) → numbers_by (valued_unit values u) channels ≡ numbers_by u channels
-valued-numbers values (Host capture phase params piece) channels = refl
-valued-numbers values (Dai capture format piece) channels = refl
-valued-numbers values (Volume gains piece) channels = refl
-valued-numbers values (Mixer piece) channels = refl
-valued-numbers values (Mux choice piece) channels = refl
-valued-numbers values (Eq eq next remaining) channels = refl
 valued-numbers values (Buffer size ring source sink) channels = refl
-valued-numbers values (Pipeline sched period complete piece) channels = refl
+valued-numbers values u channels = refl
 
 module _ (id : ℕ) (values : List ℕ) where
   valued-id : (c : Component) → (valued_at id values c).id ≡ c.id

@@ -10,7 +10,7 @@ use Rattle.fw_heap.specs.Pieces.{PieceState}
 use Rattle.eq_biquad.specs.EqState.{EqState}
 use Rattle.fw_components.specs.declared.component.Component.{Component}
 use Rattle.fw_components.specs.declared.component.Unit as units
-use Rattle.fw_components.specs.declared.component.Unit.TheVariants.{Host, Dai, Volume, Mixer, Mux, Eq, Buffer, Pipeline}
+use Rattle.fw_components.specs.declared.component.Unit.TheVariants.{Eq}
 use Rattle.fw_components.specs.Tables.{Tables, all_of, piece_of}
 use Rattle.mbox_link.specs.Step.{touches}
 use Rattle.fw_components.specs.Changes.{added, has_id, is_there, found, given_found, tables_without, without_by, IsFoundOf}
@@ -29,14 +29,8 @@ added-alone piece t new c eq none is home place size new_is =
 -- ---- a part comes
 
 same-place : (piece : PieceState) (id : ℕ) (part : Part) (words : List ℤ) (u : units.Unit) → IsPlaced piece (piece_of u) → IsPlaced piece (piece_of (parted_unit id part words u))
-same-place piece id part words (Host capture phase params own) e = e
-same-place piece id part words (Dai capture format own) e = e
-same-place piece id part words (Volume gains own) e = e
-same-place piece id part words (Mixer own) e = e
-same-place piece id part words (Mux choice own) e = e
 same-place piece id part words (Eq eq next remaining) e = record { home = e.home; place = e.place; size = e.size }
-same-place piece id part words (Buffer size ring source sink) e = e
-same-place piece id part words (Pipeline sched period complete own) e = e
+same-place piece id part words u e = e
 
 one-parted : (piece : PieceState) (part : Part) (words : List ℤ) (cs : List Component) → IsOne piece cs → IsOne piece (map (parted_at 3 part words) cs)
 one-parted piece part words [] e = absurd e

@@ -9,7 +9,7 @@ use Rattle.std.specs.Option.{option_map}
 use Rattle.sof_base.specs.declared.format.Format.{Format}
 use Rattle.sof_base.specs.declared.format.Format.TheVariants.{S16, S24, S32}
 use Rattle.stream_law.specs.declared.graph.Kind.{Kind}
-use Rattle.stream_law.specs.declared.graph.Kind.TheVariants.{HostPlay, HostCapture, DaiPlay, DaiCapture, Volume, Mixer, Mux, Eq}
+use Rattle.stream_law.specs.declared.graph.Kind.TheVariants.{HostPlay, HostCapture, DaiPlay, DaiCapture, Volume}
 use Rattle.stream_law.specs.declared.graph.Comp.{Comp}
 use Rattle.stream_law.specs.declared.graph.Edge.{Edge}
 use Rattle.stream_law.specs.declared.graph.Pipe.{Pipe}
@@ -121,12 +121,7 @@ heap-more plan heap n =
 host-id : (kind : Kind) (id : ℕ) (h : ℕ × Bool) → host_by kind id ≡ Some h → h.0 ≡ id
 host-id HostPlay id h is = let same : (id, false) ≡ h = cc is in ap (λ (p : ℕ × Bool). p.0) (sym same)
 host-id HostCapture id h is = let same : (id, true) ≡ h = cc is in ap (λ (p : ℕ × Bool). p.0) (sym same)
-host-id (DaiPlay format) id h is = absurd (cc is)
-host-id (DaiCapture format) id h is = absurd (cc is)
-host-id Volume id h is = absurd (cc is)
-host-id Mixer id h is = absurd (cc is)
-host-id Mux id h is = absurd (cc is)
-host-id Eq id h is = absurd (cc is)
+host-id kind id h is = absurd (cc is)
 
 -- a stream of the next id is put behind all that are there
 stream-last : (v : StreamView) (n : ℕ) → v.host ≡ n → (xs : List Comp) → placed (λ s. s.host) v (streams_by (below (λ c. c.id) n xs)) ≡ streams_by (below (λ c. c.id) n xs) ++ v ∷ []
@@ -164,12 +159,7 @@ stream-more n xs c is = by_kind c.kind refl ∙ sym (ap (map (λ h. idle_view h.
     by_kind : (kind : Kind) → c.kind ≡ kind → with_host_stream n kind there ≡ there ++ own_of kind
     by_kind HostPlay e = stream-last (idle_view n) n refl xs ∙ ap (λ m. there ++ idle_view m ∷ []) (sym is)
     by_kind HostCapture e = stream-last (idle_view n) n refl xs ∙ ap (λ m. there ++ idle_view m ∷ []) (sym is)
-    by_kind (DaiPlay format) e = none_more
-    by_kind (DaiCapture format) e = none_more
-    by_kind Volume e = none_more
-    by_kind Mixer e = none_more
-    by_kind Mux e = none_more
-    by_kind Eq e = none_more
+    by_kind kind e = none_more
 
 -- ---- kinds
 
@@ -180,15 +170,11 @@ format-read S24 = refl
 format-read S32 = refl
 
 pub kind-read : (kind : Kind) (k : Option ControlPlan) (w : WidgetPlan) → has_number kind w.frame_fmt ≡ true → kind_of (component_words kind k w) w.frame_fmt ≡ kind
-kind-read HostPlay k w is = refl
-kind-read HostCapture k w is = refl
 kind-read (DaiPlay format) k w is = ap DaiPlay (ap sample_format (sym (eqb-true (format_number format) w.frame_fmt is)) ∙ format-read format)
 kind-read (DaiCapture format) k w is = ap DaiCapture (ap sample_format (sym (eqb-true (format_number format) w.frame_fmt is)) ∙ format-read format)
 kind-read Volume (Some k) w is = refl
 kind-read Volume None w is = refl
-kind-read Mixer k w is = refl
-kind-read Mux k w is = refl
-kind-read Eq k w is = refl
+kind-read kind k w is = refl
 
 -- ---- the next widget
 

@@ -5,7 +5,7 @@ use Rattle.std.proofs.lemmas.List.{map-append}
 use Rattle.std.specs.List.{list_any, range_with_len, filter_map, IsDistinct}
 use Rattle.sof_base.specs.Holes.{rounded, usable_of}
 use Rattle.stream_law.specs.declared.graph.Kind.{Kind}
-use Rattle.stream_law.specs.declared.graph.Kind.TheVariants.{HostPlay, HostCapture, DaiPlay, DaiCapture, Volume, Mixer, Mux, Eq}
+use Rattle.stream_law.specs.declared.graph.Kind.TheVariants.{HostPlay}
 use Rattle.stream_law.specs.declared.graph.Comp.{Comp}
 use Rattle.stream_law.specs.declared.graph.Edge.{Edge}
 use Rattle.stream_law.specs.State.{FwState, HeapView, RingView}
@@ -46,13 +46,7 @@ sum-pushed xs n = fold-pushed xs 0 n
 
 comp_bytes-some : (kind : Kind) → 0 < comp_bytes kind
 comp_bytes-some HostPlay = omega arith
-comp_bytes-some HostCapture = omega arith
-comp_bytes-some (DaiPlay format) = omega arith
-comp_bytes-some (DaiCapture format) = omega arith
-comp_bytes-some Volume = omega arith
-comp_bytes-some Mixer = omega arith
-comp_bytes-some Mux = omega arith
-comp_bytes-some Eq = omega arith
+comp_bytes-some kind = omega arith
 
 bytes-some : (c : Option Comp) (e : Option Edge) → 0 < stated_by c e
 bytes-some (Some c) e = comp_bytes-some c.kind

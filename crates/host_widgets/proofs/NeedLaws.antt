@@ -5,7 +5,7 @@ use Rattle.std.proofs.lemmas.List.Sums.{sum_by_push}
 use Rattle.std.specs.List.{find}
 use Rattle.sof_base.specs.Holes.{rounded}
 use Rattle.stream_law.specs.declared.graph.Kind.{Kind}
-use Rattle.stream_law.specs.declared.graph.Kind.TheVariants.{HostPlay, HostCapture, DaiPlay, DaiCapture, Volume, Mixer, Mux, Eq}
+use Rattle.stream_law.specs.declared.graph.Kind.TheVariants.{HostPlay}
 use Rattle.stream_law.specs.declared.graph.Comp.{Comp}
 use Rattle.stream_law.specs.declared.graph.Edge.{Edge}
 use Rattle.stream_law.specs.declared.graph.Pipe.{Pipe}
@@ -26,13 +26,7 @@ use Rattle.host_widgets.proofs.Makes.{needed-more}
 -- a component's stated size is a multiple of 16
 comp-whole : (kind : Kind) → rounded (comp_bytes kind) ≡ component_size kind
 comp-whole HostPlay = refl
-comp-whole HostCapture = refl
-comp-whole (DaiPlay format) = refl
-comp-whole (DaiCapture format) = refl
-comp-whole Volume = refl
-comp-whole Mixer = refl
-comp-whole Mux = refl
-comp-whole Eq = refl
+comp-whole kind = refl
 
 -- in a list that ascends, one more is below the next number where a key is this one: it adds its size
 sum-more : {X : Type 0} (size : X → ℕ) (key : X → ℕ) (n : ℕ) (xs : List X) (x : X) → Ascends key xs → find (λ y. key y == n) xs ≡ Some x → sum (map size (below key (n + 1) xs)) ≡ sum (map size (below key n xs)) + size x

@@ -3,7 +3,7 @@ use Rattle.std.proofs.Common.{◌≡◌, ℕ, zero, suc, ◌<◌, List, [], ◌�
 use Rattle.std.specs.List.{AllByRecursion, filter_map, cons_option}
 use Rattle.stream_law.specs.declared.graph.Comp.{Comp}
 use Rattle.stream_law.specs.declared.graph.Kind.{Kind}
-use Rattle.stream_law.specs.declared.graph.Kind.TheVariants.{HostPlay, HostCapture, DaiPlay, DaiCapture, Volume, Mixer, Mux, Eq}
+use Rattle.stream_law.specs.declared.graph.Kind.TheVariants.{HostPlay, HostCapture}
 use Rattle.stream_law.specs.Ways.{comp_of, is_capture}
 use Rattle.tplg_plan.specs.declared.plans.Plan.{Plan}
 use Rattle.tplg_plan.specs.declared.plans.StreamPlan.{StreamPlan}
@@ -28,12 +28,7 @@ module _ (plan : Plan) (sound : IsSound plan) where
       by : (kind : Kind) → c.kind ≡ kind → AllByRecursion GoesSo (filter_map host_of cs) → AllByRecursion GoesSo (cons_option (host_by kind c.id) (filter_map host_of cs))
       by HostPlay is rest = (here false (ap is_capture is), rest)
       by HostCapture is rest = (here true (ap is_capture is), rest)
-      by (DaiPlay format) is rest = rest
-      by (DaiCapture format) is rest = rest
-      by Volume is rest = rest
-      by Mixer is rest = rest
-      by Mux is rest = rest
-      by Eq is rest = rest
+      by kind is rest = rest
 
   at-place : (ss : List StreamPlan) → AllByRecursion GoesSo (map (λ (s : StreamPlan). (s.host, s.capture)) ss) → (k : ℕ) → k < length ss → GoesSo ((get_or ss k no_stream).host, (get_or ss k no_stream).capture)
   at-place [] all k low = absurd (omega (arith, low))

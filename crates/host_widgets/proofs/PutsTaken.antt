@@ -65,13 +65,7 @@ put_graph plan kept todo = record { comps = map (comp_while plan kept todo) plan
 -- what a component without a live control begins with is what is set at it
 bare-setting : (kind : Kind) (w : WidgetPlan) → first_setting (component_words kind None w) ≡ record_setting kind None
 bare-setting kinds.HostPlay w = refl
-bare-setting kinds.HostCapture w = refl
-bare-setting (kinds.DaiPlay format) w = refl
-bare-setting (kinds.DaiCapture format) w = refl
-bare-setting kinds.Volume w = refl
-bare-setting kinds.Mixer w = refl
-bare-setting kinds.Mux w = refl
-bare-setting kinds.Eq w = refl
+bare-setting kind w = refl
 
 -- before the first control
 pub puts-none : (plan : Plan) → IsSound plan → (kept : Record) → AreControls plan.controls kept.controls → joined_graph plan plan.graph.joins ≡ put_graph plan kept (controls_of plan kept)

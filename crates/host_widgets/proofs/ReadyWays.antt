@@ -4,7 +4,7 @@ use Rattle.std.specs.Option.{option_map, option_map_or}
 use Rattle.std.specs.List.{list_any, list_all, filter_map, cons_option, AllByRecursion}
 use Rattle.std.proofs.lemmas.Bool.{false≢true, and_from, and_parts, or_right, or_cases, eqb-true}
 use Rattle.stream_law.specs.declared.graph.Kind.{Kind}
-use Rattle.stream_law.specs.declared.graph.Kind.TheVariants.{HostPlay, HostCapture, DaiPlay, DaiCapture, Volume, Mixer, Mux, Eq}
+use Rattle.stream_law.specs.declared.graph.Kind.TheVariants.{HostPlay, HostCapture}
 use Rattle.stream_law.specs.declared.graph.Setting.{Setting}
 use Rattle.stream_law.specs.declared.graph.Comp.{Comp}
 use Rattle.stream_law.specs.declared.graph.Edge.{Edge}
@@ -122,12 +122,7 @@ module _ (plan : Plan) (sound : IsSound plan) where
       by : (kind : Kind) → c.kind ≡ kind → list_any (is_first host) (cons_option (host_by kind c.id) (filter_map host_of cs)) ≡ true → (list_any (is_first host) (filter_map host_of cs) ≡ true → HostAt host) → HostAt host
       by HostPlay is any rest = here HostPlay is refl any rest
       by HostCapture is any rest = here HostCapture is refl any rest
-      by (DaiPlay format) is any rest = rest any
-      by (DaiCapture format) is any rest = rest any
-      by Volume is any rest = rest any
-      by Mixer is any rest = rest any
-      by Mux is any rest = rest any
-      by Eq is any rest = rest any
+      by kind is any rest = rest any
 
   pub host-there : (host : ℕ) → has_host plan.streams host ≡ true → HostAt host
   host-there host some =
@@ -136,12 +131,7 @@ module _ (plan : Plan) (sound : IsSound plan) where
   goes-way : (kind : Kind) → is_host kind ≡ true → goes kind (if is_capture kind then 1 else 0) ≡ true
   goes-way HostPlay is = refl
   goes-way HostCapture is = refl
-  goes-way (DaiPlay format) is = absurd (false≢true is)
-  goes-way (DaiCapture format) is = absurd (false≢true is)
-  goes-way Volume is = absurd (false≢true is)
-  goes-way Mixer is = absurd (false≢true is)
-  goes-way Mux is = absurd (false≢true is)
-  goes-way Eq is = absurd (false≢true is)
+  goes-way kind is = absurd (false≢true is)
 
   module _ (setting : Comp → Setting) (host : ℕ) (some : has_host plan.streams host ≡ true) where
     at : HostAt host

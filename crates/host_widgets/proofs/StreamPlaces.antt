@@ -4,7 +4,7 @@ use Rattle.std.specs.List.{filter_map, cons_option}
 use Rattle.std.proofs.lemmas.Bool.{eqb-true, eq-eqb, or_left, or_right}
 use Rattle.stream_law.specs.declared.graph.Comp.{Comp}
 use Rattle.stream_law.specs.declared.graph.Kind.{Kind}
-use Rattle.stream_law.specs.declared.graph.Kind.TheVariants.{HostPlay, HostCapture, DaiPlay, DaiCapture, Volume, Mixer, Mux, Eq}
+use Rattle.stream_law.specs.declared.graph.Kind.TheVariants.{HostPlay, HostCapture}
 use Rattle.stream_law.specs.Placed.{AreAbove, Ascends}
 use Rattle.tplg_plan.specs.declared.plans.Plan.{Plan}
 use Rattle.tplg_plan.specs.declared.plans.StreamPlan.{StreamPlan}
@@ -30,12 +30,7 @@ hosts-above n (c ∷ cs) above = by c.kind (hosts-above n cs above.1)
     by : (kind : Kind) → AreAbove (λ (p : ℕ × Bool). p.0) n (filter_map host_of cs) → AreAbove (λ (p : ℕ × Bool). p.0) n (cons_option (host_by kind c.id) (filter_map host_of cs))
     by HostPlay rest = (above.0, rest)
     by HostCapture rest = (above.0, rest)
-    by (DaiPlay format) rest = rest
-    by (DaiCapture format) rest = rest
-    by Volume rest = rest
-    by Mixer rest = rest
-    by Mux rest = rest
-    by Eq rest = rest
+    by kind rest = rest
 
 hosts-ascend : (cs : List Comp) → Ascends (λ (c : Comp). c.id) cs → Ascends (λ (p : ℕ × Bool). p.0) (filter_map host_of cs)
 unfolding Ascends
@@ -48,12 +43,7 @@ hosts-ascend (c ∷ cs) up = by c.kind (hosts-ascend cs up.1)
     by : (kind : Kind) → Ascends (λ (p : ℕ × Bool). p.0) (filter_map host_of cs) → Ascends (λ (p : ℕ × Bool). p.0) (cons_option (host_by kind c.id) (filter_map host_of cs))
     by HostPlay rest = (above, rest)
     by HostCapture rest = (above, rest)
-    by (DaiPlay format) rest = rest
-    by (DaiCapture format) rest = rest
-    by Volume rest = rest
-    by Mixer rest = rest
-    by Mux rest = rest
-    by Eq rest = rest
+    by kind rest = rest
 
 pairs-above : (n : ℕ) (ss : List StreamPlan) → AreAbove (λ (p : ℕ × Bool). p.0) n (map pair ss) → AreAbove host n ss
 unfolding AreAbove

@@ -114,10 +114,7 @@ module _ (plan : Plan) (kept : Record) (comp : ℕ) (g : ControlRec → ControlR
     blob-by kinds.Mux (Some (k, c)) = refl
     blob-by kinds.Mux None = refl
     blob-by kinds.HostPlay o = refl
-    blob-by kinds.HostCapture o = refl
-    blob-by (kinds.DaiPlay format) o = refl
-    blob-by (kinds.DaiCapture format) o = refl
-    blob-by kinds.Mixer o = refl
+    blob-by kind o = refl
 
     blob-set : (kind : Kind) (id : ℕ) → blob (record_setting kind (control_at plan now id)) ≡ blob (record_setting kind (control_at plan kept id))
     blob-set kind id = by (id == comp) refl

@@ -5,7 +5,6 @@ use Rattle.std.specs.Option.{option_map}
 use Rattle.std.specs.List.{find, list_any, list_all, AllByRecursion}
 use Rattle.std.proofs.lemmas.Bool.{false≢true, eqb-true, eq-eqb, leb-true, or_left, or_right, or_cases, and_parts}
 use Rattle.stream_law.specs.declared.graph.Kind.{Kind}
-use Rattle.stream_law.specs.declared.graph.Kind.TheVariants.{HostPlay, HostCapture, DaiPlay, DaiCapture, Volume, Mixer, Mux, Eq}
 use Rattle.stream_law.specs.declared.graph.Comp.{Comp}
 use Rattle.stream_law.specs.declared.graph.Edge.{Edge}
 use Rattle.stream_law.specs.declared.graph.Join.{Join}
@@ -13,6 +12,7 @@ use Rattle.stream_law.specs.declared.graph.Graph.{Graph}
 use Rattle.stream_law.specs.State.{FwState}
 use Rattle.stream_law.specs.Ways.{comp_of, edge_of, source_of, sink_of, is_end, leads, buffers}
 use Rattle.stream_law.specs.Joins.{kind_ins, kind_outs, fits_kind, with_join, would_cycle, would_reach, would_grow}
+use Rattle.stream_law.proofs.EdgeNumbers.{right-most, right-ins, right-outs}
 use Rattle.mbox_link.specs.Step.{has_comp, has_edge, has_pipe, is_used, is_joined, takes_join, connect, no_device, busy, invalid}
 use Rattle.tplg_plan.specs.declared.plans.Plan.{Plan}
 use Rattle.tplg_plan.specs.Sound.{IsSideOf, IsSound}
@@ -58,24 +58,10 @@ leads-longer js more (suc n) (suc m) a b le holds = by (or_cases (a == b) (list_
 -- ---- what a kind has room for
 
 pub within-outs : (kind : Kind) (m n : ℕ) → fits_kind kind m n ≡ true → n ≤ kind_outs kind
-within-outs HostPlay m n fits = omega (arith, eqb-true n 1 (and_parts (m == 0) (n == 1) fits).1)
-within-outs HostCapture m n fits = omega (arith, eqb-true n 0 (and_parts (m == 1) (n == 0) fits).1)
-within-outs (DaiPlay format) m n fits = omega (arith, eqb-true n 0 (and_parts (m == 1) (n == 0) fits).1)
-within-outs (DaiCapture format) m n fits = omega (arith, eqb-true n 1 (and_parts (m == 0) (n == 1) fits).1)
-within-outs Volume m n fits = omega (arith, eqb-true n 1 (and_parts (m == 1) (n == 1) fits).1)
-within-outs Mixer m n fits = omega (arith, eqb-true n 1 (and_parts (nat_le 1 m && nat_le m 8) (n == 1) fits).1)
-within-outs Mux m n fits = omega (arith, eqb-true n 1 (and_parts (nat_le 1 m && nat_le m 8) (n == 1) fits).1)
-within-outs Eq m n fits = omega (arith, eqb-true n 1 (and_parts (m == 1) (n == 1) fits).1)
+within-outs kind m n fits = right-most (kind_outs kind) n (right-outs kind m n fits)
 
 pub within-ins : (kind : Kind) (m n : ℕ) → fits_kind kind m n ≡ true → m ≤ kind_ins kind
-within-ins HostPlay m n fits = omega (arith, eqb-true m 0 (and_parts (m == 0) (n == 1) fits).0)
-within-ins HostCapture m n fits = omega (arith, eqb-true m 1 (and_parts (m == 1) (n == 0) fits).0)
-within-ins (DaiPlay format) m n fits = omega (arith, eqb-true m 1 (and_parts (m == 1) (n == 0) fits).0)
-within-ins (DaiCapture format) m n fits = omega (arith, eqb-true m 0 (and_parts (m == 0) (n == 1) fits).0)
-within-ins Volume m n fits = omega (arith, eqb-true m 1 (and_parts (m == 1) (n == 1) fits).0)
-within-ins Mixer m n fits = leb-true m 8 (and_parts (nat_le 1 m) (nat_le m 8) (and_parts (nat_le 1 m && nat_le m 8) (n == 1) fits).0).1
-within-ins Mux m n fits = leb-true m 8 (and_parts (nat_le 1 m) (nat_le m 8) (and_parts (nat_le 1 m && nat_le m 8) (n == 1) fits).0).1
-within-ins Eq m n fits = omega (arith, eqb-true m 1 (and_parts (m == 1) (n == 1) fits).0)
+within-ins kind m n fits = right-most (kind_ins kind) m (right-ins kind m n fits)
 
 -- what is so of each component that is found
 pub list_all-found : {X : Type 0} (test p : X → Bool) (xs : List X) (x : X) → list_all test xs ≡ true → find p xs ≡ Some x → test x ≡ true

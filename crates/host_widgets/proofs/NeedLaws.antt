@@ -12,7 +12,7 @@ use Rattle.stream_law.specs.declared.graph.Pipe.{Pipe}
 use Rattle.stream_law.specs.Placed.{Ascends}
 use Rattle.mbox_link.specs.Step.{comp_bytes}
 use Rattle.tplg_plan.specs.declared.plans.Plan.{Plan}
-use Rattle.tplg_plan.specs.HeapNeed.{component_size, components_need, edges_need, need_on}
+use Rattle.tplg_plan.specs.HeapNeed.{components_need, edges_need, need_on}
 use Rattle.tplg_plan.specs.Sound.{IsSound, NamesComponent, NamesBuffer, NamesPipeline}
 use Rattle.host_widgets.specs.Acts.{widget_words}
 use Rattle.host_widgets.specs.Expected.{needed_by}
@@ -24,7 +24,7 @@ use Rattle.host_widgets.proofs.Makes.{needed-more}
 -- ---- sizes
 
 -- a component's stated size is a multiple of 16
-comp-whole : (kind : Kind) → rounded (comp_bytes kind) ≡ component_size kind
+comp-whole : (kind : Kind) → rounded (comp_bytes kind) ≡ comp_bytes kind
 comp-whole HostPlay = refl
 comp-whole kind = refl
 
@@ -64,9 +64,9 @@ module _ (plan : Plan) (s : IsSound plan) where
   -- the next one is a component, a buffer or a pipeline
   next-comp : (n : ℕ) → IsNeed n → NamesComponent plan.graph n (widget_words plan n) → IsNeed (n + 1)
   next-comp n is x =
-      add-comp (needed_by plan n) (components_need (comps_below plan n)) (edges_need (edges_below plan n)) (length (pipes_below plan n)) (component_size x.comp.kind) _ _ _ _ is
+      add-comp (needed_by plan n) (components_need (comps_below plan n)) (edges_need (edges_below plan n)) (length (pipes_below plan n)) (comp_bytes x.comp.kind) _ _ _ _ is
       (needed-more plan n ∙ ap (λ b. needed_by plan n + b) (ap rounded (bytes-comp plan 0 s n x) ∙ comp-whole x.comp.kind))
-      (sum-more (λ (c : Comp). component_size c.kind) (λ (c : Comp). c.id) n plan.graph.comps x.comp s.comps_ascend x.there)
+      (sum-more (λ (c : Comp). comp_bytes c.kind) (λ (c : Comp). c.id) n plan.graph.comps x.comp s.comps_ascend x.there)
       (same-edges n x.no_edge)
       (same-pipes n x.no_pipe)
 

@@ -1,23 +1,9 @@
--- The heap: stated sizes in bytes, and a piece for an id, cut from the front of the first hole that holds it.
-use Rattle.std.specs.Prelude.{ℕ, ◌+◌, Bool, not, List, filter, Option, Some, None, find, ◌==◌}
+-- The heap: a piece for an id, cut from the front of the first hole that holds it.
+use Rattle.std.specs.Prelude.{ℕ, Bool, not, List, filter, Option, Some, None, find, ◌==◌}
 use Rattle.sof_base.specs.declared.hole.Hole.{Hole}
 use Rattle.sof_base.specs.Holes.{rounded, fits, first_fit, carved, given}
-use Rattle.stream_law.specs.declared.graph.Kind.{Kind}
-use Rattle.stream_law.specs.declared.graph.Kind.TheVariants.{Mixer, Mux, Eq}
 use Rattle.stream_law.specs.State.{FwState, HeapView, PieceView}
 use Rattle.stream_law.specs.Placed.{placed}
-
-abbrev pub comp_bytes : Kind → ℕ
-comp_bytes Mixer = 32
-comp_bytes Mux = 32
-comp_bytes Eq = 4160
-comp_bytes _ = 64
-
-abbrev pub buffer_bytes : ℕ → ℕ
-buffer_bytes size = 32 + size
-
-abbrev pub pipe_bytes : ℕ
-pipe_bytes = 64
 
 abbrev pub has_hole : FwState → ℕ → Bool
 has_hole f bytes = fits (rounded bytes) f.heap.holes

@@ -19,7 +19,8 @@ use Rattle.ipc3_codec.specs.declared.message.CompWords.{CompWords}
 use Rattle.ipc3_codec.specs.declared.message.CompWords.TheVariants as words
 use Rattle.mbox_link.specs.ErrorNumbers.{no_memory, busy}
 use Rattle.mbox_link.specs.NamedIds.{is_used, has_index}
-use Rattle.mbox_link.specs.HeapPieces.{comp_bytes, buffer_bytes, pipe_bytes, has_hole, heap_with_piece}
+use Rattle.stream_law.specs.Sizes.{comp_bytes, buffer_bytes, pipe_bytes}
+use Rattle.mbox_link.specs.HeapPieces.{has_hole, heap_with_piece}
 
 -- ---- COMP_NEW
 

@@ -16,7 +16,8 @@ pub use Rattle.stream_law.specs.Ways.{is_complete}
 pub use Rattle.sof_base.specs.Rates.{is_rate}
 pub use Rattle.mbox_link.specs.ErrorNumbers.{no_memory, busy, no_device, invalid}
 pub use Rattle.mbox_link.specs.NamedIds.{has_comp, has_edge, has_pipe, is_used, has_index, kind_at, has_kind}
-pub use Rattle.mbox_link.specs.HeapPieces.{comp_bytes, buffer_bytes, pipe_bytes, has_hole, heap_with_piece, holes_after_free, without_piece}
+pub use Rattle.stream_law.specs.Sizes.{comp_bytes, buffer_bytes, pipe_bytes}
+pub use Rattle.mbox_link.specs.HeapPieces.{has_hole, heap_with_piece, holes_after_free, without_piece}
 pub use Rattle.mbox_link.specs.NewRows.{sample_format, kind_of, first_setting, with_host_stream, with_comps, with_comp, comp_new, with_edges, with_buffer, buffer_new, with_pipes, with_pipe, pipe_new}
 pub use Rattle.mbox_link.specs.JoinRows.{leads_in, leads_out, is_joined, has_free_out, has_free_in, takes_join, is_refused_join, connect, completed, complete_pipe, pipe_complete}
 pub use Rattle.mbox_link.specs.FreeRows.{index_by, index_of, has_complete_pipe, touches, without_comp, comp_free, is_held, without_buffer, buffer_free, without_pipe, is_index_held, free_pipe, pipe_free}

@@ -7,7 +7,6 @@ use Rattle.std.specs.Option.{option_map_or}
 use Rattle.std.specs.List.{list_any, list_all, AllByRecursion}
 use Rattle.sof_base.specs.declared.format.Params.{Params}
 use Rattle.stream_law.specs.declared.graph.Kind.{Kind}
-use Rattle.stream_law.specs.declared.graph.Kind.TheVariants.{HostPlay, HostCapture, DaiPlay, DaiCapture, Volume, Mixer, Mux, Eq}
 use Rattle.stream_law.specs.declared.graph.Comp.{Comp}
 use Rattle.stream_law.specs.declared.graph.Edge.{Edge}
 use Rattle.stream_law.specs.declared.graph.Join.{Join}
@@ -15,7 +14,7 @@ use Rattle.stream_law.specs.declared.graph.Graph.{Graph}
 use Rattle.stream_law.specs.declared.stream.StreamView.{StreamView}
 use Rattle.stream_law.specs.Placed.{HasDistinct}
 use Rattle.stream_law.specs.Ways.{comp_of, edge_of, source_of, sink_of, components, buffers, ins, outs, is_end, leads, reaches, on_way, is_capture}
-use Rattle.stream_law.specs.Joins.{fits_kind}
+use Rattle.stream_law.specs.Joins.{kind_ins, fits_kind}
 use Rattle.stream_law.specs.Order.{is_among}
 use Rattle.mbox_link.specs.Step.{has_comp, has_edge, has_kind, is_host, kind_at, is_complete, is_ready_comp, is_ready_edge, is_way_ready, is_held, touches, is_used}
 use Rattle.row_laws.specs.Wired.{IsWired, HasJoinedSides, IsSide, IsBetween, IsJoinedFrom, IsJoinedTo, IsOpen, is_at, is_node, side_count, sides_joined}
@@ -23,8 +22,9 @@ use Rattle.row_laws.specs.Played.{IsStreamSet, IsSetBy, is_idle}
 use Rattle.row_laws.proofs.Found.{found-each, ends-agree}
 use Rattle.row_laws.proofs.Fewer.{all-kept, all-filter, all-both, all-any, all-test, test-all, any-kept, any-with, any-to, any-of_kept, none-kept, none-each, among-kept, among-both, some-pass, two-pass, filter-kept, one-key, distinct-filter, apart-by, not-true, not-false, other-any, other-find}
 use Rattle.row_laws.proofs.Growing.{all-by}
+use Rattle.stream_law.proofs.EdgeNumbers.{fewer-right, right-ins, right-outs}
 use Rattle.stream_law.proofs.Members.{IsIn, any-in, in-any, in-kept}
-use Rattle.row_laws.proofs.Near.{complete-comp, fits-comp, play-in, capture-out, source-goes, sink-goes, edge-into, edge-outof}
+use Rattle.row_laws.proofs.Near.{complete-comp, fits-comp, fits-out, play-in, capture-out, source-goes, sink-goes, edge-into, edge-outof}
 use Rattle.row_laws.proofs.Trips.{goes_from, IsTrip, Trip, trip-none, trip-first, trip-last, trip-end, trip-start, trip-of, trip-leads, trip-reached, reached-trip}
 
 same-test : (a b : Bool) → (a ≡ true → b ≡ true) → (b ≡ true → a ≡ true) → a ≡ b
@@ -32,42 +32,9 @@ same-test true b f h = sym (f refl)
 same-test false true f h = h refl
 same-test false false f h = refl
 
--- at most one edge comes out of what is ready
-one-out : (k : Kind) (m n : ℕ) → fits_kind k m n ≡ true → n ≤ 1
-one-out HostPlay m n fits = let e : n ≡ 1 = eqb-true n 1 (and_parts (m == 0) (n == 1) fits).1 in omega (arith, e)
-one-out HostCapture m n fits = let e : n ≡ 0 = eqb-true n 0 (and_parts (m == 1) (n == 0) fits).1 in omega (arith, e)
-one-out (DaiPlay format) m n fits = let e : n ≡ 0 = eqb-true n 0 (and_parts (m == 1) (n == 0) fits).1 in omega (arith, e)
-one-out (DaiCapture format) m n fits = let e : n ≡ 1 = eqb-true n 1 (and_parts (m == 0) (n == 1) fits).1 in omega (arith, e)
-one-out Volume m n fits = let e : n ≡ 1 = eqb-true n 1 (and_parts (m == 1) (n == 1) fits).1 in omega (arith, e)
-one-out Mixer m n fits = let e : n ≡ 1 = eqb-true n 1 (and_parts (nat_le 1 m && nat_le m 8) (n == 1) fits).1 in omega (arith, e)
-one-out Mux m n fits = let e : n ≡ 1 = eqb-true n 1 (and_parts (nat_le 1 m && nat_le m 8) (n == 1) fits).1 in omega (arith, e)
-one-out Eq m n fits = let e : n ≡ 1 = eqb-true n 1 (and_parts (m == 1) (n == 1) fits).1 in omega (arith, e)
-
 -- fewer edges in, but one at least, are as many as the kind has
 fits-fewer : (k : Kind) (m n l : ℕ) → 1 ≤ l → l ≤ m → fits_kind k m n ≡ true → fits_kind k l n ≡ true
-fits-fewer k m n l some most fits = by k fits
-  where
-    same : m ≡ 1 → l ≡ m
-    same e = omega (arith, e, some, most)
-
-    none : m ≡ 0 → ⊥
-    none e = omega (arith, e, some, most)
-
-    many : ((nat_le 1 m && nat_le m 8) && n == 1) ≡ true → ((nat_le 1 l && nat_le l 8) && n == 1) ≡ true
-    many fits =
-        let p = and_parts (nat_le 1 m && nat_le m 8) (n == 1) fits in
-        let few : m ≤ 8 = leb-true m 8 (and_parts (nat_le 1 m) (nat_le m 8) p.0).1 in
-        and_from _ _ (and_from _ _ (le-leb 1 l some) (le-leb l 8 (omega (arith, few, most)))) p.1
-
-    by : (k : Kind) → fits_kind k m n ≡ true → fits_kind k l n ≡ true
-    by HostPlay fits = absurd (none (eqb-true m 0 (and_parts (m == 0) (n == 1) fits).0))
-    by (DaiCapture format) fits = absurd (none (eqb-true m 0 (and_parts (m == 0) (n == 1) fits).0))
-    by HostCapture fits = ap (λ i. i == 1 && n == 0) (same (eqb-true m 1 (and_parts (m == 1) (n == 0) fits).0)) ∙ fits
-    by (DaiPlay format) fits = ap (λ i. i == 1 && n == 0) (same (eqb-true m 1 (and_parts (m == 1) (n == 0) fits).0)) ∙ fits
-    by Volume fits = ap (λ i. i == 1 && n == 1) (same (eqb-true m 1 (and_parts (m == 1) (n == 1) fits).0)) ∙ fits
-    by Eq fits = ap (λ i. i == 1 && n == 1) (same (eqb-true m 1 (and_parts (m == 1) (n == 1) fits).0)) ∙ fits
-    by Mixer fits = many fits
-    by Mux fits = many fits
+fits-fewer k m n l some most fits = and_from _ _ (fewer-right (kind_ins k) m l some most (right-ins k m n fits)) (right-outs k m n fits)
 
 -- of fewer edges no more pass
 pass-fewer : (keep test : Edge → Bool) (es : List Edge) → length (filter test (filter keep es)) ≤ length (filter test es)
@@ -239,7 +206,7 @@ module _ (g : Graph) (id : ℕ) (wired : IsWired g) (linked : HasJoinedSides g) 
             at never (inr r) =
                 let far : (r.0 == id) ≡ false = other r.0 id (λ e. never (subst (λ n. Trip g.joins n h) e r.2)) in
                 let two : 2 ≤ length (filter (outof c.id) g.edges) = two-pass (outof c.id) (λ e. e.buffer == r.0) (λ e. e.buffer == id) g.edges (buffers-apart r.0 far g.edges) (join-outof c.id r.0 comp r.1) any in
-                let one : length (outs g c.id) ≤ 1 = one-out c.kind (length (ins g c.id)) (length (outs g c.id)) fits in
+                let one : length (outs g c.id) ≤ 1 = fits-out c.kind (length (ins g c.id)) (length (outs g c.id)) fits in
                 omega (arith, two, one, outs-are c.id)
 
     -- so as many edges as before pass a test that the buffer's does not

@@ -4,12 +4,12 @@ use Rattle.std.proofs.lemmas.Bool.{true≢false, false≢true, false_from_ne_tru
 use Rattle.std.specs.Prelude.{nat_le}
 use Rattle.std.specs.List.{list_any, AllByRecursion}
 use Rattle.stream_law.specs.declared.graph.Kind.{Kind}
-use Rattle.stream_law.specs.declared.graph.Kind.TheVariants.{HostPlay, HostCapture, DaiPlay, DaiCapture, Volume, Mixer, Mux, Eq}
 use Rattle.stream_law.specs.declared.graph.Edge.{Edge}
 use Rattle.stream_law.specs.declared.graph.Join.{Join}
 use Rattle.stream_law.specs.Ways.{leads}
 use Rattle.stream_law.specs.Joins.{kind_ins, kind_outs, fits_kind, joined_edge}
 use Rattle.stream_law.specs.Order.{is_among}
+use Rattle.stream_law.proofs.EdgeNumbers.{more-right, full-right, right-ins, right-outs, most-outs}
 use Rattle.row_laws.proofs.Growing.{all-by}
 
 -- ---- lists
@@ -93,51 +93,10 @@ leads-more js j (suc n) a b e = by (or_cases (a == b) (list_any (λ k. leads js 
 
 -- a component with the edges of its kind takes no more out, and still has them with one more in, where it takes one
 pub full-out : (k : Kind) (m n : ℕ) → fits_kind k m n ≡ true → nat_le (n + 1) (kind_outs k) ≡ true → ⊥
-full-out HostCapture m n fits room = let e : n + 1 ≤ 0 = leb-true (n + 1) 0 room in omega (arith, e)
-full-out (DaiPlay format) m n fits room = let e : n + 1 ≤ 0 = leb-true (n + 1) 0 room in omega (arith, e)
-full-out HostPlay m n fits room =
-    let one : n ≡ 1 = eqb-true n 1 (and_parts (m == 0) (n == 1) fits).1 in
-    let e : n + 1 ≤ 1 = leb-true (n + 1) 1 room in omega (arith, e, one)
-full-out (DaiCapture format) m n fits room =
-    let one : n ≡ 1 = eqb-true n 1 (and_parts (m == 0) (n == 1) fits).1 in
-    let e : n + 1 ≤ 1 = leb-true (n + 1) 1 room in omega (arith, e, one)
-full-out Volume m n fits room =
-    let one : n ≡ 1 = eqb-true n 1 (and_parts (m == 1) (n == 1) fits).1 in
-    let e : n + 1 ≤ 1 = leb-true (n + 1) 1 room in omega (arith, e, one)
-full-out Eq m n fits room =
-    let one : n ≡ 1 = eqb-true n 1 (and_parts (m == 1) (n == 1) fits).1 in
-    let e : n + 1 ≤ 1 = leb-true (n + 1) 1 room in omega (arith, e, one)
-full-out Mixer m n fits room =
-    let one : n ≡ 1 = eqb-true n 1 (and_parts (nat_le 1 m && nat_le m 8) (n == 1) fits).1 in
-    let e : n + 1 ≤ 1 = leb-true (n + 1) 1 room in omega (arith, e, one)
-full-out Mux m n fits room =
-    let one : n ≡ 1 = eqb-true n 1 (and_parts (nat_le 1 m && nat_le m 8) (n == 1) fits).1 in
-    let e : n + 1 ≤ 1 = leb-true (n + 1) 1 room in omega (arith, e, one)
+full-out k m n fits room = full-right (kind_outs k) n (most-outs k) (right-outs k m n fits) (leb-true (n + 1) (kind_outs k) room)
 
 pub fits-more : (k : Kind) (m n l : ℕ) → m ≤ l → l ≤ m + 1 → nat_le (m + 1) (kind_ins k) ≡ true → fits_kind k m n ≡ true → fits_kind k l n ≡ true
-fits-more k m n l least most room fits = by k room fits
-  where
-    none : m + 1 ≤ 0 → ⊥
-    none le = omega (arith, le)
-
-    one : m + 1 ≤ 1 → m ≡ 1 → ⊥
-    one le e = omega (arith, le, e)
-
-    many : m + 1 ≤ 8 → ((nat_le 1 m && nat_le m 8) && n == 1) ≡ true → ((nat_le 1 l && nat_le l 8) && n == 1) ≡ true
-    many le fits =
-        let p = and_parts (nat_le 1 m && nat_le m 8) (n == 1) fits in
-        let some : 1 ≤ m = leb-true 1 m (and_parts (nat_le 1 m) (nat_le m 8) p.0).0 in
-        and_from _ _ (and_from _ _ (le-leb 1 l (omega (arith, some, least))) (le-leb l 8 (omega (arith, le, most)))) p.1
-
-    by : (k : Kind) → nat_le (m + 1) (kind_ins k) ≡ true → fits_kind k m n ≡ true → fits_kind k l n ≡ true
-    by HostPlay room fits = absurd (none (leb-true (m + 1) 0 room))
-    by (DaiCapture format) room fits = absurd (none (leb-true (m + 1) 0 room))
-    by HostCapture room fits = absurd (one (leb-true (m + 1) 1 room) (eqb-true m 1 (and_parts (m == 1) (n == 0) fits).0))
-    by (DaiPlay format) room fits = absurd (one (leb-true (m + 1) 1 room) (eqb-true m 1 (and_parts (m == 1) (n == 0) fits).0))
-    by Volume room fits = absurd (one (leb-true (m + 1) 1 room) (eqb-true m 1 (and_parts (m == 1) (n == 1) fits).0))
-    by Eq room fits = absurd (one (leb-true (m + 1) 1 room) (eqb-true m 1 (and_parts (m == 1) (n == 1) fits).0))
-    by Mixer room fits = many (leb-true (m + 1) 8 room) fits
-    by Mux room fits = many (leb-true (m + 1) 8 room) fits
+fits-more k m n l least most room fits = and_from _ _ (more-right (kind_ins k) m l least most (leb-true (m + 1) (kind_ins k) room) (right-ins k m n fits)) (right-outs k m n fits)
 
 -- ---- edges
 

@@ -4,18 +4,19 @@ use Rattle.std.proofs.lemmas.Bool.{true≢false, false≢true, false_from_ne_tru
 use Rattle.std.specs.Prelude.{find, option_and_then, nat_le}
 use Rattle.std.specs.List.{list_any, list_all}
 use Rattle.stream_law.specs.declared.graph.Kind.{Kind}
-use Rattle.stream_law.specs.declared.graph.Kind.TheVariants.{HostPlay, HostCapture, DaiPlay, DaiCapture, Volume, Mixer, Mux, Eq}
+use Rattle.stream_law.specs.declared.graph.Kind.TheVariants.{HostPlay, HostCapture}
 use Rattle.stream_law.specs.declared.graph.Comp.{Comp}
 use Rattle.stream_law.specs.declared.graph.Edge.{Edge}
 use Rattle.stream_law.specs.declared.graph.Join.{Join}
 use Rattle.stream_law.specs.declared.graph.Graph.{Graph}
 use Rattle.stream_law.specs.Ways.{edge_of, source_of, sink_of, ins, outs, buffers, is_end, leads, on_way, is_capture}
-use Rattle.stream_law.specs.Joins.{fits_kind}
+use Rattle.stream_law.specs.Joins.{kind_ins, kind_outs, fits_kind}
 use Rattle.stream_law.specs.Moves.{is_choosy}
 use Rattle.stream_law.specs.Order.{is_among}
 use Rattle.mbox_link.specs.Step.{has_comp, is_host, is_complete, is_ready_comp, is_ready_edge, is_way_ready}
 use Rattle.row_laws.specs.Wired.{IsWired, HasJoinedSides, IsSide, IsJoinedFrom, IsJoinedTo, IsOpen, is_at}
 use Rattle.row_laws.proofs.Found.{found-each}
+use Rattle.stream_law.proofs.EdgeNumbers.{right-most, right-ins, right-outs, most-outs, most-ins}
 use Rattle.stream_law.proofs.Members.{IsIn, in-all, any-in, find-in}
 use Rattle.row_laws.proofs.Trips.{goes_from, trip-none, trip-first, trip-leads}
 
@@ -74,25 +75,11 @@ no-id (x ∷ ids) a none here = omega (arith, none)
 
 -- what is ready has at most one edge out
 pub fits-out : (k : Kind) (m n : ℕ) → fits_kind k m n ≡ true → n ≤ 1
-fits-out HostPlay m n fits = let one = eqb-true n 1 (and_parts (m == 0) (n == 1) fits).1 in omega (arith, one)
-fits-out HostCapture m n fits = let none = eqb-true n 0 (and_parts (m == 1) (n == 0) fits).1 in omega (arith, none)
-fits-out (DaiPlay format) m n fits = let none = eqb-true n 0 (and_parts (m == 1) (n == 0) fits).1 in omega (arith, none)
-fits-out (DaiCapture format) m n fits = let one = eqb-true n 1 (and_parts (m == 0) (n == 1) fits).1 in omega (arith, one)
-fits-out Volume m n fits = let one = eqb-true n 1 (and_parts (m == 1) (n == 1) fits).1 in omega (arith, one)
-fits-out Mixer m n fits = let one = eqb-true n 1 (and_parts (nat_le 1 m && nat_le m 8) (n == 1) fits).1 in omega (arith, one)
-fits-out Mux m n fits = let one = eqb-true n 1 (and_parts (nat_le 1 m && nat_le m 8) (n == 1) fits).1 in omega (arith, one)
-fits-out Eq m n fits = let one = eqb-true n 1 (and_parts (m == 1) (n == 1) fits).1 in omega (arith, one)
+fits-out k m n fits = let few = right-most (kind_outs k) n (right-outs k m n fits) in let most = most-outs k in omega (arith, few, most)
 
 -- and one edge in, where it does not choose
 pub fits-in : (k : Kind) (m n : ℕ) → is_choosy k ≡ false → fits_kind k m n ≡ true → m ≤ 1
-fits-in HostPlay m n plain fits = let none = eqb-true m 0 (and_parts (m == 0) (n == 1) fits).0 in omega (arith, none)
-fits-in HostCapture m n plain fits = let one = eqb-true m 1 (and_parts (m == 1) (n == 0) fits).0 in omega (arith, one)
-fits-in (DaiPlay format) m n plain fits = let one = eqb-true m 1 (and_parts (m == 1) (n == 0) fits).0 in omega (arith, one)
-fits-in (DaiCapture format) m n plain fits = let none = eqb-true m 0 (and_parts (m == 0) (n == 1) fits).0 in omega (arith, none)
-fits-in Volume m n plain fits = let one = eqb-true m 1 (and_parts (m == 1) (n == 1) fits).0 in omega (arith, one)
-fits-in Mixer m n plain fits = absurd (true≢false plain)
-fits-in Mux m n plain fits = absurd (true≢false plain)
-fits-in Eq m n plain fits = let one = eqb-true m 1 (and_parts (m == 1) (n == 1) fits).0 in omega (arith, one)
+fits-in k m n plain fits = let few = right-most (kind_ins k) m (right-ins k m n fits) in let most = most-ins k plain in omega (arith, few, most)
 
 -- nothing goes into a playback's host, and nothing comes out of a capture's
 pub play-in : (k : Kind) (m n : ℕ) → is_host k ≡ true → is_capture k ≡ false → fits_kind k m n ≡ true → m ≡ 0

@@ -24,7 +24,9 @@ pub use fields::{bytes_at, half, label, long, word, word_at, words_at};
 pub use format::{Format, Params, Sample};
 pub use hole::Hole;
 pub use items::Items;
-pub use limits::{INPUT_BYTES, MAX_RATE, MIN_RATE, OUTPUT_BYTES, TURN_BYTES, is_rate};
+pub use limits::{
+    INPUT_BYTES, MAX_RATE, MIN_RATE, OUTPUT_BYTES, TURN_BYTES, is_rate, limit_numbers,
+};
 pub use line::Line;
 pub use memory::NoMemory;
 pub use name::Name44;

@@ -1,6 +1,7 @@
 // Least and greatest numbers of which several layers speak.
 ghost use Rattle.std.specs.Prelude.{◌≡◌};
 ghost use Rattle.sof_base.specs.Rates as rates;
+ghost use Rattle.sof_base.specs.declared.limits.TheConstants as limits;
 
 /// The most bytes that one run of an endpoint moves: ten periods of 192 frames of 8 samples of 4 bytes.
 pub const TURN_BYTES: usize = 61440;
@@ -23,3 +24,10 @@ pub fn is_rate(rate: u32) -> bool
 {
     MIN_RATE <= rate && rate <= MAX_RATE && rate % 1000 == 0
 }
+
+/// The limits, written out; nothing runs here. Definitions name these constants, and this law says what they are.
+pub fn limit_numbers()
+    ensures rates { (limits.MIN_RATE ≡ 8000) × (limits.MAX_RATE ≡ 192000) }
+    ensures turn { limits.TURN_BYTES ≡ 61440 }
+    ensures endpoints { (limits.OUTPUT_BYTES ≡ 1048576) × (limits.INPUT_BYTES ≡ 1048576) }
+{}

@@ -14,7 +14,7 @@ use Rattle.stream_law.specs.Counts.{Counts, Counting, moved_by, put_after}
 use Rattle.stream_law.specs.Past.{Past, frames_now, made_after, slices}
 use Rattle.stream_law.specs.Made.{frames_made, frames_by, blob, only_slice}
 use Rattle.stream_law.specs.declared.graph.Kind.{Kind}
-use Rattle.stream_law.specs.declared.graph.Kind.TheVariants.{HostPlay, HostCapture, DaiPlay, DaiCapture, Volume, Mixer, Mux, Eq}
+use Rattle.stream_law.specs.declared.graph.Kind.TheVariants.{Eq}
 use Rattle.stream_law.specs.declared.graph.Setting.{Setting}
 use Rattle.stream_law.specs.declared.graph.Comp.{Comp}
 use Rattle.stream_law.specs.Order.{is_among}
@@ -62,13 +62,7 @@ frames_made_same v c n read slices f g same = by_comp (comp_of v.graph c) refl
 
     by_kind : (k : Kind) (setting : Setting) → (is_equaliser k ≡ true → f (blob setting) (channels_of v c) only ≡ g (blob setting) (channels_of v c) only) → frames_by k setting v c n read slices f ≡ frames_by k setting v c n read slices g
     by_kind Eq setting h = h refl
-    by_kind HostPlay setting h = refl
-    by_kind HostCapture setting h = refl
-    by_kind (DaiPlay format) setting h = refl
-    by_kind (DaiCapture format) setting h = refl
-    by_kind Volume setting h = refl
-    by_kind Mixer setting h = refl
-    by_kind Mux setting h = refl
+    by_kind kind setting h = refl
 
     by_comp : (o : Option Comp) → comp_of v.graph c ≡ o → option_map_or (λ x. frames_by x.kind x.setting v c n read slices f) o [] ≡ option_map_or (λ x. frames_by x.kind x.setting v c n read slices g) o []
     by_comp None e = refl

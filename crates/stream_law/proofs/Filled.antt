@@ -4,7 +4,7 @@ use Rattle.std.proofs.lemmas.Bool.{true≢false, eqb-true, true_from_ne_false}
 use Rattle.std.proofs.lemmas.List.{drop-append-le}
 use Rattle.std.specs.Option.{option_map_or}
 use Rattle.stream_law.specs.declared.graph.Kind.{Kind}
-use Rattle.stream_law.specs.declared.graph.Kind.TheVariants.{HostPlay, HostCapture, DaiPlay, DaiCapture, Volume, Mixer, Mux, Eq}
+use Rattle.stream_law.specs.declared.graph.Kind.TheVariants.{HostPlay, DaiCapture}
 use Rattle.stream_law.specs.declared.graph.Setting.{Setting}
 use Rattle.stream_law.specs.declared.graph.Comp.{Comp}
 use Rattle.stream_law.specs.Table.{number_of, list_of, updated}
@@ -30,12 +30,7 @@ frames_made-unread v c n read other s f unread = by_comp (comp_of v.graph c) unr
     by_kind : (k : Kind) (setting : Setting) → is_input k ≡ false → frames_by k setting v c n read s f ≡ frames_by k setting v c n other s f
     by_kind HostPlay setting h = absurd (true≢false h)
     by_kind (DaiCapture format) setting h = absurd (true≢false h)
-    by_kind HostCapture setting h = refl
-    by_kind (DaiPlay format) setting h = refl
-    by_kind Volume setting h = refl
-    by_kind Mixer setting h = refl
-    by_kind Mux setting h = refl
-    by_kind Eq setting h = refl
+    by_kind kind setting h = refl
 
     by_comp : (o : Option Comp) → option_map_or (λ x. is_input x.kind) o false ≡ false → option_map_or (λ x. frames_by x.kind x.setting v c n read s f) o [] ≡ option_map_or (λ x. frames_by x.kind x.setting v c n other s f) o []
     by_comp None h = refl

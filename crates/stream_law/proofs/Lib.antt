@@ -28,3 +28,4 @@ pub mod Walking
 pub mod Taking
 pub mod Whole
 pub mod BareGraphs
+pub mod EdgeNumbers

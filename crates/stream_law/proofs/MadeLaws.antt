@@ -119,10 +119,7 @@ length-frames_by_none Volume setting v c n read [] epoch none = refl
 length-frames_by_none Volume setting v c n read (e ∷ es) epoch none = absurd (true≢false none)
 length-frames_by_none Eq setting v c n read [] epoch none = length-equalised_after epoch (blob setting) (channels_of v c) []
 length-frames_by_none Eq setting v c n read (e ∷ es) epoch none = absurd (true≢false none)
-length-frames_by_none HostPlay setting v c n read slices epoch none = absurd (true≢false none)
-length-frames_by_none (DaiCapture format) setting v c n read slices epoch none = absurd (true≢false none)
-length-frames_by_none Mixer setting v c n read slices epoch none = absurd (true≢false none)
-length-frames_by_none Mux setting v c n read slices epoch none = absurd (true≢false none)
+length-frames_by_none kind setting v c n read slices epoch none = absurd (true≢false none)
 
 -- a list with an id in it has a length
 length-among : (ids : List ℕ) (x : ℕ) → is_among ids x ≡ true → 1 ≤ length ids
@@ -135,10 +132,6 @@ one-looked [] p f k some one all = absurd (omega arith)
 one-looked (i ∷ ids) p f k some one all = ap (λ h. k (table (cond h (i ∷ filter p ids) (filter p ids)) f)) (all i) ∙ some (i, f i) (table (filter p ids) f)
 
 makes-fit : (k : Kind) (ins' outs' : List ℕ) (p : ℕ → Bool) (f : ℕ → List Frame) (b : ℕ) → fits_kind k (length ins') (length outs') ≡ true → is_among outs' b ≡ true → (is_choosy k ≡ false → (x : ℕ) → p x ≡ true) → makes k (table (filter p ins') f) ≡ true
-makes-fit HostPlay ins' outs' p f b fits there all = refl
-makes-fit (DaiCapture format) ins' outs' p f b fits there all = refl
-makes-fit Mixer ins' outs' p f b fits there all = refl
-makes-fit Mux ins' outs' p f b fits there all = refl
 makes-fit HostCapture ins' outs' p f b fits there all =
     let none : length outs' ≡ 0 = eqb-true (length outs') 0 (and_parts (length ins' == 1) (length outs' == 0) fits).1 in
     absurd (omega (arith, length-among outs' b there))
@@ -147,6 +140,7 @@ makes-fit (DaiPlay format) ins' outs' p f b fits there all =
     absurd (omega (arith, length-among outs' b there))
 makes-fit Volume ins' outs' p f b fits there all = one-looked ins' p f (makes Volume) (λ e es. refl) (eqb-true (length ins') 1 (and_parts (length ins' == 1) (length outs' == 1) fits).0) (all refl)
 makes-fit Eq ins' outs' p f b fits there all = one-looked ins' p f (makes Eq) (λ e es. refl) (eqb-true (length ins') 1 (and_parts (length ins' == 1) (length outs' == 1) fits).0) (all refl)
+makes-fit kind ins' outs' p f b fits there all = refl
 
 module _ (whole : List (ℕ × List ℕ)) (old : Past) (t : ℕ) (n : List (ℕ × ℕ)) (new : Counts) (made : List (ℕ × List Frame))
     (counting : Counting old.view t old.counts n new) (is : made ≡ updated (buffers old.view.graph) (made_after whole old n new.put made) old.made) (kept : KeepsCounts old)

@@ -4,6 +4,7 @@ pub mod Table
 pub mod Placed
 pub mod Ways
 pub mod Joins
+pub mod Sizes
 pub mod Moves
 pub mod Order
 pub mod Walks

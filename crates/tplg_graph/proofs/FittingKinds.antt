@@ -13,7 +13,7 @@ use Rattle.stream_law.specs.Ways.{source_of, sink_of, is_end, ins, outs}
 use Rattle.stream_law.specs.Joins.{fits_kind}
 use Rattle.stream_law.proofs.Waits.{count-any}
 use Rattle.tplg_widgets.specs.declared.entry.Role.{Role}
-use Rattle.tplg_widgets.specs.declared.entry.Role.TheVariants.{HostPlay, HostCapture, Dai, Volume, Mixer, Mux, Eq, Buffer, Scheduler}
+use Rattle.tplg_widgets.specs.declared.entry.Role.TheVariants.{Dai, Buffer, Scheduler}
 use Rattle.tplg_widgets.specs.declared.entry.Entry.{Entry}
 use Rattle.tplg_widgets.specs.declared.tokens.FormatToken.{FormatToken}
 use Rattle.tplg_widgets.specs.Entries.{is_component, interpreted}
@@ -213,13 +213,8 @@ role-fits : (r : Option Role) (f : FormatToken) (ends : Bool) (m n : ℕ) (k : K
 role-fits None f ends m n k h e r = cc
 role-fits (Some Buffer) f ends m n k h e r = cc
 role-fits (Some Scheduler) f ends m n k h e r = cc
-role-fits (Some HostPlay) f ends m n k h e r = subst (λ x. fits_kind x m n ≡ true) (same_Some _ k h) r
-role-fits (Some HostCapture) f ends m n k h e r = subst (λ x. fits_kind x m n ≡ true) (same_Some _ k h) r
 role-fits (Some Dai) f ends m n k h e r = dai-fits f ends m n k h e (or_cases (m == 0 && n == 1) (m == 1 && n == 0) r)
-role-fits (Some Volume) f ends m n k h e r = subst (λ x. fits_kind x m n ≡ true) (same_Some _ k h) r
-role-fits (Some Mixer) f ends m n k h e r = subst (λ x. fits_kind x m n ≡ true) (same_Some _ k h) r
-role-fits (Some Mux) f ends m n k h e r = subst (λ x. fits_kind x m n ≡ true) (same_Some _ k h) r
-role-fits (Some Eq) f ends m n k h e r = subst (λ x. fits_kind x m n ≡ true) (same_Some _ k h) r
+role-fits (Some role) f ends m n k h e r = subst (λ x. fits_kind x m n ≡ true) (same_Some _ k h) r
 
 all-pass : {X : Type 0} (p : X → Bool) (xs : List X) → AllByRecursion (λ x. p x ≡ true) xs → list_all p xs ≡ true
 all-pass p [] all = refl

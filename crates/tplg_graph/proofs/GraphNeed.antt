@@ -21,7 +21,8 @@ use Rattle.tplg_widgets.specs.Entries.{is_interpreted, is_buffer_entry, is_buffe
 use Rattle.tplg_widgets.specs.Ends.{end_named}
 use Rattle.tplg_widgets.specs.GraphLists.{component_kind, component_of, buffer_edge, is_sink, route_in, route_out}
 use Rattle.tplg_graph.specs.PlanLists.{pipeline_of, component_end}
-use Rattle.tplg_plan.specs.HeapNeed.{component_size, components_need, edges_need, need_on}
+use Rattle.stream_law.specs.Sizes.{comp_bytes}
+use Rattle.tplg_plan.specs.HeapNeed.{components_need, edges_need, need_on}
 use Rattle.tplg_graph.specs.TopologyNeed.{stated_size, widget_need}
 use Rattle.tplg_graph.specs.PlanOf.{graph_on}
 use Rattle.tplg_rules.specs.Rules.{HoldsAll}
@@ -39,11 +40,11 @@ one n = omega arith
 
 abbrev kind_size : Option Kind → ℕ
 kind_size None = 0
-kind_size (Some k) = component_size k
+kind_size (Some k) = comp_bytes k
 
 more-comps : (id pipe : ℕ) (o : Option Kind) (cs : List Comp) → components_need (cons_option (option_map (λ k. record { id = id; kind = k; pipe = pipe; setting = Nothing }) o) cs) ≡ kind_size o + components_need cs
 more-comps id pipe None cs = nothing (components_need cs)
-more-comps id pipe (Some k) cs = sum_by-cons (λ x. x) (component_size k) (map (λ (c : Comp). component_size c.kind) cs)
+more-comps id pipe (Some k) cs = sum_by-cons (λ x. x) (comp_bytes k) (map (λ (c : Comp). comp_bytes c.kind) cs)
 
 more-edges : (b : Bool) (e : Edge) (es : List Edge) → edges_need (cons_option (cond b (Some e) None) es) ≡ cond b (rounded (32 + e.size)) 0 + edges_need es
 more-edges true e es = sum_by-cons (λ x. x) (rounded (32 + e.size)) (map (λ (e : Edge). rounded (32 + e.size)) es)

@@ -9,6 +9,7 @@ pub mod block_type;
 mod control;
 pub mod control_kind;
 mod fault;
+mod laws;
 mod pcm;
 pub mod token_number;
 mod tokens;
@@ -19,6 +20,7 @@ pub use block::{Block, Body, Manifest, Route, Topology};
 pub use block_header::{ABI, HEADER_BYTES, MAGIC};
 pub use control::{Control, ControlHead};
 pub use fault::TplgFault;
+pub use laws::format_numbers;
 pub use pcm::{Caps, Pcm, StreamRecord, Streams};
 pub use tokens::{
     NumberArray, NumberTuple, TextArray, TextTuple, TokenArray, UuidArray, UuidTuple,

@@ -1,6 +1,7 @@
 // How many bytes of heap a plan needs.
 ghost use Rattle.std.specs.Prelude.{◌≡◌, ◌≤◌, ◌*◌, ◌+◌, length};
 ghost use Rattle.sof_base.specs.Holes.{rounded};
+ghost use Rattle.stream_law.specs.Sizes.{comp_bytes, buffer_bytes};
 ghost use Rattle.tplg_plan.specs.HeapNeed as law;
 
 use crate::plans::Plan;
@@ -8,7 +9,7 @@ use stream_law::{Comp, Edge, Kind};
 
 /// The size in bytes of a component.
 fn component_size(kind: Kind) -> u64
-    ensures value { result ≡ law.component_size kind }
+    ensures value { result ≡ comp_bytes kind }
     ensures most { result ≤ 4160 }
 {
     match kind {
@@ -20,7 +21,7 @@ fn component_size(kind: Kind) -> u64
 
 /// The size in bytes of a buffer, rounded up to 16.
 fn buffer_size(size: u32) -> u64
-    ensures value { result ≡ rounded (32 + size) }
+    ensures value { result ≡ rounded (buffer_bytes size) }
     ensures most { result ≤ 4294967343 }
 {
     (32 + size as u64 + 15) / 16 * 16

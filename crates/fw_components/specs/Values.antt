@@ -4,15 +4,16 @@ use Rattle.std.specs.List.{list_all}
 use Rattle.std.specs.Option.{option_map_or}
 use Rattle.fw_components.specs.declared.component.Component.{Component}
 use Rattle.sof_base.specs.declared.errno.Errno.{Errno}
+use Rattle.ipc3_model.specs.declared.control_kind.TheConstants.{CTRL_VOLUME, CTRL_ENUM}
 use Rattle.fw_components.specs.declared.component.Unit as units
 use Rattle.fw_components.specs.declared.component.Unit.TheVariants.{Volume, Mux}
 use Rattle.fw_components.specs.Tables.{Tables}
 use Rattle.fw_components.specs.Changes.{is_there}
 
--- the gains of a volume by command 0, and the choice of a mux by command 1
+-- the gains of a volume by CTRL_VOLUME, and the choice of a mux by CTRL_ENUM
 abbrev pub unit_values : units.Unit → ℕ → Option (List ℕ)
-unit_values (Volume gains piece) command = if command == 0 then Some gains else None
-unit_values (Mux choice piece) command = if command == 1 then Some (choice ∷ []) else None
+unit_values (Volume gains piece) command = if command == CTRL_VOLUME then Some gains else None
+unit_values (Mux choice piece) command = if command == CTRL_ENUM then Some (choice ∷ []) else None
 unit_values unit command = None
 
 abbrev pub values_or : Option (List ℕ) → Result (List ℕ) ℤ
@@ -32,10 +33,10 @@ answer_told (Err e) = Err e.0
 
 -- ---- what values set
 
--- a volume takes as many gains as it has, of at most 16777216, by command 0; and a mux a choice by command 1
+-- a volume takes as many gains as it has, of at most 16777216, by CTRL_VOLUME; and a mux a choice by CTRL_ENUM
 abbrev pub takes_values : units.Unit → ℕ → List ℕ → Bool
-takes_values (Volume gains piece) command values = command == 0 && (length values == length gains && list_all (λ v. nat_le v 16777216) values)
-takes_values (Mux choice piece) command values = command == 1 && length values == 1
+takes_values (Volume gains piece) command values = command == CTRL_VOLUME && (length values == length gains && list_all (λ v. nat_le v 16777216) values)
+takes_values (Mux choice piece) command values = command == CTRL_ENUM && length values == 1
 takes_values unit command values = false
 
 -- the gains of a volume, where they are as many, and the choice of a mux, where there is one

@@ -7,13 +7,9 @@ ghost use Rattle.std.specs.List.{list_all};
 use eq_biquad::Eq;
 use fw_heap::Piece;
 use fw_ring::Ring;
+use ipc3_model::{CTRL_ENUM, CTRL_VOLUME};
 use sof_base::{Bounded, Format, Params};
 use stream_law::Phase;
-
-// The commands of IPC3 for the gains of a volume and the choice of a mux.
-const CTRL_VOLUME: u32 = 0;
-
-const CTRL_ENUM: u32 = 1;
 
 // The greatest gain, 256 in units of 1/65536.
 const GREATEST_GAIN: u32 = 16_777_216;
@@ -150,7 +146,7 @@ impl Component {
         }
     }
 
-    /// The values of a volume by command 0, and of a mux by command 1.
+    /// The values of a volume by CTRL_VOLUME, and of a mux by CTRL_ENUM.
     pub(crate) fn values(&self, command: u32) -> Option<Bounded<u32, 8>>
         ensures { result ≡ unit_values self.now.unit command }
     {

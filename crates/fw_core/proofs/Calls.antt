@@ -4,9 +4,9 @@ use Rattle.std.specs.Prelude.{is_some, IfOk, OnErr}
 use Rattle.std.proofs.lemmas.Bool.{false≢true}
 use Rattle.sof_base.specs.Ports.{Io, HasRoom}
 use Rattle.sof_base.specs.declared.errno.Errno.{Errno}
-use Rattle.ipc3_codec.specs.declared.reply.Body.{Body}
-use Rattle.ipc3_codec.specs.Messages.{decoded}
-use Rattle.ipc3_codec.specs.Replies.{reply_spelling}
+use Rattle.ipc3_model.specs.declared.reply.Body.{Body}
+use Rattle.ipc3_model.specs.Messages.{decoded}
+use Rattle.ipc3_model.specs.Replies.{reply_spelling}
 use Rattle.stream_law.specs.State.{FwState}
 use Rattle.mbox_link.specs.Step.{step, replied, row_of, body_of, error_reply}
 use Rattle.mbox_link.specs.Exchange.{Stepped, Rose, ticked}

@@ -4,7 +4,7 @@ use Rattle.std.specs.Prelude.{nat_le}
 use Rattle.std.proofs.lemmas.List.{length-replicate}
 use Rattle.std.specs.List.{list_all}
 use Rattle.std.proofs.lemmas.Bool.{and_parts, leb-true}
-use Rattle.ipc3_codec.specs.Allowed.{is_channels}
+use Rattle.ipc3_model.specs.Allowed.{is_channels}
 
 most : (n : ℕ) → list_all (λ g. nat_le g 16777216) (replicate n 65536) ≡ true
 most zero = refl

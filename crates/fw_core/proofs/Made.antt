@@ -19,7 +19,7 @@ use Rattle.stream_law.specs.Placed.{placed, AreAbove, Ascends}
 use Rattle.stream_law.proofs.Members.{IsIn, in-any}
 use Rattle.stream_law.proofs.Placing.{AreAbove-below, map-placed}
 use Rattle.mbox_link.specs.Step as rows
-use Rattle.ipc3_codec.specs.Allowed.{is_buffer_size, is_period_allowed}
+use Rattle.ipc3_model.specs.Allowed.{is_buffer_size, is_period_allowed}
 use Rattle.row_laws.specs.Tiled.{heap_bytes}
 use Rattle.row_laws.specs.Wired.{is_node}
 use Rattle.row_laws.specs.Kept.{IsKeptState, IsSettingOf}

@@ -3,10 +3,10 @@ use Rattle.std.proofs.Common.{◌≡◌, ◌∙◌, sym, ap, ℕ, ℤ, Bool, tru
 use Rattle.std.proofs.lemmas.Bool.{false≢true, and_parts}
 use Rattle.std.specs.Prelude.{IfOk, is_some}
 use Rattle.sof_base.specs.declared.errno.Errno.{Errno}
-use Rattle.ipc3_codec.specs.declared.reply.Body.{Body}
-use Rattle.ipc3_codec.specs.declared.message.Message.{Message}
-use Rattle.ipc3_codec.specs.declared.message.Message.TheVariants.{GetValue, GetData}
-use Rattle.ipc3_codec.specs.declared.fault.CodecFault.{CodecFault}
+use Rattle.ipc3_model.specs.declared.reply.Body.{Body}
+use Rattle.ipc3_model.specs.declared.message.Message.{Message}
+use Rattle.ipc3_model.specs.declared.message.Message.TheVariants.{GetValue, GetData}
+use Rattle.ipc3_model.specs.declared.fault.CodecFault.{CodecFault}
 use Rattle.stream_law.specs.State.{FwState, view_of}
 use Rattle.mbox_link.specs.Step.{row, row_of, body, body_of, no_device, invalid, is_used, control_values_at, part_at}
 use Rattle.fw_heap.specs.Regions.{RegionState}

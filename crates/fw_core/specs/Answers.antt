@@ -1,9 +1,9 @@
 -- What a message was answered.
 use Rattle.std.specs.Prelude.{◌≡◌, ℕ, ℤ, pos, OnErr, Result, Ok, Err}
 use Rattle.sof_base.specs.declared.errno.Errno.{Errno}
-use Rattle.ipc3_codec.specs.declared.reply.Body.{Body}
-use Rattle.ipc3_codec.specs.declared.reply.Body.TheVariants.{Nothing}
-use Rattle.ipc3_codec.specs.declared.reply.Reply.{Reply}
+use Rattle.ipc3_model.specs.declared.reply.Body.{Body}
+use Rattle.ipc3_model.specs.declared.reply.Body.TheVariants.{Nothing}
+use Rattle.ipc3_model.specs.declared.reply.Reply.{Reply}
 use Rattle.stream_law.specs.State.{FwState}
 use Rattle.fw_heap.specs.Regions.{RegionState}
 use Rattle.fw_components.specs.Tables.{Tables}

@@ -1,8 +1,8 @@
 -- Which answers say that nothing changed.
 use Rattle.std.specs.Prelude.{Bool, true, false, Result, Ok, Err}
 use Rattle.sof_base.specs.declared.errno.Errno.{Errno}
-use Rattle.ipc3_codec.specs.declared.reply.Body.{Body}
-use Rattle.ipc3_codec.specs.declared.reply.Body.TheVariants.{Nothing, Values, Part}
+use Rattle.ipc3_model.specs.declared.reply.Body.{Body}
+use Rattle.ipc3_model.specs.declared.reply.Body.TheVariants.{Nothing, Values, Part}
 
 -- whether a body tells something
 abbrev pub tells : Body → Bool

@@ -4,7 +4,7 @@ ghost use Rattle.fw_components.specs.States.{AreOf, with_tables};
 ghost use Rattle.stream_law.specs.State.{FwState};
 ghost use Rattle.fw_core.specs.Device.{used_of, stepped, reply_to, with_state};
 ghost use Rattle.fw_core.specs.Laid.{no_tables};
-ghost use Rattle.ipc3_codec.specs.Replies.{reply_spelling};
+ghost use Rattle.ipc3_model.specs.Replies.{reply_spelling};
 ghost use Rattle.fw_core.specs.Answers.{reply_with};
 ghost use Rattle.fw_core.specs.Unchanged.{tells, changes_nothing};
 

@@ -1,8 +1,8 @@
 // The rows of messages that bring a component, a buffer or a pipeline.
 ghost use Rattle.std.specs.Prelude.{◌≡◌, ◌==◌, true, false};
 ghost use Rattle.std.specs.List.{list_any};
-ghost use Rattle.ipc3_codec.specs.Allowed.{is_buffer_size, is_period_allowed};
-ghost use Rattle.ipc3_codec.specs.Messages.{IsKind};
+ghost use Rattle.ipc3_model.specs.Allowed.{is_buffer_size, is_period_allowed};
+ghost use Rattle.ipc3_model.specs.Messages.{IsKind};
 ghost use Rattle.mbox_link.specs.Step.{comp_new as comp_new_row, buffer_new as buffer_new_row, pipe_new as pipe_new_row, kind_of, first_setting, has_index as names_index};
 ghost use Rattle.fw_components.specs.Tables.{graph_of};
 ghost use Rattle.fw_components.specs.Changes.{added, is_there, is_full, IsNew, has_new_index};

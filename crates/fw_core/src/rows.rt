@@ -1,6 +1,6 @@
 // The rows of messages that join, complete, free and play what is there.
 ghost use Rattle.std.specs.Prelude.{◌≡◌, true};
-ghost use Rattle.ipc3_codec.specs.Allowed.{is_channels};
+ghost use Rattle.ipc3_model.specs.Allowed.{is_channels};
 ghost use Rattle.mbox_link.specs.Step.{connect as connect_row, pipe_complete as pipe_complete_row, pcm_params as pcm_params_row};
 ghost use Rattle.fw_pipeline.specs.Rows.{row_of_free};
 ghost use Rattle.fw_pipeline.specs.Triggers.{triggered};

@@ -22,7 +22,7 @@ use Rattle.stream_law.proofs.Members.{find-in}
 use Rattle.row_laws.specs.Played.{AreStreamsPlayable, IsStreamSet, IsSetBy, is_idle}
 use Rattle.row_laws.proofs.Stays.{all-of, find-some, find-any, live-idle}
 use Rattle.row_laws.proofs.Playing.{active-period}
-use Rattle.ipc3_codec.specs.Allowed.{is_period_allowed}
+use Rattle.ipc3_model.specs.Allowed.{is_period_allowed}
 
 -- ---- bounds of streams and pipelines
 

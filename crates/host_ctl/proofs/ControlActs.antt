@@ -7,9 +7,9 @@ use Rattle.stream_law.specs.State.{FwState}
 use Rattle.stream_law.specs.Ways.{comp_of}
 use Rattle.stream_law.specs.Past.{Now, Leads}
 use Rattle.stream_law.specs.Stands.{Stands}
-use Rattle.ipc3_codec.specs.declared.message.Message.{Message}
-use Rattle.ipc3_codec.specs.declared.reply.Body.TheVariants.{Nothing}
-use Rattle.ipc3_codec.specs.Messages.{message_spelling, decoded, IsMessage}
+use Rattle.ipc3_model.specs.declared.message.Message.{Message}
+use Rattle.ipc3_model.specs.declared.reply.Body.TheVariants.{Nothing}
+use Rattle.ipc3_model.specs.Messages.{message_spelling, decoded, IsMessage}
 use Rattle.mbox_link.specs.Step as fw
 use Rattle.mbox_link.specs.Step.{row, body, body_of, no_device}
 use Rattle.tplg_plan.specs.declared.plans.Plan.{Plan}

@@ -12,13 +12,13 @@ use Rattle.stream_law.specs.declared.graph.Kind.{Kind}
 use Rattle.stream_law.specs.declared.graph.Setting.{Setting}
 use Rattle.stream_law.specs.State.{FwState, view_of}
 use Rattle.stream_law.specs.Ways.{comp_of}
-use Rattle.ipc3_codec.specs.declared.message.Message.{Message}
-use Rattle.ipc3_codec.specs.declared.message.Message.TheVariants.{GetData}
-use Rattle.ipc3_codec.specs.declared.reply.Body.{Body}
-use Rattle.ipc3_codec.specs.declared.reply.Body.TheVariants as bodies
-use Rattle.ipc3_codec.specs.declared.reply.Reply.{Reply}
-use Rattle.ipc3_codec.specs.Messages.{message_spelling, decoded, IsMessage}
-use Rattle.ipc3_codec.proofs.Spelled.{decoded_reply-exactly}
+use Rattle.ipc3_model.specs.declared.message.Message.{Message}
+use Rattle.ipc3_model.specs.declared.message.Message.TheVariants.{GetData}
+use Rattle.ipc3_model.specs.declared.reply.Body.{Body}
+use Rattle.ipc3_model.specs.declared.reply.Body.TheVariants as bodies
+use Rattle.ipc3_model.specs.declared.reply.Reply.{Reply}
+use Rattle.ipc3_model.specs.Messages.{message_spelling, decoded, IsMessage}
+use Rattle.ipc3_model.proofs.Spelled.{decoded_reply-exactly}
 use Rattle.mbox_link.specs.BlobParts.{parts, blob_part}
 use Rattle.mbox_link.specs.Step as fw
 use Rattle.mbox_link.specs.Step.{row, body_of, part_body, no_device, invalid}

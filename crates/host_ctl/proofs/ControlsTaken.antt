@@ -7,12 +7,12 @@ use Rattle.std.proofs.lemmas.List.{length-map}
 use Rattle.sof_base.specs.Slots.{AreSlots, IsSlot}
 use Rattle.stream_law.specs.State.{FwState, view_of}
 use Rattle.stream_law.specs.Ways.{comp_of}
-use Rattle.ipc3_codec.specs.declared.fault.CodecFault.{CodecFault}
-use Rattle.ipc3_codec.specs.declared.message.Message.TheVariants.{GetValue}
-use Rattle.ipc3_codec.specs.declared.reply.Body.{Body}
-use Rattle.ipc3_codec.specs.declared.reply.Reply.{Reply}
-use Rattle.ipc3_codec.specs.Messages.{message_spelling, decoded, IsMessage}
-use Rattle.ipc3_codec.specs.Replies.{decoded_reply}
+use Rattle.ipc3_model.specs.declared.fault.CodecFault.{CodecFault}
+use Rattle.ipc3_model.specs.declared.message.Message.TheVariants.{GetValue}
+use Rattle.ipc3_model.specs.declared.reply.Body.{Body}
+use Rattle.ipc3_model.specs.declared.reply.Reply.{Reply}
+use Rattle.ipc3_model.specs.Messages.{message_spelling, decoded, IsMessage}
+use Rattle.ipc3_model.specs.Replies.{decoded_reply}
 use Rattle.mbox_link.specs.Step as fw
 use Rattle.mbox_link.specs.Step.{row, body_of, no_device, invalid}
 use Rattle.tplg_plan.specs.declared.plans.Plan.{Plan}

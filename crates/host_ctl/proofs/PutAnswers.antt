@@ -12,7 +12,7 @@ use Rattle.stream_law.specs.declared.graph.Setting.{Setting}
 use Rattle.stream_law.specs.declared.graph.Setting.TheVariants as settings
 use Rattle.stream_law.specs.State.{FwState}
 use Rattle.stream_law.specs.Ways.{comp_of}
-use Rattle.ipc3_codec.specs.declared.message.Message.TheVariants.{SetValue, GetValue}
+use Rattle.ipc3_model.specs.declared.message.Message.TheVariants.{SetValue, GetValue}
 use Rattle.mbox_link.specs.Step as fw
 use Rattle.mbox_link.specs.Step.{row, is_used, has_comp, has_edge, has_pipe, with_comps, with_setting, no_device, invalid}
 use Rattle.tplg_plan.specs.declared.plans.ControlPlan.{ControlPlan}

@@ -19,7 +19,7 @@ use Rattle.tplg_plan.specs.declared.plans.ControlKind.{ControlKind}
 use Rattle.tplg_plan.specs.declared.plans.ControlKind.TheVariants as controls
 use Rattle.tplg_plan.specs.GainOf.{control_gain}
 use Rattle.tplg_plan.specs.Sound.{IsControlOf}
-use Rattle.ipc3_codec.specs.declared.message.Message.TheVariants.{SetValue}
+use Rattle.ipc3_model.specs.declared.message.Message.TheVariants.{SetValue}
 use Rattle.host_widgets.specs.Controls.{control_of}
 use Rattle.host_widgets.specs.declared.kept.Record.{Record}
 use Rattle.host_widgets.specs.declared.kept.ControlRec.{ControlRec}

@@ -5,7 +5,7 @@ ghost use Rattle.mbox_link.specs.BlobParts.{parts};
 ghost use Rattle.tplg_plan.specs.Ranges.{is_initial};
 ghost use Rattle.tplg_plan.specs.Sound.{IsSound};
 ghost use Rattle.sof_base.specs.BlobFaults.{is_blob};
-ghost use Rattle.ipc3_codec.specs.declared.reply.Body.TheVariants as bodies;
+ghost use Rattle.ipc3_model.specs.declared.reply.Body.TheVariants as bodies;
 ghost use Rattle.host_widgets.specs.declared.answers.Answer.TheVariants as answers;
 ghost use Rattle.host_widgets.specs.Host.{Agrees};
 ghost use Rattle.host_widgets.specs.HostActs.{Put};
@@ -24,7 +24,7 @@ use host_widgets::{
     Answer, ControlRec, HostFault, Power, Record, Side, hear, link_down, part_count, pass,
     same_numbers, send_parts, set_message,
 };
-use ipc3_codec::{Body, Message};
+use ipc3_model::{Body, CTRL_ENUM, CTRL_VOLUME, Message};
 use mbox_link::Dsp;
 use sof_base::{Bounded, Part};
 use tplg_plan::ControlKind;
@@ -358,8 +358,8 @@ pub fn read<P: Dsp>(side: &mut Side<'_, P>, place: usize) -> Result<Answer, Host
     ensures same { SameSide side.old side.new }
 {
     match side.plan.controls.items()[place].kind {
-        ControlKind::Volume { .. } => ask(side, place, 0),
-        ControlKind::Choice { .. } => ask(side, place, 1),
+        ControlKind::Volume { .. } => ask(side, place, CTRL_VOLUME),
+        ControlKind::Choice { .. } => ask(side, place, CTRL_ENUM),
         ControlKind::Blob { .. } => ask_parts(side, place),
     }
 }

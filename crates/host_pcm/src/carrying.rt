@@ -13,7 +13,7 @@ ghost use Rattle.host_widgets.specs.Sides.{SameSide, world_of};
 
 use crate::asking::Ask;
 use host_widgets::{Found, HostFault, Power, Record, Side, StreamRec, Trigger, direction, pass};
-use ipc3_codec::Message;
+use ipc3_model::Message;
 use mbox_link::Dsp;
 use sof_base::Params;
 

@@ -12,7 +12,7 @@ use Rattle.stream_law.specs.Placed.{HasDistinct}
 use Rattle.stream_law.specs.Ways.{agree, components, is_live_phase, is_silent}
 use Rattle.stream_law.specs.Seen.{equalises, seen, ring_seen, history_seen}
 use Rattle.stream_law.proofs.Building.{dead-equaliser}
-use Rattle.ipc3_codec.specs.Messages.{message_spelling, decoded}
+use Rattle.ipc3_model.specs.Messages.{message_spelling, decoded}
 use Rattle.mbox_link.specs.Step as fw
 use Rattle.mbox_link.specs.Step.{row, set_stream, no_device, invalid}
 use Rattle.mbox_link.specs.Exchange.{ticks}

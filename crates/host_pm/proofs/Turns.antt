@@ -2,7 +2,7 @@
 use Rattle.std.proofs.Common.{◌≡◌, ◌⊎◌, inl, inr, ℕ, ◌*◌, List, [], ◌∷◌, ◌++◌, Bool, true, false, Option, is_some, Ok, Err, refl, sym, ap, subst, ◌∙◌}
 use Rattle.sof_base.specs.declared.errno.Errno.{Errno}
 use Rattle.sof_base.specs.Ports.{HasRoom}
-use Rattle.ipc3_codec.specs.Messages.{message_spelling}
+use Rattle.ipc3_model.specs.Messages.{message_spelling}
 use Rattle.mbox_link.specs.Calls.{World, Meaning}
 use Rattle.mbox_link.proofs.Rooms.{HasRoom-now}
 use Rattle.tplg_plan.specs.declared.plans.Plan.{Plan}

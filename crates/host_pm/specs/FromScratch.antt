@@ -2,7 +2,7 @@
 use Rattle.std.specs.Prelude.{◌≡◌, ℕ, List, [], ◌∷◌, ◌++◌, Ok}
 use Rattle.std.specs.List.{zip, flat_map}
 use Rattle.stream_law.specs.State.{FwState, view_of}
-use Rattle.ipc3_codec.specs.Messages.{decoded, message_spelling}
+use Rattle.ipc3_model.specs.Messages.{decoded, message_spelling}
 use Rattle.mbox_link.specs.Step.{fresh, row_of}
 use Rattle.tplg_plan.specs.declared.plans.Plan.{Plan}
 use Rattle.tplg_plan.specs.declared.plans.StreamPlan.{StreamPlan}

@@ -21,7 +21,7 @@ ghost use Rattle.host_pm.specs.Resumed.{ResumeLeft};
 
 use crate::telling::tell;
 use host_widgets::{Found, HostFault, Power, Record, Side, StreamRec, bring_up, direction};
-use ipc3_codec::Message;
+use ipc3_model::Message;
 use mbox_link::Dsp;
 use sof_io::{Inputs, Outputs};
 use tplg_plan::{Plan, StreamPlan};

@@ -14,7 +14,7 @@ ghost use Rattle.host_pm.specs.PowerTests.{suspend_fault};
 
 use crate::telling::tell;
 use host_widgets::{Found, HostFault, Power, Record, Side, Trigger, link_down};
-use ipc3_codec::Message;
+use ipc3_model::Message;
 use mbox_link::Dsp;
 use sof_io::{Inputs, Outputs};
 use tplg_plan::Plan;

@@ -1,12 +1,12 @@
 // One message whose reply says no more than whether it passed.
 ghost use Rattle.std.specs.Prelude.{◌≡◌, ◌*◌, is_some, true};
 ghost use Rattle.sof_base.specs.Ports.{HasRoom};
-ghost use Rattle.ipc3_codec.specs.Messages.{message_spelling};
+ghost use Rattle.ipc3_model.specs.Messages.{message_spelling};
 ghost use Rattle.mbox_link.specs.Calls.{world};
 ghost use Rattle.host_pm.specs.InTurn.{Told};
 
 use host_widgets::{HostFault, send};
-use ipc3_codec::Message;
+use ipc3_model::Message;
 use mbox_link::Dsp;
 use sof_io::{Inputs, Outputs};
 

@@ -5,7 +5,7 @@ use Rattle.sof_base.specs.Ports.{Io}
 use Rattle.stream_law.specs.State.{FwState}
 use Rattle.stream_law.specs.Past.{Moment, Now, Tick}
 use Rattle.stream_law.specs.Stands.{IsPlayable}
-use Rattle.ipc3_codec.specs.Messages.{message_spelling, decoded}
+use Rattle.ipc3_model.specs.Messages.{message_spelling, decoded}
 use Rattle.mbox_link.specs.Step.{row, row_of}
 use Rattle.mbox_link.specs.Exchange.{ticks}
 use Rattle.mbox_link.specs.Calls.{World, Meaning}

@@ -3,7 +3,7 @@ use Rattle.std.proofs.Common.{◌≡◌, ⊎_elim, ℕ, ◌-◌, List, Option, S
 use Rattle.std.specs.Option.{option_map}
 use Rattle.sof_base.specs.Ports.{Io}
 use Rattle.stream_law.specs.State.{FwState, View, view_of}
-use Rattle.ipc3_codec.specs.Messages.{message_spelling}
+use Rattle.ipc3_model.specs.Messages.{message_spelling}
 use Rattle.mbox_link.specs.Step.{row}
 use Rattle.mbox_link.specs.Exchange.{ticks}
 use Rattle.mbox_link.specs.Meetings.{Meeting}

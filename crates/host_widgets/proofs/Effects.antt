@@ -12,12 +12,12 @@ use Rattle.stream_law.specs.declared.graph.Pipe.{Pipe}
 use Rattle.stream_law.specs.Ways.{comp_of, edge_of}
 use Rattle.stream_law.specs.Joins.{with_join}
 use Rattle.stream_law.specs.State.{FwState}
-use Rattle.ipc3_codec.specs.declared.message.Message.{Message}
-use Rattle.ipc3_codec.specs.declared.message.Message.TheVariants.{CompNew, CompFree, Connect, PipeNew, PipeFree, PipeComplete, BufferNew, BufferFree, CtxSave, SetValue, GetValue, SetData, GetData, PcmParams, PcmFree, TrigStart, TrigStop, TrigPause, TrigRelease}
-use Rattle.ipc3_codec.specs.declared.reply.Body.{Body}
-use Rattle.ipc3_codec.specs.declared.reply.Body.TheVariants.{Nothing}
-use Rattle.ipc3_codec.specs.Messages.{message_spelling, decoded, IsMessage}
-use Rattle.ipc3_codec.proofs.Spelled.{decoded-spelling}
+use Rattle.ipc3_model.specs.declared.message.Message.{Message}
+use Rattle.ipc3_model.specs.declared.message.Message.TheVariants.{CompNew, CompFree, Connect, PipeNew, PipeFree, PipeComplete, BufferNew, BufferFree, CtxSave, SetValue, GetValue, SetData, GetData, PcmParams, PcmFree, TrigStart, TrigStop, TrigPause, TrigRelease}
+use Rattle.ipc3_model.specs.declared.reply.Body.{Body}
+use Rattle.ipc3_model.specs.declared.reply.Body.TheVariants.{Nothing}
+use Rattle.ipc3_model.specs.Messages.{message_spelling, decoded, IsMessage}
+use Rattle.ipc3_model.proofs.Spelled.{decoded-spelling}
 use Rattle.mbox_link.specs.Step.{row, row_of, body, body_of, kind_of, first_setting, new_setting, with_setting, with_comps, with_comp, with_buffer, with_pipe, with_pipes, with_staged, blob_installed, staged_bytes, staging_at, completed, no_memory}
 use Rattle.tplg_plan.specs.declared.plans.Plan.{Plan}
 use Rattle.tplg_plan.specs.declared.plans.WidgetPlan.{WidgetPlan}

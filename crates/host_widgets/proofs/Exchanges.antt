@@ -7,11 +7,11 @@ use Rattle.sof_base.specs.Ports.{Io}
 use Rattle.stream_law.specs.State.{FwState}
 use Rattle.std.specs.Int.{w32}
 use Rattle.std.specs.Int.RustNames.{FitsSigned}
-use Rattle.ipc3_codec.specs.declared.reply.Reply.{Reply}
-use Rattle.ipc3_codec.specs.declared.reply.Body.{Body}
-use Rattle.ipc3_codec.specs.declared.fault.CodecFault.{CodecFault}
-use Rattle.ipc3_codec.specs.Messages.{decoded}
-use Rattle.ipc3_codec.specs.Replies.{decoded_reply}
+use Rattle.ipc3_model.specs.declared.reply.Reply.{Reply}
+use Rattle.ipc3_model.specs.declared.reply.Body.{Body}
+use Rattle.ipc3_model.specs.declared.fault.CodecFault.{CodecFault}
+use Rattle.ipc3_model.specs.Messages.{decoded}
+use Rattle.ipc3_model.specs.Replies.{decoded_reply}
 use Rattle.mbox_link.specs.Step.{step, row_of, body_of, replied, error_reply}
 use Rattle.mbox_link.specs.Exchange.{ticks, Rose}
 use Rattle.mbox_link.specs.Calls.{World, Meaning, Exchanged}

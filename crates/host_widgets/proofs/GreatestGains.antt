@@ -6,9 +6,9 @@ use Rattle.std.specs.List.{list_all, AllByRecursion}
 use Rattle.std.proofs.lemmas.Bool.{le-leb}
 use Rattle.sof_base.specs.Slots.{AreSlots, IsSlot}
 use Rattle.stream_law.specs.Gain.{gain_below, gain_at, gain_of, half_decibels}
-use Rattle.ipc3_codec.specs.declared.message.Message.TheVariants.{SetValue}
-use Rattle.ipc3_codec.specs.ControlWords.{value_slots}
-use Rattle.ipc3_codec.specs.Messages.{IsMessage}
+use Rattle.ipc3_model.specs.declared.message.Message.TheVariants.{SetValue}
+use Rattle.ipc3_model.specs.ControlWords.{value_slots}
+use Rattle.ipc3_model.specs.Messages.{IsMessage}
 use Rattle.tplg_plan.specs.declared.plans.ControlKind.{ControlKind}
 use Rattle.tplg_plan.specs.declared.plans.ControlKind.TheVariants.{Volume, Choice, Blob}
 use Rattle.tplg_plan.specs.GainOf.{control_gain}

@@ -12,8 +12,8 @@ use Rattle.stream_law.specs.declared.graph.Graph.{Graph}
 use Rattle.stream_law.specs.State.{FwState}
 use Rattle.stream_law.specs.Ways.{comp_of, edge_of, source_of, sink_of, is_end, ins, outs, leads, reaches, is_capture, buffers}
 use Rattle.stream_law.specs.Joins.{kind_ins, kind_outs, fits_kind, with_join, would_cycle, would_reach, would_grow, has_grown, crosses, is_play}
-use Rattle.ipc3_codec.specs.declared.message.Message.TheVariants.{Connect}
-use Rattle.ipc3_codec.specs.Messages.{IsMessage}
+use Rattle.ipc3_model.specs.declared.message.Message.TheVariants.{Connect}
+use Rattle.ipc3_model.specs.Messages.{IsMessage}
 use Rattle.mbox_link.specs.Step.{row, has_comp, has_edge, is_used, is_joined, takes_join, has_free_in, has_free_out, leads_in, leads_out, kind_at}
 use Rattle.tplg_plan.specs.declared.plans.Plan.{Plan}
 use Rattle.tplg_plan.specs.Sound.{IsSideOf, IsPassed, IsSound}

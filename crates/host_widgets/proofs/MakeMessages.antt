@@ -8,9 +8,9 @@ use Rattle.stream_law.specs.declared.graph.Kind.{Kind}
 use Rattle.stream_law.specs.declared.graph.Kind.TheVariants as kinds
 use Rattle.stream_law.specs.declared.graph.Comp.{Comp}
 use Rattle.stream_law.specs.Ways.{comp_of}
-use Rattle.ipc3_codec.specs.declared.message.Message.TheVariants as messages
-use Rattle.ipc3_codec.specs.Allowed as allowed
-use Rattle.ipc3_codec.specs.Messages.{IsMessage}
+use Rattle.ipc3_model.specs.declared.message.Message.TheVariants as messages
+use Rattle.ipc3_model.specs.Allowed as allowed
+use Rattle.ipc3_model.specs.Messages.{IsMessage}
 use Rattle.tplg_plan.specs.declared.plans.Plan.{Plan}
 use Rattle.tplg_plan.specs.declared.plans.WidgetPlan.{WidgetPlan}
 use Rattle.tplg_plan.specs.declared.plans.ControlPlan.{ControlPlan}

@@ -9,7 +9,7 @@ use Rattle.stream_law.specs.declared.graph.Edge.{Edge}
 use Rattle.stream_law.specs.declared.graph.Pipe.{Pipe}
 use Rattle.stream_law.specs.State.{FwState}
 use Rattle.stream_law.specs.Placed.{Ascends, HasDistinct}
-use Rattle.ipc3_codec.specs.declared.message.Message.{Message}
+use Rattle.ipc3_model.specs.declared.message.Message.{Message}
 use Rattle.mbox_link.specs.Step.{row, busy, no_memory, kind_of, first_setting, with_comp, with_buffer, with_pipe, is_used, is_complete, has_index, has_comp, has_edge, has_pipe, has_hole, comp_bytes, buffer_bytes, pipe_bytes}
 use Rattle.tplg_plan.specs.declared.plans.Plan.{Plan}
 use Rattle.tplg_plan.specs.declared.plans.WidgetPlan.{WidgetPlan}

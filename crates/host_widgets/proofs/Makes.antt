@@ -10,7 +10,7 @@ use Rattle.stream_law.specs.declared.graph.Comp.{Comp}
 use Rattle.stream_law.specs.declared.graph.Edge.{Edge}
 use Rattle.stream_law.specs.State.{FwState, HeapView, RingView}
 use Rattle.stream_law.specs.Ways.{comp_of, edge_of, is_live_phase}
-use Rattle.ipc3_codec.specs.Messages.{IsMessage}
+use Rattle.ipc3_model.specs.Messages.{IsMessage}
 use Rattle.mbox_link.specs.Step.{fresh, comp_bytes}
 use Rattle.tplg_plan.specs.declared.plans.Plan.{Plan}
 use Rattle.tplg_plan.specs.Sound.{IsSound, host_of}

@@ -8,9 +8,9 @@ use Rattle.stream_law.specs.Seen.{seen}
 use Rattle.stream_law.specs.Past.{Moment, Now, Leads}
 use Rattle.stream_law.specs.Stands.{Stands}
 use Rattle.stream_law.proofs.SeenLaws.{seen-sees}
-use Rattle.ipc3_codec.specs.declared.reply.Body.{Body}
-use Rattle.ipc3_codec.specs.declared.reply.Body.TheVariants.{Nothing}
-use Rattle.ipc3_codec.specs.Messages.{message_spelling, decoded, IsMessage}
+use Rattle.ipc3_model.specs.declared.reply.Body.{Body}
+use Rattle.ipc3_model.specs.declared.reply.Body.TheVariants.{Nothing}
+use Rattle.ipc3_model.specs.Messages.{message_spelling, decoded, IsMessage}
 use Rattle.mbox_link.specs.Step.{row, body_of}
 use Rattle.tplg_plan.specs.declared.plans.Plan.{Plan}
 use Rattle.host_widgets.specs.declared.kept.StreamRec.{StreamRec}

@@ -1,6 +1,6 @@
 -- What one message came to.
 use Rattle.std.proofs.Common.{◌≡◌, ℕ, true, false, List, Result, Ok, Err, refl, sym, ap, subst, ◌∙◌}
-use Rattle.ipc3_codec.specs.declared.reply.Reply.{Reply}
+use Rattle.ipc3_model.specs.declared.reply.Reply.{Reply}
 use Rattle.mbox_link.specs.Calls.{World, Meaning, Cut, Exchanged, Did}
 use Rattle.host_widgets.specs.declared.answers.HostFault.{HostFault}
 use Rattle.host_widgets.specs.declared.answers.HostFault.TheVariants.{NotLoaded, Loaded, NoSuch, State, Off, Range, Refused, LinkDown, Blob}

@@ -10,9 +10,9 @@ use Rattle.stream_law.specs.declared.graph.Setting.TheVariants as settings
 use Rattle.stream_law.specs.declared.graph.Comp.{Comp}
 use Rattle.stream_law.specs.State.{FwState, Staging, View, view_of}
 use Rattle.stream_law.specs.Ways.{comp_of}
-use Rattle.ipc3_codec.specs.declared.message.Message.TheVariants.{SetData}
-use Rattle.ipc3_codec.specs.declared.reply.Reply.{Reply}
-use Rattle.ipc3_codec.specs.Messages.{message_spelling, decoded, IsMessage}
+use Rattle.ipc3_model.specs.declared.message.Message.TheVariants.{SetData}
+use Rattle.ipc3_model.specs.declared.reply.Reply.{Reply}
+use Rattle.ipc3_model.specs.Messages.{message_spelling, decoded, IsMessage}
 use Rattle.mbox_link.specs.BlobParts.{blob_part, is_last, parts}
 use Rattle.mbox_link.specs.Step.{row, body_of, with_comps, with_setting, with_staged, blob_installed}
 use Rattle.mbox_link.specs.Exchange.{ticked, ticks}

@@ -6,7 +6,7 @@ use Rattle.sof_base.specs.BlobFaults.{is_blob}
 use Rattle.sof_base.specs.declared.part.Part.{Part as Carried}
 use Rattle.stream_law.specs.State.{FwState, Staging}
 use Rattle.stream_law.specs.Seen.{is_equaliser}
-use Rattle.ipc3_codec.specs.declared.message.Message.TheVariants.{SetData}
+use Rattle.ipc3_model.specs.declared.message.Message.TheVariants.{SetData}
 use Rattle.mbox_link.specs.BlobParts.{blob_part, is_last, parts}
 use Rattle.mbox_link.specs.Step.{row, is_used, has_kind, kind_at, staging_at, keeps_order, staged_bytes, part_staged, with_staged, blob_installed, no_device, invalid}
 use Rattle.tplg_plan.specs.declared.plans.Plan.{Plan}

@@ -15,7 +15,7 @@ use Rattle.stream_law.specs.Placed.{placed}
 use Rattle.stream_law.specs.Ways.{comp_of, components}
 use Rattle.stream_law.specs.Seen.{equalises, flows, history_seen, is_equaliser, ring_seen}
 use Rattle.stream_law.proofs.Silent.{silent-dead}
-use Rattle.ipc3_codec.specs.declared.message.Message.TheVariants.{SetData}
+use Rattle.ipc3_model.specs.declared.message.Message.TheVariants.{SetData}
 use Rattle.mbox_link.specs.BlobParts.{blob_part, is_last, parts}
 use Rattle.mbox_link.specs.Step.{with_comps, with_setting, unstaged, with_staged, blob_installed}
 use Rattle.tplg_plan.specs.declared.plans.Plan.{Plan}

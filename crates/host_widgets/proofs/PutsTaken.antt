@@ -15,9 +15,9 @@ use Rattle.stream_law.specs.State.{FwState}
 use Rattle.stream_law.specs.Placed.{Ascends}
 use Rattle.stream_law.specs.Ways.{comp_of}
 use Rattle.stream_law.proofs.Waits.{eqb_turned}
-use Rattle.ipc3_codec.specs.declared.message.Message.{Message}
-use Rattle.ipc3_codec.specs.declared.message.Message.TheVariants.{SetValue}
-use Rattle.ipc3_codec.specs.Messages.{IsMessage}
+use Rattle.ipc3_model.specs.declared.message.Message.{Message}
+use Rattle.ipc3_model.specs.declared.message.Message.TheVariants.{SetValue}
+use Rattle.ipc3_model.specs.Messages.{IsMessage}
 use Rattle.mbox_link.specs.Step.{row, is_used, has_comp, has_edge, has_pipe, first_setting, new_setting, with_setting, with_comps, value_set, no_device}
 use Rattle.tplg_plan.specs.declared.plans.Plan.{Plan}
 use Rattle.tplg_plan.specs.declared.plans.WidgetPlan.{WidgetPlan}

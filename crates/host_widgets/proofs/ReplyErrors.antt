@@ -4,19 +4,19 @@ use Rattle.std.specs.Prelude.{IfErr}
 use Rattle.std.specs.Int.{w32, cast_signed}
 use Rattle.std.proofs.Math.Facts.{sfits_lit}
 use Rattle.std.specs.Int.RustNames.{FitsSigned}
-use Rattle.ipc3_codec.specs.declared.reply.Reply.{Reply}
-use Rattle.ipc3_codec.specs.declared.reply.Body.{Body}
-use Rattle.ipc3_codec.specs.declared.reply.Body.TheVariants.{Nothing, Values, Part}
-use Rattle.ipc3_codec.specs.Messages.{faultless}
-use Rattle.ipc3_codec.specs.Replies.{decoded_reply, reply_fault, reply_of, reply_spelling}
-use Rattle.ipc3_codec.proofs.Spelled.{decoded_reply-spelling}
+use Rattle.ipc3_model.specs.declared.reply.Reply.{Reply}
+use Rattle.ipc3_model.specs.declared.reply.Body.{Body}
+use Rattle.ipc3_model.specs.declared.reply.Body.TheVariants.{Nothing, Values, Part}
+use Rattle.ipc3_model.specs.Messages.{faultless}
+use Rattle.ipc3_model.specs.Replies.{decoded_reply, reply_fault, reply_of, reply_spelling}
+use Rattle.ipc3_model.proofs.Spelled.{decoded_reply-spelling}
 use Rattle.sof_base.specs.Slots.{slots_cells, slot_cells, word_at}
 use Rattle.stream_law.specs.declared.graph.Pipe.{Pipe}
 use Rattle.stream_law.specs.declared.graph.Setting.{Setting}
 use Rattle.stream_law.specs.State.{FwState}
-use Rattle.ipc3_codec.specs.declared.message.Message.{Message}
-use Rattle.ipc3_codec.specs.declared.message.Message.TheVariants.{CompNew, CompFree, Connect, PipeNew, PipeFree, PipeComplete, BufferNew, BufferFree, CtxSave, SetValue, GetValue, SetData, GetData, PcmParams, PcmFree, TrigStart, TrigStop, TrigPause, TrigRelease}
-use Rattle.ipc3_codec.specs.declared.fault.CodecFault.{CodecFault}
+use Rattle.ipc3_model.specs.declared.message.Message.{Message}
+use Rattle.ipc3_model.specs.declared.message.Message.TheVariants.{CompNew, CompFree, Connect, PipeNew, PipeFree, PipeComplete, BufferNew, BufferFree, CtxSave, SetValue, GetValue, SetData, GetData, PcmParams, PcmFree, TrigStart, TrigStop, TrigPause, TrigRelease}
+use Rattle.ipc3_model.specs.declared.fault.CodecFault.{CodecFault}
 use Rattle.mbox_link.specs.Step.{error_reply, no_memory, busy, no_device, invalid, row, row_of, complete_pipe, free_pipe, value_set}
 
 -- a reply without a body

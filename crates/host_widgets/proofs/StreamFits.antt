@@ -9,9 +9,9 @@ use Rattle.sof_base.specs.Samples.{frame_format}
 use Rattle.sof_base.specs.Slots.{AreSlots, IsSlot}
 use Rattle.stream_law.specs.declared.graph.Comp.{Comp}
 use Rattle.stream_law.specs.Ways.{is_capture, comp_of}
-use Rattle.ipc3_codec.specs.Allowed.{is_direction}
-use Rattle.ipc3_codec.specs.Messages.{IsMessage}
-use Rattle.ipc3_codec.specs.declared.message.Message.TheVariants.{PcmParams, PcmFree}
+use Rattle.ipc3_model.specs.Allowed.{is_direction}
+use Rattle.ipc3_model.specs.Messages.{IsMessage}
+use Rattle.ipc3_model.specs.declared.message.Message.TheVariants.{PcmParams, PcmFree}
 use Rattle.mbox_link.specs.Step.{is_rate}
 use Rattle.tplg_plan.specs.declared.plans.Plan.{Plan}
 use Rattle.tplg_plan.specs.Sound.{IsSound}

@@ -3,7 +3,7 @@ use Rattle.std.proofs.Common.{◌≡◌, refl, ℕ, true}
 use Rattle.std.proofs.lemmas.Bool.{and_parts}
 use Rattle.sof_base.specs.declared.format.Params.{Params}
 use Rattle.stream_law.specs.State.{FwState}
-use Rattle.ipc3_codec.specs.declared.reply.Body.TheVariants.{Nothing}
+use Rattle.ipc3_model.specs.declared.reply.Body.TheVariants.{Nothing}
 use Rattle.mbox_link.specs.Step as fw
 use Rattle.mbox_link.specs.Step.{is_rate}
 use Rattle.tplg_plan.specs.declared.plans.Plan.{Plan}

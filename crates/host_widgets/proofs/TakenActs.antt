@@ -7,8 +7,8 @@ use Rattle.sof_base.specs.declared.format.Params.{Params}
 use Rattle.stream_law.specs.State.{FwState, view_of}
 use Rattle.stream_law.specs.Ways.{agree, is_live_phase}
 use Rattle.stream_law.specs.Seen.{seen}
-use Rattle.ipc3_codec.specs.declared.reply.Body.TheVariants.{Nothing}
-use Rattle.ipc3_codec.specs.Messages.{message_spelling, decoded, IsMessage}
+use Rattle.ipc3_model.specs.declared.reply.Body.TheVariants.{Nothing}
+use Rattle.ipc3_model.specs.Messages.{message_spelling, decoded, IsMessage}
 use Rattle.mbox_link.specs.Step as fw
 use Rattle.mbox_link.specs.Step.{row, body_of, invalid, no_device}
 use Rattle.tplg_plan.specs.declared.plans.Plan.{Plan}

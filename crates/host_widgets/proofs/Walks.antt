@@ -7,8 +7,8 @@ use Rattle.std.proofs.Math.ListN.{get_or-map}
 use Rattle.std.proofs.lemmas.List.{take_more, drop_more}
 use Rattle.std.proofs.lemmas.Result.{MatchResult-weaker}
 use Rattle.sof_base.specs.Ports.{HasRoom}
-use Rattle.ipc3_codec.specs.declared.reply.Reply.{Reply}
-use Rattle.ipc3_codec.specs.Messages.{message_spelling}
+use Rattle.ipc3_model.specs.declared.reply.Reply.{Reply}
+use Rattle.ipc3_model.specs.Messages.{message_spelling}
 use Rattle.mbox_link.specs.Calls.{World, Meaning, Exchanged}
 use Rattle.mbox_link.proofs.Rooms.{HasRoom-now}
 use Rattle.tplg_plan.specs.declared.plans.Plan.{Plan}

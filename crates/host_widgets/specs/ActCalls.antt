@@ -2,8 +2,8 @@
 use Rattle.std.specs.Prelude.{◌≡◌, ℕ, ◌-◌, List, [], ◌∷◌, Bool, true, false, Option, Result, Ok, Err, MatchResult}
 use Rattle.stream_law.specs.Past as past
 use Rattle.stream_law.specs.Past.{Moment}
-use Rattle.ipc3_codec.specs.declared.reply.Reply.{Reply}
-use Rattle.ipc3_codec.specs.Messages.{message_spelling}
+use Rattle.ipc3_model.specs.declared.reply.Reply.{Reply}
+use Rattle.ipc3_model.specs.Messages.{message_spelling}
 use Rattle.mbox_link.specs.declared.fates.Fate.{Fate}
 use Rattle.mbox_link.specs.declared.fates.Fate.TheVariants.{Pass, Refuse, Drop, Lose}
 use Rattle.mbox_link.specs.Exchange.{Rose}

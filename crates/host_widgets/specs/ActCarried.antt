@@ -1,6 +1,6 @@
 -- One message of a call, and one act with what a failed link leaves.
 use Rattle.std.specs.Prelude.{◌≡◌, ℕ, List, [], Bool, true, false, Option, Result, Err}
-use Rattle.ipc3_codec.specs.declared.reply.Reply.{Reply}
+use Rattle.ipc3_model.specs.declared.reply.Reply.{Reply}
 use Rattle.mbox_link.specs.Meetings.{Meeting}
 use Rattle.mbox_link.specs.Calls.{World, Meaning, Exchanged, Led}
 use Rattle.tplg_plan.specs.declared.plans.Plan.{Plan}

@@ -1,7 +1,8 @@
 -- The message that the host writes for each act.
 use Rattle.std.specs.Prelude.{ℕ, List, [], map, Option, Some, None}
-use Rattle.ipc3_codec.specs.declared.message.Message.{Message}
-use Rattle.ipc3_codec.specs.declared.message.Message.TheVariants.{Connect, SetValue, GetValue, SetData, GetData, PipeComplete, PcmParams, PcmFree, CtxSave}
+use Rattle.ipc3_model.specs.declared.message.Message.{Message}
+use Rattle.ipc3_model.specs.declared.message.Message.TheVariants.{Connect, SetValue, GetValue, SetData, GetData, PipeComplete, PcmParams, PcmFree, CtxSave}
+use Rattle.ipc3_model.specs.declared.control_kind.TheConstants.{CTRL_VOLUME, CTRL_ENUM}
 use Rattle.tplg_plan.specs.declared.plans.Plan.{Plan}
 use Rattle.tplg_plan.specs.declared.plans.ControlPlan.{ControlPlan}
 use Rattle.tplg_plan.specs.declared.plans.ControlKind.{ControlKind}
@@ -12,24 +13,24 @@ use Rattle.host_widgets.specs.Acts.{make_message, widget_words, direction_of, tr
 use Rattle.mbox_link.specs.BlobParts.{blob_part}
 use Rattle.host_widgets.specs.HostActs.{Act, Make, Join, Put, Part, Finish, Prepare, Trig, Free, Save, Ask}
 
--- SET_VALUE: a volume's gains by command 0, a mux's choice by command 1; no other component is set so
+-- SET_VALUE: a volume's gains by CTRL_VOLUME, a mux's choice by CTRL_ENUM; no other component is set so
 abbrev pub set_message : ℕ → List ℕ → ControlKind → Message
-set_message comp values (controls.Choice items) = SetValue comp 1 values
-set_message comp values kind = SetValue comp 0 (map (control_gain kind) values)
+set_message comp values (controls.Choice items) = SetValue comp CTRL_ENUM values
+set_message comp values kind = SetValue comp CTRL_VOLUME (map (control_gain kind) values)
 
 abbrev pub put_message : ℕ → List ℕ → Option ControlPlan → Message
 put_message comp values (Some k) = set_message comp values k.kind
-put_message comp values None = SetValue comp 0 []
+put_message comp values None = SetValue comp CTRL_VOLUME []
 
 -- GET_VALUE by the same commands, or GET_DATA of a part
 abbrev pub get_message : ℕ → ℕ → ControlKind → Message
-get_message comp k (controls.Volume min max channels lowest step mute) = GetValue comp 0
-get_message comp k (controls.Choice items) = GetValue comp 1
+get_message comp k (controls.Volume min max channels lowest step mute) = GetValue comp CTRL_VOLUME
+get_message comp k (controls.Choice items) = GetValue comp CTRL_ENUM
 get_message comp k (controls.Blob most initial) = GetData comp k
 
 abbrev pub ask_message : ℕ → ℕ → Option ControlPlan → Message
 ask_message comp k (Some c) = get_message comp k c.kind
-ask_message comp k None = GetValue comp 0
+ask_message comp k None = GetValue comp CTRL_VOLUME
 
 -- the message of an act
 abbrev pub act_message : Plan → Act → Message

@@ -9,11 +9,11 @@ use Rattle.stream_law.specs.declared.stream.Phase.TheVariants.{Idle}
 use Rattle.stream_law.specs.declared.stream.StreamView.{StreamView}
 use Rattle.stream_law.specs.State.{FwState, view_of}
 use Rattle.stream_law.specs.Ways.{is_live_phase, touch, same_shape, agree}
-use Rattle.ipc3_codec.specs.declared.reply.Reply.{Reply}
-use Rattle.ipc3_codec.specs.declared.reply.Body.TheVariants.{Nothing}
-use Rattle.ipc3_codec.specs.declared.fault.CodecFault.{CodecFault}
-use Rattle.ipc3_codec.specs.Messages.{decoded}
-use Rattle.ipc3_codec.specs.Replies.{decoded_reply}
+use Rattle.ipc3_model.specs.declared.reply.Reply.{Reply}
+use Rattle.ipc3_model.specs.declared.reply.Body.TheVariants.{Nothing}
+use Rattle.ipc3_model.specs.declared.fault.CodecFault.{CodecFault}
+use Rattle.ipc3_model.specs.Messages.{decoded}
+use Rattle.ipc3_model.specs.Replies.{decoded_reply}
 use Rattle.mbox_link.specs.Step.{body_of}
 use Rattle.mbox_link.specs.Exchange.{Rose}
 use Rattle.mbox_link.specs.Calls.{World, Meaning, Exchange, Led}

@@ -6,7 +6,7 @@ ghost use Rattle.host_widgets.specs.Acts as acts;
 ghost use Rattle.host_widgets.specs.ActMessages as messages;
 ghost use Rattle.tplg_plan.specs.GainOf.{control_gain};
 
-use ipc3_codec::{CompWords, Message};
+use ipc3_codec::{CTRL_ENUM, CTRL_VOLUME, CompWords, Message};
 use sof_base::Bounded;
 use tplg_plan::{ControlKind, ControlPlan, Plan, gain, half_decibels};
 
@@ -158,12 +158,12 @@ pub fn set_message(comp: u32, kind: &ControlKind, values: &Bounded<u32, 8>) -> M
     match kind {
         ControlKind::Choice { .. } => Message::SetValue {
             id: comp,
-            command: 1,
+            command: CTRL_ENUM,
             values: values.copied(),
         },
         ControlKind::Volume { .. } | ControlKind::Blob { .. } => Message::SetValue {
             id: comp,
-            command: 0,
+            command: CTRL_VOLUME,
             values: gains(kind, values),
         },
     }

@@ -1,7 +1,7 @@
 // One message of a call, and what a failed link leaves.
 ghost use Rattle.std.specs.Prelude.{◌≡◌, ◌*◌, is_some, true};
 ghost use Rattle.sof_base.specs.Ports.{HasRoom};
-ghost use Rattle.ipc3_codec.specs.Messages.{message_spelling};
+ghost use Rattle.ipc3_model.specs.Messages.{message_spelling};
 ghost use Rattle.host_widgets.specs.ActCarried.{Replied, Passes, is_down};
 ghost use Rattle.host_widgets.specs.Sides.{SameSide, world_of};
 

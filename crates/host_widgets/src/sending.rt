@@ -1,7 +1,7 @@
 // One message, and its answer.
 ghost use Rattle.std.specs.Prelude.{◌≡◌, ◌≤◌, ◌*◌, is_some, true, IfOk};
 ghost use Rattle.sof_base.specs.Ports.{HasRoom};
-ghost use Rattle.ipc3_codec.specs.Messages.{message_spelling};
+ghost use Rattle.ipc3_model.specs.Messages.{message_spelling};
 ghost use Rattle.mbox_link.specs.Exchange.{answered};
 ghost use Rattle.mbox_link.specs.Calls.{world};
 ghost use Rattle.host_widgets.specs.Host.{Sent, verdict};

@@ -2,28 +2,28 @@
 use Rattle.std.proofs.Common.{◌≡◌, ℕ, Bool, true, false, cond, List, [], ◌∷◌, ◌++◌, length, Option, Some, None, Result, Ok, Err, refl, sym, ap, ◌∙◌, append-nil}
 use Rattle.std.specs.Prelude.{nat_lt, nat_le, not, ◌&&◌, ◌==◌, is_some}
 use Rattle.sof_base.specs.Slots.{word_at, part}
-use Rattle.ipc3_codec.specs.declared.command.CommandWord.{CommandWord}
-use Rattle.ipc3_codec.specs.declared.command.CommandWord.TheVariants as commands
-use Rattle.ipc3_codec.specs.declared.control.ControlKind.{ControlKind}
-use Rattle.ipc3_codec.specs.declared.control.ControlKind.TheVariants as kinds
-use Rattle.ipc3_codec.specs.declared.component_type.CompType.{CompType}
-use Rattle.ipc3_codec.specs.declared.message.Message.{Message}
-use Rattle.ipc3_codec.specs.declared.message.CompWords.{CompWords}
-use Rattle.ipc3_codec.specs.declared.message.Message.TheVariants.{CompNew, SetValue, GetValue, SetData, GetData}
-use Rattle.ipc3_codec.specs.declared.components.Config.{Config}
-use Rattle.ipc3_codec.specs.declared.controls.Control.{Control}
-use Rattle.ipc3_codec.specs.declared.streams.Stream.{Stream}
-use Rattle.ipc3_codec.specs.declared.fault.CodecFault.{CodecFault}
-use Rattle.ipc3_codec.specs.declared.fault.CodecFault.TheVariants.{Short, SizeWord, Field}
-use Rattle.ipc3_codec.specs.Allowed.{is_direction, is_frame_format, is_channels, is_comp_type, is_format_of}
-use Rattle.ipc3_codec.specs.Commands.{command_numbered}
-use Rattle.ipc3_codec.specs.ComponentTypes.{type_numbered}
-use Rattle.ipc3_codec.specs.Places.{Place, any_bytes, any_word, any_words, any_run, word_of, half_of}
-use Rattle.ipc3_codec.specs.StreamWords.{stream_places, format_of_word, params_at}
-use Rattle.ipc3_codec.specs.ControlWords.{type_of, takes_command, takes_count, takes_remaining, payload_places, control_rest_places, control_places, values_in, part_in}
-use Rattle.ipc3_codec.specs.Messages.{is_sized, comp_places, places_of, config_places, kind_places, comp_words, typed_words, message_of, decoded_body, decoded}
+use Rattle.ipc3_model.specs.declared.command.CommandWord.{CommandWord}
+use Rattle.ipc3_model.specs.declared.command.CommandWord.TheVariants as commands
+use Rattle.ipc3_model.specs.declared.control_kind.ControlKind.{ControlKind}
+use Rattle.ipc3_model.specs.declared.control_kind.ControlKind.TheVariants as kinds
+use Rattle.ipc3_model.specs.declared.component_type.CompType.{CompType}
+use Rattle.ipc3_model.specs.declared.message.Message.{Message}
+use Rattle.ipc3_model.specs.declared.message.CompWords.{CompWords}
+use Rattle.ipc3_model.specs.declared.message.Message.TheVariants.{CompNew, SetValue, GetValue, SetData, GetData}
+use Rattle.ipc3_codec.specs.declared.component_reading.Config.{Config}
+use Rattle.ipc3_codec.specs.declared.control_reading.Control.{Control}
+use Rattle.ipc3_codec.specs.declared.stream_reading.Stream.{Stream}
+use Rattle.ipc3_model.specs.declared.fault.CodecFault.{CodecFault}
+use Rattle.ipc3_model.specs.declared.fault.CodecFault.TheVariants.{Short, SizeWord, Field}
+use Rattle.ipc3_model.specs.Allowed.{is_direction, is_frame_format, is_channels, is_comp_type, is_format_of}
+use Rattle.ipc3_model.specs.Commands.{command_numbered}
+use Rattle.ipc3_model.specs.ComponentTypes.{type_numbered}
+use Rattle.ipc3_model.specs.Places.{Place, any_bytes, any_word, any_words, any_run, word_of, half_of}
+use Rattle.ipc3_model.specs.StreamWords.{stream_places, format_of_word, params_at}
+use Rattle.ipc3_model.specs.ControlWords.{type_of, takes_command, takes_count, takes_remaining, payload_places, control_rest_places, control_places, values_in, part_in}
+use Rattle.ipc3_model.specs.Messages.{is_sized, comp_places, places_of, config_places, kind_places, comp_words, typed_words, message_of, decoded_body, decoded}
 use Rattle.ipc3_codec.specs.Reading.{◌>>=◌, framed, word_in, run_in, read_as, known_type, comp_type_in, config_in, words_in, comp_in, format_in, stream_in, params_in, target_in, control_in, values_read, bytes_in, part_read, set_value_in, get_value_in, set_data_in, get_data_in, command_in, numbered_in, framed_message_in}
-use Rattle.ipc3_codec.proofs.Places.{read_as-is, then_read, then_run, then_word}
+use Rattle.ipc3_codec.proofs.WordByWord.{read_as-is, then_read, then_run, then_word}
 
 -- the last block
 pub last_read : {A B : Type 0} (b : List ℕ) (r : Result A CodecFault) (ps : List Place) (x : A) (y : B) (f : A → Result B CodecFault) → r ≡ read_as b ps x → f x ≡ Ok y → (r >>= f) ≡ read_as b ps y

@@ -1,11 +1,5 @@
 pub mod WordList
 pub mod Runs
-pub mod Places
-pub mod Spellings
+pub mod WordByWord
 pub mod FirstFault
-pub mod PlacesToWords
-pub mod WordsToPlaces
-pub mod Carrying
-pub mod ReplyLaws
 pub mod ReplyReading
-pub mod Spelled

@@ -4,21 +4,21 @@ use Rattle.std.specs.Prelude.{nat_lt, not}
 use Rattle.std.specs.Int.{w32, cast_signed}
 use Rattle.std.specs.List.{find}
 use Rattle.sof_base.specs.Slots.{word_at}
-use Rattle.ipc3_codec.specs.declared.control.ControlKind.{ControlKind}
-use Rattle.ipc3_codec.specs.declared.control.ControlKind.TheVariants as kinds
-use Rattle.ipc3_codec.specs.declared.reply.Reply.{Reply}
-use Rattle.ipc3_codec.specs.declared.reply.Body.{Body}
-use Rattle.ipc3_codec.specs.declared.reply.Body.TheVariants as bodies
-use Rattle.ipc3_codec.specs.declared.fault.CodecFault.{CodecFault}
-use Rattle.ipc3_codec.specs.declared.fault.CodecFault.TheVariants.{Short, SizeWord, Command}
-use Rattle.ipc3_codec.specs.Places.{Place, any_words, word_of, is_bad, field_fault}
-use Rattle.ipc3_codec.specs.ControlWords.{control_rest_places, payload_places, values_in, part_in}
-use Rattle.ipc3_codec.specs.Messages.{is_sized, faultless}
-use Rattle.ipc3_codec.specs.Replies.{is_body_type, body_kind, body_places, reply_places, reply_fault, body_with, reply_of, decoded_reply}
+use Rattle.ipc3_model.specs.declared.control_kind.ControlKind.{ControlKind}
+use Rattle.ipc3_model.specs.declared.control_kind.ControlKind.TheVariants as kinds
+use Rattle.ipc3_model.specs.declared.reply.Reply.{Reply}
+use Rattle.ipc3_model.specs.declared.reply.Body.{Body}
+use Rattle.ipc3_model.specs.declared.reply.Body.TheVariants as bodies
+use Rattle.ipc3_model.specs.declared.fault.CodecFault.{CodecFault}
+use Rattle.ipc3_model.specs.declared.fault.CodecFault.TheVariants.{Short, SizeWord, Command}
+use Rattle.ipc3_model.specs.Places.{Place, any_words, word_of, is_bad, field_fault}
+use Rattle.ipc3_model.specs.ControlWords.{control_rest_places, payload_places, values_in, part_in}
+use Rattle.ipc3_model.specs.Messages.{is_sized, faultless}
+use Rattle.ipc3_model.specs.Replies.{is_body_type, body_kind, body_places, reply_places, reply_fault, body_with, reply_of, decoded_reply}
 use Rattle.ipc3_codec.specs.Reading.{◌>>=◌, framed, read_as, type_in, kind_in, control_in, part_read, values_read, payload_in, body_in, framed_reply_in}
-use Rattle.ipc3_codec.proofs.Places.{read_as-is, then_read}
+use Rattle.ipc3_codec.proofs.WordByWord.{read_as-is, then_read}
 use Rattle.ipc3_codec.proofs.FirstFault.{last_read, control_at, control_is, part_is, values_is}
-use Rattle.ipc3_codec.proofs.ReplyLaws.{behind}
+use Rattle.ipc3_model.proofs.ReplyLaws.{behind}
 
 abbrev type_places : List ℕ → List Place
 type_places b = any_words 8 2 ++ word_of b 16 is_body_type ∷ []

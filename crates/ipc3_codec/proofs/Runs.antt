@@ -4,10 +4,10 @@ use Rattle.std.proofs.lemmas.Bool.{le-leb, lt-leb}
 use Rattle.std.proofs.lemmas.List.{take_more_set}
 use Rattle.std.specs.Prelude.{◌==◌}
 use Rattle.sof_base.specs.Slots.{word_at}
-use Rattle.ipc3_codec.specs.declared.fault.CodecFault.{CodecFault}
-use Rattle.ipc3_codec.specs.declared.fault.CodecFault.TheVariants.{Field}
-use Rattle.ipc3_codec.specs.Places.{any_bytes, any_word, word_of}
-use Rattle.ipc3_codec.specs.ControlWords.{value_places, pair_values_at}
+use Rattle.ipc3_model.specs.declared.fault.CodecFault.{CodecFault}
+use Rattle.ipc3_model.specs.declared.fault.CodecFault.TheVariants.{Field}
+use Rattle.ipc3_model.specs.Places.{any_bytes, any_word, word_of}
+use Rattle.ipc3_model.specs.ControlWords.{value_places, pair_values_at}
 use Rattle.ipc3_codec.specs.Reading.{◌>>=◌, number_in, word_in, read_as, run_in, pair_in}
 
 -- a place that lies within the size word, of any value

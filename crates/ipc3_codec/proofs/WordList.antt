@@ -5,7 +5,7 @@ use Rattle.std.proofs.lemmas.Slice.{take-put_mid}
 use Rattle.std.specs.Int.{w16, w32, to_le_bytes}
 use Rattle.sof_base.specs.Cells.{Cell, byte_of, fixed, written}
 use Rattle.sof_base.specs.Slots.{Slot, Word, words_bytes, slot_cells, slots_cells}
-use Rattle.ipc3_codec.specs.ControlWords.{value_slots, part_slots}
+use Rattle.ipc3_model.specs.ControlWords.{value_slots, part_slots}
 use Rattle.sof_base.specs.declared.part.Part.{Part}
 use Rattle.sof_base.proofs.WriteLaws.{written-fixed}
 use Rattle.ipc3_codec.specs.Writing.{halves_bytes}

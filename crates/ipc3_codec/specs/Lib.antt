@@ -1,11 +1,2 @@
-pub mod Commands
-pub mod ComponentTypes
-pub mod Allowed
-pub mod Places
-pub mod StreamWords
-pub mod ControlWords
-pub mod Messages
-pub mod Replies
 pub mod Reading
 pub mod Writing
-pub mod FaultNumbers

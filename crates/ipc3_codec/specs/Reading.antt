@@ -4,32 +4,32 @@ use Rattle.std.specs.Int.{w32, cast_signed}
 use Rattle.sof_base.specs.Slots.{word_at, half_at, part}
 use Rattle.sof_base.specs.declared.format.Format.{Format}
 use Rattle.sof_base.specs.declared.part.Part.{Part}
-use Rattle.ipc3_codec.specs.declared.command.CommandWord.{CommandWord}
-use Rattle.ipc3_codec.specs.declared.command.CommandWord.TheVariants as commands
-use Rattle.ipc3_codec.specs.declared.component_type.CompType.{CompType}
-use Rattle.ipc3_codec.specs.declared.control.ControlKind.{ControlKind}
-use Rattle.ipc3_codec.specs.declared.control.ControlKind.TheVariants as kinds
-use Rattle.ipc3_codec.specs.declared.command.TheConstants.{REPLY}
-use Rattle.ipc3_codec.specs.declared.control.TheConstants.{DATA_SET}
-use Rattle.ipc3_codec.specs.declared.message.Message.{Message}
-use Rattle.ipc3_codec.specs.declared.message.Message.TheVariants.{CompNew, CtxSave, SetValue, GetValue, SetData, GetData, PcmParams}
-use Rattle.ipc3_codec.specs.declared.message.CompWords.{CompWords}
-use Rattle.ipc3_codec.specs.declared.components.Config.{Config}
-use Rattle.ipc3_codec.specs.declared.controls.Control.{Control}
-use Rattle.ipc3_codec.specs.declared.streams.Stream.{Stream}
-use Rattle.ipc3_codec.specs.declared.fault.CodecFault.{CodecFault}
-use Rattle.ipc3_codec.specs.declared.fault.CodecFault.TheVariants.{Short, SizeWord, Command, Field}
-use Rattle.ipc3_codec.specs.declared.reply.Body.{Body}
-use Rattle.ipc3_codec.specs.declared.reply.Body.TheVariants as bodies
-use Rattle.ipc3_codec.specs.declared.reply.Reply.{Reply}
-use Rattle.ipc3_codec.specs.Allowed.{is_direction, is_frame_format, is_channels, is_format_of}
-use Rattle.ipc3_codec.specs.Commands.{command_numbered}
-use Rattle.ipc3_codec.specs.ComponentTypes.{type_numbered}
-use Rattle.ipc3_codec.specs.Places.{Place, any_bytes, any_word, any_words, any_run, word_of, half_of, is_bad}
-use Rattle.ipc3_codec.specs.StreamWords.{format_of_word}
-use Rattle.ipc3_codec.specs.ControlWords.{type_of, takes_command, takes_count, takes_remaining, value_places, values_in}
-use Rattle.ipc3_codec.specs.Messages.{is_sized, kind_places, comp_words, places_of, message_of}
-use Rattle.ipc3_codec.specs.Replies.{is_body_type}
+use Rattle.ipc3_model.specs.declared.command.CommandWord.{CommandWord}
+use Rattle.ipc3_model.specs.declared.command.CommandWord.TheVariants as commands
+use Rattle.ipc3_model.specs.declared.component_type.CompType.{CompType}
+use Rattle.ipc3_model.specs.declared.control_kind.ControlKind.{ControlKind}
+use Rattle.ipc3_model.specs.declared.control_kind.ControlKind.TheVariants as kinds
+use Rattle.ipc3_model.specs.declared.command.TheConstants.{REPLY}
+use Rattle.ipc3_model.specs.declared.control_kind.TheConstants.{DATA_SET}
+use Rattle.ipc3_model.specs.declared.message.Message.{Message}
+use Rattle.ipc3_model.specs.declared.message.Message.TheVariants.{CompNew, CtxSave, SetValue, GetValue, SetData, GetData, PcmParams}
+use Rattle.ipc3_model.specs.declared.message.CompWords.{CompWords}
+use Rattle.ipc3_codec.specs.declared.component_reading.Config.{Config}
+use Rattle.ipc3_codec.specs.declared.control_reading.Control.{Control}
+use Rattle.ipc3_codec.specs.declared.stream_reading.Stream.{Stream}
+use Rattle.ipc3_model.specs.declared.fault.CodecFault.{CodecFault}
+use Rattle.ipc3_model.specs.declared.fault.CodecFault.TheVariants.{Short, SizeWord, Command, Field}
+use Rattle.ipc3_model.specs.declared.reply.Body.{Body}
+use Rattle.ipc3_model.specs.declared.reply.Body.TheVariants as bodies
+use Rattle.ipc3_model.specs.declared.reply.Reply.{Reply}
+use Rattle.ipc3_model.specs.Allowed.{is_direction, is_frame_format, is_channels, is_format_of}
+use Rattle.ipc3_model.specs.Commands.{command_numbered}
+use Rattle.ipc3_model.specs.ComponentTypes.{type_numbered}
+use Rattle.ipc3_model.specs.Places.{Place, any_bytes, any_word, any_words, any_run, word_of, half_of, is_bad}
+use Rattle.ipc3_model.specs.StreamWords.{format_of_word}
+use Rattle.ipc3_model.specs.ControlWords.{type_of, takes_command, takes_count, takes_remaining, value_places, values_in}
+use Rattle.ipc3_model.specs.Messages.{is_sized, kind_places, comp_words, places_of, message_of}
+use Rattle.ipc3_model.specs.Replies.{is_body_type}
 
 infixl 10 ◌>>=◌
 -- what follows a step that may fail

@@ -1,16 +1,16 @@
 // Words that have some values alone.
 ghost use Rattle.std.specs.Prelude.{◌≡◌, ◌==◌, true, IfOk};
 ghost use Rattle.sof_base.specs.Slots.{word_at, half_at};
-ghost use Rattle.ipc3_codec.specs.Allowed.{is_buffer_type, is_format_of, is_direction, is_buffer_size, is_period_allowed, is_channels};
-ghost use Rattle.ipc3_codec.specs.ControlWords.{type_of, takes_command, takes_count, takes_remaining};
-ghost use Rattle.ipc3_codec.specs.Places.{word_of, half_of};
-ghost use Rattle.ipc3_codec.specs.Replies.{is_body_type};
+ghost use Rattle.ipc3_model.specs.Allowed.{is_buffer_type, is_format_of, is_direction, is_buffer_size, is_period_allowed, is_channels};
+ghost use Rattle.ipc3_model.specs.ControlWords.{type_of, takes_command, takes_count, takes_remaining};
+ghost use Rattle.ipc3_model.specs.Places.{word_of, half_of};
+ghost use Rattle.ipc3_model.specs.Replies.{is_body_type};
 ghost use Rattle.ipc3_codec.specs.Reading.{word_in, format_in, comp_type_in, type_in};
 
-use crate::component_type::{BUFFER, CompType};
-use crate::control::{ControlKind, DATA_SET, VALUE_CHAN_SET};
-use crate::fault::CodecFault;
 use crate::frame::Frame;
+use ipc3_model::CodecFault;
+use ipc3_model::component_type::{BUFFER, CompType};
+use ipc3_model::control_kind::{ControlKind, DATA_SET, VALUE_CHAN_SET};
 use sof_base::Format;
 
 impl<'a> Frame<'a> {

@@ -2,10 +2,10 @@
 ghost use Rattle.std.specs.Prelude.{◌≡◌, ◌≤◌, ◌+◌, ◌*◌, IfOk};
 ghost use Rattle.std.specs.Int.{w32, cast_signed};
 ghost use Rattle.sof_base.specs.Slots.{word_at, half_at, part};
-ghost use Rattle.ipc3_codec.specs.Places.{any_bytes, any_word};
+ghost use Rattle.ipc3_model.specs.Places.{any_bytes, any_word};
 ghost use Rattle.ipc3_codec.specs.Reading.{framed, word_in, run_in, bytes_in};
 
-use crate::fault::CodecFault;
+use ipc3_model::CodecFault;
 use sof_base::{PartBytes, bytes_at, half, word};
 use std::marker::Model;
 

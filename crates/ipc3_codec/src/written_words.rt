@@ -2,7 +2,7 @@
 ghost use Rattle.std.specs.Prelude.{◌≡◌, ◌≤◌, ◌+◌, ◌*◌, ◌++◌, length, take};
 ghost use Rattle.sof_base.specs.Cells.{written};
 ghost use Rattle.sof_base.specs.Slots.{slots_cells, words_bytes};
-ghost use Rattle.ipc3_codec.specs.ControlWords.{value_slots};
+ghost use Rattle.ipc3_model.specs.ControlWords.{value_slots};
 ghost use Rattle.ipc3_codec.specs.Writing.{halves_bytes};
 
 use byteorder::{ByteOrder, LittleEndian};

@@ -15,8 +15,8 @@ use Rattle.stream_law.specs.declared.stream.Phase.TheVariants.{Idle}
 use Rattle.stream_law.specs.State.{FwState}
 use Rattle.stream_law.specs.Ways.{is_complete}
 use Rattle.stream_law.specs.Placed.{placed}
-use Rattle.ipc3_codec.specs.declared.message.CompWords.{CompWords}
-use Rattle.ipc3_codec.specs.declared.message.CompWords.TheVariants as words
+use Rattle.ipc3_model.specs.declared.message.CompWords.{CompWords}
+use Rattle.ipc3_model.specs.declared.message.CompWords.TheVariants as words
 use Rattle.mbox_link.specs.ErrorNumbers.{no_memory, busy}
 use Rattle.mbox_link.specs.NamedIds.{is_used, has_index}
 use Rattle.stream_law.specs.Sizes.{comp_bytes, buffer_bytes, pipe_bytes}

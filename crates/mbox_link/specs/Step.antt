@@ -5,13 +5,13 @@ use Rattle.sof_base.specs.Holes.{usable_of, fresh_holes}
 use Rattle.stream_law.specs.declared.stream.Phase.TheVariants.{Prepared, Running, Paused}
 use Rattle.stream_law.specs.State.{FwState}
 use Rattle.stream_law.specs.Ways.{is_live_phase, is_running_phase}
-use Rattle.ipc3_codec.specs.declared.message.Message.{Message}
-use Rattle.ipc3_codec.specs.declared.message.Message.TheVariants as messages
-use Rattle.ipc3_codec.specs.declared.reply.Body.{Body}
-use Rattle.ipc3_codec.specs.declared.reply.Body.TheVariants as bodies
-use Rattle.ipc3_codec.specs.declared.fault.CodecFault.{CodecFault}
-use Rattle.ipc3_codec.specs.Messages.{decoded}
-use Rattle.ipc3_codec.specs.Replies.{reply_spelling}
+use Rattle.ipc3_model.specs.declared.message.Message.{Message}
+use Rattle.ipc3_model.specs.declared.message.Message.TheVariants as messages
+use Rattle.ipc3_model.specs.declared.reply.Body.{Body}
+use Rattle.ipc3_model.specs.declared.reply.Body.TheVariants as bodies
+use Rattle.ipc3_model.specs.declared.fault.CodecFault.{CodecFault}
+use Rattle.ipc3_model.specs.Messages.{decoded}
+use Rattle.ipc3_model.specs.Replies.{reply_spelling}
 pub use Rattle.stream_law.specs.Ways.{is_complete}
 pub use Rattle.sof_base.specs.Rates.{is_rate}
 pub use Rattle.mbox_link.specs.ErrorNumbers.{no_memory, busy, no_device, invalid}

@@ -9,15 +9,16 @@ use Rattle.stream_law.specs.declared.graph.Comp.{Comp}
 use Rattle.stream_law.specs.declared.graph.Graph.{Graph}
 use Rattle.stream_law.specs.State.{FwState}
 use Rattle.stream_law.specs.Ways.{comp_of}
+use Rattle.ipc3_model.specs.declared.control_kind.TheConstants.{CTRL_VOLUME, CTRL_ENUM}
 use Rattle.mbox_link.specs.ErrorNumbers.{no_device, invalid}
 use Rattle.mbox_link.specs.NamedIds.{is_used}
 use Rattle.mbox_link.specs.NewRows.{with_comps}
 
--- what values set at a component: a volume takes as many gains as it has, of at most 16777216, by command 0; and a mux a choice by command 1
+-- what values set at a component: a volume takes as many gains as it has, of at most 16777216, by CTRL_VOLUME; and a mux a choice by CTRL_ENUM
 abbrev pub new_setting : Kind → Setting → ℕ → List ℕ → Option Setting
 new_setting Volume (Gains gains) command values =
-    if command == 0 && (length values == length gains && list_all (λ v. nat_le v 16777216) values) then Some (Gains values) else None
-new_setting Mux setting command (v ∷ []) = if command == 1 then Some (Choice v) else None
+    if command == CTRL_VOLUME && (length values == length gains && list_all (λ v. nat_le v 16777216) values) then Some (Gains values) else None
+new_setting Mux setting command (v ∷ []) = if command == CTRL_ENUM then Some (Choice v) else None
 new_setting kind setting command values = None
 
 abbrev pub with_setting : ℕ → Setting → Comp → Comp
@@ -33,10 +34,10 @@ set_value f id command values =
     if not (is_used f.graph id) then Err no_device
     else value_set f id (option_and_then (λ c. new_setting c.kind c.setting command values) (comp_of f.graph id))
 
--- the values of a component: the gains of a volume by command 0, and the choice of a mux by command 1
+-- the values of a component: the gains of a volume by CTRL_VOLUME, and the choice of a mux by CTRL_ENUM
 abbrev pub control_values : Kind → Setting → ℕ → Option (List ℕ)
-control_values Volume (Gains gains) command = if command == 0 then Some gains else None
-control_values Mux (Choice k) command = if command == 1 then Some (k ∷ []) else None
+control_values Volume (Gains gains) command = if command == CTRL_VOLUME then Some gains else None
+control_values Mux (Choice k) command = if command == CTRL_ENUM then Some (k ∷ []) else None
 control_values kind setting command = None
 
 abbrev pub control_values_at : Graph → ℕ → ℕ → Option (List ℕ)

@@ -1,15 +1,16 @@
 // A link over a device.
-ghost use Rattle.std.specs.Prelude.{◌≡◌, ◌+◌, ◌≤◌, ◌<◌, ◌*◌, ◌^◌, length, replicate, is_some, true};
+ghost use Rattle.std.specs.Prelude.{◌≡◌, ◌+◌, ◌≤◌, ◌<◌, ◌*◌, ◌^◌, length, replicate, take, is_some, true};
 ghost use Rattle.sof_base.specs.Ports.{HasRoom};
 ghost use Rattle.sof_base.specs.declared.limits.TheConstants.{TURN_BYTES};
 ghost use Rattle.mbox_link.specs.Calls.{Tick, Led, world};
 ghost use Rattle.mbox_link.specs.Fates.{IsMeant};
 ghost use Rattle.mbox_link.specs.Link.{link, Planned, LagPlanned};
+ghost use Rattle.mbox_link.specs.Step.{error_reply};
 ghost use Rattle.mbox_link.specs.Wire.{new_link};
 
 use crate::device::{Dsp, LinkFault};
 use crate::fates::{Fate, Fates, PlanFull};
-use ipc3_codec::{Body, Reply, encode_reply};
+use ipc3_model::bare_reply;
 use sof_io::{Inputs, Outputs};
 use std::marker::Model;
 
@@ -119,6 +120,15 @@ fn pass_ticks<P: Dsp>(dsp: &mut P, ticks: u32, io: &mut Inputs, out: &mut Output
     }
 }
 
+// Writes a refusal to the front of the reply, and tells how many bytes it has.
+fn refuse(error: i32, reply: &mut [u8; 384]) -> usize
+    ensures size { result ≡ 12 }
+    ensures bytes { take result reply.new ≡ error_reply error }
+{
+    reply[..12].copy_from_slice(&bare_reply(error));
+    12
+}
+
 impl<P: Dsp> Dsp for FaultLink<P> {
     ghost means = { link P.means };
 
@@ -153,11 +163,7 @@ impl<P: Dsp> Dsp for FaultLink<P> {
             Fate::Pass => self.dsp.exchange(request, reply, io, out),
             Fate::Refuse(error) => {
                 self.refused = self.refused.saturating_add(1);
-                let answer = Reply {
-                    error,
-                    body: Body::Nothing,
-                };
-                Ok(encode_reply(&answer, reply))
+                Ok(refuse(error, reply))
             }
             Fate::Drop => {
                 self.dropped = self.dropped.saturating_add(1);

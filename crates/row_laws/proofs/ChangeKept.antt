@@ -14,7 +14,7 @@ use Rattle.stream_law.specs.Ways.{comp_of, components, buffers, live, channels_o
 use Rattle.stream_law.specs.Joins.{joined_edge, with_join, would_cycle, would_grow}
 use Rattle.stream_law.specs.Made.{blob}
 use Rattle.stream_law.specs.Seen.{flows, is_equaliser, equalises}
-use Rattle.ipc3_codec.specs.Allowed.{is_buffer_size}
+use Rattle.ipc3_model.specs.Allowed.{is_buffer_size}
 use Rattle.mbox_link.specs.Step.{is_joined, takes_join, with_comps, with_setting}
 use Rattle.row_laws.specs.Played.{AreStreamsPlayable}
 use Rattle.row_laws.specs.Kept.{IsKeptState, IsSettingOf, numbers_held}

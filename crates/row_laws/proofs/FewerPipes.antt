@@ -11,7 +11,7 @@ use Rattle.stream_law.specs.declared.graph.Graph.{Graph}
 use Rattle.stream_law.specs.declared.stream.StreamView.{StreamView}
 use Rattle.stream_law.specs.Ways.{ins, outs, reaches, on_way}
 use Rattle.stream_law.specs.Joins.{fits_kind}
-use Rattle.ipc3_codec.specs.Allowed.{is_period_allowed}
+use Rattle.ipc3_model.specs.Allowed.{is_period_allowed}
 use Rattle.mbox_link.specs.Step.{has_comp, has_edge, is_complete, is_ready_comp, is_ready_edge, is_way_ready, is_held, is_index_held, is_used}
 use Rattle.row_laws.specs.Wired.{IsWired, HasJoinedSides, IsSide, IsJoinedFrom, IsJoinedTo, is_node}
 use Rattle.row_laws.specs.Played.{IsStreamSet, IsSetBy, is_idle}

@@ -12,9 +12,9 @@ use Rattle.stream_law.specs.declared.graph.Comp.{Comp}
 use Rattle.stream_law.specs.declared.graph.Graph.{Graph}
 use Rattle.stream_law.specs.Placed.{HasDistinct}
 use Rattle.stream_law.specs.Ways.{comp_of}
-use Rattle.ipc3_codec.specs.declared.message.CompWords.{CompWords}
-use Rattle.ipc3_codec.specs.declared.message.CompWords.TheVariants as words
-use Rattle.ipc3_codec.specs.Messages.{IsKind}
+use Rattle.ipc3_model.specs.declared.message.CompWords.{CompWords}
+use Rattle.ipc3_model.specs.declared.message.CompWords.TheVariants as words
+use Rattle.ipc3_model.specs.Messages.{IsKind}
 use Rattle.mbox_link.specs.Step.{sample_format, kind_of, first_setting, new_setting, with_setting}
 use Rattle.row_laws.specs.Kept.{IsSettingOf}
 use Rattle.row_laws.proofs.Found.{found-each}

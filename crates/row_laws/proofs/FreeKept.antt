@@ -13,7 +13,7 @@ use Rattle.stream_law.specs.Ways.{comp_of, components, live, channels_of}
 use Rattle.stream_law.specs.Made.{blob}
 use Rattle.stream_law.specs.Seen.{flows, ring_seen, equalises}
 use Rattle.stream_law.proofs.Placing.{Ascends-filter}
-use Rattle.ipc3_codec.specs.Allowed.{is_buffer_size}
+use Rattle.ipc3_model.specs.Allowed.{is_buffer_size}
 use Rattle.mbox_link.specs.Step.{has_kind, is_host, kind_at, without_piece, without_comp, without_buffer, without_pipe, touches, has_comp, has_edge, is_held, is_index_held}
 use Rattle.row_laws.specs.Tiled.{heap_bytes}
 use Rattle.row_laws.specs.Wired.{is_node}

@@ -15,7 +15,7 @@ use Rattle.stream_law.specs.Ways.{edge_of, source_of, sink_of, ins, outs, is_end
 use Rattle.stream_law.specs.Joins.{fits_kind}
 use Rattle.stream_law.specs.Seen.{flows}
 use Rattle.stream_law.proofs.Placing.{list_any-placed, find-placed_apart, find-placed_there, HasDistinct-placed}
-use Rattle.ipc3_codec.specs.Allowed.{is_period_allowed}
+use Rattle.ipc3_model.specs.Allowed.{is_period_allowed}
 use Rattle.mbox_link.specs.Step.{has_comp, has_edge, has_pipe, is_complete, is_ready_comp, is_ready_edge, is_way_ready, completed}
 use Rattle.row_laws.specs.Wired.{IsWired, IsSide, IsBetween, is_node}
 use Rattle.row_laws.specs.Played.{AreStreamsPlayable, IsStreamSet, IsSetBy, is_idle}

@@ -20,7 +20,7 @@ use Rattle.stream_law.specs.Ways.{comp_of, components, live}
 use Rattle.stream_law.specs.Made.{blob}
 use Rattle.stream_law.specs.Seen.{flows, ring_seen, equalises}
 use Rattle.stream_law.proofs.Placing.{length-placed, find-placed_apart, Ascends-placed, HasDistinct-placed}
-use Rattle.ipc3_codec.specs.Allowed.{is_buffer_size, is_period_allowed}
+use Rattle.ipc3_model.specs.Allowed.{is_buffer_size, is_period_allowed}
 use Rattle.mbox_link.specs.Step.{comp_bytes, buffer_bytes, pipe_bytes, heap_with_piece, with_comp, with_buffer, with_pipe, with_pipes, with_host_stream, completed, has_hole, has_index, is_used, has_comp, has_edge, has_pipe}
 use Rattle.row_laws.specs.Tiled.{IsTiled, heap_bytes}
 use Rattle.row_laws.specs.Wired.{is_node}

@@ -4,13 +4,13 @@ use Rattle.sof_base.specs.Cells.{Fits, fixed}
 use Rattle.sof_base.specs.Slots.{Slot, Word, Size, Raw, slot_cells, slots_cells}
 use Rattle.sof_base.proofs.FieldLaws.{IsBytes, IsBytes-take}
 use Rattle.sof_base.proofs.Fitting.{Fits-split, is_fixed}
-use Rattle.ipc3_codec.specs.declared.control.ControlKind.TheVariants as kinds
-use Rattle.ipc3_codec.specs.declared.control.TheConstants.{CTRL_BINARY}
-use Rattle.ipc3_codec.specs.declared.message.Message.{Message}
-use Rattle.ipc3_codec.specs.declared.message.Message.TheVariants as messages
-use Rattle.ipc3_codec.specs.Commands.{command_number}
-use Rattle.ipc3_codec.specs.ControlWords.{control_slots, part_slots}
-use Rattle.ipc3_codec.specs.Messages.{Means, size_of, command_of}
+use Rattle.ipc3_model.specs.declared.control_kind.ControlKind.TheVariants as kinds
+use Rattle.ipc3_model.specs.declared.control_kind.TheConstants.{CTRL_BINARY}
+use Rattle.ipc3_model.specs.declared.message.Message.{Message}
+use Rattle.ipc3_model.specs.declared.message.Message.TheVariants as messages
+use Rattle.ipc3_model.specs.Commands.{command_number}
+use Rattle.ipc3_model.specs.ControlWords.{control_slots, part_slots}
+use Rattle.ipc3_model.specs.Messages.{Means, size_of, command_of}
 use Rattle.row_laws.specs.RowLaws.{HasBytes}
 
 -- ---- lists of bytes

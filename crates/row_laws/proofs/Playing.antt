@@ -18,7 +18,7 @@ use Rattle.stream_law.specs.Joins.{fits_kind}
 use Rattle.stream_law.specs.Moves.{period, is_choosy, chooses}
 use Rattle.stream_law.specs.Order.{is_among}
 use Rattle.stream_law.specs.Seen.{flows}
-use Rattle.ipc3_codec.specs.Allowed.{is_period_allowed}
+use Rattle.ipc3_model.specs.Allowed.{is_period_allowed}
 use Rattle.mbox_link.specs.Step.{has_comp, has_kind, kind_at, is_host, is_complete, is_ready_comp, is_way_ready}
 use Rattle.row_laws.specs.Wired.{IsWired, HasJoinedSides}
 use Rattle.row_laws.specs.Played.{AreStreamsPlayable, IsStreamSet, IsSetBy, is_idle}

@@ -21,11 +21,11 @@ use Rattle.stream_law.specs.State.{FwState, Staging, view_of}
 use Rattle.stream_law.specs.Ways.{comp_of, agree, is_live_phase, is_running_phase}
 use Rattle.stream_law.specs.Joins.{would_cycle, would_reach, would_grow, with_join}
 use Rattle.stream_law.specs.Seen.{is_equaliser, seen}
-use Rattle.ipc3_codec.specs.Allowed.{is_buffer_size, is_period_allowed, is_channels}
-use Rattle.ipc3_codec.specs.declared.message.Message.{Message}
-use Rattle.ipc3_codec.specs.declared.message.Message.TheVariants as messages
-use Rattle.ipc3_codec.specs.declared.fault.CodecFault.{CodecFault}
-use Rattle.ipc3_codec.specs.Messages.{decoded, IsMessage, IsAllowed, Means}
+use Rattle.ipc3_model.specs.Allowed.{is_buffer_size, is_period_allowed, is_channels}
+use Rattle.ipc3_model.specs.declared.message.Message.{Message}
+use Rattle.ipc3_model.specs.declared.message.Message.TheVariants as messages
+use Rattle.ipc3_model.specs.declared.fault.CodecFault.{CodecFault}
+use Rattle.ipc3_model.specs.Messages.{decoded, IsMessage, IsAllowed, Means}
 use Rattle.mbox_link.specs.Step.{row, row_of, body, body_of, replied, step, kind_of, first_setting, no_memory, busy, no_device, invalid, is_used, is_complete, has_index, has_comp, has_edge, has_hole, comp_bytes, buffer_bytes, pipe_bytes, with_comp, comp_new, with_buffer, buffer_new, with_pipe, pipe_new, with_pipes, completed, complete_pipe, pipe_complete, is_joined, takes_join, is_refused_join, connect, has_complete_pipe, touches, is_held, is_index_held, without_comp, comp_free, without_buffer, buffer_free, without_pipe, free_pipe, pipe_free, new_setting, with_comps, with_setting, value_set, set_value, control_values_at, get_value, staging_at, keeps_order, staged_bytes, with_staged, blob_installed, part_staged, set_data, part_at, get_data, has_kind, is_stream_phase, is_host, goes, is_rate, is_way_ready, kind_at, phase_at, is_prepared, is_paused, set_stream, set_phase, with_params, pcm_params, is_refused_params, pcm_free, trigger}
 use Rattle.row_laws.specs.Played.{is_idle}
 use Rattle.row_laws.specs.Kept.{IsKeptState, IsSettingOf, IsStaged}

@@ -11,7 +11,7 @@ use Rattle.stream_law.specs.Placed.{Ascends, HasDistinct}
 use Rattle.stream_law.specs.State.{FwState, HeapView, View, History, Staging, view_of}
 use Rattle.stream_law.specs.Ways.{components, channels_of}
 use Rattle.stream_law.specs.Seen.{ring_seen, is_equaliser, equalises, blob_in, fresh_numbers}
-use Rattle.ipc3_codec.specs.Allowed.{is_buffer_size}
+use Rattle.ipc3_model.specs.Allowed.{is_buffer_size}
 use Rattle.mbox_link.specs.Step.{has_kind, kind_at, is_used}
 use Rattle.row_laws.specs.Tiled.{IsTiled, heap_bytes}
 use Rattle.row_laws.specs.Wired.{IsWired, HasJoinedSides, sides_joined}

@@ -6,7 +6,7 @@ use Rattle.stream_law.specs.declared.graph.Join.{Join}
 use Rattle.stream_law.specs.declared.graph.Graph.{Graph}
 use Rattle.stream_law.specs.Placed.{HasDistinct}
 use Rattle.stream_law.specs.Ways.{leads, is_end}
-use Rattle.ipc3_codec.specs.Allowed.{is_period_allowed}
+use Rattle.ipc3_model.specs.Allowed.{is_period_allowed}
 use Rattle.mbox_link.specs.Step.{has_comp, has_edge}
 
 -- how many sides of edges are joined

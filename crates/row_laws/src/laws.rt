@@ -1,7 +1,7 @@
 // What each row of the firmware's table keeps, in the table's order, and what else changes a state. Nothing runs here.
 ghost use Rattle.row_laws.specs.RowLaws as law;
 
-use ipc3_codec::messages_are_decoded;
+use ipc3_model::messages_are_decoded;
 
 /// Each row that is done keeps what every state keeps:
 /// - COMP_NEW, BUFFER_NEW and PIPE_NEW: a component, buffer or pipeline more. A buffer is joined to nothing and has an empty ring. A

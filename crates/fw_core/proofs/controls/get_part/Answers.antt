@@ -1,7 +1,7 @@
 use Rattle.std.proofs.Common.{sym, ap, [], Ok, Err}
 use Rattle.std.specs.Prelude.{Option}
 use Rattle.sof_base.specs.declared.part.Part.{Part}
-use Rattle.ipc3_codec.specs.declared.reply.Body.TheVariants as bodies
+use Rattle.ipc3_model.specs.declared.reply.Body.TheVariants as bodies
 use Rattle.mbox_link.specs.Step.{get_data, part_body}
 use Rattle.fw_core.proofs.RowLaws.{row-stays}
 use Rattle.fw_core.proofs.PartGot.{part-got}

@@ -1,6 +1,6 @@
 use Rattle.std.proofs.Common.{sym, ap, [], Ok, Err}
 use Rattle.std.specs.Prelude.{List, ℕ, Option}
-use Rattle.ipc3_codec.specs.declared.reply.Body.TheVariants.{Values}
+use Rattle.ipc3_model.specs.declared.reply.Body.TheVariants.{Values}
 use Rattle.mbox_link.specs.Step.{get_value, values_body}
 use Rattle.fw_core.proofs.RowLaws.{row-stays}
 use Rattle.fw_core.proofs.Values.{got}

@@ -1,7 +1,7 @@
 use Rattle.std.proofs.Common.{refl, subst, Ok}
-use Rattle.ipc3_codec.specs.Messages.{IsAllowed}
-use Rattle.ipc3_codec.specs.declared.message.Message.TheVariants.{CtxSave}
-use Rattle.ipc3_codec.specs.declared.reply.Body.TheVariants.{Nothing}
+use Rattle.ipc3_model.specs.Messages.{IsAllowed}
+use Rattle.ipc3_model.specs.declared.message.Message.TheVariants.{CtxSave}
+use Rattle.ipc3_model.specs.declared.reply.Body.TheVariants.{Nothing}
 use Rattle.mbox_link.specs.Step.{row}
 use Rattle.row_laws.specs.RowLaws.{HasBytes}
 use Rattle.fw_core.proofs.RowLaws.{row-stays}

@@ -1,7 +1,7 @@
 use Rattle.std.proofs.Common.{ℕ, Option, false, subst, sym, ◌∙◌}
 use Rattle.sof_base.specs.declared.format.Params.{Params}
-use Rattle.ipc3_codec.specs.declared.message.Message.TheVariants.{PcmParams}
-use Rattle.ipc3_codec.specs.Messages.{message_spelling}
+use Rattle.ipc3_model.specs.declared.message.Message.TheVariants.{PcmParams}
+use Rattle.ipc3_model.specs.Messages.{message_spelling}
 use Rattle.mbox_link.specs.Calls.{world}
 use Rattle.host_widgets.specs.declared.kept.Found.{Found}
 use Rattle.host_widgets.specs.HostActs.{Prepare}

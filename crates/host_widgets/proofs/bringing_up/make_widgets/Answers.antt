@@ -4,8 +4,8 @@ use Rattle.std.proofs.lemmas.List.FromFn.{length-range_with_len, get_or-range_wi
 use Rattle.mbox_link.specs.Calls.{world}
 use Rattle.tplg_plan.specs.declared.plans.WidgetPlan.{WidgetPlan}
 use Rattle.tplg_plan.specs.declared.plans.Plan.{Plan}
-use Rattle.ipc3_codec.specs.declared.message.Message.{Message}
-use Rattle.ipc3_codec.specs.Messages.{message_spelling}
+use Rattle.ipc3_model.specs.declared.message.Message.{Message}
+use Rattle.ipc3_model.specs.Messages.{message_spelling}
 use Rattle.host_widgets.specs.Host.{Sent}
 use Rattle.host_widgets.specs.ActCalls.{ActsSent}
 use Rattle.host_widgets.specs.HostActs.{Act, Make}

@@ -2,8 +2,8 @@ use Rattle.std.proofs.Common.{◌≡◌, ◌<◌, ℕ, List, length, get_or, tak
 use Rattle.std.proofs.lemmas.List.{length-map, take_all}
 use Rattle.std.proofs.lemmas.List.FromFn.{length-range_with_len, get_or-range_with_len}
 use Rattle.sof_base.specs.declared.part.Part.{Part as Carried}
-use Rattle.ipc3_codec.specs.declared.message.Message.TheVariants.{SetData}
-use Rattle.ipc3_codec.specs.Messages.{message_spelling}
+use Rattle.ipc3_model.specs.declared.message.Message.TheVariants.{SetData}
+use Rattle.ipc3_model.specs.Messages.{message_spelling}
 use Rattle.mbox_link.specs.BlobParts.{blob_part, part_numbers, parts}
 use Rattle.mbox_link.specs.Calls.{world}
 use Rattle.host_widgets.specs.ActLists.{part_acts}

@@ -1,5 +1,5 @@
 use Rattle.std.proofs.Common.{Ok, ap, sym, ◌∙◌}
-use Rattle.ipc3_codec.specs.Messages.{message_spelling}
+use Rattle.ipc3_model.specs.Messages.{message_spelling}
 use Rattle.host_widgets.specs.Sides.{world_of}
 use Rattle.host_widgets.specs.ActCalls.{came_to}
 use Rattle.host_widgets.proofs.Walks.{handed_on}

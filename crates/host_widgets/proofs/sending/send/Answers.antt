@@ -1,7 +1,7 @@
 use Rattle.std.proofs.Common.{◌≡◌, take, List, ℕ, subst}
 use Rattle.mbox_link.specs.Calls.{world, Exchanged}
 use Rattle.mbox_link.specs.Exchange.{answered}
-use Rattle.ipc3_codec.specs.Messages.{message_spelling}
+use Rattle.ipc3_model.specs.Messages.{message_spelling}
 use Rattle.host_widgets.proofs.Exchanges.{sent}
 use Rattle.host_widgets.proofs.sending.send.Goals as goal
 

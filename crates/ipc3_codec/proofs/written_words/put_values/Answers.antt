@@ -2,7 +2,7 @@ use Rattle.std.proofs.Common.{◌≡◌, ◌++◌, ◌∷◌, [], List, ℕ, tak
 use Rattle.std.proofs.lemmas.List.{take_all}
 use Rattle.sof_base.specs.Cells.{written}
 use Rattle.sof_base.specs.Slots.{slots_cells, words_bytes}
-use Rattle.ipc3_codec.specs.ControlWords.{value_slots}
+use Rattle.ipc3_model.specs.ControlWords.{value_slots}
 use Rattle.ipc3_codec.proofs.WordList.{values-more}
 use Rattle.ipc3_codec.proofs.written_words.put_values.Goals as goal
 

@@ -1,7 +1,7 @@
 use Rattle.std.proofs.Common.{◌≡◌, ◌+◌, ◌*◌, ◌++◌, take}
 use Rattle.sof_base.specs.Cells.{written}
 use Rattle.sof_base.specs.Slots.{slots_cells}
-use Rattle.ipc3_codec.specs.ControlWords.{value_slots}
+use Rattle.ipc3_model.specs.ControlWords.{value_slots}
 use Rattle.ipc3_codec.proofs.written_words.put_values.Given as goal
 
 abbrev pub invariant-loop-i : goal.invariant-loop-i

@@ -1,8 +1,8 @@
 use Rattle.std.proofs.Common.{◌≡◌, ◌∙◌, sym, ap, Some, true}
 use Rattle.std.proofs.lemmas.Bool.{true≢false}
-use Rattle.ipc3_codec.specs.Messages.{decoded}
-use Rattle.ipc3_codec.specs.declared.reply.Reply.{Reply}
-use Rattle.ipc3_codec.specs.Replies.{reply_spelling}
+use Rattle.ipc3_model.specs.Messages.{decoded}
+use Rattle.ipc3_model.specs.declared.reply.Reply.{Reply}
+use Rattle.ipc3_model.specs.Replies.{reply_spelling}
 use Rattle.fw_core.proofs.Calls.{step-answered}
 use Rattle.fw_core.proofs.Laid.{is-on}
 use Rattle.fw_core.proofs.Scheduled.{still-scheduled}

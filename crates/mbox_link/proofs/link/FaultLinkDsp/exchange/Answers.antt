@@ -63,5 +63,5 @@ returns-in-Refuse-clause-did g c =
     let m = world after.new.dsp after.new.io after.new.out in
     let came = subst (λ (n : ℕ). Led means (world inside.dsp c.args.io.now c.args.out.now) (replicate n Tick) m) lag after.ensures.came in
     let number : SFits w32 c.in-Refuse.error = search rules in
-    rw (← c.self.view_is, c.encode_reply.ensures.bytes, to_z-of_z number)
+    rw (← c.self.view_is, c.refuse.ensures.bytes, to_z-of_z number)
     (link_refused means _ _ c.take-met.ensures.held.apart m came _ (rw (← fate, c.take-met.ensures.left, sent, refused) refl) c.in-Refuse.error (subst IsMeant c.in-Refuse.is c.take-met.ensures.meant) (omega arith) fate)

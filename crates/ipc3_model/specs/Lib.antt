@@ -1,0 +1,9 @@
+pub mod Commands
+pub mod ComponentTypes
+pub mod Allowed
+pub mod Places
+pub mod StreamWords
+pub mod ControlWords
+pub mod Messages
+pub mod Replies
+pub mod FaultNumbers

@@ -1,15 +1,15 @@
 -- What begins, and changes of the frames of one buffer: what they keep.
-use Rattle.std.proofs.Common.{◌≡◌, refl, sym, ap, ◌∙◌, ℕ, ◌*◌, ◌≤◌, List, [], ◌∷◌, ◌++◌, map, take, length, Bool, true, false, cond, ◌==◌, arith, ℤ}
+use Rattle.std.proofs.Common.{◌≡◌, refl, sym, ap, ◌∙◌, ℕ, ◌*◌, ◌≤◌, List, [], ◌∷◌, ◌++◌, map, take, length, true, arith, ℤ}
 use Rattle.sof_base.specs.Samples.{Frame, samples_of}
 use Rattle.fw_ring.specs.RingState.{RingState, SameRing}
 use Rattle.eq_biquad.specs.EqState.{EqState, OnlyNumbers}
-use Rattle.fw_components.specs.declared.component.Component.{Component}
-use Rattle.fw_components.specs.declared.component.Unit as units
-use Rattle.fw_components.specs.declared.component.Unit.TheVariants.{Buffer}
+use Rattle.fw_units.specs.declared.component.Component.{Component}
+use Rattle.fw_units.specs.declared.component.Unit as units
+use Rattle.fw_units.specs.declared.component.Unit.TheVariants.{Buffer}
 use Rattle.fw_components.specs.Tables.{Tables}
 use Rattle.fw_components.specs.Kept.{IsKept, IsBuffering, IsPiping, IsStreaming, is_plain, sides_by}
-use Rattle.fw_components.specs.Frames.{piece_with_words, begun_unit, begun_by, begun_at, taken_unit, taken_by, taken_at, pushed_ring, pushed_unit, pushed_by, pushed_at}
-use Rattle.fw_components.proofs.KeptLaws.{comps-changed, buffers-changed, pipes-changed}
+use Rattle.fw_units.specs.Frames.{piece_with_words, begun_unit, begun_by, begun_at, taken_unit, taken_by, taken_at, pushed_ring, pushed_unit, pushed_by, pushed_at}
+use Rattle.fw_components.proofs.KeptLaws.{comps-changed, buffers-changed, pipes-changed, at-id, at-unit, at-sides}
 
 -- ---- equalisers and rings with other words
 
@@ -67,29 +67,6 @@ pushed-buffering frames words u e = e
 pub pushed-sides : (frames : List Frame) → (words : List ℤ) → (u : units.Unit) → sides_by (pushed_unit frames words u) ≡ sides_by u
 pushed-sides frames words (Buffer size ring source sink) = refl
 pushed-sides frames words u = refl
-
--- ---- a change at one id
-
-pub at-id : (g : Component → Component) → ((c : Component) → (g c).id ≡ c.id) → (id : ℕ) (c : Component) → (cond {A = Component} (c.id == id) (g c) c).id ≡ c.id
-at-id g same id c = by (c.id == id)
-  where
-    by : (h : Bool) → (cond {A = Component} h (g c) c).id ≡ c.id
-    by true = same c
-    by false = refl
-
-pub at-unit : (P : units.Unit → Type 0) (g : Component → Component) → ((c : Component) → P c.unit → P (g c).unit) → (id : ℕ) (c : Component) → P c.unit → P (cond {A = Component} (c.id == id) (g c) c).unit
-at-unit P g keeps id c e = by (c.id == id)
-  where
-    by : (h : Bool) → P (cond {A = Component} h (g c) c).unit
-    by true = keeps c e
-    by false = e
-
-pub at-sides : (g : Component → Component) → ((c : Component) → sides_by (g c).unit ≡ sides_by c.unit) → (id : ℕ) (c : Component) → sides_by (cond {A = Component} (c.id == id) (g c) c).unit ≡ sides_by c.unit
-at-sides g same id c = by (c.id == id)
-  where
-    by : (h : Bool) → sides_by (cond {A = Component} h (g c) c).unit ≡ sides_by c.unit
-    by true = same c
-    by false = refl
 
 -- ---- and what is so of tables
 

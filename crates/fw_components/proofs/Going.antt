@@ -1,63 +1,20 @@
 -- What is found in tables, and what is left of them once something is gone.
-use Rattle.std.proofs.Common.{◌≡◌, refl, sym, ap, ◌∙◌, ℕ, suc, List, [], ◌∷◌, ◌++◌, length, filter, Bool, true, false, cond, not, ◌==◌, ◌||◌, arith, Option, Some, None}
-use Rattle.std.proofs.lemmas.Bool.{true≢false}
+use Rattle.std.proofs.Common.{◌≡◌, refl, sym, ap, ◌∙◌, ℕ, List, [], ◌∷◌, ◌++◌, length, filter, Bool, true, false, not, ◌==◌, ◌||◌, arith, Option, Some}
 use Rattle.std.proofs.lemmas.List.Folds.{list_any-append}
-use Rattle.std.specs.Prelude.{option_map, position, find}
+use Rattle.std.specs.Prelude.{find}
 use Rattle.std.specs.List.{list_any, AllByRecursion}
 use Rattle.sof_base.specs.declared.hole.Hole.{Hole}
 use Rattle.stream_law.specs.declared.graph.Join.{Join}
-use Rattle.fw_components.specs.declared.component.Component.{Component}
-use Rattle.fw_components.specs.Tables.{Tables, unit_frames, held_frames, capacity_by, capacity_at}
+use Rattle.fw_units.specs.declared.component.Component.{Component}
+use Rattle.fw_units.specs.Units.{unit_frames, capacity_by}
+use Rattle.fw_components.specs.Tables.{Tables, held_frames, capacity_at}
 use Rattle.std.specs.Option.{option_map_or}
 use Rattle.mbox_link.specs.Step.{touches}
-use Rattle.fw_components.specs.Changes.{is_there, has_id, found, tables_without, without_by, given_by, given_all}
-use Rattle.fw_components.proofs.Positions.{first, first-is}
+use Rattle.fw_units.specs.Changes.{has_id, given_by, given_all}
+use Rattle.fw_components.specs.Changes.{is_there, found, tables_without, without_by}
+use Rattle.fw_units.proofs.Found.{find-first, find-past}
 
--- ---- what a place says
-
-is-there : Option ℕ → Bool
-is-there None = false
-is-there (Some i) = true
-
-there-next : (o : Option ℕ) → is-there (option_map suc o) ≡ is-there o
-unfolding is-there
-there-next None = refl
-there-next (Some i) = refl
-
-first-any : {X : Type 0} (p : X → Bool) (xs : List X) → is-there (first p xs) ≡ list_any p xs
-unfolding is-there
-first-any p [] = refl
-first-any {X} p (x ∷ xs) = by (p x) (there-next (first p xs) ∙ first-any p xs)
-  where
-    by : (h : Bool) → is-there (option_map suc (first p xs)) ≡ list_any p xs → is-there (cond h (Some 0) (option_map suc (first p xs))) ≡ (h || list_any p xs)
-    by true rest = refl
-    by false rest = rest
-
-pub placed-there : (id : ℕ) (cs : List Component) (at : ℕ) → Some at ≡ position (λ c. c.id == id) cs → has_id cs id ≡ true
-unfolding is-there
-placed-there id cs at e = sym (first-any (λ (c : Component). c.id == id) cs) ∙ ap is-there (sym (e ∙ first-is (λ (c : Component). c.id == id) cs))
-
-pub never-there : (id : ℕ) (cs : List Component) → None ≡ position (λ c. c.id == id) cs → has_id cs id ≡ false
-unfolding is-there
-never-there id cs e = sym (first-any (λ (c : Component). c.id == id) cs) ∙ ap is-there (sym (e ∙ first-is (λ (c : Component). c.id == id) cs))
-
--- ---- what is found
-
-pub find-first : (id : ℕ) (xs ys : List Component) → has_id xs id ≡ true → find (λ c. c.id == id) (xs ++ ys) ≡ find (λ c. c.id == id) xs
-find-first id [] ys e = absurd (true≢false (sym e))
-find-first id (x ∷ xs) ys e = by (x.id == id) e (find-first id xs ys)
-  where
-    by : (h : Bool) → (h || has_id xs id) ≡ true → (has_id xs id ≡ true → find (λ c. c.id == id) (xs ++ ys) ≡ find (λ c. c.id == id) xs) → cond h (Some x) (find (λ c. c.id == id) (xs ++ ys)) ≡ cond h (Some x) (find (λ c. c.id == id) xs)
-    by true e rest = refl
-    by false e rest = rest e
-
-pub find-past : (id : ℕ) (xs ys : List Component) → has_id xs id ≡ false → find (λ c. c.id == id) (xs ++ ys) ≡ find (λ c. c.id == id) ys
-find-past id [] ys e = refl
-find-past id (x ∷ xs) ys e = by (x.id == id) e (find-past id xs ys)
-  where
-    by : (h : Bool) → (h || has_id xs id) ≡ false → (has_id xs id ≡ false → find (λ c. c.id == id) (xs ++ ys) ≡ find (λ c. c.id == id) ys) → cond h (Some x) (find (λ c. c.id == id) (xs ++ ys)) ≡ find (λ c. c.id == id) ys
-    by true e rest = absurd (true≢false e)
-    by false e rest = rest e
+-- ---- what is found in the tables
 
 module _ (t : Tables) (id : ℕ) where
   pub comp-found : (c : Component) → has_id t.comps id ≡ true → Some c ≡ find (λ c. c.id == id) t.comps → Some c ≡ found t id

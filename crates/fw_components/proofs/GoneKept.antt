@@ -3,12 +3,13 @@ use Rattle.std.proofs.Common.{◌≡◌, sym, subst, ℕ, suc, ◌≤◌, List, 
 use Rattle.std.specs.List.{list_any}
 use Rattle.stream_law.specs.declared.graph.Join.{Join}
 use Rattle.stream_law.proofs.Placing.{Ascends-filter}
-use Rattle.fw_components.specs.declared.component.Component.{Component}
+use Rattle.fw_units.specs.declared.component.Component.{Component}
 use Rattle.fw_components.specs.Tables.{Tables}
 use Rattle.fw_components.specs.Kept.{IsKept, IsBuffering, IsPiping, IsStreaming, is_plain}
 use Rattle.mbox_link.specs.Step.{touches}
-use Rattle.fw_components.specs.Changes.{has_id}
-use Rattle.fw_components.proofs.Ids.{all-left, apart-left_first}
+use Rattle.fw_units.specs.Changes.{has_id}
+use Rattle.fw_units.proofs.Ids.{all-left}
+use Rattle.fw_components.proofs.Apart.{apart-left_first}
 use Rattle.fw_components.proofs.Linked.{comp-unlinked, buffer-unlinked}
 
 fewer : (keep : Component → Bool) (cs : List Component) → length (filter keep cs) ≤ length cs

@@ -8,8 +8,9 @@ use Rattle.stream_law.specs.Placed.{Ascends, AreAbove}
 use Rattle.stream_law.specs.Ways.{leads, reaches, on_way, is_capture}
 use Rattle.stream_law.proofs.Members.{IsIn}
 use Rattle.fw_places.specs.Walks.{leads_by}
-use Rattle.fw_components.specs.declared.component.Component.{Component}
-use Rattle.fw_components.specs.Tables.{Tables, comp_by, graph_of, kind_by}
+use Rattle.fw_units.specs.declared.component.Component.{Component}
+use Rattle.fw_units.specs.Units.{comp_by, kind_by}
+use Rattle.fw_components.specs.Tables.{Tables, graph_of}
 
 -- ---- what an id names
 

@@ -5,14 +5,15 @@ use Rattle.std.proofs.lemmas.List.{length-append}
 use Rattle.std.specs.Prelude.{is_none}
 use Rattle.std.specs.List.{list_any, AllByRecursion}
 use Rattle.stream_law.specs.declared.graph.Join.{Join}
-use Rattle.fw_components.specs.declared.component.Component.{Component}
-use Rattle.fw_components.specs.declared.component.Unit as units
-use Rattle.fw_components.specs.declared.component.Unit.TheVariants.{Buffer}
-use Rattle.fw_components.specs.Tables.{is_buffer, source_by, sink_by}
+use Rattle.fw_units.specs.declared.component.Component.{Component}
+use Rattle.fw_units.specs.declared.component.Unit as units
+use Rattle.fw_units.specs.declared.component.Unit.TheVariants.{Buffer}
+use Rattle.fw_units.specs.Units.{is_buffer, source_by, sink_by}
 use Rattle.mbox_link.specs.Step.{touches}
-use Rattle.fw_components.specs.Changes.{has_id, has_free_source, has_free_sink, joined_at, sourced_unit, sunk_unit}
+use Rattle.fw_units.specs.Changes.{has_id, joined_at, sourced_unit, sunk_unit}
+use Rattle.fw_components.specs.Changes.{has_free_source, has_free_sink}
 use Rattle.fw_components.specs.Kept.{AreIdsApart, side, sides_by, sides, joins_at, is_between, IsLinked, IsBuffering}
-use Rattle.fw_components.proofs.Ids.{all-with, has-map, other-way}
+use Rattle.fw_units.proofs.Ids.{all-with, has-map, other-way}
 use Rattle.fw_components.proofs.Linked.{between-all}
 
 -- ---- one buffer

@@ -6,18 +6,21 @@ use Rattle.std.specs.List.{list_any, AllByRecursion}
 use Rattle.sof_base.specs.declared.format.Params.{Params}
 use Rattle.stream_law.specs.declared.graph.Join.{Join}
 use Rattle.stream_law.specs.declared.stream.Phase.{Phase}
-use Rattle.stream_law.specs.Placed.{placed, AreAbove, Ascends}
+use Rattle.stream_law.specs.Placed.{placed, Ascends}
 use Rattle.stream_law.proofs.Placing.{length-placed, Ascends-placed}
-use Rattle.fw_components.specs.declared.component.Component.{Component}
-use Rattle.fw_components.specs.declared.component.Unit as units
-use Rattle.fw_components.specs.declared.component.Unit.TheVariants.{Host, Volume, Mux, Eq, Buffer, Pipeline}
-use Rattle.fw_components.specs.Tables.{Tables, is_buffer, is_pipeline}
+use Rattle.fw_units.specs.declared.component.Component.{Component}
+use Rattle.fw_units.specs.declared.component.Unit as units
+use Rattle.fw_units.specs.declared.component.Unit.TheVariants.{Host, Volume, Mux, Eq, Buffer, Pipeline}
+use Rattle.fw_units.specs.Units.{is_buffer, is_pipeline}
+use Rattle.fw_components.specs.Tables.{Tables}
 use Rattle.fw_components.specs.Kept.{IsKept, IsNamed, IsUnitSound, IsBuffering, IsPiping, IsStreamOf, IsStreaming, is_plain, sides, sides_by}
-use Rattle.fw_components.specs.Values.{valued_unit, valued_at}
-use Rattle.fw_components.specs.Changes.{is_there, IsNew, completed_unit, completed_at, is_idle_phase, ended_unit, with_ended, set_unit, set_at, joined_at, can_join, sourced_unit, sunk_unit}
-use Rattle.fw_components.proofs.Ids.{apart-placed_first, apart-map_first, apart-map_second}
+use Rattle.fw_units.specs.Values.{valued_unit, valued_at}
+use Rattle.fw_units.specs.Changes.{with_unit, completed_unit, completed_at, ended_unit, with_ended, set_unit, set_at, joined_at, sourced_unit, sunk_unit}
+use Rattle.fw_components.specs.Changes.{is_there, IsNew, is_idle_phase, can_join}
+use Rattle.fw_components.proofs.Apart.{apart-placed_first, apart-map_first, apart-map_second}
 use Rattle.fw_components.proofs.Linked.{sides-most, comp-linked, buffer-linked, comps-linked, buffers-linked, each-placed}
 use Rattle.fw_components.proofs.Joining.{joined-id, joined_by, one-more, joined-linked}
+use Rattle.fw_units.proofs.Ids.{ascends-map}
 
 pub empty-kept : IsKept (record { comps = []; buffers = []; pipes = []; joins = [] })
 unfolding Ascends
@@ -37,16 +40,6 @@ empty-kept = record {
 all-map : (P : Component → Type 0) (f : Component → Component) → ((c : Component) → P c → P (f c)) → (cs : List Component) → AllByRecursion P cs → AllByRecursion P (map f cs)
 all-map P f keeps [] all = tt
 all-map P f keeps (c ∷ cs) all = (keeps c all.0, all-map P f keeps cs all.1)
-
-above-map : (f : Component → Component) → ((c : Component) → (f c).id ≡ c.id) → (n : ℕ) (cs : List Component) → AreAbove (λ c. c.id) n cs → AreAbove (λ c. c.id) n (map f cs)
-unfolding AreAbove
-above-map f same n [] all = tt
-above-map f same n (c ∷ cs) all = (subst (λ m. n < m) (sym (same c)) all.0, above-map f same n cs all.1)
-
-pub ascends-map : (f : Component → Component) → ((c : Component) → (f c).id ≡ c.id) → (cs : List Component) → Ascends (λ c. c.id) cs → Ascends (λ c. c.id) (map f cs)
-unfolding Ascends
-ascends-map f same [] all = tt
-ascends-map f same (c ∷ cs) all = (subst (λ m. AreAbove (λ x. x.id) m (map f cs)) (sym (same c)) (above-map f same c.id cs all.0), ascends-map f same cs all.1)
 
 length-changed : (f : Component → Component) (cs : List Component) → length (map f cs) ≡ length cs
 length-changed f [] = refl
@@ -261,35 +254,32 @@ set-streaming phase params right (Host capture was before piece) e = right
 set-streaming phase params right u e = e
 
 -- a change at one id
-abbrev at : (units.Unit → units.Unit) → ℕ → Component → Component
-at f id c = cond (c.id == id) (record { id = c.id; pipe = c.pipe; channels = c.channels; unit = f c.unit }) c
-
-at-id : (f : units.Unit → units.Unit) (id : ℕ) (c : Component) → (at f id c).id ≡ c.id
-at-id f id c = by (c.id == id)
+pub at-id : (g : Component → Component) → ((c : Component) → (g c).id ≡ c.id) → (id : ℕ) (c : Component) → (cond {A = Component} (c.id == id) (g c) c).id ≡ c.id
+at-id g same id c = by (c.id == id)
   where
-    by : (h : Bool) → (cond {A = Component} h (record { id = c.id; pipe = c.pipe; channels = c.channels; unit = f c.unit }) c).id ≡ c.id
-    by true = refl
+    by : (h : Bool) → (cond {A = Component} h (g c) c).id ≡ c.id
+    by true = same c
     by false = refl
 
-at-unit : (P : units.Unit → Type 0) (f : units.Unit → units.Unit) (id : ℕ) → ((u : units.Unit) → P u → P (f u)) → (c : Component) → P c.unit → P (at f id c).unit
-at-unit P f id keeps c e = by (c.id == id)
+pub at-unit : (P : units.Unit → Type 0) (g : Component → Component) → ((c : Component) → P c.unit → P (g c).unit) → (id : ℕ) (c : Component) → P c.unit → P (cond {A = Component} (c.id == id) (g c) c).unit
+at-unit P g keeps id c e = by (c.id == id)
   where
-    by : (h : Bool) → P (cond {A = Component} h (record { id = c.id; pipe = c.pipe; channels = c.channels; unit = f c.unit }) c).unit
-    by true = keeps c.unit e
+    by : (h : Bool) → P (cond {A = Component} h (g c) c).unit
+    by true = keeps c e
     by false = e
 
-at-sides : (f : units.Unit → units.Unit) (id : ℕ) → ((u : units.Unit) → sides_by (f u) ≡ sides_by u) → (c : Component) → sides_by (at f id c).unit ≡ sides_by c.unit
-at-sides f id same c = by (c.id == id)
+pub at-sides : (g : Component → Component) → ((c : Component) → sides_by (g c).unit ≡ sides_by c.unit) → (id : ℕ) (c : Component) → sides_by (cond {A = Component} (c.id == id) (g c) c).unit ≡ sides_by c.unit
+at-sides g same id c = by (c.id == id)
   where
-    by : (h : Bool) → sides_by (cond {A = Component} h (record { id = c.id; pipe = c.pipe; channels = c.channels; unit = f c.unit }) c).unit ≡ sides_by c.unit
-    by true = same c.unit
+    by : (h : Bool) → sides_by (cond {A = Component} h (g c) c).unit ≡ sides_by c.unit
+    by true = same c
     by false = refl
 
 pub completed-kept : (t : Tables) → IsKept t → (id : ℕ) (new : List Component) → new ≡ map (completed_at id) t.pipes → IsKept (record { comps = t.comps; buffers = t.buffers; pipes = new; joins = t.joins })
-completed-kept t kept id new is = pipes-changed t kept (completed_at id) new (at-id completed_unit id) (at-unit IsPiping completed_unit id completed-pipeline) is
+completed-kept t kept id new is = pipes-changed t kept (completed_at id) new (at-id (with_unit completed_unit) (λ c. refl) id) (at-unit IsPiping (with_unit completed_unit) (λ c. completed-pipeline c.unit) id) is
 
 pub stream-kept : (t : Tables) → IsKept t → (id : ℕ) (phase : Phase) (params : Option Params) → IsStreamOf (is_idle_phase phase) params → (new : List Component) → new ≡ map (set_at id phase params) t.comps → IsKept (record { comps = new; buffers = t.buffers; pipes = t.pipes; joins = t.joins })
-stream-kept t kept id phase params right new is = comps-changed t kept (set_at id phase params) new (at-id (set_unit phase params) id) (at-unit (λ u. is_plain u ≡ true) (set_unit phase params) id (set-plain phase params)) (at-unit IsStreaming (set_unit phase params) id (set-streaming phase params right)) is
+stream-kept t kept id phase params right new is = comps-changed t kept (set_at id phase params) new (at-id (with_unit (set_unit phase params)) (λ c. refl) id) (at-unit (λ u. is_plain u ≡ true) (with_unit (set_unit phase params)) (λ c. set-plain phase params c.unit) id) (at-unit IsStreaming (with_unit (set_unit phase params)) (λ c. set-streaming phase params right c.unit) id) is
 
 ended-buffer : (u : units.Unit) → IsBuffering u → IsBuffering (ended_unit u)
 ended-buffer (Buffer size ring source sink) e = e
@@ -300,7 +290,7 @@ ended-sides (Buffer size ring source sink) = refl
 ended-sides u = refl
 
 pub ended-kept : (t : Tables) → IsKept t → (id : ℕ) (new : List Component) → new ≡ map (with_ended id) t.buffers → IsKept (record { comps = t.comps; buffers = new; pipes = t.pipes; joins = t.joins })
-ended-kept t kept id new is = buffers-changed t kept (with_ended id) new (at-id ended_unit id) (at-sides ended_unit id ended-sides) (at-unit IsBuffering ended_unit id ended-buffer) is
+ended-kept t kept id new is = buffers-changed t kept (with_ended id) new (at-id (with_unit ended_unit) (λ c. refl) id) (at-sides (with_unit ended_unit) (λ c. ended-sides c.unit) id) (at-unit IsBuffering (with_unit ended_unit) (λ c. ended-buffer c.unit) id) is
 
 valued-plain : (values : List ℕ) (u : units.Unit) → is_plain u ≡ true → is_plain (valued_unit values u) ≡ true
 valued-plain values (Volume gains piece) e = refl
@@ -312,4 +302,4 @@ valued-streaming values (Buffer size ring source sink) e = e
 valued-streaming values u e = e
 
 pub valued-kept : (t : Tables) → IsKept t → (id : ℕ) (values : List ℕ) (new : List Component) → new ≡ map (valued_at id values) t.comps → IsKept (record { comps = new; buffers = t.buffers; pipes = t.pipes; joins = t.joins })
-valued-kept t kept id values new is = comps-changed t kept (valued_at id values) new (at-id (valued_unit values) id) (at-unit (λ u. is_plain u ≡ true) (valued_unit values) id (valued-plain values)) (at-unit IsStreaming (valued_unit values) id (valued-streaming values)) is
+valued-kept t kept id values new is = comps-changed t kept (valued_at id values) new (at-id (with_unit (valued_unit values)) (λ c. refl) id) (at-unit (λ u. is_plain u ≡ true) (with_unit (valued_unit values)) (λ c. valued-plain values c.unit) id) (at-unit IsStreaming (with_unit (valued_unit values)) (λ c. valued-streaming values c.unit) id) is

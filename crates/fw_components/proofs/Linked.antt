@@ -6,13 +6,14 @@ use Rattle.std.specs.Prelude.{nat_lt}
 use Rattle.std.specs.List.{list_any, AllByRecursion}
 use Rattle.stream_law.specs.declared.graph.Join.{Join}
 use Rattle.stream_law.specs.Placed.{placed, AreAbove, Ascends}
-use Rattle.fw_components.specs.declared.component.Component.{Component}
-use Rattle.fw_components.specs.Tables.{source_by, sink_by}
+use Rattle.fw_units.specs.declared.component.Component.{Component}
+use Rattle.fw_units.specs.Units.{source_by, sink_by}
 use Rattle.mbox_link.specs.Step.{touches}
-use Rattle.fw_components.specs.Changes.{has_id}
+use Rattle.fw_units.specs.Changes.{has_id}
 use Rattle.fw_components.specs.Kept.{AreIdsApart, side, sides_by, sides, joins_at, is_between, IsLinked}
-use Rattle.fw_components.proofs.Ids.{all-by, all-with, all-left, all-passed, all-fail, has-map, has-left, has-more, not-first}
-use Rattle.fw_components.proofs.Taking.{none-above}
+use Rattle.fw_units.proofs.Ids.{all-by, all-with, all-left, all-passed, all-fail, has-map, has-left, has-more}
+use Rattle.fw_components.proofs.Apart.{not-first}
+use Rattle.fw_units.proofs.Taking.{none-above}
 
 -- ---- ends
 

@@ -10,9 +10,10 @@ use Rattle.stream_law.proofs.Members.{in-all, in-each}
 use Rattle.stream_law.specs.Order.{is_among}
 use Rattle.fw_places.specs.Walks.{place_in, IsListed}
 use Rattle.fw_places.proofs.Reaching.{at-place}
-use Rattle.fw_components.specs.declared.component.Component.{Component}
-use Rattle.fw_components.specs.Tables.{Tables, all_of, source_by, sink_by, comp_by, edge_by, ids_of}
-use Rattle.fw_components.specs.Changes.{has_id}
+use Rattle.fw_units.specs.declared.component.Component.{Component}
+use Rattle.fw_units.specs.Units.{source_by, sink_by, comp_by, edge_by}
+use Rattle.fw_components.specs.Tables.{Tables, all_of, ids_of}
+use Rattle.fw_units.specs.Changes.{has_id}
 use Rattle.fw_components.specs.Kept.{IsKept, AreJoined, is_between, sides, side}
 
 ids-map : (cs : List Component) (x : ℕ) → list_any (λ y. y == x) (map (λ (c : Component). c.id) cs) ≡ has_id cs x

@@ -9,17 +9,17 @@ use Rattle.stream_law.specs.State.{Staging}
 use Rattle.stream_law.specs.Seen.{fresh_numbers}
 use Rattle.stream_law.specs.declared.graph.Comp.{Comp}
 use Rattle.mbox_link.specs.Step.{staged_bytes, part_by, part_at}
-use Rattle.fw_components.specs.declared.component.Component.{Component}
-use Rattle.fw_components.specs.declared.component.Unit as units
-use Rattle.fw_components.specs.declared.component.Unit.TheVariants.{Eq, Buffer}
-use Rattle.fw_components.specs.Tables.{Tables, graph_of, comp_by, kind_by, setting_by}
+use Rattle.fw_units.specs.declared.component.Component.{Component}
+use Rattle.fw_units.specs.declared.component.Unit as units
+use Rattle.fw_units.specs.declared.component.Unit.TheVariants.{Eq, Buffer}
+use Rattle.fw_units.specs.Units.{comp_by, kind_by, setting_by}
+use Rattle.fw_components.specs.Tables.{Tables, graph_of}
 use Rattle.fw_components.specs.Kept.{IsKept, IsStreaming, is_plain}
 use Rattle.fw_components.specs.Changes.{is_there}
 use Rattle.fw_parts.specs.Staged.{staging_in, CanBeStaged}
 use Rattle.fw_components.specs.Parts.{part_or, part_got, takes_part, parted_unit, parted_by, parted_at, parted, part_set, staging_after, IsParted}
-use Rattle.fw_components.proofs.Begun.{at-id, at-unit}
-use Rattle.fw_components.proofs.KeptLaws.{comps-changed}
-use Rattle.fw_components.proofs.Taking.{never-found-by}
+use Rattle.fw_components.proofs.KeptLaws.{comps-changed, at-id, at-unit}
+use Rattle.fw_units.proofs.Taking.{never-found-by}
 
 -- ---- what a unit keeps
 

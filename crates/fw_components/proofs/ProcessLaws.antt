@@ -7,21 +7,25 @@ use Rattle.std.specs.Option.{option_map_or}
 use Rattle.sof_base.specs.Samples.{Frame}
 use Rattle.stream_law.specs.Order.{is_among}
 use Rattle.stream_law.proofs.Cycles.{distinct-le}
-use Rattle.fw_components.specs.declared.component.Component.{Component}
-use Rattle.fw_components.specs.declared.component.Unit as units
-use Rattle.fw_components.specs.declared.component.Unit.TheVariants.{Buffer}
-use Rattle.fw_components.specs.Tables.{Tables, numbers_by}
-use Rattle.fw_components.specs.Changes.{has_id}
-use Rattle.fw_components.specs.Frames.{words_by, words_at, staged_of_one, staged_in, taken_by, pushed_by, pushed_at}
+use Rattle.fw_units.specs.declared.component.Component.{Component}
+use Rattle.fw_units.specs.declared.component.Unit as units
+use Rattle.fw_units.specs.declared.component.Unit.TheVariants.{Buffer}
+use Rattle.fw_units.specs.Units.{numbers_by}
+use Rattle.fw_components.specs.Tables.{Tables}
+use Rattle.fw_units.specs.Changes.{has_id}
+use Rattle.fw_units.specs.Frames.{words_by, staged_of_one, staged_in, taken_by, pushed_by, pushed_at}
+use Rattle.fw_components.specs.Frames.{words_at}
 use Rattle.fw_components.specs.Kept.{IsKept, IsBuffering, IsStreaming, is_plain, sides_by}
-use Rattle.fw_components.specs.Processed.{moves_of, moves_at, channels_moved, IsInlet, IsOutlet, slices_in, chosen_by, made_frames, made_numbers, made_at, eq_numbers_at, numbers_made_at, drained_at, run_unit, run_by, run_at, processed}
-use Rattle.fw_components.specs.Moving.{CanMove, IsMoved}
-use Rattle.fw_components.proofs.Begun.{at-id, at-unit, at-sides, taken-sides, taken-buffering, pushed-sides, pushed-buffering}
-use Rattle.fw_components.proofs.Going.{find-first, find-past}
-use Rattle.fw_components.proofs.Ids.{has-map, not-first}
-use Rattle.fw_components.proofs.KeptLaws.{comps-changed, buffers-changed}
-use Rattle.fw_components.proofs.MadeLaws.{all-front, all-among}
-use Rattle.fw_components.proofs.MovedLaws.{found-id}
+use Rattle.fw_units.specs.Processed.{moves_of, IsInlet, IsOutlet, slices_in, chosen_by, made_frames, made_numbers, drained_at, run_unit, run_by, run_at}
+use Rattle.fw_components.specs.Processed.{moves_at, channels_moved, made_at, eq_numbers_at, numbers_made_at, processed}
+use Rattle.fw_units.specs.Moving.{CanMove, IsMoved}
+use Rattle.fw_components.proofs.Begun.{taken-sides, taken-buffering, pushed-sides, pushed-buffering}
+use Rattle.fw_units.proofs.Found.{find-first, find-past}
+use Rattle.fw_units.proofs.Ids.{has-map}
+use Rattle.fw_components.proofs.Apart.{not-first}
+use Rattle.fw_components.proofs.KeptLaws.{comps-changed, buffers-changed, at-id, at-unit, at-sides}
+use Rattle.fw_units.proofs.MadeLaws.{all-front, all-among}
+use Rattle.fw_units.proofs.MovedLaws.{found-id}
 
 -- ---- ids that are distinct
 

@@ -8,14 +8,15 @@ use Rattle.stream_law.specs.declared.graph.Join.{Join}
 use Rattle.stream_law.specs.declared.graph.Pipe.{Pipe}
 use Rattle.stream_law.specs.declared.stream.StreamView.{StreamView}
 use Rattle.stream_law.specs.Joins.{joined_edge}
-use Rattle.fw_components.specs.declared.component.Component.{Component}
-use Rattle.fw_components.specs.declared.component.Unit as units
-use Rattle.fw_components.specs.declared.component.Unit.TheVariants.{Buffer}
-use Rattle.fw_components.specs.Tables.{comp_by, edge_by, pipe_by, ring_by, streams_by, with_stream_by, setting_by, size_by, source_by, sink_by, sched_by, period_by, complete_by, is_buffer}
-use Rattle.fw_components.specs.Changes.{joined_at, ended_unit, with_ended}
-use Rattle.fw_components.specs.Frames.{begun_unit, begun_by, begun_at, with_frames}
+use Rattle.fw_units.specs.declared.component.Component.{Component}
+use Rattle.fw_units.specs.declared.component.Unit as units
+use Rattle.fw_units.specs.declared.component.Unit.TheVariants.{Buffer}
+use Rattle.fw_units.specs.Units.{comp_by, edge_by, pipe_by, ring_by, streams_by, with_stream_by, setting_by, size_by, source_by, sink_by, sched_by, period_by, complete_by, is_buffer}
+use Rattle.fw_units.specs.Changes.{joined_at, ended_unit, with_ended}
+use Rattle.fw_units.specs.Frames.{begun_unit, begun_by, begun_at}
+use Rattle.fw_components.specs.Frames.{with_frames}
 use Rattle.fw_components.proofs.Joining.{joined_by}
-use Rattle.fw_components.proofs.Units.{sunk-frames, sourced-frames, begun-kind, begun-frames, ended-frames}
+use Rattle.fw_units.proofs.Units.{sunk-frames, sourced-frames, begun-kind, begun-frames, ended-frames}
 
 -- what is seen of each is seen of all
 pub map-seen : {Y : Type 0} (P : Component → Type 0) (view : Component → Y) (after : Y → Y) (change : Component → Component) → ((c : Component) → P c → view (change c) ≡ after (view c)) → (cs : List Component) → AllByRecursion P cs → map view (map change cs) ≡ map after (map view cs)

@@ -8,11 +8,11 @@ use Rattle.stream_law.specs.declared.stream.StreamView.{StreamView}
 use Rattle.stream_law.specs.declared.graph.Comp.{Comp}
 use Rattle.stream_law.specs.declared.graph.Pipe.{Pipe}
 use Rattle.mbox_link.specs.Step.{completed, set_stream}
-use Rattle.fw_components.specs.declared.component.Component.{Component}
-use Rattle.fw_components.specs.declared.component.Unit as units
-use Rattle.fw_components.specs.declared.component.Unit.TheVariants.{Host, Buffer, Pipeline}
-use Rattle.fw_components.specs.Tables.{comp_by, pipe_by, streams_by, with_stream_by, is_pipeline, kind_by, setting_by, sched_by, period_by, complete_by}
-use Rattle.fw_components.specs.Changes.{completed_at, completed_unit, set_at, set_unit}
+use Rattle.fw_units.specs.declared.component.Component.{Component}
+use Rattle.fw_units.specs.declared.component.Unit as units
+use Rattle.fw_units.specs.declared.component.Unit.TheVariants.{Host, Buffer, Pipeline}
+use Rattle.fw_units.specs.Units.{comp_by, pipe_by, streams_by, with_stream_by, is_pipeline, kind_by, setting_by, sched_by, period_by, complete_by}
+use Rattle.fw_units.specs.Changes.{completed_at, completed_unit, set_at, set_unit}
 
 pub gone : {Y : Type 0} (f : Component → Y) (name : Y → ℕ) → ((c : Component) → name (f c) ≡ c.id) → (id : ℕ) (cs : List Component) → map f (filter (λ x. not (x.id == id)) cs) ≡ filter (λ y. not (name y == id)) (map f cs)
 gone f name same id [] = refl

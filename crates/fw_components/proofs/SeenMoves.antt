@@ -16,17 +16,20 @@ use Rattle.stream_law.specs.Ways.{comp_of, channels_of}
 use Rattle.stream_law.specs.Made.{frames_made, only_slice}
 use Rattle.stream_law.specs.Made as made
 use Rattle.stream_law.specs.Equaliser.{passed_frames, numbers_after}
-use Rattle.fw_components.specs.declared.component.Component.{Component}
-use Rattle.fw_components.specs.declared.component.Unit as units
-use Rattle.fw_components.specs.declared.component.Unit.TheVariants.{Host, Dai, Eq, Buffer, Pipeline}
-use Rattle.fw_components.specs.Tables.{Tables, comp_by, edge_by, pipe_by, ring_by, streams_by, with_stream_by, staging_by, with_staging_by, kind_by, setting_by, unit_frames, numbers_by, is_buffer, graph_of, view_by, streams_of, histories_of}
-use Rattle.fw_components.specs.Frames.{staged_by, staged_in, staged_of_one, taken_unit, taken_by, pushed_unit, pushed_by, pushed_at, with_frames}
+use Rattle.fw_units.specs.declared.component.Component.{Component}
+use Rattle.fw_units.specs.declared.component.Unit as units
+use Rattle.fw_units.specs.declared.component.Unit.TheVariants.{Host, Dai, Eq, Buffer, Pipeline}
+use Rattle.fw_units.specs.Units.{comp_by, edge_by, pipe_by, ring_by, streams_by, with_stream_by, staging_by, with_staging_by, kind_by, setting_by, unit_frames, numbers_by, is_buffer}
+use Rattle.fw_components.specs.Tables.{Tables, graph_of, view_by, streams_of, histories_of}
+use Rattle.fw_units.specs.Frames.{staged_by, staged_in, staged_of_one, taken_unit, taken_by, pushed_unit, pushed_by, pushed_at}
+use Rattle.fw_components.specs.Frames.{with_frames}
 use Rattle.fw_components.specs.Kept.{IsKept, IsBuffering}
-use Rattle.fw_components.specs.Processed.{moves_of, moves_at, channels_moved, slices_in, chosen_by, made_frames, made_numbers, made_at, eq_numbers_at, numbers_made_at, drained_at, run_unit, run_by, run_at, processed, drained_ring, moved_rings, with_numbers}
-use Rattle.fw_components.proofs.Begun.{at-id}
-use Rattle.fw_components.proofs.Units.{taken-frames, pushed-frames}
+use Rattle.fw_units.specs.Processed.{moves_of, slices_in, chosen_by, made_frames, made_numbers, drained_at, run_unit, run_by, run_at}
+use Rattle.fw_components.specs.Processed.{moves_at, channels_moved, made_at, eq_numbers_at, numbers_made_at, processed, drained_ring, moved_rings, with_numbers}
+use Rattle.fw_units.proofs.Units.{taken-frames, pushed-frames}
 use Rattle.fw_components.proofs.SeenFrames.{map-same, edge_of_unit}
-use Rattle.fw_components.proofs.StepLaws.{own-found}
+use Rattle.fw_units.proofs.StepLaws.{own-found}
+use Rattle.fw_components.proofs.KeptLaws.{at-id}
 
 -- ---- what each change leaves of a unit
 

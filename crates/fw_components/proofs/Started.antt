@@ -5,13 +5,17 @@ use Rattle.std.specs.Prelude.{find, option_map}
 use Rattle.std.specs.Option.{option_map_or}
 use Rattle.std.specs.List.{list_any}
 use Rattle.sof_base.specs.Samples.{Frame}
-use Rattle.fw_components.specs.declared.component.Component.{Component}
+use Rattle.fw_units.specs.declared.component.Component.{Component}
 use Rattle.fw_components.specs.Tables.{Tables}
 use Rattle.fw_components.specs.Kept.{IsKept}
-use Rattle.fw_components.specs.Changes.{has_id, found}
-use Rattle.fw_components.specs.Frames.{words_by, words_at, begun, begun_by, begun_at, IsFreshBy, staged_in, staged_of_one, staged_at, pushed, pushed_by, pushed_at}
-use Rattle.fw_components.proofs.Ids.{has-map, not-first, not-second}
-use Rattle.fw_components.proofs.Going.{find-first, find-past}
+use Rattle.fw_units.specs.Changes.{has_id}
+use Rattle.fw_components.specs.Changes.{found}
+use Rattle.fw_units.specs.Frames.{words_by, begun_by, begun_at, IsFreshBy, staged_in, staged_of_one, pushed_by, pushed_at}
+use Rattle.fw_components.specs.Frames.{words_at, begun, staged_at, pushed}
+use Rattle.fw_units.proofs.Ids.{has-map}
+use Rattle.fw_components.proofs.Apart.{not-first, not-second}
+use Rattle.fw_units.proofs.Found.{find-first, find-past}
+use Rattle.fw_components.proofs.KeptLaws.{at-id}
 
 -- where no one has the id nothing changes
 pub none-here : (g : Component → Component) (id : ℕ) (cs : List Component) → has_id cs id ≡ false → map (λ c. cond {A = Component} (c.id == id) (g c) c) cs ≡ cs
@@ -19,13 +23,6 @@ none-here g id [] none = refl
 none-here g id (c ∷ cs) none =
     let parts = or_parts (c.id == id) (has_id cs id) none in
     ap (λ h. cond {A = Component} h (g c) c ∷ map (λ c. cond {A = Component} (c.id == id) (g c) c) cs) parts.0 ∙ ap (λ (xs : List Component). c ∷ xs) (none-here g id cs parts.1)
-
-at-id : (g : Component → Component) → ((c : Component) → (g c).id ≡ c.id) → (id : ℕ) (c : Component) → (cond {A = Component} (c.id == id) (g c) c).id ≡ c.id
-at-id g same id c = by (c.id == id)
-  where
-    by : (h : Bool) → (cond {A = Component} h (g c) c).id ≡ c.id
-    by true = same c
-    by false = refl
 
 module _ (t : Tables) (kept : IsKept t) (id : ℕ) where
   module _ (channels : ℕ) (new : List Component) where

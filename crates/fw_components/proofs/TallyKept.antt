@@ -10,19 +10,20 @@ use Rattle.stream_law.specs.Order.{is_among}
 use Rattle.stream_law.specs.Ways.{is_capture, is_running_phase, is_live_phase}
 use Rattle.fw_places.specs.Walks.{leads_by}
 use Rattle.sof_base.specs.declared.part.Part.{Part}
-use Rattle.fw_components.specs.declared.component.Component.{Component}
-use Rattle.fw_components.specs.declared.component.Unit as units
-use Rattle.fw_components.specs.declared.component.Unit.TheVariants.{Host, Buffer}
-use Rattle.fw_components.specs.Tables.{Tables, kind_by}
-use Rattle.fw_components.specs.Changes.{with_ended, ended_unit, set_at, set_unit}
-use Rattle.fw_components.specs.Frames.{begun_at, begun_by, begun_unit, pushed_at, pushed_by, taken_at, taken_by}
+use Rattle.fw_units.specs.declared.component.Component.{Component}
+use Rattle.fw_units.specs.declared.component.Unit as units
+use Rattle.fw_units.specs.declared.component.Unit.TheVariants.{Host, Buffer}
+use Rattle.fw_units.specs.Units.{kind_by}
+use Rattle.fw_components.specs.Tables.{Tables}
+use Rattle.fw_units.specs.Changes.{with_ended, ended_unit, set_at, set_unit}
+use Rattle.fw_units.specs.Frames.{begun_at, begun_by, begun_unit, pushed_at, pushed_by, taken_at, taken_by}
 use Rattle.fw_components.specs.Parts.{parted_at, parted_by, parted_unit}
-use Rattle.fw_components.specs.Processed.{drained_at, run_at, run_by, run_unit}
-use Rattle.fw_components.specs.Values.{valued_at, valued_unit}
+use Rattle.fw_units.specs.Processed.{drained_at, run_at, run_by, run_unit}
+use Rattle.fw_units.specs.Values.{valued_at, valued_unit}
 use Rattle.fw_components.specs.Kept.{IsKept}
 use Rattle.fw_components.specs.Tally.{IsTallied, has_phase, passes, with_one}
 use Rattle.fw_components.proofs.Tallying.{counted, phase-live, runs-live, comps-tallied, counts-tallied, buffers-tallied}
-use Rattle.fw_components.proofs.Units.{begun-kind, valued-kind}
+use Rattle.fw_units.proofs.Units.{begun-kind, valued-kind}
 
 -- ---- each change keeps streams and kinds
 

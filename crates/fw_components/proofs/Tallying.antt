@@ -13,10 +13,11 @@ use Rattle.stream_law.specs.Ways.{components, buffers, on_way, is_capture, is_li
 use Rattle.stream_law.proofs.Members.{IsIn}
 use Rattle.stream_law.specs.Order.{is_among}
 use Rattle.fw_places.specs.Walks.{place_in, leads_by}
-use Rattle.fw_components.specs.declared.component.Component.{Component}
-use Rattle.fw_components.specs.declared.component.Unit as units
-use Rattle.fw_components.specs.declared.component.Unit.TheVariants.{Host, Buffer}
-use Rattle.fw_components.specs.Tables.{Tables, ids_of, graph_of, streams_by, streams_of, with_stream_by, kind_by}
+use Rattle.fw_units.specs.declared.component.Component.{Component}
+use Rattle.fw_units.specs.declared.component.Unit as units
+use Rattle.fw_units.specs.declared.component.Unit.TheVariants.{Host, Buffer}
+use Rattle.fw_units.specs.Units.{streams_by, with_stream_by, kind_by}
+use Rattle.fw_components.specs.Tables.{Tables, ids_of, graph_of, streams_of}
 use Rattle.fw_components.specs.Tally.{passing, IsTallied, has_phase, passes, with_one}
 use Rattle.fw_components.proofs.HostWays.{way-is}
 use Rattle.fw_components.proofs.Listed.{ids-are}

@@ -2,13 +2,15 @@
 use Rattle.std.proofs.Common.{Ok, ◌≡◌, refl, sym, ap, get_or, ◌∙◌, ℕ, List, Bool, true, false, cond, not, ◌==◌, Option, Some, None, Result, Err, ℤ, negsuc}
 use Rattle.std.proofs.lemmas.Bool.{true≢false, false≢true}
 use Rattle.std.specs.Prelude.{position, find, is_none, option_and_then}
-use Rattle.fw_components.specs.declared.component.Component.{Component}
+use Rattle.fw_units.specs.declared.component.Component.{Component}
 use Rattle.fw_components.specs.Tables.{Tables}
-use Rattle.fw_components.specs.Changes.{is_there, has_id}
-use Rattle.fw_components.specs.Values.{unit_values, values_or, unit_values_at, takes_values, valued, values_set}
+use Rattle.fw_units.specs.Changes.{has_id}
+use Rattle.fw_components.specs.Changes.{is_there}
+use Rattle.fw_units.specs.Values.{unit_values, takes_values}
+use Rattle.fw_components.specs.Values.{values_or, unit_values_at, valued, values_set}
 use Rattle.std.specs.Option.{option_map_or}
-use Rattle.fw_components.proofs.Going.{placed-there, never-there}
-use Rattle.fw_components.proofs.Taking.{taken-found, never-found-by}
+use Rattle.fw_units.proofs.Found.{placed-there, never-there}
+use Rattle.fw_units.proofs.Taking.{taken-found, never-found-by}
 
 module _ (id : ℕ) (cs : List Component) where
   pub gone-by : (o : Option ℕ) → o ≡ position (λ c. c.id == id) cs → is_none o ≡ true → has_id cs id ≡ false

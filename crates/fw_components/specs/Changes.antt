@@ -1,24 +1,19 @@
 -- What calls change of the tables of a registry.
-use Rattle.std.specs.Prelude.{◌≡◌, ℕ, ◌/◌, ◌≤◌, ◌%◌, List, [], ◌∷◌, ◌++◌, map, length, Bool, true, false, ◌==◌, ◌||◌, ◌&&◌, not, nat_le, Option, Some, None, if◌then◌else◌, filter, find, is_none}
+use Rattle.std.specs.Prelude.{◌≡◌, ℕ, ◌/◌, ◌≤◌, ◌%◌, List, [], ◌∷◌, ◌++◌, map, length, Bool, true, false, ◌==◌, ◌||◌, ◌&&◌, not, nat_le, Option, Some, None, filter, find, is_none}
 use Rattle.std.specs.List.{list_any, list_all}
-use Rattle.sof_base.specs.declared.format.Params.{Params}
 use Rattle.stream_law.specs.Placed.{placed}
 use Rattle.stream_law.specs.declared.stream.Phase.{Phase}
 use Rattle.stream_law.specs.declared.stream.Phase.TheVariants.{Idle}
 use Rattle.mbox_link.specs.Step.{touches}
-use Rattle.fw_components.specs.declared.component.Unit as units
-use Rattle.fw_components.specs.declared.component.Unit.TheVariants.{Host, Volume, Eq, Buffer, Pipeline}
-use Rattle.fw_components.specs.declared.component.Component.{Component}
-use Rattle.fw_components.specs.Tables.{Tables, all_of, is_buffer, is_pipeline, piece_of, source_by, sink_by}
+use Rattle.fw_units.specs.declared.component.Unit as units
+use Rattle.fw_units.specs.declared.component.Unit.TheVariants.{Host, Volume, Eq, Buffer, Pipeline}
+use Rattle.fw_units.specs.declared.component.Component.{Component}
+use Rattle.fw_units.specs.Units.{is_buffer, is_pipeline, source_by, sink_by}
+use Rattle.fw_components.specs.Tables.{Tables, all_of}
 use Rattle.fw_heap.specs.declared.run.Home.{Home}
-use Rattle.fw_ring.specs.RingState.{RingState}
 use Rattle.sof_base.specs.declared.hole.Hole.{Hole}
-use Rattle.sof_base.specs.Holes.{given}
 use Rattle.stream_law.specs.declared.graph.Join.{Join}
-
--- one of these has this id
-abbrev pub has_id : List Component → ℕ → Bool
-has_id cs id = list_any (λ c. c.id == id) cs
+use Rattle.fw_units.specs.Changes.{IsOfHome, given_by, has_id, joined_at}
 
 -- the tables with one more component, buffer or pipeline, before the first of a greater id
 abbrev pub added_by : Bool → Bool → Component → Tables → Tables
@@ -62,32 +57,6 @@ IsNew unit = Unit {0}
 abbrev pub has_new_index : Component → Tables → Bool
 has_new_index c t = not (is_pipeline c.unit && list_any (λ p. p.pipe == c.pipe) t.pipes)
 
--- ---- changes of what is there
-
-abbrev pub completed_unit : units.Unit → units.Unit
-completed_unit (Pipeline sched period complete piece) = Pipeline sched period true piece
-completed_unit unit = unit
-
-abbrev pub completed_at : ℕ → Component → Component
-completed_at id c = if c.id == id then record { id = c.id; pipe = c.pipe; channels = c.channels; unit = completed_unit c.unit } else c
-
-abbrev pub emptied : RingState → RingState
-emptied r = record { frames = []; words = r.words; channels = r.channels; start = 0; piece = r.piece }
-
-abbrev pub ended_unit : units.Unit → units.Unit
-ended_unit (Buffer size ring source sink) = Buffer size (emptied ring) source sink
-ended_unit unit = unit
-
-abbrev pub with_ended : ℕ → Component → Component
-with_ended id c = if c.id == id then record { id = c.id; pipe = c.pipe; channels = c.channels; unit = ended_unit c.unit } else c
-
-abbrev pub set_unit : Phase → Option Params → units.Unit → units.Unit
-set_unit phase params (Host capture was before piece) = Host capture phase params piece
-set_unit phase params unit = unit
-
-abbrev pub set_at : ℕ → Phase → Option Params → Component → Component
-set_at id phase params c = if c.id == id then record { id = c.id; pipe = c.pipe; channels = c.channels; unit = set_unit phase params c.unit } else c
-
 -- ---- joins
 
 -- a buffer of this id has no source, or no sink
@@ -101,38 +70,11 @@ has_free_sink cs id = list_any (λ c. c.id == id && is_none (sink_by c.unit)) cs
 abbrev pub can_join : Tables → Join → Bool
 can_join t j = (has_id t.comps j.source && has_free_source t.buffers j.sink) || (has_free_sink t.buffers j.source && has_id t.comps j.sink)
 
-abbrev pub sourced_unit : ℕ → units.Unit → units.Unit
-sourced_unit id (Buffer size ring source sink) = Buffer size ring (Some id) sink
-sourced_unit id unit = unit
-
-abbrev pub sunk_unit : ℕ → units.Unit → units.Unit
-sunk_unit id (Buffer size ring source sink) = Buffer size ring source (Some id)
-sunk_unit id unit = unit
-
--- a buffer with the side set that a join is at
-abbrev pub joined_at : Join → Component → Component
-joined_at j c =
-    if c.id == j.source then record { id = c.id; pipe = c.pipe; channels = c.channels; unit = sunk_unit j.sink c.unit }
-    else if c.id == j.sink then record { id = c.id; pipe = c.pipe; channels = c.channels; unit = sourced_unit j.source c.unit }
-    else c
-
 -- the tables with one more join, the last in order
 abbrev pub tables_with_join : Join → Tables → Tables
 tables_with_join j t = record { comps = t.comps; buffers = map (joined_at j) t.buffers; pipes = t.pipes; joins = t.joins ++ j ∷ [] }
 
 -- ---- what goes, and what pieces leave
-
--- a piece is of this region
-abbrev pub IsOfHome : Home → Component → Type 0
-IsOfHome home c = (piece_of c.unit).home ≡ home
-
--- the holes once a component's piece is given back
-abbrev pub given_by : Component → List Hole → List Hole
-given_by c holes = given (record { place = (piece_of c.unit).place; size = (piece_of c.unit).size }) holes
-
-abbrev pub given_all : List Component → List Hole → List Hole
-given_all [] holes = holes
-given_all (c ∷ cs) holes = given_all cs (given_by c holes)
 
 -- the component of an id
 abbrev pub found : Tables → ℕ → Option Component

@@ -5,12 +5,14 @@ use Rattle.sof_base.specs.declared.format.Params.{Params}
 use Rattle.sof_base.specs.Rates.{is_rate}
 use Rattle.stream_law.specs.declared.graph.Join.{Join}
 use Rattle.stream_law.specs.Placed.{Ascends}
-use Rattle.fw_components.specs.declared.component.Unit as units
-use Rattle.fw_components.specs.declared.component.Unit.TheVariants.{Host, Eq, Buffer, Pipeline}
-use Rattle.fw_components.specs.declared.component.Component.{Component}
-use Rattle.fw_components.specs.Tables.{Tables, is_buffer, is_pipeline, source_by, sink_by}
+use Rattle.fw_units.specs.declared.component.Unit as units
+use Rattle.fw_units.specs.declared.component.Unit.TheVariants.{Host, Eq, Buffer, Pipeline}
+use Rattle.fw_units.specs.declared.component.Component.{Component}
+use Rattle.fw_units.specs.Units.{is_buffer, is_pipeline, source_by, sink_by}
+use Rattle.fw_components.specs.Tables.{Tables}
 use Rattle.mbox_link.specs.Step.{touches}
-use Rattle.fw_components.specs.Changes.{has_id, is_idle_phase}
+use Rattle.fw_units.specs.Changes.{has_id}
+use Rattle.fw_components.specs.Changes.{is_idle_phase}
 
 -- neither a buffer nor a pipeline
 abbrev pub is_plain : units.Unit → Bool

@@ -8,12 +8,14 @@ use Rattle.stream_law.specs.State.{Staging}
 use Rattle.stream_law.specs.Seen.{fresh_numbers}
 use Rattle.mbox_link.specs.Step.{staged_bytes, part_at}
 use Rattle.fw_parts.specs.Staged.{staging_in, fits_behind}
-use Rattle.fw_components.specs.declared.component.Component.{Component}
-use Rattle.fw_components.specs.declared.component.Unit as units
-use Rattle.fw_components.specs.declared.component.Unit.TheVariants.{Eq}
-use Rattle.fw_components.specs.Tables.{Tables, graph_of, numbers_by}
+use Rattle.fw_units.specs.declared.component.Component.{Component}
+use Rattle.fw_units.specs.declared.component.Unit as units
+use Rattle.fw_units.specs.declared.component.Unit.TheVariants.{Eq}
+use Rattle.fw_units.specs.Units.{numbers_by}
+use Rattle.fw_components.specs.Tables.{Tables, graph_of}
 use Rattle.fw_components.specs.Changes.{is_there}
-use Rattle.fw_components.specs.Frames.{piece_with_words, words_by}
+use Rattle.fw_units.specs.Frames.{piece_with_words, words_by}
+use Rattle.fw_units.specs.Changes.{with_unit}
 
 -- ---- parts of the blob in force
 
@@ -54,7 +56,7 @@ parted_unit id part words (Eq eq next remaining) =
 parted_unit id part words unit = unit
 
 abbrev pub parted_by : Part → List ℤ → Component → Component
-parted_by part words c = record { id = c.id; pipe = c.pipe; channels = c.channels; unit = parted_unit c.id part words c.unit }
+parted_by part words c = with_unit (parted_unit c.id part words) c
 
 abbrev pub parted_at : ℕ → Part → List ℤ → Component → Component
 parted_at id part words c = if c.id == id then parted_by part words c else c

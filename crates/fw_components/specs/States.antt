@@ -4,7 +4,7 @@ use Rattle.std.specs.List.{AllByRecursion}
 use Rattle.sof_base.specs.declared.hole.Hole.{Hole}
 use Rattle.stream_law.specs.State.{FwState}
 use Rattle.fw_heap.specs.declared.run.Home.{Home}
-use Rattle.fw_components.specs.Changes.{IsOfHome}
+use Rattle.fw_units.specs.Changes.{IsOfHome}
 use Rattle.fw_components.specs.Tables.{Tables, all_of, graph_of, streams_of, rings_of, histories_of, staging_of, carved_pieces}
 
 -- each piece is of this region

@@ -5,10 +5,11 @@ use Rattle.stream_law.specs.declared.stream.Phase.{Phase}
 use Rattle.stream_law.specs.Ways.{on_way, is_running_phase, is_live_phase, is_capture}
 use Rattle.stream_law.specs.Order.{is_among}
 use Rattle.fw_places.specs.Walks.{place_in, leads_by}
-use Rattle.fw_components.specs.declared.component.Unit as units
-use Rattle.fw_components.specs.declared.component.Unit.TheVariants.{Host}
-use Rattle.fw_components.specs.declared.component.Component.{Component}
-use Rattle.fw_components.specs.Tables.{Tables, ids_of, graph_of, streams_of, kind_by}
+use Rattle.fw_units.specs.declared.component.Unit as units
+use Rattle.fw_units.specs.declared.component.Unit.TheVariants.{Host}
+use Rattle.fw_units.specs.declared.component.Component.{Component}
+use Rattle.fw_units.specs.Units.{kind_by}
+use Rattle.fw_components.specs.Tables.{Tables, ids_of, graph_of, streams_of}
 
 -- how many streams in such a phase have x on their way
 abbrev pub passing : (Phase → Bool) → Tables → ℕ → ℕ

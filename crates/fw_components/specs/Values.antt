@@ -1,20 +1,11 @@
--- The values of volumes and muxes.
-use Rattle.std.specs.Prelude.{ℕ, List, [], ◌∷◌, Option, Some, None, Result, Ok, Err, ℤ, negsuc, find, ◌==◌, not, if◌then◌else◌, option_and_then, Bool, false, ◌&&◌, length, nat_le, map}
-use Rattle.std.specs.List.{list_all}
+-- The tables once values are set, and what a call tells of them.
+use Rattle.std.specs.Prelude.{ℕ, List, Option, Some, None, Result, Ok, Err, ℤ, negsuc, find, ◌==◌, not, if◌then◌else◌, option_and_then, false, map}
 use Rattle.std.specs.Option.{option_map_or}
-use Rattle.fw_components.specs.declared.component.Component.{Component}
 use Rattle.sof_base.specs.declared.errno.Errno.{Errno}
-use Rattle.ipc3_model.specs.declared.control_kind.TheConstants.{CTRL_VOLUME, CTRL_ENUM}
-use Rattle.fw_components.specs.declared.component.Unit as units
-use Rattle.fw_components.specs.declared.component.Unit.TheVariants.{Volume, Mux}
+use Rattle.fw_units.specs.declared.component.Unit as units
 use Rattle.fw_components.specs.Tables.{Tables}
 use Rattle.fw_components.specs.Changes.{is_there}
-
--- the gains of a volume by CTRL_VOLUME, and the choice of a mux by CTRL_ENUM
-abbrev pub unit_values : units.Unit → ℕ → Option (List ℕ)
-unit_values (Volume gains piece) command = if command == CTRL_VOLUME then Some gains else None
-unit_values (Mux choice piece) command = if command == CTRL_ENUM then Some (choice ∷ []) else None
-unit_values unit command = None
+use Rattle.fw_units.specs.Values.{takes_values, unit_values, valued_at}
 
 abbrev pub values_or : Option (List ℕ) → Result (List ℕ) ℤ
 values_or None = Err (negsuc 21)
@@ -32,25 +23,6 @@ answer_told (Ok values) = Ok values
 answer_told (Err e) = Err e.0
 
 -- ---- what values set
-
--- a volume takes as many gains as it has, of at most 16777216, by CTRL_VOLUME; and a mux a choice by CTRL_ENUM
-abbrev pub takes_values : units.Unit → ℕ → List ℕ → Bool
-takes_values (Volume gains piece) command values = command == CTRL_VOLUME && (length values == length gains && list_all (λ v. nat_le v 16777216) values)
-takes_values (Mux choice piece) command values = command == CTRL_ENUM && length values == 1
-takes_values unit command values = false
-
--- the gains of a volume, where they are as many, and the choice of a mux, where there is one
-abbrev pub choice_of : List ℕ → ℕ → ℕ
-choice_of [] choice = choice
-choice_of (v ∷ values) choice = v
-
-abbrev pub valued_unit : List ℕ → units.Unit → units.Unit
-valued_unit values (Volume gains piece) = Volume (if length values == length gains then values else gains) piece
-valued_unit values (Mux choice piece) = Mux (choice_of values choice) piece
-valued_unit values unit = unit
-
-abbrev pub valued_at : ℕ → List ℕ → Component → Component
-valued_at id values c = if c.id == id then record { id = c.id; pipe = c.pipe; channels = c.channels; unit = valued_unit values c.unit } else c
 
 abbrev pub valued : ℕ → List ℕ → Tables → Tables
 valued id values t = record { comps = map (valued_at id values) t.comps; buffers = t.buffers; pipes = t.pipes; joins = t.joins }

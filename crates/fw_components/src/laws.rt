@@ -13,12 +13,15 @@ ghost use Rattle.stream_law.specs.Made.{frames_made, only_slice};
 ghost use Rattle.stream_law.specs.Seen.{is_equaliser, blob_in};
 ghost use Rattle.stream_law.specs.Equaliser.{passed_frames, numbers_after};
 ghost use Rattle.mbox_link.specs.Step.{completed, set_stream};
-ghost use Rattle.fw_components.specs.declared.component.Component.{Component};
-ghost use Rattle.fw_components.specs.Tables.{Tables, comp_by, edge_by, pipe_by, ring_by, streams_by, is_buffer, is_pipeline, graph_of, view_by, streams_of, rings_of, histories_of, staging_of};
-ghost use Rattle.fw_components.specs.Frames.{begun_at, with_frames, staged_in};
+ghost use Rattle.fw_units.specs.declared.component.Component.{Component};
+ghost use Rattle.fw_units.specs.Units.{comp_by, edge_by, pipe_by, ring_by, streams_by, is_buffer, is_pipeline};
+ghost use Rattle.fw_components.specs.Tables.{Tables, graph_of, view_by, streams_of, rings_of, histories_of, staging_of};
+ghost use Rattle.fw_units.specs.Frames.{begun_at, staged_in};
+ghost use Rattle.fw_components.specs.Frames.{with_frames};
 ghost use Rattle.fw_components.specs.Kept.{IsKept};
-ghost use Rattle.fw_components.specs.Processed.{moves_at, channels_moved, slices_in, made_at, eq_numbers_at, numbers_made_at, processed, moved_rings, with_numbers};
-ghost use Rattle.fw_components.specs.Changes.{completed_at, set_at, joined_at, with_ended};
+ghost use Rattle.fw_units.specs.Processed.{slices_in};
+ghost use Rattle.fw_components.specs.Processed.{moves_at, channels_moved, made_at, eq_numbers_at, numbers_made_at, processed, moved_rings, with_numbers};
+ghost use Rattle.fw_units.specs.Changes.{completed_at, set_at, joined_at, with_ended};
 
 /// What is placed in a table is placed in the graph and among the rings.
 pub fn additions_are_seen()

@@ -2,15 +2,15 @@
 ghost use Rattle.std.specs.Prelude.{◌≡◌, ◌+◌, ◌||◌, ◌≤◌, ◌++◌, true, length, map};
 ghost use Rattle.stream_law.specs.Ways.{is_running_phase, is_live_phase};
 ghost use Rattle.arrayvec.specs.ArrayVec.{array_vec_len};
-ghost use Rattle.fw_components.specs.Changes.{has_id};
+ghost use Rattle.fw_units.specs.Changes.{has_id};
 ghost use Rattle.fw_components.specs.Kept.{IsKept, AreJoined};
 ghost use Rattle.fw_components.specs.Tables.{ids_of};
 ghost use Rattle.fw_components.specs.Tally.{passing};
 
-use crate::component::Component;
 use crate::registry::Registry;
 use arrayvec::ArrayVec;
 use fw_places::Places;
+use fw_units::Component;
 use stream_law::Join;
 
 impl Registry {

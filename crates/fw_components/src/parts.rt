@@ -2,61 +2,59 @@
 ghost use Rattle.std.specs.Prelude.{◌≡◌, ◌==◌, true, Some, None, IfSome, OnErr, OnOk, if◌then◌else◌, map, find, position, vec_capacity};
 ghost use Rattle.stream_law.specs.Placed.{Ascends};
 ghost use Rattle.mbox_link.specs.Step.{part_by};
-ghost use Rattle.fw_components.specs.Tables.{kind_by, setting_by};
-ghost use Rattle.fw_components.specs.Frames.{words_of};
+ghost use Rattle.fw_units.specs.Units.{kind_by, setting_by};
+ghost use Rattle.fw_units.specs.Frames.{words_of};
 ghost use Rattle.fw_components.specs.Kept.{IsStreaming};
 ghost use Rattle.fw_components.specs.Values.{left_with};
 ghost use Rattle.fw_parts.specs.Staged.{CanBeStaged};
 ghost use Rattle.fw_components.specs.Parts.{part_got, part_told, joined_bytes, takes_part, parted_by, words_in, parted_at, part_set, IsParted, IsPartedBy, IsTakenBy};
 
-use crate::component::{Component, Unit};
 use crate::registry::Registry;
 use fw_parts::{joined, part_in, put};
+use fw_units::{Component, Unit};
 use sof_base::{Bounded, Errno, Part};
 
-impl Component {
-    // The part of this number of an equaliser's blob, if there is one.
-    fn part(&self, index: u32) -> Option<Part>
-        ensures { result ≡ part_by (kind_by self.now.unit) (setting_by self.now.unit) index }
-    {
-        match &self.unit {
-            Unit::Eq { eq, .. } => part_in(eq, index),
-            _ => None,
-        }
+// The part of this number of an equaliser's blob, if there is one.
+fn part_of(component: &Component, index: u32) -> Option<Part>
+    ensures { result ≡ part_by (kind_by component.now.unit) (setting_by component.now.unit) index }
+{
+    match &component.unit {
+        Unit::Eq { eq, .. } => part_in(eq, index),
+        _ => None,
     }
+}
 
-    // The staged bytes with a part behind them, if an equaliser takes it.
-    fn with_part(&self, part: &Part) -> Option<Bounded<u8, 1024>>
-        requires { IsStreaming self.now.unit }
-        ensures bytes { result ≡ (if takes_part self.now.id self.now.unit part.now then Some (joined_bytes self.now.id self.now.unit part.now) else None) }
-        ensures joined { IfSome result (λ bytes. CanBeStaged part.now bytes) }
-    {
-        match &self.unit {
-            Unit::Eq {
-                eq,
-                next,
-                remaining,
-            } => joined(eq, *next, *remaining, part),
-            _ => None,
-        }
-    }
-
-    // A part came, and these are the bytes with it.
-    fn put_part(&mut self, part: &Part, bytes: &[u8])
-        requires taken { takes_part self.old.id self.old.unit part.now ≡ true }
-        requires bytes { bytes.now ≡ joined_bytes self.old.id self.old.unit part.now }
-        requires joined { CanBeStaged part.now bytes.now }
-        ensures component { self.new ≡ parted_by part.now (words_of self.new) self.old }
-        ensures parted { IsParted part.now self.old.id self.old.unit self.new.unit }
-    {
-        if let Unit::Eq {
+// The staged bytes with a part behind them, if an equaliser takes it.
+fn with_part(component: &Component, part: &Part) -> Option<Bounded<u8, 1024>>
+    requires { IsStreaming component.now.unit }
+    ensures bytes { result ≡ (if takes_part component.now.id component.now.unit part.now then Some (joined_bytes component.now.id component.now.unit part.now) else None) }
+    ensures joined { IfSome result (λ bytes. CanBeStaged part.now bytes) }
+{
+    match &component.unit {
+        Unit::Eq {
             eq,
             next,
             remaining,
-        } = &mut self.unit
-        {
-            put(eq, next, remaining, part, bytes);
-        }
+        } => joined(eq, *next, *remaining, part),
+        _ => None,
+    }
+}
+
+// A part came, and these are the bytes with it.
+fn put_part(component: &mut Component, part: &Part, bytes: &[u8])
+    requires taken { takes_part component.old.id component.old.unit part.now ≡ true }
+    requires bytes { bytes.now ≡ joined_bytes component.old.id component.old.unit part.now }
+    requires joined { CanBeStaged part.now bytes.now }
+    ensures component { component.new ≡ parted_by part.now (words_of component.new) component.old }
+    ensures parted { IsParted part.now component.old.id component.old.unit component.new.unit }
+{
+    if let Unit::Eq {
+        eq,
+        next,
+        remaining,
+    } = &mut component.unit
+    {
+        put(eq, next, remaining, part, bytes);
     }
 }
 
@@ -70,7 +68,7 @@ fn put_at(components: &mut Vec<Component>, at: usize, id: u32, part: &Part, byte
     ensures parted { IsPartedBy part.now (find (λ c. c.id == id) components.old.items) (find (λ c. c.id == id) components.new.items) }
     ensures capacity { vec_capacity components.new ≡ vec_capacity components.old }
 {
-    components[at].put_part(part, bytes);
+    put_part(&mut components[at], part, bytes);
 }
 
 impl Registry {
@@ -80,7 +78,7 @@ impl Registry {
         ensures { part_told result ≡ part_got self.now id index }
     {
         let at = self.comp_place(id)?;
-        match self.comps[at].part(index) {
+        match part_of(&self.comps[at], index) {
             Some(part) => Ok(part),
             None => Err(Errno::INVALID),
         }
@@ -95,7 +93,7 @@ impl Registry {
         ensures parted { OnOk result (IsPartedBy part.now (find (λ c. c.id == id) self.old.comps) (find (λ c. c.id == id) self.new.comps)) }
     {
         let at = self.comp_place(id)?;
-        let Some(bytes) = self.comps[at].with_part(part) else {
+        let Some(bytes) = with_part(&self.comps[at], part) else {
             return Err(Errno::INVALID);
         };
         put_at(&mut self.comps, at, id, part, bytes.items());

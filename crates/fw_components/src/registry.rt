@@ -1,21 +1,21 @@
 // All components, buffers and pipelines, and their joins.
-ghost use Rattle.std.specs.Prelude.{OnErr, ◌≡◌, ◌+◌, ◌==◌, ◌&&◌, ◌<◌, ◌≤◌, ◌++◌, ◌∷◌, [], length, position, IfOk, vec_len, vec_capacity, filter, not, OnOk, IfErr, IsErr, ◌↔◌, Some, None, if◌then◌else◌, negsuc, true, false, map, slice_index_or, slice_get, option_copied};
-ghost use Rattle.fw_components.specs.declared.component.Component.{Component};
-ghost use Rattle.fw_components.specs.Tables.{all_of, is_host_unit, held_frames, capacity_at};
+ghost use Rattle.std.specs.Prelude.{OnErr, ◌≡◌, ◌+◌, ◌==◌, ◌&&◌, ◌<◌, ◌++◌, ◌∷◌, [], length, position, IfOk, vec_len, vec_capacity, filter, not, OnOk, IfErr, IsErr, ◌↔◌, Some, None, if◌then◌else◌, negsuc, true, false, map, slice_index_or, slice_get};
+ghost use Rattle.fw_units.specs.declared.component.Component.{Component};
+ghost use Rattle.fw_units.specs.Units.{is_host_unit};
+ghost use Rattle.fw_components.specs.Tables.{all_of, held_frames, capacity_at};
 ghost use Rattle.std.specs.List.{list_any, AllByRecursion};
 ghost use Rattle.fw_components.specs.Values.{values_set, left_with, unit_values_at, answer_told};
 ghost use Rattle.fw_components.specs.Kept.{IsStreamOf};
 ghost use Rattle.mbox_link.specs.Step.{touches};
-ghost use Rattle.fw_components.specs.Changes.{added, is_idle_phase, is_full, is_there, IsNew, has_new_index, completed_at, with_ended, set_at, found, IsFoundOf, IsOfHome, given_found, given_all, has_id, tables_without, can_join, tables_with_join};
+ghost use Rattle.fw_units.specs.Changes.{completed_at, with_ended, set_at, IsOfHome, given_all, has_id};
+ghost use Rattle.fw_components.specs.Changes.{added, is_idle_phase, is_full, is_there, IsNew, has_new_index, found, IsFoundOf, given_found, tables_without, can_join, tables_with_join};
 
-use crate::component::Component;
-use crate::hints::Hints;
-use crate::table::{
-    complete_in, end_in, give_all, join_in, place, place_of, set_stream_in, take_at, value_in,
-};
 use crate::tallies::{Tallies, counts, is_counted};
-use crate::workspace::Workspace;
 use fw_heap::Region;
+use fw_units::{
+    Component, Hints, Workspace, complete_in, end_in, give_all, join_in, place, place_of,
+    set_stream_in, take_at, value_in,
+};
 use sof_base::{Bounded, Errno, NoMemory, Params};
 use std::alloc::Global;
 use std::marker::Model;
@@ -269,10 +269,8 @@ impl Registry {
         requires { has_id self.now.buffers buffer ≡ true }
         ensures { result ≡ length (held_frames self.now buffer) }
     {
-        match self.buffer_hints.place_of(self.buffers.as_slice(), buffer) {
-            Some(at) => self.buffers[at].held(),
-            None => 0,
-        }
+        let at = self.buffer_hints.place(self.buffers.as_slice(), buffer);
+        self.buffers[at].held()
     }
 
     /// How many more frames a buffer has room for.
@@ -280,10 +278,8 @@ impl Registry {
         requires { has_id self.now.buffers buffer ≡ true }
         ensures { result + length (held_frames self.now buffer) ≡ capacity_at self.now buffer }
     {
-        match self.buffer_hints.place_of(self.buffers.as_slice(), buffer) {
-            Some(at) => self.buffers[at].room(),
-            None => 0,
-        }
+        let at = self.buffer_hints.place(self.buffers.as_slice(), buffer);
+        self.buffers[at].room()
     }
 
     /// By command 0 the gains of a volume, each 0 to 16777216 where 65536 is 1, and by command 1 the choice of a mux. -19 where the id

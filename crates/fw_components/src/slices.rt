@@ -2,8 +2,8 @@
 ghost use Rattle.std.specs.Prelude.{◌≡◌};
 ghost use Rattle.fw_components.specs.Kept.{IsKept};
 
-use crate::component::Component;
 use crate::registry::Registry;
+use fw_units::Component;
 use stream_law::Join;
 
 impl Registry {

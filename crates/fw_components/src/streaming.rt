@@ -3,13 +3,15 @@ ghost use Rattle.std.specs.Prelude.{◌≡◌, ◌+◌, ◌*◌, ◌/◌, ◌%�
 ghost use Rattle.std.specs.List.{list_any};
 ghost use Rattle.sof_base.specs.Samples.{width, frames_in, frames_of, samples_of};
 ghost use Rattle.fw_components.specs.Tables.{held_frames, capacity_at};
-ghost use Rattle.fw_components.specs.Changes.{found, is_there, has_id};
-ghost use Rattle.fw_components.specs.Frames.{begun, words_at, IsFreshBy, staged_at, channels_at, comes_from, goes_to, buffer_out_of as out_id, in_of as in_id, with_taken, pushed};
+ghost use Rattle.fw_units.specs.Changes.{has_id};
+ghost use Rattle.fw_components.specs.Changes.{found, is_there};
+ghost use Rattle.fw_units.specs.Frames.{IsFreshBy, comes_from, goes_to};
+ghost use Rattle.fw_components.specs.Frames.{begun, words_at, staged_at, channels_at, buffer_out_of as out_id, in_of as in_id, with_taken, pushed};
 
-use crate::making::spans;
-use crate::places::{begin_at, in_of, out_of, pull_in, push_bytes_in, push_in, shorten_in};
 use crate::registry::Registry;
-use crate::table::place_of;
+use fw_units::{
+    begin_at, in_of, out_of, place_of, pull_in, push_bytes_in, push_in, shorten_in, spans,
+};
 use sof_base::{Format, Params, Sample};
 
 impl Registry {
@@ -30,18 +32,6 @@ impl Registry {
         }
     }
 
-    // Puts the frames of these samples behind those of this buffer, which has room for them: `samples` has a sample of each
-    // channel for each frame.
-    fn push(&mut self, buffer: u32, samples: &[Sample])
-        requires there { has_id self.old.buffers buffer ≡ true }
-        requires whole { length samples.now % channels_at self.old buffer ≡ 0 }
-        requires fit { length (held_frames self.old buffer) + length samples.now / channels_at self.old buffer ≤ capacity_at self.old buffer }
-        ensures { let channels = channels_at self.old buffer in
-            self.new ≡ pushed buffer (frames_of channels (length samples.now / channels) samples.now) (words_at self.new buffer) self.old }
-    {
-        push_in(&self.buffer_hints, &mut self.buffers, buffer, samples);
-    }
-
     /// Puts the `n` frames whose bytes these are in a format behind those of this buffer, which has room for them. This takes no
     /// memory.
     pub fn push_bytes(&mut self, buffer: u32, format: Format, n: u32, bytes: &[u8])
@@ -58,18 +48,6 @@ impl Registry {
             n,
             bytes,
         );
-    }
-
-    // Takes as many frames as `samples` has room for from this buffer, which holds them, and writes their samples, a sample of
-    // each channel for each frame.
-    fn draw(&mut self, buffer: u32, samples: &mut [Sample])
-        requires there { has_id self.old.buffers buffer ≡ true }
-        requires whole { length samples.old % channels_at self.old buffer ≡ 0 }
-        requires held { length samples.old / channels_at self.old buffer ≤ length (held_frames self.old buffer) }
-        ensures tables { self.new ≡ with_taken buffer (length samples.old / channels_at self.old buffer) self.old }
-        ensures samples { samples.new ≡ samples_of (take (length samples.old / channels_at self.old buffer) (held_frames self.old buffer)) }
-    {
-        pull_in(&self.buffer_hints, &mut self.buffers, buffer, samples);
     }
 
     /// The samples of the first `n` frames of this buffer, which holds them, in two parts of whole frames. This takes no memory.
@@ -102,8 +80,8 @@ impl Registry {
             let channels = channels_at self.old buffer in
             self.new ≡ pushed buffer (frames_of channels (length samples.now / channels) samples.now) (words_at self.new buffer) self.old }
     {
-        match out_of(self.buffers(), id) {
-            Some(buffer) => self.push(buffer, samples),
+        match out_of(self.buffers.as_slice(), id) {
+            Some(buffer) => push_in(&self.buffer_hints, &mut self.buffers, buffer, samples),
             None => unreachable!(),
         }
     }
@@ -119,8 +97,8 @@ impl Registry {
         ensures samples { let buffer = in_id self.old id in
             samples.new ≡ samples_of (take (length samples.old / channels_at self.old buffer) (held_frames self.old buffer)) }
     {
-        match in_of(self.buffers(), id) {
-            Some(buffer) => self.draw(buffer, samples),
+        match in_of(self.buffers.as_slice(), id) {
+            Some(buffer) => pull_in(&self.buffer_hints, &mut self.buffers, buffer, samples),
             None => unreachable!(),
         }
     }

@@ -4,14 +4,14 @@ ghost use Rattle.std.specs.List.{list_any};
 ghost use Rattle.stream_law.specs.Ways.{is_running_phase, is_live_phase, is_capture};
 ghost use Rattle.stream_law.specs.Order.{is_among};
 ghost use Rattle.fw_places.specs.Walks.{place_in};
-ghost use Rattle.fw_components.specs.declared.component.Component.{Component};
+ghost use Rattle.fw_units.specs.declared.component.Component.{Component};
 ghost use Rattle.fw_components.specs.Kept.{AreJoined};
-ghost use Rattle.fw_components.specs.Tables.{kind_by};
+ghost use Rattle.fw_units.specs.Units.{kind_by};
 ghost use Rattle.fw_components.specs.Tally.{IsTallied, has_phase, passes, with_one};
 
-use crate::component::{Component, Unit};
 use crate::listing::places_of;
 use fw_places::Places;
+use fw_units::{Component, Unit};
 use stream_law::{Join, Phase};
 
 /// By the place of each component and buffer how many Running streams have it on their way, and how many Running or Paused ones.

@@ -6,11 +6,12 @@ use Rattle.stream_law.specs.declared.stream.Phase.TheVariants.{Prepared}
 use Rattle.stream_law.specs.declared.stream.StreamView.{StreamView}
 use Rattle.stream_law.specs.Ways.{on_way, touch, same_shape, agree}
 use Rattle.mbox_link.specs.Step.{set_stream}
-use Rattle.fw_components.specs.declared.component.Component.{Component}
-use Rattle.fw_components.specs.declared.component.Unit as units
-use Rattle.fw_components.specs.declared.component.Unit.TheVariants.{Host, Buffer}
-use Rattle.fw_components.specs.Tables.{Tables, graph_of, streams_of, streams_by, with_stream_by}
-use Rattle.fw_components.specs.Changes.{set_at, set_unit}
+use Rattle.fw_units.specs.declared.component.Component.{Component}
+use Rattle.fw_units.specs.declared.component.Unit as units
+use Rattle.fw_units.specs.declared.component.Unit.TheVariants.{Host, Buffer}
+use Rattle.fw_units.specs.Units.{streams_by, with_stream_by}
+use Rattle.fw_components.specs.Tables.{Tables, graph_of, streams_of}
+use Rattle.fw_units.specs.Changes.{set_at, set_unit}
 use Rattle.fw_components.specs.Tables.{ids_of}
 use Rattle.fw_pipeline.specs.Preparing.{shape_in, shape_by, suits}
 use Rattle.fw_pipeline.proofs.ReadyWays.{all-map, all-each}

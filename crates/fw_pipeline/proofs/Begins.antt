@@ -10,13 +10,15 @@ use Rattle.stream_law.proofs.Members.{IsIn, in-all, in-any}
 use Rattle.stream_law.proofs.Placing.{Ascends-distinct}
 use Rattle.stream_law.specs.Order.{is_among}
 use Rattle.row_laws.proofs.Found.{found-each}
-use Rattle.fw_components.specs.declared.component.Component.{Component}
-use Rattle.fw_components.specs.declared.component.Unit as units
-use Rattle.fw_components.specs.declared.component.Unit.TheVariants.{Buffer}
+use Rattle.fw_units.specs.declared.component.Component.{Component}
+use Rattle.fw_units.specs.declared.component.Unit as units
+use Rattle.fw_units.specs.declared.component.Unit.TheVariants.{Buffer}
 use Rattle.fw_components.specs.Tables.{Tables, all_of}
-use Rattle.fw_components.specs.Changes.{has_id, is_there, found}
+use Rattle.fw_units.specs.Changes.{has_id}
+use Rattle.fw_components.specs.Changes.{is_there, found}
 use Rattle.fw_components.specs.Kept.{IsKept, AreIdsApart}
-use Rattle.fw_components.specs.Frames.{begun, begun_at, begun_by, words_of, IsFreshBy, staged_at, staged_of_one}
+use Rattle.fw_units.specs.Frames.{begun_at, begun_by, words_of, IsFreshBy, staged_of_one}
+use Rattle.fw_components.specs.Frames.{begun, staged_at}
 use Rattle.fw_components.specs.Tables.{ids_of}
 use Rattle.fw_components.proofs.Listed.{listed-is}
 use Rattle.fw_walks.proofs.Naming.{find-map}

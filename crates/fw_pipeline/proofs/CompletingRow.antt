@@ -6,8 +6,8 @@ use Rattle.stream_law.specs.declared.graph.Pipe.{Pipe}
 use Rattle.stream_law.specs.State.{FwState}
 use Rattle.mbox_link.specs.Step.{no_device, busy, invalid, is_used, has_comp, with_pipes, completed, complete_pipe, pipe_complete}
 use Rattle.stream_law.proofs.Members.{find-in, in-any}
-use Rattle.fw_components.specs.declared.component.Component.{Component}
-use Rattle.fw_components.specs.Tables.{pipe_by, is_pipeline}
+use Rattle.fw_units.specs.declared.component.Component.{Component}
+use Rattle.fw_units.specs.Units.{pipe_by, is_pipeline}
 use Rattle.fw_components.specs.Kept.{IsPiping}
 use Rattle.fw_walks.proofs.Naming.{find-map}
 use Rattle.fw_pipeline.specs.Rows.{terms_at, terms_by}

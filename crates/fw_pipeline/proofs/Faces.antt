@@ -7,14 +7,15 @@ use Rattle.stream_law.specs.declared.stream.Phase.{Phase}
 use Rattle.stream_law.specs.declared.stream.StreamView.{StreamView}
 use Rattle.stream_law.specs.State.{PieceView, Staging}
 use Rattle.stream_law.specs.Placed.{placed}
-use Rattle.fw_components.specs.declared.component.Component.{Component}
-use Rattle.fw_components.specs.declared.component.Unit as units
-use Rattle.fw_components.specs.declared.component.Unit.TheVariants.{Eq, Buffer}
-use Rattle.fw_components.specs.Tables.{Tables, all_of, piece_of, comp_by, edge_by, piece_by, pieces_by, staging_by, with_staging_by, streams_by, with_stream_by}
-use Rattle.fw_components.specs.Changes.{IsOfHome, set_at, set_unit, ended_unit}
+use Rattle.fw_units.specs.declared.component.Component.{Component}
+use Rattle.fw_units.specs.declared.component.Unit as units
+use Rattle.fw_units.specs.declared.component.Unit.TheVariants.{Eq, Buffer}
+use Rattle.fw_units.specs.Units.{piece_of, comp_by, edge_by, piece_by, pieces_by, staging_by, with_staging_by, streams_by, with_stream_by}
+use Rattle.fw_components.specs.Tables.{Tables, all_of}
+use Rattle.fw_units.specs.Changes.{IsOfHome, set_at, set_unit, ended_unit}
 use Rattle.fw_heap.specs.declared.run.Home.{Home}
 use Rattle.std.specs.List.{AllByRecursion}
-use Rattle.fw_components.specs.Frames.{begun_unit, words_of, staged_by}
+use Rattle.fw_units.specs.Frames.{begun_unit, words_of, staged_by}
 use Rattle.fw_pipeline.specs.Triggers.{IsBegun, BecomeEach}
 
 -- what is staged of an equaliser, the number of the part that is next, and how many bytes remain

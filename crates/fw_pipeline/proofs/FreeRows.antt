@@ -13,11 +13,13 @@ use Rattle.stream_law.specs.State.{FwState}
 use Rattle.stream_law.proofs.Members.{in-all, any-in, in-any, find-in}
 use Rattle.mbox_link.specs.Step.{no_device, busy, invalid, is_used, has_comp, has_edge, has_complete_pipe, touches, without_comp, comp_free, is_held, without_buffer, buffer_free, is_index_held, without_pipe, free_pipe, pipe_free, index_by, index_of}
 use Rattle.fw_heap.specs.declared.run.Home.{Home}
-use Rattle.fw_components.specs.declared.component.Component.{Component}
-use Rattle.fw_components.specs.declared.component.Unit as units
-use Rattle.fw_components.specs.declared.component.Unit.TheVariants.{Host, Buffer}
-use Rattle.fw_components.specs.Tables.{Tables, all_of, graph_of, streams_by, with_stream_by, comp_by, edge_by, pipe_by}
-use Rattle.fw_components.specs.Changes.{has_id, is_there, found, IsOfHome, IsFoundOf, tables_without, without_by}
+use Rattle.fw_units.specs.declared.component.Component.{Component}
+use Rattle.fw_units.specs.declared.component.Unit as units
+use Rattle.fw_units.specs.declared.component.Unit.TheVariants.{Host, Buffer}
+use Rattle.fw_units.specs.Units.{streams_by, with_stream_by, comp_by, edge_by, pipe_by}
+use Rattle.fw_components.specs.Tables.{Tables, all_of, graph_of}
+use Rattle.fw_units.specs.Changes.{has_id, IsOfHome}
+use Rattle.fw_components.specs.Changes.{is_there, found, IsFoundOf, tables_without, without_by}
 use Rattle.fw_components.specs.Kept.{IsKept, AreIdsApart}
 use Rattle.fw_pipeline.specs.Rows.{first_there}
 use Rattle.fw_walks.proofs.Naming.{used-named, find-map}

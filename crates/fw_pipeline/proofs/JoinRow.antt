@@ -10,11 +10,13 @@ use Rattle.stream_law.specs.State.{FwState, View}
 use Rattle.stream_law.specs.Ways.{source_of, sink_of}
 use Rattle.stream_law.specs.Joins.{joined_edge, with_join, would_cycle, would_reach, would_grow}
 use Rattle.mbox_link.specs.Step.{no_device, busy, invalid, is_used, has_comp, has_edge, is_joined, takes_join, leads_in, leads_out, has_free_in, has_free_out, kind_at, connect}
-use Rattle.fw_components.specs.declared.component.Component.{Component}
-use Rattle.fw_components.specs.declared.component.Unit as units
-use Rattle.fw_components.specs.declared.component.Unit.TheVariants.{Buffer}
-use Rattle.fw_components.specs.Tables.{Tables, graph_of, streams_of, view_by, comp_by, edge_by, pipe_by, is_buffer, source_by, sink_by}
-use Rattle.fw_components.specs.Changes.{has_id, can_join, has_free_source, has_free_sink, joined_at, sourced_unit, sunk_unit}
+use Rattle.fw_units.specs.declared.component.Component.{Component}
+use Rattle.fw_units.specs.declared.component.Unit as units
+use Rattle.fw_units.specs.declared.component.Unit.TheVariants.{Buffer}
+use Rattle.fw_units.specs.Units.{comp_by, edge_by, pipe_by, is_buffer, source_by, sink_by}
+use Rattle.fw_components.specs.Tables.{Tables, graph_of, streams_of, view_by}
+use Rattle.fw_units.specs.Changes.{has_id, joined_at, sourced_unit, sunk_unit}
+use Rattle.fw_components.specs.Changes.{can_join, has_free_source, has_free_sink}
 use Rattle.fw_components.specs.Changes as changes
 use Rattle.fw_components.specs.Kept.{IsKept, IsBuffering}
 use Rattle.fw_walks.proofs.Naming.{comp-named, edge-named, found-then}

@@ -13,12 +13,13 @@ use Rattle.stream_law.proofs.Members.{IsIn, any-in, in-any, in-all, in-each}
 use Rattle.stream_law.proofs.Walking.{Walks, path-of, walks-lead, walk-on, walk-in, through}
 use Rattle.stream_law.specs.Order.{is_among}
 use Rattle.row_laws.proofs.Joined.{buffers-joined}
-use Rattle.fw_components.specs.declared.component.Component.{Component}
-use Rattle.fw_components.specs.declared.component.Unit as units
-use Rattle.fw_components.specs.declared.component.Unit.TheVariants.{Host, Dai, Buffer}
-use Rattle.fw_components.specs.Tables.{Tables, graph_of, streams_of, kind_by, comp_by}
+use Rattle.fw_units.specs.declared.component.Component.{Component}
+use Rattle.fw_units.specs.declared.component.Unit as units
+use Rattle.fw_units.specs.declared.component.Unit.TheVariants.{Host, Dai, Buffer}
+use Rattle.fw_units.specs.Units.{kind_by, comp_by}
+use Rattle.fw_components.specs.Tables.{Tables, graph_of, streams_of}
 use Rattle.fw_components.specs.Kept.{IsKept}
-use Rattle.fw_components.specs.Changes.{has_id}
+use Rattle.fw_units.specs.Changes.{has_id}
 use Rattle.fw_components.proofs.Listed.{listed-is}
 use Rattle.fw_walks.proofs.Naming.{comp-named, edge-named}
 use Rattle.fw_walks.specs.Streams.{is_of, any_stream, is_host_of}

@@ -13,10 +13,10 @@ use Rattle.stream_law.specs.Seen.{seen}
 use Rattle.stream_law.specs.Ways.{is_live_phase, agree}
 use Rattle.stream_law.proofs.Members.{find-in, in-any}
 use Rattle.mbox_link.specs.Step.{no_device, invalid, is_used, has_kind, goes, kind_at, is_stream_phase, phase_at, is_rate, is_way_ready, with_params, set_stream, pcm_params, is_refused_params}
-use Rattle.fw_components.specs.declared.component.Component.{Component}
-use Rattle.fw_components.specs.declared.component.Unit as units
-use Rattle.fw_components.specs.declared.component.Unit.TheVariants.{Host, Dai}
-use Rattle.fw_components.specs.Tables.{streams_by, with_stream_by, kind_by, comp_by, is_host_unit}
+use Rattle.fw_units.specs.declared.component.Component.{Component}
+use Rattle.fw_units.specs.declared.component.Unit as units
+use Rattle.fw_units.specs.declared.component.Unit.TheVariants.{Host, Dai}
+use Rattle.fw_units.specs.Units.{streams_by, with_stream_by, kind_by, comp_by, is_host_unit}
 use Rattle.fw_walks.specs.declared.streams.Sort.TheVariants as sorts
 use Rattle.fw_walks.specs.Streams.{is_of, any_stream}
 use Rattle.fw_pipeline.specs.Preparing.{is_moving_at}

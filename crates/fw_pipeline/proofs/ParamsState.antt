@@ -13,11 +13,12 @@ use Rattle.stream_law.specs.Ways.{live, live_end, on_way, is_live_phase, comp_of
 use Rattle.stream_law.specs.Seen.{flows, ring_seen, is_equaliser, equalises, goes_on, blob_in, fresh_numbers, numbers_in, seen}
 use Rattle.stream_law.proofs.Members.{IsIn, in-any}
 use Rattle.mbox_link.specs.Step.{set_stream}
-use Rattle.fw_components.specs.declared.component.Component.{Component}
-use Rattle.fw_components.specs.declared.component.Unit as units
-use Rattle.fw_components.specs.declared.component.Unit.TheVariants.{Host}
-use Rattle.fw_components.specs.Tables.{Tables, view_by, graph_of, streams_of, all_of, rings_of, numbers_by}
-use Rattle.fw_components.specs.Changes.{set_at}
+use Rattle.fw_units.specs.declared.component.Component.{Component}
+use Rattle.fw_units.specs.declared.component.Unit as units
+use Rattle.fw_units.specs.declared.component.Unit.TheVariants.{Host}
+use Rattle.fw_units.specs.Units.{numbers_by}
+use Rattle.fw_components.specs.Tables.{Tables, view_by, graph_of, streams_of, all_of, rings_of}
+use Rattle.fw_units.specs.Changes.{set_at}
 use Rattle.fw_components.specs.Kept.{IsKept}
 use Rattle.fw_walks.specs.declared.streams.Sort.TheVariants as sorts
 use Rattle.fw_walks.specs.Streams.{is_of, any_stream}

@@ -12,9 +12,10 @@ use Rattle.stream_law.specs.Ways.{leads, reaches, on_way, is_capture, comp_of, s
 use Rattle.stream_law.proofs.Members.{IsIn, in-any}
 use Rattle.stream_law.specs.Order.{is_among}
 use Rattle.mbox_link.specs.Step.{has_kind, kind_at, is_ready_comp, is_ready_edge}
-use Rattle.fw_components.specs.declared.component.Component.{Component}
-use Rattle.fw_components.specs.Tables.{Tables, graph_of, comp_by, edge_by}
-use Rattle.fw_components.specs.Changes.{has_id}
+use Rattle.fw_units.specs.declared.component.Component.{Component}
+use Rattle.fw_units.specs.Units.{comp_by, edge_by}
+use Rattle.fw_components.specs.Tables.{Tables, graph_of}
+use Rattle.fw_units.specs.Changes.{has_id}
 use Rattle.fw_components.specs.Tables.{ids_of}
 use Rattle.fw_places.specs.Walks.{leads_by, is_marked}
 use Rattle.fw_components.proofs.Listed.{listed-is}

@@ -12,12 +12,13 @@ use Rattle.stream_law.proofs.Members.{IsIn, in-all}
 use Rattle.stream_law.proofs.Placing.{Ascends-distinct}
 use Rattle.stream_law.specs.Order.{is_among}
 use Rattle.row_laws.proofs.Found.{found-each}
-use Rattle.fw_components.specs.declared.component.Component.{Component}
-use Rattle.fw_components.specs.declared.component.Unit as units
-use Rattle.fw_components.specs.declared.component.Unit.TheVariants.{Buffer}
-use Rattle.fw_components.specs.Tables.{Tables, view_by, graph_of, edge_by, source_by, sink_by}
+use Rattle.fw_units.specs.declared.component.Component.{Component}
+use Rattle.fw_units.specs.declared.component.Unit as units
+use Rattle.fw_units.specs.declared.component.Unit.TheVariants.{Buffer}
+use Rattle.fw_units.specs.Units.{edge_by, source_by, sink_by}
+use Rattle.fw_components.specs.Tables.{Tables, view_by, graph_of}
 use Rattle.fw_components.specs.Kept.{IsKept}
-use Rattle.fw_components.specs.Changes.{with_ended, ended_unit}
+use Rattle.fw_units.specs.Changes.{with_ended, ended_unit}
 use Rattle.fw_places.specs.Walks.{is_marked}
 use Rattle.fw_walks.proofs.Naming.{find-map}
 use Rattle.fw_pipeline.specs.Triggers.{settled_in}

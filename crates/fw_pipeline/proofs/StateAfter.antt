@@ -15,19 +15,20 @@ use Rattle.stream_law.specs.Seen.{flows, ring_seen, is_equaliser, equalises, goe
 use Rattle.stream_law.proofs.Members.{IsIn, in-all}
 use Rattle.stream_law.proofs.Placing.{Ascends-distinct}
 use Rattle.row_laws.proofs.Found.{found-each}
-use Rattle.fw_components.specs.declared.component.Component.{Component}
-use Rattle.fw_components.specs.declared.component.Unit as units
-use Rattle.fw_components.specs.declared.component.Unit.TheVariants.{Host, Dai, Eq, Buffer}
-use Rattle.fw_components.specs.Tables.{Tables, view_by, is_buffer, graph_of, streams_of, all_of, comp_by, kind_by, setting_by, ring_by, rings_of, unit_frames, numbers_by}
-use Rattle.fw_components.specs.Changes.{set_at, set_unit, ended_unit}
+use Rattle.fw_units.specs.declared.component.Component.{Component}
+use Rattle.fw_units.specs.declared.component.Unit as units
+use Rattle.fw_units.specs.declared.component.Unit.TheVariants.{Host, Dai, Eq, Buffer}
+use Rattle.fw_units.specs.Units.{is_buffer, comp_by, kind_by, setting_by, ring_by, unit_frames, numbers_by}
+use Rattle.fw_components.specs.Tables.{Tables, view_by, graph_of, streams_of, all_of, rings_of}
+use Rattle.fw_units.specs.Changes.{set_at, set_unit, ended_unit}
 use Rattle.fw_components.specs.Kept.{IsKept, IsBuffering}
-use Rattle.fw_components.specs.Frames.{begun_by, IsFresh}
+use Rattle.fw_units.specs.Frames.{begun_by, IsFresh}
 use Rattle.fw_walks.proofs.Naming.{find-map}
 use Rattle.fw_components.proofs.HostWays.{find-own}
 use Rattle.fw_pipeline.specs.declared.phases.Trigger.{Trigger}
 use Rattle.fw_heap.specs.declared.run.Home.{Home}
 use Rattle.fw_components.specs.States.{AreOf, with_tables}
-use Rattle.fw_components.proofs.Units.{begun-frames, ended-frames}
+use Rattle.fw_units.proofs.Units.{begun-frames, ended-frames}
 use Rattle.fw_pipeline.specs.Triggers.{phase_after, params_after, params_of, begins, begun_in, settled_in, IsBegun, BecomeEach, IsTriggered}
 use Rattle.fw_pipeline.proofs.Begins.{become-read}
 use Rattle.fw_pipeline.proofs.Faces.{Face, face, face-begun, face-set, faces-set, staging-same, pieces-same, faces-all, homes-same}

@@ -10,8 +10,9 @@ use Rattle.stream_law.specs.Seen.{seen, ring_seen}
 use Rattle.stream_law.proofs.Placing.{Ascends-distinct}
 use Rattle.mbox_link.specs.Step.{has_kind, is_stream_phase, is_host, kind_at, is_used, set_stream}
 use Rattle.fw_heap.specs.declared.run.Home.{Home}
-use Rattle.fw_components.specs.Tables.{Tables, view_by, graph_of, streams_of, streams_by, rings_of}
-use Rattle.fw_components.specs.Changes.{set_at}
+use Rattle.fw_units.specs.Units.{streams_by}
+use Rattle.fw_components.specs.Tables.{Tables, view_by, graph_of, streams_of, rings_of}
+use Rattle.fw_units.specs.Changes.{set_at}
 use Rattle.fw_components.specs.Kept.{IsKept}
 use Rattle.fw_places.specs.Walks.{is_marked}
 use Rattle.fw_pipeline.specs.declared.phases.Trigger.{Trigger}

@@ -16,10 +16,11 @@ use Rattle.stream_law.specs.Seen.{seen}
 use Rattle.stream_law.proofs.Members.{IsIn, in-all, in-any, find-in}
 use Rattle.row_laws.proofs.Found.{found-each}
 use Rattle.mbox_link.specs.Step.{no_device, invalid, is_used, has_kind, is_host, kind_at, is_stream_phase, phase_at, stream_changed, set_phase, set_stream}
-use Rattle.fw_components.specs.declared.component.Component.{Component}
-use Rattle.fw_components.specs.declared.component.Unit as units
-use Rattle.fw_components.specs.declared.component.Unit.TheVariants.{Host, Dai}
-use Rattle.fw_components.specs.Tables.{Tables, graph_of, view_by, streams_of, comp_by, streams_by, with_stream_by, kind_by, is_host_unit}
+use Rattle.fw_units.specs.declared.component.Component.{Component}
+use Rattle.fw_units.specs.declared.component.Unit as units
+use Rattle.fw_units.specs.declared.component.Unit.TheVariants.{Host, Dai}
+use Rattle.fw_units.specs.Units.{comp_by, streams_by, with_stream_by, kind_by, is_host_unit}
+use Rattle.fw_components.specs.Tables.{Tables, graph_of, view_by, streams_of}
 use Rattle.fw_components.specs.Changes.{is_idle_phase}
 use Rattle.fw_components.specs.Kept.{IsKept, IsStreamOf, IsStreaming}
 use Rattle.fw_walks.specs.Streams.{any_stream}

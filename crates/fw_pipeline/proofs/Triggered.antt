@@ -14,13 +14,14 @@ use Rattle.stream_law.specs.Seen.{flows}
 use Rattle.stream_law.specs.Ways.{live, on_way, is_live_phase, channels_of, components, buffers}
 use Rattle.stream_law.proofs.Members.{IsIn, in-all, in-any}
 use Rattle.mbox_link.specs.Step.{set_stream}
-use Rattle.fw_components.specs.declared.component.Component.{Component}
-use Rattle.fw_components.specs.declared.component.Unit as units
-use Rattle.fw_components.specs.declared.component.Unit.TheVariants.{Buffer}
-use Rattle.fw_components.specs.Tables.{Tables, view_by, graph_of, streams_of, streams_by, comp_by, edge_by, pipe_by, is_buffer}
-use Rattle.fw_components.specs.Changes.{set_at, ended_unit}
+use Rattle.fw_units.specs.declared.component.Component.{Component}
+use Rattle.fw_units.specs.declared.component.Unit as units
+use Rattle.fw_units.specs.declared.component.Unit.TheVariants.{Buffer}
+use Rattle.fw_units.specs.Units.{streams_by, comp_by, edge_by, pipe_by, is_buffer}
+use Rattle.fw_components.specs.Tables.{Tables, view_by, graph_of, streams_of}
+use Rattle.fw_units.specs.Changes.{set_at, ended_unit}
 use Rattle.fw_components.specs.Kept.{IsKept, IsBuffering}
-use Rattle.fw_components.specs.Frames.{begun_by, words_of}
+use Rattle.fw_units.specs.Frames.{begun_by, words_of}
 use Rattle.fw_components.specs.Tables.{ids_of}
 use Rattle.fw_pipeline.specs.declared.phases.Trigger.{Trigger}
 use Rattle.fw_pipeline.specs.declared.phases.Trigger.TheVariants.{Start, Stop, Pause, Release, Free}

@@ -5,8 +5,9 @@ use Rattle.stream_law.specs.declared.graph.Pipe.{Pipe}
 use Rattle.stream_law.specs.declared.graph.Graph.{Graph}
 use Rattle.stream_law.specs.State.{FwState, View, view_of}
 use Rattle.stream_law.specs.Ways.{is_capture}
-use Rattle.fw_components.specs.declared.component.Component as parts
-use Rattle.fw_components.specs.Tables.{Tables, kind_by}
+use Rattle.fw_units.specs.declared.component.Component as parts
+use Rattle.fw_units.specs.Units.{kind_by}
+use Rattle.fw_components.specs.Tables.{Tables}
 use Rattle.fw_components.specs.States.{with_tables}
 use Rattle.mbox_link.specs.Step.{comp_free, buffer_free, pipe_free}
 use Rattle.fw_pipeline.specs.declared.freeing.Item.{Item}

@@ -1,9 +1,10 @@
 -- What begins and what ends, by the marks of what is Live.
 use Rattle.std.specs.Prelude.{◌≡◌, ℕ, List, Bool, false, ◌&&◌, not, map, if◌then◌else◌, Option}
 use Rattle.std.specs.Option.{option_map_or}
-use Rattle.fw_components.specs.declared.component.Component.{Component}
-use Rattle.fw_components.specs.Tables.{Tables, source_by, sink_by}
-use Rattle.fw_components.specs.Changes.{with_ended}
+use Rattle.fw_units.specs.declared.component.Component.{Component}
+use Rattle.fw_units.specs.Units.{source_by, sink_by}
+use Rattle.fw_components.specs.Tables.{Tables}
+use Rattle.fw_units.specs.Changes.{with_ended}
 use Rattle.fw_places.specs.Walks.{is_marked}
 use Rattle.fw_pipeline.specs.Triggers.{IsBegun, BecomeEach}
 

@@ -7,12 +7,12 @@ use Rattle.stream_law.specs.State.{FwState, View}
 use Rattle.stream_law.specs.Ways.{live, channels_of, is_live_phase, is_running_phase}
 use Rattle.stream_law.specs.Seen.{flows}
 use Rattle.mbox_link.specs.Step as rows
-use Rattle.fw_components.specs.declared.component.Component.{Component}
-use Rattle.fw_components.specs.declared.component.Unit as units
-use Rattle.fw_components.specs.declared.component.Unit.TheVariants.{Host}
+use Rattle.fw_units.specs.declared.component.Component.{Component}
+use Rattle.fw_units.specs.declared.component.Unit as units
+use Rattle.fw_units.specs.declared.component.Unit.TheVariants.{Host}
 use Rattle.fw_components.specs.Tables.{Tables, view_by}
-use Rattle.fw_components.specs.Changes.{set_at, ended_unit}
-use Rattle.fw_components.specs.Frames.{begun_by, words_of, IsFresh, staged_by}
+use Rattle.fw_units.specs.Changes.{set_at, ended_unit}
+use Rattle.fw_units.specs.Frames.{begun_by, words_of, IsFresh, staged_by}
 use Rattle.fw_pipeline.specs.declared.phases.Trigger.{Trigger}
 use Rattle.fw_pipeline.specs.declared.phases.Trigger.TheVariants.{Start, Stop, Pause, Release, Free}
 

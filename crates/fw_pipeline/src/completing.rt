@@ -2,8 +2,9 @@
 ghost use Rattle.std.specs.Prelude.{◌≡◌, OnErr, OnOk, map};
 ghost use Rattle.stream_law.specs.State.{FwState};
 ghost use Rattle.mbox_link.specs.Step.{pipe_complete};
-ghost use Rattle.fw_components.specs.Tables.{view_by, graph_of, sched_by, complete_by};
-ghost use Rattle.fw_components.specs.Changes.{completed_at};
+ghost use Rattle.fw_units.specs.Units.{sched_by, complete_by};
+ghost use Rattle.fw_components.specs.Tables.{view_by, graph_of};
+ghost use Rattle.fw_units.specs.Changes.{completed_at};
 ghost use Rattle.fw_components.specs.Kept.{IsKept};
 ghost use Rattle.fw_pipeline.specs.Rows.{view_answer, view_after, with_view, terms_at};
 

@@ -3,8 +3,10 @@ ghost use Rattle.std.specs.Prelude.{◌≡◌, ◌==◌, ◌&&◌, ◌||◌, OnE
 ghost use Rattle.std.specs.List.{list_any, AllByRecursion};
 ghost use Rattle.stream_law.specs.State.{FwState};
 ghost use Rattle.mbox_link.specs.Step.{comp_free, buffer_free, pipe_free, has_complete_pipe as is_of_complete_pipe, is_complete as is_whole, index_of, is_held as is_held_by, is_index_held as is_index_held_by, touches as is_touching};
-ghost use Rattle.fw_components.specs.Tables.{view_by, graph_of, streams_of, all_of, complete_by};
-ghost use Rattle.fw_components.specs.Changes.{IsOfHome, tables_without, given_found, found};
+ghost use Rattle.fw_units.specs.Units.{complete_by};
+ghost use Rattle.fw_components.specs.Tables.{view_by, graph_of, streams_of, all_of};
+ghost use Rattle.fw_units.specs.Changes.{IsOfHome};
+ghost use Rattle.fw_components.specs.Changes.{tables_without, given_found, found};
 ghost use Rattle.fw_components.specs.Kept.{IsKept};
 ghost use Rattle.fw_pipeline.specs.Rows.{view_answer, view_after, with_view, row_of_free, first_there};
 

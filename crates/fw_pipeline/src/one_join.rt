@@ -6,7 +6,8 @@ ghost use Rattle.stream_law.specs.Joins.{is_play, would_cycle, would_reach, woul
 ghost use Rattle.stream_law.specs.Ways.{is_capture};
 ghost use Rattle.stream_law.specs.Order.{is_among};
 ghost use Rattle.mbox_link.specs.Step.{takes_join};
-ghost use Rattle.fw_components.specs.Tables.{graph_of, streams_of, kind_by};
+ghost use Rattle.fw_units.specs.Units.{kind_by};
+ghost use Rattle.fw_components.specs.Tables.{graph_of, streams_of};
 ghost use Rattle.fw_components.specs.Kept.{IsKept};
 ghost use Rattle.fw_walks.specs.Charts.{IsChartOf};
 ghost use Rattle.fw_places.specs.Walks.{leads_by, is_marked as is_marked_at};

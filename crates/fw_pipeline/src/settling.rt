@@ -2,8 +2,9 @@
 ghost use Rattle.std.specs.Prelude.{◌≡◌, ◌==◌, ◌&&◌, ◌≤◌, ◌<◌, ◌∷◌, [], ℕ, not, true, false, map, length, slice_index_or};
 ghost use Rattle.stream_law.specs.Ways.{live as is_live};
 ghost use Rattle.stream_law.specs.Seen.{flows as may_hold};
-ghost use Rattle.fw_components.specs.declared.component.Component.{Component};
-ghost use Rattle.fw_components.specs.Tables.{view_by, source_by, sink_by};
+ghost use Rattle.fw_units.specs.declared.component.Component.{Component};
+ghost use Rattle.fw_units.specs.Units.{source_by, sink_by};
+ghost use Rattle.fw_components.specs.Tables.{view_by};
 ghost use Rattle.fw_components.specs.Changes.{is_there};
 ghost use Rattle.fw_components.specs.Kept.{IsKept};
 ghost use Rattle.fw_components.specs.Tables.{ids_of};

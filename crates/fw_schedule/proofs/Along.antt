@@ -16,13 +16,15 @@ use Rattle.stream_law.proofs.Members.{IsIn, in-all, in-any, find-in}
 use Rattle.stream_law.proofs.Shapes.{flows-live}
 use Rattle.row_laws.proofs.Near.{fits-comp, at-buffer}
 use Rattle.row_laws.proofs.Playing.{IsAlong, active-ready, along-out, along-in}
-use Rattle.fw_components.specs.declared.component.Unit as units
-use Rattle.fw_components.specs.declared.component.Unit.TheVariants.{Buffer}
-use Rattle.fw_components.specs.declared.component.Component.{Component}
-use Rattle.fw_components.specs.Tables.{Tables, graph_of, view_by, edge_by, size_by, capacity_by, capacity_at}
-use Rattle.fw_components.specs.Changes.{has_id}
+use Rattle.fw_units.specs.declared.component.Unit as units
+use Rattle.fw_units.specs.declared.component.Unit.TheVariants.{Buffer}
+use Rattle.fw_units.specs.declared.component.Component.{Component}
+use Rattle.fw_units.specs.Units.{edge_by, size_by, capacity_by}
+use Rattle.fw_components.specs.Tables.{Tables, graph_of, view_by, capacity_at}
+use Rattle.fw_units.specs.Changes.{has_id}
 use Rattle.fw_components.specs.Kept.{IsKept, IsBuffering}
-use Rattle.fw_components.specs.Frames.{channels_by, channels_at}
+use Rattle.fw_units.specs.Frames.{channels_by}
+use Rattle.fw_components.specs.Frames.{channels_at}
 use Rattle.fw_walks.proofs.Naming.{find-map}
 use Rattle.fw_schedule.specs.Ticks.{CanTick}
 

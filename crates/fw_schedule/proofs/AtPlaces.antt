@@ -17,10 +17,11 @@ use Rattle.stream_law.specs.Ways.{comp_of, pipe_of, components, live_params, is_
 use Rattle.stream_law.specs.Moves.{is_choosy, chooses, period}
 use Rattle.stream_law.specs.Endpoints.{is_input, format_by, format_of}
 use Rattle.fw_heap.specs.Pieces.{PieceState}
-use Rattle.fw_components.specs.declared.component.Unit as units
-use Rattle.fw_components.specs.declared.component.Unit.TheVariants.{Host, Dai, Pipeline}
-use Rattle.fw_components.specs.declared.component.Component.{Component}
-use Rattle.fw_components.specs.Tables.{Tables, graph_of, view_by, kind_by, comp_by, pipe_by, period_by, streams_by, with_stream_by}
+use Rattle.fw_units.specs.declared.component.Unit as units
+use Rattle.fw_units.specs.declared.component.Unit.TheVariants.{Host, Dai, Pipeline}
+use Rattle.fw_units.specs.declared.component.Component.{Component}
+use Rattle.fw_units.specs.Units.{kind_by, comp_by, pipe_by, period_by, streams_by, with_stream_by}
+use Rattle.fw_components.specs.Tables.{Tables, graph_of, view_by}
 use Rattle.stream_law.proofs.Placing.{Ascends-distinct}
 use Rattle.row_laws.proofs.Found.{found-each}
 use Rattle.row_laws.proofs.Stays.{all-of, find-some}

@@ -4,8 +4,9 @@ use Rattle.stream_law.specs.declared.graph.Edge.{Edge}
 use Rattle.stream_law.specs.Placed.{Ascends, HasDistinct}
 use Rattle.stream_law.proofs.Placing.{Ascends-distinct}
 use Rattle.row_laws.proofs.Ascending.{ascends-keys}
-use Rattle.fw_components.specs.declared.component.Component.{Component}
-use Rattle.fw_components.specs.Tables.{Tables, graph_of, edge_by}
+use Rattle.fw_units.specs.declared.component.Component.{Component}
+use Rattle.fw_units.specs.Units.{edge_by}
+use Rattle.fw_components.specs.Tables.{Tables, graph_of}
 
 same-keys : (cs : List Component) → map (λ (c : Component). c.id) cs ≡ map (λ (e : Edge). e.buffer) (map edge_by cs)
 same-keys [] = refl

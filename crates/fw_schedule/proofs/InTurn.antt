@@ -15,8 +15,9 @@ use Rattle.stream_law.specs.Move.{Audio, after_move, after_moves}
 use Rattle.stream_law.proofs.Keyed.{keyed, keyed-values, map-same, all-from, all-both}
 use Rattle.stream_law.proofs.Placing.{Ascends-distinct}
 use Rattle.row_laws.proofs.Fewer.{distinct-filter}
-use Rattle.fw_components.specs.declared.component.Component.{Component}
-use Rattle.fw_components.specs.Tables.{Tables, view_by, ring_by, rings_of, histories_of, numbers_by}
+use Rattle.fw_units.specs.declared.component.Component.{Component}
+use Rattle.fw_units.specs.Units.{ring_by, numbers_by}
+use Rattle.fw_components.specs.Tables.{Tables, view_by, rings_of, histories_of}
 use Rattle.fw_components.specs.Kept.{IsKept}
 use Rattle.fw_schedule.specs.Stages.{heard_ring, heard_history, IsStage, AreEnds, Moves, Grew, audio_from}
 use Rattle.fw_schedule.proofs.Still.{view-still}

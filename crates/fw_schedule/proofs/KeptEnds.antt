@@ -8,8 +8,9 @@ use Rattle.stream_law.specs.Placed.{Ascends}
 use Rattle.stream_law.specs.Ways.{source_of, sink_of, is_end, live, active_end}
 use Rattle.stream_law.specs.Moves.{fed, fed_by, looked_at, chooses}
 use Rattle.row_laws.proofs.Found.{found-each}
-use Rattle.fw_components.specs.declared.component.Component.{Component}
-use Rattle.fw_components.specs.Tables.{Tables, graph_of, view_by, edge_by, source_by, sink_by, held_frames}
+use Rattle.fw_units.specs.declared.component.Component.{Component}
+use Rattle.fw_units.specs.Units.{edge_by, source_by, sink_by}
+use Rattle.fw_components.specs.Tables.{Tables, graph_of, view_by, held_frames}
 use Rattle.fw_schedule.specs.Schedules.{inlets_of}
 use Rattle.fw_schedule.proofs.DistinctEdges.{edges-distinct}
 

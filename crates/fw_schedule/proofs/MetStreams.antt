@@ -14,10 +14,11 @@ use Rattle.stream_law.specs.State.{View}
 use Rattle.stream_law.specs.Ways.{live, active, live_params, on_way, is_live_phase, is_running_phase}
 use Rattle.stream_law.proofs.Members.{IsIn, any-in, in-any}
 use Rattle.stream_law.specs.Order.{is_among}
-use Rattle.fw_components.specs.declared.component.Component.{Component}
-use Rattle.fw_components.specs.declared.component.Unit as units
-use Rattle.fw_components.specs.declared.component.Unit.TheVariants.{Host, Buffer}
-use Rattle.fw_components.specs.Tables.{Tables, graph_of, view_by, streams_by, with_stream_by}
+use Rattle.fw_units.specs.declared.component.Component.{Component}
+use Rattle.fw_units.specs.declared.component.Unit as units
+use Rattle.fw_units.specs.declared.component.Unit.TheVariants.{Host, Buffer}
+use Rattle.fw_units.specs.Units.{streams_by, with_stream_by}
+use Rattle.fw_components.specs.Tables.{Tables, graph_of, view_by}
 use Rattle.fw_components.specs.Kept.{IsKept}
 use Rattle.fw_places.specs.Walks.{place_in}
 use Rattle.fw_components.specs.Tables.{ids_of}

@@ -6,12 +6,14 @@ use Rattle.std.specs.Prelude.{find, option_map}
 use Rattle.std.specs.List.{list_any}
 use Rattle.std.specs.Option.{option_map_or}
 use Rattle.sof_base.specs.Samples.{Frame}
-use Rattle.fw_components.specs.declared.component.Unit as units
-use Rattle.fw_components.specs.declared.component.Component.{Component}
-use Rattle.fw_components.specs.Tables.{Tables, unit_frames, capacity_by, held_frames, capacity_at}
-use Rattle.fw_components.specs.Changes.{has_id}
-use Rattle.fw_components.specs.Frames.{channels_by, channels_at, taken_unit, with_taken, pushed_unit, pushed}
-use Rattle.fw_components.proofs.Units.{taken-unit, pushed-unit, taken-channels, pushed-channels, pushed-capacity, taken-frames, pushed-most}
+use Rattle.fw_units.specs.declared.component.Unit as units
+use Rattle.fw_units.specs.declared.component.Component.{Component}
+use Rattle.fw_units.specs.Units.{unit_frames, capacity_by}
+use Rattle.fw_components.specs.Tables.{Tables, held_frames, capacity_at}
+use Rattle.fw_units.specs.Changes.{has_id}
+use Rattle.fw_units.specs.Frames.{channels_by, taken_unit, pushed_unit}
+use Rattle.fw_components.specs.Frames.{channels_at, with_taken, pushed}
+use Rattle.fw_units.proofs.Units.{taken-unit, pushed-unit, taken-channels, pushed-channels, pushed-capacity, taken-frames, pushed-most}
 
 -- ---- a change of the units under one id
 

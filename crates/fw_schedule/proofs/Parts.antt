@@ -11,7 +11,7 @@ use Rattle.sof_io.specs.Puts.{room_at, with_piece}
 use Rattle.sof_io.proofs.InputLaws.{length-given, taken-taken, given-more}
 use Rattle.sof_io.proofs.OutputLaws.{room_at-with_piece, with_piece-unknown}
 use Rattle.fw_components.specs.Tables.{Tables, held_frames, capacity_at}
-use Rattle.fw_components.specs.Changes.{has_id}
+use Rattle.fw_units.specs.Changes.{has_id}
 use Rattle.fw_components.specs.Frames.{words_at, channels_at, pushed}
 use Rattle.fw_ring.proofs.ReadFrames.{frames_in-both}
 use Rattle.fw_schedule.proofs.OneBuffer.{has-pushed, channels-pushed, capacity-pushed, most-pushed, pushed-twice}

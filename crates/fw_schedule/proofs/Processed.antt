@@ -27,14 +27,16 @@ use Rattle.stream_law.proofs.Feeding.{frames_made_same, looked-parts}
 use Rattle.row_laws.proofs.Fewer.{distinct-filter}
 use Rattle.row_laws.proofs.Near.{no-loop}
 use Rattle.row_laws.proofs.Playing.{active-live}
-use Rattle.fw_components.specs.declared.component.Unit as units
-use Rattle.fw_components.specs.declared.component.Unit.TheVariants.{Host, Dai, Volume, Mixer, Mux, Eq, Buffer, Pipeline}
-use Rattle.fw_components.specs.declared.component.Component.{Component}
-use Rattle.fw_components.specs.Tables.{Tables, graph_of, view_by, comp_by, edge_by, kind_by, rings_of, histories_of, staging_of, held_frames, capacity_at, numbers_by}
-use Rattle.fw_components.specs.Changes.{has_id}
+use Rattle.fw_units.specs.declared.component.Unit as units
+use Rattle.fw_units.specs.declared.component.Unit.TheVariants.{Host, Dai, Volume, Mixer, Mux, Eq, Buffer, Pipeline}
+use Rattle.fw_units.specs.declared.component.Component.{Component}
+use Rattle.fw_units.specs.Units.{comp_by, edge_by, kind_by, numbers_by}
+use Rattle.fw_components.specs.Tables.{Tables, graph_of, view_by, rings_of, histories_of, staging_of, held_frames, capacity_at}
+use Rattle.fw_units.specs.Changes.{has_id}
 use Rattle.fw_components.specs.Frames.{with_frames}
 use Rattle.fw_components.specs.Kept.{IsKept, is_plain}
-use Rattle.fw_components.specs.Processed.{moves_of, moves_at, channels_moved, IsInlet, IsOutlet, slices_in, made_at, eq_numbers_at, drained_ring, moved_rings, with_numbers}
+use Rattle.fw_units.specs.Processed.{moves_of, IsInlet, IsOutlet, slices_in}
+use Rattle.fw_components.specs.Processed.{moves_at, channels_moved, made_at, eq_numbers_at, drained_ring, moved_rings, with_numbers}
 use Rattle.fw_walks.proofs.Naming.{find-map}
 use Rattle.fw_walks.proofs.OnWays.{any-map}
 use Rattle.fw_schedule.specs.Ticks.{CanTick}

@@ -14,8 +14,9 @@ use Rattle.stream_law.specs.Made.{only_slice}
 use Rattle.stream_law.specs.Seen.{equalises, blob_in}
 use Rattle.stream_law.specs.Equaliser.{numbers_after}
 use Rattle.stream_law.specs.Move.{Audio, after_move, frames_moved, looked_now, fronts, made_now, bytes_moved, bytes_now, io_after}
-use Rattle.fw_components.specs.declared.component.Component.{Component}
-use Rattle.fw_components.specs.Tables.{Tables, view_by, rings_of, histories_of, numbers_by}
+use Rattle.fw_units.specs.declared.component.Component.{Component}
+use Rattle.fw_units.specs.Units.{numbers_by}
+use Rattle.fw_components.specs.Tables.{Tables, view_by, rings_of, histories_of}
 use Rattle.fw_components.specs.Frames.{with_taken, pushed, with_frames}
 use Rattle.fw_components.specs.Kept.{IsKept}
 use Rattle.fw_schedule.specs.Stages.{heard_ring, heard_history, IsStage, AreEnds}

@@ -15,18 +15,21 @@ use Rattle.stream_law.specs.Ways.{live, channels_of}
 use Rattle.stream_law.specs.Move.{Audio}
 use Rattle.row_laws.specs.Wired.{IsWired, HasJoinedSides}
 use Rattle.row_laws.specs.Played.{AreStreamsPlayable}
-use Rattle.fw_components.specs.declared.component.Unit as units
-use Rattle.fw_components.specs.declared.component.Unit.TheVariants.{Buffer}
-use Rattle.fw_components.specs.declared.component.Component.{Component}
-use Rattle.fw_components.specs.Tables.{Tables, piece_of, comp_by, edge_by, kind_by, setting_by, graph_of, streams_by, with_stream_by, view_by, streams_of, ring_by, rings_of, unit_frames, piece_by, pieces_by, carved_pieces}
-use Rattle.fw_components.specs.Changes.{has_id, IsOfHome}
+use Rattle.fw_units.specs.declared.component.Unit as units
+use Rattle.fw_units.specs.declared.component.Unit.TheVariants.{Buffer}
+use Rattle.fw_units.specs.declared.component.Component.{Component}
+use Rattle.fw_units.specs.Units.{piece_of, comp_by, edge_by, kind_by, setting_by, streams_by, with_stream_by, ring_by, unit_frames, piece_by, pieces_by}
+use Rattle.fw_components.specs.Tables.{Tables, graph_of, view_by, streams_of, rings_of, carved_pieces}
+use Rattle.fw_units.specs.Changes.{has_id, IsOfHome}
 use Rattle.fw_components.specs.Kept.{IsKept, IsBuffering}
-use Rattle.fw_components.specs.Frames.{channels_by, taken_unit, taken_at, with_taken, pushed_unit, pushed_at, pushed, with_frames}
-use Rattle.fw_components.specs.Processed.{drained_at, run_unit, run_at, processed}
+use Rattle.fw_units.specs.Frames.{channels_by, taken_unit, taken_at, pushed_unit, pushed_at}
+use Rattle.fw_components.specs.Frames.{with_taken, pushed, with_frames}
+use Rattle.fw_units.specs.Processed.{drained_at, run_unit, run_at}
+use Rattle.fw_components.specs.Processed.{processed}
 use Rattle.fw_components.specs.States.{AreOf}
 use Rattle.fw_schedule.specs.Ticks.{CanTick}
 use Rattle.fw_schedule.specs.Stages.{bare_unit, bare_by, bare_of, heard_ring}
-use Rattle.fw_components.proofs.Units.{taken-frames, pushed-frames}
+use Rattle.fw_units.proofs.Units.{taken-frames, pushed-frames}
 
 map-same : {Y : Type 0} (view : Component → Y) (change : Component → Component) → ((c : Component) → view (change c) ≡ view c) → (cs : List Component) → map view (map change cs) ≡ map view cs
 map-same view change same [] = refl

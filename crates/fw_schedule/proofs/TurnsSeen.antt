@@ -11,8 +11,8 @@ use Rattle.stream_law.specs.Placed.{Ascends}
 use Rattle.stream_law.specs.Ways.{is_end}
 use Rattle.stream_law.specs.Waiting.{same_end, is_found, is_open, leads_from, waits}
 use Rattle.row_laws.proofs.Found.{found-each}
-use Rattle.fw_components.specs.declared.component.Component.{Component}
-use Rattle.fw_components.specs.Tables.{edge_by, source_by, sink_by}
+use Rattle.fw_units.specs.declared.component.Component.{Component}
+use Rattle.fw_units.specs.Units.{edge_by, source_by, sink_by}
 use Rattle.fw_schedule.proofs.DistinctEdges.{edges-distinct}
 
 -- ---- each edge is found by its buffer

@@ -4,7 +4,7 @@ use Rattle.sof_base.specs.declared.format.Params.{Params}
 use Rattle.stream_law.specs.State.{View}
 use Rattle.stream_law.specs.Ways.{live, active, live_params, is_running_phase}
 use Rattle.stream_law.specs.Order.{is_among}
-use Rattle.fw_components.specs.declared.component.Unit as units
+use Rattle.fw_units.specs.declared.component.Unit as units
 use Rattle.fw_components.specs.Tables.{Tables, view_by}
 use Rattle.fw_walks.specs.declared.streams.Sort.TheVariants.{Live}
 use Rattle.fw_walks.specs.Streams.{is_of, any_stream}

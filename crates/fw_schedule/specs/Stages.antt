@@ -7,11 +7,11 @@ use Rattle.stream_law.specs.State.{RingView, History}
 use Rattle.stream_law.specs.Table.{number_of, list_of}
 use Rattle.stream_law.specs.Move.{Audio, io_after, after_move}
 use Rattle.stream_law.specs.Seen.{blob_in}
-use Rattle.fw_components.specs.declared.component.Unit as units
-use Rattle.fw_components.specs.declared.component.Unit.TheVariants.{Eq, Buffer}
-use Rattle.fw_components.specs.declared.component.Component.{Component}
+use Rattle.fw_units.specs.declared.component.Unit as units
+use Rattle.fw_units.specs.declared.component.Unit.TheVariants.{Eq, Buffer}
+use Rattle.fw_units.specs.declared.component.Component.{Component}
 use Rattle.fw_components.specs.Tables.{Tables, view_by, rings_of, histories_of, staging_of}
-use Rattle.fw_components.specs.Frames.{piece_with_words}
+use Rattle.fw_units.specs.Frames.{piece_with_words}
 
 -- a unit without what moves: a ring is empty, and it and an equaliser have no words in their pieces
 abbrev pub bare_unit : units.Unit → units.Unit

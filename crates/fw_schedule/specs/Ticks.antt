@@ -6,7 +6,7 @@ use Rattle.stream_law.specs.Ways.{live, channels_of}
 use Rattle.row_laws.specs.Wired.{IsWired, HasJoinedSides}
 use Rattle.row_laws.specs.Played.{AreStreamsPlayable}
 use Rattle.fw_components.specs.Tables.{Tables, graph_of, view_by}
-use Rattle.fw_components.specs.Frames.{channels_by}
+use Rattle.fw_units.specs.Frames.{channels_by}
 
 -- inputs and outputs
 abbrev pub io_of : List InputView → List OutputView → Io

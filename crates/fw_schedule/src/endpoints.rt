@@ -4,7 +4,7 @@ ghost use Rattle.sof_base.specs.Samples.{width, frames_in, frames_out};
 ghost use Rattle.sof_io.specs.Takes.{bytes_given, taken as input_taken};
 ghost use Rattle.sof_io.specs.Puts.{room_at, with_piece};
 ghost use Rattle.fw_components.specs.Tables.{held_frames, capacity_at};
-ghost use Rattle.fw_components.specs.Changes.{has_id};
+ghost use Rattle.fw_units.specs.Changes.{has_id};
 ghost use Rattle.fw_components.specs.Frames.{words_at, channels_at, with_taken, pushed};
 
 use crate::scratch::{MOST, Scratch, ZEROS};

@@ -2,7 +2,8 @@
 ghost use Rattle.std.specs.Prelude.{◌≡◌, ◌≤◌, ◌+◌, ◌++◌, ◌&&◌, ◌||◌, not, find, length, option_copied, slice_get};
 ghost use Rattle.stream_law.specs.Ways.{is_end, live, active, active_end};
 ghost use Rattle.stream_law.specs.Moves.{fed_by, chooses as is_choosing};
-ghost use Rattle.fw_components.specs.Tables.{view_by, source_by, sink_by};
+ghost use Rattle.fw_units.specs.Units.{source_by, sink_by};
+ghost use Rattle.fw_components.specs.Tables.{view_by};
 ghost use Rattle.fw_schedule.specs.Spots.{AreSpots};
 ghost use Rattle.fw_schedule.specs.Schedules.{inlets_of};
 

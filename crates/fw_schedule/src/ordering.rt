@@ -4,7 +4,8 @@ ghost use Rattle.stream_law.specs.Placed.{Ascends};
 ghost use Rattle.stream_law.specs.Ways.{components, is_end};
 ghost use Rattle.stream_law.specs.Order.{order as law};
 ghost use Rattle.stream_law.specs.Waiting.{freed, lowered, turns_from};
-ghost use Rattle.fw_components.specs.Tables.{graph_of, comp_by, edge_by, source_by, sink_by};
+ghost use Rattle.fw_units.specs.Units.{comp_by, edge_by, source_by, sink_by};
+ghost use Rattle.fw_components.specs.Tables.{graph_of};
 ghost use Rattle.fw_components.specs.Kept.{IsKept};
 
 use crate::ends::is_at;

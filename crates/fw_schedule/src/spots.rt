@@ -2,7 +2,7 @@
 ghost use Rattle.std.specs.Prelude.{◌≡◌, true, ℕ, slice_index_or, length};
 ghost use Rattle.stream_law.specs.Ways.{is_capture, is_running_phase};
 ghost use Rattle.stream_law.specs.Order.{is_among};
-ghost use Rattle.fw_components.specs.Tables.{kind_by};
+ghost use Rattle.fw_units.specs.Units.{kind_by};
 ghost use Rattle.fw_places.specs.Walks.{place_in, leads_by};
 ghost use Rattle.fw_schedule.specs.Spots.{AreSpots, bare_spot, spot_at, met, spot_met, met_where};
 

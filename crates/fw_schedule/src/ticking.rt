@@ -14,7 +14,7 @@ ghost use Rattle.stream_law.specs.Move.{Move, next_clock};
 ghost use Rattle.stream_law.specs.TickLaws.{clocked};
 ghost use Rattle.fw_heap.specs.declared.run.Home.{Home};
 ghost use Rattle.fw_components.specs.Tables.{graph_of, view_by, held_frames, capacity_at};
-ghost use Rattle.fw_components.specs.Changes.{has_id};
+ghost use Rattle.fw_units.specs.Changes.{has_id};
 ghost use Rattle.fw_components.specs.Frames.{words_at, channels_at, with_taken, pushed};
 ghost use Rattle.fw_components.specs.States.{with_tables, AreOf};
 ghost use Rattle.fw_schedule.specs.Ticks.{CanTick, io_of};

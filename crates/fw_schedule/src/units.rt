@@ -2,7 +2,7 @@
 ghost use Rattle.std.specs.Prelude.{◌≡◌, ◌/◌, find, ◌==◌, option_copied};
 ghost use Rattle.std.specs.Option.{option_map_or};
 ghost use Rattle.stream_law.specs.Moves.{is_choosy};
-ghost use Rattle.fw_components.specs.Tables.{period_by};
+ghost use Rattle.fw_units.specs.Units.{period_by};
 ghost use Rattle.stream_law.specs.Endpoints.{is_input};
 ghost use Rattle.fw_schedule.specs.Outputs.{is_output_kind, least_by};
 ghost use Rattle.fw_schedule.specs.Units.{stream_by, unit_format};

@@ -8,12 +8,14 @@ use Rattle.sof_base.specs.declared.part.Part.{Part}
 use Rattle.sof_base.specs.Holes.{fresh_holes, first_fit, carved, given}
 use Rattle.fw_heap.specs.Pieces.{PieceState}
 use Rattle.eq_biquad.specs.EqState.{EqState}
-use Rattle.fw_components.specs.declared.component.Component.{Component}
-use Rattle.fw_components.specs.declared.component.Unit as units
-use Rattle.fw_components.specs.declared.component.Unit.TheVariants.{Eq}
-use Rattle.fw_components.specs.Tables.{Tables, all_of, piece_of}
+use Rattle.fw_units.specs.declared.component.Component.{Component}
+use Rattle.fw_units.specs.declared.component.Unit as units
+use Rattle.fw_units.specs.declared.component.Unit.TheVariants.{Eq}
+use Rattle.fw_units.specs.Units.{piece_of}
+use Rattle.fw_components.specs.Tables.{Tables, all_of}
 use Rattle.mbox_link.specs.Step.{touches}
-use Rattle.fw_components.specs.Changes.{added, has_id, is_there, found, given_found, tables_without, without_by, IsFoundOf}
+use Rattle.fw_units.specs.Changes.{has_id}
+use Rattle.fw_components.specs.Changes.{added, is_there, found, given_found, tables_without, without_by, IsFoundOf}
 use Rattle.fw_components.specs.Values.{left_with}
 use Rattle.fw_components.specs.Parts.{parted, parted_by, parted_at, parted_unit, part_set, takes_part}
 use Rattle.std.specs.Option.{option_map_or}

@@ -7,10 +7,11 @@ use Rattle.sof_base.specs.declared.hole.Hole.{Hole}
 use Rattle.sof_base.specs.Holes.{carved, first_fit, given, shortened, joined}
 use Rattle.stream_law.specs.Placed.{placed}
 use Rattle.fw_heap.specs.Pieces.{PieceState}
-use Rattle.fw_components.specs.declared.component.Component.{Component}
-use Rattle.fw_components.specs.declared.component.Unit.TheVariants.{Mixer}
+use Rattle.fw_units.specs.declared.component.Component.{Component}
+use Rattle.fw_units.specs.declared.component.Unit.TheVariants.{Mixer}
 use Rattle.fw_components.specs.Tables.{Tables}
-use Rattle.fw_components.specs.Changes.{added, has_id, is_there, found, tables_without, without_by}
+use Rattle.fw_units.specs.Changes.{has_id}
+use Rattle.fw_components.specs.Changes.{added, is_there, found, tables_without, without_by}
 use Rattle.fw_tests.specs.Filled.{AreBelow, IsFilled, rest_behind}
 
 -- what is added

@@ -1,8 +1,9 @@
 -- An equaliser that stands alone in a registry.
 use Rattle.std.specs.Prelude.{◌≡◌, List, [], ◌∷◌}
 use Rattle.fw_heap.specs.Pieces.{PieceState}
-use Rattle.fw_components.specs.declared.component.Component.{Component}
-use Rattle.fw_components.specs.Tables.{Tables, piece_of}
+use Rattle.fw_units.specs.declared.component.Component.{Component}
+use Rattle.fw_units.specs.Units.{piece_of}
+use Rattle.fw_components.specs.Tables.{Tables}
 
 -- one piece is where the other is
 pub record IsPlaced (piece own : PieceState) : Type 0 where

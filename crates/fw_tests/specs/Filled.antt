@@ -1,7 +1,7 @@
 -- A registry that is filled with components of ascending ids, and the region that their pieces are carved from, one after the other.
 use Rattle.std.specs.Prelude.{◌≡◌, ℕ, ◌-◌, ◌*◌, ◌<◌, List, [], ◌∷◌}
 use Rattle.sof_base.specs.declared.hole.Hole.{Hole}
-use Rattle.fw_components.specs.declared.component.Component.{Component}
+use Rattle.fw_units.specs.declared.component.Component.{Component}
 use Rattle.fw_components.specs.Tables.{Tables}
 
 -- each has an id below n

@@ -1,6 +1,6 @@
 // A registry that is filled, and what it has no room for.
 ghost use Rattle.std.specs.Prelude.{◌≡◌, ◌≤◌};
-ghost use Rattle.fw_components.specs.declared.component.Unit.TheVariants.{Mixer};
+ghost use Rattle.fw_units.specs.declared.component.Unit.TheVariants.{Mixer};
 ghost use Rattle.fw_tests.specs.Filled.{IsFilled, rest_behind};
 
 use fw_components::{Component, Registry, RegistryFull, Unit};

@@ -1,7 +1,7 @@
 // A blob of three parts, which an equaliser of a registry takes in order.
 ghost use Rattle.std.specs.Prelude.{◌≡◌};
 ghost use Rattle.fw_heap.specs.Pieces.{PieceState};
-ghost use Rattle.fw_components.specs.declared.component.Unit.TheVariants.{Eq as Equaliser};
+ghost use Rattle.fw_units.specs.declared.component.Unit.TheVariants.{Eq as Equaliser};
 ghost use Rattle.fw_tests.specs.Alone.{IsAlone};
 
 use crate::blobs::three_responses;

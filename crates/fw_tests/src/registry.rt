@@ -1,7 +1,7 @@
-// A registry with nothing in it, one with a host, and one with a host that feeds a buffer.
+// A registry with nothing in it, one with a host, and one with a host and a buffer that it feeds and pulls from.
 ghost use Rattle.std.specs.Prelude.{◌≡◌, ◌≤◌, None, false, []};
 ghost use Rattle.stream_law.specs.declared.stream.Phase.TheVariants.{Idle};
-ghost use Rattle.fw_components.specs.declared.component.Unit.TheVariants.{Host, Buffer};
+ghost use Rattle.fw_units.specs.declared.component.Unit.TheVariants.{Host, Buffer};
 
 use fw_components::{Component, Registry, RegistryFull, Unit};
 use fw_heap::{Piece, Region};
@@ -161,6 +161,68 @@ fn fed_by_a_host(alloc: Global) -> Result<bool, NoMemory> {
     Ok(right && held == 3 && free == 1 && left == 0)
 }
 
+// A buffer comes from a host and goes back to it. The host feeds three frames of two channels, and pulls the first two of them.
+fn fed_and_pulled(alloc: Global) -> Result<(bool, bool), NoMemory> {
+    let mut registry = Registry::new(alloc)?;
+    let mut region = match Region::new(alloc, 128) {
+        Ok(region) => region,
+        Err(e) => {
+            registry.close();
+            return Err(e);
+        }
+    };
+    let Ok(first) = region.carve(64) else {
+        registry.close();
+        region.close();
+        return Ok((false, false));
+    };
+    let Ok(second) = region.carve(64) else {
+        region.give(first);
+        registry.close();
+        region.close();
+        return Ok((false, false));
+    };
+    let params = Params {
+        rate: 48000,
+        channels: 2,
+        format: Format::S16,
+    };
+    match registry.add(host(first)) {
+        Ok(()) => (),
+        Err(RegistryFull { component }) => {
+            region.give(component.into_piece());
+            region.give(second);
+            registry.close();
+            region.close();
+            return Ok((false, false));
+        }
+    }
+    match registry.add(buffer(second)) {
+        Ok(()) => (),
+        Err(RegistryFull { component }) => {
+            region.give(component.into_piece());
+            registry.remove(3, &mut region);
+            registry.close();
+            region.close();
+            return Ok((false, false));
+        }
+    }
+    registry.join(3, 5);
+    registry.join(5, 3);
+    registry.begin(5, params);
+    registry.feed(3, &[1, 2, 3, 4, 5, 6]);
+    let (front, back) = registry.spans(5, 3);
+    let fed = front == [1, 2, 3, 4, 5, 6].as_slice() && back.is_empty();
+    let mut samples = [0; 4];
+    registry.pull(3, &mut samples);
+    let pulled = samples == [1, 2, 3, 4] && registry.held(5) == 1;
+    registry.remove(5, &mut region);
+    registry.remove(3, &mut region);
+    registry.close();
+    region.close();
+    Ok((fed, pulled))
+}
+
 #[test]
 fn an_empty_registry_tells_nothing(rt: HostRuntime) {
     let right = nothing(rt.alloc());
@@ -177,4 +239,16 @@ fn a_host_comes_and_goes(rt: HostRuntime) {
 fn a_host_feeds_a_buffer(rt: HostRuntime) {
     let right = fed_by_a_host(rt.alloc());
     assert!(rt; matches!(right, Ok(true)));
+}
+
+#[test]
+fn what_is_fed_stands_in_the_buffer(rt: HostRuntime) {
+    let moved = fed_and_pulled(rt.alloc());
+    assert!(rt; matches!(moved, Ok((true, _))));
+}
+
+#[test]
+fn what_is_pulled_leaves_the_buffer(rt: HostRuntime) {
+    let moved = fed_and_pulled(rt.alloc());
+    assert!(rt; matches!(moved, Ok((_, true))));
 }

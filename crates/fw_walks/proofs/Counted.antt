@@ -8,7 +8,7 @@ use Rattle.stream_law.specs.declared.stream.StreamView.{StreamView}
 use Rattle.stream_law.specs.Ways.{live, active, on_way, is_live_phase, is_running_phase}
 use Rattle.stream_law.proofs.Members.{any-in, in-any}
 use Rattle.fw_components.specs.Tables.{Tables, ids_of, graph_of, streams_of, view_by}
-use Rattle.fw_components.specs.Changes.{has_id}
+use Rattle.fw_units.specs.Changes.{has_id}
 use Rattle.fw_components.specs.Kept.{IsKept}
 use Rattle.fw_components.specs.Tally.{passing}
 use Rattle.fw_components.proofs.Listed.{listed-is}

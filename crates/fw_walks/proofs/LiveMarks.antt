@@ -8,9 +8,10 @@ use Rattle.stream_law.specs.declared.graph.Join.{Join}
 use Rattle.stream_law.specs.Ways.{live, on_way, is_capture, is_live_phase}
 use Rattle.stream_law.proofs.Members.{IsIn, in-each, in-all, in-any, any-in}
 use Rattle.stream_law.specs.Order.{is_among}
-use Rattle.fw_components.specs.declared.component.Component.{Component}
-use Rattle.fw_components.specs.Tables.{Tables, graph_of, view_by, kind_by}
-use Rattle.fw_components.specs.Changes.{has_id}
+use Rattle.fw_units.specs.declared.component.Component.{Component}
+use Rattle.fw_units.specs.Units.{kind_by}
+use Rattle.fw_components.specs.Tables.{Tables, graph_of, view_by}
+use Rattle.fw_units.specs.Changes.{has_id}
 use Rattle.fw_components.specs.Kept.{IsKept}
 use Rattle.fw_walks.specs.declared.streams.Sort.{Sort}
 use Rattle.fw_walks.specs.declared.streams.Sort.TheVariants as sorts

@@ -8,9 +8,10 @@ use Rattle.stream_law.proofs.Placing.{Ascends-distinct}
 use Rattle.row_laws.proofs.Ascending.{ascends-keys}
 use Rattle.row_laws.proofs.Found.{ends-agree}
 use Rattle.mbox_link.specs.Step.{is_used, has_comp, has_edge, has_pipe}
-use Rattle.fw_components.specs.declared.component.Component.{Component}
-use Rattle.fw_components.specs.Tables.{Tables, graph_of, comp_by, edge_by, pipe_by}
-use Rattle.fw_components.specs.Changes.{has_id}
+use Rattle.fw_units.specs.declared.component.Component.{Component}
+use Rattle.fw_units.specs.Units.{comp_by, edge_by, pipe_by}
+use Rattle.fw_components.specs.Tables.{Tables, graph_of}
+use Rattle.fw_units.specs.Changes.{has_id}
 use Rattle.fw_walks.proofs.OnWays.{any-map}
 
 pub comp-named : (t : Tables) (id : ℕ) → has_id t.comps id ≡ has_comp (graph_of t) id

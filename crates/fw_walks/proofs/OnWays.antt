@@ -7,11 +7,12 @@ use Rattle.stream_law.specs.declared.stream.StreamView.{StreamView}
 use Rattle.stream_law.specs.Ways.{on_way, is_capture}
 use Rattle.stream_law.proofs.Members.{IsIn, in-any}
 use Rattle.stream_law.specs.Order.{is_among}
-use Rattle.fw_components.specs.declared.component.Component.{Component}
-use Rattle.fw_components.specs.declared.component.Unit as units
-use Rattle.fw_components.specs.declared.component.Unit.TheVariants.{Host, Buffer}
-use Rattle.fw_components.specs.Tables.{Tables, graph_of, streams_by, streams_of, with_stream_by, kind_by}
-use Rattle.fw_components.specs.Changes.{has_id}
+use Rattle.fw_units.specs.declared.component.Component.{Component}
+use Rattle.fw_units.specs.declared.component.Unit as units
+use Rattle.fw_units.specs.declared.component.Unit.TheVariants.{Host, Buffer}
+use Rattle.fw_units.specs.Units.{streams_by, with_stream_by, kind_by}
+use Rattle.fw_components.specs.Tables.{Tables, graph_of, streams_of}
+use Rattle.fw_units.specs.Changes.{has_id}
 use Rattle.fw_walks.specs.declared.streams.Sort.{Sort}
 use Rattle.fw_walks.specs.declared.streams.Sort.TheVariants.{All, Live, Running, Set}
 use Rattle.fw_walks.specs.Streams.{is_of, any_stream, is_met}

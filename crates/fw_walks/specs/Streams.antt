@@ -2,10 +2,10 @@
 use Rattle.std.specs.Prelude.{ℕ, Bool, true, false, not, ◌&&◌, if◌then◌else◌, List, is_some}
 use Rattle.stream_law.specs.declared.stream.StreamView.{StreamView}
 use Rattle.stream_law.specs.Ways.{is_live_phase, is_running_phase, is_capture}
-use Rattle.fw_components.specs.declared.component.Component as parts
-use Rattle.fw_components.specs.declared.component.Unit as units
-use Rattle.fw_components.specs.declared.component.Unit.TheVariants.{Host}
-use Rattle.fw_components.specs.Tables.{kind_by}
+use Rattle.fw_units.specs.declared.component.Component as parts
+use Rattle.fw_units.specs.declared.component.Unit as units
+use Rattle.fw_units.specs.declared.component.Unit.TheVariants.{Host}
+use Rattle.fw_units.specs.Units.{kind_by}
 use Rattle.fw_places.specs.Walks.{is_marked}
 use Rattle.fw_walks.specs.declared.streams.Sort.{Sort}
 use Rattle.fw_walks.specs.declared.streams.Sort.TheVariants.{All, Live, Running, Set}

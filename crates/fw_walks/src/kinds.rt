@@ -1,8 +1,8 @@
 // What units are in a graph, and how many buffers a component takes.
 ghost use Rattle.std.specs.Prelude.{◌≡◌};
-ghost use Rattle.stream_law.specs.Joins.{kind_ins, kind_outs, fits_kind, is_play};
+ghost use Rattle.stream_law.specs.Joins.{kind_ins, kind_outs, fits_kind, is_right_number as is_right, is_play};
 ghost use Rattle.stream_law.specs.Ways.{is_capture};
-ghost use Rattle.fw_components.specs.Tables.{kind_by, source_by, sink_by};
+ghost use Rattle.fw_units.specs.Units.{kind_by, source_by, sink_by};
 
 use fw_components::Unit;
 use stream_law::Kind;
@@ -98,10 +98,16 @@ pub fn outs_of(kind: Kind) -> usize
 pub fn fits(kind: Kind, ins: usize, outs: usize) -> bool
     ensures { result ≡ fits_kind kind ins outs }
 {
-    match kind {
-        Kind::HostPlay | Kind::DaiCapture(_) => ins == 0 && outs == 1,
-        Kind::HostCapture | Kind::DaiPlay(_) => ins == 1 && outs == 0,
-        Kind::Volume | Kind::Eq => ins == 1 && outs == 1,
-        Kind::Mixer | Kind::Mux => 1 <= ins && ins <= 8 && outs == 1,
+    is_right_number(ins_of(kind), ins) && is_right_number(outs_of(kind), outs)
+}
+
+// Whether so many buffers are a right number where at most `most` may be.
+fn is_right_number(most: usize, n: usize) -> bool
+    ensures { result ≡ is_right most n }
+{
+    match most {
+        0 => n == 0,
+        1 => n == 1,
+        _ => 1 <= n && n <= most,
     }
 }

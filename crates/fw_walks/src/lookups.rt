@@ -2,8 +2,9 @@
 ghost use Rattle.std.specs.Prelude.{◌≡◌, ◌==◌, ◌||◌, filter, find, length, option_copied};
 ghost use Rattle.stream_law.specs.Ways.{source_of, sink_of, ins, outs, is_end};
 ghost use Rattle.mbox_link.specs.Step.{is_used as names, has_comp as names_comp, has_edge as names_edge, has_pipe as names_pipe, kind_at as named_kind};
-ghost use Rattle.fw_components.specs.Tables.{graph_of, source_by, sink_by};
-ghost use Rattle.fw_components.specs.Changes.{has_id as names_one};
+ghost use Rattle.fw_units.specs.Units.{source_by, sink_by};
+ghost use Rattle.fw_components.specs.Tables.{graph_of};
+ghost use Rattle.fw_units.specs.Changes.{has_id as names_one};
 ghost use Rattle.fw_components.specs.Kept.{IsKept};
 
 use crate::kinds::{kind_of, sink_in, source_in};

@@ -4,8 +4,8 @@ use Rattle.stream_law.specs.declared.graph.Comp.{Comp}
 use Rattle.stream_law.specs.declared.graph.Edge.{Edge}
 use Rattle.stream_law.specs.declared.graph.Pipe.{Pipe}
 use Rattle.stream_law.specs.State.{RingView}
-use Rattle.fw_components.specs.declared.component.Component.{Component}
-use Rattle.fw_components.specs.Tables.{comp_by, edge_by, pipe_by, ring_by}
+use Rattle.fw_units.specs.declared.component.Component.{Component}
+use Rattle.fw_units.specs.Units.{comp_by, edge_by, pipe_by, ring_by}
 use Rattle.fw_components.proofs.laws.additions_are_seen.Goals as goal
 
 pub returns-clause-comps : goal.returns-clause-comps

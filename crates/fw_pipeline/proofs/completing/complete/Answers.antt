@@ -1,5 +1,6 @@
 use Rattle.std.proofs.Common.{sym, ap, ◌∙◌, List, map, Ok, Result, ℤ}
-use Rattle.fw_components.specs.Tables.{Tables, graph_of, view_by, streams_of, comp_by, edge_by}
+use Rattle.fw_units.specs.Units.{comp_by, edge_by}
+use Rattle.fw_components.specs.Tables.{Tables, graph_of, view_by, streams_of}
 use Rattle.stream_law.specs.declared.graph.Pipe.{Pipe}
 use Rattle.stream_law.specs.State.{View}
 use Rattle.fw_pipeline.specs.Rows.{view_after, with_view}

@@ -1,7 +1,7 @@
 use Rattle.std.proofs.Common.{ap, ◌∙◌, List, ◌==◌, Some, option_map}
 use Rattle.std.specs.Prelude.{find}
-use Rattle.fw_components.specs.declared.component.Component.{Component}
-use Rattle.fw_components.specs.Tables.{pipe_by}
+use Rattle.fw_units.specs.declared.component.Component.{Component}
+use Rattle.fw_units.specs.Units.{pipe_by}
 use Rattle.fw_pipeline.specs.Rows.{terms_by}
 use Rattle.fw_pipeline.proofs.CompletingRow.{terms-found}
 use Rattle.fw_pipeline.proofs.completing.terms.Goals as goal

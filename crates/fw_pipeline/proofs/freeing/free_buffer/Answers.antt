@@ -1,8 +1,9 @@
 use Rattle.std.proofs.Common.{◌≡◌, sym, ap, ◌∙◌, List, true, false, not, map, filter, ◌||◌, ◌==◌, Ok, Result, ℤ}
 use Rattle.stream_law.specs.declared.graph.Edge.{Edge}
 use Rattle.stream_law.specs.State.{View}
-use Rattle.fw_components.specs.Changes.{has_id}
-use Rattle.fw_components.specs.Tables.{Tables, view_by, streams_of, comp_by, pipe_by}
+use Rattle.fw_units.specs.Changes.{has_id}
+use Rattle.fw_units.specs.Units.{comp_by, pipe_by}
+use Rattle.fw_components.specs.Tables.{Tables, view_by, streams_of}
 use Rattle.fw_pipeline.specs.Rows.{view_after, with_view}
 use Rattle.fw_pipeline.proofs.FreeRows.{there-all, found-of, apart-gone, buffer-left, buffer_free-row}
 use Rattle.fw_walks.proofs.Naming.{edge-named}

@@ -2,8 +2,9 @@ use Rattle.std.proofs.Common.{◌≡◌, sym, ap, ◌∙◌, List, true, map, Ok
 use Rattle.stream_law.specs.declared.graph.Comp.{Comp}
 use Rattle.stream_law.specs.declared.stream.StreamView.{StreamView}
 use Rattle.stream_law.specs.State.{View}
-use Rattle.fw_components.specs.Changes.{has_id}
-use Rattle.fw_components.specs.Tables.{Tables, view_by, edge_by, pipe_by}
+use Rattle.fw_units.specs.Changes.{has_id}
+use Rattle.fw_units.specs.Units.{edge_by, pipe_by}
+use Rattle.fw_components.specs.Tables.{Tables, view_by}
 use Rattle.fw_pipeline.specs.Rows.{view_after, with_view}
 use Rattle.fw_pipeline.proofs.FreeRows.{there-all, found-of, streams-gone, comp-left, comp_free-row}
 use Rattle.fw_walks.proofs.Naming.{comp-named}

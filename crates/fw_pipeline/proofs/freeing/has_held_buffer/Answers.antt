@@ -1,8 +1,9 @@
 use Rattle.std.proofs.Common.{sym, ap, ◌∙◌, List, ◌&&◌, ◌==◌}
 use Rattle.std.specs.List.{list_any}
 use Rattle.stream_law.specs.declared.graph.Edge.{Edge}
-use Rattle.fw_components.specs.declared.component.Component.{Component}
-use Rattle.fw_components.specs.Tables.{Tables, graph_of, streams_of, edge_by}
+use Rattle.fw_units.specs.declared.component.Component.{Component}
+use Rattle.fw_units.specs.Units.{edge_by}
+use Rattle.fw_components.specs.Tables.{Tables, graph_of, streams_of}
 use Rattle.mbox_link.specs.Step.{is_held}
 use Rattle.fw_walks.proofs.OnWays.{any-map}
 use Rattle.fw_pipeline.proofs.freeing.has_held_buffer.Goals as goal

@@ -1,8 +1,9 @@
 use Rattle.std.proofs.Common.{sym, ap, ◌∙◌, List, ◌&&◌, ◌==◌}
 use Rattle.std.specs.List.{list_any}
 use Rattle.stream_law.specs.declared.graph.Comp.{Comp}
-use Rattle.fw_components.specs.declared.component.Component.{Component}
-use Rattle.fw_components.specs.Tables.{Tables, graph_of, streams_of, comp_by}
+use Rattle.fw_units.specs.declared.component.Component.{Component}
+use Rattle.fw_units.specs.Units.{comp_by}
+use Rattle.fw_components.specs.Tables.{Tables, graph_of, streams_of}
 use Rattle.mbox_link.specs.Step.{is_held}
 use Rattle.fw_walks.proofs.OnWays.{any-map}
 use Rattle.fw_pipeline.proofs.freeing.has_held_comp.Goals as goal

@@ -1,6 +1,6 @@
 use Rattle.std.proofs.Common.{ap, ◌∙◌, ℕ, List, ◌==◌, Option, option_map}
 use Rattle.std.specs.Prelude.{find}
-use Rattle.fw_components.specs.declared.component.Component.{Component}
+use Rattle.fw_units.specs.declared.component.Component.{Component}
 use Rattle.fw_components.specs.Tables.{Tables}
 use Rattle.fw_pipeline.specs.Rows.{first_there}
 use Rattle.fw_pipeline.proofs.FreeRows.{index-tables}

@@ -1,8 +1,8 @@
 use Rattle.std.proofs.Common.{sym, ap, ◌∙◌, List, ◌&&◌, ◌==◌}
 use Rattle.std.specs.List.{list_any}
 use Rattle.stream_law.specs.declared.graph.Pipe.{Pipe}
-use Rattle.fw_components.specs.declared.component.Component.{Component}
-use Rattle.fw_components.specs.Tables.{pipe_by, complete_by}
+use Rattle.fw_units.specs.declared.component.Component.{Component}
+use Rattle.fw_units.specs.Units.{pipe_by, complete_by}
 use Rattle.fw_walks.proofs.OnWays.{any-map}
 use Rattle.fw_pipeline.proofs.freeing.is_complete.Goals as goal
 

@@ -1,8 +1,8 @@
 use Rattle.std.proofs.Common.{ap, ◌∙◌, List, ◌==◌, option_map}
 use Rattle.std.specs.Prelude.{find}
 use Rattle.stream_law.specs.declared.graph.Pipe.{Pipe}
-use Rattle.fw_components.specs.declared.component.Component.{Component}
-use Rattle.fw_components.specs.Tables.{pipe_by}
+use Rattle.fw_units.specs.declared.component.Component.{Component}
+use Rattle.fw_units.specs.Units.{pipe_by}
 use Rattle.fw_walks.proofs.Naming.{found-shown}
 use Rattle.fw_pipeline.proofs.freeing.pipeline_index.Goals as goal
 

@@ -1,7 +1,7 @@
 use Rattle.std.proofs.Common.{◌∙◌, List, Bool, false}
 use Rattle.stream_law.specs.Ways.{is_capture}
-use Rattle.fw_components.specs.declared.component.Component.{Component}
-use Rattle.fw_components.specs.Tables.{kind_by}
+use Rattle.fw_units.specs.declared.component.Component.{Component}
+use Rattle.fw_units.specs.Units.{kind_by}
 use Rattle.fw_places.specs.Charts.{Chart}
 use Rattle.fw_places.specs.Walks.{is_reached}
 use Rattle.fw_walks.specs.declared.streams.Sort.TheVariants as sorts

@@ -1,6 +1,6 @@
 use Rattle.std.proofs.Common.{ap, ◌∙◌, List, Some}
 use Rattle.std.specs.List.{list_all}
-use Rattle.fw_components.specs.declared.component.Component.{Component}
+use Rattle.fw_units.specs.declared.component.Component.{Component}
 use Rattle.fw_components.specs.Tables.{Tables}
 use Rattle.fw_pipeline.specs.Preparing.{suits}
 use Rattle.stream_law.specs.declared.stream.Phase.TheVariants.{Prepared}

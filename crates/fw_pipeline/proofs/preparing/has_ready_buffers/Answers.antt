@@ -1,8 +1,9 @@
 use Rattle.std.proofs.Common.{ap, ◌∙◌, List, not, ◌||◌}
 use Rattle.std.specs.List.{list_all}
 use Rattle.mbox_link.specs.Step.{is_ready_edge}
-use Rattle.fw_components.specs.declared.component.Component.{Component}
-use Rattle.fw_components.specs.Tables.{Tables, graph_of, edge_by}
+use Rattle.fw_units.specs.declared.component.Component.{Component}
+use Rattle.fw_units.specs.Units.{edge_by}
+use Rattle.fw_components.specs.Tables.{Tables, graph_of}
 use Rattle.fw_places.specs.Walks.{is_marked}
 use Rattle.fw_pipeline.proofs.ReadyWays.{buffers-marked}
 use Rattle.fw_pipeline.proofs.preparing.has_ready_buffers.Goals as goal

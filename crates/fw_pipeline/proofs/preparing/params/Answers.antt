@@ -4,7 +4,8 @@ use Rattle.stream_law.specs.declared.stream.StreamView.{StreamView}
 use Rattle.stream_law.specs.State.{FwState, View}
 use Rattle.stream_law.specs.Seen.{seen}
 use Rattle.mbox_link.specs.Step.{set_stream}
-use Rattle.fw_components.specs.Tables.{Tables, view_by, graph_of, streams_of, edge_by, pipe_by}
+use Rattle.fw_units.specs.Units.{edge_by, pipe_by}
+use Rattle.fw_components.specs.Tables.{Tables, view_by, graph_of, streams_of}
 use Rattle.fw_pipeline.specs.Preparing.{is_moving_at}
 use Rattle.fw_pipeline.specs.Rows.{view_after, with_view}
 use Rattle.fw_components.specs.States.{with_tables}

@@ -1,6 +1,6 @@
 use Rattle.std.proofs.Common.{◌≡◌, sym, ap, ◌∙◌, ◌==◌, List, Some, None}
 use Rattle.std.specs.Prelude.{find, is_some}
-use Rattle.fw_components.specs.declared.component.Component.{Component}
+use Rattle.fw_units.specs.declared.component.Component.{Component}
 use Rattle.fw_pipeline.proofs.TriggerRows.{left-tested, left-given}
 use Rattle.fw_pipeline.proofs.triggering.left_at.Goals as goal
 

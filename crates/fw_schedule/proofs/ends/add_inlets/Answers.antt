@@ -1,7 +1,7 @@
 use Rattle.std.proofs.Common.{◌≡◌, sym, ap, ◌∙◌, ◌++◌, length, length-append, map, filter, take, get_or, List, ℕ, true, lit<, arith}
 use Rattle.std.proofs.lemmas.List.{take_all}
 use Rattle.fw_components.specs.Tables.{view_by}
-use Rattle.fw_components.specs.declared.component.Component.{Component}
+use Rattle.fw_units.specs.declared.component.Component.{Component}
 use Rattle.fw_schedule.specs.Schedules.{inlets_of}
 use Rattle.fw_schedule.proofs.KeptEnds.{is_inlet, inlets-are, kept-under}
 use Rattle.fw_schedule.proofs.ends.add_inlets.Goals as goal

@@ -1,6 +1,6 @@
 use Rattle.std.proofs.Common.{◌∙◌, ap, List}
 use Rattle.std.specs.Prelude.{find}
-use Rattle.fw_components.specs.declared.component.Component.{Component}
+use Rattle.fw_units.specs.declared.component.Component.{Component}
 use Rattle.fw_schedule.proofs.KeptEnds.{is_fed, first-fed}
 use Rattle.fw_schedule.proofs.ends.fed_of.Goals as goal
 

@@ -4,8 +4,8 @@ use Rattle.stream_law.specs.declared.graph.Edge.{Edge}
 use Rattle.stream_law.specs.Waiting.{freed, leads_from, lowered}
 use Rattle.stream_law.proofs.TurnLaws.{freed-none, freed-more}
 use Rattle.stream_law.specs.Ways.{is_end}
-use Rattle.fw_components.specs.declared.component.Component.{Component}
-use Rattle.fw_components.specs.Tables.{edge_by, source_by, sink_by}
+use Rattle.fw_units.specs.declared.component.Component.{Component}
+use Rattle.fw_units.specs.Units.{edge_by, source_by, sink_by}
 use Rattle.fw_schedule.proofs.TurnsSeen.{are-found, at-found, leads-found}
 use Rattle.fw_schedule.proofs.ordering.free.Goals as goal
 

@@ -1,6 +1,6 @@
 use Rattle.std.proofs.Common.{◌≡◌, map, take}
 use Rattle.stream_law.specs.Waiting.{freed}
-use Rattle.fw_components.specs.Tables.{edge_by}
+use Rattle.fw_units.specs.Units.{edge_by}
 use Rattle.fw_schedule.proofs.ordering.free.Given as goal
 
 abbrev pub invariant-loop-buffer : goal.invariant-loop-buffer

@@ -5,8 +5,9 @@ use Rattle.stream_law.specs.declared.turns.Turn.{Turn}
 use Rattle.stream_law.specs.Placed.{Ascends}
 use Rattle.stream_law.specs.Waiting.{best_of, turns_from, freed}
 use Rattle.stream_law.proofs.Taking.{Taken, Taken-none, Taken-more, Taken-all, room, fewer-left}
-use Rattle.fw_components.specs.declared.component.Component.{Component}
-use Rattle.fw_components.specs.Tables.{graph_of, comp_by, edge_by}
+use Rattle.fw_units.specs.declared.component.Component.{Component}
+use Rattle.fw_units.specs.Units.{comp_by, edge_by}
+use Rattle.fw_components.specs.Tables.{graph_of}
 use Rattle.fw_schedule.proofs.ordering.order.Goals as goal
 
 pub loop-turn-init : goal.loop-turn-init

@@ -4,7 +4,7 @@ use Rattle.stream_law.specs.declared.graph.Comp.{Comp}
 use Rattle.stream_law.specs.declared.turns.Turn.{Turn}
 use Rattle.stream_law.specs.Waiting.{turns_from, waits}
 use Rattle.stream_law.proofs.TurnLaws.{turns_from-more, length-turns_from}
-use Rattle.fw_components.specs.Tables.{comp_by, edge_by}
+use Rattle.fw_units.specs.Units.{comp_by, edge_by}
 use Rattle.fw_schedule.proofs.TurnsSeen.{waits-are}
 use Rattle.fw_schedule.proofs.ordering.turns.Goals as goal
 

@@ -1,6 +1,6 @@
 use Rattle.std.proofs.Common.{◌≡◌, take, map}
 use Rattle.stream_law.specs.Waiting.{turns_from}
-use Rattle.fw_components.specs.Tables.{comp_by, edge_by}
+use Rattle.fw_units.specs.Units.{comp_by, edge_by}
 use Rattle.fw_schedule.proofs.ordering.turns.Given as goal
 
 abbrev pub invariant-loop-k : goal.invariant-loop-k

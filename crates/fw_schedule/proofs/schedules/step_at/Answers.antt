@@ -6,8 +6,9 @@ use Rattle.stream_law.specs.declared.graph.Kind.{Kind}
 use Rattle.stream_law.specs.Ways.{rate_of, channels_of}
 use Rattle.stream_law.specs.Moves.{is_choosy, quota, period}
 use Rattle.stream_law.specs.Endpoints.{is_input}
-use Rattle.fw_components.specs.declared.component.Component.{Component}
-use Rattle.fw_components.specs.Tables.{view_by, period_by}
+use Rattle.fw_units.specs.declared.component.Component.{Component}
+use Rattle.fw_units.specs.Units.{period_by}
+use Rattle.fw_components.specs.Tables.{view_by}
 use Rattle.fw_schedule.specs.declared.spots.Spot.{Spot}
 use Rattle.fw_schedule.specs.Outputs.{is_output_kind}
 use Rattle.fw_schedule.specs.Schedules.{inlets_of}

@@ -2,7 +2,7 @@ use Rattle.std.proofs.Common.{◌≡◌, sym, ap, ◌∙◌, ◌<◌, Bool, cond
 use Rattle.sof_base.specs.declared.format.Params.{Params}
 use Rattle.stream_law.specs.declared.stream.Phase.{Phase}
 use Rattle.stream_law.specs.Ways.{is_capture, is_running_phase}
-use Rattle.fw_components.specs.Tables.{kind_by}
+use Rattle.fw_units.specs.Units.{kind_by}
 use Rattle.fw_places.specs.Walks.{is_marked, place_in, leads_by}
 use Rattle.fw_places.proofs.Reaching.{at-place}
 use Rattle.fw_schedule.specs.declared.spots.Spot.{Spot}

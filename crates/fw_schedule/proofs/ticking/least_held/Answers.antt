@@ -2,7 +2,7 @@ use Rattle.std.proofs.Common.{◌≡◌, sym, ap, ◌∙◌, ℕ, min, map, leng
 use Rattle.std.proofs.lemmas.List.{take_all}
 use Rattle.stream_law.specs.Moves.{least}
 use Rattle.fw_components.specs.Tables.{held_frames}
-use Rattle.fw_components.specs.Changes.{has_id}
+use Rattle.fw_units.specs.Changes.{has_id}
 use Rattle.fw_places.proofs.Marking.{all-at}
 use Rattle.fw_schedule.proofs.Least.{least-more}
 use Rattle.fw_schedule.proofs.ticking.least_held.Goals as goal

@@ -3,7 +3,8 @@ use Rattle.std.proofs.lemmas.Bool.{eqb-true, true≢false}
 use Rattle.std.proofs.lemmas.List.{nil_from_length}
 use Rattle.stream_law.specs.Moves.{looked_at, least, is_empty}
 use Rattle.fw_components.specs.Tables.{Tables, graph_of, view_by, held_frames, rings_of, histories_of, staging_of}
-use Rattle.fw_components.specs.Frames.{words_at, staged_in}
+use Rattle.fw_units.specs.Frames.{staged_in}
+use Rattle.fw_components.specs.Frames.{words_at}
 use Rattle.fw_components.specs.Processed.{made_at, eq_numbers_at, processed, with_numbers}
 use Rattle.fw_schedule.specs.Stages.{bare_of}
 use Rattle.fw_schedule.proofs.Still.{bare-processed}

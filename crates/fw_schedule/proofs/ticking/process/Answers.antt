@@ -1,7 +1,7 @@
 use Rattle.std.proofs.Common.{◌≡◌, sym, ap, ◌∙◌, subst, filter, length, nat_le, true, arith}
 use Rattle.std.specs.List.{AllByRecursion}
 use Rattle.stream_law.specs.Ways.{comp_of}
-use Rattle.fw_components.specs.Changes.{has_id}
+use Rattle.fw_units.specs.Changes.{has_id}
 use Rattle.fw_components.specs.Tables.{graph_of, view_by, held_frames}
 use Rattle.fw_schedule.specs.Schedules.{inlets_of}
 use Rattle.fw_schedule.proofs.AtPlaces.{kind-passes, chooses-by}

@@ -2,7 +2,7 @@ use Rattle.std.proofs.Common.{arith, ◌≡◌, sym, ap, ◌∙◌, subst, ℕ, 
 use Rattle.sof_base.specs.declared.hole.Hole.{Hole}
 use Rattle.sof_base.specs.Holes.{carved, given, first_fit}
 use Rattle.fw_heap.specs.Regions.{RegionState}
-use Rattle.fw_components.specs.declared.component.Component.{Component}
+use Rattle.fw_units.specs.declared.component.Component.{Component}
 use Rattle.fw_components.specs.Tables.{Tables}
 use Rattle.fw_components.specs.Changes.{is_there, found, given_found, tables_without, IsFoundOf, added}
 use Rattle.fw_tests.specs.Filled.{IsFilled, rest_behind}

@@ -1,7 +1,7 @@
 use Rattle.std.proofs.Common.{◌≡◌, sym, ap, ◌∙◌, subst, ℕ, ◌+◌, ◌<◌, List, Bool, true, false, length, get_or, set, arith}
 use Rattle.std.proofs.lemmas.List.{length-set}
 use Rattle.stream_law.specs.Order.{is_among}
-use Rattle.fw_components.specs.declared.component.Component.{Component}
+use Rattle.fw_units.specs.declared.component.Component.{Component}
 use Rattle.fw_walks.specs.Streams.{is_host_of}
 use Rattle.fw_places.specs.Walks.{place_in}
 use Rattle.fw_places.proofs.Marking.{all-at, none-marked}

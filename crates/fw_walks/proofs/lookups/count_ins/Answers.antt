@@ -1,8 +1,8 @@
 use Rattle.std.proofs.Common.{ap, ◌∙◌, List, length}
 use Rattle.std.specs.Prelude.{filter}
-use Rattle.fw_components.specs.declared.component.Component.{Component}
+use Rattle.fw_units.specs.declared.component.Component.{Component}
 use Rattle.stream_law.specs.declared.graph.Edge.{Edge}
-use Rattle.fw_components.specs.Tables.{sink_by}
+use Rattle.fw_units.specs.Units.{sink_by}
 use Rattle.fw_walks.proofs.Naming.{counted-shown}
 use Rattle.stream_law.specs.Ways.{is_end}
 use Rattle.fw_walks.proofs.lookups.count_ins.Goals as goal

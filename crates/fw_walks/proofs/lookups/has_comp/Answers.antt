@@ -1,6 +1,6 @@
 use Rattle.std.proofs.Common.{ap, ◌∙◌, List}
-use Rattle.fw_components.specs.declared.component.Component.{Component}
-use Rattle.fw_components.specs.Changes.{has_id}
+use Rattle.fw_units.specs.declared.component.Component.{Component}
+use Rattle.fw_units.specs.Changes.{has_id}
 use Rattle.fw_walks.proofs.Naming.{comp-named}
 use Rattle.fw_walks.proofs.lookups.has_comp.Goals as goal
 

@@ -1,8 +1,8 @@
 use Rattle.std.proofs.Common.{ap, ◌∙◌, List, ◌==◌, Some, option_map}
 use Rattle.std.specs.Prelude.{find}
-use Rattle.fw_components.specs.declared.component.Component.{Component}
+use Rattle.fw_units.specs.declared.component.Component.{Component}
 use Rattle.stream_law.specs.declared.graph.Comp.{Comp}
-use Rattle.fw_components.specs.Tables.{comp_by, kind_by}
+use Rattle.fw_units.specs.Units.{comp_by, kind_by}
 use Rattle.fw_walks.proofs.Naming.{found-shown}
 use Rattle.fw_walks.proofs.lookups.kind_at.Goals as goal
 

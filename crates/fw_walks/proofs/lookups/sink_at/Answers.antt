@@ -1,8 +1,8 @@
 use Rattle.std.proofs.Common.{ap, ◌∙◌, List, ◌==◌}
 use Rattle.std.specs.Prelude.{find, option_and_then}
-use Rattle.fw_components.specs.declared.component.Component.{Component}
+use Rattle.fw_units.specs.declared.component.Component.{Component}
 use Rattle.stream_law.specs.declared.graph.Edge.{Edge}
-use Rattle.fw_components.specs.Tables.{edge_by, sink_by}
+use Rattle.fw_units.specs.Units.{edge_by, sink_by}
 use Rattle.fw_walks.proofs.Naming.{found-then}
 use Rattle.fw_walks.proofs.lookups.sink_at.Goals as goal
 

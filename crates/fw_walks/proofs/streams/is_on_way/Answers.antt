@@ -1,5 +1,5 @@
 use Rattle.std.proofs.Common.{ap, ◌∙◌, List, true, false}
-use Rattle.fw_components.specs.declared.component.Component.{Component}
+use Rattle.fw_units.specs.declared.component.Component.{Component}
 use Rattle.std.specs.List.{list_any}
 use Rattle.stream_law.specs.declared.graph.Join.{Join}
 use Rattle.fw_places.specs.Walks.{leads_by}

@@ -1,12 +1,14 @@
 use Rattle.std.proofs.Common.{◌≡◌, ◌≤◌, ◌∙◌, sym, ap, subst, true, false, ◌==◌}
 use Rattle.std.proofs.lemmas.Bool.{true≢false}
 use Rattle.std.specs.Prelude.{position}
-use Rattle.fw_components.specs.declared.component.Component.{Component}
+use Rattle.fw_units.specs.declared.component.Component.{Component}
 use Rattle.fw_components.specs.Tables.{Tables}
-use Rattle.fw_components.specs.Changes.{has_id, is_there}
+use Rattle.fw_units.specs.Changes.{has_id}
+use Rattle.fw_components.specs.Changes.{is_there}
 use Rattle.fw_components.specs.Frames.{begun, words_at, staged_at}
 use Rattle.fw_components.specs.Laid.{tables_of}
-use Rattle.fw_components.proofs.Going.{placed-there, never-there, none-there}
+use Rattle.fw_units.proofs.Found.{placed-there, never-there}
+use Rattle.fw_components.proofs.Going.{none-there}
 use Rattle.fw_components.proofs.Begun.{comp-begun, buffer-begun, pipe-begun}
 use Rattle.fw_components.proofs.Started.{comp-begins, buffer-begins, pipe-begins}
 use Rattle.fw_components.proofs.TallyKept.{begun-tallied, begun-buffers-tallied}

@@ -1,9 +1,9 @@
 use Rattle.std.proofs.Common.{◌<◌, ◌∙◌, sym, ap, subst, ◌==◌, Bool, cond, length, negsuc, rules}
 use Rattle.std.specs.Prelude.{position}
-use Rattle.fw_components.specs.declared.component.Component.{Component}
+use Rattle.fw_units.specs.declared.component.Component.{Component}
 use Rattle.fw_components.specs.Tables.{Tables, all_of}
-use Rattle.fw_components.proofs.Going.{placed-there}
-use Rattle.fw_components.proofs.Positions.{found-first}
+use Rattle.fw_units.proofs.Found.{placed-there}
+use Rattle.fw_units.proofs.Positions.{found-first}
 use Rattle.fw_components.proofs.Told.{gone-by, there-by}
 use Rattle.fw_components.proofs.registry.Registry.comp_place.Goals as goal
 

@@ -3,7 +3,7 @@ use Rattle.std.proofs.lemmas.Bool.{true≢false}
 use Rattle.fw_components.specs.Tables.{Tables, all_of}
 use Rattle.fw_components.specs.Tally.{IsTallied}
 use Rattle.fw_components.specs.Kept.{IsKept}
-use Rattle.fw_components.proofs.Going.{never-there}
+use Rattle.fw_units.proofs.Found.{never-there}
 use Rattle.fw_components.proofs.Listed.{listed-is, place-of-all, place-low, found-among}
 use Rattle.fw_components.proofs.registry.Registry.counts.Goals as goal
 

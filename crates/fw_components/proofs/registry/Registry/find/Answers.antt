@@ -1,8 +1,8 @@
 use Rattle.std.proofs.Common.{◌∙◌, sym, ap, ◌==◌, length}
 use Rattle.std.specs.Prelude.{position}
-use Rattle.fw_components.specs.declared.component.Component.{Component}
+use Rattle.fw_units.specs.declared.component.Component.{Component}
 use Rattle.fw_components.specs.Tables.{all_of}
-use Rattle.fw_components.proofs.Positions.{found-first, found-second, found-third, found-never}
+use Rattle.fw_units.proofs.Positions.{found-first, found-second, found-third, found-never}
 use Rattle.fw_components.proofs.registry.Registry.find.Goals as goal
 
 pub returns-in-Some : goal.returns-in-Some

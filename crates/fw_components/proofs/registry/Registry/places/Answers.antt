@@ -1,6 +1,6 @@
 use Rattle.std.proofs.Common.{sym, ap, subst, ◌∙◌, ◌++◌, List, map}
 use Rattle.stream_law.specs.declared.graph.Join.{Join}
-use Rattle.fw_components.specs.declared.component.Component.{Component}
+use Rattle.fw_units.specs.declared.component.Component.{Component}
 use Rattle.fw_components.specs.Kept.{AreJoined}
 use Rattle.fw_components.proofs.Listed.{are-joined, ids-are}
 use Rattle.fw_components.proofs.registry.Registry.places.Goals as goal

@@ -4,14 +4,16 @@ use Rattle.std.specs.Prelude.{position, find}
 use Rattle.std.specs.List.{AllByRecursion}
 use Rattle.std.specs.Option.{option_map_or}
 use Rattle.stream_law.specs.declared.graph.Join.{Join}
-use Rattle.fw_components.specs.declared.component.Component.{Component}
+use Rattle.fw_units.specs.declared.component.Component.{Component}
 use Rattle.fw_components.specs.Tables.{Tables}
-use Rattle.fw_components.specs.Frames.{words_of, words_at, staged_in}
+use Rattle.fw_units.specs.Frames.{words_of, staged_in}
+use Rattle.fw_components.specs.Frames.{words_at}
 use Rattle.fw_components.specs.Laid.{tables_of}
-use Rattle.fw_components.specs.Processed.{moves_of, moves_at, channels_moved, IsInlet, IsOutlet, chosen_by, made_at, numbers_made_at, run_by, processed}
-use Rattle.fw_components.specs.Moving.{CanMove, IsMoved}
-use Rattle.fw_components.proofs.Putting.{put-words}
-use Rattle.fw_components.proofs.Taking.{taken-found, never-found-by}
+use Rattle.fw_units.specs.Processed.{moves_of, IsInlet, IsOutlet, chosen_by, run_by}
+use Rattle.fw_components.specs.Processed.{moves_at, channels_moved, made_at, numbers_made_at, processed}
+use Rattle.fw_units.specs.Moving.{CanMove, IsMoved}
+use Rattle.fw_units.proofs.Putting.{put-words}
+use Rattle.fw_units.proofs.Taking.{taken-found, never-found-by}
 use Rattle.fw_components.proofs.ProcessLaws.{can-process, now-processed, now-numbers, now-staged, now-kept}
 use Rattle.fw_components.proofs.TallyKept.{processed-tallied}
 use Rattle.fw_components.proofs.registry.Registry.process.Goals as goal

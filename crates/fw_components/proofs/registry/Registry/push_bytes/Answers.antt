@@ -1,7 +1,7 @@
 use Rattle.std.proofs.Common.{◌≡◌, ◌≤◌, ◌∙◌, sym, ap, subst, true}
 use Rattle.sof_base.specs.Samples.{frames_in}
 use Rattle.fw_components.specs.Tables.{Tables}
-use Rattle.fw_components.specs.Changes.{has_id}
+use Rattle.fw_units.specs.Changes.{has_id}
 use Rattle.fw_components.specs.Laid.{tables_of}
 use Rattle.fw_components.specs.Frames.{channels_at, pushed, words_at}
 use Rattle.fw_components.proofs.Begun.{buffer-pushed}

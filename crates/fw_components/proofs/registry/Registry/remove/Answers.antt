@@ -4,14 +4,16 @@ use Rattle.std.specs.Prelude.{position}
 use Rattle.std.specs.List.{list_any}
 use Rattle.sof_base.specs.Holes.{given}
 use Rattle.fw_heap.specs.Pieces.{PieceState}
-use Rattle.fw_components.specs.declared.component.Component.{Component}
+use Rattle.fw_units.specs.declared.component.Component.{Component}
 use Rattle.fw_components.specs.Tables.{Tables}
 use Rattle.mbox_link.specs.Step.{touches}
-use Rattle.fw_components.specs.Changes.{found, given_found, has_id, is_there, tables_without, IsFoundOf}
+use Rattle.fw_units.specs.Changes.{has_id}
+use Rattle.fw_components.specs.Changes.{found, given_found, is_there, tables_without, IsFoundOf}
 use Rattle.fw_components.specs.Laid.{tables_of}
-use Rattle.fw_components.proofs.Going.{placed-there, never-there, comp-found, buffer-found, pipe-found, none-there, without-comp, without-buffer, without-pipe}
+use Rattle.fw_units.proofs.Found.{placed-there, never-there}
+use Rattle.fw_components.proofs.Going.{comp-found, buffer-found, pipe-found, none-there, without-comp, without-buffer, without-pipe}
 use Rattle.fw_components.proofs.GoneKept.{comp-gone, buffer-gone, pipe-gone}
-use Rattle.fw_components.proofs.Ids.{not-second}
+use Rattle.fw_components.proofs.Apart.{not-second}
 use Rattle.fw_components.proofs.Listed.{lists-joined}
 use Rattle.fw_components.proofs.Tallying.{lists-tallied, pipes-tallied}
 use Rattle.fw_components.proofs.registry.Registry.remove.Goals as goal

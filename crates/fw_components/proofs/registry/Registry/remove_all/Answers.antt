@@ -2,7 +2,7 @@ use Rattle.std.proofs.Common.{◌≤◌, ◌∙◌, ◌++◌, sym, ap, subst}
 use Rattle.std.specs.List.{AllByRecursion}
 use Rattle.fw_heap.specs.declared.run.Home.{Home}
 use Rattle.fw_components.specs.Tables.{Tables, all_of}
-use Rattle.fw_components.specs.Changes.{IsOfHome, given_all}
+use Rattle.fw_units.specs.Changes.{IsOfHome, given_all}
 use Rattle.fw_components.proofs.KeptLaws.{empty-kept}
 use Rattle.fw_components.proofs.Going.{given-append, all-first, all-rest}
 use Rattle.fw_components.proofs.Listed.{lists-joined}

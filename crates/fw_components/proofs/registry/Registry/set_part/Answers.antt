@@ -1,6 +1,6 @@
 use Rattle.std.proofs.Common.{◌≡◌, ◌<◌, ◌≤◌, ◌∙◌, sym, ap, subst, ◌==◌, Some, Ok, List, find, length, Err, rules}
 use Rattle.std.specs.Prelude.{position}
-use Rattle.fw_components.specs.declared.component.Component.{Component}
+use Rattle.fw_units.specs.declared.component.Component.{Component}
 use Rattle.fw_components.specs.Tables.{Tables}
 use Rattle.fw_components.specs.Values.{left_with}
 use Rattle.fw_components.specs.Parts.{joined_bytes, takes_part, words_in, parted, IsPartedBy, IsTakenBy}

@@ -1,6 +1,6 @@
 use Rattle.std.specs.List.{list_any}
 use Rattle.stream_law.specs.Ways.{is_live_phase}
-use Rattle.fw_components.specs.declared.component.Component.{Component}
+use Rattle.fw_units.specs.declared.component.Component.{Component}
 use Rattle.fw_components.specs.Kept.{IsKept}
 use Rattle.fw_components.specs.Laid.{tables_of}
 use Rattle.fw_components.specs.Tally.{has_phase}

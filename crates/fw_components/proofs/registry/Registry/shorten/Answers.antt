@@ -1,6 +1,6 @@
 use Rattle.std.proofs.Common.{◌≤◌, ◌∙◌, sym, ap, subst}
 use Rattle.fw_components.specs.Tables.{Tables}
-use Rattle.fw_components.specs.Changes.{has_id}
+use Rattle.fw_units.specs.Changes.{has_id}
 use Rattle.fw_components.specs.Laid.{tables_of}
 use Rattle.fw_components.proofs.Begun.{buffer-taken}
 use Rattle.fw_components.proofs.TallyKept.{taken-tallied}

@@ -1,9 +1,10 @@
 use Rattle.std.proofs.Common.{◌∙◌, ◌*◌, ◌≤◌, refl, sym, ap, subst, List, length}
-use Rattle.fw_components.specs.declared.component.Component.{Component}
+use Rattle.fw_units.specs.declared.component.Component.{Component}
 use Rattle.fw_components.specs.Tables.{Tables, held_frames}
-use Rattle.fw_components.specs.Frames.{buffer_frames, channels_in, channels_at}
+use Rattle.fw_units.specs.Frames.{buffer_frames, channels_in}
+use Rattle.fw_components.specs.Frames.{channels_at}
 use Rattle.fw_components.specs.Laid.{tables_of}
-use Rattle.fw_components.proofs.MadeLaws.{parts}
+use Rattle.fw_units.proofs.MadeLaws.{parts}
 use Rattle.fw_components.proofs.registry.Registry.spans.Goals as goal
 
 pub returns-clause-size : goal.returns-clause-size

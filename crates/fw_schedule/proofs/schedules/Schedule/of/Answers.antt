@@ -5,7 +5,8 @@ use Rattle.std.specs.List.{AllByRecursion}
 use Rattle.stream_law.specs.declared.graph.Edge.{Edge}
 use Rattle.stream_law.specs.Ways.{components}
 use Rattle.stream_law.specs.Order.{order}
-use Rattle.fw_components.specs.Tables.{Tables, graph_of, view_by, edge_by}
+use Rattle.fw_units.specs.Units.{edge_by}
+use Rattle.fw_components.specs.Tables.{Tables, graph_of, view_by}
 use Rattle.fw_components.specs.Kept.{IsKept}
 use Rattle.fw_schedule.specs.declared.steps.Step.{Step}
 use Rattle.fw_schedule.specs.Schedules.{IsStepOf, inlets_of}

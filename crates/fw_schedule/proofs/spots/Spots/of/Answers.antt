@@ -4,8 +4,9 @@ use Rattle.stream_law.specs.declared.graph.Join.{Join}
 use Rattle.stream_law.specs.declared.stream.StreamView.{StreamView}
 use Rattle.stream_law.specs.Ways.{on_way, is_capture}
 use Rattle.stream_law.proofs.Members.{IsIn}
-use Rattle.fw_components.specs.declared.component.Component.{Component}
-use Rattle.fw_components.specs.Tables.{graph_of, streams_by, with_stream_by, kind_by}
+use Rattle.fw_units.specs.declared.component.Component.{Component}
+use Rattle.fw_units.specs.Units.{streams_by, with_stream_by, kind_by}
+use Rattle.fw_components.specs.Tables.{graph_of}
 use Rattle.fw_places.specs.Walks.{place_in, leads_by}
 use Rattle.fw_components.proofs.HostWays.{way-is}
 use Rattle.fw_schedule.specs.declared.spots.Spot.{Spot}

@@ -1,5 +1,6 @@
 use Rattle.std.proofs.Common.{◌≡◌, length, take}
-use Rattle.fw_components.specs.Tables.{graph_of, streams_by}
+use Rattle.fw_units.specs.Units.{streams_by}
+use Rattle.fw_components.specs.Tables.{graph_of}
 use Rattle.fw_schedule.proofs.MetStreams.{AreMet}
 use Rattle.fw_schedule.proofs.spots.Spots.of.Given as goal
 

@@ -1,0 +1,17 @@
+pub mod Draining
+pub mod Found
+pub mod FrameLaws
+pub mod Hinted
+pub mod Ids
+pub mod Inserting
+pub mod MadeLaws
+pub mod MoveAgain
+pub mod MovedLaws
+pub mod Positions
+pub mod Putting
+pub mod RunLaws
+pub mod Standing
+pub mod StepLaws
+pub mod Summing
+pub mod Taking
+pub mod Units

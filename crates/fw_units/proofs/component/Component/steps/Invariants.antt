@@ -1,0 +1,14 @@
+use Rattle.std.proofs.Common.{◌≡◌, ◌≤◌, ◌-◌, vec_capacity}
+use Rattle.fw_units.specs.Moving.{IsMoved}
+use Rattle.fw_units.proofs.component.Component.steps.Given as goal
+
+-- so far it has moved some of the frames
+abbrev pub invariant-loop-moved : goal.invariant-loop-moved
+invariant-loop-moved l = record {
+  within : l.moved ≤ l.n;
+  so_far : IsMoved l.chosen l.looked l.fed l.moved l.fn.buffers.items l.fn.self l.buffers.items l.self;
+  capacity : vec_capacity l.buffers ≡ vec_capacity l.fn.buffers;
+}
+
+abbrev pub decreases-loop-moved : goal.decreases-loop-moved
+decreases-loop-moved l = l.n - l.moved

@@ -1,0 +1,79 @@
+-- What a volume, a mixer, a mux or an equaliser makes of frames, and what it leaves.
+use Rattle.std.specs.Prelude.{◌≡◌, ℕ, ◌+◌, ◌≤◌, List, [], map, filter, take, length, Bool, true, false, ◌==◌, Option, None, slice_get, if◌then◌else◌, ℤ}
+use Rattle.std.specs.List.{range_with_len}
+use Rattle.sof_base.specs.Samples.{Frame}
+use Rattle.sof_base.specs.Equations.{volume_of, mixed}
+use Rattle.eq_biquad.specs.EqState.{numbers_of}
+use Rattle.stream_law.specs.declared.graph.Join.{Join}
+use Rattle.stream_law.specs.Order.{is_among}
+use Rattle.stream_law.specs.Table.{table}
+use Rattle.stream_law.specs.Made.{only_slice, chosen_slice, frames_at as frames_of_each}
+use Rattle.stream_law.specs.Equaliser.{passed_frames, numbers_after}
+use Rattle.fw_units.specs.declared.component.Unit as units
+use Rattle.fw_units.specs.declared.component.Unit.TheVariants.{Volume, Mixer, Mux, Eq}
+use Rattle.fw_units.specs.declared.component.Component.{Component}
+use Rattle.fw_units.specs.Changes.{has_id, with_unit, unit_at}
+use Rattle.fw_units.specs.Frames.{piece_with_words, buffer_frames, channels_in, capacity_in, taken_by}
+
+-- ---- what can be moved
+
+-- a volume or an equaliser takes the frames of one buffer, a mixer or a mux those of any number
+abbrev pub moves_of : units.Unit → ℕ → Bool
+moves_of (Volume gains piece) inlets = inlets == 1
+moves_of (Mixer piece) inlets = true
+moves_of (Mux choice piece) inlets = true
+moves_of (Eq eq next remaining) inlets = inlets == 1
+moves_of unit inlets = false
+
+-- a buffer holds n frames of so many channels
+pub record IsInlet (buffers : List Component) (channels n b : ℕ) : Type 0 where
+  pub there : has_id buffers b ≡ true
+  pub shape : channels_in buffers b ≡ channels
+  pub held : n ≤ length (buffer_frames buffers b)
+
+-- and one has room for n more
+pub record IsOutlet (buffers : List Component) (channels n b : ℕ) : Type 0 where
+  pub there : has_id buffers b ≡ true
+  pub shape : channels_in buffers b ≡ channels
+  pub room : length (buffer_frames buffers b) + n ≤ capacity_in buffers b
+
+-- ---- what is made
+
+-- the first n frames of each buffer that is looked at
+abbrev pub slices_in : List Component → List ℕ → ℕ → List (ℕ × List Frame)
+slices_in buffers looked n = table looked (λ b. take n (buffer_frames buffers b))
+
+-- the input of a mux by its choice, from 0, in the order in which its inputs were joined
+abbrev pub chosen_by : units.Unit → ℕ → List Join → Option ℕ
+chosen_by (Mux choice piece) id joins = slice_get (map (λ j. j.source) (filter (λ j. j.sink == id) joins)) choice
+chosen_by unit id joins = None
+
+-- what a unit makes of n frames of each
+abbrev pub made_frames : units.Unit → (channels n : ℕ) → Option ℕ → List (ℕ × List Frame) → List Frame
+made_frames (Volume gains piece) channels n chosen slices = map (volume_of channels gains) (only_slice slices)
+made_frames (Mixer piece) channels n chosen slices = map (λ j. mixed channels (frames_of_each slices j)) (range_with_len 0 n)
+made_frames (Mux choice piece) channels n chosen slices = chosen_slice slices channels n chosen
+made_frames (Eq eq next remaining) channels n chosen slices = passed_frames eq.blob channels (numbers_of eq channels) (only_slice slices)
+made_frames unit channels n chosen slices = []
+
+-- an equaliser's numbers after that
+abbrev pub made_numbers : units.Unit → ℕ → List (ℕ × List Frame) → List ℤ
+made_numbers (Eq eq next remaining) channels slices = numbers_after eq.blob channels (numbers_of eq channels) (only_slice slices)
+made_numbers unit channels slices = []
+
+-- ---- what is left
+
+-- a buffer that is looked at has lost its first n frames
+abbrev pub drained_at : List ℕ → ℕ → Component → Component
+drained_at looked n c = if is_among looked c.id then taken_by n c else c
+
+-- an equaliser has other words in its piece
+abbrev pub run_unit : List ℤ → units.Unit → units.Unit
+run_unit words (Eq eq next remaining) = Eq (record { blob = eq.blob; piece = piece_with_words words eq.piece }) next remaining
+run_unit words unit = unit
+
+abbrev pub run_by : List ℤ → Component → Component
+run_by words c = with_unit (run_unit words) c
+
+abbrev pub run_at : ℕ → List ℤ → Component → Component
+run_at id words c = unit_at (run_unit words) id c

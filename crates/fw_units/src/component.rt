@@ -1,0 +1,191 @@
+// What stands in a registry.
+ghost use Rattle.std.specs.Prelude.{◌≡◌, ◌+◌, length, nat_le};
+ghost use Rattle.fw_units.specs.Units.{is_buffer, is_pipeline, piece_of, unit_frames, capacity_by};
+ghost use Rattle.fw_units.specs.Values.{unit_values, takes_values};
+ghost use Rattle.std.specs.List.{list_all};
+
+use eq_biquad::Eq;
+use fw_heap::Piece;
+use fw_ring::Ring;
+use ipc3_model::{CTRL_ENUM, CTRL_VOLUME};
+use sof_base::{Bounded, Format, Params};
+use stream_law::Phase;
+
+// The greatest gain, 256 in units of 1/65536.
+const GREATEST_GAIN: u32 = 16_777_216;
+
+/// What a component is, with its piece. An equaliser has the number of the part that is next and how many bytes remain; a buffer
+/// has the components that are joined to it.
+pub enum Unit {
+    Host {
+        capture: bool,
+        phase: Phase,
+        params: Option<Params>,
+        piece: Piece,
+    },
+    Dai {
+        capture: bool,
+        format: Format,
+        piece: Piece,
+    },
+    Volume {
+        gains: Bounded<u32, 8>,
+        piece: Piece,
+    },
+    Mixer {
+        piece: Piece,
+    },
+    Mux {
+        choice: u32,
+        piece: Piece,
+    },
+    Eq {
+        eq: Eq,
+        next: u32,
+        remaining: u32,
+    },
+    Buffer {
+        size: u32,
+        ring: Ring,
+        source: Option<u32>,
+        sink: Option<u32>,
+    },
+    Pipeline {
+        sched: u32,
+        period: u32,
+        complete: bool,
+        piece: Piece,
+    },
+}
+
+/// A component, a buffer or a pipeline: its id, the index of its pipeline, how many channels it moves, and what it is.
+pub struct Component {
+    pub id: u32,
+    pub pipe: u32,
+    pub channels: u8,
+    pub unit: Unit,
+}
+
+impl Unit {
+    pub fn is_buffer(&self) -> bool
+        ensures { result ≡ is_buffer self.now }
+    {
+        matches!(self, Unit::Buffer { .. })
+    }
+
+    pub fn is_pipeline(&self) -> bool
+        ensures { result ≡ is_pipeline self.now }
+    {
+        matches!(self, Unit::Pipeline { .. })
+    }
+}
+
+impl Component {
+    /// The piece that it holds.
+    pub fn into_piece(self) -> Piece
+        ensures { result ≡ piece_of self.unit }
+    {
+        let Component {
+            id: _,
+            pipe: _,
+            channels: _,
+            unit,
+        } = self;
+        match unit {
+            Unit::Host {
+                capture: _,
+                phase: _,
+                params: _,
+                piece,
+            } => piece,
+            Unit::Dai {
+                capture: _,
+                format: _,
+                piece,
+            } => piece,
+            Unit::Volume { gains: _, piece } => piece,
+            Unit::Mixer { piece } => piece,
+            Unit::Mux { choice: _, piece } => piece,
+            Unit::Eq {
+                eq,
+                next: _,
+                remaining: _,
+            } => eq.into_piece(),
+            Unit::Buffer {
+                size: _,
+                ring,
+                source: _,
+                sink: _,
+            } => ring.into_piece(),
+            Unit::Pipeline {
+                sched: _,
+                period: _,
+                complete: _,
+                piece,
+            } => piece,
+        }
+    }
+
+    /// How many frames a buffer holds.
+    pub fn held(&self) -> u32
+        ensures { result ≡ length (unit_frames self.now.unit) }
+    {
+        match &self.unit {
+            Unit::Buffer { ring, .. } => ring.len(),
+            _ => 0,
+        }
+    }
+
+    /// How many more frames a buffer has room for.
+    pub fn room(&self) -> u32
+        ensures { result + length (unit_frames self.now.unit) ≡ capacity_by self.now.unit }
+    {
+        match &self.unit {
+            Unit::Buffer { ring, .. } => ring.free(),
+            _ => 0,
+        }
+    }
+
+    /// The values of a volume by CTRL_VOLUME, and of a mux by CTRL_ENUM.
+    pub fn values(&self, command: u32) -> Option<Bounded<u32, 8>>
+        ensures { result ≡ unit_values self.now.unit command }
+    {
+        match &self.unit {
+            Unit::Volume { gains, .. } => {
+                if command == CTRL_VOLUME {
+                    Some(gains.copied())
+                } else {
+                    None
+                }
+            }
+            Unit::Mux { choice, .. } => {
+                if command == CTRL_ENUM {
+                    Bounded::new(&[*choice])
+                } else {
+                    None
+                }
+            }
+            _ => None,
+        }
+    }
+
+    /// Whether values can be set by a command.
+    pub fn takes(&self, command: u32, values: &[u32]) -> bool
+        ensures { result ≡ takes_values self.now.unit command values.now }
+    {
+        match &self.unit {
+            Unit::Volume { gains, .. } => {
+                command == CTRL_VOLUME && values.len() == gains.items().len() && are_gains(values)
+            }
+            Unit::Mux { .. } => command == CTRL_ENUM && values.len() == 1,
+            _ => false,
+        }
+    }
+}
+
+// Whether no gain passes the greatest.
+fn are_gains(gains: &[u32]) -> bool
+    ensures { result ≡ list_all (λ v. nat_le v 16777216) gains.now }
+{
+    gains.iter().all(|gain| *gain <= GREATEST_GAIN)
+}

@@ -1,0 +1,142 @@
+// One component moves frames between the buffers of a table.
+ghost use Rattle.std.specs.Prelude.{◌≡◌, ◌+◌, ◌*◌, ◌/◌, ◌≤◌, true, map, length, nat_eq, vec_capacity};
+ghost use Rattle.std.specs.List.{AllByRecursion, IsDistinct};
+ghost use Rattle.stream_law.specs.Placed.{Ascends};
+ghost use Rattle.fw_units.specs.Changes.{has_id};
+ghost use Rattle.fw_units.specs.Frames.{channels_in, buffer_frames};
+ghost use Rattle.fw_units.specs.Processed.{chosen_by, drained_at};
+ghost use Rattle.fw_units.specs.Moving.{CanMove, IsMoved};
+
+use crate::component::Component;
+use crate::hints::Hints;
+use crate::places::{push_in, shorten_in};
+use crate::workspace::{MOST, Workspace};
+use sof_base::Sample;
+use stream_law::Join;
+
+impl Component {
+    /// Moves `n` frames out of the buffers that it looks at into the one that it feeds.
+    pub fn carry(
+        &mut self,
+        joins: &[Join],
+        hints: &Hints,
+        buffers: &mut Vec<Component>,
+        looked: &[u32],
+        fed: u32,
+        n: u32,
+        workspace: &mut Workspace,
+    )
+        requires { CanMove buffers.old.items looked.now fed n self.old }
+        ensures moved { IsMoved (chosen_by self.old.unit self.old.id joins.now) looked.now fed n buffers.old.items self.old buffers.new.items self.new }
+        ensures capacity { vec_capacity buffers.new ≡ vec_capacity buffers.old }
+    {
+        let chosen = self.chosen(joins);
+        self.steps(
+            chosen,
+            hints,
+            buffers,
+            looked,
+            fed,
+            n,
+            &mut workspace.sums,
+            &mut workspace.samples,
+        );
+    }
+
+    // Moves them as many at a time as there is room for.
+    fn steps(
+        &mut self,
+        chosen: Option<u32>,
+        hints: &Hints,
+        buffers: &mut Vec<Component>,
+        looked: &[u32],
+        fed: u32,
+        n: u32,
+        sums: &mut [i64],
+        samples: &mut [Sample],
+    )
+        requires can { CanMove buffers.old.items looked.now fed n self.old }
+        requires size { (2048 ≤ length sums.old) × (2048 ≤ length samples.old) }
+        ensures moved { IsMoved chosen looked.now fed n buffers.old.items self.old buffers.new.items self.new }
+        ensures capacity { vec_capacity buffers.new ≡ vec_capacity buffers.old }
+    {
+        let most = most_frames(width_of(hints, buffers.as_slice(), fed));
+        let mut moved = n.min(most);
+        self.step(chosen, hints, buffers, looked, fed, moved, sums, samples);
+        while moved < n {
+            let more = (n - moved).min(most);
+            self.step(chosen, hints, buffers, looked, fed, more, sums, samples);
+            moved += more;
+        }
+    }
+
+    // Moves as many frames as there is room for.
+    fn step(
+        &mut self,
+        chosen: Option<u32>,
+        hints: &Hints,
+        buffers: &mut Vec<Component>,
+        looked: &[u32],
+        fed: u32,
+        n: u32,
+        sums: &mut [i64],
+        samples: &mut [Sample],
+    )
+        requires can { CanMove buffers.old.items looked.now fed n self.old }
+        requires channels { (1 ≤ self.old.channels) × (self.old.channels ≤ 8) }
+        requires size { (n * self.old.channels ≤ length sums.old) × (n * self.old.channels ≤ length samples.old) }
+        ensures moved { IsMoved chosen looked.now fed n buffers.old.items self.old buffers.new.items self.new }
+        ensures capacity { vec_capacity buffers.new ≡ vec_capacity buffers.old }
+    {
+        let size = n as usize * usize::from(self.channels);
+        let made = &mut samples[..size];
+        self.make(
+            chosen,
+            hints,
+            buffers.as_slice(),
+            looked,
+            n,
+            &mut sums[..size],
+            made,
+        );
+        drain_in(hints, buffers, looked, n);
+        push_in(hints, buffers, fed, made);
+    }
+}
+
+// How many frames of so many samples there is room for: one or two channels, as most streams have, take no division.
+fn most_frames(width: usize) -> u32
+    requires { (1 ≤ width) × (width ≤ 8) }
+    ensures { result ≡ 2048 / width }
+{
+    match width {
+        1 => MOST as u32,
+        2 => MOST as u32 / 2,
+        _ => (MOST / width) as u32,
+    }
+}
+
+// How many samples a frame of a buffer has, 1 to 8.
+fn width_of(hints: &Hints, buffers: &[Component], id: u32) -> usize
+    requires ascends { Ascends (λ c. c.id) buffers.now }
+    requires there { has_id buffers.now id ≡ true }
+    ensures range { (1 ≤ result) × (result ≤ 8) }
+    ensures is { result ≡ channels_in buffers.now id }
+{
+    let at = hints.place(buffers, id);
+    buffers[at].frame_samples()
+}
+
+// The buffers that are looked at, each of them named once, lose their first frames.
+fn drain_in(hints: &Hints, components: &mut Vec<Component>, looked: &[u32], n: u32)
+    requires ascends { Ascends (λ c. c.id) components.old.items }
+    requires single { IsDistinct nat_eq looked.now }
+    requires there { AllByRecursion (λ b. has_id components.old.items b ≡ true) looked.now }
+    requires held { AllByRecursion (λ b. n ≤ length (buffer_frames components.old.items b)) looked.now }
+    ensures items { components.new.items ≡ map (drained_at looked.now n) components.old.items }
+    ensures capacity { vec_capacity components.new ≡ vec_capacity components.old }
+{
+    for inlet in looked {
+        shorten_in(hints, components, *inlet, n);
+    }
+}

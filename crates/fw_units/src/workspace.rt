@@ -1,0 +1,33 @@
+// Room for the samples of a move.
+use sof_base::{NoMemory, Sample};
+use std::alloc::Global;
+use std::marker::Model;
+
+/// The most samples that are moved in one go: a tick's 192 frames of 8 samples fit.
+pub(crate) const MOST: usize = 2048;
+
+/// Room for the samples of a move and for their sums.
+#[derive(Drop)]
+pub struct Workspace {
+    pub(crate) sums: Vec<i64>,
+    pub(crate) samples: Vec<Sample>,
+}
+
+impl Model for Workspace {
+    ghost use Rattle.std.specs.Prelude.{◌≡◌, length};
+
+    ghost Value = { Unit {0} };
+
+    ghost view = { λ w. tt };
+
+    ghost invariant = { λ w. (length w.sums.items ≡ 2048) × (length w.samples.items ≡ 2048) };
+}
+
+impl Workspace {
+    pub fn new(alloc: Global) -> Result<Workspace, NoMemory> {
+        Ok(Workspace {
+            sums: vec![in alloc; 0; MOST]?,
+            samples: vec![in alloc; 0; MOST]?,
+        })
+    }
+}

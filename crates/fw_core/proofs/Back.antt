@@ -12,9 +12,10 @@ use Rattle.mbox_link.specs.Step.{without_piece, holes_after_free}
 use Rattle.row_laws.specs.Tiled.{IsTiled}
 use Rattle.row_laws.proofs.Tiling.{give-tiled}
 use Rattle.fw_heap.specs.Regions.{RegionState}
-use Rattle.fw_components.specs.declared.component.Component.{Component}
-use Rattle.fw_components.specs.Tables.{Tables, all_of, carved_pieces, pieces_by, piece_by}
-use Rattle.fw_components.specs.Changes.{given_all, given_by}
+use Rattle.fw_units.specs.declared.component.Component.{Component}
+use Rattle.fw_units.specs.Units.{pieces_by, piece_by}
+use Rattle.fw_components.specs.Tables.{Tables, all_of, carved_pieces}
+use Rattle.fw_units.specs.Changes.{given_all, given_by}
 use Rattle.fw_core.specs.Held.{IsPieceHeld}
 
 -- ---- what is placed among keys that come once

@@ -14,12 +14,14 @@ use Rattle.mbox_link.specs.Step.{no_device, busy, invalid, is_used, has_comp, is
 use Rattle.row_laws.specs.Tiled.{heap_bytes}
 use Rattle.row_laws.proofs.RowKept.{connect-kept, pipe_complete-kept}
 use Rattle.fw_heap.specs.Regions.{RegionState}
-use Rattle.fw_components.specs.declared.component.Component.{Component}
-use Rattle.fw_components.specs.declared.component.Unit as units
-use Rattle.fw_components.specs.declared.component.Unit.TheVariants.{Buffer}
-use Rattle.fw_components.specs.Frames.{channels_by}
-use Rattle.fw_components.specs.Tables.{Tables, all_of, view_by, ring_by, rings_of, histories_of, staging_of, carved_pieces, comp_by}
-use Rattle.fw_components.specs.Changes.{joined_at, sunk_unit, sourced_unit, tables_with_join, completed_at}
+use Rattle.fw_units.specs.declared.component.Component.{Component}
+use Rattle.fw_units.specs.declared.component.Unit as units
+use Rattle.fw_units.specs.declared.component.Unit.TheVariants.{Buffer}
+use Rattle.fw_units.specs.Frames.{channels_by}
+use Rattle.fw_units.specs.Units.{ring_by, comp_by}
+use Rattle.fw_components.specs.Tables.{Tables, all_of, view_by, rings_of, histories_of, staging_of, carved_pieces}
+use Rattle.fw_units.specs.Changes.{joined_at, sunk_unit, sourced_unit, completed_at}
+use Rattle.fw_components.specs.Changes.{tables_with_join}
 use Rattle.fw_pipeline.specs.Rows as rows
 use Rattle.fw_schedule.specs.Ticks.{HasChannels}
 use Rattle.fw_core.specs.Held.{state_in, IsPieceHeld}

@@ -36,9 +36,10 @@ use Rattle.row_laws.proofs.Settings.{ways-set, bare-set}
 use Rattle.row_laws.proofs.Stays.{channels-stay}
 use Rattle.row_laws.proofs.StreamLaws.{keeps-phase, keeps-free, keeps-params}
 use Rattle.row_laws.proofs.Unreached.{apart, off-way}
-use Rattle.fw_components.specs.declared.component.Component.{Component}
-use Rattle.fw_components.specs.Tables.{Tables, view_by, graph_of, comp_by, edge_by}
-use Rattle.fw_components.specs.Frames.{channels_by}
+use Rattle.fw_units.specs.declared.component.Component.{Component}
+use Rattle.fw_units.specs.Units.{comp_by, edge_by}
+use Rattle.fw_components.specs.Tables.{Tables, view_by, graph_of}
+use Rattle.fw_units.specs.Frames.{channels_by}
 use Rattle.fw_pipeline.specs.declared.phases.Trigger.{Trigger}
 use Rattle.fw_pipeline.specs.declared.phases.Trigger.TheVariants as what
 use Rattle.fw_pipeline.specs.Triggers.{triggered}

@@ -22,11 +22,13 @@ use Rattle.row_laws.proofs.Fewer.{all-filter, distinct-filter}
 use Rattle.eq_biquad.specs.EqState.{staged_of}
 use Rattle.fw_heap.specs.declared.run.Home.{Home}
 use Rattle.fw_heap.specs.Regions.{RegionState}
-use Rattle.fw_components.specs.declared.component.Component.{Component}
-use Rattle.fw_components.specs.declared.component.Unit as units
-use Rattle.fw_components.specs.declared.component.Unit.TheVariants.{Eq, Buffer}
-use Rattle.fw_components.specs.Tables.{Tables, all_of, view_by, graph_of, ring_by, rings_of, histories_of, staging_by, staging_of, carved_pieces, pieces_by, piece_by, with_staging_by}
-use Rattle.fw_components.specs.Changes.{has_id, tables_without, without_by, given_found, found, IsOfHome}
+use Rattle.fw_units.specs.declared.component.Component.{Component}
+use Rattle.fw_units.specs.declared.component.Unit as units
+use Rattle.fw_units.specs.declared.component.Unit.TheVariants.{Eq, Buffer}
+use Rattle.fw_units.specs.Units.{ring_by, staging_by, pieces_by, piece_by, with_staging_by}
+use Rattle.fw_components.specs.Tables.{Tables, all_of, view_by, graph_of, rings_of, histories_of, staging_of, carved_pieces}
+use Rattle.fw_units.specs.Changes.{has_id, IsOfHome}
+use Rattle.fw_components.specs.Changes.{tables_without, without_by, given_found, found}
 use Rattle.fw_walks.proofs.Naming.{comp-named, edge-named, pipe-named}
 use Rattle.fw_pipeline.specs.declared.freeing.Item.{Item}
 use Rattle.fw_pipeline.specs.declared.freeing.Item.TheVariants as items

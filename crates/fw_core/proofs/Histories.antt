@@ -9,8 +9,9 @@ use Rattle.stream_law.specs.Placed.{HasDistinct}
 use Rattle.stream_law.proofs.Members.{IsIn, in-all, kept-in}
 use Rattle.row_laws.specs.Kept.{IsKeptState}
 use Rattle.row_laws.proofs.Found.{found-each}
-use Rattle.fw_components.specs.declared.component.Component.{Component}
-use Rattle.fw_components.specs.Tables.{Tables, comp_by, view_by, histories_of, numbers_by}
+use Rattle.fw_units.specs.declared.component.Component.{Component}
+use Rattle.fw_units.specs.Units.{comp_by, numbers_by}
+use Rattle.fw_components.specs.Tables.{Tables, view_by, histories_of}
 
 abbrev pub history : Component → History
 history c = record { comp = c.id; numbers = numbers_by c.unit c.channels }

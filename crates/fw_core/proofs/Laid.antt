@@ -10,7 +10,7 @@ use Rattle.row_laws.proofs.HoleLists.{total-fresh}
 use Rattle.row_laws.proofs.BootKept.{boot-kept}
 use Rattle.fw_heap.specs.Regions.{RegionState}
 use Rattle.fw_components.specs.Tables.{Tables, all_of}
-use Rattle.fw_components.specs.Changes.{given_all}
+use Rattle.fw_units.specs.Changes.{given_all}
 use Rattle.fw_components.specs.States.{AreOf, with_tables}
 use Rattle.fw_core.specs.declared.firmware.Firmware.TheInside.{Inside}
 use Rattle.fw_core.specs.Held.{state_in, IsPieceHeld}

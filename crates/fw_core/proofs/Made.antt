@@ -32,11 +32,13 @@ use Rattle.fw_heap.specs.declared.run.Home.{Home}
 use Rattle.fw_heap.specs.Regions.{RegionState, carves}
 use Rattle.fw_heap.specs.Pieces.{PieceState}
 use Rattle.fw_ring.specs.RingState.{RingState}
-use Rattle.fw_components.specs.declared.component.Component.{Component}
-use Rattle.fw_components.specs.declared.component.Unit as units
-use Rattle.fw_components.specs.declared.component.Unit.TheVariants.{Host, Dai, Eq, Buffer, Pipeline}
-use Rattle.fw_components.specs.Tables.{Tables, view_by, graph_of, comp_by, edge_by, pipe_by, kind_by, setting_by, piece_of, piece_by, pieces_by, carved_pieces, ring_by, rings_of, streams_by, streams_of, staging_by, histories_of, with_stream_by, with_staging_by, is_buffer, is_pipeline}
-use Rattle.fw_components.specs.Changes.{has_id, IsOfHome, IsNew, is_idle_phase, added, added_by}
+use Rattle.fw_units.specs.declared.component.Component.{Component}
+use Rattle.fw_units.specs.declared.component.Unit as units
+use Rattle.fw_units.specs.declared.component.Unit.TheVariants.{Host, Dai, Eq, Buffer, Pipeline}
+use Rattle.fw_units.specs.Units.{comp_by, edge_by, pipe_by, kind_by, setting_by, piece_of, piece_by, pieces_by, ring_by, streams_by, staging_by, with_stream_by, with_staging_by, is_buffer, is_pipeline}
+use Rattle.fw_components.specs.Tables.{Tables, view_by, graph_of, carved_pieces, rings_of, streams_of, histories_of}
+use Rattle.fw_units.specs.Changes.{has_id, IsOfHome}
+use Rattle.fw_components.specs.Changes.{IsNew, is_idle_phase, added, added_by}
 use Rattle.fw_walks.proofs.Naming.{comp-named, edge-named, pipe-named}
 use Rattle.fw_components.specs.States.{AreOf}
 use Rattle.fw_schedule.specs.Ticks.{HasChannels}

@@ -7,10 +7,10 @@ use Rattle.stream_law.specs.State.{Staging}
 use Rattle.stream_law.proofs.Members.{find-in}
 use Rattle.stream_law.specs.Placed.{placed, AreAbove, Ascends}
 use Rattle.mbox_link.specs.Step.{unstaged}
-use Rattle.fw_components.specs.declared.component.Component.{Component}
-use Rattle.fw_components.specs.declared.component.Unit as units
-use Rattle.fw_components.specs.declared.component.Unit.TheVariants.{Eq}
-use Rattle.fw_components.specs.Tables.{staging_by, with_staging_by}
+use Rattle.fw_units.specs.declared.component.Component.{Component}
+use Rattle.fw_units.specs.declared.component.Unit as units
+use Rattle.fw_units.specs.declared.component.Unit.TheVariants.{Eq}
+use Rattle.fw_units.specs.Units.{staging_by, with_staging_by}
 use Rattle.fw_components.specs.Parts.{staging_one, parted_by, parted_at}
 
 -- ---- one after the other

@@ -11,10 +11,10 @@ use Rattle.stream_law.specs.State.{View, RingView, History}
 use Rattle.stream_law.specs.Seen.{flows, ring_seen, is_equaliser}
 use Rattle.stream_law.proofs.Members.{IsIn}
 use Rattle.mbox_link.specs.Step as rows
-use Rattle.fw_components.specs.declared.component.Component.{Component}
-use Rattle.fw_components.specs.declared.component.Unit as units
-use Rattle.fw_components.specs.declared.component.Unit.TheVariants.{Host, Dai, Eq, Buffer}
-use Rattle.fw_components.specs.Tables.{comp_by, kind_by, setting_by, streams_by, with_stream_by}
+use Rattle.fw_units.specs.declared.component.Component.{Component}
+use Rattle.fw_units.specs.declared.component.Unit as units
+use Rattle.fw_units.specs.declared.component.Unit.TheVariants.{Host, Dai, Eq, Buffer}
+use Rattle.fw_units.specs.Units.{comp_by, kind_by, setting_by, streams_by, with_stream_by}
 use Rattle.fw_parts.specs.Staged.{staging_in, fits_behind}
 use Rattle.fw_components.specs.Parts.{staging_one, joined_bytes, takes_part, parted_unit, parted_by, parted_at}
 use Rattle.fw_core.proofs.Seats.{seat}

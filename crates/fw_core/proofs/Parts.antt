@@ -26,9 +26,10 @@ use Rattle.row_laws.proofs.Found.{found-each}
 use Rattle.row_laws.proofs.SameWays.{flows-same}
 use Rattle.row_laws.proofs.Settings.{ways-set, bare-set}
 use Rattle.fw_heap.specs.Regions.{RegionState}
-use Rattle.fw_components.specs.declared.component.Component.{Component}
-use Rattle.fw_components.specs.declared.component.Unit as units
-use Rattle.fw_components.specs.Tables.{Tables, all_of, graph_of, view_by, comp_by, kind_by, setting_by, streams_of, staging_by, rings_of, numbers_by}
+use Rattle.fw_units.specs.declared.component.Component.{Component}
+use Rattle.fw_units.specs.declared.component.Unit as units
+use Rattle.fw_units.specs.Units.{comp_by, kind_by, setting_by, staging_by, numbers_by}
+use Rattle.fw_components.specs.Tables.{Tables, all_of, graph_of, view_by, streams_of, rings_of}
 use Rattle.fw_components.specs.Values.{left_with}
 use Rattle.fw_parts.specs.Staged.{fits_behind}
 use Rattle.fw_components.specs.Parts.{staging_one, joined_bytes, takes_part, parted_by, parted_at, parted, part_set, IsParted, IsPartedBy}

@@ -14,13 +14,14 @@ use Rattle.stream_law.proofs.Members.{IsIn, in-all, in-each}
 use Rattle.mbox_link.specs.Step as rows
 use Rattle.row_laws.specs.Kept.{IsKeptState}
 use Rattle.fw_heap.specs.Regions.{RegionState}
-use Rattle.fw_components.specs.declared.component.Component.{Component}
-use Rattle.fw_components.specs.declared.component.Unit as units
-use Rattle.fw_components.specs.declared.component.Unit.TheVariants.{Buffer}
-use Rattle.fw_components.specs.Tables.{Tables, view_by, graph_of, is_buffer}
-use Rattle.fw_components.specs.Changes.{set_at, set_unit, ended_unit}
+use Rattle.fw_units.specs.declared.component.Component.{Component}
+use Rattle.fw_units.specs.declared.component.Unit as units
+use Rattle.fw_units.specs.declared.component.Unit.TheVariants.{Buffer}
+use Rattle.fw_units.specs.Units.{is_buffer}
+use Rattle.fw_components.specs.Tables.{Tables, view_by, graph_of}
+use Rattle.fw_units.specs.Changes.{set_at, set_unit, ended_unit}
 use Rattle.fw_components.specs.Kept as tables
-use Rattle.fw_components.specs.Frames.{channels_by, begun_by, begun_unit}
+use Rattle.fw_units.specs.Frames.{channels_by, begun_by, begun_unit}
 use Rattle.fw_pipeline.specs.declared.phases.Trigger.{Trigger}
 use Rattle.fw_pipeline.specs.Triggers.{triggered, phase_after, params_after, params_of, begins, begun_in, settled_in, IsBegun, BecomeEach, IsTriggered}
 use Rattle.fw_pipeline.proofs.StateAfter.{set-id}

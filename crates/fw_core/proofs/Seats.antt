@@ -6,12 +6,12 @@ use Rattle.stream_law.proofs.Members.{IsIn}
 use Rattle.stream_law.specs.Placed.{placed}
 use Rattle.stream_law.specs.declared.graph.Join.{Join}
 use Rattle.fw_heap.specs.declared.run.Home.{Home}
-use Rattle.fw_components.specs.declared.component.Component.{Component}
-use Rattle.fw_components.specs.declared.component.Unit as units
-use Rattle.fw_components.specs.declared.component.Unit.TheVariants.{Buffer}
-use Rattle.fw_components.specs.Tables.{piece_of, piece_by, pieces_by}
-use Rattle.fw_components.specs.Changes.{IsOfHome, joined_at, sunk_unit, sourced_unit, completed_at, completed_unit}
-use Rattle.fw_components.specs.Values.{valued_at, valued_unit}
+use Rattle.fw_units.specs.declared.component.Component.{Component}
+use Rattle.fw_units.specs.declared.component.Unit as units
+use Rattle.fw_units.specs.declared.component.Unit.TheVariants.{Buffer}
+use Rattle.fw_units.specs.Units.{piece_of, piece_by, pieces_by}
+use Rattle.fw_units.specs.Changes.{IsOfHome, joined_at, sunk_unit, sourced_unit, completed_at, completed_unit}
+use Rattle.fw_units.specs.Values.{valued_at, valued_unit}
 
 -- the piece of a component, and its region
 abbrev pub seat : Component → PieceView × Home

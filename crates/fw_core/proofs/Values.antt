@@ -17,13 +17,16 @@ use Rattle.mbox_link.specs.Step as rows
 use Rattle.row_laws.specs.Tiled.{heap_bytes}
 use Rattle.row_laws.proofs.RowKept.{set_value-kept}
 use Rattle.fw_heap.specs.Regions.{RegionState}
-use Rattle.fw_components.specs.declared.component.Component.{Component}
-use Rattle.fw_components.specs.declared.component.Unit as units
-use Rattle.fw_components.specs.declared.component.Unit.TheVariants.{Host, Dai, Volume, Mux, Buffer}
-use Rattle.fw_components.specs.Tables.{Tables, all_of, graph_of, view_by, comp_by, kind_by, setting_by, streams_by, staging_by, numbers_by, with_stream_by, with_staging_by}
-use Rattle.fw_components.specs.Changes.{has_id, is_there}
+use Rattle.fw_units.specs.declared.component.Component.{Component}
+use Rattle.fw_units.specs.declared.component.Unit as units
+use Rattle.fw_units.specs.declared.component.Unit.TheVariants.{Host, Dai, Volume, Mux, Buffer}
+use Rattle.fw_units.specs.Units.{comp_by, kind_by, setting_by, streams_by, staging_by, numbers_by, with_stream_by, with_staging_by}
+use Rattle.fw_components.specs.Tables.{Tables, all_of, graph_of, view_by}
+use Rattle.fw_units.specs.Changes.{has_id}
+use Rattle.fw_components.specs.Changes.{is_there}
 use Rattle.fw_components.specs.States.{state_over}
-use Rattle.fw_components.specs.Values.{unit_values, values_or, unit_values_at, takes_values, valued_unit, valued_at, valued, values_set, left_with}
+use Rattle.fw_units.specs.Values.{unit_values, takes_values, valued_unit, valued_at}
+use Rattle.fw_components.specs.Values.{values_or, unit_values_at, valued, values_set, left_with}
 use Rattle.fw_walks.proofs.Naming.{used-named, find-map}
 use Rattle.fw_schedule.specs.Ticks.{HasChannels}
 use Rattle.fw_core.specs.Held.{state_in, IsPieceHeld}

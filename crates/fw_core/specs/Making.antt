@@ -1,8 +1,8 @@
 -- Where a new unit lies.
 use Rattle.std.specs.Prelude.{◌≡◌}
 use Rattle.fw_heap.specs.Pieces.{PieceState}
-use Rattle.fw_components.specs.declared.component.Unit.{Unit}
-use Rattle.fw_components.specs.Tables.{piece_of}
+use Rattle.fw_units.specs.declared.component.Unit.{Unit}
+use Rattle.fw_units.specs.Units.{piece_of}
 
 -- the piece of a unit is this one but for its words
 pub record IsIn (piece : PieceState) (unit : Unit) : Type 0 where

@@ -2,12 +2,15 @@
 //! will ever need is reserved when it is made.
 #![tactic(auto)]
 
-mod controls;
+mod data_rows;
 mod dsp;
 mod firmware;
-mod making;
+mod free_rows;
+mod join_rows;
 mod messages;
-mod rows;
+mod new_rows;
+mod stream_rows;
 mod units;
+mod value_rows;
 
 pub use firmware::Firmware;

@@ -6,9 +6,12 @@ ghost use Rattle.row_laws.specs.RowLaws.{HasBytes};
 ghost use Rattle.fw_core.specs.Held.{IsPieceHeld, state_in};
 ghost use Rattle.fw_core.specs.Answers.{IsRow, bare_answer};
 
-use crate::controls::{get_part, get_value, set_part, set_value};
-use crate::making::{buffer_new, comp_new, pipe_new};
-use crate::rows::{connect, free_row, pcm_params, pipe_complete, trigger_row};
+use crate::data_rows::{get_part, set_part};
+use crate::free_rows::free_row;
+use crate::join_rows::{connect, pipe_complete};
+use crate::new_rows::{buffer_new, comp_new, pipe_new};
+use crate::stream_rows::{pcm_params, trigger_row};
+use crate::value_rows::{get_value, set_value};
 use fw_components::Registry;
 use fw_heap::Region;
 use fw_pipeline::{Item, Trigger};

@@ -3,7 +3,7 @@ ghost use Rattle.std.specs.Prelude.{ℕ, ◌≡◌, ◌≤◌, ◌<◌, replicat
 ghost use Rattle.sof_base.specs.Holes.{rounded};
 ghost use Rattle.mbox_link.specs.Step.{comp_bytes, sample_format, kind_of as named_kind, first_setting as named_setting};
 ghost use Rattle.ipc3_model.specs.Messages.{IsKind};
-ghost use Rattle.fw_components.specs.Tables.{is_buffer, is_pipeline, kind_by, setting_by};
+ghost use Rattle.fw_units.specs.Units.{is_buffer, is_pipeline, kind_by, setting_by};
 ghost use Rattle.fw_components.specs.Changes.{IsNew};
 ghost use Rattle.fw_core.specs.Making.{IsIn};
 

@@ -1,5 +1,5 @@
 -- What is done with a control, and what is told of it.
-use Rattle.std.specs.Prelude.{◌≡◌, ◌≤◌, ℕ, List, [], ◌∷◌, ◌++◌, length, map, unwrap_or, Bool, true, false, Option, Some, None, Ok, Err, Result}
+use Rattle.std.specs.Prelude.{◌≡◌, ◌≤◌, ℕ, List, [], ◌∷◌, ◌++◌, length, map, unwrap_or, true, Option, Some, None, Ok, Err, Result}
 use Rattle.sof_base.specs.BlobFaults.{is_blob}
 use Rattle.sof_base.specs.declared.part.Part.{Part}
 use Rattle.std.specs.Option.{option_map, option_and_then}
@@ -18,7 +18,6 @@ use Rattle.tplg_plan.specs.GainOf.{control_gain}
 use Rattle.host_widgets.specs.declared.answers.Answer.{Answer}
 use Rattle.host_widgets.specs.declared.answers.Answer.TheVariants as answers
 use Rattle.host_widgets.specs.declared.answers.HostFault.{HostFault}
-use Rattle.host_widgets.specs.declared.answers.HostFault.TheVariants.{LinkDown}
 use Rattle.host_widgets.specs.declared.kept.Record.{Record}
 use Rattle.host_widgets.specs.declared.kept.ControlRec.{ControlRec}
 use Rattle.host_widgets.specs.Kept.{control_at, with_control}
@@ -140,11 +139,6 @@ MaySet kind values = (blob : List ℕ) → blob ≡ [] → IsControlSet kind (re
 abbrev pub MayInstall : ControlKind → List ℕ → Type 0
 MayInstall (Blob most initial) blob = (length blob ≤ most) × (is_blob blob ≡ true)
 MayInstall kind blob = ⊥
-
--- whether the link failed
-abbrev pub is_lost : Outcome → Bool
-is_lost (Err LinkDown) = true
-is_lost outcome = false
 
 -- the parts of a blob were sent, up to the first that did not pass; a failed link takes the record down and cuts the device
 pub record PartsPass {D : Type 0} (means : Meaning D) (plan : Plan) (heap comp : ℕ) (blob : List ℕ) (kept kept' : Record) (w v : World D) (result : Outcome) : Type 0 where

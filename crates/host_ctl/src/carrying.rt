@@ -3,7 +3,6 @@ ghost use Rattle.std.specs.Prelude.{◌≡◌, ◌<◌, ◌≤◌, ◌+◌, ◌*
 ghost use Rattle.sof_base.specs.Ports.{HasRoom};
 ghost use Rattle.mbox_link.specs.BlobParts.{parts};
 ghost use Rattle.tplg_plan.specs.Ranges.{is_initial};
-ghost use Rattle.tplg_plan.specs.Sound.{IsSound};
 ghost use Rattle.sof_base.specs.BlobFaults.{is_blob};
 ghost use Rattle.ipc3_model.specs.declared.reply.Body.TheVariants as bodies;
 ghost use Rattle.host_widgets.specs.declared.answers.Answer.TheVariants as answers;
@@ -12,16 +11,16 @@ ghost use Rattle.host_widgets.specs.HostActs.{Put};
 ghost use Rattle.host_widgets.specs.HostActs as acts;
 ghost use Rattle.host_widgets.specs.Orders.{Carried};
 ghost use Rattle.host_widgets.specs.ActCarried.{ActCarried};
-ghost use Rattle.host_widgets.specs.Sides.{SameSide, world_of};
+ghost use Rattle.host_widgets.specs.Sides.{IsReady, SameSide, world_of};
 ghost use Rattle.host_ctl.specs.ControlAsks as asks;
 ghost use Rattle.host_ctl.specs.ControlOrders as orders;
-ghost use Rattle.host_ctl.specs.ControlOrders.{MaySet, MayInstall, HasBlob, PartsPass, is_lost};
+ghost use Rattle.host_ctl.specs.ControlOrders.{MaySet, MayInstall, HasBlob, PartsPass};
 ghost use Rattle.host_ctl.specs.ControlPlaces.{control_here, record_here, with_values_at, with_blob_here};
 
 use crate::asking::channels_of;
 use arrayvec::ArrayVec;
 use host_widgets::{
-    Answer, ControlRec, HostFault, Power, Record, Side, hear, link_down, part_count, pass,
+    Answer, ControlRec, HostFault, Power, Record, Side, hear, is_down, link_down, part_count, pass,
     same_numbers, send_parts, set_message,
 };
 use ipc3_model::{Body, CTRL_ENUM, CTRL_VOLUME, Message};
@@ -78,9 +77,7 @@ fn put<P: Dsp>(
     place: usize,
     values: &Bounded<u32, 8>,
 ) -> Result<(), HostFault>
-    requires plan { IsSound side.old.plan.now }
-    requires agree { Agrees P.means side.old.plan.now side.old.kept.now side.old.dsp.now }
-    requires room { HasRoom (61440 * P.means.pending side.old.dsp.now) side.old.out.now }
+    requires ready { IsReady P.means side.old }
     requires power { side.old.kept.now.power ≡ Power.On }
     requires place { place < length side.old.plan.now.controls }
     requires values { MaySet (control_here side.old.plan.now place).kind values.now }
@@ -102,9 +99,7 @@ pub fn set<P: Dsp>(
     place: usize,
     values: &Bounded<u32, 8>,
 ) -> Result<(), HostFault>
-    requires plan { IsSound side.old.plan.now }
-    requires agree { Agrees P.means side.old.plan.now side.old.kept.now side.old.dsp.now }
-    requires room { HasRoom (61440 * P.means.pending side.old.dsp.now) side.old.out.now }
+    requires ready { IsReady P.means side.old }
     requires loaded { side.old.kept.now.power ≡ Power.Unloaded → ⊥ }
     requires place { place < length side.old.plan.now.controls }
     requires values { MaySet (control_here side.old.plan.now place).kind values.now }
@@ -137,13 +132,6 @@ fn keep_blob(kept: &mut Record, place: usize, blob: &[u8])
     kept.controls.put(place, ControlRec { values, blob });
 }
 
-// Whether the link failed.
-fn is_lost(passed: &Result<(), HostFault>) -> bool
-    ensures { result ≡ is_lost passed.now }
-{
-    matches!(passed, Err(HostFault::LinkDown))
-}
-
 // Sends a blob to an equaliser in its parts. A failed link cuts the device and takes the record down.
 fn pass_parts<P: Dsp>(side: &mut Side<'_, P>, comp: u32, blob: &[u8]) -> Result<(), HostFault>
     requires blob { is_blob blob.now ≡ true }
@@ -154,7 +142,7 @@ fn pass_parts<P: Dsp>(side: &mut Side<'_, P>, comp: u32, blob: &[u8]) -> Result<
     ensures same { SameSide side.old side.new }
 {
     let passed = send_parts(comp, blob, side.dsp, side.io, side.out);
-    if is_lost(&passed) {
+    if is_down(&passed) {
         link_down(side.plan, side.kept, side.heap, side.dsp, side.io, side.out);
     }
     passed
@@ -162,9 +150,7 @@ fn pass_parts<P: Dsp>(side: &mut Side<'_, P>, comp: u32, blob: &[u8]) -> Result<
 
 // An equaliser gets a blob while the power is on. The record changes once its last part has passed.
 fn install<P: Dsp>(side: &mut Side<'_, P>, place: usize, blob: &[u8]) -> Result<(), HostFault>
-    requires plan { IsSound side.old.plan.now }
-    requires agree { Agrees P.means side.old.plan.now side.old.kept.now side.old.dsp.now }
-    requires room { HasRoom (61440 * P.means.pending side.old.dsp.now) side.old.out.now }
+    requires ready { IsReady P.means side.old }
     requires power { side.old.kept.now.power ≡ Power.On }
     requires place { place < length side.old.plan.now.controls }
     requires blob { MayInstall (control_here side.old.plan.now place).kind blob.now }
@@ -181,9 +167,7 @@ fn install<P: Dsp>(side: &mut Side<'_, P>, place: usize, blob: &[u8]) -> Result<
 
 /// An equaliser gets a blob: where the power is off, the record alone changes.
 pub fn set_bytes<P: Dsp>(side: &mut Side<'_, P>, place: usize, blob: &[u8]) -> Result<(), HostFault>
-    requires plan { IsSound side.old.plan.now }
-    requires agree { Agrees P.means side.old.plan.now side.old.kept.now side.old.dsp.now }
-    requires room { HasRoom (61440 * P.means.pending side.old.dsp.now) side.old.out.now }
+    requires ready { IsReady P.means side.old }
     requires loaded { side.old.kept.now.power ≡ Power.Unloaded → ⊥ }
     requires place { place < length side.old.plan.now.controls }
     requires blob { MayInstall (control_here side.old.plan.now place).kind blob.now }
@@ -214,9 +198,7 @@ fn values_of(body: Body) -> Answer
 
 // The firmware is asked for the values of a volume or a mux.
 fn ask<P: Dsp>(side: &mut Side<'_, P>, place: usize, command: u32) -> Result<Answer, HostFault>
-    requires plan { IsSound side.old.plan.now }
-    requires agree { Agrees P.means side.old.plan.now side.old.kept.now side.old.dsp.now }
-    requires room { HasRoom (61440 * P.means.pending side.old.dsp.now) side.old.out.now }
+    requires ready { IsReady P.means side.old }
     requires power { side.old.kept.now.power ≡ Power.On }
     requires place { place < length side.old.plan.now.controls }
     requires command { orders.value_command (control_here side.old.plan.now place).kind ≡ Some command }
@@ -285,9 +267,7 @@ fn ask_all<P: Dsp>(
     count: u32,
     told: &mut ArrayVec<u8, 1024>,
 ) -> Result<(), HostFault>
-    requires plan { IsSound side.old.plan.now }
-    requires agree { Agrees P.means side.old.plan.now side.old.kept.now side.old.dsp.now }
-    requires room { HasRoom (61440 * P.means.pending side.old.dsp.now) side.old.out.now }
+    requires ready { IsReady P.means side.old }
     requires power { side.old.kept.now.power ≡ Power.On }
     requires place { place < length side.old.plan.now.controls }
     requires kind { HasBlob (control_here side.old.plan.now place).kind }
@@ -324,9 +304,7 @@ fn bytes_answer(told: &ArrayVec<u8, 1024>) -> Answer
 
 // What the firmware says of an equaliser: each part of its blob is asked for.
 fn ask_parts<P: Dsp>(side: &mut Side<'_, P>, place: usize) -> Result<Answer, HostFault>
-    requires plan { IsSound side.old.plan.now }
-    requires agree { Agrees P.means side.old.plan.now side.old.kept.now side.old.dsp.now }
-    requires room { HasRoom (61440 * P.means.pending side.old.dsp.now) side.old.out.now }
+    requires ready { IsReady P.means side.old }
     requires power { side.old.kept.now.power ≡ Power.On }
     requires place { place < length side.old.plan.now.controls }
     requires kind { HasBlob (control_here side.old.plan.now place).kind }
@@ -345,9 +323,7 @@ fn ask_parts<P: Dsp>(side: &mut Side<'_, P>, place: usize) -> Result<Answer, Hos
 
 /// What the firmware says of a control: its values are asked for, or each part of its blob.
 pub fn read<P: Dsp>(side: &mut Side<'_, P>, place: usize) -> Result<Answer, HostFault>
-    requires plan { IsSound side.old.plan.now }
-    requires agree { Agrees P.means side.old.plan.now side.old.kept.now side.old.dsp.now }
-    requires room { HasRoom (61440 * P.means.pending side.old.dsp.now) side.old.out.now }
+    requires ready { IsReady P.means side.old }
     requires power { side.old.kept.now.power ≡ Power.On }
     requires place { place < length side.old.plan.now.controls }
     ensures carried { Carried P.means side.old.plan.now side.old.heap (orders.reading_order side.old.kept.now (Some (control_here side.old.plan.now place, record_here side.old.kept.now place))) side.old.kept.now side.new.kept.now

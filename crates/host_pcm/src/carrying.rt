@@ -1,7 +1,5 @@
 // What each call does once its tests have passed, for the stream at a place: the record changes after the reply.
-ghost use Rattle.std.specs.Prelude.{◌≡◌, ◌<◌, ◌*◌, true, None, length};
-ghost use Rattle.sof_base.specs.Ports.{HasRoom};
-ghost use Rattle.tplg_plan.specs.Sound.{IsSound};
+ghost use Rattle.std.specs.Prelude.{◌≡◌, ◌<◌, true, None, length};
 ghost use Rattle.host_widgets.specs.HostRecord.{closed};
 ghost use Rattle.host_widgets.specs.Host.{Agrees};
 ghost use Rattle.host_widgets.specs.HostActs.{Prepare, Trig, Free, triggered_found};
@@ -9,7 +7,7 @@ ghost use Rattle.host_widgets.specs.Orders.{Carried};
 ghost use Rattle.host_pcm.specs.Asks.{stream_at, takes_ask, range_fault, stream_caps, with_stream_at};
 ghost use Rattle.host_pcm.specs.StreamOrders.{host_at, opened_stream, place_order};
 ghost use Rattle.host_widgets.specs.ActCarried.{ActCarried};
-ghost use Rattle.host_widgets.specs.Sides.{SameSide, world_of};
+ghost use Rattle.host_widgets.specs.Sides.{IsReady, SameSide, world_of};
 
 use crate::asking::Ask;
 use host_widgets::{Found, HostFault, Power, Record, Side, StreamRec, Trigger, direction, pass};
@@ -44,9 +42,7 @@ pub fn open(kept: &mut Record, place: usize)
 
 /// A stream has parameters.
 pub fn prepare<P: Dsp>(side: &mut Side<'_, P>, place: usize, p: Params) -> Result<(), HostFault>
-    requires plan { IsSound side.old.plan.now }
-    requires agree { Agrees P.means side.old.plan.now side.old.kept.now side.old.dsp.now }
-    requires room { HasRoom (61440 * P.means.pending side.old.dsp.now) side.old.out.now }
+    requires ready { IsReady P.means side.old }
     requires power { side.old.kept.now.power ≡ Power.On }
     requires place { place < length side.old.plan.now.streams }
     requires found { takes_ask (Ask.Preparing p) (stream_at side.old.kept.now place).found ≡ true }
@@ -75,9 +71,7 @@ pub fn prepare<P: Dsp>(side: &mut Side<'_, P>, place: usize, p: Params) -> Resul
 
 /// A stream is triggered.
 pub fn trigger<P: Dsp>(side: &mut Side<'_, P>, place: usize, what: Trigger) -> Result<(), HostFault>
-    requires plan { IsSound side.old.plan.now }
-    requires agree { Agrees P.means side.old.plan.now side.old.kept.now side.old.dsp.now }
-    requires room { HasRoom (61440 * P.means.pending side.old.dsp.now) side.old.out.now }
+    requires ready { IsReady P.means side.old }
     requires power { side.old.kept.now.power ≡ Power.On }
     requires place { place < length side.old.plan.now.streams }
     requires found { takes_ask (Ask.Triggering what) (stream_at side.old.kept.now place).found ≡ true }
@@ -101,9 +95,7 @@ pub fn trigger<P: Dsp>(side: &mut Side<'_, P>, place: usize, what: Trigger) -> R
 
 // A stream that is prepared is without parameters, and closed.
 fn free<P: Dsp>(side: &mut Side<'_, P>, place: usize) -> Result<(), HostFault>
-    requires plan { IsSound side.old.plan.now }
-    requires agree { Agrees P.means side.old.plan.now side.old.kept.now side.old.dsp.now }
-    requires room { HasRoom (61440 * P.means.pending side.old.dsp.now) side.old.out.now }
+    requires ready { IsReady P.means side.old }
     requires power { side.old.kept.now.power ≡ Power.On }
     requires place { place < length side.old.plan.now.streams }
     requires found { (stream_at side.old.kept.now place).found ≡ Found.Prepared }
@@ -134,9 +126,7 @@ fn shut(kept: &mut Record, place: usize)
 
 // A stream that moves or is held is stopped, and freed.
 fn stop_and_free<P: Dsp>(side: &mut Side<'_, P>, place: usize) -> Result<(), HostFault>
-    requires plan { IsSound side.old.plan.now }
-    requires agree { Agrees P.means side.old.plan.now side.old.kept.now side.old.dsp.now }
-    requires room { HasRoom (61440 * P.means.pending side.old.dsp.now) side.old.out.now }
+    requires ready { IsReady P.means side.old }
     requires power { side.old.kept.now.power ≡ Power.On }
     requires place { place < length side.old.plan.now.streams }
     requires found { takes_ask (Ask.Triggering Trigger.Stop) (stream_at side.old.kept.now place).found ≡ true }
@@ -151,9 +141,7 @@ fn stop_and_free<P: Dsp>(side: &mut Side<'_, P>, place: usize) -> Result<(), Hos
 
 // A stream is closed while the power is on.
 fn close_on<P: Dsp>(side: &mut Side<'_, P>, place: usize) -> Result<(), HostFault>
-    requires plan { IsSound side.old.plan.now }
-    requires agree { Agrees P.means side.old.plan.now side.old.kept.now side.old.dsp.now }
-    requires room { HasRoom (61440 * P.means.pending side.old.dsp.now) side.old.out.now }
+    requires ready { IsReady P.means side.old }
     requires power { side.old.kept.now.power ≡ Power.On }
     requires place { place < length side.old.plan.now.streams }
     ensures carried { Carried P.means side.old.plan.now side.old.heap (place_order side.old.plan.now side.old.kept.now place Ask.Closing) side.old.kept.now side.new.kept.now
@@ -173,9 +161,7 @@ fn close_on<P: Dsp>(side: &mut Side<'_, P>, place: usize) -> Result<(), HostFaul
 
 /// A stream is closed: where it has parameters and the power is on, it is stopped where it runs or is paused, and freed.
 pub fn close<P: Dsp>(side: &mut Side<'_, P>, place: usize) -> Result<(), HostFault>
-    requires plan { IsSound side.old.plan.now }
-    requires agree { Agrees P.means side.old.plan.now side.old.kept.now side.old.dsp.now }
-    requires room { HasRoom (61440 * P.means.pending side.old.dsp.now) side.old.out.now }
+    requires ready { IsReady P.means side.old }
     requires loaded { side.old.kept.now.power ≡ Power.Unloaded → ⊥ }
     requires place { place < length side.old.plan.now.streams }
     ensures carried { Carried P.means side.old.plan.now side.old.heap (place_order side.old.plan.now side.old.kept.now place Ask.Closing) side.old.kept.now side.new.kept.now

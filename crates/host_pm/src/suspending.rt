@@ -6,7 +6,7 @@ ghost use Rattle.tplg_plan.specs.Sound.{IsSound};
 ghost use Rattle.host_widgets.specs.ActLists.{stop_by, go_down};
 ghost use Rattle.host_widgets.specs.Host.{Agrees};
 ghost use Rattle.host_widgets.specs.HostActs.{Save};
-ghost use Rattle.host_widgets.specs.Sides.{SameSide, world_of};
+ghost use Rattle.host_widgets.specs.Sides.{IsReady, SameSide, world_of};
 ghost use Rattle.host_widgets.specs.Orders.{Carried, Tested, suspending};
 ghost use Rattle.host_widgets.specs.Walk.{first_of, goes_past};
 ghost use Rattle.host_pm.specs.InTurn.{InTurn};
@@ -102,9 +102,7 @@ fn send_down<P: Dsp>(
 
 // Sends all messages, and cuts the device whatever they came to.
 fn go_down<P: Dsp>(side: &mut Side<'_, P>) -> Result<(), HostFault>
-    requires plan { IsSound side.old.plan.now }
-    requires agree { Agrees P.means side.old.plan.now side.old.kept.now side.old.dsp.now }
-    requires room { HasRoom (61440 * P.means.pending side.old.dsp.now) side.old.out.now }
+    requires ready { IsReady P.means side.old }
     requires power { side.old.kept.now.power ≡ Power.On }
     ensures carried { Carried P.means side.old.plan.now side.old.heap (suspending side.old.plan.now side.old.kept.now) side.old.kept.now side.new.kept.now (world_of side.old) (world_of side.new) result }
     ensures agree { Agrees P.means side.old.plan.now side.new.kept.now side.new.dsp.now }

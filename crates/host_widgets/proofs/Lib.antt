@@ -59,6 +59,7 @@ pub mod WalksHold
 pub mod PartsCome
 pub mod PartsReady
 pub mod BuildingMoments
+pub mod LinkEnds
 pub mod OneMessage
 pub mod ActSteps
 pub mod PlainOrders

@@ -3,42 +3,20 @@ use Rattle.std.proofs.Common.{◌≡◌, ℕ, true, false, List, Result, Ok, Err
 use Rattle.ipc3_model.specs.declared.reply.Reply.{Reply}
 use Rattle.mbox_link.specs.Calls.{World, Meaning, Cut, Exchanged, Did}
 use Rattle.host_widgets.specs.declared.answers.HostFault.{HostFault}
-use Rattle.host_widgets.specs.declared.answers.HostFault.TheVariants.{NotLoaded, Loaded, NoSuch, State, Off, Range, Refused, LinkDown, Blob}
 use Rattle.host_widgets.specs.declared.kept.Record.{Record}
 use Rattle.host_widgets.specs.Kept.{went_down}
 use Rattle.host_widgets.specs.Host.{Outcome, Sent}
 use Rattle.host_widgets.specs.ActCalls.{came_to}
 use Rattle.host_widgets.specs.ActCarried.{Replied, Passes, PlainEnd, is_down}
+use Rattle.host_widgets.proofs.LinkEnds.{down-is, stays}
 
 module _ {D : Type 0} (means : Meaning D) (heap : ℕ) (request : List ℕ) (kept : Record) (w : World D) where
   exchanged : (v : World D) (result : Result Reply HostFault) (sent : Sent means request w v result) → Exchanged means request sent.answer w v
   exchanged v result sent = subst (λ (x : World D). Exchanged means request sent.answer w x) (sym sent.led.2) sent.led.1
 
-  down-is : (fault : HostFault) → is_down (Err fault) ≡ true → LinkDown ≡ fault
-  down-is LinkDown is = refl
-  down-is NotLoaded is = absurd (cc is)
-  down-is Loaded is = absurd (cc is)
-  down-is (NoSuch name) is = absurd (cc is)
-  down-is (State found) is = absurd (cc is)
-  down-is Off is = absurd (cc is)
-  down-is (Range n) is = absurd (cc is)
-  down-is (Refused e) is = absurd (cc is)
-  down-is (Blob n) is = absurd (cc is)
-
-  stays : (fault : HostFault) (v : World D) → is_down (Err fault) ≡ false → PlainEnd means heap (Err fault) kept kept v v
-  stays LinkDown v other = absurd (cc other)
-  stays NotLoaded v other = (refl, refl)
-  stays Loaded v other = (refl, refl)
-  stays (NoSuch name) v other = (refl, refl)
-  stays (State found) v other = (refl, refl)
-  stays Off v other = (refl, refl)
-  stays (Range n) v other = (refl, refl)
-  stays (Refused e) v other = (refl, refl)
-  stays (Blob n) v other = (refl, refl)
-
   ends-up : (result : Result Reply HostFault) (v : World D) → is_down result ≡ false → PlainEnd means heap (came_to result) kept kept v v
   ends-up (Ok reply) v up = (refl, refl)
-  ends-up (Err fault) v up = stays fault v up
+  ends-up (Err fault) v up = stays Reply means heap kept fault v up
 
   -- the link held
   pub heard : (v : World D) (result : Result Reply HostFault) → Sent means request w v result → is_down result ≡ false → Replied means heap request kept kept w v result
@@ -46,7 +24,7 @@ module _ {D : Type 0} (means : Meaning D) (heap : ℕ) (request : List ℕ) (kep
 
   ends-down : (result : Result Reply HostFault) (kept' : Record) (m v : World D) → is_down result ≡ true → Did means Cut m v → kept' ≡ went_down kept → PlainEnd means heap (came_to result) kept kept' m v
   ends-down (Ok reply) kept' m v down cut record_is = absurd (cc down)
-  ends-down (Err fault) kept' m v down cut record_is = subst (λ (f : HostFault). PlainEnd means heap (Err f) kept kept' m v) (down-is fault down) (record_is, (v, cut, refl))
+  ends-down (Err fault) kept' m v down cut record_is = subst (λ (f : HostFault). PlainEnd means heap (Err f) kept kept' m v) (down-is Reply fault down) (record_is, (v, cut, refl))
 
   -- it failed
   pub went_dead : (kept' : Record) (m v : World D) (result : Result Reply HostFault) → Sent means request w m result → is_down result ≡ true → Did means Cut m v → kept' ≡ went_down kept → Replied means heap request kept kept' w v result

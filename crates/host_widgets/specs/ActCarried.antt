@@ -14,7 +14,7 @@ use Rattle.host_widgets.specs.Orders.{plain_end}
 use Rattle.host_widgets.specs.Host.{Outcome, verdict}
 
 -- whether the link failed
-abbrev pub is_down : Result Reply HostFault → Bool
+abbrev pub is_down : {T : Type 0} → Result T HostFault → Bool
 is_down (Err LinkDown) = true
 is_down answer = false
 

@@ -31,7 +31,7 @@ pub use messages::direction;
 pub use naming::is_named;
 pub use need_laws::need_law;
 pub use parts::{part_count, send_parts};
-pub use passing::{hear, pass};
+pub use passing::{hear, is_down, pass};
 pub use sending::send;
 pub use side::Side;
 pub use trigger::Trigger;

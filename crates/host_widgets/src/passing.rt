@@ -12,8 +12,8 @@ use crate::side::Side;
 use ipc3_codec::{Message, Reply};
 use mbox_link::Dsp;
 
-// Whether the link failed.
-fn is_down(answer: &Result<Reply, HostFault>) -> bool
+/// Whether the link failed.
+pub fn is_down<T>(answer: &Result<T, HostFault>) -> bool
     ensures { result ≡ is_down answer.now }
 {
     matches!(answer, Err(HostFault::LinkDown))

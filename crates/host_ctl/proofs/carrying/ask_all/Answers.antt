@@ -24,9 +24,9 @@ pub loop-index-init : goal.loop-index-init
 loop-index-init g c = record {
   stays = refl;
   same = record { plan = refl; heap = refl; kept = refl; dsp = refl; io = refl; out = refl };
-  room = c.requires.room;
+  room = c.requires.ready.room;
   told = c.requires.empty;
-  ahead = ahead-none g.P.Dsp.means c.args.side.now.plan.now c.args.side.now.heap (control_here c.args.side.now.plan.now c.args.place).comp c.args.count c.args.side.now.kept.now (world_of c.args.side.now) c.requires.agree;
+  ahead = ahead-none g.P.Dsp.means c.args.side.now.plan.now c.args.side.now.heap (control_here c.args.side.now.plan.now c.args.place).comp c.args.count c.args.side.now.kept.now (world_of c.args.side.now) c.requires.ready.agree;
 }
 
 pub hear-requires-clause-on : goal.hear-requires-clause-on
@@ -37,7 +37,7 @@ returns-in_err-reply g c =
     let means = g.P.Dsp.means in
     let plan = c.args.side.now.plan.now in
     let kept = c.args.side.now.kept.now in
-    let is = c.requires.agree.record_is in
+    let is = c.requires.ready.agree.record_is in
     let i = c.args.place in
     let j = c.loop-index.index in
     let w = world_of c.args.side.now in
@@ -49,11 +49,11 @@ returns-in_err-reply g c =
     let kind = blob-kind (control_here plan i).kind c.requires.kind in
     let so = subst (λ (n : ℕ). Ahead means plan c.args.side.now.heap (control_here plan i).comp n kept w m j) c.requires.count c.loop-index.invariant.ahead in
     let h = subst (λ (p : ControlPlan × Record × ℕ). Replied means p.2 (message_spelling (GetData p.0.comp j)) p.1 c.hear.new.side.kept.now m v c.hear.result) (λ t. (here t, c.loop-index.invariant.stays t, same.heap t)) c.hear.ensures.replied in
-    let both = ahead-ends plan c.requires.plan kept is i c.requires.place kind.0 kind.1 kind.2 means c.args.side.now.heap w m j few so c.requires.power c.hear.new.side.kept.now v c.hear.result h c.in_err-reply.field-0.0 c.in_err-reply.was in
+    let both = ahead-ends plan c.requires.ready.plan kept is i c.requires.place kind.0 kind.1 kind.2 means c.args.side.now.heap w m j few so c.requires.power c.hear.new.side.kept.now v c.hear.result h c.in_err-reply.field-0.0 c.in_err-reply.was in
     let failed = handed_on c.from_residual.result c.in_err-reply.field-0.0 c.from_residual.ensures in
     record {
       carried = subst (λ (o : Outcome). Carried means plan c.args.side.now.heap (reading_order kept (Some (control_here plan i, record_here kept i))) kept c.hear.new.side.kept.now w v o) (sym failed)
-          (reading-carried plan c.requires.plan kept is i c.requires.place kind.0 kind.1 kind.2 means c.args.side.now.heap c.requires.power c.hear.new.side.kept.now w v (Err c.in_err-reply.field-0.0) both.0);
+          (reading-carried plan c.requires.ready.plan kept is i c.requires.place kind.0 kind.1 kind.2 means c.args.side.now.heap c.requires.power c.hear.new.side.kept.now w v (Err c.in_err-reply.field-0.0) both.0);
       told = subst (λ (o : Outcome). IfOk o (λ done. c.loop-index.told.items ≡ (record_here kept i).blob)) (sym failed) tt;
       still = subst (λ (o : Outcome). IfOk o (λ done. c.hear.new.side.kept.now ≡ kept)) (sym failed) tt;
       agree = both.1;
@@ -65,7 +65,7 @@ loop-index-preserved g c =
     let means = g.P.Dsp.means in
     let plan = c.args.side.now.plan.now in
     let kept = c.args.side.now.kept.now in
-    let is = c.requires.agree.record_is in
+    let is = c.requires.ready.agree.record_is in
     let i = c.args.place in
     let j = c.loop-index.index in
     let w = world_of c.args.side.now in
@@ -77,13 +77,13 @@ loop-index-preserved g c =
     let kind = blob-kind (control_here plan i).kind c.requires.kind in
     let so = subst (λ (n : ℕ). Ahead means plan c.args.side.now.heap (control_here plan i).comp n kept w m j) c.requires.count c.loop-index.invariant.ahead in
     let h = subst (λ (p : ControlPlan × Record × ℕ). Replied means p.2 (message_spelling (GetData p.0.comp j)) p.1 c.hear.new.side.kept.now m v c.hear.result) (λ t. (here t, c.loop-index.invariant.stays t, same.heap t)) c.hear.ensures.replied in
-    let initial = initial-here plan c.requires.plan kept is i c.requires.place kind.0 kind.1 kind.2 in
-    let body = part-heard plan c.requires.plan kept is i c.requires.place kind.0 kind.1 kind.2 j few means c.args.side.now.heap m c.loop-index.invariant.ahead.agrees c.requires.power c.hear.new.side.kept.now v c.hear.result h c.in_ok-reply.reply c.in_ok-reply.was in
+    let initial = initial-here plan c.requires.ready.plan kept is i c.requires.place kind.0 kind.1 kind.2 in
+    let body = part-heard plan c.requires.ready.plan kept is i c.requires.place kind.0 kind.1 kind.2 j few means c.args.side.now.heap m c.loop-index.invariant.ahead.agrees c.requires.power c.hear.new.side.kept.now v c.hear.result h c.in_ok-reply.reply c.in_ok-reply.was in
     let joins = ap (λ (bytes : List ℕ). with_part bytes (blob_part (record_here kept i).blob j)) c.loop-index.invariant.told ∙ bytes-more (record_here kept i).blob j few initial in
     let fits = subst (λ (bytes : List ℕ). length bytes ≤ 1024) (sym joins) (bytes-fit (record_here kept i).blob j few initial) in
-    let more = ahead-more plan c.requires.plan kept is i c.requires.place kind.0 kind.1 kind.2 means c.args.side.now.heap w m j few so c.requires.power c.hear.new.side.kept.now v c.hear.result h c.in_ok-reply.reply c.in_ok-reply.was in
+    let more = ahead-more plan c.requires.ready.plan kept is i c.requires.place kind.0 kind.1 kind.2 means c.args.side.now.heap w m j few so c.requires.power c.hear.new.side.kept.now v c.hear.result h c.in_ok-reply.reply c.in_ok-reply.was in
     record {
-      stays = part-still plan c.requires.plan kept is i c.requires.place kind.0 kind.1 kind.2 means c.args.side.now.heap w m j few so c.requires.power c.hear.new.side.kept.now v c.hear.result h c.in_ok-reply.reply c.in_ok-reply.was;
+      stays = part-still plan c.requires.ready.plan kept is i c.requires.place kind.0 kind.1 kind.2 means c.args.side.now.heap w m j few so c.requires.power c.hear.new.side.kept.now v c.hear.result h c.in_ok-reply.reply c.in_ok-reply.was;
       same = same-on c.args.side.now c.loop-index.side c.hear.new.side same c.hear.ensures.same;
       room = heard-room means c.args.side.now.heap (message_spelling (GetData (control_here plan i).comp j)) kept c.hear.new.side.kept.now m v c.hear.result h c.in_ok-reply.reply c.in_ok-reply.was c.loop-index.invariant.room;
       told = c.append_reply.ensures (blob_part (record_here kept i).blob j) body fits ∙ joins;
@@ -95,7 +95,7 @@ returns g c =
     let means = g.P.Dsp.means in
     let plan = c.args.side.now.plan.now in
     let kept = c.args.side.now.kept.now in
-    let is = c.requires.agree.record_is in
+    let is = c.requires.ready.agree.record_is in
     let i = c.args.place in
     let w = world_of c.args.side.now in
     let m = world_of c.loop-index.side in
@@ -105,9 +105,9 @@ returns g c =
     let all = subst (λ (n : ℕ). CarriedBy means plan c.args.side.now.heap (asks_from (control_here plan i).comp 0 n) (λ now. now) kept kept w m (Ok tt)) c.requires.count
     (ahead-all means plan c.args.side.now.heap (control_here plan i).comp c.args.count kept w m c.loop-index.index past c.loop-index.invariant.ahead) in
     record {
-      carried = reading-carried plan c.requires.plan kept is i c.requires.place kind.0 kind.1 kind.2 means c.args.side.now.heap c.requires.power c.loop-index.side.kept.now w m (Ok tt)
+      carried = reading-carried plan c.requires.ready.plan kept is i c.requires.place kind.0 kind.1 kind.2 means c.args.side.now.heap c.requires.power c.loop-index.side.kept.now w m (Ok tt)
           (subst (λ (y : Record). CarriedBy means plan c.args.side.now.heap (asks_from (control_here plan i).comp 0 (parts (record_here kept i).blob)) (λ now. now) kept y w m (Ok tt)) (sym c.loop-index.invariant.stays) all);
-      told = c.loop-index.invariant.told ∙ ap (first_bytes (record_here kept i).blob) last ∙ bytes-all (record_here kept i).blob (initial-here plan c.requires.plan kept is i c.requires.place kind.0 kind.1 kind.2);
+      told = c.loop-index.invariant.told ∙ ap (first_bytes (record_here kept i).blob) last ∙ bytes-all (record_here kept i).blob (initial-here plan c.requires.ready.plan kept is i c.requires.place kind.0 kind.1 kind.2);
       still = c.loop-index.invariant.stays;
       agree = subst (λ (y : Record). Agrees means plan y c.loop-index.side.dsp.now) (sym c.loop-index.invariant.stays) c.loop-index.invariant.ahead.agrees;
       same = c.loop-index.invariant.same;

@@ -15,25 +15,25 @@ use Rattle.host_ctl.proofs.carrying.ask_parts.Goals as goal
 
 pub bounds-items-place : goal.bounds-items-place
 bounds-items-place g c =
-    subst (λ (rs : List ControlRec). c.args.place < length rs) (sym c.items.ensures) (within c.args.side.now.plan.now c.requires.plan c.args.side.now.kept.now c.requires.agree.record_is c.args.place c.requires.place)
+    subst (λ (rs : List ControlRec). c.args.place < length rs) (sym c.items.ensures) (within c.args.side.now.plan.now c.requires.ready.plan c.args.side.now.kept.now c.requires.ready.agree.record_is c.args.place c.requires.place)
 
 pub parts_of-count-requires : goal.parts_of-count-requires
 parts_of-count-requires g c =
     let plan = c.args.side.now.plan.now in
     let kept = c.args.side.now.kept.now in
-    let is = c.requires.agree.record_is in
+    let is = c.requires.ready.agree.record_is in
     let i = c.args.place in
     let kind = blob-kind (control_here plan i).kind c.requires.kind in
-    let there = within plan c.requires.plan kept is i c.requires.place in
+    let there = within plan c.requires.ready.plan kept is i c.requires.place in
     let same = ap (λ (r : ControlRec). r.blob) (place-record kept.controls i there c.items.result.now _ c.items.ensures) in
-    subst (λ (blob : List ℕ). is_initial blob ≡ true) (sym (c.items-2.ensures.value ∙ same)) (initial-here plan c.requires.plan kept is i c.requires.place kind.0 kind.1 kind.2)
+    subst (λ (blob : List ℕ). is_initial blob ≡ true) (sym (c.items-2.ensures.value ∙ same)) (initial-here plan c.requires.ready.plan kept is i c.requires.place kind.0 kind.1 kind.2)
 
 pub ask_all-requires-clause-count : goal.ask_all-requires-clause-count
 ask_all-requires-clause-count g c =
     let plan = c.args.side.now.plan.now in
     let kept = c.args.side.now.kept.now in
     let i = c.args.place in
-    let there = within plan c.requires.plan kept c.requires.agree.record_is i c.requires.place in
+    let there = within plan c.requires.ready.plan kept c.requires.ready.agree.record_is i c.requires.place in
     let same = ap (λ (r : ControlRec). r.blob) (place-record kept.controls i there c.items.result.now _ c.items.ensures) in
     c.parts_of-count.ensures ∙ ap parts (c.items-2.ensures.value ∙ same)
 

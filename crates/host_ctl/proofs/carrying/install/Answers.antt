@@ -14,10 +14,10 @@ use Rattle.host_ctl.proofs.ControlsThere.{within}
 use Rattle.host_ctl.proofs.carrying.install.Goals as goal
 
 pub pass_parts-requires-clause-blob : goal.pass_parts-requires-clause-blob
-pass_parts-requires-clause-blob g c = a-blob c.args.side.now.plan.now c.requires.plan c.args.side.now.kept.now c.requires.agree.record_is c.args.place c.requires.place c.args.blob.now c.requires.blob
+pass_parts-requires-clause-blob g c = a-blob c.args.side.now.plan.now c.requires.ready.plan c.args.side.now.kept.now c.requires.ready.agree.record_is c.args.place c.requires.place c.args.blob.now c.requires.blob
 
 pub pass_parts-requires-clause-on : goal.pass_parts-requires-clause-on
-pass_parts-requires-clause-on g c = is-powered g.P.Dsp.means c.args.side.now.plan.now c.args.side.now.kept.now c.args.side.now.dsp.now c.requires.agree c.requires.power
+pass_parts-requires-clause-on g c = is-powered g.P.Dsp.means c.args.side.now.plan.now c.args.side.now.kept.now c.args.side.now.dsp.now c.requires.ready.agree c.requires.power
 
 pub returns-in_err-pass_parts : goal.returns-in_err-pass_parts
 returns-in_err-pass_parts g c =
@@ -28,7 +28,7 @@ returns-in_err-pass_parts g c =
     let v = world_of c.pass_parts.new.side in
     let comp = place-control plan c.args.place c.requires.place c.items.result.now c.index-items-place.result c.items.ensures in
     let x = subst (λ (id : ℕ). PartsPass means plan c.args.side.now.heap id c.args.blob.now kept c.pass_parts.new.side.kept.now w v c.pass_parts.result) (ap (λ (k : ControlPlan). k.comp) comp) c.pass_parts.ensures.passes in
-    let both = parts-ended plan c.requires.plan kept c.requires.agree.record_is c.args.place c.requires.place c.args.blob.now c.requires.blob means c.args.side.now.heap w c.requires.agree c.requires.power c.pass_parts.new.side.kept.now v c.pass_parts.result x c.in_err-pass_parts.field-0.0 c.in_err-pass_parts.was in
+    let both = parts-ended plan c.requires.ready.plan kept c.requires.ready.agree.record_is c.args.place c.requires.place c.args.blob.now c.requires.blob means c.args.side.now.heap w c.requires.ready.agree c.requires.power c.pass_parts.new.side.kept.now v c.pass_parts.result x c.in_err-pass_parts.field-0.0 c.in_err-pass_parts.was in
     record {
       carried = subst (λ (o : Outcome). Carried means plan c.args.side.now.heap (bytes_order_at plan kept (control_here plan c.args.place).comp c.args.blob.now) kept c.pass_parts.new.side.kept.now w v o) (sym (handed_on c.from_residual.result c.in_err-pass_parts.field-0.0 c.from_residual.ensures)) both.0;
       agree = both.1;
@@ -40,16 +40,16 @@ keep_blob-requires g c =
     let means = g.P.Dsp.means in
     let plan = c.args.side.now.plan.now in
     let kept = c.args.side.now.kept.now in
-    let is = c.requires.agree.record_is in
+    let is = c.requires.ready.agree.record_is in
     let w = world_of c.args.side.now in
     let v = world_of c.pass_parts.new.side in
     let comp = place-control plan c.args.place c.requires.place c.items.result.now c.index-items-place.result c.items.ensures in
     let x = subst (λ (id : ℕ). PartsPass means plan c.args.side.now.heap id c.args.blob.now kept c.pass_parts.new.side.kept.now w v c.pass_parts.result) (ap (λ (k : ControlPlan). k.comp) comp) c.pass_parts.ensures.passes in
     record {
       place = subst (λ (now : Record). c.args.place < length now.controls)
-          (sym (parts-still plan c.requires.plan kept is c.args.place c.requires.place c.args.blob.now c.requires.blob means c.args.side.now.heap w c.requires.agree c.requires.power c.pass_parts.new.side.kept.now v c.pass_parts.result x c.in_ok-pass_parts.was))
-          (within plan c.requires.plan kept is c.args.place c.requires.place);
-      few = (blob-long c.args.blob.now (a-blob plan c.requires.plan kept is c.args.place c.requires.place c.args.blob.now c.requires.blob)).1;
+          (sym (parts-still plan c.requires.ready.plan kept is c.args.place c.requires.place c.args.blob.now c.requires.blob means c.args.side.now.heap w c.requires.ready.agree c.requires.power c.pass_parts.new.side.kept.now v c.pass_parts.result x c.in_ok-pass_parts.was))
+          (within plan c.requires.ready.plan kept is c.args.place c.requires.place);
+      few = (blob-long c.args.blob.now (a-blob plan c.requires.ready.plan kept is c.args.place c.requires.place c.args.blob.now c.requires.blob)).1;
     }
 
 pub returns : goal.returns
@@ -61,6 +61,6 @@ returns g c =
     let v = world_of c.pass_parts.new.side in
     let comp = place-control plan c.args.place c.requires.place c.items.result.now c.index-items-place.result c.items.ensures in
     let x = subst (λ (id : ℕ). PartsPass means plan c.args.side.now.heap id c.args.blob.now kept c.pass_parts.new.side.kept.now w v c.pass_parts.result) (ap (λ (k : ControlPlan). k.comp) comp) c.pass_parts.ensures.passes in
-    let both = parts-done plan c.requires.plan kept c.requires.agree.record_is c.args.place c.requires.place c.args.blob.now c.requires.blob means c.args.side.now.heap w c.requires.agree c.requires.power c.pass_parts.new.side.kept.now v c.pass_parts.result x c.in_ok-pass_parts.was c.keep_blob.new.kept c.keep_blob.ensures in
+    let both = parts-done plan c.requires.ready.plan kept c.requires.ready.agree.record_is c.args.place c.requires.place c.args.blob.now c.requires.blob means c.args.side.now.heap w c.requires.ready.agree c.requires.power c.pass_parts.new.side.kept.now v c.pass_parts.result x c.in_ok-pass_parts.was c.keep_blob.new.kept c.keep_blob.ensures in
     let same = c.pass_parts.ensures.same in
     record { carried = both.0; agree = both.1; same = record { plan = same.plan; heap = same.heap; kept = same.kept; dsp = same.dsp; io = same.io; out = same.out } }

@@ -15,7 +15,7 @@ returns-in-Volume-clause-carried g c =
     let w = world_of c.args.side.now in
     let v = world_of c.ask.new.side in
     let kind_is = sym (ap (λ (k : ControlPlan). k.kind) (place-control plan c.args.place c.requires.place c.items.result.now _ c.items.ensures)) ∙ c.in-Volume.is in
-    ask-carried means plan c.requires.plan c.args.side.now.heap c.args.place c.requires.place kept w c.requires.agree (control_here plan c.args.place).kind 0 (ap value_command kind_is) (control_answer (control_here plan c.args.place).kind (record_here kept c.args.place)) c.ask.new.side.kept.now v (outcome_of c.ask.result) c.requires.power c.ask.ensures.act
+    ask-carried means plan c.requires.ready.plan c.args.side.now.heap c.args.place c.requires.place kept w c.requires.ready.agree (control_here plan c.args.place).kind 0 (ap value_command kind_is) (control_answer (control_here plan c.args.place).kind (record_here kept c.args.place)) c.ask.new.side.kept.now v (outcome_of c.ask.result) c.requires.power c.ask.ensures.act
 
 pub returns-in-Choice-clause-carried : goal.returns-in-Choice-clause-carried
 returns-in-Choice-clause-carried g c =
@@ -25,7 +25,7 @@ returns-in-Choice-clause-carried g c =
     let w = world_of c.args.side.now in
     let v = world_of c.ask-in-Choice.new.side in
     let kind_is = sym (ap (λ (k : ControlPlan). k.kind) (place-control plan c.args.place c.requires.place c.items.result.now _ c.items.ensures)) ∙ c.in-Choice.is in
-    ask-carried means plan c.requires.plan c.args.side.now.heap c.args.place c.requires.place kept w c.requires.agree (control_here plan c.args.place).kind 1 (ap value_command kind_is) (control_answer (control_here plan c.args.place).kind (record_here kept c.args.place)) c.ask-in-Choice.new.side.kept.now v (outcome_of c.ask-in-Choice.result) c.requires.power c.ask-in-Choice.ensures.act
+    ask-carried means plan c.requires.ready.plan c.args.side.now.heap c.args.place c.requires.place kept w c.requires.ready.agree (control_here plan c.args.place).kind 1 (ap value_command kind_is) (control_answer (control_here plan c.args.place).kind (record_here kept c.args.place)) c.ask-in-Choice.new.side.kept.now v (outcome_of c.ask-in-Choice.result) c.requires.power c.ask-in-Choice.ensures.act
 
 pub ask_parts-requires-clause-kind : goal.ask_parts-requires-clause-kind
 ask_parts-requires-clause-kind g c =

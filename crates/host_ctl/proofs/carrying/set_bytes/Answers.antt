@@ -12,11 +12,11 @@ use Rattle.host_ctl.proofs.ControlTests.{is-off}
 use Rattle.host_ctl.proofs.carrying.set_bytes.Goals as goal
 
 pub keep_blob-requires-clause-place : goal.keep_blob-requires-clause-place
-keep_blob-requires-clause-place g c = within c.args.side.now.plan.now c.requires.plan c.args.side.now.kept.now c.requires.agree.record_is c.args.place c.requires.place
+keep_blob-requires-clause-place g c = within c.args.side.now.plan.now c.requires.ready.plan c.args.side.now.kept.now c.requires.ready.agree.record_is c.args.place c.requires.place
 
 pub keep_blob-requires-clause-few : goal.keep_blob-requires-clause-few
 keep_blob-requires-clause-few g c =
-    (blob-long c.args.blob.now (a-blob c.args.side.now.plan.now c.requires.plan c.args.side.now.kept.now c.requires.agree.record_is c.args.place c.requires.place c.args.blob.now c.requires.blob)).1
+    (blob-long c.args.blob.now (a-blob c.args.side.now.plan.now c.requires.ready.plan c.args.side.now.kept.now c.requires.ready.agree.record_is c.args.place c.requires.place c.args.blob.now c.requires.blob)).1
 
 pub returns-in-Unloaded : goal.returns-in-Unloaded
 returns-in-Unloaded g c =
@@ -24,12 +24,12 @@ returns-in-Unloaded g c =
     let plan = c.args.side.now.plan.now in
     let kept = c.args.side.now.kept.now in
     let w = world_of c.args.side.now in
-    let is = c.requires.agree.record_is in
+    let is = c.requires.ready.agree.record_is in
     let off = is-off kept.power c.requires.loaded c.in-Unloaded.is in
     record {
       carried = subst (λ (new : Record). Carried means plan c.args.side.now.heap (bytes_order_at plan kept (control_here plan c.args.place).comp c.args.blob.now) kept new w w (Ok tt)) (sym c.keep_blob.ensures)
-          (blob-carried plan c.requires.plan kept is c.args.place c.requires.place c.args.blob.now c.requires.blob means c.args.side.now.heap w c.requires.agree off);
+          (blob-carried plan c.requires.ready.plan kept is c.args.place c.requires.place c.args.blob.now c.requires.blob means c.args.side.now.heap w c.requires.ready.agree off);
       agree = subst (λ (new : Record). Agrees means plan new c.args.side.now.dsp.now) (sym c.keep_blob.ensures)
-          (blob-agrees plan c.requires.plan kept is c.args.place c.requires.place c.args.blob.now c.requires.blob means c.args.side.now.heap w c.requires.agree off);
+          (blob-agrees plan c.requires.ready.plan kept is c.args.place c.requires.place c.args.blob.now c.requires.blob means c.args.side.now.heap w c.requires.ready.agree off);
       same = record { plan = refl; heap = refl; kept = refl; dsp = refl; io = refl; out = refl };
     }

@@ -17,8 +17,8 @@ returns-in-Unloaded g c =
     let w = world_of c.args.side.now in
     record {
       carried = subst (λ (new : Record). Carried means plan c.args.side.now.heap (place_order plan kept c.args.place Closing) kept new w w (Ok tt)) (sym c.shut.ensures)
-          (close-carried means plan c.requires.plan c.args.side.now.heap c.args.place c.requires.place kept w c.requires.agree c.requires.loaded (λ on. idle-while-off kept.power c.requires.loaded c.in-Unloaded.is on));
+          (close-carried means plan c.requires.ready.plan c.args.side.now.heap c.args.place c.requires.place kept w c.requires.ready.agree c.requires.loaded (λ on. idle-while-off kept.power c.requires.loaded c.in-Unloaded.is on));
       agree = subst (λ (new : Record). Agrees means plan new c.args.side.now.dsp.now) (sym c.shut.ensures)
-          (rest-agrees means plan c.requires.plan c.args.side.now.heap c.args.place c.requires.place kept w c.requires.agree c.requires.loaded closed (refl, refl) refl (λ on. idle-while-off kept.power c.requires.loaded c.in-Unloaded.is on));
+          (rest-agrees means plan c.requires.ready.plan c.args.side.now.heap c.args.place c.requires.place kept w c.requires.ready.agree c.requires.loaded closed (refl, refl) refl (λ on. idle-while-off kept.power c.requires.loaded c.in-Unloaded.is on));
       same = record { plan = refl; heap = refl; kept = refl; dsp = refl; io = refl; out = refl };
     }

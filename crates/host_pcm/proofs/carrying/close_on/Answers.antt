@@ -25,7 +25,7 @@ returns-in-Closed-clause-carried g c =
     let w = world_of c.args.side.now in
     let idle : is_idle (stream_at kept c.args.place).found ≡ true = ap (λ (rs : List StreamRec). is_idle (get_or rs c.args.place closed).found) (sym c.items.ensures) ∙ idle-from _ c.in-Closed.is in
     subst (λ (new : Record). Carried means plan c.args.side.now.heap (place_order plan kept c.args.place Closing) kept new w w (Ok tt)) (sym c.shut.ensures)
-    (close-carried means plan c.requires.plan c.args.side.now.heap c.args.place c.requires.place kept w c.requires.agree (is-up kept.power c.requires.power) (λ on. idle))
+    (close-carried means plan c.requires.ready.plan c.args.side.now.heap c.args.place c.requires.place kept w c.requires.ready.agree (is-up kept.power c.requires.power) (λ on. idle))
 
 pub returns-in-Closed-clause-agree : goal.returns-in-Closed-clause-agree
 returns-in-Closed-clause-agree g c =
@@ -35,7 +35,7 @@ returns-in-Closed-clause-agree g c =
     let w = world_of c.args.side.now in
     let idle : is_idle (stream_at kept c.args.place).found ≡ true = ap (λ (rs : List StreamRec). is_idle (get_or rs c.args.place closed).found) (sym c.items.ensures) ∙ idle-from _ c.in-Closed.is in
     subst (λ (new : Record). Agrees means plan new c.args.side.now.dsp.now) (sym c.shut.ensures)
-    (rest-agrees means plan c.requires.plan c.args.side.now.heap c.args.place c.requires.place kept w c.requires.agree (is-up kept.power c.requires.power) closed (refl, refl) refl (λ on. idle))
+    (rest-agrees means plan c.requires.ready.plan c.args.side.now.heap c.args.place c.requires.place kept w c.requires.ready.agree (is-up kept.power c.requires.power) closed (refl, refl) refl (λ on. idle))
 
 pub returns-in-Prepared-clause-carried : goal.returns-in-Prepared-clause-carried
 returns-in-Prepared-clause-carried g c =
@@ -43,4 +43,4 @@ returns-in-Prepared-clause-carried g c =
     let w = world_of c.args.side.now in
     let v = world_of c.free.new.side in
     let found = ap (λ (rs : List StreamRec). (get_or rs c.args.place closed).found) (sym c.items.ensures) ∙ c.in-Prepared.is in
-    free-closes g.P.Dsp.means c.args.side.now.plan.now c.args.side.now.heap c.requires.plan c.args.place c.requires.place kept c.requires.agree.record_is.streams c.requires.power found c.free.new.side.kept.now w v c.free.result c.free.ensures.act
+    free-closes g.P.Dsp.means c.args.side.now.plan.now c.args.side.now.heap c.requires.ready.plan c.args.place c.requires.place kept c.requires.ready.agree.record_is.streams c.requires.power found c.free.new.side.kept.now w v c.free.result c.free.ensures.act

@@ -10,45 +10,34 @@ use Rattle.host_widgets.proofs.PlannedStreams.{place-stream}
 use Rattle.host_pcm.proofs.StreamCalls.{params-done, params-ended}
 use Rattle.host_pcm.proofs.carrying.prepare.Goals as goal
 
-pub returns-in_err-pass-clause-act : goal.returns-in_err-pass-clause-act
-returns-in_err-pass-clause-act g c =
+pub returns-in_err-pass : goal.returns-in_err-pass
+returns-in_err-pass g c =
     let means = g.P.Dsp.means in
     let plan = c.args.side.now.plan.now in
     let kept = c.args.side.now.kept.now in
     let w = world_of c.args.side.now in
     let v = world_of c.pass.new.side in
     let stream = c.index-items-place.is ∙ place-stream plan c.args.place c.requires.place c.items.result.now c.index-items-place.result c.items.ensures in
-    subst (λ (o : Outcome). ActCarried means plan c.args.side.now.heap (Prepare (host_at plan c.args.place) c.args.p) kept c.pass.new.side.kept.now w v o) (sym (handed_on c.from_residual.result c.in_err-pass.field-0.0 c.from_residual.ensures))
-    (params-ended means plan c.requires.plan c.args.side.now.heap c.args.place c.requires.place kept w c.requires.agree c.requires.power c.args.p c.requires.found c.requires.range _ _ _ refl (ap (λ (s : StreamPlan). s.host) stream) (c.direction.ensures ∙ ap (λ (s : StreamPlan). cond s.capture 1 0) stream) c.pass.new.side.kept.now v c.pass.result c.pass.ensures.passes c.in_err-pass.field-0.0 c.in_err-pass.was).0
+    let both = params-ended means plan c.requires.ready.plan c.args.side.now.heap c.args.place c.requires.place kept w c.requires.ready.agree c.requires.power c.args.p c.requires.found c.requires.range _ _ _ refl (ap (λ (s : StreamPlan). s.host) stream) (c.direction.ensures ∙ ap (λ (s : StreamPlan). cond s.capture 1 0) stream) c.pass.new.side.kept.now v c.pass.result c.pass.ensures.passes c.in_err-pass.field-0.0 c.in_err-pass.was in
+    record {
+      act = subst (λ (o : Outcome). ActCarried means plan c.args.side.now.heap (Prepare (host_at plan c.args.place) c.args.p) kept c.pass.new.side.kept.now w v o) (sym (handed_on c.from_residual.result c.in_err-pass.field-0.0 c.from_residual.ensures)) both.0;
+      agree = both.1;
+      same = c.pass.ensures.same;
+    }
 
-pub returns-in_err-pass-clause-agree : goal.returns-in_err-pass-clause-agree
-returns-in_err-pass-clause-agree g c =
+pub returns : goal.returns
+returns g c =
     let means = g.P.Dsp.means in
     let plan = c.args.side.now.plan.now in
     let kept = c.args.side.now.kept.now in
     let w = world_of c.args.side.now in
     let v = world_of c.pass.new.side in
     let stream = c.index-items-place.is ∙ place-stream plan c.args.place c.requires.place c.items.result.now c.index-items-place.result c.items.ensures in
-    (params-ended means plan c.requires.plan c.args.side.now.heap c.args.place c.requires.place kept w c.requires.agree c.requires.power c.args.p c.requires.found c.requires.range _ _ _ refl (ap (λ (s : StreamPlan). s.host) stream) (c.direction.ensures ∙ ap (λ (s : StreamPlan). cond s.capture 1 0) stream) c.pass.new.side.kept.now v c.pass.result c.pass.ensures.passes c.in_err-pass.field-0.0 c.in_err-pass.was).1
-
-pub returns-clause-act : goal.returns-clause-act
-returns-clause-act g c =
-    let means = g.P.Dsp.means in
-    let plan = c.args.side.now.plan.now in
-    let kept = c.args.side.now.kept.now in
-    let w = world_of c.args.side.now in
-    let v = world_of c.pass.new.side in
-    let stream = c.index-items-place.is ∙ place-stream plan c.args.place c.requires.place c.items.result.now c.index-items-place.result c.items.ensures in
-    (params-done means plan c.requires.plan c.args.side.now.heap c.args.place c.requires.place kept w c.requires.agree c.requires.power c.args.p c.requires.found c.requires.range _ _ _ refl (ap (λ (s : StreamPlan). s.host) stream) (c.direction.ensures ∙ ap (λ (s : StreamPlan). cond s.capture 1 0) stream) c.pass.new.side.kept.now v c.pass.result c.pass.ensures.passes c.in_ok-pass.was _
-    refl c.put.new.self c.put.ensures).0
-
-pub returns-clause-agree : goal.returns-clause-agree
-returns-clause-agree g c =
-    let means = g.P.Dsp.means in
-    let plan = c.args.side.now.plan.now in
-    let kept = c.args.side.now.kept.now in
-    let w = world_of c.args.side.now in
-    let v = world_of c.pass.new.side in
-    let stream = c.index-items-place.is ∙ place-stream plan c.args.place c.requires.place c.items.result.now c.index-items-place.result c.items.ensures in
-    (params-done means plan c.requires.plan c.args.side.now.heap c.args.place c.requires.place kept w c.requires.agree c.requires.power c.args.p c.requires.found c.requires.range _ _ _ refl (ap (λ (s : StreamPlan). s.host) stream) (c.direction.ensures ∙ ap (λ (s : StreamPlan). cond s.capture 1 0) stream) c.pass.new.side.kept.now v c.pass.result c.pass.ensures.passes c.in_ok-pass.was _
-    refl c.put.new.self c.put.ensures).1
+    let both = params-done means plan c.requires.ready.plan c.args.side.now.heap c.args.place c.requires.place kept w c.requires.ready.agree c.requires.power c.args.p c.requires.found c.requires.range _ _ _ refl (ap (λ (s : StreamPlan). s.host) stream) (c.direction.ensures ∙ ap (λ (s : StreamPlan). cond s.capture 1 0) stream) c.pass.new.side.kept.now v c.pass.result c.pass.ensures.passes c.in_ok-pass.was _
+    refl c.put.new.self c.put.ensures in
+    let same = c.pass.ensures.same in
+    record {
+      act = both.0;
+      agree = both.1;
+      same = record { plan = same.plan; heap = same.heap; kept = same.kept; dsp = same.dsp; io = same.io; out = same.out };
+    }

@@ -12,45 +12,34 @@ use Rattle.host_widgets.proofs.PlannedStreams.{place-stream}
 use Rattle.host_pcm.proofs.StreamCalls.{trigger-done, trigger-ended}
 use Rattle.host_pcm.proofs.carrying.trigger.Goals as goal
 
-pub returns-in_err-pass-clause-act : goal.returns-in_err-pass-clause-act
-returns-in_err-pass-clause-act g c =
+pub returns-in_err-pass : goal.returns-in_err-pass
+returns-in_err-pass g c =
     let means = g.P.Dsp.means in
     let plan = c.args.side.now.plan.now in
     let kept = c.args.side.now.kept.now in
     let w = world_of c.args.side.now in
     let v = world_of c.pass.new.side in
     let host = ap (λ (s : StreamPlan). s.host) (place-stream plan c.args.place c.requires.place c.items.result.now _ c.items.ensures) in
-    subst (λ (o : Outcome). ActCarried means plan c.args.side.now.heap (Trig (host_at plan c.args.place) c.args.what) kept c.pass.new.side.kept.now w v o) (sym (handed_on c.from_residual.result c.in_err-pass.field-0.0 c.from_residual.ensures))
-    (trigger-ended means plan c.requires.plan c.args.side.now.heap c.args.place c.requires.place kept w c.requires.agree c.requires.power c.args.what c.requires.found c.message.result _ c.message.ensures host c.pass.new.side.kept.now v c.pass.result c.pass.ensures.passes c.in_err-pass.field-0.0 c.in_err-pass.was).0
+    let both = trigger-ended means plan c.requires.ready.plan c.args.side.now.heap c.args.place c.requires.place kept w c.requires.ready.agree c.requires.power c.args.what c.requires.found c.message.result _ c.message.ensures host c.pass.new.side.kept.now v c.pass.result c.pass.ensures.passes c.in_err-pass.field-0.0 c.in_err-pass.was in
+    record {
+      act = subst (λ (o : Outcome). ActCarried means plan c.args.side.now.heap (Trig (host_at plan c.args.place) c.args.what) kept c.pass.new.side.kept.now w v o) (sym (handed_on c.from_residual.result c.in_err-pass.field-0.0 c.from_residual.ensures)) both.0;
+      agree = both.1;
+      same = c.pass.ensures.same;
+    }
 
-pub returns-in_err-pass-clause-agree : goal.returns-in_err-pass-clause-agree
-returns-in_err-pass-clause-agree g c =
+pub returns : goal.returns
+returns g c =
     let means = g.P.Dsp.means in
     let plan = c.args.side.now.plan.now in
     let kept = c.args.side.now.kept.now in
     let w = world_of c.args.side.now in
     let v = world_of c.pass.new.side in
     let host = ap (λ (s : StreamPlan). s.host) (place-stream plan c.args.place c.requires.place c.items.result.now _ c.items.ensures) in
-    (trigger-ended means plan c.requires.plan c.args.side.now.heap c.args.place c.requires.place kept w c.requires.agree c.requires.power c.args.what c.requires.found c.message.result _ c.message.ensures host c.pass.new.side.kept.now v c.pass.result c.pass.ensures.passes c.in_err-pass.field-0.0 c.in_err-pass.was).1
-
-pub returns-clause-act : goal.returns-clause-act
-returns-clause-act g c =
-    let means = g.P.Dsp.means in
-    let plan = c.args.side.now.plan.now in
-    let kept = c.args.side.now.kept.now in
-    let w = world_of c.args.side.now in
-    let v = world_of c.pass.new.side in
-    let host = ap (λ (s : StreamPlan). s.host) (place-stream plan c.args.place c.requires.place c.items.result.now _ c.items.ensures) in
-    (trigger-done means plan c.requires.plan c.args.side.now.heap c.args.place c.requires.place kept w c.requires.agree c.requires.power c.args.what c.requires.found c.message.result _ c.message.ensures host c.pass.new.side.kept.now v c.pass.result c.pass.ensures.passes c.in_ok-pass.was _
-    (λ i. record { found = c.triggered.ensures i; params = (ap (λ (rs : List StreamRec). (get_or rs c.args.place closed).params) c.items-2.ensures) i }) c.put.new.self c.put.ensures).0
-
-pub returns-clause-agree : goal.returns-clause-agree
-returns-clause-agree g c =
-    let means = g.P.Dsp.means in
-    let plan = c.args.side.now.plan.now in
-    let kept = c.args.side.now.kept.now in
-    let w = world_of c.args.side.now in
-    let v = world_of c.pass.new.side in
-    let host = ap (λ (s : StreamPlan). s.host) (place-stream plan c.args.place c.requires.place c.items.result.now _ c.items.ensures) in
-    (trigger-done means plan c.requires.plan c.args.side.now.heap c.args.place c.requires.place kept w c.requires.agree c.requires.power c.args.what c.requires.found c.message.result _ c.message.ensures host c.pass.new.side.kept.now v c.pass.result c.pass.ensures.passes c.in_ok-pass.was _
-    (λ i. record { found = c.triggered.ensures i; params = (ap (λ (rs : List StreamRec). (get_or rs c.args.place closed).params) c.items-2.ensures) i }) c.put.new.self c.put.ensures).1
+    let both = trigger-done means plan c.requires.ready.plan c.args.side.now.heap c.args.place c.requires.place kept w c.requires.ready.agree c.requires.power c.args.what c.requires.found c.message.result _ c.message.ensures host c.pass.new.side.kept.now v c.pass.result c.pass.ensures.passes c.in_ok-pass.was _
+    (λ i. record { found = c.triggered.ensures i; params = (ap (λ (rs : List StreamRec). (get_or rs c.args.place closed).params) c.items-2.ensures) i }) c.put.new.self c.put.ensures in
+    let same = c.pass.ensures.same in
+    record {
+      act = both.0;
+      agree = both.1;
+      same = record { plan = same.plan; heap = same.heap; kept = same.kept; dsp = same.dsp; io = same.io; out = same.out };
+    }

@@ -3,11 +3,13 @@ use Rattle.std.proofs.Common.{◌≡◌, ℕ, ◌+◌, ◌<◌, ◌≤◌, List,
 use Rattle.sof_script.specs.declared.script.Numbered.{Numbered}
 use Rattle.sof_script.specs.declared.script.Binding.{Binding}
 use Rattle.sof_script.specs.declared.script.Script.{Script}
+use Rattle.sof_script.specs.declared.fault_causes.Cause.{Cause}
 use Rattle.sof_script.specs.declared.items.Item.{Item}
 use Rattle.sof_script.specs.declared.items.Item.TheVariants.{Bind}
 use Rattle.sof_script.specs.declared.reading.ScriptFault.{ScriptFault}
 use Rattle.sof_script.specs.declared.reading.ScriptFault.TheVariants.{Line}
 use Rattle.sof_script.specs.Splitting.{lines_of, without_return}
+use Rattle.sof_script.specs.Causes.{cause_number}
 use Rattle.sof_script.specs.Commands.{Bound, Read, bound_of, bounds_of, script_read, with_item, behind, line_item, lines_read, script_of}
 
 pub on_ok : {A E : Type 0} (r : Result A E) (P Q : Type 0) → (P → Q) → OnOk r P → OnOk r Q
@@ -52,14 +54,14 @@ one_line : (rest line behind_it : List ℕ) (number : ℕ) → lines_of rest ≡
 unfolding lines_read
 one_line rest line behind_it number is = ap (lines_read number) is
 
-pub Reading-fault : (bytes rest line behind_it : List ℕ) (number cause : ℕ) (script : Script) → Reading bytes rest number script → lines_of rest ≡ line ∷ lines_of behind_it → line_item (without_return line) ≡ Err cause → script_of bytes ≡ Err (Line number cause)
+pub Reading-fault : (bytes rest line behind_it : List ℕ) (number : ℕ) (cause : Cause) (script : Script) → Reading bytes rest number script → lines_of rest ≡ line ∷ lines_of behind_it → line_item (without_return line) ≡ Err cause → script_of bytes ≡ Err (Line number (cause_number cause))
 Reading-fault bytes rest line behind_it number cause script r is fault =
-    r.whole ∙ ap (behind (script_read script)) (one_line rest line behind_it number is ∙ ap (λ (i : Result Item ℕ). with_item number i (lines_read (number + 1) (lines_of behind_it))) fault)
+    r.whole ∙ ap (behind (script_read script)) (one_line rest line behind_it number is ∙ ap (λ (i : Result Item Cause). with_item number i (lines_read (number + 1) (lines_of behind_it))) fault)
 
 pub Reading-more : (bytes rest line behind_it : List ℕ) (number : ℕ) (item : Item) (script next : Script) → Reading bytes rest number script → lines_of rest ≡ line ∷ lines_of behind_it → length behind_it < length rest → line_item (without_return line) ≡ Ok item
     → ((read : Result Read ScriptFault) → behind (script_read script) (with_item number (Ok item) read) ≡ behind (script_read next) read) → length next.commands ≤ length script.commands + 1 → Reading bytes behind_it (number + 1) next
 Reading-more bytes rest line behind_it number item script next r is fewer good added one = record {
-  whole = r.whole ∙ ap (behind (script_read script)) (one_line rest line behind_it number is ∙ ap (λ (i : Result Item ℕ). with_item number i (lines_read (number + 1) (lines_of behind_it))) good)
+  whole = r.whole ∙ ap (behind (script_read script)) (one_line rest line behind_it number is ∙ ap (λ (i : Result Item Cause). with_item number i (lines_read (number + 1) (lines_of behind_it))) good)
       ∙ added (lines_read (number + 1) (lines_of behind_it));
   few = omega (arith, r.few, fewer);
   short = omega (arith, r.short, one);

@@ -10,6 +10,7 @@ use Rattle.std.specs.Str.Parse.{AllDigits, digits_value, digits_value_after}
 use Rattle.std.proofs.lemmas.Str.{digit_value_digit}
 use Rattle.std.proofs.lemmas.Str.Parse.{IsNumeralModel, digit_from_value}
 use Rattle.std.proofs.lemmas.Fmt.{decimal_digit, decimal_nonempty, first_decimal, digits_decimal, digits_value-decimal, decimal-digits_value}
+use Rattle.sof_script.specs.declared.fault_causes.Cause.TheVariants as causes
 use Rattle.sof_script.specs.Splitting.{is_plain_byte, all_plain}
 use Rattle.sof_script.specs.ValueForms.{is_digit, digits_behind, begins_well, decimal_value, in_range, number_value}
 
@@ -65,11 +66,11 @@ plain_ascii (b ∷ bytes) is i = elim (cases_Bool (is_plain_byte b)) [
 
 -- ---- numbers in a range
 
-range_large : (least most : ℕ) (o : Option ℕ) → most < 2 ^ 32 → ((n : ℕ) → o ≡ Some n → 2 ^ 32 ≤ n) → in_range least most o ≡ Err 5
+range_large : (least most : ℕ) (o : Option ℕ) → most < 2 ^ 32 → ((n : ℕ) → o ≡ Some n → 2 ^ 32 ≤ n) → in_range least most o ≡ Err causes.Number
 range_large least most None small large = refl
 range_large least most (Some n) small large = let there : 2 ^ 32 ≤ n = large n refl in grind (arith, common_steps)
 
-pub number_large : (token : List ℕ) (least most : ℕ) → most < 2 ^ 32 → ((n : ℕ) → digits_behind 0 token ≡ Some n → 2 ^ 32 ≤ n) → number_value least most token ≡ Err 5
+pub number_large : (token : List ℕ) (least most : ℕ) → most < 2 ^ 32 → ((n : ℕ) → digits_behind 0 token ≡ Some n → 2 ^ 32 ≤ n) → number_value least most token ≡ Err causes.Number
 number_large token least most small large = elim (cases_Bool (begins_well token)) [
   | inl well ↦ rw well (range_large least most (digits_behind 0 token) small large)
   | inr ill ↦ rw ill refl

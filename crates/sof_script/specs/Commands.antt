@@ -1,5 +1,5 @@
 -- The bindings and the commands that the lines of a script are.
-use Rattle.std.specs.Prelude.{ℕ, ◌+◌, Bool, true, false, nat_le, min, if◌then◌else◌, List, [], ◌∷◌, ◌++◌, length, Option, Some, None, Result, Ok, Err, string_bytes}
+use Rattle.std.specs.Prelude.{ℕ, ◌+◌, Bool, true, false, nat_le, if◌then◌else◌, List, [], ◌∷◌, ◌++◌, length, Option, Some, None, Result, Ok, Err, string_bytes}
 use Rattle.sof_script.specs.declared.script.Command.{Command}
 use Rattle.sof_script.specs.declared.script.Command.TheVariants as command
 use Rattle.sof_script.specs.declared.script.Numbered.{Numbered}
@@ -9,87 +9,90 @@ use Rattle.sof_script.specs.declared.items.Item.{Item}
 use Rattle.sof_script.specs.declared.items.Item.TheVariants.{Nothing, Bind, Do}
 use Rattle.sof_script.specs.declared.reading.ScriptFault.{ScriptFault}
 use Rattle.sof_script.specs.declared.reading.ScriptFault.TheVariants.{Line}
+use Rattle.sof_script.specs.declared.fault_causes.Cause.{Cause}
+use Rattle.sof_script.specs.declared.fault_causes.Cause.TheVariants as causes
 use Rattle.sof_script.specs.declared.words.Word.{Word}
 use Rattle.sof_script.specs.declared.words.Word.TheVariants as word
 use Rattle.sof_script.specs.Splitting.{lines_of, without_return, is_skipped, all_plain, tokens_of}
-use Rattle.sof_script.specs.ValueForms.{byte_cause, quote_cause, word_cause, count_cause, number_value, error_value, format_value, hex_value, name_value, file_value}
+use Rattle.sof_script.specs.Causes.{cause_number, least_cause}
+use Rattle.sof_script.specs.ValueForms.{number_value, error_value, format_value, hex_value, name_value, file_value}
 use Rattle.sof_script.specs.Words.{word_named}
 
 -- ---- one line
 
 -- what is made of one more value; of two causes the lesser counts
 infixl 10 ◌⊛◌
-abbrev pub ◌⊛◌ : {A B : Type 0} → Result (A → B) ℕ → Result A ℕ → Result B ℕ
+abbrev pub ◌⊛◌ : {A B : Type 0} → Result (A → B) Cause → Result A Cause → Result B Cause
 Ok make ⊛ Ok value = Ok (make value)
 Ok make ⊛ Err cause = Err cause
 Err cause ⊛ Ok value = Err cause
-Err first ⊛ Err second = Err (min first second)
+Err first ⊛ Err second = Err (least_cause first second)
 
 -- any u32
-abbrev pub any_number : List ℕ → Result ℕ ℕ
+abbrev pub any_number : List ℕ → Result ℕ Cause
 any_number token = number_value 0 4294967295 token
 
 -- the number of a message
-abbrev pub message_number : List ℕ → Result ℕ ℕ
+abbrev pub message_number : List ℕ → Result ℕ Cause
 message_number token = number_value 1 100000 token
 
 -- the numbers of tokens
-abbrev pub number_values : List (List ℕ) → Result (List ℕ) ℕ
+abbrev pub number_values : List (List ℕ) → Result (List ℕ) Cause
 number_values [] = Ok []
 number_values (token ∷ tokens) = Ok (λ n ns. n ∷ ns) ⊛ any_number token ⊛ number_values tokens
 
 -- a word without arguments
-abbrev pub alone : Command → List (List ℕ) → Result Item ℕ
+abbrev pub alone : Command → List (List ℕ) → Result Item Cause
 alone command [] = Ok (Do command)
-alone command _ = Err count_cause
+alone command _ = Err causes.Count
 
 -- one token, a name
-abbrev pub one_name : List (List ℕ) → Result (List ℕ) ℕ
+abbrev pub one_name : List (List ℕ) → Result (List ℕ) Cause
 one_name (name ∷ []) = name_value name
-one_name _ = Err count_cause
+one_name _ = Err causes.Count
 
 -- one token, a number from 1 on
-abbrev pub one_number : ℕ → List (List ℕ) → Result ℕ ℕ
+abbrev pub one_number : ℕ → List (List ℕ) → Result ℕ Cause
 one_number most (number ∷ []) = number_value 1 most number
-one_number most _ = Err count_cause
+one_number most _ = Err causes.Count
 
 -- `in` and `out`: an endpoint and a file
-abbrev pub bound : Bool → List (List ℕ) → Result Item ℕ
+abbrev pub bound : Bool → List (List ℕ) → Result Item Cause
 bound input (endpoint ∷ file ∷ []) = Ok (λ e f. Bind input e f) ⊛ name_value endpoint ⊛ file_value file
-bound input _ = Err count_cause
+bound input _ = Err causes.Count
 
 -- `params`: a stream, frames a second, channels, and the format of a sample
-abbrev pub params_item : List (List ℕ) → Result Item ℕ
+abbrev pub params_item : List (List ℕ) → Result Item Cause
 params_item (stream ∷ rate ∷ channels ∷ format ∷ []) =
     Ok (λ s r c f. Do (command.Params s (record { rate = r; channels = c; format = f })))
     ⊛ name_value stream ⊛ any_number rate ⊛ number_value 0 255 channels ⊛ format_value format
-params_item _ = Err count_cause
+params_item _ = Err causes.Count
 
 -- `set`: a control and one to eight numbers
-abbrev pub values_item : List (List ℕ) → Result Item ℕ
+abbrev pub values_item : List (List ℕ) → Result Item Cause
 values_item (control ∷ value ∷ values) =
     if nat_le (length values) 7
     then Ok (λ c vs. Do (command.Set c vs)) ⊛ name_value control ⊛ number_values (value ∷ values)
-    else Err count_cause
-values_item _ = Err count_cause
+    else Err causes.Count
+values_item _ = Err causes.Count
 
 -- `bytes`: a control and hex
-abbrev pub hex_item : List (List ℕ) → Result Item ℕ
+abbrev pub hex_item : List (List ℕ) → Result Item Cause
 hex_item (control ∷ hex ∷ []) = Ok (λ c bytes. Do (command.Bytes c bytes)) ⊛ name_value control ⊛ hex_value hex
-hex_item _ = Err count_cause
+hex_item _ = Err causes.Count
 
 -- `refuse`: a message and an error number
-abbrev pub error_item : List (List ℕ) → Result Item ℕ
+abbrev pub error_item : List (List ℕ) → Result Item Cause
 error_item (message ∷ error ∷ []) = Ok (λ k e. Do (command.Refuse k e)) ⊛ message_number message ⊛ error_value error
-error_item _ = Err count_cause
+error_item _ = Err causes.Count
 
 -- `lag`: a message and ticks
-abbrev pub lag_item : List (List ℕ) → Result Item ℕ
+abbrev pub lag_item : List (List ℕ) → Result Item Cause
 lag_item (message ∷ ticks ∷ []) = Ok (λ k n. Do (command.Lag k n)) ⊛ message_number message ⊛ number_value 1 16 ticks
-lag_item _ = Err count_cause
+lag_item _ = Err causes.Count
 
 -- what a word and the tokens behind it say
-abbrev pub said_by : Word → List (List ℕ) → Result Item ℕ
+abbrev pub said_by : Word → List (List ℕ) → Result Item Cause
 said_by word.In args = bound true args
 said_by word.Out args = bound false args
 said_by word.Load args = alone command.Load args
@@ -115,19 +118,19 @@ said_by word.Lose args = Ok (λ n. Do (command.Lose n)) ⊛ one_number 100000 ar
 said_by word.Lag args = lag_item args
 
 -- the tokens behind a first token, which is a word or not
-abbrev pub behind_word : Option Word → List (List ℕ) → Result Item ℕ
-behind_word None args = Err word_cause
+abbrev pub behind_word : Option Word → List (List ℕ) → Result Item Cause
+behind_word None args = Err causes.Word
 behind_word (Some w) args = said_by w args
 
 -- tokens; none where the quotes of the line are broken
-abbrev pub item_of : Option (List (List ℕ)) → Result Item ℕ
-item_of None = Err quote_cause
+abbrev pub item_of : Option (List (List ℕ)) → Result Item Cause
+item_of None = Err causes.Quote
 item_of (Some []) = Ok Nothing
 item_of (Some (first ∷ args)) = behind_word (word_named first) args
 
 -- what a line is, or its least cause
-abbrev pub line_item : List ℕ → Result Item ℕ
-line_item line = if is_skipped line then Ok Nothing else if all_plain line then item_of (tokens_of line) else Err byte_cause
+abbrev pub line_item : List ℕ → Result Item Cause
+line_item line = if is_skipped line then Ok Nothing else if all_plain line then item_of (tokens_of line) else Err causes.Byte
 
 -- ---- all lines
 
@@ -144,8 +147,8 @@ pub record Read : Type 0 where
   pub commands : List Numbered
 
 -- a line's item before what the lines behind it are; the first line at fault decides
-abbrev pub with_item : ℕ → Result Item ℕ → Result Read ScriptFault → Result Read ScriptFault
-with_item line (Err cause) rest = Err (Line line cause)
+abbrev pub with_item : ℕ → Result Item Cause → Result Read ScriptFault → Result Read ScriptFault
+with_item line (Err cause) rest = Err (Line line (cause_number cause))
 with_item line (Ok item) (Err fault) = Err fault
 with_item line (Ok Nothing) (Ok read) = Ok read
 with_item line (Ok (Bind input endpoint file)) (Ok read) =
@@ -157,7 +160,7 @@ unfoldable pub lines_read : ℕ → List (List ℕ) → Result Read ScriptFault
 lines_read number [] = Ok (record { bindings = []; commands = [] })
 lines_read number (line ∷ lines) = with_item number (line_item (without_return line)) (lines_read (number + 1) lines)
 
--- the script of bytes, or its first line at fault with the least cause there
+-- the script of bytes, or its first line at fault with the number of the least cause there
 abbrev pub script_of : List ℕ → Result Read ScriptFault
 script_of bytes = lines_read 1 (lines_of bytes)
 

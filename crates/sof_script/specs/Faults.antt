@@ -1,9 +1,11 @@
 -- What it means that a line of a script is told.
-use Rattle.std.specs.Prelude.{◌≡◌, ℕ, ◌+◌, ◌==◌, List, [], ◌∷◌, ◌++◌, length, Ok, Err, codes, if◌then◌else◌}
+use Rattle.std.specs.Prelude.{◌≡◌, ℕ, ◌+◌, List, [], ◌∷◌, ◌++◌, length, Ok, Err}
+use Rattle.sof_script.specs.declared.fault_causes.Cause.{Cause}
 use Rattle.sof_script.specs.declared.items.Item.{Item}
 use Rattle.sof_script.specs.declared.reading.ScriptFault.{ScriptFault}
 use Rattle.sof_script.specs.declared.reading.ScriptFault.TheVariants.{Line, OutOfMemory}
 use Rattle.sof_script.specs.Splitting.{lines_of, without_return}
+use Rattle.sof_script.specs.Causes.{cause_number}
 use Rattle.sof_script.specs.Commands.{line_item}
 
 -- no line has a fault
@@ -12,7 +14,7 @@ AllRight [] = Unit {0}
 AllRight (line ∷ lines) = ((item : Item) × (line_item (without_return line) ≡ Ok item)) × AllRight lines
 
 -- the first line at fault has this number, from 1, and this cause
-pub record IsFirstFault (bytes : List ℕ) (number cause : ℕ) : Type 0 where
+pub record IsFirstFault (bytes : List ℕ) (number : ℕ) (cause : Cause) : Type 0 where
   pub before : List (List ℕ)
   pub line : List ℕ
   pub behind : List (List ℕ)
@@ -21,18 +23,7 @@ pub record IsFirstFault (bytes : List ℕ) (number cause : ℕ) : Type 0 where
   pub count : number ≡ length before + 1
   pub fault : line_item (without_return line) ≡ Err cause
 
--- what a fault tells of bytes; want of memory tells nothing
+-- what a fault tells of bytes: a line's number, and that of its cause; want of memory tells nothing
 abbrev pub IsToldOf : List ℕ → ScriptFault → Type 0
-IsToldOf bytes (Line number cause) = IsFirstFault bytes number cause
+IsToldOf bytes (Line number told) = (cause : Cause) × (told ≡ cause_number cause) × IsFirstFault bytes number cause
 IsToldOf bytes OutOfMemory = Unit {0}
-
--- what is said of a cause, from its number
-abbrev pub cause_words : ℕ → List ℕ
-cause_words n =
-    if n == 1 then codes "byte"
-    else if n == 2 then codes "quote"
-    else if n == 3 then codes "word"
-    else if n == 4 then codes "count"
-    else if n == 5 then codes "number"
-    else if n == 6 then codes "hex"
-    else codes "name"

@@ -1,4 +1,5 @@
 pub mod Splitting
+pub mod Causes
 pub mod ValueForms
 pub mod Words
 pub mod Commands

@@ -6,31 +6,9 @@ use Rattle.sof_base.specs.declared.format.Format.{Format}
 use Rattle.sof_base.specs.declared.format.Format.TheVariants.{S16, S24, S32}
 use Rattle.hex.specs.Hex.{decode_of}
 use Rattle.hex.specs.declared.error.FromHexError.{FromHexError}
-use Rattle.sof_script.specs.declared.fault_causes.TheConstants.{BYTE, QUOTE, WORD, COUNT, NUMBER, HEX, NAME}
+use Rattle.sof_script.specs.declared.fault_causes.Cause.{Cause}
+use Rattle.sof_script.specs.declared.fault_causes.Cause.TheVariants as causes
 use Rattle.sof_script.specs.Splitting.{all_plain}
-
--- ---- causes of a line at fault, least first
-
-abbrev pub byte_cause : ℕ
-byte_cause = BYTE
-
-abbrev pub quote_cause : ℕ
-quote_cause = QUOTE
-
-abbrev pub word_cause : ℕ
-word_cause = WORD
-
-abbrev pub count_cause : ℕ
-count_cause = COUNT
-
-abbrev pub number_cause : ℕ
-number_cause = NUMBER
-
-abbrev pub hex_cause : ℕ
-hex_cause = HEX
-
-abbrev pub name_cause : ℕ
-name_cause = NAME
 
 -- ---- numbers
 
@@ -54,51 +32,51 @@ abbrev pub decimal_value : List ℕ → Option ℕ
 decimal_value token = if begins_well token then digits_behind 0 token else None
 
 -- a number in its range
-abbrev pub in_range : ℕ → ℕ → Option ℕ → Result ℕ ℕ
-in_range least most None = Err number_cause
-in_range least most (Some n) = if nat_le least n && nat_le n most then Ok n else Err number_cause
+abbrev pub in_range : ℕ → ℕ → Option ℕ → Result ℕ Cause
+in_range least most None = Err causes.Number
+in_range least most (Some n) = if nat_le least n && nat_le n most then Ok n else Err causes.Number
 
-abbrev pub number_value : ℕ → ℕ → List ℕ → Result ℕ ℕ
+abbrev pub number_value : ℕ → ℕ → List ℕ → Result ℕ Cause
 number_value least most token = in_range least most (decimal_value token)
 
 -- the negative of a number
-abbrev pub negative : Result ℕ ℕ → Result ℤ ℕ
+abbrev pub negative : Result ℕ Cause → Result ℤ Cause
 negative (Ok n) = Ok (pos 0 -ℤ pos n)
 negative (Err cause) = Err cause
 
 -- an error number: `-` (45), and 1 to 4095 behind it
-abbrev pub error_value : List ℕ → Result ℤ ℕ
-error_value [] = Err number_cause
-error_value (b ∷ bytes) = if nat_eq b 45 then negative (number_value 1 4095 bytes) else Err number_cause
+abbrev pub error_value : List ℕ → Result ℤ Cause
+error_value [] = Err causes.Number
+error_value (b ∷ bytes) = if nat_eq b 45 then negative (number_value 1 4095 bytes) else Err causes.Number
 
 -- ---- the format of a sample
 
-abbrev pub format_value : List ℕ → Result Format ℕ
+abbrev pub format_value : List ℕ → Result Format Cause
 format_value token =
     if bytes_eq token (codes "s16") then Ok S16
     else if bytes_eq token (codes "s24") then Ok S24
     else if bytes_eq token (codes "s32") then Ok S32
-    else Err number_cause
+    else Err causes.Number
 
 -- ---- hex
 
-abbrev pub hex_decoded : Result (List ℕ) FromHexError → Result (List ℕ) ℕ
+abbrev pub hex_decoded : Result (List ℕ) FromHexError → Result (List ℕ) Cause
 hex_decoded (Ok bytes) = Ok bytes
-hex_decoded (Err fault) = Err hex_cause
+hex_decoded (Err fault) = Err causes.Hex
 
 -- the bytes of at most 2048 hex digits, two for each, in either case; `-` is no bytes
-abbrev pub hex_value : List ℕ → Result (List ℕ) ℕ
+abbrev pub hex_value : List ℕ → Result (List ℕ) Cause
 hex_value token =
     if bytes_eq token (codes "-") then Ok []
-    else if nat_lt 2048 (length token) then Err hex_cause
+    else if nat_lt 2048 (length token) then Err causes.Hex
     else hex_decoded (decode_of token)
 
 -- ---- names and files
 
 -- 1 to 43 bytes, none of them 0
-abbrev pub name_value : List ℕ → Result (List ℕ) ℕ
-name_value token = if nat_lt 0 (length token) && is_name token then Ok token else Err name_cause
+abbrev pub name_value : List ℕ → Result (List ℕ) Cause
+name_value token = if nat_lt 0 (length token) && is_name token then Ok token else Err causes.Name
 
 -- 1 to 255 bytes, each of them one that may stand on a line
-abbrev pub file_value : List ℕ → Result (List ℕ) ℕ
-file_value token = if nat_lt 0 (length token) && nat_lt (length token) 256 && all_plain token then Ok token else Err name_cause
+abbrev pub file_value : List ℕ → Result (List ℕ) Cause
+file_value token = if nat_lt 0 (length token) && nat_lt (length token) 256 && all_plain token then Ok token else Err causes.Name

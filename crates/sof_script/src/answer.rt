@@ -1,6 +1,6 @@
 // What is said for an answer.
-ghost use Rattle.std.specs.Prelude.{◌≡◌, ◌+◌, ◌*◌, ◌<◌, ◌≤◌, ◌++◌, length, codes};
-ghost use Rattle.sof_script.specs.Text.{answer_line, answer_words, fault_words, found_word, values_words, bytes_word};
+ghost use Rattle.std.specs.Prelude.{◌≡◌, ◌+◌, ◌*◌, ◌<◌, ◌≤◌, ◌++◌, length};
+ghost use Rattle.sof_script.specs.Text.{answer_line, fault_words, found_word, values_words, bytes_word};
 
 use host_widgets::{Answer, Found, HostFault};
 use sof_base::Line;

@@ -3,11 +3,11 @@ ghost use Rattle.std.specs.Prelude.{◌≡◌, ◌≤◌, length};
 ghost use Rattle.sof_script.specs.Splitting.{texts};
 ghost use Rattle.sof_script.specs.Commands.{line_item, said_by, alone, one_name, one_number, bound, params_item, values_item, hex_item, error_item, lag_item, number_values};
 
-use crate::fault_causes::{BYTE, COUNT, QUOTE, WORD};
-use crate::file::FileName;
+use crate::fault_causes::Cause;
+use crate::file_name::FileName;
 use crate::line_tokens::Tokens;
+use crate::scanning::{all_may_stand, from_first_token};
 use crate::script::Command;
-use crate::tokens::{all_may_stand, from_first_token};
 use crate::values::{error, format, hex, name, number};
 use crate::words::Word;
 use arrayvec::ArrayVec;
@@ -29,42 +29,42 @@ pub enum Item {
 }
 
 // A word without arguments.
-fn without(args: &[&[u8]], command: Command) -> Result<Item, u8>
+fn without(args: &[&[u8]], command: Command) -> Result<Item, Cause>
     ensures { result ≡ alone command (texts args.now) }
 {
     if args.is_empty() {
         Ok(Item::Do(command))
     } else {
-        Err(COUNT)
+        Err(Cause::Count)
     }
 }
 
 // The name that is the one argument.
-fn lone_name(args: &[&[u8]]) -> Result<Name44, u8>
+fn lone_name(args: &[&[u8]]) -> Result<Name44, Cause>
     ensures { result ≡ one_name (texts args.now) }
 {
     if args.len() != 1 {
-        return Err(COUNT);
+        return Err(Cause::Count);
     }
     name(args[0])
 }
 
 // The number, from 1 on, that is the one argument.
-fn lone_number(args: &[&[u8]], most: u32) -> Result<u32, u8>
+fn lone_number(args: &[&[u8]], most: u32) -> Result<u32, Cause>
     ensures { result ≡ one_number most (texts args.now) }
 {
     if args.len() != 1 {
-        return Err(COUNT);
+        return Err(Cause::Count);
     }
     number(args[0], 1, most)
 }
 
 // An endpoint and its file.
-fn binding(args: &[&[u8]], input: bool) -> Result<Item, u8>
+fn binding(args: &[&[u8]], input: bool) -> Result<Item, Cause>
     ensures { result ≡ bound input (texts args.now) }
 {
     if args.len() != 2 {
-        return Err(COUNT);
+        return Err(Cause::Count);
     }
     let endpoint = name(args[0])?;
     let file = FileName::of(args[1])?;
@@ -76,11 +76,11 @@ fn binding(args: &[&[u8]], input: bool) -> Result<Item, u8>
 }
 
 // A stream and its parameters.
-fn params(args: &[&[u8]]) -> Result<Item, u8>
+fn params(args: &[&[u8]]) -> Result<Item, Cause>
     ensures { result ≡ params_item (texts args.now) }
 {
     if args.len() != 4 {
-        return Err(COUNT);
+        return Err(Cause::Count);
     }
     let rate = number(args[1], 0, u32::MAX)?;
     let channels = number(args[2], 0, 255)?;
@@ -95,7 +95,7 @@ fn params(args: &[&[u8]]) -> Result<Item, u8>
 }
 
 // The numbers of at most eight tokens.
-fn numbers(tokens: &[&[u8]]) -> Result<Bounded<u32, 8>, u8>
+fn numbers(tokens: &[&[u8]]) -> Result<Bounded<u32, 8>, Cause>
     requires { length tokens.now ≤ 8 }
     ensures { result ≡ number_values (texts tokens.now) }
 {
@@ -105,19 +105,19 @@ fn numbers(tokens: &[&[u8]]) -> Result<Bounded<u32, 8>, u8>
     }
     match Bounded::new(numbers.as_slice()) {
         Some(numbers) => Ok(numbers),
-        None => Err(COUNT),
+        None => Err(Cause::Count),
     }
 }
 
 // A control and one to eight numbers.
-fn values(args: &[&[u8]]) -> Result<Item, u8>
+fn values(args: &[&[u8]]) -> Result<Item, Cause>
     ensures { result ≡ values_item (texts args.now) }
 {
     if args.len() < 2 {
-        return Err(COUNT);
+        return Err(Cause::Count);
     }
     if args.len() > 9 {
-        return Err(COUNT);
+        return Err(Cause::Count);
     }
     let values = numbers(args.split_at(1).1)?;
     let control = name(args[0])?;
@@ -125,11 +125,11 @@ fn values(args: &[&[u8]]) -> Result<Item, u8>
 }
 
 // A control and bytes.
-fn blob(args: &[&[u8]]) -> Result<Item, u8>
+fn blob(args: &[&[u8]]) -> Result<Item, Cause>
     ensures { result ≡ hex_item (texts args.now) }
 {
     if args.len() != 2 {
-        return Err(COUNT);
+        return Err(Cause::Count);
     }
     let bytes = hex(args[1])?;
     let control = name(args[0])?;
@@ -137,11 +137,11 @@ fn blob(args: &[&[u8]]) -> Result<Item, u8>
 }
 
 // A message and an error.
-fn refusal(args: &[&[u8]]) -> Result<Item, u8>
+fn refusal(args: &[&[u8]]) -> Result<Item, Cause>
     ensures { result ≡ error_item (texts args.now) }
 {
     if args.len() != 2 {
-        return Err(COUNT);
+        return Err(Cause::Count);
     }
     let message = number(args[0], 1, 100_000)?;
     let told = error(args[1])?;
@@ -149,11 +149,11 @@ fn refusal(args: &[&[u8]]) -> Result<Item, u8>
 }
 
 // A message and ticks.
-fn lag(args: &[&[u8]]) -> Result<Item, u8>
+fn lag(args: &[&[u8]]) -> Result<Item, Cause>
     ensures { result ≡ lag_item (texts args.now) }
 {
     if args.len() != 2 {
-        return Err(COUNT);
+        return Err(Cause::Count);
     }
     let message = number(args[0], 1, 100_000)?;
     let ticks = number(args[1], 1, 16)?;
@@ -161,7 +161,7 @@ fn lag(args: &[&[u8]]) -> Result<Item, u8>
 }
 
 // What a word and the tokens behind it say.
-fn meant(word: Word, args: &[&[u8]]) -> Result<Item, u8>
+fn meant(word: Word, args: &[&[u8]]) -> Result<Item, Cause>
     ensures { result ≡ said_by word (texts args.now) }
 {
     match word {
@@ -193,23 +193,23 @@ fn meant(word: Word, args: &[&[u8]]) -> Result<Item, u8>
 
 /// What a line is, or its least cause: a byte that may not stand there, a broken quote, an unknown word, a wrong count of
 /// tokens, a number, hex, a name.
-pub fn read_line(line: &[u8]) -> Result<Item, u8>
+pub fn read_line(line: &[u8]) -> Result<Item, Cause>
     ensures { result ≡ line_item line.now }
 {
     let Some(rest) = from_first_token(line) else {
         return Ok(Item::Nothing);
     };
     if !all_may_stand(line) {
-        return Err(BYTE);
+        return Err(Cause::Byte);
     }
     let Some(tokens) = Tokens::of(rest) else {
-        return Err(QUOTE);
+        return Err(Cause::Quote);
     };
     let [first, args @ ..] = tokens.all() else {
         return Ok(Item::Nothing);
     };
     match Word::of(first) {
         Some(word) => meant(word, args),
-        None => Err(WORD),
+        None => Err(Cause::Word),
     }
 }

@@ -3,13 +3,13 @@
 
 mod answer;
 mod fault_causes;
-mod file;
+mod file_name;
 mod items;
 mod line_tokens;
 mod lines;
 mod reading;
+mod scanning;
 mod script;
-mod tokens;
 mod values;
 mod words;
 

@@ -2,7 +2,7 @@
 ghost use Rattle.std.specs.Prelude.{◌≡◌, ◌∷◌, ◌++◌, List, ℕ, [], take, MatchOption, None, Some};
 ghost use Rattle.sof_script.specs.Splitting.{tokens_of, texts};
 
-use crate::tokens::{next_token, skip_blanks};
+use crate::scanning::{next_token, skip_blanks};
 use std::marker::Model;
 
 /// The tokens of a line, or the first eleven of them: no line has more than ten. Contracts see their bytes.

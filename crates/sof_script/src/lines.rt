@@ -1,5 +1,5 @@
 // The lines of a script.
-ghost use Rattle.std.specs.Prelude.{◌≡◌, ◌∷◌, ◌<◌, ◌≤◌, length};
+ghost use Rattle.std.specs.Prelude.{◌≡◌, ◌∷◌, ◌<◌, length};
 ghost use Rattle.sof_script.specs.Splitting.{lines_of, without_return};
 
 /// The first line without its newline, and the bytes behind that.

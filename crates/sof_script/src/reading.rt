@@ -73,7 +73,7 @@ pub fn parse(alloc: Global, bytes: &[u8]) -> Result<Script, ScriptFault>
             Err(cause) => {
                 return Err(ScriptFault::Line {
                     line: number,
-                    cause,
+                    cause: cause.number(),
                 });
             }
         };

@@ -2,7 +2,7 @@
 ghost use Rattle.std.specs.Prelude.{◌≡◌, ◌<◌, ◌≤◌, ◌^◌, ℕ, List, MatchOption, IfOk, Some, decimal};
 ghost use Rattle.sof_script.specs.ValueForms.{is_digit, digits_behind, begins_well, decimal_value, number_value, error_value, format_value, hex_value, name_value};
 
-use crate::fault_causes::{HEX, NAME, NUMBER};
+use crate::fault_causes::Cause;
 use sof_base::{Bounded, Format, Name44};
 
 // `0` to `9`.
@@ -43,34 +43,34 @@ fn digits(bytes: &[u8]) -> Option<u32>
 }
 
 /// The number of decimal digits without a needless zero, in a range; else the cause of a number.
-pub fn number(token: &[u8], least: u32, most: u32) -> Result<u32, u8>
+pub fn number(token: &[u8], least: u32, most: u32) -> Result<u32, Cause>
     ensures value { result ≡ number_value least most token.now }
     ensures within { IfOk result (λ n. n ≤ most) }
 {
     if !starts_well(token) {
-        return Err(NUMBER);
+        return Err(Cause::Number);
     }
     let Some(number) = digits(token) else {
-        return Err(NUMBER);
+        return Err(Cause::Number);
     };
     if number < least {
-        return Err(NUMBER);
+        return Err(Cause::Number);
     }
     if number > most {
-        return Err(NUMBER);
+        return Err(Cause::Number);
     }
     Ok(number)
 }
 
 /// An error number, -4095 to -1; else the cause of a number.
-pub fn error(token: &[u8]) -> Result<i32, u8>
+pub fn error(token: &[u8]) -> Result<i32, Cause>
     ensures { result ≡ error_value token.now }
 {
     if token.is_empty() {
-        return Err(NUMBER);
+        return Err(Cause::Number);
     }
     if token[0] != b'-' {
-        return Err(NUMBER);
+        return Err(Cause::Number);
     }
     match number(token.split_at(1).1, 1, 4095) {
         Ok(number) => Ok(-(number as i32)),
@@ -79,48 +79,48 @@ pub fn error(token: &[u8]) -> Result<i32, u8>
 }
 
 /// The format of a sample, `s16`, `s24` or `s32`; else the cause of a number.
-pub fn format(token: &[u8]) -> Result<Format, u8>
+pub fn format(token: &[u8]) -> Result<Format, Cause>
     ensures { result ≡ format_value token.now }
 {
     match token {
         b"s16" => Ok(Format::S16),
         b"s24" => Ok(Format::S24),
         b"s32" => Ok(Format::S32),
-        _ => Err(NUMBER),
+        _ => Err(Cause::Number),
     }
 }
 
 /// The bytes of at most 2048 hex digits, none for `-`; else the cause of hex.
-pub fn hex(token: &[u8]) -> Result<Bounded<u8, 1024>, u8>
+pub fn hex(token: &[u8]) -> Result<Bounded<u8, 1024>, Cause>
     ensures { result ≡ hex_value token.now }
 {
     if token == b"-".as_slice() {
         return Ok(Bounded::empty());
     }
     if token.len() > 2048 {
-        return Err(HEX);
+        return Err(Cause::Hex);
     }
     let mut bytes = [0; 1024];
     let room = &mut bytes[..token.len() / 2];
     if hex::decode_to_slice(token, room).is_err() {
-        return Err(HEX);
+        return Err(Cause::Hex);
     }
     match Bounded::new(room) {
         Some(bytes) => Ok(bytes),
-        None => Err(HEX),
+        None => Err(Cause::Hex),
     }
 }
 
 /// A name of 1 to 43 bytes, none of them 0; else the cause of a name.
-pub fn name(token: &[u8]) -> Result<Name44, u8>
+pub fn name(token: &[u8]) -> Result<Name44, Cause>
     ensures { result ≡ name_value token.now }
 {
     if token.is_empty() {
-        return Err(NAME);
+        return Err(Cause::Name);
     }
     match Name44::new(token) {
         Some(name) => Ok(name),
-        None => Err(NAME),
+        None => Err(Cause::Name),
     }
 }
 

@@ -1,5 +1,6 @@
 use Rattle.std.proofs.Common.{◌≡◌, Ok, Err, inr, arith, rules, sym, ap, ◌∙◌}
 use Rattle.sof_script.specs.declared.reading.ScriptFault.TheVariants.{Line}
+use Rattle.sof_script.specs.Causes.{cause_number}
 use Rattle.sof_script.specs.Commands.{line_item, script_of, script_read}
 use Rattle.sof_script.proofs.ScriptLaws.{Reading-fault, Reading-more, Reading-all}
 use Rattle.sof_script.proofs.FaultLaws.{told_fault, told_right}
@@ -8,9 +9,10 @@ use Rattle.sof_script.proofs.reading.parse.Goals as goal
 pub returns-in-Err : goal.returns-in-Err
 returns-in-Err c =
     let bytes = c.args.bytes.now in
-    let fault : script_of bytes ≡ Err (Line c.loop-rest.number c.in-Err.cause) = Reading-fault bytes c.loop-rest.rest.now c.first_line.result.0.now c.first_line.result.1.now c.loop-rest.number
+    let read : script_of bytes ≡ Err (Line c.loop-rest.number (cause_number c.in-Err.cause)) = Reading-fault bytes c.loop-rest.rest.now c.first_line.result.0.now c.first_line.result.1.now c.loop-rest.number
     c.in-Err.cause c.loop-rest.script c.loop-rest.invariant c.first_line.ensures.lines (ap line_item (sym c.before_return.ensures) ∙ sym c.in-Err.ensures) in
-    record { read = inr fault; few = tt; first = told_fault bytes c.loop-rest.number c.in-Err.cause fault }
+    let fault : script_of bytes ≡ Err (Line c.loop-rest.number c.number.result) = read ∙ ap (λ told. Err (Line c.loop-rest.number told)) (sym c.number.ensures) in
+    record { read = inr fault; few = tt; first = told_fault bytes c.loop-rest.number c.number.result fault }
 
 pub loop-rest-preserved : goal.loop-rest-preserved
 loop-rest-preserved c =

@@ -1,6 +1,6 @@
 use Rattle.std.proofs.Common.{sym}
 use Rattle.sof_script.proofs.TokenLaws.{behind_none, behind_some}
-use Rattle.sof_script.proofs.tokens.ends_token.Goals as goal
+use Rattle.sof_script.proofs.scanning.ends_token.Goals as goal
 
 pub returns-in-empty : goal.returns-in-empty
 returns-in-empty c = behind_none c.args.rest.now c.in-empty.len_below

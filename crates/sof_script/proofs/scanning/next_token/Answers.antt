@@ -2,7 +2,7 @@ use Rattle.std.proofs.Common.{length, arith, rules, sym, ap, ◌∙◌}
 use Rattle.std.proofs.lemmas.List.{length-drop}
 use Rattle.sof_script.specs.Splitting.{tokens_from, Quoted}
 use Rattle.sof_script.proofs.TokenLaws.{begins_quoted, begins_bare, some_byte, behind_quote}
-use Rattle.sof_script.proofs.tokens.next_token.Goals as goal
+use Rattle.sof_script.proofs.scanning.next_token.Goals as goal
 
 pub bounds-bytes-0 : goal.bounds-bytes-0
 bounds-bytes-0 c = some_byte c.args.bytes.now c.requires

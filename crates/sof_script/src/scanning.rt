@@ -1,5 +1,5 @@
 // The tokens of a line.
-ghost use Rattle.std.specs.Prelude.{◌≡◌, ◌⊎◌, ◌∷◌, ◌+◌, ◌<◌, ◌≤◌, List, ℕ, [], length, take, true, false, MatchOption, None, Some, if◌then◌else◌};
+ghost use Rattle.std.specs.Prelude.{◌≡◌, ◌⊎◌, ◌+◌, ◌<◌, ◌≤◌, [], length, true, false, MatchOption, None, Some, if◌then◌else◌};
 ghost use Rattle.sof_script.specs.Splitting.{tokens_of, tokens_from, Quoted, Behind, first_token, IsBare, is_blank, is_plain_byte, all_plain, is_skipped, StartsToken};
 
 // A blank or a tab.

@@ -2,8 +2,8 @@ use Rattle.std.proofs.Common.{List, ℕ, inl, inr, subst, sym, ◌∙◌}
 use Rattle.std.proofs.lemmas.List.{drop_all}
 use Rattle.sof_script.specs.Splitting.{StartsToken}
 use Rattle.sof_script.proofs.LineLaws.{Skipped-more, starts}
-use Rattle.sof_script.proofs.tokens.skip_blanks.Goals as goal
-use Rattle.sof_script.proofs.tokens.skip_blanks.Goals.{then-loop-at-test+else-is_separator, else-loop-at-test}
+use Rattle.sof_script.proofs.scanning.skip_blanks.Goals as goal
+use Rattle.sof_script.proofs.scanning.skip_blanks.Goals.{then-loop-at-test+else-is_separator, else-loop-at-test}
 
 pub loop-at-preserved : goal.loop-at-preserved
 loop-at-preserved c = Skipped-more c.args.bytes.now c.loop-at.at c.loop-at.invariant c.loop-at-test.true (sym c.is_separator.ensures ∙ c.if-is_separator.true)

@@ -2,8 +2,8 @@
 ghost use Rattle.std.specs.Prelude.{◌≡◌, IfOk, string_bytes};
 ghost use Rattle.sof_script.specs.ValueForms.{file_value};
 
-use crate::fault_causes::NAME;
-use crate::tokens::all_may_stand;
+use crate::fault_causes::Cause;
+use crate::scanning::all_may_stand;
 use sof_base::{Bounded, NoMemory};
 use std::alloc::Global;
 use std::marker::Model;
@@ -27,17 +27,17 @@ impl Model for FileName {
 
 impl FileName {
     /// The name that a token is; else the cause of a name.
-    pub fn of(token: &[u8]) -> Result<FileName, u8>
+    pub fn of(token: &[u8]) -> Result<FileName, Cause>
         ensures { result ≡ file_value token.now }
     {
         if token.is_empty() {
-            return Err(NAME);
+            return Err(Cause::Name);
         }
         let Some(bytes) = Bounded::new(token) else {
-            return Err(NAME);
+            return Err(Cause::Name);
         };
         if !all_may_stand(token) {
-            return Err(NAME);
+            return Err(Cause::Name);
         }
         Ok(FileName { bytes })
     }

@@ -1,7 +1,7 @@
 use Rattle.std.proofs.Common.{◌≡◌, false, get_or, nat_eq, sym, arith, rules, ◌∙◌, refl}
 use Rattle.std.proofs.lemmas.Grind.{common_steps}
 use Rattle.sof_script.proofs.LineLaws.{no_token, starts_token, first_byte}
-use Rattle.sof_script.proofs.tokens.from_first_token.Goals as goal
+use Rattle.sof_script.proofs.scanning.from_first_token.Goals as goal
 
 pub returns-then-is_empty : goal.returns-then-is_empty
 returns-then-is_empty c = sym c.skip_blanks-rest.ensures.skipped ∙ no_token c.skip_blanks-rest.result.now (search rules)

@@ -2,7 +2,7 @@ use Rattle.std.proofs.Common.{◌+◌, length, ap, arith, rules}
 use Rattle.std.proofs.lemmas.List.{length-drop}
 use Rattle.sof_script.proofs.TokenLaws.{Within-more, quoted_keeps, quoted_whole, quoted_broken, quoted_open}
 use Rattle.sof_script.specs.Splitting.{Quoted}
-use Rattle.sof_script.proofs.tokens.quoted_token.Goals as goal
+use Rattle.sof_script.proofs.scanning.quoted_token.Goals as goal
 
 pub loop-end-preserved : goal.loop-end-preserved
 loop-end-preserved c = Within-more Quoted c.args.bytes.now c.loop-end.end c.loop-end.invariant c.loop-end-test.true (quoted_keeps _ (search rules))

@@ -2,7 +2,7 @@ use Rattle.std.proofs.Common.{◌≡◌, true, ap, ◌∙◌}
 use Rattle.std.proofs.lemmas.Str.{IsUtf8-from_ascii}
 use Rattle.sof_script.specs.Splitting.{all_plain}
 use Rattle.sof_script.proofs.ValueLaws.{plain_ascii}
-use Rattle.sof_script.proofs.file.FileName.to_text.Goals as goal
+use Rattle.sof_script.proofs.file_name.FileName.to_text.Goals as goal
 
 pub unreachable-requires : goal.unreachable-requires
 unreachable-requires c =

@@ -2,8 +2,8 @@ use Rattle.std.proofs.Common.{◌≡◌, ◌⊎◌, ◌<◌, [], length, drop, g
 use Rattle.std.proofs.lemmas.List.{drop_all, length-drop}
 use Rattle.sof_script.proofs.TokenLaws.{bare_one, Within-more, inside_keeps, bare_whole, first_of_rest}
 use Rattle.sof_script.specs.Splitting.{Inside, is_blank}
-use Rattle.sof_script.proofs.tokens.bare_token.Goals as goal
-use Rattle.sof_script.proofs.tokens.bare_token.Goals.{then-loop-end-test+else-not-is_separator, else-loop-end-test}
+use Rattle.sof_script.proofs.scanning.bare_token.Goals as goal
+use Rattle.sof_script.proofs.scanning.bare_token.Goals.{then-loop-end-test+else-not-is_separator, else-loop-end-test}
 
 pub loop-end-init : goal.loop-end-init
 loop-end-init c = record { begun = bare_one c.args.bytes.now c.requires; some = omega arith }

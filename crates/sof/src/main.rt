@@ -4,12 +4,14 @@
 
 use fw_core::Firmware;
 use sof_base::NoMemory;
-use sof_desk::{OsDesk, Subject, Trouble};
+use sof_desk::{Desk, OsDesk, Subject, Trouble};
 use sof_run::run;
-use std::env;
 use std::fmt::Display;
+use std::fs::File;
 use std::io::ErrorKind;
+use std::os::fd::{AsRawFd, IntoRawFd};
 use std::process::ExitCode;
+use std::{env, io};
 
 /// The greatest heap of the firmware, in bytes.
 const ROOM: u32 = 16777216;
@@ -51,6 +53,20 @@ fn no_memory(rt: &HostRuntime) -> u8 {
     7
 }
 
+// Keeps the numbers of standard input, output and error for them: where one is closed, no file that is opened later gets it, and what
+// is written to it fails.
+fn hold_standard_files(rt: &HostRuntime) -> io::Result<()> {
+    for _ in 0..3 {
+        let file = File::open(rt, "/dev/null")?;
+        if file.as_raw_fd() > 2 {
+            return Ok(());
+        }
+        // It stays open until the program ends.
+        let _held = file.into_raw_fd();
+    }
+    Ok(())
+}
+
 // The words after the program's name; else the status: 7 where memory was wanting, and 6 where an argument is no text.
 fn words(rt: &HostRuntime) -> Result<Vec<String>, u8> {
     match env::args(rt) {
@@ -87,7 +103,11 @@ fn print(rt: &HostRuntime, text: &str) -> u8 {
 fn play(rt: &HostRuntime, words: &[String]) -> Result<u8, NoMemory> {
     let dsp = Firmware::new(rt.alloc(), ROOM)?;
     let mut desk = OsDesk::new(rt, rt.alloc())?;
-    let status = run(rt.alloc(), words, &mut desk, dsp).status;
+    let mut status = run(rt.alloc(), words, &mut desk, dsp).status;
+    // A run that said no line has its files emptied at its end.
+    if status == 0 && desk.say(b"").is_err() {
+        status = 3;
+    }
     if let Some(trouble) = desk.trouble() {
         tell(rt, trouble);
     }
@@ -113,6 +133,10 @@ fn status(rt: &HostRuntime, words: &[String]) -> u8 {
 }
 
 fn main(rt: HostRuntime) -> ExitCode {
+    if let Err(reason) = hold_standard_files(&rt) {
+        tell(&rt, Trouble::with_file(rt.alloc(), "/dev/null", reason));
+        return ExitCode::from(3);
+    }
     match words(&rt) {
         Ok(words) => ExitCode::from(status(&rt, &words)),
         Err(status) => ExitCode::from(status),

@@ -1,18 +1,21 @@
 -- A desk in memory does what a desk has to do.
-use Rattle.std.proofs.Common.{◌≡◌, ◌≤◌, ℕ, Bool, true, false, nat_eq, List, [], ◌++◌, length, take, find, Option, Some, None, is_some, is_none, ◌&&◌, refl, sym, ◌∙◌, ap, subst, arith, if◌then◌else◌}
+use Rattle.std.proofs.Common.{◌≡◌, ◌⊎◌, inl, inr, ◌≤◌, ℕ, Bool, true, false, nat_eq, List, [], ◌++◌, length, take, find, Option, Some, None, is_some, is_none, ◌&&◌, refl, sym, ◌∙◌, ap, subst, arith, if◌then◌else◌}
 use Rattle.std.specs.List.{position_or_len}
 use Rattle.std.specs.Option.{option_map}
+use Rattle.sof_desk.specs.declared.calls.FileUse.TheVariants.{ToRead}
 use Rattle.sof_desk.specs.Counts.{one_more}
+use Rattle.sof_desk.specs.FileUses.{may_use}
 use Rattle.sof_desk.specs.Desk.{DeskPlace, Slot, Spoken, DeskAct, Create, Put, Open, CountRose, Part, Acted, WasRead, Gets, Kept, unread_past, written_after, created_after, with_more}
 use Rattle.sof_desk.specs.Room.{room_taken}
 use Rattle.sof_desk.specs.HeldFiles.{HeldFile, appended_of, named, tied, can_create, files_with_slot, file_with_piece, file_takes_whole}
 use Rattle.sof_desk.specs.Edits.{changed_first}
 use Rattle.sof_desk.specs.OpenSlots.{can_open, with_opened, is_opened}
 use Rattle.sof_desk.specs.Shelf.{Shelf}
-use Rattle.sof_desk.specs.ShelfCalls.{shelf, shelf_does, shelf_with, counted, planned_passes, file_of_slot, ShelfActs, shelf_holds, shelf_past, shelf_unread, ShelfReads}
+use Rattle.sof_desk.specs.ShelfCalls.{shelf, shelf_does, shelf_with, counted, planned_passes, file_of_slot, ShelfActs, shelf_holds, shelf_uses, shelf_past, shelf_unread, ShelfReads}
 use Rattle.sof_desk.proofs.OpenSlots.{same_number}
 use Rattle.sof_desk.proofs.StillUnread.{left_same, same_loaded-piece, same_loaded-create, is_opened-opened, left-opened, is_opened-read, left-read, gets_front}
 use Rattle.sof_desk.proofs.Pieces.{taken_part}
+use Rattle.sof_desk.proofs.UsesOfNames.{uses_after_piece, creatable, written_after_create, others_after_create, loaded_read}
 use Rattle.sof_desk.proofs.TiedFiles.{loaded_after_piece, other_after_piece, file_after_piece, loaded_after_create, other_after_create, bytes_after_create, tied_after_create}
 
 pub le-one_more : (n : ℕ) → n ≤ one_more n
@@ -42,6 +45,7 @@ acted_say s piece =
       created = λ slot. refl;
       opened = λ slot. refl;
       unread = λ slot. refl;
+      took = λ name. refl;
       kept = record { faults = kept_faults s.faults (shelf_does s (Put Spoken piece)); holds = λ name. refl };
     }
   where
@@ -101,6 +105,7 @@ acted_append s slot piece =
       created = created_append s slot piece;
       opened = λ other. refl;
       unread = λ other. left_same other s.opens s.files (changed_first (tied slot) (file_with_piece (planned_passes s) piece) s.files) (same_loaded-piece slot (planned_passes s) piece s.files);
+      took = λ name. uses_after_piece name slot (planned_passes s) piece s.files;
       kept =
           record {
             faults = kept_faults s.faults (shelf_does s (Put (Slot slot) piece));
@@ -152,6 +157,13 @@ acted_create s slot name = by_does (shelf_does s (Create slot name)) refl
           created = created_create s slot name (done_can s slot name is);
           opened = λ other. refl;
           unread = λ other. left_same other s.opens s.files (files_with_slot slot name s.files) (same_loaded-create slot name s.files (done_can s slot name is));
+          took =
+              inl (record {
+                file = name;
+                may = creatable (find (named name) s.files) (done_can s slot name is);
+                used = written_after_create slot name s.files (done_can s slot name is);
+                others = λ other apart. others_after_create slot name other s.files apart;
+              });
           kept =
               record {
                 faults = omega arith;
@@ -168,6 +180,7 @@ acted_create s slot name = by_does (shelf_does s (Create slot name)) refl
           created = λ other. refl;
           opened = λ other. refl;
           unread = λ other. refl;
+          took = λ other. refl;
           kept = record { faults = le-one_more s.faults; holds = λ other. refl };
         }
       where
@@ -202,6 +215,9 @@ acted_open s slot name = by_does (shelf_does s (Open slot name)) refl
           created = λ other. refl;
           opened = is_opened-opened slot (position_or_len (named name) s.files) s.opens;
           unread = left-opened slot name s.opens s.files (done_holds s slot name is);
+          took =
+              let read = loaded_read (find (named name) s.files) (done_holds s slot name is) in
+              inl (record { file = name; may = ap (may_use ToRead) read; used = read; others = λ other apart. refl });
           kept = record { faults = omega arith; holds = λ other. refl };
         }
       where
@@ -218,6 +234,7 @@ acted_open s slot name = by_does (shelf_does s (Open slot name)) refl
           created = λ other. refl;
           opened = λ other. refl;
           unread = λ other. refl;
+          took = λ other. refl;
           kept = record { faults = le-one_more s.faults; holds = λ other. refl };
         }
       where
@@ -249,6 +266,7 @@ was_read slot size got old new one room reads =
       opened = opened got;
       wrote = wrote got;
       created = created got;
+      took = took got;
       kept = kept got;
     })
   where
@@ -276,6 +294,10 @@ was_read slot size got old new one room reads =
     created : (g : Option (List ℕ)) (other : ℕ) → shelf.created (after g) other ≡ shelf.created old other
     created None other = refl
     created (Some bytes) other = refl
+
+    took : (g : Option (List ℕ)) (name : List ℕ) → shelf_uses (after g) name ≡ shelf_uses old name
+    took None name = refl
+    took (Some bytes) name = refl
 
     kept : (g : Option (List ℕ)) → Kept shelf old (after g)
     kept None = record { faults = le-one_more old.faults; holds = λ name. refl }

@@ -1,6 +1,7 @@
 pub mod First
 pub mod FoundAfter
 pub mod TiedFiles
+pub mod UsesOfNames
 pub mod StillUnread
 pub mod Pieces
 pub mod ActsOfShelf
@@ -9,4 +10,6 @@ pub mod KnownTransfers
 pub mod OpenSlots
 pub mod OutFileLaws
 pub mod InFileLaws
+pub mod UsedFiles
 pub mod ActsOfReal
+pub mod LoadsOfReal

@@ -2,6 +2,9 @@
 use Rattle.std.specs.Prelude.{◌≡◌, ◌⊎◌, ◌+◌, ◌<◌, ◌≤◌, ◌^◌, ℕ, Bool, true, false, nat_eq, List, [], ◌∷◌, ◌++◌, length, take, drop, Option, Some, None, Result, Ok, Err, if◌then◌else◌, option_map}
 use Rattle.sof_desk.specs.declared.calls.LoadFault.{LoadFault}
 use Rattle.sof_desk.specs.declared.calls.LoadFault.TheVariants.{Failed, TooLong, OutOfMemory}
+use Rattle.sof_desk.specs.declared.calls.FileUse.{FileUse}
+use Rattle.sof_desk.specs.declared.calls.FileUse.TheVariants.{ToRead, ToWrite}
+use Rattle.sof_desk.specs.FileUses.{may_use}
 
 -- where a piece goes: to the file of a slot, or to what is said
 pub data DeskPlace : Type 0 where
@@ -32,6 +35,8 @@ pub record DeskMeaning (D : Type 0) : Type 1 where
   pub created : D → ℕ → Bool  -- which slots were created
   pub opened : D → ℕ → Bool  -- which slots are open to be read
   pub unread : D → ℕ → Option (List ℕ)  -- what is still to be read of the file that is open under a slot
+  pub File : Type 0  -- what tells a file from all others
+  pub use_of : D → File → Option FileUse  -- how a file is used by the calls up to now
   pub load : List ℕ → ℕ → Heard → D → D → Type 0  -- what else is known of a load: name, limit, answer, before, after
   pub act : DeskAct → Bool → D → D → Type 0  -- what else is known of a call that answers only whether it was done: the call, whether done, before, after
   pub read : ℕ → ℕ → Option (List ℕ) → D → D → Type 0  -- what else is known of a read: slot, how many bytes were asked for, what was got, before, after
@@ -52,7 +57,30 @@ pub record Kept {D : Type 0} (means : DeskMeaning D) (old new : D) : Type 0 wher
   pub faults : means.faults old ≤ means.faults new
   pub holds : (name : List ℕ) → means.holds new name ≡ means.holds old name
 
--- what a load does: it answers, writes nothing and opens nothing
+-- each file is used as before
+abbrev pub SameUses : {D : Type 0} → DeskMeaning D → D → D → Type 0
+SameUses means old new = (file : means.File) → means.use_of new file ≡ means.use_of old file
+
+-- one file is taken for a use, which the use that it had allows, and each other file is used as before
+pub record TookFile {D : Type 0} (means : DeskMeaning D) (usage : FileUse) (old new : D) : Type 0 where
+  pub file : means.File
+  pub may : may_use usage (means.use_of old file) ≡ true
+  pub used : means.use_of new file ≡ Some usage
+  pub others : (other : means.File) → (other ≡ file → ⊥) → means.use_of new other ≡ means.use_of old other
+
+-- a file is taken for a use, unless it is one that several calls may share
+abbrev pub Took : {D : Type 0} → DeskMeaning D → FileUse → D → D → Type 0
+Took means usage old new = TookFile means usage old new ⊎ SameUses means old new
+
+-- what a call takes: a create a file to be written, an open one to be read, and any other call none
+abbrev pub TookFor : {D : Type 0} → DeskMeaning D → DeskAct → (done : Bool) → D → D → Type 0
+TookFor means (Create slot name) true old new = Took means ToWrite old new
+TookFor means (Create slot name) false old new = SameUses means old new
+TookFor means (Put place piece) done old new = SameUses means old new
+TookFor means (Open slot name) true old new = Took means ToRead old new
+TookFor means (Open slot name) false old new = SameUses means old new
+
+-- what a load does: it answers, takes its file to be read, writes nothing and opens nothing
 pub record Loaded {D : Type 0} (means : DeskMeaning D) (name : List ℕ) (limit : ℕ) (heard : Heard) (old new : D) : Type 0 where
   pub did : means.load name limit heard old new
   pub answers : Answers (means.holds old name) limit heard (CountRose (means.faults old) (means.faults new))
@@ -60,6 +88,7 @@ pub record Loaded {D : Type 0} (means : DeskMeaning D) (name : List ℕ) (limit 
   pub created : (slot : ℕ) → means.created new slot ≡ means.created old slot
   pub opened : (slot : ℕ) → means.opened new slot ≡ means.opened old slot
   pub unread : (slot : ℕ) → means.unread new slot ≡ means.unread old slot
+  pub took : Took means ToRead old new
   pub kept : Kept means old new
 
 -- some bytes more, where they are told
@@ -124,6 +153,7 @@ pub record Acted {D : Type 0} (means : DeskMeaning D) (act : DeskAct) (done : Bo
   pub created : (slot : ℕ) → means.created new slot ≡ created_after act done slot (means.created old slot)
   pub opened : (slot : ℕ) → means.opened new slot ≡ opened_after act done slot (means.opened old slot)
   pub unread : (slot : ℕ) → means.unread new slot ≡ unread_after (means.holds old) act done slot (means.unread old slot)
+  pub took : TookFor means act done old new
   pub kept : Kept means old new
 
 -- these bytes are the front of what is still to be read, and they are none exactly where it is at its end
@@ -151,6 +181,7 @@ pub record WasRead {D : Type 0} (means : DeskMeaning D) (slot size : ℕ) (got :
   pub opened : (other : ℕ) → means.opened new other ≡ means.opened old other
   pub wrote : (place : DeskPlace) → means.wrote new place ≡ means.wrote old place
   pub created : (other : ℕ) → means.created new other ≡ means.created old other
+  pub took : SameUses means old new
   pub kept : Kept means old new
 
 -- what a call does

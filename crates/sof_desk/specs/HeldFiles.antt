@@ -1,6 +1,8 @@
 -- The files that a desk in memory holds.
 use Rattle.std.specs.Prelude.{ℕ, Bool, true, false, nat_eq, map, List, [], length, Option, Some, None, if◌then◌else◌}
 use Rattle.std.specs.Str.{bytes_eq}
+use Rattle.sof_desk.specs.declared.calls.FileUse.{FileUse}
+use Rattle.sof_desk.specs.declared.calls.FileUse.TheVariants.{ToRead, ToWrite}
 use Rattle.sof_desk.specs.declared.file.Role.{Role}
 use Rattle.sof_desk.specs.declared.file.Role.TheVariants.{Input, Output, Tied, Left}
 use Rattle.sof_desk.specs.Edits.{changed_first}
@@ -46,6 +48,18 @@ bytes_in_role Left bytes = None
 abbrev pub loaded_of : Option HeldFile → Option (List ℕ)
 loaded_of None = None
 loaded_of (Some file) = bytes_in_role file.role file.room.bytes
+
+-- how a file of a role is used: an input is there to be read alone, and an output until a slot was created for it for nothing
+abbrev pub use_in_role : Role → Option FileUse
+use_in_role Input = Some ToRead
+use_in_role Output = None
+use_in_role (Tied slot) = Some ToWrite
+use_in_role Left = Some ToWrite
+
+-- how a file is used
+abbrev pub use_of_file : Option HeldFile → Option FileUse
+use_of_file None = None
+use_of_file (Some file) = use_in_role file.role
 
 -- the bytes that were appended to the file of a slot: none where no slot was created
 abbrev pub appended_of : Option HeldFile → List ℕ

@@ -1,5 +1,7 @@
 pub mod Counts
 pub mod Desk
+pub mod FileUses
+pub mod UsedFiles
 pub mod Edits
 pub mod Room
 pub mod Plans

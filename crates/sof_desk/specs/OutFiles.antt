@@ -11,6 +11,11 @@ pub record OutView : Type 0 where
   pub given : Option (List ℕ)
   pub kept : List ℕ
 
+-- what a writer tells that it holds, once it is there
+abbrev pub contents_in : {F : Type 0} → (F → Option (List ℕ)) → Option F → Option (List ℕ)
+contents_in contents None = None
+contents_in contents (Some file) = contents file
+
 abbrev pub slots_of : List OutView → List ℕ
 slots_of files = map (λ f. f.slot) files
 

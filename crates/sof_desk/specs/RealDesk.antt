@@ -6,12 +6,17 @@ use Rattle.sof_desk.specs.declared.calls.TheConstants.{SLOTS}
 use Rattle.sof_desk.specs.Counts.{one_more}
 use Rattle.sof_desk.specs.Desk.{DeskMeaning, DeskAct, Create, Put, Open, Heard}
 use Rattle.sof_desk.specs.OutFiles.{OutView, slots_of, GivesFiles}
+use Rattle.sof_desk.specs.declared.calls.FileUse.TheVariants.{ToRead}
+use Rattle.sof_desk.specs.declared.file_use.FileId.{FileId}
+use Rattle.sof_desk.specs.declared.file_use.UsedFile.{UsedFile}
+use Rattle.sof_desk.specs.UsedFiles.{use_in, TakesFile, TakesForCall}
 use Rattle.sof_desk.specs.InFiles.{InView, opens_of, left_in_file, SameLeftBeside, KeepsLeft, LeavesOf}
 
--- the files of the slots that were created and of those that are open, and how many calls failed
+-- the files of the slots that were created and of those that are open, the files that were taken, and how many calls failed
 pub record RealDesk : Type 0 where
   pub files : List OutView
   pub inputs : List InView
+  pub uses : List UsedFile
   pub faults : ℕ
 
 -- whether a slot is one of these
@@ -41,8 +46,8 @@ has_failed (Err Failed) = true
 has_failed (Err TooLong) = false
 has_failed (Err OutOfMemory) = false
 
--- a call keeps to its slots, gives its bytes to its own file and counts a failure; no more slots are created or open than there
--- is room for
+-- a call keeps to its slots, gives its bytes to its own file, takes a file only for a use that is allowed, and counts a failure;
+-- no more slots are created or open than there is room for
 pub record RealActs (act : DeskAct) (done : Bool) (old new : RealDesk) : Type 0 where
   pub faults : new.faults ≡ (if done then old.faults else one_more old.faults)
   pub slots : slots_of new.files ≡ slots_after act done (slots_of old.files)
@@ -51,12 +56,14 @@ pub record RealActs (act : DeskAct) (done : Bool) (old new : RealDesk) : Type 0 
   pub opens : opens_of new.inputs ≡ opens_after act done (opens_of old.inputs)
   pub keeps : KeepsLeft act done old.inputs new.inputs
   pub room_to_read : length old.inputs ≤ SLOTS → length new.inputs ≤ SLOTS
+  pub takes : TakesForCall act done old.uses new.uses
 
--- a load keeps all files and counts a failure
+-- a load takes its file to be read, keeps all other files and counts a failure
 pub record RealLoads (name : List ℕ) (limit : ℕ) (heard : Heard) (old new : RealDesk) : Type 0 where
   pub faults : new.faults ≡ (if has_failed heard then one_more old.faults else old.faults)
   pub files : new.files ≡ old.files
   pub inputs : new.inputs ≡ old.inputs
+  pub takes : TakesFile ToRead old.uses new.uses
 
 -- a read takes its bytes from the file of its slot, keeps all other files and counts a failure
 pub record RealReads (slot size : ℕ) (got : Option (List ℕ)) (old new : RealDesk) : Type 0 where
@@ -65,6 +72,7 @@ pub record RealReads (slot size : ℕ) (got : Option (List ℕ)) (old new : Real
   pub opens : opens_of new.inputs ≡ opens_of old.inputs
   pub leaves : LeavesOf got (left_in_file slot old.inputs) (left_in_file slot new.inputs)
   pub others : SameLeftBeside slot old.inputs new.inputs
+  pub takes : new.uses ≡ old.uses
 
 -- what such a desk means: it tells no content
 abbrev pub real : DeskMeaning RealDesk
@@ -76,6 +84,8 @@ real =
       created = λ d slot. is_slot_of slot (slots_of d.files);
       opened = λ d slot. is_slot_of slot (opens_of d.inputs);
       unread = λ d slot. None;
+      File = FileId;
+      use_of = λ d file. use_in d.uses file;
       load = RealLoads;
       act = RealActs;
       read = RealReads;

@@ -1,19 +1,24 @@
 -- What each call on a desk in memory does: for each call one answer and one desk after it, but for want of memory.
 use Rattle.std.specs.Prelude.{◌≡◌, ◌⊎◌, ℕ, min, Bool, nat_le, ◌&&◌, find, List, length, take, Option, Some, None, Ok, Err, is_some, is_none, option_map, MatchBool, if◌then◌else◌}
 use Rattle.std.specs.List.{position_or_len}
+use Rattle.sof_desk.specs.declared.calls.FileUse.{FileUse}
 use Rattle.sof_desk.specs.declared.calls.LoadFault.TheVariants.{Failed, TooLong, OutOfMemory}
 use Rattle.sof_desk.specs.Counts.{one_more}
 use Rattle.sof_desk.specs.Desk.{DeskMeaning, DeskPlace, Slot, Spoken, DeskAct, Create, Put, Open, Heard}
 use Rattle.sof_desk.specs.Edits.{changed_first}
 use Rattle.sof_desk.specs.Room.{room_with_piece, takes_whole}
 use Rattle.sof_desk.specs.Plans.{planned_at}
-use Rattle.sof_desk.specs.HeldFiles.{HeldFile, named, tied, loaded_of, appended_of, can_create, files_with_slot, file_with_piece, file_takes_whole}
+use Rattle.sof_desk.specs.HeldFiles.{HeldFile, named, tied, loaded_of, use_of_file, appended_of, can_create, files_with_slot, file_with_piece, file_takes_whole}
 use Rattle.sof_desk.specs.OpenSlots.{is_opened, can_open, with_opened, with_read, left_under}
 use Rattle.sof_desk.specs.Shelf.{Shelf}
 
 -- what a name gives to be loaded
 abbrev pub shelf_holds : Shelf → List ℕ → Option (List ℕ)
 shelf_holds s name = loaded_of (find (named name) s.files)
+
+-- how the file of a name is used
+abbrev pub shelf_uses : Shelf → List ℕ → Option FileUse
+shelf_uses s name = use_of_file (find (named name) s.files)
 
 -- the file that a slot was created for
 abbrev pub file_of_slot : Shelf → ℕ → Option HeldFile
@@ -93,6 +98,8 @@ shelf =
       created = λ s slot. is_some (file_of_slot s slot);
       opened = λ s slot. is_opened slot s.opens;
       unread = shelf_unread;
+      File = List ℕ;
+      use_of = shelf_uses;
       load = ShelfLoads;
       act = ShelfActs;
       read = ShelfReads;

@@ -19,8 +19,21 @@ pub enum LoadFault {
     OutOfMemory,
 }
 
+/// How the calls of a run use a file.
+#[derive(Clone, Copy, Debug, PartialEq, Eq)]
+pub enum FileUse {
+    /// It is loaded, or opened to be read.
+    ToRead,
+    /// A slot is created for it.
+    ToWrite,
+}
+
 /// Where a program's files and lines are. No call changes what a name gives to be loaded or read, and the count of faults
 /// never falls.
+///
+/// A desk keeps files apart: it creates no slot for a file that it loaded, opened or created a slot for, and it neither loads nor
+/// opens one that it created a slot for. Such a call fails, and leaves the file as it is. Special files, as terminals and pipes, may be
+/// shared.
 pub trait Desk {
     /// What the desk holds, what was written to it, its count of faults, and what each call does.
     ghost means: { DeskMeaning Self };
@@ -28,7 +41,8 @@ pub trait Desk {
     /// The bytes of the file of a name, in a new `Vec` of `alloc`.
     ///
     /// Ok is all its bytes, and never more than `limit` bytes, also where the desk tells no content. `TooLong`: the file
-    /// has more than `limit` bytes. `Failed`: the count of faults rose. `OutOfMemory`: memory was wanting.
+    /// has more than `limit` bytes. `Failed`: the count of faults rose, also where the file is written by this run.
+    /// `OutOfMemory`: memory was wanting.
     /// In every case what was written stays, and so does what is still to be read.
     fn load(&mut self, alloc: Global, name: &str, limit: usize) -> Result<Vec<u8>, LoadFault>
         ensures { MatchResult result
@@ -38,7 +52,7 @@ pub trait Desk {
     /// Creates the file of a name and ties a slot to it.
     ///
     /// Ok: the slot is created and empty, also where it was created before. Err: the count of faults rose, and every slot
-    /// is as it was.
+    /// is as it was, also where the file is read or written by this run.
     fn create(&mut self, slot: u32, name: &str) -> Result<(), DeskFailed>
         ensures { Acted means (Create slot name.now) (is_ok result) self.old self.new };
 
@@ -57,7 +71,8 @@ pub trait Desk {
 
     /// Opens the file of a name to be read under a slot, from its first byte, also where the slot was open before.
     ///
-    /// Ok: the slot is open. Err: the count of faults rose, and every slot is as it was.
+    /// Ok: the slot is open. Err: the count of faults rose, and every slot is as it was, also where the file is written by this
+    /// run.
     fn open(&mut self, slot: u32, name: &str) -> Result<(), DeskFailed>
         ensures { Acted means (Open slot name.now) (is_ok result) self.old self.new };
 

@@ -3,7 +3,6 @@ ghost use Rattle.std.specs.Prelude.{◌≡◌, ◌≤◌, length, take, nat_eq, 
 ghost use Rattle.sof_desk.specs.InFiles.{opens_of, left_in_file, SameLeftBeside, LeavesOf};
 
 use crate::trouble::{Subject, Trouble};
-use std::alloc::Global;
 use std::io;
 use std::io::{ErrorKind, Read};
 use std::marker::Model;
@@ -25,15 +24,11 @@ impl<F: Read + Drop> Model for InFile<F> {
 }
 
 impl<F: Read + Drop> InFile<F> {
-    /// Ties a slot to a file of a name; fails only where memory was wanting.
-    pub fn new(alloc: Global, slot: u32, name: &str, file: F) -> io::Result<InFile<F>>
-        ensures { IfOk result (λ f. f ≡ record { slot = slot; left = F.remaining file }) }
+    /// Ties a slot to a file of a name.
+    pub fn new(slot: u32, name: String, file: F) -> InFile<F>
+        ensures { result ≡ record { slot = slot; left = F.remaining file } }
     {
-        Ok(InFile {
-            slot,
-            name: String::from_str(alloc, name)?,
-            file,
-        })
+        InFile { slot, name, file }
     }
 
     /// Reads the next bytes into the front of `out`, which must have room for one, and tells how many there are: none only at

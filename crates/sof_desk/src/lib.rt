@@ -6,18 +6,20 @@
 mod calls;
 mod faults;
 mod file;
+mod file_use;
 mod in_file;
 mod mem;
 mod open_slot;
 mod os;
 mod out_file;
 mod plan;
+mod sink;
 mod store;
 mod transfer;
 mod trouble;
 mod troubles;
 
-pub use calls::{Desk, DeskFailed, LoadFault};
+pub use calls::{Desk, DeskFailed, FileUse, LoadFault};
 pub use mem::MemDesk;
 pub use os::OsDesk;
 pub use trouble::{Subject, Trouble};

@@ -6,10 +6,12 @@ ghost use Rattle.sof_desk.specs.Transfers.{Writes};
 ghost use Rattle.sof_desk.specs.Troubles.{Notes};
 
 use crate::calls::DeskFailed;
+use crate::sink::Sink;
 use crate::transfer::{keep, write_filling};
 use crate::trouble::{Subject, Trouble};
 use crate::troubles::Troubles;
 use std::alloc::Global;
+use std::fs::OpenFile;
 use std::io;
 use std::io::{BufWriter, ErrorKind, Write};
 use std::marker::Model;
@@ -20,37 +22,45 @@ const KEPT: usize = 262144;
 /// A file that is open for writing, its slot and its name. Appended bytes are kept until there is no room for more or they are to be
 /// written.
 #[derive(Drop)]
-pub struct OutFile<F: Write + Drop> {
+pub struct OutFile<F: Write + OpenFile + Drop> {
     slot: u32,
     name: String,
-    file: BufWriter<F>,
+    file: BufWriter<Sink<F>>,
 }
 
-impl<F: Write + Drop> Model for OutFile<F> {
+impl<F: Write + OpenFile + Drop> Model for OutFile<F> {
     ghost use Rattle.std.specs.Io.Buffered.{writer_buffer, writer_contents};
-    ghost use Rattle.sof_desk.specs.OutFiles.{OutView};
+    ghost use Rattle.sof_desk.specs.OutFiles.{OutView, contents_in};
 
     ghost Value = { OutView };
 
     ghost view = { λ f. record {
       slot = f.slot;
-      given = writer_contents F.contents f.file;
+      given = writer_contents (λ s. contents_in F.contents s.file) f.file;
       kept = writer_buffer f.file;
     } };
 }
 
-impl<F: Write + Drop> OutFile<F> {
-    /// Ties a slot to a file of a name, of which nothing is kept; fails only where memory was wanting.
-    pub fn new(alloc: Global, slot: u32, name: &str, file: F) -> io::Result<OutFile<F>>
+impl<F: Write + OpenFile + Drop> OutFile<F> {
+    /// All memory for a file of a name under a slot, before the file is touched; fails only where memory was wanting.
+    pub fn new(alloc: Global, slot: u32, name: &str) -> io::Result<OutFile<F>>
         ensures slot { IfOk result (λ f. f.slot ≡ slot) }
-        ensures given { IfOk result (λ f. Keeps (F.contents file) f.given) }
         ensures kept { IfOk result (λ f. f.kept ≡ []) }
     {
         Ok(OutFile {
             slot,
             name: String::from_str(alloc, name)?,
-            file: BufWriter::with_capacity(alloc, KEPT, file)?,
+            file: BufWriter::with_capacity(alloc, KEPT, Sink::new())?,
         })
+    }
+
+    /// Ties the slot to its file, which is emptied before bytes go out where it is stale.
+    pub fn hold(&mut self, file: F, stale: bool)
+        ensures slot { self.new.slot ≡ self.old.slot }
+        ensures given { self.old.kept ≡ [] → Keeps (F.contents file) self.new.given }
+        ensures kept { self.new.kept ≡ self.old.kept }
+    {
+        self.file.get_mut().hold(file, stale);
     }
 
     /// Takes a piece whole, or a prefix of it up to a failure, which is noted.
@@ -101,7 +111,7 @@ impl<F: Write + Drop> OutFile<F> {
 }
 
 /// The place of the file that is open under a slot.
-pub fn place_of<F: Write + Drop>(files: &[OutFile<F>], slot: u32) -> Option<usize>
+pub fn place_of<F: Write + OpenFile + Drop>(files: &[OutFile<F>], slot: u32) -> Option<usize>
     ensures { result ≡ position (λ f. nat_eq f.slot slot) files.now }
 {
     files.iter().position(|opened| opened.slot == slot)
@@ -109,7 +119,7 @@ pub fn place_of<F: Write + Drop>(files: &[OutFile<F>], slot: u32) -> Option<usiz
 
 /// Gives a piece to the file that is open under a slot; fails where there is none or it did not take all of the piece, and notes
 /// that.
-pub fn append_in<F: Write + Drop>(
+pub fn append_in<F: Write + OpenFile + Drop>(
     files: &mut [OutFile<F>],
     slot: u32,
     piece: &[u8],
@@ -133,7 +143,7 @@ pub fn append_in<F: Write + Drop>(
 }
 
 /// Writes what is kept for each file, in order, up to a failure.
-pub fn write_kept_of<F: Write + Drop>(files: &mut [OutFile<F>]) -> Result<(), Trouble>
+pub fn write_kept_of<F: Write + OpenFile + Drop>(files: &mut [OutFile<F>]) -> Result<(), Trouble>
     ensures slots { slots_of files.new ≡ slots_of files.old }
     ensures given { SameGiven files.old files.new }
     ensures none { is_ok result ≡ true → NoneKept files.new }

@@ -153,6 +153,29 @@ fn an_output_takes_what_there_is_room_for(rt: HostRuntime) -> Result<(), Fail> {
     Ok(())
 }
 
+// An output may be no file that was loaded, nor one that was created.
+#[test]
+fn files_of_one_run_are_kept_apart(rt: HostRuntime) -> Result<(), Fail> {
+    let mut desk = desk_with(rt.alloc(), "in.raw", b"abc", 0)?;
+    desk.put_out("out.raw", 4)?;
+    loads(&rt, rt.alloc(), &mut desk, "in.raw", 3, Ok(b"abc"));
+    same(&rt, &1, &desk.create(1, "in.raw"), &Err(DeskFailed));
+    creates(&rt, &mut desk, 2, "out.raw");
+    opening(&rt, &mut desk, 3, "out.raw", Err(DeskFailed));
+    loads(
+        &rt,
+        rt.alloc(),
+        &mut desk,
+        "out.raw",
+        3,
+        Err(LoadFault::Failed),
+    );
+    same(&rt, &4, &desk.create(4, "out.raw"), &Err(DeskFailed));
+    opening(&rt, &mut desk, 5, "in.raw", Ok(()));
+    has_file(&rt, &desk, "in.raw", Some(b"abc"));
+    Ok(())
+}
+
 // What saying a piece comes to, and what was said then.
 fn says(
     rt: &impl Abort,

@@ -10,16 +10,16 @@ use Rattle.sof_desk.proofs.os.OsDeskDesk.append.Goals as goal
 pub returns : goal.returns
 returns g c =
     let inside = c.self.inside in
-    let mid : RealDesk = record { files = inside.files.items; inputs = inside.inputs.items; faults = inside.troubles.count } in
+    let mid : RealDesk = record { files = inside.files.items; inputs = inside.inputs.items; uses = inside.uses.items; faults = inside.troubles.count } in
     let done = c.append_in in
     let files = done.new.files in
     let kept : length files ≡ inside.files.len = omega (arith, done.auto.files, c.deref_mut.ensures.len) in
     let items = with_items_is inside.files files kept in
-    let new : RealDesk = record { files = (with_items inside.files files).items; inputs = inside.inputs.items; faults = done.new.troubles.count } in
+    let new : RealDesk = record { files = (with_items inside.files files).items; inputs = inside.inputs.items; uses = inside.uses.items; faults = done.new.troubles.count } in
     let gives : GivesFiles (Put (Slot c.args.slot) c.args.piece.now) (is_ok done.result) mid.files files =
     (rw c.deref_mut.ensures.value at done.ensures.given, rw c.deref_mut.ensures.value at done.ensures.others) in
     puts (Slot c.args.slot) c.args.piece.now (is_ok done.result) (is_ok done.result) c.args.self.now mid new c.self.view_is refl
     (ap slots_of items ∙ rw c.deref_mut.ensures.value at done.ensures.slots)
     (subst (λ fs. GivesFiles (Put (Slot c.args.slot) c.args.piece.now) (is_ok done.result) mid.files fs) (sym items) gives)
-    refl
+    refl refl
     (notes-count (is_ok done.result) inside.troubles done.new.troubles done.ensures.notes)

@@ -9,7 +9,7 @@ use Rattle.sof_desk.proofs.os.OsDeskDesk.read.Goals as goal
 pub returns-in-Ok : goal.returns-in-Ok
 returns-in-Ok g c =
     let inside = c.self.inside in
-    let mid : RealDesk = record { files = inside.files.items; inputs = inside.inputs.items; faults = inside.troubles.count } in
+    let mid : RealDesk = record { files = inside.files.items; inputs = inside.inputs.items; uses = inside.uses.items; faults = inside.troubles.count } in
     let e = c.in-Ok.ensures in
     let slot = c.args.slot in
     let files = c.read_in.new.files in
@@ -26,13 +26,13 @@ returns-in-Ok g c =
           (ap opens_of items ∙ rw c.deref_mut.ensures.value at e.slots)
           (subst (λ fs. LeavesOf (Some got) (left_in_file slot mid.inputs) (left_in_file slot fs)) (sym items) (rw c.deref_mut.ensures.value at e.left))
           (subst (λ fs. SameLeftBeside slot mid.inputs fs) (sym items) (rw c.deref_mut.ensures.value at e.others))
-          refl refl,
+          refl refl refl,
     )
 
 pub returns-in-Err : goal.returns-in-Err
 returns-in-Err g c =
     let inside = c.self.inside in
-    let mid : RealDesk = record { files = inside.files.items; inputs = inside.inputs.items; faults = inside.troubles.count } in
+    let mid : RealDesk = record { files = inside.files.items; inputs = inside.inputs.items; uses = inside.uses.items; faults = inside.troubles.count } in
     let e = c.in-Err.ensures in
     let slot = c.args.slot in
     let files = c.read_in.new.files in
@@ -43,4 +43,4 @@ returns-in-Err g c =
     (ap opens_of items ∙ rw c.deref_mut.ensures.value at e.slots)
     (subst (λ fs. LeavesOf None (left_in_file slot mid.inputs) (left_in_file slot fs)) (sym items) (rw c.deref_mut.ensures.value at e.left))
     (subst (λ fs. SameLeftBeside slot mid.inputs fs) (sym items) (rw c.deref_mut.ensures.value at e.others))
-    refl (ap (λ n. n.count) c.note.ensures)
+    refl refl (ap (λ n. n.count) c.note.ensures)

@@ -2,7 +2,8 @@ use Rattle.std.proofs.Common.{◌≡◌, ap, refl, subst, true, take, arith, tak
 use Rattle.std.proofs.lemmas.List.{take_all, take_rest}
 use Rattle.std.specs.Io.KnownBytes.{Appends}
 use Rattle.std.specs.Io.Buffered.{writer_contents}
-use Rattle.sof_desk.specs.OutFiles.{OutView}
+use Rattle.sof_desk.specs.declared.sink.Sink.{Sink}
+use Rattle.sof_desk.specs.OutFiles.{OutView, contents_in}
 use Rattle.sof_desk.specs.Transfers.{Writes}
 use Rattle.sof_desk.proofs.KnownTransfers.{writes_more}
 use Rattle.sof_desk.proofs.out_file.OutFile.append.Goals as goal
@@ -10,16 +11,17 @@ use Rattle.sof_desk.proofs.out_file.OutFile.append.Goals as goal
 pub returns-then-kept-piece-clause-given : goal.returns-then-kept-piece-clause-given
 returns-then-kept-piece-clause-given g c =
     let near = take c.keep-kept.result c.args.piece.now in
+    let mid = writer_contents (λ (s : Sink g.row.F.Denot). contents_in g.F.Write.contents s.file) c.keep-kept.new.to in
     record {
       part = near;
       takes = take_all c.keep-kept.result c.args.piece.now (omega (arith, c.if-kept-piece.true));
-      appends = subst (λ (old : Option (List ℕ)). Appends old (writer_contents g.F.Write.contents c.keep-kept.new.to) near) (ap (λ (v : OutView). v.given) c.self.view_is) c.keep-kept.ensures.given;
+      appends = subst (λ (old : Option (List ℕ)). Appends old mid near) (ap (λ (v : OutView). v.given) c.self.view_is) c.keep-kept.ensures.given;
     }
 
 pub returns-clause-given : goal.returns-clause-given
 returns-clause-given g c =
     let near = take c.keep-kept.result c.args.piece.now in
-    let mid = writer_contents g.F.Write.contents c.keep-kept.new.to in
+    let mid = writer_contents (λ (s : Sink g.row.F.Denot). contents_in g.F.Write.contents s.file) c.keep-kept.new.to in
     let first : Writes near true c.args.self.now.given mid = record {
       part = near;
       takes = refl;

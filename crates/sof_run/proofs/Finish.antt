@@ -22,6 +22,7 @@ use Rattle.sof_run.specs.Forms.{todo_for, todo_of}
 use Rattle.sof_run.specs.Ends.{IsEarly, Worded}
 use Rattle.sof_run.specs.Verdicts.{MakeRun, Judged}
 use Rattle.sof_run.specs.Plays.{Plays, Unbegun, PlaysWhole, ground_in}
+use Rattle.sof_run.specs.HeardRuns.{PlaysHeard, PlaysWhatIsHeard}
 use Rattle.sof_run.specs.Todo.{Gave}
 use Rattle.sof_run.specs.Run.{Left}
 use Rattle.sof_run.specs.Calls.{FollowsCourse}
@@ -33,6 +34,7 @@ use Rattle.sof_run.proofs.ScriptRanges.{script_sound}
 use Rattle.sof_run.proofs.OpenedFiles.{Next}
 use Rattle.sof_run.proofs.Courses.{follows}
 use Rattle.sof_run.proofs.PlayRuns.{play_goes, plays, before_begun}
+use Rattle.sof_run.proofs.HeardRuns.{play_heard, legs, outs_are, over_is}
 use Rattle.sof_run.proofs.Statuses.{IsLate, TurnsLast, ends, none_turned, none_asked, three_rose}
 use Rattle.sof_run.proofs.Throughout.{play_all, check_all, compile_all, stress_all, words_last}
 
@@ -133,7 +135,7 @@ module _ {D P : Type 0} (means : DeskMeaning D) (dsp : Meaning P) (words : List 
       judge topology script means form gave.ran.turns gave.ran.played.calls status old new is_topology is_script bytes
       (subst (λ r. DoneBy (todo_for (dsp.most p) sent r) gave.ran.turns gave.ran.played.calls status) (play_asked (dsp.most p) words form is_form) goes) gave.ran.played.led
 
-  pub plays_whole : dsp.on p ≡ None → PlaysWhole means dsp words old new status p gave.last
+  pub plays_whole : dsp.on p ≡ None → PlaysWhole means dsp words old new status p gave.last gave.ran.turns
   plays_whole off run =
       let plan = plan_of run.t in
       let turns = gave.ran.turns in
@@ -142,7 +144,25 @@ module _ {D P : Type 0} (means : DeskMeaning D) (dsp : Meaning P) (words : List 
       let same : todo ≡ play run.form = ap (todo_for (dsp.most p) sent) (play_asked (dsp.most p) words run.form run.is_form) in
       let next : Next means (play run.form) turns status old new = record { calls = gave.ran.played.calls; goes = subst (λ x. DoneBy x turns gave.ran.played.calls status) same goes; led = gave.ran.played.led } in
       let sound = script_sound run.script run.read (omega (arith, run.fit.1)) run.make_run.lines.0 in
-      (elim (play_goes means dsp run.form run.topology run.script plan run.read ready turns status old new p gave.last gave.ran.turned run.is_topology run.is_script run.fit.0 run.fit.1 run.given next) as (λ w. Plays means dsp (ground_in run) (rounds_of run.read.commands) old new status p gave.last ⊎ Unbegun means (ground_in run).slots old new status p gave.last) [
+      (elim (play_goes means dsp run.form run.topology run.script plan run.read ready turns status old new p gave.last gave.ran.turned run.is_topology run.is_script run.fit.0 run.fit.1 run.given next) as (λ w. Plays means dsp (ground_in run) (rounds_of run.read.commands) old new status p gave.last turns ⊎ Unbegun means (ground_in run).slots old new status p gave.last) [
         | inl b ↦ inl (plays means dsp run.form run.topology run.script plan run.read ready turns status old new p gave.last gave.ran.turned off whole run.make_run.right sound.few b)
         | inr b ↦ inr (before_begun means dsp run.form run.topology run.script plan run.read ready turns status old new p gave.last gave.ran.turned b)
+      ])
+
+  pub plays_heard : dsp.on p ≡ None → PlaysWhatIsHeard dsp words gave.ran.played.calls gave.ran.turns p gave.last
+  plays_heard off a =
+      let plan = plan_of a.t in
+      let turns = gave.ran.turns in
+      let ready = files_ready a.topology a.script a.t a.read a.make_run in
+      let whole = sound_plan a.t a.make_run.file.0 a.make_run.whole in
+      let sound = script_sound a.script a.read (omega (arith, a.fit.1)) a.make_run.lines.0 in
+      let same : todo ≡ play a.form = ap (todo_for (dsp.most p) sent) (play_asked (dsp.most p) words a.form a.is_form) in
+      let done : DoneBy (play a.form) turns gave.ran.played.calls status = subst (λ x. DoneBy x turns gave.ran.played.calls status) same goes in
+      (elim (play_heard a.form a.topology a.script plan a.read ready turns status gave.ran.played.calls a.heard done) as (λ w. PlaysHeard dsp (dsp.most p) words gave.ran.played.calls a turns p gave.last ⊎ (gave.last ≡ Bare p)) [
+        | inl b ↦ inl record {
+          legs = legs a.form a.topology a.script plan a.read ready turns status dsp p gave.last gave.ran.turned off whole a.make_run.right sound.few b;
+          outs = outs_are a.form a.topology a.script plan a.read ready turns status dsp p gave.last gave.ran.turned off whole a.make_run.right sound.few b;
+          over = over_is a.form a.topology a.script plan a.read ready turns status dsp p gave.last gave.ran.turned off whole a.make_run.right sound.few b;
+        }
+        | inr none ↦ inr (subst (λ ts. Turns dsp (Bare p) ts gave.last) none gave.ran.turned)
       ])

@@ -35,3 +35,5 @@ pub mod PlayRuns
 pub mod Courses
 pub mod StressPhases
 pub mod StressVerdicts
+pub mod HeardRuns
+pub mod OnePlay

@@ -14,7 +14,7 @@ use Rattle.sof_script.specs.declared.script.Command.{Command}
 use Rattle.sof_session.specs.Seat.{Seat, new_seat}
 use Rattle.sof_session.specs.Fills.{AreNew, AreWhole, bytes_read}
 use Rattle.sof_session.specs.Written.{Out, Ground, Leg, IsRun, first_at}
-use Rattle.sof_session.specs.Lives.{Life, Bare, Seated, Task, Begin, Turn, Turned, Turns, inputs_of, reads_in, carried_outs}
+use Rattle.sof_session.specs.Lives.{Life, Bare, Seated, Task, Begin, Turn, Turned, Turns, inputs_of, reads_by, reads_in, with_out, carried_outs}
 use Rattle.sof_session.specs.RunOver.{RunOver}
 use Rattle.sof_session.proofs.FilledRuns.{RunsFilled, runs-filled}
 use Rattle.sof_run.specs.Words.{Form}
@@ -144,10 +144,19 @@ module _ {D P : Type 0} (means : DeskMeaning D) (dsp : Meaning P) (form : Form) 
     both : Both (length run.legs)
     both = subst Both as_many (run.over, run.run files whole)
 
-    pub plays : Plays means dsp g (rounds_of read.commands) old new status p last
+    -- the first turn reads and answers nothing
+    outs_behind : carried_outs turns ≡ carried_outs b.others
+    outs_behind = ap carried_outs b.are ∙ ap (λ (task : Task). with_out task b.begins.out (carried_outs b.others)) b.task
+
+    reads_behind : reads_in turns ≡ reads_in b.others
+    reads_behind = ap reads_in b.are ∙ ap (λ (task : Task). reads_by task ++ reads_in b.others) b.task
+
+    pub plays : Plays means dsp g (rounds_of read.commands) old new status p last turns
     plays = record {
       legs = run.legs;
+      outs = run.outs ∙ sym outs_behind;
       read = bytes_read (reads_in b.others);
+      read_is = ap bytes_read (sym reads_behind);
       files = whole;
       over = both.0;
       run = both.1;

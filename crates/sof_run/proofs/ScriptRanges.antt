@@ -7,13 +7,15 @@ use Rattle.std.proofs.lemmas.Bool.{and_parts, and_from, leb-true, lt-ltb, false�
 use Rattle.sof_base.specs.declared.format.Format.{Format}
 use Rattle.sof_script.specs.declared.script.Command.{Command}
 use Rattle.sof_script.specs.declared.script.Command.TheVariants as commands
+use Rattle.sof_script.specs.declared.fault_causes.Cause.{Cause}
+use Rattle.sof_script.specs.declared.fault_causes.Cause.TheVariants as causes
 use Rattle.sof_script.specs.declared.items.Item.{Item}
 use Rattle.sof_script.specs.declared.items.Item.TheVariants.{Nothing, Bind, Do}
 use Rattle.sof_script.specs.declared.reading.ScriptFault.{ScriptFault}
 use Rattle.sof_script.specs.declared.words.Word.{Word}
 use Rattle.sof_script.specs.declared.words.Word.TheVariants as words
 use Rattle.sof_script.specs.Splitting.{before_line, with_byte, lines_of, without_return, is_skipped, all_plain, tokens_of}
-use Rattle.sof_script.specs.ValueForms.{byte_cause, count_cause, number_cause, name_value, file_value, format_value, hex_value, in_range, decimal_value, number_value, negative, error_value}
+use Rattle.sof_script.specs.ValueForms.{name_value, file_value, format_value, hex_value, in_range, decimal_value, number_value, negative, error_value}
 use Rattle.sof_script.specs.Words.{word_named}
 use Rattle.sof_script.specs.Commands.{◌⊛◌, any_number, message_number, number_values, one_name, one_number, alone, bound, params_item, values_item, hex_item, error_item, lag_item, said_by, behind_word, item_of, line_item, Read, with_item, lines_read, script_of}
 use Rattle.sof_session.specs.CommandRanges.{is_ahead, is_lag, is_refusal, is_in_range}
@@ -27,30 +29,30 @@ Ranged (Do command) = is_in_range command ≡ true
 Ranged Nothing = Unit {0}
 Ranged (Bind input endpoint file) = Unit {0}
 
-abbrev Fine : Result Item ℕ → Type 0
+abbrev Fine : Result Item Cause → Type 0
 Fine r = IfOk r Ranged
 
 -- one value more, of which something is known
-applied : {A B : Type 0} (P : A → Type 0) (Q : B → Type 0) (r : Result (A → B) ℕ) (a : Result A ℕ) → IfOk r (λ f. (v : A) → P v → Q (f v)) → IfOk a P → IfOk (r ⊛ a) Q
+applied : {A B : Type 0} (P : A → Type 0) (Q : B → Type 0) (r : Result (A → B) Cause) (a : Result A Cause) → IfOk r (λ f. (v : A) → P v → Q (f v)) → IfOk a P → IfOk (r ⊛ a) Q
 applied P Q (Ok f) (Ok v) all has = all v has
 applied P Q (Ok f) (Err cause) all has = tt
 applied P Q (Err cause) (Ok v) all has = tt
 applied P Q (Err cause) (Err other) all has = tt
 
 -- and any value more
-with_any : {A B : Type 0} (Q : B → Type 0) (r : Result (A → B) ℕ) (a : Result A ℕ) → IfOk r (λ f. (v : A) → Q (f v)) → IfOk (r ⊛ a) Q
+with_any : {A B : Type 0} (Q : B → Type 0) (r : Result (A → B) Cause) (a : Result A Cause) → IfOk r (λ f. (v : A) → Q (f v)) → IfOk (r ⊛ a) Q
 with_any Q (Ok f) (Ok v) all = all v
 with_any Q (Ok f) (Err cause) all = tt
 with_any Q (Err cause) (Ok v) all = tt
 with_any Q (Err cause) (Err other) all = tt
 
-always : {A : Type 0} (make : A → Item) (a : Result A ℕ) → ((v : A) → Ranged (make v)) → Fine (Ok make ⊛ a)
+always : {A : Type 0} (make : A → Item) (a : Result A Cause) → ((v : A) → Ranged (make v)) → Fine (Ok make ⊛ a)
 always make a all = with_any Ranged (Ok make) a all
 
-always_two : {A B : Type 0} (make : A → B → Item) (a : Result A ℕ) (b : Result B ℕ) → ((v : A) (u : B) → Ranged (make v u)) → Fine (Ok make ⊛ a ⊛ b)
+always_two : {A B : Type 0} (make : A → B → Item) (a : Result A Cause) (b : Result B Cause) → ((v : A) (u : B) → Ranged (make v u)) → Fine (Ok make ⊛ a ⊛ b)
 always_two {A} {B} make a b all = with_any Ranged (Ok make ⊛ a) b (with_any (λ (f : B → Item). (u : B) → Ranged (f u)) (Ok make) a all)
 
-fine_if : (b : Bool) (r s : Result Item ℕ) → Fine r → Fine s → Fine (cond b r s)
+fine_if : (b : Bool) (r s : Result Item Cause) → Fine r → Fine s → Fine (cond b r s)
 fine_if true r s first rest = first
 fine_if false r s first rest = rest
 
@@ -63,7 +65,7 @@ in_between : (least most : ℕ) (o : Option ℕ) → IfOk (in_range least most o
 in_between least most None = tt
 in_between least most (Some n) = by_test (nat_le least n && nat_le n most) refl
   where
-    by_test : (t : Bool) → (nat_le least n && nat_le n most) ≡ t → IfOk (cond t (Ok n) (Err number_cause)) (Between least most)
+    by_test : (t : Bool) → (nat_le least n && nat_le n most) ≡ t → IfOk (cond t (Ok n) (Err causes.Number)) (Between least most)
     by_test true is = is
     by_test false is = tt
 
@@ -77,7 +79,7 @@ below_zero zero is = absurd (false≢true is)
 below_zero (suc n) is =
     subst (λ (e : ℤ). is_refusal e ≡ true) (sym (+ℤ_idl (negsuc n))) (lt-ltb n 4095 (omega (arith, leb-true (suc n) 4095 (and_parts (nat_le 1 (suc n)) (nat_le (suc n) 4095) is).1)))
 
-negative_refuses : (r : Result ℕ ℕ) → IfOk r (Between 1 4095) → IfOk (negative r) (λ e. is_refusal e ≡ true)
+negative_refuses : (r : Result ℕ Cause) → IfOk r (Between 1 4095) → IfOk (negative r) (λ e. is_refusal e ≡ true)
 negative_refuses (Ok n) is = below_zero n is
 negative_refuses (Err cause) is = tt
 
@@ -85,7 +87,7 @@ error_refuses : (token : List ℕ) → IfOk (error_value token) (λ e. is_refusa
 error_refuses [] = tt
 error_refuses (b ∷ bytes) = by_sign (nat_eq b 45)
   where
-    by_sign : (t : Bool) → IfOk (cond t (negative (number_value 1 4095 bytes)) (Err number_cause)) (λ e. is_refusal e ≡ true)
+    by_sign : (t : Bool) → IfOk (cond t (negative (number_value 1 4095 bytes)) (Err causes.Number)) (λ e. is_refusal e ≡ true)
     by_sign true = negative_refuses (number_value 1 4095 bytes) (in_between 1 4095 (decimal_value bytes))
     by_sign false = tt
 
@@ -119,7 +121,7 @@ values_fine [] = tt
 values_fine (control ∷ []) = tt
 values_fine (control ∷ value ∷ values) =
     let make : List ℕ → List ℕ → Item = λ c vs. Do (commands.Set c vs) in
-    fine_if (nat_le (length values) 7) (Ok make ⊛ name_value control ⊛ number_values (value ∷ values)) (Err count_cause) (always_two make (name_value control) (number_values (value ∷ values)) (λ c vs. refl)) tt
+    fine_if (nat_le (length values) 7) (Ok make ⊛ name_value control ⊛ number_values (value ∷ values)) (Err causes.Count) (always_two make (name_value control) (number_values (value ∷ values)) (λ c vs. refl)) tt
 
 hex_fine : (args : List (List ℕ)) → Fine (hex_item args)
 hex_fine [] = tt
@@ -186,8 +188,8 @@ item_fine (Some (first ∷ args)) = behind_fine (word_named first) args
 
 line_fine : (line : List ℕ) → Fine (line_item line)
 line_fine line =
-    fine_if (is_skipped line) (Ok Nothing) (cond (all_plain line) (item_of (tokens_of line)) (Err byte_cause)) tt
-    (fine_if (all_plain line) (item_of (tokens_of line)) (Err byte_cause) (item_fine (tokens_of line)) tt)
+    fine_if (is_skipped line) (Ok Nothing) (cond (all_plain line) (item_of (tokens_of line)) (Err causes.Byte)) tt
+    (fine_if (all_plain line) (item_of (tokens_of line)) (Err causes.Byte) (item_fine (tokens_of line)) tt)
 
 -- ---- all lines
 
@@ -199,7 +201,7 @@ record Sound (most : ℕ) (read : Read) : Type 0 where
 abbrev AllSound : ℕ → Result Read ScriptFault → Type 0
 AllSound most r = IfOk r (Sound most)
 
-more_sound : (line most : ℕ) (item : Result Item ℕ) (rest : Result Read ScriptFault) → Fine item → AllSound most rest → AllSound (suc most) (with_item line item rest)
+more_sound : (line most : ℕ) (item : Result Item Cause) (rest : Result Read ScriptFault) → Fine item → AllSound most rest → AllSound (suc most) (with_item line item rest)
 more_sound line most (Err cause) rest fine sound = tt
 more_sound line most (Ok item) (Err fault) fine sound = tt
 more_sound line most (Ok Nothing) (Ok read) fine sound = record { ranges = sound.ranges; few = omega (arith, sound.few) }

@@ -1,5 +1,6 @@
 -- What reading a script comes to.
 use Rattle.std.proofs.Common.{◌≡◌, ℕ, ◌+◌, List, [], ◌∷◌, Result, Ok, Err}
+use Rattle.sof_script.specs.declared.fault_causes.Cause.{Cause}
 use Rattle.sof_script.specs.declared.items.Item.{Item}
 use Rattle.sof_script.specs.declared.items.Item.TheVariants.{Nothing, Bind, Do}
 use Rattle.sof_script.specs.declared.reading.ScriptFault.{ScriptFault}
@@ -7,7 +8,7 @@ use Rattle.sof_script.specs.declared.reading.ScriptFault.TheVariants.{OutOfMemor
 use Rattle.sof_script.specs.Splitting.{lines_of, without_return}
 use Rattle.sof_script.specs.Commands.{Read, script_of, lines_read, line_item, with_item}
 
-item_wanting : (line : ℕ) (item : Result Item ℕ) (rest : Result Read ScriptFault) → (rest ≡ Err OutOfMemory → ⊥) → with_item line item rest ≡ Err OutOfMemory → ⊥
+item_wanting : (line : ℕ) (item : Result Item Cause) (rest : Result Read ScriptFault) → (rest ≡ Err OutOfMemory → ⊥) → with_item line item rest ≡ Err OutOfMemory → ⊥
 item_wanting line (Err cause) rest other is = cc is
 item_wanting line (Ok item) (Err fault) other is = other is
 item_wanting line (Ok Nothing) (Ok read) other is = cc is

@@ -23,4 +23,6 @@ pub mod Ends
 pub mod Checks
 pub mod Compiles
 pub mod Stresses
+pub mod HeardRuns
 pub mod Run
+pub mod PlayLaws

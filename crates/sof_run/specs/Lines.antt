@@ -4,7 +4,7 @@ use Rattle.tplg_model.specs.declared.fault.TplgFault.{TplgFault}
 use Rattle.tplg_model.specs.declared.fault.TplgFault.TheVariants.{Magic, Abi, HeaderSize, Truncated, Payload, Name, ControlKind, Tokens, OutOfMemory}
 use Rattle.sof_script.specs.declared.script.Command.{Command}
 use Rattle.sof_script.specs.declared.script.Command.TheVariants.{Show}
-use Rattle.sof_script.specs.Faults.{cause_words}
+use Rattle.sof_script.specs.Causes.{cause_words}
 use Rattle.sof_script.specs.Text.{answer_line}
 use Rattle.sof_session.specs.Written.{Out}
 use Rattle.sof_run.specs.declared.prepare.Halt.{Halt}

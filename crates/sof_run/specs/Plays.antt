@@ -7,8 +7,8 @@ use Rattle.tplg_model.specs.declared.block.Topology.{Topology}
 use Rattle.tplg_graph.specs.PlanOf.{plan_of}
 use Rattle.sof_script.specs.Commands.{Bound, Read}
 use Rattle.sof_session.specs.Written.{Ground, Leg, IsRun, first_at}
-use Rattle.sof_session.specs.Fills.{AreWhole}
-use Rattle.sof_session.specs.Lives.{Life, Bare, inputs_of}
+use Rattle.sof_session.specs.Fills.{AreWhole, bytes_read}
+use Rattle.sof_session.specs.Lives.{Life, Bare, Turn, inputs_of, reads_in, carried_outs}
 use Rattle.sof_session.specs.RunOver.{RunOver}
 use Rattle.sof_run.specs.Words.{Form, play_of}
 use Rattle.sof_run.specs.Bindings.{bound_files, bound_slots}
@@ -49,11 +49,14 @@ ground_in {holds} play = record {
 -- ---- what was played
 
 -- The written run of the first units, one leg each, over the inputs' whole files. What was read of each file is a front of it, and
--- all of it where the input has ended; the run over what was read is the same, and device and inputs stand where that leads. The
+-- all of it where the input has ended; the run over what was read is the same, and device and inputs stand where that leads. Its
+-- legs answered, showed and wrote what the turns did. The
 -- pieces were written behind what stood there once the outputs' files were created.
-pub record Plays {D P : Type 0} (means : DeskMeaning D) (dsp : Meaning P) (g : Ground) (rounds : List Round) (old new : D) (status : ℕ) (p : P) (last : Life P) : Type 0 where
+pub record Plays {D P : Type 0} (means : DeskMeaning D) (dsp : Meaning P) (g : Ground) (rounds : List Round) (old new : D) (status : ℕ) (p : P) (last : Life P) (turns : List Turn) : Type 0 where
   pub legs : List Leg
+  pub outs : map (λ (leg : Leg). leg.out) legs ≡ carried_outs turns
   pub read : List (ℕ × List ℕ)
+  pub read_is : read ≡ bytes_read (reads_in turns)
   pub files : AreWhole (inputs_of last) read g.whole
   pub over : RunOver dsp (record g { whole = read }) (take (length legs) (map (λ (round : Round). round.numbered.command) rounds)) legs p last
   pub run : IsRun g over.doing (take (length legs) (map (λ (round : Round). round.numbered.command) rounds)) (first_at g) legs
@@ -68,8 +71,8 @@ pub record Unbegun {D P : Type 0} (means : DeskMeaning D) (slots : List ℕ) (ol
   pub device : last ≡ Bare p
 
 -- what is to be played is played, or ended before it was begun
-abbrev pub PlaysWhole : {D P : Type 0} → DeskMeaning D → Meaning P → List (List ℕ) → D → D → ℕ → P → Life P → Type 0
-PlaysWhole means dsp words old new status p last =
+abbrev pub PlaysWhole : {D P : Type 0} → DeskMeaning D → Meaning P → List (List ℕ) → D → D → ℕ → P → Life P → List Turn → Type 0
+PlaysWhole means dsp words old new status p last turns =
     (play : ToPlay (means.holds old) (dsp.most p) words)
-    → Plays means dsp (ground_in play) (rounds_of play.read.commands) old new status p last
+    → Plays means dsp (ground_in play) (rounds_of play.read.commands) old new status p last turns
     ⊎ Unbegun means (ground_in play).slots old new status p last

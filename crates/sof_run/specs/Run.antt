@@ -8,6 +8,7 @@ use Rattle.sof_run.specs.Calls.{FollowsCourse}
 use Rattle.sof_run.specs.Ends.{AreOpening, IsEarly, Worded}
 use Rattle.sof_run.specs.Verdicts.{Judged}
 use Rattle.sof_run.specs.Plays.{PlaysWhole}
+use Rattle.sof_run.specs.HeardRuns.{PlaysWhatIsHeard}
 use Rattle.sof_run.specs.Checks.{Checks}
 use Rattle.sof_run.specs.Compiles.{Compiles}
 use Rattle.sof_run.specs.Stresses.{StressesWhole}
@@ -37,7 +38,8 @@ pub record Whole {D P : Type 0} (means : DeskMeaning D) (dsp : Meaning P) (words
   pub exit : Left dsp p q last called.calls status
   pub worded : Worded (dsp.most p) words status
   pub judged : Judged means (dsp.most p) words old called.calls status
-  pub run : PlaysWhole means dsp words old new status p last
+  pub run : PlaysWhole means dsp words old new status p last called.turns
+  pub heard : PlaysWhatIsHeard dsp words called.calls called.turns p last
   pub checks : Checks means words old (Bare p) called.calls status new last
   pub compiles : Compiles means words old (Bare p) called.calls status new last
   pub stresses : StressesWhole means dsp words old new status p last

@@ -7,6 +7,7 @@ mod carry;
 mod check;
 mod compile;
 mod files;
+mod laws;
 mod lines;
 mod opening;
 mod play;
@@ -15,4 +16,5 @@ mod stress;
 mod windows;
 mod words;
 
+pub use laws::one_play;
 pub use play::{Ended, run};

@@ -1,6 +1,6 @@
 use Rattle.std.proofs.Common.{map, string_bytes, subst}
 use Rattle.sof_run.specs.Calls.{FollowsCourse}
-use Rattle.sof_run.proofs.Finish.{course_made, count_rose, left, words_end, judged, plays_whole}
+use Rattle.sof_run.proofs.Finish.{course_made, count_rose, left, words_end, judged, plays_whole, plays_heard}
 use Rattle.sof_run.proofs.CheckVerdicts.{checks}
 use Rattle.sof_run.proofs.CompileVerdicts.{compiles}
 use Rattle.sof_run.proofs.StressVerdicts.{stresses}
@@ -29,6 +29,7 @@ returns g c =
       worded = words_end means dsp words _ _ _ _ _ sent gave;
       judged = judged means dsp words _ _ _ _ _ sent gave;
       run = plays_whole means dsp words _ _ _ _ _ sent gave c.requires.off;
+      heard = plays_heard means dsp words _ _ _ _ _ sent gave c.requires.off;
       checks = checks means dsp words _ _ room sent _ _ _ gave.ran;
       compiles = compiles means dsp words _ _ room sent _ _ _ gave.ran c.do_words.ensures.sound;
       stresses = stresses means dsp words _ _ _ _ _ c.requires.off given;

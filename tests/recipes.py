@@ -20,6 +20,7 @@ Of topology.py:
   pairs COUNT            a topology of so many DAIs that capture, each through a buffer to one that plays
   widget KIND INDEX NAME STREAM TOKEN=NUMBER ..
                          a widget in a block of its own; KIND as in a source, '-' for no STREAM
+  outputs FIRST LAST     widgets W0, W1 and so on that a graph does not use, each in a block of its own
   route SOURCE SINK      a route in a block of its own
   pcm NAME NUMBER STREAM a PCM that plays, in a block of its own
 """

@@ -124,6 +124,7 @@ def at_the_limits(more=""):
 
 
 RECIPES = {
+    "outputs": lambda first, last: b"".join(widget(KINDS["output"], 0, f"W{n}") for n in range(int(first), int(last) + 1)),
     "limits": at_the_limits,
     "pairs": dai_pairs,
     "widget": spelled_widget,

@@ -3,6 +3,7 @@ pub mod Slots
 pub mod Samples
 pub mod Rates
 pub mod Equations
+pub mod Ramps
 pub mod Holes
 pub mod Ports
 pub mod Blob

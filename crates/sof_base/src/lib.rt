@@ -31,4 +31,4 @@ pub use line::Line;
 pub use memory::NoMemory;
 pub use name::Name44;
 pub use part::{Part, PartBytes};
-pub use worked::{hole_rows, sample_rows};
+pub use worked::{hole_rows, ramp_rows, sample_rows};

@@ -1,5 +1,5 @@
 // Kernels over samples.
-use fw_gain::{mix_add, mix_begin, mix_end, select, volume};
+use fw_gain::{mix_add, mix_begin, mix_end, select, volume, volume_ramp};
 
 // Eleven samples: eight go through lanes, and three one by one.
 #[test]
@@ -85,4 +85,40 @@ fn none_chosen_is_silence(rt: HostRuntime) {
     assert_eq!(rt; chosen, [0, 0]);
     select(Some(&[-1, 2147483647]), &mut chosen);
     assert_eq!(rt; chosen, [-1, 2147483647]);
+}
+
+// A millisecond at 48000 frames a second: two channels go through lanes, three one by one.
+#[test]
+fn a_ramp_goes_down_over_its_frames(rt: HostRuntime) {
+    let mut two = [9; 96];
+    volume_ramp(
+        &[65536000; 96],
+        &mut two,
+        2,
+        &[65536, 65536],
+        &[0, 0],
+        0,
+        48,
+    );
+    assert_eq!(rt;
+        [two[0], two[3], two[46], two[95]],
+        [64170000, 62805000, 32768000, 0]
+    );
+    let mut three = [9; 144];
+    volume_ramp(&[65536000; 144], &mut three, 3, &[65536], &[0], 0, 48);
+    assert_eq!(rt;
+        [three[0], three[5], three[69], three[143]],
+        [64170000, 62805000, 32768000, 0]
+    );
+}
+
+// Twenty frames came before: the ramp goes on from there, and past it the second gain stays.
+#[test]
+fn a_ramp_goes_on_and_ends(rt: HostRuntime) {
+    let mut later = [9; 64];
+    volume_ramp(&[65536000; 64], &mut later, 1, &[0], &[65536], 20, 48);
+    assert_eq!(rt;
+        [later[0], later[27], later[28], later[63]],
+        [28672000, 65536000, 65536000, 65536000]
+    );
 }

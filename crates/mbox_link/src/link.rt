@@ -3,12 +3,14 @@ ghost use Rattle.std.specs.Prelude.{◌≡◌, ◌+◌, ◌≤◌, ◌<◌, ◌*
 ghost use Rattle.sof_base.specs.Ports.{HasRoom};
 ghost use Rattle.sof_base.specs.declared.limits.TheConstants.{TURN_BYTES};
 ghost use Rattle.mbox_link.specs.Calls.{Tick, Led, world};
+ghost use Rattle.mbox_link.specs.Drained.{over_drained};
 ghost use Rattle.mbox_link.specs.Fates.{IsMeant};
 ghost use Rattle.mbox_link.specs.Link.{link, Planned, LagPlanned};
 ghost use Rattle.mbox_link.specs.Step.{error_reply};
 ghost use Rattle.mbox_link.specs.Wire.{new_link};
 
 use crate::device::{Dsp, LinkFault};
+use crate::draining::Drain;
 use crate::fates::{Fate, Fates, PlanFull};
 use ipc3_model::bare_reply;
 use sof_io::{Inputs, Outputs};
@@ -179,5 +181,13 @@ impl<P: Dsp> Dsp for FaultLink<P> {
 
     fn tick(&mut self, io: &mut Inputs, out: &mut Outputs) {
         self.dsp.tick(io, out)
+    }
+}
+
+impl<P: Drain> Drain for FaultLink<P> {
+    ghost empties = { over_drained P.means P.empties };
+
+    fn drain(&mut self) {
+        self.dsp.drain()
     }
 }

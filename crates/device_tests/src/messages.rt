@@ -20,6 +20,8 @@ pub(crate) const VOLUME: CompWords = CompWords::Volume {
     channels: 2,
     min_value: 0,
     max_value: 65536,
+    ramp: 0,
+    initial_ramp: 0,
 };
 
 /// The frame formats of 16 and of 32 bits.

@@ -41,6 +41,8 @@ pub fn volume(id: u32, pipe: u32) -> Message {
             channels: 2,
             min_value: 0,
             max_value: 65536,
+            ramp: 0,
+            initial_ramp: 0,
         },
     )
 }

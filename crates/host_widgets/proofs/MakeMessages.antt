@@ -68,16 +68,16 @@ module _ (plan : Plan) (s : IsSound plan) (n : ℕ) (within : n < length plan.wi
   format-known : allowed.is_frame_format w.frame_fmt ≡ true
   format-known = le-leb w.frame_fmt 2 fits.frame_fmt
 
-  message-volume : (k : Option ControlPlan) → ((x : ControlPlan) → k ≡ Some x → IsControlOf x.kind kinds.Volume) → IsMessage (messages.CompNew n w.pipe w.periods_sink w.periods_source w.frame_fmt (volume_words k))
+  message-volume : (k : Option ControlPlan) → ((x : ControlPlan) → k ≡ Some x → IsControlOf x.kind kinds.Volume) → IsMessage (messages.CompNew n w.pipe w.periods_sink w.periods_source w.frame_fmt (volume_words k w))
   unfolding AreSlots IsSlot
   message-volume (Some k) are =
       let ok = volume-allowed k.kind (are k refl) in
       let most = control_gain-most k.kind (greatest_value k.kind) in (
-        (tt, (omega arith, (id-fits, (omega arith, (fits.pipe, (tt, (tt, (tt, (tt, (fits.periods_sink, (fits.periods_source, (tt, (format-fits, (tt, (tt, (tt, (volume-channels _ ok, (omega arith, (omega arith, (tt, (tt, tt))))))))))))))))))))),
+        (tt, (omega arith, (id-fits, (omega arith, (fits.pipe, (tt, (tt, (tt, (tt, (fits.periods_sink, (fits.periods_source, (tt, (format-fits, (tt, (tt, (tt, (volume-channels _ ok, (omega arith, (omega arith, (fits.ramp_type, (fits.ramp_ms, tt))))))))))))))))))))),
         ok,
       )
   message-volume None are = (
-    (tt, (omega arith, (id-fits, (omega arith, (fits.pipe, (tt, (tt, (tt, (tt, (fits.periods_sink, (fits.periods_source, (tt, (format-fits, (tt, (tt, (tt, (omega arith, (omega arith, (omega arith, (tt, (tt, tt))))))))))))))))))))),
+    (tt, (omega arith, (id-fits, (omega arith, (fits.pipe, (tt, (tt, (tt, (tt, (fits.periods_sink, (fits.periods_source, (tt, (format-fits, (tt, (tt, (tt, (omega arith, (omega arith, (omega arith, (fits.ramp_type, (fits.ramp_ms, tt))))))))))))))))))))),
     refl,
   )
 

@@ -39,6 +39,8 @@ no_words = record {
   mips = 0;
   frames = 0;
   time_domain = 0;
+  ramp_type = 0;
+  ramp_ms = 0;
 }
 
 -- those of the widget of an id
@@ -52,10 +54,10 @@ pipe_by_id plan id = find (λ p. p.id == id) plan.graph.pipes
 -- ---- messages
 
 -- a volume has as many gains as its control has channels, from 0 to the gain of the control's greatest value; without a control
--- it has one, of at most 1
-abbrev pub volume_words : Option ControlPlan → CompWords
-volume_words (Some k) = words.Volume (length (first_values k.kind)) 0 (control_gain k.kind (greatest_value k.kind))
-volume_words None = words.Volume 1 0 65536
+-- it has one, of at most 1; its ramp is the widget's
+abbrev pub volume_words : Option ControlPlan → WidgetPlan → CompWords
+volume_words (Some k) w = words.Volume (length (first_values k.kind)) 0 (control_gain k.kind (greatest_value k.kind)) w.ramp_type w.ramp_ms
+volume_words None w = words.Volume 1 0 65536 w.ramp_type w.ramp_ms
 
 -- a host's direction is 0 for playback and 1 for capture, a DAI's is 0 where it plays and 1 where it captures
 abbrev pub component_words : Kind → Option ControlPlan → WidgetPlan → CompWords
@@ -63,7 +65,7 @@ component_words HostPlay k w = words.Host 0
 component_words HostCapture k w = words.Host 1
 component_words (DaiPlay format) k w = words.Dai 0 w.dai_index
 component_words (DaiCapture format) k w = words.Dai 1 w.dai_index
-component_words Volume k w = volume_words k
+component_words Volume k w = volume_words k w
 component_words Mixer k w = words.Mixer
 component_words Mux k w = words.Mux
 component_words Eq k w = words.Eq

@@ -8,7 +8,7 @@ ghost use Rattle.tplg_plan.specs.GainOf.{control_gain};
 
 use ipc3_codec::{CTRL_ENUM, CTRL_VOLUME, CompWords, Message};
 use sof_base::Bounded;
-use tplg_plan::{ControlKind, ControlPlan, Plan, gain, half_decibels};
+use tplg_plan::{ControlKind, ControlPlan, Plan, WidgetPlan, gain, half_decibels};
 
 /// The live control of a component, where it has one.
 pub fn control_of(plan: &Plan, comp: u32) -> Option<&ControlPlan>
@@ -133,20 +133,24 @@ fn gains(kind: &ControlKind, values: &Bounded<u32, 8>) -> Bounded<u32, 8>
     }
 }
 
-/// The words of the volume of this id: how many gains it has, and from 0 to which gain.
-pub fn volume_words(plan: &Plan, id: u32) -> CompWords
-    ensures { result ≡ acts.volume_words (law.control_of plan.now id) }
+/// The words of the volume of this id: how many gains it has, from 0 to which gain, and its widget's ramp.
+pub fn volume_words(plan: &Plan, id: u32, widget: &WidgetPlan) -> CompWords
+    ensures { result ≡ acts.volume_words (law.control_of plan.now id) widget.now }
 {
     match control_of(plan, id) {
         Some(control) => CompWords::Volume {
             channels: u32::from(count(&control.kind)),
             min_value: 0,
             max_value: gain(&control.kind, greatest_value(&control.kind)),
+            ramp: widget.ramp_type,
+            initial_ramp: widget.ramp_ms,
         },
         None => CompWords::Volume {
             channels: 1,
             min_value: 0,
             max_value: 65536,
+            ramp: widget.ramp_type,
+            initial_ramp: widget.ramp_ms,
         },
     }
 }

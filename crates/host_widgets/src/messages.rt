@@ -31,7 +31,7 @@ fn component_words(plan: &Plan, id: u32, kind: Kind, words: &WidgetPlan) -> Comp
             direction: 1,
             index: words.dai_index,
         },
-        Kind::Volume => volume_words(plan, id),
+        Kind::Volume => volume_words(plan, id, words),
         Kind::Mixer => CompWords::Mixer,
         Kind::Mux => CompWords::Mux,
         Kind::Eq => CompWords::Eq,

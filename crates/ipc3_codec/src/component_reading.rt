@@ -95,17 +95,19 @@ fn dai_words(frame: &Frame) -> Result<CompWords, CodecFault>
 }
 
 fn volume_words(frame: &Frame) -> Result<CompWords, CodecFault>
-    ensures { result ≡ read_as frame.now (kind_places frame.now types.Volume) (words.Volume (word_at frame.now 64) (word_at frame.now 68) (word_at frame.now 72)) }
+    ensures { result ≡ read_as frame.now (kind_places frame.now types.Volume) (words.Volume (word_at frame.now 64) (word_at frame.now 68) (word_at frame.now 72) (word_at frame.now 76) (word_at frame.now 80)) }
 {
     let channels = frame.gains(64)?;
     let min_value = frame.word(68)?;
     let max_value = frame.word(72)?;
-    let _ramp = frame.word(76)?;
-    let _initial_ramp = frame.word(80)?;
+    let ramp = frame.word(76)?;
+    let initial_ramp = frame.word(80)?;
     Ok(CompWords::Volume {
         channels,
         min_value,
         max_value,
+        ramp,
+        initial_ramp,
     })
 }
 

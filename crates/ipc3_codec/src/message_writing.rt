@@ -31,7 +31,13 @@ fn put_comp_words(out: &mut [u8; 384], at: usize, kind: CompWords) -> usize
             channels,
             min_value,
             max_value,
-        } => put(out, at, &[channels, min_value, max_value, 0, 0]),
+            ramp,
+            initial_ramp,
+        } => put(
+            out,
+            at,
+            &[channels, min_value, max_value, ramp, initial_ramp],
+        ),
         CompWords::Mixer | CompWords::Mux => put(out, at, &[]),
         CompWords::Eq => put(out, at, &[0; 9]),
     }

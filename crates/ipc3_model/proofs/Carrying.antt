@@ -33,7 +33,7 @@ pub record Carries (b : List ℕ) (m : Message) : Type 0 where
 pub widths-message : (m : Message) → IsAllowed m → widths (shapes_of (message_slots m)) ≡ size_of m
 widths-message (CompNew id pipe periods_sink periods_source frame_fmt (Host direction)) is = refl
 widths-message (CompNew id pipe periods_sink periods_source frame_fmt (Dai direction index)) is = refl
-widths-message (CompNew id pipe periods_sink periods_source frame_fmt (Volume channels min_value max_value)) is = refl
+widths-message (CompNew id pipe periods_sink periods_source frame_fmt (Volume channels min_value max_value ramp initial_ramp)) is = refl
 widths-message (CompNew id pipe periods_sink periods_source frame_fmt Mixer) is = refl
 widths-message (CompNew id pipe periods_sink periods_source frame_fmt Mux) is = refl
 widths-message (CompNew id pipe periods_sink periods_source frame_fmt Eq) is = refl
@@ -44,7 +44,7 @@ widths-message m is = refl
 named-message : (m : Message) (b : List ℕ) → all_named (shapes_of (message_slots m)) b 0 0 ≡ true
 named-message (CompNew id pipe periods_sink periods_source frame_fmt (Host direction)) b = refl
 named-message (CompNew id pipe periods_sink periods_source frame_fmt (Dai direction index)) b = refl
-named-message (CompNew id pipe periods_sink periods_source frame_fmt (Volume channels min_value max_value)) b = refl
+named-message (CompNew id pipe periods_sink periods_source frame_fmt (Volume channels min_value max_value ramp initial_ramp)) b = refl
 named-message (CompNew id pipe periods_sink periods_source frame_fmt Mixer) b = refl
 named-message (CompNew id pipe periods_sink periods_source frame_fmt Mux) b = refl
 named-message (CompNew id pipe periods_sink periods_source frame_fmt Eq) b = refl

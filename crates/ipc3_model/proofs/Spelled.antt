@@ -36,7 +36,7 @@ length-spelling m is = length-map (slots_cells (message_slots m)) byte_of ∙ le
 pub size-least : (m : Message) → 8 ≤ size_of m
 size-least (CompNew id pipe periods_sink periods_source frame_fmt (Host direction)) = omega arith
 size-least (CompNew id pipe periods_sink periods_source frame_fmt (Dai direction index)) = omega arith
-size-least (CompNew id pipe periods_sink periods_source frame_fmt (Volume channels min_value max_value)) = omega arith
+size-least (CompNew id pipe periods_sink periods_source frame_fmt (Volume channels min_value max_value ramp initial_ramp)) = omega arith
 size-least (CompNew id pipe periods_sink periods_source frame_fmt Mixer) = omega arith
 size-least (CompNew id pipe periods_sink periods_source frame_fmt Mux) = omega arith
 size-least (CompNew id pipe periods_sink periods_source frame_fmt Eq) = omega arith
@@ -45,7 +45,7 @@ size-least m = omega arith
 allowed-most : (m : Message) → IsAllowed m → size_of m ≤ 384
 allowed-most (CompNew id pipe periods_sink periods_source frame_fmt (Host direction)) is = omega arith
 allowed-most (CompNew id pipe periods_sink periods_source frame_fmt (Dai direction index)) is = omega arith
-allowed-most (CompNew id pipe periods_sink periods_source frame_fmt (Volume channels min_value max_value)) is = omega arith
+allowed-most (CompNew id pipe periods_sink periods_source frame_fmt (Volume channels min_value max_value ramp initial_ramp)) is = omega arith
 allowed-most (CompNew id pipe periods_sink periods_source frame_fmt Mixer) is = omega arith
 allowed-most (CompNew id pipe periods_sink periods_source frame_fmt Mux) is = omega arith
 allowed-most (CompNew id pipe periods_sink periods_source frame_fmt Eq) is = omega arith

@@ -66,7 +66,7 @@ comp_only b id pipe periods_sink periods_source frame_fmt (Dai direction index) 
     let w64 : word_at b 64 ≡ direction = ap (λ (ss : List Slot). number_at ss 14) e in
     let w68 : word_at b 68 ≡ index = ap (λ (ss : List Slot). number_at ss 15) e in
     record { good = subst (λ (n : ℕ). AllGood b (comp_places b (type_numbered n))) (sym type) (AllGood-from b 80 (comp_places b (Some types.Dai)) room refl (rw (type, w48, w64, allowed.0, allowed.1) refl)); is = rw (type, w8, w16, w36, w40, w48, w64, w68) refl }
-comp_only b id pipe periods_sink periods_source frame_fmt (Volume channels min_value max_value) room e allowed =
+comp_only b id pipe periods_sink periods_source frame_fmt (Volume channels min_value max_value ramp initial_ramp) room e allowed =
     let type : word_at b 12 ≡ 5 = cc in
     let w8 : word_at b 8 ≡ id = ap (λ (ss : List Slot). number_at ss 0) e in
     let w16 : word_at b 16 ≡ pipe = ap (λ (ss : List Slot). number_at ss 2) e in
@@ -76,7 +76,9 @@ comp_only b id pipe periods_sink periods_source frame_fmt (Volume channels min_v
     let w64 : word_at b 64 ≡ channels = ap (λ (ss : List Slot). number_at ss 14) e in
     let w68 : word_at b 68 ≡ min_value = ap (λ (ss : List Slot). number_at ss 15) e in
     let w72 : word_at b 72 ≡ max_value = ap (λ (ss : List Slot). number_at ss 16) e in
-    record { good = subst (λ (n : ℕ). AllGood b (comp_places b (type_numbered n))) (sym type) (AllGood-from b 84 (comp_places b (Some types.Volume)) room refl (rw (type, w64, allowed) refl)); is = rw (type, w8, w16, w36, w40, w48, w64, w68, w72) refl }
+    let w76 : word_at b 76 ≡ ramp = ap (λ (ss : List Slot). number_at ss 17) e in
+    let w80 : word_at b 80 ≡ initial_ramp = ap (λ (ss : List Slot). number_at ss 18) e in
+    record { good = subst (λ (n : ℕ). AllGood b (comp_places b (type_numbered n))) (sym type) (AllGood-from b 84 (comp_places b (Some types.Volume)) room refl (rw (type, w64, allowed) refl)); is = rw (type, w8, w16, w36, w40, w48, w64, w68, w72, w76, w80) refl }
 comp_only b id pipe periods_sink periods_source frame_fmt Mixer room e allowed =
     let type : word_at b 12 ≡ 6 = ap (λ (ss : List Slot). number_at ss 1) e in
     record { good = subst (λ (n : ℕ). AllGood b (comp_places b (type_numbered n))) (sym type) (AllGood-from b 64 (comp_places b (Some types.Mixer)) room refl (rw type refl)); is = rw type (bare_is b id pipe periods_sink periods_source frame_fmt Mixer (Size 0 ∷ Size 0 ∷ Size 0 ∷ []) e) }

@@ -28,7 +28,7 @@ use Rattle.ipc3_model.specs.ControlWords.{takes_command, takes_count, takes_rema
 abbrev pub comp_type : CompWords → CompType
 comp_type (Host direction) = types.Host
 comp_type (Dai direction index) = types.Dai
-comp_type (Volume channels min_value max_value) = types.Volume
+comp_type (Volume channels min_value max_value ramp initial_ramp) = types.Volume
 comp_type Mixer = types.Mixer
 comp_type Mux = types.Mux
 comp_type Eq = types.EqIir
@@ -38,7 +38,7 @@ comp_type Eq = types.EqIir
 abbrev pub kind_slots : CompWords → List Slot
 kind_slots (Host direction) = Word direction ∷ Size 0 ∷ Size 0 ∷ []
 kind_slots (Dai direction index) = Word direction ∷ Word index ∷ Size 0 ∷ Size 0 ∷ []
-kind_slots (Volume channels min_value max_value) = Word channels ∷ Word min_value ∷ Word max_value ∷ Size 0 ∷ Size 0 ∷ []
+kind_slots (Volume channels min_value max_value ramp initial_ramp) = Word channels ∷ Word min_value ∷ Word max_value ∷ Word ramp ∷ Word initial_ramp ∷ []
 kind_slots Mixer = []
 kind_slots Mux = []
 kind_slots Eq = Size 0 ∷ Size 0 ∷ Size 0 ∷ Size 0 ∷ Size 0 ∷ Size 0 ∷ Size 0 ∷ Size 0 ∷ Size 0 ∷ []
@@ -52,7 +52,7 @@ config_slots periods_sink periods_source frame_fmt =
 abbrev pub comp_size : CompWords → ℕ
 comp_size (Host direction) = 76
 comp_size (Dai direction index) = 80
-comp_size (Volume channels min_value max_value) = 84
+comp_size (Volume channels min_value max_value ramp initial_ramp) = 84
 comp_size Mixer = 64
 comp_size Mux = 64
 comp_size Eq = 100
@@ -144,7 +144,7 @@ message_spelling m = written (slots_cells (message_slots m))
 abbrev pub IsKind : CompWords → ℕ → Type 0
 IsKind (Host direction) frame_fmt = is_direction direction ≡ true
 IsKind (Dai direction index) frame_fmt = (is_frame_format frame_fmt ≡ true) × (is_direction direction ≡ true)
-IsKind (Volume channels min_value max_value) frame_fmt = is_channels channels ≡ true
+IsKind (Volume channels min_value max_value ramp initial_ramp) frame_fmt = is_channels channels ≡ true
 IsKind Mixer frame_fmt = Unit {0}
 IsKind Mux frame_fmt = Unit {0}
 IsKind Eq frame_fmt = Unit {0}
@@ -240,7 +240,7 @@ message_fault b =
 abbrev pub comp_words : List ℕ → CompType → CompWords
 comp_words b types.Host = Host (word_at b 64)
 comp_words b types.Dai = Dai (word_at b 64) (word_at b 68)
-comp_words b types.Volume = Volume (word_at b 64) (word_at b 68) (word_at b 72)
+comp_words b types.Volume = Volume (word_at b 64) (word_at b 68) (word_at b 72) (word_at b 76) (word_at b 80)
 comp_words b types.Mixer = Mixer
 comp_words b types.Mux = Mux
 comp_words b types.EqIir = Eq

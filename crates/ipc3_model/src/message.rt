@@ -6,7 +6,7 @@ use crate::component_type::CompType;
 use sof_base::{Bounded, Params, Part};
 
 /// The words of a COMP_NEW that its component's type has. A direction is 0 for playback and 1 for capture; gains are in
-/// units of 1 / 65536.
+/// units of 1 / 65536; a ramp is its type, of which 0 is a straight line, and an initial ramp its milliseconds.
 #[derive(Clone, Copy, Debug, PartialEq, Eq)]
 pub enum CompWords {
     Host {
@@ -20,6 +20,8 @@ pub enum CompWords {
         channels: u32,
         min_value: u32,
         max_value: u32,
+        ramp: u32,
+        initial_ramp: u32,
     },
     Mixer,
     Mux,

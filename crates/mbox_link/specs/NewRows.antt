@@ -31,14 +31,14 @@ sample_format n = if n == 0 then S16 else if n == 1 then S24 else S32
 abbrev pub kind_of : CompWords → ℕ → Kind
 kind_of (words.Host direction) frame_fmt = if direction == 0 then HostPlay else HostCapture
 kind_of (words.Dai direction index) frame_fmt = if direction == 0 then DaiPlay (sample_format frame_fmt) else DaiCapture (sample_format frame_fmt)
-kind_of (words.Volume channels min_value max_value) frame_fmt = Volume
+kind_of (words.Volume channels min_value max_value ramp initial_ramp) frame_fmt = Volume
 kind_of words.Mixer frame_fmt = Mixer
 kind_of words.Mux frame_fmt = Mux
 kind_of words.Eq frame_fmt = Eq
 
 -- what is set at a new component: each gain of a volume is 1, a mux chooses its first input, and no blob is in force
 abbrev pub first_setting : CompWords → Setting
-first_setting (words.Volume channels min_value max_value) = Gains (replicate channels 65536)
+first_setting (words.Volume channels min_value max_value ramp initial_ramp) = Gains (replicate channels 65536)
 first_setting words.Mux = Choice 0
 first_setting words.Eq = Blob []
 first_setting kind = Nothing

@@ -37,7 +37,7 @@ first-fits (words.Dai direction index) frame_fmt allowed = by (direction == 0)
     by : (h : Bool) → IsSettingOf (cond h (DaiPlay (sample_format frame_fmt)) (DaiCapture (sample_format frame_fmt))) Nothing
     by true = tt
     by false = tt
-first-fits (words.Volume channels min_value max_value) frame_fmt allowed =
+first-fits (words.Volume channels min_value max_value ramp initial_ramp) frame_fmt allowed =
     let bounds = and_parts (nat_le 1 channels) (nat_le channels 8) allowed in
     let low : 1 ≤ channels = leb-true 1 channels bounds.0 in
     let high : channels ≤ 8 = leb-true channels 8 bounds.1 in

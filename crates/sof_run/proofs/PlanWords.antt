@@ -83,6 +83,8 @@ entry_fits index w fits is =
       mips = word 202;
       frames = word 204;
       time_domain = word 205;
+      ramp_type = word 250;
+      ramp_ms = word 251;
     }
 
 abbrev FitEntries : List Entry → Type 0

@@ -112,6 +112,8 @@ widget_plan e = record {
   mips = unwrap_or e.tokens.mips 0;
   frames = unwrap_or e.tokens.frames 0;
   time_domain = unwrap_or e.tokens.time_domain 0;
+  ramp_type = unwrap_or e.tokens.ramp_type 0;
+  ramp_ms = unwrap_or e.tokens.ramp_ms 0;
 }
 
 abbrev pub widgets_on : List Entry → List WidgetPlan

@@ -22,3 +22,5 @@ pub record FitsWords (widget : WidgetPlan) : Type 0 where
   pub mips : widget.mips < 2 ^ 32
   pub frames : widget.frames < 2 ^ 32
   pub time_domain : widget.time_domain < 2 ^ 32
+  pub ramp_type : widget.ramp_type < 2 ^ 32
+  pub ramp_ms : widget.ramp_ms < 2 ^ 32

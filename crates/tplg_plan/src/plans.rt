@@ -41,8 +41,8 @@ pub struct ControlPlan {
 }
 
 /// What the host writes of a widget: the index of its pipeline, the period counts of its sink and its source, its format as
-/// messages number it (0 is s16, 1 is s24, 2 is s32), its DAI's number, its buffer's caps, and its pipeline's priority,
-/// million instructions a second, frames a period and time domain.
+/// messages number it (0 is s16, 1 is s24, 2 is s32), its DAI's number, its buffer's caps, its pipeline's priority, million
+/// instructions a second, frames a period and time domain, and its volume's ramp type (0 is a straight line) and milliseconds.
 #[derive(Clone, Copy, Debug, PartialEq, Eq)]
 pub struct WidgetPlan {
     pub pipe: u32,
@@ -55,6 +55,8 @@ pub struct WidgetPlan {
     pub mips: u32,
     pub frames: u32,
     pub time_domain: u32,
+    pub ramp_type: u32,
+    pub ramp_ms: u32,
 }
 
 /// A topology's plan: its graph with all pipelines complete, its streams and its live controls in file order, and by id the

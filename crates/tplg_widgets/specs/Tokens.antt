@@ -3,7 +3,7 @@ use Rattle.std.specs.Prelude.{ℕ, List, [], ◌∷◌, Option, Some, None, if�
 use Rattle.std.specs.Str.{bytes_eq}
 use Rattle.sof_base.specs.declared.format.Format.{Format}
 use Rattle.sof_base.specs.declared.format.Format.TheVariants.{S16, S24, S32}
-use Rattle.tplg_model.specs.declared.token_number.TheConstants.{BUFFER_SIZE, BUFFER_CAPS, DAI_INDEX, DAI_DIRECTION, SCHED_PERIOD, SCHED_PRIORITY, SCHED_MIPS, SCHED_FRAMES, SCHED_TIME_DOMAIN, PERIOD_SINK_COUNT, PERIOD_SOURCE_COUNT, COMP_FORMAT, PROCESS_TYPE}
+use Rattle.tplg_model.specs.declared.token_number.TheConstants.{BUFFER_SIZE, BUFFER_CAPS, DAI_INDEX, DAI_DIRECTION, SCHED_PERIOD, SCHED_PRIORITY, SCHED_MIPS, SCHED_FRAMES, SCHED_TIME_DOMAIN, VOLUME_RAMP_TYPE, VOLUME_RAMP_MS, PERIOD_SINK_COUNT, PERIOD_SOURCE_COUNT, COMP_FORMAT, PROCESS_TYPE}
 use Rattle.tplg_model.specs.TokenValues.{number_of, text_of}
 use Rattle.tplg_model.specs.declared.tokens.TokenArray.{TokenArray}
 use Rattle.tplg_widgets.specs.declared.tokens.FormatToken.{FormatToken}
@@ -59,6 +59,8 @@ widget_tokens arrays = record {
   mips = number_of arrays SCHED_MIPS;
   frames = number_of arrays SCHED_FRAMES;
   time_domain = number_of arrays SCHED_TIME_DOMAIN;
+  ramp_type = number_of arrays VOLUME_RAMP_TYPE;
+  ramp_ms = number_of arrays VOLUME_RAMP_MS;
   periods_sink = number_of arrays PERIOD_SINK_COUNT;
   periods_source = number_of arrays PERIOD_SOURCE_COUNT;
   format = format_token (text_of arrays COMP_FORMAT);

@@ -25,8 +25,8 @@ pub enum Process {
 }
 
 /// A widget's tokens: a buffer's size in bytes and its caps, a DAI's number and direction (0 is playback, 1 is capture), a
-/// scheduler's period in µs, priority, million instructions a second, frames a period and time domain, and the period counts
-/// of sink and source, its format and what it does.
+/// scheduler's period in µs, priority, million instructions a second, frames a period and time domain, a volume's ramp type
+/// and its milliseconds, and the period counts of sink and source, its format and what it does.
 #[derive(Clone, Copy, Debug, PartialEq, Eq)]
 pub struct WidgetTokens {
     pub size: Option<u32>,
@@ -38,6 +38,8 @@ pub struct WidgetTokens {
     pub mips: Option<u32>,
     pub frames: Option<u32>,
     pub time_domain: Option<u32>,
+    pub ramp_type: Option<u32>,
+    pub ramp_ms: Option<u32>,
     pub periods_sink: Option<u32>,
     pub periods_source: Option<u32>,
     pub format: FormatToken,
@@ -178,6 +180,8 @@ pub fn widget_tokens(arrays: &[TokenArray]) -> WidgetTokens
         mips: number_of(arrays, token_number::SCHED_MIPS),
         frames: number_of(arrays, token_number::SCHED_FRAMES),
         time_domain: number_of(arrays, token_number::SCHED_TIME_DOMAIN),
+        ramp_type: number_of(arrays, token_number::VOLUME_RAMP_TYPE),
+        ramp_ms: number_of(arrays, token_number::VOLUME_RAMP_MS),
         periods_sink: number_of(arrays, token_number::PERIOD_SINK_COUNT),
         periods_source: number_of(arrays, token_number::PERIOD_SOURCE_COUNT),
         format: format_token(arrays),

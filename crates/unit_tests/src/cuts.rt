@@ -105,6 +105,8 @@ fn a_component_that_is_cut_is_told(rt: HostRuntime) {
         channels: 2,
         min_value: 0,
         max_value: 65536,
+        ramp: 0,
+        initial_ramp: 0,
     };
     let dai = CompWords::Dai {
         direction: 1,

@@ -1,34 +1,13 @@
 -- What begins, and changes of the frames of one buffer: what they keep.
-use Rattle.std.proofs.Common.{◌≡◌, refl, sym, ap, ◌∙◌, ℕ, ◌*◌, ◌≤◌, List, [], ◌∷◌, ◌++◌, map, take, length, true, arith, ℤ}
-use Rattle.sof_base.specs.Samples.{Frame, samples_of}
-use Rattle.fw_ring.specs.RingState.{RingState, SameRing}
-use Rattle.eq_biquad.specs.EqState.{EqState, OnlyNumbers}
+use Rattle.std.proofs.Common.{◌≡◌, refl, ℕ, List, map, true, ℤ}
+use Rattle.sof_base.specs.Samples.{Frame}
 use Rattle.fw_units.specs.declared.component.Component.{Component}
 use Rattle.fw_units.specs.declared.component.Unit as units
 use Rattle.fw_units.specs.declared.component.Unit.TheVariants.{Buffer}
 use Rattle.fw_components.specs.Tables.{Tables}
 use Rattle.fw_components.specs.Kept.{IsKept, IsBuffering, IsPiping, IsStreaming, is_plain, sides_by}
-use Rattle.fw_units.specs.Frames.{piece_with_words, begun_unit, begun_by, begun_at, taken_unit, taken_by, taken_at, pushed_ring, pushed_unit, pushed_by, pushed_at}
+use Rattle.fw_units.specs.Frames.{begun_unit, begun_by, begun_at, taken_unit, taken_by, taken_at, pushed_unit, pushed_by, pushed_at}
 use Rattle.fw_components.proofs.KeptLaws.{comps-changed, buffers-changed, pipes-changed, at-id, at-unit, at-sides}
-
--- ---- equalisers and rings with other words
-
-pub only-is : (old new : EqState) → OnlyNumbers old new → new ≡ record { blob = old.blob; piece = piece_with_words new.piece.words old.piece }
-only-is old new only = λ i. record { blob = only.blob i; piece = record { home = only.home i; place = only.place i; size = only.size i; words = new.piece.words } }
-
-pub pushed-is : (old new : RingState) (frames : List Frame) → new.frames ≡ old.frames ++ frames → SameRing old new → new ≡ pushed_ring frames new.piece.words old
-pushed-is old new frames more same = λ i. record { frames = more i; words = same.words i; channels = same.channels i; start = same.start i; piece = record { home = same.home i; place = same.place i; size = same.size i; words = new.piece.words } }
-
--- of what is no buffer nothing is copied
-pub none-copied : (n : ℕ) (xs : List ℤ) → n ≤ 0 → length xs ≡ n * 1 → xs ≡ samples_of (take n [])
-none-copied n xs none long = empty xs (omega (arith, none, long)) ∙ sym (ap samples_of (nothing n (omega (arith, none))))
-  where
-    empty : (xs : List ℤ) → length xs ≡ 0 → xs ≡ []
-    empty [] e = refl
-    empty (x ∷ xs) e = absurd (omega (arith, e))
-
-    nothing : (n : ℕ) → n ≡ 0 → take {A = Frame} n [] ≡ []
-    nothing n e = ap (λ k. take {A = Frame} k []) e
 
 -- ---- each change keeps what a unit is
 

@@ -14,5 +14,5 @@ mod SeenLaws
 mod SeenMoves
 mod Started
 mod TallyKept
-mod Tallying
+pub mod Tallying
 mod Told

@@ -1,6 +1,6 @@
 -- The ids and joins of a registry, for walks.
 use Rattle.std.proofs.Common.{◌≡◌, refl, sym, ap, subst, ◌∙◌, ℕ, ◌+◌, ◌*◌, ◌≤◌, ◌<◌, List, [], ◌∷◌, ◌++◌, Bool, true, false, not, cond, length, map, ◌==◌, ◌&&◌, ◌||◌, inl, inr, ◌⊎◌, Option, Some, None, arith, length-append}
-use Rattle.std.proofs.lemmas.Bool.{true≢false, false≢true, or_left, or_right, or_cases, and_parts}
+use Rattle.std.proofs.lemmas.Bool.{true≢false, false≢true, or_left, or_right, or_cases, or_parts, and_parts}
 use Rattle.std.proofs.lemmas.List.{length-map}
 use Rattle.std.proofs.lemmas.List.Folds.{list_any-append}
 use Rattle.std.specs.Prelude.{position, unwrap_or, nat_lt, is_some}
@@ -61,8 +61,11 @@ sides-most (c ∷ cs) = omega (arith, one (source_by c.unit), one (sink_by c.uni
 pub joins-few : (t : Tables) → IsKept t → length t.joins ≤ 256
 joins-few t kept = omega (arith, kept.linked.all, sides-most t.buffers, kept.buffers)
 
+ids-length : (t : Tables) → length (ids_of t) ≡ length t.comps + length t.buffers
+ids-length t = let e = ap length (sym (ids-are t _ refl)) ∙ length-append (map (λ c. c.id) t.comps) (map (λ c. c.id) t.buffers) in let a = length-map t.comps (λ (c : Component). c.id) in let b = length-map t.buffers (λ (c : Component). c.id) in omega (arith, e, a, b)
+
 pub ids-few : (t : Tables) → IsKept t → length (ids_of t) ≤ 256
-ids-few t kept = let e = ap length (sym (ids-are t _ refl)) ∙ length-append (map (λ c. c.id) t.comps) (map (λ c. c.id) t.buffers) in let a = length-map t.comps (λ (c : Component). c.id) in let b = length-map t.buffers (λ (c : Component). c.id) in omega (arith, e, a, b, kept.comps, kept.buffers)
+ids-few t kept = omega (arith, ids-length t, kept.comps, kept.buffers)
 
 pub are-joined : (t : Tables) → IsKept t → AreJoined t.comps t.buffers t.joins
 are-joined t kept = record {
@@ -115,6 +118,31 @@ place-of-all t id k there is = position-is (is_of id) (all_of t) k is ∙ place-
 
 pub place-low : (t : Tables) → IsKept t → (id k : ℕ) → (has_id t.comps id || has_id t.buffers id) ≡ true → k ≡ place_in (ids_of t) id → k < 256
 place-low t kept id k there is = omega (arith, is, (at-place (ids_of t) id (listed-is t id ∙ there)).0, ids-few t kept)
+
+none-before : (id : ℕ) (cs ds : List Component) → has_id cs id ≡ false → position_or_len (is_of id) (cs ++ ds) ≡ length cs + position_or_len (is_of id) ds
+none-before id [] ds none = let e : position_or_len (is_of id) ds ≡ 0 + position_or_len (is_of id) ds = omega arith in e
+none-before id (c ∷ cs) ds none = by (c.id == id) none (none-before id cs ds)
+  where
+    by : (h : Bool) → (h || has_id cs id) ≡ false → (has_id cs id ≡ false → position_or_len (is_of id) (cs ++ ds) ≡ length cs + position_or_len (is_of id) ds) → cond (not h) (1 + position_or_len (is_of id) (cs ++ ds)) 0 ≡ length (c ∷ cs) + position_or_len (is_of id) ds
+    by true none rest = absurd (true≢false none)
+    by false none rest = let e : 1 + position_or_len (is_of id) (cs ++ ds) ≡ length (c ∷ cs) + position_or_len (is_of id) ds = omega (arith, rest none) in e
+
+-- what stands before the pipelines is listed, and nothing else is
+pub listed-below : (t : Tables) (id k : ℕ) → Some k ≡ position (λ c. c.id == id) (all_of t) → k < length t.comps + length t.buffers → is_among (ids_of t) id ≡ true
+listed-below t id k is low = listed-is t id ∙ by (has_id t.comps id || has_id t.buffers id) refl
+  where
+    by : (h : Bool) → (has_id t.comps id || has_id t.buffers id) ≡ h → h ≡ true
+    by true there = refl
+    by false none =
+        let both = or_parts (has_id t.comps id) (has_id t.buffers id) none in
+        absurd (omega (arith, low, position-is (is_of id) (all_of t) k is, none-before id t.comps (t.buffers ++ t.pipes) both.0, none-before id t.buffers t.pipes both.1))
+
+pub unlisted-above : (t : Tables) (id k : ℕ) → Some k ≡ position (λ c. c.id == id) (all_of t) → length t.comps + length t.buffers ≤ k → is_among (ids_of t) id ≡ false
+unlisted-above t id k is high = listed-is t id ∙ by (has_id t.comps id || has_id t.buffers id) refl
+  where
+    by : (h : Bool) → (has_id t.comps id || has_id t.buffers id) ≡ h → h ≡ false
+    by true there = absurd (omega (arith, high, place-of-all t id k there is, (at-place (ids_of t) id (listed-is t id ∙ there)).0, ids-length t))
+    by false none = refl
 
 -- and it is found
 pub found-among : (t : Tables) (id : ℕ) → (has_id t.comps id || has_id t.buffers id) ≡ true → has_id (all_of t) id ≡ true

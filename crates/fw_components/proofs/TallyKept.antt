@@ -1,51 +1,52 @@
 -- Which changes keep the numbers of a registry.
-use Rattle.std.proofs.Common.{◌≡◌, refl, sym, ap, ◌∙◌, ℕ, ℤ, List, [], ◌∷◌, Bool, true, false, cond, map, filter, length, ◌==◌, ◌&&◌, Option}
+use Rattle.std.proofs.Common.{◌≡◌, refl, sym, ap, ◌∙◌, ℕ, ℤ, List, [], ◌∷◌, Bool, true, false, cond, map, get_or, ◌==◌, ◌&&◌, Option, None}
 use Rattle.std.proofs.lemmas.Bool.{or_parts, or_from}
 use Rattle.std.specs.List.{list_any}
 use Rattle.sof_base.specs.Samples.{Frame}
 use Rattle.sof_base.specs.declared.format.Params.{Params}
-use Rattle.stream_law.specs.declared.graph.Join.{Join}
 use Rattle.stream_law.specs.declared.stream.Phase.{Phase}
+use Rattle.stream_law.specs.declared.stream.StreamView.{StreamView}
 use Rattle.stream_law.specs.Order.{is_among}
-use Rattle.stream_law.specs.Ways.{is_capture, is_running_phase, is_live_phase}
-use Rattle.fw_places.specs.Walks.{leads_by}
+use Rattle.stream_law.specs.Ways.{on_way, is_running_phase, is_live_phase}
 use Rattle.sof_base.specs.declared.part.Part.{Part}
+use Rattle.fw_places.specs.Walks.{place_in}
 use Rattle.fw_units.specs.declared.component.Component.{Component}
 use Rattle.fw_units.specs.declared.component.Unit as units
 use Rattle.fw_units.specs.declared.component.Unit.TheVariants.{Host, Buffer}
-use Rattle.fw_units.specs.Units.{kind_by}
-use Rattle.fw_components.specs.Tables.{Tables}
+use Rattle.fw_components.specs.declared.tallies.Tallies.{Tallies}
+use Rattle.fw_components.specs.Tables.{Tables, ids_of, graph_of}
+use Rattle.fw_units.specs.Units.{kind_by, with_stream_by, streams_by}
 use Rattle.fw_units.specs.Changes.{with_ended, ended_unit, set_at, set_unit}
 use Rattle.fw_units.specs.Frames.{begun_at, begun_by, begun_unit, pushed_at, pushed_by, taken_at, taken_by}
 use Rattle.fw_components.specs.Parts.{parted_at, parted_by, parted_unit}
 use Rattle.fw_units.specs.Processed.{drained_at, run_at, run_by, run_unit}
 use Rattle.fw_units.specs.Values.{valued_at, valued_unit}
-use Rattle.fw_components.specs.Kept.{IsKept}
-use Rattle.fw_components.specs.Tally.{IsTallied, has_phase, passes, with_one}
-use Rattle.fw_components.proofs.Tallying.{counted, phase-live, runs-live, comps-tallied, counts-tallied, buffers-tallied}
+use Rattle.fw_components.specs.Tally.{IsTallied, passes, has_phase, params_in}
+use Rattle.fw_components.proofs.HostWays.{changed-ways}
+use Rattle.fw_components.proofs.Tallying.{told, ahead, host-told, phase-live, runs-live, same-ids, map-ids, comps-tallied, buffers-tallied}
 use Rattle.fw_units.proofs.Units.{begun-kind, valued-kind}
 
 -- ---- each change keeps streams and kinds
 
-begun-phase : (is : Phase → Bool) → (channels : ℕ) → (words : List ℤ) → (u : units.Unit) → has_phase is (begun_unit channels words u) ≡ has_phase is u
-begun-phase is channels words (Buffer size ring source sink) = refl
-begun-phase is channels words u = refl
+begun-stream : (channels : ℕ) (words : List ℤ) (id : ℕ) (ss : List StreamView) (u : units.Unit) → with_stream_by id (begun_unit channels words u) ss ≡ with_stream_by id u ss
+begun-stream channels words id ss (Buffer size ring source sink) = refl
+begun-stream channels words id ss u = refl
 
-valued-phase : (is : Phase → Bool) → (values : List ℕ) → (u : units.Unit) → has_phase is (valued_unit values u) ≡ has_phase is u
-valued-phase is values (Buffer size ring source sink) = refl
-valued-phase is values u = refl
+valued-stream : (values : List ℕ) (id : ℕ) (ss : List StreamView) (u : units.Unit) → with_stream_by id (valued_unit values u) ss ≡ with_stream_by id u ss
+valued-stream values id ss (Buffer size ring source sink) = refl
+valued-stream values id ss u = refl
 
-parted-phase : (is : Phase → Bool) → (id : ℕ) → (part : Part) → (words : List ℤ) → (u : units.Unit) → has_phase is (parted_unit id part words u) ≡ has_phase is u
-parted-phase is id part words (Buffer size ring source sink) = refl
-parted-phase is id part words u = refl
+parted-stream : (part : Part) (words : List ℤ) (id : ℕ) (ss : List StreamView) (u : units.Unit) → with_stream_by id (parted_unit id part words u) ss ≡ with_stream_by id u ss
+parted-stream part words id ss (Buffer size ring source sink) = refl
+parted-stream part words id ss u = refl
 
 parted-kind : (id : ℕ) → (part : Part) → (words : List ℤ) → (u : units.Unit) → kind_by (parted_unit id part words u) ≡ kind_by u
 parted-kind id part words (Buffer size ring source sink) = refl
 parted-kind id part words u = refl
 
-run-phase : (is : Phase → Bool) → (words : List ℤ) → (u : units.Unit) → has_phase is (run_unit words u) ≡ has_phase is u
-run-phase is words (Buffer size ring source sink) = refl
-run-phase is words u = refl
+run-stream : (words : List ℤ) (id : ℕ) (ss : List StreamView) (u : units.Unit) → with_stream_by id (run_unit words u) ss ≡ with_stream_by id u ss
+run-stream words id ss (Buffer size ring source sink) = refl
+run-stream words id ss u = refl
 
 run-kind : (words : List ℤ) → (u : units.Unit) → kind_by (run_unit words u) ≡ kind_by u
 run-kind words (Buffer size ring source sink) = refl
@@ -80,26 +81,31 @@ set-none : (is : Phase → Bool) (phase : Phase) (params : Option Params) → is
 set-none is phase params none (Host capture was before piece) = none
 set-none is phase params none u = refl
 
-module _ (is : Phase → Bool) (id : ℕ) (phase : Phase) (params : Option Params) (none : is phase ≡ false) (joins : List Join) (x : ℕ) where
-  set-passes : (c : Component) → is-in is id c ≡ false → passes is joins x (set_at id phase params c) ≡ passes is joins x c
-  set-passes c out = by (c.id == id) out
+set-kind : (phase : Phase) (params : Option Params) (u : units.Unit) → kind_by (set_unit phase params u) ≡ kind_by u
+set-kind phase params (Host capture was before piece) = refl
+set-kind phase params u = refl
+
+module _ (is : Phase → Bool) (id : ℕ) (phase : Phase) (params : Option Params) (none : is phase ≡ false) (way : ℕ → ℕ → Bool) (x : ℕ) where
+  set-told : (cs : List Component) → list_any (is-in is id) cs ≡ false → told (passes is way x) (streams_by (map (set_at id phase params) cs)) ≡ told (passes is way x) (streams_by cs)
+  set-told [] out = refl
+  set-told (c ∷ cs) out =
+      let parts = or_parts (is-in is id c) (list_any (is-in is id) cs) out in
+      by (c.id == id) parts.0 (set-told cs parts.1)
     where
       set : Component
-      set = record { id = c.id; pipe = c.pipe; channels = c.channels; unit = set_unit phase params c.unit }
+      set = with_unit (set_unit phase params) c
 
-      by : (h : Bool) → (h && has_phase is c.unit) ≡ false → passes is joins x (cond {A = Component} h set c) ≡ passes is joins x c
-      by true none_now =
-          ap (λ h. h && leads_by (is_capture (kind_by set.unit)) joins c.id x) (set-none is phase params none c.unit)
-          ∙ sym (ap (λ h. h && leads_by (is_capture (kind_by c.unit)) joins c.id x) none_now)
-      by false any = refl
+      -- a stream that does not pass adds nothing
+      off : (u : units.Unit) (ss : List StreamView) → has_phase is u ≡ false → told (passes is way x) (with_stream_by c.id u ss) ≡ told (passes is way x) ss
+      off u ss away = host-told is way x c.id u ss ∙ ap (λ h. ahead (passes is way x) (h && way c.id x) (params_in u) (told (passes is way x) ss)) away
 
-  set-counted : (cs : List Component) → list_any (is-in is id) cs ≡ false → length (filter (passes is joins x) (map (set_at id phase params) cs)) ≡ length (filter (passes is joins x) cs)
-  set-counted [] out = refl
-  set-counted (c ∷ cs) out =
-      let parts = or_parts (is-in is id c) (list_any (is-in is id) cs) out in
-      counted (passes is joins x) (set_at id phase params c) (map (set_at id phase params) cs)
-      ∙ ap (λ (a : Bool × ℕ). with_one a.0 a.1) (λ i. (set-passes c parts.0 i, set-counted cs parts.1 i))
-      ∙ sym (counted (passes is joins x) c cs)
+      by : (h : Bool) → (h && has_phase is c.unit) ≡ false → told (passes is way x) (streams_by (map (set_at id phase params) cs)) ≡ told (passes is way x) (streams_by cs)
+          → told (passes is way x) (streams_by (cond {A = Component} h set c ∷ map (set_at id phase params) cs)) ≡ told (passes is way x) (with_stream_by c.id c.unit (streams_by cs))
+      by true none_now rest = off (set_unit phase params c.unit) _ (set-none is phase params none c.unit) ∙ rest ∙ sym (off c.unit (streams_by cs) none_now)
+      by false any rest =
+          host-told is way x c.id c.unit _
+          ∙ ap (ahead (passes is way x) (has_phase is c.unit && way c.id x) (params_in c.unit)) rest
+          ∙ sym (host-told is way x c.id c.unit (streams_by cs))
 
 -- what is not Live is not Running
 in-live : (id : ℕ) (c : Component) → is-in is_live_phase id c ≡ false → is-in is_running_phase id c ≡ false
@@ -117,49 +123,74 @@ any-live id (c ∷ cs) out =
 
 -- ---- the tables after a change
 
-module _ (t : Tables) (kept : IsKept t) (running live : List ℕ) (tied : IsTallied t running live) (id : ℕ) where
-  pub begun-tallied : (channels : ℕ) (words : List ℤ) (new : List Component) → new ≡ map (begun_at id channels words) t.comps → IsKept (record { comps = new; buffers = t.buffers; pipes = t.pipes; joins = t.joins }) → IsTallied (record { comps = new; buffers = t.buffers; pipes = t.pipes; joins = t.joins }) running live
-  begun-tallied channels words new is now = comps-tallied t kept.named.comps running live tied (begun_at id channels words) new is now.named.comps
+module _ (t : Tables) (s : Tallies) (tied : IsTallied t s) (id : ℕ) where
+  pub begun-tallied : (channels : ℕ) (words : List ℤ) (new : List Component) → new ≡ map (begun_at id channels words) t.comps → IsTallied (record { comps = new; buffers = t.buffers; pipes = t.pipes; joins = t.joins }) s
+  begun-tallied channels words new is = comps-tallied t s tied (begun_at id channels words) new is
       (at-same (λ c. c.id) (begun_by channels words) (λ c. refl) id)
-      (λ f. at-same (λ c. has_phase f c.unit) (begun_by channels words) (λ c. begun-phase f channels words c.unit) id)
+      (λ c ss. at-same (λ c. with_stream_by c.id c.unit ss) (begun_by channels words) (λ c. begun-stream channels words c.id ss c.unit) id c)
       (at-same (λ c. kind_by c.unit) (begun_by channels words) (λ c. begun-kind channels words c.unit) id)
 
-  pub valued-tallied : (values : List ℕ) (new : List Component) → new ≡ map (valued_at id values) t.comps → IsKept (record { comps = new; buffers = t.buffers; pipes = t.pipes; joins = t.joins }) → IsTallied (record { comps = new; buffers = t.buffers; pipes = t.pipes; joins = t.joins }) running live
-  valued-tallied values new is now = comps-tallied t kept.named.comps running live tied (valued_at id values) new is now.named.comps
+  pub valued-tallied : (values : List ℕ) (new : List Component) → new ≡ map (valued_at id values) t.comps → IsTallied (record { comps = new; buffers = t.buffers; pipes = t.pipes; joins = t.joins }) s
+  valued-tallied values new is = comps-tallied t s tied (valued_at id values) new is
       (at-same (λ c. c.id) (with_unit (valued_unit values)) (λ c. refl) id)
-      (λ f. at-same (λ c. has_phase f c.unit) (with_unit (valued_unit values)) (λ c. valued-phase f values c.unit) id)
+      (λ c ss. at-same (λ c. with_stream_by c.id c.unit ss) (with_unit (valued_unit values)) (λ c. valued-stream values c.id ss c.unit) id c)
       (at-same (λ c. kind_by c.unit) (with_unit (valued_unit values)) (λ c. valued-kind values c.unit) id)
 
-  pub parted-tallied : (part : Part) (words : List ℤ) (new : List Component) → new ≡ map (parted_at id part words) t.comps → IsKept (record { comps = new; buffers = t.buffers; pipes = t.pipes; joins = t.joins }) → IsTallied (record { comps = new; buffers = t.buffers; pipes = t.pipes; joins = t.joins }) running live
-  parted-tallied part words new is now = comps-tallied t kept.named.comps running live tied (parted_at id part words) new is now.named.comps
+  pub parted-tallied : (part : Part) (words : List ℤ) (new : List Component) → new ≡ map (parted_at id part words) t.comps → IsTallied (record { comps = new; buffers = t.buffers; pipes = t.pipes; joins = t.joins }) s
+  parted-tallied part words new is = comps-tallied t s tied (parted_at id part words) new is
       (at-same (λ c. c.id) (parted_by part words) (λ c. refl) id)
-      (λ f. at-same (λ c. has_phase f c.unit) (parted_by part words) (λ c. parted-phase f c.id part words c.unit) id)
+      (λ c ss. at-same (λ c. with_stream_by c.id c.unit ss) (parted_by part words) (λ c. parted-stream part words c.id ss c.unit) id c)
       (at-same (λ c. kind_by c.unit) (parted_by part words) (λ c. parted-kind c.id part words c.unit) id)
 
-  pub begun-buffers-tallied : (channels : ℕ) (words : List ℤ) (new : List Component) → new ≡ map (begun_at id channels words) t.buffers → IsTallied (record { comps = t.comps; buffers = new; pipes = t.pipes; joins = t.joins }) running live
-  begun-buffers-tallied channels words new is = buffers-tallied t kept.named.comps running live tied (begun_at id channels words) new is (at-same (λ c. c.id) (begun_by channels words) (λ c. refl) id)
+  pub begun-buffers-tallied : (channels : ℕ) (words : List ℤ) (new : List Component) → new ≡ map (begun_at id channels words) t.buffers → IsTallied (record { comps = t.comps; buffers = new; pipes = t.pipes; joins = t.joins }) s
+  begun-buffers-tallied channels words new is = buffers-tallied t s tied (begun_at id channels words) new is (at-same (λ c. c.id) (begun_by channels words) (λ c. refl) id)
 
-  pub pushed-tallied : (frames : List Frame) (words : List ℤ) (new : List Component) → new ≡ map (pushed_at id frames words) t.buffers → IsTallied (record { comps = t.comps; buffers = new; pipes = t.pipes; joins = t.joins }) running live
-  pushed-tallied frames words new is = buffers-tallied t kept.named.comps running live tied (pushed_at id frames words) new is (at-same (λ c. c.id) (pushed_by frames words) (λ c. refl) id)
+  pub pushed-tallied : (frames : List Frame) (words : List ℤ) (new : List Component) → new ≡ map (pushed_at id frames words) t.buffers → IsTallied (record { comps = t.comps; buffers = new; pipes = t.pipes; joins = t.joins }) s
+  pushed-tallied frames words new is = buffers-tallied t s tied (pushed_at id frames words) new is (at-same (λ c. c.id) (pushed_by frames words) (λ c. refl) id)
 
-  pub taken-tallied : (n : ℕ) (new : List Component) → new ≡ map (taken_at id n) t.buffers → IsTallied (record { comps = t.comps; buffers = new; pipes = t.pipes; joins = t.joins }) running live
-  taken-tallied n new is = buffers-tallied t kept.named.comps running live tied (taken_at id n) new is (at-same (λ c. c.id) (taken_by n) (λ c. refl) id)
+  pub taken-tallied : (n : ℕ) (new : List Component) → new ≡ map (taken_at id n) t.buffers → IsTallied (record { comps = t.comps; buffers = new; pipes = t.pipes; joins = t.joins }) s
+  taken-tallied n new is = buffers-tallied t s tied (taken_at id n) new is (at-same (λ c. c.id) (taken_by n) (λ c. refl) id)
 
-  pub ended-tallied : (new : List Component) → new ≡ map (with_ended id) t.buffers → IsTallied (record { comps = t.comps; buffers = new; pipes = t.pipes; joins = t.joins }) running live
-  ended-tallied new is = buffers-tallied t kept.named.comps running live tied (with_ended id) new is (at-same (λ c. c.id) (with_unit ended_unit) (λ c. refl) id)
+  pub ended-tallied : (new : List Component) → new ≡ map (with_ended id) t.buffers → IsTallied (record { comps = t.comps; buffers = new; pipes = t.pipes; joins = t.joins }) s
+  ended-tallied new is = buffers-tallied t s tied (with_ended id) new is (at-same (λ c. c.id) (with_unit ended_unit) (λ c. refl) id)
 
-  pub processed-tallied : (fed n : ℕ) (looked : List ℕ) (frames : List Frame) (w v : List ℤ) (comps buffers : List Component) → comps ≡ map (run_at id w) t.comps → buffers ≡ map (pushed_at fed frames v) (map (drained_at looked n) t.buffers) → IsKept (record { comps = comps; buffers = buffers; pipes = t.pipes; joins = t.joins }) → IsTallied (record { comps = comps; buffers = buffers; pipes = t.pipes; joins = t.joins }) running live
-  processed-tallied fed n looked frames w v comps buffers run moved now =
-      let one = comps-tallied t kept.named.comps running live tied (run_at id w) comps run now.named.comps
+  pub processed-tallied : (fed n : ℕ) (looked : List ℕ) (frames : List Frame) (w v : List ℤ) (comps buffers : List Component) → comps ≡ map (run_at id w) t.comps → buffers ≡ map (pushed_at fed frames v) (map (drained_at looked n) t.buffers) → IsTallied (record { comps = comps; buffers = buffers; pipes = t.pipes; joins = t.joins }) s
+  processed-tallied fed n looked frames w v comps buffers run moved =
+      let one = comps-tallied t s tied (run_at id w) comps run
       (at-same (λ c. c.id) (run_by w) (λ c. refl) id)
-      (λ f. at-same (λ c. has_phase f c.unit) (run_by w) (λ c. run-phase f w c.unit) id)
+      (λ c ss. at-same (λ c. with_stream_by c.id c.unit ss) (run_by w) (λ c. run-stream w c.id ss c.unit) id c)
       (at-same (λ c. kind_by c.unit) (run_by w) (λ c. run-kind w c.unit) id) in
       let drained = map (drained_at looked n) t.buffers in
-      let two = buffers-tallied (record { comps = comps; buffers = t.buffers; pipes = t.pipes; joins = t.joins }) now.named.comps running live one (drained_at looked n) drained refl (drained-id looked n) in
-      buffers-tallied (record { comps = comps; buffers = drained; pipes = t.pipes; joins = t.joins }) now.named.comps running live two (pushed_at fed frames v) buffers moved (at-same (λ c. c.id) (pushed_by frames v) (λ c. refl) fed)
+      let two = buffers-tallied (record { comps = comps; buffers = t.buffers; pipes = t.pipes; joins = t.joins }) s one (drained_at looked n) drained refl (drained-id looked n) in
+      buffers-tallied (record { comps = comps; buffers = drained; pipes = t.pipes; joins = t.joins }) s two (pushed_at fed frames v) buffers moved (at-same (λ c. c.id) (pushed_by frames v) (λ c. refl) fed)
 
-  pub set-tallied : (phase : Phase) (params : Option Params) → is_live_phase phase ≡ false → list_any (is-in is_live_phase id) t.comps ≡ false → (new : List Component) → new ≡ map (set_at id phase params) t.comps → IsKept (record { comps = new; buffers = t.buffers; pipes = t.pipes; joins = t.joins }) → IsTallied (record { comps = new; buffers = t.buffers; pipes = t.pipes; joins = t.joins }) running live
-  set-tallied phase params none out new is now = counts-tallied t kept.named.comps running live tied (set_at id phase params) new is now.named.comps
-      (at-same (λ c. c.id) (with_unit (set_unit phase params)) (λ c. refl) id)
-      (λ x. set-counted is_running_phase id phase params (phase-live phase none) t.joins x t.comps (any-live id t.comps out))
-      (λ x. set-counted is_live_phase id phase params none t.joins x t.comps out)
+  -- the stream of a host was not counted, nor is
+  pub set-tallied : (phase : Phase) (params : Option Params) → is_live_phase phase ≡ false → list_any (is-in is_live_phase id) t.comps ≡ false → (new : List Component) → new ≡ map (set_at id phase params) t.comps → IsTallied (record { comps = new; buffers = t.buffers; pipes = t.pipes; joins = t.joins }) s
+  set-tallied phase params none out new is = record {
+    runs = λ x there. at (λ (ids : List ℕ). get_or s.running (place_in ids x) 0) ∙ tied.runs x (listed x there) ∙ sym (ap (λ (a : ℕ × Option Params). a.0) (same is_running_phase (phase-live phase none) (any-live id t.comps out) x));
+    lives = λ x there. at (λ (ids : List ℕ). get_or s.live (place_in ids x) 0) ∙ tied.lives x (listed x there) ∙ sym (ap (λ (a : ℕ × Option Params). a.0) (same is_live_phase none out x));
+    firsts = λ x there. at (λ (ids : List ℕ). get_or s.params (place_in ids x) None) ∙ tied.firsts x (listed x there) ∙ sym (ap (λ (a : ℕ × Option Params). a.1) (same is_live_phase none out x));
+  }
+    where
+      u : Tables
+      u = record { comps = new; buffers = t.buffers; pipes = t.pipes; joins = t.joins }
+
+      own : (c : Component) → (set_at id phase params c).id ≡ c.id
+      own = at-same (λ c. c.id) (with_unit (set_unit phase params)) (λ c. refl) id
+
+      ids : ids_of u ≡ ids_of t
+      ids = same-ids t u (ap (map (λ c. c.id)) is ∙ map-ids (set_at id phase params) own t.comps) refl
+
+      at : {Y : Type 0} (f : List ℕ → Y) → f (ids_of u) ≡ f (ids_of t)
+      at f = ap f ids
+
+      listed : (x : ℕ) → is_among (ids_of u) x ≡ true → is_among (ids_of t) x ≡ true
+      listed x there = ap (λ (xs : List ℕ). is_among xs x) (sym ids) ∙ there
+
+      ways : (host x : ℕ) → on_way (graph_of u) host x ≡ on_way (graph_of t) host x
+      ways = changed-ways t (set_at id phase params) new is own (at-same (λ c. kind_by c.unit) (with_unit (set_unit phase params)) (λ c. set-kind phase params c.unit) id)
+
+      same : (f : Phase → Bool) → f phase ≡ false → list_any (is-in f id) t.comps ≡ false → (x : ℕ) → told (passes f (on_way (graph_of u)) x) (streams_by new) ≡ told (passes f (on_way (graph_of t)) x) (streams_by t.comps)
+      same f off away x =
+          (λ i. told (passes f (λ host x. ways host x i) x) (streams_by (is i)))
+          ∙ set-told f id phase params off (on_way (graph_of t)) x t.comps away

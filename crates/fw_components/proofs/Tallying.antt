@@ -1,86 +1,29 @@
 -- Streams counted host by host.
-use Rattle.std.proofs.Common.{◌≡◌, refl, sym, ap, subst, ◌∙◌, ℕ, zero, suc, ◌+◌, ◌<◌, List, [], ◌∷◌, ◌++◌, Bool, true, false, cond, length, map, take, filter, get_or, ◌&&◌, inl, inr, arith}
-use Rattle.std.proofs.lemmas.Bool.{false≢true, or_parts, or_from}
-use Rattle.std.specs.List.{list_any}
-use Rattle.stream_law.specs.declared.graph.Graph.{Graph}
+use Rattle.std.proofs.Common.{◌≡◌, refl, sym, ap, subst, ◌∙◌, ℕ, zero, suc, ◌+◌, List, [], ◌∷◌, ◌++◌, Bool, true, false, cond, ◌==◌, length, map, filter, get_or, replicate, ◌&&◌, ◌||◌, Option, None, Some, inl, inr, arith}
+use Rattle.std.proofs.lemmas.Bool.{true≢false, false≢true, or_left, or_parts, false_from_ne_true, eq-eqb}
+use Rattle.std.specs.Prelude.{find, option_and_then}
+use Rattle.std.specs.List.{list_any, AllByRecursion}
+use Rattle.sof_base.specs.declared.format.Params.{Params}
 use Rattle.stream_law.specs.declared.graph.Join.{Join}
-use Rattle.stream_law.specs.declared.graph.Kind.{Kind}
 use Rattle.stream_law.specs.declared.stream.Phase.{Phase}
 use Rattle.stream_law.specs.declared.stream.Phase.TheVariants as phases
 use Rattle.stream_law.specs.declared.stream.StreamView.{StreamView}
-use Rattle.stream_law.specs.Placed.{Ascends}
-use Rattle.stream_law.specs.Ways.{components, buffers, on_way, is_capture, is_live_phase, is_running_phase}
-use Rattle.stream_law.proofs.Members.{IsIn}
+use Rattle.stream_law.specs.Ways.{on_way, is_running_phase, is_live_phase}
+use Rattle.stream_law.proofs.Members.{IsIn, in-any}
 use Rattle.stream_law.specs.Order.{is_among}
-use Rattle.fw_places.specs.Walks.{place_in, leads_by}
+use Rattle.fw_places.specs.Walks.{place_in}
+use Rattle.fw_places.proofs.Ways.{way-listed}
 use Rattle.fw_units.specs.declared.component.Component.{Component}
 use Rattle.fw_units.specs.declared.component.Unit as units
 use Rattle.fw_units.specs.declared.component.Unit.TheVariants.{Host, Buffer}
-use Rattle.fw_units.specs.Units.{streams_by, with_stream_by, kind_by}
+use Rattle.fw_components.specs.declared.tallies.Tallies.{Tallies}
+use Rattle.fw_units.specs.Changes.{has_id}
+use Rattle.fw_components.specs.Kept.{IsKept}
 use Rattle.fw_components.specs.Tables.{Tables, ids_of, graph_of, streams_of}
-use Rattle.fw_components.specs.Tally.{passing, IsTallied, has_phase, passes, with_one}
-use Rattle.fw_components.proofs.HostWays.{way-is}
-use Rattle.fw_components.proofs.Listed.{ids-are}
-
--- ---- how many of a list pass
-
-pub counted : {X : Type 0} (p : X → Bool) (x : X) (xs : List X) → length (filter p (x ∷ xs)) ≡ with_one (p x) (length (filter p xs))
-counted {X} p x xs = by (p x)
-  where
-    by : (h : Bool) → length (cond h (x ∷ filter p xs) (filter p xs)) ≡ with_one h (length (filter p xs))
-    by true = let e : suc (length (filter p xs)) ≡ length (filter p xs) + 1 = omega arith in e
-    by false = refl
-
-swapped : (h k : Bool) (n : ℕ) → with_one h (with_one k n) ≡ with_one k (with_one h n)
-swapped true true n = refl
-swapped true false n = refl
-swapped false true n = refl
-swapped false false n = refl
-
--- of one more
-pub counted-more : {X : Type 0} (p : X → Bool) (xs : List X) (i : ℕ) (d : X) → i < length xs → length (filter p (take (i + 1) xs)) ≡ with_one (p (get_or xs i d)) (length (filter p (take i xs)))
-counted-more p xs i d low = (let e : i + 1 ≡ suc i = omega arith in ap (λ (n : ℕ). length (filter p (take n xs))) e) ∙ next p xs i d low
-  where
-    next : {X : Type 0} (p : X → Bool) (xs : List X) (i : ℕ) (d : X) → i < length xs → length (filter p (take (suc i) xs)) ≡ with_one (p (get_or xs i d)) (length (filter p (take i xs)))
-    next p [] i d low = absurd (omega (arith, low))
-    next p (x ∷ xs) zero d low = counted p x []
-    next p (x ∷ xs) (suc i) d low =
-        counted p x (take (suc i) xs)
-        ∙ ap (with_one (p x)) (next p xs i d (omega (arith, low)))
-        ∙ swapped (p x) (p (get_or xs i d)) (length (filter p (take i xs)))
-        ∙ ap (with_one (p (get_or xs i d))) (sym (counted p x (take i xs)))
-
--- ---- streams
-
-abbrev stream-passes : (StreamView → Bool) → ℕ → units.Unit → Bool
-stream-passes p id (Host capture phase params piece) = p (record { host = id; phase = phase; params = params })
-stream-passes p id unit = false
-
-stream-counted : (p : StreamView → Bool) (id : ℕ) (unit : units.Unit) (ss : List StreamView) → length (filter p (with_stream_by id unit ss)) ≡ with_one (stream-passes p id unit) (length (filter p ss))
-stream-counted p id (Host capture phase params piece) ss = counted p (record { host = id; phase = phase; params = params }) ss
-stream-counted p id u ss = refl
-
-streams-counted : (p : StreamView → Bool) (q : Component → Bool) (cs : List Component) → ((c : Component) → IsIn c cs → stream-passes p c.id c.unit ≡ q c) → length (filter p (streams_by cs)) ≡ length (filter q cs)
-streams-counted p q [] same = refl
-streams-counted p q (c ∷ cs) same =
-    stream-counted p c.id c.unit (streams_by cs)
-    ∙ ap (λ (a : Bool × ℕ). with_one a.0 a.1) (λ i. (same c (inl refl) i, streams-counted p q cs (λ d there. same d (inr there)) i))
-    ∙ sym (counted q c cs)
-
-phase-passes : (is : Phase → Bool) (q : ℕ → Bool) (id : ℕ) (unit : units.Unit) → stream-passes (λ s. is s.phase && q s.host) id unit ≡ (has_phase is unit && q id)
-phase-passes is q id (Buffer size ring source sink) = refl
-phase-passes is q id u = refl
-
-pub passing-is : (is : Phase → Bool) (t : Tables) → Ascends (λ c. c.id) t.comps → (x : ℕ) → passing is t x ≡ length (filter (passes is t.joins x) t.comps)
-passing-is is t up x = streams-counted (λ s. is s.phase && on_way (graph_of t) s.host x) (passes is t.joins x) t.comps (λ c there.
-    phase-passes is (λ host. on_way (graph_of t) host x) c.id c.unit
-    ∙ ap (λ h. has_phase is c.unit && h) (way-is t up c there x ∙ by (is_capture (kind_by c.unit)) c.id))
-  where
-    by : (h : Bool) (id : ℕ) → cond h (leads_by false t.joins x id) (leads_by true t.joins x id) ≡ leads_by h t.joins id x
-    by true id = refl
-    by false id = refl
-
--- ---- one host
+use Rattle.fw_units.specs.Units.{streams_by, with_stream_by, kind_by}
+use Rattle.fw_components.specs.Tally.{passes, AreTold, IsTallied, AreBare, has_phase, params_in}
+use Rattle.fw_components.proofs.HostWays.{ways-same, changed-ways}
+use Rattle.fw_components.proofs.Listed.{ids-are, listed-is, joins-listed}
 
 -- what is Running is Live
 pub phase-live : (phase : Phase) → is_live_phase phase ≡ false → is_running_phase phase ≡ false
@@ -93,137 +36,154 @@ pub runs-live : (unit : units.Unit) → has_phase is_live_phase unit ≡ false �
 runs-live (Host capture phase params piece) none = phase-live phase none
 runs-live u none = refl
 
--- a mark of what is on the way of a host's stream
-pub marked-passes : (is : Phase → Bool) (joins : List Join) (x : ℕ) (c : Component) (held mark back : Bool) → held ≡ has_phase is c.unit → held ≡ true → back ≡ is_capture (kind_by c.unit) → mark ≡ leads_by back joins c.id x → mark ≡ passes is joins x c
-marked-passes is joins x c held mark back phase held_so capture led =
-    led
-    ∙ ap (λ b. leads_by b joins c.id x) capture
-    ∙ ap (λ h. h && leads_by (is_capture (kind_by c.unit)) joins c.id x) (sym held_so ∙ phase)
+-- ---- how many streams pass, and the parameters of the first
 
--- ---- all hosts
+module _ (p : StreamView → Bool) where
+  abbrev pub told : List StreamView → ℕ × Option Params
+  told ss = (length (filter p ss), option_and_then (λ s. s.params) (find p ss))
 
-module _ (is : Phase → Bool) (t : Tables) (up : Ascends (λ c. c.id) t.comps) (ids : List ℕ) (joins : List Join) (tally : List ℕ) where
-  pub all-tallied : ids ≡ ids_of t → joins ≡ t.joins
-      → ((x : ℕ) → is_among ids x ≡ true → get_or tally (place_in ids x) 0 ≡ length (filter (passes is joins x) t.comps))
-      → (x : ℕ) → is_among (ids_of t) x ≡ true → get_or tally (place_in (ids_of t) x) 0 ≡ passing is t x
-  all-tallied named along counts x there =
-      ap (λ (xs : List ℕ). get_or tally (place_in xs x) 0) (sym named)
-      ∙ counts x (ap (λ (xs : List ℕ). is_among xs x) named ∙ there)
-      ∙ ap (λ (js : List Join). length (filter (passes is js x) t.comps)) along
-      ∙ sym (passing-is is t up x)
+  -- with one ahead
+  abbrev pub ahead : Bool → Option Params → ℕ × Option Params → ℕ × Option Params
+  ahead h params a = (cond h (a.0 + 1) a.0, cond h params a.1)
+
+  told-more : (s : StreamView) (ss : List StreamView) → told (s ∷ ss) ≡ ahead (p s) s.params (told ss)
+  told-more s ss = by (p s)
+    where
+      by : (h : Bool) → (length (cond h (s ∷ filter p ss) (filter p ss)), option_and_then (λ s. s.params) (cond h (Some s) (find p ss))) ≡ ahead h s.params (told ss)
+      by true = let e : suc (length (filter p ss)) ≡ length (filter p ss) + 1 = omega arith in (λ i. (e i, s.params))
+      by false = refl
+
+  -- where none passes
+  pub told-none : (ss : List StreamView) → AllByRecursion (λ s. p s ≡ false) ss → told ss ≡ (0, None)
+  told-none [] none = refl
+  told-none (s ∷ ss) none = told-more s ss ∙ (λ i. ahead (none.0 i) s.params (told-none ss none.1 i))
+
+module _ (is : Phase → Bool) (way : ℕ → ℕ → Bool) (x : ℕ) where
+  -- with the stream of a host ahead
+  pub host-told : (id : ℕ) (unit : units.Unit) (ss : List StreamView) → told (passes is way x) (with_stream_by id unit ss) ≡ ahead (passes is way x) (has_phase is unit && way id x) (params_in unit) (told (passes is way x) ss)
+  host-told id (Host capture phase params piece) ss = told-more (passes is way x) (record { host = id; phase = phase; params = params }) ss
+  host-told id (Buffer size ring source sink) ss = refl
+  host-told id u ss = refl
+
+-- what is told of streams tells of one more, host by host
+module _ (way : ℕ → ℕ → Bool) (ids : List ℕ) (ss : List StreamView) (id : ℕ) (unit : units.Unit) (old new : Tallies) (told_of : AreTold way ids ss old) where
+  pub one-more : ((x : ℕ) → is_among ids x ≡ true → get_or new.running (place_in ids x) 0 ≡ cond (has_phase is_running_phase unit && way id x) (get_or old.running (place_in ids x) 0 + 1) (get_or old.running (place_in ids x) 0))
+      → ((x : ℕ) → is_among ids x ≡ true → get_or new.live (place_in ids x) 0 ≡ cond (has_phase is_live_phase unit && way id x) (get_or old.live (place_in ids x) 0 + 1) (get_or old.live (place_in ids x) 0))
+      → ((x : ℕ) → is_among ids x ≡ true → get_or new.params (place_in ids x) None ≡ cond (has_phase is_live_phase unit && way id x) (params_in unit) (get_or old.params (place_in ids x) None))
+      → AreTold way ids (with_stream_by id unit ss) new
+  one-more runs lives firsts = record {
+    runs = λ x there. runs x there ∙ ap (λ n. cond (has_phase is_running_phase unit && way id x) (n + 1) n) (told_of.runs x there) ∙ sym (ap (λ (a : ℕ × Option Params). a.0) (host-told is_running_phase way x id unit ss));
+    lives = λ x there. lives x there ∙ ap (λ n. cond (has_phase is_live_phase unit && way id x) (n + 1) n) (told_of.lives x there) ∙ sym (ap (λ (a : ℕ × Option Params). a.0) (host-told is_live_phase way x id unit ss));
+    firsts = λ x there. firsts x there ∙ ap (λ (o : Option Params). cond (has_phase is_live_phase unit && way id x) (params_in unit) o) (told_of.firsts x there) ∙ sym (ap (λ (a : ℕ × Option Params). a.1) (host-told is_live_phase way x id unit ss));
+  }
+
+-- a mark is that of a stream in such a phase; and where none is, nothing is marked
+pub marked-on : {Y : Type 0} (m on held : Bool) (a b : Y) → m ≡ on → held ≡ true → cond m a b ≡ cond (held && on) a b
+marked-on m on held a b same so = ap (λ h. cond h a b) same ∙ ap (λ h. cond (h && on) a b) (sym so)
+
+pub none-on : {Y : Type 0} (on held : Bool) (a b : Y) → held ≡ false → b ≡ cond (held && on) a b
+none-on on held a b none = ap (λ h. cond (h && on) a b) (sym none)
 
 -- ---- no host
 
--- nothing passes where no stream is in such a phase
-pub none-passes : (is : Phase → Bool) (joins : List Join) (x : ℕ) (cs : List Component) → list_any (λ c. has_phase is c.unit) cs ≡ false → length (filter (passes is joins x) cs) ≡ 0
-none-passes is joins x [] none = refl
-none-passes is joins x (c ∷ cs) none =
+streams-each : (P : ℕ → Phase → Type 0) (cs : List Component) → AllByRecursion (λ c. (phase : Phase) → P c.id phase) cs → AllByRecursion (λ s. P s.host s.phase) (streams_by cs)
+streams-each P [] all = tt
+streams-each P (c ∷ cs) all = one P c.id c.unit (streams_by cs) all.0 (streams-each P cs all.1)
+  where
+    one : (P : ℕ → Phase → Type 0) (id : ℕ) (u : units.Unit) (ss : List StreamView) → ((phase : Phase) → P id phase) → AllByRecursion (λ s. P s.host s.phase) ss → AllByRecursion (λ s. P s.host s.phase) (with_stream_by id u ss)
+    one P id (Host capture phase params piece) ss own rest = (own phase, rest)
+    one P id (Buffer size ring source sink) ss own rest = rest
+    one P id u ss own rest = rest
+
+-- where no stream is in such a phase
+idle-told : (is : Phase → Bool) (way : ℕ → ℕ → Bool) (x : ℕ) (cs : List Component) → list_any (λ c. has_phase is c.unit) cs ≡ false → told (passes is way x) (streams_by cs) ≡ (0, None)
+idle-told is way x [] none = refl
+idle-told is way x (c ∷ cs) none =
     let both = or_parts (has_phase is c.unit) (list_any (λ d. has_phase is d.unit) cs) none in
-    counted (passes is joins x) c cs
-    ∙ ap (λ h. with_one (h && leads_by (is_capture (kind_by c.unit)) joins c.id x) (length (filter (passes is joins x) cs))) both.0
-    ∙ none-passes is joins x cs both.1
+    host-told is way x c.id c.unit (streams_by cs)
+    ∙ (λ i. ahead (passes is way x) (both.0 i && way c.id x) (params_in c.unit) (idle-told is way x cs both.1 i))
 
 none-runs : (cs : List Component) → list_any (λ c. has_phase is_live_phase c.unit) cs ≡ false → list_any (λ c. has_phase is_running_phase c.unit) cs ≡ false
 none-runs [] none = refl
 none-runs (c ∷ cs) none =
     let both = or_parts (has_phase is_live_phase c.unit) (list_any (λ d. has_phase is_live_phase d.unit) cs) none in
-    or_from (has_phase is_running_phase c.unit) (list_any (λ d. has_phase is_running_phase d.unit) cs) (runs-live c.unit both.0) (none-runs cs both.1)
+    (λ i. runs-live c.unit both.0 i || none-runs cs both.1 i)
 
--- zeros are the numbers of no stream
-pub idle-tallied : (t : Tables) → Ascends (λ c. c.id) t.comps → list_any (λ c. has_phase is_live_phase c.unit) t.comps ≡ false → (running live : List ℕ) → ((k : ℕ) → (get_or running k 0 ≡ 0) × (get_or live k 0 ≡ 0)) → IsTallied t running live
-idle-tallied t up none running live none_yet = record {
-  runs = λ x there. (none_yet (place_in (ids_of t) x)).0 ∙ sym (passing-is is_running_phase t up x ∙ none-passes is_running_phase t.joins x t.comps (none-runs t.comps none));
-  lives = λ x there. (none_yet (place_in (ids_of t) x)).1 ∙ sym (passing-is is_live_phase t up x ∙ none-passes is_live_phase t.joins x t.comps none);
+pub idle-tallied : (t : Tables) → list_any (λ c. has_phase is_live_phase c.unit) t.comps ≡ false → (s : Tallies) → AreBare s → IsTallied t s
+idle-tallied t none s bare = record {
+  runs = λ x there. bare.running _ ∙ sym (ap (λ (a : ℕ × Option Params). a.0) (idle-told is_running_phase (on_way (graph_of t)) x t.comps (none-runs t.comps none)));
+  lives = λ x there. bare.live _ ∙ sym (ap (λ (a : ℕ × Option Params). a.0) (idle-told is_live_phase (on_way (graph_of t)) x t.comps none));
+  firsts = λ x there. bare.params _ ∙ sym (ap (λ (a : ℕ × Option Params). a.1) (idle-told is_live_phase (on_way (graph_of t)) x t.comps none));
 }
+
+pub bare-told : (way : ℕ → ℕ → Bool) (ids : List ℕ) (s : Tallies) → AreBare s → AreTold way ids [] s
+bare-told way ids s bare = record { runs = λ x there. bare.running _; lives = λ x there. bare.live _; firsts = λ x there. bare.params _ }
+
+-- what is not listed is on no way
+pub nowhere-told : (t : Tables) → IsKept t → (x : ℕ) → is_among (ids_of t) x ≡ false → (is : Phase → Bool) → told (passes is (on_way (graph_of t)) x) (streams_of t) ≡ (0, None)
+nowhere-told t kept x none is = told-none _ (streams_of t) (streams-each (λ host phase. (is phase && on_way (graph_of t) host x) ≡ false) t.comps (in-hosts t.comps (λ c there. there)))
+  where
+    off : (c : Component) → IsIn c t.comps → on_way (graph_of t) c.id x ≡ false
+    off c there = false_from_ne_true _ (λ on. true≢false (sym (way-listed (graph_of t) (ids_of t) (joins-listed t kept) c.id x (listed-is t c.id ∙ or_left (has_id t.comps c.id) _ (in-any (λ d. d.id == c.id) t.comps c there (eq-eqb c.id c.id refl))) on) ∙ none))
+
+    none-passes : (h on : Bool) → on ≡ false → (h && on) ≡ false
+    none-passes true on is = is
+    none-passes false on is = refl
+
+    in-hosts : (cs : List Component) → ((c : Component) → IsIn c cs → IsIn c t.comps) → AllByRecursion (λ c. (phase : Phase) → (is phase && on_way (graph_of t) c.id x) ≡ false) cs
+    in-hosts [] within = tt
+    in-hosts (c ∷ cs) within = ((λ phase. none-passes (is phase) _ (off c (within c (inl refl)))), in-hosts cs (λ d there. within d (inr there)))
 
 -- ---- what keeps the numbers
 
-map-counted : (p : Component → Bool) (change : Component → Component) → ((c : Component) → p (change c) ≡ p c) → (cs : List Component) → length (filter p (map change cs)) ≡ length (filter p cs)
-map-counted p change same [] = refl
-map-counted p change same (c ∷ cs) =
-    counted p (change c) (map change cs)
-    ∙ ap (λ (a : Bool × ℕ). with_one a.0 a.1) (λ i. (same c i, map-counted p change same cs i))
-    ∙ sym (counted p c cs)
+-- the same ids, streams and ways
+pub told-same : (t u : Tables) (s : Tallies) → ids_of u ≡ ids_of t → streams_of u ≡ streams_of t → ((host x : ℕ) → on_way (graph_of u) host x ≡ on_way (graph_of t) host x) → IsTallied t s → IsTallied u s
+told-same t u s ids streams ways = subst (λ (p : (ℕ → ℕ → Bool) × List ℕ × List StreamView). AreTold p.0 p.1 p.2 s) (λ i. ((λ host x. sym (ways host x) i), sym ids i, sym streams i))
 
-map-ids : (change : Component → Component) → ((c : Component) → (change c).id ≡ c.id) → (cs : List Component) → map (λ c. c.id) (map change cs) ≡ map (λ (c : Component). c.id) cs
+pub map-ids : (change : Component → Component) → ((c : Component) → (change c).id ≡ c.id) → (cs : List Component) → map (λ c. c.id) (map change cs) ≡ map (λ (c : Component). c.id) cs
 map-ids change same [] = refl
 map-ids change same (c ∷ cs) = ap (λ (a : ℕ × List ℕ). a.0 ∷ a.1) (λ i. (same c i, map-ids change same cs i))
 
-same-ids : (t u : Tables) → map (λ c. c.id) u.comps ≡ map (λ c. c.id) t.comps → map (λ c. c.id) u.buffers ≡ map (λ c. c.id) t.buffers → ids_of u ≡ ids_of t
+pub same-ids : (t u : Tables) → map (λ c. c.id) u.comps ≡ map (λ c. c.id) t.comps → map (λ c. c.id) u.buffers ≡ map (λ c. c.id) t.buffers → ids_of u ≡ ids_of t
 same-ids t u comps buffers = sym (ids-are u _ refl) ∙ ap (λ (a : List ℕ × List ℕ). a.0 ++ a.1) (λ i. (comps i, buffers i)) ∙ ids-are t _ refl
 
-module _ (t : Tables) (up : Ascends (λ c. c.id) t.comps) (running live : List ℕ) (tied : IsTallied t running live) where
-  -- as many hosts in such a phase that have x on their way
-  abbrev AsMany : (Phase → Bool) → Tables → Type 0
-  AsMany is u = (x : ℕ) → length (filter (passes is t.joins x) u.comps) ≡ length (filter (passes is t.joins x) t.comps)
+map-streams : (change : Component → Component) → ((c : Component) (ss : List StreamView) → with_stream_by (change c).id (change c).unit ss ≡ with_stream_by c.id c.unit ss) → (cs : List Component) → streams_by (map change cs) ≡ streams_by cs
+map-streams change same [] = refl
+map-streams change same (c ∷ cs) = same c _ ∙ ap (with_stream_by c.id c.unit) (map-streams change same cs)
 
-  -- the same components and buffers, joins and streams
-  still : (u : Tables) → Ascends (λ c. c.id) u.comps → ids_of u ≡ ids_of t → u.joins ≡ t.joins → AsMany is_running_phase u → AsMany is_live_phase u → IsTallied u running live
-  still u high named along same_running same_live = record {
-    runs = by is_running_phase running same_running tied.runs;
-    lives = by is_live_phase live same_live tied.lives;
-  }
-    where
-      by : (is : Phase → Bool) (tally : List ℕ) → AsMany is u → ((x : ℕ) → is_among (ids_of t) x ≡ true → get_or tally (place_in (ids_of t) x) 0 ≡ passing is t x) → (x : ℕ) → is_among (ids_of u) x ≡ true → get_or tally (place_in (ids_of u) x) 0 ≡ passing is u x
-      by is tally same tells x there =
-          ap (λ (xs : List ℕ). get_or tally (place_in xs x) 0) named
-          ∙ tells x (ap (λ (xs : List ℕ). is_among xs x) (sym named) ∙ there)
-          ∙ passing-is is t up x
-          ∙ sym (same x)
-          ∙ ap (λ (js : List Join). length (filter (passes is js x) u.comps)) (sym along)
-          ∙ sym (passing-is is u high x)
-
-  -- components that keep their ids, and as many of them pass
-  pub counts-tallied : (change : Component → Component) (new : List Component) → new ≡ map change t.comps → Ascends (λ c. c.id) new
-      → ((c : Component) → (change c).id ≡ c.id)
-      → ((x : ℕ) → length (filter (passes is_running_phase t.joins x) (map change t.comps)) ≡ length (filter (passes is_running_phase t.joins x) t.comps))
-      → ((x : ℕ) → length (filter (passes is_live_phase t.joins x) (map change t.comps)) ≡ length (filter (passes is_live_phase t.joins x) t.comps))
-      → IsTallied (record { comps = new; buffers = t.buffers; pipes = t.pipes; joins = t.joins }) running live
-  counts-tallied change new is high ids runs lives = still (record { comps = new; buffers = t.buffers; pipes = t.pipes; joins = t.joins }) high
-      (same-ids t (record { comps = new; buffers = t.buffers; pipes = t.pipes; joins = t.joins }) (ap (map (λ c. c.id)) is ∙ map-ids change ids t.comps) refl)
-      refl
-      (λ x. ap (λ (cs : List Component). length (filter (passes is_running_phase t.joins x) cs)) is ∙ runs x)
-      (λ x. ap (λ (cs : List Component). length (filter (passes is_live_phase t.joins x) cs)) is ∙ lives x)
-
+module _ (t : Tables) (s : Tallies) (tied : IsTallied t s) where
   -- components that keep their ids, their kinds and their streams
-  pub comps-tallied : (change : Component → Component) (new : List Component) → new ≡ map change t.comps → Ascends (λ c. c.id) new
-      → ((c : Component) → (change c).id ≡ c.id) → ((is : Phase → Bool) (c : Component) → has_phase is (change c).unit ≡ has_phase is c.unit) → ((c : Component) → kind_by (change c).unit ≡ kind_by c.unit)
-      → IsTallied (record { comps = new; buffers = t.buffers; pipes = t.pipes; joins = t.joins }) running live
-  comps-tallied change new is high ids phases kinds = counts-tallied change new is high ids (same is_running_phase) (same is_live_phase)
-    where
-      same : (f : Phase → Bool) (x : ℕ) → length (filter (passes f t.joins x) (map change t.comps)) ≡ length (filter (passes f t.joins x) t.comps)
-      same f x = map-counted (passes f t.joins x) change (λ c. ap (λ (a : Bool × Kind × ℕ). a.0 && leads_by (is_capture a.1) t.joins a.2 x) (λ i. (phases f c i, kinds c i, ids c i))) t.comps
+  pub comps-tallied : (change : Component → Component) (new : List Component) → new ≡ map change t.comps
+      → ((c : Component) → (change c).id ≡ c.id) → ((c : Component) (ss : List StreamView) → with_stream_by (change c).id (change c).unit ss ≡ with_stream_by c.id c.unit ss) → ((c : Component) → kind_by (change c).unit ≡ kind_by c.unit)
+      → IsTallied (record { comps = new; buffers = t.buffers; pipes = t.pipes; joins = t.joins }) s
+  comps-tallied change new is ids streams kinds = told-same t (record { comps = new; buffers = t.buffers; pipes = t.pipes; joins = t.joins }) s
+      (same-ids t (record { comps = new; buffers = t.buffers; pipes = t.pipes; joins = t.joins }) (ap (map (λ c. c.id)) is ∙ map-ids change ids t.comps) refl)
+      (ap streams_by is ∙ map-streams change streams t.comps)
+      (changed-ways t change new is ids kinds)
+      tied
 
   -- buffers that keep their ids
   pub buffers-tallied : (change : Component → Component) (new : List Component) → new ≡ map change t.buffers → ((c : Component) → (change c).id ≡ c.id)
-      → IsTallied (record { comps = t.comps; buffers = new; pipes = t.pipes; joins = t.joins }) running live
-  buffers-tallied change new is ids = still (record { comps = t.comps; buffers = new; pipes = t.pipes; joins = t.joins }) up
+      → IsTallied (record { comps = t.comps; buffers = new; pipes = t.pipes; joins = t.joins }) s
+  buffers-tallied change new is ids = told-same t (record { comps = t.comps; buffers = new; pipes = t.pipes; joins = t.joins }) s
       (same-ids t (record { comps = t.comps; buffers = new; pipes = t.pipes; joins = t.joins }) refl (ap (map (λ c. c.id)) is ∙ map-ids change ids t.buffers))
       refl
-      (λ x. refl)
-      (λ x. refl)
+      (ways-same t (record { comps = t.comps; buffers = new; pipes = t.pipes; joins = t.joins }) refl (λ host. refl))
+      tied
 
-  pub pipes-tallied : (new : List Component) → IsTallied (record { comps = t.comps; buffers = t.buffers; pipes = new; joins = t.joins }) running live
-  pipes-tallied new = still (record { comps = t.comps; buffers = t.buffers; pipes = new; joins = t.joins }) up refl refl (λ x. refl) (λ x. refl)
-
--- the same graph and streams
-pub seen-tallied : (t u : Tables) (running live : List ℕ) → graph_of u ≡ graph_of t → streams_of u ≡ streams_of t → IsTallied t running live → IsTallied u running live
-seen-tallied t u running live graph streams tied = record {
-  runs = by is_running_phase running tied.runs;
-  lives = by is_live_phase live tied.lives;
-}
-  where
-    by : (is : Phase → Bool) (tally : List ℕ) → ((x : ℕ) → is_among (ids_of t) x ≡ true → get_or tally (place_in (ids_of t) x) 0 ≡ passing is t x) → (x : ℕ) → is_among (ids_of u) x ≡ true → get_or tally (place_in (ids_of u) x) 0 ≡ passing is u x
-    by is tally tells x there =
-        ap (λ (g : Graph). get_or tally (place_in (components g ++ buffers g) x) 0) graph
-        ∙ tells x (ap (λ (g : Graph). is_among (components g ++ buffers g) x) (sym graph) ∙ there)
-        ∙ ap (λ (a : Graph × List StreamView). length (filter (λ s. is s.phase && on_way a.0 s.host x) a.1)) (λ i. (sym graph i, sym streams i))
+  pub pipes-tallied : (new : List Component) → IsTallied (record { comps = t.comps; buffers = t.buffers; pipes = new; joins = t.joins }) s
+  pipes-tallied new = told-same t (record { comps = t.comps; buffers = t.buffers; pipes = new; joins = t.joins }) s refl refl (ways-same t (record { comps = t.comps; buffers = t.buffers; pipes = new; joins = t.joins }) refl (λ host. refl)) tied
 
 -- what is counted of equal lists
-pub lists-tallied : (t : Tables) (comps buffers : List Component) (joins : List Join) (running live : List ℕ) → comps ≡ t.comps → buffers ≡ t.buffers → joins ≡ t.joins
-    → ((pipes : List Component) → IsTallied (record { comps = comps; buffers = buffers; pipes = pipes; joins = joins }) running live) → IsTallied t running live
-lists-tallied t comps buffers joins running live ours theirs along tied = subst (λ (p : List Component × List Component × List Join). IsTallied (record { comps = p.0; buffers = p.1; pipes = t.pipes; joins = p.2 }) running live) (λ i. (ours i, theirs i, along i)) (tied t.pipes)
+pub lists-tallied : (t : Tables) (comps buffers : List Component) (joins : List Join) (s : Tallies) → comps ≡ t.comps → buffers ≡ t.buffers → joins ≡ t.joins
+    → ((pipes : List Component) → IsTallied (record { comps = comps; buffers = buffers; pipes = pipes; joins = joins }) s) → IsTallied t s
+lists-tallied t comps buffers joins s ours theirs along tied = subst (λ (p : List Component × List Component × List Join). IsTallied (record { comps = p.0; buffers = p.1; pipes = t.pipes; joins = p.2 }) s) (λ i. (ours i, theirs i, along i)) (tied t.pipes)
 
 -- nothing is listed where nothing is there
-pub none-tallied : (running live : List ℕ) → IsTallied (record { comps = []; buffers = []; pipes = []; joins = [] }) running live
-none-tallied running live = record { runs = λ x there. absurd (false≢true there); lives = λ x there. absurd (false≢true there) }
+pub none-tallied : (s : Tallies) → IsTallied (record { comps = []; buffers = []; pipes = []; joins = [] }) s
+none-tallied s = record { runs = λ x there. absurd (false≢true there); lives = λ x there. absurd (false≢true there); firsts = λ x there. absurd (false≢true there) }
+
+pub no-params : (n k : ℕ) (o : Option Params) → get_or (replicate n o) k o ≡ o
+no-params zero k o = refl
+no-params (suc n) zero o = refl
+no-params (suc n) (suc k) o = no-params n k o

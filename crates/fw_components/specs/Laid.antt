@@ -14,4 +14,4 @@ pub record IsRegistryLaid (r : Inside) : Type 0 where
   pub pipes : 32 ≤ vec_capacity r.pipes
   pub joins : 256 ≤ vec_capacity r.joins
   pub kept : IsKept (tables_of r)
-  pub tallied : IsTallied (tables_of r) r.tallies.running r.tallies.live
+  pub tallied : IsTallied (tables_of r) r.tallies

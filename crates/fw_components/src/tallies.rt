@@ -1,24 +1,28 @@
-// How many streams have each component and buffer on their way.
-ghost use Rattle.std.specs.Prelude.{◌≡◌, ◌==◌, ◌&&◌, ◌<◌, ◌≤◌, ◌+◌, ℕ, List, true, false, filter, length, slice_index_or};
-ghost use Rattle.std.specs.List.{list_any};
-ghost use Rattle.stream_law.specs.Ways.{is_running_phase, is_live_phase, is_capture};
-ghost use Rattle.stream_law.specs.Order.{is_among};
-ghost use Rattle.fw_places.specs.Walks.{place_in};
+// What streams have each component and buffer on their way.
+ghost use Rattle.std.specs.Prelude.{◌≡◌, ◌==◌, ◌&&◌, ◌<◌, ◌≤◌, ◌+◌, ℕ, List, false, None, length, slice_index_or, if◌then◌else◌};
+ghost use Rattle.std.specs.List.{list_any, AllByRecursion};
+ghost use Rattle.stream_law.specs.declared.graph.Graph.{Graph};
+ghost use Rattle.stream_law.specs.declared.stream.StreamView.{StreamView};
+ghost use Rattle.stream_law.specs.Ways.{on_way, is_running_phase, is_live_phase, is_capture};
+ghost use Rattle.fw_places.specs.Charts.{IsChartOf};
 ghost use Rattle.fw_units.specs.declared.component.Component.{Component};
 ghost use Rattle.fw_components.specs.Kept.{AreJoined};
-ghost use Rattle.fw_units.specs.Units.{kind_by};
-ghost use Rattle.fw_components.specs.Tally.{IsTallied, has_phase, passes, with_one};
+ghost use Rattle.fw_units.specs.Units.{kind_by, with_stream_by, streams_by};
+ghost use Rattle.fw_components.specs.Tally.{IsTallied, AreTold, AreBare, IsSeenIn, has_phase, params_in as params_of_unit};
 
 use crate::listing::places_of;
 use fw_places::Places;
 use fw_units::{Component, Unit};
+use sof_base::Params;
 use stream_law::{Join, Phase};
 
-/// By the place of each component and buffer how many Running streams have it on their way, and how many Running or Paused ones.
+/// By the place of each component and buffer how many Running streams have it on their way, how many Running or Paused ones, and the
+/// parameters of the first of the latter.
 #[derive(Drop)]
 pub(crate) struct Tallies {
     pub(crate) running: [u32; 256],
     pub(crate) live: [u32; 256],
+    pub(crate) params: [Option<Params>; 256],
 }
 
 impl Tallies {
@@ -26,21 +30,55 @@ impl Tallies {
         Tallies {
             running: [0; 256],
             live: [0; 256],
+            params: [None; 256],
         }
     }
 
     /// Counts all streams anew.
     pub(crate) fn recount(&mut self, comps: &[Component], buffers: &[Component], joins: &[Join])
         requires { AreJoined comps.now buffers.now joins.now }
-        ensures { (pipes : List Component) → IsTallied (record { comps = comps.now; buffers = buffers.now; pipes = pipes; joins = joins.now }) self.new.running self.new.live }
+        ensures { (pipes : List Component) → IsTallied (record { comps = comps.now; buffers = buffers.now; pipes = pipes; joins = joins.now }) self.new }
     {
         self.running = [0; 256];
         self.live = [0; 256];
+        self.params = [None; 256];
         if !any_live(comps) {
             return;
         }
         let places = places_of(comps, buffers, joins);
-        count_all(comps, &places, &mut self.running, &mut self.live);
+        self.count_all(comps, &places);
+    }
+
+    // Counts the stream of each host, from the last to the first, whose parameters so come last.
+    fn count_all(&mut self, comps: &[Component], places: &Places)
+        requires few { length comps.now ≤ 128 }
+        requires bare { AreBare self.old }
+        ensures { (g : Graph) → IsChartOf g places.now → AllByRecursion (IsSeenIn g) comps.now → AreTold (on_way g) places.now.ids (streams_by comps.now) self.new }
+    {
+        let mut i = comps.len();
+        while i > 0 {
+            i -= 1;
+            let comp = &comps[i];
+            self.count(comp, places);
+        }
+    }
+
+    // Counts the stream of a host at all that is on its way, ahead of those that are counted.
+    fn count(&mut self, comp: &Component, places: &Places)
+        requires few { (k : ℕ) → (slice_index_or self.old.running k 0 ≤ 128) × (slice_index_or self.old.live k 0 ≤ 128) }
+        ensures most { (k : ℕ) → (slice_index_or self.new.running k 0 ≤ slice_index_or self.old.running k 0 + 1) × (slice_index_or self.new.live k 0 ≤ slice_index_or self.old.live k 0 + 1) }
+        ensures told { (g : Graph) (streams : List StreamView) → IsChartOf g places.now → IsSeenIn g comp.now → AreTold (on_way g) places.now.ids streams self.old → AreTold (on_way g) places.now.ids (with_stream_by comp.now.id comp.now.unit streams) self.new }
+    {
+        if !is_live(&comp.unit) {
+            return;
+        }
+        let _ids = places.ids();
+        let marks = places.way(comp.id, captures(&comp.unit));
+        add(&mut self.live, &marks);
+        note(&mut self.params, &marks, params_in(&comp.unit));
+        if is_running(&comp.unit) {
+            add(&mut self.running, &marks);
+        }
     }
 }
 
@@ -67,50 +105,30 @@ fn any_live(comps: &[Component]) -> bool
     comps.iter().any(|comp| is_live(&comp.unit))
 }
 
-// Counts each stream that is Running or Paused.
-fn count_all(comps: &[Component], places: &Places, running: &mut [u32], live: &mut [u32])
-    requires few { length comps.now ≤ 128 }
-    requires sizes { (length running.old ≡ 256) × (length live.old ≡ 256) }
-    requires none { (k : ℕ) → (slice_index_or running.old k 0 ≡ 0) × (slice_index_or live.old k 0 ≡ 0) }
-    ensures runs { (x : ℕ) → is_among places.now.ids x ≡ true → slice_index_or running.new (place_in places.now.ids x) 0 ≡ length (filter (passes is_running_phase places.now.joins x) comps.now) }
-    ensures lives { (x : ℕ) → is_among places.now.ids x ≡ true → slice_index_or live.new (place_in places.now.ids x) 0 ≡ length (filter (passes is_live_phase places.now.joins x) comps.now) }
-{
-    for comp in comps {
-        count(comp, places, running, live);
-    }
-}
-
-// Counts the stream of a host at all that is on its way.
-fn count(comp: &Component, places: &Places, running: &mut [u32], live: &mut [u32])
-    requires sizes { (length running.old ≡ 256) × (length live.old ≡ 256) }
-    requires few { (k : ℕ) → (slice_index_or running.old k 0 ≤ 128) × (slice_index_or live.old k 0 ≤ 128) }
-    ensures sizes { (length running.new ≡ 256) × (length live.new ≡ 256) }
-    ensures most { (k : ℕ) → (slice_index_or running.new k 0 ≤ slice_index_or running.old k 0 + 1) × (slice_index_or live.new k 0 ≤ slice_index_or live.old k 0 + 1) }
-    ensures runs { (x : ℕ) → is_among places.now.ids x ≡ true → slice_index_or running.new (place_in places.now.ids x) 0 ≡ with_one (passes is_running_phase places.now.joins x comp.now) (slice_index_or running.old (place_in places.now.ids x) 0) }
-    ensures lives { (x : ℕ) → is_among places.now.ids x ≡ true → slice_index_or live.new (place_in places.now.ids x) 0 ≡ with_one (passes is_live_phase places.now.joins x comp.now) (slice_index_or live.old (place_in places.now.ids x) 0) }
-{
-    if !is_live(&comp.unit) {
-        return;
-    }
-    let _ids = places.ids();
-    let marks = places.reached(comp.id, captures(&comp.unit));
-    add(live, &marks);
-    if is_running(&comp.unit) {
-        add(running, &marks);
-    }
-}
-
 // Adds one where a mark is.
 fn add(tally: &mut [u32], marks: &[bool])
     requires sizes { (length tally.old ≡ 256) × (length marks.now ≡ 257) }
     requires few { (k : ℕ) → slice_index_or tally.old k 0 ≤ 128 }
     ensures size { length tally.new ≡ 256 }
-    ensures each { (k : ℕ) → k < 256 → slice_index_or tally.new k 0 ≡ with_one (slice_index_or marks.now k false) (slice_index_or tally.old k 0) }
+    ensures each { (k : ℕ) → k < 256 → slice_index_or tally.new k 0 ≡ (if slice_index_or marks.now k false then slice_index_or tally.old k 0 + 1 else slice_index_or tally.old k 0) }
     ensures most { (k : ℕ) → slice_index_or tally.new k 0 ≤ slice_index_or tally.old k 0 + 1 }
 {
     for k in 0..tally.len() {
         if marks[k] {
             tally[k] += 1;
+        }
+    }
+}
+
+// Notes parameters where a mark is.
+fn note(params: &mut [Option<Params>], marks: &[bool], p: Option<Params>)
+    requires sizes { (length params.old ≡ 256) × (length marks.now ≡ 257) }
+    ensures size { length params.new ≡ 256 }
+    ensures each { (k : ℕ) → k < 256 → slice_index_or params.new k None ≡ (if slice_index_or marks.now k false then p else slice_index_or params.old k None) }
+{
+    for k in 0..params.len() {
+        if marks[k] {
+            params[k] = p;
         }
     }
 }
@@ -140,4 +158,14 @@ fn captures(unit: &Unit) -> bool
     ensures { result ≡ is_capture (kind_by unit.now) }
 {
     matches!(unit, Unit::Host { capture: true, .. })
+}
+
+// The parameters of a host's stream.
+fn params_in(unit: &Unit) -> Option<Params>
+    ensures { result ≡ params_of_unit unit.now }
+{
+    match unit {
+        Unit::Host { params, .. } => *params,
+        _ => None,
+    }
 }

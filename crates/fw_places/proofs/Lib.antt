@@ -3,3 +3,4 @@ pub mod Marking
 pub mod Reaching
 pub mod Charts
 pub mod Leaves
+pub mod Ways

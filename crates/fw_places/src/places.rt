@@ -1,7 +1,10 @@
 // Ids by places, and joins between these.
 ghost use Rattle.std.specs.Prelude.{◌≡◌, ◌==◌, ◌&&◌, ◌<◌, ◌≤◌, ◌%◌, ℕ, true, false, length, map, take, position, slice_set, slice_index_or};
 ghost use Rattle.std.specs.List.{list_any, AllByRecursion};
+ghost use Rattle.stream_law.specs.declared.graph.Graph.{Graph};
 ghost use Rattle.stream_law.specs.Order.{is_among};
+ghost use Rattle.stream_law.specs.Ways.{on_way};
+ghost use Rattle.fw_places.specs.Charts.{IsChartOf, AreHostsOf, is_capture_at};
 ghost use Rattle.fw_places.specs.Walks.{IsListed, place_in, by_places, leads_by, is_marked, is_reached};
 ghost use Rattle.fw_places.specs.Leaving.{AreFound};
 
@@ -59,6 +62,22 @@ impl Places {
         ensures within { result ≤ 256 }
     {
         place_of(self.ids.as_slice(), id)
+    }
+
+    /// What is on the way of the stream of a host: of a playback's all that walks lead to from it, and of a capture's all that walks
+    /// lead to it from.
+    pub fn way(&self, host: u32, capture: bool) -> [bool; 257]
+        ensures { (g : Graph) → IsChartOf g self.now → capture ≡ is_capture_at g host → (x : ℕ) → is_among self.now.ids x ≡ true → is_marked self.now.ids result x ≡ on_way g host x }
+    {
+        self.reached(host, capture)
+    }
+
+    /// Marks, beside the hosts that are marked, what is on the ways of their streams: of playbacks, or of captures.
+    pub fn ways(&self, marks: &mut [bool], capture: bool)
+        requires { length marks.old ≡ 257 }
+        ensures { (g : Graph) → IsChartOf g self.now → AreHostsOf g capture self.now.ids marks.old → (x : ℕ) → is_among self.now.ids x ≡ true → is_marked self.now.ids marks.new x ≡ list_any (λ h. is_marked self.now.ids marks.old h && on_way g h x) self.now.ids }
+    {
+        self.spread(marks, capture);
     }
 
     /// What walks lead to from one id, or from what walks lead to it where they go back.

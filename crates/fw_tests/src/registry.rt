@@ -83,6 +83,7 @@ fn one_host(alloc: Global) -> Result<bool, NoMemory> {
             registry.set_stream(3, Phase::Paused, Some(params));
             right = right && registry.at(0).id == 3;
             right = right && registry.counts(3) == (0, 1);
+            right = right && registry.live_params(3) == Some(params);
             registry.remove(3, &mut region);
         }
         Err(RegistryFull { component }) => region.give(component.into_piece()),

@@ -16,7 +16,7 @@ invariant_of-self c =
       pipes = c.self.invariant.pipes;
       joins = c.self.invariant.joins;
       kept = buffer-added (tables_of c.self.inside) c.self.invariant.kept c.args.component c.place.new.components.items gone (sym c.is_buffer.ensures ∙ c.if-is_buffer.true) c.requires.unit room c.place.ensures.items;
-      tallied = lists-tallied (record { comps = c.self.inside.comps.items; buffers = c.place.new.components.items; pipes = c.self.inside.pipes.items; joins = c.self.inside.joins.items }) c.deref.result.now c.deref-then-is_buffer.result.now c.deref-then-is_buffer-2.result.now c.recount.new.self.running c.recount.new.self.live c.deref.ensures.value c.deref-then-is_buffer.ensures.value c.deref-then-is_buffer-2.ensures.value c.recount.ensures;
+      tallied = lists-tallied (record { comps = c.self.inside.comps.items; buffers = c.place.new.components.items; pipes = c.self.inside.pipes.items; joins = c.self.inside.joins.items }) c.deref.result.now c.deref-then-is_buffer.result.now c.deref-then-is_buffer-2.result.now c.recount.new.self c.deref.ensures.value c.deref-then-is_buffer.ensures.value c.deref-then-is_buffer-2.ensures.value c.recount.ensures;
     }
 
 pub invariant_of-self-then-is_pipeline : goal.invariant_of-self-then-is_pipeline
@@ -29,7 +29,7 @@ invariant_of-self-then-is_pipeline c =
       pipes = search rules;
       joins = c.self.invariant.joins;
       kept = pipe-added (tables_of c.self.inside) c.self.invariant.kept c.args.component c.place-then-is_pipeline.new.components.items gone (sym c.is_pipeline.ensures ∙ c.if-is_pipeline.true) c.requires.unit room c.place-then-is_pipeline.ensures.items;
-      tallied = pipes-tallied (tables_of c.self.inside) c.self.invariant.kept.named.comps c.self.inside.tallies.running c.self.inside.tallies.live c.self.invariant.tallied c.place-then-is_pipeline.new.components.items;
+      tallied = pipes-tallied (tables_of c.self.inside) c.self.inside.tallies c.self.invariant.tallied c.place-then-is_pipeline.new.components.items;
     }
 
 pub invariant_of-self-2 : goal.invariant_of-self-2
@@ -42,7 +42,7 @@ invariant_of-self-2 c =
       pipes = c.self.invariant.pipes;
       joins = c.self.invariant.joins;
       kept = comp-added (tables_of c.self.inside) c.self.invariant.kept c.args.component c.place-2.new.components.items gone (sym c.is_buffer.ensures ∙ c.if-is_buffer.false) (sym c.is_pipeline.ensures ∙ c.if-is_pipeline.false) c.requires.unit room c.place-2.ensures.items;
-      tallied = lists-tallied (record { comps = c.place-2.new.components.items; buffers = c.self.inside.buffers.items; pipes = c.self.inside.pipes.items; joins = c.self.inside.joins.items }) c.deref-2.result.now c.deref-3.result.now c.deref-4.result.now c.recount-2.new.self.running c.recount-2.new.self.live c.deref-2.ensures.value c.deref-3.ensures.value c.deref-4.ensures.value c.recount-2.ensures;
+      tallied = lists-tallied (record { comps = c.place-2.new.components.items; buffers = c.self.inside.buffers.items; pipes = c.self.inside.pipes.items; joins = c.self.inside.joins.items }) c.deref-2.result.now c.deref-3.result.now c.deref-4.result.now c.recount-2.new.self c.deref-2.ensures.value c.deref-3.ensures.value c.deref-4.ensures.value c.recount-2.ensures;
     }
 
 pub recount-requires : goal.recount-requires

@@ -22,7 +22,7 @@ invariant_of-self c = record {
   pipes = c.self.invariant.pipes;
   joins = c.self.invariant.joins;
   kept = comp-begun (tables_of c.self.inside) c.self.invariant.kept c.args.id c.args.p.channels _ c.begin_at.new.components.items c.begin_at.ensures.items;
-  tallied = begun-tallied (tables_of c.self.inside) c.self.invariant.kept c.self.inside.tallies.running c.self.inside.tallies.live c.self.invariant.tallied c.args.id c.args.p.channels _ c.begin_at.new.components.items c.begin_at.ensures.items (comp-begun (tables_of c.self.inside) c.self.invariant.kept c.args.id c.args.p.channels _ c.begin_at.new.components.items c.begin_at.ensures.items);
+  tallied = begun-tallied (tables_of c.self.inside) c.self.inside.tallies c.self.invariant.tallied c.args.id c.args.p.channels _ c.begin_at.new.components.items c.begin_at.ensures.items;
 }
 
 pub invariant_of-self-in-Some-place_of : goal.invariant_of-self-in-Some-place_of
@@ -32,7 +32,7 @@ invariant_of-self-in-Some-place_of c = record {
   pipes = c.self.invariant.pipes;
   joins = c.self.invariant.joins;
   kept = buffer-begun (tables_of c.self.inside) c.self.invariant.kept c.args.id c.args.p.channels _ c.begin_at-in-Some-place_of.new.components.items c.begin_at-in-Some-place_of.ensures.items;
-  tallied = begun-buffers-tallied (tables_of c.self.inside) c.self.invariant.kept c.self.inside.tallies.running c.self.inside.tallies.live c.self.invariant.tallied c.args.id c.args.p.channels _ c.begin_at-in-Some-place_of.new.components.items c.begin_at-in-Some-place_of.ensures.items;
+  tallied = begun-buffers-tallied (tables_of c.self.inside) c.self.inside.tallies c.self.invariant.tallied c.args.id c.args.p.channels _ c.begin_at-in-Some-place_of.new.components.items c.begin_at-in-Some-place_of.ensures.items;
 }
 
 pub invariant_of-self-in-Some-place_of-2 : goal.invariant_of-self-in-Some-place_of-2
@@ -42,7 +42,7 @@ invariant_of-self-in-Some-place_of-2 c = record {
   pipes = subst (λ n. 32 ≤ n) (sym c.begin_at-in-Some-place_of-2.ensures.capacity) c.self.invariant.pipes;
   joins = c.self.invariant.joins;
   kept = pipe-begun (tables_of c.self.inside) c.self.invariant.kept c.args.id c.args.p.channels _ c.begin_at-in-Some-place_of-2.new.components.items c.begin_at-in-Some-place_of-2.ensures.items;
-  tallied = pipes-tallied (tables_of c.self.inside) c.self.invariant.kept.named.comps c.self.inside.tallies.running c.self.inside.tallies.live c.self.invariant.tallied c.begin_at-in-Some-place_of-2.new.components.items;
+  tallied = pipes-tallied (tables_of c.self.inside) c.self.inside.tallies c.self.invariant.tallied c.begin_at-in-Some-place_of-2.new.components.items;
 }
 
 pub returns-in-Some-clause-tables : goal.returns-in-Some-clause-tables

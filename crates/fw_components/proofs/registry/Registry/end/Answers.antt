@@ -11,5 +11,5 @@ invariant_of-self c = record {
   pipes = c.self.invariant.pipes;
   joins = c.self.invariant.joins;
   kept = ended-kept (tables_of c.self.inside) c.self.invariant.kept c.args.buffer c.end_in.new.components.items c.end_in.ensures.items;
-  tallied = ended-tallied (tables_of c.self.inside) c.self.invariant.kept c.self.inside.tallies.running c.self.inside.tallies.live c.self.invariant.tallied c.args.buffer c.end_in.new.components.items c.end_in.ensures.items;
+  tallied = ended-tallied (tables_of c.self.inside) c.self.inside.tallies c.self.invariant.tallied c.args.buffer c.end_in.new.components.items c.end_in.ensures.items;
 }

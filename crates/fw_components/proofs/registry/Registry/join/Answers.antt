@@ -26,7 +26,7 @@ invariant_of-self c =
       pipes = c.self.invariant.pipes;
       joins = subst (λ n. 256 ≤ n) (sym c.put_join.ensures.capacity) c.self.invariant.joins;
       kept = joined-kept t c.self.invariant.kept j c.join_in.new.components.items c.put_join.new.joins.items can c.join_in.ensures.items c.put_join.ensures.items;
-      tallied = lists-tallied (record { comps = t.comps; buffers = c.join_in.new.components.items; pipes = t.pipes; joins = c.put_join.new.joins.items }) c.deref.result.now c.deref-2.result.now c.deref-3.result.now c.recount.new.self.running c.recount.new.self.live c.deref.ensures.value c.deref-2.ensures.value c.deref-3.ensures.value c.recount.ensures;
+      tallied = lists-tallied (record { comps = t.comps; buffers = c.join_in.new.components.items; pipes = t.pipes; joins = c.put_join.new.joins.items }) c.deref.result.now c.deref-2.result.now c.deref-3.result.now c.recount.new.self c.deref.ensures.value c.deref-2.ensures.value c.deref-3.ensures.value c.recount.ensures;
     }
 
 pub recount-requires : goal.recount-requires

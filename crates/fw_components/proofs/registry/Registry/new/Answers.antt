@@ -10,5 +10,5 @@ invariant_of-result c = record {
   pipes = search rules;
   joins = search rules;
   kept = rw (c.in-Ok.ensures.items, c.in-Ok-with_capacity.ensures.items, c.in-Ok-with_capacity-2.ensures.items, c.in-Ok-with_capacity-3.ensures.items) empty-kept;
-  tallied = rw (c.in-Ok.ensures.items, c.in-Ok-with_capacity.ensures.items, c.in-Ok-with_capacity-2.ensures.items, c.in-Ok-with_capacity-3.ensures.items) (none-tallied _ _);
+  tallied = rw (c.in-Ok.ensures.items, c.in-Ok-with_capacity.ensures.items, c.in-Ok-with_capacity-2.ensures.items, c.in-Ok-with_capacity-3.ensures.items) (none-tallied _);
 }

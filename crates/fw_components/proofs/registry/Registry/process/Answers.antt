@@ -66,7 +66,7 @@ invariant_of-self c =
       pipes = c.self.invariant.pipes;
       joins = c.self.invariant.joins;
       kept = now-kept t id x it c.self.invariant.kept looked fed n c.carry.new.self comps c.carry.new.buffers.items _ put.1 moved;
-      tallied = processed-tallied t c.self.invariant.kept c.self.inside.tallies.running c.self.inside.tallies.live c.self.invariant.tallied id fed n looked _ _ _ comps c.carry.new.buffers.items put.1 moved.table (now-kept t id x it c.self.invariant.kept looked fed n c.carry.new.self comps c.carry.new.buffers.items _ put.1 moved);
+      tallied = processed-tallied t c.self.inside.tallies c.self.invariant.tallied id fed n looked _ _ _ comps c.carry.new.buffers.items put.1 moved.table;
     }
 
 pub returns-clause-tables : goal.returns-clause-tables

@@ -47,7 +47,7 @@ invariant_of-self c = record {
   pipes = c.self.invariant.pipes;
   joins = c.self.invariant.joins;
   kept = buffer-taken (tables_of c.self.inside) c.self.invariant.kept c.in-Some.buffer _ c.pull_in.new.components.items c.pull_in.ensures.items;
-  tallied = taken-tallied (tables_of c.self.inside) c.self.invariant.kept c.self.inside.tallies.running c.self.inside.tallies.live c.self.invariant.tallied c.in-Some.buffer _ c.pull_in.new.components.items c.pull_in.ensures.items;
+  tallied = taken-tallied (tables_of c.self.inside) c.self.inside.tallies c.self.invariant.tallied c.in-Some.buffer _ c.pull_in.new.components.items c.pull_in.ensures.items;
 }
 
 pub returns-clause-tables : goal.returns-clause-tables

@@ -19,7 +19,7 @@ invariant_of-self c = record {
   pipes = c.self.invariant.pipes;
   joins = c.self.invariant.joins;
   kept = buffer-pushed (tables_of c.self.inside) c.self.invariant.kept c.args.buffer _ _ c.push_bytes_in.new.components.items c.push_bytes_in.ensures.items;
-  tallied = pushed-tallied (tables_of c.self.inside) c.self.invariant.kept c.self.inside.tallies.running c.self.inside.tallies.live c.self.invariant.tallied c.args.buffer _ _ c.push_bytes_in.new.components.items c.push_bytes_in.ensures.items;
+  tallied = pushed-tallied (tables_of c.self.inside) c.self.inside.tallies c.self.invariant.tallied c.args.buffer _ _ c.push_bytes_in.new.components.items c.push_bytes_in.ensures.items;
 }
 
 pub returns : goal.returns

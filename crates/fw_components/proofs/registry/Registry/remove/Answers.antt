@@ -38,7 +38,7 @@ invariant_of-self c =
       pipes = c.self.invariant.pipes;
       joins = c.self.invariant.joins;
       kept = comp-gone (tables_of c.self.inside) c.self.invariant.kept c.args.id c.take_at-component.new.components.items alone c.take_at-component.ensures.items;
-      tallied = lists-tallied (record { comps = c.take_at-component.new.components.items; buffers = t.buffers; pipes = t.pipes; joins = t.joins }) c.deref.result.now c.deref-in-Some.result.now c.deref-in-Some-2.result.now c.recount.new.self.running c.recount.new.self.live c.deref.ensures.value c.deref-in-Some.ensures.value c.deref-in-Some-2.ensures.value c.recount.ensures;
+      tallied = lists-tallied (record { comps = c.take_at-component.new.components.items; buffers = t.buffers; pipes = t.pipes; joins = t.joins }) c.deref.result.now c.deref-in-Some.result.now c.deref-in-Some-2.result.now c.recount.new.self c.deref.ensures.value c.deref-in-Some.ensures.value c.deref-in-Some-2.ensures.value c.recount.ensures;
     }
 
 pub returns-in-Some-clause-tables : goal.returns-in-Some-clause-tables
@@ -74,7 +74,7 @@ invariant_of-self-in-Some-place_of c =
       pipes = c.self.invariant.pipes;
       joins = subst (λ n. 256 ≤ n) (sym c.remove_joins.ensures.capacity) c.self.invariant.joins;
       kept = buffer-gone (tables_of c.self.inside) c.self.invariant.kept c.args.id c.take_at-component-in-Some-place_of.new.components.items c.remove_joins.new.joins.items there c.take_at-component-in-Some-place_of.ensures.items c.remove_joins.ensures.items;
-      tallied = lists-tallied (record { comps = t.comps; buffers = c.take_at-component-in-Some-place_of.new.components.items; pipes = t.pipes; joins = c.remove_joins.new.joins.items }) c.deref-in-Some-place_of.result.now c.deref-in-Some-place_of-2.result.now c.deref-in-Some-place_of-3.result.now c.recount-in-Some-place_of.new.self.running c.recount-in-Some-place_of.new.self.live c.deref-in-Some-place_of.ensures.value c.deref-in-Some-place_of-2.ensures.value c.deref-in-Some-place_of-3.ensures.value c.recount-in-Some-place_of.ensures;
+      tallied = lists-tallied (record { comps = t.comps; buffers = c.take_at-component-in-Some-place_of.new.components.items; pipes = t.pipes; joins = c.remove_joins.new.joins.items }) c.deref-in-Some-place_of.result.now c.deref-in-Some-place_of-2.result.now c.deref-in-Some-place_of-3.result.now c.recount-in-Some-place_of.new.self c.deref-in-Some-place_of.ensures.value c.deref-in-Some-place_of-2.ensures.value c.deref-in-Some-place_of-3.ensures.value c.recount-in-Some-place_of.ensures;
     }
 
 pub returns-in-Some-place_of-clause-tables : goal.returns-in-Some-place_of-clause-tables
@@ -109,7 +109,7 @@ invariant_of-self-in-Some-place_of-2 c = record {
   pipes = subst (λ n. 32 ≤ n) (sym c.take_at-component-in-Some-place_of-2.ensures.capacity) c.self.invariant.pipes;
   joins = c.self.invariant.joins;
   kept = pipe-gone (tables_of c.self.inside) c.self.invariant.kept c.args.id c.take_at-component-in-Some-place_of-2.new.components.items c.take_at-component-in-Some-place_of-2.ensures.items;
-  tallied = pipes-tallied (tables_of c.self.inside) c.self.invariant.kept.named.comps c.self.inside.tallies.running c.self.inside.tallies.live c.self.invariant.tallied c.take_at-component-in-Some-place_of-2.new.components.items;
+  tallied = pipes-tallied (tables_of c.self.inside) c.self.inside.tallies c.self.invariant.tallied c.take_at-component-in-Some-place_of-2.new.components.items;
 }
 
 pub returns-in-Some-place_of-2-clause-tables : goal.returns-in-Some-place_of-2-clause-tables

@@ -35,7 +35,7 @@ invariant_of-self c = record {
   pipes = subst (λ n. 32 ≤ n) (sym c.give_all-3.ensures.capacity) c.self.invariant.pipes;
   joins = subst (λ n. 256 ≤ n) (sym c.clear.ensures.capacity) c.self.invariant.joins;
   kept = rw (c.give_all.ensures.items, c.give_all-2.ensures.items, c.give_all-3.ensures.items, c.clear.ensures.items) empty-kept;
-  tallied = lists-tallied (record { comps = c.give_all.new.components.items; buffers = c.give_all-2.new.components.items; pipes = c.give_all-3.new.components.items; joins = c.clear.new.self.items }) c.deref.result.now c.deref-2.result.now c.deref-3.result.now c.recount.new.self.running c.recount.new.self.live c.deref.ensures.value c.deref-2.ensures.value c.deref-3.ensures.value c.recount.ensures;
+  tallied = lists-tallied (record { comps = c.give_all.new.components.items; buffers = c.give_all-2.new.components.items; pipes = c.give_all-3.new.components.items; joins = c.clear.new.self.items }) c.deref.result.now c.deref-2.result.now c.deref-3.result.now c.recount.new.self c.deref.ensures.value c.deref-2.ensures.value c.deref-3.ensures.value c.recount.ensures;
 }
 
 pub returns-clause-holes : goal.returns-clause-holes

@@ -11,5 +11,5 @@ invariant_of-self c = record {
   pipes = subst (λ n. 32 ≤ n) (sym c.complete_in.ensures.capacity) c.self.invariant.pipes;
   joins = c.self.invariant.joins;
   kept = completed-kept (tables_of c.self.inside) c.self.invariant.kept c.args.id c.complete_in.new.components.items c.complete_in.ensures.items;
-  tallied = pipes-tallied (tables_of c.self.inside) c.self.invariant.kept.named.comps c.self.inside.tallies.running c.self.inside.tallies.live c.self.invariant.tallied c.complete_in.new.components.items;
+  tallied = pipes-tallied (tables_of c.self.inside) c.self.inside.tallies c.self.invariant.tallied c.complete_in.new.components.items;
 }

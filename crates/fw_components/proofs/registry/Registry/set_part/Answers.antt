@@ -44,7 +44,7 @@ invariant_of-self c = record {
   pipes = c.self.invariant.pipes;
   joins = c.self.invariant.joins;
   kept = parted-kept (tables_of c.self.inside) c.self.invariant.kept c.args.id c.args.part.now _ c.in-Some.bytes c.put_at.new.components.items c.in-Some.ensures.joined c.put_at.ensures.items;
-  tallied = parted-tallied (tables_of c.self.inside) c.self.invariant.kept c.self.inside.tallies.running c.self.inside.tallies.live c.self.invariant.tallied c.args.id c.args.part.now _ c.put_at.new.components.items c.put_at.ensures.items (parted-kept (tables_of c.self.inside) c.self.invariant.kept c.args.id c.args.part.now _ c.in-Some.bytes c.put_at.new.components.items c.in-Some.ensures.joined c.put_at.ensures.items);
+  tallied = parted-tallied (tables_of c.self.inside) c.self.inside.tallies c.self.invariant.tallied c.args.id c.args.part.now _ c.put_at.new.components.items c.put_at.ensures.items;
 }
 
 pub returns-clause-answer : goal.returns-clause-answer

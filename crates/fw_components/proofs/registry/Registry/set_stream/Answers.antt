@@ -21,10 +21,10 @@ invariant_of-self c =
       pipes = c.self.invariant.pipes;
       joins = c.self.invariant.joins;
       kept = now;
-      tallied = set-tallied (tables_of c.self.inside) c.self.invariant.kept c.self.inside.tallies.running c.self.inside.tallies.live c.self.invariant.tallied c.args.host c.args.phase c.args.params
+      tallied = set-tallied (tables_of c.self.inside) c.self.inside.tallies c.self.invariant.tallied c.args.host c.args.phase c.args.params
           (sym c.counts.ensures ∙ c.if-not-counts.true)
           (ap (λ (cs : List Component). list_any (λ x. x.id == c.args.host && has_phase is_live_phase x.unit) cs) (sym c.as_slice.ensures.value) ∙ sym c.is_counted-was_counted.ensures ∙ c.if-not-was_counted.true)
-          c.set_stream_in.new.components.items c.set_stream_in.ensures.items now;
+          c.set_stream_in.new.components.items c.set_stream_in.ensures.items;
     }
 
 pub invariant_of-self-2 : goal.invariant_of-self-2
@@ -34,7 +34,7 @@ invariant_of-self-2 c = record {
   pipes = c.self.invariant.pipes;
   joins = c.self.invariant.joins;
   kept = stream-kept (tables_of c.self.inside) c.self.invariant.kept c.args.host c.args.phase c.args.params c.requires.stream c.set_stream_in.new.components.items c.set_stream_in.ensures.items;
-  tallied = lists-tallied (record { comps = c.set_stream_in.new.components.items; buffers = c.self.inside.buffers.items; pipes = c.self.inside.pipes.items; joins = c.self.inside.joins.items }) c.deref.result.now c.deref-2.result.now c.deref-3.result.now c.recount.new.self.running c.recount.new.self.live c.deref.ensures.value c.deref-2.ensures.value c.deref-3.ensures.value c.recount.ensures;
+  tallied = lists-tallied (record { comps = c.set_stream_in.new.components.items; buffers = c.self.inside.buffers.items; pipes = c.self.inside.pipes.items; joins = c.self.inside.joins.items }) c.deref.result.now c.deref-2.result.now c.deref-3.result.now c.recount.new.self c.deref.ensures.value c.deref-2.ensures.value c.deref-3.ensures.value c.recount.ensures;
 }
 
 pub recount-requires : goal.recount-requires

@@ -31,7 +31,7 @@ invariant_of-self c = record {
   pipes = c.self.invariant.pipes;
   joins = c.self.invariant.joins;
   kept = valued-kept (tables_of c.self.inside) c.self.invariant.kept c.args.id c.args.values.now c.value_in.new.components.items c.value_in.ensures.items;
-  tallied = valued-tallied (tables_of c.self.inside) c.self.invariant.kept c.self.inside.tallies.running c.self.inside.tallies.live c.self.invariant.tallied c.args.id c.args.values.now c.value_in.new.components.items c.value_in.ensures.items (valued-kept (tables_of c.self.inside) c.self.invariant.kept c.args.id c.args.values.now c.value_in.new.components.items c.value_in.ensures.items);
+  tallied = valued-tallied (tables_of c.self.inside) c.self.inside.tallies c.self.invariant.tallied c.args.id c.args.values.now c.value_in.new.components.items c.value_in.ensures.items;
 }
 
 pub returns-clause-answer : goal.returns-clause-answer

@@ -16,5 +16,5 @@ invariant_of-self c = record {
   pipes = c.self.invariant.pipes;
   joins = c.self.invariant.joins;
   kept = buffer-taken (tables_of c.self.inside) c.self.invariant.kept c.args.buffer _ c.shorten_in.new.components.items c.shorten_in.ensures.items;
-  tallied = taken-tallied (tables_of c.self.inside) c.self.invariant.kept c.self.inside.tallies.running c.self.inside.tallies.live c.self.invariant.tallied c.args.buffer _ c.shorten_in.new.components.items c.shorten_in.ensures.items;
+  tallied = taken-tallied (tables_of c.self.inside) c.self.inside.tallies c.self.invariant.tallied c.args.buffer _ c.shorten_in.new.components.items c.shorten_in.ensures.items;
 }

@@ -147,8 +147,8 @@ stream-begun channels true c d is ss = ap (λ (x : Component). with_stream_by x.
     by (Buffer size ring source sink) = refl
     by u = refl
 
-pub streams-begun : (channels : ℕ) (test : ℕ → Bool) (cs ds : List Component) → BecomeEach (λ c d. IsBegun channels (test c.id) c d) cs ds → streams_by ds ≡ streams_by cs
+pub streams-begun : (channels : ℕ) (test : Component → Bool) (cs ds : List Component) → BecomeEach (λ c d. IsBegun channels (test c) c d) cs ds → streams_by ds ≡ streams_by cs
 streams-begun channels test [] [] each = refl
 streams-begun channels test [] (d ∷ ds) each = absurd each
 streams-begun channels test (c ∷ cs) [] each = absurd each
-streams-begun channels test (c ∷ cs) (d ∷ ds) each = stream-begun channels (test c.id) c d each.0 (streams_by ds) ∙ ap (with_stream_by c.id c.unit) (streams-begun channels test cs ds each.1)
+streams-begun channels test (c ∷ cs) (d ∷ ds) each = stream-begun channels (test c) c d each.0 (streams_by ds) ∙ ap (with_stream_by c.id c.unit) (streams-begun channels test cs ds each.1)

@@ -29,7 +29,8 @@ use Rattle.fw_places.specs.Walks.{leads_by, is_marked}
 use Rattle.fw_components.specs.Tables.{ids_of}
 use Rattle.fw_places.proofs.Reaching.{both-true}
 use Rattle.fw_components.proofs.HostWays.{find-own}
-use Rattle.fw_walks.proofs.OnWays.{any-map, any-each, any-streams, stream-of}
+use Rattle.fw_places.proofs.Ways.{any-each}
+use Rattle.fw_walks.proofs.OnWays.{any-map, any-streams, stream-of}
 
 abbrev all_lead : List Join → ℕ → ℕ → Bool
 all_lead joins a b = leads joins (length joins) a b

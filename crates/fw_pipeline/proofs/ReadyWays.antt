@@ -1,23 +1,21 @@
 -- The way of a host's stream by what is marked, and whether all on it is ready.
-use Rattle.std.proofs.Common.{◌≡◌, refl, sym, ap, ◌∙◌, ℕ, List, [], ◌∷◌, Bool, true, false, cond, not, map, length, ◌==◌, ◌&&◌, ◌||◌, inl, inr, Option, Some, None, option_map}
+use Rattle.std.proofs.Common.{◌≡◌, refl, sym, ap, ◌∙◌, ℕ, List, [], ◌∷◌, Bool, true, false, not, map, ◌==◌, ◌&&◌, ◌||◌, inl, inr, Option, Some, None}
 use Rattle.std.proofs.lemmas.Bool.{or_left, or_right, eq-eqb, true≢false}
 use Rattle.std.specs.List.{list_all, list_any}
 use Rattle.std.specs.Prelude.{is_some}
-use Rattle.std.specs.Option.{option_map_or}
 use Rattle.sof_base.specs.declared.format.Params.{Params}
 use Rattle.stream_law.specs.declared.graph.Comp.{Comp}
 use Rattle.stream_law.specs.declared.graph.Edge.{Edge}
-use Rattle.stream_law.specs.declared.graph.Graph.{Graph}
-use Rattle.stream_law.specs.Ways.{leads, reaches, on_way, is_capture, comp_of, same_shape}
+use Rattle.stream_law.specs.Ways.{on_way, same_shape}
 use Rattle.stream_law.proofs.Members.{IsIn, in-any}
 use Rattle.stream_law.specs.Order.{is_among}
-use Rattle.mbox_link.specs.Step.{has_kind, kind_at, is_ready_comp, is_ready_edge}
+use Rattle.mbox_link.specs.Step.{is_ready_comp, is_ready_edge}
 use Rattle.fw_units.specs.declared.component.Component.{Component}
 use Rattle.fw_units.specs.Units.{comp_by, edge_by}
 use Rattle.fw_components.specs.Tables.{Tables, graph_of}
 use Rattle.fw_units.specs.Changes.{has_id}
 use Rattle.fw_components.specs.Tables.{ids_of}
-use Rattle.fw_places.specs.Walks.{leads_by, is_marked}
+use Rattle.fw_places.specs.Walks.{is_marked}
 use Rattle.fw_components.proofs.Listed.{listed-is}
 use Rattle.fw_pipeline.specs.Preparing.{shape_by, suits}
 
@@ -28,19 +26,6 @@ all-map p f (x ∷ xs) = ap (λ h. p (f x) && h) (all-map p f xs)
 pub all-each : {X : Type 0} (p q : X → Bool) (xs : List X) → ((x : X) → IsIn x xs → p x ≡ q x) → list_all p xs ≡ list_all q xs
 all-each p q [] same = refl
 all-each p q (x ∷ xs) same = ap (λ (h : Bool × Bool). h.0 && h.1) (λ i. (same x (inl refl) i, all-each p q xs (λ y there. same y (inr there)) i))
-
--- the walks of a host: to it for a capture, and from it for any other
-pub way-flag : (g : Graph) (host x : ℕ) → leads_by (has_kind is_capture (kind_at g host)) g.joins host x ≡ on_way g host x
-unfolding on_way reaches
-way-flag g host x = by (comp_of g host)
-  where
-    side : (h : Bool) → leads_by h g.joins host x ≡ cond h (leads g.joins (length g.joins) x host) (leads g.joins (length g.joins) host x)
-    side true = refl
-    side false = refl
-
-    by : (o : Option Comp) → leads_by (has_kind is_capture (option_map (λ (c : Comp). c.kind) o)) g.joins host x ≡ cond (option_map_or (λ c. is_capture c.kind) o false) (leads g.joins (length g.joins) x host) (leads g.joins (length g.joins) host x)
-    by None = refl
-    by (Some c) = side (is_capture c.kind)
 
 module _ (t : Tables) (ids : List ℕ) (is : ids ≡ ids_of t) (host : ℕ) (marks : List Bool) (on : (x : ℕ) → is_among ids x ≡ true → is_marked ids marks x ≡ on_way (graph_of t) host x) where
   comp-listed : (c : Component) → IsIn c t.comps → is_among ids c.id ≡ true

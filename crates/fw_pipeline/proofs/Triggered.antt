@@ -109,16 +109,16 @@ face-settled v c = by (flows v c.id)
 
 -- ---- all of it
 
-module _ (channels : ℕ) (test : ℕ → Bool) (t u : Tables) (comps : BecomeEach (λ c d. IsBegun channels (test c.id) c d) t.comps u.comps) (buffers : BecomeEach (λ c d. IsBegun channels (test c.id) c d) t.buffers u.buffers) (pipes : u.pipes ≡ t.pipes) (joins : u.joins ≡ t.joins) where
+module _ (channels : ℕ) (test : Component → Bool) (t u : Tables) (comps : BecomeEach (λ c d. IsBegun channels (test c) c d) t.comps u.comps) (buffers : BecomeEach (λ c d. IsBegun channels (test c) c d) t.buffers u.buffers) (pipes : u.pipes ≡ t.pipes) (joins : u.joins ≡ t.joins) where
   abbrev Begins : Component → Component → Type 0
-  Begins c d = IsBegun channels (test c.id) c d
+  Begins c d = IsBegun channels (test c) c d
 
   -- what begins is seen as it was
   pub seen-begun : view_by u ≡ view_by t
   seen-begun = ap (λ (q : (List Comp × List Edge) × (Tables × List StreamView)). let v : View = record { graph = record { comps = q.0.0; edges = q.0.1; pipes = map pipe_by q.1.0.pipes; joins = q.1.0.joins }; streams = q.1.1 } in v) (λ i. (
     (
-      comps-same t.comps u.comps (become-read Begins face t.comps u.comps (λ c d. face-begun channels (test c.id) c d) comps) i,
-      edges-same t.buffers u.buffers (become-read Begins face t.buffers u.buffers (λ c d. face-begun channels (test c.id) c d) buffers) i,
+      comps-same t.comps u.comps (become-read Begins face t.comps u.comps (λ c d. face-begun channels (test c) c d) comps) i,
+      edges-same t.buffers u.buffers (become-read Begins face t.buffers u.buffers (λ c d. face-begun channels (test c) c d) buffers) i,
     ),
     (record { comps = t.comps; buffers = t.buffers; pipes = pipes i; joins = joins i }, streams-begun channels test t.comps u.comps comps i),
   ))
@@ -148,7 +148,7 @@ module _ (what : Trigger) (host : ℕ) (p : Params) (t t1 t2 t3 : Tables) (kept 
   IsFace test c d = IsBegun p.channels (test c.id) c d
 
   seen-begun2 : view_by t2 ≡ view_by t1
-  seen-begun2 = seen-begun p.channels test t1 t2 comps buffers pipes joins
+  seen-begun2 = seen-begun p.channels (λ c. test c.id) t1 t2 comps buffers pipes joins
 
   -- and so is what ends
   pub seen-ended : view_by t3 ≡ view_by t2

@@ -1,10 +1,12 @@
 // The rows of messages that free a component, a buffer or a pipeline.
-ghost use Rattle.std.specs.Prelude.{◌≡◌, ◌==◌, ◌&&◌, ◌||◌, OnErr, OnOk, find, option_map, length};
+ghost use Rattle.std.specs.Prelude.{◌≡◌, ◌==◌, ◌&&◌, ◌||◌, OnErr, OnOk, ℕ, true, find, option_map, length};
 ghost use Rattle.std.specs.List.{list_any, AllByRecursion};
 ghost use Rattle.stream_law.specs.State.{FwState};
-ghost use Rattle.mbox_link.specs.Step.{comp_free, buffer_free, pipe_free, has_complete_pipe as is_of_complete_pipe, is_complete as is_whole, index_of, is_held as is_held_by, is_index_held as is_index_held_by, touches as is_touching};
+ghost use Rattle.mbox_link.specs.Step.{comp_free, buffer_free, pipe_free, has_complete_pipe as is_of_complete_pipe, has_edge as names_edge, is_complete as is_whole, index_of, is_held as is_held_by, is_index_held as is_index_held_by, touches as is_touching};
+ghost use Rattle.stream_law.specs.Order.{is_among};
+ghost use Rattle.fw_places.specs.Walks.{is_marked};
+ghost use Rattle.fw_components.specs.Tables.{view_by, graph_of, streams_of, all_of, ids_of};
 ghost use Rattle.fw_units.specs.Units.{complete_by};
-ghost use Rattle.fw_components.specs.Tables.{view_by, graph_of, streams_of, all_of};
 ghost use Rattle.fw_units.specs.Changes.{IsOfHome};
 ghost use Rattle.fw_components.specs.Changes.{tables_without, given_found, found};
 ghost use Rattle.fw_components.specs.Kept.{IsKept};
@@ -12,7 +14,8 @@ ghost use Rattle.fw_pipeline.specs.Rows.{view_answer, view_after, with_view, row
 
 use fw_components::{Component, Registry, Unit, removals_are_seen};
 use fw_heap::Region;
-use fw_walks::{Sort, find, has_buffer, has_comp, is_on_way, is_used};
+use fw_places::Places;
+use fw_walks::{Sort, find, has_buffer, has_comp, is_used, ways};
 use sof_base::Errno;
 use stream_law::Join;
 
@@ -209,37 +212,50 @@ fn any_at(joins: &[Join], id: u32) -> bool
         .any(|join| join.source == id || join.sink == id)
 }
 
-// Whether an id is on the way of a stream that has parameters.
+// Whether a buffer is on the way of a stream that has parameters.
 fn is_held(registry: &Registry, id: u32) -> bool
+    requires { names_edge (graph_of registry.now) id ≡ true }
     ensures { result ≡ is_held_by (graph_of registry.now) (streams_of registry.now) id }
 {
-    is_on_way(registry, Sort::Set, id)
+    let places = registry.places();
+    let held = ways(registry, &places, Sort::Set);
+    places.has(&held, id)
 }
 
 // Whether something of an index is.
 fn is_index_held(registry: &Registry, index: u32) -> bool
     ensures { result ≡ is_index_held_by (graph_of registry.now) (streams_of registry.now) index }
 {
-    has_held_comp(registry, index) || has_held_buffer(registry, index)
+    let places = registry.places();
+    let held = ways(registry, &places, Sort::Set);
+    has_held_comp(registry, index, &places, &held)
+        || has_held_buffer(registry, index, &places, &held)
 }
 
-// Whether a component of an index is.
-fn has_held_comp(registry: &Registry, index: u32) -> bool
+// Whether a component of an index is marked, as all is that is held.
+fn has_held_comp(registry: &Registry, index: u32, places: &Places, held: &[bool]) -> bool
+    requires ids { places.now.ids ≡ ids_of registry.now }
+    requires size { length held.now ≡ 257 }
+    requires marked { (x : ℕ) → is_among places.now.ids x ≡ true → is_marked places.now.ids held.now x ≡ is_held_by (graph_of registry.now) (streams_of registry.now) x }
     ensures { result ≡ list_any (λ c. c.pipe == index && is_held_by (graph_of registry.now) (streams_of registry.now) c.id) (graph_of registry.now).comps }
 {
-    any_held(registry, registry.comps(), index)
+    any_marked(registry.comps(), index, places, held)
 }
 
 // Whether a buffer of an index is.
-fn has_held_buffer(registry: &Registry, index: u32) -> bool
+fn has_held_buffer(registry: &Registry, index: u32, places: &Places, held: &[bool]) -> bool
+    requires ids { places.now.ids ≡ ids_of registry.now }
+    requires size { length held.now ≡ 257 }
+    requires marked { (x : ℕ) → is_among places.now.ids x ≡ true → is_marked places.now.ids held.now x ≡ is_held_by (graph_of registry.now) (streams_of registry.now) x }
     ensures { result ≡ list_any (λ e. e.pipe == index && is_held_by (graph_of registry.now) (streams_of registry.now) e.buffer) (graph_of registry.now).edges }
 {
-    any_held(registry, registry.buffers(), index)
+    any_marked(registry.buffers(), index, places, held)
 }
 
-// Whether one of these is of an index and held.
-fn any_held(registry: &Registry, components: &[Component], index: u32) -> bool
-    ensures { result ≡ list_any (λ c. c.pipe == index && is_held_by (graph_of registry.now) (streams_of registry.now) c.id) components.now }
+// Whether one of these is of an index and marked.
+fn any_marked(components: &[Component], index: u32, places: &Places, marks: &[bool]) -> bool
+    requires { length marks.now ≡ 257 }
+    ensures { result ≡ list_any (λ c. c.pipe == index && is_marked places.now.ids marks.now c.id) components.now }
 {
-    components.iter().any(|component| component.pipe == index && is_held(registry, component.id))
+    components.iter().any(|component| component.pipe == index && places.has(marks, component.id))
 }

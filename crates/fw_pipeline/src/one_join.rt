@@ -9,7 +9,7 @@ ghost use Rattle.mbox_link.specs.Step.{takes_join};
 ghost use Rattle.fw_units.specs.Units.{kind_by};
 ghost use Rattle.fw_components.specs.Tables.{graph_of, streams_of};
 ghost use Rattle.fw_components.specs.Kept.{IsKept};
-ghost use Rattle.fw_walks.specs.Charts.{IsChartOf};
+ghost use Rattle.fw_places.specs.Charts.{IsChartOf};
 ghost use Rattle.fw_places.specs.Walks.{leads_by, is_marked as is_marked_at};
 ghost use Rattle.fw_pipeline.specs.Rows.{is_growing as would_lead_on};
 
@@ -33,7 +33,7 @@ pub(crate) fn is_refused(registry: &Registry, source: u32, sink: u32) -> bool
 
 // Whether a walk leads from the sink to the source already.
 fn closes(registry: &Registry, places: &Places, source: u32, sink: u32, from_sink: &[bool]) -> bool
-    requires chart { IsChartOf registry.now places.now }
+    requires chart { IsChartOf (graph_of registry.now) places.now }
     requires takes { takes_join (graph_of registry.now) source sink ≡ true }
     requires size { length from_sink.now ≡ 257 }
     requires from_sink { (x : ℕ) → is_among places.now.ids x ≡ true → is_marked_at places.now.ids from_sink.now x ≡ leads_by false places.now.joins sink x }
@@ -53,7 +53,7 @@ fn meets(
     to_source: &[bool],
     from_sink: &[bool],
 ) -> bool
-    requires chart { IsChartOf registry.now places.now }
+    requires chart { IsChartOf (graph_of registry.now) places.now }
     requires takes { takes_join (graph_of registry.now) source sink ≡ true }
     requires sizes { (length to_source.now ≡ 257) × (length from_sink.now ≡ 257) }
     requires to_source { (x : ℕ) → is_among places.now.ids x ≡ true → is_marked_at places.now.ids to_source.now x ≡ leads_by true places.now.joins source x }
@@ -83,7 +83,7 @@ fn grows(
     to_source: &[bool],
     from_sink: &[bool],
 ) -> bool
-    requires chart { IsChartOf registry.now places.now }
+    requires chart { IsChartOf (graph_of registry.now) places.now }
     requires takes { takes_join (graph_of registry.now) source sink ≡ true }
     requires sizes { (length to_source.now ≡ 257) × (length from_sink.now ≡ 257) }
     requires to_source { (x : ℕ) → is_among places.now.ids x ≡ true → is_marked_at places.now.ids to_source.now x ≡ leads_by true places.now.joins source x }

@@ -12,7 +12,7 @@ ghost use Rattle.fw_components.specs.Tables.{view_by, graph_of, streams_of, ring
 ghost use Rattle.fw_units.specs.Changes.{set_at};
 ghost use Rattle.fw_components.specs.Kept.{IsKept};
 ghost use Rattle.fw_components.specs.Tables.{ids_of};
-ghost use Rattle.fw_walks.specs.Charts.{IsChartOf};
+ghost use Rattle.fw_places.specs.Charts.{IsChartOf};
 ghost use Rattle.fw_places.specs.Walks.{is_marked};
 ghost use Rattle.fw_pipeline.specs.Rows.{view_answer, view_after, with_view, told_state};
 ghost use Rattle.fw_components.specs.States.{with_tables};
@@ -99,7 +99,7 @@ fn any_moving(comps: &[Component], host: u32) -> bool
 // Whether all that is on the way of a host's stream is ready.
 #[tactic(auto, unfolding(mbox_link::specs::StreamRows::is_way_ready))]
 fn is_way_ready(registry: &Registry, places: &Places, host: u32) -> bool
-    requires { IsChartOf registry.now places.now }
+    requires { IsChartOf (graph_of registry.now) places.now }
     ensures { result ≡ has_ready_way (graph_of registry.now) host }
 {
     let marks = way(registry, places, host);
@@ -109,7 +109,7 @@ fn is_way_ready(registry: &Registry, places: &Places, host: u32) -> bool
 
 // Whether all components on its way, which is marked, are.
 fn has_ready_comps(registry: &Registry, places: &Places, host: u32, marks: &[bool]) -> bool
-    requires chart { IsChartOf registry.now places.now }
+    requires chart { IsChartOf (graph_of registry.now) places.now }
     requires size { length marks.now ≡ 257 }
     requires marked { (x : ℕ) → is_among places.now.ids x ≡ true → is_marked places.now.ids marks.now x ≡ on_way (graph_of registry.now) host x }
     ensures { result ≡ list_all (λ c. not (on_way (graph_of registry.now) host c.id) || is_ready (graph_of registry.now) c) (graph_of registry.now).comps }
@@ -119,7 +119,7 @@ fn has_ready_comps(registry: &Registry, places: &Places, host: u32, marks: &[boo
 
 // Whether all buffers on its way, which is marked, are.
 fn has_ready_buffers(registry: &Registry, places: &Places, host: u32, marks: &[bool]) -> bool
-    requires chart { IsChartOf registry.now places.now }
+    requires chart { IsChartOf (graph_of registry.now) places.now }
     requires size { length marks.now ≡ 257 }
     requires marked { (x : ℕ) → is_among places.now.ids x ≡ true → is_marked places.now.ids marks.now x ≡ on_way (graph_of registry.now) host x }
     ensures { result ≡ list_all (λ e. not (on_way (graph_of registry.now) host e.buffer) || is_edge_ready (graph_of registry.now) e) (graph_of registry.now).edges }
@@ -176,10 +176,10 @@ fn is_buffer_ready(registry: &Registry, buffer: &Component) -> bool
 
 /// What is on the way of a host's stream.
 pub(crate) fn way(registry: &Registry, places: &Places, host: u32) -> [bool; 257]
-    requires { IsChartOf registry.now places.now }
+    requires { IsChartOf (graph_of registry.now) places.now }
     ensures { (x : ℕ) → is_among places.now.ids x ≡ true → is_marked places.now.ids result x ≡ on_way (graph_of registry.now) host x }
 {
-    places.reached(host, captures_at(registry, host))
+    places.way(host, captures_at(registry, host))
 }
 
 // Whether an id is that of a capture's host.
@@ -194,7 +194,7 @@ fn captures_at(registry: &Registry, id: u32) -> bool
 
 // Whether streams agree once a host's stream has these parameters.
 fn agrees(registry: &Registry, places: &Places, host: u32, p: Params) -> bool
-    requires { IsChartOf registry.now places.now }
+    requires { IsChartOf (graph_of registry.now) places.now }
     ensures { result ≡ agree (record { graph = graph_of registry.now; streams = map (set_stream host phases.Prepared (Some p)) (streams_of registry.now) }) }
 {
     settings_are_seen();
@@ -203,7 +203,7 @@ fn agrees(registry: &Registry, places: &Places, host: u32, p: Params) -> bool
 
 // Whether each two of these suit each other then.
 fn all_suit(registry: &Registry, comps: &[Component], places: &Places, host: u32, p: Params) -> bool
-    requires { IsChartOf registry.now places.now }
+    requires { IsChartOf (graph_of registry.now) places.now }
     ensures { result ≡ list_all (λ c. list_all (λ d. suits registry.now host p c d) comps.now) comps.now }
 {
     comps
@@ -220,7 +220,7 @@ fn suits_all(
     p: Params,
     one: &Component,
 ) -> bool
-    requires { IsChartOf registry.now places.now }
+    requires { IsChartOf (graph_of registry.now) places.now }
     ensures { result ≡ list_all (λ d. suits registry.now host p one.now d) comps.now }
 {
     if shape(one, host, p).is_none() {
@@ -240,7 +240,7 @@ fn suits_one(
     one: &Component,
     other: &Component,
 ) -> bool
-    requires { IsChartOf registry.now places.now }
+    requires { IsChartOf (graph_of registry.now) places.now }
     ensures { result ≡ suits registry.now host p one.now other.now }
 {
     has_shape(shape(one, host, p), shape(other, host, p))
@@ -278,7 +278,7 @@ fn has_shape(one: Option<Params>, other: Option<Params>) -> bool
 
 // Whether the ways of two hosts share something.
 fn touches(registry: &Registry, places: &Places, one: u32, other: u32) -> bool
-    requires { IsChartOf registry.now places.now }
+    requires { IsChartOf (graph_of registry.now) places.now }
     ensures { result ≡ list_any (λ x. on_way (graph_of registry.now) one x && on_way (graph_of registry.now) other x) (ids_of registry.now) }
 {
     let first = way(registry, places, one);

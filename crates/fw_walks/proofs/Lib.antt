@@ -1,5 +1,5 @@
--- Lemmas on what is on ways, and on what ids name.
+-- Lemmas on streams and marks, and on what ids name.
 pub mod OnWays
-pub mod LiveMarks
+pub mod HostMarks
 pub mod Naming
-mod Counted
+pub mod Counted

@@ -1,11 +1,10 @@
 // What ids name in a registry.
-ghost use Rattle.std.specs.Prelude.{◌≡◌, ◌==◌, ◌||◌, filter, find, length, option_copied};
+ghost use Rattle.std.specs.Prelude.{◌≡◌, ◌==◌, filter, find, length, option_copied};
 ghost use Rattle.stream_law.specs.Ways.{source_of, sink_of, ins, outs, is_end};
 ghost use Rattle.mbox_link.specs.Step.{is_used as names, has_comp as names_comp, has_edge as names_edge, has_pipe as names_pipe, kind_at as named_kind};
-ghost use Rattle.fw_units.specs.Units.{source_by, sink_by};
 ghost use Rattle.fw_components.specs.Tables.{graph_of};
+ghost use Rattle.fw_units.specs.Units.{source_by, sink_by};
 ghost use Rattle.fw_units.specs.Changes.{has_id as names_one};
-ghost use Rattle.fw_components.specs.Kept.{IsKept};
 
 use crate::kinds::{kind_of, sink_in, source_in};
 use fw_components::{Component, Registry};
@@ -30,14 +29,6 @@ pub fn has_buffer(registry: &Registry, id: u32) -> bool
     ensures { result ≡ names_edge (graph_of registry.now) id }
 {
     has_id(registry.buffers(), id)
-}
-
-/// Whether it names a component or a buffer.
-pub(crate) fn has_place(registry: &Registry, id: u32) -> bool
-    ensures named { result ≡ (names_one registry.now.comps id || names_one registry.now.buffers id) }
-    ensures kept { IsKept registry.now }
-{
-    has_id(registry.comps(), id) || has_id(registry.buffers(), id)
 }
 
 // Whether it names a pipeline.

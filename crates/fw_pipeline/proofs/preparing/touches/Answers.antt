@@ -3,7 +3,7 @@ use Rattle.std.specs.List.{list_any}
 use Rattle.stream_law.specs.Ways.{on_way}
 use Rattle.fw_components.specs.Tables.{graph_of}
 use Rattle.fw_places.specs.Walks.{is_marked}
-use Rattle.fw_walks.proofs.OnWays.{any-each}
+use Rattle.fw_places.proofs.Ways.{any-each}
 use Rattle.fw_places.proofs.Charts.{member-listed}
 use Rattle.fw_pipeline.proofs.preparing.touches.Goals as goal
 

@@ -7,7 +7,6 @@ use Rattle.stream_law.specs.Ways.{live}
 use Rattle.mbox_link.specs.Step.{has_kind, is_host, kind_at}
 use Rattle.fw_components.specs.Tables.{Tables, graph_of, streams_of}
 use Rattle.fw_pipeline.specs.Triggers.{leaves, phase_after, params_after}
-use Rattle.fw_pipeline.specs.Settling.{begins_by}
 use Rattle.fw_pipeline.proofs.TriggerRows.{stream-there, host-unit}
 use Rattle.fw_pipeline.proofs.Triggered.{seen-begun, ids-set}
 use Rattle.fw_pipeline.proofs.TriggerDoes.{set_tables, trigger-does}
@@ -35,8 +34,7 @@ begin_each-requires-clause-ids c =
 
 pub end_each-requires-clause-live : goal.end_each-requires-clause-live
 end_each-requires-clause-live c = λ x.
-    let test : ℕ → Bool = begins_by c.places-places.result.ids c.live_marks-before.result c.live_marks-after.result in
-    c.live_marks-after.ensures x ∙ ap (λ (v : View). live v x) (sym (seen-begun c.in-Some.p.channels test c.set_stream.new.self c.begin_each.new.registry c.begin_each.ensures.comps c.begin_each.ensures.buffers c.begin_each.ensures.pipes c.begin_each.ensures.joins))
+    c.live_marks-after.ensures x ∙ ap (λ (v : View). live v x) (sym (seen-begun c.in-Some.p.channels _ c.set_stream.new.self c.begin_each.new.registry c.begin_each.ensures.comps c.begin_each.ensures.buffers c.begin_each.ensures.pipes c.begin_each.ensures.joins))
 
 pub returns-clause-done : goal.returns-clause-done
 returns-clause-done c =

@@ -1,9 +1,5 @@
-use Rattle.std.proofs.Common.{◌∙◌, sym}
-use Rattle.fw_walks.proofs.Counted.{active-counted, active-nowhere}
+use Rattle.fw_walks.proofs.Counted.{active-counted}
 use Rattle.fw_walks.proofs.streams.active.Goals as goal
 
-pub returns-then-has_place : goal.returns-then-has_place
-returns-then-has_place c = active-counted c.args.registry.now c.args.id c.counts.result.0 c.counts.ensures.0
-
-pub returns-else-has_place : goal.returns-else-has_place
-returns-else-has_place c = c.if-has_place.false ∙ active-nowhere c.args.registry.now c.args.id c.has_place.ensures.kept (sym c.has_place.ensures.named ∙ c.if-has_place.false)
+pub returns : goal.returns
+returns c = active-counted c.args.registry.now c.args.id c.counts.result.0 c.counts.ensures.0

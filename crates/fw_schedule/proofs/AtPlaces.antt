@@ -1,8 +1,7 @@
 -- What the component at a place is.
-use Rattle.std.proofs.Common.{◌≡◌, refl, sym, ap, ◌∙◌, ℕ, zero, suc, ◌*◌, ◌/◌, ◌<◌, ◌≤◌, List, [], ◌∷◌, map, length, get_or, Bool, true, false, cond, ◌==◌, ◌&&◌, ◌||◌, Option, Some, None, option_map, arith}
-use Rattle.std.proofs.lemmas.Bool.{false≢true, and_parts, leb-true}
-use Rattle.std.specs.Prelude.{find, option_and_then, slice_index, nat_le}
-use Rattle.std.specs.List.{AllByRecursion}
+use Rattle.std.proofs.Common.{◌≡◌, refl, sym, ap, ◌∙◌, ℕ, zero, suc, ◌/◌, ◌<◌, List, [], ◌∷◌, map, length, get_or, Bool, true, false, cond, ◌==◌, ◌||◌, Option, Some, None, option_map, arith}
+use Rattle.std.proofs.lemmas.Bool.{false≢true}
+use Rattle.std.specs.Prelude.{find, slice_index}
 use Rattle.std.specs.Option.{option_map_or}
 use Rattle.sof_base.specs.declared.format.Format.{Format}
 use Rattle.sof_base.specs.declared.format.Format.TheVariants.{S32}
@@ -13,25 +12,22 @@ use Rattle.stream_law.specs.declared.graph.Pipe.{Pipe}
 use Rattle.stream_law.specs.declared.stream.Phase.{Phase}
 use Rattle.stream_law.specs.declared.stream.StreamView.{StreamView}
 use Rattle.stream_law.specs.State.{View}
-use Rattle.stream_law.specs.Ways.{comp_of, pipe_of, components, live_params, is_live_phase, on_way}
+use Rattle.stream_law.specs.Ways.{comp_of, pipe_of, components}
 use Rattle.stream_law.specs.Moves.{is_choosy, chooses, period}
 use Rattle.stream_law.specs.Endpoints.{is_input, format_by, format_of}
 use Rattle.fw_heap.specs.Pieces.{PieceState}
 use Rattle.fw_units.specs.declared.component.Unit as units
-use Rattle.fw_units.specs.declared.component.Unit.TheVariants.{Host, Dai, Pipeline}
+use Rattle.fw_units.specs.declared.component.Unit.TheVariants.{Host, Dai}
 use Rattle.fw_units.specs.declared.component.Component.{Component}
 use Rattle.fw_units.specs.Units.{kind_by, comp_by, pipe_by, period_by, streams_by, with_stream_by}
 use Rattle.fw_components.specs.Tables.{Tables, graph_of, view_by}
 use Rattle.stream_law.proofs.Placing.{Ascends-distinct}
 use Rattle.row_laws.proofs.Found.{found-each}
-use Rattle.row_laws.proofs.Stays.{all-of, find-some}
-use Rattle.fw_components.specs.Changes.{is_idle_phase}
-use Rattle.fw_components.specs.Kept.{IsKept, IsPiping, IsStreamOf, IsStreaming}
+use Rattle.fw_components.specs.Kept.{IsKept}
 use Rattle.fw_places.proofs.Marking.{all-at}
 use Rattle.fw_walks.proofs.Naming.{find-map}
 use Rattle.fw_schedule.specs.Units.{unit_format}
 use Rattle.fw_schedule.specs.Outputs.{is_output_kind}
-use Rattle.fw_schedule.proofs.Running.{run-most}
 
 -- what a kind passes the component does
 pub kind-passes : (passes : Kind → Bool) (o : Option Comp) (k : Kind) → option_map (λ x. x.kind) o ≡ Some k → option_map_or (λ x. passes x.kind) o false ≡ passes k
@@ -80,43 +76,6 @@ format-is t id d found there is = by d.unit refl is ∙ sym (ap (λ (o : Option 
     by (Dai false format piece) own is = refl
     by u own is = absurd (false≢true is)
 
--- ---- periods and rates
-
--- a pipeline's period is at most 10000 µs
-period-low : (u : units.Unit) → IsPiping u → period_by u ≤ 10000
-period-low (Pipeline sched period complete piece) is = is.1.1
-period-low u is = omega arith
-
-found-low : (index : ℕ) (ps : List Component) → AllByRecursion (λ p. IsPiping p.unit) ps → option_map_or (λ p. period_by p.unit) (find (λ p. p.pipe == index) ps) 0 ≤ 10000
-found-low index [] all = omega arith
-found-low index (p ∷ ps) all = by (p.pipe == index) (found-low index ps all.1)
-  where
-    by : (h : Bool) → option_map_or (λ p. period_by p.unit) (find (λ p. p.pipe == index) ps) 0 ≤ 10000 → option_map_or (λ p. period_by p.unit) (cond h (Some p) (find (λ p. p.pipe == index) ps)) 0 ≤ 10000
-    by true rest = period-low p.unit all.0
-    by false rest = rest
-
--- a stream's rate is at most 192000
-with-right : (id : ℕ) (u : units.Unit) (ss : List StreamView) → IsStreaming u → AllByRecursion (λ s. IsStreamOf (is_idle_phase s.phase) s.params) ss → AllByRecursion (λ s. IsStreamOf (is_idle_phase s.phase) s.params) (with_stream_by id u ss)
-with-right id (Host capture phase params piece) ss is all = (is, all)
-with-right id u ss is all = all
-
-streams-right : (cs : List Component) → AllByRecursion (λ c. IsStreaming c.unit) cs → AllByRecursion (λ s. IsStreamOf (is_idle_phase s.phase) s.params) (streams_by cs)
-streams-right [] all = tt
-streams-right (c ∷ cs) all = with-right c.id c.unit (streams_by cs) all.0 (streams-right cs all.1)
-
-rate-low : (idle : Bool) (o : Option Params) → IsStreamOf idle o → option_map_or (λ p. p.rate) o 0 ≤ 192000
-rate-low idle None is = omega arith
-rate-low idle (Some p) is = leb-true p.rate 192000 (and_parts (nat_le 8000 p.rate) (nat_le p.rate 192000) (and_parts (nat_le 8000 p.rate && nat_le p.rate 192000) _ is.2).0).1
-
-pub live-low : (t : Tables) → IsKept t → (x : ℕ) → option_map_or (λ p. p.rate) (live_params (view_by t) x) 0 ≤ 192000
-live-low t kept x = by (find (λ s. is_live_phase s.phase && on_way (graph_of t) s.host x) (streams_by t.comps)) refl
-  where
-    by : (o : Option StreamView) → find (λ s. is_live_phase s.phase && on_way (graph_of t) s.host x) (streams_by t.comps) ≡ o → option_map_or (λ p. p.rate) (option_and_then (λ s. s.params) o) 0 ≤ 192000
-    by None is = omega arith
-    by (Some s) is =
-        let of = find-some (λ s. is_live_phase s.phase && on_way (graph_of t) s.host x) (streams_by t.comps) s is in
-        rate-low (is_idle_phase s.phase) s.params (all-of (λ s. IsStreamOf (is_idle_phase s.phase) s.params) (streams_by t.comps) s (streams-right t.comps kept.streaming) of.1)
-
 -- ---- the component at a place
 
 pub id-at : (cs : List Component) (i : ℕ) (d : Component) → i < length cs → slice_index (map (λ (x : Comp). x.id) (map comp_by cs)) i ≡ (get_or cs i d).id
@@ -155,9 +114,3 @@ module _ (t : Tables) (kept : IsKept t) (at : ℕ) (low : at < length t.comps) (
       by : (o : Option Component) → option_map_or (λ p. period_by p.unit) o 0 ≡ option_map_or (λ p. p.period) (option_map pipe_by o) 0
       by None = refl
       by (Some p) = refl
-
-  -- frames of a run do not pass their bound
-  pub run-low : (rate : ℕ) → rate ≡ option_map_or (λ p. p.rate) (live_params (view_by t) d.id) 0 → option_map_or (λ p. period_by p.unit) (find (λ p. p.pipe == d.pipe) t.pipes) 0 / 1000 * rate ≤ 1920000
-  run-low rate is =
-      let period = found-low d.pipe t.pipes kept.piping in let few = live-low t kept d.id in
-      run-most (option_map_or (λ p. period_by p.unit) (find (λ p. p.pipe == d.pipe) t.pipes) 0 / 1000) rate (omega (arith, period)) (omega (arith, few, is))

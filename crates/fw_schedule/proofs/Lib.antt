@@ -1,9 +1,7 @@
 mod FrameBytes
 mod OneBuffer
 mod Parts
-mod Meeting
 mod DistinctEdges
-mod MetStreams
 mod TurnsSeen
 mod KeptEnds
 pub mod Running

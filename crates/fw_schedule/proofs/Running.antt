@@ -70,7 +70,7 @@ module _ (v : View) (played : AreStreamsPlayable v) where
       let is : option_map_or (λ p. p.rate) (live_params v x) 0 ≡ p.0.rate = ap (λ (o : Option Params). option_map_or (λ p. p.rate) o 0) p.1 in
       omega (arith, is, p.2.rate)
 
-period-most : (g : Graph) (c : ℕ) → AllByRecursion (λ p. is_period_allowed p.period ≡ true) g.pipes → option_map_or (λ x. option_map_or (λ p. p.period) (pipe_of g x.pipe) 0) (comp_of g c) 0 / 1000 ≤ 10
+pub period-most : (g : Graph) (c : ℕ) → AllByRecursion (λ p. is_period_allowed p.period ≡ true) g.pipes → option_map_or (λ x. option_map_or (λ p. p.period) (pipe_of g x.pipe) 0) (comp_of g c) 0 / 1000 ≤ 10
 period-most g c periods = by (comp_of g c)
   where
     pipe : (index : ℕ) (ps : List Pipe) → AllByRecursion (λ p. is_period_allowed p.period ≡ true) ps → option_map_or (λ p. p.period) (find (λ p. p.index == index) ps) 0 ≤ 10000

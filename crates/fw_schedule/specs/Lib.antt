@@ -1,6 +1,5 @@
 -- What a tick over the registry asks and leaves.
 pub mod Units
-pub mod Spots
 pub mod Outputs
 pub mod Ticks
 pub mod Stages

@@ -2,109 +2,77 @@
 ghost use Rattle.std.specs.Prelude.{◌≡◌, ◌≤◌, ◌+◌, ◌++◌, ◌&&◌, ◌||◌, not, find, length, option_copied, slice_get};
 ghost use Rattle.stream_law.specs.Ways.{is_end, live, active, active_end};
 ghost use Rattle.stream_law.specs.Moves.{fed_by, chooses as is_choosing};
-ghost use Rattle.fw_units.specs.Units.{source_by, sink_by};
 ghost use Rattle.fw_components.specs.Tables.{view_by};
-ghost use Rattle.fw_schedule.specs.Spots.{AreSpots};
+ghost use Rattle.fw_units.specs.Units.{source_by, sink_by};
 ghost use Rattle.fw_schedule.specs.Schedules.{inlets_of};
 
-use crate::spots::Spots;
 use arrayvec::ArrayVec;
 use fw_components::{Component, Registry};
-use fw_walks::{sink_in, source_in};
+use fw_walks::{active as is_active, live as is_live, sink_in, source_in};
 
 /// The first buffer that a component feeds.
-pub(crate) fn fed_of(registry: &Registry, spots: &Spots, id: u32) -> Option<u32>
-    requires { AreSpots registry.now spots.now }
+pub(crate) fn fed_of(registry: &Registry, id: u32) -> Option<u32>
     ensures { result ≡ slice_get (fed_by (view_by registry.now) id) 0 }
 {
     let buffers = registry.buffers();
-    match buffer_from(buffers, registry, spots, id) {
+    match buffer_from(buffers, registry, id) {
         Some(buffer) => Some(buffer.id),
         None => None,
     }
 }
 
 // The first of these buffers that comes from a component and is fed.
-fn buffer_from<'a>(
-    buffers: &'a [Component],
-    registry: &Registry,
-    spots: &Spots,
-    id: u32,
-) -> Option<&'a Component>
-    requires { AreSpots registry.now spots.now }
+fn buffer_from<'a>(buffers: &'a [Component], registry: &Registry, id: u32) -> Option<&'a Component>
     ensures { option_copied result ≡ find (λ b. is_end (source_by b.unit) id && (live (view_by registry.now) b.id && active_end (view_by registry.now) (sink_by b.unit))) buffers.now }
 {
-    buffers
-        .iter()
-        .find(|buffer| is_fed(registry, spots, buffer, id))
+    buffers.iter().find(|buffer| is_fed(registry, buffer, id))
 }
 
 // Whether a buffer comes from a component and is fed.
-fn is_fed(registry: &Registry, spots: &Spots, buffer: &Component, id: u32) -> bool
-    requires { AreSpots registry.now spots.now }
+fn is_fed(registry: &Registry, buffer: &Component, id: u32) -> bool
     ensures { result ≡ (is_end (source_by buffer.now.unit) id && (live (view_by registry.now) buffer.now.id && active_end (view_by registry.now) (sink_by buffer.now.unit))) }
 {
     is_at(source_in(&buffer.unit), id)
-        && is_live(registry, spots, buffer.id)
-        && is_active_end(registry, spots, sink_in(&buffer.unit))
+        && is_live(registry, buffer.id)
+        && is_active_end(registry, sink_in(&buffer.unit))
 }
 
 /// The buffers that a component may look at come behind the ids that are there: all into it, or where it chooses those whose source
 /// is Active.
 pub(crate) fn add_inlets(
     registry: &Registry,
-    spots: &Spots,
     id: u32,
     chooses: bool,
     inlets: &mut ArrayVec<u32, 128>,
 )
-    requires spots { AreSpots registry.now spots.now }
     requires chooses { chooses ≡ is_choosing (view_by registry.now) id }
     requires room { length inlets.old.items + length (inlets_of (view_by registry.now) id) ≤ 128 }
     ensures { inlets.new.items ≡ inlets.old.items ++ inlets_of (view_by registry.now) id }
 {
     let buffers = registry.buffers();
     for buffer in buffers {
-        if is_inlet(registry, spots, buffer, id, chooses) {
+        if is_inlet(registry, buffer, id, chooses) {
             inlets.push(buffer.id);
         }
     }
 }
 
 // Whether a component may look at a buffer.
-fn is_inlet(registry: &Registry, spots: &Spots, buffer: &Component, id: u32, chooses: bool) -> bool
-    requires { AreSpots registry.now spots.now }
+fn is_inlet(registry: &Registry, buffer: &Component, id: u32, chooses: bool) -> bool
     ensures { result ≡ (is_end (sink_by buffer.now.unit) id && (not chooses || active_end (view_by registry.now) (source_by buffer.now.unit))) }
 {
     is_at(sink_in(&buffer.unit), id)
-        && (!chooses || is_active_end(registry, spots, source_in(&buffer.unit)))
+        && (!chooses || is_active_end(registry, source_in(&buffer.unit)))
 }
 
 // Whether an end of a buffer is there and Active.
-fn is_active_end(registry: &Registry, spots: &Spots, end: Option<u32>) -> bool
-    requires { AreSpots registry.now spots.now }
+fn is_active_end(registry: &Registry, end: Option<u32>) -> bool
     ensures { result ≡ active_end (view_by registry.now) end }
 {
     match end {
-        Some(id) => is_active(registry, spots, id),
+        Some(id) => is_active(registry, id),
         None => false,
     }
-}
-
-// Whether something is Active.
-fn is_active(_registry: &Registry, spots: &Spots, id: u32) -> bool
-    requires { AreSpots _registry.now spots.now }
-    ensures { result ≡ active (view_by _registry.now) id }
-{
-    spots.at(id).active
-}
-
-// Whether something is Live.
-fn is_live(_registry: &Registry, spots: &Spots, id: u32) -> bool
-    requires { AreSpots _registry.now spots.now }
-    ensures { result ≡ live (view_by _registry.now) id }
-{
-    spots.at(id).live
 }
 
 /// Whether a side of a buffer is joined to a component.

@@ -6,7 +6,6 @@ mod ends;
 mod ordering;
 mod schedules;
 mod scratch;
-mod spots;
 mod steps;
 mod ticking;
 mod units;

@@ -3,17 +3,15 @@ ghost use Rattle.std.specs.Prelude.{◌≡◌, ◌+◌, ◌<◌, ◌≤◌, ◌+
 ghost use Rattle.std.specs.Option.{option_map_or};
 ghost use Rattle.stream_law.specs.Ways.{components};
 ghost use Rattle.fw_components.specs.Tables.{graph_of, view_by};
-ghost use Rattle.fw_schedule.specs.Spots.{AreSpots};
 ghost use Rattle.fw_schedule.specs.Schedules.{IsScheduleOf, IsStepOf, inlets_of};
 
 use crate::ends::{add_inlets, fed_of};
 use crate::ordering::order;
-use crate::spots::Spots;
 use crate::steps::Step;
 use crate::units::{chooses, format_in, period_in};
 use arrayvec::ArrayVec;
 use fw_components::Registry;
-use fw_walks::kind_of;
+use fw_walks::{active, kind_of};
 use sof_base::Params;
 
 /// A step for each component of a registry, in the order in which they move, and the ids of the buffers that they take frames
@@ -29,7 +27,6 @@ impl Schedule {
     pub fn of(registry: &Registry) -> Schedule
         ensures { IsScheduleOf registry.now result }
     {
-        let spots = Spots::of(registry);
         let order = order(registry);
         let places = order.as_slice();
         // For the proof alone, which takes from it what a registry keeps.
@@ -37,7 +34,7 @@ impl Schedule {
         let mut steps: ArrayVec<Step, 128> = ArrayVec::new();
         let mut inlets: ArrayVec<u32, 128> = ArrayVec::new();
         for i in 0..places.len() {
-            let step = step_at(registry, &spots, usize::from(places[i]), &mut inlets);
+            let step = step_at(registry, usize::from(places[i]), &mut inlets);
             steps.push(step);
         }
         Schedule { steps, inlets }
@@ -45,9 +42,8 @@ impl Schedule {
 }
 
 // The step of the component at a place, whose inlets come behind those that are there.
-fn step_at(registry: &Registry, spots: &Spots, at: usize, inlets: &mut ArrayVec<u32, 128>) -> Step
+fn step_at(registry: &Registry, at: usize, inlets: &mut ArrayVec<u32, 128>) -> Step
     requires there { at < length registry.now.comps }
-    requires spots { AreSpots registry.now spots.now }
     requires room { length inlets.old.items + length (inlets_of (view_by registry.now) (slice_index (components (graph_of registry.now)) at)) ≤ 128 }
     ensures id { result.id ≡ slice_index (components (graph_of registry.now)) at }
     ensures inlets { inlets.new.items ≡ inlets.old.items ++ inlets_of (view_by registry.now) result.id }
@@ -57,18 +53,17 @@ fn step_at(registry: &Registry, spots: &Spots, at: usize, inlets: &mut ArrayVec<
     let comp = &comps[at];
     let kind = kind_of(&comp.unit);
     let first = inlets.len();
-    add_inlets(registry, spots, comp.id, chooses(kind), inlets);
-    let spot = spots.at(comp.id);
-    let period = period_in(registry.pipes(), comp.pipe) / 1000;
+    add_inlets(registry, comp.id, chooses(kind), inlets);
+    let params = registry.live_params(comp.id);
     Step {
         id: comp.id,
         kind,
         format: format_in(&comp.unit),
-        active: spot.active,
-        channels: channels_in(spot.params),
-        period,
-        quota: period * rate_in(spot.params) / 1000,
-        fed: fed_of(registry, spots, comp.id),
+        active: active(registry, comp.id),
+        channels: channels_in(params),
+        period: period_in(registry.pipes(), comp.pipe) / 1000,
+        rate: rate_in(params),
+        fed: fed_of(registry, comp.id),
         first,
         past: inlets.len(),
     }

@@ -1,12 +1,15 @@
 // What each component does at a tick.
 ghost use Rattle.std.specs.Prelude.{◌≡◌, ◌≤◌, ◌%◌, ◌==◌, ◌&&◌, true, length, slice_range};
+ghost use Rattle.stream_law.specs.State.{View};
+ghost use Rattle.stream_law.specs.Ways.{rate_of};
+ghost use Rattle.stream_law.specs.Moves.{period as period_of, quota};
 
 use sof_base::Format;
 use stream_law::Kind;
 
 /// A component that moves: its id and kind, the format of its samples where it is an endpoint, whether it is Active, how many
-/// channels it moves, the period of its pipeline in ticks, the most frames that it moves at a tick, the buffer that it feeds, and
-/// where the ids of its inlets begin and end among those of all.
+/// channels it moves, the period of its pipeline in ticks, its frames a second, the buffer that it feeds, and where the ids of its
+/// inlets begin and end among those of all.
 #[derive(Clone, Copy)]
 pub(crate) struct Step {
     pub(crate) id: u32,
@@ -15,7 +18,7 @@ pub(crate) struct Step {
     pub(crate) active: bool,
     pub(crate) channels: u8,
     pub(crate) period: u32,
-    pub(crate) quota: u32,
+    pub(crate) rate: u32,
     pub(crate) fed: Option<u32>,
     pub(crate) first: usize,
     pub(crate) past: usize,
@@ -29,6 +32,14 @@ impl Step {
     {
         // most periods are one tick, and take no division
         self.active && (self.period == 1 || clock % self.period == 0)
+    }
+
+    /// The most frames that it moves at this clock, by its period and its rate.
+    pub(crate) fn quota(&self, _clock: u32) -> u32
+        requires { (self.now.period ≤ 10) × (self.now.rate ≤ 192000) }
+        ensures { (v : View) → self.now.period ≡ period_of v self.now.id → self.now.rate ≡ rate_of v self.now.id → result ≡ quota v _clock self.now.id }
+    {
+        self.period * self.rate / 1000
     }
 
     /// Its inlets, of those of all.
@@ -50,7 +61,7 @@ impl Default for Step {
             active: false,
             channels: 0,
             period: 0,
-            quota: 0,
+            rate: 0,
             fed: None,
             first: 0,
             past: 0,

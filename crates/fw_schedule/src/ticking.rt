@@ -93,119 +93,124 @@ fn move_by(
     ensures moved { Moves clock step.now.id registry.old io.old out.old registry.new io.new out.new }
 {
     if step.runs(clock) {
-        carry(registry, io, out, scratch, step, inlets);
+        let most = step.quota(clock);
+        carry(registry, io, out, scratch, step, most, inlets);
     }
 }
 
-// A component of a kind moves its frames.
+// A component of a kind moves its frames, at most so many as its quota.
 fn carry(
     registry: &mut Registry,
     io: &mut Inputs,
     out: &mut Outputs,
     scratch: &mut Scratch,
     step: &Step,
+    most: u32,
     inlets: &[u32],
 )
     requires can { CanTick registry.old }
     requires step { IsStepOf (view_by registry.old) inlets.now step.now }
     requires active { active (view_by registry.old) step.now.id ≡ true }
+    requires few { most ≤ 1920 }
     requires room { 61440 ≤ room_at step.now.id out.old }
     ensures bare { bare_of registry.new ≡ bare_of registry.old }
     ensures grew { Grew (step.now.id ∷ []) out.old out.new }
-    ensures moved { (clock : ℕ) → runs (view_by registry.old) clock step.now.id ≡ true → Moves clock step.now.id registry.old io.old out.old registry.new io.new out.new }
+    ensures moved { (clock : ℕ) → runs (view_by registry.old) clock step.now.id ≡ true → most ≡ quota (view_by registry.old) clock step.now.id → Moves clock step.now.id registry.old io.old out.old registry.new io.new out.new }
 {
     if reads(step.kind) {
-        feed(registry, io, scratch, step);
+        feed(registry, io, scratch, step, most);
     } else if writes(step.kind) {
-        drain(registry, out, step, inlets);
+        drain(registry, out, step, most, inlets);
     } else {
-        process(registry, step, inlets);
+        process(registry, step, most, inlets);
     }
 }
 
 // A source moves frames into the buffer that it feeds.
-fn feed(registry: &mut Registry, io: &mut Inputs, scratch: &mut Scratch, step: &Step)
+fn feed(registry: &mut Registry, io: &mut Inputs, scratch: &mut Scratch, step: &Step, most: u32)
     requires can { CanTick registry.old }
     requires step { (ids : List ℕ) × IsStepOf (view_by registry.old) ids step.now }
     requires active { active (view_by registry.old) step.now.id ≡ true }
     requires kind { is_input step.now.kind ≡ true }
     ensures bare { bare_of registry.new ≡ bare_of registry.old }
-    ensures moved { (clock : ℕ) (outputs : List OutputView) → runs (view_by registry.old) clock step.now.id ≡ true → Moves clock step.now.id registry.old io.old outputs registry.new io.new outputs }
+    ensures moved { (clock : ℕ) (outputs : List OutputView) → runs (view_by registry.old) clock step.now.id ≡ true → most ≡ quota (view_by registry.old) clock step.now.id → Moves clock step.now.id registry.old io.old outputs registry.new io.new outputs }
 {
     // For the proof alone, which takes from it what a registry keeps.
     let _comps = registry.comps();
     if let Some(buffer) = step.fed {
-        feed_into(registry, io, scratch, step, buffer);
+        feed_into(registry, io, scratch, step, most, buffer);
     }
 }
 
-// It moves as many frames as the buffer has room for.
+// It moves as many frames as the buffer has room for, at most so many.
 fn feed_into(
     registry: &mut Registry,
     io: &mut Inputs,
     scratch: &mut Scratch,
     step: &Step,
+    most: u32,
     buffer: u32,
 )
     requires there { has_id registry.old.buffers buffer ≡ true }
     requires channels { (1 ≤ step.now.channels) × (step.now.channels ≤ 8) }
     requires shape { channels_at registry.old buffer ≡ step.now.channels }
-    ensures tables { let n = min step.now.quota (capacity_at registry.old buffer - length (held_frames registry.old buffer)) in
+    ensures tables { let n = min most (capacity_at registry.old buffer - length (held_frames registry.old buffer)) in
         registry.new ≡ pushed buffer (frames_in step.now.format step.now.channels (bytes_given step.now.id (n * (step.now.channels * width step.now.format)) io.old) 0 n) (words_at registry.new buffer) registry.old }
-    ensures inputs { let n = min step.now.quota (capacity_at registry.old buffer - length (held_frames registry.old buffer)) in
+    ensures inputs { let n = min most (capacity_at registry.old buffer - length (held_frames registry.old buffer)) in
         io.new ≡ input_taken step.now.id (n * (step.now.channels * width step.now.format)) io.old }
 {
-    let n = step.quota.min(registry.free(buffer));
+    let n = most.min(registry.free(buffer));
     feed_frames(registry, io, scratch, step, buffer, n);
 }
 
 // A sink moves frames out of its buffer.
-fn drain(registry: &mut Registry, out: &mut Outputs, step: &Step, inlets: &[u32])
+fn drain(registry: &mut Registry, out: &mut Outputs, step: &Step, most: u32, inlets: &[u32])
     requires can { CanTick registry.old }
     requires step { IsStepOf (view_by registry.old) inlets.now step.now }
     requires active { active (view_by registry.old) step.now.id ≡ true }
     requires kind { is_output_kind step.now.kind ≡ true }
+    requires few { most ≤ 1920 }
     requires room { 61440 ≤ room_at step.now.id out.old }
     ensures bare { bare_of registry.new ≡ bare_of registry.old }
     ensures grew { Grew (step.now.id ∷ []) out.old out.new }
-    ensures moved { (clock : ℕ) (inputs : List InputView) → runs (view_by registry.old) clock step.now.id ≡ true → Moves clock step.now.id registry.old inputs out.old registry.new inputs out.new }
+    ensures moved { (clock : ℕ) (inputs : List InputView) → runs (view_by registry.old) clock step.now.id ≡ true → most ≡ quota (view_by registry.old) clock step.now.id → Moves clock step.now.id registry.old inputs out.old registry.new inputs out.new }
 {
     // For the proof alone, which takes from it what a registry keeps.
     let _comps = registry.comps();
     if let Some(buffer) = step.inlets(inlets).first() {
-        drain_from(registry, out, step, *buffer);
+        drain_from(registry, out, step, most, *buffer);
     }
 }
 
-// It writes as many frames as its buffer holds, and zeros behind them where its kind writes its quota.
-fn drain_from(registry: &mut Registry, out: &mut Outputs, step: &Step, buffer: u32)
+// It writes as many frames as its buffer holds, at most so many, and zeros behind them where its kind writes its quota.
+fn drain_from(registry: &mut Registry, out: &mut Outputs, step: &Step, most: u32, buffer: u32)
     requires there { has_id registry.old.buffers buffer ≡ true }
     requires channels { (1 ≤ step.now.channels) × (step.now.channels ≤ 8) }
     requires shape { channels_at registry.old buffer ≡ step.now.channels }
-    requires most { step.now.quota * (step.now.channels * width step.now.format) ≤ 61440 }
-    requires room { step.now.quota * (step.now.channels * width step.now.format) ≤ room_at step.now.id out.old }
-    ensures tables { registry.new ≡ with_taken buffer (min step.now.quota (length (held_frames registry.old buffer))) registry.old }
-    ensures size { let n = min step.now.quota (length (held_frames registry.old buffer)) in
+    requires most { most * (step.now.channels * width step.now.format) ≤ 61440 }
+    requires room { most * (step.now.channels * width step.now.format) ≤ room_at step.now.id out.old }
+    ensures tables { registry.new ≡ with_taken buffer (min most (length (held_frames registry.old buffer))) registry.old }
+    ensures size { let n = min most (length (held_frames registry.old buffer)) in
         length (frames_out step.now.format (take n (held_frames registry.old buffer))) ≡ n * (step.now.channels * width step.now.format) }
-    ensures outputs { let n = min step.now.quota (length (held_frames registry.old buffer)) in
-        out.new ≡ with_piece step.now.id (frames_out step.now.format (take n (held_frames registry.old buffer)) ++ replicate ((least_by step.now.kind step.now.quota - n) * (step.now.channels * width step.now.format)) 0) out.old }
+    ensures outputs { let n = min most (length (held_frames registry.old buffer)) in
+        out.new ≡ with_piece step.now.id (frames_out step.now.format (take n (held_frames registry.old buffer)) ++ replicate ((least_by step.now.kind most - n) * (step.now.channels * width step.now.format)) 0) out.old }
 {
-    let n = step.quota.min(registry.held(buffer));
+    let n = most.min(registry.held(buffer));
     drain_frames(registry, out, step, buffer, n);
-    let least = least(step.kind, step.quota);
+    let least = least(step.kind, most);
     let frame = usize::from(step.channels) * step.format.width();
     let zeros = least.saturating_sub(n) as usize * frame;
     fill(out, step.id, zeros);
 }
 
 // Any other component moves frames from the buffers that it looks at into the one that it feeds.
-fn process(registry: &mut Registry, step: &Step, inlets: &[u32])
+fn process(registry: &mut Registry, step: &Step, most: u32, inlets: &[u32])
     requires can { CanTick registry.old }
     requires step { IsStepOf (view_by registry.old) inlets.now step.now }
     requires active { active (view_by registry.old) step.now.id ≡ true }
     requires kind { (not (is_input step.now.kind) && not (is_output_kind step.now.kind)) ≡ true }
     ensures bare { bare_of registry.new ≡ bare_of registry.old }
-    ensures moved { (clock : ℕ) (inputs : List InputView) (outputs : List OutputView) → runs (view_by registry.old) clock step.now.id ≡ true → Moves clock step.now.id registry.old inputs outputs registry.new inputs outputs }
+    ensures moved { (clock : ℕ) (inputs : List InputView) (outputs : List OutputView) → runs (view_by registry.old) clock step.now.id ≡ true → most ≡ quota (view_by registry.old) clock step.now.id → Moves clock step.now.id registry.old inputs outputs registry.new inputs outputs }
 {
     // For the proof alone, which takes from it what a registry keeps.
     let _comps = registry.comps();
@@ -215,22 +220,21 @@ fn process(registry: &mut Registry, step: &Step, inlets: &[u32])
     let own = step.inlets(inlets);
     if chooses(step.kind) {
         let looked = holding(registry, own);
-        pass(registry, step.id, step.quota, looked.as_slice(), buffer);
+        pass(registry, step.id, most, looked.as_slice(), buffer);
     } else {
-        pass(registry, step.id, step.quota, own, buffer);
+        pass(registry, step.id, most, own, buffer);
     }
 }
 
-// It moves as many frames as each buffer that it looks at holds, and as the one that it feeds has room for.
+// It moves as many frames as each buffer that it looks at holds, and as the one that it feeds has room for, at most so many.
 fn pass(registry: &mut Registry, id: u32, most: u32, looked: &[u32], buffer: u32)
     requires can { CanTick registry.old }
     requires active { active (view_by registry.old) id ≡ true }
     requires kind { option_map_or (λ x. not (is_input x.kind) && not (is_output_kind x.kind)) (comp_of (graph_of registry.old) id) false ≡ true }
-    requires most { (clock : ℕ) → most ≡ quota (view_by registry.old) clock id }
     requires looked { looked.now ≡ looked_at (view_by registry.old) (λ b. length (held_frames registry.old b)) id }
     requires fed { slice_get (fed_by (view_by registry.old) id) 0 ≡ Some buffer }
     ensures bare { bare_of registry.new ≡ bare_of registry.old }
-    ensures moved { (clock : ℕ) (inputs : List InputView) (outputs : List OutputView) → runs (view_by registry.old) clock id ≡ true → Moves clock id registry.old inputs outputs registry.new inputs outputs }
+    ensures moved { (clock : ℕ) (inputs : List InputView) (outputs : List OutputView) → runs (view_by registry.old) clock id ≡ true → most ≡ quota (view_by registry.old) clock id → Moves clock id registry.old inputs outputs registry.new inputs outputs }
 {
     moves_are_seen();
     moves_are_ticks();

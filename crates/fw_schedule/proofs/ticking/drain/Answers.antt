@@ -17,7 +17,7 @@ use Rattle.row_laws.proofs.Playing.{active-live}
 use Rattle.fw_schedule.specs.Outputs.{is_output_kind, least_by}
 use Rattle.fw_schedule.specs.Stages.{bare_of, IsStage, Grew}
 use Rattle.fw_schedule.proofs.AtPlaces.{kind-passes, same-kind}
-use Rattle.fw_schedule.proofs.Running.{channels-few, quota-few, bytes-most}
+use Rattle.fw_schedule.proofs.Running.{channels-few, bytes-most}
 use Rattle.fw_schedule.proofs.Looking.{plain-inlets}
 use Rattle.fw_schedule.proofs.Still.{bare-taken}
 use Rattle.fw_schedule.proofs.Along.{there-is}
@@ -63,8 +63,7 @@ drain_from-requires-clause-most c =
     let can = c.requires.can in let now = c.requires.active in
     let lives = active-live v can.wired can.linked can.played id now in
     let wide = channels-few v can.played id lives in
-    let q = quota-few v can.wired can.played 0 id lives in
-    bytes-most s.quota s.channels s.format (omega (arith, q, is.quota 0)) (omega (arith, wide.1, is.channels))
+    bytes-most c.args.most s.channels s.format c.requires.few (omega (arith, wide.1, is.channels))
 
 pub drain_from-requires-clause-room : goal.drain_from-requires-clause-room
 drain_from-requires-clause-room c =
@@ -72,14 +71,13 @@ drain_from-requires-clause-room c =
     let can = c.requires.can in let now = c.requires.active in
     let lives = active-live v can.wired can.linked can.played id now in
     let wide = channels-few v can.played id lives in
-    let q = quota-few v can.wired can.played 0 id lives in
-    let most = bytes-most s.quota s.channels s.format (omega (arith, q, is.quota 0)) (omega (arith, wide.1, is.channels)) in
+    let most = bytes-most c.args.most s.channels s.format c.requires.few (omega (arith, wide.1, is.channels)) in
     omega (arith, most, c.requires.room)
 
 pub returns-in-Some-clause-bare : goal.returns-in-Some-clause-bare
 returns-in-Some-clause-bare c =
     let t = c.args.registry.now in let b = c.in-Some.buffer.now in
-    ap bare_of c.drain_from.ensures.tables ∙ bare-taken b (min c.args.step.now.quota (length (held_frames t b))) t
+    ap bare_of c.drain_from.ensures.tables ∙ bare-taken b (min c.args.most (length (held_frames t b))) t
 
 pub returns-in-Some-clause-grew : goal.returns-in-Some-clause-grew
 returns-in-Some-clause-grew c =
@@ -87,20 +85,19 @@ returns-in-Some-clause-grew c =
     let can = c.requires.can in let now = c.requires.active in
     let lives = active-live v can.wired can.linked can.played id now in
     let wide = channels-few v can.played id lives in
-    let q = quota-few v can.wired can.played 0 id lives in
-    let most = bytes-most s.quota s.channels s.format (omega (arith, q, is.quota 0)) (omega (arith, wide.1, is.channels)) in
+    let most = bytes-most c.args.most s.channels s.format c.requires.few (omega (arith, wide.1, is.channels)) in
     let m : ℕ = s.channels * width s.format in
-    let least = least_by s.kind s.quota in
+    let least = least_by s.kind c.args.most in
     let fs = held_frames t c.in-Some.buffer.now in
-    let n : ℕ = min s.quota (length fs) in
+    let n : ℕ = min c.args.most (length fs) in
     let front = frames_out s.format (take n fs) in
     let back : List ℕ = replicate ((least - n) * m) 0 in
-    let all = total-few n least s.quota m (omega arith) (least-few s.kind s.quota) most in
+    let all = total-few n least c.args.most m (omega arith) (least-few s.kind c.args.most) most in
     let long : length (front ++ back) ≤ 61440 = omega (arith, length-append front back, c.drain_from.ensures.size, length-replicate {A = ℕ} ((least - n) * m) 0, all) in
     subst (Grew (id ∷ []) c.args.out.now) (sym c.drain_from.ensures.outputs) (grew-piece id (front ++ back) c.args.out.now long)
 
 pub returns-in-Some-clause-moved : goal.returns-in-Some-clause-moved
-returns-in-Some-clause-moved c = λ clock inputs run began start a ends stage.
+returns-in-Some-clause-moved c = λ clock inputs run most began start a ends stage.
     let t = c.args.registry.now in let v = view_by t in let s = c.args.step.now in let id = s.id in let is = c.requires.step in
     let kept = c.comps-comps.ensures.kept in let can = c.requires.can in let now = c.requires.active in
     let there = there-is (graph_of t) id (λ k. is_output_kind k) (kind-passes (λ k. is_output_kind k) (comp_of (graph_of t) id) s.kind is.kind ∙ c.requires.kind) in
@@ -109,15 +106,15 @@ returns-in-Some-clause-moved c = λ clock inputs run began start a ends stage.
     let at : slice_get (ins (graph_of t) id) 0 ≡ Some b = own ∙ sym c.first.ensures.value ∙ ap (λ (o : Option (Bor ℕ)). option_copied o) c.in-Some.is in
     let out = c.args.out.now in
     let format : s.format ≡ format_of (view_by t) id = is.format (or_right (is_input s.kind) (is_output_kind s.kind) c.requires.kind) in
-    let n : ℕ = min s.quota (length (held_frames t b)) in
+    let n : ℕ = min c.args.most (length (held_frames t b)) in
     let kind = same-kind (comp_of (graph_of t) id) there.comp s.kind there.is is.kind in
-    let least : least_by s.kind s.quota ≡ least_by there.comp.kind (quota (view_by t) clock id) = (λ i. least_by (kind i) (is.quota clock i)) in
+    let least : least_by s.kind c.args.most ≡ least_by there.comp.kind (quota (view_by t) clock id) = (λ i. least_by (kind i) (most i)) in
     subst (λ (p : Tables × List OutputView). IsStage began start p.0 inputs p.1 (after_move (view_by t) (blob_in (view_by t)) clock id a))
     (λ i. (
       sym c.drain_from.ensures.tables i,
       sym (c.drain_from.ensures.outputs ∙ (λ j. with_piece id (frames_out (format j) (take n (held_frames t b)) ++ replicate ((least j - n) * (is.channels j * width (format j))) 0) out)) i,
     ))
-    (drain-moved t kept can id there now began start inputs out a ends stage clock run b at n (ap (λ q. min q (length (held_frames t b))) (is.quota clock)))
+    (drain-moved t kept can id there now began start inputs out a ends stage clock run b at n (ap (λ q. min q (length (held_frames t b))) most))
 
 pub returns-in_default-clause-grew : goal.returns-in_default-clause-grew
 returns-in_default-clause-grew c =

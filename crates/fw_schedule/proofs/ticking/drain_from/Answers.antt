@@ -16,7 +16,7 @@ drain_frames-requires-clause-held c = omega (arith, c.min-n.ensures, c.held.ensu
 pub drain_frames-requires-clause-room : goal.drain_frames-requires-clause-room
 drain_frames-requires-clause-room c =
     let s = c.args.step.now in let m : ℕ = s.channels * width s.format in
-    let most : c.min-n.result * m ≤ s.quota * m = mul-le-mul_right m (omega (arith, c.min-n.ensures)) in
+    let most : c.min-n.result * m ≤ c.args.most * m = mul-le-mul_right m (omega (arith, c.min-n.ensures)) in
     omega (arith, most, c.requires.room)
 
 times-sum : (a b m : ℕ) → (a + b) * m ≡ a * m + b * m
@@ -29,7 +29,7 @@ fill-requires c =
     let z : ℕ = c.least-least.result - n in
     let fs = held_frames c.args.registry.now c.args.buffer in
     let more : c.saturating_sub.result * (c.from.result * c.width.result) ≡ z * m = (λ i. c.saturating_sub.ensures i * (c.from.ensures i * c.width.ensures i)) in
-    let few : n + z ≤ s.quota = omega (arith, c.least-least.ensures, least-few s.kind s.quota, c.min-n.ensures) in
+    let few : n + z ≤ c.args.most = omega (arith, c.least-least.ensures, least-few s.kind c.args.most, c.min-n.ensures) in
     let room : n * m + z * m ≤ room_at id out = omega (arith, times-sum n z m, mul-le-mul_right m few, c.requires.room) in
     subst (λ k. k ≤ room_at id c.drain_frames.new.out) (sym more)
     (subst (λ (o : List OutputView). z * m ≤ room_at id o) (sym c.drain_frames.ensures.outputs) (room-left id (n * m) (z * m) (frames_out format (take n fs)) out c.drain_frames.ensures.size room))
@@ -39,16 +39,16 @@ returns-clause-outputs c =
     let s = c.args.step.now in let id = s.id in let n = c.min-n.result in let out = c.args.out.now in let format = s.format in
     let m : ℕ = s.channels * width format in
     let fs = held_frames c.args.registry.now c.args.buffer in
-    let more : c.saturating_sub.result * (c.from.result * c.width.result) ≡ (least_by s.kind s.quota - n) * m = (λ i. c.saturating_sub.ensures i * (c.from.ensures i * c.width.ensures i)) ∙ ap (λ k. (k - n) * m) c.least-least.ensures in
-    let count : n ≡ min s.quota (length (held_frames c.args.registry.now c.args.buffer)) = omega (arith, c.min-n.ensures, c.held.ensures) in
+    let more : c.saturating_sub.result * (c.from.result * c.width.result) ≡ (least_by s.kind c.args.most - n) * m = (λ i. c.saturating_sub.ensures i * (c.from.ensures i * c.width.ensures i)) ∙ ap (λ k. (k - n) * m) c.least-least.ensures in
+    let count : n ≡ min c.args.most (length (held_frames c.args.registry.now c.args.buffer)) = omega (arith, c.min-n.ensures, c.held.ensures) in
     c.fill.ensures
     ∙ (λ i. with_piece id (replicate (more i) 0) (c.drain_frames.ensures.outputs i))
-    ∙ with_piece-with_piece id (frames_out format (take n fs)) (replicate ((least_by s.kind s.quota - n) * m) 0) out
-    ∙ ap (λ k. with_piece id (frames_out format (take k fs) ++ replicate ((least_by s.kind s.quota - k) * m) 0) out) count
+    ∙ with_piece-with_piece id (frames_out format (take n fs)) (replicate ((least_by s.kind c.args.most - n) * m) 0) out
+    ∙ ap (λ k. with_piece id (frames_out format (take k fs) ++ replicate ((least_by s.kind c.args.most - k) * m) 0) out) count
 
 pub returns-clause-size : goal.returns-clause-size
 returns-clause-size c =
     let t = c.args.registry.now in let s = c.args.step.now in let format = s.format in
     let fs = held_frames t c.args.buffer in
-    let count : c.min-n.result ≡ min s.quota (length (held_frames t c.args.buffer)) = omega (arith, c.min-n.ensures, c.held.ensures) in
+    let count : c.min-n.result ≡ min c.args.most (length (held_frames t c.args.buffer)) = omega (arith, c.min-n.ensures, c.held.ensures) in
     ap (λ k. length (frames_out format (take k fs))) (sym count) ∙ c.drain_frames.ensures.size ∙ ap (λ k. k * (s.channels * width format)) count

@@ -40,25 +40,25 @@ feed_into-requires-clause-shape c =
 pub returns-in-Some-clause-bare : goal.returns-in-Some-clause-bare
 returns-in-Some-clause-bare c =
     let t = c.args.registry.now in let s = c.args.step.now in let b = c.in-Some.buffer in
-    let n : ℕ = min s.quota (capacity_at t b - length (held_frames t b)) in
+    let n : ℕ = min c.args.most (capacity_at t b - length (held_frames t b)) in
     ap bare_of c.feed_into.ensures.tables ∙ bare-pushed b (frames_in s.format s.channels (bytes_given s.id (n * (s.channels * width s.format)) c.args.io.now) 0 n) (words_at c.feed_into.new.registry b) t
 
 pub returns-in-Some-clause-moved : goal.returns-in-Some-clause-moved
-returns-in-Some-clause-moved c = λ clock outputs run began start a ends stage.
+returns-in-Some-clause-moved c = λ clock outputs run most began start a ends stage.
     let t = c.args.registry.now in let s = c.args.step.now in let is = c.requires.step.1 in let id = s.id in let b = c.in-Some.buffer in let io = c.args.io.now in
     let there = there-is (graph_of t) s.id (λ k. is_input k) (kind-passes (λ k. is_input k) (comp_of (graph_of t) s.id) s.kind is.kind ∙ c.requires.kind) in
     let format : s.format ≡ format_of (view_by t) id = is.format (or_left (is_input s.kind) (is_output_kind s.kind) c.requires.kind) in
-    let n : ℕ = min s.quota (capacity_at t b - length (held_frames t b)) in
+    let n : ℕ = min c.args.most (capacity_at t b - length (held_frames t b)) in
     let w = words_at c.feed_into.new.registry b in
     subst (λ (p : Tables × List InputView). IsStage began start p.0 p.1 outputs (after_move (view_by t) (blob_in (view_by t)) clock id a))
     (λ i. (
       sym (c.feed_into.ensures.tables ∙ (λ j. pushed b (frames_in (format j) (is.channels j) (bytes_given id (n * (is.channels j * width (format j))) io) 0 n) w t)) i,
       sym (c.feed_into.ensures.inputs ∙ (λ j. input_taken id (n * (is.channels j * width (format j))) io)) i,
     ))
-    (fed-moved t c.comps-comps.ensures.kept c.requires.can id there c.requires.active began start io outputs a ends stage clock run b w (sym is.fed ∙ c.in-Some.is) n (ap (λ q. min q (capacity_at t b - length (held_frames t b))) (is.quota clock)))
+    (fed-moved t c.comps-comps.ensures.kept c.requires.can id there c.requires.active began start io outputs a ends stage clock run b w (sym is.fed ∙ c.in-Some.is) n (ap (λ q. min q (capacity_at t b - length (held_frames t b))) most))
 
 pub returns-in_default-clause-moved : goal.returns-in_default-clause-moved
-returns-in_default-clause-moved c = λ clock outputs run began start a ends stage.
+returns-in_default-clause-moved c = λ clock outputs run most began start a ends stage.
     let t = c.args.registry.now in let s = c.args.step.now in let is = c.requires.step.1 in
     let there = there-is (graph_of t) s.id (λ k. is_input k) (kind-passes (λ k. is_input k) (comp_of (graph_of t) s.id) s.kind is.kind ∙ c.requires.kind) in
     fed-still t c.comps-comps.ensures.kept c.requires.can s.id there c.requires.active began start c.args.io.now outputs a ends stage clock run (sym is.fed ∙ c.in_default.is)

@@ -6,7 +6,8 @@ use Rattle.fw_components.specs.Tables.{view_by}
 use Rattle.fw_schedule.proofs.Growing.{grew-still}
 use Rattle.fw_schedule.proofs.Moved.{frames-idle, made-idle, writes-idle}
 use Rattle.fw_schedule.proofs.Stages.{still}
-use Rattle.fw_schedule.proofs.Running.{period-some, runs-is, runs-active}
+use Rattle.row_laws.proofs.Playing.{active-live}
+use Rattle.fw_schedule.proofs.Running.{period-some, period-most, rate-few, quota-few, runs-is, runs-active}
 use Rattle.fw_schedule.proofs.ticking.move_by.Goals as goal
 
 pub runs-requires : goal.runs-requires
@@ -14,6 +15,20 @@ runs-requires c = λ on.
     let s = c.args.step.now in let is = c.requires.step in let v = view_by c.args.registry.now in let can = c.requires.can in
     let some = period-some v can.wired can.linked can.played s.id s.kind is.kind (sym is.active ∙ on) in
     omega (arith, some, is.period)
+
+pub quota-most-requires : goal.quota-most-requires
+quota-most-requires c =
+    let s = c.args.step.now in let is = c.requires.step in let v = view_by c.args.registry.now in let can = c.requires.can in
+    let now = runs-active v c.args.clock s.id (sym (runs-is v c.args.clock s.id s.period s.active is.active is.period) ∙ sym c.runs.ensures ∙ c.if-runs.true) in
+    let few = rate-few v can.played s.id (active-live v can.wired can.linked can.played s.id now) in
+    (omega (arith, is.period, period-most v.graph s.id can.wired.periods), omega (arith, is.rate, few))
+
+pub carry-requires-clause-few : goal.carry-requires-clause-few
+carry-requires-clause-few c =
+    let s = c.args.step.now in let is = c.requires.step in let v = view_by c.args.registry.now in let can = c.requires.can in
+    let now = runs-active v c.args.clock s.id (sym (runs-is v c.args.clock s.id s.period s.active is.active is.period) ∙ sym c.runs.ensures ∙ c.if-runs.true) in
+    let few = quota-few v can.wired can.played c.args.clock s.id (active-live v can.wired can.linked can.played s.id now) in
+    omega (arith, c.quota-most.ensures v is.period is.rate, few)
 
 pub carry-requires-clause-active : goal.carry-requires-clause-active
 carry-requires-clause-active c =
@@ -23,7 +38,7 @@ carry-requires-clause-active c =
 pub returns-then-runs-clause-moved : goal.returns-then-runs-clause-moved
 returns-then-runs-clause-moved c =
     let s = c.args.step.now in let is = c.requires.step in let v = view_by c.args.registry.now in
-    c.carry.ensures.moved c.args.clock (sym (runs-is v c.args.clock s.id s.period s.active is.active is.period) ∙ sym c.runs.ensures ∙ c.if-runs.true)
+    c.carry.ensures.moved c.args.clock (sym (runs-is v c.args.clock s.id s.period s.active is.active is.period) ∙ sym c.runs.ensures ∙ c.if-runs.true) (c.quota-most.ensures v is.period is.rate)
 
 pub returns-else-runs-clause-grew : goal.returns-else-runs-clause-grew
 returns-else-runs-clause-grew c = grew-still (c.args.step.now.id ∷ []) c.args.out.now

@@ -1,4 +1,4 @@
-use Rattle.std.proofs.Common.{◌≡◌, refl, sym, ap, ◌∙◌, subst, ℕ, min, map, List, [], ◌∷◌, length, false, ◌==◌, false, arith}
+use Rattle.std.proofs.Common.{◌≡◌, refl, sym, ap, ◌∙◌, subst, ℕ, min, map, List, [], ◌∷◌, length, false, ◌==◌, arith}
 use Rattle.std.proofs.lemmas.Bool.{eqb-true, true≢false}
 use Rattle.std.proofs.lemmas.List.{nil_from_length}
 use Rattle.stream_law.specs.Moves.{looked_at, least, is_empty}
@@ -26,7 +26,7 @@ free-requires c =
     (fed-at t kept can id there now b is).there
 
 pub returns-then-is_empty-clause-moved : goal.returns-then-is_empty-clause-moved
-returns-then-is_empty-clause-moved c = λ clock inputs outputs run began start a ends stage.
+returns-then-is_empty-clause-moved c = λ clock inputs outputs run most began start a ends stage.
     let t = c.args.registry.now in let id = c.args.id in let can = c.requires.can in
     let kept = c.comps-comps.ensures.kept in
     let there = there-is (graph_of t) id is_maker c.requires.kind in
@@ -94,7 +94,7 @@ returns-clause-bare c =
     ap bare_of c.process.ensures.tables ∙ bare-processed id n b looked (made_at t id looked n) (words_at u b) (words_at u id) t
 
 pub returns-clause-moved : goal.returns-clause-moved
-returns-clause-moved c = λ clock inputs outputs run began start a ends stage.
+returns-clause-moved c = λ clock inputs outputs run quota began start a ends stage.
     let t = c.args.registry.now in let id = c.args.id in let can = c.requires.can in
     let kept = c.comps-comps.ensures.kept in
     let there = there-is (graph_of t) id is_maker c.requires.kind in
@@ -108,7 +108,7 @@ returns-clause-moved c = λ clock inputs outputs run began start a ends stage.
     let able = moves t kept can id there now (length looked) (λ plain. ap length are ∙ looked-one t kept can id there now (λ b. length (held_frames t b)) plain) in
     let shape = sym (wide t kept can id there now) in
     let some : is_empty looked ≡ false = not-empty looked (sym c.is_empty.ensures ∙ c.if-is_empty.false) in
-    processed-stage t kept can id there now began start inputs outputs a ends stage clock run b is looked are some n c.free.result most c.free.ensures (c.min-bound.ensures ∙ ap (λ q. min q c.free.result) (c.requires.most clock)) count u
+    processed-stage t kept can id there now began start inputs outputs a ends stage clock run b is looked are some n c.free.result most c.free.ensures (c.min-bound.ensures ∙ ap (λ q. min q c.free.result) quota) count u
     (ap bare_of tables ∙ bare-processed id n b looked fs w o t)
     (ap rings_of tables ∙ c.moves_are_seen.ensures.rings id b n looked fs w o t kept)
     (subst (λ (u : Tables). histories_of u ≡ map (with_numbers id (eq_numbers_at u id)) (histories_of t)) (sym tables) (c.moves_are_seen.ensures.histories id b n looked fs w o t kept))

@@ -11,7 +11,7 @@ use Rattle.fw_schedule.proofs.Processed.{is_maker, inlets-few, inlets-there, unf
 use Rattle.fw_schedule.proofs.ticking.process.Goals as goal
 
 pub returns-in_default-clause-moved : goal.returns-in_default-clause-moved
-returns-in_default-clause-moved c = λ clock inputs outputs run began start a ends stage.
+returns-in_default-clause-moved c = λ clock inputs outputs run most began start a ends stage.
     let t = c.args.registry.now in let s = c.args.step.now in let id = s.id in let is = c.requires.step in
     let kept = c.comps-comps.ensures.kept in let can = c.requires.can in let now = c.requires.active in
     let there = there-is (graph_of t) id is_maker (kind-passes is_maker (comp_of (graph_of t) id) s.kind is.kind ∙ c.requires.kind) in
@@ -38,10 +38,6 @@ pass-requires-clause-kind c =
     let t = c.args.registry.now in let s = c.args.step.now in
     kind-passes is_maker (comp_of (graph_of t) s.id) s.kind c.requires.step.kind ∙ c.requires.kind
 
-pub pass-requires-clause-most : goal.pass-requires-clause-most
-pass-requires-clause-most c =
-    c.requires.step.quota
-
 pub pass-requires-clause-fed : goal.pass-requires-clause-fed
 pass-requires-clause-fed c =
     sym c.requires.step.fed ∙ c.in-Some.is
@@ -50,10 +46,6 @@ pub pass-requires-else-chooses-clause-kind : goal.pass-requires-else-chooses-cla
 pass-requires-else-chooses-clause-kind c =
     let t = c.args.registry.now in let s = c.args.step.now in
     kind-passes is_maker (comp_of (graph_of t) s.id) s.kind c.requires.step.kind ∙ c.requires.kind
-
-pub pass-requires-else-chooses-clause-most : goal.pass-requires-else-chooses-clause-most
-pass-requires-else-chooses-clause-most c =
-    c.requires.step.quota
 
 pub pass-requires-else-chooses-clause-fed : goal.pass-requires-else-chooses-clause-fed
 pass-requires-else-chooses-clause-fed c =

@@ -26,7 +26,7 @@ use Rattle.sof_script.specs.declared.script.Command.{Command}
 use Rattle.sof_session.specs.Commands.{Known, Came}
 use Rattle.sof_session.specs.Fills.{AreNew, AreWhole, FilledBy, bytes_read, next_read, after_read, may_grow}
 use Rattle.sof_session.specs.Lives.{Life, Bare, Seated, Turn, Task, Begin, Fill, Carry, Carries, Turned, Turns, device_of, inputs_of, reads_by, reads_in, with_out, carried_outs}
-use Rattle.sof_session.specs.RunOver.{IsAt, EndsAt, RunOver}
+use Rattle.sof_session.specs.RunOver.{IsAt, EndsAt, TurnedBy, TurnsBy, RunOver}
 use Rattle.sof_session.specs.Seat.{Seat, new_seat}
 use Rattle.sof_session.specs.SessionStep.{Calm}
 use Rattle.sof_session.specs.Written.{Out, Ground, At, Leg, IsLeg, IsRun, first_at, end_of, moments_of, boots_in, raised}
@@ -57,9 +57,9 @@ AreFilled (command ∷ commands) (filling ∷ turn ∷ turns) = Filling filling 
 
 -- Their run: over the bytes that were read a session is where it ends; and by the same doings its legs are the run over all bytes of
 -- which those that were read are a front, and all where an input has ended.
-pub record RunsFilled {P : Type 0} (means : Meaning P) (g : Ground) (commands : List Command) (turns : List Turn) (p : P) (last : Life P) : Type 0 where
+pub record RunsFilled {P : Type 0} (means : Meaning P) (g : Ground) (commands : List Command) (begins : Turn) (turns : List Turn) (p : P) (last : Life P) : Type 0 where
   pub legs : List Leg
-  pub over : RunOver means (record g { whole = bytes_read (reads_in turns) }) commands legs p last
+  pub over : RunOver means (record g { whole = bytes_read (reads_in turns) }) commands legs p (begins ∷ turns) last
   pub outs : map (λ (leg : Leg). leg.out) legs ≡ carried_outs turns
   pub run : (whole : List (ℕ × List ℕ)) → AreWhole (inputs_of last) (bytes_read (reads_in turns)) whole → IsRun (record g { whole = whole }) over.doing commands (first_at g) legs
 
@@ -193,23 +193,26 @@ module _ {P : Type 0} (means : Meaning P) (g : Ground) (sound : IsSound g.plan) 
 
   -- ---- the legs that turns make from a place
 
-  record MakesFilled (commands : List Command) (turns : List Turn) (whole : Whole) (inputs : List InputView) (from : P) (before : List Moment) (at : At) (last : Life P) : Type 0 where
+  -- The turns met all doings that are these from the place on.
+  record MakesFilled (commands : List Command) (turns : List Turn) (whole : Whole) (seat : Seat P) (inputs : List InputView) (slots : List ℕ) (before : List Moment) (at : At) (last : Life P) : Type 0 where
     doing : Doing
-    none : Calm means from (device_of last) → (number : ℕ) → doing number ≡ Pass
+    met : (e : Doing) → ((number : ℕ) → at.known.queue.sent < number → e number ≡ doing number) → TurnsBy means e (Seated seat inputs slots) turns last
+    none : Calm means seat.link.device (device_of last) → (number : ℕ) → doing number ≡ Pass
     legs : List Leg
     run : (all : Whole) → AreWhole (inputs_of last) (with_reads whole (reads_in turns)) all → IsRun (over all) doing commands at legs
     counted : one.AreCounted g commands at legs
     outs : map (λ (leg : Leg). leg.out) legs ≡ carried_outs turns
     ends : EndsAt means (over (with_reads whole (reads_in turns))) last (before ++ moments_of legs) (end_of at legs)
-    boots : means.boots (device_of last) ≡ raised (boots_in (moments_of legs)) (means.boots from)
-    steady : Steady means from (device_of last)
+    boots : means.boots (device_of last) ≡ raised (boots_in (moments_of legs)) (means.boots seat.link.device)
+    steady : Steady means seat.link.device (device_of last)
     front : AreWhole inputs whole (with_reads whole (reads_in turns))
     closes : (slot : ℕ) → may_grow slot inputs ≡ false → may_grow slot (inputs_of last) ≡ false
 
   -- none more
-  makes-none : (whole : Whole) (seat : Seat P) (inputs : List InputView) (slots : List ℕ) (before : List Moment) (at : At) → IsFilledAt whole seat inputs slots before at → MakesFilled [] [] whole inputs seat.link.device before at (Seated seat inputs slots)
+  makes-none : (whole : Whole) (seat : Seat P) (inputs : List InputView) (slots : List ℕ) (before : List Moment) (at : At) → IsFilledAt whole seat inputs slots before at → MakesFilled [] [] whole seat inputs slots before at (Seated seat inputs slots)
   makes-none whole seat inputs slots before at f = record {
     doing = λ number. Pass;
+    met = λ e after. refl;
     none = λ calm number. refl;
     legs = [];
     run = λ all are. refl;
@@ -224,12 +227,13 @@ module _ {P : Type 0} (means : Meaning P) (g : Ground) (sound : IsSound g.plan) 
 
   -- behind a turn that filled the inputs
   makes-filled : (commands : List Command) (turn : Turn) (turns : List Turn) (reads : List (ℕ × List ℕ)) (next : Option ℕ) → turn.task ≡ Fill reads next → (whole : Whole) (inputs inputs' : List InputView) (seat : Seat P) (slots : List ℕ) (before : List Moment) (at : At) (last : Life P) →
-      AfterReads seat slots before at reads whole inputs inputs' → MakesFilled commands turns (with_reads whole reads) inputs' seat.link.device before at last → MakesFilled commands (turn ∷ turns) whole inputs seat.link.device before at last
-  makes-filled commands turn turns reads next is whole inputs inputs' seat slots before at last a m =
+      AfterReads seat slots before at reads whole inputs inputs' → FilledBy reads inputs inputs' → next_read inputs' ≡ next → MakesFilled commands turns (with_reads whole reads) seat inputs' slots before at last → MakesFilled commands (turn ∷ turns) whole seat inputs slots before at last
+  makes-filled commands turn turns reads next is whole inputs inputs' seat slots before at last a by upto m =
       let final = with_reads (with_reads whole reads) (reads_in turns) in
       let all-is : with_reads whole (reads_in (turn ∷ turns)) ≡ final = ap (λ (task : Task). with_reads whole (reads_by task ++ reads_in turns)) is ∙ reads-append whole reads (reads_in turns) in
       record {
         doing = m.doing;
+        met = λ e after. (Seated seat inputs' slots, subst (λ (task : Task). TurnedBy means e task turn.out (Seated seat inputs slots) (Seated seat inputs' slots)) (sym is) (refl, refl, by, upto), m.met e after);
         none = m.none;
         legs = m.legs;
         run = λ all are. m.run all (subst (λ (w : Whole). AreWhole (inputs_of last) w all) all-is are);
@@ -300,7 +304,7 @@ module _ {P : Type 0} (means : Meaning P) (g : Ground) (sound : IsSound g.plan) 
     }
 
     module _ (commands : List Command) (turn : Turn) (turns : List Turn) (last : Life P) (counted : one.IsCounted g command at) (is : turn.task ≡ Carry command) (out_is : turn.out ≡ out)
-        (rest : MakesFilled commands turns whole inputs' seat'.link.device (before ++ come.moments) at' last) where
+        (rest : MakesFilled commands turns whole seat' inputs' slots' (before ++ come.moments) at' last) where
       abbrev joined : Doing
       joined = then_by come.known.queue.sent doing rest.doing
 
@@ -318,9 +322,19 @@ module _ {P : Type 0} (means : Meaning P) (g : Ground) (sound : IsSound g.plan) 
         one.run-same (over all) rest.doing joined commands at' rest.legs rest.counted (λ number later. sym (later-same come.known.queue.sent doing rest.doing number later)) (rest.run all are),
       )
 
-      makes-more : MakesFilled (command ∷ commands) (turn ∷ turns) whole inputs seat.link.device before at last
+      met-more : (e : Doing) → ((number : ℕ) → at.known.queue.sent < number → e number ≡ joined number) → TurnsBy means e (Seated seat inputs slots) (turn ∷ turns) last
+      met-more e after =
+          let up = next-within g.plan g.heap at.known doing command counted in (
+            Seated seat' inputs' slots',
+            subst (λ (o : Out). TurnedBy means e turn.task o (Seated seat inputs slots) (Seated seat' inputs' slots')) (sym out_is)
+                (one.turned-by means (over whole) seat seat' inputs inputs' slots slots' command out before at c same f.is e (λ number low high. after number low ∙ first-same come.known.queue.sent doing rest.doing number high) turn.task is),
+            rest.met e (λ number later. after number (omega (arith, later, up.0)) ∙ later-same come.known.queue.sent doing rest.doing number later),
+          )
+
+      makes-more : MakesFilled (command ∷ commands) (turn ∷ turns) whole seat inputs slots before at last
       makes-more = record {
         doing = joined;
+        met = met-more;
         none = λ calm. one.then-pass come.known.queue.sent doing rest.doing
             (c.stepped.none (Calm-between means seat.link.device seat.link.device seat'.link.device (device_of last) (Steady-none means seat.link.device seat.link.device refl) rest.steady calm))
             (rest.none (Calm-between means seat.link.device seat'.link.device (device_of last) (device_of last) steadily (Steady-none means (device_of last) (device_of last) refl) calm));
@@ -355,13 +369,13 @@ module _ {P : Type 0} (means : Meaning P) (g : Ground) (sound : IsSound g.plan) 
 
   makes : (commands : List Command) (turns : List Turn) (whole : Whole) (seat : Seat P) (inputs : List InputView) (slots : List ℕ) (before : List Moment) (at : At) (last : Life P) →
       AreFilled commands turns → AllByRecursion (HasFew g) commands → at.known.queue.sent + messages commands < 2 ^ 63 → IsFilledAt whole seat inputs slots before at → Turns means (Seated seat inputs slots) turns last →
-      MakesFilled commands turns whole inputs seat.link.device before at last
-  makes [] [] whole seat inputs slots before at last are few counted f turned = subst (MakesFilled [] [] whole inputs seat.link.device before at) (sym turned) (makes-none whole seat inputs slots before at f)
+      MakesFilled commands turns whole seat inputs slots before at last
+  makes [] [] whole seat inputs slots before at last are few counted f turned = subst (MakesFilled [] [] whole seat inputs slots before at) (sym turned) (makes-none whole seat inputs slots before at f)
   makes [] (turn ∷ []) whole seat inputs slots before at last are few counted f turned =
       let s = fill-turn are.1.0 are.0 turn seat inputs slots turned.0 are.1.1 turned.1 in
       let a = all-read seat slots before at are.1.0 whole inputs s.0 s.2 f in
-      subst (MakesFilled [] (turn ∷ []) whole inputs seat.link.device before at) (sym (turned.2 ∙ s.1))
-      (makes-filled [] turn [] are.1.0 are.0 are.1.1 whole inputs s.0 seat slots before at (Seated seat s.0 slots) a (makes-none (with_reads whole are.1.0) seat s.0 slots before at a.later))
+      subst (MakesFilled [] (turn ∷ []) whole seat inputs slots before at) (sym (turned.2 ∙ s.1))
+      (makes-filled [] turn [] are.1.0 are.0 are.1.1 whole inputs s.0 seat slots before at (Seated seat s.0 slots) a s.2 s.3 (makes-none (with_reads whole are.1.0) seat s.0 slots before at a.later))
   makes [] (turn ∷ other ∷ turns) whole seat inputs slots before at last are few counted f turned = absurd are
   makes (command ∷ commands) [] whole seat inputs slots before at last are few counted f turned = absurd are
   makes (command ∷ commands) (turn ∷ []) whole seat inputs slots before at last are few counted f turned = absurd are
@@ -370,8 +384,8 @@ module _ {P : Type 0} (means : Meaning P) (g : Ground) (sound : IsSound g.plan) 
       let a = all-read seat slots before at are.0.0 whole inputs s.0 s.2 f in
       let mid = with_reads whole are.0.0 in
       let onward : Turns means (Seated seat s.0 slots) (turn ∷ turns) last = subst (λ (m : Life P). Turns means m (turn ∷ turns) last) s.1 turned.2 in
-      makes-filled (command ∷ commands) filling (turn ∷ turns) are.0.0 None are.0.1 whole inputs s.0 seat slots before at last a
-      ((elim onward.0 as (λ (m : Life P). Turned means (Carry command) turn.out (Seated seat s.0 slots) m → Turns means m turns last → MakesFilled (command ∷ commands) (turn ∷ turns) mid s.0 seat.link.device before at last) [
+      makes-filled (command ∷ commands) filling (turn ∷ turns) are.0.0 None are.0.1 whole inputs s.0 seat slots before at last a s.2 s.3
+      ((elim onward.0 as (λ (m : Life P). Turned means (Carry command) turn.out (Seated seat s.0 slots) m → Turns means m turns last → MakesFilled (command ∷ commands) (turn ∷ turns) mid seat s.0 slots before at last) [
         | Bare dsp ↦ λ step rest. absurd step
         | Seated seat' inputs' slots' ↦ λ step rest.
             let acts = few.0 at.known.kept f.record_is in
@@ -399,7 +413,7 @@ module _ {P : Type 0} (means : Meaning P) (g : Ground) (sound : IsSound g.plan) 
 pub runs-filled : {P : Type 0} (means : Meaning P) (g : Ground) (inputs : List InputView) (p : P) (commands : List Command) (begins : Turn) (turns : List Turn) (last : Life P) →
     means.on p ≡ None → IsSound g.plan → AreNew inputs → IsDistinct nat_eq (input_slots inputs) →
     begins.task ≡ Begin g.plan g.heap inputs g.slots → AreFilled commands turns → AllByRecursion (HasFew g) commands → messages commands < 2 ^ 63 → Turns means (Bare p) (begins ∷ turns) last →
-    RunsFilled means g commands turns p last
+    RunsFilled means g commands begins turns p last
 runs-filled {P} means g inputs p commands begins turns last off sound new distinct is_begin are few counted turned =
     let seat = new_seat g.plan g.heap p in
     let begun : turned.0 ≡ Seated seat inputs g.slots = subst (λ (task : Task). Turned means task begins.out (Bare p) turned.0) is_begin turned.1 in
@@ -420,10 +434,14 @@ runs-filled {P} means g inputs p commands begins turns last off sound new distin
     } in
     let m = makes means g sound commands turns [] seat inputs g.slots [] (first_at g) last are few (omega (arith, counted)) is (subst (λ (l : Life P). Turns means l turns last) begun turned.2) in
     let same = from-none (reads_in turns) in
+    let by : TurnedBy means m.doing begins.task begins.out (Bare p) turned.0 =
+    subst (λ (task : Task). TurnedBy means m.doing task begins.out (Bare p) turned.0) (sym is_begin) (subst (λ (task : Task). Turned means task begins.out (Bare p) turned.0) is_begin turned.1) in
     record {
       legs = m.legs;
       over = record {
         doing = m.doing;
+        met = (turned.0, by, subst (λ (l : Life P). TurnsBy means m.doing l turns last) (sym begun) (m.met m.doing (λ number after. refl)));
+        outs = m.outs ∙ sym (ap (λ (task : Task). with_out task begins.out (carried_outs turns)) is_begin);
         none = m.none;
         run = m.run (bytes_read (reads_in turns)) (record { front = λ slot. ([], sym (same slot) ∙ sym (append-nil (list_of (with_reads [] (reads_in turns)) slot))); all = λ slot closed. sym (same slot) });
         ends = ends-same means g sound (with_reads [] (reads_in turns)) (bytes_read (reads_in turns)) last (moments_of m.legs) (end_of (first_at g) m.legs) same m.ends;

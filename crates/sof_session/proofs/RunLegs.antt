@@ -23,8 +23,8 @@ use Rattle.sof_session.specs.CommandRanges.{most_sent}
 use Rattle.sof_session.specs.Commands.{Known, Came, next}
 use Rattle.sof_session.specs.Written.{Out, Ground, At, Leg, IsLeg, IsRun, came_at, first_at, end_of, moments_of, boots_in, raised, empty_outputs, written_in, written_between}
 use Rattle.sof_session.specs.SessionStep.{Calm, StandsAt, known_of}
-use Rattle.sof_session.specs.Lives.{Life, Bare, Seated, Turn, Task, Begin, Carry, Carries, Turned, Turns, device_of}
-use Rattle.sof_session.specs.RunOver.{IsAt, EndsAt, RunOver}
+use Rattle.sof_session.specs.Lives.{Life, Bare, Seated, Turn, Task, Begin, Carry, Carries, Turned, Turns, device_of, with_out, carried_outs}
+use Rattle.sof_session.specs.RunOver.{IsAt, EndsAt, TurnedBy, TurnsBy, RunOver}
 use Rattle.sof_session.proofs.LinkFates.{Steady-none}
 use Rattle.sof_session.proofs.RunBoots.{boots-append}
 use Rattle.sof_session.proofs.SameDoings.{then_by, first-same, later-same}
@@ -37,6 +37,14 @@ AreCarried [] [] = Unit {0}
 AreCarried [] (turn ∷ turns) = ⊥
 AreCarried (command ∷ commands) [] = ⊥
 AreCarried (command ∷ commands) (turn ∷ turns) = (turn.task ≡ Carry command) × AreCarried commands turns
+
+-- what they answer is what all turns answer
+carried-all : (commands : List Command) (turns : List Turn) → AreCarried commands turns → carried_outs turns ≡ map (λ (turn : Turn). turn.out) turns
+carried-all [] [] carried = refl
+carried-all [] (turn ∷ turns) carried = absurd carried
+carried-all (command ∷ commands) [] carried = absurd carried
+carried-all (command ∷ commands) (turn ∷ turns) carried =
+    ap (λ (task : Task). with_out task turn.out (carried_outs turns)) carried.0 ∙ ap (λ (outs : List Out). turn.out ∷ outs) (carried-all commands turns carried.1)
 
 -- the most messages that they send
 abbrev pub messages : List Command → ℕ
@@ -93,30 +101,32 @@ slots-empty (slot ∷ slots) = ap (λ xs. slot ∷ xs) (slots-empty slots)
 -- ---- legs from a place on
 
 module _ {P : Type 0} (means : Meaning P) (g : Ground) where
-  -- the legs that turns make from a place, behind these moments
-  pub record Makes (commands : List Command) (turns : List Turn) (from : P) (before : List Moment) (at : At) (last : Life P) : Type 0 where
+  -- the legs that turns make from a place, behind these moments; the turns met all doings that are these from the place on
+  pub record Makes (commands : List Command) (turns : List Turn) (from : Life P) (before : List Moment) (at : At) (last : Life P) : Type 0 where
     pub doing : Doing
-    pub none : Calm means from (device_of last) → (number : ℕ) → doing number ≡ Pass
+    pub met : (e : Doing) → ((number : ℕ) → at.known.queue.sent < number → e number ≡ doing number) → TurnsBy means e from turns last
+    pub none : Calm means (device_of from) (device_of last) → (number : ℕ) → doing number ≡ Pass
     pub legs : List Leg
     pub run : IsRun g doing commands at legs
     pub counted : AreCounted g commands at legs
     pub outs : map (λ (leg : Leg). leg.out) legs ≡ map (λ (turn : Turn). turn.out) turns
     pub ends : EndsAt means g last (before ++ moments_of legs) (end_of at legs)
-    pub boots : means.boots (device_of last) ≡ raised (boots_in (moments_of legs)) (means.boots from)
-    pub steady : Steady means from (device_of last)
+    pub boots : means.boots (device_of last) ≡ raised (boots_in (moments_of legs)) (means.boots (device_of from))
+    pub steady : Steady means (device_of from) (device_of last)
 
   -- none more
-  makes-none : (from : P) (before : List Moment) (at : At) (last : Life P) → device_of last ≡ from → EndsAt means g last before at → Makes [] [] from before at last
+  makes-none : (from : Life P) (before : List Moment) (at : At) (last : Life P) → last ≡ from → EndsAt means g last before at → Makes [] [] from before at last
   makes-none from before at last same ends = record {
     doing = λ number. Pass;
+    met = λ e after. same;
     none = λ calm number. refl;
     legs = [];
     run = refl;
     counted = tt;
     outs = refl;
     ends = subst (λ (ms : List Moment). EndsAt means g last ms at) (sym (append-nil before)) ends;
-    boots = ap means.boots same;
-    steady = Steady-none means from (device_of last) same;
+    boots = ap (λ (l : Life P). means.boots (device_of l)) same;
+    steady = Steady-none means (device_of from) (device_of last) (ap device_of same);
   }
 
   -- one leg, by a session's step
@@ -174,15 +184,33 @@ module _ {P : Type 0} (means : Meaning P) (g : Ground) where
         step-boots means seat.plan seat.heap seat.kept seat'.kept (world seat.link inputs (empty_outputs slots)) (world seat'.link inputs' c.outputs) out.answer command doing c.stepped.calls
         ∙ ap (λ (x : Came). raised (boots_in x.moments) (means.boots seat.link.device)) to
 
+    -- a turn by doings that are those of the step at the numbers of its messages
+    pub turned-by : (e : Doing) → ((number : ℕ) → at.known.queue.sent < number → number ≤ come.known.queue.sent → e number ≡ doing number) → (task : Task) → task ≡ Carry command → TurnedBy means e task out (Seated seat inputs slots) (Seated seat' inputs' slots')
+    turned-by e met task is_task =
+        let first : seat.link.sent ≡ at.known.queue.sent = ap (λ (k : Known). k.queue.sent) is.known_is in
+        let later : seat'.link.sent ≡ come.known.queue.sent = ap (λ (k : Known). k.queue.sent) is-at.known_is in
+        subst (λ (t : Task). TurnedBy means e t out (Seated seat inputs slots) (Seated seat' inputs' slots')) (sym is_task)
+        (same, (c, λ number low high. met number (subst (λ (n : ℕ). n < number) first low) (subst (λ (n : ℕ). number ≤ n) later high)))
+
     -- and those behind it
-    module _ (commands : List Command) (turn : Turn) (turns : List Turn) (last : Life P) (counted : IsCounted g command at) (out_is : turn.out ≡ out)
-        (rest : Makes commands turns seat'.link.device (before ++ come.moments) at' last) where
+    module _ (commands : List Command) (turn : Turn) (turns : List Turn) (last : Life P) (counted : IsCounted g command at) (is_task : turn.task ≡ Carry command) (out_is : turn.out ≡ out)
+        (rest : Makes commands turns (Seated seat' inputs' slots') (before ++ come.moments) at' last) where
       abbrev joined : Doing
       joined = then_by come.known.queue.sent doing rest.doing
 
-      makes-more : Makes (command ∷ commands) (turn ∷ turns) seat.link.device before at last
+      met-more : (e : Doing) → ((number : ℕ) → at.known.queue.sent < number → e number ≡ joined number) → TurnsBy means e (Seated seat inputs slots) (turn ∷ turns) last
+      met-more e after =
+          let up = next-within g.plan g.heap at.known doing command counted in (
+            Seated seat' inputs' slots',
+            subst (λ (o : Out). TurnedBy means e turn.task o (Seated seat inputs slots) (Seated seat' inputs' slots')) (sym out_is)
+                (turned-by e (λ number low high. after number low ∙ first-same come.known.queue.sent doing rest.doing number high) turn.task is_task),
+            rest.met e (λ number later. after number (omega (arith, later, up.0)) ∙ later-same come.known.queue.sent doing rest.doing number later),
+          )
+
+      makes-more : Makes (command ∷ commands) (turn ∷ turns) (Seated seat inputs slots) before at last
       makes-more = record {
         doing = joined;
+        met = met-more;
         none = λ calm. then-pass come.known.queue.sent doing rest.doing
             (c.stepped.none (Calm-between means seat.link.device seat.link.device seat'.link.device (device_of last) (Steady-none means seat.link.device seat.link.device refl) rest.steady calm))
             (rest.none (Calm-between means seat.link.device seat'.link.device (device_of last) (device_of last) steadily (Steady-none means (device_of last) (device_of last) refl) calm));
@@ -203,19 +231,19 @@ module _ {P : Type 0} (means : Meaning P) (g : Ground) where
   -- all of them
   makes : (commands : List Command) (turns : List Turn) (seat : Seat P) (inputs : List InputView) (slots : List ℕ) (before : List Moment) (at : At) (last : Life P) →
       AreCarried commands turns → AllByRecursion (HasFew g) commands → at.known.queue.sent + messages commands < 2 ^ 63 → IsRecordOf g.plan at.known.kept →
-      IsAt means g seat inputs slots before at → Turns means (Seated seat inputs slots) turns last → Makes commands turns seat.link.device before at last
+      IsAt means g seat inputs slots before at → Turns means (Seated seat inputs slots) turns last → Makes commands turns (Seated seat inputs slots) before at last
   makes [] [] seat inputs slots before at last carried few counted record_is is turned =
-      makes-none seat.link.device before at last (ap device_of turned) (subst (λ (l : Life P). EndsAt means g l before at) (sym turned) is)
+      makes-none (Seated seat inputs slots) before at last turned (subst (λ (l : Life P). EndsAt means g l before at) (sym turned) is)
   makes [] (turn ∷ turns) seat inputs slots before at last carried few counted record_is is turned = absurd carried
   makes (command ∷ commands) [] seat inputs slots before at last carried few counted record_is is turned = absurd carried
   makes (command ∷ commands) (turn ∷ turns) seat inputs slots before at last carried few counted record_is is turned =
-      (elim turned.0 as (λ (m : Life P). Turned means (Carry command) turn.out (Seated seat inputs slots) m → Turns means m turns last → Makes (command ∷ commands) (turn ∷ turns) seat.link.device before at last) [
+      (elim turned.0 as (λ (m : Life P). Turned means (Carry command) turn.out (Seated seat inputs slots) m → Turns means m turns last → Makes (command ∷ commands) (turn ∷ turns) (Seated seat inputs slots) before at last) [
         | Bare dsp ↦ λ step rest. absurd step
         | Seated seat' inputs' slots' ↦ λ step rest.
             let acts = few.0 at.known.kept record_is in
             let here : IsCounted g command at = omega (arith, acts, counted) in
             let within = next-within g.plan g.heap at.known step.1.stepped.doing command here in
-            makes-more seat seat' inputs inputs' slots slots' command turn.out before at step.1 step.0 is commands turn turns last here refl
+            makes-more seat seat' inputs inputs' slots slots' command turn.out before at step.1 step.0 is commands turn turns last here carried.0 refl
             (makes commands turns seat' inputs' slots' (before ++ (come seat seat' inputs inputs' slots slots' command turn.out before at step.1 step.0 is).moments)
             (at' seat seat' inputs inputs' slots slots' command turn.out before at step.1 step.0 is) last carried.1 few.1 (omega (arith, acts, counted, within.1))
             (is-record seat seat' inputs inputs' slots slots' command turn.out before at step.1 step.0 is)
@@ -226,7 +254,7 @@ module _ {P : Type 0} (means : Meaning P) (g : Ground) where
 
   pub run-over : (inputs : List InputView) (p : P) (commands : List Command) (begins : Turn) (turns : List Turn) (last : Life P) → means.on p ≡ None → HasRead g.whole inputs start →
       begins.task ≡ Begin g.plan g.heap inputs g.slots → AreCarried commands turns → AllByRecursion (HasFew g) commands → messages commands < 2 ^ 63 → Turns means (Bare p) (begins ∷ turns) last →
-      (legs : List Leg) × RunOver means g commands legs p last × (map (λ (leg : Leg). leg.out) legs ≡ map (λ (turn : Turn). turn.out) turns)
+      (legs : List Leg) × RunOver means g commands legs p (begins ∷ turns) last × (map (λ (leg : Leg). leg.out) legs ≡ map (λ (turn : Turn). turn.out) turns)
   run-over inputs p commands begins turns last off read is_begin carried few counted turned =
       let seat = new_seat g.plan g.heap p in
       let begun : turned.0 ≡ Seated seat inputs g.slots = subst (λ (task : Task). Turned means task begins.out (Bare p) turned.0) is_begin turned.1 in
@@ -240,4 +268,17 @@ module _ {P : Type 0} (means : Meaning P) (g : Ground) where
       } in
       let m = makes commands turns seat inputs g.slots [] (first_at g) last carried few (omega (arith, counted)) (closed-record Unloaded g.plan) is
       (subst (λ (l : Life P). Turns means l turns last) begun turned.2) in
-      (m.legs, record { doing = m.doing; none = m.none; run = m.run; ends = m.ends; boots = m.boots }, m.outs)
+      let by : TurnedBy means m.doing begins.task begins.out (Bare p) turned.0 =
+      subst (λ (task : Task). TurnedBy means m.doing task begins.out (Bare p) turned.0) (sym is_begin) (subst (λ (task : Task). Turned means task begins.out (Bare p) turned.0) is_begin turned.1) in (
+        m.legs,
+        record {
+          doing = m.doing;
+          met = (turned.0, by, subst (λ (l : Life P). TurnsBy means m.doing l turns last) (sym begun) (m.met m.doing (λ number after. refl)));
+          outs = m.outs ∙ sym (ap (λ (task : Task). with_out task begins.out (carried_outs turns)) is_begin ∙ carried-all commands turns carried);
+          none = m.none;
+          run = m.run;
+          ends = m.ends;
+          boots = m.boots;
+        },
+        m.outs,
+      )

@@ -1,5 +1,5 @@
 -- The written run over a device.
-use Rattle.std.specs.Prelude.{◌≡◌, ℕ, List}
+use Rattle.std.specs.Prelude.{◌≡◌, ℕ, ◌<◌, ◌≤◌, List, [], ◌∷◌, map}
 use Rattle.sof_base.specs.Ports.{InputView}
 use Rattle.stream_law.specs.Past.{Moment}
 use Rattle.stream_law.specs.Stands.{Stands}
@@ -8,9 +8,9 @@ use Rattle.mbox_link.specs.Calls.{Meaning}
 use Rattle.mbox_link.specs.Meetings.{Doing}
 use Rattle.sof_script.specs.declared.script.Command.{Command}
 use Rattle.sof_session.specs.Seat.{Seat}
-use Rattle.sof_session.specs.Lives.{Life, Bare, Seated, device_of}
+use Rattle.sof_session.specs.Lives.{Life, Bare, Seated, Task, Begin, Fill, Carry, Turn, Carries, Turned, device_of, carried_outs}
 use Rattle.sof_session.specs.SessionStep.{Calm, known_of}
-use Rattle.sof_session.specs.Written.{Ground, At, Leg, IsRun, first_at, end_of, moments_of, boots_in, raised}
+use Rattle.sof_session.specs.Written.{Out, Ground, At, Leg, IsRun, first_at, end_of, moments_of, boots_in, raised}
 
 -- A session is where a run is: it is over the run's plan, heap and slots, its host and link know what is known there, and its
 -- device and the inputs stand where the moments so far lead.
@@ -25,10 +25,28 @@ abbrev pub EndsAt : {P : Type 0} → Meaning P → Ground → Life P → List Mo
 EndsAt means g (Bare dsp) moments at = ⊥
 EndsAt means g (Seated seat inputs slots) moments at = IsAt means g seat inputs slots moments at
 
--- These legs are the run of these commands, by doings of the device, which are none where its counts did not rise. A session is
--- where the run ends, and its device was booted as often as the moments say.
-pub record RunOver {P : Type 0} (means : Meaning P) (g : Ground) (commands : List Command) (legs : List Leg) (p : P) (last : Life P) : Type 0 where
+-- a turn whose messages met these doings of the device: at their numbers they are those of the session's step
+abbrev pub TurnedBy : {P : Type 0} → Meaning P → Doing → Task → Out → Life P → Life P → Type 0
+TurnedBy means doing (Begin plan heap inputs slots) out old new = Turned means (Begin plan heap inputs slots) out old new
+TurnedBy means doing (Fill reads next) out old new = Turned means (Fill reads next) out old new
+TurnedBy means doing (Carry command) out (Bare dsp) new = ⊥
+TurnedBy means doing (Carry command) out (Seated seat inputs slots) (Bare dsp) = ⊥
+TurnedBy means doing (Carry command) out (Seated seat inputs slots) (Seated seat' inputs' slots') =
+    (slots' ≡ slots)
+    × ((c : Carries means command out seat seat' inputs inputs' slots) × ((number : ℕ) → seat.link.sent < number → number ≤ seat'.link.sent → doing number ≡ c.stepped.doing number))
+
+-- turns, one after another, all by the same doings
+abbrev pub TurnsBy : {P : Type 0} → Meaning P → Doing → Life P → List Turn → Life P → Type 0
+TurnsBy means doing p [] q = q ≡ p
+TurnsBy {P} means doing p (turn ∷ turns) q = (m : Life P) × TurnedBy means doing turn.task turn.out p m × TurnsBy means doing m turns q
+
+-- These legs are the run of these commands, by doings of the device, which are none where its counts did not rise. The turns met these
+-- doings, and answered, showed and wrote what the legs have. A session is where the run ends, and its device was booted as often as
+-- the moments say.
+pub record RunOver {P : Type 0} (means : Meaning P) (g : Ground) (commands : List Command) (legs : List Leg) (p : P) (turns : List Turn) (last : Life P) : Type 0 where
   pub doing : Doing
+  pub met : TurnsBy means doing (Bare p) turns last
+  pub outs : map (λ (leg : Leg). leg.out) legs ≡ carried_outs turns
   pub none : Calm means p (device_of last) → (number : ℕ) → doing number ≡ Pass
   pub run : IsRun g doing commands (first_at g) legs
   pub ends : EndsAt means g last (moments_of legs) (end_of (first_at g) legs)

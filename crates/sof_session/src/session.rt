@@ -87,6 +87,13 @@ impl<P: Dsp> Session<P> {
         self.link.into_dsp()
     }
 
+    /// The plan that it loads.
+    pub fn plan(&self) -> &Plan
+        ensures { result.now ≡ self.now.plan }
+    {
+        &self.plan
+    }
+
     /// Carries out a command: `Load`, `Unload`, `Suspend`, `Resume`, `Show`, `Tick`, a planned fate, which are `Refuse`, `Drop` and
     /// `Lose`, a planned `Lag`, a call on a control, which are `Set`, `Bytes`, `Get` and `Read`, or a call on a stream, which are
     /// `Open`, `Params`, `Start`, `Stop`, `Pause`, `Release` and `Close`.

@@ -89,7 +89,7 @@ module _ {P : Type 0} (means : Meaning P) (seed : ℕ) (small : seed ≤ 1000) (
 
   -- the written run of all commands, whose legs are the turns
   pub stress-over : (begins : Turn) (turns : List Turn) → begins.task ≡ stress_begins (means.most p) seed → map (λ (turn : Turn). turn.task) turns ≡ tasks_of (stress_turns seed) → Turns means (Bare p) (begins ∷ turns) last →
-      (legs : List Leg) × RunOver means g (commands_of (stress_turns seed)) legs p last × (map (λ (leg : Leg). leg.out) legs ≡ map (λ (turn : Turn). turn.out) turns)
+      (legs : List Leg) × RunOver means g (commands_of (stress_turns seed)) legs p (begins ∷ turns) last × (map (λ (leg : Leg). leg.out) legs ≡ map (λ (turn : Turn). turn.out) turns)
   stress-over begins turns begun tasks turned =
       run-over means g (stress_inputs (stream_count seed)) p (commands_of (stress_turns seed)) begins turns last off
       (none-read seed (means.most p)) begun (are-carried (stress_turns seed) turns tasks)

@@ -17,9 +17,11 @@ use Rattle.sof_run.specs.declared.prepare.Halt.TheVariants as halts
 use Rattle.sof_run.specs.Todo.{End, Says, DoneBy, RanOn}
 use Rattle.sof_run.specs.Lines.{no_memory_line, with_newline, halt_line, halt_status}
 use Rattle.sof_run.specs.Play.{lines_todo}
-use Rattle.sof_run.specs.Checking.{check_of, counts_of, checked_rules, checked_file, checked, checked_todo, check}
+use Rattle.sof_run.specs.Checking.{check_of, counts_of, checked_rules, checked_file, checked}
+use Rattle.sof_run.specs.CheckTodo.{checked_todo, check}
 use Rattle.sof_run.specs.Forms.{todo_for, todo_of}
 use Rattle.sof_run.specs.TopologyBytes.{AreBytes, IsFile, IsBroken}
+use Rattle.sof_run.specs.Calls.{heard_in}
 use Rattle.sof_run.specs.Checks.{IsWrong, IsRight, saying, CheckVerdict, Spoke, IsFront, WroteText, Checks}
 use Rattle.sof_run.proofs.Requests.{check_asked}
 use Rattle.sof_run.proofs.Steps.{no_turns}
@@ -133,6 +135,21 @@ module _ (name bytes : List ℕ) where
     judge turns (Load n l (Err OutOfMemory) ∷ calls) status d e told are goes led = wanting turns calls (Load n l (Err OutOfMemory) ∷ calls) status goes.2
     judge turns (Load n l (Err Failed) ∷ calls) status d e told are goes led = inl (inl goes.2.2)
 
+    -- the load brought it
+    heard_judge : (turns : List Turn) (calls : List DeskCall) (status : ℕ) (d e : D) → heard_in calls ≡ Ok bytes ∷ [] → AreBytes bytes → DoneBy (check name) turns calls status → DeskLed means d calls e → CheckVerdict name bytes calls status
+    heard_judge turns [] status d e heard are goes led = absurd goes
+    heard_judge turns (Did act done ∷ calls) status d e heard are goes led = absurd goes
+    heard_judge turns (Read n size got ∷ calls) status d e heard are goes led = absurd goes
+    heard_judge turns (Load n l (Ok got) ∷ calls) status d e heard are goes led =
+        let loaded : Loaded means n l (Ok got) d led.0 = led.1 in
+        let same : got ≡ bytes = cc heard in
+        let short : length bytes ≤ 1048576 = subst (λ k. length bytes ≤ k) goes.1 (subst (λ xs. length xs ≤ l) same loaded.answers.0) in
+        free are short (Load n l (Ok got)) (λ i. Load (goes.0 i) (goes.1 i) (Ok (same i))) turns calls status
+        (subst (λ xs. DoneBy (checked_todo (checked xs)) turns calls status ⊎ Says no_memory_line 7 turns calls status) same goes.2)
+    heard_judge turns (Load n l (Err TooLong) ∷ calls) status d e heard are goes led = absurd (cc heard)
+    heard_judge turns (Load n l (Err OutOfMemory) ∷ calls) status d e heard are goes led = absurd (cc heard)
+    heard_judge turns (Load n l (Err Failed) ∷ calls) status d e heard are goes led = absurd (cc heard)
+
 -- ---- what was written
 
 module _ {D : Type 0} (means : DeskMeaning D) where
@@ -235,5 +252,6 @@ module _ {D P : Type 0} (means : DeskMeaning D) (dsp : Meaning P) (words : List 
       record {
         alone = untouched;
         judged = λ name bytes is told are. judge name bytes means ran.turns ran.played.calls status old new told are (goes_on name is) ran.played.led;
+        heard = λ name bytes is heard are. heard_judge name bytes means ran.turns ran.played.calls status old new heard are (goes_on name is) ran.played.led;
         counted = λ name bytes t is told short right. check_told means name bytes t short (is_kept bytes t right) ran.turns ran.played.calls old new status told (goes_on name is) ran.played.led;
       }

@@ -9,7 +9,8 @@ use Rattle.tplg_compile.specs.Results.{FaultIs}
 use Rattle.tplg_compile.specs.InOrder.{compiled_of}
 use Rattle.sof_run.specs.Todo.{Todo, End, Stop, Ask, Do, Free, Played, DeskPhase}
 use Rattle.sof_run.specs.Play.{lines_todo}
-use Rattle.sof_run.specs.Compiling.{CompileNames, source_line, source_status, wrote_line, file_todo, compiled_todo, compile}
+use Rattle.sof_run.specs.Compiling.{CompileNames, source_line, source_status, wrote_line}
+use Rattle.sof_run.specs.CompileTodo.{file_todo, compiled_todo, compile}
 use Rattle.sof_run.proofs.Statuses.{ends}
 use Rattle.sof_run.proofs.Steps.{do_on, do_off, ask_on, free_on, free_off}
 

@@ -15,11 +15,14 @@ use Rattle.tplg_compile.proofs.CompileLaws.{compiled_take, compiled_again, text_
 use Rattle.sof_run.specs.Todo.{Todo, End, Do, Says, DoneBy, RanOn}
 use Rattle.sof_run.specs.Lines.{no_memory_line, with_newline}
 use Rattle.sof_run.specs.Play.{lines_todo}
-use Rattle.sof_run.specs.Compiling.{CompileNames, compile_of, source_line, source_status, wrote_line, file_todo, compiled_todo, compile}
+use Rattle.sof_run.specs.Compiling.{CompileNames, compile_of, source_line, source_status, wrote_line}
+use Rattle.sof_run.specs.CompileTodo.{file_todo, compiled_todo, compile}
 use Rattle.sof_run.specs.Requests.{Request, Compile, request_of}
 use Rattle.sof_run.specs.Forms.{todo_for, todo_of}
+use Rattle.sof_run.specs.Calls.{heard_in}
 use Rattle.sof_run.specs.Checks.{saying, Spoke, IsFront}
-use Rattle.sof_run.specs.Compiles.{making, CompileVerdict, compiled_at, MadeFile, WroteFile, MakesTopology, Compiles}
+use Rattle.sof_run.specs.Compiles.{making, CompileVerdict, compiled_at, MadeFile, WroteFile, Compiles}
+use Rattle.sof_run.specs.CompileTodo.{MakesTopology}
 use Rattle.sof_run.proofs.Requests.{compile_asked}
 use Rattle.sof_run.proofs.Steps.{no_turns}
 use Rattle.sof_run.proofs.SaidLines.{said, none_more, nothing, behind, line_parted}
@@ -137,6 +140,21 @@ module _ (names : CompileNames) (text : List ℕ) where
         long turns calls (Load n l (Err TooLong)) status (λ i. Load (goes.0 i) (goes.1 i) (Err TooLong)) (subst (λ k. k < length text) goes.1 (loaded.answers text (ap (means.holds d) goes.0 ∙ told))) goes.2
     judge turns (Load n l (Err OutOfMemory) ∷ calls) status d e told goes led = wanting turns calls (Load n l (Err OutOfMemory) ∷ calls) status goes.2
     judge turns (Load n l (Err Failed) ∷ calls) status d e told goes led = inl (inl goes.2.2)
+
+    -- the load brought it
+    heard_judge : (turns : List Turn) (calls : List DeskCall) (status : ℕ) (d e : D) → heard_in calls ≡ Ok text ∷ [] → DoneBy (compile names) turns calls status → DeskLed means d calls e → CompileVerdict names text calls status
+    heard_judge turns [] status d e heard goes led = absurd goes
+    heard_judge turns (Did act done ∷ calls) status d e heard goes led = absurd goes
+    heard_judge turns (Read n size got ∷ calls) status d e heard goes led = absurd goes
+    heard_judge turns (Load n l (Ok got) ∷ calls) status d e heard goes led =
+        let loaded : Loaded means n l (Ok got) d led.0 = led.1 in
+        let same : got ≡ text = cc heard in
+        let short : length text ≤ 1048576 = subst (λ k. length text ≤ k) goes.1 (subst (λ xs. length xs ≤ l) same loaded.answers.0) in
+        free short (Load n l (Ok got)) (λ i. Load (goes.0 i) (goes.1 i) (Ok (same i))) turns calls status
+        (subst (λ xs. DoneBy (compiled_todo names.out (compiled_of xs)) turns calls status ⊎ Says no_memory_line 7 turns calls status) same goes.2)
+    heard_judge turns (Load n l (Err TooLong) ∷ calls) status d e heard goes led = absurd (cc heard)
+    heard_judge turns (Load n l (Err OutOfMemory) ∷ calls) status d e heard goes led = absurd (cc heard)
+    heard_judge turns (Load n l (Err Failed) ∷ calls) status d e heard goes led = absurd (cc heard)
 
 -- ---- what was written
 
@@ -291,6 +309,7 @@ module _ {D P : Type 0} (means : DeskMeaning D) (dsp : Meaning P) (words : List 
       record {
         alone = untouched;
         judged = λ names text source. judge names text means ran.turns ran.played.calls status old new source.told (goes_on names source.named) ran.played.led;
+        heard = λ names text is heard. heard_judge names text means ran.turns ran.played.calls status old new heard (goes_on names is) ran.played.led;
         wrote = λ names text t source short is. compile_wrote means names text t short (compiled_again text t is) ran.turns ran.played.calls old new status source.told (goes_on names source.named) ran.played.led;
         reads_back = λ names text t source is done. (makes names text t source (compiled_again text t is) done, IsFileOf-spelling t);
       }

@@ -1,8 +1,5 @@
 -- What is to do, as one list: what was done is that list, or its front.
 use Rattle.std.proofs.Common.{◌≡◌, inl, inr, ℕ, Bool, true, false, List, [], ◌∷◌, ◌++◌, map, Option, Some, None, MatchOption, Result, Ok, Err, refl, sym, ◌∙◌, ap, subst, if◌then◌else◌, codes}
-use Rattle.sof_base.specs.Ports.{InputView, OutputView}
-use Rattle.sof_io.specs.Puts.{with_slot}
-use Rattle.sof_io.specs.Fills.{with_input}
 use Rattle.sof_desk.specs.declared.calls.LoadFault.TheVariants.{Failed, TooLong, OutOfMemory}
 use Rattle.sof_desk.specs.Desk.{Create, Open, Heard, DeskCall, Load, Did, Read}
 use Rattle.tplg_model.specs.declared.block.Topology.{Topology}
@@ -14,21 +11,24 @@ use Rattle.sof_session.specs.Written.{Out}
 use Rattle.sof_session.specs.Lives.{Task, Begin, Carry, Fill, Turn}
 use Rattle.sof_run.specs.declared.prepare.Halt.{Halt}
 use Rattle.sof_run.specs.Words.{Form}
-use Rattle.sof_run.specs.Todo.{Todo, End, Stop, Ask, Do, Step, Refill, Free, Says, Over, reading, DoneBy}
-use Rattle.sof_run.specs.Bindings.{bound_slot, bound_inputs, bound_outputs, bound_slots}
+use Rattle.sof_run.specs.Todo.{Todo, End, Stop, Ask, Do, Step, Refill, Free, Says, Over, DoneBy}
+use Rattle.sof_run.specs.Calls.{reading}
+use Rattle.sof_run.specs.Bindings.{binding_act, bound_inputs, bound_slots}
 use Rattle.sof_run.specs.Rounds.{Round, rounds_of}
 use Rattle.sof_run.specs.Lines.{no_memory_line, with_newline, lines_after}
 use Rattle.sof_run.specs.Prepared.{Prepared, Ready, Halted, prepared}
-use Rattle.sof_run.specs.Play.{WithPorts, prepared_todo, lines_todo, rounds_todo, session_todo, bindings_todo, binding_todo, play}
+use Rattle.sof_run.specs.Play.{prepared_todo, lines_todo, rounds_todo, session_todo, bindings_todo, play}
 use Rattle.sof_run.specs.Pieces.{Piece, pieces_of}
-use Rattle.sof_run.specs.Checking.{checked, checked_todo, counts_of}
-use Rattle.sof_run.specs.Compiling.{compiled_todo}
+use Rattle.sof_run.specs.Checking.{checked, counts_of}
+use Rattle.sof_run.specs.CheckTodo.{checked_todo}
+use Rattle.sof_run.specs.CompileTodo.{compiled_todo}
 use Rattle.sof_stress.specs.declared.counts.Counts.{Counts}
 use Rattle.sof_stress.specs.Draws.{stream_count}
 use Rattle.sof_stress.specs.StressPorts.{dai_slot}
 use Rattle.sof_stress.specs.CommandTurns.{CommandTurn, turn_counted, no_counts}
 use Rattle.sof_stress.specs.StressRun.{stress_begins, stress_turns}
-use Rattle.sof_run.specs.Stressing.{stress_lines, counted_todo, told_todo, stress}
+use Rattle.sof_run.specs.Stressing.{stress_lines}
+use Rattle.sof_run.specs.StressTodo.{counted_todo, told_todo, stress}
 use Rattle.sof_run.specs.Requests.{Request, Play, Check, Compile, Stress, request_of}
 use Rattle.sof_run.specs.Forms.{todo_for, todo_of}
 use Rattle.sof_run.specs.Calls.{Item, Calls, Turns, Memory, Course, before_course, saying, last_line, load_course, turning, filling_by, filling, putting, units, bindings, files, playing, counting, making, counting_turns, telling, stressing, heard_in, Wants, Made, FollowsCourse, course_for}
@@ -157,29 +157,17 @@ units-same (round ∷ rounds) heard turns =
     ∙ puts-same (pieces_of round out) (rounds_todo rounds End) heard turns
     ∙ ap (before_course (map putting (pieces_of round out))) (units-same rounds heard turns)))
 
--- the bindings, with what comes behind them
-module _ (plan : Plan) (rest : WithPorts) (heard : List Heard) (turns : List Turn) where
-  binding-same : (input : Bool) (b : Bound) (inputs : List InputView) (outputs : List OutputView) (next : WithPorts) (course : Course) →
-      unrolled (next (if input then with_input (bound_slot plan b) inputs else inputs) (if input then outputs else with_slot (bound_slot plan b) outputs)) heard turns ≡ course →
-      unrolled (binding_todo input (bound_slot plan b) b.file inputs outputs next) heard turns
-      ≡ before_course (Memory ∷ Calls (Did (if input then Open (bound_slot plan b) b.file else Create (bound_slot plan b) b.file) true) ∷ []) course
-  binding-same true b inputs outputs next course same = ap (before_course (Memory ∷ Calls (Did (Open (bound_slot plan b) b.file) true) ∷ [])) same
-  binding-same false b inputs outputs next course same = ap (before_course (Memory ∷ Calls (Did (Create (bound_slot plan b) b.file) true) ∷ [])) same
-
-  bindings-same : (bs : List Bound) (inputs : List InputView) (outputs : List OutputView) →
-      unrolled (bindings_todo plan bs inputs outputs rest) heard turns ≡ bindings plan bs (unrolled (rest (bound_inputs plan inputs bs) (bound_outputs plan outputs bs)) heard turns)
-  bindings-same [] inputs outputs = refl
-  bindings-same (b ∷ bs) inputs outputs =
-      let slot = bound_slot plan b in
-      binding-same b.input b inputs outputs (λ i o. bindings_todo plan bs i o rest) _
-      (bindings-same bs (if b.input then with_input slot inputs else inputs) (if b.input then outputs else with_slot slot outputs))
+bindings-same : (plan : Plan) (bs : List Bound) (rest : Todo) (heard : List Heard) (turns : List Turn) → unrolled (bindings_todo plan bs rest) heard turns ≡ bindings plan bs (unrolled rest heard turns)
+bindings-same plan [] rest heard turns = refl
+bindings-same plan (b ∷ bs) rest heard turns = ap (before_course (Calls (Did (binding_act plan b) true) ∷ [])) (bindings-same plan bs rest heard turns)
 
 files-same : (heap : ℕ) (p : Prepared) (heard : List Heard) (turns : List Turn) → unrolled (prepared_todo heap p) heard turns ≡ files heap p turns
 files-same heap (Halted why) heard turns = refl
 files-same heap (Ready plan read) heard turns =
-    bindings-same plan (λ i o. Free (session_todo heap plan read.commands i o)) heard turns read.bindings [] []
-    ∙ ap (λ course. bindings plan read.bindings (before_course (Memory ∷ []) course))
-    (turning-same (Begin plan heap (bound_inputs plan [] read.bindings) (bound_slots plan read.bindings)) turns _ _ (λ out turns. units-same (rounds_of read.commands) heard turns))
+    let inputs = bound_inputs plan [] read.bindings in
+    let slots = bound_slots plan read.bindings in
+    bindings-same plan read.bindings (session_todo heap plan read.commands inputs slots) heard turns
+    ∙ ap (bindings plan read.bindings) (turning-same (Begin plan heap inputs slots) turns _ _ (λ out turns. units-same (rounds_of read.commands) heard turns))
 
 playing-same : (form : Form) (heard : List Heard) (turns : List Turn) → unrolled (play form) heard turns ≡ playing form heard turns
 playing-same form heard turns =

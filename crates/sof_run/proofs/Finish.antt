@@ -14,9 +14,9 @@ use Rattle.sof_run.specs.Throughout.{Throughout}
 use Rattle.sof_run.specs.Rounds.{rounds_of}
 use Rattle.sof_run.specs.Prepared.{Ready, ticks_of, prepared, prepared_script, prepared_ticks, prepared_topology, prepared_rules, prepared_bindings}
 use Rattle.sof_run.specs.Play.{play}
-use Rattle.sof_run.specs.Checking.{check}
-use Rattle.sof_run.specs.Compiling.{compile}
-use Rattle.sof_run.specs.Stressing.{stress}
+use Rattle.sof_run.specs.CheckTodo.{check}
+use Rattle.sof_run.specs.CompileTodo.{compile}
+use Rattle.sof_run.specs.StressTodo.{stress}
 use Rattle.sof_run.specs.Requests.{Request, Play, Check, Compile, Stress, request_of}
 use Rattle.sof_run.specs.Forms.{todo_for, todo_of}
 use Rattle.sof_run.specs.Ends.{IsEarly, Worded}
@@ -34,7 +34,7 @@ use Rattle.sof_run.proofs.ScriptRanges.{script_sound}
 use Rattle.sof_run.proofs.OpenedFiles.{Next}
 use Rattle.sof_run.proofs.Courses.{follows}
 use Rattle.sof_run.proofs.PlayRuns.{play_goes, plays, before_begun}
-use Rattle.sof_run.proofs.HeardRuns.{play_heard, legs, outs_are, over_is}
+use Rattle.sof_run.proofs.HeardRuns.{play_heard, legs, over_is}
 use Rattle.sof_run.proofs.Statuses.{IsLate, TurnsLast, ends, none_turned, none_asked, three_rose}
 use Rattle.sof_run.proofs.Throughout.{play_all, check_all, compile_all, stress_all, words_last}
 
@@ -149,7 +149,7 @@ module _ {D P : Type 0} (means : DeskMeaning D) (dsp : Meaning P) (words : List 
         | inr b ↦ inr (before_begun means dsp run.form run.topology run.script plan run.read ready turns status old new p gave.last gave.ran.turned b)
       ])
 
-  pub plays_heard : dsp.on p ≡ None → PlaysWhatIsHeard dsp words gave.ran.played.calls gave.ran.turns p gave.last
+  pub plays_heard : dsp.on p ≡ None → PlaysWhatIsHeard dsp words gave.ran.played.calls gave.ran.turns status p gave.last
   plays_heard off a =
       let plan = plan_of a.t in
       let turns = gave.ran.turns in
@@ -158,11 +158,10 @@ module _ {D P : Type 0} (means : DeskMeaning D) (dsp : Meaning P) (words : List 
       let sound = script_sound a.script a.read (omega (arith, a.fit.1)) a.make_run.lines.0 in
       let same : todo ≡ play a.form = ap (todo_for (dsp.most p) sent) (play_asked (dsp.most p) words a.form a.is_form) in
       let done : DoneBy (play a.form) turns gave.ran.played.calls status = subst (λ x. DoneBy x turns gave.ran.played.calls status) same goes in
-      (elim (play_heard a.form a.topology a.script plan a.read ready turns status gave.ran.played.calls a.heard done) as (λ w. PlaysHeard dsp (dsp.most p) words gave.ran.played.calls a turns p gave.last ⊎ (gave.last ≡ Bare p)) [
+      (elim (play_heard a.form a.topology a.script plan a.read ready turns status gave.ran.played.calls a.heard done) as (λ w. PlaysHeard dsp (dsp.most p) words gave.ran.played.calls a turns p gave.last ⊎ (((status ≡ 3) ⊎ (status ≡ 7)) × (gave.last ≡ Bare p))) [
         | inl b ↦ inl record {
           legs = legs a.form a.topology a.script plan a.read ready turns status dsp p gave.last gave.ran.turned off whole a.make_run.right sound.few b;
-          outs = outs_are a.form a.topology a.script plan a.read ready turns status dsp p gave.last gave.ran.turned off whole a.make_run.right sound.few b;
           over = over_is a.form a.topology a.script plan a.read ready turns status dsp p gave.last gave.ran.turned off whole a.make_run.right sound.few b;
         }
-        | inr none ↦ inr (subst (λ ts. Turns dsp (Bare p) ts gave.last) none gave.ran.turned)
+        | inr ended ↦ inr (ended.1, subst (λ ts. Turns dsp (Bare p) ts gave.last) ended.0 gave.ran.turned)
       ])

@@ -1,10 +1,9 @@
 -- The run over what calls gave, whatever the desk tells.
 use Rattle.std.proofs.Common.{◌≡◌, ◌⊎◌, inl, inr, ℕ, ◌<◌, ◌^◌, Bool, true, false, ltb, if◌then◌else◌, List, [], ◌∷◌, ◌++◌, map, take, length, Option, Some, None, Result, Ok, Err, MatchOption, refl, sym, ◌∙◌, ap, subst, codes, arith}
 use Rattle.std.proofs.lemmas.Bool.{cases_Bool}
-use Rattle.sof_base.specs.Ports.{InputView, OutputView}
+use Rattle.sof_base.specs.Ports.{InputView}
 use Rattle.sof_io.specs.Bound.{output_slots}
 use Rattle.sof_io.specs.Fills.{with_input}
-use Rattle.sof_io.specs.Puts.{with_slot}
 use Rattle.sof_desk.specs.declared.calls.LoadFault.TheVariants.{Failed, TooLong, OutOfMemory}
 use Rattle.sof_desk.specs.Desk.{DeskAct, DeskCall, Load, Did, Read as ReadCall, Heard}
 use Rattle.mbox_link.specs.Calls.{Meaning}
@@ -14,18 +13,17 @@ use Rattle.sof_script.specs.Commands.{Bound, Read}
 use Rattle.sof_script.specs.declared.script.Command.{Command}
 use Rattle.sof_session.specs.Fills.{AreNew, bytes_read}
 use Rattle.sof_session.specs.Written.{Written, Out, Ground, Leg}
-use Rattle.sof_session.specs.Lives.{Life, Bare, Task, Begin, Fill, Carry, Turn, Turns, reads_by, reads_in, with_out, carried_outs}
+use Rattle.sof_session.specs.Lives.{Life, Bare, Task, Begin, Fill, Carry, Turn, Turns, reads_by, reads_in, carried_outs}
 use Rattle.sof_session.specs.RunOver.{RunOver}
 use Rattle.sof_session.proofs.FilledRuns.{AreFilled, RunsFilled, runs-filled}
 use Rattle.sof_run.specs.Words.{Form}
 use Rattle.sof_run.specs.Todo.{Todo, End, Ask, Do, Step, Refill, Free, DoneBy, FillTurn, Says, Over}
-use Rattle.sof_run.specs.Bindings.{wrong_binding, bound_slot, bound_inputs, bound_outputs, bound_slots}
+use Rattle.sof_run.specs.Bindings.{wrong_binding, bound_slot, binding_act, bound_inputs, bound_slots}
 use Rattle.sof_run.specs.Rounds.{Round, rounds_of}
 use Rattle.sof_run.specs.Lines.{no_memory_line, lines_after}
 use Rattle.sof_run.specs.Prepared.{Ready, prepared}
-use Rattle.sof_run.specs.Play.{WithPorts, flush_todo, lines_todo, unit_todo, rounds_todo, binding_todo, bindings_todo, session_todo, ready_todo, prepared_todo, play}
+use Rattle.sof_run.specs.Play.{flush_todo, lines_todo, unit_todo, rounds_todo, bindings_todo, session_todo, ready_todo, prepared_todo, play}
 use Rattle.sof_run.specs.Calls.{heard_in}
-use Rattle.sof_run.proofs.Steps.{no_turns}
 use Rattle.sof_run.proofs.Slots.{bound_distinct}
 use Rattle.sof_run.proofs.WrittenPieces.{commands_of}
 use Rattle.sof_run.proofs.Grounds.{few_front, messages_few}
@@ -35,16 +33,27 @@ use Rattle.sof_run.proofs.Grounds.{few_front, messages_few}
 abbrev Good : List Round → List Turn → Type 0
 Good rounds turns = AreFilled (take (length (carried_outs turns)) (commands_of rounds)) turns
 
+-- the desk failed, or memory was wanting, and no turn came
+abbrev pub Ended : List Turn → ℕ → Type 0
+Ended turns status = (turns ≡ []) × ((status ≡ 3) ⊎ (status ≡ 7))
+
 -- what comes behind calls was done, or they ended the run
 abbrev Behind : Todo → List Turn → ℕ → Type 0
-Behind rest turns status = ((later : List DeskCall) × DoneBy rest turns later status) ⊎ (turns ≡ [])
+Behind rest turns status = ((later : List DeskCall) × DoneBy rest turns later status) ⊎ Ended turns status
+
+wanting : (turns : List Turn) (calls : List DeskCall) (status : ℕ) → Says no_memory_line 7 turns calls status → Ended turns status
+wanting turns [] status says = absurd says
+wanting turns (Load name limit heard ∷ calls) status says = absurd says
+wanting turns (ReadCall slot size got ∷ calls) status says = absurd says
+wanting turns (Did act true ∷ calls) status says = (says.1, inr says.3)
+wanting turns (Did act false ∷ calls) status says = (says.1, inl says.3)
 
 do_on : (act : DeskAct) (rest : Todo) (turns : List Turn) (calls : List DeskCall) (status : ℕ) → DoneBy (Do act rest) turns calls status → Behind rest turns status
 do_on act rest turns [] status goes = absurd goes
 do_on act rest turns (Load name limit heard ∷ calls) status goes = absurd goes
 do_on act rest turns (ReadCall slot size got ∷ calls) status goes = absurd goes
 do_on act rest turns (Did a true ∷ calls) status goes = inl (calls, goes.1)
-do_on act rest turns (Did a false ∷ calls) status goes = inr goes.1.0
+do_on act rest turns (Did a false ∷ calls) status goes = inr (goes.1.0, inl goes.1.2)
 
 and_on : (todo rest : Todo) (turns : List Turn) (status : ℕ) → Behind todo turns status → ((calls : List DeskCall) → DoneBy todo turns calls status → Behind rest turns status) → Behind rest turns status
 and_on todo rest turns status (inl more) on = on more.0 more.1
@@ -76,7 +85,7 @@ module _ (round : Round) (rounds : List Round) (others : Goods rounds) where
   unit_good : (reads : List (ℕ × List ℕ)) (fill_out out : Out) (turns : List Turn) (status : ℕ) → Behind (rounds_todo rounds End) turns status → Good (round ∷ rounds) (fills reads None fill_out ∷ carries command out ∷ turns)
   unit_good reads fill_out out turns status (inl more) = ((reads, refl), refl, others turns more.0 status more.1)
   unit_good reads fill_out out turns status (inr none) =
-      subst (λ (ts : List Turn). Good (round ∷ rounds) (fills reads None fill_out ∷ carries command out ∷ ts)) (sym none) ((reads, refl), refl, tt)
+      subst (λ (ts : List Turn). Good (round ∷ rounds) (fills reads None fill_out ∷ carries command out ∷ ts)) (sym none.0) ((reads, refl), refl, tt)
 
   by_failed : (reads : List (ℕ × List ℕ)) (failed : Option ℕ) (out : Out) (turns : List Turn) (later : List DeskCall) (status : ℕ) →
       MatchOption failed (DoneBy (unit_todo round (rounds_todo rounds End)) turns later status) (λ slot. Over 3 turns later status) → Good (round ∷ rounds) (fills reads failed out ∷ turns)
@@ -106,25 +115,12 @@ rounds_good (round ∷ rounds) turns calls status goes = round_good round rounds
 
 free_on : (rest : Todo) (turns : List Turn) (calls : List DeskCall) (status : ℕ) → DoneBy (Free rest) turns calls status → Behind rest turns status
 free_on rest turns calls status (inl goes) = inl (calls, goes)
-free_on rest turns calls status (inr says) = inr (no_turns no_memory_line 7 turns calls status says)
+free_on rest turns calls status (inr says) = inr (wanting turns calls status says)
 
-binding_on : (input : Bool) (slot : ℕ) (file : List ℕ) (i : List InputView) (o : List OutputView) (rest : WithPorts) (turns : List Turn) (calls : List DeskCall) (status : ℕ) →
-    DoneBy (binding_todo input slot file i o rest) turns calls status → Behind (rest (if input then with_input slot i else i) (if input then o else with_slot slot o)) turns status
-binding_on true slot file i o rest turns calls status goes =
-    and_on (Do _ (rest (with_input slot i) o)) (rest (with_input slot i) o) turns status (free_on (Do _ (rest (with_input slot i) o)) turns calls status goes) (λ later more. do_on _ (rest (with_input slot i) o) turns later status more)
-binding_on false slot file i o rest turns calls status goes =
-    and_on (Do _ (rest i (with_slot slot o))) (rest i (with_slot slot o)) turns status (free_on (Do _ (rest i (with_slot slot o))) turns calls status goes) (λ later more. do_on _ (rest i (with_slot slot o)) turns later status more)
-
-bindings_on : (plan : Plan) (bs : List Bound) (i : List InputView) (o : List OutputView) (rest : WithPorts) (turns : List Turn) (calls : List DeskCall) (status : ℕ) →
-    DoneBy (bindings_todo plan bs i o rest) turns calls status → Behind (rest (bound_inputs plan i bs) (bound_outputs plan o bs)) turns status
-bindings_on plan [] i o rest turns calls status goes = inl (calls, goes)
-bindings_on plan (b ∷ bs) i o rest turns calls status goes =
-    let slot = bound_slot plan b in
-    let i' = if b.input then with_input slot i else i in
-    let o' = if b.input then o else with_slot slot o in
-    and_on (bindings_todo plan bs i' o' rest) (rest (bound_inputs plan i' bs) (bound_outputs plan o' bs)) turns status
-    (binding_on b.input slot b.file i o (λ x y. bindings_todo plan bs x y rest) turns calls status goes)
-    (λ later more. bindings_on plan bs i' o' rest turns later status more)
+bindings_on : (plan : Plan) (bs : List Bound) (rest : Todo) (turns : List Turn) (calls : List DeskCall) (status : ℕ) → DoneBy (bindings_todo plan bs rest) turns calls status → Behind rest turns status
+bindings_on plan [] rest turns calls status goes = inl (calls, goes)
+bindings_on plan (b ∷ bs) rest turns calls status goes =
+    and_on (bindings_todo plan bs rest) rest turns status (do_on (binding_act plan b) (bindings_todo plan bs rest) turns calls status goes) (λ later more. bindings_on plan bs rest turns later status more)
 
 new_more : (slot : ℕ) (inputs : List InputView) → AreNew inputs → AreNew (with_input slot inputs)
 new_more slot [] new = (refl, tt)
@@ -160,27 +156,24 @@ module _ (form : Form) (topology script : List ℕ) (plan : Plan) (read : Read) 
     pub filled : Good (rounds_of read.commands) others
 
   abbrev Result' : Type 0
-  Result' = Began ⊎ (turns ≡ [])
+  Result' = Began ⊎ Ended turns status
 
-  began : (calls : List DeskCall) → DoneBy (session_todo form.heap plan read.commands inputs (bound_outputs plan [] read.bindings)) turns calls status → Began
+  abbrev session : Todo
+  session = session_todo form.heap plan read.commands inputs slots
+
+  began : (calls : List DeskCall) → DoneBy session turns calls status → Began
   began calls goes = by turns refl goes
     where
-      by : (ts : List Turn) → turns ≡ ts → DoneBy (session_todo form.heap plan read.commands inputs (bound_outputs plan [] read.bindings)) ts calls status → Began
+      by : (ts : List Turn) → turns ≡ ts → DoneBy session ts calls status → Began
       by [] is goes = absurd goes
       by (begins ∷ others) is goes = record { begins = begins; others = others; are = is; task = goes.0; filled = rounds_good (rounds_of read.commands) others calls status goes.1 }
 
-  or_none : {A : Type 0} (todo : Todo) → Behind todo turns status → ((calls : List DeskCall) → DoneBy todo turns calls status → A ⊎ (turns ≡ [])) → A ⊎ (turns ≡ [])
+  or_none : {A : Type 0} (todo : Todo) → Behind todo turns status → ((calls : List DeskCall) → DoneBy todo turns calls status → A ⊎ Ended turns status) → A ⊎ Ended turns status
   or_none todo (inl more) on = on more.0 more.1
-  or_none todo (inr none) on = inr none
-
-  abbrev session : WithPorts
-  session i o = Free (session_todo form.heap plan read.commands i o)
+  or_none todo (inr ended) on = inr ended
 
   ready_on : (calls : List DeskCall) → DoneBy (ready_todo form.heap plan read) turns calls status → Result'
-  ready_on calls goes =
-      or_none (session inputs (bound_outputs plan [] read.bindings)) (bindings_on plan read.bindings [] [] (λ i o. Free (session_todo form.heap plan read.commands i o)) turns calls status goes) (λ later more.
-      or_none (session_todo form.heap plan read.commands inputs (bound_outputs plan [] read.bindings)) (free_on (session_todo form.heap plan read.commands inputs (bound_outputs plan [] read.bindings)) turns later status more) (λ last done.
-      inl (began last done)))
+  ready_on calls goes = or_none session (bindings_on plan read.bindings session turns calls status goes) (λ later more. inl (began later more))
 
   files_on : (calls : List DeskCall) → DoneBy (Free (prepared_todo form.heap (prepared topology script))) turns calls status → Result'
   files_on calls goes =
@@ -201,7 +194,7 @@ module _ (form : Form) (topology script : List ℕ) (plan : Plan) (read : Read) 
     asked (Load n l (Err OutOfMemory) ∷ calls) heard goes on = absurd (cc heard)
     asked (Load n l (Err Failed) ∷ calls) heard goes on = absurd (cc heard)
 
-  pub play_heard : (calls : List DeskCall) → heard_in calls ≡ Ok topology ∷ Ok script ∷ [] → DoneBy (play form) turns calls status → Began ⊎ (turns ≡ [])
+  pub play_heard : (calls : List DeskCall) → heard_in calls ≡ Ok topology ∷ Ok script ∷ [] → DoneBy (play form) turns calls status → Began ⊎ Ended turns status
   play_heard calls heard goes =
       asked form.topology (codes "too long topology\n") (λ xs. Ask form.script 1048576 (codes "too long script\n") (λ ys. Free (prepared_todo form.heap (prepared xs ys)))) topology (Ok script ∷ []) calls heard goes (λ later rest goes.
       asked form.script (codes "too long script\n") (λ ys. Free (prepared_todo form.heap (prepared topology ys))) script [] later rest goes (λ last none goes.
@@ -216,7 +209,7 @@ module _ (form : Form) (topology script : List ℕ) (plan : Plan) (read : Read) 
     abbrev heard_g : List (ℕ × List ℕ) → Ground
     heard_g whole = record { plan = plan; heap = form.heap; whole = whole; slots = slots }
 
-    abbrev run : RunsFilled dsp (heard_g []) (take (length (carried_outs b.others)) all) b.others p last
+    abbrev run : RunsFilled dsp (heard_g []) (take (length (carried_outs b.others)) all) b.begins b.others p last
     run =
         runs-filled dsp (heard_g []) inputs p (take (length (carried_outs b.others)) all) b.begins b.others last off sound (new_inputs plan read.bindings [] tt) (bound_distinct plan read.bindings right)
         b.task b.filled (few_front (heard_g []) sound read.commands (length (carried_outs b.others)))
@@ -225,9 +218,6 @@ module _ (form : Form) (topology script : List ℕ) (plan : Plan) (read : Read) 
 
     abbrev pub legs : List Leg
     legs = run.legs
-
-    pub outs_are : map (λ (leg : Leg). leg.out) legs ≡ carried_outs turns
-    outs_are = run.outs ∙ sym (ap carried_outs b.are ∙ ap (λ (task : Task). with_out task b.begins.out (carried_outs b.others)) b.task)
 
     outs_length : (xs : List Leg) → length (map (λ (leg : Leg). leg.out) xs) ≡ length xs
     outs_length [] = refl
@@ -239,7 +229,8 @@ module _ (form : Form) (topology script : List ℕ) (plan : Plan) (read : Read) 
     reads_are : reads_in b.others ≡ reads_in turns
     reads_are = sym (ap reads_in b.are ∙ ap (λ (task : Task). reads_by task ++ reads_in b.others) b.task)
 
-    pub over_is : RunOver dsp (heard_g (bytes_read (reads_in turns))) (take (length legs) all) legs p last
+    pub over_is : RunOver dsp (heard_g (bytes_read (reads_in turns))) (take (length legs) all) legs p turns last
     over_is =
-        subst (λ (reads : List (ℕ × List ℕ)). RunOver dsp (heard_g (bytes_read reads)) (take (length run.legs) all) run.legs p last) reads_are
-        (subst (λ (n : ℕ). RunOver dsp (heard_g (bytes_read (reads_in b.others))) (take n all) run.legs p last) as_many run.over)
+        subst (λ (reads : List (ℕ × List ℕ)). RunOver dsp (heard_g (bytes_read reads)) (take (length run.legs) all) run.legs p turns last) reads_are
+        (subst (λ (n : ℕ). RunOver dsp (heard_g (bytes_read (reads_in b.others))) (take n all) run.legs p turns last) as_many
+        (subst (λ (ts : List Turn). RunOver dsp (heard_g (bytes_read (reads_in b.others))) (take (length (carried_outs b.others)) all) run.legs p ts last) (sym b.are) run.over))

@@ -19,7 +19,7 @@ use Rattle.sof_session.specs.Lives.{Turn}
 use Rattle.sof_run.specs.Lines.{no_memory_line}
 use Rattle.sof_run.specs.Todo.{Todo, Ask, Do, Free, Says, DoneBy}
 use Rattle.sof_run.specs.Bindings.{bound_slot, bound_inputs, bound_files, bound_outputs}
-use Rattle.sof_run.specs.Play.{WithPorts, binding_todo, bindings_todo}
+use Rattle.sof_run.specs.Play.{bindings_todo}
 use Rattle.sof_run.specs.Pieces.{opened, IsKeptOrOpened, WroteNone}
 use Rattle.sof_run.specs.Plays.{IsGiven}
 use Rattle.sof_run.specs.Ends.{IsOpening}
@@ -82,11 +82,17 @@ module _ {D : Type 0} (means : DeskMeaning D) where
       (part : List ℕ) × ((rest : List ℕ) × (part ++ rest ≡ no_memory_line))
       × ((place : DeskPlace) → means.wrote new place ≡ (if same_place Spoken place then with_more (means.wrote old place) part else means.wrote old place))
 
-  -- the run ended, with no turn
+  -- the run ended before any file was opened, with no turn
   pub record Stopped (turns : List Turn) (status : ℕ) (old new : D) : Type 0 where
     pub ended : (status ≡ 3) ⊎ (status ≡ 7)
     pub none : turns ≡ []
     pub wrote : NoneWrote old new
+
+  -- the desk failed at a file, and nothing was written
+  pub record NotOpened (turns : List Turn) (status : ℕ) (old new : D) : Type 0 where
+    pub ended : status ≡ 3
+    pub none : turns ≡ []
+    pub kept : (place : DeskPlace) → means.wrote new place ≡ means.wrote old place
 
   none_wrote : (old new : D) → ((place : DeskPlace) → means.wrote new place ≡ means.wrote old place) → NoneWrote old new
   none_wrote old new kept = ([], (no_memory_line, refl), λ place. kept place ∙ unwritten (same_place Spoken place) (means.wrote old place))
@@ -163,7 +169,7 @@ module _ {D : Type 0} (means : DeskMeaning D) where
     pub next : Next todo turns status mid new
     pub acted : Acted means act true old mid
 
-  act_goes : (act : DeskAct) → IsOpening act → (rest : Todo) (turns : List Turn) (status : ℕ) (old new : D) → Next (Do act rest) turns status old new → Done act rest turns status old new ⊎ Stopped turns status old new
+  act_goes : (act : DeskAct) → IsOpening act → (rest : Todo) (turns : List Turn) (status : ℕ) (old new : D) → Next (Do act rest) turns status old new → Done act rest turns status old new ⊎ NotOpened turns status old new
   act_goes act opens rest turns status old new n = by n.calls n.goes n.led
     where
       kept : (act : DeskAct) → IsOpening act → (part : List ℕ) (place : DeskPlace) (o : Option (List ℕ)) → written_after act false part place o ≡ o
@@ -171,7 +177,7 @@ module _ {D : Type 0} (means : DeskMeaning D) where
       kept (Put to piece) opens part place o = absurd opens
       kept (Open slot name) opens part place o = refl
 
-      by : (calls : List DeskCall) → DoneBy (Do act rest) turns calls status → DeskLed means old calls new → Done act rest turns status old new ⊎ Stopped turns status old new
+      by : (calls : List DeskCall) → DoneBy (Do act rest) turns calls status → DeskLed means old calls new → Done act rest turns status old new ⊎ NotOpened turns status old new
       by [] goes led = absurd goes
       by (Load name limit heard ∷ calls) goes led = absurd goes
       by (Read n size got ∷ calls) goes led = absurd goes
@@ -180,7 +186,7 @@ module _ {D : Type 0} (means : DeskMeaning D) where
       by (Did a false ∷ calls) goes led =
           let acted : Acted means act false old led.0 = subst (λ x. Acted means x false old led.0) goes.0 led.1 in
           let last : new ≡ led.0 = subst (λ cs. DeskLed means led.0 cs new) goes.1.1 led.2 in
-          inr record { ended = inl goes.1.2; none = goes.1.0; wrote = none_wrote old new (λ place. ap (λ d. means.wrote d place) last ∙ acted.wrote place ∙ kept act opens acted.part place (means.wrote old place)) }
+          inr record { ended = goes.1.2; none = goes.1.0; kept = λ place. ap (λ d. means.wrote d place) last ∙ acted.wrote place ∙ kept act opens acted.part place (means.wrote old place) }
 
   -- ---- files that are open
 
@@ -194,28 +200,50 @@ module _ {D : Type 0} (means : DeskMeaning D) where
       ∙ ap (λ o. if same_place (Slot slot) place then with_nothing o else o) (are place)
       ∙ opened_more slot outputs place (means.wrote base place)
 
-  -- the run ended while or before the files of these slots were created
+  -- the run ended while or before the files of these slots were created; where memory was wanting, none was created
   pub record Before (slots : List ℕ) (turns : List Turn) (status : ℕ) (old new : D) : Type 0 where
     pub ended : (status ≡ 3) ⊎ (status ≡ 7)
     pub none : turns ≡ []
     pub wrote : WroteNone means slots old new
+    pub wanting : status ≡ 7 → (slot : ℕ) → means.wrote new (Slot slot) ≡ means.wrote old (Slot slot)
 
-  module _ (all : List ℕ) (outputs : List OutputView) (stays : (n : ℕ) → has_slot n (output_slots outputs) ≡ true → has_slot n all ≡ true) (base d new : D) (are : AreOpen outputs base d) (turns : List Turn) (status : ℕ) where
-    kept : (n : ℕ) (b : Bool) (o later : Option (List ℕ)) → has_slot n (output_slots outputs) ≡ b → later ≡ (if b then with_nothing o else o) → IsKeptOrOpened all (Slot n) o later
-    kept n true o later bound is = inr (is ∙ ap (λ (t : Bool). if t then with_nothing o else o) (sym (stays n bound)))
-    kept n false o later free is = inl is
-
-    pub or_before : {A : Type 0} → A ⊎ Stopped turns status d new → A ⊎ Before all turns status base new
-    or_before (inl a) = inl a
-    or_before (inr s) = inr record {
+  -- before any file was opened
+  module _ (all : List ℕ) (base d new : D) (are : AreOpen [] base d) (turns : List Turn) (status : ℕ) where
+    pub stopped_before : {A : Type 0} → A ⊎ Stopped turns status d new → A ⊎ Before all turns status base new
+    stopped_before (inl a) = inl a
+    stopped_before (inr s) = inr record {
       ended = s.ended;
       none = s.none;
       wrote = record {
         part = s.wrote.0;
         front = s.wrote.1;
         said = s.wrote.2 Spoken ∙ ap (λ o. with_more o s.wrote.0) (are Spoken);
-        outputs = λ n. kept n (has_slot n (output_slots outputs)) (means.wrote base (Slot n)) (means.wrote new (Slot n)) refl (s.wrote.2 (Slot n) ∙ are (Slot n));
+        outputs = λ n. inl (s.wrote.2 (Slot n) ∙ are (Slot n));
       };
+      wanting = λ is n. s.wrote.2 (Slot n) ∙ are (Slot n);
+    }
+
+  -- at a file
+  module _ (all : List ℕ) (outputs : List OutputView) (stays : (n : ℕ) → has_slot n (output_slots outputs) ≡ true → has_slot n all ≡ true) (base d new : D) (are : AreOpen outputs base d) (turns : List Turn) (status : ℕ) where
+    kept : (n : ℕ) (b : Bool) (o later : Option (List ℕ)) → has_slot n (output_slots outputs) ≡ b → later ≡ (if b then with_nothing o else o) → IsKeptOrOpened all (Slot n) o later
+    kept n true o later bound is = inr (is ∙ ap (λ (t : Bool). if t then with_nothing o else o) (sym (stays n bound)))
+    kept n false o later free is = inl is
+
+    three : {C : Type 0} → status ≡ 3 → status ≡ 7 → C
+    three is other = absurd (omega (arith, is, other))
+
+    pub failed_before : {A : Type 0} → A ⊎ NotOpened turns status d new → A ⊎ Before all turns status base new
+    failed_before (inl a) = inl a
+    failed_before (inr f) = inr record {
+      ended = inl f.ended;
+      none = f.none;
+      wrote = record {
+        part = [];
+        front = (no_memory_line, refl);
+        said = f.kept Spoken ∙ are Spoken ∙ more_none (means.wrote base Spoken);
+        outputs = λ n. kept n (has_slot n (output_slots outputs)) (means.wrote base (Slot n)) (means.wrote new (Slot n)) refl (f.kept (Slot n) ∙ are (Slot n));
+      };
+      wanting = λ is n. three f.ended is;
     }
 
   -- ---- files of which nothing was read
@@ -266,17 +294,17 @@ module _ {D : Type 0} (means : DeskMeaning D) where
 
   -- ---- the bindings
 
-  module _ (holds : List ℕ → Option (List ℕ)) (plan : Plan) (rest : WithPorts) (turns : List Turn) (status : ℕ) (base new : D) where
-    -- the files are open, and what comes next was done with these inputs
+  module _ (holds : List ℕ → Option (List ℕ)) (plan : Plan) (rest : Todo) (turns : List Turn) (status : ℕ) (base new : D) where
+    -- the files are open, and what comes next was done
     pub record Opened (inputs : List InputView) (outputs : List OutputView) (files : List (ℕ × List ℕ)) : Type 0 where
       pub mid : D
-      pub next : Next (rest inputs outputs) turns status mid new
+      pub next : Next rest turns status mid new
       pub are : AreOpen outputs base mid
       pub unread : AreUnread inputs files mid
 
     abbrev Opens : List Bound → Type 0
     Opens bs = (inputs : List InputView) (outputs : List OutputView) (files : List (ℕ × List ℕ)) (old : D) → AllByRecursion (IsGiven holds) bs → ((name : List ℕ) → means.holds old name ≡ holds name) → AreOpen outputs base old → AreUnread inputs files old →
-        Next (bindings_todo plan bs inputs outputs rest) turns status old new →
+        Next (bindings_todo plan bs rest) turns status old new →
         Opened (bound_inputs plan inputs bs) (bound_outputs plan outputs bs) (bound_files plan holds files bs) ⊎ Before (output_slots (bound_outputs plan outputs bs)) turns status base new
 
     -- one binding, and those behind it
@@ -288,35 +316,29 @@ module _ {D : Type 0} (means : DeskMeaning D) where
       abbrev bytes : List ℕ
       bytes = unwrap_or (holds b.file) []
 
-      abbrev inputs_by : Bool → List InputView
-      inputs_by input = bound_inputs plan (if input then with_input slot inputs else inputs) bs
+      abbrev after : Todo
+      after = bindings_todo plan bs rest
 
       abbrev outputs_by : Bool → List OutputView
       outputs_by input = bound_outputs plan (if input then outputs else with_slot slot outputs) bs
 
-      abbrev files_by : Bool → List (ℕ × List ℕ)
-      files_by input = bound_files plan holds (if input then (slot, bytes) ∷ files else files) bs
+      abbrev By : Bool → Type 0
+      By input = Opened (bound_inputs plan (if input then with_input slot inputs else inputs) bs) (outputs_by input) (bound_files plan holds (if input then (slot, bytes) ∷ files else files) bs) ⊎ Before (output_slots (outputs_by input)) turns status base new
 
       stays_created : (n : ℕ) → has_slot n (output_slots outputs) ≡ true → has_slot n (output_slots (outputs_by false)) ≡ true
       stays_created n is = stays_bound plan bs (with_slot slot outputs) n (stays_more slot outputs n is)
 
-      one : (input : Bool) → b.input ≡ input → Next (binding_todo input slot b.file inputs outputs (λ i o. bindings_todo plan bs i o rest)) turns status old new →
-          Opened (inputs_by input) (outputs_by input) (files_by input) ⊎ Before (output_slots (outputs_by input)) turns status base new
+      one : (input : Bool) → b.input ≡ input → Next (Do (if input then Open slot b.file else Create slot b.file) after) turns status old new → By input
       one true is n =
           let file = given is in
           let told : means.holds old b.file ≡ Some bytes = held b.file ∙ file.1 ∙ ap (λ o. Some (unwrap_or o [])) (sym file.1) in
-          let after = bindings_todo plan bs (with_input slot inputs) outputs rest in
-          let stay = stays_bound plan bs outputs in
-          bind (or_before (output_slots (outputs_by true)) outputs stay base old new are turns status (free_goes (Do (Open slot b.file) after) turns status old new n)) (λ next.
-          bind (or_before (output_slots (outputs_by true)) outputs stay base old new are turns status (act_goes (Open slot b.file) tt after turns status old new next)) (λ a.
+          bind (failed_before (output_slots (outputs_by true)) outputs (stays_bound plan bs outputs) base old new are turns status (act_goes (Open slot b.file) tt after turns status old new n)) (λ a.
           others (with_input slot inputs) outputs ((slot, bytes) ∷ files) a.mid later (λ name. a.acted.kept.holds name ∙ held name) (λ place. a.acted.wrote place ∙ are place)
-          (unread_more slot b.file bytes inputs files old a.mid unread told a.acted) a.next))
+          (unread_more slot b.file bytes inputs files old a.mid unread told a.acted) a.next)
       one false is n =
-          let after = bindings_todo plan bs inputs (with_slot slot outputs) rest in
-          bind (or_before (output_slots (outputs_by false)) outputs stays_created base old new are turns status (free_goes (Do (Create slot b.file) after) turns status old new n)) (λ next.
-          bind (or_before (output_slots (outputs_by false)) outputs stays_created base old new are turns status (act_goes (Create slot b.file) tt after turns status old new next)) (λ a.
+          bind (failed_before (output_slots (outputs_by false)) outputs stays_created base old new are turns status (act_goes (Create slot b.file) tt after turns status old new n)) (λ a.
           others inputs (with_slot slot outputs) files a.mid later (λ name. a.acted.kept.holds name ∙ held name) (created_open slot b.file outputs base old a.mid are a.acted)
-          (unread_kept inputs files old a.mid a.acted.unread unread) a.next))
+          (unread_kept inputs files old a.mid a.acted.unread unread) a.next)
 
     pub open_all : (bs : List Bound) → Opens bs
     open_all [] inputs outputs files old given held are unread n = inl record { mid = old; next = n; are = are; unread = unread }

@@ -1,5 +1,5 @@
--- The files of bindings, opened one after another.
-use Rattle.std.proofs.Common.{◌≡◌, ℕ, ◌+◌, ◌<◌, Bool, true, false, ltb, nat_eq, if◌then◌else◌, List, [], ◌∷◌, length, drop, get_or, refl, sym, ◌∙◌, ap, subst, inl, inr}
+-- What bindings bind, one after another, and their files.
+use Rattle.std.proofs.Common.{◌≡◌, ℕ, ◌+◌, ◌<◌, Bool, true, false, ltb, nat_eq, if◌then◌else◌, List, [], ◌∷◌, ◌++◌, length, take, drop, get_or, refl, sym, ◌∙◌, ap, subst, inl, inr}
 use Rattle.std.proofs.lemmas.Bool.{cases_Bool, eq-eqb}
 use Rattle.std.specs.List.{AllByRecursion}
 use Rattle.sof_base.specs.Ports.{InputView, OutputView}
@@ -11,13 +11,12 @@ use Rattle.tplg_plan.specs.declared.plans.Plan.{Plan}
 use Rattle.sof_script.specs.declared.script.Binding.{Binding}
 use Rattle.sof_script.specs.Commands.{Bound, bound_of, bounds_of}
 use Rattle.sof_session.specs.Lives.{Turn}
-use Rattle.sof_run.specs.Lines.{no_memory_line}
-use Rattle.sof_run.specs.Todo.{Stop, Do, Played}
-use Rattle.sof_run.specs.Bindings.{bound_slot}
-use Rattle.sof_run.specs.Play.{WithPorts, input_todo, output_todo, binding_todo, bindings_todo}
-use Rattle.sof_run.specs.Opening.{AreOpened, AreCreated, HaveFiles, SameFiles, Opens, Stops}
-use Rattle.sof_run.proofs.BindingLaws.{back}
-use Rattle.sof_run.proofs.Steps.{free_on, free_off, do_on, do_off}
+use Rattle.sof_run.specs.Todo.{Todo, Do, Played, DeskPhase}
+use Rattle.sof_run.specs.Bindings.{bound_slot, binding_act, bound_inputs, bound_outputs}
+use Rattle.sof_run.specs.Play.{bindings_todo}
+use Rattle.sof_run.specs.Opening.{AreOpened, AreCreated, HaveFiles, SameFiles}
+use Rattle.sof_run.proofs.BindingLaws.{front, back}
+use Rattle.sof_run.proofs.Steps.{do_on, do_off}
 use Rattle.sof_run.proofs.Refills.{opened_same}
 
 -- one more slot is marked
@@ -55,36 +54,31 @@ module _ (now was : ℕ → Bool) (slot : ℕ) (after : (n : ℕ) → now n ≡ 
         | inr below ↦ rw below (other output.slot all.0, marked_outputs outputs all.1)
       ]
 
+-- ---- one binding more
+
+pub inputs_more : (plan : Plan) (bs : List Bound) (b : Bound) (inputs : List InputView) → bound_inputs plan inputs (bs ++ b ∷ []) ≡ (if b.input then with_input (bound_slot plan b) (bound_inputs plan inputs bs) else bound_inputs plan inputs bs)
+inputs_more plan [] b inputs = refl
+inputs_more plan (c ∷ bs) b inputs = inputs_more plan bs b (if c.input then with_input (bound_slot plan c) inputs else inputs)
+
+pub outputs_more : (plan : Plan) (bs : List Bound) (b : Bound) (outputs : List OutputView) → bound_outputs plan outputs (bs ++ b ∷ []) ≡ (if b.input then bound_outputs plan outputs bs else with_slot (bound_slot plan b) (bound_outputs plan outputs bs))
+outputs_more plan [] b outputs = refl
+outputs_more plan (c ∷ bs) b outputs = outputs_more plan bs b (if c.input then outputs else with_slot (bound_slot plan c) outputs)
+
+module _ (plan : Plan) (bs : List Binding) (i : ℕ) (b : Binding) (within : i < length bs) (at : b ≡ get_or bs i b) (input : Bool) (is : b.input ≡ input) where
+  abbrev so_far : List Bound
+  so_far = bounds_of (take i bs)
+
+  pub inputs_by : bound_inputs plan [] (bounds_of (take (i + 1) bs)) ≡ (if input then with_input (bound_slot plan (bound_of b)) (bound_inputs plan [] so_far) else bound_inputs plan [] so_far)
+  inputs_by =
+      ap (bound_inputs plan []) (front plan bs i b within at) ∙ inputs_more plan so_far (bound_of b) []
+      ∙ ap (λ t. if t then with_input (bound_slot plan (bound_of b)) (bound_inputs plan [] so_far) else bound_inputs plan [] so_far) is
+
+  pub outputs_by : bound_outputs plan [] (bounds_of (take (i + 1) bs)) ≡ (if input then bound_outputs plan [] so_far else with_slot (bound_slot plan (bound_of b)) (bound_outputs plan [] so_far))
+  outputs_by =
+      ap (bound_outputs plan []) (front plan bs i b within at) ∙ outputs_more plan so_far (bound_of b) []
+      ∙ ap (λ t. if t then bound_outputs plan [] so_far else with_slot (bound_slot plan (bound_of b)) (bound_outputs plan [] so_far)) is
+
 module _ {D : Type 0} (means : DeskMeaning D) where
-  -- ---- one file
-
-  module _ (slot : ℕ) (file : List ℕ) (inputs : List InputView) (outputs : List OutputView) where
-    pub input_on : (old new : D) → Acted means (Open slot file) true old new → Opens means (input_todo slot file inputs outputs) (with_input slot inputs) outputs old new
-    input_on old new acted next turns status end played =
-        free_on means (Do (Open slot file) (next (with_input slot inputs) outputs)) turns status old end
-        (do_on means (Open slot file) (next (with_input slot inputs) outputs) turns status old new end acted played)
-
-    pub input_off : (old new : D) → Acted means (Open slot file) false old new → Stops means (input_todo slot file inputs outputs) 3 old new
-    input_off old new acted next =
-        free_on means (Do (Open slot file) (next (with_input slot inputs) outputs)) [] 3 old new
-        (do_off means (Open slot file) (next (with_input slot inputs) outputs) old new acted)
-
-    pub input_wanting : (status : ℕ) (old new : D) → Played means (Stop no_memory_line 7) old [] status new → Stops means (input_todo slot file inputs outputs) status old new
-    input_wanting status old new stopped next = free_off means (Do (Open slot file) (next (with_input slot inputs) outputs)) status old new stopped
-
-    pub output_on : (old new : D) → Acted means (Create slot file) true old new → Opens means (output_todo slot file inputs outputs) inputs (with_slot slot outputs) old new
-    output_on old new acted next turns status end played =
-        free_on means (Do (Create slot file) (next inputs (with_slot slot outputs))) turns status old end
-        (do_on means (Create slot file) (next inputs (with_slot slot outputs)) turns status old new end acted played)
-
-    pub output_off : (old new : D) → Acted means (Create slot file) false old new → Stops means (output_todo slot file inputs outputs) 3 old new
-    output_off old new acted next =
-        free_on means (Do (Create slot file) (next inputs (with_slot slot outputs))) [] 3 old new
-        (do_off means (Create slot file) (next inputs (with_slot slot outputs)) old new acted)
-
-    pub output_wanting : (status : ℕ) (old new : D) → Played means (Stop no_memory_line 7) old [] status new → Stops means (output_todo slot file inputs outputs) status old new
-    output_wanting status old new stopped next = free_off means (Do (Create slot file) (next inputs (with_slot slot outputs))) status old new stopped
-
   -- ---- which files are open, and which are created
 
   created_same : (slots : List ℕ) (old new : D) → ((slot : ℕ) → means.created new slot ≡ means.created old slot) → AreCreated means slots old → AreCreated means slots new
@@ -114,24 +108,39 @@ module _ {D : Type 0} (means : DeskMeaning D) where
 
   -- ---- one binding after another
 
-  -- these bindings are left, with these inputs and outputs so far
-  abbrev pub Left : Plan → List Bound → List Bound → List InputView → List OutputView → D → D → Type 0
-  Left plan whole left inputs outputs old new =
-      (next : WithPorts) (turns : List Turn) (status : ℕ) (end : D) → Played means (bindings_todo plan left inputs outputs next) new turns status end → Played means (bindings_todo plan whole [] [] next) old turns status end
+  -- these bindings are left
+  abbrev pub Left : Plan → List Bound → List Bound → D → D → Type 0
+  Left plan whole left old new =
+      (rest : Todo) (turns : List Turn) (status : ℕ) (end : D) → Played means (bindings_todo plan left rest) new turns status end → Played means (bindings_todo plan whole rest) old turns status end
 
-  module _ (plan : Plan) (bs : List Binding) (i : ℕ) (b : Binding) (within : i < length bs) (at : b ≡ get_or bs i b) (inputs : List InputView) (outputs : List OutputView) (input : Bool) (is : b.input ≡ input) where
-    abbrev rest : List Bound
-    rest = bounds_of (drop (i + 1) bs)
+  module _ (plan : Plan) (bs : List Binding) (i : ℕ) (b : Binding) (within : i < length bs) (at : b ≡ get_or bs i b) where
+    abbrev before : List Bound
+    before = bounds_of (take i bs)
 
-    here : (next : WithPorts) (turns : List Turn) (status : ℕ) (d end : D) → Played means (binding_todo input (bound_slot plan (bound_of b)) (bound_of b).file inputs outputs (λ k o. bindings_todo plan rest k o next)) d turns status end → Played means (bindings_todo plan (bounds_of (drop i bs)) inputs outputs next) d turns status end
-    here next turns status d end played =
-        subst (λ xs. Played means (bindings_todo plan xs inputs outputs next) d turns status end) (sym (back plan bs i b within at))
-        (subst (λ x. Played means (binding_todo x (bound_slot plan (bound_of b)) (bound_of b).file inputs outputs (λ k o. bindings_todo plan rest k o next)) d turns status end) (sym is) played)
+    abbrev after : List Bound
+    after = bounds_of (drop (i + 1) bs)
 
-    pub left_on : (inputs' : List InputView) (outputs' : List OutputView) (old m new : D) → Left plan (bounds_of bs) (bounds_of (drop i bs)) inputs outputs old m → Opens means (binding_todo input (bound_slot plan (bound_of b)) (bound_of b).file inputs outputs) inputs' outputs' m new → Left plan (bounds_of bs) rest inputs' outputs' old new
-    left_on inputs' outputs' old m new so_far opens next turns status end played =
-        so_far next turns status end (here next turns status m end (opens (λ k o. bindings_todo plan rest k o next) turns status end played))
+    here : (rest : Todo) (turns : List Turn) (status : ℕ) (d end : D) → Played means (Do (binding_act plan (bound_of b)) (bindings_todo plan after rest)) d turns status end → Played means (bindings_todo plan (bounds_of (drop i bs)) rest) d turns status end
+    here rest turns status d end played = subst (λ xs. Played means (bindings_todo plan xs rest) d turns status end) (sym (back plan bs i b within at)) played
 
-    pub left_off : (status : ℕ) (old m new : D) → Left plan (bounds_of bs) (bounds_of (drop i bs)) inputs outputs old m → Stops means (binding_todo input (bound_slot plan (bound_of b)) (bound_of b).file inputs outputs) status m new → Stops means (bindings_todo plan (bounds_of bs) [] []) status old new
-    left_off status old m new so_far stops next =
-        so_far next [] status new (here next [] status m new (stops (λ k o. bindings_todo plan rest k o next)))
+    -- one more file was opened or created
+    pub left_on : (old m new : D) → Left plan (bounds_of bs) (bounds_of (drop i bs)) old m → Acted means (binding_act plan (bound_of b)) true m new → Left plan (bounds_of bs) after old new
+    left_on old m new so_far acted rest turns status end played =
+        so_far rest turns status end (here rest turns status m end (do_on means (binding_act plan (bound_of b)) (bindings_todo plan after rest) turns status m new end acted played))
+
+    -- it failed
+    pub left_off : (old m new : D) → Left plan (bounds_of bs) (bounds_of (drop i bs)) old m → Acted means (binding_act plan (bound_of b)) false m new → DeskPhase means (bindings_todo plan (bounds_of bs)) false old new
+    left_off old m new so_far acted rest =
+        so_far rest [] 3 new (here rest [] 3 m new (do_off means (binding_act plan (bound_of b)) (bindings_todo plan after rest) m new acted))
+
+    files_by : (input : Bool) (slot : ℕ) (file : List ℕ) (inputs : List InputView) (outputs : List OutputView) (old new : D) → Acted means (if input then Open slot file else Create slot file) true old new → HaveFiles means inputs outputs old → HaveFiles means (if input then with_input slot inputs else inputs) (if input then outputs else with_slot slot outputs) new
+    files_by true slot file inputs outputs old new acted all = files_opened inputs outputs old new slot file acted all
+    files_by false slot file inputs outputs old new acted all = files_created inputs outputs old new slot file acted all
+
+    -- the files of those before, and this one
+    pub files_on : (old new : D) → Acted means (binding_act plan (bound_of b)) true old new → HaveFiles means (bound_inputs plan [] before) (bound_outputs plan [] before) old →
+        HaveFiles means (bound_inputs plan [] (bounds_of (take (i + 1) bs))) (bound_outputs plan [] (bounds_of (take (i + 1) bs))) new
+    files_on old new acted all =
+        subst (λ xs. HaveFiles means (bound_inputs plan [] xs) (bound_outputs plan [] xs) new) (sym (front plan bs i b within at))
+        (subst (λ (p : List InputView × List OutputView). HaveFiles means p.0 p.1 new) (λ k. (sym (inputs_more plan before (bound_of b) []) k, sym (outputs_more plan before (bound_of b) []) k))
+        (files_by b.input (bound_slot plan (bound_of b)) (bound_of b).file (bound_inputs plan [] before) (bound_outputs plan [] before) old new acted all))

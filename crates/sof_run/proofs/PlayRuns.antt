@@ -14,7 +14,7 @@ use Rattle.sof_script.specs.declared.script.Command.{Command}
 use Rattle.sof_session.specs.Seat.{Seat, new_seat}
 use Rattle.sof_session.specs.Fills.{AreNew, AreWhole, bytes_read}
 use Rattle.sof_session.specs.Written.{Out, Ground, Leg, IsRun, first_at}
-use Rattle.sof_session.specs.Lives.{Life, Bare, Seated, Task, Begin, Turn, Turned, Turns, inputs_of, reads_by, reads_in, with_out, carried_outs}
+use Rattle.sof_session.specs.Lives.{Life, Bare, Seated, Task, Begin, Turn, Turned, Turns, inputs_of, reads_by, reads_in, carried_outs}
 use Rattle.sof_session.specs.RunOver.{RunOver}
 use Rattle.sof_session.proofs.FilledRuns.{RunsFilled, runs-filled}
 use Rattle.sof_run.specs.Words.{Form}
@@ -22,14 +22,14 @@ use Rattle.sof_run.specs.Todo.{Todo, Ask, Free, DoneBy}
 use Rattle.sof_run.specs.Bindings.{wrong_binding, bound_inputs, bound_files, bound_outputs, bound_slots}
 use Rattle.sof_run.specs.Rounds.{rounds_of}
 use Rattle.sof_run.specs.Prepared.{Ready, prepared}
-use Rattle.sof_run.specs.Play.{WithPorts, prepared_todo, session_todo, play}
+use Rattle.sof_run.specs.Play.{prepared_todo, session_todo, play}
 use Rattle.sof_run.specs.Pieces.{AreWritten, bytes_of_pieces}
 use Rattle.sof_run.specs.Plays.{IsGiven, Plays, Unbegun}
 use Rattle.sof_run.proofs.Slots.{bound_distinct}
 use Rattle.sof_run.proofs.WrittenPieces.{commands_of}
 use Rattle.sof_run.proofs.UnreadBytes.{Unread, grows-new}
 use Rattle.sof_run.proofs.CarriedUnits.{Carried, rounds_go}
-use Rattle.sof_run.proofs.OpenedFiles.{Next, Before, AreOpen, AreUnread, none_unread, opened_none, bind, ask_goes, free_goes, or_before, open_all}
+use Rattle.sof_run.proofs.OpenedFiles.{Next, Before, AreOpen, AreUnread, none_unread, opened_none, bind, ask_goes, free_goes, stopped_before, open_all}
 use Rattle.sof_run.proofs.Grounds.{few_front, messages_few}
 
 length-map : {X Y : Type 0} (f : X → Y) (xs : List X) → length (map f xs) ≡ length xs
@@ -63,16 +63,16 @@ module _ {D P : Type 0} (means : DeskMeaning D) (dsp : Meaning P) (form : Form) 
     pub fresh : AreNew inputs
     pub made : Carried means dsp (rounds_of read.commands) others status mid new (list_of files) last
 
-  abbrev session : WithPorts
-  session i o = Free (session_todo form.heap plan read.commands i o)
+  abbrev session : Todo
+  session = session_todo form.heap plan read.commands inputs slots
 
   abbrev Result : Type 0
   Result = Begun ⊎ Before means slots turns status old new
 
-  begun : (mid : D) → AreOpen means (bound_outputs plan [] read.bindings) old mid → AreUnread means inputs files mid → Next means (session_todo form.heap plan read.commands inputs (bound_outputs plan [] read.bindings)) turns status mid new → Begun
+  begun : (mid : D) → AreOpen means (bound_outputs plan [] read.bindings) old mid → AreUnread means inputs files mid → Next means session turns status mid new → Begun
   begun mid are_open unread n = by turns refl turned n.calls n.goes n.led
     where
-      by : (ts : List Turn) → turns ≡ ts → Turns dsp (Bare p) ts last → (calls : List DeskCall) → DoneBy (session_todo form.heap plan read.commands inputs (bound_outputs plan [] read.bindings)) ts calls status → DeskLed means mid calls new → Begun
+      by : (ts : List Turn) → turns ≡ ts → Turns dsp (Bare p) ts last → (calls : List DeskCall) → DoneBy session ts calls status → DeskLed means mid calls new → Begun
       by [] is turned calls goes led = absurd goes
       by (begins ∷ others) is turned calls goes led =
           let seat : Seat P = new_seat plan form.heap p in
@@ -89,29 +89,24 @@ module _ {D P : Type 0} (means : DeskMeaning D) (dsp : Meaning P) (form : Form) 
             made = rounds_go means dsp (rounds_of read.commands) others calls status mid new seat inputs slots (list_of files) last goes.1 led (subst (λ (l : Life P). Turns dsp l others last) seated turned.2) u;
           }
 
-  none : (n : ℕ) → false ≡ true → has_slot n slots ≡ true
-  none n is = absurd (cc is)
-
   module _ (is_topology : means.holds old form.topology ≡ Some topology) (is_script : means.holds old form.script ≡ Some script) (short : length topology ≤ 1048576) (shorter : length script ≤ 1048576) (given : AllByRecursion (IsGiven (means.holds old)) read.bindings) where
     pub play_goes : Next means (play form) turns status old new → Result
     play_goes n =
-        let outputs = bound_outputs plan [] read.bindings in
         let behind : List ℕ → List ℕ → Todo = λ topology script. Free (prepared_todo form.heap (prepared topology script)) in
         let after : List ℕ → Todo = λ topology. Ask form.script 1048576 (codes "too long script\n") (behind topology) in
         let first_open : AreOpen means [] old old = λ place. opened_none place (means.wrote old place) in
-        bind (or_before means slots [] none old old new first_open turns status (ask_goes means form.topology 1048576 (codes "too long topology\n") after turns status old new topology is_topology short n)) (λ a.
+        bind (stopped_before means slots old old new first_open turns status (ask_goes means form.topology 1048576 (codes "too long topology\n") after turns status old new topology is_topology short n)) (λ a.
         let second_open : AreOpen means [] old a.mid = λ place. a.wrote place ∙ first_open place in
-        bind (or_before means slots [] none old a.mid new second_open turns status (ask_goes means form.script 1048576 (codes "too long script\n") (behind topology) turns status a.mid new script (a.holds form.script ∙ is_script) shorter a.next)) (λ b.
+        bind (stopped_before means slots old a.mid new second_open turns status (ask_goes means form.script 1048576 (codes "too long script\n") (behind topology) turns status a.mid new script (a.holds form.script ∙ is_script) shorter a.next)) (λ b.
         let third_open : AreOpen means [] old b.mid = λ place. b.wrote place ∙ second_open place in
-        bind (or_before means slots [] none old b.mid new third_open turns status (free_goes means (prepared_todo form.heap (prepared topology script)) turns status b.mid new b.next)) (λ next.
+        bind (stopped_before means slots old b.mid new third_open turns status (free_goes means (prepared_todo form.heap (prepared topology script)) turns status b.mid new b.next)) (λ next.
         bind (open_all means (means.holds old) plan session turns status old new read.bindings [] [] [] b.mid given (λ name. b.holds name ∙ a.holds name) third_open (none_unread means b.mid) (subst (λ f. Next means (prepared_todo form.heap f) turns status b.mid new) ready next)) (λ c.
-        bind (or_before means slots outputs (λ n is. is) old c.mid new c.are turns status (free_goes means (session_todo form.heap plan read.commands inputs outputs) turns status c.mid new c.next)) (λ last.
-        inl (begun c.mid c.are c.unread last))))))
+        inl (begun c.mid c.are c.unread c.next)))))
 
   -- ---- the run
 
   pub before_begun : Before means g.slots turns status old new → Unbegun means g.slots old new status p last
-  before_begun b = record { ended = b.ended; wrote = b.wrote; device = subst (λ ts. Turns dsp (Bare p) ts last) b.none turned }
+  before_begun b = record { ended = b.ended; wrote = b.wrote; wanting = b.wanting; device = subst (λ ts. Turns dsp (Bare p) ts last) b.none turned }
 
   module _ (off : dsp.on p ≡ None) (sound : IsSound plan) (right : wrong_binding plan read.bindings ≡ None) (few : length read.commands < 2 ^ 32) (b : Begun) where
     abbrev all : List Command
@@ -120,7 +115,7 @@ module _ {D P : Type 0} (means : DeskMeaning D) (dsp : Meaning P) (form : Form) 
     abbrev commands_made : List Command
     commands_made = take (length (carried_outs b.others)) all
 
-    run : RunsFilled dsp g commands_made b.others p last
+    run : RunsFilled dsp g commands_made b.begins b.others p last
     run =
         runs-filled dsp g inputs p commands_made b.begins b.others last off sound b.fresh (bound_distinct plan read.bindings right)
         b.task b.made.filled (few_front g sound read.commands (length (carried_outs b.others)))
@@ -139,22 +134,20 @@ module _ {D P : Type 0} (means : DeskMeaning D) (dsp : Meaning P) (form : Form) 
 
     -- the run over what was read, and over the files
     abbrev Both : ℕ → Type 0
-    Both n = (over : RunOver dsp (record g { whole = bytes_read (reads_in b.others) }) (take n all) run.legs p last) × IsRun g over.doing (take n all) (first_at g) run.legs
+    Both n = (over : RunOver dsp (record g { whole = bytes_read (reads_in b.others) }) (take n all) run.legs p turns last) × IsRun g over.doing (take n all) (first_at g) run.legs
 
     both : Both (length run.legs)
-    both = subst Both as_many (run.over, run.run files whole)
+    both =
+        subst Both as_many
+        (subst (λ (ts : List Turn). (over : RunOver dsp (record g { whole = bytes_read (reads_in b.others) }) commands_made run.legs p ts last) × IsRun g over.doing commands_made (first_at g) run.legs) (sym b.are) (run.over, run.run files whole))
 
-    -- the first turn reads and answers nothing
-    outs_behind : carried_outs turns ≡ carried_outs b.others
-    outs_behind = ap carried_outs b.are ∙ ap (λ (task : Task). with_out task b.begins.out (carried_outs b.others)) b.task
-
+    -- the first turn reads nothing
     reads_behind : reads_in turns ≡ reads_in b.others
     reads_behind = ap reads_in b.are ∙ ap (λ (task : Task). reads_by task ++ reads_in b.others) b.task
 
     pub plays : Plays means dsp g (rounds_of read.commands) old new status p last turns
     plays = record {
       legs = run.legs;
-      outs = run.outs ∙ sym outs_behind;
       read = bytes_read (reads_in b.others);
       read_is = ap bytes_read (sym reads_behind);
       files = whole;

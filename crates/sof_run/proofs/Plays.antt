@@ -6,18 +6,17 @@ use Rattle.mbox_link.specs.Calls.{Meaning}
 use Rattle.tplg_plan.specs.declared.plans.Plan.{Plan}
 use Rattle.sof_script.specs.declared.script.Numbered.{Numbered}
 use Rattle.sof_script.specs.Commands.{Read}
-use Rattle.sof_base.specs.Ports.{InputView, OutputView}
-use Rattle.sof_io.specs.Bound.{output_slots}
+use Rattle.sof_base.specs.Ports.{InputView}
 use Rattle.sof_session.specs.Seat.{new_seat}
 use Rattle.sof_session.specs.Lives.{Life, Bare, Seated, Turn, Begin}
 use Rattle.sof_run.specs.declared.prepare.Halt.{Halt}
 use Rattle.sof_run.specs.declared.prepare.Halt.TheVariants as halt
 use Rattle.sof_run.specs.Words.{Form}
-use Rattle.sof_run.specs.Todo.{Todo, End, Stop, Ask, Free, Played, RanOn, Phase}
+use Rattle.sof_run.specs.Todo.{Todo, End, Stop, Ask, Free, Played, RanOn, DeskPhase, Phase}
+use Rattle.sof_run.specs.Bindings.{bound_inputs, bound_slots}
 use Rattle.sof_run.specs.Lines.{halt_line, halt_status}
 use Rattle.sof_run.specs.Prepared.{Prepared, Ready, Halted, prepared}
 use Rattle.sof_run.specs.Play.{prepared_todo, ready_todo, bindings_todo, session_todo, commands_todo, play}
-use Rattle.sof_run.specs.Opening.{Opens}
 use Rattle.sof_run.specs.Halts.{Halts}
 use Rattle.sof_run.specs.Todo.{Gave}
 use Rattle.sof_run.proofs.Steps.{ask_on, free_on, free_off, alone, step_on}
@@ -82,20 +81,19 @@ module _ {D P : Type 0} (means : DeskMeaning D) (dsp : Meaning P) where
   free_ran todo old new p q status ran = over (Free todo) todo old old new p q status (λ turns played. free_on means todo turns status old new played) ran
 
 module _ {D P : Type 0} (means : DeskMeaning D) (device : Meaning P) where
-  module _ (plan : Plan) (heap : ℕ) (inputs : List InputView) (outputs : List OutputView) (p : P) where
-    abbrev slots : List ℕ
-    slots = output_slots outputs
-
+  module _ (plan : Plan) (heap : ℕ) (p : P) where
     -- a session over the device
-    pub begin_on : (commands : List Numbered) (old new : D) (status : ℕ) (q : Life P) → RanOn means device (commands_todo commands End) old (Seated (new_seat plan heap p) inputs slots) status new q → RanOn means device (session_todo heap plan commands inputs outputs) old (Bare p) status new q
-    begin_on commands old new status q ran =
+    pub begin_on : (inputs : List InputView) (slots : List ℕ) (commands : List Numbered) (old new : D) (status : ℕ) (q : Life P) → RanOn means device (commands_todo commands End) old (Seated (new_seat plan heap p) inputs slots) status new q → RanOn means device (session_todo heap plan commands inputs slots) old (Bare p) status new q
+    begin_on inputs slots commands old new status q ran =
         step_on means device (record { task = Begin plan heap inputs slots; out = record { answer = answers.Done; shown = []; written = [] } }) (λ out. commands_todo commands End) status old new (Bare p) (Seated (new_seat plan heap p) inputs slots) q refl ran
 
     -- the bindings come before it
-    pub opened_on : (read : Read) (old m new : D) (status : ℕ) (q : Life P) → Opens means (bindings_todo plan read.bindings [] []) inputs outputs old m → RanOn means device (Free (session_todo heap plan read.commands inputs outputs)) m (Bare p) status new q → RanOn means device (Free (ready_todo heap plan read)) old (Bare p) status new q
+    pub opened_on : (read : Read) (old m new : D) (status : ℕ) (q : Life P) → DeskPhase means (bindings_todo plan read.bindings) true old m →
+        RanOn means device (session_todo heap plan read.commands (bound_inputs plan [] read.bindings) (bound_slots plan read.bindings)) m (Bare p) status new q → RanOn means device (Free (ready_todo heap plan read)) old (Bare p) status new q
     opened_on read old m new status q opens ran =
+        let session = session_todo heap plan read.commands (bound_inputs plan [] read.bindings) (bound_slots plan read.bindings) in
         free_ran means device (ready_todo heap plan read) old new (Bare p) q status
-        (over means device (ready_todo heap plan read) (Free (session_todo heap plan read.commands inputs outputs)) old m new (Bare p) q status (λ turns played. opens (λ i o. Free (session_todo heap plan read.commands i o)) turns status new played) ran)
+        (over means device (ready_todo heap plan read) session old m new (Bare p) q status (λ turns played. opens session turns status new played) ran)
 
   -- nothing was done with the device
   pub gave_bare : (todo : Todo) (old new : D) (p : P) (status : ℕ) → RanOn means device todo old (Bare p) status new (Bare p) → Gave means device todo old p status new p

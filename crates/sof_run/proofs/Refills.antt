@@ -12,7 +12,8 @@ use Rattle.host_widgets.specs.declared.answers.Answer.TheVariants.{Done}
 use Rattle.sof_session.specs.Seat.{Seat}
 use Rattle.sof_session.specs.Fills.{next_read, after_read}
 use Rattle.sof_session.specs.Lives.{Seated, Turn, Fill}
-use Rattle.sof_run.specs.Todo.{Todo, Refill, reading, Over, DoneBy, Phase}
+use Rattle.sof_run.specs.Todo.{Todo, Refill, Over, DoneBy, Phase}
+use Rattle.sof_run.specs.Calls.{reading}
 use Rattle.sof_run.specs.Opening.{AreOpened, SameFiles}
 use Rattle.sof_run.specs.Refills.{Refilled}
 

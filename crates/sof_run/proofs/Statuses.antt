@@ -5,7 +5,8 @@ use Rattle.sof_desk.specs.Desk.{DeskMeaning, DeskCall, Load, Did, Read, DeskLed,
 use Rattle.sof_session.specs.Written.{Out}
 use Rattle.sof_session.specs.Lives.{Turn}
 use Rattle.sof_run.specs.Lines.{no_memory_line}
-use Rattle.sof_run.specs.Todo.{Todo, End, Stop, Ask, Do, Step, Refill, Free, Says, Over, reading, DoneBy}
+use Rattle.sof_run.specs.Todo.{Todo, End, Stop, Ask, Do, Step, Refill, Free, Says, Over, DoneBy}
+use Rattle.sof_run.specs.Calls.{reading}
 use Rattle.sof_run.specs.Throughout.{Throughout}
 use Rattle.sof_run.specs.Ends.{IsOpening, AreOpening}
 use Rattle.sof_run.proofs.Steps.{no_turns}

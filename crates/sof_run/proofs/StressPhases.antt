@@ -14,7 +14,8 @@ use Rattle.sof_run.specs.Words.{Form}
 use Rattle.sof_run.specs.Lines.{no_memory_line}
 use Rattle.sof_run.specs.Todo.{Todo, End, Stop, Step, DoneBy, Played, Gave, DeskPhase}
 use Rattle.sof_run.specs.Play.{lines_todo, play}
-use Rattle.sof_run.specs.Stressing.{stress_lines, counted_todo, told_todo}
+use Rattle.sof_run.specs.Stressing.{stress_lines}
+use Rattle.sof_run.specs.StressTodo.{counted_todo, told_todo}
 use Rattle.sof_run.specs.Requests.{Request, Play, Stress, request_of}
 use Rattle.sof_run.specs.Forms.{todo_for, todo_of, GaveSent, StressGave}
 use Rattle.sof_run.proofs.Steps.{free_off}

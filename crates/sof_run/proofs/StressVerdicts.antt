@@ -21,7 +21,8 @@ use Rattle.sof_run.specs.Todo.{Todo, End, Says, DoneBy}
 use Rattle.sof_run.specs.Play.{lines_todo}
 use Rattle.sof_run.specs.Plays.{Unbegun}
 use Rattle.sof_run.specs.Checks.{IsFront}
-use Rattle.sof_run.specs.Stressing.{stress_of, stress_lines, counted_todo, told_todo, stress}
+use Rattle.sof_run.specs.Stressing.{stress_of, stress_lines}
+use Rattle.sof_run.specs.StressTodo.{counted_todo, told_todo, stress}
 use Rattle.sof_run.specs.Stresses.{stress_text, StressRan, StressesWhole}
 use Rattle.sof_run.specs.Forms.{todo_for, todo_of, GaveSent}
 use Rattle.sof_run.proofs.Requests.{stress_most, stress_asked}
@@ -70,7 +71,7 @@ module _ {D P : Type 0} (means : DeskMeaning D) (dsp : Meaning P) (seed : ℕ) (
 
   -- the session was begun, and all its turns were made
   stress_ran : (sent : ℕ) → sent ≡ sent_in last → (begins : Turn) (turns : List Turn) (calls : List DeskCall) → begins.task ≡ stress_begins (dsp.most p) seed →
-      DoneBy (counted_todo (dai_slot (stream_count seed)) (stress_turns seed) no_counts (told_todo sent)) turns calls status → Turns dsp (Bare p) (begins ∷ turns) last → DeskLed means old calls new → StressRan means dsp g seed old new status p last
+      DoneBy (counted_todo (dai_slot (stream_count seed)) (stress_turns seed) no_counts (told_todo sent)) turns calls status → Turns dsp (Bare p) (begins ∷ turns) last → DeskLed means old calls new → StressRan means dsp g seed old new status p last (begins ∷ turns)
   stress_ran sent is_sent begins turns calls begun goes turned led =
       let slot = dai_slot (stream_count seed) in
       let made = counted_off slot (stress_turns seed) no_counts (told_todo sent) turns calls status (λ c ts cs n said. lines_turnless (stress_lines (record c { messages = sent })) ts cs n said) goes in
@@ -105,6 +106,7 @@ module _ {D P : Type 0} (means : DeskMeaning D) (dsp : Meaning P) (words : List 
           said = parted.spoke Spoken;
           outputs = λ slot. inl (parted.spoke (Slot slot));
         };
+        wanting = λ is slot. parted.spoke (Slot slot);
         device = subst (λ ts. Turns dsp (Bare p) ts last) (no_turns no_memory_line 7 turns calls status says) turned;
       }
     where
@@ -116,13 +118,13 @@ module _ {D P : Type 0} (means : DeskMeaning D) (dsp : Meaning P) (words : List 
       front_by part (inl all) = ([], append-nil part ∙ all.1)
       front_by part (inr some) = some.1
 
-  pub stresses : StressesWhole means dsp words old new status p last
+  pub stresses : StressesWhole means dsp words old new status p last given.gave.ran.turns
   stresses seed is =
       by given.gave.ran.turns given.gave.ran.played.calls (given.sound seed is) given.gave.ran.turned given.gave.ran.played.led
       (subst (λ todo. DoneBy todo given.gave.ran.turns given.gave.ran.played.calls status) (stress_alone (dsp.most p) given.sent words seed is) given.gave.ran.played.goes)
     where
       by : (turns : List Turn) (calls : List DeskCall) → (turns ≡ []) ⊎ IsSound (stress_plan seed) → Turns dsp (Bare p) turns last → DeskLed means old calls new → DoneBy (stress (dsp.most p) given.sent seed) turns calls status →
-          StressRan means dsp (stress_ground (dsp.most p) seed) seed old new status p last ⊎ Unbegun means [] old new status p last
+          StressRan means dsp (stress_ground (dsp.most p) seed) seed old new status p last turns ⊎ Unbegun means [] old new status p last
       by turns calls planned turned led (inr says) = inr (wanted turns calls says led turned)
       by [] calls planned turned led (inl goes) = absurd goes
       by (begins ∷ turns) calls (inl none) turned led (inl goes) = absurd (cc none)

@@ -1,8 +1,6 @@
 -- What holds throughout what `run` has to do.
 use Rattle.std.proofs.Common.{◌≡◌, ◌⊎◌, ℕ, Bool, true, false, List, [], ◌∷◌, Option, Some, None, Result, Ok, Err, inl, inr, refl}
-use Rattle.sof_base.specs.Ports.{InputView, OutputView}
-use Rattle.sof_io.specs.Puts.{with_slot}
-use Rattle.sof_io.specs.Fills.{with_input}
+use Rattle.sof_base.specs.Ports.{InputView}
 use Rattle.sof_desk.specs.Desk.{DeskCall}
 use Rattle.tplg_model.specs.declared.fault.TplgFault.{TplgFault}
 use Rattle.tplg_model.specs.declared.block.Topology.{Topology}
@@ -19,20 +17,23 @@ use Rattle.sof_session.specs.Lives.{Turn}
 use Rattle.sof_run.specs.declared.prepare.Halt.{Halt}
 use Rattle.sof_run.specs.declared.prepare.Halt.TheVariants as halt
 use Rattle.sof_run.specs.Words.{Form}
-use Rattle.sof_run.specs.Bindings.{bound_slot}
+use Rattle.sof_run.specs.Bindings.{bound_inputs, bound_slots}
 use Rattle.sof_run.specs.Rounds.{Round, rounds_of}
 use Rattle.sof_run.specs.Todo.{Todo, End, Free, DoneBy}
 use Rattle.sof_run.specs.Lines.{lines_after, halt_status}
 use Rattle.sof_run.specs.Prepared.{Prepared, Ready, Halted, prepared}
-use Rattle.sof_run.specs.Play.{prepared_todo, ready_todo, flush_todo, lines_todo, rounds_todo, session_todo, WithPorts, binding_todo, bindings_todo, play}
-use Rattle.sof_run.specs.Checking.{counts_of, checked_rules, checked_file, checked, checked_todo, check}
-use Rattle.sof_run.specs.Compiling.{CompileNames, source_status, compiled_todo, compile}
+use Rattle.sof_run.specs.Play.{prepared_todo, ready_todo, flush_todo, lines_todo, rounds_todo, session_todo, bindings_todo, play}
+use Rattle.sof_run.specs.Checking.{counts_of, checked_rules, checked_file, checked}
+use Rattle.sof_run.specs.CheckTodo.{checked_todo, check}
+use Rattle.sof_run.specs.Compiling.{CompileNames, source_status}
+use Rattle.sof_run.specs.CompileTodo.{compiled_todo, compile}
 use Rattle.sof_stress.specs.declared.counts.Counts.{Counts}
 use Rattle.sof_stress.specs.Draws.{stream_count}
 use Rattle.sof_stress.specs.StressPorts.{dai_slot}
 use Rattle.sof_stress.specs.CommandTurns.{CommandTurn, turn_counted, no_counts}
 use Rattle.sof_stress.specs.StressRun.{stress_turns}
-use Rattle.sof_run.specs.Stressing.{stress_lines, counted_todo, told_todo, stress}
+use Rattle.sof_run.specs.Stressing.{stress_lines}
+use Rattle.sof_run.specs.StressTodo.{counted_todo, told_todo, stress}
 use Rattle.sof_run.specs.Requests.{Request, Play, Check, Compile, Stress}
 use Rattle.sof_run.specs.Forms.{todo_for}
 use Rattle.sof_run.specs.Throughout.{Throughout}
@@ -51,21 +52,17 @@ module _ (P : ℕ → Type 0) (A : List ℕ → Type 0) where
   rounds_all [] done = done
   rounds_all (round ∷ rounds) done = λ out. flush_all out.written (lines_todo (lines_after round out) (rounds_todo rounds End)) (lines_all (lines_after round out) (rounds_todo rounds End) (rounds_all rounds done))
 
-  session_all : (heap : ℕ) (plan : Plan) (commands : List Numbered) (inputs : List InputView) (outputs : List OutputView) → P 0 → P 7 → Throughout P A (Free (session_todo heap plan commands inputs outputs))
-  session_all heap plan commands inputs outputs done seven = (seven, λ out. rounds_all (rounds_of commands) done)
+  session_all : (heap : ℕ) (plan : Plan) (commands : List Numbered) (inputs : List InputView) (slots : List ℕ) → P 0 → Throughout P A (session_todo heap plan commands inputs slots)
+  session_all heap plan commands inputs slots done = λ out. rounds_all (rounds_of commands) done
 
-  binding_all : (input : Bool) (slot : ℕ) (file : List ℕ) (inputs : List InputView) (outputs : List OutputView) (rest : WithPorts) → P 7 → ((i : List InputView) (o : List OutputView) → Throughout P A (rest i o)) → Throughout P A (binding_todo input slot file inputs outputs rest)
-  binding_all true slot file inputs outputs rest seven all = (seven, all (with_input slot inputs) outputs)
-  binding_all false slot file inputs outputs rest seven all = (seven, all inputs (with_slot slot outputs))
+  bindings_all : (plan : Plan) (bs : List Bound) (rest : Todo) → Throughout P A rest → Throughout P A (bindings_todo plan bs rest)
+  bindings_all plan [] rest all = all
+  bindings_all plan (b ∷ bs) rest all = bindings_all plan bs rest all
 
-  bindings_all : (plan : Plan) (bs : List Bound) (inputs : List InputView) (outputs : List OutputView) (rest : WithPorts) → P 7 → ((i : List InputView) (o : List OutputView) → Throughout P A (rest i o)) → Throughout P A (bindings_todo plan bs inputs outputs rest)
-  bindings_all plan [] inputs outputs rest seven all = all inputs outputs
-  bindings_all plan (b ∷ bs) inputs outputs rest seven all =
-      binding_all b.input (bound_slot plan b) b.file inputs outputs (λ i o. bindings_todo plan bs i o rest) seven (λ i o. bindings_all plan bs i o rest seven all)
-
-  pub ready_all : (heap : ℕ) (plan : Plan) (read : Read) → P 0 → P 7 → Throughout P A (ready_todo heap plan read)
-  ready_all heap plan read done seven =
-      bindings_all plan read.bindings [] [] (λ i o. Free (session_todo heap plan read.commands i o)) seven (λ i o. session_all heap plan read.commands i o done seven)
+  pub ready_all : (heap : ℕ) (plan : Plan) (read : Read) → P 0 → Throughout P A (ready_todo heap plan read)
+  ready_all heap plan read done =
+      bindings_all plan read.bindings (session_todo heap plan read.commands (bound_inputs plan [] read.bindings) (bound_slots plan read.bindings))
+      (session_all heap plan read.commands (bound_inputs plan [] read.bindings) (bound_slots plan read.bindings) done)
 
   halts_all : (why : Halt) → P 2 → P 4 → P 7 → P 8 → P (halt_status why)
   halts_all (halt.Script line cause) two four seven eight = four
@@ -76,7 +73,7 @@ module _ (P : ℕ → Type 0) (A : List ℕ → Type 0) where
   halts_all halt.OutOfMemory two four seven eight = seven
 
   prepared_all : (heap : ℕ) (files : Prepared) → P 0 → P 2 → P 4 → P 7 → P 8 → Throughout P A (prepared_todo heap files)
-  prepared_all heap (Ready plan read) done two four seven eight = ready_all heap plan read done seven
+  prepared_all heap (Ready plan read) done two four seven eight = ready_all heap plan read done
   prepared_all heap (Halted why) done two four seven eight = halts_all why two four seven eight
 
   pub play_all : (form : Form) → P 0 → P 2 → P 4 → P 5 → P 7 → P 8 → ((name : List ℕ) → A name) → Throughout P A (play form)
@@ -132,20 +129,17 @@ rounds_puts : (rounds : List Round) → OpensNone (rounds_todo rounds End)
 rounds_puts [] = tt
 rounds_puts (round ∷ rounds) = λ out. flush_puts out.written (lines_todo (lines_after round out) (rounds_todo rounds End)) (lines_puts (lines_after round out) (rounds_todo rounds End) (rounds_puts rounds))
 
-session_last : (heap : ℕ) (plan : Plan) (commands : List Numbered) (inputs : List InputView) (outputs : List OutputView) → TurnsLast (Free (session_todo heap plan commands inputs outputs))
-session_last heap plan commands inputs outputs = λ out. (rounds_all IsLate (λ name. ⊥) (rounds_of commands) (inl refl), rounds_puts (rounds_of commands))
+session_last : (heap : ℕ) (plan : Plan) (commands : List Numbered) (inputs : List InputView) (slots : List ℕ) → TurnsLast (session_todo heap plan commands inputs slots)
+session_last heap plan commands inputs slots = λ out. (rounds_all IsLate (λ name. ⊥) (rounds_of commands) (inl refl), rounds_puts (rounds_of commands))
 
-binding_last : (input : Bool) (slot : ℕ) (file : List ℕ) (inputs : List InputView) (outputs : List OutputView) (rest : WithPorts) → ((i : List InputView) (o : List OutputView) → TurnsLast (rest i o)) → TurnsLast (binding_todo input slot file inputs outputs rest)
-binding_last true slot file inputs outputs rest last = last (with_input slot inputs) outputs
-binding_last false slot file inputs outputs rest last = last inputs (with_slot slot outputs)
-
-bindings_last : (plan : Plan) (bs : List Bound) (inputs : List InputView) (outputs : List OutputView) (rest : WithPorts) → ((i : List InputView) (o : List OutputView) → TurnsLast (rest i o)) → TurnsLast (bindings_todo plan bs inputs outputs rest)
-bindings_last plan [] inputs outputs rest last = last inputs outputs
-bindings_last plan (b ∷ bs) inputs outputs rest last =
-    binding_last b.input (bound_slot plan b) b.file inputs outputs (λ i o. bindings_todo plan bs i o rest) (λ i o. bindings_last plan bs i o rest last)
+bindings_last : (plan : Plan) (bs : List Bound) (rest : Todo) → TurnsLast rest → TurnsLast (bindings_todo plan bs rest)
+bindings_last plan [] rest last = last
+bindings_last plan (b ∷ bs) rest last = bindings_last plan bs rest last
 
 prepared_last : (heap : ℕ) (files : Prepared) → TurnsLast (prepared_todo heap files)
-prepared_last heap (Ready plan read) = bindings_last plan read.bindings [] [] (λ i o. Free (session_todo heap plan read.commands i o)) (λ i o. session_last heap plan read.commands i o)
+prepared_last heap (Ready plan read) =
+    bindings_last plan read.bindings (session_todo heap plan read.commands (bound_inputs plan [] read.bindings) (bound_slots plan read.bindings))
+    (session_last heap plan read.commands (bound_inputs plan [] read.bindings) (bound_slots plan read.bindings))
 prepared_last heap (Halted why) = tt
 
 lines_last : (lines : List (List ℕ)) → TurnsLast (lines_todo lines End)
@@ -180,4 +174,4 @@ words_last room sent (Some (Play form)) = λ topology script. prepared_last form
 -- files that make a run end with 0 or 3, or memory was wanting
 pub ready_ends : (heap : ℕ) (plan : Plan) (read : Read) (turns : List Turn) (calls : List DeskCall) (status : ℕ) → DoneBy (ready_todo heap plan read) turns calls status → IsLate status ⊎ (status ≡ 7)
 ready_ends heap plan read turns calls status goes =
-    ends (λ n. IsLate n ⊎ (n ≡ 7)) (λ name. Unit {0}) (ready_todo heap plan read) turns calls status goes (ready_all (λ n. IsLate n ⊎ (n ≡ 7)) (λ name. Unit {0}) heap plan read (inl (inl refl)) (inr refl)) (inl (inr refl))
+    ends (λ n. IsLate n ⊎ (n ≡ 7)) (λ name. Unit {0}) (ready_todo heap plan read) turns calls status goes (ready_all (λ n. IsLate n ⊎ (n ≡ 7)) (λ name. Unit {0}) heap plan read (inl (inl refl))) (inl (inr refl))

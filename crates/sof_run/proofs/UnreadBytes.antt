@@ -8,7 +8,7 @@ use Rattle.sof_io.specs.Fills.{is_wanting, wanting, filled_at, ended_at}
 use Rattle.stream_law.specs.Table.{list_of}
 use Rattle.sof_desk.specs.Desk.{DeskMeaning, DeskPlace, DeskCall, DeskLed, FrontOf, WasRead}
 use Rattle.sof_session.specs.Fills.{FilledBy, AreNew, next_read, after_read, bytes_read, input_ends, may_grow}
-use Rattle.sof_run.specs.Todo.{reading}
+use Rattle.sof_run.specs.Calls.{reading}
 use Rattle.sof_run.proofs.Refills.{slots-after_read}
 
 -- ---- inputs

@@ -11,6 +11,7 @@ use Rattle.tplg_plan.specs.declared.plans.Plan.{Plan}
 use Rattle.sof_io.specs.Bound.{output_slots}
 use Rattle.sof_io.specs.Puts.{with_slot}
 use Rattle.sof_io.specs.Fills.{with_input}
+use Rattle.sof_desk.specs.Desk.{DeskAct, Create, Open}
 use Rattle.sof_script.specs.Commands.{Bound}
 
 -- ---- which are right
@@ -62,6 +63,10 @@ slot_of plan input name = option_map_or (λ c. c.id) (find (is_sought plan input
 -- the slot of a binding
 abbrev pub bound_slot : Plan → Bound → ℕ
 bound_slot plan b = slot_of plan b.input b.endpoint
+
+-- the file of a binding is opened to be read, or created to be written
+abbrev pub binding_act : Plan → Bound → DeskAct
+binding_act plan b = if b.input then Open (bound_slot plan b) b.file else Create (bound_slot plan b) b.file
 
 -- the inputs that are bound, by ascending slot, with earlier ones
 abbrev pub bound_inputs : Plan → List InputView → List Bound → List InputView

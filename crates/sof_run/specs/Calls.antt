@@ -1,7 +1,7 @@
 -- The calls on the desk and the turns on the device, as one list, by what loads answered and by the turns that were made.
 use Rattle.std.specs.Prelude.{◌≡◌, ◌⊎◌, ℕ, true, false, List, [], ◌∷◌, ◌++◌, map, Option, Some, None, Result, Ok, Err, codes, if◌then◌else◌}
 use Rattle.sof_desk.specs.declared.calls.LoadFault.TheVariants.{Failed, TooLong, OutOfMemory}
-use Rattle.sof_desk.specs.Desk.{DeskAct, Create, Put, Open, Slot, Spoken, Heard, DeskCall, Load, Did, Read}
+use Rattle.sof_desk.specs.Desk.{Create, Put, Slot, Spoken, Heard, DeskCall, Load, Did, Read}
 use Rattle.tplg_model.specs.declared.block.Topology.{Topology}
 use Rattle.tplg_model.specs.File.{spelling}
 use Rattle.tplg_plan.specs.declared.plans.Plan.{Plan}
@@ -12,9 +12,8 @@ use Rattle.sof_session.specs.Written.{Out}
 use Rattle.sof_session.specs.Lives.{Task, Begin, Carry, Fill, Turn}
 use Rattle.sof_run.specs.declared.prepare.Halt.{Halt}
 use Rattle.sof_run.specs.Words.{Form}
-use Rattle.sof_run.specs.Bindings.{bound_slot, bound_inputs, bound_slots}
+use Rattle.sof_run.specs.Bindings.{binding_act, bound_inputs, bound_slots}
 use Rattle.sof_run.specs.Rounds.{Round, rounds_of}
-use Rattle.sof_run.specs.Todo.{reading}
 use Rattle.sof_run.specs.Lines.{no_memory_line, halt_line, halt_status, with_newline}
 use Rattle.sof_run.specs.Prepared.{Prepared, Ready, Halted, prepared}
 use Rattle.sof_run.specs.Pieces.{Piece, pieces_of}
@@ -64,6 +63,12 @@ abbrev pub turning : Task → List Turn → (Out → List Turn → Course) → C
 turning task [] next = record { items = Turns task ∷ []; status = 0 }
 turning task (turn ∷ turns) next = before_course (Turns task ∷ []) (next turn.out turns)
 
+-- the calls of these reads, and the one that failed, if any did
+abbrev pub reading : List (ℕ × List ℕ) → Option ℕ → List DeskCall
+reading [] None = []
+reading [] (Some slot) = Read slot 65536 None ∷ []
+reading ((slot, bytes) ∷ reads) failed = Read slot 65536 (Some bytes) ∷ reading reads failed
+
 -- a turn that fills the inputs by its reads, and what comes next where none failed
 abbrev pub filling_by : Task → Course → Course
 filling_by (Fill reads None) next = before_course (Turns (Fill reads None) ∷ map Calls (reading reads None)) next
@@ -85,21 +90,17 @@ units [] turns = record { items = []; status = 0 }
 units (round ∷ rounds) turns =
     filling turns (λ turns. turning (Carry round.numbered.command) turns (λ out turns. before_course (map putting (pieces_of round out)) (units rounds turns)))
 
--- a binding's file is opened or created
-abbrev pub binding_act : Plan → Bound → DeskAct
-binding_act plan b = if b.input then Open (bound_slot plan b) b.file else Create (bound_slot plan b) b.file
-
--- the bindings in their order, each with its memory first
+-- the bindings in their order
 abbrev pub bindings : Plan → List Bound → Course → Course
 bindings plan [] next = next
-bindings plan (b ∷ bs) next = before_course (Memory ∷ Calls (Did (binding_act plan b) true) ∷ []) (bindings plan bs next)
+bindings plan (b ∷ bs) next = before_course (Calls (Did (binding_act plan b) true) ∷ []) (bindings plan bs next)
 
 -- and then a session over what they bind
 abbrev pub files : ℕ → Prepared → List Turn → Course
 files heap (Halted why) turns = last_line (halt_line why) (halt_status why)
 files heap (Ready plan read) turns =
     bindings plan read.bindings
-    (before_course (Memory ∷ []) (turning (Begin plan heap (bound_inputs plan [] read.bindings) (bound_slots plan read.bindings)) turns (λ out turns. units (rounds_of read.commands) turns)))
+    (turning (Begin plan heap (bound_inputs plan [] read.bindings) (bound_slots plan read.bindings)) turns (λ out turns. units (rounds_of read.commands) turns))
 
 abbrev pub playing : Form → List Heard → List Turn → Course
 playing form heard turns =

@@ -1,4 +1,4 @@
--- What `check` has to do, by the bytes of the file that its words name.
+-- The words of `check`, the lines that it says, and what the bytes of its file come to.
 use Rattle.std.specs.Prelude.{ℕ, ◌&&◌, List, [], ◌∷◌, ◌++◌, length, Option, Some, None, Result, Ok, Err, codes, decimal, if◌then◌else◌}
 use Rattle.std.specs.Str.{bytes_eq}
 use Rattle.tplg_model.specs.declared.fault.TplgFault.{TplgFault}
@@ -11,9 +11,6 @@ use Rattle.tplg_rules.specs.RuleTest.{ruling_of}
 use Rattle.sof_run.specs.declared.prepare.Halt.{Halt}
 use Rattle.sof_run.specs.declared.prepare.Halt.TheVariants as halts
 use Rattle.sof_run.specs.Words.{is_file_name}
-use Rattle.sof_run.specs.Todo.{Todo, End, Stop, Ask, Free}
-use Rattle.sof_run.specs.Lines.{halt_line, halt_status}
-use Rattle.sof_run.specs.Play.{lines_todo}
 
 -- ---- the words
 
@@ -61,12 +58,3 @@ checked_file (Ok t) = checked_rules t (ruling_of t)
 -- what the bytes come to: a topology that keeps all rules, or why they make none
 abbrev pub checked : List ℕ → Result Topology Halt
 checked bytes = checked_file (topology_of bytes)
-
--- what is to do then
-abbrev pub checked_todo : Result Topology Halt → Todo
-checked_todo (Ok t) = lines_todo (counts_of t) End
-checked_todo (Err why) = Stop (halt_line why) (halt_status why)
-
--- the file is loaded and checked
-abbrev pub check : List ℕ → Todo
-check name = Ask name 1048576 (codes "too long topology\n") (λ bytes. Free (checked_todo (checked bytes)))

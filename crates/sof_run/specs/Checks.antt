@@ -11,6 +11,7 @@ use Rattle.sof_run.specs.declared.prepare.Halt.TheVariants as halts
 use Rattle.sof_run.specs.Lines.{no_memory_line, with_newline, halt_line}
 use Rattle.sof_run.specs.TopologyBytes.{AreBytes, IsLong, IsFile, IsBroken}
 use Rattle.sof_run.specs.Checking.{check_of, counts_of}
+use Rattle.sof_run.specs.Calls.{heard_in}
 
 -- Why bytes are no right topology: no topology has them, and this is their first fault; or the topology that has them breaks
 -- this rule first, with this least item.
@@ -66,6 +67,8 @@ pub record Checks {D P : Type 0} (means : DeskMeaning D) (words : List (List ℕ
   pub alone : (name : List ℕ) → check_of words ≡ Some name → q ≡ p
   -- where the desk tells the file, the status is by its bytes
   pub judged : (name bytes : List ℕ) → check_of words ≡ Some name → means.holds old name ≡ Some bytes → AreBytes bytes → CheckVerdict name bytes calls status
+  -- whatever the desk tells, it is by the bytes that the load brought
+  pub heard : (name bytes : List ℕ) → check_of words ≡ Some name → heard_in calls ≡ Ok bytes ∷ [] → AreBytes bytes → CheckVerdict name bytes calls status
   -- of a right topology the counts were said, and nothing else was written
   pub counted : (name bytes : List ℕ) (t : Topology) → check_of words ≡ Some name → means.holds old name ≡ Some bytes → length bytes ≤ 1048576 → IsRight bytes t
       → WroteText means (concat (map with_newline (counts_of t))) old new status

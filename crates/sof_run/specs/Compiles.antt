@@ -3,13 +3,13 @@ use Rattle.std.specs.Prelude.{◌≡◌, ◌⊎◌, ℕ, ◌≤◌, true, List, 
 use Rattle.sof_desk.specs.declared.calls.LoadFault.TheVariants.{TooLong}
 use Rattle.sof_desk.specs.Desk.{DeskMeaning, DeskPlace, Slot, Spoken, Create, Put, DeskCall, Load, Did, with_more, with_nothing}
 use Rattle.tplg_model.specs.declared.block.Topology.{Topology}
-use Rattle.tplg_model.specs.File.{IsTopology, spelling}
+use Rattle.tplg_model.specs.File.{spelling}
 use Rattle.tplg_compile.specs.declared.source_fault.SourceFault.{SourceFault}
 use Rattle.tplg_compile.specs.Compiled.{IsCompiled, IsCompileFault}
-use Rattle.tplg_compile.specs.InOrder.{compiled_of}
 use Rattle.sof_run.specs.Lines.{no_memory_line, with_newline}
 use Rattle.sof_run.specs.TopologyBytes.{IsLong, IsFile}
 use Rattle.sof_run.specs.Checks.{saying, Spoke, IsFront}
+use Rattle.sof_run.specs.Calls.{heard_in}
 use Rattle.sof_run.specs.Compiling.{CompileNames, compile_of, source_line, wrote_line}
 
 -- a file was created in slot 0, its bytes were appended, and their number was said
@@ -54,11 +54,6 @@ pub record Sourced {D : Type 0} (means : DeskMeaning D) (words : List (List ℕ)
   pub named : compile_of words ≡ Some names
   pub told : means.holds old names.source ≡ Some text
 
--- what was made of the source is a topology of the program
-abbrev pub MakesTopology : {D : Type 0} → DeskMeaning D → List (List ℕ) → D → ℕ → Type 0
-MakesTopology means words old status =
-    (names : CompileNames) (text : List ℕ) (t : Topology) → Sourced means words old names text → compiled_of text ≡ Ok t → status ≡ 0 → IsTopology t
-
 -- ---- all
 
 -- Where the words are those of `compile`.
@@ -67,6 +62,8 @@ pub record Compiles {D P : Type 0} (means : DeskMeaning D) (words : List (List �
   pub alone : (names : CompileNames) → compile_of words ≡ Some names → q ≡ p
   -- the status is by the source's bytes
   pub judged : (names : CompileNames) (text : List ℕ) → Sourced means words old names text → CompileVerdict names text calls status
+  -- whatever the desk tells, it is by the bytes that the load brought
+  pub heard : (names : CompileNames) (text : List ℕ) → compile_of words ≡ Some names → heard_in calls ≡ Ok text ∷ [] → CompileVerdict names text calls status
   -- of a source within its limit the file of its topology was made, or a front of it, and nothing else was written
   pub wrote : (names : CompileNames) (text : List ℕ) (t : Topology) → Sourced means words old names text → length text ≤ 1048576 → IsCompiled text t
       → WroteFile means (spelling t) (with_newline (wrote_line (spelling t))) old new status

@@ -1,18 +1,12 @@
--- What `compile` has to do, by the bytes of the source that its words name.
-use Rattle.std.specs.Prelude.{ℕ, ◌&&◌, List, [], ◌∷◌, ◌++◌, length, Option, Some, None, Result, Ok, Err, codes, decimal, if◌then◌else◌}
+-- The words of `compile`, and the lines that it says.
+use Rattle.std.specs.Prelude.{ℕ, ◌&&◌, List, [], ◌∷◌, ◌++◌, length, Option, Some, None, codes, decimal, if◌then◌else◌}
 use Rattle.std.specs.Str.{bytes_eq}
-use Rattle.sof_desk.specs.Desk.{Create, Put, Slot}
-use Rattle.tplg_model.specs.declared.block.Topology.{Topology}
-use Rattle.tplg_model.specs.File.{spelling}
 use Rattle.tplg_compile.specs.declared.source_fault.List.{List as SourceList}
 use Rattle.tplg_compile.specs.declared.source_fault.List.TheVariants.{Top, Widget, Route, Pcm}
 use Rattle.tplg_compile.specs.declared.source_fault.SourceFault.{SourceFault}
 use Rattle.tplg_compile.specs.declared.source_fault.SourceFault.TheVariants.{Syntax, Shape, Rule, OutOfMemory}
-use Rattle.tplg_compile.specs.InOrder.{compiled_of}
 use Rattle.sof_run.specs.Words.{is_file_name}
-use Rattle.sof_run.specs.Todo.{Todo, End, Stop, Ask, Do, Free}
 use Rattle.sof_run.specs.Lines.{no_memory_line, with_newline}
-use Rattle.sof_run.specs.Play.{lines_todo}
 use Rattle.sof_run.specs.Checking.{count_line}
 
 -- ---- the words
@@ -59,18 +53,3 @@ source_status fault = 4
 -- how many bytes the file has
 abbrev pub wrote_line : List ℕ → List ℕ
 wrote_line bytes = count_line (codes "wrote ") (length bytes)
-
--- ---- the file
-
--- the file is created in slot 0, all its bytes are appended at once, and their number is said
-abbrev pub file_todo : List ℕ → List ℕ → Todo → Todo
-file_todo out bytes rest = Do (Create 0 out) (Do (Put (Slot 0) bytes) (lines_todo (wrote_line bytes ∷ []) rest))
-
--- what is to do with the topology that a source comes to, or with its fault
-abbrev pub compiled_todo : List ℕ → Result Topology SourceFault → Todo
-compiled_todo out (Ok t) = file_todo out (spelling t) End
-compiled_todo out (Err fault) = Stop (source_line fault) (source_status fault)
-
--- the source is loaded and compiled
-abbrev pub compile : CompileNames → Todo
-compile names = Ask names.source 1048576 (codes "too long source\n") (λ text. Free (compiled_todo names.out (compiled_of text)))

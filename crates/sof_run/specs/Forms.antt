@@ -7,9 +7,10 @@ use Rattle.sof_session.specs.Lives.{Turn}
 use Rattle.sof_stress.specs.StressRun.{sent_in, stress_plan}
 use Rattle.sof_run.specs.Todo.{Todo, Stop, Gave}
 use Rattle.sof_run.specs.Play.{play}
-use Rattle.sof_run.specs.Checking.{check}
-use Rattle.sof_run.specs.Compiling.{compile}
-use Rattle.sof_run.specs.Stressing.{stress, stress_of}
+use Rattle.sof_run.specs.CheckTodo.{check}
+use Rattle.sof_run.specs.CompileTodo.{compile}
+use Rattle.sof_run.specs.Stressing.{stress_of}
+use Rattle.sof_run.specs.StressTodo.{stress}
 use Rattle.sof_run.specs.Requests.{Request, Play, Check, Compile, Stress, request_of}
 
 -- what is to do where this is asked for, or nothing is, over a device of this room; a stress has sent so many messages at its end

@@ -1,4 +1,4 @@
--- The run that is played of files whose bytes the desk need not tell: over what its calls gave.
+-- The run that is played of files whose bytes the desk need not tell: over the bytes that its loads and reads brought.
 use Rattle.std.specs.Prelude.{◌≡◌, ◌⊎◌, ℕ, List, [], ◌∷◌, length, map, take, Option, Some, Ok}
 use Rattle.sof_desk.specs.Desk.{DeskCall}
 use Rattle.mbox_link.specs.Calls.{Meaning}
@@ -7,7 +7,7 @@ use Rattle.tplg_graph.specs.PlanOf.{plan_of}
 use Rattle.sof_script.specs.Commands.{Read}
 use Rattle.sof_session.specs.Written.{Ground, Leg}
 use Rattle.sof_session.specs.Fills.{bytes_read}
-use Rattle.sof_session.specs.Lives.{Life, Bare, Turn, reads_in, carried_outs}
+use Rattle.sof_session.specs.Lives.{Life, Bare, Turn, reads_in}
 use Rattle.sof_session.specs.RunOver.{RunOver}
 use Rattle.sof_run.specs.Words.{Form, play_of}
 use Rattle.sof_run.specs.Bindings.{bound_slots}
@@ -15,8 +15,8 @@ use Rattle.sof_run.specs.Rounds.{rounds_of}
 use Rattle.sof_run.specs.Verdicts.{Fit, MakeRun}
 use Rattle.sof_run.specs.Calls.{heard_in}
 
--- the loads answered a topology and a script, and these make a run
-pub record Answered (room : ℕ) (words : List (List ℕ)) (calls : List DeskCall) : Type 0 where
+-- the loads brought a topology and a script, and these make a run
+pub record Brought (room : ℕ) (words : List (List ℕ)) (calls : List DeskCall) : Type 0 where
   pub form : Form
   pub topology : List ℕ
   pub script : List ℕ
@@ -28,21 +28,20 @@ pub record Answered (room : ℕ) (words : List (List ℕ)) (calls : List DeskCal
   pub make_run : MakeRun topology script t read
 
 -- what its run is over: the bytes that reads brought are the inputs
-abbrev pub heard_ground : {room : ℕ} {words : List (List ℕ)} {calls : List DeskCall} → Answered room words calls → List Turn → Ground
-heard_ground a turns = record {
-  plan = plan_of a.t;
-  heap = a.form.heap;
+abbrev pub heard_ground : {room : ℕ} {words : List (List ℕ)} {calls : List DeskCall} → Brought room words calls → List Turn → Ground
+heard_ground b turns = record {
+  plan = plan_of b.t;
+  heap = b.form.heap;
   whole = bytes_read (reads_in turns);
-  slots = bound_slots (plan_of a.t) a.read.bindings;
+  slots = bound_slots (plan_of b.t) b.read.bindings;
 }
 
--- the written run of the commands that were carried out, whose legs answered, showed and wrote what the turns did
-pub record PlaysHeard {P : Type 0} (dsp : Meaning P) (room : ℕ) (words : List (List ℕ)) (calls : List DeskCall) (a : Answered room words calls) (turns : List Turn) (p : P) (last : Life P) : Type 0 where
+-- the turns made the written run of the commands that they carried out
+pub record PlaysHeard {P : Type 0} (dsp : Meaning P) (room : ℕ) (words : List (List ℕ)) (calls : List DeskCall) (b : Brought room words calls) (turns : List Turn) (p : P) (last : Life P) : Type 0 where
   pub legs : List Leg
-  pub outs : map (λ (leg : Leg). leg.out) legs ≡ carried_outs turns
-  pub over : RunOver dsp (heard_ground a turns) (take (length legs) (map (λ round. round.numbered.command) (rounds_of a.read.commands))) legs p last
+  pub over : RunOver dsp (heard_ground b turns) (take (length legs) (map (λ round. round.numbered.command) (rounds_of b.read.commands))) legs p turns last
 
--- it was played, or the device is as it was handed in
-abbrev pub PlaysWhatIsHeard : {P : Type 0} → Meaning P → List (List ℕ) → List DeskCall → List Turn → P → Life P → Type 0
-PlaysWhatIsHeard dsp words calls turns p last =
-    (a : Answered (dsp.most p) words calls) → PlaysHeard dsp (dsp.most p) words calls a turns p last ⊎ (last ≡ Bare p)
+-- it was played; or the desk failed, or memory was wanting, before a session was begun, and the device is as it was handed in
+abbrev pub PlaysWhatIsHeard : {P : Type 0} → Meaning P → List (List ℕ) → List DeskCall → List Turn → ℕ → P → Life P → Type 0
+PlaysWhatIsHeard dsp words calls turns status p last =
+    (b : Brought (dsp.most p) words calls) → PlaysHeard dsp (dsp.most p) words calls b turns p last ⊎ (((status ≡ 3) ⊎ (status ≡ 7)) × (last ≡ Bare p))

@@ -1,12 +1,9 @@
 -- The files of bindings, as they are opened one after another.
-use Rattle.std.specs.Prelude.{◌≡◌, ℕ, true, List, []}
+use Rattle.std.specs.Prelude.{◌≡◌, ℕ, true, List}
 use Rattle.std.specs.List.{AllByRecursion}
 use Rattle.sof_base.specs.Ports.{InputView, OutputView}
 use Rattle.sof_io.specs.Bound.{input_slots, output_slots}
 use Rattle.sof_desk.specs.Desk.{DeskMeaning}
-use Rattle.sof_session.specs.Lives.{Turn}
-use Rattle.sof_run.specs.Todo.{Todo, Played}
-use Rattle.sof_run.specs.Play.{WithPorts}
 
 -- the files of these slots are open to be read
 abbrev pub AreOpened : {D : Type 0} → DeskMeaning D → List ℕ → D → Type 0
@@ -25,12 +22,3 @@ pub record HaveFiles {D : Type 0} (means : DeskMeaning D) (inputs : List InputVi
 pub record SameFiles {D : Type 0} (means : DeskMeaning D) (old new : D) : Type 0 where
   pub opened : (slot : ℕ) → means.opened new slot ≡ means.opened old slot
   pub created : (slot : ℕ) → means.created new slot ≡ means.created old slot
-
--- these were opened: what comes next with these inputs and outputs, done, makes the whole done
-abbrev pub Opens : {D : Type 0} → DeskMeaning D → (WithPorts → Todo) → List InputView → List OutputView → D → D → Type 0
-Opens {D} means whole inputs outputs old new =
-    (next : WithPorts) (turns : List Turn) (status : ℕ) (end : D) → Played means (next inputs outputs) new turns status end → Played means (whole next) old turns status end
-
--- the run ended before all were opened, with this status
-abbrev pub Stops : {D : Type 0} → DeskMeaning D → (WithPorts → Todo) → ℕ → D → D → Type 0
-Stops means whole status old new = (next : WithPorts) → Played means (whole next) old [] status new

@@ -1,16 +1,13 @@
 -- What `play` has to do, by its words and by the bytes of the files that they name.
-use Rattle.std.specs.Prelude.{ℕ, Bool, true, false, List, [], ◌∷◌, codes}
-use Rattle.sof_base.specs.Ports.{InputView, OutputView}
-use Rattle.sof_io.specs.Bound.{output_slots}
-use Rattle.sof_io.specs.Puts.{with_slot}
-use Rattle.sof_io.specs.Fills.{with_input}
-use Rattle.sof_desk.specs.Desk.{Create, Open, Put, Slot, Spoken}
+use Rattle.std.specs.Prelude.{ℕ, List, [], ◌∷◌, codes}
+use Rattle.sof_base.specs.Ports.{InputView}
+use Rattle.sof_desk.specs.Desk.{Put, Slot, Spoken}
 use Rattle.tplg_plan.specs.declared.plans.Plan.{Plan}
 use Rattle.sof_script.specs.declared.script.Numbered.{Numbered}
 use Rattle.sof_script.specs.Commands.{Bound, Read}
 use Rattle.sof_session.specs.Written.{Written}
 use Rattle.sof_session.specs.Lives.{Begin, Carry}
-use Rattle.sof_run.specs.Bindings.{bound_slot}
+use Rattle.sof_run.specs.Bindings.{binding_act, bound_inputs, bound_slots}
 use Rattle.sof_run.specs.Rounds.{Round, rounds_of}
 use Rattle.sof_run.specs.Words.{Form}
 use Rattle.sof_run.specs.Todo.{Todo, End, Stop, Ask, Do, Step, Refill, Free}
@@ -47,38 +44,19 @@ abbrev pub commands_todo : List Numbered → Todo → Todo
 commands_todo commands rest = rounds_todo (rounds_of commands) rest
 
 -- a session is begun over the device with these inputs and slots of outputs, and then come the commands
-abbrev pub session_todo : ℕ → Plan → List Numbered → List InputView → List OutputView → Todo
-session_todo heap plan commands inputs outputs = Step (Begin plan heap inputs (output_slots outputs)) (λ out. commands_todo commands End)
-
--- ---- the bindings
-
--- what comes next has the inputs and the outputs that are there by then
-abbrev pub WithPorts : Type 0
-WithPorts = List InputView → List OutputView → Todo
-
--- an input has its place, and then its file is opened
-abbrev pub input_todo : ℕ → List ℕ → List InputView → List OutputView → WithPorts → Todo
-input_todo slot file inputs outputs rest = Free (Do (Open slot file) (rest (with_input slot inputs) outputs))
-
--- an output has its place, and then its file is created
-abbrev pub output_todo : ℕ → List ℕ → List InputView → List OutputView → WithPorts → Todo
-output_todo slot file inputs outputs rest = Free (Do (Create slot file) (rest inputs (with_slot slot outputs)))
-
--- by the direction
-abbrev pub binding_todo : Bool → ℕ → List ℕ → List InputView → List OutputView → WithPorts → Todo
-binding_todo true slot file inputs outputs rest = input_todo slot file inputs outputs rest
-binding_todo false slot file inputs outputs rest = output_todo slot file inputs outputs rest
-
--- each binding in turn
-abbrev pub bindings_todo : Plan → List Bound → List InputView → List OutputView → WithPorts → Todo
-bindings_todo plan [] inputs outputs rest = rest inputs outputs
-bindings_todo plan (b ∷ bs) inputs outputs rest = binding_todo b.input (bound_slot plan b) b.file inputs outputs (λ i o. bindings_todo plan bs i o rest)
+abbrev pub session_todo : ℕ → Plan → List Numbered → List InputView → List ℕ → Todo
+session_todo heap plan commands inputs slots = Step (Begin plan heap inputs slots) (λ out. commands_todo commands End)
 
 -- ---- the files
 
--- the bindings come first, and then the session, for which memory may be wanting
+-- the file of each binding is opened or created, in their order
+abbrev pub bindings_todo : Plan → List Bound → Todo → Todo
+bindings_todo plan [] rest = rest
+bindings_todo plan (b ∷ bs) rest = Do (binding_act plan b) (bindings_todo plan bs rest)
+
+-- the bindings come first, and then a session over what they bind
 abbrev pub ready_todo : ℕ → Plan → Read → Todo
-ready_todo heap plan read = bindings_todo plan read.bindings [] [] (λ inputs outputs. Free (session_todo heap plan read.commands inputs outputs))
+ready_todo heap plan read = bindings_todo plan read.bindings (session_todo heap plan read.commands (bound_inputs plan [] read.bindings) (bound_slots plan read.bindings))
 
 -- what is to do then
 abbrev pub prepared_todo : ℕ → Prepared → Todo
@@ -87,7 +65,7 @@ prepared_todo heap (Halted why) = Stop (halt_line why) (halt_status why)
 
 -- ---- the words
 
--- the topology is loaded, and then the script
+-- the topology is loaded, and then the script; memory for all that comes behind may be wanting, before any file is opened
 abbrev pub play : Form → Todo
 play form =
     Ask form.topology 1048576 (codes "too long topology\n") (λ topology.

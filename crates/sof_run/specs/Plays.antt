@@ -1,14 +1,14 @@
 -- What is to be played, and the run that is played of it.
 use Rattle.std.specs.Prelude.{◌≡◌, ◌⊎◌, ℕ, true, List, [], length, map, take, Option, Some}
 use Rattle.std.specs.List.{AllByRecursion}
-use Rattle.sof_desk.specs.Desk.{DeskMeaning}
+use Rattle.sof_desk.specs.Desk.{DeskMeaning, Slot}
 use Rattle.mbox_link.specs.Calls.{Meaning}
 use Rattle.tplg_model.specs.declared.block.Topology.{Topology}
 use Rattle.tplg_graph.specs.PlanOf.{plan_of}
 use Rattle.sof_script.specs.Commands.{Bound, Read}
 use Rattle.sof_session.specs.Written.{Ground, Leg, IsRun, first_at}
 use Rattle.sof_session.specs.Fills.{AreWhole, bytes_read}
-use Rattle.sof_session.specs.Lives.{Life, Bare, Turn, inputs_of, reads_in, carried_outs}
+use Rattle.sof_session.specs.Lives.{Life, Bare, Turn, inputs_of, reads_in}
 use Rattle.sof_session.specs.RunOver.{RunOver}
 use Rattle.sof_run.specs.Words.{Form, play_of}
 use Rattle.sof_run.specs.Bindings.{bound_files, bound_slots}
@@ -49,25 +49,25 @@ ground_in {holds} play = record {
 -- ---- what was played
 
 -- The written run of the first units, one leg each, over the inputs' whole files. What was read of each file is a front of it, and
--- all of it where the input has ended; the run over what was read is the same, and device and inputs stand where that leads. Its
--- legs answered, showed and wrote what the turns did. The
--- pieces were written behind what stood there once the outputs' files were created.
+-- all of it where the input has ended; the run over what was read is the same, the turns made it, and device and inputs stand where it
+-- leads. The pieces were written behind what stood there once the outputs' files were created.
 pub record Plays {D P : Type 0} (means : DeskMeaning D) (dsp : Meaning P) (g : Ground) (rounds : List Round) (old new : D) (status : ℕ) (p : P) (last : Life P) (turns : List Turn) : Type 0 where
   pub legs : List Leg
-  pub outs : map (λ (leg : Leg). leg.out) legs ≡ carried_outs turns
   pub read : List (ℕ × List ℕ)
   pub read_is : read ≡ bytes_read (reads_in turns)
   pub files : AreWhole (inputs_of last) read g.whole
-  pub over : RunOver dsp (record g { whole = read }) (take (length legs) (map (λ (round : Round). round.numbered.command) rounds)) legs p last
+  pub over : RunOver dsp (record g { whole = read }) (take (length legs) (map (λ (round : Round). round.numbered.command) rounds)) legs p turns last
   pub run : IsRun g over.doing (take (length legs) (map (λ (round : Round). round.numbered.command) rounds)) (first_at g) legs
   pub made : List Piece
   pub written : AreWritten rounds (map (λ (leg : Leg). leg.out) legs) made status
   pub wrote : WroteBehind means g.slots made old new
 
--- nothing of the run was written, and the device is as it was handed in: the desk failed, or memory was wanting
+-- nothing of the run was written, and the device is as it was handed in: the desk failed, or memory was wanting, and then no file was
+-- created
 pub record Unbegun {D P : Type 0} (means : DeskMeaning D) (slots : List ℕ) (old new : D) (status : ℕ) (p : P) (last : Life P) : Type 0 where
   pub ended : (status ≡ 3) ⊎ (status ≡ 7)
   pub wrote : WroteNone means slots old new
+  pub wanting : status ≡ 7 → (slot : ℕ) → means.wrote new (Slot slot) ≡ means.wrote old (Slot slot)
   pub device : last ≡ Bare p
 
 -- what is to be played is played, or ended before it was begun

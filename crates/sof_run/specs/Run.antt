@@ -39,7 +39,7 @@ pub record Whole {D P : Type 0} (means : DeskMeaning D) (dsp : Meaning P) (words
   pub worded : Worded (dsp.most p) words status
   pub judged : Judged means (dsp.most p) words old called.calls status
   pub run : PlaysWhole means dsp words old new status p last called.turns
-  pub heard : PlaysWhatIsHeard dsp words called.calls called.turns p last
+  pub heard : PlaysWhatIsHeard dsp words called.calls called.turns status p last
   pub checks : Checks means words old (Bare p) called.calls status new last
   pub compiles : Compiles means words old (Bare p) called.calls status new last
-  pub stresses : StressesWhole means dsp words old new status p last
+  pub stresses : StressesWhole means dsp words old new status p last called.turns

@@ -4,7 +4,7 @@ use Rattle.std.specs.List.{concat}
 use Rattle.sof_desk.specs.Desk.{DeskMeaning}
 use Rattle.mbox_link.specs.Calls.{Meaning}
 use Rattle.sof_session.specs.Written.{Ground, Leg, first_at, end_of}
-use Rattle.sof_session.specs.Lives.{Life}
+use Rattle.sof_session.specs.Lives.{Life, Turn}
 use Rattle.sof_session.specs.RunOver.{RunOver}
 use Rattle.sof_stress.specs.StressRun.{commands_of, stress_counts, stress_ground, stress_turns}
 use Rattle.sof_run.specs.Lines.{with_newline}
@@ -17,17 +17,17 @@ abbrev pub stress_text : ℕ → Ground → List Leg → List ℕ
 stress_text seed g legs =
     concat (map with_newline (stress_lines (stress_counts seed (end_of (first_at g) legs).known.queue.sent (map (λ (leg : Leg). leg.out) legs))))
 
--- The written run of all turns over the device; its five numbers were said, all of them with status 0, or a front of them with
+-- The turns made the written run of all commands that the number draws; its five numbers were said, all of them with status 0, or a front of them with
 -- status 3, and nothing else was written.
-pub record StressRan {D P : Type 0} (means : DeskMeaning D) (dsp : Meaning P) (g : Ground) (seed : ℕ) (old new : D) (status : ℕ) (p : P) (last : Life P) : Type 0 where
+pub record StressRan {D P : Type 0} (means : DeskMeaning D) (dsp : Meaning P) (g : Ground) (seed : ℕ) (old new : D) (status : ℕ) (p : P) (last : Life P) (turns : List Turn) : Type 0 where
   pub legs : List Leg
-  pub over : RunOver dsp g (commands_of (stress_turns seed)) legs p last
+  pub over : RunOver dsp g (commands_of (stress_turns seed)) legs p turns last
   pub part : List ℕ
   pub spoke : Spoke means part old new
   pub is : ((status ≡ 0) × (part ≡ stress_text seed g legs)) ⊎ ((status ≡ 3) × IsFront part (stress_text seed g legs))
 
 -- where the words are those of `stress`, it was run, or ended before it was begun
-abbrev pub StressesWhole : {D P : Type 0} → DeskMeaning D → Meaning P → List (List ℕ) → D → D → ℕ → P → Life P → Type 0
-StressesWhole means dsp words old new status p last =
+abbrev pub StressesWhole : {D P : Type 0} → DeskMeaning D → Meaning P → List (List ℕ) → D → D → ℕ → P → Life P → List Turn → Type 0
+StressesWhole means dsp words old new status p last turns =
     (seed : ℕ) → stress_of words ≡ Some seed
-    → StressRan means dsp (stress_ground (dsp.most p) seed) seed old new status p last ⊎ Unbegun means [] old new status p last
+    → StressRan means dsp (stress_ground (dsp.most p) seed) seed old new status p last turns ⊎ Unbegun means [] old new status p last

@@ -1,11 +1,12 @@
 -- What is still to do: a program's calls on a desk and turns on a device, by what each of them answers.
-use Rattle.std.specs.Prelude.{◌≡◌, ◌⊎◌, ℕ, Bool, true, false, List, [], ◌∷◌, ◌++◌, Option, Some, None, MatchOption, Ok, Err, if◌then◌else◌}
+use Rattle.std.specs.Prelude.{◌≡◌, ◌⊎◌, ℕ, Bool, true, false, List, [], ◌∷◌, ◌++◌, Option, MatchOption, Ok, Err, if◌then◌else◌}
 use Rattle.sof_desk.specs.declared.calls.LoadFault.TheVariants.{Failed, TooLong, OutOfMemory}
 use Rattle.sof_desk.specs.Desk.{DeskMeaning, DeskAct, Put, Spoken, DeskCall, Load, Did, Read, DeskLed}
 use Rattle.mbox_link.specs.Calls.{Meaning}
 use Rattle.sof_session.specs.Written.{Out}
 use Rattle.sof_session.specs.Lives.{Life, Bare, Task, Fill, Turn, Turns, device_of, Exit}
 use Rattle.sof_run.specs.Lines.{no_memory_line}
+use Rattle.sof_run.specs.Calls.{reading}
 
 -- what a program has still to do
 pub data Todo : Type 0 where
@@ -35,12 +36,6 @@ Says line n turns (Did act done ∷ calls) status =
 -- what is left once a call or a turn was made: nothing
 abbrev pub Over : ℕ → List Turn → List DeskCall → ℕ → Type 0
 Over n turns calls status = (turns ≡ []) × (calls ≡ []) × (status ≡ n)
-
--- the calls of these reads, and the one that failed, if any did
-abbrev pub reading : List (ℕ × List ℕ) → Option ℕ → List DeskCall
-reading [] None = []
-reading [] (Some slot) = Read slot 65536 None ∷ []
-reading ((slot, bytes) ∷ reads) failed = Read slot 65536 (Some bytes) ∷ reading reads failed
 
 -- a turn fills the inputs by the reads that these calls begin with
 pub record FillTurn (turn : Turn) (calls : List DeskCall) : Type 0 where

@@ -1,11 +1,11 @@
 // The top call.
 ghost use Rattle.std.specs.Prelude.{◌≡◌, ◌≤◌, [], map, None, string_bytes};
-ghost use Rattle.sof_run.specs.Todo.{Free, Gave};
+ghost use Rattle.sof_run.specs.Todo.{Todo, Free, Gave};
 ghost use Rattle.sof_run.specs.Words.{form as form_of};
 ghost use Rattle.sof_script.specs.Commands.{script_read};
 ghost use Rattle.sof_run.specs.Halts.{IsCarriable, IsInRange};
 ghost use Rattle.sof_run.specs.Play.{play, ready_todo};
-ghost use Rattle.sof_run.specs.Compiles.{MakesTopology};
+ghost use Rattle.sof_run.specs.CompileTodo.{MakesTopology};
 ghost use Rattle.sof_run.specs.Forms.{GaveSent, todo_of};
 ghost use Rattle.sof_run.specs.Run.{Whole};
 
@@ -13,7 +13,7 @@ use crate::carry::do_commands;
 use crate::check::do_check;
 use crate::compile::do_compile;
 use crate::files::{LIMIT, fetch, status_of, stop, stop_for};
-use crate::opening::open_all;
+use crate::opening::{bind_all, open_all};
 use crate::prepare::{Halt, Ready, prepare};
 use crate::stress::do_stress;
 use crate::words::{Form, Request, read_request};
@@ -30,7 +30,17 @@ pub struct Ended<P: Dsp> {
     pub dsp: P,
 }
 
-// The bindings, a session over the device, and the commands.
+// Says that memory is wanting for what comes next, and hands the device back.
+fn end_wanting<D: Desk, P: Dsp>(desk: &mut D, dsp: P) -> Ended<P>
+    ensures { (next : Todo) → Gave D.means P.means (Free next) desk.old dsp result.status desk.new result.dsp }
+{
+    Ended {
+        status: stop_for(desk, Halt::OutOfMemory),
+        dsp,
+    }
+}
+
+// Takes the memory of a run: the places of its bindings, and a session over the device. Then come the files, and then the commands.
 fn do_session<D: Desk, P: Dsp>(
     alloc: Global,
     heap: u32,
@@ -46,34 +56,30 @@ fn do_session<D: Desk, P: Dsp>(
     ensures { Gave D.means P.means (Free (ready_todo heap ready.plan (script_read ready.script))) desk.old dsp result.status desk.new result.dsp }
 {
     let Ok(mut inputs) = Inputs::new(alloc) else {
-        return Ended {
-            status: stop_for(desk, Halt::OutOfMemory),
-            dsp,
-        };
+        return end_wanting(desk, dsp);
     };
     let Ok(mut outputs) = Outputs::new(alloc) else {
-        return Ended {
-            status: stop_for(desk, Halt::OutOfMemory),
-            dsp,
-        };
+        return end_wanting(desk, dsp);
     };
     let bindings = ready.script.bindings.items();
-    if let Err(status) = open_all(&ready.plan, bindings, desk, &mut inputs, &mut outputs) {
-        return Ended { status, dsp };
+    let Ok(()) = bind_all(&ready.plan, bindings, &mut inputs, &mut outputs) else {
+        return end_wanting(desk, dsp);
+    };
+    let mut session = match Session::new(alloc, ready.plan, heap, dsp) {
+        Ok(session) => session,
+        Err(refused) => return end_wanting(desk, refused.dsp),
+    };
+    if !open_all(session.plan(), ready.script.bindings.items(), desk) {
+        return Ended {
+            status: 3,
+            dsp: session.into_dsp(),
+        };
     }
-    match Session::new(alloc, ready.plan, heap, dsp) {
-        Ok(mut session) => {
-            let commands = ready.script.commands.items();
-            let done = do_commands(commands, desk, &mut session, &mut inputs, &mut outputs);
-            Ended {
-                status: status_of(done),
-                dsp: session.into_dsp(),
-            }
-        }
-        Err(refused) => Ended {
-            status: stop_for(desk, Halt::OutOfMemory),
-            dsp: refused.dsp,
-        },
+    let commands = ready.script.commands.items();
+    let done = do_commands(commands, desk, &mut session, &mut inputs, &mut outputs);
+    Ended {
+        status: status_of(done),
+        dsp: session.into_dsp(),
     }
 }
 

@@ -1,0 +1,20 @@
+use Rattle.std.proofs.Common.{◌≡◌, take, drop, [], None, true, false}
+use Rattle.sof_base.specs.Ports.{drained}
+use Rattle.sof_io.specs.Bound.{input_slots, output_slots}
+use Rattle.sof_script.specs.Commands.{bounds_of}
+use Rattle.sof_run.specs.Bindings.{wrong_behind, bound_inputs, bound_outputs}
+use Rattle.sof_run.proofs.Slots.{IsFresh}
+use Rattle.sof_run.proofs.opening.bind_all.Given as goal
+
+-- the bindings before have their places; those behind are right, and have none of these slots
+abbrev pub invariant-loop-binding : goal.invariant-loop-binding
+invariant-loop-binding l =
+    let before = bounds_of (take l.binding-index l.bindings) in
+    record {
+      right : wrong_behind l.plan before (bounds_of (drop l.binding-index l.bindings)) ≡ None;
+      inputs : l.inputs ≡ bound_inputs l.plan [] before;
+      outputs : l.outputs ≡ bound_outputs l.plan [] before;
+      new_inputs : IsFresh l.plan true before (input_slots l.inputs);
+      new_outputs : IsFresh l.plan false before (output_slots l.outputs);
+      empty : drained l.outputs ≡ l.outputs;
+    }

@@ -3,7 +3,8 @@ use Rattle.std.proofs.Common.{◌≡◌, ◌≢◌, refl, sym, ap, ◌∙◌, �
 use Rattle.std.proofs.Math.Nat.{mod-lt, mod-add-div, mod-eq_of_lt, mul-add-mod_self_right, mul-le-mul_right, div-lt_iff_lt-mul}
 use Rattle.std.proofs.lemmas.List.{same_lists, get_or_default, get_or-take, get_or-drop, get_or_append_left, get_or-append_right, drop-drop, get_or-map}
 use Rattle.std.proofs.lemmas.List.FromFn.{get_or-map-range_with_len, length-map-range_with_len}
-use Rattle.sof_base.specs.Samples.{Frame, AreFrames, sample_of, frames_of, samples_of}
+use Rattle.sof_base.specs.Samples.{Frame, sample_of}
+use Rattle.sof_base.specs.FrameLists.{AreFrames, frames_of, samples_of}
 use Rattle.sof_base.proofs.SampleLaws.{map-range_same}
 use Rattle.stream_law.specs.Equaliser.{sections_of, passed_frames, numbers_after}
 use Rattle.eq_biquad.specs.Lanes.{lane}

@@ -5,7 +5,8 @@ use Rattle.std.specs.Prelude.{nat_lt}
 use Rattle.std.specs.List.{range_with_len}
 use Rattle.std.proofs.lemmas.Bool.{cond-true, cond-false, lt-ltb, le-ltb}
 use Rattle.sof_base.specs.Slots.{word_at}
-use Rattle.sof_base.specs.Blob.{IsBlob, is_assignment, is_shift, signed_at, blob_channels, blob_responses, assignment_at, response_at, section_count, section_at}
+use Rattle.sof_base.specs.Blob.{is_assignment, is_shift, signed_at, blob_channels, blob_responses, assignment_at, response_at, section_count, section_at}
+use Rattle.sof_base.specs.BlobParts.{IsBlob}
 use Rattle.sof_base.proofs.BlobTests.{IsSound}
 use Rattle.sof_base.proofs.BlobLaws.{sound}
 use Rattle.stream_law.specs.Equaliser.{response_sections, assigned_sections, sections_of}

@@ -3,7 +3,8 @@ use Rattle.std.proofs.Common.{◌≡◌, refl, ap, ◌∙◌, ℕ, zero, suc, �
 use Rattle.std.specs.List.{range_with_len}
 use Rattle.std.proofs.lemmas.List.{drop_at}
 use Rattle.std.proofs.lemmas.List.FromFn.{get_or-map-range_with_len}
-use Rattle.sof_base.specs.Samples.{Frame, AreFrames, sample_of}
+use Rattle.sof_base.specs.Samples.{Frame, sample_of}
+use Rattle.sof_base.specs.FrameLists.{AreFrames}
 use Rattle.sof_base.specs.Equations.{Section, section_output}
 use Rattle.stream_law.specs.Equaliser.{sections_of, number_at, next_inner, next_numbers, Passed, passed_sections, passed_channels, passed_frames, numbers_after}
 use Rattle.eq_biquad.specs.Passing.{passed_samples, numbers_passed, in_turn}

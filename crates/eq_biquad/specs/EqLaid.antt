@@ -1,6 +1,6 @@
 -- What holds of the fields of an `Eq`.
 use Rattle.std.specs.Prelude.{◌≡◌, ◌<◌, ◌≤◌, length, take, drop}
-use Rattle.sof_base.specs.Blob.{IsBlob}
+use Rattle.sof_base.specs.BlobParts.{IsBlob}
 use Rattle.eq_biquad.specs.declared.equaliser.Eq.TheInside.{Inside}
 use Rattle.eq_biquad.specs.PieceWords.{bytes_of_words, words_from, AreNumbers}
 use Rattle.eq_biquad.specs.EqState.{EqState}

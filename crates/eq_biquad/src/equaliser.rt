@@ -1,11 +1,11 @@
 // The equaliser of a component.
 ghost use Rattle.std.specs.Prelude.{◌≡◌, ℕ, [], ◌+◌, ◌/◌, ◌%◌, ◌<◌, ◌≤◌, ◌++◌, length, take, drop, replicate, pos};
-ghost use Rattle.sof_base.specs.Blob.{IsBlob};
+ghost use Rattle.sof_base.specs.BlobParts.{IsBlob};
 ghost use Rattle.stream_law.specs.Equaliser.{passed_frames, numbers_after};
 ghost use Rattle.stream_law.specs.Seen.{fresh_numbers};
 ghost use Rattle.eq_biquad.specs.PieceWords.{bytes_of_words, words_from, AreNumbers};
 ghost use Rattle.eq_biquad.specs.EqState.{staged_of, numbers_of, OnlyNumbers};
-ghost use Rattle.sof_base.specs.Samples.{frames_of, samples_of};
+ghost use Rattle.sof_base.specs.FrameLists.{frames_of, samples_of};
 ghost use Rattle.eq_biquad.specs.Passing.{in_turn, channel_numbers};
 
 use crate::bytes::{copy_out, put_bytes};

@@ -1,6 +1,6 @@
 // What holds of every blob, and what an epoch of an equaliser comes to. Nothing runs here.
 ghost use Rattle.std.specs.Prelude.{◌≡◌, ◌<◌, ◌↔◌, ℕ, List, None, slice_index};
-ghost use Rattle.sof_base.specs.Blob.{IsBlob};
+ghost use Rattle.sof_base.specs.BlobParts.{IsBlob};
 ghost use Rattle.sof_base.specs.BlobFaults.{blob_fault};
 ghost use Rattle.eq_biquad.specs.EpochLaws.{EpochsAreEqualised};
 

@@ -1,6 +1,7 @@
 // The sections of a channel, looked up in the words of the blob in force.
 ghost use Rattle.std.specs.Prelude.{◌≡◌, ◌+◌, ◌*◌, ◌<◌, ◌≤◌, length, take, IfSome};
 ghost use Rattle.sof_base.specs.Blob as form;
+ghost use Rattle.sof_base.specs.BlobParts as blob_parts;
 ghost use Rattle.sof_base.specs.Slots.{word_at};
 ghost use Rattle.stream_law.specs.Equaliser.{sections_of};
 ghost use Rattle.eq_biquad.specs.PieceWords.{bytes_of_words};
@@ -11,7 +12,7 @@ use crate::section::Found;
 /// The sections of a channel: none where no blob is in force, and where the channel has no assignment or a negative one.
 pub fn find_sections(blob: &[i32], len: usize, channel: usize) -> Option<Found>
     requires words { (length blob.now ≡ 256) × (len ≤ 1024) }
-    requires blob { 0 < len → form.IsBlob (take len (bytes_of_words blob.now)) }
+    requires blob { 0 < len → blob_parts.IsBlob (take len (bytes_of_words blob.now)) }
     ensures sections { found_in (take len (bytes_of_words blob.now)) result ≡ sections_of (take len (bytes_of_words blob.now)) channel }
     ensures within { IfSome result (AreWithin (take len (bytes_of_words blob.now))) }
 {
@@ -35,7 +36,7 @@ pub fn find_sections(blob: &[i32], len: usize, channel: usize) -> Option<Found>
 /// The word where a response begins.
 fn response_at(blob: &[i32], len: usize, response: usize) -> usize
     requires words { (length blob.now ≡ 256) × (len ≤ 1024) }
-    requires blob { form.IsBlob (take len (bytes_of_words blob.now)) }
+    requires blob { blob_parts.IsBlob (take len (bytes_of_words blob.now)) }
     requires there { response < form.blob_responses (take len (bytes_of_words blob.now)) }
     ensures { 4 * result ≡ form.response_at (take len (bytes_of_words blob.now)) response }
 {

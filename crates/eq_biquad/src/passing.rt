@@ -1,7 +1,9 @@
 // Samples through the sections of their channels.
 ghost use Rattle.std.specs.Prelude.{◌≡◌, ◌≢◌, ℕ, [], ◌∷◌, ◌+◌, ◌*◌, ◌/◌, ◌%◌, ◌≤◌, ◌<◌, ◌^◌, ◌⊎◌, length, take, nat_abs, true};
-ghost use Rattle.sof_base.specs.Samples.{sample_of, frames_of, samples_of};
+ghost use Rattle.sof_base.specs.Samples.{sample_of};
+ghost use Rattle.sof_base.specs.FrameLists.{frames_of, samples_of};
 ghost use Rattle.sof_base.specs.Blob as form;
+ghost use Rattle.sof_base.specs.BlobParts as blob_parts;
 ghost use Rattle.stream_law.specs.Equaliser.{passed_frames, numbers_after};
 ghost use Rattle.eq_biquad.specs.Lanes.{lane};
 ghost use Rattle.eq_biquad.specs.PieceWords.{bytes_of_words, numbers_at, AreNumbers};
@@ -31,7 +33,7 @@ pub fn pass_channels(
     channels: usize,
 )
     requires words { (length blob.now ≡ 256) × (len ≤ 1024) × (length numbers.old ≡ 512) }
-    requires blob { 0 < len → form.IsBlob (take len (bytes_of_words blob.now)) }
+    requires blob { 0 < len → blob_parts.IsBlob (take len (bytes_of_words blob.now)) }
     requires numbers { AreNumbers numbers.old }
     requires channels { (1 ≤ channels) × (channels ≤ 8) }
     requires whole { length samples.old % channels ≡ 0 }

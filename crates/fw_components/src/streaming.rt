@@ -1,7 +1,8 @@
 // What begins with a stream, and frames that endpoints feed and pull.
 ghost use Rattle.std.specs.Prelude.{◌≡◌, ◌+◌, ◌*◌, ◌/◌, ◌%◌, ◌≤◌, ◌++◌, true, length, take};
 ghost use Rattle.std.specs.List.{list_any};
-ghost use Rattle.sof_base.specs.Samples.{width, frames_in, frames_of, samples_of};
+ghost use Rattle.sof_base.specs.Samples.{width, frames_in};
+ghost use Rattle.sof_base.specs.FrameLists.{frames_of, samples_of};
 ghost use Rattle.fw_components.specs.Tables.{held_frames, capacity_at};
 ghost use Rattle.fw_units.specs.Changes.{has_id};
 ghost use Rattle.fw_components.specs.Changes.{found, is_there};

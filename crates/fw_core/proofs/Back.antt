@@ -4,7 +4,8 @@ use Rattle.std.specs.Prelude.{nat_lt}
 use Rattle.std.specs.List.{list_any, AllByRecursion, IsDistinct}
 use Rattle.std.proofs.lemmas.Bool.{eq-eqb, eqb-true}
 use Rattle.sof_base.specs.declared.hole.Hole.{Hole}
-use Rattle.sof_base.specs.Holes.{total, fresh_holes, Spaced}
+use Rattle.sof_base.specs.Holes.{fresh_holes}
+use Rattle.sof_base.specs.Spacing.{total, Spaced}
 use Rattle.stream_law.specs.State.{PieceView, HeapView}
 use Rattle.stream_law.specs.Placed.{placed, HasDistinct}
 use Rattle.stream_law.proofs.Placing.{find-placed_there}

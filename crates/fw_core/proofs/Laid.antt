@@ -2,7 +2,8 @@
 use Rattle.std.proofs.Common.{zero-add, ◌≡◌, refl, sym, ap, ◌∙◌, subst, ℕ, ◌+◌, Bool, true, false, cond, Some, None, arith}
 use Rattle.std.proofs.lemmas.Bool.{false≢true}
 use Rattle.std.specs.Prelude.{is_some}
-use Rattle.sof_base.specs.Holes.{total, usable_of, fresh_holes}
+use Rattle.sof_base.specs.Holes.{usable_of, fresh_holes}
+use Rattle.sof_base.specs.Spacing.{total}
 use Rattle.stream_law.specs.State.{FwState}
 use Rattle.mbox_link.specs.Step.{fresh}
 use Rattle.row_laws.specs.Kept.{IsKeptState}

@@ -4,7 +4,7 @@ use Rattle.std.specs.List.{All}
 use denote.RawPtr.{Ptr}
 use Rattle.fw_heap.specs.declared.free_run.FreeRun.{FreeRun}
 use Rattle.sof_base.specs.declared.hole.Hole.{Hole}
-use Rattle.sof_base.specs.Holes.{Below, After}
+use Rattle.sof_base.specs.Spacing.{Below, After}
 
 -- a hole of a place and a size
 abbrev pub hole_at : ℕ → ℕ → Hole

@@ -3,7 +3,8 @@ ghost use Rattle.std.specs.Prelude.{◌≡◌, ℕ, ◌+◌, ◌*◌, ◌%◌, �
 ghost use Rattle.std.specs.List.{position, insert};
 ghost use denote.RawPtr.{Ptr};
 ghost use Rattle.sof_base.specs.declared.hole.Hole.{Hole};
-ghost use Rattle.sof_base.specs.Holes.{Spaced, given, carved, shortened, fits};
+ghost use Rattle.sof_base.specs.Holes.{given, carved, shortened, fits};
+ghost use Rattle.sof_base.specs.Spacing.{Spaced};
 ghost use Rattle.fw_heap.specs.HoleList.{hole_at, span_of, spans, Ours, IsUnits, Clear, IsPlace, IsGap, IsFree};
 
 use crate::free_run::FreeRun;

@@ -2,7 +2,8 @@
 ghost use Rattle.std.specs.Prelude.{◌≡◌, ◌+◌, ◌*◌, ◌/◌, ◌%◌, ◌^◌, ◌<◌, ◌≤◌, ◌↔◌, [], true, false, length, vec_capacity, IsTrue, IsOk, IfOk, IfErr};
 ghost use Rattle.core.specs.Mem.Slots.{slots_len, SamePlaces, IsFull};
 ghost use Rattle.fw_heap.specs.HoleList.{spans, Ours};
-ghost use Rattle.sof_base.specs.Holes.{fresh_holes, usable_of, rounded, total, fits, first_fit, carved, given};
+ghost use Rattle.sof_base.specs.Holes.{fresh_holes, usable_of, rounded, fits, first_fit, carved, given};
+ghost use Rattle.sof_base.specs.Spacing.{total};
 ghost use Rattle.fw_heap.specs.Regions.{carves, limited};
 
 use crate::block::{Block, release, reserve};

@@ -7,7 +7,7 @@ use Rattle.std.proofs.lemmas.Bool.{false≢true, and_parts, eqb-true, leb-true, 
 use Rattle.std.proofs.lemmas.List.{take_at, take_all, take-take, length-take-le, length-append, append_assoc}
 use Rattle.std.proofs.Common.{length-drop}
 use Rattle.sof_base.specs.declared.part.Part.{Part}
-use Rattle.sof_base.specs.Blob.{IsBlob}
+use Rattle.sof_base.specs.BlobParts.{IsBlob}
 use Rattle.sof_base.specs.BlobFaults.{is_blob}
 use Rattle.eq_biquad.specs.EqState.{EqState}
 use Rattle.stream_law.specs.State.{Staging}

@@ -1,7 +1,7 @@
 -- What is staged while a blob comes in parts.
 use Rattle.std.specs.Prelude.{◌≡◌, ℕ, ◌+◌, ◌*◌, ◌≤◌, List, take, length, Bool, false, ◌==◌, ◌&&◌, ◌||◌, not, Option, Some, None, if◌then◌else◌}
 use Rattle.sof_base.specs.declared.part.Part.{Part}
-use Rattle.sof_base.specs.Blob.{IsBlob}
+use Rattle.sof_base.specs.BlobParts.{IsBlob}
 use Rattle.sof_base.specs.BlobFaults.{is_blob}
 use Rattle.stream_law.specs.State.{Staging}
 use Rattle.mbox_link.specs.Step.{keeps_order, staged_bytes}

@@ -2,7 +2,7 @@
 ghost use Rattle.std.specs.Prelude.{◌≡◌, ℕ, ◌+◌, ◌*◌, ◌≤◌, ◌==◌, ◌&&◌, ◌||◌, ◌++◌, not, nat_le, take, drop, length, true, false, Some, None, IfSome, if◌then◌else◌};
 ghost use Rattle.std.specs.Option.{option_map_or};
 ghost use Rattle.std.specs.Str.{bytes_eq};
-ghost use Rattle.sof_base.specs.Blob.{IsBlob};
+ghost use Rattle.sof_base.specs.BlobParts.{IsBlob};
 ghost use Rattle.sof_base.specs.BlobFaults.{is_blob};
 ghost use Rattle.eq_biquad.specs.EqState.{staged_of, numbers_of};
 ghost use Rattle.stream_law.specs.Seen.{fresh_numbers};

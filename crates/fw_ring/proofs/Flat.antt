@@ -1,7 +1,8 @@
 -- The samples of frames, one frame after the other.
 use Rattle.std.proofs.Common.{◌≡◌, refl, sym, ap, ◌∙◌, ℕ, zero, suc, ◌+◌, ◌*◌, ◌≤◌, List, [], ◌∷◌, ◌++◌, length, take, drop, arith, append_assoc, length-append, ℤ}
 use Rattle.std.proofs.lemmas.List.{take-take, take_at, drop_at, drop-take, take-append-drop}
-use Rattle.sof_base.specs.Samples.{Frame, AreFrames, frames_of, samples_of}
+use Rattle.sof_base.specs.Samples.{Frame}
+use Rattle.sof_base.specs.FrameLists.{AreFrames, frames_of, samples_of}
 
 -- the samples of frames, and of those behind them
 pub samples-append : (xs ys : List Frame) → samples_of (xs ++ ys) ≡ samples_of xs ++ samples_of ys

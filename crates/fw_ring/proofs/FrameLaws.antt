@@ -3,7 +3,8 @@ use Rattle.std.proofs.Common.{◌≡◌, refl, sym, ap, ◌∙◌, ℕ, zero, su
 use Rattle.std.proofs.lemmas.List.{take-take, take_at, drop_at, drop-drop, drop-take}
 use Rattle.std.proofs.Math.Nat.{mul-le-mul_right}
 use borrow.Rule.Slice.PartMut.{put_mid}
-use Rattle.sof_base.specs.Samples.{Frame, AreFrames, frames_of}
+use Rattle.sof_base.specs.Samples.{Frame}
+use Rattle.sof_base.specs.FrameLists.{AreFrames, frames_of}
 use Rattle.fw_ring.specs.RingWords.{round_from}
 
 pub length-frames : (c n : ℕ) (ws : List ℤ) → length (frames_of c n ws) ≡ n

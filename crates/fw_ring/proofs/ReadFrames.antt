@@ -5,7 +5,8 @@ use Rattle.std.specs.List.{range_with_len}
 use Rattle.std.proofs.lemmas.List.FromFn.{fill_by_all, get_or-map-range_with_len, length-map-range_with_len}
 use Rattle.std.proofs.Math.Nat.{mul-le-mul_right}
 use Rattle.sof_base.specs.declared.format.Format.{Format}
-use Rattle.sof_base.specs.Samples.{Frame, width, sample_in_of, frame_in, frames_in, frames_of}
+use Rattle.sof_base.specs.Samples.{Frame, width, sample_in_of, frame_in, frames_in}
+use Rattle.sof_base.specs.FrameLists.{frames_of}
 use Rattle.sof_base.proofs.SampleLaws.{frames_in-append, frames_in-drop}
 use Rattle.fw_ring.proofs.FrameLaws.{length-frames, get-frame}
 use Rattle.fw_ring.proofs.RoundLaws.{by_less}

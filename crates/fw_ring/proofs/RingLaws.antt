@@ -3,7 +3,8 @@ use Rattle.std.proofs.Common.{◌≡◌, refl, sym, ap, ◌∙◌, ℕ, zero, su
 use Rattle.std.proofs.Math.Nat.{mod-eq_of_lt, add-mod_left, mul-le-mul_right}
 use Rattle.std.proofs.lemmas.List.{get_or-take, get_or-drop}
 use borrow.Rule.Slice.PartMut.{put_mid}
-use Rattle.sof_base.specs.Samples.{Frame, sample_of, frames_of}
+use Rattle.sof_base.specs.Samples.{Frame, sample_of}
+use Rattle.sof_base.specs.FrameLists.{frames_of}
 use Rattle.fw_ring.specs.declared.ring.Ring.TheInside.{Inside}
 use Rattle.fw_ring.specs.declared.window.Window.{Window}
 use Rattle.fw_ring.specs.RingState.{RingState, IsRing, place_after}

@@ -3,7 +3,8 @@ use Rattle.std.proofs.Common.{◌≡◌, sym, ap, ◌∙◌, ℕ, ◌+◌, ◌-�
 use Rattle.std.specs.Prelude.{min}
 use Rattle.std.proofs.Math.Nat.{mul-le-mul_right, div-mul-le_self, min-le_left, min-le_right, min-eq_left, min-eq_right}
 use borrow.Rule.Slice.PartMut.{put_mid}
-use Rattle.sof_base.specs.Samples.{Frame, AreFrames, frames_of, samples_of}
+use Rattle.sof_base.specs.Samples.{Frame}
+use Rattle.sof_base.specs.FrameLists.{AreFrames, frames_of, samples_of}
 use Rattle.fw_ring.specs.declared.window.Window.{Window}
 use Rattle.fw_ring.specs.RingWords.{IsWindow, round_from, window_frames, wrapped}
 use Rattle.fw_ring.proofs.RoundLaws.{by_less, round-push, round-drop, round-spans, wrapped-inside, length-round}

@@ -1,6 +1,7 @@
 -- What a contract sees of a ring: a list of frames, and the piece that they lie in.
 use Rattle.std.specs.Prelude.{◌≡◌, ℕ, zero, suc, ◌+◌, ◌/◌, ◌%◌, ◌≤◌, List, length}
-use Rattle.sof_base.specs.Samples.{Frame, AreFrames}
+use Rattle.sof_base.specs.Samples.{Frame}
+use Rattle.sof_base.specs.FrameLists.{AreFrames}
 use Rattle.fw_heap.specs.Pieces.{PieceState}
 
 -- its frames, the oldest first; how many words there are for samples, behind the first 32 bytes of the piece; the samples of a

@@ -1,6 +1,7 @@
 -- How frames lie in the words of a ring.
 use Rattle.std.specs.Prelude.{◌≡◌, ℕ, ◌+◌, ◌-◌, ◌/◌, ◌<◌, ◌≤◌, ◌^◌, List, ◌++◌, take, drop, ℤ, nat_lt, if◌then◌else◌}
-use Rattle.sof_base.specs.Samples.{Frame, frames_of}
+use Rattle.sof_base.specs.Samples.{Frame}
+use Rattle.sof_base.specs.FrameLists.{frames_of}
 use Rattle.fw_ring.specs.declared.window.Window.{Window}
 
 -- n items of xs, read from start on and round its end

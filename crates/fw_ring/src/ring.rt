@@ -1,6 +1,7 @@
 // A ring over a piece.
 ghost use Rattle.std.specs.Prelude.{◌≡◌, ℕ, ℤ, pos, [], ◌+◌, ◌*◌, ◌/◌, ◌%◌, ◌<◌, ◌≤◌, ◌^◌, ◌++◌, length, take, drop, slice_index_or};
-ghost use Rattle.sof_base.specs.Samples.{width, sample_of, frames_in, frames_of, samples_of};
+ghost use Rattle.sof_base.specs.Samples.{width, sample_of, frames_in};
+ghost use Rattle.sof_base.specs.FrameLists.{frames_of, samples_of};
 ghost use Rattle.fw_ring.specs.RingState.{capacity_of, place_after, IsRing, SameRing};
 ghost use Rattle.fw_ring.specs.RingWords.{IsWindow, window_frames};
 ghost use Rattle.fw_ring.specs.RingLaid.{own_words};

@@ -1,6 +1,7 @@
 // The frames of one ring, in words of its own.
 ghost use Rattle.std.specs.Prelude.{◌≡◌, ◌+◌, ◌-◌, ◌*◌, ◌/◌, ◌%◌, ◌<◌, ◌≤◌, ◌^◌, ◌++◌, length, take, drop};
-ghost use Rattle.sof_base.specs.Samples.{width, frames_in, frames_of, samples_of};
+ghost use Rattle.sof_base.specs.Samples.{width, frames_in};
+ghost use Rattle.sof_base.specs.FrameLists.{frames_of, samples_of};
 ghost use Rattle.fw_ring.specs.RingWords.{IsWindow, window_frames, wrapped};
 
 use crate::samples::read_samples;

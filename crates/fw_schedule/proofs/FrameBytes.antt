@@ -2,7 +2,8 @@
 use Rattle.std.proofs.Common.{◌≡◌, refl, sym, ap, ◌∙◌, ℕ, ◌+◌, List, [], ◌∷◌, ◌++◌, take, drop, append_assoc}
 use Rattle.std.proofs.Math.Seq.{take-add}
 use Rattle.sof_base.specs.declared.format.Format.{Format}
-use Rattle.sof_base.specs.Samples.{Frame, frame_out, frames_out, samples_of}
+use Rattle.sof_base.specs.Samples.{Frame, frame_out, frames_out}
+use Rattle.sof_base.specs.FrameLists.{samples_of}
 use Rattle.sof_io.proofs.SampleRuns.{frame_out-append}
 
 -- the bytes of frames are those of their samples

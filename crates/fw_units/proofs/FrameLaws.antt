@@ -5,7 +5,8 @@ use Rattle.std.proofs.Math.Nat.{mod_self, mul-le-mul_right}
 use Rattle.std.proofs.lemmas.Int.{ints}
 use Rattle.std.proofs.lemmas.List.{length-replicate, get_or-take, get_or-drop, replicate-append-replicate}
 use Rattle.std.proofs.lemmas.List.FromFn.{fill_by_all, length-map-range_with_len}
-use Rattle.sof_base.specs.Samples.{Frame, AreFrames, frames_of, samples_of, sample_of, sat, silence}
+use Rattle.sof_base.specs.Samples.{Frame, sample_of, sat, silence}
+use Rattle.sof_base.specs.FrameLists.{AreFrames, frames_of, samples_of}
 use Rattle.sof_base.specs.Equations.{amplified, channel_gain, volume_of, exact_sum, mixed}
 use Rattle.stream_law.specs.Table.{table}
 use Rattle.stream_law.specs.Made.{frames_at as frames_of_each}

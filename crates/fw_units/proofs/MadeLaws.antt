@@ -6,7 +6,8 @@ use Rattle.std.proofs.Math.Nat.{mul-div_cancel}
 use Rattle.std.specs.Prelude.{find}
 use Rattle.std.specs.List.{AllByRecursion, range_with_len}
 use Rattle.std.specs.Option.{option_map_or}
-use Rattle.sof_base.specs.Samples.{Frame, AreFrames, frames_of, samples_of, silence}
+use Rattle.sof_base.specs.Samples.{Frame, silence}
+use Rattle.sof_base.specs.FrameLists.{AreFrames, frames_of, samples_of}
 use Rattle.sof_base.specs.Equations.{volume_of, mixed}
 use Rattle.eq_biquad.proofs.PassLaws.{length-frames, are-frames}
 use Rattle.stream_law.specs.Order.{is_among}

@@ -5,7 +5,8 @@ use Rattle.std.proofs.Math.Nat.{mul-div_cancel, mul-mod_left}
 use Rattle.std.specs.Prelude.{find}
 use Rattle.std.specs.List.{AllByRecursion}
 use Rattle.std.specs.Option.{option_map_or}
-use Rattle.sof_base.specs.Samples.{Frame, frames_of}
+use Rattle.sof_base.specs.Samples.{Frame}
+use Rattle.sof_base.specs.FrameLists.{frames_of}
 use Rattle.stream_law.specs.Order.{is_among}
 use Rattle.stream_law.specs.Placed.{AreAbove, Ascends}
 use Rattle.fw_units.specs.declared.component.Component.{Component}

@@ -1,7 +1,8 @@
 -- One component moves frames between the buffers of a table.
 use Rattle.std.specs.Prelude.{◌≡◌, nat_eq, ℕ, ◌≤◌, List, [], ◌∷◌, map, take, length, true, false, ◌==◌, Option, Some, None, if◌then◌else◌, ℤ, find}
 use Rattle.std.specs.List.{AllByRecursion, IsDistinct}
-use Rattle.sof_base.specs.Samples.{Frame, AreFrames, samples_of}
+use Rattle.sof_base.specs.Samples.{Frame}
+use Rattle.sof_base.specs.FrameLists.{AreFrames, samples_of}
 use Rattle.fw_gain.specs.Kernels.{summed}
 use Rattle.stream_law.specs.Placed.{Ascends}
 use Rattle.stream_law.specs.Order.{is_among}

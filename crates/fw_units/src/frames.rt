@@ -1,6 +1,7 @@
 // What begins with a stream, and frames in the ring of one buffer.
 ghost use Rattle.std.specs.Prelude.{◌≡◌, ◌+◌, ◌*◌, ◌/◌, ◌%◌, ◌≤◌, ◌++◌, length, take};
-ghost use Rattle.sof_base.specs.Samples.{width, frames_in, frames_of, samples_of, AreFrames};
+ghost use Rattle.sof_base.specs.Samples.{width, frames_in};
+ghost use Rattle.sof_base.specs.FrameLists.{frames_of, samples_of, AreFrames};
 ghost use Rattle.stream_law.specs.Ways.{is_end};
 ghost use Rattle.fw_units.specs.Units.{unit_frames, capacity_by};
 ghost use Rattle.fw_units.specs.Frames.{words_of, begun_by, IsFresh, staged_by, channels_by, taken_by, pushed_by, comes_from, goes_to};

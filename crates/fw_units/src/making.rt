@@ -1,7 +1,7 @@
 // What a volume, a mixer, a mux and an equaliser make of the frames of buffers.
 ghost use Rattle.std.specs.Prelude.{◌≡◌, ◌*◌, ◌%◌, ◌≤◌, ◌<◌, ◌^◌, ◌++◌, true, map, length, replicate, pos, nat_abs, filter, slice_get, option_copied, ◌==◌};
 ghost use Rattle.std.specs.List.{AllByRecursion};
-ghost use Rattle.sof_base.specs.Samples.{frames_of};
+ghost use Rattle.sof_base.specs.FrameLists.{frames_of};
 ghost use Rattle.stream_law.specs.Placed.{Ascends};
 ghost use Rattle.fw_gain.specs.Kernels.{all_amplified, summed, held};
 ghost use Rattle.fw_units.specs.Units.{numbers_by};

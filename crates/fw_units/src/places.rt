@@ -1,6 +1,7 @@
 // What stands at a place of a table, changed in place.
 ghost use Rattle.std.specs.Prelude.{◌≡◌, ◌+◌, ◌*◌, ◌/◌, ◌%◌, ◌≤◌, ◌==◌, true, Some, map, find, position, option_map, take, length, vec_capacity};
-ghost use Rattle.sof_base.specs.Samples.{width, frames_in, frames_of, samples_of};
+ghost use Rattle.sof_base.specs.Samples.{width, frames_in};
+ghost use Rattle.sof_base.specs.FrameLists.{frames_of, samples_of};
 ghost use Rattle.stream_law.specs.Placed.{Ascends};
 ghost use Rattle.fw_units.specs.Changes.{has_id};
 ghost use Rattle.fw_units.specs.Frames.{words_by, begun_at, IsFreshBy, staged_in, channels_in, buffer_frames, capacity_in, pushed_at, taken_at, comes_from, goes_to};

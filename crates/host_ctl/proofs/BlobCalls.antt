@@ -41,7 +41,8 @@ use Rattle.host_widgets.proofs.PartsCome.{Came, Ending, blob_view, left_by, part
 use Rattle.host_widgets.proofs.PlainOrders.{no-acts, plain, same-end}
 use Rattle.host_widgets.proofs.Records.{down-record, down-rests}
 use Rattle.host_widgets.proofs.WalksHold.{WhereUp}
-use Rattle.host_ctl.specs.ControlOrders.{MayInstall, PartsPass, bytes_order_at}
+use Rattle.host_ctl.specs.ControlOrders.{bytes_order_at}
+use Rattle.host_ctl.specs.ControlAnswers.{MayInstall, PartsPass}
 use Rattle.host_ctl.specs.ControlPlaces.{control_here, record_here, with_blob_here}
 use Rattle.host_ctl.proofs.ControlsTaken.{id-low}
 use Rattle.host_ctl.proofs.ControlsThere.{Was, at-here, blob-changed, controls-with, kinds-here, live, of-comp}

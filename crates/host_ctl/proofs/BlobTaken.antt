@@ -11,7 +11,8 @@ use Rattle.stream_law.specs.Ways.{buffers, comp_of}
 use Rattle.stream_law.specs.Made.{blob}
 use Rattle.stream_law.specs.Seen.{blob_in, seen}
 use Rattle.stream_law.specs.Past.{Moment, Now, Leads, after_now}
-use Rattle.stream_law.specs.Stands.{Sees, Stands, StaysAsLive}
+use Rattle.stream_law.specs.Stands.{Stands}
+use Rattle.stream_law.specs.Viewing.{Sees, StaysAsLive}
 use Rattle.stream_law.proofs.SeenLaws.{seen-sees}
 use Rattle.stream_law.proofs.Shapes.{live-stays}
 use Rattle.stream_law.proofs.Standing.{Stands-now}
@@ -44,7 +45,8 @@ use Rattle.host_widgets.proofs.PartsCome.{blob_view}
 use Rattle.host_widgets.proofs.PartsReady.{made-last, made-more, parts-ready}
 use Rattle.host_widgets.proofs.WalksHold.{AreTaken, HaveLaw, none-taken}
 use Rattle.host_ctl.specs.ControlAsks.{bytes_fault, installing_fault, named_control}
-use Rattle.host_ctl.specs.ControlOrders.{MayInstall, bytes_order, installing_order}
+use Rattle.host_ctl.specs.ControlOrders.{bytes_order, installing_order}
+use Rattle.host_ctl.specs.ControlAnswers.{MayInstall}
 use Rattle.host_ctl.specs.ControlPlaces.{control_here, control_place}
 use Rattle.host_ctl.proofs.BlobCalls.{a-blob, now-record, now-view}
 use Rattle.host_ctl.proofs.BlobTests.{bytes-pass, installable}

@@ -13,7 +13,7 @@ use Rattle.host_widgets.specs.declared.kept.Power.TheVariants.{Unloaded, On, Off
 use Rattle.host_widgets.specs.declared.kept.Record.{Record}
 use Rattle.host_widgets.specs.Named.{is_named, loaded_fault}
 use Rattle.host_ctl.specs.ControlAsks.{bytes_fault, bytes_fault_by, get_fault, installing_fault, name_fault, named_control}
-use Rattle.host_ctl.specs.ControlOrders.{MayInstall}
+use Rattle.host_ctl.specs.ControlAnswers.{MayInstall}
 use Rattle.host_ctl.specs.ControlPlaces.{control_here, control_place, no_control}
 use Rattle.host_ctl.proofs.ControlTests.{loaded}
 use Rattle.host_ctl.proofs.ControlsThere.{found-here}

@@ -41,7 +41,8 @@ use Rattle.host_widgets.proofs.Exchanges.{came, verdict-number}
 use Rattle.host_widgets.proofs.GreatestGains.{AreGains, value-slots}
 use Rattle.host_widgets.proofs.OneMessage.{passes}
 use Rattle.host_widgets.proofs.ReplyErrors.{done_reply, zero-fits}
-use Rattle.host_ctl.specs.ControlOrders.{MaySet, value_command, carried_by, control_answer, setting_answer, Shows}
+use Rattle.host_ctl.specs.ControlOrders.{control_answer}
+use Rattle.host_ctl.specs.ControlAnswers.{MaySet, value_command, carried_by, setting_answer, Shows}
 use Rattle.host_ctl.specs.ControlAsks.{named_control}
 use Rattle.host_ctl.specs.ControlPlaces.{no_control, no_values, control_here, record_here, with_values_at}
 use Rattle.host_ctl.proofs.ControlsThere.{live, place-changed}

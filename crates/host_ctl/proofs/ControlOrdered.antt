@@ -22,7 +22,8 @@ use Rattle.host_widgets.specs.OneAct.{performed}
 use Rattle.host_widgets.proofs.PlainOrders.{plain, no-acts}
 use Rattle.host_widgets.proofs.OneOrder.{one-order, answering}
 use Rattle.host_ctl.specs.ControlAsks.{named_control}
-use Rattle.host_ctl.specs.ControlOrders.{MaySet, put_order, setting_order, set_order, installing_order, bytes_order, ask_acts, reading_order, read_order, named_at, value_command}
+use Rattle.host_ctl.specs.ControlOrders.{put_order, setting_order, set_order, installing_order, bytes_order, ask_acts, reading_order, read_order, named_at}
+use Rattle.host_ctl.specs.ControlAnswers.{MaySet, value_command}
 use Rattle.host_ctl.specs.ControlPlaces.{control_here, record_here, with_values_at}
 use Rattle.host_ctl.proofs.PutStands.{put-record}
 use Rattle.host_ctl.proofs.ControlsThere.{at-here, place-changed}

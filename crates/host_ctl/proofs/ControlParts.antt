@@ -55,7 +55,8 @@ use Rattle.host_widgets.proofs.PartFacts.{few-parts, header-long, part-left, par
 use Rattle.host_widgets.proofs.OneOrder.{answering}
 use Rattle.host_widgets.proofs.PlainOrders.{CarriedBy, ends-with, goes-on, no-acts, plain}
 use Rattle.host_widgets.proofs.ReplyErrors.{done_reply, zero-fits}
-use Rattle.host_ctl.specs.ControlOrders.{HasBlob, ask_acts, reading_order, control_answer}
+use Rattle.host_ctl.specs.ControlOrders.{ask_acts, reading_order, control_answer}
+use Rattle.host_ctl.specs.ControlAnswers.{HasBlob}
 use Rattle.host_ctl.specs.ControlPlaces.{control_here, record_here}
 use Rattle.host_ctl.proofs.ControlActs.{still-taken}
 use Rattle.host_ctl.proofs.ControlsTaken.{done-passes, found-in, id-low, shown-in}

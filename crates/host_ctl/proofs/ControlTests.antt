@@ -22,7 +22,7 @@ use Rattle.host_widgets.specs.Host.{Outcome}
 use Rattle.host_widgets.specs.Named.{is_named, loaded_fault, off_fault}
 use Rattle.host_widgets.specs.Orders.{Order, Carried, Tested}
 use Rattle.host_ctl.specs.ControlAsks.{named_control, channels_of, takes_value, spread, kind_fault, setting_fault, set_fault, name_fault, get_fault, read_fault}
-use Rattle.host_ctl.specs.ControlOrders.{MaySet}
+use Rattle.host_ctl.specs.ControlAnswers.{MaySet}
 use Rattle.host_ctl.specs.ControlPlaces.{no_control, control_place, control_here}
 use Rattle.host_ctl.proofs.ControlsThere.{found-here, lost-here}
 

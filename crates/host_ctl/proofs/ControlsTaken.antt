@@ -40,7 +40,7 @@ use Rattle.host_widgets.proofs.LookedUp.{found-is, each-found}
 use Rattle.host_widgets.proofs.NamedIds.{component-found, id-fits}
 use Rattle.host_widgets.proofs.OneActLaws.{IsTaken, IsShown}
 use Rattle.host_widgets.proofs.ReplyErrors.{done_reply, read-zero}
-use Rattle.host_ctl.specs.ControlOrders.{MaySet, value_command}
+use Rattle.host_ctl.specs.ControlAnswers.{MaySet, value_command}
 use Rattle.host_ctl.specs.ControlPlaces.{control_here, record_here}
 use Rattle.host_ctl.proofs.PutShows.{found, put-shows}
 use Rattle.host_ctl.proofs.PutStands.{put-record}

@@ -22,7 +22,8 @@ use Rattle.host_ctl.proofs.ControlParts.{part-is}
 use Rattle.host_widgets.specs.Kept.{control_at, with_control}
 use Rattle.std.specs.Option.{option_and_then}
 use Rattle.host_ctl.specs.ControlAsks.{named_control, channels_of, spread, setting_fault, set_fault, name_fault, read_fault}
-use Rattle.host_ctl.specs.ControlOrders.{value_command, setting_order, set_order, reading_order, read_order, ask_acts, control_answer}
+use Rattle.host_ctl.specs.ControlOrders.{setting_order, set_order, reading_order, read_order, ask_acts, control_answer}
+use Rattle.host_ctl.specs.ControlAnswers.{value_command}
 use Rattle.host_ctl.specs.ControlPlaces.{control_place, control_here, record_here}
 use Rattle.host_ctl.proofs.ControlsThere.{live, at-here, named-here, lost-here}
 use Rattle.host_ctl.proofs.ControlsTaken.{put-is, ask-is}

@@ -10,7 +10,7 @@ use Rattle.host_widgets.specs.ActLists.{part_acts}
 use Rattle.host_widgets.specs.Host.{Outcome}
 use Rattle.host_widgets.specs.Kept.{went_down}
 use Rattle.host_widgets.proofs.LinkEnds.{down-is, stays}
-use Rattle.host_ctl.specs.ControlOrders.{PartsPass}
+use Rattle.host_ctl.specs.ControlAnswers.{PartsPass}
 
 module _ {D : Type 0} (means : Meaning D) (plan : Plan) (heap comp : ℕ) (blob : List ℕ) (kept : Record) (w : World D) where
   ends-up : (result : Outcome) (v : World D) → is_down result ≡ false → PlainEnd means heap result kept kept v v

@@ -6,7 +6,7 @@ use Rattle.sof_base.specs.BlobFaults.{is_blob}
 use Rattle.mbox_link.specs.BlobParts.{payload, blob_part, parts}
 use Rattle.tplg_plan.specs.Ranges.{is_initial}
 use Rattle.host_widgets.proofs.PartFacts.{few-parts, front, front-all, front-more, header-long, payload-long}
-use Rattle.host_ctl.specs.ControlOrders.{with_part}
+use Rattle.host_ctl.specs.ControlAnswers.{with_part}
 
 -- what the first k parts make
 abbrev pub first_bytes : List ℕ → ℕ → List ℕ

@@ -28,7 +28,8 @@ use Rattle.host_widgets.proofs.ControlLists.{takes-by}
 use Rattle.host_widgets.proofs.GreatestGains.{AreGains, gains-are, gains-pass}
 use Rattle.host_widgets.proofs.LookedUp.{any-found}
 use Rattle.host_widgets.proofs.PartFacts.{none-empty}
-use Rattle.host_ctl.specs.ControlOrders.{MaySet, value_command, control_answer, setting_answer}
+use Rattle.host_ctl.specs.ControlOrders.{control_answer}
+use Rattle.host_ctl.specs.ControlAnswers.{MaySet, value_command, setting_answer}
 use Rattle.host_ctl.proofs.ControlsThere.{Was}
 
 -- a control of an id

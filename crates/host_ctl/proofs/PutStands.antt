@@ -16,7 +16,8 @@ use Rattle.stream_law.specs.Made.{blob}
 use Rattle.stream_law.specs.Epochs.{history_of}
 use Rattle.stream_law.specs.Seen.{flows, equalises, is_equaliser, goes_on, numbers_in, blob_in}
 use Rattle.stream_law.specs.Past.{Moment, Now, Past, part_of, Leads, after_now}
-use Rattle.stream_law.specs.Stands.{Stands, Sees, StaysAsLive, ring_frames}
+use Rattle.stream_law.specs.Stands.{Stands, ring_frames}
+use Rattle.stream_law.specs.Viewing.{Sees, StaysAsLive}
 use Rattle.stream_law.specs.Stays.{KeepsShape}
 use Rattle.stream_law.proofs.Shapes.{live-stays}
 use Rattle.stream_law.proofs.Standing.{Stands-now}

@@ -1,3 +1,4 @@
 pub mod ControlAsks
 pub mod ControlPlaces
 pub mod ControlOrders
+pub mod ControlAnswers

@@ -14,7 +14,8 @@ ghost use Rattle.host_widgets.specs.ActCarried.{ActCarried};
 ghost use Rattle.host_widgets.specs.Sides.{IsReady, SameSide, world_of};
 ghost use Rattle.host_ctl.specs.ControlAsks as asks;
 ghost use Rattle.host_ctl.specs.ControlOrders as orders;
-ghost use Rattle.host_ctl.specs.ControlOrders.{MaySet, MayInstall, HasBlob, PartsPass};
+ghost use Rattle.host_ctl.specs.ControlAnswers as control_answers;
+ghost use Rattle.host_ctl.specs.ControlAnswers.{MaySet, MayInstall, HasBlob, PartsPass};
 ghost use Rattle.host_ctl.specs.ControlPlaces.{control_here, record_here, with_values_at, with_blob_here};
 
 use crate::asking::channels_of;
@@ -187,7 +188,7 @@ pub fn set_bytes<P: Dsp>(side: &mut Side<'_, P>, place: usize, blob: &[u8]) -> R
 
 // The values that a reply carries.
 fn values_of(body: Body) -> Answer
-    ensures { result ≡ orders.carried_by body }
+    ensures { result ≡ control_answers.carried_by body }
 {
     match body {
         Body::Values(values) => Answer::Values(values),
@@ -201,9 +202,9 @@ fn ask<P: Dsp>(side: &mut Side<'_, P>, place: usize, command: u32) -> Result<Ans
     requires ready { IsReady P.means side.old }
     requires power { side.old.kept.now.power ≡ Power.On }
     requires place { place < length side.old.plan.now.controls }
-    requires command { orders.value_command (control_here side.old.plan.now place).kind ≡ Some command }
+    requires command { control_answers.value_command (control_here side.old.plan.now place).kind ≡ Some command }
     ensures act { ActCarried P.means side.old.plan.now side.old.heap (acts.Ask (control_here side.old.plan.now place).comp 0) side.old.kept.now side.new.kept.now
-        (world_of side.old) (world_of side.new) (orders.outcome_of result) }
+        (world_of side.old) (world_of side.new) (control_answers.outcome_of result) }
     ensures answered { IfOk result (λ a. a ≡ orders.control_answer (control_here side.old.plan.now place).kind (record_here side.old.kept.now place)) }
     ensures still { IfOk result (λ a. side.new.kept.now ≡ side.old.kept.now) }
     ensures agree { Agrees P.means side.old.plan.now side.new.kept.now side.new.dsp.now }
@@ -240,7 +241,7 @@ fn append(told: &mut ArrayVec<u8, 1024>, bytes: &[u8])
 
 // Puts the bytes of a part behind those of the parts before it. The first brings the header.
 fn append_part(told: &mut ArrayVec<u8, 1024>, part: &Part)
-    ensures { length (orders.with_part told.old.items part.now) ≤ 1024 → told.new.items ≡ orders.with_part told.old.items part.now }
+    ensures { length (control_answers.with_part told.old.items part.now) ≤ 1024 → told.new.items ≡ control_answers.with_part told.old.items part.now }
 {
     if told.is_empty() {
         append(told, &part.header);
@@ -250,7 +251,7 @@ fn append_part(told: &mut ArrayVec<u8, 1024>, part: &Part)
 
 // The same for the part that a reply carries.
 fn append_reply(told: &mut ArrayVec<u8, 1024>, body: &Body)
-    ensures { (part : Part) → body.now ≡ bodies.Part part → length (orders.with_part told.old.items part) ≤ 1024 → told.new.items ≡ orders.with_part told.old.items part }
+    ensures { (part : Part) → body.now ≡ bodies.Part part → length (control_answers.with_part told.old.items part) ≤ 1024 → told.new.items ≡ control_answers.with_part told.old.items part }
 {
     match body {
         Body::Part(part) => append_part(told, part),
@@ -309,7 +310,7 @@ fn ask_parts<P: Dsp>(side: &mut Side<'_, P>, place: usize) -> Result<Answer, Hos
     requires place { place < length side.old.plan.now.controls }
     requires kind { HasBlob (control_here side.old.plan.now place).kind }
     ensures carried { Carried P.means side.old.plan.now side.old.heap (orders.reading_order side.old.kept.now (Some (control_here side.old.plan.now place, record_here side.old.kept.now place))) side.old.kept.now side.new.kept.now
-        (world_of side.old) (world_of side.new) (orders.outcome_of result) }
+        (world_of side.old) (world_of side.new) (control_answers.outcome_of result) }
     ensures answered { IfOk result (λ a. a ≡ orders.control_answer (control_here side.old.plan.now place).kind (record_here side.old.kept.now place)) }
     ensures still { IfOk result (λ a. side.new.kept.now ≡ side.old.kept.now) }
     ensures agree { Agrees P.means side.old.plan.now side.new.kept.now side.new.dsp.now }
@@ -327,7 +328,7 @@ pub fn read<P: Dsp>(side: &mut Side<'_, P>, place: usize) -> Result<Answer, Host
     requires power { side.old.kept.now.power ≡ Power.On }
     requires place { place < length side.old.plan.now.controls }
     ensures carried { Carried P.means side.old.plan.now side.old.heap (orders.reading_order side.old.kept.now (Some (control_here side.old.plan.now place, record_here side.old.kept.now place))) side.old.kept.now side.new.kept.now
-        (world_of side.old) (world_of side.new) (orders.outcome_of result) }
+        (world_of side.old) (world_of side.new) (control_answers.outcome_of result) }
     ensures answered { IfOk result (λ a. a ≡ orders.control_answer (control_here side.old.plan.now place).kind (record_here side.old.kept.now place)) }
     ensures still { IfOk result (λ a. side.new.kept.now ≡ side.old.kept.now) }
     ensures agree { Agrees P.means side.old.plan.now side.new.kept.now side.new.dsp.now }

@@ -11,7 +11,8 @@ ghost use Rattle.tplg_plan.specs.Sound.{IsSound};
 ghost use Rattle.host_widgets.specs.Host.{Agrees};
 ghost use Rattle.host_widgets.specs.Orders.{Tested};
 ghost use Rattle.host_ctl.specs.ControlAsks.{set_fault, bytes_fault, get_fault, read_fault};
-ghost use Rattle.host_ctl.specs.ControlOrders.{set_order, bytes_order, get_order, read_order, outcome_of, told_by, Shows};
+ghost use Rattle.host_ctl.specs.ControlOrders.{set_order, bytes_order, get_order, read_order, told_by};
+ghost use Rattle.host_ctl.specs.ControlAnswers.{outcome_of, Shows};
 
 use crate::asking::{installable_place, named_place, readable_place, settable_place};
 use crate::carrying;

@@ -16,7 +16,8 @@ use Rattle.host_widgets.specs.declared.kept.Power.TheVariants.{On}
 use Rattle.host_widgets.specs.declared.kept.Record.{Record}
 use Rattle.host_widgets.specs.Kept.{went_down, with_power}
 use Rattle.host_widgets.specs.Expected.{phase_of}
-use Rattle.host_widgets.specs.Host.{Outcome, Agrees, IsRecordOf, Sides, ticks_put}
+use Rattle.host_widgets.specs.Host.{Outcome, Agrees, IsRecordOf, Sides}
+use Rattle.host_widgets.specs.Bringing.{ticks_put}
 use Rattle.host_widgets.specs.HostActs.{Act, after}
 use Rattle.host_widgets.specs.ActLists.{go_down, bring_up, bring_back, prepare_acts}
 use Rattle.host_widgets.specs.OneAct.{own, outcome_by, lag_of, performed}

@@ -18,7 +18,8 @@ use Rattle.host_widgets.specs.declared.trigger.Trigger.{Trigger}
 use Rattle.host_widgets.specs.declared.trigger.Trigger.TheVariants.{Start, Pause}
 use Rattle.host_widgets.specs.ActLists.{bring_up, bring_back, prepare_acts, prepare_by}
 use Rattle.host_widgets.specs.ActMessages.{act_message}
-use Rattle.host_widgets.specs.Host.{Fits, IsRecordOf}
+use Rattle.host_widgets.specs.Host.{IsRecordOf}
+use Rattle.host_widgets.specs.Bringing.{Fits}
 use Rattle.host_widgets.specs.HostActs.{Act, Trig, after, triggered_stream}
 use Rattle.host_widgets.specs.HostRecord.{halted, halted_found, are_in_range}
 use Rattle.host_widgets.specs.Keeps.{KeepsRecord}

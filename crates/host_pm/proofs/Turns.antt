@@ -11,7 +11,8 @@ use Rattle.host_widgets.specs.declared.answers.HostFault.TheVariants.{NotLoaded,
 use Rattle.host_widgets.specs.HostActs.{Act}
 use Rattle.host_widgets.specs.ActMessages.{act_message}
 use Rattle.host_widgets.specs.ActCalls.{came_to}
-use Rattle.host_widgets.specs.Host.{Outcome, Sent, verdict}
+use Rattle.host_widgets.specs.Host.{Outcome, verdict}
+use Rattle.host_widgets.specs.Bringing.{Sent}
 use Rattle.host_widgets.specs.Walk.{goes_past, first_of}
 use Rattle.host_widgets.proofs.Exchanges.{state_of, came, Came-on}
 use Rattle.host_pm.specs.InTurn.{Behind, InTurn, Told}

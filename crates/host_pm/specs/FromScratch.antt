@@ -14,7 +14,8 @@ use Rattle.host_widgets.specs.declared.trigger.Trigger.TheVariants.{Start, Pause
 use Rattle.host_widgets.specs.ActLists.{bring_back}
 use Rattle.host_widgets.specs.ActMessages.{act_message}
 use Rattle.tplg_plan.specs.Sound.{IsSound}
-use Rattle.host_widgets.specs.Host.{Fits, IsRecordOf}
+use Rattle.host_widgets.specs.Host.{IsRecordOf}
+use Rattle.host_widgets.specs.Bringing.{Fits}
 use Rattle.host_widgets.specs.HostActs.{Act, Trig}
 use Rattle.host_widgets.specs.Keeps.{KeepsRecord}
 use Rattle.host_widgets.specs.Kept.{went_down}

@@ -8,7 +8,8 @@ use Rattle.host_widgets.specs.declared.answers.HostFault.{HostFault}
 use Rattle.host_widgets.specs.HostActs.{Act}
 use Rattle.host_widgets.specs.ActMessages.{act_message}
 use Rattle.host_widgets.specs.ActCalls.{came_to}
-use Rattle.host_widgets.specs.Host.{Outcome, Sent, verdict}
+use Rattle.host_widgets.specs.Host.{Outcome, verdict}
+use Rattle.host_widgets.specs.Bringing.{Sent}
 use Rattle.host_widgets.specs.Walk.{goes_past, first_of}
 
 -- one exchange of these bytes, and what it came to

@@ -4,7 +4,8 @@ use Rattle.stream_law.specs.State.{FwState}
 use Rattle.mbox_link.specs.Calls.{Meaning}
 use Rattle.tplg_plan.specs.declared.plans.Plan.{Plan}
 use Rattle.host_widgets.specs.declared.kept.Record.{Record}
-use Rattle.host_widgets.specs.Host.{Outcome, ticks_put}
+use Rattle.host_widgets.specs.Host.{Outcome}
+use Rattle.host_widgets.specs.Bringing.{ticks_put}
 use Rattle.host_widgets.specs.Keeps.{KeepsRecord}
 use Rattle.host_widgets.specs.StateOf.{empty_rings}
 

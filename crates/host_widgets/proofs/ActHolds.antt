@@ -4,7 +4,7 @@ use Rattle.std.proofs.Common.{◌≡◌, sym, ap, ◌∙◌, subst, ⊎_elim, �
 use Rattle.sof_base.specs.Ports.{Io}
 use Rattle.stream_law.specs.State.{FwState}
 use Rattle.stream_law.specs.Past.{Moment, Now, Tick}
-use Rattle.stream_law.specs.Stands.{IsPlayable}
+use Rattle.stream_law.specs.Viewing.{IsPlayable}
 use Rattle.ipc3_model.specs.Messages.{message_spelling, decoded}
 use Rattle.mbox_link.specs.Step.{row, row_of}
 use Rattle.mbox_link.specs.Exchange.{ticks}

@@ -22,7 +22,8 @@ use Rattle.host_widgets.specs.HostActs.{Act}
 use Rattle.host_widgets.specs.ActMessages.{act_message}
 use Rattle.host_widgets.specs.ActLists.{bring_up}
 use Rattle.host_widgets.specs.Expected.{needed_by}
-use Rattle.host_widgets.specs.Host.{Outcome, IsRecordOf, Fits, errno, verdict}
+use Rattle.host_widgets.specs.Host.{Outcome, IsRecordOf, errno, verdict}
+use Rattle.host_widgets.specs.Bringing.{Fits}
 use Rattle.host_widgets.specs.OneAct.{own, outcome_by, lag_of, performed}
 use Rattle.host_widgets.specs.Walk.{followed_by, walk}
 use Rattle.host_widgets.specs.ActCalls.{ActsDid, ActsSent, Counted, Onwards, came_to, next_of}

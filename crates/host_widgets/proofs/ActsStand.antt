@@ -9,7 +9,8 @@ use Rattle.stream_law.specs.State.{FwState, View, view_of}
 use Rattle.stream_law.specs.Ways.{is_live_phase, buffers}
 use Rattle.stream_law.specs.Seen.{seen}
 use Rattle.stream_law.specs.Past.{Moment, Now, Leads, after_now}
-use Rattle.stream_law.specs.Stands.{Stands, StaysAsLive}
+use Rattle.stream_law.specs.Stands.{Stands}
+use Rattle.stream_law.specs.Viewing.{StaysAsLive}
 use Rattle.stream_law.specs.Stays.{KeepsShape}
 use Rattle.stream_law.proofs.SeenLaws.{seen-sees}
 use Rattle.stream_law.proofs.Shapes.{live-stays}

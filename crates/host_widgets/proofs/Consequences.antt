@@ -15,7 +15,8 @@ use Rattle.tplg_plan.specs.Sound.{IsSound}
 use Rattle.host_widgets.specs.Kept.{first_record, with_power, all_closed}
 use Rattle.host_widgets.specs.ActLists.{bring_up}
 use Rattle.host_widgets.specs.StateOf.{state_by}
-use Rattle.host_widgets.specs.Host.{Outcome, Agrees, Sides, Fits, BroughtUp, SucceedsExactly, ticks_put}
+use Rattle.host_widgets.specs.Host.{Outcome, Agrees, Sides}
+use Rattle.host_widgets.specs.Bringing.{Fits, BroughtUp, SucceedsExactly, ticks_put}
 use Rattle.host_widgets.specs.ActCalls.{ActsSent, calls_of}
 use Rattle.host_widgets.specs.Orders.{Carried, Tested, brought_end, fault_of_load, loading, unload_fault, unloading, where_on}
 use Rattle.host_widgets.proofs.Brings.{brings}

@@ -17,7 +17,8 @@ use Rattle.mbox_link.specs.Exchange.{ticks, Rose}
 use Rattle.mbox_link.specs.Calls.{World, Meaning, Exchanged}
 use Rattle.host_widgets.specs.declared.answers.HostFault.{HostFault}
 use Rattle.host_widgets.specs.declared.answers.HostFault.TheVariants.{Refused, LinkDown}
-use Rattle.host_widgets.specs.Host.{Sent, IsBare, IsRead, plainly_done, verdict, judged, errno, is_negative}
+use Rattle.host_widgets.specs.Host.{plainly_done, verdict, judged, errno, is_negative}
+use Rattle.host_widgets.specs.Bringing.{Sent, IsBare, IsRead}
 use Rattle.host_widgets.proofs.ReplyErrors.{reply_with, done_reply, read-zero, decoded-error, zero-fits, negative-fits, IsErrorNumber, row_of_numbers}
 
 pub state_of : (o : Option FwState) → is_some o ≡ true → (s : FwState) × (o ≡ Some s)

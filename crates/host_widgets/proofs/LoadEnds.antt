@@ -22,7 +22,8 @@ use Rattle.tplg_plan.specs.Sound.{IsSound}
 use Rattle.host_widgets.specs.HostActs.{Act}
 use Rattle.host_widgets.specs.ActMessages.{act_message}
 use Rattle.host_widgets.specs.ActLists.{bring_up}
-use Rattle.host_widgets.specs.Host.{Outcome, AreControls, Agrees, Fits, BroughtUp, SucceedsExactly}
+use Rattle.host_widgets.specs.Host.{Outcome, AreControls, Agrees}
+use Rattle.host_widgets.specs.Bringing.{Fits, BroughtUp, SucceedsExactly}
 use Rattle.host_widgets.specs.OneAct.{own, outcome_by, lag_of, performed}
 use Rattle.host_widgets.specs.Walk.{followed_by, walk}
 use Rattle.host_widgets.specs.ActCalls.{ActsDid, Counted, next_of, calls_of}

@@ -21,7 +21,8 @@ use Rattle.host_widgets.specs.Acts.{widget_ids}
 use Rattle.host_widgets.specs.ActLists.{bring_up}
 use Rattle.host_widgets.specs.Expected.{stated_by, stated_bytes, needed_by}
 use Rattle.host_widgets.specs.StateOf.{state_by}
-use Rattle.host_widgets.specs.Host.{Fits, idle_view}
+use Rattle.host_widgets.specs.Host.{idle_view}
+use Rattle.host_widgets.specs.Bringing.{Fits}
 use Rattle.host_widgets.proofs.SilentTicks.{IsStill}
 use Rattle.host_widgets.proofs.Carving.{left, fresh-left}
 use Rattle.host_widgets.proofs.Effects.{effects, Follows, FollowAll}

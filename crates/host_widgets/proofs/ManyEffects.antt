@@ -19,7 +19,8 @@ use Rattle.host_widgets.specs.HostActs.{Act}
 use Rattle.host_widgets.specs.ActMessages.{act_message}
 use Rattle.host_widgets.specs.ActLists.{bring_up}
 use Rattle.host_widgets.specs.StateOf.{state_by}
-use Rattle.host_widgets.specs.Host.{Outcome, verdict, Fits, BroughtUp}
+use Rattle.host_widgets.specs.Host.{Outcome, verdict}
+use Rattle.host_widgets.specs.Bringing.{Fits, BroughtUp}
 use Rattle.host_widgets.specs.OneAct.{own, outcome_by, performed as came_by, lag_of}
 use Rattle.host_widgets.specs.Walk.{walk, followed_by, goes_past}
 use Rattle.host_widgets.specs.ActCalls.{ActDid, ActsDid, ActsSent, Onwards, came_to, next_of}

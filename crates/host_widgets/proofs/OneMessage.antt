@@ -5,7 +5,8 @@ use Rattle.mbox_link.specs.Calls.{World, Meaning, Cut, Exchanged, Did}
 use Rattle.host_widgets.specs.declared.answers.HostFault.{HostFault}
 use Rattle.host_widgets.specs.declared.kept.Record.{Record}
 use Rattle.host_widgets.specs.Kept.{went_down}
-use Rattle.host_widgets.specs.Host.{Outcome, Sent}
+use Rattle.host_widgets.specs.Host.{Outcome}
+use Rattle.host_widgets.specs.Bringing.{Sent}
 use Rattle.host_widgets.specs.ActCalls.{came_to}
 use Rattle.host_widgets.specs.ActCarried.{Replied, Passes, PlainEnd, is_down}
 use Rattle.host_widgets.proofs.LinkEnds.{down-is, stays}

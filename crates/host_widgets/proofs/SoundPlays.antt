@@ -14,7 +14,7 @@ use Rattle.stream_law.specs.declared.stream.StreamView.{StreamView}
 use Rattle.stream_law.specs.Ways.{comp_of, edge_of, components, source_of, sink_of, ins, outs}
 use Rattle.stream_law.specs.Joins.{fits_kind}
 use Rattle.stream_law.specs.Order.{is_among}
-use Rattle.stream_law.specs.Stands.{IsPlayable}
+use Rattle.stream_law.specs.Viewing.{IsPlayable}
 use Rattle.stream_law.specs.Walks.{LeadsTo, Walk, HasCycle, HasEnds}
 use Rattle.stream_law.proofs.Keyed.{list_any-keys}
 use Rattle.stream_law.proofs.Members.{IsIn, in-all, find-in}

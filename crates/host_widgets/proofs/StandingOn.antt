@@ -13,7 +13,8 @@ use Rattle.stream_law.specs.Epochs.{history_of}
 use Rattle.stream_law.specs.Seen.{flows, equalises, goes_on, is_equaliser, blob_in, numbers_in}
 use Rattle.stream_law.specs.Past.{Moment, Boot, Cut, Now, Tick, Past, Leads, new_life, after_now}
 use Rattle.stream_law.specs.Move.{audio_after, state_after, io_after}
-use Rattle.stream_law.specs.Stands.{Stands, Reads, IsPlayable, ring_frames}
+use Rattle.stream_law.specs.Stands.{Stands, Reads, ring_frames}
+use Rattle.stream_law.specs.Viewing.{IsPlayable}
 use Rattle.stream_law.proofs.Building.{lying-empty}
 use Rattle.stream_law.proofs.Keyed.{keys-remade}
 use Rattle.stream_law.proofs.Standing.{Leads-push, Stands-cut, Stands-now}

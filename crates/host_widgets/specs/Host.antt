@@ -1,5 +1,5 @@
 -- What the host's calls do on a device, and what they come to.
-use Rattle.std.specs.Prelude.{◌≡◌, ◌⊎◌, ◌↔◌, ℕ, ◌-◌, ◌%◌, ◌^◌, ◌<◌, ◌≤◌, ℤ, pos, negsuc, Bool, true, false, List, [], ◌∷◌, length, nat_le, Option, Some, None, is_some, Result, Ok, Err, if◌then◌else◌, ◌==◌, ◌&&◌, not}
+use Rattle.std.specs.Prelude.{◌≡◌, ◌⊎◌, ℕ, ◌<◌, ◌≤◌, ℤ, pos, negsuc, Bool, true, false, List, [], ◌∷◌, length, nat_le, Option, Some, None, is_some, Result, Ok, Err, if◌then◌else◌, ◌==◌, ◌&&◌, not}
 use Rattle.std.specs.List.{list_any, list_all}
 use Rattle.std.specs.Option.{option_map}
 use Rattle.sof_base.specs.BlobFaults.{is_blob}
@@ -7,16 +7,13 @@ use Rattle.sof_base.specs.declared.errno.Errno.{Errno}
 use Rattle.sof_base.specs.declared.format.Params.{Params}
 use Rattle.stream_law.specs.declared.stream.Phase.TheVariants.{Idle}
 use Rattle.stream_law.specs.declared.stream.StreamView.{StreamView}
-use Rattle.stream_law.specs.State.{FwState, view_of}
+use Rattle.stream_law.specs.State.{view_of}
 use Rattle.stream_law.specs.Ways.{is_live_phase, touch, same_shape, agree}
 use Rattle.ipc3_model.specs.declared.reply.Reply.{Reply}
 use Rattle.ipc3_model.specs.declared.reply.Body.TheVariants.{Nothing}
 use Rattle.ipc3_model.specs.declared.fault.CodecFault.{CodecFault}
-use Rattle.ipc3_model.specs.Messages.{decoded}
 use Rattle.ipc3_model.specs.Replies.{decoded_reply}
-use Rattle.mbox_link.specs.Step.{body_of}
-use Rattle.mbox_link.specs.Exchange.{Rose}
-use Rattle.mbox_link.specs.Calls.{World, Meaning, Exchange, Led}
+use Rattle.mbox_link.specs.Calls.{Meaning}
 use Rattle.tplg_plan.specs.declared.plans.Plan.{Plan}
 use Rattle.tplg_plan.specs.declared.plans.StreamPlan.{StreamPlan}
 use Rattle.tplg_plan.specs.declared.plans.ControlPlan.{ControlPlan}
@@ -31,9 +28,8 @@ use Rattle.host_widgets.specs.declared.kept.Record.{Record}
 use Rattle.host_widgets.specs.declared.kept.ControlRec.{ControlRec}
 use Rattle.host_widgets.specs.Kept.{first_control, first_record}
 use Rattle.host_widgets.specs.HostRecord.{may_have}
-use Rattle.host_widgets.specs.Expected.{phase_of, needed_by}
+use Rattle.host_widgets.specs.Expected.{phase_of}
 use Rattle.host_widgets.specs.ViewOf.{record_view}
-use Rattle.host_widgets.specs.StateOf.{state_by}
 
 -- whether a command that answers nothing else was done
 abbrev pub Outcome : Type 0
@@ -64,25 +60,6 @@ abbrev pub verdict : Option (List ℕ) → Result Reply HostFault
 verdict None = Err LinkDown
 verdict (Some bytes) = judged (decoded_reply bytes)
 
--- whatever the firmware's state, it has no body for its reply to these bytes
-abbrev pub IsBare : List ℕ → Type 0
-IsBare request = (f : FwState) → body_of f (decoded request) ≡ Nothing
-
--- this reply was answered, or one with a body that can't be read, in whose place it stands
-abbrev pub IsRead : Option (List ℕ) → Reply → Type 0
-IsRead answer reply = (option_map decoded_reply answer ≡ Some (Ok reply)) ⊎ ((fault : CodecFault) × (option_map decoded_reply answer ≡ Some (Err fault)) × (reply ≡ plainly_done))
-
--- What one exchange of these bytes, and no other call, came to. It passes with a reply whose error is 0, it is refused
--- exactly with a reply whose error is negative, and the link is down exactly where it failed. A reply without a body is read.
-pub record Sent {D : Type 0} (means : Meaning D) (request : List ℕ) (w v : World D) (result : Result Reply HostFault) : Type 0 where
-  pub answer : Option (List ℕ)
-  pub led : Led means w (Exchange request answer ∷ []) v
-  pub said : result ≡ verdict answer
-  pub passed : (reply : Reply) → result ≡ Ok reply → (reply.error ≡ pos 0) × IsRead answer reply
-  pub refused : (e : Errno) → (result ≡ Err (Refused e)) ↔ ((reply : Reply) × (option_map decoded_reply answer ≡ Some (Ok reply)) × (is_negative reply.error ≡ true) × (errno reply.error ≡ e))
-  pub down : (result ≡ Err LinkDown) ↔ (answer ≡ None)
-  pub read : IsBare request → (bytes : List ℕ) → answer ≡ Some bytes → (reply : Reply) × (decoded_reply bytes ≡ Ok reply)
-
 -- ---- what the firmware itself refuses
 
 -- a stream of a host, without parameters
@@ -94,25 +71,7 @@ abbrev pub conflicts : Plan → ℕ → Params → StreamPlan × StreamRec → B
 conflicts plan host p (s, r) =
     not (s.host == host) && touch plan.graph (idle_view s.host) (idle_view host) && is_some r.params && not (same_shape r.params (Some p))
 
--- the stated sizes of all widgets fit
-abbrev pub Fits : Plan → ℕ → Type 0
-Fits plan heap = needed_by plan (length plan.widgets) ≤ heap
-
 -- ---- what a device has that was brought up
-
--- the ticks that a device has put before messages, as its clock counts them
-abbrev pub ticks_put : {D : Type 0} → Meaning D → D → D → ℕ
-ticks_put means old new = (means.pending old - means.pending new) % 2 ^ 32
-
--- once all acts that bring it up have passed, it keeps the plan with what this record sets
-abbrev pub BroughtUp : {D : Type 0} → Meaning D → Plan → ℕ → Record → D → Outcome → D → Type 0
-BroughtUp means plan heap kept old (Ok done) new = means.on new ≡ Some (state_by plan kept heap (ticks_put means old new))
-BroughtUp means plan heap kept old (Err fault) new = Unit {0}
-
--- a load from nothing succeeds where the sizes fit and neither count rises, and not where they do not fit
-pub record SucceedsExactly {D : Type 0} (means : Meaning D) (plan : Plan) (heap : ℕ) (old : D) (result : Outcome) (new : D) : Type 0 where
-  pub fit : Fits plan heap → (Rose (means.faults old) (means.faults new) → ⊥) → (Rose (means.refusals old) (means.refusals new) → ⊥) → result ≡ Ok tt
-  pub unfit : (result ≡ Ok tt) → Fits plan heap
 
 -- ---- both sides
 

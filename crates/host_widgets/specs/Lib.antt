@@ -11,6 +11,7 @@ pub mod ViewOf
 pub mod StateOf
 pub mod Keeps
 pub mod Host
+pub mod Bringing
 pub mod OneAct
 pub mod Walk
 pub mod ActCalls

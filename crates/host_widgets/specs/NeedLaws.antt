@@ -4,7 +4,7 @@ use Rattle.tplg_plan.specs.declared.plans.Plan.{Plan}
 use Rattle.tplg_plan.specs.HeapNeed.{need_on}
 use Rattle.tplg_plan.specs.Sound.{IsSound}
 use Rattle.host_widgets.specs.Expected.{needed_by}
-use Rattle.host_widgets.specs.Host.{Fits}
+use Rattle.host_widgets.specs.Bringing.{Fits}
 
 -- the stated sizes of all widgets, each rounded up to 16, add up to the need of the graph
 abbrev pub NeedIsSum : Type 0

@@ -4,7 +4,8 @@ ghost use Rattle.sof_base.specs.Ports.{HasRoom};
 ghost use Rattle.mbox_link.specs.Calls.{world};
 ghost use Rattle.tplg_plan.specs.Sound.{IsSound};
 ghost use Rattle.host_widgets.specs.Kept.{first_record, with_power};
-ghost use Rattle.host_widgets.specs.Host.{Agrees, BroughtUp, SucceedsExactly};
+ghost use Rattle.host_widgets.specs.Host.{Agrees};
+ghost use Rattle.host_widgets.specs.Bringing.{BroughtUp, SucceedsExactly};
 ghost use Rattle.host_widgets.specs.Sides.{SameSide, world_of};
 ghost use Rattle.host_widgets.specs.Orders.{Carried, Tested, brought_end, fault_of_load, loading};
 

@@ -4,7 +4,8 @@ ghost use Rattle.sof_base.specs.Ports.{HasRoom};
 ghost use Rattle.ipc3_model.specs.Messages.{message_spelling};
 ghost use Rattle.mbox_link.specs.Exchange.{answered};
 ghost use Rattle.mbox_link.specs.Calls.{world};
-ghost use Rattle.host_widgets.specs.Host.{Sent, verdict};
+ghost use Rattle.host_widgets.specs.Host.{verdict};
+ghost use Rattle.host_widgets.specs.Bringing.{Sent};
 
 use crate::answers::HostFault;
 use ipc3_codec::{Body, Message, Reply, decode_reply, encode};

@@ -2,7 +2,8 @@
 ghost use Rattle.std.specs.Prelude.{◌≡◌, true, IfOk, IfErr, Ok, Err, Some};
 ghost use Rattle.sof_base.specs.Slots.{word_at};
 ghost use Rattle.ipc3_model.specs.ControlWords.{type_of, takes_count};
-ghost use Rattle.ipc3_model.specs.Replies.{IsReply, MeansReply, reply_fault, decoded_reply, is_body_type};
+ghost use Rattle.ipc3_model.specs.Replies.{reply_fault, decoded_reply, is_body_type};
+ghost use Rattle.ipc3_model.specs.ReplyForms.{IsReply, MeansReply};
 ghost use Rattle.ipc3_codec.specs.Reading.{kind_in, payload_in, body_in, framed_reply_in};
 ghost use Rattle.ipc3_model.specs.declared.reply.Reply.{Reply as ReplyValue};
 ghost use Rattle.ipc3_model.specs.declared.fault.CodecFault.{CodecFault as Fault};

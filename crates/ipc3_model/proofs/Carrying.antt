@@ -5,7 +5,8 @@ use Rattle.std.proofs.lemmas.List.{take-append-drop}
 use Rattle.std.specs.Prelude.{nat_lt, not, IfOk, IfErr}
 use Rattle.std.specs.List.{find}
 use Rattle.sof_base.specs.Cells.{Fits}
-use Rattle.sof_base.specs.Slots.{Slot, Word, Size, slots_cells, AreSlots, word_at, widths, slots_from, all_named, shapes_of}
+use Rattle.sof_base.specs.Slots.{Slot, Word, Size, slots_cells, AreSlots, word_at}
+use Rattle.sof_base.specs.Layouts.{widths, slots_from, all_named, shapes_of}
 use Rattle.sof_base.proofs.FieldLaws.{IsBytes, slots_read, slots_again}
 use Rattle.ipc3_model.specs.declared.command.CommandWord.{CommandWord}
 use Rattle.ipc3_model.specs.declared.message.Message.{Message}

@@ -2,7 +2,8 @@
 use Rattle.std.proofs.Common.{◌≡◌, ℕ, ◌+◌, ◌≤◌, true, false, List, [], ◌∷◌, ◌++◌, length, Option, Some, None, refl, sym, ap, subst, ◌∙◌, arith}
 use Rattle.std.proofs.lemmas.Bool.{eqb-true}
 use Rattle.std.specs.Prelude.{◌==◌, is_some}
-use Rattle.sof_base.specs.Slots.{Slot, Word, Size, word_at, part, slots_from, shapes_of, Bytes}
+use Rattle.sof_base.specs.Slots.{Slot, Word, Size, word_at, part}
+use Rattle.sof_base.specs.Layouts.{slots_from, shapes_of, Bytes}
 use Rattle.ipc3_model.specs.declared.command.CommandWord.{CommandWord}
 use Rattle.ipc3_model.specs.declared.command.CommandWord.TheVariants as commands
 use Rattle.ipc3_model.specs.declared.component_type.CompType.{CompType}

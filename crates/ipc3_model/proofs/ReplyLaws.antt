@@ -8,7 +8,8 @@ use Rattle.std.specs.Prelude.{nat_lt, nat_le, ◌&&◌, not, IfOk, IfErr}
 use Rattle.std.specs.Int.{w32, cast_unsigned, cast_signed}
 use Rattle.std.specs.List.{find}
 use Rattle.sof_base.specs.Cells.{Fits}
-use Rattle.sof_base.specs.Slots.{Slot, Word, Size, Raw, Bytes, slots_cells, AreSlots, word_at, part, IsSlot, A_word, slots_from, shapes_of, widths, all_named}
+use Rattle.sof_base.specs.Slots.{Slot, Word, Size, Raw, slots_cells, AreSlots, word_at, part, IsSlot}
+use Rattle.sof_base.specs.Layouts.{Bytes, A_word, slots_from, shapes_of, widths, all_named}
 use Rattle.sof_base.specs.declared.part.Part.{Part}
 use Rattle.sof_base.proofs.FieldLaws.{IsBytes, slot_reads, slots_read, slots_again, length-part}
 use Rattle.ipc3_model.specs.declared.control_kind.ControlKind.{ControlKind}
@@ -22,7 +23,8 @@ use Rattle.ipc3_model.specs.Places.{Place, any_words, any_bytes, word_of, is_bad
 use Rattle.ipc3_model.specs.StreamWords.{host_buffer_slots}
 use Rattle.ipc3_model.specs.ControlWords.{control_slots, takes_command, takes_count, takes_remaining, value_slots, values_in, part_in, part_slots, control_rest_places, payload_places}
 use Rattle.ipc3_model.specs.Messages.{is_sized, faultless}
-use Rattle.ipc3_model.specs.Replies.{IsBody, IsReply, MeansReply, TakesCommand, reply_size, reply_slots, is_body_type, body_kind, body_places, reply_places, reply_fault, body_with, reply_of, decoded_reply}
+use Rattle.ipc3_model.specs.Replies.{reply_size, reply_slots, is_body_type, body_kind, body_places, reply_places, reply_fault, body_with, reply_of, decoded_reply}
+use Rattle.ipc3_model.specs.ReplyForms.{IsBody, IsReply, MeansReply, TakesCommand}
 use Rattle.ipc3_model.proofs.Places.{AllGood, AllGood-from, AllGood-append, AllGood-split, good_at, none-AllGood, find-none}
 use Rattle.ipc3_model.proofs.Spellings.{number_at, fields_from, length-values_at, values_width, values_named, values_room, values_found, ValuesAre, values_only, part_found}
 use Rattle.ipc3_model.proofs.WordsToPlaces.{part_same}

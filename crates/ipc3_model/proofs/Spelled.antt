@@ -17,7 +17,8 @@ use Rattle.ipc3_model.specs.declared.reply.Body.TheVariants as bodies
 use Rattle.ipc3_model.specs.declared.fault.CodecFault.{CodecFault}
 use Rattle.ipc3_model.specs.Commands.{command_number}
 use Rattle.ipc3_model.specs.Messages.{message_slots, message_spelling, size_of, command_of, body_slots, is_sized, IsAllowed, IsMessage, Means, decoded}
-use Rattle.ipc3_model.specs.Replies.{IsBody, IsReply, MeansReply, TakesCommand, reply_size, reply_slots, reply_spelling, decoded_reply}
+use Rattle.ipc3_model.specs.Replies.{reply_size, reply_slots, reply_spelling, decoded_reply}
+use Rattle.ipc3_model.specs.ReplyForms.{IsBody, IsReply, MeansReply, TakesCommand}
 use Rattle.ipc3_model.proofs.Carrying.{widths-message, decoded_only}
 use Rattle.ipc3_model.proofs.ReplyLaws.{reply-are, reply-width, decoded_reply_only}
 

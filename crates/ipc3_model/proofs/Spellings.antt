@@ -3,7 +3,8 @@ use Rattle.std.proofs.Common.{◌≡◌, ℕ, zero, suc, ◌+◌, ◌*◌, ◌�
 use Rattle.std.proofs.lemmas.Bool.{cases_Bool, eqb-true, leb-true}
 use Rattle.std.specs.List.{find}
 use Rattle.std.specs.Prelude.{◌==◌}
-use Rattle.sof_base.specs.Slots.{Slot, Word, Half, Raw, word_at, part, widths, slots_from, all_named, shapes_of, Bytes}
+use Rattle.sof_base.specs.Slots.{Slot, Word, Half, Raw, word_at, part}
+use Rattle.sof_base.specs.Layouts.{widths, slots_from, all_named, shapes_of, Bytes}
 use Rattle.sof_base.specs.Samples.{frame_format}
 use Rattle.sof_base.specs.declared.format.Format.{Format}
 use Rattle.sof_base.specs.declared.format.Format.TheVariants.{S16, S24, S32}

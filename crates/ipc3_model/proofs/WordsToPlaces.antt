@@ -1,6 +1,7 @@
 -- Bytes that have the words of a message have no bad place, and are read as it.
 use Rattle.std.proofs.Common.{◌≡◌, ℕ, ◌+◌, ◌*◌, ◌≤◌, List, [], ◌∷◌, length, Some, refl, sym, ap, subst, arith}
-use Rattle.sof_base.specs.Slots.{Slot, Word, Size, Raw, word_at, half_at, part, slots_from, shapes_of, Bytes}
+use Rattle.sof_base.specs.Slots.{Slot, Word, Size, Raw, word_at, half_at, part}
+use Rattle.sof_base.specs.Layouts.{slots_from, shapes_of, Bytes}
 use Rattle.sof_base.specs.Samples.{frame_format}
 use Rattle.sof_base.specs.declared.part.Part.{Part}
 use Rattle.sof_base.specs.declared.format.Params.{Params}

@@ -6,4 +6,5 @@ pub mod StreamWords
 pub mod ControlWords
 pub mod Messages
 pub mod Replies
+pub mod ReplyForms
 pub mod FaultNumbers

@@ -1,9 +1,8 @@
 -- The firmware's replies, after SOF's IPC3 (ABI 3). All places are in bytes from 0.
-use Rattle.std.specs.Prelude.{◌≡◌, ℕ, ℤ, ◌+◌, ◌*◌, ◌<◌, ◌≤◌, ◌^◌, Bool, true, not, ◌||◌, List, [], ◌∷◌, ◌++◌, length, take, Option, Some, Result, find, nat_lt, ◌==◌, if◌then◌else◌}
+use Rattle.std.specs.Prelude.{ℕ, ℤ, ◌+◌, ◌*◌, Bool, not, ◌||◌, List, [], ◌∷◌, ◌++◌, length, Option, Some, Result, find, nat_lt, ◌==◌, if◌then◌else◌}
 use Rattle.std.specs.Int.{w32, cast_unsigned, cast_signed}
-use Rattle.std.specs.Int.RustNames.{FitsSigned}
-use Rattle.sof_base.specs.Cells.{Fits, written}
-use Rattle.sof_base.specs.Slots.{Slot, Word, Size, AreSlots, slots_cells, word_at}
+use Rattle.sof_base.specs.Cells.{written}
+use Rattle.sof_base.specs.Slots.{Slot, Word, Size, slots_cells, word_at}
 use Rattle.ipc3_model.specs.declared.control_kind.ControlKind.{ControlKind}
 use Rattle.ipc3_model.specs.declared.control_kind.ControlKind.TheVariants as kinds
 use Rattle.ipc3_model.specs.declared.command.TheConstants.{REPLY}
@@ -14,12 +13,8 @@ use Rattle.ipc3_model.specs.declared.reply.Reply.{Reply}
 use Rattle.ipc3_model.specs.declared.fault.CodecFault.{CodecFault}
 use Rattle.ipc3_model.specs.declared.fault.CodecFault.TheVariants.{Short, SizeWord, Command}
 use Rattle.ipc3_model.specs.Places.{Place, any_words, word_of, is_bad, field_fault}
-use Rattle.ipc3_model.specs.ControlWords.{takes_command, takes_count, takes_remaining, control_slots, value_slots, part_slots, control_rest_places, payload_places, values_in, part_in}
+use Rattle.ipc3_model.specs.ControlWords.{control_slots, value_slots, part_slots, control_rest_places, payload_places, values_in, part_in}
 use Rattle.ipc3_model.specs.Messages.{is_sized, faultless}
-
--- a reply without a body
-abbrev pub without_body : ℤ → Reply
-without_body error = record { error = error; body = Nothing }
 
 -- how many bytes a reply needs: 12, or a ctrl_data and what stands behind it
 abbrev pub reply_size : Body → ℕ
@@ -48,31 +43,6 @@ reply_slots r = size_slot r.body ∷ Word REPLY ∷ body_words (Word (cast_unsig
 -- the bytes that are answered
 abbrev pub reply_spelling : Reply → List ℕ
 reply_spelling r = written (slots_cells (reply_slots r))
-
--- a body of the program that no decoder refuses
-abbrev pub IsBody : Body → Type 0
-IsBody Nothing = Unit {0}
-IsBody (Values values) = AreSlots (value_slots 0 values) × (takes_count kinds.SetValue (length values) ≡ true)
-IsBody (Part part) =
-    (part.index < 2 ^ 32) × (length part.header ≡ 32) × (takes_count kinds.SetData (length part.bytes) ≡ true) × (takes_remaining kinds.SetData (length part.bytes) part.remaining ≡ true)
-
--- an error of the program is an i32
-abbrev pub IsReply : Reply → Type 0
-IsReply r = FitsSigned w32 r.error × IsBody r.body
-
--- the command of a reply with values is not kept, and may be that of any values
-abbrev pub TakesCommand : List ℕ → Body → Type 0
-TakesCommand b Nothing = Unit {0}
-TakesCommand b (Values values) = takes_command kinds.SetValue (word_at b 20) ≡ true
-TakesCommand b (Part part) = Unit {0}
-
--- b carries r: its size word is 12 for a reply without a body, and else has room for r, and r's words stand at their places; all else is free
-pub record MeansReply (b : List ℕ) (r : Reply) : Type 0 where
-  pub header : 12 ≤ length b
-  pub sized : is_sized 12 b ≡ true
-  pub room : reply_size r.body ≤ word_at b 0
-  pub fits : Fits (take (reply_size r.body) b) (slots_cells (reply_slots r))
-  pub command : TakesCommand b r.body
 
 -- the types of bodies: VALUE_CHAN_SET, DATA_SET
 abbrev pub is_body_type : ℕ → Bool

@@ -2,7 +2,8 @@
 
 ghost use Rattle.std.specs.Prelude.{◌≡◌, ◌↔◌, ◌≤◌, ◌<◌, ◌++◌, ℕ, List, length, slice_index, Ok, Err, Some};
 ghost use Rattle.ipc3_model.specs.Messages.{IsMessage, Means, decoded, message_fault, message_spelling, size_of};
-ghost use Rattle.ipc3_model.specs.Replies.{IsReply, MeansReply, decoded_reply, reply_fault, reply_size, reply_spelling};
+ghost use Rattle.ipc3_model.specs.Replies.{decoded_reply, reply_fault, reply_size, reply_spelling};
+ghost use Rattle.ipc3_model.specs.ReplyForms.{IsReply, MeansReply};
 ghost use Rattle.ipc3_model.specs.declared.message.Message.{Message as Value};
 ghost use Rattle.ipc3_model.specs.declared.reply.Reply.{Reply as ReplyValue};
 ghost use Rattle.ipc3_model.specs.declared.fault.CodecFault.{CodecFault as Fault};

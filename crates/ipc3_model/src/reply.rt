@@ -1,6 +1,7 @@
 // What the firmware answers.
 ghost use Rattle.std.specs.Prelude.{◌≡◌};
-ghost use Rattle.ipc3_model.specs.Replies.{reply_spelling, without_body};
+ghost use Rattle.ipc3_model.specs.Replies.{reply_spelling};
+ghost use Rattle.ipc3_model.specs.ReplyForms.{without_body};
 
 use crate::command::REPLY;
 use sof_base::{Bounded, Part};

@@ -1,13 +1,11 @@
 -- A link over a device, whose messages meet their planned lags and fates.
-use Rattle.std.specs.Prelude.{◌≡◌, ℕ, ◌+◌, Bool, true, false, List, ◌∷◌, replicate, Option, Some, None, Result, Ok, Err}
+use Rattle.std.specs.Prelude.{◌≡◌, ℕ, ◌+◌, List, ◌∷◌, replicate, Option, Some, None}
 use Rattle.mbox_link.specs.Step.{error_reply}
 use Rattle.mbox_link.specs.Exchange.{more}
 use Rattle.mbox_link.specs.Calls.{World, Meaning, BootedDevice, CutOff, Exchanged, Ticked, Tick, Led}
-use Rattle.mbox_link.specs.declared.fates.Entry.{Entry}
 use Rattle.mbox_link.specs.declared.fates.Fate.{Fate}
 use Rattle.mbox_link.specs.declared.fates.Fate.TheVariants.{Pass, Refuse, Drop, Lose}
-use Rattle.mbox_link.specs.declared.fates.PlanFull.{PlanFull}
-use Rattle.mbox_link.specs.Meetings.{planned, without_entry, with_fate, with_lag, has_room, has_lag_room, lags}
+use Rattle.mbox_link.specs.Meetings.{planned, without_entry, lags}
 use Rattle.mbox_link.specs.Wire.{Wire}
 
 -- the device behind the link, with the endpoints' bytes
@@ -58,25 +56,6 @@ after_message link dsp = record {
   dropped = dropped_after (next_fate link) link.dropped;
   refused = refused_after (next_fate link) link.refused;
 }
-
--- the link with other entries, and all else the same
-abbrev pub holding : {P : Type 0} → Wire P → List Entry → Wire P
-holding link entries = record { device = link.device; entries = entries; sent = link.sent; dropped = link.dropped; refused = link.refused }
-
--- what planning came to: these entries are held, or there was no room and nothing changed
-abbrev pub PlannedSo : {P : Type 0} → Bool → List Entry → Wire P → Result (Unit {0}) PlanFull → Wire P → Type 0
-PlannedSo room entries old (Ok done) new = (room ≡ true) × (new ≡ holding old entries)
-PlannedSo room entries old (Err full) new = (room ≡ false) × (new ≡ old)
-
--- what planning a fate of the k-th message from now came to
-abbrev pub Planned : {P : Type 0} → ℕ → Fate → Wire P → Result (Unit {0}) PlanFull → Wire P → Type 0
-Planned k fate old result new =
-    let n = old.sent + k in PlannedSo (has_room n old.entries) (with_fate n fate old.entries) old result new
-
--- what planning so many ticks before it came to
-abbrev pub LagPlanned : {P : Type 0} → ℕ → ℕ → Wire P → Result (Unit {0}) PlanFull → Wire P → Type 0
-LagPlanned k ticks old result new =
-    let n = old.sent + k in PlannedSo (has_lag_room n ticks old.entries) (with_lag n ticks old.entries) old result new
 
 abbrev pub link : {P : Type 0} → Meaning P → Meaning (Wire P)
 link means =

@@ -5,7 +5,8 @@ ghost use Rattle.sof_base.specs.declared.limits.TheConstants.{TURN_BYTES};
 ghost use Rattle.mbox_link.specs.Calls.{Tick, Led, world};
 ghost use Rattle.mbox_link.specs.Drained.{over_drained};
 ghost use Rattle.mbox_link.specs.Fates.{IsMeant};
-ghost use Rattle.mbox_link.specs.Link.{link, Planned, LagPlanned};
+ghost use Rattle.mbox_link.specs.Link.{link};
+ghost use Rattle.mbox_link.specs.Planned.{Planned, LagPlanned};
 ghost use Rattle.mbox_link.specs.Step.{error_reply};
 ghost use Rattle.mbox_link.specs.Wire.{new_link};
 

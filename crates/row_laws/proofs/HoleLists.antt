@@ -4,7 +4,8 @@ use Rattle.std.proofs.lemmas.Bool.{true≢false, false≢true, leb-true, ltb-tru
 use Rattle.std.specs.Prelude.{nat_lt, nat_le}
 use Rattle.std.specs.List.{AllByRecursion}
 use Rattle.sof_base.specs.declared.hole.Hole.{Hole}
-use Rattle.sof_base.specs.Holes.{fresh_holes, total, fits, first_fit, shortened, carved, joined, given, Spaced, Below}
+use Rattle.sof_base.specs.Holes.{fresh_holes, fits, first_fit, shortened, carved, joined, given}
+use Rattle.sof_base.specs.Spacing.{total, Spaced, Below}
 use Rattle.stream_law.specs.State.{PieceView}
 use Rattle.row_laws.specs.Tiled.{ArePiecesApart, IsOutside, hole_of}
 

@@ -4,7 +4,7 @@ use Rattle.std.proofs.lemmas.Bool.{false≢true, and_parts, and_from, and_right}
 use Rattle.std.proofs.lemmas.List.{length-map}
 use Rattle.std.specs.Prelude.{option_map}
 use Rattle.std.specs.Option.{option_map_or}
-use Rattle.sof_base.specs.Blob.{IsBlob}
+use Rattle.sof_base.specs.BlobParts.{IsBlob}
 use Rattle.stream_law.specs.declared.graph.Kind.{Kind}
 use Rattle.stream_law.specs.declared.graph.Kind.TheVariants.{Eq}
 use Rattle.stream_law.specs.declared.graph.Setting.TheVariants.{Blob}

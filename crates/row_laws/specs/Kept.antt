@@ -1,7 +1,7 @@
 -- What is so of every state of a device that is on.
 use Rattle.std.specs.Prelude.{◌≡◌, ◌⊎◌, ℕ, ◌+◌, ◌*◌, ◌<◌, ◌≤◌, List, [], map, length, filter, Bool, true, ◌==◌, slice_index}
 use Rattle.std.specs.List.{list_any, AllByRecursion}
-use Rattle.sof_base.specs.Blob.{IsBlob}
+use Rattle.sof_base.specs.BlobParts.{IsBlob}
 use Rattle.stream_law.specs.declared.graph.Kind.{Kind}
 use Rattle.stream_law.specs.declared.graph.Kind.TheVariants.{Volume, Mux, Eq}
 use Rattle.stream_law.specs.declared.graph.Setting.{Setting}

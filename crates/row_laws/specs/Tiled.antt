@@ -2,7 +2,8 @@
 use Rattle.std.specs.Prelude.{◌≡◌, ◌⊎◌, ℕ, ◌+◌, ◌%◌, ◌<◌, ◌≤◌, List, [], ◌∷◌}
 use Rattle.std.specs.List.{AllByRecursion}
 use Rattle.sof_base.specs.declared.hole.Hole.{Hole}
-use Rattle.sof_base.specs.Holes.{usable_of, fresh_holes, total, Spaced}
+use Rattle.sof_base.specs.Holes.{usable_of, fresh_holes}
+use Rattle.sof_base.specs.Spacing.{total, Spaced}
 use Rattle.stream_law.specs.State.{PieceView, HeapView}
 use Rattle.stream_law.specs.Placed.{HasDistinct}
 

@@ -1,7 +1,7 @@
 -- Bytes are a blob exactly where no test of a blob fails.
 use Rattle.std.proofs.Common.{◌≡◌, ℕ, List}
 use Rattle.std.specs.Prelude.{None}
-use Rattle.sof_base.specs.Blob.{IsBlob}
+use Rattle.sof_base.specs.BlobParts.{IsBlob}
 use Rattle.sof_base.specs.BlobFaults.{blob_fault}
 use Rattle.sof_base.proofs.FieldLaws.{IsBytes}
 use Rattle.sof_base.proofs.BlobTests.{IsSound, tested-sound, sound-tested}

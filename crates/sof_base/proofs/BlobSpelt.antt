@@ -3,7 +3,8 @@ use Rattle.std.proofs.Common.{◌≡◌, refl, sym, ap, ◌∙◌, subst, ℕ, z
 use Rattle.std.proofs.lemmas.List.{take-append-drop, drop-drop}
 use Rattle.std.specs.List.{AllByRecursion, flat_map}
 use Rattle.sof_base.specs.Slots.{AreWords, words_bytes, word_at, words_at}
-use Rattle.sof_base.specs.Blob.{SectionFields, ResponseFields, BlobFields, blob_magic, section_words, response_words, blob_words, is_count, is_assignment, is_shift, signed, IsResponse, IsBlob, signed_at, blob_channels, blob_responses, response_at, section_count}
+use Rattle.sof_base.specs.Blob.{SectionFields, blob_magic, is_count, is_assignment, is_shift, signed, signed_at, blob_channels, blob_responses, response_at, section_count}
+use Rattle.sof_base.specs.BlobParts.{ResponseFields, BlobFields, section_words, response_words, blob_words, IsResponse, IsBlob}
 use Rattle.sof_base.proofs.FieldLaws.{IsBytes, words_same, words_fit, length-words}
 use Rattle.sof_base.proofs.BlobTests.{IsSound, is_counted}
 

@@ -6,7 +6,8 @@ use Rattle.std.specs.Int.{w16, w32, from_le_bytes}
 use Rattle.sof_base.specs.declared.format.Format.{Format}
 use Rattle.sof_base.specs.declared.format.Format.TheVariants.{S16, S24, S32}
 use Rattle.sof_base.specs.Slots.{part, half_at, word_at}
-use Rattle.sof_base.specs.Samples.{Frame, signed_of, width, sample_in_of, sample_out_of, AreFrames, frame_in, frames_in, frame_out, frames_out}
+use Rattle.sof_base.specs.Samples.{Frame, signed_of, width, sample_in_of, sample_out_of, frame_in, frames_in, frame_out, frames_out}
+use Rattle.sof_base.specs.FrameLists.{AreFrames}
 
 -- ---- from a place on
 

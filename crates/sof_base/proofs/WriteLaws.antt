@@ -4,7 +4,8 @@ use Rattle.std.proofs.lemmas.List.{map-append, take_more, take-replicate}
 use Rattle.std.proofs.Math.ListN.{replicate}
 use Rattle.std.specs.Int.{w32, to_le_bytes}
 use Rattle.sof_base.specs.Cells.{fixed, loose, written, byte_of}
-use Rattle.sof_base.specs.Slots.{wrote_part, Slot, Raw, Label, zeros, slot_cells, slots_cells, wrote, wrote_all, words_bytes, Words}
+use Rattle.sof_base.specs.Slots.{Slot, Raw, Label, zeros, slot_cells, slots_cells, words_bytes, Words}
+use Rattle.sof_base.specs.Layouts.{wrote_part, wrote, wrote_all}
 
 pub written-fixed : (bs : List ℕ) → written (fixed bs) ≡ bs
 written-fixed [] = refl

@@ -1,5 +1,5 @@
 -- The free parts of a heap as a list, and what carving and giving back make of it. Places and sizes are in bytes.
-use Rattle.std.specs.Prelude.{◌≡◌, ℕ, ◌+◌, ◌-◌, ◌*◌, ◌/◌, ◌%◌, ◌<◌, ◌≤◌, Bool, false, ◌||◌, List, [], ◌∷◌, ◌==◌, nat_le, nat_lt, if◌then◌else◌}
+use Rattle.std.specs.Prelude.{ℕ, ◌+◌, ◌-◌, ◌*◌, ◌/◌, Bool, false, ◌||◌, List, [], ◌∷◌, ◌==◌, nat_le, nat_lt, if◌then◌else◌}
 use Rattle.sof_base.specs.declared.hole.Hole.{Hole}
 
 -- n, up to a multiple of 16
@@ -13,11 +13,6 @@ usable_of n = n / 16 * 16
 -- the holes of n bytes of which none is carved
 abbrev pub fresh_holes : ℕ → List Hole
 fresh_holes n = if n == 0 then [] else record { place = 0; size = n } ∷ []
-
--- the sum of the sizes
-abbrev pub total : List Hole → ℕ
-total [] = 0
-total (h ∷ hs) = h.size + total hs
 
 -- some hole has n bytes
 abbrev pub fits : ℕ → List Hole → Bool
@@ -47,18 +42,3 @@ joined s (h ∷ hs) = if s.place + s.size == h.place then record { place = s.pla
 abbrev pub given : Hole → List Hole → List Hole
 given s [] = s ∷ []
 given s (h ∷ hs) = if nat_lt s.place h.place then joined s (h ∷ hs) else (if h.place + h.size == s.place then joined (record { place = h.place; size = h.size + s.size }) hs else h ∷ given s hs)
-
--- holes ascend from low up to high, in whole units of 16, and none touches the next
-abbrev pub Spaced : ℕ → ℕ → List Hole → Type 0
-Spaced low high [] = Unit {0}
-Spaced low high (h ∷ hs) = (low ≤ h.place) × (h.place % 16 ≡ 0) × (0 < h.size) × (h.size % 16 ≡ 0) × (h.place + h.size ≤ high) × Spaced (h.place + h.size + 1) high hs
-
--- each hole ends before b
-abbrev pub Below : ℕ → List Hole → Type 0
-Below b [] = Unit {0}
-Below b (h ∷ hs) = (h.place + h.size < b) × Below b hs
-
--- the first hole, if there is one, begins after b
-abbrev pub After : ℕ → List Hole → Type 0
-After b [] = Unit {0}
-After b (h ∷ hs) = b < h.place

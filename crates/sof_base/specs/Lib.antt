@@ -1,10 +1,14 @@
 pub mod Cells
 pub mod Slots
+pub mod Layouts
 pub mod Samples
+pub mod FrameLists
 pub mod Rates
 pub mod Equations
 pub mod Ramps
 pub mod Holes
+pub mod Spacing
 pub mod Ports
 pub mod Blob
+pub mod BlobParts
 pub mod BlobFaults

@@ -1,5 +1,5 @@
 -- Samples: their numbers inside the firmware, and their bytes in the three formats. Full scale is the range of 32 bits.
-use Rattle.std.specs.Prelude.{◌≡◌, ℕ, zero, suc, ◌+◌, ◌-◌, ◌*◌, ◌%◌, ◌^◌, List, [], ◌∷◌, ◌++◌, map, take, drop, get_or, length, ℤ, pos, ◌+ℤ◌, ◌-ℤ◌, ◌*ℤ◌, if◌then◌else◌, nat_lt, ◌==◌, Option, Some, None}
+use Rattle.std.specs.Prelude.{ℕ, ◌+◌, ◌-◌, ◌*◌, ◌%◌, ◌^◌, List, [], ◌∷◌, ◌++◌, map, get_or, ℤ, pos, ◌+ℤ◌, ◌-ℤ◌, ◌*ℤ◌, if◌then◌else◌, nat_lt}
 use Rattle.std.specs.Int.{w16, w32, to_le_bytes, cast_unsigned, saturate_to_bits, int_div_euclid}
 use Rattle.std.specs.List.{range_with_len}
 use Rattle.sof_base.specs.declared.format.Format.{Format}
@@ -30,9 +30,6 @@ frame_format S16 = 0
 frame_format S24 = 1
 frame_format S32 = 2
 
-abbrev pub format_numbered : ℕ → Option Format
-format_numbered n = if n == 0 then Some S16 else (if n == 1 then Some S24 else (if n == 2 then Some S32 else None))
-
 -- the inner sample whose bytes lie at a place; zeros stand past the end
 abbrev pub sample_in_of : Format → List ℕ → ℕ → ℤ
 sample_in_of S16 bytes place = signed_of 16 (half_at bytes place) *ℤ pos 65536
@@ -50,11 +47,6 @@ sample_out_of S32 x = to_le_bytes w32 (cast_unsigned w32 x)
 -- a sample of each channel
 abbrev pub Frame : Type 0
 Frame = List ℤ
-
--- each frame has a sample of each channel
-abbrev pub AreFrames : ℕ → List Frame → Type 0
-AreFrames channels [] = Unit {0}
-AreFrames channels (f ∷ fs) = (length f ≡ channels) × AreFrames channels fs
 
 -- channel k of a frame
 abbrev pub sample_of : Frame → ℕ → ℤ
@@ -79,13 +71,3 @@ frame_out format (x ∷ xs) = sample_out_of format x ++ frame_out format xs
 abbrev pub frames_out : Format → List Frame → List ℕ
 frames_out format [] = []
 frames_out format (f ∷ fs) = frame_out format f ++ frames_out format fs
-
--- n frames of so many channels, whose samples lie one after the other
-abbrev pub frames_of : ℕ → ℕ → List ℤ → List Frame
-frames_of channels zero samples = []
-frames_of channels (suc n) samples = take channels samples ∷ frames_of channels n (drop channels samples)
-
--- the samples of frames, frame after frame
-abbrev pub samples_of : List Frame → List ℤ
-samples_of [] = []
-samples_of (frame ∷ frames) = frame ++ samples_of frames

@@ -1,5 +1,6 @@
 ghost use Rattle.std.specs.Prelude.{◌≡◌};
 ghost use Rattle.sof_base.specs.Samples as samples;
+ghost use Rattle.sof_base.specs.FrameLists as frame_lists;
 
 /// A sample inside the firmware: full scale is the whole range of an `i32`.
 pub type Sample = i32;
@@ -37,7 +38,7 @@ impl Format {
 
     /// The format of a message's number; none where the number is above 2.
     pub fn from_number(number: u32) -> Option<Format>
-        ensures { result ≡ samples.format_numbered number }
+        ensures { result ≡ frame_lists.format_numbered number }
     {
         match number {
             0 => Some(Format::S16),

@@ -13,7 +13,8 @@ use Rattle.stream_law.specs.Table.{list_of, table, updated}
 use Rattle.stream_law.specs.Ways.{agree, buffers, components, is_live_phase, is_silent}
 use Rattle.stream_law.specs.Move.{next_clock}
 use Rattle.stream_law.specs.Past.{Moment, Boot, Cut, Now, Tick, Past, Leads, start, empty_view, new_life, after_now}
-use Rattle.stream_law.specs.Stands.{Stands, StandsBuilding, SameView, ring_frames}
+use Rattle.stream_law.specs.Stands.{Stands, SameView, ring_frames}
+use Rattle.stream_law.specs.Viewing.{StandsBuilding}
 use Rattle.stream_law.proofs.Standing.{Stands-boot, Stands-reads, Leads-push}
 use Rattle.stream_law.proofs.Building.{Stands-building, Stands-now_building, Stands-built, silent-flows, lying-empty, dead-equaliser, silent_ticks, silent_kept, position_kept, bytes_kept}
 use Rattle.stream_law.proofs.Rounds.{counts_by, ticked_by}

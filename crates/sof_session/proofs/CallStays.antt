@@ -6,7 +6,8 @@ use Rattle.mbox_link.specs.Link.{link}
 use Rattle.mbox_link.specs.Wire.{Wire}
 use Rattle.host_widgets.specs.declared.answers.HostFault.{HostFault}
 use Rattle.host_widgets.specs.declared.kept.Record.{Record}
-use Rattle.host_widgets.specs.Host.{Outcome, Agrees, BroughtUp}
+use Rattle.host_widgets.specs.Host.{Outcome, Agrees}
+use Rattle.host_widgets.specs.Bringing.{BroughtUp}
 use Rattle.host_widgets.specs.Kept.{first_record}
 use Rattle.host_widgets.specs.Orders.{Order, Tested, fault_of_load, loading, resuming, suspending, unload_fault, unloading}
 use Rattle.host_pm.specs.PowerTests.{suspend_fault, resume_fault}

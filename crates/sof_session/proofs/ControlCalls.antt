@@ -25,7 +25,8 @@ use Rattle.host_widgets.specs.Orders.{quiet, sends}
 use Rattle.host_widgets.proofs.ControlLists.{Takes, takes-by}
 use Rattle.host_widgets.proofs.WalksHold.{none-taken}
 use Rattle.host_ctl.specs.ControlAsks.{channels_of, spread, named_control, set_fault, installing_fault, bytes_fault, get_fault, read_fault}
-use Rattle.host_ctl.specs.ControlOrders.{MayInstall, setting_order, set_order, installing_order, bytes_order, control_told, named_at, get_order, control_answer, ask_acts, reading_order, read_order, outcome_of}
+use Rattle.host_ctl.specs.ControlOrders.{setting_order, set_order, installing_order, bytes_order, control_told, named_at, get_order, control_answer, ask_acts, reading_order, read_order}
+use Rattle.host_ctl.specs.ControlAnswers.{MayInstall, outcome_of}
 use Rattle.host_ctl.specs.ControlPlaces.{control_place, control_here, record_here}
 use Rattle.host_ctl.proofs.ControlTests.{loaded, place-low}
 use Rattle.host_ctl.proofs.ControlsThere.{live, at-here, was-here, named-here, lost-here}

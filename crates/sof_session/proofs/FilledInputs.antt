@@ -9,7 +9,8 @@ use Rattle.sof_base.specs.Ports.{InputView}
 use Rattle.sof_io.specs.Bound.{input_slots}
 use Rattle.sof_io.specs.Fills.{filled_at, ended_at, is_wanting, wanting, fuller_input, ended_input}
 use Rattle.stream_law.specs.Order.{is_among}
-use Rattle.stream_law.specs.Stands.{Fills, is_bound, position_of, left_of}
+use Rattle.stream_law.specs.Stands.{is_bound, position_of, left_of}
+use Rattle.stream_law.specs.Viewing.{Fills}
 use Rattle.sof_session.specs.Fills.{after_read, input_ends, may_grow}
 
 -- ---- one input changed

@@ -11,7 +11,8 @@ use Rattle.sof_io.specs.Bound.{input_slots}
 use Rattle.stream_law.specs.State.{FwState}
 use Rattle.stream_law.specs.Table.{list_of, number_of}
 use Rattle.stream_law.specs.Past.{Moment, Past, start}
-use Rattle.stream_law.specs.Stands.{Stands, HasRead, Fills, position_of, left_of}
+use Rattle.stream_law.specs.Stands.{Stands, HasRead, position_of, left_of}
+use Rattle.stream_law.specs.Viewing.{Fills}
 use Rattle.stream_law.proofs.Filled.{filled, Stands-filled}
 use Rattle.stream_law.proofs.Standing.{Stands-start}
 use Rattle.mbox_link.specs.declared.fates.Fate.TheVariants.{Pass}

@@ -19,7 +19,8 @@ use Rattle.host_widgets.specs.ActLists.{bring_up}
 use Rattle.host_widgets.specs.ActCalls.{calls_of, next_of}
 use Rattle.host_widgets.specs.StateOf.{loaded_state}
 use Rattle.host_widgets.specs.ViewOf.{record_view}
-use Rattle.host_widgets.specs.Host.{Outcome, BroughtUp, Sides, ticks_put}
+use Rattle.host_widgets.specs.Host.{Outcome, Sides}
+use Rattle.host_widgets.specs.Bringing.{BroughtUp, ticks_put}
 use Rattle.host_widgets.specs.Walk.{Walked, walk}
 use Rattle.host_widgets.specs.Orders.{Order, Carried, brought_end, fault_of_load, loading}
 use Rattle.host_widgets.proofs.BarePlans.{bare}

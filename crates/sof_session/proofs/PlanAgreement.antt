@@ -10,7 +10,7 @@ use Rattle.mbox_link.specs.Fates.{IsMeant, IsError, AreHeld}
 use Rattle.mbox_link.specs.Meetings.{has_room, has_lag_room, lags, planned, with_fate, with_lag, without_entry}
 use Rattle.mbox_link.specs.Calls.{Meaning}
 use Rattle.mbox_link.specs.Wire.{Wire}
-use Rattle.mbox_link.specs.Link.{Planned, LagPlanned, PlannedSo, holding}
+use Rattle.mbox_link.specs.Planned.{Planned, LagPlanned, PlannedSo, holding}
 use Rattle.mbox_link.proofs.FateLaws.{AreHeld-with, lags-planned, planned-meant}
 use Rattle.host_widgets.specs.declared.kept.Power.{Power}
 use Rattle.host_widgets.specs.declared.kept.Power.TheVariants.{Unloaded, On, Off}

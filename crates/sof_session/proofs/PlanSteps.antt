@@ -5,7 +5,7 @@ use Rattle.mbox_link.specs.declared.fates.Entry.{Entry}
 use Rattle.mbox_link.specs.declared.fates.Fate.{Fate}
 use Rattle.mbox_link.specs.declared.fates.PlanFull.{PlanFull}
 use Rattle.mbox_link.specs.Calls.{World, Meaning}
-use Rattle.mbox_link.specs.Link.{PlannedSo}
+use Rattle.mbox_link.specs.Planned.{PlannedSo}
 use Rattle.mbox_link.specs.Meetings.{Doing, calm, has_room, has_lag_room, with_fate, with_lag}
 use Rattle.mbox_link.specs.Wire.{Wire}
 use Rattle.host_widgets.specs.declared.answers.Answer.{Answer}

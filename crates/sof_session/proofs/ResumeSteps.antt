@@ -27,7 +27,8 @@ use Rattle.host_widgets.specs.ActCalls.{ActsDid, calls_of, next_of}
 use Rattle.host_widgets.specs.ActLists.{bring_up, bring_back, prepare_acts, prepare_by}
 use Rattle.tplg_plan.specs.Sound.{IsSound}
 use Rattle.host_widgets.specs.Expected.{phase_of}
-use Rattle.host_widgets.specs.Host.{AreControls, Outcome, ticks_put}
+use Rattle.host_widgets.specs.Host.{AreControls, Outcome}
+use Rattle.host_widgets.specs.Bringing.{ticks_put}
 use Rattle.host_widgets.specs.HostActs.{Act}
 use Rattle.host_widgets.specs.Kept.{with_power}
 use Rattle.host_widgets.specs.Orders.{Carried, Order, brought_end, resuming}

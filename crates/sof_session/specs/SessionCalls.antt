@@ -5,11 +5,13 @@ use Rattle.sof_io.specs.Bound.{output_slots}
 use Rattle.mbox_link.specs.Calls.{Meaning}
 use Rattle.mbox_link.specs.declared.fates.Fate.{Fate}
 use Rattle.mbox_link.specs.declared.fates.PlanFull.{PlanFull}
-use Rattle.mbox_link.specs.Link.{link, Planned, LagPlanned}
+use Rattle.mbox_link.specs.Link.{link}
+use Rattle.mbox_link.specs.Planned.{Planned, LagPlanned}
 use Rattle.host_widgets.specs.declared.answers.Answer.{Answer}
 use Rattle.host_widgets.specs.declared.answers.Answer.TheVariants as answers
 use Rattle.host_widgets.specs.declared.answers.HostFault.{HostFault}
-use Rattle.host_widgets.specs.Host.{Outcome, BroughtUp}
+use Rattle.host_widgets.specs.Host.{Outcome}
+use Rattle.host_widgets.specs.Bringing.{BroughtUp}
 use Rattle.host_widgets.specs.Kept.{first_record}
 use Rattle.host_widgets.specs.Orders.{Order, Tested, fault_of_load, loading, resuming}
 use Rattle.host_pm.specs.PowerTests.{resume_fault}

@@ -16,7 +16,8 @@ use Rattle.sof_session.specs.Written.{Out, with_bytes, written_in}
 use Rattle.sof_session.specs.Lives.{Life, Seated, Turn, Turned, Carry}
 use Rattle.sof_session.proofs.Writings.{empty-outputs}
 use Rattle.sof_stress.specs.declared.counts.Counts.{Counts}
-use Rattle.sof_stress.specs.CommandTurns.{CommandTurn, bytes_to, turns_after, command_turns, turns_of, no_counts, turn_counted, all_counted, CarriedOut, CarriesOn, CarriedFirst, CommandsCarried, AreCountsOf, IsUnderWay}
+use Rattle.sof_stress.specs.CommandTurns.{CommandTurn, bytes_to, turns_after, command_turns, turns_of, no_counts, turn_counted, all_counted, CarriedOut, AreCountsOf}
+use Rattle.sof_stress.specs.CarriedTurns.{CarriesOn, CarriedFirst, CommandsCarried, IsUnderWay}
 
 -- a session's step is a turn
 pub carries-on : {P : Type 0} (means : Meaning P) (command : Command) (seat seat' : Seat P) (inputs inputs' : List InputView) (outputs outputs' : List OutputView) (answer : Answer) →

@@ -1,7 +1,5 @@
 -- The turns of a session that commands ask for, and what is counted of them.
 use Rattle.std.specs.Prelude.{◌≡◌, ℕ, zero, suc, ◌+◌, ◌*◌, ◌-◌, ◌≤◌, Bool, true, false, ◌&&◌, not, ◌==◌, List, [], ◌∷◌, ◌++◌, map, length, if◌then◌else◌}
-use Rattle.sof_base.specs.Ports.{InputView, OutputView, drained}
-use Rattle.sof_io.specs.Bound.{output_slots}
 use Rattle.mbox_link.specs.Calls.{Meaning}
 use Rattle.host_widgets.specs.declared.answers.Answer.{Answer}
 use Rattle.host_widgets.specs.declared.answers.Answer.TheVariants as answers
@@ -9,9 +7,8 @@ use Rattle.sof_script.specs.declared.script.Command.{Command}
 use Rattle.sof_script.specs.declared.script.Command.TheVariants.{Tick}
 use Rattle.sof_script.specs.Ticks.{command_ticks}
 use Rattle.sof_session.specs.CommandRanges.{is_in_range, is_tick}
-use Rattle.sof_session.specs.Seat.{Seat}
 use Rattle.sof_session.specs.Written.{Written, Out}
-use Rattle.sof_session.specs.Lives.{Life, Seated, Turn, Turns, Task, Carry}
+use Rattle.sof_session.specs.Lives.{Life, Turn, Turns, Task, Carry}
 use Rattle.sof_stress.specs.declared.counts.Counts.{Counts}
 
 -- ---- turns
@@ -94,15 +91,6 @@ pub record CarriedOut {P : Type 0} (means : Meaning P) (slot : ℕ) (todo : List
   pub tasks : map (λ (turn : Turn). turn.task) turns ≡ tasks_of todo
   pub counts : after ≡ all_counted slot todo (map (λ (turn : Turn). turn.out) turns) before
 
--- what is left on the right, carried out, makes the whole on the left carried out
-abbrev pub CarriesOn : {P : Type 0} → Meaning P → ℕ → List CommandTurn → List CommandTurn → Life P → Counts → Life P → Counts → Type 0
-CarriesOn {P} means slot whole left old before new after =
-    (end : Life P) (last : Counts) → CarriedOut means slot left new after end last → CarriedOut means slot whole old before end last
-
--- these were carried out: whatever comes behind them, carried out, makes the whole carried out
-abbrev pub CarriedFirst : {P : Type 0} → Meaning P → ℕ → List CommandTurn → Life P → Counts → Life P → Counts → Type 0
-CarriedFirst means slot todo old before new after = (rest : List CommandTurn) → CarriesOn means slot (todo ++ rest) rest old before new after
-
 -- ---- what may be carried out
 
 -- the numbers of a command are in their ranges, and it makes few ticks
@@ -119,19 +107,3 @@ pub record AreCountsOf (turns : ℕ) (counts : Counts) : Type 0 where
   pub bytes : counts.bytes ≤ 1048576 * turns
 
 -- ---- many of them
-
--- Nothing but so many commands was carried out, and the outputs are one, of this slot, and empty.
-pub record IsUnderWay {P : Type 0} (slot commands : ℕ) (seat : Seat P) (outputs : List OutputView) (counts : Counts) : Type 0 where
-  pub sent : seat.link.sent ≤ 9000 * commands
-  pub slots : output_slots outputs ≡ slot ∷ []
-  pub empty : drained outputs ≡ outputs
-  pub counted : AreCountsOf (10 * commands) counts
-
--- These commands were carried out, and the outputs are empty again.
-pub record CommandsCarried {P : Type 0} (means : Meaning P) (slot : ℕ) (commands : List Command) (seat : Seat P) (inputs : List InputView) (outputs : List OutputView) (counts : Counts)
-    (seat' : Seat P) (inputs' : List InputView) (outputs' : List OutputView) (counts' : Counts) : Type 0 where
-  pub carried : CarriedFirst means slot (turns_of commands) (Seated seat inputs (output_slots outputs)) counts (Seated seat' inputs' (output_slots outputs')) counts'
-  pub sent : seat'.link.sent ≤ seat.link.sent + 9000 * length commands
-  pub slots : output_slots outputs' ≡ output_slots outputs
-  pub empty : drained outputs' ≡ outputs'
-  pub counted : (n : ℕ) → AreCountsOf n counts → AreCountsOf (n + 10 * length commands) counts'

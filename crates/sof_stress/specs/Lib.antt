@@ -2,4 +2,5 @@ pub mod Draws
 pub mod StressGraph
 pub mod StressPorts
 pub mod CommandTurns
+pub mod CarriedTurns
 pub mod StressRun

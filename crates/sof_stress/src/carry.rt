@@ -7,7 +7,8 @@ ghost use Rattle.sof_session.specs.CommandRanges as ranges;
 ghost use Rattle.sof_session.specs.Lives.{Seated};
 ghost use Rattle.sof_session.specs.Written.{written_in};
 ghost use Rattle.sof_stress.specs.CommandTurns as law;
-ghost use Rattle.sof_stress.specs.CommandTurns.{AreCountsOf, CarriedFirst, CarriedOut, CommandsCarried, IsDue, IsUnderWay, command_turns, turns_of};
+ghost use Rattle.sof_stress.specs.CommandTurns.{AreCountsOf, CarriedOut, IsDue, command_turns, turns_of};
+ghost use Rattle.sof_stress.specs.CarriedTurns.{CarriedFirst, CommandsCarried, IsUnderWay};
 ghost use Rattle.sof_stress.specs.Draws as draws;
 
 use crate::commands::{command_by, next_state, streams_of};

@@ -15,7 +15,8 @@ use Rattle.stream_law.specs.Past.{part_of, Moment, Now, Tick, Past, Ticks, start
 use Rattle.stream_law.specs.Endpoints.{reads, bytes_of_frames, bytes_written}
 use Rattle.stream_law.specs.Made.{only_slice}
 use Rattle.sof_base.specs.Ports.{Io, InputView}
-use Rattle.stream_law.specs.Stands.{left_of, is_bound, KeepsCounts, lying, Holds, HasRead, Stands, StandsBuilding, BothSilent, SeesSilent}
+use Rattle.stream_law.specs.Stands.{left_of, is_bound, KeepsCounts, lying, Holds, HasRead, Stands}
+use Rattle.stream_law.specs.Viewing.{StandsBuilding, BothSilent, SeesSilent}
 use Rattle.stream_law.specs.Move.{Audio, audio_of, audio_after, state_after, io_after, next_clock, Move}
 use Rattle.stream_law.specs.Seen.{flows, equalises, blob_in}
 use Rattle.stream_law.proofs.Among.{value_of-updated_kept}

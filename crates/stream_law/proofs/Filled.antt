@@ -17,7 +17,8 @@ use Rattle.stream_law.specs.Past.{frames_read, start, Moment, Boot, Cut, Now, Ti
 use Rattle.stream_law.specs.Order.{is_among}
 use Rattle.stream_law.specs.Moves.{fed}
 use Rattle.sof_base.specs.Ports.{InputView}
-use Rattle.stream_law.specs.Stands.{left_of, Stands, Fills}
+use Rattle.stream_law.specs.Stands.{left_of, Stands}
+use Rattle.stream_law.specs.Viewing.{Fills}
 use Rattle.stream_law.proofs.Among.{value_of-updated_among, value_of-updated_apart}
 use Rattle.stream_law.proofs.Standing.{comp-absent}
 use Rattle.sof_base.proofs.SampleLaws.{frames_in-append}

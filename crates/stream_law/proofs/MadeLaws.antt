@@ -23,7 +23,8 @@ use Rattle.stream_law.specs.Past.{part_of, frames_read, Past, frames_now, made_a
 use Rattle.stream_law.specs.Made.{frames_made, frames_by, chosen_slice, blob, choice, gains}
 use Rattle.stream_law.specs.StreamLaws.{IsRanked}
 use Rattle.stream_law.specs.Order.{is_among}
-use Rattle.stream_law.specs.Stands.{KeepsCounts, IsPlayable}
+use Rattle.stream_law.specs.Stands.{KeepsCounts}
+use Rattle.stream_law.specs.Viewing.{IsPlayable}
 use Rattle.stream_law.specs.Joins.{fits_kind}
 use Rattle.stream_law.proofs.Tables.{value_of-updated_same}
 use Rattle.stream_law.proofs.Among.{is_among-filter, table_same_among, value_of-table_among, value_of-table_apart}

@@ -13,7 +13,8 @@ use Rattle.stream_law.specs.Order.{is_among}
 use Rattle.stream_law.specs.Equaliser.{sections_of}
 use Rattle.stream_law.specs.Epochs.{sections_history, history_from, history_of}
 use Rattle.stream_law.specs.Seen.{flows, equalises, goes_on, blob_in, numbers_in, fresh_from, fresh_numbers, ring_seen, seen}
-use Rattle.stream_law.specs.Stands.{ring_frames, Sees, SeesSilent}
+use Rattle.stream_law.specs.Stands.{ring_frames}
+use Rattle.stream_law.specs.Viewing.{Sees, SeesSilent}
 use Rattle.stream_law.proofs.Among.{is_among-filter}
 use Rattle.stream_law.proofs.Keyed.{keys-remade}
 use Rattle.stream_law.proofs.Standing.{equalises-there}

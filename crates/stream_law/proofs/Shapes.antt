@@ -14,7 +14,7 @@ use Rattle.stream_law.specs.Ways.{comp_of, components, buffers, source_of, sink_
 use Rattle.stream_law.specs.Moves.{capacity}
 use Rattle.stream_law.specs.Order.{is_among}
 use Rattle.stream_law.specs.Seen.{flows, is_equaliser}
-use Rattle.stream_law.specs.Stands.{StaysAsLive}
+use Rattle.stream_law.specs.Viewing.{StaysAsLive}
 use Rattle.stream_law.specs.Stays.{SameWays, KeepsWays, KeepsShape}
 use Rattle.stream_law.proofs.Standing.{flows-absent, equalises-there}
 

@@ -15,7 +15,8 @@ use Rattle.stream_law.specs.Moves.{capacity}
 use Rattle.sof_base.specs.Ports.{InputView}
 use Rattle.stream_law.specs.Seen.{numbers_in, flows, goes_on, equalises, is_equaliser, blob_in}
 use Rattle.stream_law.specs.Past.{Moment, Boot, Cut, Now, Past, Leads, Follows, start, new_life, after_now, taken_now, epoch_now, part_of}
-use Rattle.stream_law.specs.Stands.{KeepsCounts, HasRead, lying, Reads, StandsBy, Stands, Booted, Sees, StaysAsLive}
+use Rattle.stream_law.specs.Stands.{KeepsCounts, HasRead, lying, Reads, StandsBy, Stands}
+use Rattle.stream_law.specs.Viewing.{Booted, Sees, StaysAsLive}
 
 -- a list of moments goes on by one
 pub Leads-push : (whole : List (ℕ × List ℕ)) (a b c : Past) (ms : List Moment) (m : Moment) → Leads whole a ms b → Follows whole b m c → Leads whole a (ms ++ m ∷ []) c

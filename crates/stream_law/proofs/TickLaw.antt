@@ -17,7 +17,8 @@ use Rattle.stream_law.specs.Endpoints.{reads, is_input, bytes_by, bytes_of_frame
 use Rattle.stream_law.specs.StreamLaws.{IsRanked}
 use Rattle.stream_law.specs.Order.{is_among, order}
 use Rattle.sof_base.specs.Ports.{Io, InputView}
-use Rattle.stream_law.specs.Stands.{is_bound, KeepsCounts, lying, Holds, HasRead, Stands, SameView, IsPlayable}
+use Rattle.stream_law.specs.Stands.{is_bound, KeepsCounts, lying, Holds, HasRead, Stands, SameView}
+use Rattle.stream_law.specs.Viewing.{IsPlayable}
 use Rattle.stream_law.specs.Move.{Audio, after_moves, next_clock, audio_of, audio_after, state_after, io_after, Move}
 use Rattle.stream_law.specs.Seen.{flows, equalises, is_equaliser, blob_in}
 use Rattle.stream_law.proofs.Among.{value_of-table_among, value_of-table_apart, value_of-updated_among, value_of-updated_apart}

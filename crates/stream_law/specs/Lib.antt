@@ -18,6 +18,7 @@ pub mod Counts
 pub mod Epochs
 pub mod Past
 pub mod Stands
+pub mod Viewing
 pub mod Stays
 pub mod Move
 pub mod TickLaws

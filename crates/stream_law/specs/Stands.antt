@@ -1,19 +1,17 @@
 -- A device and its inputs stand where moments lead: the schedule equals the equations.
-use Rattle.std.specs.Prelude.{◌≡◌, ℕ, ◌+◌, ◌-◌, ◌≤◌, ◌^◌, min, List, [], ◌++◌, drop, map, length, Option, Some, None, Bool, true, false, ◌==◌, find, if◌then◌else◌, IsTrue}
+use Rattle.std.specs.Prelude.{◌≡◌, ℕ, ◌+◌, ◌-◌, ◌≤◌, ◌^◌, min, List, [], drop, map, length, Option, Some, None, Bool, true, false, ◌==◌, find}
 use Rattle.std.specs.List.{list_any}
 use Rattle.std.specs.Option.{option_map_or}
 use Rattle.sof_base.specs.Samples.{Frame}
 use Rattle.sof_base.specs.Ports.{InputView}
 use Rattle.stream_law.specs.State.{FwState, View, view_of}
 use Rattle.stream_law.specs.Table.{number_of, list_of}
-use Rattle.stream_law.specs.Ways.{comp_of, components, buffers, ins, outs, active, channels_of, agree, is_silent}
-use Rattle.stream_law.specs.Joins.{fits_kind}
+use Rattle.stream_law.specs.Ways.{buffers, channels_of, agree}
 use Rattle.stream_law.specs.Moves.{capacity}
 use Rattle.stream_law.specs.Epochs.{history_of}
-use Rattle.stream_law.specs.Order.{is_among, order}
-use Rattle.stream_law.specs.Walks.{HasAll, HasEnds}
-use Rattle.stream_law.specs.Seen.{flows, goes_on, equalises, blob_in, numbers_in}
-use Rattle.stream_law.specs.Past.{Moment, Past, Leads, start, empty_view, part_of}
+use Rattle.stream_law.specs.Order.{is_among}
+use Rattle.stream_law.specs.Seen.{flows, equalises, blob_in, numbers_in}
+use Rattle.stream_law.specs.Past.{Moment, Past, Leads, start, part_of}
 
 -- ---- look-ups
 
@@ -90,63 +88,10 @@ pub record StandsBy (Same : View → View → Type 0) (device : Option FwState) 
 abbrev pub SameView : View → View → Type 0
 SameView v w = v ≡ w
 
--- nothing is Live in either view
-abbrev pub BothSilent : View → View → Type 0
-BothSilent v w = IsTrue (is_silent v) × IsTrue (is_silent w)
-
 -- the device and the inputs stand where the moments lead, with these bytes as the inputs' whole
 abbrev pub Stands : Option FwState → List (ℕ × List ℕ) → List InputView → List Moment → Type 0
 Stands device whole inputs moments = StandsBy SameView device whole inputs moments
 
--- the same while a load or a resume builds the graph: nothing is Live in the firmware's view and in that of the past
-abbrev pub StandsBuilding : Option FwState → List (ℕ × List ℕ) → List InputView → List Moment → Type 0
-StandsBuilding device whole inputs moments = StandsBy BothSilent device whole inputs moments
-
 -- ---- what a boot and an act that passes do to a state
 
--- a state to which nothing has come yet
-pub record Booted (f : FwState) : Type 0 where
-  pub clock : f.clock ≡ 0
-  pub view : view_of f ≡ empty_view
-  pub rings : f.rings ≡ []
-  pub histories : f.histories ≡ []
-  pub staging : f.staging ≡ []
-
--- an act that passes gives the state a view: rings in which no frame may lie are empty, and an epoch that does not go on begins
-pub record Sees (f : FwState) (v : View) (fresh : Option ℕ) (f' : FwState) : Type 0 where
-  pub clock : f'.clock ≡ f.clock
-  pub view : view_of f' ≡ v
-  pub buffers : map (λ r. r.buffer) f'.rings ≡ buffers f'.graph
-  pub rings : (b : ℕ) → ring_frames f' b ≡ (if flows v b then ring_frames f b else [])
-  pub equalisers : (c : ℕ) → equalises v c ≡ true → is_among (map (λ h. h.comp) f'.histories) c ≡ true
-  pub histories : (c : ℕ) → equalises v c ≡ true →
-      numbers_in f' c ≡ (if goes_on (view_of f) v fresh c then numbers_in f c else history_of (blob_in v c) (channels_of v c) [])
-
--- an act that passes while nothing is Live leaves nothing Live and no frames
-pub record SeesSilent (f f' : FwState) : Type 0 where
-  pub clock : f'.clock ≡ f.clock
-  pub silent : IsTrue (is_silent (view_of f'))
-  pub buffers : map (λ r. r.buffer) f'.rings ≡ buffers f'.graph
-  pub rings : (b : ℕ) → ring_frames f' b ≡ []
-
--- an edge in which frames may go on lying keeps its room, and an equaliser whose epoch goes on its blob and channels
-pub record StaysAsLive (old new : View) (fresh : Option ℕ) : Type 0 where
-  pub room : (b : ℕ) → flows old b ≡ true → flows new b ≡ true → capacity new b ≡ capacity old b
-  pub equaliser : (c : ℕ) → equalises new c ≡ true → goes_on old new fresh c ≡ true → (equalises old c ≡ true) ×
-      (blob_in new c ≡ blob_in old c) × (channels_of new c ≡ channels_of old c)
-
--- more bytes stand behind those that are left of an input
-pub record Fills (slot : ℕ) (more : List ℕ) (inputs inputs' : List InputView) : Type 0 where
-  pub bound : (s : ℕ) → is_bound inputs s ≡ is_bound inputs' s
-  pub positions : (s : ℕ) → position_of inputs' s ≡ position_of inputs s
-  pub left : (s : ℕ) → left_of inputs' s ≡ (if slot == s then left_of inputs s ++ more else left_of inputs s)
-
 -- ---- what a view must be for a tick
-
--- the ends of edges are components, each component has its place in the order, and a component that is Active has the edges in
--- and out that its kind may have
-pub record IsPlayable (v : View) : Type 0 where
-  pub ends : HasEnds v.graph
-  pub ordered : HasAll v.graph (order v.graph)
-  pub fits : (c : ℕ) → is_among (components v.graph) c ≡ true → active v c ≡ true →
-      option_map_or (λ x. fits_kind x.kind (length (ins v.graph c)) (length (outs v.graph c))) (comp_of v.graph c) false ≡ true

@@ -12,7 +12,8 @@ use Rattle.stream_law.specs.Epochs.{history_of}
 use Rattle.stream_law.specs.Seen.{seen, fresh_numbers}
 use Rattle.stream_law.specs.Move.{Move, audio_after}
 use Rattle.stream_law.specs.Past.{Moment, Boot, Cut, Now, Tick, Past, Leads, start, empty_view}
-use Rattle.stream_law.specs.Stands.{HasRead, Reads, Stands, StandsBuilding, Fills, Booted, Sees, SeesSilent, StaysAsLive, IsPlayable}
+use Rattle.stream_law.specs.Stands.{HasRead, Reads, Stands}
+use Rattle.stream_law.specs.Viewing.{StandsBuilding, Fills, Booted, Sees, SeesSilent, StaysAsLive, IsPlayable}
 use Rattle.stream_law.specs.Stays.{KeepsWays, KeepsShape}
 
 -- ---- orders, ranks, and the one solution of the equations

@@ -8,7 +8,8 @@ use Rattle.tplg_model.specs.declared.fault.TplgFault.TheVariants.{Truncated, Mag
 use Rattle.tplg_model.specs.declared.block.Body.{Body}
 use Rattle.tplg_model.specs.declared.block.Body.TheVariants.{Manifests, Widgets, Routes, Pcms, Other}
 use Rattle.sof_base.specs.Cells.{Fits}
-use Rattle.sof_base.specs.Slots.{Shape, A_word, slots_cells, AreSlots, part, word_at, slots_from}
+use Rattle.sof_base.specs.Slots.{slots_cells, AreSlots, part, word_at}
+use Rattle.sof_base.specs.Layouts.{Shape, A_word, slots_from}
 use Rattle.sof_base.proofs.FieldLaws.{IsBytes, IsBytes-part, length-part, slots_read, slots_again, length-slots}
 use Rattle.sof_base.proofs.Fitting.{Fits-append, Fits-split, Fits-length, Fits-fixed, is_fixed}
 use Rattle.tplg_model.specs.Outcomes.{◌>>=◌}

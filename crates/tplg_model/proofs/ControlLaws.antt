@@ -11,7 +11,8 @@ use Rattle.tplg_model.specs.declared.control.ControlHead.{ControlHead}
 use Rattle.tplg_model.specs.declared.control.Control.{Control}
 use Rattle.tplg_model.specs.declared.control.Control.TheVariants.{Mixer, Enum, Bytes as Data}
 use Rattle.sof_base.specs.Cells.{Fits}
-use Rattle.sof_base.specs.Slots.{Slot, Shape, A_word, A_size, A_name, A_words, Bytes, word_at, has_name, name_at, slots_from, shapes_of}
+use Rattle.sof_base.specs.Slots.{Slot, word_at, has_name, name_at}
+use Rattle.sof_base.specs.Layouts.{Shape, A_word, A_size, A_name, A_words, Bytes, slots_from, shapes_of}
 use Rattle.sof_base.proofs.FieldLaws.{IsBytes, length-part, length-words}
 use Rattle.tplg_model.specs.Outcomes.{◌>>=◌}
 use Rattle.tplg_model.specs.Spelling.{kcontrol_slots, control_cells, HasLengths, IsControl}

@@ -4,7 +4,8 @@ use Rattle.std.proofs.lemmas.Bool.{ltb-false, le-ltb}
 use Rattle.tplg_model.specs.declared.fault.TplgFault.{TplgFault}
 use Rattle.tplg_model.specs.declared.fault.TplgFault.TheVariants.{Payload, Name}
 use Rattle.sof_base.specs.Cells.{Fits}
-use Rattle.sof_base.specs.Slots.{Slot, Word, Half, Long, Size, Label, Words, Raw, Spare, Shape, Bytes, slots_cells, AreSlots, word_at, shape_width, widths, slots_from, all_named, shapes_of}
+use Rattle.sof_base.specs.Slots.{Slot, Word, Half, Long, Size, Label, Words, Raw, Spare, slots_cells, AreSlots, word_at}
+use Rattle.sof_base.specs.Layouts.{Shape, Bytes, shape_width, widths, slots_from, all_named, shapes_of}
 use Rattle.sof_base.proofs.FieldLaws.{IsBytes, slots_read, slots_again, length-slots}
 use Rattle.sof_base.proofs.Fitting.{Fits-length}
 use Rattle.tplg_model.specs.Outcomes.{◌>>=◌}

@@ -6,7 +6,8 @@ use Rattle.tplg_model.specs.declared.fault.TplgFault.TheVariants.{Payload, Name}
 use Rattle.tplg_model.specs.declared.block.Route.{Route}
 use Rattle.tplg_model.specs.declared.block.Manifest.{Manifest}
 use Rattle.sof_base.specs.Cells.{Fits}
-use Rattle.sof_base.specs.Slots.{Slot, Shape, A_word, A_size, A_name, A_words, has_name, name_at, all_named}
+use Rattle.sof_base.specs.Slots.{Slot, has_name, name_at}
+use Rattle.sof_base.specs.Layouts.{Shape, A_word, A_size, A_name, A_words, all_named}
 use Rattle.sof_base.proofs.FieldLaws.{IsBytes, length-part, length-words, slots_read, slots_again, length-slots}
 use Rattle.sof_base.proofs.Fitting.{Fits-length}
 use Rattle.tplg_model.specs.Outcomes.{◌>>=◌}

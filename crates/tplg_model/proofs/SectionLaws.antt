@@ -5,7 +5,8 @@ use Rattle.tplg_model.specs.declared.fault.TplgFault.{TplgFault}
 use Rattle.tplg_model.specs.declared.fault.TplgFault.TheVariants.{Name}
 use Rattle.sof_base.specs.Cells.{Cell, Fits}
 use Rattle.tplg_model.specs.Outcomes.{◌>>=◌}
-use Rattle.sof_base.specs.Slots.{Slot, Shape, slots_cells, AreSlots, part, widths, slots_from, all_named, shapes_of}
+use Rattle.sof_base.specs.Slots.{Slot, slots_cells, AreSlots, part}
+use Rattle.sof_base.specs.Layouts.{Shape, widths, slots_from, all_named, shapes_of}
 use Rattle.tplg_model.specs.Arrays.{Each}
 use Rattle.tplg_model.specs.Spelling.{items_cells, joined_cells}
 use Rattle.tplg_model.proofs.FaultLaws.{bind_ok, ok_same, passed_last}

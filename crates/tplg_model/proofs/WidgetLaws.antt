@@ -6,7 +6,8 @@ use Rattle.tplg_model.specs.declared.tokens.TokenArray.{TokenArray}
 use Rattle.tplg_model.specs.declared.control.Control.{Control}
 use Rattle.tplg_model.specs.declared.widget.Widget.{Widget}
 use Rattle.sof_base.specs.Cells.{Fits}
-use Rattle.sof_base.specs.Slots.{Slot, Word, Half, Size, Label, Words, Raw, Shape, A_word, A_half, A_size, A_name, A_words, slots_cells, AreSlots, part, word_at, half_at, words_at, has_name, name_at}
+use Rattle.sof_base.specs.Slots.{Slot, Word, Half, Size, Label, Words, Raw, slots_cells, AreSlots, part, word_at, half_at, words_at, has_name, name_at}
+use Rattle.sof_base.specs.Layouts.{Shape, A_word, A_half, A_size, A_name, A_words}
 use Rattle.sof_base.proofs.FieldLaws.{IsBytes, IsBytes-part, length-part, length-words}
 use Rattle.tplg_model.specs.Arrays.{Each, ArrayFault, arrays_spelling, arrays_of}
 use Rattle.tplg_model.specs.Outcomes.{◌>>=◌}

@@ -2,7 +2,7 @@
 use Rattle.std.proofs.Common.{◌≡◌, ℕ, ◌+◌, ◌<◌, List, [], ◌∷◌, ◌++◌, length, take, get_or, sym, ap, ◌∙◌, append-nil, append_assoc}
 use Rattle.std.proofs.lemmas.List.{map-append, take_more}
 use Rattle.sof_base.specs.Cells.{Cell, written, byte_of}
-use Rattle.sof_base.specs.Slots.{wrote_part}
+use Rattle.sof_base.specs.Layouts.{wrote_part}
 use Rattle.tplg_model.specs.Spelling.{items_cells}
 use Rattle.tplg_model.proofs.ItemLaws.{items_cells-more}
 

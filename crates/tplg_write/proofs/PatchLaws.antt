@@ -3,7 +3,8 @@ use Rattle.std.proofs.Common.{◌≡◌, ℕ, ◌+◌, List, [], ◌∷◌, ◌+
 use Rattle.std.proofs.lemmas.List.{take_at, drop_at, map-append}
 use Rattle.std.specs.Int.{w32, to_le_bytes}
 use Rattle.sof_base.specs.Cells.{Cell, written, byte_of}
-use Rattle.sof_base.specs.Slots.{Slot, Word, Raw, slot_cells, slots_cells, wrote, wrote_all, wrote_part}
+use Rattle.sof_base.specs.Slots.{Slot, Word, Raw, slot_cells, slots_cells}
+use Rattle.sof_base.specs.Layouts.{wrote, wrote_all, wrote_part}
 use Rattle.sof_base.proofs.WriteLaws.{written-fixed, written_bytes, wrote_slots}
 use Rattle.tplg_model.specs.Spelling.{BlockValue, block_type, count_of, body_cells, block_cells, header_slots}
 use Rattle.tplg_write.specs.Sinks.{patched}

@@ -6,7 +6,8 @@ use Rattle.std.specs.Int.{w32, to_le_bytes}
 use borrow.Rule.Slice.PartMut.{put_mid}
 use Rattle.std.proofs.lemmas.List.{map-append}
 use Rattle.sof_base.specs.Cells.{Cell, written, byte_of}
-use Rattle.sof_base.specs.Slots.{wrote_part, AreWords}
+use Rattle.sof_base.specs.Slots.{AreWords}
+use Rattle.sof_base.specs.Layouts.{wrote_part}
 use Rattle.tplg_model.specs.Spelling.{joined_cells}
 use Rattle.tplg_write.specs.Sinks.{Sunk, patched}
 

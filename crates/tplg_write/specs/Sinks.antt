@@ -2,7 +2,8 @@
 use Rattle.std.specs.Prelude.{ℕ, ◌+◌, List, ◌++◌, take, drop}
 use Rattle.std.specs.Int.{w32, to_le_bytes}
 use Rattle.sof_base.specs.Cells.{Cell}
-use Rattle.sof_base.specs.Slots.{Slot, wrote, wrote_all, wrote_part}
+use Rattle.sof_base.specs.Slots.{Slot}
+use Rattle.sof_base.specs.Layouts.{wrote, wrote_all, wrote_part}
 
 -- bytes that are kept, and those that were written behind them
 pub record Sunk : Type 0 where

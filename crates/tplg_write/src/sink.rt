@@ -1,6 +1,7 @@
 // Bytes that grow behind others, which are kept whatever becomes of them.
 ghost use Rattle.std.specs.Prelude.{◌≡◌, ◌≤◌, ◌<◌, ◌+◌, ◌^◌, ◌++◌, [], Ok, OnOk, length};
-ghost use Rattle.sof_base.specs.Slots.{Word, Half, Long, Size, Label, Words, Raw, wrote, IsName, AreWords};
+ghost use Rattle.sof_base.specs.Slots.{Word, Half, Long, Size, Label, Words, Raw, IsName, AreWords};
+ghost use Rattle.sof_base.specs.Layouts.{wrote};
 ghost use Rattle.tplg_model.specs.Arrays.{AreArrays, arrays_spelling};
 ghost use Rattle.tplg_write.specs.Sinks.{with_field, patched};
 
@@ -73,7 +74,7 @@ impl Sink {
     }
 
     /// A number as four bytes, little-endian.
-    #[tactic(auto, unfolding(sof_base::specs::Slots::wrote, sof_base::specs::Slots::slot_cells))]
+    #[tactic(auto, unfolding(sof_base::specs::Layouts::wrote, sof_base::specs::Slots::slot_cells))]
     pub fn word(&mut self, n: u32) -> Result<(), NoMemory>
         ensures ok { OnOk result (self.new ≡ with_field self.old (Word n)) }
         ensures fits { n < 2 ^ 32 }
@@ -83,7 +84,7 @@ impl Sink {
     }
 
     /// A number as two bytes, little-endian.
-    #[tactic(auto, unfolding(sof_base::specs::Slots::wrote, sof_base::specs::Slots::slot_cells))]
+    #[tactic(auto, unfolding(sof_base::specs::Layouts::wrote, sof_base::specs::Slots::slot_cells))]
     pub fn half(&mut self, n: u16) -> Result<(), NoMemory>
         ensures ok { OnOk result (self.new ≡ with_field self.old (Half n)) }
         ensures fits { n < 2 ^ 16 }
@@ -95,7 +96,7 @@ impl Sink {
     }
 
     /// A number as eight bytes, little-endian.
-    #[tactic(auto, unfolding(sof_base::specs::Slots::wrote, sof_base::specs::Slots::slot_cells))]
+    #[tactic(auto, unfolding(sof_base::specs::Layouts::wrote, sof_base::specs::Slots::slot_cells))]
     pub fn long(&mut self, n: u64) -> Result<(), NoMemory>
         ensures ok { OnOk result (self.new ≡ with_field self.old (Long n)) }
         ensures fits { n < 2 ^ 64 }
@@ -107,7 +108,7 @@ impl Sink {
     }
 
     /// A size word, which readers ignore.
-    #[tactic(auto, unfolding(sof_base::specs::Slots::wrote, sof_base::specs::Slots::slot_cells))]
+    #[tactic(auto, unfolding(sof_base::specs::Layouts::wrote, sof_base::specs::Slots::slot_cells))]
     pub fn size(&mut self, n: u32) -> Result<(), NoMemory>
         ensures ok { OnOk result (self.new ≡ with_field self.old (Size n)) }
         ensures front { self.new.front ≡ self.old.front }
@@ -116,7 +117,7 @@ impl Sink {
     }
 
     /// Bytes as they are.
-    #[tactic(auto, using(sof_base::proofs::WriteLaws::written_bytes), unfolding(sof_base::specs::Slots::wrote))]
+    #[tactic(auto, using(sof_base::proofs::WriteLaws::written_bytes), unfolding(sof_base::specs::Layouts::wrote))]
     pub fn raw(&mut self, bytes: &[u8]) -> Result<(), NoMemory>
         ensures ok { OnOk result (self.new ≡ with_field self.old (Raw bytes.now)) }
         ensures front { self.new.front ≡ self.old.front }

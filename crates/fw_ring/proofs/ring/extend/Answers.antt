@@ -1,7 +1,7 @@
 use Rattle.std.proofs.Common.{◌≡◌, ap, ◌∙◌, ℕ, ◌+◌, ◌-◌, ◌++◌, length, drop, arith, length-take, length-drop}
 use borrow.Rule.Slice.PartMut.{put_mid}
 use Rattle.fw_ring.specs.declared.window.Window.{Window}
-use Rattle.sof_base.specs.Samples.{frames_of}
+use Rattle.sof_base.specs.FrameLists.{frames_of}
 use Rattle.fw_ring.specs.RingWords.{window_frames}
 use Rattle.fw_ring.specs.RingLaid.{own_words}
 use Rattle.fw_ring.proofs.RingLaws.{own-put, own-slice}

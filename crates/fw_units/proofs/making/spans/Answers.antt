@@ -1,6 +1,7 @@
 use Rattle.std.proofs.Common.{◌≡◌, ◌∙◌, ◌≤◌, ◌%◌, sym, ap, subst, Some, ℕ, List, take, length, ◌==◌}
 use Rattle.std.specs.Prelude.{find}
-use Rattle.sof_base.specs.Samples.{Frame, AreFrames, samples_of}
+use Rattle.sof_base.specs.Samples.{Frame}
+use Rattle.sof_base.specs.FrameLists.{AreFrames, samples_of}
 use Rattle.fw_units.specs.declared.component.Component.{Component}
 use Rattle.fw_units.proofs.Standing.{frames-is, channels-is}
 use Rattle.fw_units.proofs.Taking.{taken-found}

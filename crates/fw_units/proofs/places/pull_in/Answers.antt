@@ -1,6 +1,7 @@
 use Rattle.std.proofs.Common.{◌≡◌, ◌∙◌, ◌≤◌, ◌*◌, ◌/◌, min, sym, ap, subst, Some, List, map, take, length, ◌==◌, set}
 use Rattle.std.specs.Prelude.{position, find}
-use Rattle.sof_base.specs.Samples.{Frame, samples_of}
+use Rattle.sof_base.specs.Samples.{Frame}
+use Rattle.sof_base.specs.FrameLists.{samples_of}
 use Rattle.fw_units.specs.declared.component.Component.{Component}
 use Rattle.fw_units.specs.Frames.{buffer_frames, channels_in, taken_by, taken_at}
 use Rattle.fw_units.proofs.Putting.{set-mapped}

@@ -1,6 +1,7 @@
 use Rattle.std.proofs.Common.{◌≡◌, ◌∙◌, ◌≤◌, ◌+◌, ◌/◌, ◌%◌, ◌==◌, refl, sym, ap, subst, Some, List, ℕ, length}
 use Rattle.std.specs.Prelude.{position}
-use Rattle.sof_base.specs.Samples.{Frame, frames_of}
+use Rattle.sof_base.specs.Samples.{Frame}
+use Rattle.sof_base.specs.FrameLists.{frames_of}
 use Rattle.fw_units.specs.declared.component.Component.{Component}
 use Rattle.fw_units.specs.Frames.{words_of, pushed_by, channels_by, channels_in}
 use Rattle.fw_units.proofs.Putting.{put-words}

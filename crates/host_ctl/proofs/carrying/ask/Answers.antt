@@ -3,7 +3,7 @@ use Rattle.host_widgets.specs.Sides.{world_of}
 use Rattle.host_widgets.specs.Host.{Outcome}
 use Rattle.host_widgets.specs.HostActs as acts
 use Rattle.host_widgets.specs.ActCarried.{ActCarried}
-use Rattle.host_ctl.specs.ControlOrders.{outcome_of}
+use Rattle.host_ctl.specs.ControlAnswers.{outcome_of}
 use Rattle.host_ctl.specs.ControlPlaces.{control_here}
 use Rattle.host_ctl.proofs.ControlTests.{handed}
 use Rattle.host_ctl.proofs.ControlCalls.{place-control, ask-still, ask-done, ask-said, ask-ended}

@@ -12,7 +12,8 @@ use Rattle.host_widgets.specs.Orders.{Carried}
 use Rattle.host_widgets.proofs.PlainOrders.{CarriedBy}
 use Rattle.host_widgets.proofs.SidesKept.{same-on}
 use Rattle.host_widgets.proofs.Walks.{handed_on}
-use Rattle.host_ctl.specs.ControlOrders.{reading_order, with_part}
+use Rattle.host_ctl.specs.ControlOrders.{reading_order}
+use Rattle.host_ctl.specs.ControlAnswers.{with_part}
 use Rattle.host_ctl.specs.ControlPlaces.{control_here, record_here}
 use Rattle.host_ctl.proofs.BlobCalls.{is-powered}
 use Rattle.host_ctl.proofs.ControlCalls.{place-control}

@@ -6,7 +6,8 @@ use Rattle.host_widgets.specs.Host.{Outcome}
 use Rattle.host_widgets.specs.Orders.{Carried}
 use Rattle.host_widgets.proofs.PartFacts.{blob-long}
 use Rattle.host_widgets.proofs.Walks.{handed_on}
-use Rattle.host_ctl.specs.ControlOrders.{PartsPass, bytes_order_at}
+use Rattle.host_ctl.specs.ControlOrders.{bytes_order_at}
+use Rattle.host_ctl.specs.ControlAnswers.{PartsPass}
 use Rattle.host_ctl.specs.ControlPlaces.{control_here}
 use Rattle.host_ctl.proofs.BlobCalls.{a-blob, is-powered, parts-still, parts-done, parts-ended}
 use Rattle.host_ctl.proofs.ControlCalls.{place-control}

@@ -1,7 +1,8 @@
 use Rattle.std.proofs.Common.{subst, sym, ap, ◌∙◌}
 use Rattle.host_widgets.specs.Sides.{world_of}
 use Rattle.tplg_plan.specs.declared.plans.ControlPlan.{ControlPlan}
-use Rattle.host_ctl.specs.ControlOrders.{HasBlob, value_command, control_answer, outcome_of}
+use Rattle.host_ctl.specs.ControlOrders.{control_answer}
+use Rattle.host_ctl.specs.ControlAnswers.{HasBlob, value_command, outcome_of}
 use Rattle.host_ctl.specs.ControlPlaces.{control_here, record_here}
 use Rattle.host_ctl.proofs.ControlCalls.{place-control}
 use Rattle.host_ctl.proofs.ControlOrdered.{ask-carried}

@@ -5,7 +5,8 @@ use Rattle.host_widgets.specs.declared.answers.Answer.{Answer}
 use Rattle.host_widgets.specs.declared.kept.Record.{Record}
 use Rattle.host_widgets.specs.Orders.{Order, Carried, Tested}
 use Rattle.host_ctl.specs.ControlAsks.{read_fault}
-use Rattle.host_ctl.specs.ControlOrders.{ask_acts, read_order, outcome_of, control_answer, Shows}
+use Rattle.host_ctl.specs.ControlOrders.{ask_acts, read_order, control_answer}
+use Rattle.host_ctl.specs.ControlAnswers.{outcome_of, Shows}
 use Rattle.host_ctl.specs.ControlPlaces.{control_here, record_here}
 use Rattle.host_ctl.proofs.ControlsThere.{named-here}
 use Rattle.host_ctl.proofs.ControlCalls.{said-shown}

@@ -5,7 +5,8 @@ use Rattle.tplg_plan.specs.declared.plans.ControlPlan.{ControlPlan}
 use Rattle.host_widgets.specs.declared.kept.Record.{Record}
 use Rattle.host_widgets.specs.Orders.{Order, Carried, Tested}
 use Rattle.host_ctl.specs.ControlAsks.{channels_of, spread, set_fault}
-use Rattle.host_ctl.specs.ControlOrders.{MaySet, put_order, set_order}
+use Rattle.host_ctl.specs.ControlOrders.{put_order, set_order}
+use Rattle.host_ctl.specs.ControlAnswers.{MaySet}
 use Rattle.host_ctl.specs.ControlPlaces.{control_here}
 use Rattle.host_ctl.proofs.ControlsThere.{live, named-here}
 use Rattle.host_ctl.proofs.ControlCalls.{place-control}

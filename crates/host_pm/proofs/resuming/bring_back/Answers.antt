@@ -4,7 +4,8 @@ use Rattle.sof_base.specs.Ports.{Io}
 use Rattle.host_widgets.specs.Sides.{world_of}
 use Rattle.mbox_link.specs.Calls.{world}
 use Rattle.host_widgets.specs.ActLists.{bring_up, bring_back, prepare_acts}
-use Rattle.host_widgets.specs.Host.{BroughtUp, Outcome, ticks_put}
+use Rattle.host_widgets.specs.Host.{Outcome}
+use Rattle.host_widgets.specs.Bringing.{BroughtUp, ticks_put}
 use Rattle.host_widgets.specs.Orders.{ActsCame}
 use Rattle.host_widgets.specs.declared.kept.Record.{Record}
 use Rattle.host_widgets.proofs.SilentTicks.{AreInputs}

@@ -7,7 +7,7 @@ use Rattle.ipc3_model.specs.Messages.{message_spelling}
 use Rattle.mbox_link.specs.BlobParts.{blob_part, part_numbers, parts}
 use Rattle.mbox_link.specs.Calls.{world}
 use Rattle.host_widgets.specs.ActLists.{part_acts}
-use Rattle.host_widgets.specs.Host.{Sent}
+use Rattle.host_widgets.specs.Bringing.{Sent}
 use Rattle.host_widgets.specs.ActCalls.{ActsSent}
 use Rattle.host_widgets.specs.HostActs.{Act, Part}
 use Rattle.host_widgets.specs.WalkRows.{one_plan}

@@ -2,7 +2,8 @@ use Rattle.std.proofs.Common.{◌≡◌, ◌≤◌, ◌-◌, ◌+◌, ◌*◌, �
 use Rattle.sof_base.specs.Ports.{drained}
 use Rattle.sof_io.specs.Bound.{output_slots}
 use Rattle.sof_session.specs.Lives.{Seated}
-use Rattle.sof_stress.specs.CommandTurns.{CommandTurn, AreCountsOf, CarriesOn, command_turns, earlier_turns, turns_after}
+use Rattle.sof_stress.specs.CommandTurns.{CommandTurn, AreCountsOf, command_turns, earlier_turns, turns_after}
+use Rattle.sof_stress.specs.CarriedTurns.{CarriesOn}
 use Rattle.sof_stress.proofs.carry.carry_command.Given as goal
 
 -- the turns that are left, carried out, make all carried out

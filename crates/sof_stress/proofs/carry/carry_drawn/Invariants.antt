@@ -1,6 +1,6 @@
 use Rattle.std.proofs.Common.{◌≡◌, ◌<◌, ◌^◌, map}
 use Rattle.std.specs.List.{range_with_len}
-use Rattle.sof_stress.specs.CommandTurns.{CommandsCarried}
+use Rattle.sof_stress.specs.CarriedTurns.{CommandsCarried}
 use Rattle.sof_stress.specs.Draws.{state_at, drawn, command_by, stream_count}
 use Rattle.sof_stress.proofs.carry.carry_drawn.Given as goal
 

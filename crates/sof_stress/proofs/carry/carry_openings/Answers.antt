@@ -2,7 +2,7 @@ use Rattle.std.proofs.Common.{List, ◌^◌, [], subst, arith}
 use Rattle.std.specs.List.{range_with_len}
 use Rattle.std.proofs.lemmas.List.FromFn.{length-range_with_len}
 use Rattle.sof_script.specs.declared.script.Command.{Command}
-use Rattle.sof_stress.specs.CommandTurns.{CommandsCarried}
+use Rattle.sof_stress.specs.CarriedTurns.{CommandsCarried}
 use Rattle.sof_stress.specs.Draws.{opening, openings}
 use Rattle.sof_stress.proofs.Ranges.{flat-more}
 use Rattle.sof_stress.proofs.CarrySteps.{stays-under-way, and-then}

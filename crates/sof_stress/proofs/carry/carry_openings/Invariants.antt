@@ -1,4 +1,4 @@
-use Rattle.sof_stress.specs.CommandTurns.{CommandsCarried}
+use Rattle.sof_stress.specs.CarriedTurns.{CommandsCarried}
 use Rattle.sof_stress.specs.Draws.{openings}
 use Rattle.sof_stress.proofs.carry.carry_openings.Given as goal
 

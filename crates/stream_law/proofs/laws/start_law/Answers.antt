@@ -1,4 +1,5 @@
-use Rattle.stream_law.specs.Stands.{SameView, BothSilent}
+use Rattle.stream_law.specs.Stands.{SameView}
+use Rattle.stream_law.specs.Viewing.{BothSilent}
 use Rattle.stream_law.proofs.Standing.{Stands-start, Stands-reads}
 use Rattle.stream_law.proofs.laws.start_law.Goals as goal
 

@@ -1,5 +1,5 @@
 use Rattle.std.proofs.Common.{◌≡◌, take}
-use Rattle.sof_base.specs.Slots.{wrote_part}
+use Rattle.sof_base.specs.Layouts.{wrote_part}
 use Rattle.tplg_model.specs.Arrays.{Each}
 use Rattle.tplg_model.specs.Spelling.{IsBlock, items_cells, block_cells}
 use Rattle.tplg_write.proofs.blocks.put_blocks.Given as goal

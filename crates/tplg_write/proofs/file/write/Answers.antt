@@ -1,5 +1,5 @@
 use Rattle.std.proofs.Common.{refl}
-use Rattle.sof_base.specs.Slots.{wrote_part}
+use Rattle.sof_base.specs.Layouts.{wrote_part}
 use Rattle.tplg_model.specs.File.{spelling}
 use Rattle.tplg_model.proofs.FileLaws.{topology_again, IsFileOf-spelling}
 use Rattle.tplg_write.proofs.file.write.Goals as goal

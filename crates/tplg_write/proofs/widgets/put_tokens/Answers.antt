@@ -1,5 +1,6 @@
 use Rattle.std.proofs.Common.{◌≡◌, ℕ, ◌-◌, List, length, arith, ap, length-append}
-use Rattle.sof_base.specs.Slots.{Word, wrote}
+use Rattle.sof_base.specs.Slots.{Word}
+use Rattle.sof_base.specs.Layouts.{wrote}
 use Rattle.tplg_model.specs.Arrays.{arrays_spelling}
 use Rattle.tplg_write.proofs.PatchLaws.{word_length, patched_raw}
 use Rattle.tplg_write.proofs.widgets.put_tokens.Goals as goal

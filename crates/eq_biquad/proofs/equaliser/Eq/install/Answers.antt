@@ -1,6 +1,6 @@
 use Rattle.std.proofs.Common.{◌≡◌, ap, sym, subst, ◌∙◌, ℤ, List, length, take, drop, arith, take_at}
 use Rattle.std.specs.List.{refill}
-use Rattle.sof_base.specs.Blob.{IsBlob}
+use Rattle.sof_base.specs.BlobParts.{IsBlob}
 use Rattle.eq_biquad.specs.PieceWords.{bytes_of_words, words_from, AreNumbers}
 use Rattle.eq_biquad.specs.Passing.{in_turn, channel_numbers}
 use Rattle.sof_base.proofs.BlobLaws.{sound}

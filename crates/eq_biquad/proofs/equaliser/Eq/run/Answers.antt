@@ -1,8 +1,8 @@
 use Rattle.std.proofs.Common.{◌≡◌, refl, ap, sym, subst, ◌∙◌, ◌/◌, ℤ, List, length, take, drop, arith, take_at}
 use Rattle.std.specs.List.{refill}
-use Rattle.sof_base.specs.Blob.{IsBlob}
+use Rattle.sof_base.specs.BlobParts.{IsBlob}
 use Rattle.stream_law.specs.Equaliser.{numbers_after}
-use Rattle.sof_base.specs.Samples.{frames_of}
+use Rattle.sof_base.specs.FrameLists.{frames_of}
 use Rattle.eq_biquad.specs.PieceWords.{bytes_of_words, words_from, AreNumbers}
 use Rattle.eq_biquad.specs.Passing.{in_turn, channel_numbers}
 use Rattle.eq_biquad.proofs.PartLaws.{from-same}

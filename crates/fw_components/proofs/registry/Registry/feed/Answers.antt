@@ -2,7 +2,7 @@ use Rattle.std.proofs.Common.{◌≡◌, ◌≤◌, ◌∙◌, ◌+◌, ◌/◌,
 use Rattle.std.proofs.lemmas.Bool.{true≢false}
 use Rattle.std.specs.Prelude.{find, option_map}
 use Rattle.std.specs.List.{list_any}
-use Rattle.sof_base.specs.Samples.{frames_of}
+use Rattle.sof_base.specs.FrameLists.{frames_of}
 use Rattle.fw_units.specs.declared.component.Component.{Component}
 use Rattle.fw_units.specs.Changes.{has_id}
 use Rattle.fw_units.specs.Frames.{comes_from}

@@ -1,5 +1,5 @@
 use Rattle.std.proofs.Common.{ap, ◌∙◌, ℤ, List, ◌+◌, ◌-◌, take, drop, arith}
-use Rattle.sof_base.specs.Samples.{samples_of}
+use Rattle.sof_base.specs.FrameLists.{samples_of}
 use Rattle.fw_ring.specs.RingWords.{window_frames}
 use Rattle.fw_ring.proofs.RingLaws.{held-now, own-slice}
 use Rattle.fw_ring.proofs.ring.Ring.spans.Goals as goal

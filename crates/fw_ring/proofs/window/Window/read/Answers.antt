@@ -1,7 +1,8 @@
 use Rattle.std.proofs.Common.{◌≡◌, ◌∙◌, sym, ap, ℕ, ◌+◌, ◌-◌, ◌*◌, ◌≤◌, ◌++◌, List, length, take, drop, arith, rules, length-take, length-drop}
 use Rattle.std.proofs.lemmas.List.FromFn.{length-map-range_with_len}
 use borrow.Rule.Slice.PartMut.{put_mid}
-use Rattle.sof_base.specs.Samples.{Frame, width, sample_in_of, frame_in, frames_of}
+use Rattle.sof_base.specs.Samples.{Frame, width, sample_in_of, frame_in}
+use Rattle.sof_base.specs.FrameLists.{frames_of}
 use Rattle.fw_ring.specs.RingWords.{window_frames}
 use Rattle.fw_ring.proofs.ReadFrames.{frames-read}
 use Rattle.fw_ring.proofs.WindowLaws.{fuller, part-room, window-put}

@@ -1,7 +1,8 @@
 use Rattle.std.proofs.Common.{◌≡◌, ◌∙◌, sym, ap, ◌*◌, ◌/◌, ◌%◌, ◌<◌, ℕ, List, length, map, replicate, arith, pos}
 use Rattle.std.proofs.lemmas.Bool.{eqb-true}
 use Rattle.std.proofs.Math.Nat.{mul-mod_left}
-use Rattle.sof_base.specs.Samples.{Frame, frames_of, samples_of}
+use Rattle.sof_base.specs.Samples.{Frame}
+use Rattle.sof_base.specs.FrameLists.{frames_of, samples_of}
 use Rattle.eq_biquad.specs.EqState.{numbers_of}
 use Rattle.stream_law.specs.Made.{only_slice}
 use Rattle.stream_law.specs.Equaliser.{passed_frames, numbers_after}

@@ -1,5 +1,6 @@
 use Rattle.std.proofs.Common.{◌∙◌}
-use Rattle.host_ctl.specs.ControlOrders.{get_order, outcome_of}
+use Rattle.host_ctl.specs.ControlOrders.{get_order}
+use Rattle.host_ctl.specs.ControlAnswers.{outcome_of}
 use Rattle.sof_session.specs.SessionCalls.{ports}
 use Rattle.sof_session.proofs.CallStays.{sent-stays}
 use Rattle.sof_session.proofs.ControlCalls.{get-call, told-answers}

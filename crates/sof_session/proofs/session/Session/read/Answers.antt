@@ -1,5 +1,6 @@
 use Rattle.std.proofs.Common.{◌∙◌}
-use Rattle.host_ctl.specs.ControlOrders.{read_order, outcome_of}
+use Rattle.host_ctl.specs.ControlOrders.{read_order}
+use Rattle.host_ctl.specs.ControlAnswers.{outcome_of}
 use Rattle.sof_session.specs.SessionCalls.{ports}
 use Rattle.sof_session.proofs.Agreement.{pending-room}
 use Rattle.sof_session.proofs.CallStays.{sent-stays}

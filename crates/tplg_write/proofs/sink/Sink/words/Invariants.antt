@@ -1,5 +1,6 @@
 use Rattle.std.proofs.Common.{◌≡◌, take}
-use Rattle.sof_base.specs.Slots.{wrote, Words}
+use Rattle.sof_base.specs.Slots.{Words}
+use Rattle.sof_base.specs.Layouts.{wrote}
 use Rattle.tplg_write.proofs.sink.Sink.words.Given as goal
 
 abbrev pub invariant-loop-word : goal.invariant-loop-word

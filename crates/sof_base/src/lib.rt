@@ -13,6 +13,7 @@ mod line;
 mod memory;
 mod name;
 mod part;
+mod ramps;
 #[cfg(test)]
 mod tests;
 mod worked;
@@ -31,4 +32,5 @@ pub use line::Line;
 pub use memory::NoMemory;
 pub use name::Name44;
 pub use part::{Part, PartBytes};
+pub use ramps::ramp_of;
 pub use worked::{hole_rows, ramp_rows, sample_rows};

@@ -11,14 +11,14 @@ use Rattle.stream_law.specs.Ways.{components, buffers, source_of, sink_of, live,
 use Rattle.stream_law.specs.Moves.{quota}
 use Rattle.stream_law.specs.Counts.{Counts, frames_held, frames_free, moved_by, put_after, taken_after, is_looked_at}
 use Rattle.stream_law.specs.Order.{is_among, order}
-use Rattle.stream_law.specs.Past.{part_of, Moment, Now, Tick, Past, Ticks, start, after_now, frames_now, position_after, bytes_after, slices}
+use Rattle.stream_law.specs.Past.{part_of, Moment, Now, Tick, Past, Ticks, start, after_now, frames_put, position_after, bytes_after, slices}
 use Rattle.stream_law.specs.Endpoints.{reads, bytes_of_frames, bytes_written}
 use Rattle.stream_law.specs.Made.{only_slice}
 use Rattle.sof_base.specs.Ports.{Io, InputView}
 use Rattle.stream_law.specs.Stands.{left_of, is_bound, KeepsCounts, lying, Holds, HasRead, Stands}
 use Rattle.stream_law.specs.Viewing.{StandsBuilding, BothSilent, SeesSilent}
 use Rattle.stream_law.specs.Move.{Audio, audio_of, audio_after, state_after, io_after, next_clock, Move}
-use Rattle.stream_law.specs.Seen.{flows, equalises, blob_in}
+use Rattle.stream_law.specs.Seen.{flows, remembers, blob_in}
 use Rattle.stream_law.proofs.Among.{value_of-updated_kept}
 use Rattle.stream_law.proofs.Silent.{silent-dead, silent-fed, silent-runs, HasPlaces, Unmoved, unmoved-all}
 use Rattle.stream_law.proofs.Rounds.{counts_by, ticked_by}
@@ -75,8 +75,9 @@ module _ (whole : List (ℕ × List ℕ)) (p : Past) (kept : KeepsCounts p) (sil
       puts = refl;
       takes = refl;
     };
-    made = ap (λ f. updated (buffers p.view.graph) f p.made) (λ i b. ap (λ h. list_of p.made b ++ cond h (option_map_or (frames_now whole p n counts.put made) (source_of p.view.graph b) []) []) (sym (silent-fed p.view b silent)) i);
+    made = ap (λ f. updated (buffers p.view.graph) f p.made) (λ i b. ap (λ h. list_of p.made b ++ cond h (option_map_or (frames_put whole p n counts.put made b) (source_of p.view.graph b) []) []) (sym (silent-fed p.view b silent)) i);
     epochs = refl;
+    from = refl;
     positions = refl;
     bytes = refl;
   }
@@ -119,8 +120,8 @@ module _ (whole : List (ℕ × List ℕ)) (p : Past) (kept : KeepsCounts p) (sil
 
 -- ---- the laws while a graph is built
 
-pub dead-equaliser : (v : View) (c : ℕ) → IsTrue (is_silent v) → equalises v c ≡ true → ⊥
-dead-equaliser v c silent there = true≢false (sym (and_parts (live v c) _ there).0 ∙ silent-dead v c silent)
+pub dead-remembers : (v : View) (c : ℕ) → IsTrue (is_silent v) → remembers v c ≡ true → ⊥
+dead-remembers v c silent there = true≢false (sym (and_parts (live v c) _ there).0 ∙ silent-dead v c silent)
 
 -- a state that stands with nothing Live stands so too
 unfoldable pub Stands-building : (f : FwState) (whole : List (ℕ × List ℕ)) (inputs : List InputView) (moments : List Moment) → Stands (Some f) whole inputs moments → IsTrue (is_silent (view_of f)) → StandsBuilding (Some f) whole inputs moments
@@ -129,7 +130,7 @@ Stands-building f whole inputs moments stands silent = record {
   led = stands.led;
   read = stands.read;
   kept = stands.kept;
-  holds = record { on = stands.holds.on; clock = stands.holds.clock; view = (silent, subst (λ v. IsTrue (is_silent v)) stands.holds.view silent); buffers = stands.holds.buffers; rings = stands.holds.rings; equalisers = stands.holds.equalisers; histories = stands.holds.histories };
+  holds = record { on = stands.holds.on; clock = stands.holds.clock; view = (silent, subst (λ v. IsTrue (is_silent v)) stands.holds.view silent); buffers = stands.holds.buffers; rings = stands.holds.rings; remembered = stands.holds.remembered; histories = stands.holds.histories };
   agrees = stands.agrees;
 }
 
@@ -140,7 +141,7 @@ Stands-built f whole inputs moments building same = record {
   led = building.led;
   read = building.read;
   kept = building.kept;
-  holds = record { on = building.holds.on; clock = building.holds.clock; view = same; buffers = building.holds.buffers; rings = building.holds.rings; equalisers = building.holds.equalisers; histories = building.holds.histories };
+  holds = record { on = building.holds.on; clock = building.holds.clock; view = same; buffers = building.holds.buffers; rings = building.holds.rings; remembered = building.holds.remembered; histories = building.holds.histories };
   agrees = building.agrees;
 }
 
@@ -151,7 +152,8 @@ Stands-now_building f f' v fresh whole inputs moments stands sees silent agrees 
   read = record { positions = stands.read.positions; left = stands.read.left };
   kept = KeepsCounts-seen v fresh stands.past stands.kept (record {
     room = λ b was now. absurd (true≢false (sym now ∙ silent-flows v b silent));
-    equaliser = λ c there goes. absurd (true≢false (sym (and_parts (live v c) true (ap (λ l. l && true) (and_parts (live stands.past.view c) (live v c) (and_parts (live stands.past.view c && live v c) _ goes).0).1)).0 ∙ silent-dead v c silent));
+    kinds = λ c there was. absurd (dead-remembers v c silent there);
+    on = λ c there goes. absurd (dead-remembers v c silent there);
   });
   holds = record {
     on = stands.holds.on;
@@ -159,8 +161,8 @@ Stands-now_building f f' v fresh whole inputs moments stands sees silent agrees 
     view = (sees.silent, silent);
     buffers = sees.buffers;
     rings = λ b. sees.rings b ∙ sym (lying-seen v fresh stands.past b stands.kept ∙ cond-false (flows v b) (lying stands.past b) [] (silent-flows v b silent));
-    equalisers = λ c there. absurd (dead-equaliser v c silent there);
-    histories = λ c there. absurd (dead-equaliser v c silent there);
+    remembered = λ c there. absurd (dead-remembers v c silent there);
+    histories = λ c there. absurd (dead-remembers v c silent there);
   };
   agrees = agrees;
 }
@@ -210,8 +212,8 @@ Stands-tick_building f f' whole io io' moments stands move = record {
       rings = λ b. find-remade (λ (r : RingView). r.buffer) (λ r. r.frames) (λ r. record { buffer = r.buffer; frames = list_of audio.rings r.buffer }) (list_of audio.rings) [] (λ r. refl) (λ r. refl) f.rings b
           ∙ ring b (is_among (map (λ r. r.buffer) f.rings) b)
           ∙ sym (lying-empty (after whole p kept silent) b (silent_kept whole p kept silent) (silent-flows p.view b silent));
-      equalisers = λ c there. absurd (dead-equaliser p.view c silent there);
-      histories = λ c there. absurd (dead-equaliser p.view c silent there);
+      remembered = λ c there. absurd (dead-remembers p.view c silent there);
+      histories = λ c there. absurd (dead-remembers p.view c silent there);
     }
       where
         ring : (b : ℕ) (h : Bool) → cond h (list_of audio.rings b) [] ≡ []

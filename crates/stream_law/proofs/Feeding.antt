@@ -8,18 +8,18 @@ use Rattle.stream_law.specs.Table.{number_of, list_of, updated}
 use Rattle.sof_base.specs.Samples.{Frame}
 use Rattle.sof_base.specs.Ports.{moved_on}
 use Rattle.stream_law.specs.State.{View}
-use Rattle.stream_law.specs.Ways.{comp_of, components, buffers, source_of, sink_of, is_end, ins, outs, channels_of, live}
+use Rattle.stream_law.specs.Ways.{comp_of, components, buffers, source_of, sink_of, is_end, is_of, ins, outs, channels_of, live}
 use Rattle.stream_law.specs.Moves.{fed, fed_by, looks, looked_at, frames_to_move}
 use Rattle.stream_law.specs.Counts.{Counts, Counting, moved_by, put_after}
-use Rattle.stream_law.specs.Past.{Past, frames_now, made_after, slices}
-use Rattle.stream_law.specs.Made.{frames_made, frames_by, blob, only_slice}
+use Rattle.stream_law.specs.Past.{Past, frames_now, frames_put, made_after, slices}
+use Rattle.stream_law.specs.Made.{Passing, frames_made, frames_by, frames_for, gains, blob, only_slice}
 use Rattle.stream_law.specs.declared.graph.Kind.{Kind}
-use Rattle.stream_law.specs.declared.graph.Kind.TheVariants.{Eq}
+use Rattle.stream_law.specs.declared.graph.Kind.TheVariants.{Volume, Eq}
 use Rattle.stream_law.specs.declared.graph.Setting.{Setting}
 use Rattle.stream_law.specs.declared.graph.Comp.{Comp}
 use Rattle.stream_law.specs.Order.{is_among}
 use Rattle.stream_law.specs.Stands.{KeepsCounts}
-use Rattle.stream_law.specs.Seen.{is_equaliser, blob_in}
+use Rattle.stream_law.specs.Seen.{is_equaliser, is_volume, gains_in, blob_in}
 use Rattle.stream_law.proofs.Silent.{active-live, frames_to_move-idle}
 use Rattle.stream_law.proofs.Among.{is_among-filter, value_of-updated_among, value_of-updated_apart}
 use Rattle.stream_law.proofs.Standing.{find-absent}
@@ -52,24 +52,37 @@ pub min_either : (h : Bool) (m n : ℕ) → cond h (min m (2 ^ 64 - 1)) (min n (
 min_either true m n = refl
 min_either false m n = refl
 
--- what frames are made depends on the equaliser alone at what it takes
-pub frames_made_same : (v : View) (c n : ℕ) (read : List Frame) (slices : List (ℕ × List Frame)) (f g : List ℕ → ℕ → List Frame → List Frame) → (option_map_or (λ x. is_equaliser x.kind) (comp_of v.graph c) false ≡ true → f (blob_in v c) (channels_of v c) (only_slice slices) ≡ g (blob_in v c) (channels_of v c) (only_slice slices)) → frames_made v c n read slices f ≡ frames_made v c n read slices g
+-- what frames are made depends on the equaliser or the volume alone at what it takes
+pub frames_made_same : (v : View) (c n : ℕ) (read : List Frame) (slices : List (ℕ × List Frame)) (f g p q : Passing)
+    → (is_of v.graph is_equaliser c ≡ true → f (blob_in v c) (channels_of v c) (only_slice slices) ≡ g (blob_in v c) (channels_of v c) (only_slice slices))
+    → (is_of v.graph is_volume c ≡ true → p (gains_in v c) (channels_of v c) (only_slice slices) ≡ q (gains_in v c) (channels_of v c) (only_slice slices))
+    → frames_made v c n read slices f p ≡ frames_made v c n read slices g q
 unfolding frames_made
-frames_made_same v c n read slices f g same = by_comp (comp_of v.graph c) refl
+frames_made_same v c n read slices f g p q same alike = by_comp (comp_of v.graph c) refl
   where
     only : List Frame
     only = only_slice slices
 
-    by_kind : (k : Kind) (setting : Setting) → (is_equaliser k ≡ true → f (blob setting) (channels_of v c) only ≡ g (blob setting) (channels_of v c) only) → frames_by k setting v c n read slices f ≡ frames_by k setting v c n read slices g
-    by_kind Eq setting h = h refl
-    by_kind kind setting h = refl
+    by_kind : (k : Kind) (setting : Setting) → (is_equaliser k ≡ true → f (blob setting) (channels_of v c) only ≡ g (blob setting) (channels_of v c) only)
+        → (is_volume k ≡ true → p (gains setting) (channels_of v c) only ≡ q (gains setting) (channels_of v c) only) → frames_by k setting v c n read slices f p ≡ frames_by k setting v c n read slices g q
+    by_kind Eq setting h l = h refl
+    by_kind Volume setting h l = l refl
+    by_kind kind setting h l = refl
 
-    by_comp : (o : Option Comp) → comp_of v.graph c ≡ o → option_map_or (λ x. frames_by x.kind x.setting v c n read slices f) o [] ≡ option_map_or (λ x. frames_by x.kind x.setting v c n read slices g) o []
+    by_comp : (o : Option Comp) → comp_of v.graph c ≡ o → option_map_or (λ x. frames_by x.kind x.setting v c n read slices f p) o [] ≡ option_map_or (λ x. frames_by x.kind x.setting v c n read slices g q) o []
     by_comp None e = refl
     by_comp (Some x) e = by_kind x.kind x.setting (λ h.
         sym (ap (λ o. f (option_map_or (λ (x : Comp). blob x.setting) o []) (channels_of v c) only) e)
         ∙ same (ap (λ o. option_map_or (λ (x : Comp). is_equaliser x.kind) o false) e ∙ h)
         ∙ ap (λ o. g (option_map_or (λ (x : Comp). blob x.setting) o []) (channels_of v c) only) e)
+        (λ h.
+        sym (ap (λ o. p (option_map_or (λ (x : Comp). gains x.setting) o []) (channels_of v c) only) e)
+        ∙ alike (ap (λ o. option_map_or (λ (x : Comp). is_volume x.kind) o false) e ∙ h)
+        ∙ ap (λ o. q (option_map_or (λ (x : Comp). gains x.setting) o []) (channels_of v c) only) e)
+
+-- an edge gets as many frames as its source makes
+pub length-frames_for : (v : View) (a b : ℕ) (frames : List Frame) → length (frames_for v a b frames) ≡ length frames
+length-frames_for v a b frames = refl
 
 -- a solution of a tick's equations
 pub record Solution (whole : List (ℕ × List ℕ)) (old : Past) (t : ℕ) (n : List (ℕ × ℕ)) (new : Counts) (made : List (ℕ × List Frame)) : Type 0 where
@@ -146,4 +159,4 @@ made_at_by whole old n put made is b = ap (λ l. list_of l b) is ∙ by_place (i
     by_place false h =
         value_of-updated_apart [] (buffers old.view.graph) (made_after whole old n put made) old.made b h
         ∙ sym (append_none (list_of old.made b) (fed old.view b))
-        ∙ ap (λ e. list_of old.made b ++ cond (fed old.view b) (option_map_or (frames_now whole old n put made) e []) []) (sym (source_of-gone old.view.graph b h))
+        ∙ ap (λ e. list_of old.made b ++ cond (fed old.view b) (option_map_or (frames_put whole old n put made b) e []) []) (sym (source_of-gone old.view.graph b h))

@@ -11,7 +11,9 @@ use Rattle.stream_law.specs.Table.{number_of, list_of, updated}
 use Rattle.sof_base.specs.Samples.{Frame}
 use Rattle.stream_law.specs.State.{View, FwState}
 use Rattle.stream_law.specs.Ways.{comp_of, components, buffers, source_of, channels_of}
-use Rattle.stream_law.specs.Made.{frames_made, frames_by}
+use Rattle.stream_law.specs.Made.{Passing, frames_made, frames_by, frames_for}
+use Rattle.stream_law.specs.Ramps.{ramped_frames}
+use Rattle.stream_law.specs.Seen.{ramp_length}
 use Rattle.stream_law.specs.Endpoints.{format_of, reads, is_input, bytes_of_frames}
 use Rattle.stream_law.specs.Past.{frames_read, start, Moment, Boot, Cut, Now, Tick, Past, Ticks, Leads, Follows, frames_now, position_after, slices, equalised_after}
 use Rattle.stream_law.specs.Order.{is_among}
@@ -24,16 +26,16 @@ use Rattle.stream_law.proofs.Standing.{comp-absent}
 use Rattle.sof_base.proofs.SampleLaws.{frames_in-append}
 
 -- what reads no input makes its frames without it
-frames_made-unread : (v : View) (c n : ℕ) (read other : List Frame) (s : List (ℕ × List Frame)) (f : List ℕ → ℕ → List Frame → List Frame) → reads v c ≡ false → frames_made v c n read s f ≡ frames_made v c n other s f
+frames_made-unread : (v : View) (c n : ℕ) (read other : List Frame) (s : List (ℕ × List Frame)) (f g : Passing) → reads v c ≡ false → frames_made v c n read s f g ≡ frames_made v c n other s f g
 unfolding frames_made
-frames_made-unread v c n read other s f unread = by_comp (comp_of v.graph c) unread
+frames_made-unread v c n read other s f g unread = by_comp (comp_of v.graph c) unread
   where
-    by_kind : (k : Kind) (setting : Setting) → is_input k ≡ false → frames_by k setting v c n read s f ≡ frames_by k setting v c n other s f
+    by_kind : (k : Kind) (setting : Setting) → is_input k ≡ false → frames_by k setting v c n read s f g ≡ frames_by k setting v c n other s f g
     by_kind HostPlay setting h = absurd (true≢false h)
     by_kind (DaiCapture format) setting h = absurd (true≢false h)
     by_kind kind setting h = refl
 
-    by_comp : (o : Option Comp) → option_map_or (λ x. is_input x.kind) o false ≡ false → option_map_or (λ x. frames_by x.kind x.setting v c n read s f) o [] ≡ option_map_or (λ x. frames_by x.kind x.setting v c n other s f) o []
+    by_comp : (o : Option Comp) → option_map_or (λ x. is_input x.kind) o false ≡ false → option_map_or (λ x. frames_by x.kind x.setting v c n read s f g) o [] ≡ option_map_or (λ x. frames_by x.kind x.setting v c n other s f g) o []
     by_comp None h = refl
     by_comp (Some x) h = by_kind x.kind x.setting h
 
@@ -67,7 +69,7 @@ module _ (whole : List (ℕ × List ℕ)) (slot : ℕ) (more : List ℕ) where
   frames-filled old new n ticks within c = by_reads (reads old.view c) refl
     where
       by_reads : (h : Bool) → reads old.view c ≡ h → frames_now whole old n new.counts.put new.made c ≡ frames_now filled old n new.counts.put new.made c
-      by_reads true h = ap (λ read. frames_made old.view c (number_of n c) read (slices whole old n new.counts.put new.made c) (equalised_after (list_of old.epochs c))) (sym (read-filled old c (number_of n c) (inside (slot == c) refl)))
+      by_reads true h = ap (λ read. frames_made old.view c (number_of n c) read (slices whole old n new.counts.put new.made c) (equalised_after (list_of old.epochs c)) (ramped_frames (list_of old.from c) (ramp_length old.view c) (length (list_of old.epochs c)))) (sym (read-filled old c (number_of n c) (inside (slot == c) refl)))
         where
           there : (slot == c) ≡ true → is_among (components old.view.graph) slot ≡ true
           there e = true_from_ne_false (is_among (components old.view.graph) slot) (λ gone.
@@ -79,7 +81,7 @@ module _ (whole : List (ℕ × List ℕ)) (slot : ℕ) (more : List ℕ) where
               let is : number_of new.positions slot ≡ number_of old.positions slot + bytes_of_frames old.view slot (number_of n c) = (position-tick old new n ticks).0 (there e) ∙ ap (λ r. number_of old.positions slot + cond r (bytes_of_frames old.view slot (number_of n slot)) 0) (ap (reads old.view) same ∙ h) ∙ ap (λ x. number_of old.positions slot + bytes_of_frames old.view slot (number_of n x)) same in
               subst (λ k. k ≤ length (list_of whole slot)) is within)
           inside false e = inr e
-      by_reads false h = frames_made-unread old.view c (number_of n c) (frames_read old.view c (list_of whole c) (number_of old.positions c) (number_of n c)) (frames_read old.view c (list_of filled c) (number_of old.positions c) (number_of n c)) (slices whole old n new.counts.put new.made c) (equalised_after (list_of old.epochs c)) h
+      by_reads false h = frames_made-unread old.view c (number_of n c) (frames_read old.view c (list_of whole c) (number_of old.positions c) (number_of n c)) (frames_read old.view c (list_of filled c) (number_of old.positions c) (number_of n c)) (slices whole old n new.counts.put new.made c) (equalised_after (list_of old.epochs c)) (ramped_frames (list_of old.from c) (ramp_length old.view c) (length (list_of old.epochs c))) h
 
   tick-filled : (old new : Past) (n : List (ℕ × ℕ)) → Ticks whole old n new → number_of new.positions slot ≤ length (list_of whole slot) → Ticks filled old n new
   tick-filled old new n ticks within = record {
@@ -87,8 +89,9 @@ module _ (whole : List (ℕ × List ℕ)) (slot : ℕ) (more : List ℕ) where
     view = ticks.view;
     clock = ticks.clock;
     counts = ticks.counts;
-    made = ticks.made ∙ ap (λ f. updated (buffers old.view.graph) f old.made) (λ i b. list_of old.made b ++ cond (fed old.view b) (option_map_or (λ c. frames-filled old new n ticks within c i) (source_of old.view.graph b) []) []);
+    made = ticks.made ∙ ap (λ f. updated (buffers old.view.graph) f old.made) (λ i b. list_of old.made b ++ cond (fed old.view b) (option_map_or (λ c. frames_for old.view c b (frames-filled old new n ticks within c i)) (source_of old.view.graph b) []) []);
     epochs = ticks.epochs;
+    from = ticks.from;
     positions = ticks.positions;
     bytes = ticks.bytes;
   }

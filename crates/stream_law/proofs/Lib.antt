@@ -10,6 +10,10 @@ pub mod OnePast
 pub mod Parts
 pub mod Equalising
 pub mod Endings
+pub mod Beginning
+pub mod Ramping
+pub mod Remembering
+pub mod Numbering
 pub mod Feeding
 pub mod Schedule
 pub mod Ordered

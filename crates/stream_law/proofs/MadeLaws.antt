@@ -1,7 +1,7 @@
 -- The equations of a tick's frames have a solution, and what feeds an edge makes as many frames as it moves.
 use Rattle.std.proofs.Common.{◌≡◌, refl, sym, ap, ◌∙◌, subst, ℕ, zero, suc, ◌+◌, ◌<◌, ◌≤◌, List, [], ◌∷◌, ◌++◌, filter, length, replicate, Option, Some, None, Bool, true, false, cond, not, ◌==◌, ◌&&◌, ◌||◌, arith}
 use Rattle.std.proofs.lemmas.Bool.{false≢true, true≢false, and_parts, eqb-true, or_left, or_right, eq-eqb, false_from_ne_true}
-use Rattle.std.proofs.lemmas.List.{length-append, length-map, length-replicate, length-drop}
+use Rattle.std.proofs.lemmas.List.{length-append, length-replicate, length-drop}
 use Rattle.std.proofs.lemmas.List.FromFn.{length-map-range_with_len}
 use Rattle.std.specs.Option.{option_map_or}
 use Rattle.std.specs.List.{find}
@@ -13,14 +13,15 @@ use Rattle.stream_law.specs.declared.graph.Comp.{Comp}
 use Rattle.stream_law.specs.declared.graph.Graph.{Graph}
 use Rattle.stream_law.specs.Table.{number_of, list_of, updated, table}
 use Rattle.sof_base.specs.Samples.{Frame, silence}
-use Rattle.sof_base.specs.Equations.{volume_of}
 use Rattle.stream_law.specs.State.{View}
 use Rattle.stream_law.specs.Ways.{comp_of, components, buffers, source_of, sink_of, is_end, ins, outs, channels_of, active, active_end, inputs}
 use Rattle.stream_law.specs.Moves.{fed, looks, looked_at, frames_to_move, chooses, is_choosy}
 use Rattle.stream_law.specs.Counts.{Counts, Counting, frames_held, frames_free, moved_by}
 use Rattle.stream_law.specs.Epochs.{equalised}
-use Rattle.stream_law.specs.Past.{part_of, frames_read, Past, frames_now, made_after, slices, equalised_after}
-use Rattle.stream_law.specs.Made.{frames_made, frames_by, chosen_slice, blob, choice, gains}
+use Rattle.stream_law.specs.Past.{part_of, frames_read, Past, frames_now, frames_put, made_after, slices, equalised_after}
+use Rattle.stream_law.specs.Made.{Passing, frames_made, frames_by, frames_for, chosen_slice, blob, choice, gains}
+use Rattle.stream_law.specs.Ramps.{ramped_frames}
+use Rattle.stream_law.specs.Seen.{ramp_length}
 use Rattle.stream_law.specs.StreamLaws.{IsRanked}
 use Rattle.stream_law.specs.Order.{is_among}
 use Rattle.stream_law.specs.Stands.{KeepsCounts}
@@ -32,23 +33,24 @@ use Rattle.stream_law.proofs.OneSolution.{is_end-some, frames_to_move-le_held}
 use Rattle.stream_law.proofs.Rounds.{made_in}
 use Rattle.stream_law.proofs.Equalising.{length-equalised}
 use Rattle.stream_law.proofs.Parts.{length-part_of}
-use Rattle.stream_law.proofs.Feeding.{looked-parts, some-end, source_of-there, put_is_by, made_at_by}
+use Rattle.stream_law.proofs.Ramping.{length-ramped_frames}
+use Rattle.stream_law.proofs.Feeding.{looked-parts, some-end, source_of-there, put_is_by, made_at_by, length-frames_for}
 use Rattle.stream_law.proofs.Silent.{frames_to_move-idle}
 
 module _ (whole : List (ℕ × List ℕ)) (old : Past) (n put : List (ℕ × ℕ)) where
   -- what a component makes depends only on what was made into its edges in
   frames_now_same : (made other : List (ℕ × List Frame)) (a : ℕ) → ((b : ℕ) → is_end (sink_of old.view.graph b) a ≡ true → list_of made b ≡ list_of other b) → frames_now whole old n put made a ≡ frames_now whole old n put other a
   frames_now_same made other a same =
-      ap (λ table. frames_made old.view a (number_of n a) (frames_read old.view a (list_of whole a) (number_of old.positions a) (number_of n a)) table (equalised_after (list_of old.epochs a)))
+      ap (λ table. frames_made old.view a (number_of n a) (frames_read old.view a (list_of whole a) (number_of old.positions a) (number_of n a)) table (equalised_after (list_of old.epochs a)) (ramped_frames (list_of old.from a) (ramp_length old.view a) (length (list_of old.epochs a))))
       (table_same_among (looked_at old.view (frames_held old.counts put) a) (λ b. part_of (list_of made b) (number_of old.counts.taken b) (number_of n a)) (λ b. part_of (list_of other b) (number_of old.counts.taken b) (number_of n a))
       (λ b there. ap (λ l. part_of l (number_of old.counts.taken b) (number_of n a)) (same b (looked-parts old.view (frames_held old.counts put) a b there).1)))
 
   pub made_after_same : (made other : List (ℕ × List Frame)) (b : ℕ) → ((a : ℕ) → source_of old.view.graph b ≡ Some a → (b' : ℕ) → is_end (sink_of old.view.graph b') a ≡ true → list_of made b' ≡ list_of other b') → made_after whole old n put made b ≡ made_after whole old n put other b
   made_after_same made other b same = ap (λ l. list_of old.made b ++ cond (fed old.view b) l []) (by_source (source_of old.view.graph b) refl)
     where
-      by_source : (e : Option ℕ) → source_of old.view.graph b ≡ e → option_map_or (frames_now whole old n put made) e [] ≡ option_map_or (frames_now whole old n put other) e []
+      by_source : (e : Option ℕ) → source_of old.view.graph b ≡ e → option_map_or (frames_put whole old n put made b) e [] ≡ option_map_or (frames_put whole old n put other b) e []
       by_source None e = refl
-      by_source (Some a) e = frames_now_same made other a (same a e)
+      by_source (Some a) e = ap (frames_for old.view a b) (frames_now_same made other a (same a e))
 
   module _ (rank : ℕ → ℕ) (ranked : IsRanked old.view.graph rank) where
     -- one more round changes nothing behind what is below the rank of the round
@@ -100,27 +102,31 @@ length-chosen channels n (i ∷ ids) f (Some b) each = by_equal (i == b) (length
     by_equal true rest = each i (or_left (i == i) (is_among ids i) (eq-eqb i i refl))
     by_equal false rest = rest
 
-length-frames_by : (k : Kind) (setting : Setting) (v : View) (c n : ℕ) (read : List Frame) (ids : List ℕ) (f : ℕ → List Frame) (epoch : List Frame) → length read ≡ n → ((b : ℕ) → is_among ids b ≡ true → length (f b) ≡ n) → makes k (table ids f) ≡ true → length (frames_by k setting v c n read (table ids f) (equalised_after epoch)) ≡ n
-length-frames_by HostPlay setting v c n read ids f epoch reads each shape = reads
-length-frames_by (DaiCapture format) setting v c n read ids f epoch reads each shape = reads
-length-frames_by HostCapture setting v c n read ids f epoch reads each shape = absurd (false≢true shape)
-length-frames_by (DaiPlay format) setting v c n read ids f epoch reads each shape = absurd (false≢true shape)
-length-frames_by Volume setting v c n read [] f epoch reads each shape = absurd (false≢true shape)
-length-frames_by Volume setting v c n read (i ∷ ids) f epoch reads each shape = length-map (f i) (volume_of (channels_of v c) (gains setting)) ∙ each i (or_left (i == i) (is_among ids i) (eq-eqb i i refl))
-length-frames_by Mixer setting v c n read ids f epoch reads each shape = length-map-range_with_len _ 0 n
-length-frames_by Mux setting v c n read ids f epoch reads each shape = length-chosen (channels_of v c) n ids f (slice_get (inputs v.graph c) (choice setting)) each
-length-frames_by Eq setting v c n read [] f epoch reads each shape = absurd (false≢true shape)
-length-frames_by Eq setting v c n read (i ∷ ids) f epoch reads each shape = length-equalised_after epoch (blob setting) (channels_of v c) (f i) ∙ each i (or_left (i == i) (is_among ids i) (eq-eqb i i refl))
+-- equalisers and volumes make as many frames as they take
+abbrev Lengthwise : Passing → Type 0
+Lengthwise f = (bytes : List ℕ) (channels : ℕ) (frames : List Frame) → length (f bytes channels frames) ≡ length frames
+
+length-frames_by : (k : Kind) (setting : Setting) (v : View) (c n : ℕ) (read : List Frame) (ids : List ℕ) (f : ℕ → List Frame) (equalise amplify : Passing) → Lengthwise equalise → Lengthwise amplify → length read ≡ n → ((b : ℕ) → is_among ids b ≡ true → length (f b) ≡ n) → makes k (table ids f) ≡ true → length (frames_by k setting v c n read (table ids f) equalise amplify) ≡ n
+length-frames_by HostPlay setting v c n read ids f equalise amplify whole long reads each shape = reads
+length-frames_by (DaiCapture format) setting v c n read ids f equalise amplify whole long reads each shape = reads
+length-frames_by HostCapture setting v c n read ids f equalise amplify whole long reads each shape = absurd (false≢true shape)
+length-frames_by (DaiPlay format) setting v c n read ids f equalise amplify whole long reads each shape = absurd (false≢true shape)
+length-frames_by Volume setting v c n read [] f equalise amplify whole long reads each shape = absurd (false≢true shape)
+length-frames_by Volume setting v c n read (i ∷ ids) f equalise amplify whole long reads each shape = long (gains setting) (channels_of v c) (f i) ∙ each i (or_left (i == i) (is_among ids i) (eq-eqb i i refl))
+length-frames_by Mixer setting v c n read ids f equalise amplify whole long reads each shape = length-map-range_with_len _ 0 n
+length-frames_by Mux setting v c n read ids f equalise amplify whole long reads each shape = length-chosen (channels_of v c) n ids f (slice_get (inputs v.graph c) (choice setting)) each
+length-frames_by Eq setting v c n read [] f equalise amplify whole long reads each shape = absurd (false≢true shape)
+length-frames_by Eq setting v c n read (i ∷ ids) f equalise amplify whole long reads each shape = whole (blob setting) (channels_of v c) (f i) ∙ each i (or_left (i == i) (is_among ids i) (eq-eqb i i refl))
 
 -- what makes no frames
-length-frames_by_none : (k : Kind) (setting : Setting) (v : View) (c n : ℕ) (read : List Frame) (slices : List (ℕ × List Frame)) (epoch : List Frame) → makes k slices ≡ false → length (frames_by k setting v c n read slices (equalised_after epoch)) ≡ 0
-length-frames_by_none HostCapture setting v c n read slices epoch none = refl
-length-frames_by_none (DaiPlay format) setting v c n read slices epoch none = refl
-length-frames_by_none Volume setting v c n read [] epoch none = refl
-length-frames_by_none Volume setting v c n read (e ∷ es) epoch none = absurd (true≢false none)
-length-frames_by_none Eq setting v c n read [] epoch none = length-equalised_after epoch (blob setting) (channels_of v c) []
-length-frames_by_none Eq setting v c n read (e ∷ es) epoch none = absurd (true≢false none)
-length-frames_by_none kind setting v c n read slices epoch none = absurd (true≢false none)
+length-frames_by_none : (k : Kind) (setting : Setting) (v : View) (c n : ℕ) (read : List Frame) (slices : List (ℕ × List Frame)) (equalise amplify : Passing) → Lengthwise equalise → Lengthwise amplify → makes k slices ≡ false → length (frames_by k setting v c n read slices equalise amplify) ≡ 0
+length-frames_by_none HostCapture setting v c n read slices equalise amplify whole long none = refl
+length-frames_by_none (DaiPlay format) setting v c n read slices equalise amplify whole long none = refl
+length-frames_by_none Volume setting v c n read [] equalise amplify whole long none = long (gains setting) (channels_of v c) []
+length-frames_by_none Volume setting v c n read (e ∷ es) equalise amplify whole long none = absurd (true≢false none)
+length-frames_by_none Eq setting v c n read [] equalise amplify whole long none = whole (blob setting) (channels_of v c) []
+length-frames_by_none Eq setting v c n read (e ∷ es) equalise amplify whole long none = absurd (true≢false none)
+length-frames_by_none kind setting v c n read slices equalise amplify whole long none = absurd (true≢false none)
 
 -- a list with an id in it has a length
 length-among : (ids : List ℕ) (x : ℕ) → is_among ids x ≡ true → 1 ≤ length ids
@@ -149,13 +155,13 @@ module _ (whole : List (ℕ × List ℕ)) (old : Past) (t : ℕ) (n : List (ℕ 
   length_made_by : (b : ℕ) → ((a : ℕ) → source_of old.view.graph b ≡ Some a → fed old.view b ≡ true → length (frames_now whole old n new.put made a) ≡ number_of n a) → length (list_of made b) ≡ number_of new.put b
   length_made_by b lengths =
       ap length (made_at_by whole old n new.put made is b)
-      ∙ length-append (list_of old.made b) (cond (fed old.view b) (option_map_or (frames_now whole old n new.put made) (source_of old.view.graph b) []) [])
+      ∙ length-append (list_of old.made b) (cond (fed old.view b) (option_map_or (frames_put whole old n new.put made b) (source_of old.view.graph b) []) [])
       ∙ ap (λ (p : ℕ × ℕ). p.0 + p.1) (λ i. (kept.length_made b i, grown (source_of old.view.graph b) refl (fed old.view b) refl i))
       ∙ sym (put_is_by old t n new counting b)
     where
-      grown : (e : Option ℕ) → source_of old.view.graph b ≡ e → (f : Bool) → fed old.view b ≡ f → length (cond f (option_map_or (frames_now whole old n new.put made) e []) []) ≡ cond f (moved_by n e) 0
+      grown : (e : Option ℕ) → source_of old.view.graph b ≡ e → (f : Bool) → fed old.view b ≡ f → length (cond f (option_map_or (frames_put whole old n new.put made b) e []) []) ≡ cond f (moved_by n e) 0
       grown None e true h = refl
-      grown (Some a) e true h = lengths a e h
+      grown (Some a) e true h = length-frames_for old.view a b (frames_now whole old n new.put made a) ∙ lengths a e h
       grown e' e false h = refl
 
   -- what a component moves is no more than an edge holds that it looks at
@@ -198,11 +204,20 @@ module _ (whole : List (ℕ × List ℕ)) (old : Past) (t : ℕ) (n : List (ℕ 
           by_place true k = value_of-table_among 0 (components old.view.graph) (frames_to_move old.view t (frames_held old.counts new.put) (frames_free old.view old.counts)) a k ∙ frames_to_move-idle old.view t (frames_held old.counts new.put) (frames_free old.view old.counts) a h
           by_place false k = value_of-table_apart 0 (components old.view.graph) (frames_to_move old.view t (frames_held old.counts new.put) (frames_free old.view old.counts)) a k
 
-      by_shape : (x : Comp) (h : Bool) → makes x.kind (table ids slice_of) ≡ h → (active old.view a ≡ true → makes x.kind (table ids slice_of) ≡ true) → length (frames_by x.kind x.setting old.view a (number_of n a) read (table ids slice_of) (equalised_after (list_of old.epochs a))) ≡ number_of n a
-      by_shape x true h shape = length-frames_by x.kind x.setting old.view a (number_of n a) read ids slice_of (list_of old.epochs a) reads each h
-      by_shape x false h shape = length-frames_by_none x.kind x.setting old.view a (number_of n a) read (table ids slice_of) (list_of old.epochs a) h ∙ sym (idle (false_from_ne_true (active old.view a) (λ k. true≢false (sym (shape k) ∙ h))))
+      equalise : Passing
+      equalise = equalised_after (list_of old.epochs a)
 
-      by_comp : (o : Option Comp) → comp_of old.view.graph a ≡ o → length (option_map_or (λ x. frames_by x.kind x.setting old.view a (number_of n a) read (table ids slice_of) (equalised_after (list_of old.epochs a))) o []) ≡ number_of n a
+      amplify : Passing
+      amplify = ramped_frames (list_of old.from a) (ramp_length old.view a) (length (list_of old.epochs a))
+
+      long : Lengthwise amplify
+      long to channels frames = length-ramped_frames (list_of old.from a) (ramp_length old.view a) (length (list_of old.epochs a)) to channels frames
+
+      by_shape : (x : Comp) (h : Bool) → makes x.kind (table ids slice_of) ≡ h → (active old.view a ≡ true → makes x.kind (table ids slice_of) ≡ true) → length (frames_by x.kind x.setting old.view a (number_of n a) read (table ids slice_of) equalise amplify) ≡ number_of n a
+      by_shape x true h shape = length-frames_by x.kind x.setting old.view a (number_of n a) read ids slice_of equalise amplify (length-equalised_after (list_of old.epochs a)) long reads each h
+      by_shape x false h shape = length-frames_by_none x.kind x.setting old.view a (number_of n a) read (table ids slice_of) equalise amplify (length-equalised_after (list_of old.epochs a)) long h ∙ sym (idle (false_from_ne_true (active old.view a) (λ k. true≢false (sym (shape k) ∙ h))))
+
+      by_comp : (o : Option Comp) → comp_of old.view.graph a ≡ o → length (option_map_or (λ x. frames_by x.kind x.setting old.view a (number_of n a) read (table ids slice_of) equalise amplify) o []) ≡ number_of n a
       by_comp None e = sym (idle (false_from_ne_true (active old.view a) (λ k. false≢true (sym (ap (λ o. option_map_or (λ (x : Comp). fits_kind x.kind (length (ins old.view.graph a)) (length (outs old.view.graph a))) o false) e) ∙ playable.fits a (playable.ends.sources b a source) k))))
       by_comp (Some x) e = by_shape x (makes x.kind (table ids slice_of)) refl (λ k.
           makes-fit x.kind (ins old.view.graph a) (outs old.view.graph a) (looks old.view (frames_held old.counts new.put) a) slice_of b

@@ -1,5 +1,5 @@
 -- What stays Live keeps its channels and its rate, since streams that touch agree.
-use Rattle.std.proofs.Common.{◌≡◌, refl, sym, ap, ◌∙◌, ℕ, zero, suc, ◌/◌, List, [], ◌∷◌, ◌++◌, length, Option, Some, None, is_some, Bool, true, false, cond, not, inl, inr, ◌⊎◌, ◌==◌, ◌&&◌, ◌||◌, Contains, arith}
+use Rattle.std.proofs.Common.{◌≡◌, refl, sym, ap, ◌∙◌, ℕ, zero, suc, ◌*◌, ◌/◌, List, [], ◌∷◌, ◌++◌, length, Option, Some, None, is_some, Bool, true, false, cond, not, inl, inr, ◌⊎◌, ◌==◌, ◌&&◌, ◌||◌, Contains, arith}
 use Rattle.std.proofs.lemmas.Bool.{false≢true, and_parts, and_from, or_left, or_right, or_cases, eqb-true, not-true, true_from_ne_false}
 use Rattle.std.proofs.lemmas.List.Folds.{list_any-append}
 use Rattle.std.specs.Option.{option_map_or, option_and_then, option_map}
@@ -13,10 +13,10 @@ use Rattle.stream_law.specs.State.{View}
 use Rattle.stream_law.specs.Ways.{comp_of, components, buffers, source_of, sink_of, reaches, leads, is_capture, on_way, live, live_end, live_params, channels_of, rate_of, is_live_phase, touch, same_shape, agree}
 use Rattle.stream_law.specs.Moves.{capacity}
 use Rattle.stream_law.specs.Order.{is_among}
-use Rattle.stream_law.specs.Seen.{flows, is_equaliser}
+use Rattle.stream_law.specs.Seen.{flows, ramp_length}
 use Rattle.stream_law.specs.Viewing.{StaysAsLive}
 use Rattle.stream_law.specs.Stays.{SameWays, KeepsWays, KeepsShape}
-use Rattle.stream_law.proofs.Standing.{flows-absent, equalises-there}
+use Rattle.stream_law.proofs.Standing.{flows-absent, remembers-there}
 
 reaches_same : (g h : Graph) → g.joins ≡ h.joins → (a b : ℕ) → reaches g a b ≡ reaches h a b
 unfolding reaches
@@ -172,24 +172,19 @@ unfolding flows
 flows-live v b f = (and_parts (live v b) (live_end v (source_of v.graph b)) (and_parts (live v b && live_end v (source_of v.graph b)) (live_end v (sink_of v.graph b)) f).0).0
 
 pub live-stays : (old new : View) (fresh : Option ℕ) → KeepsShape old new fresh → StaysAsLive old new fresh
-unfolding capacity
+unfolding capacity ramp_length
 live-stays old new fresh keeps = record {
   room = λ b was now. ap (λ (q : List Edge × ℕ). option_map_or (λ e. e.size) (find (λ e. e.buffer == b) q.0) 0 / 4 / q.1) (λ i. (
     sym keeps.edges i,
     (shapes-stay old new keeps.keeps b (among-right (components new.graph) (buffers new.graph) b (flows-there new b now)) (flows-live old b was) (flows-live new b now)).0 i,
   ));
-  equaliser = λ c there goes.
+  kinds = λ c there was. keeps.keeps.ways.kinds c;
+  on = λ c there goes.
       let outer = and_parts (live old c && live new c) (not (option_map_or (λ x. x == c) fresh false)) goes in
-      let lives = and_parts (live old c) (live new c) outer.0 in (
-        and_from (live old c) (option_map_or (λ x. is_equaliser x.kind) (comp_of old.graph c) false) lives.0 (kind_same c ∙ (and_parts (live new c) (option_map_or (λ x. is_equaliser x.kind) (comp_of new.graph c) false) there).1),
+      let lives = and_parts (live old c) (live new c) outer.0 in
+      let shape = shapes-stay old new keeps.keeps c (among-left (components new.graph) (buffers new.graph) c (remembers-there new c there)) lives.0 lives.1 in (
         keeps.blobs c (not-true (option_map_or (λ x. x == c) fresh false) outer.1),
-        (shapes-stay old new keeps.keeps c (among-left (components new.graph) (buffers new.graph) c (equalises-there new c there)) lives.0 lives.1).0,
+        shape.0,
+        ap (λ (q : ℕ × ℕ). q.0 * q.1 / 1000) (λ i. (keeps.ramps c i, shape.1 i)),
       );
 }
-  where
-    by_kind : (o : Option Comp) → option_map_or (λ x. is_equaliser x.kind) o false ≡ option_map_or is_equaliser (option_map (λ x. x.kind) o) false
-    by_kind None = refl
-    by_kind (Some c) = refl
-
-    kind_same : (c : ℕ) → option_map_or (λ x. is_equaliser x.kind) (comp_of old.graph c) false ≡ option_map_or (λ x. is_equaliser x.kind) (comp_of new.graph c) false
-    kind_same c = by_kind (comp_of old.graph c) ∙ ap (λ o. option_map_or is_equaliser o false) (keeps.keeps.ways.kinds c) ∙ sym (by_kind (comp_of new.graph c))

@@ -1,32 +1,31 @@
 -- The law of a tick: where a state stands and the schedule moves it, it stands after the tick.
 use Rattle.std.proofs.Common.{◌≡◌, refl, sym, ap, ◌∙◌, subst, ℕ, zero, suc, ◌+◌, ◌-◌, ◌%◌, ◌^◌, ◌<◌, ◌≤◌, List, [], ◌∷◌, ◌++◌, map, drop, length, Option, Some, None, Bool, true, false, cond, ◌&&◌, arith, min}
-use Rattle.std.proofs.lemmas.Bool.{false≢true, true≢false, and_from, and_right, cond-true, false_from_ne_true, true_from_ne_false}
+use Rattle.std.proofs.lemmas.Bool.{true≢false, and_from, cond-true, false_from_ne_true, true_from_ne_false}
 use Rattle.std.proofs.lemmas.List.{append-nil, drop-drop}
 use Rattle.std.specs.Option.{option_map_or}
 use Rattle.stream_law.specs.declared.graph.Comp.{Comp}
 use Rattle.stream_law.specs.Table.{number_of, list_of, updated, table}
 use Rattle.sof_base.specs.Samples.{Frame}
 use Rattle.stream_law.specs.State.{View, FwState, RingView, History, view_of}
-use Rattle.stream_law.specs.Ways.{comp_of, components, buffers, source_of, sink_of, channels_of, live, live_end, active_end}
+use Rattle.stream_law.specs.Ways.{components, buffers, source_of, sink_of, live, live_end, active_end}
 use Rattle.stream_law.specs.Moves.{fed, fed_by, looks, looked_at, frames_to_move, runs, quota}
 use Rattle.stream_law.specs.Counts.{Counts, Counting, frames_held, frames_free, moved_by, is_looked_at}
-use Rattle.stream_law.specs.Epochs.{history_of}
-use Rattle.stream_law.specs.Past.{part_of, Moment, Tick, Past, Ticks, start, frames_now, made_after, epoch_after, position_after, bytes_put, bytes_after, slices}
+use Rattle.stream_law.specs.Past.{part_of, Moment, Tick, Past, Ticks, start, frames_put, made_after, epoch_after, position_after, bytes_put, bytes_after, slices}
 use Rattle.stream_law.specs.Made.{only_slice}
 use Rattle.stream_law.specs.Endpoints.{reads, is_input, bytes_by, bytes_of_frames, bytes_written}
 use Rattle.stream_law.specs.StreamLaws.{IsRanked}
 use Rattle.stream_law.specs.Order.{is_among, order}
 use Rattle.sof_base.specs.Ports.{Io, InputView}
-use Rattle.stream_law.specs.Stands.{is_bound, KeepsCounts, lying, Holds, HasRead, Stands, SameView}
+use Rattle.stream_law.specs.Stands.{is_bound, numbers_for, KeepsCounts, lying, Holds, HasRead, Stands, SameView}
 use Rattle.stream_law.specs.Viewing.{IsPlayable}
 use Rattle.stream_law.specs.Move.{Audio, after_moves, next_clock, audio_of, audio_after, state_after, io_after, Move}
-use Rattle.stream_law.specs.Seen.{flows, equalises, is_equaliser, blob_in}
+use Rattle.stream_law.specs.Seen.{flows, remembers, blob_in}
 use Rattle.stream_law.proofs.Among.{value_of-table_among, value_of-table_apart, value_of-updated_among, value_of-updated_apart}
 use Rattle.stream_law.proofs.OneSolution.{frames_to_move-le_held, frames_to_move-le_room, solves}
 use Rattle.stream_law.proofs.Rounds.{moves_in, counts_by, made_in, ticked_by}
 use Rattle.stream_law.proofs.Parts.{part_of-prefix}
 use Rattle.stream_law.proofs.Keyed.{value_of-keyed, find-remade, keys-remade, list_any-keys, find-keyless}
-use Rattle.stream_law.proofs.Standing.{Leads-push, comp-absent}
+use Rattle.stream_law.proofs.Standing.{Leads-push, comp-absent, remembers-there}
 use Rattle.stream_law.proofs.Feeding.{Solution, Proceeds, source_of-gone, sink_of-gone, looked-from, fed-from, some-end, source_of-there, sink_of-there}
 use Rattle.stream_law.proofs.Schedule.{Midway, midway_all, lying_at, put_is, taken_is, length_made, put-le, put_at-done, put_at-apart, taken_at-done, taken_at-apart, made_at, still}
 use Rattle.stream_law.proofs.Silent.{active-live}
@@ -42,7 +41,7 @@ module _ (whole : List (ℕ × List ℕ)) (p : Past) (n : List (ℕ × ℕ)) (ne
 
   -- it solves the equations of the tick
   pub tick_solved : Ticks whole p n after
-  tick_solved = record { on = refl; view = refl; clock = refl; counts = s.counting; made = s.made_is; epochs = refl; positions = refl; bytes = refl }
+  tick_solved = record { on = refl; view = refl; clock = refl; counts = s.counting; made = s.made_is; epochs = refl; from = refl; positions = refl; bytes = refl }
 
   -- a component moves no more than an edge holds that it looks at, and than one has room for that it feeds
   n-le_held : (c b : ℕ) → is_among (looked_at p.view (frames_held p.counts new.put) c) b ≡ true → number_of n c ≤ frames_held p.counts new.put b
@@ -145,12 +144,9 @@ module _ (whole : List (ℕ × List ℕ)) (p : Past) (n : List (ℕ × ℕ)) (ne
         by_place true h = cond-true (is_among end c) (position_after whole p n new.put made c) (number_of p.positions c) (all c h) ∙ sym (value_of-updated_among 0 (components p.view.graph) (position_after whole p n new.put made) p.positions c h)
         by_place false h = nothing h (is_among end c) ∙ sym (value_of-updated_apart 0 (components p.view.graph) (position_after whole p n new.put made) p.positions c h)
 
-    epoch_end : (c : ℕ) → equalises p.view c ≡ true → cond (is_among end c) (epoch_after whole p n new.put made c) (list_of p.epochs c) ≡ list_of after.epochs c
-    epoch_end c there = let here : is_among (components p.view.graph) c ≡ true = equalises-there c there in
+    epoch_end : (c : ℕ) → remembers p.view c ≡ true → cond (is_among end c) (epoch_after whole p n new.put made c) (list_of p.epochs c) ≡ list_of after.epochs c
+    epoch_end c there = let here : is_among (components p.view.graph) c ≡ true = remembers-there p.view c there in
         cond-true (is_among end c) (epoch_after whole p n new.put made c) (list_of p.epochs c) (all c here) ∙ sym (value_of-updated_among [] (components p.view.graph) (epoch_after whole p n new.put made) p.epochs c here)
-      where
-        equalises-there : (c : ℕ) → equalises p.view c ≡ true → is_among (components p.view.graph) c ≡ true
-        equalises-there c there = true_from_ne_false (is_among (components p.view.graph) c) (λ gone. false≢true (sym (and_right (live p.view c) (option_map_or (λ x. is_equaliser x.kind) (comp_of p.view.graph c) false) (ap (λ o. option_map_or (λ (x : Comp). is_equaliser x.kind) o false) (comp-absent p.view.graph.comps c gone))) ∙ there))
 
     bytes_end : (c : ℕ) → list_of after.bytes c ≡ list_of p.bytes c ++ cond (is_among end c) (bytes_put whole p n new.put made t c) []
     bytes_end c = by_place (is_among (components p.view.graph) c) refl
@@ -167,7 +163,7 @@ module _ (whole : List (ℕ × List ℕ)) (p : Past) (n : List (ℕ × ℕ)) (ne
   -- what lies in an edge before the tick is a part of what is made after it
   lying_before : (b : ℕ) → lying p b ≡ part_of (list_of made b) (number_of p.counts.taken b) (number_of p.counts.put b - number_of p.counts.taken b)
   lying_before b =
-      sym (part_of-prefix (list_of p.made b) (cond (fed p.view b) (option_map_or (frames_now whole p n new.put made) (source_of p.view.graph b) []) []) (number_of p.counts.taken b) (number_of p.counts.put b - number_of p.counts.taken b) (omega (arith, s.kept.length_made b, s.kept.no_more_taken b)))
+      sym (part_of-prefix (list_of p.made b) (cond (fed p.view b) (option_map_or (frames_put whole p n new.put made b) (source_of p.view.graph b) []) []) (number_of p.counts.taken b) (number_of p.counts.put b - number_of p.counts.taken b) (omega (arith, s.kept.length_made b, s.kept.no_more_taken b)))
       ∙ ap (λ l. part_of l (number_of p.counts.taken b) (number_of p.counts.put b - number_of p.counts.taken b)) (sym (made_at whole p t n new made s b))
 
   -- ---- the state and the endpoints
@@ -198,12 +194,12 @@ module _ (whole : List (ℕ × List ℕ)) (p : Past) (n : List (ℕ × ℕ)) (ne
         view = holds.view;
         buffers = keys-remade (λ (r : RingView). r.buffer) (λ r. record { buffer = r.buffer; frames = list_of a.rings r.buffer }) (λ r. refl) f.rings ∙ holds.buffers;
         rings = λ b. find-remade (λ (r : RingView). r.buffer) (λ r. r.frames) (λ r. record { buffer = r.buffer; frames = list_of a.rings r.buffer }) (list_of a.rings) [] (λ r. refl) (λ r. refl) f.rings b ∙ ring b (is_among (map (λ r. r.buffer) f.rings) b) refl;
-        equalisers = λ c there. ap (λ l. is_among l c) (keys-remade (λ (h : History). h.comp) (λ h. record { comp = h.comp; numbers = list_of a.numbers h.comp }) (λ h. refl) f.histories) ∙ holds.equalisers c there;
+        remembered = λ c there. ap (λ l. is_among l c) (keys-remade (λ (h : History). h.comp) (λ h. record { comp = h.comp; numbers = list_of a.numbers h.comp }) (λ h. refl) f.histories) ∙ holds.remembered c there;
         histories = λ c there.
             find-remade (λ (h : History). h.comp) (λ h. h.numbers) (λ h. record { comp = h.comp; numbers = list_of a.numbers h.comp }) (list_of a.numbers) [] (λ h. refl) (λ h. refl) f.histories c
-            ∙ cond-true (is_among (map (λ h. h.comp) f.histories) c) (list_of a.numbers c) [] (holds.equalisers c there)
+            ∙ cond-true (is_among (map (λ h. h.comp) f.histories) c) (list_of a.numbers c) [] (holds.remembered c there)
             ∙ mid.numbers c there
-            ∙ ap (history_of (blob_in p.view c) (channels_of p.view c)) (epoch_end playable end all c there);
+            ∙ ap (numbers_for p c) (epoch_end playable end all c there);
       }
         where
           nowhere : {d : ℕ} → None ≡ Some d → ⊥

@@ -12,6 +12,7 @@ pub mod Waiting
 pub mod Made
 pub mod Endpoints
 pub mod Equaliser
+pub mod Ramps
 pub mod Seen
 pub mod Gain
 pub mod Counts
@@ -24,5 +25,7 @@ pub mod Move
 pub mod TickLaws
 pub mod StreamLaws
 pub mod WorkedGraphs
+pub mod WorkedRamps
 pub mod ReachLaws
 pub mod EqualiserLaws
+pub mod RampLaws

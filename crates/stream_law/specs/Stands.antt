@@ -1,16 +1,17 @@
 -- A device and its inputs stand where moments lead: the schedule equals the equations.
-use Rattle.std.specs.Prelude.{◌≡◌, ℕ, ◌+◌, ◌-◌, ◌≤◌, ◌^◌, min, List, [], drop, map, length, Option, Some, None, Bool, true, false, ◌==◌, find}
+use Rattle.std.specs.Prelude.{◌≡◌, ℕ, ℤ, ◌+◌, ◌-◌, ◌≤◌, ◌^◌, min, List, [], drop, map, length, Option, Some, None, Bool, true, false, ◌==◌, find, if◌then◌else◌}
 use Rattle.std.specs.List.{list_any}
 use Rattle.std.specs.Option.{option_map_or}
 use Rattle.sof_base.specs.Samples.{Frame}
 use Rattle.sof_base.specs.Ports.{InputView}
 use Rattle.stream_law.specs.State.{FwState, View, view_of}
 use Rattle.stream_law.specs.Table.{number_of, list_of}
-use Rattle.stream_law.specs.Ways.{buffers, channels_of, agree}
+use Rattle.stream_law.specs.Ways.{buffers, is_of, channels_of, agree}
 use Rattle.stream_law.specs.Moves.{capacity}
 use Rattle.stream_law.specs.Epochs.{history_of}
+use Rattle.stream_law.specs.Ramps.{ramp_numbers}
 use Rattle.stream_law.specs.Order.{is_among}
-use Rattle.stream_law.specs.Seen.{flows, equalises, blob_in, numbers_in}
+use Rattle.stream_law.specs.Seen.{flows, is_volume, remembers, blob_in, ramp_length, numbers_in}
 use Rattle.stream_law.specs.Past.{Moment, Past, Leads, start, part_of}
 
 -- ---- look-ups
@@ -44,17 +45,22 @@ pub record KeepsCounts (p : Past) : Type 0 where
 abbrev pub lying : Past → ℕ → List Frame
 lying p b = part_of (list_of p.made b) (number_of p.counts.taken b) (number_of p.counts.put b - number_of p.counts.taken b)
 
--- a firmware that is on holds what the past left: each ring the frames that lie in its edge, and each Live equaliser the
--- numbers of its epoch. Same says how its view is that of the past
+-- the numbers that stand for the frames that an equaliser or a volume took since its last mark
+abbrev pub numbers_for : Past → ℕ → List Frame → List ℤ
+numbers_for p c frames =
+    if is_of p.view.graph is_volume c then ramp_numbers (list_of p.from c) (ramp_length p.view c) (length frames)
+    else history_of (blob_in p.view c) (channels_of p.view c) frames
+
+-- a firmware that is on holds what the past left: each ring the frames that lie in its edge, and each Live equaliser and volume
+-- its numbers. Same says how its view is that of the past
 pub record Holds (Same : View → View → Type 0) (f : FwState) (p : Past) : Type 0 where
   pub on : p.on ≡ true
   pub clock : f.clock ≡ p.clock
   pub view : Same (view_of f) p.view
   pub buffers : map (λ r. r.buffer) f.rings ≡ buffers f.graph
   pub rings : (b : ℕ) → ring_frames f b ≡ lying p b
-  pub equalisers : (c : ℕ) → equalises p.view c ≡ true → is_among (map (λ h. h.comp) f.histories) c ≡ true
-  pub histories : (c : ℕ) → equalises p.view c ≡ true → numbers_in f c ≡ history_of (blob_in p.view c) (channels_of p.view c)
-      (list_of p.epochs c)
+  pub remembered : (c : ℕ) → remembers p.view c ≡ true → is_among (map (λ h. h.comp) f.histories) c ≡ true
+  pub histories : (c : ℕ) → remembers p.view c ≡ true → numbers_in f c ≡ numbers_for p c (list_of p.epochs c)
 
 -- the same of a firmware that may be off
 abbrev pub HoldsWhereOn : (View → View → Type 0) → Option FwState → Past → Type 0

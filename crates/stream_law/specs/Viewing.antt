@@ -1,15 +1,14 @@
 -- What a boot and an act that passes do to a state, and what a view must be for a tick.
-use Rattle.std.specs.Prelude.{◌≡◌, ℕ, ◌+◌, List, [], ◌++◌, map, length, Option, true, false, ◌==◌, if◌then◌else◌, IsTrue}
-use Rattle.std.specs.Option.{option_map_or}
+use Rattle.std.specs.Prelude.{◌≡◌, ℕ, ℤ, ◌+◌, List, [], ◌++◌, map, length, Option, true, false, ◌==◌, if◌then◌else◌, IsTrue}
+use Rattle.std.specs.Option.{option_map, option_map_or}
 use Rattle.sof_base.specs.Ports.{InputView}
 use Rattle.stream_law.specs.State.{FwState, View, view_of}
-use Rattle.stream_law.specs.Ways.{comp_of, components, buffers, ins, outs, active, channels_of, is_silent}
+use Rattle.stream_law.specs.Ways.{comp_of, components, buffers, ins, outs, live, active, channels_of, is_silent}
 use Rattle.stream_law.specs.Joins.{fits_kind}
 use Rattle.stream_law.specs.Moves.{capacity}
-use Rattle.stream_law.specs.Epochs.{history_of}
 use Rattle.stream_law.specs.Order.{is_among, order}
 use Rattle.stream_law.specs.Walks.{HasAll, HasEnds}
-use Rattle.stream_law.specs.Seen.{flows, goes_on, equalises, blob_in, numbers_in}
+use Rattle.stream_law.specs.Seen.{flows, remembers, goes_on, blob_in, ramp_length, numbers_in, numbers_seen}
 use Rattle.stream_law.specs.Past.{Moment, empty_view}
 use Rattle.stream_law.specs.Stands.{ring_frames, is_bound, position_of, left_of, StandsBy}
 
@@ -29,15 +28,14 @@ pub record Booted (f : FwState) : Type 0 where
   pub histories : f.histories ≡ []
   pub staging : f.staging ≡ []
 
--- an act that passes gives the state a view: rings in which no frame may lie are empty, and an epoch that does not go on begins
+-- an act that passes gives the state a view: rings in which no frame may lie are empty, and equalisers and volumes go on or have a mark
 pub record Sees (f : FwState) (v : View) (fresh : Option ℕ) (f' : FwState) : Type 0 where
   pub clock : f'.clock ≡ f.clock
   pub view : view_of f' ≡ v
   pub buffers : map (λ r. r.buffer) f'.rings ≡ buffers f'.graph
   pub rings : (b : ℕ) → ring_frames f' b ≡ (if flows v b then ring_frames f b else [])
-  pub equalisers : (c : ℕ) → equalises v c ≡ true → is_among (map (λ h. h.comp) f'.histories) c ≡ true
-  pub histories : (c : ℕ) → equalises v c ≡ true →
-      numbers_in f' c ≡ (if goes_on (view_of f) v fresh c then numbers_in f c else history_of (blob_in v c) (channels_of v c) [])
+  pub remembered : (c : ℕ) → remembers v c ≡ true → is_among (map (λ h. h.comp) f'.histories) c ≡ true
+  pub histories : (c : ℕ) → remembers v c ≡ true → numbers_in f' c ≡ numbers_seen f v fresh c
 
 -- an act that passes while nothing is Live leaves nothing Live and no frames
 pub record SeesSilent (f f' : FwState) : Type 0 where
@@ -46,11 +44,14 @@ pub record SeesSilent (f f' : FwState) : Type 0 where
   pub buffers : map (λ r. r.buffer) f'.rings ≡ buffers f'.graph
   pub rings : (b : ℕ) → ring_frames f' b ≡ []
 
--- an edge in which frames may go on lying keeps its room, and an equaliser whose epoch goes on its blob and channels
+-- an edge in which frames may go on lying keeps its room, an equaliser or volume that was Live its kind, and one that goes on its blob, its
+-- channels and the length of its ramp
 pub record StaysAsLive (old new : View) (fresh : Option ℕ) : Type 0 where
   pub room : (b : ℕ) → flows old b ≡ true → flows new b ≡ true → capacity new b ≡ capacity old b
-  pub equaliser : (c : ℕ) → equalises new c ≡ true → goes_on old new fresh c ≡ true → (equalises old c ≡ true) ×
-      (blob_in new c ≡ blob_in old c) × (channels_of new c ≡ channels_of old c)
+  pub kinds : (c : ℕ) → remembers new c ≡ true → live old c ≡ true →
+      option_map (λ x. x.kind) (comp_of old.graph c) ≡ option_map (λ x. x.kind) (comp_of new.graph c)
+  pub on : (c : ℕ) → remembers new c ≡ true → goes_on old new fresh c ≡ true →
+      (blob_in new c ≡ blob_in old c) × (channels_of new c ≡ channels_of old c) × (ramp_length new c ≡ ramp_length old c)
 
 -- more bytes stand behind those that are left of an input
 pub record Fills (slot : ℕ) (more : List ℕ) (inputs inputs' : List InputView) : Type 0 where

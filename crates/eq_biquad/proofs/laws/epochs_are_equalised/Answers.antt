@@ -4,7 +4,7 @@ use Rattle.stream_law.specs.Equaliser.{passed_frames, numbers_after}
 use Rattle.stream_law.specs.Epochs.{equalised, history_of}
 use Rattle.stream_law.specs.Seen.{fresh_numbers}
 use Rattle.stream_law.proofs.Equalising.{equalised-append, history_of-append}
-use Rattle.stream_law.proofs.SeenLaws.{history_of-fresh}
+use Rattle.stream_law.proofs.Beginning.{history_of-fresh}
 use Rattle.eq_biquad.proofs.laws.epochs_are_equalised.Goals as goal
 
 whole : (blob : List ℕ) (channels : ℕ) (frames : List Frame)
